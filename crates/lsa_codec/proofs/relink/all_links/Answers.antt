@@ -1,0 +1,7 @@
+use Rattle.std.proofs.lemmas.Iterator.{items_from_collect}
+use Rattle.std.proofs.lemmas.Iterator.Consumers.{YieldsList-from_first}
+use Rattle.lsa_codec.specs.Links.{links_of}
+use Rattle.lsa_codec.proofs.relink.all_links.Goals as goal
+
+pub returns : goal.returns
+returns g c = items_from_collect c.collect.result c.collect.ensures.ran (YieldsList-from_first (λ x. x) (λ s. s) (links_of c.args.router.now) c.links.ensures)

@@ -1,0 +1,75 @@
+//! LSAs made from others.
+
+ghost use Rattle.std.specs.Prelude.{◌≡◌, ◌+◌, ◌≤◌, ◌<◌, ◌^◌, length, IfOk, IfErr, Ok};
+ghost use Rattle.lsa_codec.specs.Fields.{kind_of};
+ghost use Rattle.lsa_codec.specs.Making.{link_numbered, with_cost, with_metric_of, IsMakeFaultOf, IsRewriteOf};
+
+use crate::accept::has_cost;
+use crate::checksum::set_checksum;
+use crate::fault::MakeFault;
+use crate::field::put_u16;
+use crate::link::Link;
+use crate::lsa::{Lsa, RouterView};
+use std::alloc::{AllocError, Allocator};
+
+impl<'a> RouterView<'a> {
+    /// Link `k`, counted from 1.
+    pub fn link_numbered(&self, k: u16) -> Option<Link>
+        ensures { result ≡ link_numbered k self.now }
+    {
+        if k == 0 {
+            return None;
+        }
+        self.links().nth(usize::from(k) - 1)
+    }
+}
+
+/// Replaces the metric of a link, and makes the checksum anew.
+fn set_metric(lsa: &mut [u8], link: Link, metric: u16)
+    requires low { 24 ≤ link.offset }
+    requires fits { link.offset + 12 ≤ length lsa.old }
+    requires short { length lsa.old < 2 ^ 16 }
+    ensures { lsa.new ≡ with_metric_of link metric lsa.old }
+{
+    put_u16(lsa, link.offset + 10, metric);
+    set_checksum(lsa);
+}
+
+/// A copy with the metric of a link replaced.
+fn with_metric_of<A: Allocator + Copy>(
+    alloc: A,
+    lsa: &[u8],
+    link: Link,
+    metric: u16,
+) -> Result<Vec<u8, A>, AllocError>
+    requires low { 24 ≤ link.offset }
+    requires fits { link.offset + 12 ≤ length lsa.now }
+    requires short { length lsa.now < 2 ^ 16 }
+    ensures { IfOk result (λ v. v.items ≡ with_metric_of link metric lsa.now) }
+{
+    let mut bytes = Vec::from_slice(alloc, lsa)?;
+    set_metric(&mut bytes, link, metric);
+    Ok(bytes)
+}
+
+impl<A: Allocator + Copy> Lsa<A> {
+    /// The router-LSA with the metric of link `k` replaced, counted from 1.
+    pub fn with_cost(&self, alloc: A, k: u16, metric: u16) -> Result<Lsa<A>, MakeFault>
+        requires router { kind_of self.now ≡ 1 }
+        ensures made { IfOk result (λ lsa. with_cost k metric self.now ≡ Ok lsa) }
+        ensures keeps { IfOk result (λ lsa. IsRewriteOf self.now lsa) }
+        ensures fault { IfErr result (λ fault. IsMakeFaultOf fault (with_cost k metric self.now)) }
+    {
+        let Some(router) = self.router() else {
+            return Err(MakeFault::NoLink);
+        };
+        let Some(link) = router.link_numbered(k) else {
+            return Err(MakeFault::NoLink);
+        };
+        if has_cost(link.kind) && metric == 0 {
+            return Err(MakeFault::ZeroCost);
+        }
+        let bytes = with_metric_of(alloc, self.bytes(), link, metric)?;
+        Ok(Lsa::accepted(bytes))
+    }
+}

@@ -1,0 +1,153 @@
+//! Summary-LSAs and AS-external-LSAs with another metric, and new ones.
+
+ghost use Rattle.std.specs.Prelude.{◌≡◌, ◌+◌, ◌≤◌, ◌<◌, ◌^◌, ◌++◌, length, true, IfOk, IfErr, Ok};
+ghost use Rattle.lsa_codec.specs.declared.fault.MakeFault.TheVariants.{OutOfMemory};
+ghost use Rattle.lsa_codec.specs.Fields.{kind_of};
+ghost use Rattle.lsa_codec.specs.Checksum.{with_checksum};
+ghost use Rattle.lsa_codec.specs.Views.{has_metric};
+ghost use Rattle.lsa_codec.specs.Originating.{with_metric, new_header, summary_body, new_summary, external_body, new_external};
+
+use crate::address::{Addr, RouterId};
+use crate::checksum::set_checksum;
+use crate::fault::MakeFault;
+use crate::field::{put_u16, put_u24, put_u32};
+use crate::lsa::Lsa;
+use crate::prefix::Prefix;
+use std::alloc::{AllocError, Allocator};
+
+/// Replaces the metric, and makes the checksum anew.
+fn set_metric(lsa: &mut [u8], metric: u32)
+    requires fits { 28 ≤ length lsa.old }
+    requires short { length lsa.old < 2 ^ 16 }
+    requires metric { metric < 2 ^ 24 }
+    ensures { lsa.new ≡ with_metric metric lsa.old }
+{
+    put_u24(lsa, 25, metric);
+    set_checksum(lsa);
+}
+
+/// The header of a new LSA.
+fn new_header(options: u8, kind: u8, id: Addr, adv: RouterId, size: u16) -> [u8; 20]
+    ensures { result ≡ new_header options kind id adv size }
+{
+    let mut header = [0; 20];
+    put_u16(&mut header, 0, 1);
+    header[2] = options;
+    header[3] = kind;
+    put_u32(&mut header, 4, id.0);
+    put_u32(&mut header, 8, adv.0);
+    put_u32(&mut header, 12, 0x8000_0001);
+    put_u16(&mut header, 18, size);
+    header
+}
+
+fn summary_body(net: Prefix, metric: u32) -> [u8; 8]
+    requires { metric < 2 ^ 24 }
+    ensures text { result ≡ summary_body net metric }
+    ensures prefix { net.len ≤ 32 }
+{
+    let mut body = [0; 8];
+    put_u32(&mut body, 0, net.mask());
+    put_u24(&mut body, 5, metric);
+    let _ = net.addr();
+    body
+}
+
+fn external_body(net: Prefix, type2: bool, metric: u32, forward: Addr, tag: u32) -> [u8; 16]
+    requires { metric < 2 ^ 24 }
+    ensures text { result ≡ external_body net type2 metric forward tag }
+    ensures prefix { net.len ≤ 32 }
+{
+    let mut body = [0; 16];
+    put_u32(&mut body, 0, net.mask());
+    body[4] = if type2 { 128 } else { 0 };
+    put_u24(&mut body, 5, metric);
+    put_u32(&mut body, 8, forward.0);
+    put_u32(&mut body, 12, tag);
+    let _ = net.addr();
+    body
+}
+
+/// A header and a body, with the checksum made.
+fn assembled<A: Allocator + Copy>(
+    alloc: A,
+    header: &[u8],
+    body: &[u8],
+) -> Result<Vec<u8, A>, AllocError>
+    requires header { length header.now ≡ 20 }
+    requires short { length body.now < 2 ^ 15 }
+    ensures { IfOk result (λ v. v.items ≡ with_checksum (header.now ++ body.now)) }
+{
+    let mut bytes = Vec::from_slice(alloc, header)?;
+    bytes.extend_from_slice(body)?;
+    set_checksum(&mut bytes);
+    Ok(bytes)
+}
+
+fn with_metric<A: Allocator + Copy>(
+    alloc: A,
+    lsa: &[u8],
+    metric: u32,
+) -> Result<Vec<u8, A>, AllocError>
+    requires fits { 28 ≤ length lsa.now }
+    requires short { length lsa.now < 2 ^ 16 }
+    requires metric { metric < 2 ^ 24 }
+    ensures { IfOk result (λ v. v.items ≡ with_metric metric lsa.now) }
+{
+    let mut bytes = Vec::from_slice(alloc, lsa)?;
+    set_metric(&mut bytes, metric);
+    Ok(bytes)
+}
+
+impl<A: Allocator + Copy> Lsa<A> {
+    /// The summary-LSA or AS-external-LSA with another metric.
+    pub fn with_metric(&self, alloc: A, metric: u32) -> Result<Lsa<A>, MakeFault>
+        requires kind { has_metric (kind_of self.now) ≡ true }
+        requires metric { metric < 2 ^ 24 }
+        ensures made { IfOk result (λ lsa. lsa ≡ with_metric metric self.now) }
+        ensures fault { IfErr result (λ fault. fault ≡ OutOfMemory) }
+    {
+        let bytes = with_metric(alloc, self.bytes(), metric)?;
+        Ok(Lsa::accepted(bytes))
+    }
+
+    /// A new summary-LSA of type 3.
+    pub fn new_summary(
+        alloc: A,
+        options: u8,
+        adv: RouterId,
+        net: Prefix,
+        metric: u32,
+    ) -> Result<Lsa<A>, MakeFault>
+        requires metric { metric < 2 ^ 24 }
+        ensures made { IfOk result (λ lsa. lsa ≡ new_summary options adv net metric) }
+        ensures fault { IfErr result (λ fault. fault ≡ OutOfMemory) }
+    {
+        let header = new_header(options, 3, net.addr(), adv, 28);
+        let bytes = assembled(alloc, &header, &summary_body(net, metric))?;
+        Ok(Lsa::accepted(bytes))
+    }
+
+    /// A new AS-external-LSA.
+    pub fn new_external(
+        alloc: A,
+        adv: RouterId,
+        net: Prefix,
+        type2: bool,
+        metric: u32,
+        forward: Addr,
+        tag: u32,
+    ) -> Result<Lsa<A>, MakeFault>
+        requires metric { metric < 2 ^ 24 }
+        ensures made { IfOk result (λ lsa. lsa ≡ new_external adv net type2 metric forward tag) }
+        ensures fault { IfErr result (λ fault. fault ≡ OutOfMemory) }
+    {
+        let header = new_header(2, 5, net.addr(), adv, 36);
+        let bytes = assembled(
+            alloc,
+            &header,
+            &external_body(net, type2, metric, forward, tag),
+        )?;
+        Ok(Lsa::accepted(bytes))
+    }
+}
