@@ -1,0 +1,95 @@
+-- Places, some of them empty, and the database that the full ones make.
+use Rattle.std.specs.Prelude.{◌≡◌, Bool, false, length, ℕ, zero, suc, ◌+◌, List, [], ◌∷◌, ◌++◌, map, Option, Some, None}
+use Rattle.lsa_codec.specs.declared.key.Key.{Key}
+use Rattle.lsa_codec.specs.Making.{IsRewriteOf}
+use Rattle.lsdb.specs.Lists.{AreaHead, SectionLsas, Lists, has_key}
+use Rattle.lsdb.specs.declared.slot.SlotId.{SlotId}
+
+abbrev pub Place : Type 0
+Place = Option (List ℕ)
+
+-- the places of one area, or, without an area, of the LSAs of AS scope
+pub record SectionPlaces : Type 0 where
+  pub area : Option AreaHead
+  pub places : List Place
+
+abbrev pub Places : Type 0
+Places = List SectionPlaces
+
+-- the LSAs of the full places, in order
+abbrev pub full : List Place → List (List ℕ)
+full [] = []
+full (None ∷ ps) = full ps
+full (Some x ∷ ps) = x ∷ full ps
+
+abbrev pub section_of : SectionPlaces → SectionLsas
+section_of s = record { area = s.area; lsas = full s.places }
+
+-- the database that the places show
+abbrev pub lists_of : Places → Lists
+lists_of d = map section_of d
+
+-- the list with f of its item at i
+abbrev pub update_at : {X : Type 0} → (X → X) → List X → ℕ → List X
+update_at f [] i = []
+update_at f (x ∷ xs) zero = f x ∷ xs
+update_at f (x ∷ xs) (suc i) = x ∷ update_at f xs i
+
+abbrev pub item_at : {X : Type 0} → List X → ℕ → Option X
+item_at [] i = None
+item_at (x ∷ xs) zero = Some x
+item_at (x ∷ xs) (suc i) = item_at xs i
+
+abbrev pub put_place : Place → List Place → ℕ → List Place
+put_place v ps i = update_at (λ _. v) ps i
+
+-- the places with v at a slot
+abbrev pub put : Places → SlotId → Place → Places
+put d slot v = update_at (λ s. record { area = s.area; places = put_place v s.places slot.index }) d slot.section
+
+abbrev pub place_in : Option SectionPlaces → ℕ → Option Place
+place_in None i = None
+place_in (Some s) i = item_at s.places i
+
+-- the place at a slot, if it exists
+abbrev pub slot_at : Places → SlotId → Option Place
+slot_at d slot = place_in (item_at d slot.section) slot.index
+
+-- an empty place at the end of a section
+abbrev pub open_at : Places → ℕ → Places
+open_at d section = update_at (λ s. record { area = s.area; places = s.places ++ None ∷ [] }) d section
+
+-- the LSAs of a section
+abbrev pub lsas_or_none : Option SectionLsas → List (List ℕ)
+lsas_or_none None = []
+lsas_or_none (Some s) = s.lsas
+
+abbrev pub lsas_in : Places → ℕ → List (List ℕ)
+lsas_in d section = lsas_or_none (item_at (lists_of d) section)
+
+abbrev pub place_has_key : Key → Place → Bool
+place_has_key key None = false
+place_has_key key (Some lsa) = has_key key lsa
+
+-- a place is emptied, or takes an LSA that may stand for the one there
+abbrev pub IsPutSafe : Place → Place → Type 0
+IsPutSafe old None = Unit {0}
+IsPutSafe None (Some new) = ⊥
+IsPutSafe (Some old) (Some new) = IsRewriteOf old new
+
+abbrev pub places_or_none : Option SectionPlaces → List Place
+places_or_none None = []
+places_or_none (Some s) = s.places
+
+abbrev pub head_or_none : Option SectionPlaces → Option AreaHead
+head_or_none None = None
+head_or_none (Some s) = s.area
+
+-- the places of a section
+abbrev pub places_in : Places → ℕ → List Place
+places_in d section = places_or_none (item_at d section)
+
+-- the bytes at a place
+abbrev pub place_size : Place → ℕ
+place_size None = 0
+place_size (Some lsa) = length lsa

@@ -1,0 +1,12 @@
+//! Link state databases: sections of places that hold LSAs or are empty.
+#![tactic(auto)]
+
+mod database;
+mod laws;
+mod section;
+mod slot;
+
+pub use database::Database;
+pub use laws::slot_laws;
+pub use section::Section;
+pub use slot::SlotId;
