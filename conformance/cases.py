@@ -1,0 +1,83 @@
+"""Case files: one run of ospf-plan each, in a form that a person can read."""
+import dataclasses
+import pathlib
+
+SECTIONS = ("script", "replies", "status", "error", "dump", "out")
+
+
+def escaped(text: bytes) -> list[str]:
+    """The lines of a text; bytes other than printable ASCII are escaped, and a last line without its end
+    closes with a single backslash."""
+    lines = []
+    for line in split_at_lf(text):
+        whole = line.endswith(b"\n")
+        body = line[:-1] if whole else line
+        shown = "".join(
+            chr(byte) if 32 <= byte < 127 and byte != 92 else f"\\x{byte:02x}" for byte in body
+        )
+        lines.append("|" + shown + ("" if whole else "\\"))
+    return lines
+
+
+def split_at_lf(text: bytes) -> list[bytes]:
+    parts = text.split(b"\n")
+    return [part + b"\n" for part in parts[:-1]] + ([parts[-1]] if parts[-1] else [])
+
+
+def unescaped(lines: list[str]) -> bytes:
+    text = bytearray()
+    for line in lines:
+        body, end = line[1:], b"\n"
+        if body.endswith("\\"):
+            body, end = body[:-1], b""
+        pieces = body.split("\\x")
+        text += pieces[0].encode("ascii")
+        for piece in pieces[1:]:
+            text += bytes([int(piece[:2], 16)]) + piece[2:].encode("ascii")
+        text += end
+    return bytes(text)
+
+
+def hexadecimal(data: bytes) -> list[str]:
+    return [data[at : at + 32].hex(" ", 4) for at in range(0, len(data), 32)]
+
+
+@dataclasses.dataclass
+class Case:
+    dump: bytes
+    script: bytes
+    replies: bytes
+    status: int
+    error: bytes
+    out: bytes | None
+
+    def to_text(self) -> str:
+        out = ["none"] if self.out is None else ["the dump"] if self.out == self.dump else hexadecimal(self.out)
+        parts = {
+            "script": escaped(self.script),
+            "replies": escaped(self.replies),
+            "status": [str(self.status)],
+            "error": escaped(self.error),
+            "dump": hexadecimal(self.dump),
+            "out": out,
+        }
+        return "".join(f"== {name}\n" + "".join(line + "\n" for line in parts[name]) for name in SECTIONS)
+
+
+def read_case(path: pathlib.Path) -> Case:
+    parts: dict[str, list[str]] = {}
+    for line in path.read_text(encoding="ascii").split("\n"):
+        if line.startswith("== "):
+            lines = parts.setdefault(line[3:], [])
+        elif line:
+            lines.append(line)
+    dump = bytes.fromhex("".join(parts["dump"]))
+    out = parts["out"]
+    return Case(
+        dump=dump,
+        script=unescaped(parts["script"]),
+        replies=unescaped(parts["replies"]),
+        status=int(parts["status"][0]),
+        error=unescaped(parts["error"]),
+        out=None if out == ["none"] else dump if out == ["the dump"] else bytes.fromhex("".join(out)),
+    )
