@@ -32,8 +32,8 @@ use denote.Triple.Walked.{Stays, stay_dropped, walk_of, ends_at, Goes-dropped}
 use Rattle.std.proofs.VecSteps.Shapes.{after}
 use Rattle.std.specs.Allocator.{block_if_ok}
 use Rattle.std.proofs.alloc.Calls.{Al, seen, Answer, Answer-typed, Answer-Ok, Answer-err, Takes, at_takes, Answered, Takes-goes, Takes-gives, answers}
-use Rattle.rationed.proofs.Fields.{Count, lent, inner_at, count_at, fields, Spend, spends, spend_goes, spend_gives}
-use Rattle.rationed.proofs.spend_one.Met.{met as spend_met}
+use Rattle.rationed.proofs.Fields.{Ration, lent, inner_at, ration_at, fields, Spend, spends, spend_goes, spend_gives}
+use Rattle.rationed.proofs.ration.Ration.spend.Met.{met as spend_met}
 use Rattle.rationed.specs.contracts.RationedAllocator.allocate as f
 use Rattle.rationed.specs.contracts.RationedAllocator.allocate.Key as key
 use Rattle.rationed.proofs.RationedAllocator.allocate.Statement.{statement}
@@ -68,7 +68,7 @@ allocate_spec 𝓤 𝓛 𝓜 𝓡 wired Y laws g d drops bound _ =
     let y : W.Ghost = ((κs, qs, bounds, a, (shr_vals r, (uint_vals w64 n, (uint_vals w64 m, tt)))), τ) in
     let Layout : Type 0 = (capped (size τ) ≡ n) × (capped (align τ) ≡ m) in
     let n_fits = are.1.0.1 in let m_fits = are.1.1.0.1 in
-    let h = r.now.inner in let at_inner = inner_at Z r.ref_ptr in let at_count = count_at Z r.ref_ptr in
+    let h = r.now.inner in let at_inner = inner_at Z r.ref_ptr in let at_ration = ration_at Z r.ref_ptr in
     let Tokens : List (Item 𝓤) = ‵ (flft κ₁ q₁) ∷ (‵ (flft κ₂ q₂) ⊛ ‵ ftrue) ∷ [] in
     let out : (w : Answer.Denot) (v : Val) → ent 𝓤 (emp 𝓤) (sem 𝓛 (Answer.own_val w (v ∷ []))) → Sq 𝓛 (‵ (block_if_ok (g.dealloc_token h) τ w) ∷ Tokens) (prop (W.post y v)) = λ w v made.
     suffices ! _ (ends_at 𝓛 T hs c y v w (tt, (tt, (tt, tt))) (tt, (tt, (tt, tt)))) $ use0 𝓛 (‵ (Answer.own_val w (v ∷ []))) made $
@@ -76,14 +76,14 @@ allocate_spec 𝓤 𝓛 𝓜 𝓡 wired Y laws g d drops bound _ =
     qed 𝓛 (((‵ (flft κ₁ q₁) ⊛ ‵ (flft κ₂ q₂) ⊛ ‵ ftrue) ⊛ ‵ ((type_at (lent Z) κs).own_val r (shr_vals r)) ⊛ raw (sem 𝓛 (owns (usize ∷ usize ∷ []) a.1 y.0.4.1)))
     ∷ (raw (fact 𝓤 (κ₂ ⊑ Y.lives)) ⊛ raw (fact 𝓤 Layout)) ∷ []) ∵
     move ! (1 ∷ []) $ split ! $ heard ! _ (λ lives. heard ! _ (λ layout. split ! $ split ! $ move ! (2 ∷ []) $ split ! $
-    use1 𝓛 (‵ (seen Z κ₁ at_inner h) ⊛ ‵ (hidden_shr Count κ₁ (record { value = tt }) at_count.0 at_count.1)) (fields Z 𝓛 κ₁ κ₂ r) $ split ! $ keep ! (3 ∷ 1 ∷ 0 ∷ 4 ∷ []) $
-    -- [the token of κ₁; the `&` to the cell; the `&` to the inner allocator; the token of κ₂; the locals]
+    use1 𝓛 (‵ (seen Z κ₁ at_inner h) ⊛ ‵ (hidden_shr Ration κ₁ r.now.ration at_ration.0 at_ration.1)) (fields Z 𝓛 κ₁ κ₂ r) $ split ! $ keep ! (3 ∷ 1 ∷ 0 ∷ 4 ∷ []) $
+    -- [the token of κ₁; the `&` to the ration; the `&` to the inner allocator; the token of κ₂; the locals]
     enter ! _ _ _ _ _ $ alloc_all ! (λ l. pass_all ! refl ((tt, tt), ((tt, record { fits = n_fits }), ((tt, record { fits = m_fits }), tt))) $
     sets ! (addr ! (through ! refl (fld ! refl (stop !)))) refl (tt, tt) $
-    let S = Spend 𝓛 𝓜.mem 𝓡.returns in let z = spends 𝓛 𝓜.mem 𝓡.returns κ₁ q₁ at_count in
-    use2 𝓛 (raw (S.pre z)) (spend_goes 𝓛 𝓜.mem 𝓡.returns κ₁ q₁ at_count) $
-    calls_at ! fm S (spend_met 𝓤 𝓛 𝓜 𝓡 (code.calls-rationed::spend_one 𝓡.env wired)) z (and_then ! (get ! refl) (no_more !)) (λ v.
-    use1 𝓛 (later (some (λ (granted : Bool). given (v ≡ vbool granted) (‵ (flft κ₁ q₁))))) (spend_gives 𝓛 𝓜.mem 𝓡.returns κ₁ q₁ at_count v) $ await ! tt $
+    let S = Spend 𝓛 𝓜.mem 𝓡.returns in let z = spends 𝓛 𝓜.mem 𝓡.returns κ₁ q₁ at_ration r.now.ration in
+    use2 𝓛 (raw (S.pre z)) (spend_goes 𝓛 𝓜.mem 𝓡.returns κ₁ q₁ at_ration r.now.ration) $
+    calls_at ! fm S (spend_met 𝓤 𝓛 𝓜 𝓡 (code.calls-rationed::ration::Ration::spend 𝓡.env wired)) z (and_then ! (get ! refl) (no_more !)) (λ v.
+    use1 𝓛 (later (some (λ (granted : Bool). given (v ≡ vbool granted) (‵ (flft κ₁ q₁))))) (spend_gives 𝓛 𝓜.mem 𝓡.returns κ₁ q₁ at_ration r.now.ration v) $ await ! tt $
     pick ! (λ granted. learn ! (λ e. lands_as ! e refl (tt, tt) $
     sets ! (un ! (get ! refl) tt) refl (tt, tt) $
     first ! $ branches ! (get ! refl)

@@ -31,7 +31,7 @@ use denote.Triple.Table.{framed}
 use denote.Triple.Walked.{Stays, stay_dropped, walk_of, ends_at, Goes-dropped}
 use Rattle.std.specs.Allocator.{owned_block}
 use Rattle.std.proofs.alloc.Calls.{Al, seen, token, Gives, at_gives, Gives-goes, Gives-Gives}
-use Rattle.rationed.proofs.Fields.{Count, lent, inner_at, count_at, fields}
+use Rattle.rationed.proofs.Fields.{Ration, lent, inner_at, ration_at, fields}
 use Rattle.rationed.specs.contracts.RationedAllocator.deallocate as f
 use Rattle.rationed.specs.contracts.RationedAllocator.deallocate.Key as key
 use Rattle.rationed.proofs.RationedAllocator.deallocate.Statement.{statement}
@@ -65,11 +65,11 @@ deallocate_spec 𝓤 𝓛 𝓜 𝓡 wired Y laws g d drops bound _ =
     let y : Ptr → W.Ghost = λ p. ((κs, qs, bounds, (r, (p, a.1.1)), (shr_vals r, (rawptr_vals p, (uint_vals w64 n, (uint_vals w64 m, tt))))), τ) in
     let Layout : Type 0 = (capped (size τ) ≡ n) × (capped (align τ) ≡ m) in
     let n_fits = are.1.1.0.1 in let m_fits = are.1.1.1.0.1 in
-    let h = r.now.inner in let at_inner = inner_at Z r.ref_ptr in let at_count = count_at Z r.ref_ptr in
+    let h = r.now.inner in let at_inner = inner_at Z r.ref_ptr in let at_ration = ration_at Z r.ref_ptr in
     qed 𝓛 (((‵ (flft κ₁ q₁) ⊛ ‵ (flft κ₂ q₂) ⊛ ‵ ftrue) ⊛ ‵ ((type_at (lent Z) κs).own_val r (shr_vals r)) ⊛ raw (sem 𝓛 (owns (RawPtr ∷ usize ∷ usize ∷ []) a.1 (y a.1.0).0.4.1)))
     ∷ (raw (fact 𝓤 (κ₂ ⊑ Y.lives)) ⊛ raw (fact 𝓤 Layout) ⊛ ‵ (owned_block (token Z h) τ a.1.0)) ∷ []) ∵
     move ! (1 ∷ []) $ split ! $ heard ! _ (λ lives. split ! $ heard ! _ (λ layout. move ! (1 ∷ []) $ split ! $ split ! $ move ! (2 ∷ []) $ split ! $
-    use1 𝓛 (‵ (seen Z κ₁ at_inner h) ⊛ ‵ (hidden_shr Count κ₁ (record { value = tt }) at_count.0 at_count.1)) (fields Z 𝓛 κ₁ κ₂ r) $ split ! $ keep ! (5 ∷ 0 ∷ 3 ∷ 4 ∷ []) $
+    use1 𝓛 (‵ (seen Z κ₁ at_inner h) ⊛ ‵ (hidden_shr Ration κ₁ r.now.ration at_ration.0 at_ration.1)) (fields Z 𝓛 κ₁ κ₂ r) $ split ! $ keep ! (5 ∷ 0 ∷ 3 ∷ 4 ∷ []) $
     -- [the block with the right to free it; the `&` to the inner allocator; the tokens of κ₁ and of κ₂]
     in_a_block ! a.1.0 (λ p. owned_block (token Z h) τ p) (fst∗ 𝓤 (never 𝓤) (sem 𝓛 (token Z h τ null_ptr))) (λ b o e.
     regoal ! (λ p. prop (WpFn 𝓤 𝓛.H 𝓣.C 𝓣.Λ (here Z) (vptr r.ref_ptr.0 r.ref_ptr.1 ∷ ptr_val p ∷ vint w64 n ∷ vint w64 m ∷ []) (W.post (y p)))) e refl $
