@@ -1,0 +1,51 @@
+ghost use Rattle.std.specs.Prelude.{◌≡◌, ◌+◌, ◌<◌, ◌≤◌, ◌↔◌, true, IsNone, IfSome};
+
+use std::cell::Cell;
+
+/// A limit, and how much of it is spent.
+///
+/// The limit never changes, so clauses speak of it. No clause can say what a cell holds, so none
+/// speaks of what is spent.
+#[derive(Drop)]
+pub(crate) struct Ration {
+    limit: u64,
+    spent: Cell<u64>,
+}
+
+impl Ration {
+    /// A ration of which nothing is spent.
+    pub(crate) fn new(limit: u64) -> Ration
+        ensures limit { result.limit ≡ limit }
+    {
+        Ration {
+            limit,
+            spent: Cell::new(0),
+        }
+    }
+
+    /// Spends one, and tells whether one was left.
+    pub(crate) fn spend(&self) -> bool
+        ensures granted { result ≡ true → 0 < self.now.limit }
+    {
+        let Some(spent) = after_one(self.spent.get(), self.limit) else {
+            return false;
+        };
+        self.spent.set(spent);
+        true
+    }
+
+    /// How much of the limit is not spent.
+    pub(crate) fn left(&self) -> u64
+        ensures within { result ≤ self.now.limit }
+    {
+        self.limit.saturating_sub(self.spent.get())
+    }
+}
+
+/// What is spent after one more, or `None` where that would be past `limit`.
+fn after_one(spent: u64, limit: u64) -> Option<u64>
+    ensures none_left { IsNone result ↔ (limit ≤ spent) }
+    ensures one_more { IfSome result (λ after. after ≡ spent + 1) }
+{
+    if spent < limit { Some(spent + 1) } else { None }
+}
