@@ -16,7 +16,7 @@ use Rattle.edit_script.specs.Arguments.{digits_after, is_number, number_up_to, a
 use Rattle.lsa_codec.specs.Spelling.{address_text}
 use Rattle.edit_script.proofs.Split.{Lacks, split_joined, IsWord}
 
-own : IsNumeralModel (λ ds. all_ascii_digits ds ≡ true) (digits_after 0)
+pub own : IsNumeralModel (λ ds. all_ascii_digits ds ≡ true) (digits_after 0)
 own = numerals_by_fold _ (search rules) digits_after (search rules)
 
 -- a test that no digit passes

@@ -60,13 +60,13 @@ undo_of arguments = do
   count ← number 4294967295 word
   Ok (command.Undo count)
 
-abbrev edit : Result Edit ScriptFault → Result Command ScriptFault
-edit given = given >>= λ e. Ok (command.Edit e)
+abbrev pub edit_command : Result Edit ScriptFault → Result Command ScriptFault
+edit_command given = given >>= λ e. Ok (command.Edit e)
 
 -- a command word and its arguments
 unfoldable pub command_of : Word → List Word → Result Command ScriptFault
 command_of word arguments =
-    if bytes_eq word (codes "cost") then edit (cost_of arguments)
+    if bytes_eq word (codes "cost") then edit_command (cost_of arguments)
     else if bytes_eq word (codes "undo") then undo_of arguments
     else Err UnknownWord
 

@@ -18,7 +18,7 @@ mod words;
 pub use command::Command;
 pub use edit::Edit;
 pub use fault::ScriptFault;
-pub use laws::reads_back;
+pub use laws::{reads_back, reads_what_is_said};
 pub use line::parse;
 pub use printing::print;
 

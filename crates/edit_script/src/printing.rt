@@ -4,7 +4,7 @@ ghost use Rattle.std.specs.Prelude.{◌≡◌, ◌<◌, ◌^◌, Ok, IfOk};
 ghost use Rattle.std.specs.String.{string_bytes};
 ghost use Rattle.edit_script.specs.declared.command.Command.TheVariants as command;
 ghost use Rattle.edit_script.specs.Line.{meaning};
-ghost use Rattle.edit_script.specs.Spelling.{spelling, IsInRange};
+ghost use Rattle.edit_script.specs.Spelling.{spelling, IsEditInRange};
 
 use crate::edit::Edit;
 use std::alloc::{AllocError, Allocator};
@@ -23,7 +23,7 @@ pub fn print<A: Allocator + Copy>(alloc: A, edit: &Edit) -> Result<String<A>, Al
 
 /// Shows that the numbers of an edit are within the ranges of their types. It does nothing else.
 fn know_ranges(edit: &Edit)
-    ensures { IsInRange edit.now }
+    ensures { IsEditInRange edit.now }
 {
     match *edit {
         Edit::Cost {

@@ -79,7 +79,10 @@ fn reads_commands(rt: HostRuntime) {
         (b"\tundo\r30 \r", Command::Undo(30)),
         (b"cost  0.0.0.0 1.1.1.1 1 7", Command::Edit(cost)),
         (b"@0\tcost 0.0.0.0\t1.1.1.1 1 7\r", Command::Edit(cost)),
-        (b"cost 255.255.255.255 10.9.0.1 65535 65535", Command::Edit(greatest)),
+        (
+            b"cost 255.255.255.255 10.9.0.1 65535 65535",
+            Command::Edit(greatest),
+        ),
     ];
     for (line, command) in lines {
         assert_eq!(rt; parse(line).ok(), Some((0, command)), "at {line:?}");
@@ -94,7 +97,10 @@ fn prints_an_edit(rt: HostRuntime) -> Result<(), Fail> {
         link: 1,
         metric: 7,
     };
-    assert_eq!(rt; print(rt.alloc(), &cost)?.as_str(), "cost 0.0.0.0 1.1.1.1 1 7");
+    assert_eq!(rt;
+        print(rt.alloc(), &cost)?.as_str(),
+        "cost 0.0.0.0 1.1.1.1 1 7"
+    );
     let greatest = Edit::Cost {
         area: AreaId(0xffffffff),
         router: RouterId(0x0a090001),
@@ -104,6 +110,7 @@ fn prints_an_edit(rt: HostRuntime) -> Result<(), Fail> {
     let line = print(rt.alloc(), &greatest)?;
     assert_eq!(rt; line.as_str(), "cost 255.255.255.255 10.9.0.1 65535 0");
     reads_back();
+    reads_what_is_said();
     Ok(())
 }
 
