@@ -9,7 +9,8 @@ use Rattle.edit_script.specs.declared.edit.Edit.TheVariants.{Cost}
 use Rattle.edit_script.specs.declared.command.Command.{Command}
 use Rattle.edit_script.specs.declared.command.Command.TheVariants as command
 use Rattle.edit_script.specs.Words.{Word, is_blank, words}
-use Rattle.edit_script.specs.Line.{meaning, meaning_of_words, behind_branch, command_of, cost_of, undo_of}
+use Rattle.edit_script.specs.Reading.{command_of, cost_of, undo_of}
+use Rattle.edit_script.specs.Line.{meaning, meaning_of_words, behind_branch}
 use Rattle.edit_script.specs.Spelling.{spelling, edit_words, command_words, Says, IsEditInRange, IsInRange}
 use Rattle.edit_script.proofs.Split.{IsWord, words_joined}
 use Rattle.edit_script.proofs.Numbers.{number_again, address_again, IsWord-decimal, IsWord-address}

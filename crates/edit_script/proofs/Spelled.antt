@@ -19,7 +19,8 @@ use Rattle.edit_script.specs.declared.fault.ScriptFault.TheVariants.{BadNumber, 
 use Rattle.edit_script.specs.Words.{Word}
 use Rattle.edit_script.specs.Arguments as arguments
 use Rattle.edit_script.specs.Arguments.{digits_after, is_number, number_up_to, four_parts, address_of, address_of_parts}
-use Rattle.edit_script.specs.Line.{◌>>=◌, one_of, four_of, number, address, cost_of, undo_of, edit_command, command_of, branch_of, in_branch, behind_branch, meaning_of_words}
+use Rattle.edit_script.specs.Reading.{◌>>=◌, one_of, four_of, number, address, cost_of, undo_of, edit_command, command_of}
+use Rattle.edit_script.specs.Line.{branch_of, in_branch, behind_branch, meaning_of_words}
 use Rattle.edit_script.specs.Spelling.{edit_words, command_words, Says}
 use Rattle.edit_script.proofs.Numbers.{own, AreBytes}
 

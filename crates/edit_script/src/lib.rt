@@ -13,6 +13,7 @@ mod fault;
 mod laws;
 mod line;
 mod printing;
+mod reading;
 mod words;
 
 pub use command::Command;
