@@ -1,5 +1,6 @@
 use super::doubles::{Failing, FailsOnce, Sink, Source, Zeros};
 use super::{ReadFault, Watched, WriteFault, read_whole, write_whole};
+use std::io::ErrorKind;
 use std::test::Fail;
 
 const TEXT: &[u8] = b"cost 0.0.0.0 1.1.1.1 1 7\n";
@@ -17,7 +18,8 @@ fn watches_a_reader(rt: HostRuntime) -> Result<(), Fail> {
     assert_eq!(rt; reader.read(&mut buf)?, 2);
     assert_eq!(rt; &buf, b" 0st-");
     assert!(rt; !reader.failed());
-    assert!(rt; reader.read(&mut buf).is_err());
+    let fault = reader.read(&mut buf).map_err(|error| error.kind());
+    assert_eq!(rt; fault, Err(ErrorKind::Interrupted));
     assert!(rt; reader.failed());
     Ok(())
 }
@@ -35,13 +37,17 @@ fn remembers_that_a_read_failed(rt: HostRuntime) -> Result<(), Fail> {
 
 #[test]
 fn watches_a_writer(rt: HostRuntime) -> Result<(), Fail> {
-    for failing in [Failing::WriteErrs, Failing::WriteTakesNone] {
+    let cases = [
+        (Failing::WriteErrs, Err(ErrorKind::Interrupted)),
+        (Failing::WriteTakesNone, Ok(0)),
+    ];
+    for (failing, answer) in cases {
         let mut writer = Watched::new(Sink::new(rt.alloc(), 4, 6, failing));
         assert_eq!(rt; writer.write(TEXT)?, 4);
         assert_eq!(rt; writer.write(TEXT)?, 2);
         assert!(rt; writer.flush().is_ok());
         assert!(rt; !writer.failed(), "{failing:?}");
-        assert!(rt; !matches!(writer.write(TEXT), Ok(count) if count > 0));
+        assert_eq!(rt; writer.write(TEXT).map_err(|error| error.kind()), answer);
         assert!(rt; writer.failed(), "{failing:?}");
         assert_eq!(rt; writer.into_inner().taken.as_slice(), b"costco".as_slice());
     }
@@ -61,7 +67,8 @@ fn remembers_that_a_flush_failed(rt: HostRuntime) -> Result<(), Fail> {
     let mut writer = Watched::new(Sink::new(rt.alloc(), 4, NEVER, Failing::FlushErrs));
     assert_eq!(rt; write_whole(&mut writer, TEXT), Ok(()));
     assert!(rt; !writer.failed());
-    assert!(rt; writer.flush().is_err());
+    let fault = writer.flush().map_err(|error| error.kind());
+    assert_eq!(rt; fault, Err(ErrorKind::Interrupted));
     assert_eq!(rt; writer.write(TEXT)?, 4);
     assert!(rt; writer.failed());
     Ok(())
