@@ -1,0 +1,79 @@
+-- The records around the cursor, as they are seen from the vector.
+use Rattle.std.proofs.Common.{◌≡◌, ℕ, zero, suc, ◌<◌, List, [], ◌∷◌, ◌++◌, length, get_or, take, drop, refl, sym, ap, ◌∙◌, arith}
+use Rattle.std.specs.Prelude.{reverse, slice_set}
+use Rattle.std.proofs.lemmas.List.{reverse-append, length-reverse, length-take, length-drop}
+use Rattle.edit_history.specs.Exchange.{RecordData}
+use Rattle.edit_history.specs.Journal.{HistoryData}
+
+take_next : (items : List RecordData) (i : ℕ) (r : RecordData) → i < length items → r ≡ get_or items i r → take (suc i) items ≡ take i items ++ r ∷ []
+take_next [] i r lt h = absurd (omega arith)
+take_next (x ∷ xs) zero r lt h = ap (λ (y : RecordData). y ∷ []) (sym h)
+take_next (x ∷ xs) (suc i) r lt h = ap (λ (ys : List RecordData). x ∷ ys) (take_next xs i r (omega arith) h)
+
+drop_next : (items : List RecordData) (i : ℕ) (r : RecordData) → i < length items → r ≡ get_or items i r → drop i items ≡ r ∷ drop (suc i) items
+drop_next [] i r lt h = absurd (omega arith)
+drop_next (x ∷ xs) zero r lt h = ap (λ (y : RecordData). y ∷ xs) (sym h)
+drop_next (x ∷ xs) (suc i) r lt h = drop_next xs i r (omega arith) h
+
+take_set : (items : List RecordData) (i : ℕ) (v : RecordData) → take i (slice_set items i v) ≡ take i items
+take_set [] zero v = refl
+take_set [] (suc i) v = refl
+take_set (x ∷ xs) zero v = refl
+take_set (x ∷ xs) (suc i) v = ap (λ (ys : List RecordData). x ∷ ys) (take_set xs i v)
+
+drop_set : (items : List RecordData) (i : ℕ) (v : RecordData) → i < length items → drop i (slice_set items i v) ≡ v ∷ drop (suc i) items
+drop_set [] i v lt = absurd (omega arith)
+drop_set (x ∷ xs) zero v lt = refl
+drop_set (x ∷ xs) (suc i) v lt = drop_set xs i v (omega arith)
+
+take_set_next : (items : List RecordData) (i : ℕ) (v : RecordData) → i < length items → take (suc i) (slice_set items i v) ≡ take i items ++ v ∷ []
+take_set_next [] i v lt = absurd (omega arith)
+take_set_next (x ∷ xs) zero v lt = refl
+take_set_next (x ∷ xs) (suc i) v lt = ap (λ (ys : List RecordData). x ∷ ys) (take_set_next xs i v (omega arith))
+
+drop_set_next : (items : List RecordData) (i : ℕ) (v : RecordData) → drop (suc i) (slice_set items i v) ≡ drop (suc i) items
+drop_set_next [] i v = refl
+drop_set_next (x ∷ xs) zero v = refl
+drop_set_next (x ∷ xs) (suc i) v = drop_set_next xs i v
+
+-- what is seen at a cursor
+abbrev pub seen : List RecordData → ℕ → HistoryData
+seen items cursor = record { past = reverse (take cursor items); future = drop cursor items }
+
+past_is : (items : List RecordData) (i : ℕ) (r : RecordData) → i < length items → r ≡ get_or items i r → reverse (take (suc i) items) ≡ r ∷ reverse (take i items)
+past_is items i r lt h = ap (reverse {A = RecordData}) (take_next items i r lt h) ∙ reverse-append (take i items) (r ∷ [])
+
+-- around the cursor suc i
+pub seen_behind : (items : List RecordData) (i j : ℕ) (r : RecordData) → j ≡ suc i → i < length items → r ≡ get_or items i r → seen items j ≡ record { past = r ∷ reverse (take i items); future = drop j items }
+seen_behind items i j r is lt h =
+    ap (λ (k : ℕ). let s : HistoryData = record { past = reverse (take k items); future = drop j items } in s) is
+    ∙ ap (λ (past : List RecordData). let s : HistoryData = record { past = past; future = drop j items } in s) (past_is items i r lt h)
+
+-- after a step back
+pub seen_after_back : (items : List RecordData) (i j : ℕ) (v : RecordData) → j ≡ suc i → i < length items → seen (slice_set items i v) i ≡ record { past = reverse (take i items); future = v ∷ drop j items }
+seen_after_back items i j v is lt =
+    ap (λ (front : List RecordData). let s : HistoryData = record { past = reverse front; future = drop i (slice_set items i v) } in s) (take_set items i v)
+    ∙ ap (λ (future : List RecordData). let s : HistoryData = record { past = reverse (take i items); future = future } in s) (drop_set items i v lt ∙ ap (λ (k : ℕ). v ∷ drop k items) (sym is))
+
+-- around the cursor i, ahead
+pub seen_ahead : (items : List RecordData) (i : ℕ) (r : RecordData) → i < length items → r ≡ get_or items i r → seen items i ≡ record { past = reverse (take i items); future = r ∷ drop (suc i) items }
+seen_ahead items i r lt h = ap (λ (future : List RecordData). let s : HistoryData = record { past = reverse (take i items); future = future } in s) (drop_next items i r lt h)
+
+-- after a step on
+pub seen_after_on : (items : List RecordData) (i j : ℕ) (v : RecordData) → j ≡ suc i → i < length items → seen (slice_set items i v) j ≡ record { past = v ∷ reverse (take i items); future = drop (suc i) items }
+seen_after_on items i j v is lt =
+    ap (λ (k : ℕ). seen (slice_set items i v) k) is
+    ∙ ap (λ (front : List RecordData). let s : HistoryData = record { past = reverse front; future = drop (suc i) (slice_set items i v) } in s) (take_set_next items i v lt)
+    ∙ ap (λ (past : List RecordData). let s : HistoryData = record { past = past; future = drop (suc i) (slice_set items i v) } in s) (reverse-append (take i items) (v ∷ []))
+    ∙ ap (λ (future : List RecordData). let s : HistoryData = record { past = v ∷ reverse (take i items); future = future } in s) (drop_set_next items i v)
+
+-- where there is a past, and a future
+pub past_len : (items : List RecordData) (j : ℕ) (h : HistoryData) → seen items j ≡ h → 0 < length h.past → 0 < j
+past_len items j h view some =
+    let e : length h.past ≡ length (take j items) = ap (λ (k : HistoryData). length k.past) (sym view) ∙ length-reverse (take j items) in
+    omega (arith, length-take j items)
+
+pub future_len : (items : List RecordData) (i : ℕ) (h : HistoryData) → seen items i ≡ h → 0 < length h.future → i < length items
+future_len items i h view some =
+    let e : length h.future ≡ length (drop i items) = ap (λ (k : HistoryData). length k.future) (sym view) in
+    omega (arith, length-drop i items)

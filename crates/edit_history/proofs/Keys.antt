@@ -1,0 +1,84 @@
+-- LSAs by their keys, and areas by their IDs.
+use Rattle.std.proofs.Common.{◌≡◌, ◌≢◌, ℕ, Bool, true, false, List, [], ◌∷◌, ◌++◌, map, Option, Some, None, refl, sym, ap, ◌∙◌, subst, arith, cond}
+use Rattle.std.specs.Prelude.{All, AllPairs}
+use Rattle.std.specs.List.{find}
+use Rattle.std.proofs.lemmas.Bool.{and_parts, eqb-true, ne_eqb}
+use Rattle.lsa_codec.specs.declared.key.Key.{Key}
+use Rattle.lsa_codec.specs.Key.{key_of}
+use Rattle.lsdb.specs.Lists.{AreaHead, SectionLsas, Lists, same_key, has_key, has_id, IsBefore}
+use Rattle.lsdb.proofs.Middle.{pairs_before, pairs_after, map_mid, all_map}
+
+key_from : (k l i j a b : ℕ) → k ≡ l → i ≡ j → a ≡ b → let p : Key = record { kind = k; id = record { 0 = i }; adv = record { 0 = a } } in let q : Key = record { kind = l; id = record { 0 = j }; adv = record { 0 = b } } in p ≡ q
+key_from k l i j a b e f g = rw (e, f, g) refl
+
+pub same_key_true : (a b : Key) → same_key a b ≡ true → a ≡ b
+same_key_true a b e =
+    let p = and_parts _ _ e in
+    let q = and_parts _ _ p.1 in
+    let kind : a.kind ≡ b.kind = eqb-true _ _ p.0 in
+    let id : a.id.0 ≡ b.id.0 = eqb-true _ _ q.0 in
+    let adv : a.adv.0 ≡ b.adv.0 = eqb-true _ _ q.1 in
+    key_from a.kind b.kind a.id.0 b.id.0 a.adv.0 b.adv.0 kind id adv
+
+false_unless : (b : Bool) → (b ≡ true → ⊥) → b ≡ false
+false_unless true h = absurd (h refl)
+false_unless false h = refl
+
+-- an LSA of another key
+pub other_key : (key : Key) (lsa : List ℕ) → key_of lsa ≢ key → has_key key lsa ≡ false
+other_key key lsa apart = false_unless (has_key key lsa) (λ e. apart (same_key_true (key_of lsa) key e))
+
+-- what was found passes
+pub found_passes : {X : Type 0} (p : X → Bool) (xs : List X) (x : X) → find p xs ≡ Some x → p x ≡ true
+found_passes p [] x e = absurd cc
+found_passes p (y ∷ ys) x e = by_test (p y) refl (found_passes p ys x) e where
+  by_test : (b : Bool) → p y ≡ b → (find p ys ≡ Some x → p x ≡ true) → cond b (Some y) (find p ys) ≡ Some x → p x ≡ true
+  by_test true is more e = let same : y ≡ x = cc in ap p (sym same) ∙ is
+  by_test false is more e = more e
+
+-- ---- the only LSA of a key, the only area of an ID
+
+-- no LSA before it or after it has its key
+pub record IsOnly (p : List ℕ → Bool) (front back : List (List ℕ)) : Type 0 where
+  pub before : All (λ lsa. p lsa ≡ false) front
+  pub after : All (λ lsa. p lsa ≡ false) back
+
+each : {X : Type 0} (P Q : X → Type 0) (xs : List X) → ((x : X) → P x → Q x) → All P xs → All Q xs
+each P Q xs f h k d lt = f _ (h k d lt)
+
+pub only_key : (key : Key) (front back : List (List ℕ)) (lsa : List ℕ) → AllPairs (λ a b. a ≢ b) (map key_of (front ++ lsa ∷ back)) → key_of lsa ≡ key → IsOnly (has_key key) front back
+only_key key front back lsa distinct is =
+    let apart : AllPairs (λ a b. a ≢ b) (map key_of front ++ key_of lsa ∷ map key_of back) = subst (AllPairs (λ a b. a ≢ b)) (map_mid key_of front back lsa) distinct in
+    let before = all_map (λ k. k ≢ key_of lsa) key_of front (pairs_before (λ a b. a ≢ b) (map key_of front) (map key_of back) (key_of lsa) apart) in
+    let after = all_map (λ k. key_of lsa ≢ k) key_of back (pairs_after (λ a b. a ≢ b) (map key_of front) (map key_of back) (key_of lsa) apart) in
+    record {
+      before = each (λ x. key_of x ≢ key_of lsa) (λ x. has_key key x ≡ false) front (λ x ne. other_key key x (λ e. ne (e ∙ sym is))) before;
+      after = each (λ x. key_of lsa ≢ key_of x) (λ x. has_key key x ≡ false) back (λ x ne. other_key key x (λ e. ne (is ∙ sym e))) after;
+    }
+
+id_before : (id : ℕ) (a b : Option AreaHead) → has_id id b ≡ true → IsBefore a b → has_id id a ≡ false
+id_before id None b has before = absurd before
+id_before id (Some a) None has before = absurd cc
+id_before id (Some a) (Some b) has before = let same : b.id ≡ id = eqb-true _ _ has in ne_eqb a.id id (λ e. omega (arith, e, same, before))
+
+id_after : (id : ℕ) (a b : Option AreaHead) → has_id id a ≡ true → IsBefore a b → has_id id b ≡ false
+id_after id None b has before = absurd before
+id_after id (Some a) None has before = refl
+id_after id (Some a) (Some b) has before = let same : a.id ≡ id = eqb-true _ _ has in ne_eqb b.id id (λ e. omega (arith, e, same, before))
+
+abbrev pub head_in : SectionLsas → Option AreaHead
+head_in s = s.area
+
+pub record IsOnlyArea (id : ℕ) (low high : Lists) : Type 0 where
+  pub below : All (λ (s : SectionLsas). has_id id s.area ≡ false) low
+  pub above : All (λ (s : SectionLsas). has_id id s.area ≡ false) high
+
+pub only_area : (id : ℕ) (low high : Lists) (s : SectionLsas) → AllPairs IsBefore (map head_in (low ++ s ∷ high)) → has_id id s.area ≡ true → IsOnlyArea id low high
+only_area id low high s order has =
+    let apart : AllPairs IsBefore (map head_in low ++ s.area ∷ map head_in high) = subst (AllPairs IsBefore) (map_mid head_in low high s) order in
+    let before = all_map (λ a. IsBefore a s.area) head_in low (pairs_before IsBefore (map head_in low) (map head_in high) s.area apart) in
+    let after = all_map (λ a. IsBefore s.area a) head_in high (pairs_after IsBefore (map head_in low) (map head_in high) s.area apart) in
+    record {
+      below = each (λ (t : SectionLsas). IsBefore t.area s.area) (λ (t : SectionLsas). has_id id t.area ≡ false) low (λ t b. id_before id t.area s.area has b) before;
+      above = each (λ (t : SectionLsas). IsBefore s.area t.area) (λ (t : SectionLsas). has_id id t.area ≡ false) high (λ t b. id_after id s.area t.area has b) after;
+    }

@@ -1,0 +1,12 @@
+pub mod Exchanged
+pub mod Undoing
+pub mod Linked
+pub mod Cursor
+pub mod Turns
+pub mod Growing
+pub mod Keys
+pub mod Ruled
+pub mod Carried
+pub mod Costs
+pub mod Returning
+pub mod Telling

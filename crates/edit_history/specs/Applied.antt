@@ -1,0 +1,45 @@
+-- What carrying out an edit leaves, and what its record tells.
+use Rattle.std.specs.Prelude.{◌≡◌, ◌≢◌, List, length, map, unwrap_or, None, Ok, Err}
+use Rattle.lsa_codec.specs.declared.address.AreaId.{AreaId}
+use Rattle.lsdb.specs.Places.{Places, slot_at, lists_of}
+use Rattle.edit_script.specs.declared.edit.Edit.{Edit}
+use Rattle.edit_history.specs.declared.fault.EditFault.{EditFault}
+use Rattle.edit_history.specs.declared.fault.EditFault.TheVariants.{OutOfMemory}
+use Rattle.edit_history.specs.Rules.{Change}
+use Rattle.edit_history.specs.Effect.{effect, changes, touched}
+use Rattle.edit_history.specs.Exchange.{SwapData, RecordData, CanDo, CanUndo, done_places, done_swaps, undone_places, touches}
+use Rattle.edit_history.specs.Grown.{Grown}
+
+-- the change that a swap tells once it is done: it holds the old octets, and the new ones stand at its place
+abbrev pub told : Places → SwapData → Change
+told e s = record { section = s.section; kind = s.kind; old = s.other; new = unwrap_or (slot_at e s.slot) None }
+
+-- the swaps carry the edit out, and then tell its changes
+pub record CarriesOut (d : Places) (edit : Edit) (swaps : List SwapData) : Type 0 where
+  pub can : CanDo d swaps
+  pub leads : effect (lists_of d) edit ≡ Ok (lists_of (done_places d swaps))
+  pub tells : changes (lists_of d) edit ≡ Ok (map (told (done_places d swaps)) (done_swaps d swaps))
+
+-- the edit led to this database; the swaps tell its changes, and take it back
+pub record TakesBack (e : Places) (edit : Edit) (swaps : List SwapData) : Type 0 where
+  pub can : CanUndo e swaps
+  pub leads : effect (lists_of (undone_places e swaps)) edit ≡ Ok (lists_of e)
+  pub tells : changes (lists_of (undone_places e swaps)) edit ≡ Ok (map (told e) swaps)
+
+-- the edit led from d to e; the record holds the edit, tells its changes, and undone it leads back to d,
+-- but for places that were opened at the ends of sections
+pub record Applied (d e : Places) (edit : Edit) (r : RecordData) : Type 0 where
+  pub same : r.edit ≡ edit
+  pub leads : effect (lists_of d) edit ≡ Ok (lists_of e)
+  pub tells : changes (lists_of d) edit ≡ Ok (map (told e) r.swaps)
+  pub can : CanUndo e r.swaps
+  pub before : Grown d (undone_places e r.swaps)
+
+-- the edit is refused so, unless memory ran out
+abbrev pub IsRefused : Places → Edit → EditFault → Type 0
+IsRefused d edit fault = fault ≢ OutOfMemory → effect (lists_of d) edit ≡ Err fault
+
+-- the record counts the changes, and touches the areas that they touch
+pub record Tells (r : RecordData) (cs : List Change) : Type 0 where
+  pub count : length r.swaps ≡ length cs
+  pub areas : (area : AreaId) → touches area r ≡ touched area cs

@@ -1,0 +1,83 @@
+-- A record's swaps: each exchanges what it holds with what stands at its place. They are done from the
+-- first to the last, and undone from the last to the first.
+use Rattle.std.specs.Prelude.{◌≡◌, ℕ, Bool, List, [], ◌∷◌, None, IsSome, unwrap_or}
+use Rattle.std.specs.List.{list_any}
+use Rattle.lsa_codec.specs.declared.address.AreaId.{AreaId}
+use Rattle.lsdb.specs.declared.section.Section.{Section}
+use Rattle.lsdb.specs.declared.slot.SlotId.{SlotId}
+use Rattle.lsdb.specs.Lists.{IsDatabase}
+use Rattle.lsdb.specs.Places.{Place, Places, put, slot_at, lists_of}
+use Rattle.edit_script.specs.declared.edit.Edit.{Edit}
+use Rattle.edit_history.specs.Effect.{is_of_graph}
+
+-- a place, the section and the LS type of the LSA that stands there or stood there, and what the database
+-- lacks of it: the old octets once the edit is done, the new ones once it is undone
+pub record SwapData : Type 0 where
+  pub slot : SlotId
+  pub section : Section
+  pub kind : ℕ
+  pub other : Place
+
+-- an edit, and what it exchanges
+pub record RecordData : Type 0 where
+  pub edit : Edit
+  pub swaps : List SwapData
+
+-- whether a router-LSA or network-LSA of the area is among the swaps
+abbrev pub touches : AreaId → RecordData → Bool
+touches area r = list_any (λ (s : SwapData). is_of_graph area s.section s.kind) r.swaps
+
+-- the swap once it has taken what stands at its place
+abbrev pub taken : Places → SwapData → SwapData
+taken d s = record { slot = s.slot; section = s.section; kind = s.kind; other = unwrap_or (slot_at d s.slot) None }
+
+-- ---- from the first to the last
+
+abbrev pub done_places : Places → List SwapData → Places
+done_places d [] = d
+done_places d (s ∷ ss) = done_places (put d s.slot s.other) ss
+
+abbrev pub done_swaps : Places → List SwapData → List SwapData
+done_swaps d [] = []
+done_swaps d (s ∷ ss) = taken d s ∷ done_swaps (put d s.slot s.other) ss
+
+-- each place exists, and each state on the way is a database
+abbrev pub CanDo : Places → List SwapData → Type 0
+CanDo d [] = Unit {0}
+CanDo d (s ∷ ss) = IsSome (slot_at d s.slot) × IsDatabase (lists_of (put d s.slot s.other)) × CanDo (put d s.slot s.other) ss
+
+-- ---- from the last to the first
+
+abbrev pub undone_places : Places → List SwapData → Places
+undone_places d [] = d
+undone_places d (s ∷ ss) = put (undone_places d ss) s.slot s.other
+
+abbrev pub undone_swaps : Places → List SwapData → List SwapData
+undone_swaps d [] = []
+undone_swaps d (s ∷ ss) = taken (undone_places d ss) s ∷ undone_swaps d ss
+
+abbrev pub CanUndo : Places → List SwapData → Type 0
+CanUndo d [] = Unit {0}
+CanUndo d (s ∷ ss) = CanUndo d ss × IsSome (slot_at (undone_places d ss) s.slot) × IsDatabase (lists_of (put (undone_places d ss) s.slot s.other))
+
+-- ---- inverses
+
+-- what was done is undone
+pub record UndoesAgain (d : Places) (ss : List SwapData) : Type 0 where
+  pub places : undone_places (done_places d ss) (done_swaps d ss) ≡ d
+  pub swaps : undone_swaps (done_places d ss) (done_swaps d ss) ≡ ss
+  pub can : CanUndo (done_places d ss) (done_swaps d ss)
+
+-- what was undone is done again
+pub record DoesAgain (d : Places) (ss : List SwapData) : Type 0 where
+  pub places : done_places (undone_places d ss) (undone_swaps d ss) ≡ d
+  pub swaps : done_swaps (undone_places d ss) (undone_swaps d ss) ≡ ss
+  pub can : CanDo (undone_places d ss) (undone_swaps d ss)
+
+-- ---- records
+
+abbrev pub redone : Places → RecordData → RecordData
+redone d r = record { edit = r.edit; swaps = done_swaps d r.swaps }
+
+abbrev pub undone : Places → RecordData → RecordData
+undone d r = record { edit = r.edit; swaps = undone_swaps d r.swaps }

@@ -1,0 +1,37 @@
+-- A history: the records of the edits that are done and of those that are undone.
+use Rattle.std.specs.Prelude.{ℕ, List, [], ◌∷◌}
+use Rattle.lsdb.specs.Lists.{IsDatabase}
+use Rattle.lsdb.specs.Places.{Places, lists_of}
+use Rattle.edit_history.specs.Exchange.{RecordData, done_places, undone_places}
+use Rattle.edit_history.specs.Applied.{CarriesOut, TakesBack}
+
+-- the records of the done edits, the latest first, and of the undone ones, the next first
+pub record HistoryData : Type 0 where
+  pub past : List RecordData
+  pub future : List RecordData
+
+-- a history, and how many records more it has room for behind the done ones
+pub record HistoryRoom : Type 0 where
+  pub lists : HistoryData
+  pub room : ℕ
+
+-- each done record takes back the edit that led to where the later ones, taken back, lead
+abbrev pub LinksBack : Places → List RecordData → Type 0
+LinksBack d [] = Unit {0}
+LinksBack d (r ∷ rs) = TakesBack d r.edit r.swaps × LinksBack (undone_places d r.swaps) rs
+
+-- each undone record carries its edit out on what the earlier ones lead to
+abbrev pub LinksOn : Places → List RecordData → Type 0
+LinksOn d [] = Unit {0}
+LinksOn d (r ∷ rs) = CarriesOut d r.edit r.swaps × LinksOn (done_places d r.swaps) rs
+
+-- the history led to this database, and leads on from it
+pub record Links (d : Places) (h : HistoryData) : Type 0 where
+  pub sound : IsDatabase (lists_of d)
+  pub back : LinksBack d h.past
+  pub on : LinksOn d h.future
+
+-- the places with all done records taken back
+abbrev pub origin : Places → List RecordData → Places
+origin d [] = d
+origin d (r ∷ rs) = origin (undone_places d r.swaps) rs

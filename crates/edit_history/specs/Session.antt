@@ -1,0 +1,82 @@
+-- Sessions: a base, the edits done, and the edits undone.
+use Rattle.std.specs.Prelude.{◌≡◌, ℕ, ◌-◌, nat_lt, List, [], ◌∷◌, ◌++◌, length, map, reverse, take, drop, Result, Ok, Err, if◌then◌else◌}
+use Rattle.lsdb.specs.Lists.{Lists}
+use Rattle.lsdb.specs.Places.{Places, lists_of}
+use Rattle.edit_script.specs.declared.edit.Edit.{Edit}
+use Rattle.edit_history.specs.declared.fault.EditFault.{EditFault}
+use Rattle.edit_history.specs.declared.fault.EditFault.TheVariants.{HistoryFull}
+use Rattle.edit_history.specs.Effect.{effect, ◌>>=◌}
+use Rattle.edit_history.specs.Exchange.{RecordData}
+use Rattle.edit_history.specs.Journal.{HistoryData, origin}
+
+-- the database at the start, the edits that are done since, in order, and those that were undone, the next
+-- to be redone first
+pub record Session : Type 0 where
+  pub base : Lists
+  pub done : List Edit
+  pub undone : List Edit
+
+-- the database after an edit; a refused one changes nothing
+abbrev pub unless_refused : Lists → Result Lists EditFault → Lists
+unless_refused db (Ok after) = after
+unless_refused db (Err fault) = db
+
+-- the database after edits, in order
+abbrev pub after_edits : Lists → List Edit → Lists
+after_edits db [] = db
+after_edits db (e ∷ es) = after_edits (unless_refused db (effect db e)) es
+
+-- the database of a session: the effects of the done edits, from the base on
+abbrev pub state : Session → Lists
+state s = after_edits s.base s.done
+
+-- ---- steps
+
+-- the session that begins at a database
+abbrev pub start : Lists → Session
+start db = record { base = db; done = []; undone = [] }
+
+abbrev pub accepted : Session → Edit → Result Lists EditFault → Result Session EditFault
+accepted s e (Ok db) = Ok (record { base = s.base; done = s.done ++ e ∷ []; undone = [] })
+accepted s e (Err fault) = Err fault
+
+abbrev pub most_edits : ℕ
+most_edits = 10000
+
+-- the session after an edit, or its refusal
+unfoldable pub edited : Session → Edit → Result Session EditFault
+edited s e = if nat_lt (length s.done) most_edits then accepted s e (effect (state s) e) else Err HistoryFull
+
+-- the session after edits, or the first refusal
+abbrev pub edited_by : Session → List Edit → Result Session EditFault
+edited_by s [] = Ok s
+edited_by s (e ∷ es) = edited s e >>= λ t. edited_by t es
+
+-- the last k of the done edits move to the front of the undone ones
+abbrev pub moved_back : ℕ → Session → Session
+moved_back k s = record { base = s.base; done = take (length s.done - k) s.done; undone = drop (length s.done - k) s.done ++ s.undone }
+
+-- the first k of the undone edits move to the end of the done ones
+abbrev pub moved_on : ℕ → Session → Session
+moved_on k s = record { base = s.base; done = s.done ++ take k s.undone; undone = drop k s.undone }
+
+-- ---- the session that a history shows at a database
+
+abbrev pub edits_of : List RecordData → List Edit
+edits_of rs = map (λ r. r.edit) rs
+
+abbrev pub session_of : Places → HistoryData → Session
+session_of d h = record { base = lists_of (origin d h.past); done = reverse (edits_of h.past); undone = edits_of h.future }
+
+-- one edit moves back; one moves on
+pub record StepsBack (s t : Session) : Type 0 where
+  pub edit : Edit
+  pub base : t.base ≡ s.base
+  pub done : s.done ≡ t.done ++ edit ∷ []
+  pub undone : t.undone ≡ edit ∷ s.undone
+
+pub record StepsOn (s t : Session) : Type 0 where
+  pub edit : Edit
+  pub base : t.base ≡ s.base
+  pub done : t.done ≡ s.done ++ edit ∷ []
+  pub undone : s.undone ≡ edit ∷ t.undone

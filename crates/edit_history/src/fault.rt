@@ -1,0 +1,174 @@
+//! Why an edit is refused, and why an edit can't be undone or redone.
+
+ghost use Rattle.std.specs.Prelude.{◌≡◌, codes};
+ghost use Rattle.edit_history.specs.Fault.{code_of, name_of, fault_of};
+ghost use Rattle.edit_history.specs.declared.fault.EditFault.TheVariants as edit_faults;
+
+use lsa_codec::MakeFault;
+use std::alloc::AllocError;
+use thiserror::Error;
+
+/// The first reason to refuse an edit. The text of each is its name.
+#[derive(Clone, Copy, Debug, PartialEq, Eq, Error)]
+pub enum EditFault {
+    /// E1: the database has no such area.
+    #[error("NoArea")]
+    NoArea,
+    /// E2: the area has no router-LSA of the router.
+    #[error("NoRouter")]
+    NoRouter,
+    /// E3: the router-LSA has no such link.
+    #[error("NoLink")]
+    NoLink,
+    /// E4: an interface to a router or a transit network would cost 0 (RFC 2328, C.3).
+    #[error("ZeroCost")]
+    ZeroCost,
+    /// E5: both ends of a link are one router.
+    #[error("SameRouter")]
+    SameRouter,
+    /// E6: the area has no network-LSA of the network.
+    #[error("NoNetwork")]
+    NoNetwork,
+    /// E7: the area has no summary-LSA of the router for the prefix.
+    #[error("NoSummary")]
+    NoSummary,
+    /// E8: there is no AS-external-LSA of the router for the prefix.
+    #[error("NoExternal")]
+    NoExternal,
+    /// E9: an LSA with the new one's LS type, Link State ID and Advertising Router is there already.
+    #[error("KeyTaken")]
+    KeyTaken,
+    /// E10: the LSA would be longer than 65,535 octets.
+    #[error("TooLong")]
+    TooLong,
+    /// E11: an area, the LSAs of AS scope or the dump would pass their limit.
+    #[error("Full")]
+    Full,
+    /// E12: 10,000 edits are done.
+    #[error("HistoryFull")]
+    HistoryFull,
+    /// E13: memory ran out.
+    #[error("OutOfMemory")]
+    OutOfMemory,
+}
+
+impl EditFault {
+    /// The fault's code, as replies print it: `E1` to `E13`.
+    pub fn code(self) -> &'static str
+        ensures { result.now ≡ code_of self }
+    {
+        match self {
+            EditFault::NoArea => "E1",
+            EditFault::NoRouter => "E2",
+            EditFault::NoLink => "E3",
+            EditFault::ZeroCost => "E4",
+            EditFault::SameRouter => "E5",
+            EditFault::NoNetwork => "E6",
+            EditFault::NoSummary => "E7",
+            EditFault::NoExternal => "E8",
+            EditFault::KeyTaken => "E9",
+            EditFault::TooLong => "E10",
+            EditFault::Full => "E11",
+            EditFault::HistoryFull => "E12",
+            EditFault::OutOfMemory => "E13",
+        }
+    }
+
+    /// The fault's name, as replies print it behind the code.
+    pub fn name(self) -> &'static str
+        ensures { result.now ≡ name_of self }
+    {
+        match self {
+            EditFault::NoArea => "NoArea",
+            EditFault::NoRouter => "NoRouter",
+            EditFault::NoLink => "NoLink",
+            EditFault::ZeroCost => "ZeroCost",
+            EditFault::SameRouter => "SameRouter",
+            EditFault::NoNetwork => "NoNetwork",
+            EditFault::NoSummary => "NoSummary",
+            EditFault::NoExternal => "NoExternal",
+            EditFault::KeyTaken => "KeyTaken",
+            EditFault::TooLong => "TooLong",
+            EditFault::Full => "Full",
+            EditFault::HistoryFull => "HistoryFull",
+            EditFault::OutOfMemory => "OutOfMemory",
+        }
+    }
+}
+
+impl From<AllocError> for EditFault {
+    ghost from_gives = { λ _ e. e ≡ edit_faults.OutOfMemory };
+
+    fn from(_e: AllocError) -> EditFault {
+        EditFault::OutOfMemory
+    }
+}
+
+impl From<MakeFault> for EditFault {
+    ghost from_gives = { λ fault e. e ≡ fault_of fault };
+
+    fn from(fault: MakeFault) -> EditFault {
+        match fault {
+            MakeFault::NoLink => EditFault::NoLink,
+            MakeFault::ZeroCost => EditFault::ZeroCost,
+            MakeFault::TooLong => EditFault::TooLong,
+            MakeFault::OutOfMemory => EditFault::OutOfMemory,
+        }
+    }
+}
+
+/// Why edits can't be undone. Its text is its name.
+#[derive(Clone, Copy, Debug, PartialEq, Eq, Error)]
+pub enum UndoFault {
+    /// U1: fewer edits are done than are to be undone.
+    #[error("NothingToUndo")]
+    NothingToUndo,
+}
+
+impl UndoFault {
+    /// The fault's code, as replies print it.
+    pub fn code(self) -> &'static str
+        ensures { result.now ≡ codes "U1" }
+    {
+        match self {
+            UndoFault::NothingToUndo => "U1",
+        }
+    }
+
+    /// The fault's name, as replies print it behind the code.
+    pub fn name(self) -> &'static str
+        ensures { result.now ≡ codes "NothingToUndo" }
+    {
+        match self {
+            UndoFault::NothingToUndo => "NothingToUndo",
+        }
+    }
+}
+
+/// Why edits can't be redone. Its text is its name.
+#[derive(Clone, Copy, Debug, PartialEq, Eq, Error)]
+pub enum RedoFault {
+    /// U2: fewer edits are undone than are to be redone.
+    #[error("NothingToRedo")]
+    NothingToRedo,
+}
+
+impl RedoFault {
+    /// The fault's code, as replies print it.
+    pub fn code(self) -> &'static str
+        ensures { result.now ≡ codes "U2" }
+    {
+        match self {
+            RedoFault::NothingToRedo => "U2",
+        }
+    }
+
+    /// The fault's name, as replies print it behind the code.
+    pub fn name(self) -> &'static str
+        ensures { result.now ≡ codes "NothingToRedo" }
+    {
+        match self {
+            RedoFault::NothingToRedo => "NothingToRedo",
+        }
+    }
+}

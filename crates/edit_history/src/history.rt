@@ -1,0 +1,169 @@
+//! The records of a session's edits.
+
+use crate::fault::{RedoFault, UndoFault};
+use crate::record::{Record, replay, revert};
+use lsdb::Database;
+use std::alloc::{AllocError, Allocator, Global};
+use std::marker::Model;
+
+/// The records of the edits that are done, and of those that were undone since.
+#[derive(Drop)]
+pub struct History<A: Allocator = Global> {
+    records: Vec<Record<A>, A>,
+    cursor: usize,
+}
+
+impl<A: Allocator> Model for History<A> {
+    ghost use Rattle.std.specs.Prelude.{take, drop, reverse, ◌≤◌, ◌-◌, vec_len, vec_capacity};
+    ghost use Rattle.edit_history.specs.Journal.{HistoryRoom};
+
+    ghost Value = { HistoryRoom };
+
+    ghost view = { λ h. record { lists = record { past = reverse (take h.cursor h.records.items); future = drop h.cursor h.records.items }; room = vec_capacity h.records - h.cursor } };
+
+    ghost invariant = { λ h. h.cursor ≤ vec_len h.records };
+}
+
+impl<A: Allocator + Copy> History<A> {
+    ghost use Rattle.std.specs.Prelude.{◌≡◌, ◌+◌, ◌<◌, ◌≤◌, [], ◌∷◌, length, OnOk, OnErr, IsOk, ◌↔◌};
+    ghost use Rattle.edit_history.specs.Journal.{Links};
+    ghost use Rattle.edit_history.specs.Session.{session_of, moved_back, moved_on, StepsBack, StepsOn};
+
+    /// No edits. It takes no memory.
+    pub fn new(alloc: A) -> History<A>
+        ensures { result.lists ≡ record { past = []; future = [] } }
+    {
+        History {
+            records: Vec::new(alloc),
+            cursor: 0,
+        }
+    }
+
+    /// How many edits are done.
+    pub fn done(&self) -> usize
+        ensures { result ≡ length self.now.lists.past }
+    {
+        self.cursor
+    }
+
+    /// How many edits are undone.
+    pub fn undone(&self) -> usize
+        ensures { result ≡ length self.now.lists.future }
+    {
+        self.records.len() - self.cursor
+    }
+
+    /// One edit back.
+    fn step_back(&mut self, database: &mut Database<A>)
+        requires linked { Links database.old self.old.lists }
+        requires some { 0 < length self.old.lists.past }
+        ensures linked { Links database.new self.new.lists }
+        ensures session { StepsBack (session_of database.old self.old.lists) (session_of database.new self.new.lists) }
+        ensures count { length self.old.lists.past ≡ length self.new.lists.past + 1 }
+    {
+        self.cursor -= 1;
+        let entry = &mut self.records[self.cursor];
+        revert(database, entry);
+    }
+
+    /// One edit on.
+    fn step_on(&mut self, database: &mut Database<A>)
+        requires linked { Links database.old self.old.lists }
+        requires some { 0 < length self.old.lists.future }
+        ensures linked { Links database.new self.new.lists }
+        ensures session { StepsOn (session_of database.old self.old.lists) (session_of database.new self.new.lists) }
+        ensures count { length self.old.lists.future ≡ length self.new.lists.future + 1 }
+    {
+        let entry = &mut self.records[self.cursor];
+        replay(database, entry);
+        self.cursor += 1;
+    }
+
+    /// The last `count` done edits are taken back.
+    #[tactic(auto, using(crate::proofs::Linked::back_more, crate::proofs::Linked::back_none))]
+    fn step_back_by(&mut self, database: &mut Database<A>, count: usize)
+        requires linked { Links database.old self.old.lists }
+        requires some { count ≤ length self.old.lists.past }
+        ensures linked { Links database.new self.new.lists }
+        ensures session { session_of database.new self.new.lists ≡ moved_back count (session_of database.old self.old.lists) }
+    {
+        for _step in 0..count {
+            self.step_back(database);
+        }
+    }
+
+    /// The first `count` undone edits are carried out again.
+    #[tactic(auto, using(crate::proofs::Linked::on_more, crate::proofs::Linked::on_none))]
+    fn step_on_by(&mut self, database: &mut Database<A>, count: usize)
+        requires linked { Links database.old self.old.lists }
+        requires some { count ≤ length self.old.lists.future }
+        ensures linked { Links database.new self.new.lists }
+        ensures session { session_of database.new self.new.lists ≡ moved_on count (session_of database.old self.old.lists) }
+    {
+        for _step in 0..count {
+            self.step_on(database);
+        }
+    }
+
+    /// Takes the last `count` done edits back. It takes no memory.
+    ///
+    /// It is refused, and changes nothing, exactly where fewer edits are done. A `count` of 0 is
+    /// accepted. The database is the one that the history left, but for empty places that were
+    /// opened since.
+    pub fn undo(&mut self, database: &mut Database<A>, count: usize) -> Result<(), UndoFault>
+        requires { Links database.old self.old.lists }
+        ensures linked { Links database.new self.new.lists }
+        ensures ok { IsOk result ↔ (count ≤ length self.old.lists.past) }
+        ensures session { OnOk result (session_of database.new self.new.lists ≡ moved_back count (session_of database.old self.old.lists)) }
+        ensures err { OnErr result ((self.new.lists ≡ self.old.lists) × (database.new ≡ database.old)) }
+    {
+        if count > self.done() {
+            return Err(UndoFault::NothingToUndo);
+        }
+        self.step_back_by(database, count);
+        Ok(())
+    }
+
+    /// Carries the first `count` undone edits out again. It takes no memory.
+    ///
+    /// It is refused, and changes nothing, exactly where fewer edits are undone. A `count` of 0 is
+    /// accepted. The database is the one that the history left, but for empty places that were
+    /// opened since.
+    pub fn redo(&mut self, database: &mut Database<A>, count: usize) -> Result<(), RedoFault>
+        requires { Links database.old self.old.lists }
+        ensures linked { Links database.new self.new.lists }
+        ensures ok { IsOk result ↔ (count ≤ length self.old.lists.future) }
+        ensures session { OnOk result (session_of database.new self.new.lists ≡ moved_on count (session_of database.old self.old.lists)) }
+        ensures err { OnErr result ((self.new.lists ≡ self.old.lists) × (database.new ≡ database.old)) }
+    {
+        if count > self.undone() {
+            return Err(RedoFault::NothingToRedo);
+        }
+        self.step_on_by(database, count);
+        Ok(())
+    }
+
+    /// Makes room for one record behind the done ones.
+    ///
+    /// # Errors
+    ///
+    /// Memory ran out. The records are as before in either case.
+    pub fn reserve(&mut self) -> Result<(), AllocError>
+        ensures lists { self.new.lists ≡ self.old.lists }
+        ensures room { OnOk result (0 < self.new.room) }
+    {
+        self.records.reserve(1)?;
+        Ok(())
+    }
+
+    /// Adds the record of an edit that was carried out, where room was reserved. The undone records
+    /// go. It takes no memory.
+    pub fn push(&mut self, entry: Record<A>)
+        requires { 0 < self.old.room }
+        ensures { self.new.lists ≡ record { past = entry ∷ self.old.lists.past; future = [] } }
+    {
+        self.records.truncate(self.cursor);
+        let _ = self.records.push(entry);
+        self.cursor += 1;
+    }
+}

@@ -1,0 +1,41 @@
+//! Laws of records and sessions.
+
+ghost use Rattle.std.specs.Prelude.{◌≡◌, ◌≤◌, ℕ, List, Ok, length};
+ghost use Rattle.lsdb.specs.Lists.{IsDatabase};
+ghost use Rattle.lsdb.specs.Places.{Places, lists_of};
+ghost use Rattle.edit_script.specs.declared.edit.Edit.{Edit};
+ghost use Rattle.edit_history.specs.Rules.{Change};
+ghost use Rattle.edit_history.specs.Effect.{changes};
+ghost use Rattle.edit_history.specs.Exchange.{SwapData, RecordData, CanDo, CanUndo, UndoesAgain, DoesAgain, undone_places};
+ghost use Rattle.edit_history.specs.Applied.{Applied, TakesBack, CarriesOut, Tells};
+ghost use Rattle.edit_history.specs.Journal.{HistoryData, Links};
+ghost use Rattle.edit_history.specs.Session.{Session, session_of, state, edited_by, moved_back, moved_on};
+
+/// What is done is undone again, to the same places and swaps, and the other way round.
+pub fn inverses()
+    ensures undo { (d : Places) (ss : List SwapData) → IsDatabase (lists_of d) → CanDo d ss → UndoesAgain d ss }
+    ensures redo { (d : Places) (ss : List SwapData) → IsDatabase (lists_of d) → CanUndo d ss → DoesAgain d ss }
+{}
+
+/// The database that a history led to is its session's: the effects of the done edits, in order,
+/// from the base on.
+pub fn folded()
+    ensures { (d : Places) (h : HistoryData) → Links d h → state (session_of d h) ≡ lists_of d }
+{}
+
+/// A record counts the changes of its edit, and touches the areas that these touch: when the edit
+/// was carried out, while it is done, and while it is undone.
+pub fn changes_told()
+    ensures applied { (d e : Places) (edit : Edit) (r : RecordData) (cs : List Change) → Applied d e edit r → changes (lists_of d) edit ≡ Ok cs → Tells r cs }
+    ensures done { (e : Places) (r : RecordData) (cs : List Change) → TakesBack e r.edit r.swaps → changes (lists_of (undone_places e r.swaps)) r.edit ≡ Ok cs → Tells r cs }
+    ensures undone { (d : Places) (r : RecordData) (cs : List Change) → CarriesOut d r.edit r.swaps → changes (lists_of d) r.edit ≡ Ok cs → Tells r cs }
+{}
+
+/// Edits that are undone and redone, or redone and undone, are as they were; and where edits were
+/// accepted, undoing as many leads back to the database before them, and redoing them to the one
+/// after them.
+pub fn moves()
+    ensures redone { (s : Session) (k : ℕ) → k ≤ length s.done → moved_on k (moved_back k s) ≡ s }
+    ensures undone { (s : Session) (k : ℕ) → k ≤ length s.undone → moved_back k (moved_on k s) ≡ s }
+    ensures back { (s t : Session) (es : List Edit) → edited_by s es ≡ Ok t → state (moved_back (length es) t) ≡ state s }
+{}

@@ -1,0 +1,87 @@
+//! The record of an edit that was carried out.
+
+ghost use Rattle.std.specs.Prelude.{◌≡◌, length};
+ghost use Rattle.edit_history.specs.Exchange.{CanDo, CanUndo, done_places, done_swaps, undone_places, redone, undone, touches};
+
+use crate::swap::{Swap, do_swaps, undo_swaps};
+use edit_script::Edit;
+use lsa_codec::AreaId;
+use lsdb::Database;
+use std::alloc::{Allocator, Global};
+use std::marker::Model;
+
+/// An edit that was carried out, and of each LSA that it changed the side that the database lacks:
+/// the old octets once the edit is done, the new ones once it is undone.
+#[derive(Drop)]
+pub struct Record<A: Allocator = Global> {
+    edit: Edit,
+    swaps: Vec<Swap<A>, A>,
+}
+
+impl<A: Allocator> Model for Record<A> {
+    ghost use Rattle.edit_history.specs.Exchange.{RecordData};
+
+    ghost Value = { RecordData };
+
+    ghost view = { λ r. record { edit = r.edit; swaps = r.swaps.items } };
+}
+
+impl<A: Allocator + Copy> Record<A> {
+    /// Carries swaps out, and keeps what takes them back.
+    pub(crate) fn carry_out(database: &mut Database<A>, edit: Edit, swaps: Vec<Swap<A>, A>) -> Record<A>
+        requires { CanDo database.old swaps.items }
+        ensures database { database.new ≡ done_places database.old swaps.items }
+        ensures result { result ≡ record { edit = edit; swaps = done_swaps database.old swaps.items } }
+    {
+        let mut swaps = swaps;
+        do_swaps(database, &mut swaps);
+        Record { edit, swaps }
+    }
+
+    /// The edit.
+    pub fn edit(&self) -> Edit
+        ensures { result ≡ self.now.edit }
+    {
+        self.edit
+    }
+
+    /// How many LSAs the edit rewrote, removed or added.
+    pub fn len(&self) -> usize
+        ensures { result ≡ length self.now.swaps }
+    {
+        self.swaps.len()
+    }
+
+    /// Whether a router-LSA or network-LSA of the area was among them: those that make up the
+    /// area's graph (RFC 2328, 16.1).
+    pub fn touches(&self, area: AreaId) -> bool
+        ensures { result ≡ touches area self.now }
+    {
+        self.swaps.iter().any(|swap| swap.touches(area))
+    }
+}
+
+/// Takes an edit back: the database is again the one before it, octet for octet. It takes no memory.
+///
+/// The database is the one after the edit. Empty places that were opened since at the ends of
+/// sections are no bar.
+pub fn revert<A: Allocator + Copy>(database: &mut Database<A>, entry: &mut Record<A>)
+    requires { CanUndo database.old entry.old.swaps }
+    ensures database { database.new ≡ undone_places database.old entry.old.swaps }
+    ensures entry { entry.new ≡ undone database.old entry.old }
+{
+    undo_swaps(database, &mut entry.swaps);
+}
+
+/// Carries an edit out again: the database is again the one after it, octet for octet. It takes no
+/// memory.
+///
+/// The database is the one before the edit. Empty places that were opened since at the ends of
+/// sections are no bar.
+pub fn replay<A: Allocator + Copy>(database: &mut Database<A>, entry: &mut Record<A>)
+    requires { CanDo database.old entry.old.swaps }
+    ensures database { database.new ≡ done_places database.old entry.old.swaps }
+    ensures entry { entry.new ≡ redone database.old entry.old }
+{
+    do_swaps(database, &mut entry.swaps);
+}

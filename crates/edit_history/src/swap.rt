@@ -1,0 +1,88 @@
+//! One place that an edit changes, and what the database lacks of it.
+
+ghost use Rattle.std.specs.Prelude.{◌≡◌, IsSome};
+ghost use Rattle.lsdb.specs.Lists.{IsDatabase};
+ghost use Rattle.lsdb.specs.Places.{put, slot_at, lists_of};
+ghost use Rattle.edit_history.specs.Effect.{is_of_graph};
+ghost use Rattle.edit_history.specs.Exchange.{CanDo, CanUndo, taken, done_places, done_swaps, undone_places, undone_swaps};
+
+use lsa_codec::{AreaId, Lsa};
+use lsdb::{Database, Section, SlotId};
+use std::alloc::{Allocator, Global};
+use std::marker::Model;
+
+/// A place, the section and the LS type of the LSA that stands there or stood there, and what the
+/// database lacks of it: the old LSA once the edit is done, the new one once it is undone.
+#[derive(Drop)]
+pub struct Swap<A: Allocator = Global> {
+    slot: SlotId,
+    section: Section,
+    kind: u8,
+    other: Option<Lsa<A>>,
+}
+
+impl<A: Allocator> Model for Swap<A> {
+    ghost use Rattle.edit_history.specs.Exchange.{SwapData};
+
+    ghost Value = { SwapData };
+
+    ghost view = { λ s. record { slot = s.slot; section = s.section; kind = s.kind; other = s.other } };
+}
+
+impl<A: Allocator + Copy> Swap<A> {
+    /// The swap that puts another LSA, or none, at a place.
+    pub fn new(slot: SlotId, section: Section, kind: u8, other: Option<Lsa<A>>) -> Swap<A>
+        ensures { result ≡ record { slot = slot; section = section; kind = kind; other = other } }
+    {
+        Swap {
+            slot,
+            section,
+            kind,
+            other,
+        }
+    }
+
+    /// Whether it changes the graph of an area: a router-LSA or network-LSA of it (RFC 2328, 16.1).
+    pub fn touches(&self, area: AreaId) -> bool
+        ensures { result ≡ is_of_graph area self.now.section self.now.kind }
+    {
+        match self.section {
+            Section::Area(id) => id == area && matches!(self.kind, 1 | 2),
+            Section::AsWide => false,
+        }
+    }
+
+    /// Exchanges what stands at the place.
+    fn exchange(&mut self, database: &mut Database<A>)
+        requires exists { IsSome (slot_at database.old self.old.slot) }
+        requires sound { IsDatabase (lists_of (put database.old self.old.slot self.old.other)) }
+        ensures database { database.new ≡ put database.old self.old.slot self.old.other }
+        ensures swap { self.new ≡ taken database.old self.old }
+    {
+        database.swap(self.slot, &mut self.other);
+    }
+}
+
+/// Does swaps, from the first to the last.
+pub fn do_swaps<A: Allocator + Copy>(database: &mut Database<A>, swaps: &mut [Swap<A>])
+    requires { CanDo database.old swaps.old }
+    ensures database { database.new ≡ done_places database.old swaps.old }
+    ensures swaps { swaps.new ≡ done_swaps database.old swaps.old }
+{
+    for i in 0..swaps.len() {
+        let swap = &mut swaps[i];
+        swap.exchange(database);
+    }
+}
+
+/// Undoes swaps, from the last to the first.
+pub fn undo_swaps<A: Allocator + Copy>(database: &mut Database<A>, swaps: &mut [Swap<A>])
+    requires { CanUndo database.old swaps.old }
+    ensures database { database.new ≡ undone_places database.old swaps.old }
+    ensures swaps { swaps.new ≡ undone_swaps database.old swaps.old }
+{
+    for i in (0..swaps.len()).rev() {
+        let swap = &mut swaps[i];
+        swap.exchange(database);
+    }
+}
