@@ -80,11 +80,17 @@ IsMakeFaultOf NoLink answer = answer ≡ Err NoLink
 IsMakeFaultOf ZeroCost answer = answer ≡ Err ZeroCost
 IsMakeFaultOf TooLong answer = answer ≡ Err TooLong
 
--- an LSA that may stand in the place of another: accepted, of the same key, and no longer
+-- an LSA made from another of the same key: accepted, and no longer
 pub record IsRewriteOf (old new : List ℕ) : Type 0 where
   pub accepted : IsAccepted new
   pub key : key_of new ≡ key_of old
   pub size : length new ≤ length old
+
+-- an LSA made from another of the same key by a stub link: accepted, and 12 octets longer
+pub record IsExtensionOf (old new : List ℕ) : Type 0 where
+  pub accepted : IsAccepted new
+  pub key : key_of new ≡ key_of old
+  pub size : length new ≡ length old + 12
 
 -- a link that stands in an accepted router-LSA
 pub record IsLinkOf (lsa : List ℕ) (link : Link) : Type 0 where

@@ -4,13 +4,17 @@
 ghost use Rattle.std.specs.Prelude.{◌≡◌, ◌+◌, ◌-◌, ◌≤◌, ◌<◌, ◌^◌, ◌++◌, ℕ, List, Bool, true, map, not, length, take, drop, Ok};
 ghost use Rattle.std.specs.List.{filter, remove};
 ghost use Rattle.lsa_codec.specs.declared.link.Link.{Link};
+ghost use Rattle.lsa_codec.specs.declared.address.Addr.{Addr};
+ghost use Rattle.lsa_codec.specs.declared.address.RouterId.{RouterId};
 ghost use Rattle.lsa_codec.specs.Fields.{kind_of};
-ghost use Rattle.lsa_codec.specs.Prefix.{is_mask, mask_of_len, len_of_mask};
+ghost use Rattle.lsa_codec.specs.Prefix.{Net, IsNet, is_mask, mask_of_len, len_of_mask};
 ghost use Rattle.lsa_codec.specs.Checksum.{is_checksum_good, with_checksum};
 ghost use Rattle.lsa_codec.specs.Links.{links_of, unplaced};
 ghost use Rattle.lsa_codec.specs.Accepted.{IsAccepted};
 ghost use Rattle.lsa_codec.specs.Decoding.{decoded};
-ghost use Rattle.lsa_codec.specs.Making.{without_link, without_links};
+ghost use Rattle.lsa_codec.specs.Views.{has_metric};
+ghost use Rattle.lsa_codec.specs.Making.{with_cost, without_link, without_links, with_stub, IsRewriteOf, IsExtensionOf};
+ghost use Rattle.lsa_codec.specs.Originating.{with_metric, new_summary, new_external, IsNewLsa};
 
 /// Decoding finds every accepted LSA, whatever follows it.
 pub fn decoding_is_complete()
@@ -37,6 +41,30 @@ pub fn links_after_removal()
         → map unplaced (links_of made) ≡ map unplaced (remove (links_of lsa) (k - 1)) }
     ensures links { (test : Link → Bool) (lsa made : List ℕ) → IsAccepted lsa → kind_of lsa ≡ 1 → without_links test lsa ≡ Ok made
         → map unplaced (links_of made) ≡ map unplaced (filter (λ link. not (test link)) (links_of lsa)) }
+{}
+
+/// An LSA that a maker makes from another is accepted and has the same key. It is no longer than the
+/// other, but where a stub link is added.
+pub fn makers_keep_the_key()
+    ensures cost { (k metric : ℕ) (lsa made : List ℕ) → IsAccepted lsa → kind_of lsa ≡ 1 → metric < 2 ^ 16
+        → with_cost k metric lsa ≡ Ok made → IsRewriteOf lsa made }
+    ensures link { (k : ℕ) (lsa made : List ℕ) → IsAccepted lsa → kind_of lsa ≡ 1
+        → without_link k lsa ≡ Ok made → IsRewriteOf lsa made }
+    ensures links { (test : Link → Bool) (lsa made : List ℕ) → IsAccepted lsa → kind_of lsa ≡ 1
+        → without_links test lsa ≡ Ok made → IsRewriteOf lsa made }
+    ensures stub { (net : Net) (metric : ℕ) (lsa made : List ℕ) → IsAccepted lsa → kind_of lsa ≡ 1 → IsNet net
+        → with_stub net metric lsa ≡ Ok made → IsExtensionOf lsa made }
+    ensures metric { (metric : ℕ) (lsa : List ℕ) → IsAccepted lsa → has_metric (kind_of lsa) ≡ true
+        → IsRewriteOf lsa (with_metric metric lsa) }
+{}
+
+/// A new LSA for a prefix is accepted, has the prefix's address as its Link State ID, and has 28 octets
+/// (a summary-LSA) or 36 (an AS-external-LSA).
+pub fn new_lsas_have_their_key()
+    ensures summary { (options : ℕ) (adv : RouterId) (net : Net) (metric : ℕ) → IsNet net → net.addr.0 < 2 ^ 32 → adv.0 < 2 ^ 32
+        → IsNewLsa 3 net adv 28 (new_summary options adv net metric) }
+    ensures external { (adv : RouterId) (net : Net) (type2 : Bool) (metric : ℕ) (forward : Addr) (tag : ℕ) → IsNet net → net.addr.0 < 2 ^ 32 → adv.0 < 2 ^ 32
+        → IsNewLsa 5 net adv 36 (new_external adv net type2 metric forward tag) }
 {}
 
 /// The masks are exactly those of the lengths up to 32, and each has one length.

@@ -5,6 +5,7 @@ ghost use Rattle.lsa_codec.specs.declared.fault.MakeFault.TheVariants.{OutOfMemo
 ghost use Rattle.lsa_codec.specs.Fields.{kind_of};
 ghost use Rattle.lsa_codec.specs.Checksum.{with_checksum};
 ghost use Rattle.lsa_codec.specs.Views.{has_metric};
+ghost use Rattle.lsa_codec.specs.Making.{IsRewriteOf};
 ghost use Rattle.lsa_codec.specs.Originating.{with_metric, new_header, summary_body, new_summary, external_body, new_external};
 
 use crate::address::{Addr, RouterId};
@@ -109,6 +110,7 @@ impl<A: Allocator + Copy> Lsa<A> {
         requires kind { has_metric (kind_of self.now) ≡ true }
         requires metric { metric < 2 ^ 24 }
         ensures made { IfOk result (λ lsa. lsa ≡ with_metric metric self.now) }
+        ensures keeps { IfOk result (λ lsa. IsRewriteOf self.now lsa) }
         ensures fault { IfErr result (λ fault. fault ≡ OutOfMemory) }
     {
         let bytes = with_metric(alloc, self.bytes(), metric)?;

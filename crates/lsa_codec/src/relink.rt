@@ -8,7 +8,7 @@ ghost use Rattle.lsa_codec.specs.Accepted.{IsAccepted};
 ghost use Rattle.lsa_codec.specs.declared.fault.MakeFault.TheVariants.{OutOfMemory};
 ghost use Rattle.lsa_codec.specs.Fields.{kind_of};
 ghost use Rattle.lsa_codec.specs.Links.{links_of, link_length, unplaced};
-ghost use Rattle.lsa_codec.specs.Making.{recounted, link_text, with_links, without_link, without_links, leads_to, leads_to_net, is_end_of, with_stub, stub_text, IsMakeFaultOf, IsLinkOf};
+ghost use Rattle.lsa_codec.specs.Making.{recounted, link_text, with_links, without_link, without_links, leads_to, leads_to_net, is_end_of, with_stub, stub_text, IsMakeFaultOf, IsRewriteOf, IsExtensionOf, IsLinkOf};
 
 use crate::address::{Addr, RouterId};
 use crate::checksum::set_checksum;
@@ -86,6 +86,7 @@ impl<A: Allocator + Copy> Lsa<A> {
     pub fn without_link(&self, alloc: A, k: u16) -> Result<Lsa<A>, MakeFault>
         requires router { kind_of self.now ≡ 1 }
         ensures made { IfOk result (λ lsa. without_link k self.now ≡ Ok lsa) }
+        ensures keeps { IfOk result (λ lsa. IsRewriteOf self.now lsa) }
         ensures fault { IfErr result (λ fault. IsMakeFaultOf fault (without_link k self.now)) }
     {
         let Some(router) = self.router() else {
@@ -104,6 +105,7 @@ impl<A: Allocator + Copy> Lsa<A> {
     pub fn without_links_to(&self, alloc: A, router: RouterId) -> Result<Lsa<A>, MakeFault>
         requires router { kind_of self.now ≡ 1 }
         ensures made { IfOk result (λ lsa. without_links (leads_to router) self.now ≡ Ok lsa) }
+        ensures keeps { IfOk result (λ lsa. IsRewriteOf self.now lsa) }
         ensures fault { IfErr result (λ fault. IsMakeFaultOf fault (without_links (leads_to router) self.now)) }
     {
         self.without_links(alloc, Target::Router(router))
@@ -115,6 +117,7 @@ impl<A: Allocator + Copy> Lsa<A> {
     pub fn without_net_links(&self, alloc: A, addr: Addr) -> Result<Lsa<A>, MakeFault>
         requires router { kind_of self.now ≡ 1 }
         ensures made { IfOk result (λ lsa. without_links (leads_to_net addr) self.now ≡ Ok lsa) }
+        ensures keeps { IfOk result (λ lsa. IsRewriteOf self.now lsa) }
         ensures fault { IfErr result (λ fault. IsMakeFaultOf fault (without_links (leads_to_net addr) self.now)) }
     {
         self.without_links(alloc, Target::Net(addr))
@@ -124,6 +127,7 @@ impl<A: Allocator + Copy> Lsa<A> {
     fn without_links(&self, alloc: A, target: Target) -> Result<Lsa<A>, MakeFault>
         requires router { kind_of self.now ≡ 1 }
         ensures made { IfOk result (λ lsa. without_links (is_end_of target) self.now ≡ Ok lsa) }
+        ensures keeps { IfOk result (λ lsa. IsRewriteOf self.now lsa) }
         ensures fault { IfErr result (λ fault. IsMakeFaultOf fault (without_links (is_end_of target) self.now)) }
     {
         let Some(router) = self.router() else {
@@ -142,6 +146,7 @@ impl<A: Allocator + Copy> Lsa<A> {
     pub fn with_stub(&self, alloc: A, net: Prefix, metric: u16) -> Result<Lsa<A>, MakeFault>
         requires router { kind_of self.now ≡ 1 }
         ensures made { IfOk result (λ lsa. with_stub net metric self.now ≡ Ok lsa) }
+        ensures keeps { IfOk result (λ lsa. IsExtensionOf self.now lsa) }
         ensures fault { IfErr result (λ fault. IsMakeFaultOf fault (with_stub net metric self.now)) }
     {
         let Some(router) = self.router() else {
