@@ -4,7 +4,6 @@ ghost use Rattle.std.specs.Prelude.{◌≡◌, ◌+◌, ◌≤◌, ◌<◌, ◌^
 ghost use Rattle.lsa_codec.specs.Fields.{kind_of};
 ghost use Rattle.lsa_codec.specs.Making.{with_cost, with_metric_of, IsMakeFaultOf, IsRewriteOf};
 
-use crate::accept::has_cost;
 use crate::checksum::set_checksum;
 use crate::fault::MakeFault;
 use crate::field::put_u16;
@@ -57,7 +56,7 @@ impl<A: Allocator + Copy> Lsa<A> {
         let Some(link) = router.link_numbered(k) else {
             return Err(MakeFault::NoLink);
         };
-        if has_cost(link.kind) && metric == 0 {
+        if link.kind.has_cost() && metric == 0 {
             return Err(MakeFault::ZeroCost);
         }
         let bytes = with_metric_of(alloc, self.bytes(), link, metric)?;

@@ -6,13 +6,14 @@ ghost use Rattle.std.specs.Iterator.{YieldsFirst, item_count};
 ghost use Rattle.lsa_codec.specs.Fields.{kind_of, octet_at, mask_of};
 ghost use Rattle.lsa_codec.specs.Links.{links_of, link_count, link_numbered};
 ghost use Rattle.lsa_codec.specs.Accepted.{IsAccepted};
-ghost use Rattle.lsa_codec.specs.Views.{routers_from, attached_of, has_metric, metric_of, is_type2_of, forward_of, tag_of};
+ghost use Rattle.lsa_codec.specs.Views.{net_of_lsa, net_of_summary, routers_from, attached_of, has_metric, metric_of, is_type2_of, forward_of, tag_of};
 
 use crate::address::{Addr, RouterId};
 use crate::field::{u16_at, u24_at, u32_at};
 use crate::link::Link;
 use crate::links::Links;
 use crate::lsa::Lsa;
+use crate::prefix::{Prefix, len_of_mask};
 use std::alloc::Allocator;
 use std::marker::Model;
 
@@ -41,13 +42,15 @@ pub struct NetworkView<'a> {
 }
 
 impl<'a> Model for NetworkView<'a> {
-    ghost use Rattle.std.specs.Prelude.{◌≡◌, ◌≤◌, ◌<◌, ◌^◌, length, List, ℕ};
+    ghost use Rattle.std.specs.Prelude.{◌≡◌, ◌≤◌, ◌<◌, ◌^◌, length, List, ℕ, true};
+    ghost use Rattle.lsa_codec.specs.Fields.{mask_of};
+    ghost use Rattle.lsa_codec.specs.Prefix.{is_mask};
 
     ghost Value = { List ℕ };
 
     ghost view = { λ v. v.lsa.now };
 
-    ghost invariant = { λ v. (24 ≤ length v.lsa.now) × (length v.lsa.now < 2 ^ 16) };
+    ghost invariant = { λ v. (24 ≤ length v.lsa.now) × (length v.lsa.now < 2 ^ 16) × (is_mask (mask_of v.lsa.now) ≡ true) };
 }
 
 /// A summary-LSA, of type 3 (a network) or 4 (an AS boundary router), seen as its octets
@@ -58,13 +61,15 @@ pub struct SummaryView<'a> {
 }
 
 impl<'a> Model for SummaryView<'a> {
-    ghost use Rattle.std.specs.Prelude.{◌≡◌, ◌≤◌, length, List, ℕ};
+    ghost use Rattle.std.specs.Prelude.{◌≡◌, ◌≤◌, length, List, ℕ, true};
+    ghost use Rattle.lsa_codec.specs.Fields.{kind_of, mask_of};
+    ghost use Rattle.lsa_codec.specs.Prefix.{is_mask};
 
     ghost Value = { List ℕ };
 
     ghost view = { λ v. v.lsa.now };
 
-    ghost invariant = { λ v. 28 ≤ length v.lsa.now };
+    ghost invariant = { λ v. (28 ≤ length v.lsa.now) × (kind_of v.lsa.now ≡ 3 → is_mask (mask_of v.lsa.now) ≡ true) };
 }
 
 /// An AS-external-LSA, seen as its octets (RFC 2328, A.4.5).
@@ -74,13 +79,15 @@ pub struct ExternalView<'a> {
 }
 
 impl<'a> Model for ExternalView<'a> {
-    ghost use Rattle.std.specs.Prelude.{◌≡◌, ◌≤◌, length, List, ℕ};
+    ghost use Rattle.std.specs.Prelude.{◌≡◌, ◌≤◌, length, List, ℕ, true};
+    ghost use Rattle.lsa_codec.specs.Fields.{mask_of};
+    ghost use Rattle.lsa_codec.specs.Prefix.{is_mask};
 
     ghost Value = { List ℕ };
 
     ghost view = { λ v. v.lsa.now };
 
-    ghost invariant = { λ v. 36 ≤ length v.lsa.now };
+    ghost invariant = { λ v. (36 ≤ length v.lsa.now) × (is_mask (mask_of v.lsa.now) ≡ true) };
 }
 
 impl<A: Allocator + Copy> Lsa<A> {
@@ -164,6 +171,13 @@ impl<'a> RouterView<'a> {
 }
 
 impl<'a> NetworkView<'a> {
+    /// The prefix of the network: the Link State ID, which is the Designated Router's address, the bits past the mask set to 0.
+    pub fn net(&self) -> Prefix
+        ensures { result ≡ net_of_lsa self.now }
+    {
+        Prefix::masked(Addr(u32_at(self.lsa, 4)), len_of_mask(self.mask()))
+    }
+
     /// The mask of the network, ones followed by zeros.
     pub fn mask(&self) -> u32
         ensures { result ≡ mask_of self.now }
@@ -184,6 +198,17 @@ impl<'a> NetworkView<'a> {
 }
 
 impl<'a> SummaryView<'a> {
+    /// The prefix of the network: the Link State ID, the bits past the mask set to 0. None for an LSA
+    /// of type 4, whose Link State ID is the Router ID of an AS boundary router.
+    pub fn net(&self) -> Option<Prefix>
+        ensures { result ≡ net_of_summary self.now }
+    {
+        if self.lsa[3] != 3 {
+            return None;
+        }
+        Some(Prefix::masked(Addr(u32_at(self.lsa, 4)), len_of_mask(self.mask())))
+    }
+
     /// The mask of the network, ones followed by zeros. In a type 4 LSA it has no meaning and may be
     /// any number.
     pub fn mask(&self) -> u32
@@ -202,6 +227,13 @@ impl<'a> SummaryView<'a> {
 }
 
 impl<'a> ExternalView<'a> {
+    /// The prefix of the network: the Link State ID, the bits past the mask set to 0.
+    pub fn net(&self) -> Prefix
+        ensures { result ≡ net_of_lsa self.now }
+    {
+        Prefix::masked(Addr(u32_at(self.lsa, 4)), len_of_mask(self.mask()))
+    }
+
     /// The mask of the network, ones followed by zeros.
     pub fn mask(&self) -> u32
         ensures { result ≡ mask_of self.now }
