@@ -5,6 +5,7 @@ ghost use Rattle.std.specs.Prelude.{◌≡◌, ◌≢◌, ◌≤◌, ◌<◌, �
 ghost use Rattle.std.specs.Iterator.{YieldsFirst, item_count};
 ghost use Rattle.lsa_codec.specs.Fields.{kind_of, octet_at, mask_of};
 ghost use Rattle.lsa_codec.specs.Links.{links_of, link_count, link_numbered};
+ghost use Rattle.lsa_codec.specs.Prefix.{is_mask};
 ghost use Rattle.lsa_codec.specs.Accepted.{IsAccepted};
 ghost use Rattle.lsa_codec.specs.Views.{net_of_lsa, net_of_summary, routers_from, attached_of, has_metric, metric_of, is_type2_of, forward_of, tag_of};
 
@@ -171,18 +172,19 @@ impl<'a> RouterView<'a> {
 }
 
 impl<'a> NetworkView<'a> {
-    /// The prefix of the network: the Link State ID, which is the Designated Router's address, the bits past the mask set to 0.
+    /// The prefix of the network: the Link State ID, which is the Designated Router's address, with
+    /// the bits past the mask set to 0.
     pub fn net(&self) -> Prefix
         ensures { result ≡ net_of_lsa self.now }
     {
-        Prefix::masked(Addr(u32_at(self.lsa, 4)), len_of_mask(self.mask()))
+        net_at(self.lsa)
     }
 
     /// The mask of the network, ones followed by zeros.
     pub fn mask(&self) -> u32
         ensures { result ≡ mask_of self.now }
     {
-        u32_at(self.lsa, 20)
+        mask_at(self.lsa)
     }
 
     /// The Router IDs of the routers attached to the network, in the order in which they stand.
@@ -206,7 +208,7 @@ impl<'a> SummaryView<'a> {
         if self.lsa[3] != 3 {
             return None;
         }
-        Some(Prefix::masked(Addr(u32_at(self.lsa, 4)), len_of_mask(self.mask())))
+        Some(net_at(self.lsa))
     }
 
     /// The mask of the network, ones followed by zeros. In a type 4 LSA it has no meaning and may be
@@ -214,7 +216,7 @@ impl<'a> SummaryView<'a> {
     pub fn mask(&self) -> u32
         ensures { result ≡ mask_of self.now }
     {
-        u32_at(self.lsa, 20)
+        mask_at(self.lsa)
     }
 
     /// The cost of the route for TOS 0, a number of 24 bits. 16,777,215 is LSInfinity, which says that
@@ -222,7 +224,7 @@ impl<'a> SummaryView<'a> {
     pub fn metric(&self) -> u32
         ensures { result ≡ metric_of self.now }
     {
-        u24_at(self.lsa, 25)
+        metric_at(self.lsa)
     }
 }
 
@@ -231,14 +233,14 @@ impl<'a> ExternalView<'a> {
     pub fn net(&self) -> Prefix
         ensures { result ≡ net_of_lsa self.now }
     {
-        Prefix::masked(Addr(u32_at(self.lsa, 4)), len_of_mask(self.mask()))
+        net_at(self.lsa)
     }
 
     /// The mask of the network, ones followed by zeros.
     pub fn mask(&self) -> u32
         ensures { result ≡ mask_of self.now }
     {
-        u32_at(self.lsa, 20)
+        mask_at(self.lsa)
     }
 
     /// Whether bit E says that the metric is of type 2, so larger than any cost within the AS.
@@ -253,7 +255,7 @@ impl<'a> ExternalView<'a> {
     pub fn metric(&self) -> u32
         ensures { result ≡ metric_of self.now }
     {
-        u24_at(self.lsa, 25)
+        metric_at(self.lsa)
     }
 
     /// The forwarding address for TOS 0. 0.0.0.0 stands for the router that made the LSA.
@@ -269,6 +271,31 @@ impl<'a> ExternalView<'a> {
     {
         u32_at(self.lsa, 32)
     }
+}
+
+/// The mask of a network-LSA, summary-LSA or AS-external-LSA, which follows the header.
+fn mask_at(lsa: &[u8]) -> u32
+    requires { 24 ≤ length lsa.now }
+    ensures { result ≡ mask_of lsa.now }
+{
+    u32_at(lsa, 20)
+}
+
+/// The prefix of a network-LSA, summary-LSA of type 3 or AS-external-LSA.
+fn net_at(lsa: &[u8]) -> Prefix
+    requires body { 24 ≤ length lsa.now }
+    requires mask { is_mask (mask_of lsa.now) ≡ true }
+    ensures { result ≡ net_of_lsa lsa.now }
+{
+    Prefix::masked(Addr(u32_at(lsa, 4)), len_of_mask(mask_at(lsa)))
+}
+
+/// The metric of a summary-LSA or AS-external-LSA.
+fn metric_at(lsa: &[u8]) -> u32
+    requires { 28 ≤ length lsa.now }
+    ensures { result ≡ metric_of lsa.now }
+{
+    u24_at(lsa, 25)
 }
 
 /// An iterator over the Router IDs in a network-LSA, in the order in which they stand. It takes no
