@@ -1,5 +1,5 @@
--- LSAs made from others: the bytes, or the first fault.
-use Rattle.std.specs.Prelude.{◌≡◌, ℕ, ◌+◌, ◌-◌, ◌*◌, ◌≤◌, ◌<◌, List, [], ◌∷◌, ◌++◌, length, take, drop, Option, Some, None, is_some, Result, Ok, Err, IsOk, ◌==◌, nat_lt, if◌then◌else◌, Bool, true, false, not, ◌&&◌, ◌||◌, slice_get}
+-- Router-LSAs made from others: the octets, or the first fault.
+use Rattle.std.specs.Prelude.{◌≡◌, ℕ, ◌+◌, ◌-◌, ◌≤◌, List, ◌∷◌, ◌++◌, length, take, drop, Option, Some, None, is_some, Result, Ok, Err, IsOk, ◌==◌, nat_lt, if◌then◌else◌, Bool, true, not, ◌&&◌}
 use Rattle.std.specs.List.{flat_map, filter, remove, list_any}
 use Rattle.byteorder.specs.Endian.{big_bytes}
 use Rattle.lsa_codec.specs.declared.fault.MakeFault.{MakeFault}
@@ -7,25 +7,20 @@ use Rattle.lsa_codec.specs.declared.fault.MakeFault.TheVariants.{NoLink, ZeroCos
 use Rattle.lsa_codec.specs.declared.address.Addr.{Addr}
 use Rattle.lsa_codec.specs.declared.address.RouterId.{RouterId}
 use Rattle.lsa_codec.specs.declared.link.Link.{Link}
-use Rattle.lsa_codec.specs.declared.link.LinkKind.TheVariants.{PointToPoint, Transit, Stub, Virtual, Other}
-use Rattle.lsa_codec.specs.declared.link.LinkKind.{LinkKind}
 use Rattle.lsa_codec.specs.declared.relink.Target.{Target}
 use Rattle.lsa_codec.specs.declared.relink.Target.TheVariants as target
 use Rattle.lsa_codec.specs.Fields.{put_number}
 use Rattle.lsa_codec.specs.Checksum.{with_checksum}
-use Rattle.lsa_codec.specs.Links.{links_of, link_at, link_length, link_count, first_link, has_cost}
+use Rattle.lsa_codec.specs.Links.{links_of, link_at, link_length, link_count, link_numbered, first_link, has_cost, is_point_to_point, is_transit}
 use Rattle.lsa_codec.specs.Accepted.{IsAccepted, is_link_mask_good, is_link_cost_good}
 use Rattle.lsa_codec.specs.Key.{key_of}
 use Rattle.lsa_codec.specs.Prefix.{Net, mask_of_len}
-
--- link k, counted from 1
-abbrev pub link_numbered : ℕ → List ℕ → Option Link
-link_numbered k lsa = if k == 0 then None else slice_get (links_of lsa) (k - 1)
 
 -- the bytes with the metric of a link replaced and the checksum made anew
 abbrev pub with_metric_of : Link → ℕ → List ℕ → List ℕ
 with_metric_of link metric lsa = with_checksum (put_number 2 (link.offset + 10) metric lsa)
 
+-- a router-LSA with the metric of this link replaced, if there is one
 abbrev pub with_cost_on : Option Link → ℕ → List ℕ → Result (List ℕ) MakeFault
 with_cost_on None metric lsa = Err NoLink
 with_cost_on (Some link) metric lsa =
@@ -51,20 +46,6 @@ with_links kept lsa = recounted (length kept) (take first_link lsa ++ flat_map (
 abbrev pub without_link : ℕ → List ℕ → Result (List ℕ) MakeFault
 without_link k lsa = if is_some (link_numbered k lsa) then Ok (with_links (remove (links_of lsa) (k - 1)) lsa) else Err NoLink
 
-abbrev pub is_point_to_point : LinkKind → Bool
-is_point_to_point PointToPoint = true
-is_point_to_point Transit = false
-is_point_to_point Stub = false
-is_point_to_point Virtual = false
-is_point_to_point (Other code) = false
-
-abbrev pub is_transit : LinkKind → Bool
-is_transit PointToPoint = false
-is_transit Transit = true
-is_transit Stub = false
-is_transit Virtual = false
-is_transit (Other code) = false
-
 -- a point-to-point link to this router
 abbrev pub leads_to : RouterId → Link → Bool
 leads_to router link = is_point_to_point link.kind && (link.id.0 == router.0)
@@ -73,6 +54,7 @@ leads_to router link = is_point_to_point link.kind && (link.id.0 == router.0)
 abbrev pub leads_to_net : Addr → Link → Bool
 leads_to_net addr link = is_transit link.kind && (link.id.0 == addr.0)
 
+-- a link leads to what links are removed for
 abbrev pub is_end_of : Target → Link → Bool
 is_end_of (target.Router router) link = leads_to router link
 is_end_of (target.Net addr) link = leads_to_net addr link
@@ -82,7 +64,7 @@ abbrev pub without_links : (Link → Bool) → List ℕ → Result (List ℕ) Ma
 without_links test lsa =
     if list_any test (links_of lsa) then Ok (with_links (filter (λ link. not (test link)) (links_of lsa)) lsa) else Err NoLink
 
--- a stub link (A.4.2)
+-- the octets of a stub link: Link ID, Link Data, type 3, no TOS metrics, metric (RFC 2328, A.4.2)
 abbrev pub stub_text : Net → ℕ → List ℕ
 stub_text net metric = big_bytes 4 net.addr.0 ++ big_bytes 4 (mask_of_len net.len) ++ 3 ∷ 0 ∷ big_bytes 2 metric
 
@@ -98,11 +80,17 @@ IsMakeFaultOf NoLink answer = answer ≡ Err NoLink
 IsMakeFaultOf ZeroCost answer = answer ≡ Err ZeroCost
 IsMakeFaultOf TooLong answer = answer ≡ Err TooLong
 
--- an LSA that may stand in the place of another: accepted, of the same key, and no longer
+-- an LSA made from another of the same key: accepted, and no longer
 pub record IsRewriteOf (old new : List ℕ) : Type 0 where
   pub accepted : IsAccepted new
   pub key : key_of new ≡ key_of old
   pub size : length new ≤ length old
+
+-- an LSA made from another of the same key by a stub link: accepted, and 12 octets longer
+pub record IsExtensionOf (old new : List ℕ) : Type 0 where
+  pub accepted : IsAccepted new
+  pub key : key_of new ≡ key_of old
+  pub size : length new ≡ length old + 12
 
 -- a link that stands in an accepted router-LSA
 pub record IsLinkOf (lsa : List ℕ) (link : Link) : Type 0 where

@@ -1,4 +1,4 @@
-//! An accepted LSA.
+//! An accepted LSA, and how it is decoded (RFC 2328, A.4.1).
 
 ghost use Rattle.std.specs.Prelude.{◌≡◌, ◌≢◌, ◌≤◌, ◌++◌, length, drop, IfOk, IfErr, Ok, MatchOption, List, ℕ};
 ghost use Rattle.lsa_codec.specs.Fields.{kind_of, octet_at};
@@ -16,7 +16,8 @@ use crate::links::Links;
 use std::alloc::{Allocator, Global};
 use std::marker::Model;
 
-/// An accepted LSA, seen as its bytes.
+/// An accepted LSA, seen as its octets. They are never changed. What makes octets an accepted LSA is
+/// the record `IsAccepted`; `LsaFault` says the same by what fails.
 #[derive(Debug, Drop)]
 pub struct Lsa<A: Allocator = Global> {
     bytes: Vec<u8, A>,
@@ -34,7 +35,9 @@ impl<A: Allocator> Model for Lsa<A> {
 }
 
 impl<A: Allocator + Copy> Lsa<A> {
-    /// The LSA at the front of the bytes, and its length.
+    /// The LSA at the front of the bytes, and its length in octets. Any bytes may follow it. The
+    /// error is the first fault in the order of `LsaFault`, and want of memory comes only where
+    /// there is no other fault.
     #[tactic(auto, unfolding(crate::specs::Decoding::decoded))]
     pub fn decode(alloc: A, bytes: &[u8]) -> Result<(Lsa<A>, usize), LsaFault>
         ensures found { IfOk result (λ found. decoded bytes.now ≡ Ok found.0) }
@@ -60,7 +63,7 @@ impl<A: Allocator + Copy> Lsa<A> {
         Ok((Lsa { bytes }, size))
     }
 
-    /// The LSA of bytes that are accepted.
+    /// The LSA of octets that are accepted.
     pub(crate) fn accepted(bytes: Vec<u8, A>) -> Lsa<A>
         requires { IsAccepted bytes.items }
         ensures { result ≡ bytes.items }
@@ -68,7 +71,7 @@ impl<A: Allocator + Copy> Lsa<A> {
         Lsa { bytes }
     }
 
-    /// The bytes, as they were decoded or made.
+    /// The octets, as they were decoded or made.
     pub fn bytes(&self) -> &[u8]
         ensures bytes { result.now ≡ self.now }
         ensures accepted { IsAccepted self.now }
@@ -76,6 +79,7 @@ impl<A: Allocator + Copy> Lsa<A> {
         &self.bytes
     }
 
+    /// What names the LSA (RFC 2328, 12.1).
     pub fn key(&self) -> Key
         ensures { result ≡ key_of self.now }
     {
@@ -86,68 +90,11 @@ impl<A: Allocator + Copy> Lsa<A> {
         }
     }
 
+    /// Whether the LS age is MaxAge, which is 3600 seconds, or more. The top bit of the age,
+    /// DoNotAge, does not count (RFC 2328, 12.1.1; RFC 1793, 2.2).
     pub fn at_max_age(&self) -> bool
         ensures { result ≡ is_at_max_age self.now }
     {
         u16_at(&self.bytes, 0) & 0x7fff >= 3600
-    }
-
-    /// The LSA as a router-LSA, where it is one.
-    pub fn router(&self) -> Option<RouterView<'_>>
-        ensures { MatchOption result (kind_of self.now ≢ 1) (λ view. (view ≡ self.now) × (kind_of self.now ≡ 1) × IsAccepted self.now) }
-    {
-        if self.bytes[3] != 1 {
-            return None;
-        }
-        Some(RouterView { lsa: &self.bytes })
-    }
-}
-
-/// What decoding finds: every accepted LSA, whatever follows it.
-pub fn decoding_is_complete()
-    ensures { (lsa rest : List ℕ) → IsAccepted lsa → decoded (lsa ++ rest) ≡ Ok lsa }
-{}
-
-/// No accepted LSA is a proper front of another.
-pub fn one_front()
-    ensures { (a b x y : List ℕ) → IsAccepted a → IsAccepted b → a ++ x ≡ b ++ y → a ≡ b }
-{}
-
-/// A router-LSA, seen as its bytes.
-#[derive(Drop)]
-pub struct RouterView<'a> {
-    lsa: &'a [u8],
-}
-
-impl<'a> Model for RouterView<'a> {
-    ghost use Rattle.std.specs.Prelude.{◌≡◌, List, ℕ};
-    ghost use Rattle.lsa_codec.specs.Fields.{kind_of};
-    ghost use Rattle.lsa_codec.specs.Accepted.{IsAccepted};
-
-    ghost Value = { List ℕ };
-
-    ghost view = { λ v. v.lsa.now };
-
-    ghost invariant = { λ v. IsAccepted v.lsa.now × (kind_of v.lsa.now ≡ 1) };
-}
-
-impl<'a> RouterView<'a> {
-    /// The octet of the bits V, E and B.
-    pub fn flags(&self) -> u8
-        ensures { result ≡ octet_at 20 self.now }
-    {
-        self.lsa[20]
-    }
-
-    pub fn link_count(&self) -> u16
-        ensures { result ≡ link_count self.now }
-    {
-        u16_at(self.lsa, 22)
-    }
-
-    pub fn links(&self) -> Links<'a>
-        ensures { result ≡ links_of self.now }
-    {
-        Links::of(self.lsa)
     }
 }

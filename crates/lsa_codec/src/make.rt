@@ -1,28 +1,15 @@
-//! LSAs made from others.
+//! Router-LSAs with another cost of a link.
 
 ghost use Rattle.std.specs.Prelude.{◌≡◌, ◌+◌, ◌≤◌, ◌<◌, ◌^◌, length, IfOk, IfErr, Ok};
 ghost use Rattle.lsa_codec.specs.Fields.{kind_of};
-ghost use Rattle.lsa_codec.specs.Making.{link_numbered, with_cost, with_metric_of, IsMakeFaultOf, IsRewriteOf};
+ghost use Rattle.lsa_codec.specs.Making.{with_cost, with_metric_of, IsMakeFaultOf, IsRewriteOf};
 
-use crate::accept::has_cost;
 use crate::checksum::set_checksum;
 use crate::fault::MakeFault;
 use crate::field::put_u16;
 use crate::link::Link;
-use crate::lsa::{Lsa, RouterView};
+use crate::lsa::Lsa;
 use std::alloc::{AllocError, Allocator};
-
-impl<'a> RouterView<'a> {
-    /// Link `k`, counted from 1.
-    pub fn link_numbered(&self, k: u16) -> Option<Link>
-        ensures { result ≡ link_numbered k self.now }
-    {
-        if k == 0 {
-            return None;
-        }
-        self.links().nth(usize::from(k) - 1)
-    }
-}
 
 /// Replaces the metric of a link, and makes the checksum anew.
 fn set_metric(lsa: &mut [u8], link: Link, metric: u16)
@@ -53,7 +40,10 @@ fn with_metric_of<A: Allocator + Copy>(
 }
 
 impl<A: Allocator + Copy> Lsa<A> {
-    /// The router-LSA with the metric of link `k` replaced, counted from 1.
+    /// The router-LSA with the metric of link `k` replaced, counted from 1, and its checksum made
+    /// anew. All other octets stay, and so do the TOS metrics. The LSA is a router-LSA. Errors:
+    /// `NoLink` where there is no link `k`, then `ZeroCost` where the metric is 0 and link `k` leads
+    /// to a router or to a transit network, then `OutOfMemory`.
     pub fn with_cost(&self, alloc: A, k: u16, metric: u16) -> Result<Lsa<A>, MakeFault>
         requires router { kind_of self.now ≡ 1 }
         ensures made { IfOk result (λ lsa. with_cost k metric self.now ≡ Ok lsa) }
@@ -66,7 +56,7 @@ impl<A: Allocator + Copy> Lsa<A> {
         let Some(link) = router.link_numbered(k) else {
             return Err(MakeFault::NoLink);
         };
-        if has_cost(link.kind) && metric == 0 {
+        if link.kind.has_cost() && metric == 0 {
             return Err(MakeFault::ZeroCost);
         }
         let bytes = with_metric_of(alloc, self.bytes(), link, metric)?;

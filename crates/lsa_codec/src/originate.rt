@@ -1,10 +1,11 @@
-//! Summary-LSAs and AS-external-LSAs with another metric, and new ones.
+//! Summary-LSAs and AS-external-LSAs with another metric, and new ones (RFC 2328, 12.4.3, 12.4.4).
 
 ghost use Rattle.std.specs.Prelude.{◌≡◌, ◌+◌, ◌≤◌, ◌<◌, ◌^◌, ◌++◌, length, true, IfOk, IfErr, Ok};
 ghost use Rattle.lsa_codec.specs.declared.fault.MakeFault.TheVariants.{OutOfMemory};
 ghost use Rattle.lsa_codec.specs.Fields.{kind_of};
 ghost use Rattle.lsa_codec.specs.Checksum.{with_checksum};
 ghost use Rattle.lsa_codec.specs.Views.{has_metric};
+ghost use Rattle.lsa_codec.specs.Making.{IsRewriteOf};
 ghost use Rattle.lsa_codec.specs.Originating.{with_metric, new_header, summary_body, new_summary, external_body, new_external};
 
 use crate::address::{Addr, RouterId};
@@ -15,7 +16,7 @@ use crate::lsa::Lsa;
 use crate::prefix::Prefix;
 use std::alloc::{AllocError, Allocator};
 
-/// Replaces the metric, and makes the checksum anew.
+/// Replaces the metric of a summary-LSA or AS-external-LSA, and makes the checksum anew.
 fn set_metric(lsa: &mut [u8], metric: u32)
     requires fits { 28 ≤ length lsa.old }
     requires short { length lsa.old < 2 ^ 16 }
@@ -26,7 +27,7 @@ fn set_metric(lsa: &mut [u8], metric: u32)
     set_checksum(lsa);
 }
 
-/// The header of a new LSA.
+/// The header of a new LSA: age 1, the first sequence number, and no checksum yet.
 fn new_header(options: u8, kind: u8, id: Addr, adv: RouterId, size: u16) -> [u8; 20]
     ensures { result ≡ new_header options kind id adv size }
 {
@@ -41,6 +42,7 @@ fn new_header(options: u8, kind: u8, id: Addr, adv: RouterId, size: u16) -> [u8;
     header
 }
 
+/// What follows the header of a summary-LSA: mask and metric.
 fn summary_body(net: Prefix, metric: u32) -> [u8; 8]
     requires { metric < 2 ^ 24 }
     ensures text { result ≡ summary_body net metric }
@@ -49,10 +51,11 @@ fn summary_body(net: Prefix, metric: u32) -> [u8; 8]
     let mut body = [0; 8];
     put_u32(&mut body, 0, net.mask());
     put_u24(&mut body, 5, metric);
-    let _ = net.addr();
     body
 }
 
+/// What follows the header of an AS-external-LSA: mask, bit E and metric, forwarding address and
+/// route tag.
 fn external_body(net: Prefix, type2: bool, metric: u32, forward: Addr, tag: u32) -> [u8; 16]
     requires { metric < 2 ^ 24 }
     ensures text { result ≡ external_body net type2 metric forward tag }
@@ -64,7 +67,6 @@ fn external_body(net: Prefix, type2: bool, metric: u32, forward: Addr, tag: u32)
     put_u24(&mut body, 5, metric);
     put_u32(&mut body, 8, forward.0);
     put_u32(&mut body, 12, tag);
-    let _ = net.addr();
     body
 }
 
@@ -84,6 +86,7 @@ fn assembled<A: Allocator + Copy>(
     Ok(bytes)
 }
 
+/// A copy with another metric.
 fn with_metric<A: Allocator + Copy>(
     alloc: A,
     lsa: &[u8],
@@ -100,18 +103,23 @@ fn with_metric<A: Allocator + Copy>(
 }
 
 impl<A: Allocator + Copy> Lsa<A> {
-    /// The summary-LSA or AS-external-LSA with another metric.
+    /// The summary-LSA or AS-external-LSA with another metric for TOS 0, and its checksum made anew.
+    /// All other octets stay. The LSA is of type 3, 4 or 5, and the metric at most 16,777,215. The
+    /// only error is `OutOfMemory`.
     pub fn with_metric(&self, alloc: A, metric: u32) -> Result<Lsa<A>, MakeFault>
         requires kind { has_metric (kind_of self.now) ≡ true }
         requires metric { metric < 2 ^ 24 }
         ensures made { IfOk result (λ lsa. lsa ≡ with_metric metric self.now) }
+        ensures keeps { IfOk result (λ lsa. IsRewriteOf self.now lsa) }
         ensures fault { IfErr result (λ fault. fault ≡ OutOfMemory) }
     {
         let bytes = with_metric(alloc, self.bytes(), metric)?;
         Ok(Lsa::accepted(bytes))
     }
 
-    /// A new summary-LSA of type 3.
+    /// A new summary-LSA of type 3 for a prefix, of age 1 and the first sequence number, 0x80000001,
+    /// and without TOS metrics (RFC 2328, 12.4.3). Its Link State ID is the prefix's address. The
+    /// metric is at most 16,777,215. The only error is `OutOfMemory`.
     pub fn new_summary(
         alloc: A,
         options: u8,
@@ -128,7 +136,9 @@ impl<A: Allocator + Copy> Lsa<A> {
         Ok(Lsa::accepted(bytes))
     }
 
-    /// A new AS-external-LSA.
+    /// A new AS-external-LSA for a prefix, of age 1 and the first sequence number, 0x80000001, with
+    /// bit E alone in its options, and without TOS entries (RFC 2328, 12.4.4). Its Link State ID is
+    /// the prefix's address. The metric is at most 16,777,215. The only error is `OutOfMemory`.
     pub fn new_external(
         alloc: A,
         adv: RouterId,

@@ -1,4 +1,5 @@
-//! Router-LSAs with fewer or more links than another.
+//! Router-LSAs with fewer or more links than another. The kept links keep their octets and order;
+//! number of links, length and checksum are set anew.
 
 ghost use Rattle.std.specs.Prelude.{◌≡◌, ◌+◌, ◌≤◌, ◌<◌, ◌^◌, ◌++◌, ◌-◌, ℕ, List, Bool, map, not, length, take, IfOk, IfErr, Ok};
 ghost use Rattle.std.specs.List.{All, flat_map, filter, list_any, remove};
@@ -7,21 +8,24 @@ ghost use Rattle.lsa_codec.specs.Accepted.{IsAccepted};
 ghost use Rattle.lsa_codec.specs.declared.fault.MakeFault.TheVariants.{OutOfMemory};
 ghost use Rattle.lsa_codec.specs.Fields.{kind_of};
 ghost use Rattle.lsa_codec.specs.Links.{links_of, link_length, unplaced};
-ghost use Rattle.lsa_codec.specs.Making.{recounted, link_text, with_links, without_link, without_links, leads_to, leads_to_net, is_end_of, with_stub, stub_text, IsMakeFaultOf, IsLinkOf};
+ghost use Rattle.lsa_codec.specs.Making.{recounted, link_text, with_links, without_link, without_links, leads_to, leads_to_net, is_end_of, with_stub, stub_text, IsMakeFaultOf, IsRewriteOf, IsExtensionOf, IsLinkOf};
 
 use crate::address::{Addr, RouterId};
 use crate::checksum::set_checksum;
 use crate::fault::MakeFault;
 use crate::field::{put_u16, put_u32};
 use crate::link::{Link, LinkKind};
-use crate::lsa::{Lsa, RouterView};
+use crate::lsa::Lsa;
 use crate::prefix::Prefix;
+use crate::views::RouterView;
 use std::alloc::{AllocError, Allocator};
 
-/// What links lead to.
+/// What the links to be removed lead to.
 #[derive(Clone, Copy)]
 enum Target {
+    /// The router of this Router ID, over a point-to-point link.
     Router(RouterId),
+    /// The transit network whose Designated Router has this address.
     Net(Addr),
 }
 
@@ -37,7 +41,7 @@ fn recount(lsa: &mut [u8], count: u16)
     set_checksum(lsa);
 }
 
-/// How many octets a link has.
+/// How many octets a link has, its TOS metrics included.
 fn link_length(lsa: &[u8], link: Link) -> usize
     requires { link.offset + 12 ≤ length lsa.now }
     ensures { result ≡ link_length link.offset lsa.now }
@@ -45,7 +49,7 @@ fn link_length(lsa: &[u8], link: Link) -> usize
     12 + 4 * usize::from(lsa[link.offset + 9])
 }
 
-/// The octets before the links, and then those of these links.
+/// The octets of an LSA before its links, and then those of these links.
 fn link_texts<A: Allocator + Copy>(
     alloc: A,
     lsa: &[u8],
@@ -64,7 +68,7 @@ fn link_texts<A: Allocator + Copy>(
 }
 
 impl<A: Allocator + Copy> Lsa<A> {
-    /// The router-LSA with these of its links alone.
+    /// The router-LSA with these of its links alone, in this order.
     fn with_links(&self, alloc: A, kept: &[Link]) -> Result<Lsa<A>, MakeFault>
         requires router { kind_of self.now ≡ 1 }
         requires links { All (IsLinkOf self.now) kept.now }
@@ -77,10 +81,12 @@ impl<A: Allocator + Copy> Lsa<A> {
         Ok(Lsa::accepted(bytes))
     }
 
-    /// The router-LSA without link `k`, counted from 1.
+    /// The router-LSA without link `k`, counted from 1, and without its TOS metrics. The LSA is a
+    /// router-LSA. Errors: `NoLink` where there is no link `k`, then `OutOfMemory`.
     pub fn without_link(&self, alloc: A, k: u16) -> Result<Lsa<A>, MakeFault>
         requires router { kind_of self.now ≡ 1 }
         ensures made { IfOk result (λ lsa. without_link k self.now ≡ Ok lsa) }
+        ensures keeps { IfOk result (λ lsa. IsRewriteOf self.now lsa) }
         ensures fault { IfErr result (λ fault. IsMakeFaultOf fault (without_link k self.now)) }
     {
         let Some(router) = self.router() else {
@@ -94,27 +100,34 @@ impl<A: Allocator + Copy> Lsa<A> {
         self.with_links(alloc, &kept)
     }
 
-    /// The router-LSA without its point-to-point links to a router.
+    /// The router-LSA without its point-to-point links to a router. Virtual links to it stay. The LSA
+    /// is a router-LSA. Errors: `NoLink` where it has no such link, then `OutOfMemory`.
     pub fn without_links_to(&self, alloc: A, router: RouterId) -> Result<Lsa<A>, MakeFault>
         requires router { kind_of self.now ≡ 1 }
         ensures made { IfOk result (λ lsa. without_links (leads_to router) self.now ≡ Ok lsa) }
+        ensures keeps { IfOk result (λ lsa. IsRewriteOf self.now lsa) }
         ensures fault { IfErr result (λ fault. IsMakeFaultOf fault (without_links (leads_to router) self.now)) }
     {
         self.without_links(alloc, Target::Router(router))
     }
 
-    /// The router-LSA without its links to the transit network of this Designated Router's address.
+    /// The router-LSA without its links to the transit network whose Designated Router has this
+    /// address. The LSA is a router-LSA. Errors: `NoLink` where it has no such link, then
+    /// `OutOfMemory`.
     pub fn without_net_links(&self, alloc: A, addr: Addr) -> Result<Lsa<A>, MakeFault>
         requires router { kind_of self.now ≡ 1 }
         ensures made { IfOk result (λ lsa. without_links (leads_to_net addr) self.now ≡ Ok lsa) }
+        ensures keeps { IfOk result (λ lsa. IsRewriteOf self.now lsa) }
         ensures fault { IfErr result (λ fault. IsMakeFaultOf fault (without_links (leads_to_net addr) self.now)) }
     {
         self.without_links(alloc, Target::Net(addr))
     }
 
+    /// The router-LSA without its links to a target.
     fn without_links(&self, alloc: A, target: Target) -> Result<Lsa<A>, MakeFault>
         requires router { kind_of self.now ≡ 1 }
         ensures made { IfOk result (λ lsa. without_links (is_end_of target) self.now ≡ Ok lsa) }
+        ensures keeps { IfOk result (λ lsa. IsRewriteOf self.now lsa) }
         ensures fault { IfErr result (λ fault. IsMakeFaultOf fault (without_links (is_end_of target) self.now)) }
     {
         let Some(router) = self.router() else {
@@ -127,10 +140,13 @@ impl<A: Allocator + Copy> Lsa<A> {
         self.with_links(alloc, &kept)
     }
 
-    /// The router-LSA with a stub link after its last link.
+    /// The router-LSA with a stub link to a prefix after its last link, of this metric and without
+    /// TOS metrics. The LSA is a router-LSA. Errors: `TooLong` where it would have more than 65,535
+    /// octets, then `OutOfMemory`.
     pub fn with_stub(&self, alloc: A, net: Prefix, metric: u16) -> Result<Lsa<A>, MakeFault>
         requires router { kind_of self.now ≡ 1 }
         ensures made { IfOk result (λ lsa. with_stub net metric self.now ≡ Ok lsa) }
+        ensures keeps { IfOk result (λ lsa. IsExtensionOf self.now lsa) }
         ensures fault { IfErr result (λ fault. IsMakeFaultOf fault (with_stub net metric self.now)) }
     {
         let Some(router) = self.router() else {
@@ -147,14 +163,6 @@ impl<A: Allocator + Copy> Lsa<A> {
     }
 }
 
-/// What the links are after a removal: the kept ones in order, each at a new offset.
-pub fn links_after_removal()
-    ensures link { (k : ℕ) (lsa made : List ℕ) → IsAccepted lsa → kind_of lsa ≡ 1 → without_link k lsa ≡ Ok made
-        → map unplaced (links_of made) ≡ map unplaced (remove (links_of lsa) (k - 1)) }
-    ensures links { (test : Link → Bool) (lsa made : List ℕ) → IsAccepted lsa → kind_of lsa ≡ 1 → without_links test lsa ≡ Ok made
-        → map unplaced (links_of made) ≡ map unplaced (filter (λ link. not (test link)) (links_of lsa)) }
-{}
-
 impl Target {
     /// Whether a link leads there.
     fn is_end_of(self, link: Link) -> bool
@@ -168,6 +176,7 @@ impl Target {
     }
 }
 
+/// All links, in order.
 fn all_links<A: Allocator + Copy>(
     router: &RouterView<'_>,
     alloc: A,
@@ -177,13 +186,14 @@ fn all_links<A: Allocator + Copy>(
     router.links().collect(alloc)
 }
 
+/// Whether one of the links leads to a target.
 fn has_link_to(router: &RouterView<'_>, target: Target) -> bool
     ensures { result ≡ list_any (is_end_of target) (links_of router.now) }
 {
     router.links().any(|link| target.is_end_of(link))
 }
 
-/// The links that lead elsewhere.
+/// The links that do not lead to a target, in order.
 fn links_elsewhere<A: Allocator + Copy>(
     router: &RouterView<'_>,
     alloc: A,
@@ -197,7 +207,7 @@ fn links_elsewhere<A: Allocator + Copy>(
         .collect(alloc)
 }
 
-/// A stub link.
+/// The octets of a stub link (RFC 2328, A.4.2).
 fn stub_text(net: Prefix, metric: u16) -> [u8; 12]
     ensures text { result ≡ stub_text net metric }
     ensures prefix { net.len ≤ 32 }

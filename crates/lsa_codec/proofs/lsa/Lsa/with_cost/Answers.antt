@@ -1,9 +1,10 @@
 use Rattle.std.proofs.Common.{arith, ◌≡◌, ◌∙◌, ap, sym, Some, Option, Ok}
 use Rattle.std.proofs.lemmas.Bool.{cond-false}
 use Rattle.lsa_codec.specs.declared.link.Link.{Link}
-use Rattle.lsa_codec.specs.Making.{with_metric_of, with_cost_on, link_numbered}
+use Rattle.lsa_codec.specs.Making.{with_metric_of, with_cost_on}
 use Rattle.lsa_codec.proofs.Cost.{accepted_with_metric, rewrite_with_metric, lies_by_number, place_of_number, not_costly}
 use Rattle.lsa_codec.proofs.lsa.Lsa.with_cost.Goals as goal
+use Rattle.lsa_codec.specs.Links.{link_numbered}
 
 pub with_metric_of-requires : goal.with_metric_of-requires
 with_metric_of-requires g c =

@@ -6,6 +6,7 @@ use Rattle.lsa_codec.specs.Accepted.{IsAccepted}
 use Rattle.lsa_codec.specs.Links.{link_count}
 use Rattle.lsa_codec.specs.Making.{recounted, stub_text, with_stub}
 use Rattle.lsa_codec.proofs.Relinked.{has_texts, accepted_stub, finished, stub_made}
+use Rattle.lsa_codec.proofs.Rewritten.{stub_extended}
 use Rattle.lsa_codec.proofs.lsa.Lsa.with_stub.Goals as goal
 
 pub overflow_add-count : goal.overflow_add-count
@@ -49,3 +50,7 @@ returns-clause-made g c =
     let whole = finished (c.link_count-count.result + 1) c.deref_mut.result.now c.recount.new.lsa c.extend_from_slice.new.self.items c.extend_from_slice.new.self.len (omega (arith, ap length body, has.long)) c.recount.ensures c.deref_mut.ensures.len in
     let made = whole ∙ ap (recounted (c.link_count-count.result + 1)) body ∙ ap (λ (n : ℕ). recounted (n + 1) (lsa ++ stub_text c.args.net c.args.metric)) count in
     stub_made c.args.net c.args.metric lsa short ∙ ap Ok (sym (c.accepted.ensures ∙ made))
+
+pub returns-clause-keeps : goal.returns-clause-keeps
+returns-clause-keeps g c =
+    stub_extended c.args.net c.args.metric c.args.self.now c.accepted.result c.bytes.ensures.accepted c.requires.router c.stub_text.ensures.prefix (returns-clause-made g c)

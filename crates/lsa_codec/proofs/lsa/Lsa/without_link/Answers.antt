@@ -3,10 +3,11 @@ use Rattle.std.specs.Prelude.{is_some}
 use Rattle.std.specs.List.{remove, flat_map, All}
 use Rattle.std.proofs.lemmas.Bool.{cond-true}
 use Rattle.lsa_codec.specs.declared.link.Link.{Link}
-use Rattle.lsa_codec.specs.Links.{links_of}
-use Rattle.lsa_codec.specs.Making.{link_numbered, IsLinkOf, link_text, with_links, without_link}
+use Rattle.lsa_codec.specs.Links.{links_of, link_numbered}
+use Rattle.lsa_codec.specs.Making.{IsLinkOf, link_text, with_links, without_link}
 use Rattle.lsa_codec.proofs.Relinked.{number_within, kept_removed}
 use Rattle.std.proofs.lemmas.Result.{IfOk-weaker}
+use Rattle.lsa_codec.proofs.Rewritten.{link_rewritten}
 use Rattle.lsa_codec.proofs.lsa.Lsa.without_link.Goals as goal
 
 pub remove-requires : goal.remove-requires
@@ -41,3 +42,7 @@ returns-clause-made g c =
     let numbered : is_some (link_numbered c.args.k c.args.self.now) ≡ true =
     ap (λ (b : List ℕ). is_some (link_numbered c.args.k b)) (sym c.in-Some.ensures.0) ∙ ap is_some (sym c.link_numbered.ensures) ∙ c.if-is_none.ensures in
     IfOk-weaker c.with_links.result _ _ (λ lsa made. cond-true _ _ _ numbered ∙ ap Ok (sym (made ∙ ap (λ (ls : List Link). with_links ls c.args.self.now) kept))) c.with_links.ensures.made
+
+pub returns-clause-keeps : goal.returns-clause-keeps
+returns-clause-keeps g c =
+    IfOk-weaker c.with_links.result _ _ (λ lsa made. link_rewritten c.args.k c.args.self.now lsa c.in-Some.ensures.2 c.requires.router made) (returns-clause-made g c)

@@ -6,6 +6,7 @@ use Rattle.lsa_codec.specs.Links.{links_of}
 use Rattle.lsa_codec.specs.Making.{is_end_of, IsLinkOf, link_text, with_links, without_links}
 use Rattle.lsa_codec.proofs.Relinked.{kept_filtered}
 use Rattle.std.proofs.lemmas.Result.{IfOk-weaker}
+use Rattle.lsa_codec.proofs.Rewritten.{links_rewritten}
 use Rattle.lsa_codec.proofs.lsa.Lsa.without_links.Goals as goal
 
 pub with_links-requires-clause-links : goal.with_links-requires-clause-links
@@ -29,3 +30,7 @@ returns-clause-made g c =
     let there : list_any (is_end_of c.args.target) (links_of c.args.self.now) ≡ true =
     ap (λ (b : List ℕ). list_any (is_end_of c.args.target) (links_of b)) (sym c.in-Some.ensures.0) ∙ sym c.has_link_to.ensures ∙ c.if-not-has_link_to.false in
     IfOk-weaker c.with_links.result _ _ (λ lsa made. cond-true _ _ _ there ∙ ap Ok (sym (made ∙ ap (λ (ls : List Link). with_links ls c.args.self.now) kept))) c.with_links.ensures.made
+
+pub returns-clause-keeps : goal.returns-clause-keeps
+returns-clause-keeps g c =
+    IfOk-weaker c.with_links.result _ _ (λ lsa made. links_rewritten (is_end_of c.args.target) c.args.self.now lsa c.in-Some.ensures.2 c.requires.router made) (returns-clause-made g c)
