@@ -1,0 +1,4 @@
+pub mod Prefixes
+pub mod OptionValues
+pub mod FirstLine
+pub mod Steps

@@ -1,0 +1,14 @@
+use Rattle.std.proofs.Common.{◌≡◌, ◌+◌, ◌-◌, ◌≤◌, false, vec_len}
+use Rattle.std.specs.Io.KnownBytes.{Consumes}
+use Rattle.ospf_plan.specs.Watched.{inner_of, has_failed}
+use Rattle.ospf_plan.proofs.reading.read_whole.Given as goal
+
+abbrev pub invariant-chunks : goal.invariant-chunks
+invariant-chunks g l = record {
+  still_open : has_failed l.reader ≡ false;
+  within : vec_len l.bytes ≤ l.limit + 1;
+  consumed : Consumes (g.R.Read.remaining (inner_of l.initial.reader)) (g.R.Read.remaining (inner_of l.reader)) l.bytes.items;
+}
+
+abbrev pub decreases-chunks : goal.decreases-chunks
+decreases-chunks g l = l.limit + 1 - vec_len l.bytes

@@ -1,0 +1,11 @@
+pub mod Watched
+pub mod WholeText
+pub mod CommandLine
+pub mod OptionsFaults
+pub mod Replies
+pub mod Run
+pub mod Lines
+pub mod Inputs
+pub mod Exit
+pub mod Streams
+pub mod WholeRun

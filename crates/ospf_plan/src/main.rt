@@ -1,0 +1,95 @@
+//! `ospf-plan`: a what-if planner for OSPF Version 2 (RFC 2328).
+//!
+//! It loads a dump of link state databases, carries out the commands of a script, and writes their replies and the
+//! dump that they leave. `running::run` is the whole run, over readers and writers; `main` hands it the files that
+//! the command line names.
+#![tactic(auto)]
+
+mod branches;
+mod command_line;
+mod exit;
+mod fault;
+mod files;
+mod finish;
+mod given;
+mod inputs;
+mod lines;
+mod options_fault;
+mod reading;
+mod reply;
+mod running;
+mod sample;
+mod script;
+mod watch;
+mod writing;
+
+#[cfg(test)]
+mod tests;
+
+use clap::Error;
+use command_line::options;
+use exit::exit_line;
+use fault::{ExitFault, RunFault};
+use given::Options;
+use options_fault::OptionsFault;
+use std::env;
+use std::io;
+use std::io::{ErrorKind, Write};
+use std::process::ExitCode;
+
+/// The line where an argument is no text.
+const BAD_ARGUMENT: &[u8] = b"error: an argument is not UTF-8 text\n";
+
+fn main(rt: HostRuntime) -> ExitCode {
+    let words = match words(&rt) {
+        Ok(words) => words,
+        Err(error) => return end_without_words(&rt, &error),
+    };
+    match options(rt.alloc(), words.as_slice()) {
+        Ok(given) => carry_out(&rt, &given),
+        Err(OptionsFault::Refused(error)) => refuse(&rt, &error),
+        Err(OptionsFault::OutOfMemory) => end(&rt, &ExitFault::Run(RunFault::OutOfMemory)),
+    }
+}
+
+/// The words of the command line, the program's name first.
+fn words(rt: &HostRuntime) -> io::Result<Vec<String>> {
+    Ok(env::args(rt)?.collect::<Vec<String>>(rt.alloc())?)
+}
+
+fn carry_out(rt: &HostRuntime, given: &Options) -> ExitCode {
+    match files::run_files(rt, given) {
+        Ok(_summary) => ExitCode::SUCCESS,
+        Err(fault) => end(rt, &fault),
+    }
+}
+
+/// Shows the text of clap, and ends as it says.
+fn refuse(rt: &HostRuntime, error: &Error) -> ExitCode {
+    let _ = error.print(rt);
+    if error.use_stderr() {
+        ExitCode::from(2)
+    } else {
+        ExitCode::SUCCESS
+    }
+}
+
+/// Ends where the words of the command line can not be had: there is no memory, or one is no text.
+fn end_without_words(rt: &HostRuntime, error: &io::Error) -> ExitCode {
+    match error.kind() {
+        ErrorKind::OutOfMemory => end(rt, &ExitFault::Run(RunFault::OutOfMemory)),
+        _ => {
+            let _ = rt.stderr().write_all(BAD_ARGUMENT);
+            ExitCode::from(2)
+        }
+    }
+}
+
+/// Writes the line of a fault, and ends with its status.
+fn end(rt: &HostRuntime, fault: &ExitFault) -> ExitCode {
+    let (status, line) = exit_line(rt.alloc(), fault);
+    if let Ok(line) = line {
+        let _ = rt.stderr().write_all(line.as_slice());
+    }
+    ExitCode::from(status)
+}

@@ -1,0 +1,38 @@
+//! Why words give no options.
+
+ghost use Rattle.std.specs.Prelude.{◌≡◌};
+ghost use Rattle.ospf_plan.specs.declared.options_fault.OptionsFault.TheVariants.{OutOfMemory};
+ghost use Rattle.ospf_plan.specs.OptionsFaults.{IsFaultOf};
+
+use clap::Error;
+use clap::error::ErrorKind;
+use std::alloc::AllocError;
+
+/// Why words give no options.
+#[derive(Debug, Drop)]
+pub enum OptionsFault {
+    /// The words are refused, or ask for help. Its text goes where `Error::print` puts it, and
+    /// its status is `Error::exit_code`. It is never for want of memory.
+    Refused(Error),
+    /// A growth was refused.
+    OutOfMemory,
+}
+
+impl From<AllocError> for OptionsFault {
+    ghost from_gives = { λ _ fault. fault ≡ OutOfMemory };
+
+    fn from(_error: AllocError) -> OptionsFault {
+        OptionsFault::OutOfMemory
+    }
+}
+
+impl From<Error> for OptionsFault {
+    ghost from_gives = { λ error fault. IsFaultOf error fault };
+
+    fn from(error: Error) -> OptionsFault {
+        match error.kind() {
+            ErrorKind::OutOfMemory => OptionsFault::OutOfMemory,
+            _ => OptionsFault::Refused(error),
+        }
+    }
+}

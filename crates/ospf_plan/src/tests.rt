@@ -1,0 +1,9 @@
+//! Whole runs and their parts, with expected values from outside the program.
+
+mod doubles;
+mod exits;
+mod failing;
+mod memory;
+mod options;
+mod runs;
+mod watching;

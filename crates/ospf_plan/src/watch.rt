@@ -1,0 +1,96 @@
+//! A reader or a writer that remembers whether it has failed.
+
+ghost use Rattle.std.specs.Prelude.{◌≡◌, ◌||◌, false, is_err};
+ghost use Rattle.std.specs.Io.{ReadsAtMost, WritesAtMost};
+ghost use Rattle.std.specs.Io.KnownBytes.{Keeps, ReadConsumes, WriteAppends};
+ghost use Rattle.ospf_plan.specs.Watched.{inner_of, has_failed, is_failed_write};
+
+use std::io;
+use std::io::{Read, Write};
+
+/// A reader or a writer, and whether one of the calls that went through here has failed.
+///
+/// `read`, `write` and `flush` each make one call of the reader or writer inside and hand on its
+/// answer. `Watched` is itself no `Read` and no `Write`: the helpers of those traits call again
+/// after an `Interrupted`, so they could answer `Ok` after a call that failed here.
+#[derive(Drop)]
+pub struct Watched<T> {
+    inner: T,
+    failed: bool,
+}
+
+impl<T> Watched<T> {
+    /// Watches a reader or a writer, which has not failed yet.
+    pub fn new(inner: T) -> Watched<T>
+        ensures inner { inner_of result ≡ inner }
+        ensures fresh { has_failed result ≡ false }
+    {
+        Watched {
+            inner,
+            failed: false,
+        }
+    }
+
+    /// Gives back the reader or writer inside.
+    pub fn into_inner(self) -> T
+        ensures { result ≡ inner_of self }
+    {
+        let Watched { inner, failed: _ } = self;
+        inner
+    }
+
+    /// Whether a read, a write or a flush has failed so far: one that answered an error, or a
+    /// write that took 0 bytes of a text that is not empty.
+    pub fn failed(&self) -> bool
+        ensures { result ≡ has_failed self.now }
+    {
+        self.failed
+    }
+}
+
+impl<R: Read> Watched<R> {
+    /// One read into `buf`: the number of bytes that stand at its front now, 0 at the end.
+    ///
+    /// An error is handed on, `Interrupted` too, and is remembered.
+    pub fn read(&mut self, buf: &mut [u8]) -> io::Result<usize>
+        ensures bound { ReadsAtMost result buf.new }
+        ensures bytes { ReadConsumes (R.remaining (inner_of self.old)) (R.remaining (inner_of self.new))
+            result buf.new }
+        ensures failed { has_failed self.new ≡ (has_failed self.old || is_err result) }
+    {
+        let count = self.inner.read(buf);
+        self.failed |= count.is_err();
+        count
+    }
+}
+
+impl<W: Write> Watched<W> {
+    /// One write of `text`: the number of bytes at its front that were taken.
+    ///
+    /// An error is handed on, `Interrupted` too, and is remembered, as is a write that took 0 bytes
+    /// of a text that is not empty.
+    pub fn write(&mut self, text: &[u8]) -> io::Result<usize>
+        ensures bound { WritesAtMost result text.now }
+        ensures bytes { WriteAppends (W.contents (inner_of self.old)) (W.contents (inner_of self.new))
+            result text.now }
+        ensures failed { has_failed self.new ≡
+            (has_failed self.old || is_failed_write result text.now) }
+    {
+        let taken = self.inner.write(text);
+        self.failed |= match &taken {
+            Ok(count) => *count == 0 && !text.is_empty(),
+            Err(_) => true,
+        };
+        taken
+    }
+
+    /// Flushes the writer inside. An error is handed on and is remembered.
+    pub fn flush(&mut self) -> io::Result<()>
+        ensures bytes { Keeps (W.contents (inner_of self.old)) (W.contents (inner_of self.new)) }
+        ensures failed { has_failed self.new ≡ (has_failed self.old || is_err result) }
+    {
+        let flushed = self.inner.flush();
+        self.failed |= flushed.is_err();
+        flushed
+    }
+}

@@ -1,0 +1,36 @@
+//! A whole text written to a watched writer.
+
+ghost use Rattle.std.specs.Prelude.{◌≡◌, ◌↔◌, false, true, OnOk, IsErr};
+ghost use Rattle.std.specs.Io.KnownBytes.{Appends};
+ghost use Rattle.ospf_plan.specs.Watched.{inner_of, has_failed};
+ghost use Rattle.ospf_plan.specs.WholeText.{AppendsPrefix};
+
+use crate::watch::Watched;
+use std::io::Write;
+
+/// A write failed, or took no byte.
+#[derive(Clone, Copy, Debug, PartialEq, Eq)]
+pub struct WriteFault;
+
+/// Writes the whole text. It is not flushed.
+///
+/// # Errors
+///
+/// `WriteFault` exactly where a write failed. The writer has then taken a prefix of the text.
+pub fn write_whole<W: Write>(writer: &mut Watched<W>, text: &[u8]) -> Result<(), WriteFault>
+    requires { has_failed writer.old ≡ false }
+    ensures whole { OnOk result
+        (Appends (W.contents (inner_of writer.old)) (W.contents (inner_of writer.new)) text.now) }
+    ensures prefix { AppendsPrefix (W.contents (inner_of writer.old)) (W.contents (inner_of writer.new))
+        text.now }
+    ensures failed { IsErr result ↔ (has_failed writer.new ≡ true) }
+{
+    let mut at = 0;
+    'writes: while at < text.len() {
+        match writer.write(&text[at..]) {
+            Ok(count) if count > 0 => at += count,
+            _ => return Err(WriteFault),
+        }
+    }
+    Ok(())
+}
