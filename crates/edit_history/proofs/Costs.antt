@@ -1,6 +1,6 @@
 -- Another metric for a link: one router-LSA is rewritten.
 use Rattle.std.proofs.Common.{◌≡◌, ◌≢◌, ℕ, Bool, true, false, ◌&&◌, List, [], ◌∷◌, ◌++◌, Option, Some, None, Result, Ok, Err, refl, sym, ap, ◌∙◌, subst, rules}
-use Rattle.std.specs.Prelude.{All, AllPairs, IsSome, unwrap_or, IfOk, if◌then◌else◌}
+use Rattle.std.specs.Prelude.{All, AllPairs, IsSome, unwrap_or, if◌then◌else◌}
 use Rattle.std.specs.List.{find}
 use Rattle.std.proofs.lemmas.Bool.{eqb-true}
 use Rattle.lsa_codec.specs.declared.address.AreaId.{AreaId}
@@ -69,11 +69,6 @@ found d area router section key slot lsa is some named same place at =
     let there = place ∙ ap (λ (k : Key). let p : Option Place = Some (find (has_key k) (lsas_in d section)) in p) named in
     let f = find_at (item_at (lists_of d) section) (router_key router.0) (slot_at d slot) lsa some there at in
     record { section = f.0; areas = sym is ∙ f.1; within = ap (λ (i : ℕ). item_at (lists_of d) i) same ∙ f.1; first = f.2; at = at }
-
--- the router-LSA stands where it was found
-pub stands : (p : Option Place) (lsa : Place) → p ≡ Some lsa → IsSome lsa → unwrap_or p None ≡ None → ⊥
-stands p None is some none = search rules
-stands p (Some lsa) is some none = let e : Some lsa ≡ None = sym (ap (λ (o : Option Place). unwrap_or o None) is) ∙ none in cc
 
 pub found_kind : (d : Places) (area : AreaId) (router : RouterId) (slot : SlotId) (lsa : List ℕ) → Found d area router slot lsa → kind_of lsa ≡ 1
 found_kind d area router slot lsa f = ap (λ (k : Key). k.kind) (same_key_true (key_of lsa) (router_key router.0) (found_passes (has_key (router_key router.0)) f.section.lsas lsa f.first))
@@ -175,7 +170,3 @@ planned d area router link metric slot lsa new sound f made_new rewrite =
       leads = ap (after_rule (lists_of d)) ruled ∙ ap (λ (db : Lists). let r : Result Lists EditFault = Ok db in r) leads;
       tells = ap (changes_of_rule (lists_of d)) ruled ∙ ap (λ (cs : List Change). let r : Result (List Change) EditFault = Ok cs in r) tells;
     }
-
-pub if_ok : {T E : Type 0} (P Q : T → Type 0) (r : Result T E) → ((x : T) → P x → Q x) → IfOk r P → IfOk r Q
-if_ok P Q (Ok x) f h = f x h
-if_ok P Q (Err e) f h = h

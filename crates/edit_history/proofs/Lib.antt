@@ -10,3 +10,4 @@ pub mod Carried
 pub mod Costs
 pub mod Returning
 pub mod Telling
+pub mod Folding

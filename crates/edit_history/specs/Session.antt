@@ -30,6 +30,11 @@ after_edits db (e ∷ es) = after_edits (unless_refused db (effect db e)) es
 abbrev pub state : Session → Lists
 state s = after_edits s.base s.done
 
+-- the database after edits, in order, or the first refusal
+abbrev pub effects : Lists → List Edit → Result Lists EditFault
+effects db [] = Ok db
+effects db (e ∷ es) = effect db e >>= λ after. effects after es
+
 -- ---- steps
 
 -- the session that begins at a database

@@ -1,6 +1,6 @@
 //! Laws of records and sessions.
 
-ghost use Rattle.std.specs.Prelude.{◌≡◌, ◌≤◌, ℕ, List, Ok, length};
+ghost use Rattle.std.specs.Prelude.{◌≡◌, ◌≤◌, ℕ, List, Ok, IsOk, length};
 ghost use Rattle.lsdb.specs.Lists.{IsDatabase};
 ghost use Rattle.lsdb.specs.Places.{Places, lists_of};
 ghost use Rattle.edit_script.specs.declared.edit.Edit.{Edit};
@@ -9,7 +9,7 @@ ghost use Rattle.edit_history.specs.Effect.{changes};
 ghost use Rattle.edit_history.specs.Exchange.{SwapData, RecordData, CanDo, CanUndo, UndoesAgain, DoesAgain, undone_places};
 ghost use Rattle.edit_history.specs.Applied.{Applied, TakesBack, CarriesOut, Tells};
 ghost use Rattle.edit_history.specs.Journal.{HistoryData, Links};
-ghost use Rattle.edit_history.specs.Session.{Session, session_of, state, edited_by, moved_back, moved_on};
+ghost use Rattle.edit_history.specs.Session.{Session, session_of, state, effects, edited_by, moved_back, moved_on};
 
 /// What is done is undone again, to the same places and swaps, and the other way round.
 pub fn inverses()
@@ -18,9 +18,11 @@ pub fn inverses()
 {}
 
 /// The database that a history led to is its session's: the effects of the done edits, in order,
-/// from the base on.
+/// from the base on. None of them is refused on the way, and neither are the undone ones after it.
 pub fn folded()
-    ensures { (d : Places) (h : HistoryData) → Links d h → state (session_of d h) ≡ lists_of d }
+    ensures state { (d : Places) (h : HistoryData) → Links d h → state (session_of d h) ≡ lists_of d }
+    ensures done { (d : Places) (h : HistoryData) → Links d h → effects (session_of d h).base (session_of d h).done ≡ Ok (lists_of d) }
+    ensures undone { (d : Places) (h : HistoryData) → Links d h → IsOk (effects (lists_of d) (session_of d h).undone) }
 {}
 
 /// A record counts the changes of its edit, and touches the areas that these touch: when the edit

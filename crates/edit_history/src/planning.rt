@@ -12,7 +12,7 @@ use crate::swap::Swap;
 use edit_script::Edit;
 use lsa_codec::{Addr, AreaId, Key, RouterId};
 use lsdb::{Database, Section};
-use std::alloc::Allocator;
+use std::alloc::{AllocError, Allocator};
 
 /// The LS type of router-LSAs (RFC 2328, A.4.1).
 const ROUTER_LSA: u8 = 1;
@@ -29,16 +29,11 @@ fn router_key(router: RouterId) -> Key
 }
 
 /// The plan of a single swap.
-fn one_swap<A: Allocator + Copy>(alloc: A, swap: Swap<A>) -> Result<Vec<Swap<A>, A>, EditFault>
-    ensures swap { IfOk result (λ v. v.items ≡ swap ∷ []) }
-    ensures fault { IfErr result (λ f. f ≡ OutOfMemory) }
+fn one_swap<A: Allocator + Copy>(alloc: A, swap: Swap<A>) -> Result<Vec<Swap<A>, A>, AllocError>
+    ensures { IfOk result (λ v. v.items ≡ swap ∷ []) }
 {
-    let Ok(mut swaps) = Vec::with_capacity(alloc, 1) else {
-        return Err(EditFault::OutOfMemory);
-    };
-    if swaps.push(swap).is_err() {
-        return Err(EditFault::OutOfMemory);
-    }
+    let mut swaps = Vec::with_capacity(alloc, 1)?;
+    swaps.push(swap)?;
     Ok(swaps)
 }
 
@@ -65,11 +60,9 @@ fn plan_cost<A: Allocator + Copy>(
     let Some(lsa) = database.get(slot) else {
         return Err(EditFault::NoRouter);
     };
-    let new = match lsa.with_cost(database.alloc(), link, metric) {
-        Ok(new) => new,
-        Err(fault) => return Err(EditFault::from(fault)),
-    };
-    one_swap(database.alloc(), Swap::new(slot, section, ROUTER_LSA, Some(new)))
+    let new = lsa.with_cost(database.alloc(), link, metric)?;
+    let swap = Swap::new(slot, section, ROUTER_LSA, Some(new));
+    Ok(one_swap(database.alloc(), swap)?)
 }
 
 /// What an edit exchanges, or its first refusal.

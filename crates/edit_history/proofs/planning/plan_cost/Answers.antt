@@ -1,13 +1,13 @@
 use Rattle.std.proofs.Common.{◌∷◌, [], List, ap, sym, ◌∙◌, subst}
 use Rattle.std.specs.List.{find}
+use Rattle.std.proofs.lemmas.Result.{err_from_is_err_and}
 use Rattle.lsa_codec.specs.declared.key.Key.{Key}
 use Rattle.lsdb.specs.Lists.{has_key}
 use Rattle.lsdb.specs.Places.{lsas_in, lists_of}
 use Rattle.edit_script.specs.declared.edit.Edit.TheVariants.{Cost}
-use Rattle.edit_history.specs.declared.fault.EditFault.{EditFault}
 use Rattle.edit_history.specs.Exchange.{SwapData}
-use Rattle.edit_history.specs.Applied.{CarriesOut, IsRefused}
-use Rattle.edit_history.proofs.Costs.{no_area, no_router, no_cost, found, found_kind, planned, if_ok}
+use Rattle.edit_history.specs.Applied.{CarriesOut}
+use Rattle.edit_history.proofs.Costs.{no_area, no_router, no_cost, found, found_kind, planned}
 use Rattle.edit_history.proofs.planning.plan_cost.Goals as goal
 
 pub returns-in_default-clause-refused : goal.returns-in_default-clause-refused
@@ -23,16 +23,14 @@ with_cost-requires g c =
     let f = found c.args.database.now c.args.area c.args.router c.in-Some.index c.router_key.result c.in-Some-find_in.slot c.in-Some-get.lsa.now c.in-Some.ensures.0 c.in-Some.ensures.1 c.router_key.ensures c.in-Some-find_in.ensures.0 c.in-Some-find_in.ensures.1 c.in-Some-get.ensures in
     record { router = found_kind c.args.database.now c.args.area c.args.router c.in-Some-find_in.slot c.in-Some-get.lsa.now f }
 
-pub returns-in-Err-clause-refused : goal.returns-in-Err-clause-refused
-returns-in-Err-clause-refused g c =
+pub returns-in_err-new-clause-refused : goal.returns-in_err-new-clause-refused
+returns-in_err-new-clause-refused g c =
     let f = found c.args.database.now c.args.area c.args.router c.in-Some.index c.router_key.result c.in-Some-find_in.slot c.in-Some-get.lsa.now c.in-Some.ensures.0 c.in-Some.ensures.1 c.router_key.ensures c.in-Some-find_in.ensures.0 c.in-Some-find_in.ensures.1 c.in-Some-get.ensures in
-    subst (λ (e : EditFault). IsRefused c.args.database.now (Cost c.args.area c.args.router c.args.link c.args.metric) e) (sym c.from.ensures)
-    (no_cost c.args.database.now c.args.area c.args.router c.args.link c.args.metric c.in-Some-find_in.slot c.in-Some-get.lsa.now c.in-Err.fault f c.in-Err.ensures.fault)
+    let gave = err_from_is_err_and c.from_residual.result c.from_residual.ensures.1 in
+    rw (gave.1, gave.2) (no_cost c.args.database.now c.args.area c.args.router c.args.link c.args.metric c.in-Some-find_in.slot c.in-Some-get.lsa.now c.in_err-new.field-0.0 f c.in_err-new.ensures.fault)
 
 pub returns-clause-planned : goal.returns-clause-planned
 returns-clause-planned g c =
     let f = found c.args.database.now c.args.area c.args.router c.in-Some.index c.router_key.result c.in-Some-find_in.slot c.in-Some-get.lsa.now c.in-Some.ensures.0 c.in-Some.ensures.1 c.router_key.ensures c.in-Some-find_in.ensures.0 c.in-Some-find_in.ensures.1 c.in-Some-get.ensures in
-    let plan = planned c.args.database.now c.args.area c.args.router c.args.link c.args.metric c.in-Some-find_in.slot c.in-Some-get.lsa.now c.in-Ok.new c.known.ensures f c.in-Ok.ensures.made c.in-Ok.ensures.keeps in
-    if_ok _ _ c.one_swap.result
-    (λ v e. subst (λ (ss : List SwapData). CarriesOut c.args.database.now (Cost c.args.area c.args.router c.args.link c.args.metric) ss) (sym (e ∙ ap (λ (s : SwapData). s ∷ []) c.new.ensures)) plan)
-    c.one_swap.ensures.swap
+    let plan = planned c.args.database.now c.args.area c.args.router c.args.link c.args.metric c.in-Some-find_in.slot c.in-Some-get.lsa.now c.in_ok-new.new c.known.ensures f c.in_ok-new.ensures.made c.in_ok-new.ensures.keeps in
+    subst (λ (ss : List SwapData). CarriesOut c.args.database.now (Cost c.args.area c.args.router c.args.link c.args.metric) ss) (sym (c.in_ok-one_swap.ensures ∙ ap (λ (s : SwapData). s ∷ []) c.new-swap.ensures)) plan

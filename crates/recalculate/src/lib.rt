@@ -1,0 +1,6 @@
+//! A planner: a link state database with the edits that are done on it, and those that were undone.
+#![tactic(auto)]
+
+mod planner;
+
+pub use planner::Planner;

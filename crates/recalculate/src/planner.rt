@@ -1,0 +1,132 @@
+//! A session of edits.
+
+use edit_history::{EditFault, History, RedoFault, UndoFault, apply};
+use edit_script::Edit;
+use lsdb::Database;
+use std::alloc::{Allocator, Global};
+use std::marker::Model;
+
+/// The edits that may be done at a time.
+const MOST_EDITS: usize = 10_000;
+
+/// A link state database, the edits that led to it from the one that was loaded, and those that
+/// were undone since.
+///
+/// It is seen as its session: the loaded database, the edits done and the edits undone. After any
+/// calls its database is the effect of the done edits, in order, on the loaded one.
+#[derive(Drop)]
+pub struct Planner<A: Allocator = Global> {
+    database: Database<A>,
+    history: History<A>,
+}
+
+impl<A: Allocator> Model for Planner<A> {
+    ghost use Rattle.edit_history.specs.Journal.{Links};
+    ghost use Rattle.edit_history.specs.Session.{Session, session_of};
+
+    ghost Value = { Session };
+
+    ghost view = { λ p. session_of p.database p.history.lists };
+
+    ghost invariant = { λ p. Links p.database p.history.lists };
+}
+
+impl<A: Allocator + Copy> Planner<A> {
+    ghost use Rattle.std.specs.Prelude.{◌≡◌, ◌≢◌, ◌≤◌, ◌↔◌, Ok, Err, length, IsOk, OnOk, OnErr, IfErr, IsErrOf};
+    ghost use Rattle.lsdb.specs.Places.{lists_of};
+    ghost use Rattle.edit_history.specs.declared.fault.EditFault.TheVariants.{HistoryFull, OutOfMemory};
+    ghost use Rattle.edit_history.specs.Session.{start, state, most_edits, edited, moved_back, moved_on};
+
+    /// The session that begins at a database: no edit is done, and none is undone. It takes no
+    /// memory.
+    #[tactic(auto, using(crate::proofs::Steps::start_links))]
+    pub fn new(alloc: A, database: Database<A>) -> Planner<A>
+        ensures { result ≡ start (lists_of database) }
+    {
+        database.known();
+        Planner {
+            database,
+            history: History::new(alloc),
+        }
+    }
+
+    /// The database: the effect of the done edits, in order, on the one that the session began at.
+    #[tactic(auto, using(edit_history::proofs::Growing::state_is))]
+    pub fn database(&self) -> &Database<A>
+        ensures { lists_of result.now ≡ state self.now }
+    {
+        &self.database
+    }
+
+    /// Carries an edit out. The undone edits go.
+    ///
+    /// # Errors
+    ///
+    /// [`HistoryFull`](EditFault::HistoryFull) exactly where 10,000 edits are done, else the first
+    /// refusal of the edit, as [`apply`] answers it; [`OutOfMemory`](EditFault::OutOfMemory) may
+    /// stand in place of the latter where memory ran out. The session is then as it was.
+    pub fn edit(&mut self, edit: &Edit) -> Result<(), EditFault>
+        ensures ok { OnOk result (edited self.old edit.now ≡ Ok self.new) }
+        ensures full { most_edits ≤ length self.old.done → IsErrOf result HistoryFull }
+        ensures refused { IfErr result (λ f. f ≢ OutOfMemory → edited self.old edit.now ≡ Err f) }
+        ensures err { OnErr result (self.new ≡ self.old) }
+    {
+        if self.history.done() >= MOST_EDITS {
+            return Err(EditFault::HistoryFull);
+        }
+        if self.history.reserve().is_err() {
+            return Err(EditFault::OutOfMemory);
+        }
+        let entry = match apply(&mut self.database, edit) {
+            Ok(entry) => entry,
+            Err(fault) => return Err(fault),
+        };
+        self.history.push(entry);
+        self.database.known();
+        Ok(())
+    }
+
+    /// Takes the last `count` done edits back. It takes no memory.
+    ///
+    /// # Errors
+    ///
+    /// [`NothingToUndo`](UndoFault::NothingToUndo) exactly where fewer edits are done; the session
+    /// is then as it was. A `count` of 0 is accepted.
+    pub fn undo(&mut self, count: u32) -> Result<(), UndoFault>
+        ensures ok { IsOk result ↔ (count ≤ length self.old.done) }
+        ensures session { OnOk result (self.new ≡ moved_back count self.old) }
+        ensures err { OnErr result (self.new ≡ self.old) }
+    {
+        self.history.undo(&mut self.database, count as usize)
+    }
+
+    /// Carries the first `count` undone edits out again. It takes no memory.
+    ///
+    /// # Errors
+    ///
+    /// [`NothingToRedo`](RedoFault::NothingToRedo) exactly where fewer edits are undone; the
+    /// session is then as it was. A `count` of 0 is accepted.
+    pub fn redo(&mut self, count: u32) -> Result<(), RedoFault>
+        ensures ok { IsOk result ↔ (count ≤ length self.old.undone) }
+        ensures session { OnOk result (self.new ≡ moved_on count self.old) }
+        ensures err { OnErr result (self.new ≡ self.old) }
+    {
+        self.history.redo(&mut self.database, count as usize)
+    }
+
+    /// How many edits are done.
+    #[tactic(auto, using(edit_history::proofs::Linked::done_len))]
+    pub fn done(&self) -> usize
+        ensures { result ≡ length self.now.done }
+    {
+        self.history.done()
+    }
+
+    /// How many edits are undone.
+    #[tactic(auto, using(edit_history::proofs::Linked::undone_len))]
+    pub fn undone(&self) -> usize
+        ensures { result ≡ length self.now.undone }
+    {
+        self.history.undone()
+    }
+}
