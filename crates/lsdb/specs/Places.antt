@@ -1,8 +1,12 @@
 -- Places, some of them empty, and the database that the full ones make.
-use Rattle.std.specs.Prelude.{◌≡◌, Bool, false, length, ℕ, zero, suc, ◌+◌, List, [], ◌∷◌, ◌++◌, map, Option, Some, None}
+use Rattle.std.specs.Prelude.{◌≡◌, Bool, false, length, ℕ, zero, suc, List, [], ◌∷◌, ◌++◌, map, Option, Some, None}
 use Rattle.lsa_codec.specs.declared.key.Key.{Key}
 use Rattle.lsa_codec.specs.Making.{IsRewriteOf}
-use Rattle.lsdb.specs.Lists.{AreaHead, SectionLsas, Lists, has_key}
+use Rattle.std.specs.Prelude.{IsSome}
+use Rattle.std.specs.List.{find}
+use Rattle.lsdb.specs.Lists.{AreaHead, SectionLsas, Lists, has_key, is_section, lsas_of}
+pub use Rattle.lsdb.specs.Lists.{lsas_or_none}
+use Rattle.lsdb.specs.declared.section.Section.{Section}
 use Rattle.lsdb.specs.declared.slot.SlotId.{SlotId}
 
 abbrev pub Place : Type 0
@@ -55,15 +59,19 @@ place_in (Some s) i = item_at s.places i
 abbrev pub slot_at : Places → SlotId → Option Place
 slot_at d slot = place_in (item_at d slot.section) slot.index
 
+-- the LSA at a slot: none where the place is empty or there is no such place
+abbrev pub lsa_or_none : Option Place → Option (List ℕ)
+lsa_or_none None = None
+lsa_or_none (Some place) = place
+
+abbrev pub lsa_at : Places → SlotId → Option (List ℕ)
+lsa_at d slot = lsa_or_none (slot_at d slot)
+
 -- an empty place at the end of a section
 abbrev pub open_at : Places → ℕ → Places
 open_at d section = update_at (λ s. record { area = s.area; places = s.places ++ None ∷ [] }) d section
 
 -- the LSAs of a section
-abbrev pub lsas_or_none : Option SectionLsas → List (List ℕ)
-lsas_or_none None = []
-lsas_or_none (Some s) = s.lsas
-
 abbrev pub lsas_in : Places → ℕ → List (List ℕ)
 lsas_in d section = lsas_or_none (item_at (lists_of d) section)
 
@@ -93,3 +101,21 @@ places_in d section = places_or_none (item_at d section)
 abbrev pub place_size : Place → ℕ
 place_size None = 0
 place_size (Some lsa) = length lsa
+
+-- the section with that number is the one of that name
+pub record IsNamed (d : Places) (name : Section) (section : ℕ) : Type 0 where
+  pub same : item_at (lists_of d) section ≡ find (is_section name) (lists_of d)
+  pub exists : IsSome (item_at (lists_of d) section)
+
+-- the place of the LSA with a key in the section of that name
+pub record IsPlaceOf (d : Places) (name : Section) (key : Key) (slot : SlotId) : Type 0 where
+  pub named : IsNamed d name slot.section
+  pub held : slot_at d slot ≡ Some (find (has_key key) (lsas_of name (lists_of d)))
+  pub found : IsSome (find (has_key key) (lsas_of name (lists_of d)))
+
+-- an empty place was opened behind the others of the section of that name
+pub record OpensPlace (old new : Places) (name : Section) (slot : SlotId) : Type 0 where
+  pub named : IsNamed old name slot.section
+  pub last : slot.index ≡ length (places_in old slot.section)
+  pub opened : new ≡ open_at old slot.section
+  pub empty : slot_at new slot ≡ Some None
