@@ -88,7 +88,7 @@ pub record IsDatabase (db : Lists) : Type 0 where
   pub sections : All IsSection db
   pub small : size db ≤ largest_text
 
--- ---- finding
+-- ---- by key and by name
 
 abbrev pub same_key : Key → Key → Bool
 same_key a b = (a.kind == b.kind) && ((a.id.0 == b.id.0) && (a.adv.0 == b.adv.0))
