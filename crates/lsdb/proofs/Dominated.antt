@@ -1,6 +1,6 @@
 -- A place takes an LSA that may stand for the one there, or is emptied: the places still make a database.
-use Rattle.std.proofs.Common.{◌≡◌, ◌≢◌, ℕ, zero, suc, ◌+◌, ◌<◌, ◌≤◌, Bool, true, false, List, [], ◌∷◌, ◌++◌, length, map, Option, Some, None, refl, sym, ap, ◌∙◌, subst, arith}
-use Rattle.std.specs.Prelude.{All, AllPairs}
+use Rattle.std.proofs.Common.{◌≡◌, ◌≢◌, ℕ, zero, suc, ◌+◌, ◌≤◌, true, List, [], ◌∷◌, ◌++◌, length, map, Option, Some, None, refl, sym, ap, ◌∙◌, subst, arith}
+use Rattle.std.specs.Prelude.{All}
 use Rattle.std.specs.List.{cons_option, sum_by}
 use Rattle.std.proofs.lemmas.List.Sums.{sum_by-cons, sum_by-append}
 use Rattle.lsa_codec.specs.declared.key.Key.{Key}
@@ -9,8 +9,8 @@ use Rattle.lsa_codec.specs.Accepted.{IsAccepted}
 use Rattle.lsa_codec.specs.Making.{IsRewriteOf}
 use Rattle.lsdb.specs.declared.slot.SlotId.{SlotId}
 use Rattle.lsdb.specs.Lists.{AreaHead, SectionLsas, Lists, AreKeys, IsSection, AreHeads, is_in_scope, IsDatabase, lsas_size, section_size, size, heads_of}
-use Rattle.lsdb.specs.Places.{Place, Places, SectionPlaces, update_at, item_at, put_place, put, place_in, slot_at, full, section_of, lists_of, IsPutSafe, place_size}
-use Rattle.lsdb.proofs.Middle.{all_mid, all_at_mid, all_without, pairs_without, map_mid, map_two, length_mid}
+use Rattle.lsdb.specs.Places.{Place, Places, SectionPlaces, item_at, put_place, put, place_in, slot_at, full, section_of, lists_of, IsPutSafe, place_size}
+use Rattle.lsdb.proofs.Middle.{all_mid, all_without, pairs_without, map_mid, map_two, length_mid}
 
 -- ---- the lists around one place
 

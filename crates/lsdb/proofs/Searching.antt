@@ -1,14 +1,13 @@
 -- The first item that passes, looked for from the front.
-use Rattle.std.proofs.Common.{◌≡◌, ℕ, zero, suc, ◌+◌, ◌<◌, ◌≤◌, Bool, true, false, List, [], ◌∷◌, ◌++◌, length, drop, get_or, map, Option, Some, None, refl, sym, ap, ◌∙◌, subst, arith, rules, cond}
-use Rattle.std.specs.Prelude.{IsSome, option_map}
-use Rattle.std.specs.List.{find, cons_option}
+use Rattle.std.proofs.Common.{◌≡◌, ℕ, zero, suc, ◌<◌, ◌≤◌, Bool, true, false, List, [], ◌∷◌, length, drop, get_or, map, Option, Some, None, refl, sym, ap, ◌∙◌, subst, arith, rules, cond}
+use Rattle.std.specs.Prelude.{IsSome}
+use Rattle.std.specs.List.{find}
 use Rattle.std.proofs.lemmas.List.{drop_all, length-map}
 use Rattle.lsa_codec.specs.declared.key.Key.{Key}
 use Rattle.lsdb.specs.declared.database.SectionOf.{SectionOf}
 use Rattle.lsdb.specs.Lists.{SectionLsas, Lists, has_key}
-use Rattle.lsdb.specs.Places.{Place, Places, item_at, full, section_of, lists_of, place_in, lsas_in, place_has_key}
+use Rattle.lsdb.specs.Places.{Place, item_at, full, section_of, lists_of, place_in, lsas_in, place_has_key}
 use Rattle.lsdb.specs.View.{section_places_of, places_of}
-use Rattle.lsdb.proofs.Dominated.{full-cons}
 
 -- item i of a list, and what follows it
 pub record Turn {X : Type 0} (xs : List X) (i j : ℕ) (x : X) : Type 0 where
@@ -105,11 +104,3 @@ none_in {A} (t ∷ ss) zero s places key some h e found =
     let same : places ≡ t.places.items = e ∙ ap (λ (x : SectionOf A). x.places.items) h in
     subst (λ (ps : List Place). find (has_key key) (full ps) ≡ None) same found
 none_in {A} (t ∷ ss) (suc section) s places key some h e found = none_in ss section s places key some h e found
-
-pub count_in : {A : Type 0} → (ss : List (SectionOf A)) (section n : ℕ) (s : SectionOf A) (places : List Place) → IsSome (item_at (lists_of (places_of ss)) section) → s ≡ get_or ss section s → places ≡ s.places.items
-    → n ≡ length (full places) → n ≡ length (lsas_in (places_of ss) section)
-count_in {A} [] section n s places some h e found = absurd (search rules)
-count_in {A} (t ∷ ss) zero n s places some h e found =
-    let same : places ≡ t.places.items = e ∙ ap (λ (x : SectionOf A). x.places.items) h in
-    found ∙ ap (λ (ps : List Place). length (full ps)) same
-count_in {A} (t ∷ ss) (suc section) n s places some h e found = count_in ss section n s places some h e found

@@ -1,6 +1,6 @@
 -- What a database is: areas with their LSAs, and behind them the LSAs of AS scope (RFC 2328, 12.2).
-use Rattle.std.specs.Prelude.{◌≡◌, ◌≢◌, ◌<◌, ◌≤◌, ◌^◌, ℕ, ◌+◌, Bool, true, false, List, [], ◌∷◌, ◌++◌, length, map, All, AllPairs, Option, Some, None, ◌==◌, ◌&&◌, ◌||◌, not}
-use Rattle.std.specs.List.{list_any, sum_by}
+use Rattle.std.specs.Prelude.{◌≡◌, ◌≢◌, ◌<◌, ◌≤◌, ℕ, ◌+◌, Bool, true, false, List, [], length, map, All, AllPairs, Option, Some, None, ◌==◌, ◌&&◌, ◌||◌, not}
+use Rattle.std.specs.List.{list_any, sum_by, filter_map, find}
 use Rattle.lsa_codec.specs.declared.key.Key.{Key}
 use Rattle.lsa_codec.specs.Key.{key_of}
 use Rattle.lsa_codec.specs.Accepted.{IsAccepted}
@@ -88,7 +88,7 @@ pub record IsDatabase (db : Lists) : Type 0 where
   pub sections : All IsSection db
   pub small : size db ≤ largest_text
 
--- ---- finding
+-- ---- by key and by name
 
 abbrev pub same_key : Key → Key → Bool
 same_key a b = (a.kind == b.kind) && ((a.id.0 == b.id.0) && (a.adv.0 == b.adv.0))
@@ -107,3 +107,16 @@ is_head_of AsWide head = is_as_wide head
 
 abbrev pub is_section : Section → SectionLsas → Bool
 is_section name section = is_head_of name section.area
+
+-- the LSAs of a section, if there is one
+abbrev pub lsas_or_none : Option SectionLsas → List (List ℕ)
+lsas_or_none None = []
+lsas_or_none (Some section) = section.lsas
+
+-- the LSAs of the section of that name: none where there is no such section
+abbrev pub lsas_of : Section → Lists → List (List ℕ)
+lsas_of name db = lsas_or_none (find (is_section name) db)
+
+-- the areas, in rising order of their IDs
+abbrev pub areas_of : Lists → List AreaHead
+areas_of db = filter_map (λ section. section.area) db

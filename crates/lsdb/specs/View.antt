@@ -1,7 +1,8 @@
 -- What is seen of the places in memory.
-use Rattle.std.specs.Prelude.{ℕ, List, map, Option, Some, None, option_map}
-use Rattle.lsdb.specs.Lists.{AreaHead}
-use Rattle.lsdb.specs.Places.{SectionPlaces, Places}
+use Rattle.std.specs.Prelude.{ℕ, List, map, option_map}
+use Rattle.std.specs.Prelude.{◌≡◌}
+use Rattle.lsdb.specs.Lists.{AreaHead, IsDatabase, size}
+use Rattle.lsdb.specs.Places.{SectionPlaces, Places, lists_of}
 use Rattle.lsdb.specs.declared.database.Head.{Head}
 use Rattle.lsdb.specs.declared.database.SectionOf.{SectionOf}
 
@@ -13,3 +14,8 @@ section_places_of s = record { area = option_map head_of s.area; places = s.plac
 
 abbrev pub places_of : {A : Type 0} → List (SectionOf A) → Places
 places_of ss = map section_places_of ss
+
+-- the sections make a database, and the number kept beside them is the length of its dump
+pub record IsKept {A : Type 0} (sections : List (SectionOf A)) (kept : ℕ) : Type 0 where
+  pub sound : IsDatabase (lists_of (places_of sections))
+  pub octets : kept ≡ size (lists_of (places_of sections))

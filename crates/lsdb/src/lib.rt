@@ -1,12 +1,30 @@
-//! Link state databases: sections of places that hold LSAs or are empty.
+//! Link state databases: the LSAs of each area and those of AS scope (RFC 2328, 12.2).
+//!
+//! A [`Database`] keeps each LSA at a *place* of its own. A place holds one LSA or is empty, and
+//! keeps its [`SlotId`] for as long as the database lives: an LSA that is removed leaves an empty
+//! place behind, and all others stay where they are. So an edit can be undone by putting the old
+//! LSAs back, each at its place, and the LSAs then stand in the order in which they stood before.
+//!
+//! The sections of a database are numbered: the areas come first, in rising order of their IDs,
+//! and the LSAs of AS scope last. Each reader is there by the name of a section and, with `_in`,
+//! by its number.
 #![tactic(auto)]
 
+mod copy;
 mod database;
+mod fault;
+mod load;
 mod laws;
+mod lists;
+mod lookup;
+mod lsas;
+mod places;
 mod section;
 mod slot;
 
 pub use database::Database;
+pub use fault::{DumpFault, DumpFaultKind};
 pub use laws::slot_laws;
+pub use lsas::Lsas;
 pub use section::Section;
-pub use slot::SlotId;
+pub use slot::{SlotFault, SlotId};

@@ -1,9 +1,8 @@
-use Rattle.std.proofs.Common.{arith, ◌∙◌, sym, ◌≡◌, ap, subst, rules, refl, Some, None, None}
+use Rattle.std.proofs.Common.{◌≡◌, subst, refl, Some, None, None}
 use Rattle.std.specs.Prelude.{IsSome}
 use Rattle.std.specs.List.{find}
 use Rattle.lsdb.specs.Lists.{has_key}
-use Rattle.lsdb.specs.Places.{Places, lists_of, lsas_in, place_in, item_at}
-use Rattle.lsdb.specs.View.{places_of}
+use Rattle.lsdb.specs.Places.{Places, lsas_in, place_in, item_at}
 use Rattle.lsdb.proofs.Searching.{found_in, none_in}
 use Rattle.lsdb.proofs.database.Database.find_in.Goals as goal
 

@@ -1,4 +1,4 @@
-use Rattle.std.proofs.Common.{arith, ◌∙◌, sym, ◌≡◌, drop, length, ap, ℕ, suc, ◌+◌, subst, List, vec_len, rules}
+use Rattle.std.proofs.Common.{arith, ◌∙◌, sym, ◌≡◌, drop, length, ℕ, suc, ◌+◌, subst, vec_len, rules}
 use Rattle.std.specs.Prelude.{IsSome}
 use Rattle.std.specs.List.{find}
 use Rattle.lsdb.specs.Lists.{is_section}

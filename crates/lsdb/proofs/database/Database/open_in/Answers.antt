@@ -1,11 +1,10 @@
-use Rattle.std.proofs.Common.{refl, sym, ap, ◌∙◌, subst, ◌≡◌, [], ℕ, Some, None, length, vec_len, rules}
-use Rattle.std.specs.Prelude.{IsSome}
+use Rattle.std.proofs.Common.{refl, ap, ◌∙◌, ◌≡◌, ℕ, length, vec_len, rules}
 use Rattle.std.specs.Prelude.{OnErr, Result, Ok, Err}
-use Rattle.lsdb.specs.Places.{Place, Places, open_at, slot_at, place_in, item_at, lists_of}
-use Rattle.lsdb.specs.Lists.{IsDatabase}
+use Rattle.lsdb.specs.Places.{Places, open_at, place_in, item_at, lists_of}
 use Rattle.lsdb.specs.View.{places_of}
 use Rattle.lsdb.proofs.Seen.{open_places, kept_places, slot_opened}
 use Rattle.lsdb.proofs.Slots.{lists_of-open_at}
+use Rattle.lsdb.proofs.Kept.{kept_lists}
 use Rattle.lsdb.proofs.database.Database.open_in.Goals as goal
 
 on_err_from : {T E : Type 0} {P : Type 0} (r : Result T E) → P → OnErr r P
@@ -14,8 +13,8 @@ on_err_from (Err e) p = p
 
 pub invariant_of-self : goal.invariant_of-self
 invariant_of-self g c =
-    subst (λ (d : Places). IsDatabase (lists_of d))
-    (sym (kept_places c.self.inside.sections.items c.args.section c.index_mut.result.now _ (rw c.self.view_is c.requires) c.index_mut.ensures.value refl c.in_err-push.ensures.items))
+    kept_lists c.self.inside.sections.items _ c.self.inside.octets
+    (ap (λ (d : Places). lists_of d) (kept_places c.self.inside.sections.items c.args.section c.index_mut.result.now _ (rw c.self.view_is c.requires) c.index_mut.ensures.value refl c.in_err-push.ensures.items))
     c.self.invariant
 
 pub returns-in_err-push-clause-err : goal.returns-in_err-push-clause-err
@@ -25,9 +24,9 @@ returns-in_err-push-clause-err g c =
 
 pub invariant_of-self-2 : goal.invariant_of-self-2
 invariant_of-self-2 g c =
-    subst (λ (d : Places). IsDatabase (lists_of d))
-    (sym (open_places c.self.inside.sections.items c.args.section c.index_mut.result.now _ (rw c.self.view_is c.requires) c.index_mut.ensures.value refl c.in_ok-push.ensures.items))
-    (rw lists_of-open_at c.self.invariant)
+    kept_lists c.self.inside.sections.items _ c.self.inside.octets
+    (ap (λ (d : Places). lists_of d) (open_places c.self.inside.sections.items c.args.section c.index_mut.result.now _ (rw c.self.view_is c.requires) c.index_mut.ensures.value refl c.in_ok-push.ensures.items) ∙ lists_of-open_at (places_of c.self.inside.sections.items) c.args.section)
+    c.self.invariant
 
 pub returns-clause-ok : goal.returns-clause-ok
 returns-clause-ok g c =

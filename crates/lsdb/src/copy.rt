@@ -1,0 +1,64 @@
+//! A copy of a database.
+
+ghost use Rattle.std.specs.Prelude.{◌≡◌, IfOk};
+ghost use Rattle.lsdb.specs.View.{places_of};
+
+use crate::database::{Database, SectionOf};
+use lsa_codec::Lsa;
+use std::alloc::{AllocError, Allocator};
+
+impl<A: Allocator + Copy> Database<A> {
+    /// A database with the same LSAs at the same places, with an allocator like its own.
+    pub fn clone_of(&self) -> Result<Database<A>, AllocError>
+        ensures { IfOk result (λ copy. copy ≡ self.now) }
+    {
+        let sections = copy_of_sections(self.alloc, &self.sections)?;
+        Ok(Database {
+            sections,
+            octets: self.octets,
+            alloc: self.alloc,
+        })
+    }
+}
+
+fn copy_of_sections<A: Allocator + Copy>(
+    alloc: A,
+    sections: &[SectionOf<A>],
+) -> Result<Vec<SectionOf<A>, A>, AllocError>
+    ensures { IfOk result (λ copy. places_of copy.items ≡ places_of sections.now) }
+{
+    let mut copy = Vec::with_capacity(alloc, sections.len())?;
+    for section in sections {
+        let places = copy_of_places(alloc, &section.places)?;
+        copy.push(SectionOf {
+            area: section.area,
+            places,
+        })?;
+    }
+    Ok(copy)
+}
+
+fn copy_of_places<A: Allocator + Copy>(
+    alloc: A,
+    places: &[Option<Lsa<A>>],
+) -> Result<Vec<Option<Lsa<A>>, A>, AllocError>
+    ensures { IfOk result (λ copy. copy.items ≡ places.now) }
+{
+    let mut copy = Vec::with_capacity(alloc, places.len())?;
+    for place in places {
+        copy.push(copy_of_place(alloc, place)?)?;
+    }
+    Ok(copy)
+}
+
+fn copy_of_place<A: Allocator + Copy>(
+    alloc: A,
+    place: &Option<Lsa<A>>,
+) -> Result<Option<Lsa<A>>, AllocError>
+    ensures { IfOk result (λ copy. copy ≡ place.now) }
+{
+    match place {
+        Some(lsa) => Ok(Some(lsa.clone_of(alloc)?)),
+        None => Ok(None),
+    }
+}

@@ -1,0 +1,79 @@
+//! The lists that the full places make: areas, and the LSAs of each section.
+
+ghost use Rattle.std.specs.Prelude.{◌≡◌, ◌<◌, ◌≤◌, Some, IsSome, length, slice_get};
+ghost use Rattle.lsdb.specs.Lists.{lsas_of, areas_of};
+ghost use Rattle.lsdb.specs.Places.{item_at, lists_of, lsas_in};
+
+use crate::database::Database;
+use crate::lsas::Lsas;
+use crate::section::Section;
+use lsa_codec::{AreaId, Lsa};
+use std::alloc::Allocator;
+
+impl<A: Allocator + Copy> Database<A> {
+    /// How many areas it has.
+    pub fn area_count(&self) -> usize
+        ensures { result ≡ length (areas_of (lists_of self.now)) }
+    {
+        self.sections.len() - 1
+    }
+
+    /// The ID of an area, and whether it is a stub area (RFC 2328, 3.6). Areas are numbered from
+    /// 0 in rising order of their IDs.
+    pub fn area(&self, i: usize) -> (AreaId, bool)
+        requires { i < length (areas_of (lists_of self.now)) }
+        ensures { slice_get (areas_of (lists_of self.now)) i ≡ Some (record { id = result.0.0; is_stub = result.1 }) }
+    {
+        match self.sections[i].area {
+            Some(head) => (head.id, head.is_stub),
+            None => unreachable!(),
+        }
+    }
+
+    /// The LSAs of a section, in order, by the section's number.
+    pub fn lsas_in(&self, section: usize) -> Lsas<'_, A>
+        requires { IsSome (item_at (lists_of self.now) section) }
+        ensures lsas { result ≡ lsas_in self.now section }
+        ensures few { length result ≤ 65535 }
+    {
+        Lsas::of(&self.sections[section].places)
+    }
+
+    /// The LSAs of a section, in order; none where there is no such section.
+    pub fn lsas(&self, section: Section) -> Lsas<'_, A>
+        ensures lsas { result ≡ lsas_of section (lists_of self.now) }
+        ensures few { length result ≤ 65535 }
+    {
+        match self.index_of(section) {
+            Some(index) => self.lsas_in(index),
+            None => Lsas::of(&[]),
+        }
+    }
+
+    /// How many LSAs a section has, by the section's number.
+    pub fn count_in(&self, section: usize) -> usize
+        requires { IsSome (item_at (lists_of self.now) section) }
+        ensures { result ≡ length (lsas_in self.now section) }
+    {
+        self.lsas_in(section).count()
+    }
+
+    /// How many LSAs a section has; 0 where there is no such section.
+    pub fn count(&self, section: Section) -> usize
+        ensures { result ≡ length (lsas_of section (lists_of self.now)) }
+    {
+        self.lsas(section).count()
+    }
+
+    /// LSA `i` of a section, counted from 0. It is found from the front: to read all of a
+    /// section's LSAs, take [`Database::lsas`].
+    pub fn lsa(&self, section: Section, i: usize) -> &Lsa<A>
+        requires { i < length (lsas_of section (lists_of self.now)) }
+        ensures { slice_get (lsas_of section (lists_of self.now)) i ≡ Some result.now }
+    {
+        match self.lsas(section).nth(i) {
+            Some(lsa) => lsa,
+            None => unreachable!(),
+        }
+    }
+}

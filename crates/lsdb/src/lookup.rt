@@ -1,0 +1,82 @@
+//! Sections by their names, and LSAs by their keys (RFC 2328, 12.1).
+
+ghost use Rattle.std.specs.Prelude.{◌≡◌, Some, None, IsSome, MatchOption, option_map};
+ghost use Rattle.std.specs.List.{find};
+ghost use Rattle.lsdb.specs.Lists.{is_head_of, is_section, has_key, lsas_of};
+ghost use Rattle.lsdb.specs.Places.{slot_at, item_at, lists_of, lsas_in, full, place_has_key, IsPlaceOf};
+ghost use Rattle.lsdb.specs.View.{head_of};
+
+use crate::database::{Database, Head};
+use crate::section::Section;
+use crate::slot::SlotId;
+use lsa_codec::{Key, Lsa};
+use std::alloc::Allocator;
+
+impl<A: Allocator + Copy> Database<A> {
+    /// The number of a section: areas in rising order of their IDs, the LSAs of AS scope last.
+    /// `None` where the database has no such area.
+    pub fn index_of(&self, section: Section) -> Option<usize>
+        ensures { MatchOption result (find (is_section section) (lists_of self.now) ≡ None) (λ index. (item_at (lists_of self.now) index ≡ find (is_section section) (lists_of self.now)) × IsSome (item_at (lists_of self.now) index)) }
+    {
+        for index in 0..self.sections.len() {
+            if is_head_of(section, self.sections[index].area) {
+                return Some(index);
+            }
+        }
+        None
+    }
+
+    /// The place of the LSA with a key in a section, by the section's number.
+    pub fn find_in(&self, section: usize, key: Key) -> Option<SlotId>
+        requires { IsSome (item_at (lists_of self.now) section) }
+        ensures { MatchOption result (find (has_key key) (lsas_in self.now section) ≡ None) (λ slot. (slot.section ≡ section) × (slot_at self.now slot ≡ Some (find (has_key key) (lsas_in self.now section))) × IsSome (find (has_key key) (lsas_in self.now section))) }
+    {
+        let Some(index) = find_place(&self.sections[section].places, key) else {
+            return None;
+        };
+        Some(SlotId { section, index })
+    }
+
+    /// The place of the LSA with a key in a section; `None` where the section has no such LSA,
+    /// and where there is no such section.
+    pub fn find(&self, section: Section, key: Key) -> Option<SlotId>
+        ensures { MatchOption result (find (has_key key) (lsas_of section (lists_of self.now)) ≡ None) (IsPlaceOf self.now section key) }
+    {
+        let Some(index) = self.index_of(section) else {
+            return None;
+        };
+        self.find_in(index, key)
+    }
+}
+
+/// Whether this is the head of the section of that name.
+fn is_head_of(section: Section, head: Option<Head>) -> bool
+    ensures { result ≡ is_head_of section (option_map head_of head) }
+{
+    match (section, head) {
+        (Section::Area(id), Some(head)) => head.id.0 == id.0,
+        (Section::Area(_), None) => false,
+        (Section::AsWide, head) => head.is_none(),
+    }
+}
+
+/// The index of the place with the LSA of a key.
+fn find_place<A: Allocator + Copy>(places: &[Option<Lsa<A>>], key: Key) -> Option<usize>
+    ensures { MatchOption result (find (has_key key) (full places.now) ≡ None) (λ index. (item_at places.now index ≡ Some (find (has_key key) (full places.now))) × IsSome (find (has_key key) (full places.now))) }
+{
+    for index in 0..places.len() {
+        if has_key(&places[index], key) {
+            return Some(index);
+        }
+    }
+    None
+}
+
+fn has_key<A: Allocator + Copy>(place: &Option<Lsa<A>>, key: Key) -> bool
+    ensures { result ≡ place_has_key key place.now }
+{
+    match place {
+        Some(lsa) => lsa.key() == key,
+        None => false,
+    }
+}
