@@ -2,3 +2,4 @@ pub mod Prefixes
 pub mod OptionValues
 pub mod FirstLine
 pub mod Steps
+pub mod Runs

@@ -1,5 +1,5 @@
 -- The steps of a run over the lines of its script.
-use Rattle.std.proofs.Common.{◌≡◌, ℕ, ◌+◌, ◌<◌, ◌≤◌, ◌^◌, List, [], ◌∷◌, ◌++◌, Option, None, Some, Bool, eqb, cond, length, sym, ap, subst, ◌∙◌, append_assoc, append-nil, refl, arith, Result, Ok, Err}
+use Rattle.std.proofs.Common.{◌≡◌, ℕ, ◌+◌, ◌<◌, ◌≤◌, ◌^◌, List, [], ◌∷◌, ◌++◌, Option, None, Some, Bool, eqb, cond, length, sym, ap, subst, ◌∙◌, append_assoc, append-nil, refl, arith, rules, Result, Ok, Err}
 use Rattle.std.specs.Borrow.{Bor}
 use Rattle.std.specs.Prelude.{count_by}
 use Rattle.std.proofs.lemmas.List.{length-append}
@@ -133,3 +133,14 @@ pub refused_line : (now : Session) (count total new : ℕ) (left : List (List �
     → count + refused_count (answers now left) ≡ total → left ≡ line ∷ more → new ≡ count + refused_count (told now line) → new + refused_count (answers (next now line) more) ≡ total
 refused_line now count total new left line more e turn one =
     omega (arith, ap refused_count (answers_turn now left line more turn), sum_by-append (λ (a : Answer). cond a.refused 1 0) (told now line) (answers (next now line) more))
+
+-- all lines are counted
+pub commands_all : (now : Session) (count total : ℕ) (left : List (List ℕ))
+    → count + length (answers now left) ≡ total → left ≡ [] → count ≡ total
+unfolding answers
+commands_all now count total left e end = omega (arith, ap (λ l. length (answers now l)) end, e)
+
+pub refused_all : (now : Session) (count total : ℕ) (left : List (List ℕ))
+    → count + refused_count (answers now left) ≡ total → left ≡ [] → count ≡ total
+unfolding answers
+refused_all now count total left e end = omega (arith, ap (λ l. refused_count (answers now l)) end, e)

@@ -5,6 +5,7 @@ use Rattle.edit_script.specs.declared.command.Command.TheVariants.{Edit, Undo}
 use Rattle.edit_script.specs.declared.fault.ScriptFault.{ScriptFault}
 use Rattle.edit_script.specs.Fault.{code_of as script_code, name_of as script_name}
 use Rattle.edit_history.specs.declared.fault.EditFault.{EditFault}
+use Rattle.edit_history.specs.declared.fault.UndoFault.{UndoFault}
 use Rattle.edit_history.specs.declared.fault.UndoFault.TheVariants.{NothingToUndo}
 use Rattle.edit_history.specs.Fault.{code_of as edit_code, name_of as edit_name}
 use Rattle.edit_history.specs.Session.{Session, edited, moved_back}
@@ -46,11 +47,11 @@ takes_memory (Undo k) = false
 
 abbrev pub refusal_code : Refusal → List ℕ
 refusal_code (refusal.Edit fault) = edit_code fault
-refusal_code (refusal.Undo fault) = undo_code fault
+refusal_code (refusal.Undo NothingToUndo) = codes "U1"
 
 abbrev pub refusal_name : Refusal → List ℕ
 refusal_name (refusal.Edit fault) = edit_name fault
-refusal_name (refusal.Undo fault) = undo_name fault
+refusal_name (refusal.Undo NothingToUndo) = codes "NothingToUndo"
 
 -- `@B ok`, or `@B refused CODE NAME`
 abbrev pub reply_text : ℕ → Reply → List ℕ

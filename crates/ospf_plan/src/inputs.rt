@@ -1,9 +1,9 @@
 //! The two inputs of a run: the dump and the script.
 
-ghost use Rattle.std.specs.Prelude.{◌≡◌, ◌↔◌, ◌≤◌, ◌+◌, true, false, Ok, vec_len, IfSome, IfOk, IfErr, OnOk};
+ghost use Rattle.std.specs.Prelude.{◌≡◌, ◌≢◌, ◌↔◌, ◌≤◌, ◌+◌, ℕ, List, Option, true, false, Ok, vec_len, IfSome, IfOk, IfErr, OnOk};
 ghost use Rattle.ospf_plan.specs.Watched.{inner_of, has_failed};
 ghost use Rattle.ospf_plan.specs.WholeText.{IsAll, IsLonger, ConsumesAtMost};
-ghost use Rattle.lsdb.specs.Loading.{loaded};
+ghost use Rattle.lsdb.specs.Loading.{loaded, IsFirst};
 ghost use Rattle.ospf_plan.specs.Run.{begun};
 ghost use Rattle.ospf_plan.specs.Inputs.{IsDumpEnd, IsScriptEnd, IsAccepted};
 
@@ -52,7 +52,10 @@ const TOO_LARGE: DumpFault = DumpFault {
 };
 
 /// How a run ends on a dump that is not loaded.
-fn load_fault(fault: DumpFault) -> RunFault {
+fn load_fault(fault: DumpFault) -> RunFault
+    ensures end { (known : Option (List ℕ)) → IfSome known (λ bytes. IsFirst fault (loaded bytes)) → IsDumpEnd known result }
+    ensures read { result ≢ RunFault.Read }
+{
     match fault.kind {
         DumpFaultKind::OutOfMemory => RunFault::OutOfMemory,
         _ => RunFault::Dump(fault),

@@ -4,6 +4,8 @@ ghost use Rattle.std.specs.Prelude.{◌≡◌, ◌↔◌, ◌||◌, false, true,
 ghost use Rattle.std.specs.Io.KnownBytes.{Appends, Keeps};
 ghost use Rattle.ospf_plan.specs.Watched.{inner_of, has_failed};
 ghost use Rattle.ospf_plan.specs.WholeText.{AppendsPrefix, ConsumesAtMost};
+ghost use Rattle.lsdb.specs.Text.{text};
+ghost use Rattle.edit_history.specs.Session.{state};
 ghost use Rattle.ospf_plan.specs.Run.{run_answers, run_text, run_dump};
 ghost use Rattle.ospf_plan.specs.Streams.{at_call, at_return, contents_of, has_any_failed};
 ghost use Rattle.ospf_plan.specs.WholeRun.{IfBoth, IsSummaryOf, MayEndRun, IsBeforeReplies, KeepsBoth};
@@ -166,7 +168,7 @@ fn answer_all<A: Allocator + Copy, R: Read, S: Read, W: Write>(
     ensures dump_bounded { ConsumesAtMost (R.remaining (inner_of dump.old)) (R.remaining (inner_of dump.new)) 16777217 }
     ensures script_bounded { ConsumesAtMost (S.remaining (inner_of script.old)) (S.remaining (inner_of script.new)) 1048577 }
 {
-    let mut session = read_branches(alloc, dump)?;
+    let mut branches = read_branches(alloc, dump)?;
     let text = read_script(alloc, script)?;
     let summary = answer_script(alloc, &mut branches, text.as_slice(), replies)?;
     Ok((summary, branches))

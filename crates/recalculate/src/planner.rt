@@ -3,7 +3,7 @@
 use edit_history::{EditFault, History, RedoFault, UndoFault, apply};
 use edit_script::Edit;
 use lsdb::Database;
-use std::alloc::{Allocator, Global};
+use std::alloc::{AllocError, Allocator, Global};
 use std::marker::Model;
 
 /// The edits that may be done at a time.
@@ -32,8 +32,9 @@ impl<A: Allocator> Model for Planner<A> {
 }
 
 impl<A: Allocator + Copy> Planner<A> {
-    ghost use Rattle.std.specs.Prelude.{◌≡◌, ◌≢◌, ◌≤◌, ◌↔◌, Ok, Err, length, IsOk, OnOk, OnErr, IfErr, IsErrOf};
+    ghost use Rattle.std.specs.Prelude.{◌≡◌, ◌≢◌, ◌≤◌, ◌↔◌, Ok, Err, length, IsOk, OnOk, OnErr, IfOk, IfErr, IsErrOf};
     ghost use Rattle.lsdb.specs.Places.{lists_of};
+    ghost use Rattle.lsdb.specs.Text.{text};
     ghost use Rattle.edit_history.specs.declared.fault.EditFault.TheVariants.{HistoryFull, OutOfMemory};
     ghost use Rattle.edit_history.specs.Session.{start, state, most_edits, edited, moved_back, moved_on};
 
@@ -56,6 +57,13 @@ impl<A: Allocator + Copy> Planner<A> {
         ensures { lists_of result.now ≡ state self.now }
     {
         &self.database
+    }
+
+    /// The dump of the database. An error is want of memory.
+    pub fn dump(&self) -> Result<Vec<u8, A>, AllocError>
+        ensures { IfOk result (λ dump. dump.items ≡ text (state self.now)) }
+    {
+        self.database().dump()
     }
 
     /// Carries an edit out. The undone edits go.

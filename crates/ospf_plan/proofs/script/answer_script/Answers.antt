@@ -1,6 +1,6 @@
 use Rattle.std.proofs.Common.{◌≡◌, ◌∷◌, refl, rules}
 use Rattle.ospf_plan.specs.Lines.{lines_left}
-use Rattle.ospf_plan.proofs.Steps.{written_line, written_part, written_all, written_end, commands_room, refused_room, commands_line, refused_line}
+use Rattle.ospf_plan.proofs.Steps.{written_line, written_part, written_all, written_end, commands_room, refused_room, commands_line, refused_line, commands_all, refused_all}
 use Rattle.ospf_plan.proofs.script.answer_script.Goals as goal
 
 pub answer_line-requires-clause-room : goal.answer_line-requires-clause-room
@@ -35,3 +35,9 @@ returns-clause-whole g c = written_all _ _ _ _ _ (lines_left c.lines.rest) c.lin
 
 pub returns-clause-session : goal.returns-clause-session
 returns-clause-session g c = written_end _ _ _ _ _ (lines_left c.lines.rest) c.lines.invariant.written (rw c.in_default.is refl)
+
+pub returns-clause-commands : goal.returns-clause-commands
+returns-clause-commands g c = commands_all _ _ _ (lines_left c.lines.rest) c.lines.invariant.commands (rw c.in_default.is refl)
+
+pub returns-clause-refused : goal.returns-clause-refused
+returns-clause-refused g c = refused_all _ _ _ (lines_left c.lines.rest) c.lines.invariant.refused (rw c.in_default.is refl)
