@@ -2,11 +2,13 @@
 #![tactic(auto)]
 
 mod database;
+mod fault;
 mod laws;
 mod section;
 mod slot;
 
 pub use database::Database;
+pub use fault::{DumpFault, DumpFaultKind};
 pub use laws::slot_laws;
 pub use section::Section;
 pub use slot::SlotId;
