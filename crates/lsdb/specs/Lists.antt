@@ -57,8 +57,14 @@ abbrev pub IsOrdinaryBackbone : Option AreaHead → Type 0
 IsOrdinaryBackbone None = Unit {0}
 IsOrdinaryBackbone (Some area) = area.id ≡ 0 → area.is_stub ≡ false
 
+-- the ID of an area has 32 bits
+abbrev pub HasWideId : Option AreaHead → Type 0
+HasWideId None = Unit {0}
+HasWideId (Some area) = area.id < 2 ^ 32
+
 pub record AreHeads (heads : List (Option AreaHead)) : Type 0 where
   pub few : length heads ≤ 65
+  pub ids : All HasWideId heads
   pub order : AllPairs IsBefore heads
   pub backbone : All IsOrdinaryBackbone heads
   pub as_wide : list_any is_as_wide heads ≡ true

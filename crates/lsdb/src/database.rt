@@ -12,22 +12,22 @@ use std::marker::Model;
 use std::mem;
 
 #[derive(Clone, Copy, Debug)]
-struct Head {
-    id: AreaId,
-    is_stub: bool,
+pub(crate) struct Head {
+    pub(crate) id: AreaId,
+    pub(crate) is_stub: bool,
 }
 
 #[derive(Drop)]
-struct SectionOf<A: Allocator> {
-    area: Option<Head>,
-    places: Vec<Option<Lsa<A>>, A>,
+pub(crate) struct SectionOf<A: Allocator> {
+    pub(crate) area: Option<Head>,
+    pub(crate) places: Vec<Option<Lsa<A>>, A>,
 }
 
 /// Areas in rising order and the LSAs of AS scope behind them, each a list of places.
 #[derive(Drop)]
 pub struct Database<A: Allocator = Global> {
-    sections: Vec<SectionOf<A>, A>,
-    alloc: A,
+    pub(crate) sections: Vec<SectionOf<A>, A>,
+    pub(crate) alloc: A,
 }
 
 impl<A: Allocator> Model for Database<A> {
@@ -169,7 +169,7 @@ fn has_key<A: Allocator + Copy>(place: &Option<Lsa<A>>, key: Key) -> bool
 }
 
 /// How many places are full.
-fn count_places<A: Allocator + Copy>(places: &[Option<Lsa<A>>]) -> usize
+pub(crate) fn count_places<A: Allocator + Copy>(places: &[Option<Lsa<A>>]) -> usize
     ensures { result ≡ length (full places.now) }
 {
     let mut count = 0usize;
