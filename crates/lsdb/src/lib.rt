@@ -17,3 +17,6 @@ pub use laws::slot_laws;
 pub use load::text_laws;
 pub use section::Section;
 pub use slot::SlotId;
+
+#[cfg(test)]
+mod dump_tests;

@@ -215,10 +215,7 @@ fn read_sections<'a, A: Allocator + Copy>(
 }
 
 #[tactic(auto, unfolding(crate::specs::Loading::loaded, crate::specs::Loading::dump_at))]
-fn read_dump<A: Allocator + Copy>(
-    alloc: A,
-    bytes: &[u8],
-) -> Result<Vec<SectionOf<A>, A>, ReadError>
+fn read_dump<A: Allocator + Copy>(alloc: A, bytes: &[u8]) -> Result<Vec<SectionOf<A>, A>, ReadError>
     ensures { Gives (λ sections. lists_of (places_of sections.items)) result (loaded bytes.now) }
 {
     if 16777216 < bytes.len() {
