@@ -1,0 +1,152 @@
+//! Why bytes are no dump.
+
+ghost use Rattle.std.specs.Prelude.{◌≡◌};
+ghost use Rattle.lsdb.specs.Faults.{fault_code, fault_name};
+ghost use Rattle.lsdb.specs.declared.fault.ReadError.TheVariants.{Memory};
+
+use lsa_codec::LsaFault;
+use std::alloc::{AllocError, AllocFailed};
+use std::error::Error;
+use std::fmt;
+
+/// What is wrong with a dump.
+#[derive(Clone, Copy, Debug, PartialEq, Eq)]
+pub enum DumpFaultKind {
+    /// The dump does not begin with the four octets of `OSWP`.
+    BadMagic,
+    /// The version is not 1.
+    BadVersion,
+    /// The dump ends inside a field of the container: magic, version, a count, an area's ID or kind.
+    Truncated,
+    /// Octets stand behind the last LSA.
+    TrailingBytes,
+    /// More than 64 areas.
+    TooManyAreas,
+    /// The ID of an area is not above that of the area before it.
+    AreaOrder,
+    /// The kind of an area is neither 0 (ordinary) nor 1 (stub).
+    BadAreaKind,
+    /// An area has more than 8,192 LSAs.
+    TooManyLsas,
+    /// The octets are no accepted LSA. The fault is never `OutOfMemory`.
+    Lsa(LsaFault),
+    /// An LSA of AS scope (type 5 or 11) in an area, or one of another type behind the areas.
+    WrongSection,
+    /// The section has an LSA with the same key before.
+    DuplicateLsa,
+    /// The backbone, area 0.0.0.0, is told to be a stub area (RFC 2328, 3.6).
+    BackboneStub,
+    /// More than 16,777,216 octets.
+    TooLarge,
+    /// A growth was refused.
+    OutOfMemory,
+}
+
+impl DumpFaultKind {
+    /// The code of the kind, as `L4`.
+    pub fn code(&self) -> &'static str
+        ensures { result.now ≡ fault_code self.now }
+    {
+        match self {
+            DumpFaultKind::BadMagic => "L1",
+            DumpFaultKind::BadVersion => "L2",
+            DumpFaultKind::Truncated => "L3",
+            DumpFaultKind::TrailingBytes => "L4",
+            DumpFaultKind::TooManyAreas => "L5",
+            DumpFaultKind::AreaOrder => "L6",
+            DumpFaultKind::BadAreaKind => "L7",
+            DumpFaultKind::TooManyLsas => "L8",
+            DumpFaultKind::Lsa(_) => "L9",
+            DumpFaultKind::WrongSection => "L10",
+            DumpFaultKind::DuplicateLsa => "L11",
+            DumpFaultKind::BackboneStub => "L12",
+            DumpFaultKind::TooLarge => "L13",
+            DumpFaultKind::OutOfMemory => "L14",
+        }
+    }
+
+    /// The name of the kind, as `TrailingBytes`, and `Lsa ZeroCost` where the octets are no accepted LSA.
+    pub fn name(&self) -> &'static str
+        ensures { result.now ≡ fault_name self.now }
+    {
+        match self {
+            DumpFaultKind::BadMagic => "BadMagic",
+            DumpFaultKind::BadVersion => "BadVersion",
+            DumpFaultKind::Truncated => "Truncated",
+            DumpFaultKind::TrailingBytes => "TrailingBytes",
+            DumpFaultKind::TooManyAreas => "TooManyAreas",
+            DumpFaultKind::AreaOrder => "AreaOrder",
+            DumpFaultKind::BadAreaKind => "BadAreaKind",
+            DumpFaultKind::TooManyLsas => "TooManyLsas",
+            DumpFaultKind::Lsa(fault) => lsa_fault_name(*fault),
+            DumpFaultKind::WrongSection => "WrongSection",
+            DumpFaultKind::DuplicateLsa => "DuplicateLsa",
+            DumpFaultKind::BackboneStub => "BackboneStub",
+            DumpFaultKind::TooLarge => "TooLarge",
+            DumpFaultKind::OutOfMemory => "OutOfMemory",
+        }
+    }
+}
+
+fn lsa_fault_name(fault: LsaFault) -> &'static str
+    ensures { result.now ≡ fault_name (DumpFaultKind.Lsa fault) }
+{
+    match fault {
+        LsaFault::Truncated => "Lsa Truncated",
+        LsaFault::Length => "Lsa Length",
+        LsaFault::BadType => "Lsa BadType",
+        LsaFault::Body => "Lsa Body",
+        LsaFault::Checksum => "Lsa Checksum",
+        LsaFault::Mask => "Lsa Mask",
+        LsaFault::RouterId => "Lsa RouterId",
+        LsaFault::ZeroCost => "Lsa ZeroCost",
+        LsaFault::OutOfMemory => "Lsa OutOfMemory",
+    }
+}
+
+/// What is wrong with a dump, and the offset of the first octet of the field or LSA.
+///
+/// It is shown as `L4 TrailingBytes at 99`, or `L9 Lsa ZeroCost at 13`.
+#[derive(Clone, Copy, Debug, PartialEq, Eq)]
+pub struct DumpFault {
+    /// How many octets stand before the field or LSA; 0 for `TooLarge` and `OutOfMemory`.
+    pub offset: usize,
+    pub kind: DumpFaultKind,
+}
+
+impl fmt::Display for DumpFault {
+    ghost use Rattle.std.specs.Prelude.{Some};
+    ghost use Rattle.lsdb.specs.Faults.{fault_text};
+
+    ghost output = { λ fault. Some (fault_text fault) };
+
+    fn fmt<W: fmt::Write>(&self, f: &mut fmt::Formatter<W>) -> fmt::Result {
+        let (code, name) = (self.kind.code(), self.kind.name());
+        write!(f, "{code} {name} at {}", self.offset)
+    }
+}
+
+impl Error for DumpFault {}
+
+/// Why reading ended.
+#[derive(Debug, Drop)]
+pub(crate) enum ReadError {
+    Memory,
+    Fault(DumpFault),
+}
+
+impl From<AllocError> for ReadError {
+    ghost from_gives = { λ _ e. e ≡ Memory };
+
+    fn from(_e: AllocError) -> ReadError {
+        ReadError::Memory
+    }
+}
+
+impl<T: Drop> From<AllocFailed<T>> for ReadError {
+    ghost from_gives = { λ _ e. e ≡ Memory };
+
+    fn from(_e: AllocFailed<T>) -> ReadError {
+        ReadError::Memory
+    }
+}
