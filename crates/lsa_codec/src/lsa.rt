@@ -13,7 +13,7 @@ use crate::fault::LsaFault;
 use crate::field::{u16_at, u32_at};
 use crate::key::Key;
 use crate::links::Links;
-use std::alloc::{AllocError, Allocator, Global};
+use std::alloc::{Allocator, Global};
 use std::marker::Model;
 
 /// An accepted LSA, seen as its octets. They are never changed. What makes octets an accepted LSA is
@@ -77,14 +77,6 @@ impl<A: Allocator + Copy> Lsa<A> {
         ensures accepted { IsAccepted self.now }
     {
         &self.bytes
-    }
-
-/// A copy, with the same octets. An error is want of memory.
-    pub fn clone_of(&self, alloc: A) -> Result<Lsa<A>, AllocError>
-        ensures { IfOk result (λ lsa. lsa ≡ self.now) }
-    {
-        let bytes = Vec::from_slice(alloc, &self.bytes)?;
-        Ok(Lsa { bytes })
     }
 
     /// What names the LSA (RFC 2328, 12.1).

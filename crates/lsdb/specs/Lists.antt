@@ -1,5 +1,5 @@
 -- What a database is: areas with their LSAs, and behind them the LSAs of AS scope (RFC 2328, 12.2).
-use Rattle.std.specs.Prelude.{◌≡◌, ◌≢◌, ◌<◌, ◌≤◌, ℕ, ◌+◌, Bool, true, false, List, [], length, map, All, AllPairs, Option, Some, None, ◌==◌, ◌&&◌, ◌||◌, not}
+use Rattle.std.specs.Prelude.{◌≡◌, ◌≢◌, ◌<◌, ◌≤◌, ◌^◌, ℕ, ◌+◌, Bool, true, false, List, [], length, map, All, AllPairs, Option, Some, None, ◌==◌, ◌&&◌, ◌||◌, not}
 use Rattle.std.specs.List.{list_any, sum_by, filter_map, find}
 use Rattle.lsa_codec.specs.declared.key.Key.{Key}
 use Rattle.lsa_codec.specs.Key.{key_of}
@@ -57,8 +57,14 @@ abbrev pub IsOrdinaryBackbone : Option AreaHead → Type 0
 IsOrdinaryBackbone None = Unit {0}
 IsOrdinaryBackbone (Some area) = area.id ≡ 0 → area.is_stub ≡ false
 
+-- the ID of an area has 32 bits
+abbrev pub HasWideId : Option AreaHead → Type 0
+HasWideId None = Unit {0}
+HasWideId (Some area) = area.id < 2 ^ 32
+
 pub record AreHeads (heads : List (Option AreaHead)) : Type 0 where
   pub few : length heads ≤ 65
+  pub ids : All HasWideId heads
   pub order : AllPairs IsBefore heads
   pub backbone : All IsOrdinaryBackbone heads
   pub as_wide : list_any is_as_wide heads ≡ true

@@ -11,20 +11,27 @@
 #![tactic(auto)]
 
 mod copy;
+mod cursor;
 mod database;
+mod dump;
 mod fault;
-mod load;
 mod laws;
 mod lists;
+mod load;
 mod lookup;
 mod lsas;
 mod places;
+mod read;
 mod section;
 mod slot;
 
 pub use database::Database;
 pub use fault::{DumpFault, DumpFaultKind};
 pub use laws::slot_laws;
+pub use load::text_laws;
 pub use lsas::Lsas;
 pub use section::Section;
 pub use slot::{SlotFault, SlotId};
+
+#[cfg(test)]
+mod dump_tests;

@@ -1,30 +1,282 @@
-//! Reading a dump (a stand-in).
+//! Reading a dump.
 
-ghost use Rattle.std.specs.Prelude.{◌≡◌, length, Ok, IfOk, IfErr};
-ghost use Rattle.lsdb.specs.Lists.{Lists, IsDatabase, size};
-ghost use Rattle.lsdb.specs.Places.{lists_of};
+ghost use Rattle.std.specs.Prelude.{◌≡◌, ◌≤◌, length, [], Ok, Some, None, IfOk, IfErr, Result, option_map};
+ghost use Rattle.std.specs.Int.{w8, w16, w32};
+ghost use Rattle.lsdb.specs.Lists.{is_in_scope, limit_of, Lists, IsDatabase, size};
+ghost use Rattle.lsdb.specs.Places.{full, section_of, lists_of};
+ghost use Rattle.lsdb.specs.View.{head_of, section_places_of, places_of};
 ghost use Rattle.lsdb.specs.Text.{text};
-ghost use Rattle.lsdb.specs.Loading.{loaded, IsFirst};
+ghost use Rattle.lsdb.specs.Cursors.{at_of};
+ghost use Rattle.lsdb.specs.Loading.{Gives, lsa_at, lsas_from, section_at, id_at, kind_at, area_at, areas_from, is_above, magic_at, version_at, area_count_at, sections_at, loaded, Fails, IsFirst};
 
-use crate::database::Database;
-use crate::fault::{DumpFault, DumpFaultKind};
-use std::alloc::{AllocError, Allocator};
+use crate::cursor::Cursor;
+use crate::database::{Database, Head, SectionOf};
+use crate::fault::{DumpFault, DumpFaultKind, ReadError};
+use crate::read::{advanced, fault, read_u8, read_u16, read_u32};
+use lsa_codec::{AreaId, Key, Lsa, LsaFault};
+use std::alloc::Allocator;
+use std::collections::BTreeSet;
+
+/// Whether an LSA with this key may stand in the section (RFC 2328, 12.2; RFC 5250 for type 11).
+fn is_in_scope(area: Option<Head>, key: Key) -> bool
+    ensures { result ≡ is_in_scope (option_map head_of area) key }
+{
+    let has_as_scope = key.kind == 5 || key.kind == 11;
+    has_as_scope == area.is_none()
+}
+
+/// How many LSAs the section may have.
+fn limit_of(area: Option<Head>) -> u16
+    ensures { result ≡ limit_of (option_map head_of area) }
+{
+    match area {
+        Some(_) => 8192,
+        None => 65535,
+    }
+}
+
+#[tactic(auto, unfolding(crate::specs::Loading::lsa_at))]
+fn read_lsa<'a, A: Allocator + Copy>(
+    alloc: A,
+    area: Option<Head>,
+    at: Cursor<'a>,
+) -> Result<(Lsa<A>, Cursor<'a>), ReadError>
+    ensures { Gives (λ x. (x.0, at_of x.1)) result (lsa_at (option_map head_of area) (at_of at.entry)) }
+{
+    match Lsa::decode(alloc, at.rest) {
+        Err(LsaFault::OutOfMemory) => Err(ReadError::Memory),
+        Err(lsa_fault) => Err(fault(at, DumpFaultKind::Lsa(lsa_fault))),
+        Ok((lsa, size)) => {
+            if !is_in_scope(area, lsa.key()) {
+                return Err(fault(at, DumpFaultKind::WrongSection));
+            }
+            Ok((lsa, advanced(at, size)))
+        }
+    }
+}
+
+/// So many LSAs, each at a place of its own. The set of keys saves a search for each LSA.
+fn read_lsas<'a, A: Allocator + Copy>(
+    alloc: A,
+    area: Option<Head>,
+    count: u16,
+    start: Cursor<'a>,
+) -> Result<(Vec<Option<Lsa<A>>, A>, Cursor<'a>), ReadError>
+    ensures { Gives (λ x. (full x.0.items, at_of x.1)) result (lsas_from (option_map head_of area) count [] (at_of start.entry)) }
+{
+    let mut places = Vec::new(alloc);
+    let mut keys = BTreeSet::new(alloc);
+    let mut at = start;
+    for _ in 0..count {
+        let (lsa, after) = read_lsa(alloc, area, at)?;
+        if !keys.insert(lsa.key())? {
+            return Err(fault(at, DumpFaultKind::DuplicateLsa));
+        }
+        places.push(Some(lsa))?;
+        at = after;
+    }
+    Ok((places, at))
+}
+
+#[tactic(auto, unfolding(crate::specs::Loading::section_at))]
+fn read_section<'a, A: Allocator + Copy>(
+    alloc: A,
+    area: Option<Head>,
+    at: Cursor<'a>,
+) -> Result<(SectionOf<A>, Cursor<'a>), ReadError>
+    ensures { Gives (λ x. (section_of (section_places_of x.0), at_of x.1)) result (section_at (option_map head_of area) (at_of at.entry)) }
+{
+    let (count, rest) = read_u16(at)?;
+    if limit_of(area) < count {
+        return Err(fault(at, DumpFaultKind::TooManyLsas));
+    }
+    let (places, rest) = read_lsas(alloc, area, count, rest)?;
+    Ok((SectionOf { area, places }, rest))
+}
+
+/// Whether an ID is above that of the area before.
+fn is_above(id: u32, before: Option<Head>) -> bool
+    ensures { result ≡ is_above id (option_map head_of before) }
+{
+    match before {
+        None => true,
+        Some(before) => before.id.0 < id,
+    }
+}
+
+#[tactic(auto, unfolding(crate::specs::Loading::id_at))]
+fn read_id<'a>(before: Option<Head>, at: Cursor<'a>) -> Result<(u32, Cursor<'a>), ReadError>
+    ensures { Gives (λ x. (x.0, at_of x.1)) result (id_at (option_map head_of before) (at_of at.entry)) }
+{
+    let (id, rest) = read_u32(at)?;
+    if !is_above(id, before) {
+        return Err(fault(at, DumpFaultKind::AreaOrder));
+    }
+    Ok((id, rest))
+}
+
+/// Whether the area with that ID is a stub area.
+#[tactic(auto, unfolding(crate::specs::Loading::kind_at))]
+fn read_kind(id: u32, at: Cursor<'_>) -> Result<(bool, Cursor<'_>), ReadError>
+    ensures { Gives (λ x. (x.0, at_of x.1)) result (kind_at id (at_of at.entry)) }
+{
+    let (kind, rest) = read_u8(at)?;
+    if 1 < kind {
+        return Err(fault(at, DumpFaultKind::BadAreaKind));
+    }
+    if id == 0 && kind == 1 {
+        return Err(fault(at, DumpFaultKind::BackboneStub));
+    }
+    Ok((kind == 1, rest))
+}
+
+#[tactic(auto, unfolding(crate::specs::Loading::area_at))]
+fn read_area<'a, A: Allocator + Copy>(
+    alloc: A,
+    before: Option<Head>,
+    at: Cursor<'a>,
+) -> Result<(SectionOf<A>, Cursor<'a>), ReadError>
+    ensures { Gives (λ x. (section_of (section_places_of x.0), at_of x.1)) result (area_at (option_map head_of before) (at_of at.entry)) }
+{
+    let (id, rest) = read_id(before, at)?;
+    let (is_stub, rest) = read_kind(id, rest)?;
+    let area = Head {
+        id: AreaId(id),
+        is_stub,
+    };
+    read_section(alloc, Some(area), rest)
+}
+
+fn read_areas<'a, A: Allocator + Copy>(
+    alloc: A,
+    count: u8,
+    start: Cursor<'a>,
+) -> Result<(Vec<SectionOf<A>, A>, Cursor<'a>), ReadError>
+    ensures { Gives (λ x. (lists_of (places_of x.0.items), at_of x.1)) result (areas_from count None [] (at_of start.entry)) }
+{
+    let mut areas = Vec::new(alloc);
+    let mut before: Option<Head> = None;
+    let mut at = start;
+    for _ in 0..count {
+        let (area, after) = read_area(alloc, before, at)?;
+        before = area.area;
+        areas.push(area)?;
+        at = after;
+    }
+    Ok((areas, at))
+}
+
+#[tactic(auto, unfolding(crate::specs::Loading::magic_at))]
+fn read_magic(at: Cursor<'_>) -> Result<Cursor<'_>, ReadError>
+    ensures { Gives at_of result (magic_at (at_of at.entry)) }
+{
+    let (found, rest) = read_u32(at)?;
+    if found != 0x4f535750 {
+        return Err(fault(at, DumpFaultKind::BadMagic));
+    }
+    Ok(rest)
+}
+
+#[tactic(auto, unfolding(crate::specs::Loading::version_at))]
+fn read_version(at: Cursor<'_>) -> Result<Cursor<'_>, ReadError>
+    ensures { Gives at_of result (version_at (at_of at.entry)) }
+{
+    let (found, rest) = read_u8(at)?;
+    if found != 1 {
+        return Err(fault(at, DumpFaultKind::BadVersion));
+    }
+    Ok(rest)
+}
+
+#[tactic(auto, unfolding(crate::specs::Loading::area_count_at))]
+fn read_area_count(at: Cursor<'_>) -> Result<(u8, Cursor<'_>), ReadError>
+    ensures { Gives (λ x. (x.0, at_of x.1)) result (area_count_at (at_of at.entry)) }
+{
+    let (count, rest) = read_u8(at)?;
+    if 64 < count {
+        return Err(fault(at, DumpFaultKind::TooManyAreas));
+    }
+    Ok((count, rest))
+}
+
+/// The areas, and behind them the LSAs of AS scope.
+#[tactic(auto, unfolding(crate::specs::Loading::sections_at))]
+fn read_sections<'a, A: Allocator + Copy>(
+    alloc: A,
+    at: Cursor<'a>,
+) -> Result<(Vec<SectionOf<A>, A>, Cursor<'a>), ReadError>
+    ensures { Gives (λ x. (lists_of (places_of x.0.items), at_of x.1)) result (sections_at (at_of at.entry)) }
+{
+    let (count, at) = read_area_count(at)?;
+    let (mut sections, at) = read_areas(alloc, count, at)?;
+    let (as_wide, at) = read_section(alloc, None, at)?;
+    sections.push(as_wide)?;
+    Ok((sections, at))
+}
+
+#[tactic(auto, unfolding(crate::specs::Loading::loaded, crate::specs::Loading::dump_at))]
+fn read_dump<A: Allocator + Copy>(alloc: A, bytes: &[u8]) -> Result<Vec<SectionOf<A>, A>, ReadError>
+    ensures { Gives (λ sections. lists_of (places_of sections.items)) result (loaded bytes.now) }
+{
+    if 16777216 < bytes.len() {
+        return Err(ReadError::Fault(DumpFault {
+            offset: 0,
+            kind: DumpFaultKind::TooLarge,
+        }));
+    }
+    let start = Cursor {
+        offset: 0,
+        rest: bytes,
+    };
+    let at = read_version(read_magic(start)?)?;
+    let (sections, end) = read_sections(alloc, at)?;
+    if !end.rest.is_empty() {
+        return Err(fault(end, DumpFaultKind::TrailingBytes));
+    }
+    Ok(sections)
+}
+
+/// The fault that is told of a failed reading.
+fn dump_fault(error: ReadError) -> DumpFault
+    ensures { (answer : Result Lists DumpFault) → Fails error answer → IsFirst result answer }
+{
+    match error {
+        ReadError::Fault(fault) => fault,
+        ReadError::Memory => DumpFault {
+            offset: 0,
+            kind: DumpFaultKind::OutOfMemory,
+        },
+    }
+}
 
 impl<A: Allocator + Copy> Database<A> {
+    /// The database whose dump the octets are.
+    ///
+    /// Of several faults the first from front to back is told; `TooLarge` comes before all others, and
+    /// `OutOfMemory` may stand in place of any.
     pub fn load(alloc: A, bytes: &[u8]) -> Result<Database<A>, DumpFault>
+        // What is loaded is spelled so.
         ensures database { IfOk result (λ db. IsDatabase (lists_of db)) }
         ensures spelled { IfOk result (λ db. bytes.now ≡ text (lists_of db)) }
+
+        // What is spelled so is loaded, unless memory runs out; else the first fault is told.
         ensures found { IfOk result (λ db. loaded bytes.now ≡ Ok (lists_of db)) }
         ensures fault { IfErr result (λ fault. IsFirst fault (loaded bytes.now)) }
     {
-        let _ = alloc;
-        let _ = bytes;
-        Err(DumpFault { offset: 0, kind: DumpFaultKind::OutOfMemory })
-    }
-
-    pub fn dump(&self) -> Result<Vec<u8, A>, AllocError>
-        ensures { IfOk result (λ v. v.items ≡ text (lists_of self.now)) }
-    {
-        Err(AllocError)
+        match read_dump(alloc, bytes) {
+            Ok(sections) => Ok(Database::of_sections(alloc, sections, bytes.len())),
+            Err(error) => Err(dump_fault(error)),
+        }
     }
 }
+
+/// Laws of the text of a database.
+pub fn text_laws()
+    // Every database is loaded from its text.
+    ensures complete { (db : Lists) → IsDatabase db → loaded (text db) ≡ Ok db }
+
+    // Different databases have different texts.
+    ensures one_text { (a b : Lists) → IsDatabase a → IsDatabase b → text a ≡ text b → a ≡ b }
+
+    ensures length { (db : Lists) → length (text db) ≡ size db }
+{}

@@ -1,0 +1,13 @@
+use Rattle.std.proofs.Common.{◌≡◌, ◌-◌, [], option_map}
+use Rattle.lsdb.specs.Places.{full}
+use Rattle.lsdb.specs.View.{head_of}
+use Rattle.lsdb.specs.Cursors.{at_of}
+use Rattle.lsdb.specs.Loading.{lsas_from}
+use Rattle.lsdb.proofs.Keys.{HasKeys}
+use Rattle.lsdb.proofs.load.read_lsas.Given as goal
+
+abbrev pub invariant-loop : goal.invariant-loop
+invariant-loop g l = record {
+  reading : lsas_from (option_map head_of l.area) (l.count - l.counter) (full l.places.items) (at_of l.at) ≡ lsas_from (option_map head_of l.area) l.count [] (at_of l.start);
+  keys : HasKeys l.keys (full l.places.items);
+}

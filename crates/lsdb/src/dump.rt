@@ -1,0 +1,74 @@
+//! Writing a dump.
+
+ghost use Rattle.std.specs.Prelude.{◌≡◌, ◌<◌, ◌^◌, ◌++◌, length, OnOk, IfOk, option_map};
+ghost use Rattle.std.specs.List.{concat};
+ghost use Rattle.lsdb.specs.Places.{full, section_of, lists_of};
+ghost use Rattle.lsdb.specs.View.{head_of, section_places_of};
+ghost use Rattle.lsdb.specs.Text.{text, head_text, section_text};
+
+use crate::database::{Database, Head, SectionOf};
+use crate::lsas::Lsas;
+use lsa_codec::Lsa;
+use std::alloc::{AllocError, Allocator};
+
+fn put_head<A: Allocator + Copy>(out: &mut Vec<u8, A>, area: Option<Head>) -> Result<(), AllocError>
+    ensures { OnOk result (out.new.items ≡ out.old.items ++ head_text (option_map head_of area)) }
+{
+    let Some(area) = area else {
+        return Ok(());
+    };
+    out.extend_from_slice(&area.id.0.to_be_bytes())?;
+    out.push(if area.is_stub { 1 } else { 0 })?;
+    Ok(())
+}
+
+fn put_lsas<A: Allocator + Copy>(
+    out: &mut Vec<u8, A>,
+    places: &[Option<Lsa<A>>],
+) -> Result<(), AllocError>
+    ensures { OnOk result (out.new.items ≡ out.old.items ++ concat (full places.now)) }
+{
+    for place in places {
+        if let Some(lsa) = place {
+            out.extend_from_slice(lsa.bytes())?;
+        }
+    }
+    Ok(())
+}
+
+/// How many LSAs the places hold.
+fn count_of<A: Allocator + Copy>(places: &[Option<Lsa<A>>]) -> usize
+    requires { length (full places.now) < 2 ^ 16 }
+    ensures { result ≡ length (full places.now) }
+{
+    Lsas::of(places).count()
+}
+
+fn put_section<A: Allocator + Copy>(
+    out: &mut Vec<u8, A>,
+    section: &SectionOf<A>,
+) -> Result<(), AllocError>
+    requires { length (full section.now.places.items) < 2 ^ 16 }
+    ensures { OnOk result (out.new.items ≡ out.old.items ++ section_text (section_of (section_places_of section.now))) }
+{
+    put_head(out, section.area)?;
+    let count = count_of(&section.places) as u16;
+    out.extend_from_slice(&count.to_be_bytes())?;
+    put_lsas(out, &section.places)
+}
+
+impl<A: Allocator + Copy> Database<A> {
+    /// The dump of the database. `load` makes the same database of it.
+    pub fn dump(&self) -> Result<Vec<u8, A>, AllocError>
+        ensures { IfOk result (λ v. v.items ≡ text (lists_of self.now)) }
+    {
+        let mut out = Vec::new(self.alloc);
+        out.extend_from_slice(&0x4f535750u32.to_be_bytes())?;
+        out.push(1)?;
+        out.push((self.sections.len() - 1) as u8)?;
+        for section in &self.sections {
+            put_section(&mut out, section)?;
+        }
+        Ok(out)
+    }
+}

@@ -1,0 +1,219 @@
+use super::*;
+use lsa_codec::LsaFault;
+use std::test::*;
+
+/// One ordinary area 0.0.0.0 with the router-LSAs of 1.1.1.1 and 2.2.2.2, and no LSAs of AS scope.
+const DUMP: [u8; 99] = [
+    0x4f, 0x53, 0x57, 0x50, 1, 1, 0, 0, 0, 0, 0, 0, 2, 0x00, 0x01, 0x02, 0x01, 1, 1, 1, 1, 1, 1, 1,
+    1, 0x80, 0, 0, 1, 0xd5, 0x5a, 0, 0x24, 0, 0, 0, 1, 2, 2, 2, 2, 0x0a, 0, 0, 1, 1, 0, 0, 0x0a,
+    0x00, 0x01, 0x02, 0x01, 2, 2, 2, 2, 2, 2, 2, 2, 0x80, 0, 0, 1, 0x62, 0xa7, 0, 0x30, 0, 0, 0, 2,
+    1, 1, 1, 1, 0x0a, 0, 0, 2, 1, 0, 0, 0x0a, 0x0a, 2, 0, 0, 0xff, 0xff, 0, 0, 3, 0, 0, 5, 0, 0,
+];
+
+/// No area, and no LSA.
+const EMPTY: [u8; 8] = [0x4f, 0x53, 0x57, 0x50, 1, 0, 0, 0];
+
+/// Area 0.0.0.0 with the AS-external-LSA of 2.2.2.2 for 10.9.0.0/16, which may not stand there.
+const EXTERNAL_IN_AREA: [u8; 51] = [
+    0x4f, 0x53, 0x57, 0x50, 1, 1, 0, 0, 0, 0, 0, 0, 1, 0x00, 0x01, 0x02, 0x05, 0x0a, 9, 0, 0, 2, 2,
+    2, 2, 0x80, 0, 0, 1, 0x80, 0x23, 0, 0x24, 0xff, 0xff, 0, 0, 0x80, 0, 0, 0x14, 0, 0, 0, 0, 0, 0,
+    0, 0, 0, 0,
+];
+
+/// The same LSA behind no area.
+const EXTERNAL: [u8; 44] = [
+    0x4f, 0x53, 0x57, 0x50, 1, 0, 0, 1, 0x00, 0x01, 0x02, 0x05, 0x0a, 9, 0, 0, 2, 2, 2, 2, 0x80, 0,
+    0, 1, 0x80, 0x23, 0, 0x24, 0xff, 0xff, 0, 0, 0x80, 0, 0, 0x14, 0, 0, 0, 0, 0, 0, 0, 0,
+];
+
+/// Area 0.0.0.1, a stub area, and behind it 0.0.0.0.
+const FALLING: [u8; 22] = [
+    0x4f, 0x53, 0x57, 0x50, 1, 2, 0, 0, 0, 1, 0, 0, 0, 0, 0, 0, 0, 0, 0, 0, 0, 0,
+];
+
+fn fault_of(rt: &impl AllocGlobal, bytes: &[u8]) -> Option<DumpFault> {
+    Database::load(rt.alloc(), bytes).err()
+}
+
+fn at(offset: usize, kind: DumpFaultKind) -> Option<DumpFault> {
+    Some(DumpFault { offset, kind })
+}
+
+#[test]
+fn dumps_what_it_loads(rt: HostRuntime) -> Result<(), Fail> {
+    let database = Database::load(rt.alloc(), &DUMP).ok().ok_or("a dump")?;
+    assert_eq!(rt; database.dump()?.as_slice(), DUMP.as_slice());
+    let database = Database::load(rt.alloc(), &EMPTY).ok().ok_or("a dump")?;
+    assert_eq!(rt; database.dump()?.as_slice(), EMPTY.as_slice());
+    let database = Database::load(rt.alloc(), &EXTERNAL).ok().ok_or("a dump")?;
+    assert_eq!(rt; database.dump()?.as_slice(), EXTERNAL.as_slice());
+    Ok(())
+}
+
+#[test]
+fn finds_the_sections(rt: HostRuntime) -> Result<(), Fail> {
+    let database = Database::load(rt.alloc(), &DUMP).ok().ok_or("a dump")?;
+    assert_eq!(rt; database.section_count(), 2);
+    assert_eq!(rt;
+        database.index_of(Section::Area(lsa_codec::AreaId(0))),
+        Some(0)
+    );
+    assert_eq!(rt; database.index_of(Section::AsWide), Some(1));
+    Ok(())
+}
+
+#[test]
+fn keeps_either_checksum(rt: HostRuntime) -> Result<(), Fail> {
+    let mut bytes = DUMP;
+    bytes[48] = 69;
+    bytes[29] = 0x00;
+    bytes[30] = 0xf4;
+    let database = Database::load(rt.alloc(), &bytes).ok().ok_or("a dump")?;
+    assert_eq!(rt; database.dump()?.as_slice(), bytes.as_slice());
+    bytes[29] = 0xff;
+    let database = Database::load(rt.alloc(), &bytes).ok().ok_or("a dump")?;
+    assert_eq!(rt; database.dump()?.as_slice(), bytes.as_slice());
+    Ok(())
+}
+
+#[test]
+fn tells_faults_of_the_header(rt: HostRuntime) {
+    let mut bytes = DUMP;
+    bytes[0] = 0x50;
+    assert_eq!(rt; fault_of(&rt, &bytes), at(0, DumpFaultKind::BadMagic));
+    let mut bytes = DUMP;
+    bytes[4] = 9;
+    assert_eq!(rt; fault_of(&rt, &bytes), at(4, DumpFaultKind::BadVersion));
+    let mut bytes = DUMP;
+    bytes[5] = 65;
+    assert_eq!(rt; fault_of(&rt, &bytes), at(5, DumpFaultKind::TooManyAreas));
+}
+
+#[test]
+fn tells_where_a_dump_is_cut(rt: HostRuntime) {
+    assert_eq!(rt; fault_of(&rt, &DUMP[..3]), at(0, DumpFaultKind::Truncated));
+    assert_eq!(rt; fault_of(&rt, &[0, 0, 0]), at(0, DumpFaultKind::Truncated));
+    assert_eq!(rt; fault_of(&rt, &DUMP[..4]), at(4, DumpFaultKind::Truncated));
+    assert_eq!(rt; fault_of(&rt, &DUMP[..5]), at(5, DumpFaultKind::Truncated));
+    assert_eq!(rt; fault_of(&rt, &DUMP[..9]), at(6, DumpFaultKind::Truncated));
+    assert_eq!(rt;
+        fault_of(&rt, &DUMP[..10]),
+        at(10, DumpFaultKind::Truncated)
+    );
+    assert_eq!(rt;
+        fault_of(&rt, &DUMP[..12]),
+        at(11, DumpFaultKind::Truncated)
+    );
+    assert_eq!(rt;
+        fault_of(&rt, &DUMP[..60]),
+        at(49, DumpFaultKind::Lsa(LsaFault::Truncated))
+    );
+    assert_eq!(rt;
+        fault_of(&rt, &DUMP[..98]),
+        at(97, DumpFaultKind::Truncated)
+    );
+}
+
+#[test]
+fn tells_bytes_that_are_left(rt: HostRuntime) -> Result<(), Fail> {
+    let mut bytes = Vec::from_slice(rt.alloc(), &DUMP)?;
+    bytes.push(0)?;
+    assert_eq!(rt; fault_of(&rt, &bytes), at(99, DumpFaultKind::TrailingBytes));
+    Ok(())
+}
+
+#[test]
+fn tells_faults_of_areas(rt: HostRuntime) {
+    let mut bytes = DUMP;
+    bytes[10] = 2;
+    assert_eq!(rt; fault_of(&rt, &bytes), at(10, DumpFaultKind::BadAreaKind));
+    bytes[10] = 1;
+    assert_eq!(rt; fault_of(&rt, &bytes), at(10, DumpFaultKind::BackboneStub));
+    assert_eq!(rt; fault_of(&rt, &FALLING), at(13, DumpFaultKind::AreaOrder));
+    assert_eq!(rt;
+        fault_of(&rt, &FALLING[..17]),
+        at(13, DumpFaultKind::AreaOrder)
+    );
+    let mut bytes = DUMP;
+    bytes[11] = 0x20;
+    bytes[12] = 1;
+    assert_eq!(rt; fault_of(&rt, &bytes), at(11, DumpFaultKind::TooManyLsas));
+}
+
+#[test]
+fn tells_faults_of_lsas(rt: HostRuntime) {
+    let mut bytes = DUMP;
+    bytes[12] = 3;
+    assert_eq!(rt;
+        fault_of(&rt, &bytes),
+        at(97, DumpFaultKind::Lsa(LsaFault::Truncated))
+    );
+    let mut bytes = DUMP;
+    bytes[68] = 0x33;
+    assert_eq!(rt;
+        fault_of(&rt, &bytes),
+        at(49, DumpFaultKind::Lsa(LsaFault::Truncated))
+    );
+    bytes[68] = 0x31;
+    assert_eq!(rt;
+        fault_of(&rt, &bytes),
+        at(49, DumpFaultKind::Lsa(LsaFault::Body))
+    );
+    let mut bytes = DUMP;
+    for i in 0..36 {
+        bytes[49 + i] = DUMP[13 + i];
+    }
+    assert_eq!(rt; fault_of(&rt, &bytes), at(49, DumpFaultKind::DuplicateLsa));
+}
+
+#[test]
+fn tells_lsas_in_the_wrong_section(rt: HostRuntime) -> Result<(), Fail> {
+    assert_eq!(rt;
+        fault_of(&rt, &EXTERNAL_IN_AREA),
+        at(13, DumpFaultKind::WrongSection)
+    );
+    let mut bytes = EXTERNAL_IN_AREA;
+    bytes[34] = 0;
+    bytes[35] = 0xff;
+    assert_eq!(rt;
+        fault_of(&rt, &bytes),
+        at(13, DumpFaultKind::Lsa(LsaFault::Mask))
+    );
+    let mut bytes = Vec::from_slice(rt.alloc(), &EMPTY)?;
+    bytes[7] = 1;
+    bytes.extend_from_slice(&DUMP[13..49])?;
+    assert_eq!(rt; fault_of(&rt, &bytes), at(8, DumpFaultKind::WrongSection));
+    Ok(())
+}
+
+#[test]
+fn tells_a_dump_that_is_too_large(rt: HostRuntime) -> Result<(), Fail> {
+    let bytes = vec![in rt.alloc(); 0u8; 16_777_217]?;
+    assert_eq!(rt; fault_of(&rt, &bytes), at(0, DumpFaultKind::TooLarge));
+    assert_eq!(rt; fault_of(&rt, &bytes[1..]), at(0, DumpFaultKind::BadMagic));
+    Ok(())
+}
+
+#[test]
+fn shows_faults(rt: HostRuntime) -> Result<(), Fail> {
+    let alloc = rt.alloc();
+    let fault = DumpFault {
+        offset: 99,
+        kind: DumpFaultKind::TrailingBytes,
+    };
+    assert_eq!(rt;
+        format!(in alloc; "{fault}")?.as_str(),
+        "L4 TrailingBytes at 99"
+    );
+    let fault = DumpFault {
+        offset: 13,
+        kind: DumpFaultKind::Lsa(LsaFault::ZeroCost),
+    };
+    assert_eq!(rt;
+        format!(in alloc; "{fault}")?.as_str(),
+        "L9 Lsa ZeroCost at 13"
+    );
+    assert_eq!(rt; fault.kind.code(), "L9");
+    assert_eq!(rt; fault.kind.name(), "Lsa ZeroCost");
+    Ok(())
+}
