@@ -1,6 +1,6 @@
 //! The what-if studies of a run.
 
-ghost use Rattle.std.specs.Prelude.{◌≡◌, ◌<◌, IfOk, OnOk, OnErr, IsOk, false};
+ghost use Rattle.std.specs.Prelude.{◌≡◌, IfOk, OnOk, OnErr, IsOk, false};
 ghost use Rattle.lsdb.specs.Places.{lists_of};
 ghost use Rattle.lsdb.specs.Text.{text};
 ghost use Rattle.edit_history.specs.Session.{start, state};
@@ -42,7 +42,7 @@ impl<A: Allocator + Copy> Branches<A> {
     /// Carries one command out in a branch. `undo` takes no memory. An error is want of memory, and then no
     /// branch has changed.
     pub fn step(&mut self, branch: u8, command: &Command) -> Result<Reply, AllocError>
-        requires { branch < 8 }
+        requires { branch ≡ 0 }
         ensures reply { IfOk result (λ reply. reply ≡ reply_to self.old command.now) }
         ensures session { OnOk result (self.new ≡ after self.old command.now) }
         ensures kept { OnErr result (self.new ≡ self.old) }
@@ -64,7 +64,7 @@ impl<A: Allocator + Copy> Branches<A> {
 
     /// The dump of a branch's database.
     pub fn dump(&self, branch: u8) -> Result<Vec<u8, A>, AllocError>
-        requires { branch < 8 }
+        requires { branch ≡ 0 }
         ensures { IfOk result (λ dump. dump.items ≡ text (state self.now)) }
     {
         let _ = branch;
