@@ -1,8 +1,8 @@
 -- What a run is answered, from what was read of its inputs.
 use Rattle.std.proofs.Common.{◌≡◌, ◌∙◌, ap, sym, subst, refl, ℕ, ◌<◌, ◌≤◌, List, [], ◌∷◌, ◌++◌, length, Option, None, Some, Ok, Err, arith, rules, inl, inr}
 use Rattle.std.specs.Prelude.{IfSome}
-use Rattle.std.specs.Io.KnownBytes.{Appends}
-use Rattle.std.proofs.KnownBytes.{Appends-nil}
+use Rattle.std.specs.Io.KnownBytes.{Appends, Keeps, IsAtEnd}
+use Rattle.std.proofs.KnownBytes.{Appends-nil, Appends-kept}
 use Rattle.std.proofs.lemmas.Bool.{cond_below}
 use Rattle.lsdb.specs.declared.fault.DumpFault.{DumpFault}
 use Rattle.lsdb.specs.declared.fault.DumpFaultKind.TheVariants as kind
@@ -90,3 +90,19 @@ first_fault (Some bytes) fault other (inr first) = first
 pub known_first : (known : Option (List ℕ)) (read : List ℕ) (fault : DumpFault) → IsAll known read → IsFirst fault (loaded read) → IfSome known (λ bytes. IsFirst fault (loaded bytes))
 known_first None read fault all first = tt
 known_first (Some bytes) read fault all first = subst (λ b. IsFirst fault (loaded b)) all first
+
+-- what is left of a reader at its end
+pub none_unread : (left : Option (List ℕ)) (P : Type 0) → IsAtEnd left → IfSome left (λ rest. 0 < length rest → P)
+none_unread None P end = tt
+none_unread (Some rest) P end = λ more. absurd (omega (arith, more, ap length end))
+
+-- a prefix that was written, and then nothing more
+pub prefix_kept : (a b c : Option (List ℕ)) (whole : List ℕ) → AppendsPrefix a b whole → Keeps b c → AppendsPrefix a c whole
+prefix_kept a b c whole (part, (starts, taken)) kept = (part, (starts, Appends-kept a b c part taken kept))
+
+pub if_prefix_kept : (a b c dump script : Option (List ℕ)) (whole : List ℕ → List ℕ → List ℕ)
+    → IfBoth dump script (λ bytes known. AppendsPrefix a b (whole bytes known)) → Keeps b c
+    → IfBoth dump script (λ bytes known. AppendsPrefix a c (whole bytes known))
+if_prefix_kept a b c None script whole part kept = tt
+if_prefix_kept a b c (Some bytes) None whole part kept = tt
+if_prefix_kept a b c (Some bytes) (Some known) whole part kept = prefix_kept a b c (whole bytes known) part kept

@@ -5,8 +5,8 @@ ghost use Rattle.clap.specs.Words.{app_of, fault_of, first_value, found_of, rule
 ghost use Rattle.ospf_plan.specs.CommandLine.{file_rule, ospf_plan, IsGiven, IsRead};
 ghost use Rattle.ospf_plan.specs.OptionsFaults.{IsRefusal};
 
-use crate::options_fault::OptionsFault;
 use crate::given::Options;
+use crate::options_fault::OptionsFault;
 use clap::{Arg, ArgAction, ArgMatches, Command};
 use std::alloc::{AllocError, Global};
 

@@ -23,7 +23,8 @@ fn status_of(fault: &ExitFault) -> u8
     match *fault {
         ExitFault::Run(RunFault::Dump(fault)) => dump_status(fault),
         ExitFault::Run(RunFault::OutOfMemory) => 5,
-        ExitFault::Run(RunFault::Read | RunFault::Write | RunFault::TooLarge) | ExitFault::Open(_) => 4,
+        ExitFault::Run(RunFault::Read | RunFault::Write | RunFault::TooLarge)
+        | ExitFault::Open(_) => 4,
     }
 }
 

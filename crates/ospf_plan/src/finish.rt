@@ -5,9 +5,9 @@ ghost use Rattle.std.specs.Io.KnownBytes.{Appends, Keeps};
 ghost use Rattle.ospf_plan.specs.Watched.{inner_of, has_failed};
 ghost use Rattle.ospf_plan.specs.WholeText.{AppendsPrefix};
 
-use std::io::Write;
 use crate::watch::Watched;
 use crate::writing::{WriteFault, write_whole};
+use std::io::Write;
 
 /// Writes the dump to `out`, and flushes both writers.
 pub(crate) fn write_and_flush<W: Write, D: Write>(

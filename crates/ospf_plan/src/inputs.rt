@@ -1,6 +1,7 @@
 //! The two inputs of a run: the dump and the script.
 
 ghost use Rattle.std.specs.Prelude.{◌≡◌, ◌≢◌, ◌↔◌, ◌≤◌, ◌+◌, ℕ, List, Option, true, false, Ok, vec_len, IfSome, IfOk, IfErr, OnOk};
+ghost use Rattle.std.specs.Io.KnownBytes.{IsAtEnd};
 ghost use Rattle.ospf_plan.specs.Watched.{inner_of, has_failed};
 ghost use Rattle.ospf_plan.specs.WholeText.{IsAll, IsLonger, ConsumesAtMost};
 ghost use Rattle.lsdb.specs.Loading.{loaded, IsFirst};
@@ -9,11 +10,11 @@ ghost use Rattle.ospf_plan.specs.Inputs.{IsDumpEnd, IsScriptEnd, IsAccepted};
 
 use crate::branches::Branches;
 use crate::fault::RunFault;
+use crate::reading::{ReadFault, read_whole};
+use crate::watch::Watched;
 use lsdb::{Database, DumpFault, DumpFaultKind};
 use std::alloc::Allocator;
 use std::io::Read;
-use crate::reading::{ReadFault, read_whole};
-use crate::watch::Watched;
 
 /// The greatest length of a dump, in octets.
 pub const DUMP_LIMIT: usize = 16_777_216;
@@ -70,6 +71,7 @@ pub(crate) fn read_script<A: Allocator + Copy, S: Read>(
     requires { has_failed script.old ≡ false }
     ensures whole { IfOk result (λ text. IsAll (S.remaining (inner_of script.old)) text.items) }
     ensures within { IfOk result (λ text. vec_len text ≤ SCRIPT_LIMIT) }
+    ensures at_end { OnOk result (IsAtEnd (S.remaining (inner_of script.new))) }
     ensures fault { IfErr result (IsScriptEnd (IsLonger (S.remaining (inner_of script.old)) SCRIPT_LIMIT)) }
     ensures failed { (result ≡ Err RunFault.Read) ↔ (has_failed script.new ≡ true) }
     ensures bounded { ConsumesAtMost (S.remaining (inner_of script.old)) (S.remaining (inner_of script.new)) 1048577 }

@@ -20,11 +20,10 @@ mod reply;
 mod running;
 mod sample;
 mod script;
-mod watch;
-mod writing;
-
 #[cfg(test)]
 mod tests;
+mod watch;
+mod writing;
 
 use clap::Error;
 use command_line::options;
@@ -32,10 +31,9 @@ use exit::exit_line;
 use fault::{ExitFault, RunFault};
 use given::Options;
 use options_fault::OptionsFault;
-use std::env;
-use std::io;
 use std::io::{ErrorKind, Write};
 use std::process::ExitCode;
+use std::{env, io};
 
 /// The line where an argument is no text.
 const BAD_ARGUMENT: &[u8] = b"error: an argument is not UTF-8 text\n";

@@ -1,7 +1,7 @@
 //! The whole run: a dump and a script are read, and the replies and the dump that the script leaves are written.
 
-ghost use Rattle.std.specs.Prelude.{◌≡◌, ◌↔◌, ◌||◌, false, true, None, OnOk, IfOk, IfErr, IfSome};
-ghost use Rattle.std.specs.Io.KnownBytes.{Appends, Keeps};
+ghost use Rattle.std.specs.Prelude.{◌≡◌, ◌↔◌, ◌||◌, ◌<◌, length, false, true, None, OnOk, IfOk, IfErr, IfSome};
+ghost use Rattle.std.specs.Io.KnownBytes.{Appends, Keeps, IsAtEnd};
 ghost use Rattle.ospf_plan.specs.Watched.{inner_of, has_failed};
 ghost use Rattle.ospf_plan.specs.WholeText.{AppendsPrefix, ConsumesAtMost};
 ghost use Rattle.lsdb.specs.Text.{text};
@@ -14,11 +14,11 @@ ghost use Rattle.ospf_plan.specs.Inputs.{IsAccepted};
 use crate::branches::Branches;
 use crate::fault::RunFault;
 use crate::finish::{flush, write_and_flush};
-use crate::inputs::{read_script, read_branches};
+use crate::inputs::{read_branches, read_script};
 use crate::script::{Summary, answer_script};
+use crate::watch::Watched;
 use std::alloc::Allocator;
 use std::io::{Read, Write};
-use crate::watch::Watched;
 
 /// Reads a dump and a script, writes the reply to each line, and then the dump of the end to `out`, where it is given.
 pub fn run<A: Allocator + Copy, R: Read, S: Read, W: Write, D: Write>(
@@ -57,6 +57,9 @@ pub fn run<A: Allocator + Copy, R: Read, S: Read, W: Write, D: Write>(
 
     // What is left alone.
     ensures untouched { IfErr result (λ fault. IsBeforeReplies fault →
+        KeepsBoth (W.contents (inner_of replies.old)) (W.contents (inner_of replies.new))
+        (contents_of D.contents (at_call out.entry)) (contents_of D.contents (at_return out.exit))) }
+    ensures unread { IfSome (S.remaining (inner_of script.new)) (λ rest. 0 < length rest →
         KeepsBoth (W.contents (inner_of replies.old)) (W.contents (inner_of replies.new))
         (contents_of D.contents (at_call out.entry)) (contents_of D.contents (at_return out.exit))) }
     ensures dump_bounded { ConsumesAtMost (R.remaining (inner_of dump.old)) (R.remaining (inner_of dump.new)) 16777217 }
@@ -100,6 +103,8 @@ fn run_with_out<A: Allocator + Copy, R: Read, S: Read, W: Write, D: Write>(
     ensures write { (result ≡ Err RunFault.Write) ↔ ((has_failed replies.new || has_failed out.new) ≡ true) }
     ensures untouched { IfErr result (λ fault. IsBeforeReplies fault →
         KeepsBoth (W.contents (inner_of replies.old)) (W.contents (inner_of replies.new)) (D.contents (inner_of out.old)) (D.contents (inner_of out.new))) }
+    ensures unread { IfSome (S.remaining (inner_of script.new)) (λ rest. 0 < length rest →
+        KeepsBoth (W.contents (inner_of replies.old)) (W.contents (inner_of replies.new)) (D.contents (inner_of out.old)) (D.contents (inner_of out.new))) }
     ensures dump_bounded { ConsumesAtMost (R.remaining (inner_of dump.old)) (R.remaining (inner_of dump.new)) 16777217 }
     ensures script_bounded { ConsumesAtMost (S.remaining (inner_of script.old)) (S.remaining (inner_of script.new)) 1048577 }
 {
@@ -132,6 +137,7 @@ fn run_without_out<A: Allocator + Copy, R: Read, S: Read, W: Write>(
     ensures read { (result ≡ Err RunFault.Read) ↔ ((has_failed dump.new || has_failed script.new) ≡ true) }
     ensures write { (result ≡ Err RunFault.Write) ↔ (has_failed replies.new ≡ true) }
     ensures untouched { IfErr result (λ fault. IsBeforeReplies fault → Keeps (W.contents (inner_of replies.old)) (W.contents (inner_of replies.new))) }
+    ensures unread { IfSome (S.remaining (inner_of script.new)) (λ rest. 0 < length rest → Keeps (W.contents (inner_of replies.old)) (W.contents (inner_of replies.new))) }
     ensures dump_bounded { ConsumesAtMost (R.remaining (inner_of dump.old)) (R.remaining (inner_of dump.new)) 16777217 }
     ensures script_bounded { ConsumesAtMost (S.remaining (inner_of script.old)) (S.remaining (inner_of script.new)) 1048577 }
 {
@@ -165,6 +171,8 @@ fn answer_all<A: Allocator + Copy, R: Read, S: Read, W: Write>(
     ensures read { (result ≡ Err RunFault.Read) ↔ ((has_failed dump.new || has_failed script.new) ≡ true) }
     ensures write { (result ≡ Err RunFault.Write) ↔ (has_failed replies.new ≡ true) }
     ensures untouched { IfErr result (λ fault. IsBeforeReplies fault → Keeps (W.contents (inner_of replies.old)) (W.contents (inner_of replies.new))) }
+    ensures at_end { OnOk result (IsAtEnd (S.remaining (inner_of script.new))) }
+    ensures unread { IfSome (S.remaining (inner_of script.new)) (λ rest. 0 < length rest → Keeps (W.contents (inner_of replies.old)) (W.contents (inner_of replies.new))) }
     ensures dump_bounded { ConsumesAtMost (R.remaining (inner_of dump.old)) (R.remaining (inner_of dump.new)) 16777217 }
     ensures script_bounded { ConsumesAtMost (S.remaining (inner_of script.old)) (S.remaining (inner_of script.new)) 1048577 }
 {

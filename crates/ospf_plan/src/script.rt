@@ -12,12 +12,12 @@ use crate::branches::Branches;
 use crate::fault::RunFault;
 use crate::lines::first_line;
 use crate::reply::{reply_text, script_text};
+use crate::watch::Watched;
+use crate::writing::write_whole;
 use edit_script::{ScriptFault, parse};
 use std::alloc::{AllocError, Allocator, Global};
 use std::io::Write;
 use std::marker::Model;
-use crate::watch::Watched;
-use crate::writing::write_whole;
 
 /// How many lines of a script had a reply, and how many of these were refused, by `refused` or `script`.
 #[derive(Clone, Copy, Debug, PartialEq, Eq)]

@@ -4,18 +4,22 @@ use crate::fault::RunFault;
 use crate::running::run;
 use crate::sample::SAMPLE;
 use crate::script::Summary;
+use crate::watch::Watched;
+use edit_history::{EditFault, RedoFault, UndoFault};
 use edit_script::Edit;
-use lsa_codec::{AreaId, RouterId};
-use lsdb::Database;
+use lsa_codec::{Addr, AreaId, Lsa, Prefix, RouterId};
+use lsdb::{Database, Section};
 use rationed::Rationed;
 use recalculate::Planner;
 use std::alloc::{Allocator, Global};
+use std::ops::Range;
 use std::test::*;
-use crate::watch::Watched;
 
-const SCRIPT: &[u8] = b"cost 0.0.0.0 1.1.1.1 1 65535\n# note\nfrob\ncost 0.0.0.0 1.1.1.1 1 0\nundo 2\nundo 1\n";
+const SCRIPT: &[u8] =
+    b"cost 0.0.0.0 1.1.1.1 1 65535\n# note\nfrob\ncost 0.0.0.0 1.1.1.1 1 0\nundo 2\nundo 1\n";
 
-const REPLIES: &[u8] = b"@0 ok\nscript S2 UnknownWord\n@0 refused E4 ZeroCost\n@0 refused U1 NothingToUndo\n@0 ok\n";
+const REPLIES: &[u8] =
+    b"@0 ok\nscript S2 UnknownWord\n@0 refused E4 ZeroCost\n@0 refused U1 NothingToUndo\n@0 ok\n";
 
 /// A run over memory that writes into room of its own.
 fn answer<A: Allocator + Copy>(
@@ -62,27 +66,74 @@ fn cost(metric: u16) -> Edit {
     }
 }
 
-#[test]
-fn undo_and_redo_take_no_memory(rt: HostRuntime) -> Result<(), Fail> {
-    let ample = Rationed::new(rt.alloc(), u64::MAX);
-    let database = Database::load(&ample, SAMPLE)?;
-    let mut planner = Planner::new(&ample, database);
-    for metric in 1..11 {
+/// The octets of the first LSA of the backbone.
+fn first_lsa<A: Allocator + Copy>(planner: &Planner<A>) -> Option<&[u8]> {
+    let backbone = Section::Area(AreaId(0));
+    let mut lsas = planner.database().lsas(backbone);
+    lsas.next().map(|lsa| lsa.bytes())
+}
+
+/// A planner on a dump, and costs of the first link of 1.1.1.1.
+fn with_costs<A: Allocator + Copy>(
+    alloc: A,
+    dump: &[u8],
+    metrics: Range<u16>,
+) -> Result<Planner<A>, Fail> {
+    let database = Database::load(alloc, dump)?;
+    let mut planner = Planner::new(alloc, database);
+    for metric in metrics {
         planner.edit(&cost(metric))?;
     }
-    let edited = planner.dump()?;
-    let before = ample.left();
+    Ok(planner)
+}
+
+#[test]
+fn undo_and_redo_while_each_growth_is_refused(rt: HostRuntime) -> Result<(), Fail> {
+    let counted = Rationed::new(rt.alloc(), u64::MAX);
+    let ample = with_costs(&counted, SAMPLE, 1..11)?;
+    let edited = first_lsa(&ample);
+    let growths = u64::MAX - counted.left();
+    let rationed = Rationed::new(rt.alloc(), growths);
+    let mut planner = with_costs(&rationed, SAMPLE, 1..11)?;
+    assert_eq!(rt; rationed.left(), 0);
+    assert_eq!(rt; planner.edit(&cost(11)), Err(EditFault::OutOfMemory));
+    assert!(rt; planner.dump().is_err());
     for _ in 0..10 {
-        planner.undo(1)?;
+        assert_eq!(rt; planner.undo(1), Ok(()));
     }
-    assert!(rt; planner.undo(1).is_err());
+    assert_eq!(rt; planner.undo(1), Err(UndoFault::NothingToUndo));
+    assert_eq!(rt; first_lsa(&planner), SAMPLE.get(13..49));
     for _ in 0..10 {
-        planner.redo(1)?;
+        assert_eq!(rt; planner.redo(1), Ok(()));
     }
-    assert!(rt; planner.redo(1).is_err());
-    assert_eq!(rt; ample.left(), before);
-    assert_eq!(rt; planner.dump()?.as_slice(), edited.as_slice());
-    planner.undo(10)?;
-    assert_eq!(rt; planner.dump()?.as_slice(), SAMPLE);
+    assert_eq!(rt; planner.redo(1), Err(RedoFault::NothingToRedo));
+    assert_eq!(rt; first_lsa(&planner), edited);
+    assert_eq!(rt; planner.undo(10), Ok(()));
+    assert_eq!(rt; first_lsa(&planner), SAMPLE.get(13..49));
+    Ok(())
+}
+
+/// The sample with 98 summary-LSAs of 2.2.2.2 behind its router-LSAs: an area of 100 LSAs.
+fn hundred_lsas(alloc: Global) -> Result<Vec<u8>, Fail> {
+    let mut dump = Vec::from_slice(alloc, SAMPLE.get(..97).ok_or("the area")?)?;
+    for n in 0..98u32 {
+        let net = Prefix::masked(Addr(0x0a14_0000 + n * 0x100), 24);
+        let summary = Lsa::new_summary(alloc, 2, RouterId(0x0202_0202), net, 7)?;
+        dump.extend_from_slice(summary.bytes())?;
+    }
+    dump.extend_from_slice(&[0, 0])?;
+    *dump.get_mut(12).ok_or("the count")? = 100;
+    Ok(dump)
+}
+
+#[test]
+fn a_cost_grows_little(rt: HostRuntime) -> Result<(), Fail> {
+    let dump = hundred_lsas(rt.alloc())?;
+    let counted = Rationed::new(rt.alloc(), u64::MAX);
+    let mut planner = with_costs(&counted, &dump, 0..0)?;
+    let loaded = counted.left();
+    planner.edit(&cost(7))?;
+    let growths = loaded - counted.left();
+    assert!(rt; growths <= 16, "{growths} growths");
     Ok(())
 }

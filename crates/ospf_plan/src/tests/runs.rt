@@ -4,12 +4,13 @@ use crate::fault::RunFault;
 use crate::running::run;
 use crate::sample::SAMPLE;
 use crate::script::Summary;
+use crate::watch::Watched;
 use lsdb::{DumpFault, DumpFaultKind};
 use std::alloc::Global;
 use std::test::*;
-use crate::watch::Watched;
 
 /// What a run gives: its result, its replies, and the dump that it wrote.
+#[derive(Drop)]
 struct Ended {
     result: Result<Summary, RunFault>,
     replies: Vec<u8>,
@@ -21,13 +22,7 @@ fn run_on(alloc: Global, dump: &[u8], script: &str) -> Ended {
     let mut script = Watched::new(script.as_bytes());
     let mut replies = Watched::new(Vec::new(alloc));
     let mut out = Watched::new(Vec::new(alloc));
-    let result = run(
-        alloc,
-        &mut dump,
-        &mut script,
-        &mut replies,
-        Some(&mut out),
-    );
+    let result = run(alloc, &mut dump, &mut script, &mut replies, Some(&mut out));
     Ended {
         result,
         replies: replies.into_inner(),
@@ -62,11 +57,7 @@ fn the_empty_database(rt: HostRuntime) -> Result<(), Fail> {
 
 #[test]
 fn a_cost_and_its_undo(rt: HostRuntime) -> Result<(), Fail> {
-    let ended = run_on(
-        rt.alloc(),
-        SAMPLE,
-        "cost 0.0.0.0 1.1.1.1 1 65535\nundo 1\n",
-    );
+    let ended = run_on(rt.alloc(), SAMPLE, "cost 0.0.0.0 1.1.1.1 1 65535\nundo 1\n");
     assert_eq!(rt; ended.result, summary(2, 0));
     assert_eq!(rt; ended.replies.as_slice(), b"@0 ok\n@0 ok\n".as_slice());
     assert_eq!(rt; ended.dump.as_slice(), SAMPLE);
@@ -97,7 +88,8 @@ fn an_undo_restores_the_loaded_checksum(rt: HostRuntime) -> Result<(), Fail> {
 
 #[test]
 fn more_undone_than_done(rt: HostRuntime) -> Result<(), Fail> {
-    let script = "cost 0.0.0.0 1.1.1.1 1 11\ncost 0.0.0.0 1.1.1.1 1 12\nundo 3\nundo 2\ncost 0.0.0.0 1.1.1.1 1 13";
+    let script =
+        "cost 0.0.0.0 1.1.1.1 1 11\ncost 0.0.0.0 1.1.1.1 1 12\nundo 3\nundo 2\ncost 0.0.0.0 1.1.1.1 1 13";
     let ended = run_on(rt.alloc(), SAMPLE, script);
     assert_eq!(rt; ended.result, summary(5, 1));
     assert_eq!(rt;
@@ -110,7 +102,8 @@ fn more_undone_than_done(rt: HostRuntime) -> Result<(), Fail> {
 
 #[test]
 fn refused_costs(rt: HostRuntime) -> Result<(), Fail> {
-    let script = "cost 0.0.0.0 1.1.1.1 1 0\ncost 0.0.0.0 1.1.1.1 2 5\ncost 0.0.0.1 1.1.1.1 1 5\ncost 0.0.0.0 9.9.9.9 1 5\n";
+    let script =
+        "cost 0.0.0.0 1.1.1.1 1 0\ncost 0.0.0.0 1.1.1.1 2 5\ncost 0.0.0.1 1.1.1.1 1 5\ncost 0.0.0.0 9.9.9.9 1 5\n";
     let ended = run_on(rt.alloc(), SAMPLE, script);
     assert_eq!(rt; ended.result, summary(4, 4));
     assert_eq!(rt;
@@ -130,7 +123,8 @@ fn a_stub_may_cost_nothing(rt: HostRuntime) -> Result<(), Fail> {
 
 #[test]
 fn lines_that_are_no_commands(rt: HostRuntime) -> Result<(), Fail> {
-    let script = "# a comment\n\n  \t\nfrob\nundo\nundo 1 2\nundo 01\ncost 0.0.0 1.1.1.1 1 5\n@8 undo 1\nundo 0";
+    let script =
+        "# a comment\n\n  \t\nfrob\nundo\nundo 1 2\nundo 01\ncost 0.0.0 1.1.1.1 1 5\n@8 undo 1\nundo 0";
     let ended = run_on(rt.alloc(), SAMPLE, script);
     assert_eq!(rt; ended.result, summary(7, 6));
     assert_eq!(rt;

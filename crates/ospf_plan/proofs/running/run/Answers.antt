@@ -11,3 +11,6 @@ returns-in-Some-clause-write g c = rw c.in-Some.is c.run_with_out.ensures.write
 
 pub returns-in-Some-clause-untouched : goal.returns-in-Some-clause-untouched
 returns-in-Some-clause-untouched g c = rw c.in-Some.is c.run_with_out.ensures.untouched
+
+pub returns-in-Some-clause-unread : goal.returns-in-Some-clause-unread
+returns-in-Some-clause-unread g c = rw c.in-Some.is c.run_with_out.ensures.unread
