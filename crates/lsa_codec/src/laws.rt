@@ -1,5 +1,5 @@
-//! Laws: what holds of the definitions that the contracts of this crate cite. Each is a function that
-//! does nothing, and its contract is the law.
+//! Laws: what holds of the definitions that the contracts of this crate cite. Each is a function
+//! that does nothing, and its contract is the law.
 
 ghost use Rattle.std.specs.Prelude.{◌≡◌, ◌+◌, ◌-◌, ◌≤◌, ◌<◌, ◌^◌, ◌++◌, ℕ, List, Bool, true, map, not, length, take, drop, Ok};
 ghost use Rattle.std.specs.List.{filter, remove};
@@ -26,8 +26,8 @@ pub fn one_front()
     ensures { (a b x y : List ℕ) → IsAccepted a → IsAccepted b → a ++ x ≡ b ++ y → a ≡ b }
 {}
 
-/// The checksum that is made is good: both sums are 0 modulo 255, and the field is not 0 (RFC 2328,
-/// 12.1.7). It changes the two octets of the field alone.
+/// The checksum that is made is good: both sums are 0 modulo 255, and the field is not 0 (RFC
+/// 2328, 12.1.7). It changes the two octets of the field alone.
 pub fn made_checksum_is_good()
     ensures good { (lsa : List ℕ) → 20 ≤ length lsa → is_checksum_good (with_checksum lsa) ≡ true }
     ensures before { (lsa : List ℕ) → 20 ≤ length lsa → take 16 (with_checksum lsa) ≡ take 16 lsa }
@@ -35,40 +35,48 @@ pub fn made_checksum_is_good()
     ensures size { (lsa : List ℕ) → 20 ≤ length lsa → length (with_checksum lsa) ≡ length lsa }
 {}
 
-/// The links after a removal are the kept ones in order, apart from the offsets at which they stand.
+/// The links after a removal are the kept ones in order, apart from the offsets at which they
+/// stand.
 pub fn links_after_removal()
-    ensures link { (k : ℕ) (lsa made : List ℕ) → IsAccepted lsa → kind_of lsa ≡ 1 → without_link k lsa ≡ Ok made
+    ensures link { (k : ℕ) (lsa made : List ℕ) → IsAccepted lsa → kind_of lsa ≡ 1
+        → without_link k lsa ≡ Ok made
         → map unplaced (links_of made) ≡ map unplaced (remove (links_of lsa) (k - 1)) }
-    ensures links { (test : Link → Bool) (lsa made : List ℕ) → IsAccepted lsa → kind_of lsa ≡ 1 → without_links test lsa ≡ Ok made
-        → map unplaced (links_of made) ≡ map unplaced (filter (λ link. not (test link)) (links_of lsa)) }
+    ensures links { (test : Link → Bool) (lsa made : List ℕ) → IsAccepted lsa → kind_of lsa ≡ 1
+        → without_links test lsa ≡ Ok made
+        → map unplaced (links_of made)
+        ≡ map unplaced (filter (λ link. not (test link)) (links_of lsa)) }
 {}
 
-/// An LSA that a maker makes from another is accepted and has the same key. It is no longer than the
-/// other, but where a stub link is added.
+/// An LSA that a maker makes from another is accepted and has the same key. It is no longer than
+/// the other, but where a stub link is added.
 pub fn makers_keep_the_key()
-    ensures cost { (k metric : ℕ) (lsa made : List ℕ) → IsAccepted lsa → kind_of lsa ≡ 1 → metric < 2 ^ 16
-        → with_cost k metric lsa ≡ Ok made → IsRewriteOf lsa made }
+    ensures cost { (k metric : ℕ) (lsa made : List ℕ) → IsAccepted lsa → kind_of lsa ≡ 1
+        → metric < 2 ^ 16 → with_cost k metric lsa ≡ Ok made → IsRewriteOf lsa made }
     ensures link { (k : ℕ) (lsa made : List ℕ) → IsAccepted lsa → kind_of lsa ≡ 1
         → without_link k lsa ≡ Ok made → IsRewriteOf lsa made }
     ensures links { (test : Link → Bool) (lsa made : List ℕ) → IsAccepted lsa → kind_of lsa ≡ 1
         → without_links test lsa ≡ Ok made → IsRewriteOf lsa made }
-    ensures stub { (net : Net) (metric : ℕ) (lsa made : List ℕ) → IsAccepted lsa → kind_of lsa ≡ 1 → IsNet net
-        → with_stub net metric lsa ≡ Ok made → IsExtensionOf lsa made }
+    ensures stub { (net : Net) (metric : ℕ) (lsa made : List ℕ) → IsAccepted lsa → kind_of lsa ≡ 1
+        → IsNet net → with_stub net metric lsa ≡ Ok made → IsExtensionOf lsa made }
     ensures metric { (metric : ℕ) (lsa : List ℕ) → IsAccepted lsa → has_metric (kind_of lsa) ≡ true
         → IsRewriteOf lsa (with_metric metric lsa) }
 {}
 
-/// A new LSA for a prefix is accepted, has the prefix's address as its Link State ID, and has 28 octets
-/// (a summary-LSA) or 36 (an AS-external-LSA).
+/// A new LSA for a prefix is accepted, has the prefix's address as its Link State ID, and has 28
+/// octets (a summary-LSA) or 36 (an AS-external-LSA).
 pub fn new_lsas_have_their_key()
-    ensures summary { (options : ℕ) (adv : RouterId) (net : Net) (metric : ℕ) → IsNet net → net.addr.0 < 2 ^ 32 → adv.0 < 2 ^ 32
+    ensures summary { (options : ℕ) (adv : RouterId) (net : Net) (metric : ℕ)
+        → IsNet net → net.addr.0 < 2 ^ 32 → adv.0 < 2 ^ 32
         → IsNewLsa 3 net adv 28 (new_summary options adv net metric) }
-    ensures external { (adv : RouterId) (net : Net) (type2 : Bool) (metric : ℕ) (forward : Addr) (tag : ℕ) → IsNet net → net.addr.0 < 2 ^ 32 → adv.0 < 2 ^ 32
+    ensures external { (adv : RouterId) (net : Net) (type2 : Bool) (metric : ℕ)
+        (forward : Addr) (tag : ℕ) → IsNet net → net.addr.0 < 2 ^ 32 → adv.0 < 2 ^ 32
         → IsNewLsa 5 net adv 36 (new_external adv net type2 metric forward tag) }
 {}
 
 /// The masks are exactly those of the lengths up to 32, and each has one length.
 pub fn masks()
-    ensures found { (mask : ℕ) → mask < 2 ^ 32 → is_mask mask ≡ true → (len_of_mask mask ≤ 32) × (mask_of_len (len_of_mask mask) ≡ mask) }
-    ensures back { (len : ℕ) → len ≤ 32 → (is_mask (mask_of_len len) ≡ true) × (len_of_mask (mask_of_len len) ≡ len) }
+    ensures found { (mask : ℕ) → mask < 2 ^ 32 → is_mask mask ≡ true
+        → (len_of_mask mask ≤ 32) × (mask_of_len (len_of_mask mask) ≡ mask) }
+    ensures back { (len : ℕ) → len ≤ 32
+        → (is_mask (mask_of_len len) ≡ true) × (len_of_mask (mask_of_len len) ≡ len) }
 {}

@@ -42,8 +42,8 @@ fn with_metric_of<A: Allocator + Copy>(
 impl<A: Allocator + Copy> Lsa<A> {
     /// The router-LSA with the metric of link `k` replaced, counted from 1, and its checksum made
     /// anew. All other octets stay, and so do the TOS metrics. The LSA is a router-LSA. Errors:
-    /// `NoLink` where there is no link `k`, then `ZeroCost` where the metric is 0 and link `k` leads
-    /// to a router or to a transit network, then `OutOfMemory`.
+    /// `NoLink` where there is no link `k`, then `ZeroCost` where the metric is 0 and link `k`
+    /// leads to a router or to a transit network, then `OutOfMemory`.
     pub fn with_cost(&self, alloc: A, k: u16, metric: u16) -> Result<Lsa<A>, MakeFault>
         requires router { kind_of self.now ≡ 1 }
         ensures made { IfOk result (λ lsa. with_cost k metric self.now ≡ Ok lsa) }

@@ -1,4 +1,5 @@
-//! Summary-LSAs and AS-external-LSAs with another metric, and new ones (RFC 2328, 12.4.3, 12.4.4).
+//! Summary-LSAs and AS-external-LSAs with another metric, and new ones (RFC 2328, 12.4.3,
+//! 12.4.4).
 
 ghost use Rattle.std.specs.Prelude.{◌≡◌, ◌+◌, ◌≤◌, ◌<◌, ◌^◌, ◌++◌, length, true, IfOk, IfErr, Ok};
 ghost use Rattle.lsa_codec.specs.declared.fault.MakeFault.TheVariants.{OutOfMemory};
@@ -103,9 +104,9 @@ fn with_metric<A: Allocator + Copy>(
 }
 
 impl<A: Allocator + Copy> Lsa<A> {
-    /// The summary-LSA or AS-external-LSA with another metric for TOS 0, and its checksum made anew.
-    /// All other octets stay. The LSA is of type 3, 4 or 5, and the metric at most 16,777,215. The
-    /// only error is `OutOfMemory`.
+    /// The summary-LSA or AS-external-LSA with another metric for TOS 0, and its checksum made
+    /// anew. All other octets stay. The LSA is of type 3, 4 or 5, and the metric at most
+    /// 16,777,215. The only error is `OutOfMemory`.
     pub fn with_metric(&self, alloc: A, metric: u32) -> Result<Lsa<A>, MakeFault>
         requires kind { has_metric (kind_of self.now) ≡ true }
         requires metric { metric < 2 ^ 24 }
@@ -117,9 +118,9 @@ impl<A: Allocator + Copy> Lsa<A> {
         Ok(Lsa::accepted(bytes))
     }
 
-    /// A new summary-LSA of type 3 for a prefix, of age 1 and the first sequence number, 0x80000001,
-    /// and without TOS metrics (RFC 2328, 12.4.3). Its Link State ID is the prefix's address. The
-    /// metric is at most 16,777,215. The only error is `OutOfMemory`.
+    /// A new summary-LSA of type 3 for a prefix, of age 1 and the first sequence number,
+    /// 0x80000001, and without TOS metrics (RFC 2328, 12.4.3). Its Link State ID is the prefix's
+    /// address. The metric is at most 16,777,215. The only error is `OutOfMemory`.
     pub fn new_summary(
         alloc: A,
         options: u8,
@@ -136,9 +137,10 @@ impl<A: Allocator + Copy> Lsa<A> {
         Ok(Lsa::accepted(bytes))
     }
 
-    /// A new AS-external-LSA for a prefix, of age 1 and the first sequence number, 0x80000001, with
-    /// bit E alone in its options, and without TOS entries (RFC 2328, 12.4.4). Its Link State ID is
-    /// the prefix's address. The metric is at most 16,777,215. The only error is `OutOfMemory`.
+    /// A new AS-external-LSA for a prefix, of age 1 and the first sequence number, 0x80000001,
+    /// with bit E alone in its options, and without TOS entries (RFC 2328, 12.4.4). Its Link
+    /// State ID is the prefix's address. The metric is at most 16,777,215. The only error is
+    /// `OutOfMemory`.
     pub fn new_external(
         alloc: A,
         adv: RouterId,

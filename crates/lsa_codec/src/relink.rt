@@ -100,13 +100,14 @@ impl<A: Allocator + Copy> Lsa<A> {
         self.with_links(alloc, &kept)
     }
 
-    /// The router-LSA without its point-to-point links to a router. Virtual links to it stay. The LSA
-    /// is a router-LSA. Errors: `NoLink` where it has no such link, then `OutOfMemory`.
+    /// The router-LSA without its point-to-point links to a router. Virtual links to it stay. The
+    /// LSA is a router-LSA. Errors: `NoLink` where it has no such link, then `OutOfMemory`.
     pub fn without_links_to(&self, alloc: A, router: RouterId) -> Result<Lsa<A>, MakeFault>
         requires router { kind_of self.now ≡ 1 }
         ensures made { IfOk result (λ lsa. without_links (leads_to router) self.now ≡ Ok lsa) }
         ensures keeps { IfOk result (λ lsa. IsRewriteOf self.now lsa) }
-        ensures fault { IfErr result (λ fault. IsMakeFaultOf fault (without_links (leads_to router) self.now)) }
+        ensures fault { IfErr result (λ fault.
+            IsMakeFaultOf fault (without_links (leads_to router) self.now)) }
     {
         self.without_links(alloc, Target::Router(router))
     }
@@ -118,7 +119,8 @@ impl<A: Allocator + Copy> Lsa<A> {
         requires router { kind_of self.now ≡ 1 }
         ensures made { IfOk result (λ lsa. without_links (leads_to_net addr) self.now ≡ Ok lsa) }
         ensures keeps { IfOk result (λ lsa. IsRewriteOf self.now lsa) }
-        ensures fault { IfErr result (λ fault. IsMakeFaultOf fault (without_links (leads_to_net addr) self.now)) }
+        ensures fault { IfErr result (λ fault.
+            IsMakeFaultOf fault (without_links (leads_to_net addr) self.now)) }
     {
         self.without_links(alloc, Target::Net(addr))
     }
@@ -128,7 +130,8 @@ impl<A: Allocator + Copy> Lsa<A> {
         requires router { kind_of self.now ≡ 1 }
         ensures made { IfOk result (λ lsa. without_links (is_end_of target) self.now ≡ Ok lsa) }
         ensures keeps { IfOk result (λ lsa. IsRewriteOf self.now lsa) }
-        ensures fault { IfErr result (λ fault. IsMakeFaultOf fault (without_links (is_end_of target) self.now)) }
+        ensures fault { IfErr result (λ fault.
+            IsMakeFaultOf fault (without_links (is_end_of target) self.now)) }
     {
         let Some(router) = self.router() else {
             return Err(MakeFault::NoLink);
@@ -140,9 +143,9 @@ impl<A: Allocator + Copy> Lsa<A> {
         self.with_links(alloc, &kept)
     }
 
-    /// The router-LSA with a stub link to a prefix after its last link, of this metric and without
-    /// TOS metrics. The LSA is a router-LSA. Errors: `TooLong` where it would have more than 65,535
-    /// octets, then `OutOfMemory`.
+    /// The router-LSA with a stub link to a prefix after its last link, of this metric and
+    /// without TOS metrics. The LSA is a router-LSA. Errors: `TooLong` where it would have more
+    /// than 65,535 octets, then `OutOfMemory`.
     pub fn with_stub(&self, alloc: A, net: Prefix, metric: u16) -> Result<Lsa<A>, MakeFault>
         requires router { kind_of self.now ≡ 1 }
         ensures made { IfOk result (λ lsa. with_stub net metric self.now ≡ Ok lsa) }
@@ -199,7 +202,8 @@ fn links_elsewhere<A: Allocator + Copy>(
     alloc: A,
     target: Target,
 ) -> Result<Vec<Link, A>, AllocError>
-    ensures { IfOk result (λ links. links.items ≡ filter (λ link. not (is_end_of target link)) (links_of router.now)) }
+    ensures { IfOk result (λ links.
+        links.items ≡ filter (λ link. not (is_end_of target link)) (links_of router.now)) }
 {
     router
         .links()

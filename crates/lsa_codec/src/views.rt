@@ -1,5 +1,5 @@
-//! LSAs of types 1 to 5 by their fields (RFC 2328, A.4.2 to A.4.5). The views borrow the octets of
-//! the LSA and take no memory.
+//! LSAs of types 1 to 5 by their fields (RFC 2328, A.4.2 to A.4.5). The views borrow the octets
+//! of the LSA and take no memory.
 
 ghost use Rattle.std.specs.Prelude.{◌≡◌, ◌≢◌, ◌≤◌, ◌<◌, ◌+◌, ◌*◌, ◌^◌, length, true, false, MatchOption};
 ghost use Rattle.std.specs.Iterator.{YieldsFirst, item_count};
@@ -51,7 +51,8 @@ impl<'a> Model for NetworkView<'a> {
 
     ghost view = { λ v. v.lsa.now };
 
-    ghost invariant = { λ v. (24 ≤ length v.lsa.now) × (length v.lsa.now < 2 ^ 16) × (is_mask (mask_of v.lsa.now) ≡ true) };
+    ghost invariant = { λ v. (24 ≤ length v.lsa.now) × (length v.lsa.now < 2 ^ 16)
+        × (is_mask (mask_of v.lsa.now) ≡ true) };
 }
 
 /// A summary-LSA, of type 3 (a network) or 4 (an AS boundary router), seen as its octets
@@ -70,7 +71,8 @@ impl<'a> Model for SummaryView<'a> {
 
     ghost view = { λ v. v.lsa.now };
 
-    ghost invariant = { λ v. (28 ≤ length v.lsa.now) × (kind_of v.lsa.now ≡ 3 → is_mask (mask_of v.lsa.now) ≡ true) };
+    ghost invariant = { λ v. (28 ≤ length v.lsa.now)
+        × (kind_of v.lsa.now ≡ 3 → is_mask (mask_of v.lsa.now) ≡ true) };
 }
 
 /// An AS-external-LSA, seen as its octets (RFC 2328, A.4.5).
@@ -94,7 +96,8 @@ impl<'a> Model for ExternalView<'a> {
 impl<A: Allocator + Copy> Lsa<A> {
     /// The LSA as a router-LSA, where it is one, which is type 1.
     pub fn router(&self) -> Option<RouterView<'_>>
-        ensures { MatchOption result (kind_of self.now ≢ 1) (λ view. (view ≡ self.now) × (kind_of self.now ≡ 1) × IsAccepted self.now) }
+        ensures { MatchOption result (kind_of self.now ≢ 1)
+            (λ view. (view ≡ self.now) × (kind_of self.now ≡ 1) × IsAccepted self.now) }
     {
         let lsa = self.bytes();
         if lsa[3] != 1 {
@@ -105,7 +108,8 @@ impl<A: Allocator + Copy> Lsa<A> {
 
     /// The LSA as a network-LSA, where it is one, which is type 2.
     pub fn network(&self) -> Option<NetworkView<'_>>
-        ensures { MatchOption result (kind_of self.now ≢ 2) (λ view. (view ≡ self.now) × (kind_of self.now ≡ 2)) }
+        ensures { MatchOption result (kind_of self.now ≢ 2)
+            (λ view. (view ≡ self.now) × (kind_of self.now ≡ 2)) }
     {
         let lsa = self.bytes();
         if lsa[3] != 2 {
@@ -116,7 +120,8 @@ impl<A: Allocator + Copy> Lsa<A> {
 
     /// The LSA as a summary-LSA, where it is one, which is type 3 or 4.
     pub fn summary(&self) -> Option<SummaryView<'_>>
-        ensures { MatchOption result ((kind_of self.now ≢ 3) × (kind_of self.now ≢ 4)) (λ view. (view ≡ self.now) × (3 ≤ kind_of self.now) × (kind_of self.now ≤ 4)) }
+        ensures { MatchOption result ((kind_of self.now ≢ 3) × (kind_of self.now ≢ 4))
+            (λ view. (view ≡ self.now) × (3 ≤ kind_of self.now) × (kind_of self.now ≤ 4)) }
     {
         let lsa = self.bytes();
         if lsa[3] != 3 && lsa[3] != 4 {
@@ -127,7 +132,8 @@ impl<A: Allocator + Copy> Lsa<A> {
 
     /// The LSA as an AS-external-LSA, where it is one, which is type 5.
     pub fn external(&self) -> Option<ExternalView<'_>>
-        ensures { MatchOption result (kind_of self.now ≢ 5) (λ view. (view ≡ self.now) × (kind_of self.now ≡ 5)) }
+        ensures { MatchOption result (kind_of self.now ≢ 5)
+            (λ view. (view ≡ self.now) × (kind_of self.now ≡ 5)) }
     {
         let lsa = self.bytes();
         if lsa[3] != 5 {
@@ -172,8 +178,8 @@ impl<'a> RouterView<'a> {
 }
 
 impl<'a> NetworkView<'a> {
-    /// The prefix of the network: the Link State ID, which is the Designated Router's address, with
-    /// the bits past the mask set to 0.
+    /// The prefix of the network: the Link State ID, which is the Designated Router's address,
+    /// with the bits past the mask set to 0.
     pub fn net(&self) -> Prefix
         ensures { result ≡ net_of_lsa self.now }
     {
@@ -200,8 +206,8 @@ impl<'a> NetworkView<'a> {
 }
 
 impl<'a> SummaryView<'a> {
-    /// The prefix of the network: the Link State ID, the bits past the mask set to 0. None for an LSA
-    /// of type 4, whose Link State ID is the Router ID of an AS boundary router.
+    /// The prefix of the network: the Link State ID, the bits past the mask set to 0. None for an
+    /// LSA of type 4, whose Link State ID is the Router ID of an AS boundary router.
     pub fn net(&self) -> Option<Prefix>
         ensures { result ≡ net_of_summary self.now }
     {
@@ -211,16 +217,16 @@ impl<'a> SummaryView<'a> {
         Some(net_at(self.lsa))
     }
 
-    /// The mask of the network, ones followed by zeros. In a type 4 LSA it has no meaning and may be
-    /// any number.
+    /// The mask of the network, ones followed by zeros. In a type 4 LSA it has no meaning and may
+    /// be any number.
     pub fn mask(&self) -> u32
         ensures { result ≡ mask_of self.now }
     {
         mask_at(self.lsa)
     }
 
-    /// The cost of the route for TOS 0, a number of 24 bits. 16,777,215 is LSInfinity, which says that
-    /// there is no route (RFC 2328, appendix B).
+    /// The cost of the route for TOS 0, a number of 24 bits. 16,777,215 is LSInfinity, which says
+    /// that there is no route (RFC 2328, appendix B).
     pub fn metric(&self) -> u32
         ensures { result ≡ metric_of self.now }
     {
@@ -250,8 +256,8 @@ impl<'a> ExternalView<'a> {
         self.lsa[24] >= 128
     }
 
-    /// The cost of the route for TOS 0, a number of 24 bits. 16,777,215 is LSInfinity, which says that
-    /// there is no route (RFC 2328, appendix B).
+    /// The cost of the route for TOS 0, a number of 24 bits. 16,777,215 is LSInfinity, which says
+    /// that there is no route (RFC 2328, appendix B).
     pub fn metric(&self) -> u32
         ensures { result ≡ metric_of self.now }
     {
@@ -298,8 +304,8 @@ fn metric_at(lsa: &[u8]) -> u32
     u24_at(lsa, 25)
 }
 
-/// An iterator over the Router IDs in a network-LSA, in the order in which they stand. It takes no
-/// memory, and is seen as the list of those that are left.
+/// An iterator over the Router IDs in a network-LSA, in the order in which they stand. It takes
+/// no memory, and is seen as the list of those that are left.
 #[derive(Drop)]
 pub struct Attached<'a> {
     lsa: &'a [u8],
@@ -317,7 +323,8 @@ impl<'a> Model for Attached<'a> {
 
     ghost view = { λ s. routers_from s.left s.offset s.lsa.now };
 
-    ghost invariant = { λ s. (s.offset + 4 * s.left ≤ length s.lsa.now) × (length s.lsa.now < 2 ^ 16) };
+    ghost invariant = { λ s. (s.offset + 4 * s.left ≤ length s.lsa.now)
+        × (length s.lsa.now < 2 ^ 16) };
 }
 
 impl<'a> Iterator for Attached<'a> {
