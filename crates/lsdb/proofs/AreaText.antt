@@ -1,5 +1,5 @@
 -- The areas: what is read is spelled so, and what is spelled so is read.
-use Rattle.std.proofs.Common.{◌≡◌, ◌≢◌, ℕ, zero, suc, ◌+◌, ◌^◌, ◌<◌, ◌≤◌, Bool, true, false, cond, ltb, eqb, ◌&&◌, List, [], ◌∷◌, ◌++◌, length, map, get_or, Option, Some, None, Result, Ok, Err, refl, sym, ap, subst, ◌∙◌, append_assoc, arith, inl, inr}
+use Rattle.std.proofs.Common.{◌≡◌, ℕ, zero, suc, ◌+◌, ◌^◌, ◌<◌, ◌≤◌, Bool, true, false, cond, ltb, eqb, ◌&&◌, List, [], ◌∷◌, ◌++◌, length, get_or, Option, Some, None, Result, Ok, Err, refl, sym, ap, subst, ◌∙◌, append_assoc, arith, inl, inr}
 use Rattle.std.specs.Prelude.{All, AllPairs}
 use Rattle.std.specs.List.{flat_map}
 use Rattle.std.specs.Int.{w8, w16, w32, to_be_bytes}
@@ -16,7 +16,7 @@ use Rattle.lsdb.specs.Loading.{◌>>=◌, At, number_at, is_above, section_at, i
 use Rattle.lsdb.proofs.Middle.{pairs_head, pairs_tail}
 use Rattle.lsdb.proofs.Dominated.{section_with}
 use Rattle.lsdb.proofs.Fields.{IsBytes, bind_ok, guard_ok, passed_ok, ok_is, done, told, Takes, Takes-then, wide8, wide32, number_takes, number_again, here}
-use Rattle.lsdb.proofs.SectionText.{lsas_text, TakesSection, section_takes, section_again}
+use Rattle.lsdb.proofs.SectionText.{lsas_text, section_takes, section_again}
 
 -- ---- the ID
 

@@ -1,11 +1,11 @@
 -- Reading LSAs and areas one after another, as a loop does.
-use Rattle.std.proofs.Common.{◌≡◌, ℕ, zero, suc, ◌-◌, ◌+◌, ◌≤◌, ◌<◌, Bool, true, false, cond, List, [], ◌∷◌, ◌++◌, Option, Result, Ok, Err, refl, sym, ap, ◌∙◌, arith}
+use Rattle.std.proofs.Common.{◌≡◌, ℕ, suc, ◌-◌, ◌+◌, ◌≤◌, ◌<◌, true, false, List, [], ◌∷◌, ◌++◌, Option, Result, Ok, Err, refl, sym, ◌∙◌, arith}
 use Rattle.lsdb.specs.declared.fault.DumpFault.{DumpFault}
 use Rattle.lsdb.specs.declared.fault.DumpFaultKind.TheVariants.{DuplicateLsa}
 use Rattle.lsdb.specs.declared.fault.ReadError.{ReadError}
 use Rattle.lsdb.specs.declared.fault.ReadError.TheVariants as errors
 use Rattle.lsdb.specs.Lists.{AreaHead, SectionLsas, Lists}
-use Rattle.lsdb.specs.Loading.{◌>>=◌, At, Fails, lsa_at, lsas_from, area_at, areas_from, has_key_of, fault}
+use Rattle.lsdb.specs.Loading.{At, Fails, lsa_at, lsas_from, area_at, areas_from, has_key_of, fault}
 
 abbrev pub AfterLsas : Type 0
 AfterLsas = Result (List (List ℕ) × At) DumpFault

@@ -1,5 +1,5 @@
 -- The LSAs of a section: what is read is spelled so, and what is spelled so is read.
-use Rattle.std.proofs.Common.{◌≡◌, ◌≢◌, ℕ, zero, suc, ◌+◌, ◌^◌, ◌<◌, ◌≤◌, Bool, true, false, cond, ltb, ◌&&◌, List, [], ◌∷◌, ◌++◌, length, map, drop, Option, Some, None, Result, Ok, Err, refl, sym, ap, subst, ◌∙◌, append_assoc, arith}
+use Rattle.std.proofs.Common.{◌≡◌, ◌≢◌, ℕ, zero, suc, ◌+◌, ◌^◌, ◌<◌, ◌≤◌, Bool, true, false, cond, ltb, List, [], ◌∷◌, ◌++◌, length, map, Option, Result, Ok, Err, refl, sym, ap, subst, ◌∙◌, append_assoc, arith}
 use Rattle.std.specs.Prelude.{All, AllPairs}
 use Rattle.std.specs.List.{concat, list_any}
 use Rattle.std.specs.Int.{w16, to_be_bytes}
@@ -16,7 +16,7 @@ use Rattle.lsa_codec.specs.Decoding.{decoded}
 use Rattle.lsa_codec.proofs.Complete.{decoded_again, decoded_front}
 use Rattle.lsdb.specs.declared.fault.DumpFault.{DumpFault}
 use Rattle.lsdb.specs.declared.fault.DumpFaultKind.TheVariants.{WrongSection, DuplicateLsa, TooManyLsas}
-use Rattle.lsdb.specs.Lists.{AreaHead, SectionLsas, AreKeys, IsSection, is_in_scope, limit_of, same_key, has_key}
+use Rattle.lsdb.specs.Lists.{AreaHead, SectionLsas, IsSection, is_in_scope, limit_of, same_key, has_key}
 use Rattle.lsdb.specs.Loading.{◌>>=◌, At, number_at, advanced, has_key_of, placed, lsa_at, lsas_from, counted_at, section_at}
 use Rattle.lsdb.proofs.Middle.{all_at_mid, pairs_before, map_mid}
 use Rattle.lsdb.proofs.Dominated.{section_with}

@@ -1,5 +1,5 @@
 -- The text that is written section by section.
-use Rattle.std.proofs.Common.{◌≡◌, ℕ, zero, suc, ◌+◌, ◌^◌, ◌<◌, ◌≤◌, List, [], ◌∷◌, ◌++◌, length, get_or, take, map, refl, sym, ap, ◌∙◌, append_assoc, arith, Option, Some, None}
+use Rattle.std.proofs.Common.{◌≡◌, ℕ, zero, suc, ◌^◌, ◌<◌, ◌≤◌, List, [], ◌∷◌, ◌++◌, length, get_or, take, refl, sym, ap, ◌∙◌, append_assoc, arith, Option, Some, None}
 use Rattle.std.specs.Prelude.{All}
 use Rattle.std.specs.Int.{w8, w32, to_be_bytes}
 use Rattle.std.specs.List.{flat_map}
@@ -8,7 +8,7 @@ use Rattle.std.proofs.lemmas.List.Concat.{flat_map-append, flat_map-cons}
 use Rattle.std.proofs.lemmas.List.Elements.{All-head, All-tail}
 use Rattle.lsa_codec.specs.Key.{key_of}
 use Rattle.lsdb.specs.declared.database.SectionOf.{SectionOf}
-use Rattle.lsdb.specs.Lists.{AreaHead, SectionLsas, Lists, IsSection, IsDatabase, limit_of}
+use Rattle.lsdb.specs.Lists.{AreaHead, Lists, IsSection, IsDatabase, limit_of}
 use Rattle.lsdb.specs.Places.{item_at, lists_of}
 use Rattle.lsdb.specs.View.{places_of}
 use Rattle.lsdb.specs.Text.{magic, version, section_text, area_count, text}

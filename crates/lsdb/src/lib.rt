@@ -35,3 +35,5 @@ pub use slot::{SlotFault, SlotId};
 
 #[cfg(test)]
 mod dump_tests;
+#[cfg(test)]
+mod place_tests;

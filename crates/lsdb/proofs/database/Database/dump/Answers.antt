@@ -1,4 +1,4 @@
-use Rattle.std.proofs.Common.{arith, ◌≡◌, ◌++◌, sym, subst, take, List, ℕ, suc, ◌+◌}
+use Rattle.std.proofs.Common.{arith, ◌≡◌, ◌++◌, sym, subst, take, ℕ, ◌+◌}
 use Rattle.std.specs.List.{flat_map}
 use Rattle.lsdb.specs.Places.{Places, lists_of}
 use Rattle.lsdb.specs.Text.{text, area_count, section_text}

@@ -1,4 +1,4 @@
-use Rattle.std.proofs.Common.{◌≡◌, ◌∙◌, arith, ap, length, subst, sym, List, ℕ}
+use Rattle.std.proofs.Common.{◌≡◌, ◌∙◌, arith, ap, length, subst, sym}
 use Rattle.lsdb.specs.Lists.{Lists}
 use Rattle.lsdb.specs.Places.{Places, lists_of}
 use Rattle.lsdb.specs.View.{places_of}
