@@ -74,13 +74,8 @@ impl<A: Allocator + Copy> Planner<A> {
         if self.history.done() >= MOST_EDITS {
             return Err(EditFault::HistoryFull);
         }
-        if self.history.reserve().is_err() {
-            return Err(EditFault::OutOfMemory);
-        }
-        let entry = match apply(&mut self.database, edit) {
-            Ok(entry) => entry,
-            Err(fault) => return Err(fault),
-        };
+        self.history.reserve()?;
+        let entry = apply(&mut self.database, edit)?;
         self.history.push(entry);
         self.database.known();
         Ok(())
