@@ -1,6 +1,6 @@
 -- Another metric for a link: one router-LSA is rewritten.
 use Rattle.std.proofs.Common.{◌≡◌, ◌≢◌, ℕ, Bool, true, false, ◌&&◌, List, [], ◌∷◌, ◌++◌, Option, Some, None, Result, Ok, Err, refl, sym, ap, ◌∙◌, subst, rules}
-use Rattle.std.specs.Prelude.{All, AllPairs, IsSome, unwrap_or, if◌then◌else◌}
+use Rattle.std.specs.Prelude.{All, AllPairs, IsSome, unwrap_or, if◌then◌else◌, IsOk}
 use Rattle.std.specs.List.{find}
 use Rattle.std.proofs.lemmas.Bool.{eqb-true}
 use Rattle.lsa_codec.specs.declared.address.AreaId.{AreaId}
@@ -19,6 +19,7 @@ use Rattle.lsdb.specs.Places.{Place, Places, item_at, slot_at, put, lists_of, ls
 use Rattle.lsdb.proofs.Slots.{slot_at-put}
 use Rattle.lsdb.proofs.Middle.{all_at_mid}
 use Rattle.lsdb.proofs.Dominated.{section_with, between, put_safe}
+use Rattle.edit_script.specs.declared.edit.Edit.{Edit}
 use Rattle.edit_script.specs.declared.edit.Edit.TheVariants.{Cost}
 use Rattle.edit_history.specs.declared.fault.EditFault.{EditFault}
 use Rattle.edit_history.specs.declared.fault.EditFault.TheVariants.{NoArea, NoRouter, OutOfMemory}
@@ -32,12 +33,12 @@ use Rattle.edit_history.proofs.Ruled.{TouchesOne, one_after, one_change}
 
 -- ---- refusals
 
-abbrev refused : EditFault → Result Rule EditFault
-refused fault = Err fault
-
 -- an edit without a rule has no effect
 effect_refused : (db : Lists) (area : AreaId) (router : RouterId) (link metric : ℕ) (fault : EditFault) → rule_of db (Cost area router link metric) ≡ Err fault → effect db (Cost area router link metric) ≡ Err fault
 effect_refused db area router link metric fault h = ap (λ (r : Result Rule EditFault). r >>= λ rule. let after : Result Lists EditFault = Ok (lists_after rule db) in after) h
+
+pub refused_as : (d : Places) (edit : Edit) (fault : EditFault) → fault ≢ OutOfMemory → effect (lists_of d) edit ≡ Err fault → IsRefused d edit fault
+refused_as d edit fault other is = record { known = λ _. is; memory = λ e. absurd (other e) }
 
 pub no_area : (db : Lists) (area : AreaId) (router : RouterId) (link metric : ℕ) → find (is_section (Area area)) db ≡ None → effect db (Cost area router link metric) ≡ Err NoArea
 unfolding rule_of
@@ -73,22 +74,46 @@ found d area router section key slot lsa is some named same place at =
 pub found_kind : (d : Places) (area : AreaId) (router : RouterId) (slot : SlotId) (lsa : List ℕ) → Found d area router slot lsa → kind_of lsa ≡ 1
 found_kind d area router slot lsa f = ap (λ (k : Key). k.kind) (same_key_true (key_of lsa) (router_key router.0) (found_passes (has_key (router_key router.0)) f.section.lsas lsa f.first))
 
-made_fault : (fault : MakeFault) (answer : Result (List ℕ) MakeFault) → IsMakeFaultOf fault answer → fault_of fault ≢ OutOfMemory → made answer ≡ Err (fault_of fault)
-made_fault make.NoLink answer is h = ap made is
-made_fault make.ZeroCost answer is h = ap made is
-made_fault make.TooLong answer is h = ap made is
-made_fault make.OutOfMemory answer is h = absurd (h refl)
-
 rule_found : (d : Places) (area : AreaId) (router : RouterId) (link metric : ℕ) (slot : SlotId) (lsa : List ℕ) → Found d area router slot lsa
     → rule_of (lists_of d) (Cost area router link metric) ≡ (made (with_cost link metric lsa) >>= λ new. Ok (rewriting area.0 (router_key router.0) new))
 unfolding rule_of
 rule_found d area router link metric slot lsa f = rw f.areas (rw f.first refl)
 
+abbrev cost_effect : Lists → AreaId → RouterId → Result (List ℕ) MakeFault → Result Lists EditFault
+cost_effect db area router answer = made answer >>= λ new. Ok (lists_after (rewriting area.0 (router_key router.0) new) db)
+
+effect_found : (d : Places) (area : AreaId) (router : RouterId) (link metric : ℕ) (slot : SlotId) (lsa : List ℕ) → Found d area router slot lsa
+    → effect (lists_of d) (Cost area router link metric) ≡ cost_effect (lists_of d) area router (with_cost link metric lsa)
+effect_found d area router link metric slot lsa f =
+    ap (λ (r : Result Rule EditFault). r >>= λ rule. let after : Result Lists EditFault = Ok (lists_after rule (lists_of d)) in after) (rule_found d area router link metric slot lsa f)
+    ∙ by_answer (with_cost link metric lsa) where
+      by_answer : (answer : Result (List ℕ) MakeFault) → ((made answer >>= λ new. Ok (rewriting area.0 (router_key router.0) new)) >>= λ rule. Ok (lists_after rule (lists_of d))) ≡ cost_effect (lists_of d) area router answer
+      by_answer (Ok new) = refl
+      by_answer (Err fault) = refl
+
+-- where the new LSA was made, the edit has an effect
+effect_made : (db : Lists) (area : AreaId) (router : RouterId) (answer : Result (List ℕ) MakeFault) → IsOk answer → IsOk (cost_effect db area router answer)
+effect_made db area router (Ok new) made = refl
+effect_made db area router (Err fault) made = absurd (search rules)
+
 pub no_cost : (d : Places) (area : AreaId) (router : RouterId) (link metric : ℕ) (slot : SlotId) (lsa : List ℕ) (fault : MakeFault) → Found d area router slot lsa → IsMakeFaultOf fault (with_cost link metric lsa)
     → IsRefused d (Cost area router link metric) (fault_of fault)
-no_cost d area router link metric slot lsa fault f is =
-    λ h. effect_refused (lists_of d) area router link metric (fault_of fault)
-    (rule_found d area router link metric slot lsa f ∙ ap (λ (a : Result (List ℕ) EditFault). a >>= λ new. Ok (rewriting area.0 (router_key router.0) new)) (made_fault fault (with_cost link metric lsa) is h))
+no_cost d area router link metric slot lsa fault f is = by_fault fault is where
+  refused_so : (fault : MakeFault) → fault_of fault ≢ OutOfMemory → with_cost link metric lsa ≡ Err fault → IsRefused d (Cost area router link metric) (fault_of fault)
+  refused_so fault other is = refused_as d (Cost area router link metric) (fault_of fault) other (effect_found d area router link metric slot lsa f ∙ ap (cost_effect (lists_of d) area router) is)
+
+  by_fault : (fault : MakeFault) → IsMakeFaultOf fault (with_cost link metric lsa) → IsRefused d (Cost area router link metric) (fault_of fault)
+  by_fault make.NoLink is = refused_so make.NoLink (λ e. cc) is
+  by_fault make.ZeroCost is = refused_so make.ZeroCost (λ e. cc) is
+  by_fault make.TooLong is = refused_so make.TooLong (λ e. cc) is
+  by_fault make.OutOfMemory is = record {
+    known = λ other. absurd (other refl);
+    memory = λ _. subst (λ (r : Result Lists EditFault). IsOk r) (sym (effect_found d area router link metric slot lsa f)) (effect_made (lists_of d) area router (with_cost link metric lsa) is);
+  }
+
+-- memory ran out behind the new LSA
+pub no_swap : (d : Places) (edit : Edit) (swaps : List SwapData) → CarriesOut d edit swaps → IsRefused d edit OutOfMemory
+no_swap d edit swaps plan = record { known = λ other. absurd (other refl); memory = λ _. subst (λ (r : Result Lists EditFault). IsOk r) (sym plan.leads) refl }
 
 -- ---- the plan
 
@@ -136,7 +161,7 @@ one_told here section kind old now x new p q before after =
     ∙ ap (λ (o : Option Place). change_at section kind o now) before
     ∙ ap (λ (o : Option Place). change_at section kind (Some (Some x)) o) after
 
-abbrev cost_swap : SlotId → AreaId → List ℕ → SwapData
+abbrev pub cost_swap : SlotId → AreaId → List ℕ → SwapData
 cost_swap slot area new = record { slot = slot; section = Area area; kind = 1; other = Some new }
 
 abbrev after_rule : Lists → Result Rule EditFault → Result Lists EditFault

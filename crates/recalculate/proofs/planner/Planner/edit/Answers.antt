@@ -16,8 +16,8 @@ returns-in_err-entry-clause-refused g c =
     let gave = err_from_is_err_and c.from_residual-in_err-entry.result c.from_residual-in_err-entry.ensures.1 in
     rw (gave.1, gave.2)
     (λ known.
-        ap (λ (s : Session). edited s c.args.edit.now) (sym c.self.view_is)
-        ∙ edited_refused c.self.inside.database c.self.inside.history.lists c.args.edit.now c.in_err-entry.field-0.0 (omega (arith, c.done.ensures, c.if-done-ge-MOST_EDITS.false)) c.self.invariant (c.in_err-entry.ensures.refused known))
+    ap (λ (s : Session). edited s c.args.edit.now) (sym c.self.view_is)
+    ∙ edited_refused c.self.inside.database c.self.inside.history.lists c.args.edit.now c.in_err-entry.field-0.0 (omega (arith, c.done.ensures, c.if-done-ge-MOST_EDITS.false)) c.self.invariant (c.in_err-entry.ensures.refused.known known))
 
 pub invariant_of-self-2 : goal.invariant_of-self-2
 invariant_of-self-2 g c =
