@@ -35,7 +35,7 @@ impl<A: Allocator + Copy> Planner<A> {
     ghost use Rattle.std.specs.Prelude.{◌≡◌, ◌≢◌, ◌≤◌, ◌↔◌, Ok, Err, length, IsOk, OnOk, OnErr, IfErr, IsErrOf};
     ghost use Rattle.lsdb.specs.Places.{lists_of};
     ghost use Rattle.edit_history.specs.declared.fault.EditFault.TheVariants.{HistoryFull, OutOfMemory};
-    ghost use Rattle.edit_history.specs.Session.{start, state, most_edits, edited, moved_back, moved_on};
+    ghost use Rattle.edit_history.specs.Session.{start, state, effects, most_edits, edited, moved_back, moved_on};
 
     /// The session that begins at a database: no edit is done, and none is undone. It takes no
     /// memory.
@@ -50,10 +50,12 @@ impl<A: Allocator + Copy> Planner<A> {
         }
     }
 
-    /// The database: the effect of the done edits, in order, on the one that the session began at.
-    #[tactic(auto, using(edit_history::proofs::Growing::state_is))]
+    /// The database: the effects of the done edits, in order, on the one that the session began at.
+    /// None of them is refused on the way.
+    #[tactic(auto, using(edit_history::proofs::Growing::state_is, edit_history::proofs::Folding::done_accepted))]
     pub fn database(&self) -> &Database<A>
-        ensures { lists_of result.now ≡ state self.now }
+        ensures state { lists_of result.now ≡ state self.now }
+        ensures accepted { effects self.now.base self.now.done ≡ Ok (lists_of result.now) }
     {
         &self.database
     }
