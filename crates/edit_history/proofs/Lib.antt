@@ -7,6 +7,8 @@ pub mod Growing
 pub mod Keys
 pub mod Ruled
 pub mod Carried
+pub mod Finding
+pub mod Rewriting
 pub mod Costs
 pub mod Returning
 pub mod Telling

@@ -1,5 +1,5 @@
 -- What carrying out an edit leaves, and what its record tells.
-use Rattle.std.specs.Prelude.{◌≡◌, ◌≢◌, List, length, map, unwrap_or, None, Ok, Err}
+use Rattle.std.specs.Prelude.{◌≡◌, ◌≢◌, List, length, map, unwrap_or, None, Ok, Err, IsOk}
 use Rattle.lsa_codec.specs.declared.address.AreaId.{AreaId}
 use Rattle.lsdb.specs.Places.{Places, slot_at, lists_of}
 use Rattle.edit_script.specs.declared.edit.Edit.{Edit}
@@ -35,9 +35,10 @@ pub record Applied (d e : Places) (edit : Edit) (r : RecordData) : Type 0 where
   pub can : CanUndo e r.swaps
   pub before : Grown d (undone_places e r.swaps)
 
--- the edit is refused so, unless memory ran out
-abbrev pub IsRefused : Places → Edit → EditFault → Type 0
-IsRefused d edit fault = fault ≢ OutOfMemory → effect (lists_of d) edit ≡ Err fault
+-- the edit is refused so; memory ran out only for an edit that would be carried out
+pub record IsRefused (d : Places) (edit : Edit) (fault : EditFault) : Type 0 where
+  pub known : fault ≢ OutOfMemory → effect (lists_of d) edit ≡ Err fault
+  pub memory : fault ≡ OutOfMemory → IsOk (effect (lists_of d) edit)
 
 -- the record counts the changes, and touches the areas that they touch
 pub record Tells (r : RecordData) (cs : List Change) : Type 0 where

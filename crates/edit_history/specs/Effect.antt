@@ -2,6 +2,7 @@
 use Rattle.std.specs.Prelude.{ℕ, ◌==◌, ◌&&◌, ◌||◌, Bool, false, List, Option, Some, None, Result, Ok, Err, if◌then◌else◌}
 use Rattle.std.specs.List.{list_any, find}
 use Rattle.lsa_codec.specs.declared.address.AreaId.{AreaId}
+use Rattle.lsa_codec.specs.declared.address.RouterId.{RouterId}
 use Rattle.lsa_codec.specs.declared.key.Key.{Key}
 use Rattle.lsa_codec.specs.declared.fault.MakeFault.{MakeFault}
 use Rattle.lsa_codec.specs.Making.{with_cost}
@@ -38,6 +39,12 @@ made (Err fault) = Err (fault_of fault)
 abbrev pub router_key : ℕ → Key
 router_key router = record { kind = 1; id = record { 0 = router }; adv = record { 0 = router } }
 
+-- the router-LSA of a router in an area, or the refusal
+abbrev pub router_lsa_of : Lists → AreaId → RouterId → Result (List ℕ) EditFault
+router_lsa_of db area router = do
+  section ← or_refused NoArea (find (is_section (Area area)) db)
+  or_refused NoRouter (find (has_key (router_key router.0)) section.lsas)
+
 -- the LSA of a key in an area gets other octets
 abbrev pub rewriting : ℕ → Key → List ℕ → Rule
 rewriting area key new = λ head lsa. if has_id area head && has_key key lsa then rewritten new else stays
@@ -45,8 +52,7 @@ rewriting area key new = λ head lsa. if has_id area head && has_key key lsa the
 -- the first refusal of an edit, or its rule
 unfoldable pub rule_of : Lists → Edit → Result Rule EditFault
 rule_of db (Cost area router link metric) = do
-  section ← or_refused NoArea (find (is_section (Area area)) db)
-  lsa ← or_refused NoRouter (find (has_key (router_key router.0)) section.lsas)
+  lsa ← router_lsa_of db area router
   new ← made (with_cost link metric lsa)
   Ok (rewriting area.0 (router_key router.0) new)
 

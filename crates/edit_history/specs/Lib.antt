@@ -4,5 +4,6 @@ pub mod Effect
 pub mod Exchange
 pub mod Grown
 pub mod Applied
+pub mod Plans
 pub mod Journal
 pub mod Session

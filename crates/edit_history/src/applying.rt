@@ -15,8 +15,9 @@ use std::alloc::Allocator;
 /// The first refusal in the order of [`EditFault`] is answered: for an edit of a cost
 /// [`NoArea`](EditFault::NoArea), [`NoRouter`](EditFault::NoRouter),
 /// [`NoLink`](EditFault::NoLink), then [`ZeroCost`](EditFault::ZeroCost).
-/// [`OutOfMemory`](EditFault::OutOfMemory) comes where memory ran out. All memory is taken before
-/// the first LSA is exchanged, and after a refusal the database is as it was.
+/// [`OutOfMemory`](EditFault::OutOfMemory) comes only for an edit that would be carried out, where
+/// memory ran out. All memory is taken before the first LSA is exchanged, and after a refusal the
+/// database is as it was.
 pub fn apply<A: Allocator + Copy>(
     database: &mut Database<A>,
     edit: &Edit,

@@ -4,29 +4,14 @@
 ghost use Rattle.std.specs.Prelude.{◌≡◌, ◌∷◌, [], IfOk, IfErr};
 ghost use Rattle.edit_script.specs.declared.edit.Edit.TheVariants.{Cost};
 ghost use Rattle.edit_history.specs.Applied.{CarriesOut, IsRefused};
-ghost use Rattle.edit_history.specs.Effect.{router_key};
-ghost use Rattle.edit_history.specs.declared.fault.EditFault.TheVariants.{OutOfMemory};
 
 use crate::fault::EditFault;
+use crate::lookup::{ROUTER_LSA, router_lsa};
 use crate::swap::Swap;
 use edit_script::Edit;
-use lsa_codec::{Addr, AreaId, Key, RouterId};
+use lsa_codec::{AreaId, RouterId};
 use lsdb::{Database, Section};
 use std::alloc::{AllocError, Allocator};
-
-/// The LS type of router-LSAs (RFC 2328, A.4.1).
-const ROUTER_LSA: u8 = 1;
-
-/// The key of a router's router-LSA (RFC 2328, 12.1.4).
-fn router_key(router: RouterId) -> Key
-    ensures { result ≡ router_key router.0 }
-{
-    Key {
-        kind: ROUTER_LSA,
-        id: Addr(router.0),
-        adv: router,
-    }
-}
 
 /// The plan of a single swap.
 fn one_swap<A: Allocator + Copy>(alloc: A, swap: Swap<A>) -> Result<Vec<Swap<A>, A>, AllocError>
@@ -50,18 +35,9 @@ fn plan_cost<A: Allocator + Copy>(
     ensures refused { IfErr result (λ f. IsRefused database.now (Cost area router link metric) f) }
 {
     database.known();
-    let section = Section::Area(area);
-    let Some(index) = database.index_of(section) else {
-        return Err(EditFault::NoArea);
-    };
-    let Some(slot) = database.find_in(index, router_key(router)) else {
-        return Err(EditFault::NoRouter);
-    };
-    let Some(lsa) = database.get(slot) else {
-        return Err(EditFault::NoRouter);
-    };
+    let (slot, lsa) = router_lsa(database, area, router)?;
     let new = lsa.with_cost(database.alloc(), link, metric)?;
-    let swap = Swap::new(slot, section, ROUTER_LSA, Some(new));
+    let swap = Swap::new(slot, Section::Area(area), ROUTER_LSA, Some(new));
     Ok(one_swap(database.alloc(), swap)?)
 }
 

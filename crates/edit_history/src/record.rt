@@ -28,7 +28,11 @@ impl<A: Allocator> Model for Record<A> {
 
 impl<A: Allocator + Copy> Record<A> {
     /// Carries swaps out, and keeps what takes them back.
-    pub(crate) fn carry_out(database: &mut Database<A>, edit: Edit, swaps: Vec<Swap<A>, A>) -> Record<A>
+    pub(crate) fn carry_out(
+        database: &mut Database<A>,
+        edit: Edit,
+        swaps: Vec<Swap<A>, A>,
+    ) -> Record<A>
         requires { CanDo database.old swaps.items }
         ensures database { database.new ≡ done_places database.old swaps.items }
         ensures result { result ≡ record { edit = edit; swaps = done_swaps database.old swaps.items } }

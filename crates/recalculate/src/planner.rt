@@ -36,7 +36,7 @@ impl<A: Allocator + Copy> Planner<A> {
     ghost use Rattle.lsdb.specs.Places.{lists_of};
     ghost use Rattle.lsdb.specs.Text.{text};
     ghost use Rattle.edit_history.specs.declared.fault.EditFault.TheVariants.{HistoryFull, OutOfMemory};
-    ghost use Rattle.edit_history.specs.Session.{start, state, most_edits, edited, moved_back, moved_on};
+    ghost use Rattle.edit_history.specs.Session.{start, state, effects, most_edits, edited, moved_back, moved_on};
 
     /// The session that begins at a database: no edit is done, and none is undone. It takes no
     /// memory.
@@ -51,10 +51,12 @@ impl<A: Allocator + Copy> Planner<A> {
         }
     }
 
-    /// The database: the effect of the done edits, in order, on the one that the session began at.
-    #[tactic(auto, using(edit_history::proofs::Growing::state_is))]
+    /// The database: the effects of the done edits, in order, on the one that the session began at.
+    /// None of them is refused on the way.
+    #[tactic(auto, using(edit_history::proofs::Growing::state_is, edit_history::proofs::Folding::done_accepted))]
     pub fn database(&self) -> &Database<A>
-        ensures { lists_of result.now ≡ state self.now }
+        ensures state { lists_of result.now ≡ state self.now }
+        ensures accepted { effects self.now.base self.now.done ≡ Ok (lists_of result.now) }
     {
         &self.database
     }
@@ -82,13 +84,8 @@ impl<A: Allocator + Copy> Planner<A> {
         if self.history.done() >= MOST_EDITS {
             return Err(EditFault::HistoryFull);
         }
-        if self.history.reserve().is_err() {
-            return Err(EditFault::OutOfMemory);
-        }
-        let entry = match apply(&mut self.database, edit) {
-            Ok(entry) => entry,
-            Err(fault) => return Err(fault),
-        };
+        self.history.reserve()?;
+        let entry = apply(&mut self.database, edit)?;
         self.history.push(entry);
         self.database.known();
         Ok(())

@@ -1,4 +1,5 @@
 use Rattle.std.proofs.Common.{sym, ap, ◌∙◌, subst, arith}
+use Rattle.std.proofs.lemmas.Result.{err_from_is_err_and}
 use Rattle.edit_history.specs.Journal.{HistoryData, Links}
 use Rattle.edit_history.specs.Session.{Session, session_of, edited}
 use Rattle.edit_history.proofs.Growing.{recorded}
@@ -10,18 +11,21 @@ returns-then-done-ge-MOST_EDITS-clause-refused g c = λ _.
     ap (λ (s : Session). edited s c.args.edit.now) (sym c.self.view_is)
     ∙ edited_full c.self.inside.database c.self.inside.history.lists c.args.edit.now (omega (arith, c.done.ensures, c.if-done-ge-MOST_EDITS.true))
 
-pub returns-in-Err-clause-refused : goal.returns-in-Err-clause-refused
-returns-in-Err-clause-refused g c = λ known.
+pub returns-in_err-entry-clause-refused : goal.returns-in_err-entry-clause-refused
+returns-in_err-entry-clause-refused g c =
+    let gave = err_from_is_err_and c.from_residual-in_err-entry.result c.from_residual-in_err-entry.ensures.1 in
+    rw (gave.1, gave.2)
+    (λ known.
     ap (λ (s : Session). edited s c.args.edit.now) (sym c.self.view_is)
-    ∙ edited_refused c.self.inside.database c.self.inside.history.lists c.args.edit.now c.in-Err.fault (omega (arith, c.done.ensures, c.if-done-ge-MOST_EDITS.false)) c.self.invariant (c.in-Err.ensures.refused known)
+    ∙ edited_refused c.self.inside.database c.self.inside.history.lists c.args.edit.now c.in_err-entry.field-0.0 (omega (arith, c.done.ensures, c.if-done-ge-MOST_EDITS.false)) c.self.invariant (c.in_err-entry.ensures.refused.known known))
 
 pub invariant_of-self-2 : goal.invariant_of-self-2
 invariant_of-self-2 g c =
-    subst (λ (h : HistoryData). Links c.apply.new.database h) (sym (c.push.ensures ∙ ap (pushed c.in-Ok.entry) c.reserve.ensures.lists))
-    (recorded c.self.inside.database c.apply.new.database c.self.inside.history.lists c.args.edit.now c.in-Ok.entry c.self.invariant c.known.ensures c.in-Ok.ensures.applied).links
+    subst (λ (h : HistoryData). Links c.apply.new.database h) (sym (c.push.ensures ∙ ap (pushed c.in_ok-entry.entry) c.reserve.ensures.lists))
+    (recorded c.self.inside.database c.apply.new.database c.self.inside.history.lists c.args.edit.now c.in_ok-entry.entry c.self.invariant c.known.ensures c.in_ok-entry.ensures.applied).links
 
 pub returns-clause-ok : goal.returns-clause-ok
 returns-clause-ok g c =
     ap (λ (s : Session). edited s c.args.edit.now) (sym c.self.view_is)
-    ∙ edited_accepted c.self.inside.database c.apply.new.database c.self.inside.history.lists c.args.edit.now c.in-Ok.entry (omega (arith, c.done.ensures, c.if-done-ge-MOST_EDITS.false)) c.self.invariant c.known.ensures c.in-Ok.ensures.applied
-    ∙ ap (λ (h : HistoryData). answer (session_of c.apply.new.database h)) (sym (c.push.ensures ∙ ap (pushed c.in-Ok.entry) c.reserve.ensures.lists))
+    ∙ edited_accepted c.self.inside.database c.apply.new.database c.self.inside.history.lists c.args.edit.now c.in_ok-entry.entry (omega (arith, c.done.ensures, c.if-done-ge-MOST_EDITS.false)) c.self.invariant c.known.ensures c.in_ok-entry.ensures.applied
+    ∙ ap (λ (h : HistoryData). answer (session_of c.apply.new.database h)) (sym (c.push.ensures ∙ ap (pushed c.in_ok-entry.entry) c.reserve.ensures.lists))
