@@ -62,7 +62,7 @@ impl<A: Allocator + Copy> Database<A> {
     pub fn dump(&self) -> Result<Vec<u8, A>, AllocError>
         ensures { IfOk result (λ v. v.items ≡ text (lists_of self.now)) }
     {
-        let mut out = Vec::new(self.alloc);
+        let mut out = Vec::with_capacity(self.alloc, self.size())?;
         out.extend_from_slice(&0x4f535750u32.to_be_bytes())?;
         out.push(1)?;
         out.push((self.sections.len() - 1) as u8)?;

@@ -5,5 +5,6 @@ mod exits;
 mod failing;
 mod memory;
 mod options;
+mod records;
 mod runs;
 mod watching;
