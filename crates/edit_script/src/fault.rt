@@ -1,0 +1,76 @@
+//! Why a line is no command.
+
+ghost use Rattle.std.specs.Prelude.{◌≡◌};
+ghost use Rattle.edit_script.specs.Fault.{code_of, name_of};
+
+use thiserror::Error;
+
+/// The first fault of a line that is no command.
+///
+/// The faults are looked for in this order: [`Empty`](ScriptFault::Empty),
+/// [`BadBranch`](ScriptFault::BadBranch), [`MissingWord`](ScriptFault::MissingWord) where nothing
+/// stands after the branch, [`UnknownWord`](ScriptFault::UnknownWord), then
+/// [`MissingWord`](ScriptFault::MissingWord) and [`ExtraWord`](ScriptFault::ExtraWord) by the
+/// number of the arguments, and then the arguments' own faults from left to right. The text of
+/// each is its name.
+#[derive(Clone, Copy, Debug, PartialEq, Eq, Error)]
+pub enum ScriptFault {
+    /// S1: the line has no words, or is a comment: its first word begins with `#`.
+    #[error("Empty")]
+    Empty,
+    /// S2: the command word is unknown.
+    #[error("UnknownWord")]
+    UnknownWord,
+    /// S3: there is no command word after the branch, or the command has too few arguments.
+    #[error("MissingWord")]
+    MissingWord,
+    /// S4: the command has too many arguments.
+    #[error("ExtraWord")]
+    ExtraWord,
+    /// S5: an argument is no decimal number, has a leading zero, or is out of its range.
+    #[error("BadNumber")]
+    BadNumber,
+    /// S6: an argument is no address in dotted decimal.
+    #[error("BadAddress")]
+    BadAddress,
+    /// S7: an argument is no prefix, as `10.0.0.0/8`. No command has a prefix yet.
+    #[error("BadPrefix")]
+    BadPrefix,
+    /// S8: the first word begins with `@` and names no branch.
+    #[error("BadBranch")]
+    BadBranch,
+}
+
+impl ScriptFault {
+    /// The fault's code, as replies print it: `S1` to `S8`.
+    pub fn code(self) -> &'static str
+        ensures { result.now ≡ code_of self }
+    {
+        match self {
+            ScriptFault::Empty => "S1",
+            ScriptFault::UnknownWord => "S2",
+            ScriptFault::MissingWord => "S3",
+            ScriptFault::ExtraWord => "S4",
+            ScriptFault::BadNumber => "S5",
+            ScriptFault::BadAddress => "S6",
+            ScriptFault::BadPrefix => "S7",
+            ScriptFault::BadBranch => "S8",
+        }
+    }
+
+    /// The fault's name, as replies print it behind the code.
+    pub fn name(self) -> &'static str
+        ensures { result.now ≡ name_of self }
+    {
+        match self {
+            ScriptFault::Empty => "Empty",
+            ScriptFault::UnknownWord => "UnknownWord",
+            ScriptFault::MissingWord => "MissingWord",
+            ScriptFault::ExtraWord => "ExtraWord",
+            ScriptFault::BadNumber => "BadNumber",
+            ScriptFault::BadAddress => "BadAddress",
+            ScriptFault::BadPrefix => "BadPrefix",
+            ScriptFault::BadBranch => "BadBranch",
+        }
+    }
+}
