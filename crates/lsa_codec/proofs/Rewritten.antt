@@ -1,5 +1,5 @@
 -- What is made of an LSA is accepted and has its key.
-use Rattle.std.proofs.Common.{◌≡◌, ℕ, suc, ◌+◌, ◌-◌, ◌*◌, ◌/◌, ◌%◌, ◌≤◌, ◌<◌, ◌^◌, Bool, true, false, cond, eqb, not, ◌&&◌, List, [], ◌∷◌, ◌++◌, length, take, get_or, Option, Some, None, Result, Ok, Err, refl, sym, ap, subst, ◌∙◌, arith, inl, inr}
+use Rattle.std.proofs.Common.{◌≡◌, ℕ, ◌+◌, ◌-◌, ◌≤◌, ◌<◌, ◌^◌, Bool, true, false, cond, eqb, not, ◌&&◌, List, ◌++◌, length, take, get_or, Option, Some, None, Ok, Err, refl, ap, subst, ◌∙◌, arith, inl}
 use Rattle.std.specs.Prelude.{is_some, nat_lt}
 use Rattle.std.specs.List.{remove, filter, list_any, flat_map}
 use Rattle.std.proofs.lemmas.Bool.{ltb-false}

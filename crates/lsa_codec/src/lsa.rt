@@ -18,7 +18,7 @@ use std::marker::Model;
 
 /// An accepted LSA, seen as its octets. They are never changed. What makes octets an accepted LSA
 /// is the record `IsAccepted`; `LsaFault` says the same by what fails.
-#[derive(Clone, Debug, Drop)]
+#[derive(Debug, Drop)]
 pub struct Lsa<A: Allocator = Global> {
     bytes: Vec<u8, A>,
 }

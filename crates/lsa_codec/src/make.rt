@@ -41,7 +41,7 @@ fn with_metric_of<A: Allocator + Copy>(
 
 impl<A: Allocator + Copy> Lsa<A> {
     /// The router-LSA with the metric of link `k` replaced, counted from 1, and its checksum made
-    /// anew. All other octets stay, and so do the TOS metrics. The LSA is a router-LSA. Errors:
+    /// anew. All other octets stay, and so do the TOS metrics. For router-LSAs alone. Errors:
     /// `NoLink` where there is no link `k`, then `ZeroCost` where the metric is 0 and link `k`
     /// leads to a router or to a transit network, then `OutOfMemory`.
     pub fn with_cost(&self, alloc: A, k: u16, metric: u16) -> Result<Lsa<A>, MakeFault>

@@ -105,7 +105,7 @@ fn with_metric<A: Allocator + Copy>(
 
 impl<A: Allocator + Copy> Lsa<A> {
     /// The summary-LSA or AS-external-LSA with another metric for TOS 0, and its checksum made
-    /// anew. All other octets stay. The LSA is of type 3, 4 or 5, and the metric at most
+    /// anew. All other octets stay. For LSAs of type 3, 4 or 5 alone, and metrics of at most
     /// 16,777,215. The only error is `OutOfMemory`.
     pub fn with_metric(&self, alloc: A, metric: u32) -> Result<Lsa<A>, MakeFault>
         requires kind { has_metric (kind_of self.now) ≡ true }

@@ -81,8 +81,8 @@ impl<A: Allocator + Copy> Lsa<A> {
         Ok(Lsa::accepted(bytes))
     }
 
-    /// The router-LSA without link `k`, counted from 1, and without its TOS metrics. The LSA is a
-    /// router-LSA. Errors: `NoLink` where there is no link `k`, then `OutOfMemory`.
+    /// The router-LSA without link `k`, counted from 1, and without its TOS metrics. For
+    /// router-LSAs alone. Errors: `NoLink` where there is no link `k`, then `OutOfMemory`.
     pub fn without_link(&self, alloc: A, k: u16) -> Result<Lsa<A>, MakeFault>
         requires router { kind_of self.now ≡ 1 }
         ensures made { IfOk result (λ lsa. without_link k self.now ≡ Ok lsa) }
@@ -100,8 +100,8 @@ impl<A: Allocator + Copy> Lsa<A> {
         self.with_links(alloc, &kept)
     }
 
-    /// The router-LSA without its point-to-point links to a router. Virtual links to it stay. The
-    /// LSA is a router-LSA. Errors: `NoLink` where it has no such link, then `OutOfMemory`.
+    /// The router-LSA without its point-to-point links to a router. Virtual links to it stay. For
+    /// router-LSAs alone. Errors: `NoLink` where it has no such link, then `OutOfMemory`.
     pub fn without_links_to(&self, alloc: A, router: RouterId) -> Result<Lsa<A>, MakeFault>
         requires router { kind_of self.now ≡ 1 }
         ensures made { IfOk result (λ lsa. without_links (leads_to router) self.now ≡ Ok lsa) }
@@ -113,7 +113,7 @@ impl<A: Allocator + Copy> Lsa<A> {
     }
 
     /// The router-LSA without its links to the transit network whose Designated Router has this
-    /// address. The LSA is a router-LSA. Errors: `NoLink` where it has no such link, then
+    /// address. For router-LSAs alone. Errors: `NoLink` where it has no such link, then
     /// `OutOfMemory`.
     pub fn without_net_links(&self, alloc: A, addr: Addr) -> Result<Lsa<A>, MakeFault>
         requires router { kind_of self.now ≡ 1 }
@@ -144,7 +144,7 @@ impl<A: Allocator + Copy> Lsa<A> {
     }
 
     /// The router-LSA with a stub link to a prefix after its last link, of this metric and
-    /// without TOS metrics. The LSA is a router-LSA. Errors: `TooLong` where it would have more
+    /// without TOS metrics. For router-LSAs alone. Errors: `TooLong` where it would have more
     /// than 65,535 octets, then `OutOfMemory`.
     pub fn with_stub(&self, alloc: A, net: Prefix, metric: u16) -> Result<Lsa<A>, MakeFault>
         requires router { kind_of self.now ≡ 1 }

@@ -1,4 +1,4 @@
-use Rattle.std.proofs.Common.{arith, ℕ, List, ◌≡◌, ◌≤◌, ◌++◌, length, take, drop, ap, ◌∙◌, append_assoc}
+use Rattle.std.proofs.Common.{arith, ℕ, List, ◌++◌, take, drop, ap, ◌∙◌, append_assoc}
 use Rattle.std.proofs.lemmas.List.{take_at, drop_at, length-take, length-append}
 use Rattle.byteorder.specs.Endian.{big_bytes}
 use Rattle.lsa_codec.proofs.Bytes.{length-put_at}

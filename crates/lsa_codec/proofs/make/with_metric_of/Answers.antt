@@ -1,4 +1,4 @@
-use Rattle.std.proofs.Common.{◌≡◌, ◌∙◌, ap, sym, length, arith}
+use Rattle.std.proofs.Common.{◌≡◌, ◌∙◌, ap, sym, length}
 use Rattle.lsa_codec.specs.Making.{with_metric_of}
 use Rattle.lsa_codec.proofs.Cost.{length-made, written}
 use Rattle.lsa_codec.proofs.make.with_metric_of.Goals as goal

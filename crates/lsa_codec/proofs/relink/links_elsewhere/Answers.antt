@@ -1,4 +1,4 @@
-use Rattle.std.proofs.Common.{rules, tests, not, ◌∙◌, ap}
+use Rattle.std.proofs.Common.{rules, tests, not, ◌∙◌}
 use Rattle.std.proofs.lemmas.Iterator.{items_from_collect}
 use Rattle.std.proofs.lemmas.Iterator.Consumers.{YieldsList-from_first, YieldsList-from_filter}
 use Rattle.lsa_codec.specs.Making.{is_end_of}

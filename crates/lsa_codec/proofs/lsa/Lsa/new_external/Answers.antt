@@ -1,8 +1,8 @@
-use Rattle.std.proofs.Common.{◌≡◌, ◌∙◌, ◌++◌, List, ℕ, ap, sym, subst}
+use Rattle.std.proofs.Common.{◌∙◌, ◌++◌, List, ℕ, ap, sym, subst}
 use Rattle.lsa_codec.specs.declared.address.Addr.{Addr}
 use Rattle.lsa_codec.specs.Accepted.{IsAccepted}
 use Rattle.lsa_codec.specs.Checksum.{with_checksum}
-use Rattle.lsa_codec.specs.Originating.{new_header, external_body, new_external}
+use Rattle.lsa_codec.specs.Originating.{new_header}
 use Rattle.lsa_codec.proofs.Originated.{accepted_external}
 use Rattle.lsa_codec.proofs.lsa.Lsa.new_external.Goals as goal
 

@@ -1,4 +1,4 @@
-use Rattle.std.proofs.Common.{arith, ◌≡◌, ◌∙◌, ap, sym, Some, Option, Ok}
+use Rattle.std.proofs.Common.{arith, ◌∙◌, ap, sym, Option, Ok}
 use Rattle.std.proofs.lemmas.Bool.{cond-false}
 use Rattle.lsa_codec.specs.declared.link.Link.{Link}
 use Rattle.lsa_codec.specs.Making.{with_metric_of, with_cost_on}

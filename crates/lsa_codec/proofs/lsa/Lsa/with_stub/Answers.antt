@@ -1,10 +1,9 @@
-use Rattle.std.proofs.Common.{◌≡◌, ◌∙◌, ◌+◌, ◌++◌, ◌≤◌, ℕ, List, ap, sym, arith, length, subst, Ok, Err, Result, refl}
-use Rattle.std.proofs.lemmas.Bool.{cond-false, le-ltb}
+use Rattle.std.proofs.Common.{◌≡◌, ◌∙◌, ◌+◌, ◌++◌, ◌≤◌, ℕ, List, ap, sym, arith, length, subst, Ok, refl}
 use Rattle.std.proofs.lemmas.List.{length-append}
 use Rattle.std.proofs.lemmas.Result.{err_from_is_err_and}
 use Rattle.lsa_codec.specs.Accepted.{IsAccepted}
 use Rattle.lsa_codec.specs.Links.{link_count}
-use Rattle.lsa_codec.specs.Making.{recounted, stub_text, with_stub}
+use Rattle.lsa_codec.specs.Making.{recounted, stub_text}
 use Rattle.lsa_codec.proofs.Relinked.{has_texts, accepted_stub, finished, stub_made}
 use Rattle.lsa_codec.proofs.Rewritten.{stub_extended}
 use Rattle.lsa_codec.proofs.lsa.Lsa.with_stub.Goals as goal

@@ -1,10 +1,10 @@
-use Rattle.std.proofs.Common.{◌≡◌, ◌∙◌, ◌-◌, ◌≤◌, ◌+◌, ℕ, List, Bool, true, ap, sym, arith, length, Ok, Err, Result, subst}
+use Rattle.std.proofs.Common.{◌≡◌, ◌∙◌, ◌-◌, ◌≤◌, ◌+◌, ℕ, List, true, ap, sym, arith, length, Ok, subst}
 use Rattle.std.specs.Prelude.{is_some}
 use Rattle.std.specs.List.{remove, flat_map, All}
 use Rattle.std.proofs.lemmas.Bool.{cond-true}
 use Rattle.lsa_codec.specs.declared.link.Link.{Link}
 use Rattle.lsa_codec.specs.Links.{links_of, link_numbered}
-use Rattle.lsa_codec.specs.Making.{IsLinkOf, link_text, with_links, without_link}
+use Rattle.lsa_codec.specs.Making.{IsLinkOf, link_text, with_links}
 use Rattle.lsa_codec.proofs.Relinked.{number_within, kept_removed}
 use Rattle.std.proofs.lemmas.Result.{IfOk-weaker}
 use Rattle.lsa_codec.proofs.Rewritten.{link_rewritten}

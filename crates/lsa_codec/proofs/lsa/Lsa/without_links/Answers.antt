@@ -1,9 +1,9 @@
-use Rattle.std.proofs.Common.{◌≡◌, ◌∙◌, ◌-◌, ◌≤◌, ◌+◌, ℕ, List, Bool, true, not, ap, sym, arith, length, Ok, Err, Result, subst}
+use Rattle.std.proofs.Common.{◌≡◌, ◌∙◌, ◌≤◌, ◌+◌, ℕ, List, true, not, ap, sym, length, Ok, subst}
 use Rattle.std.specs.List.{filter, flat_map, All, list_any}
 use Rattle.std.proofs.lemmas.Bool.{cond-true}
 use Rattle.lsa_codec.specs.declared.link.Link.{Link}
 use Rattle.lsa_codec.specs.Links.{links_of}
-use Rattle.lsa_codec.specs.Making.{is_end_of, IsLinkOf, link_text, with_links, without_links}
+use Rattle.lsa_codec.specs.Making.{is_end_of, IsLinkOf, link_text, with_links}
 use Rattle.lsa_codec.proofs.Relinked.{kept_filtered}
 use Rattle.std.proofs.lemmas.Result.{IfOk-weaker}
 use Rattle.lsa_codec.proofs.Rewritten.{links_rewritten}
