@@ -1,11 +1,12 @@
 //! Edits carried out one by one: records, histories and planners on the sample.
 
 use crate::sample::SAMPLE;
-use edit_history::{EditFault, History, RedoFault, UndoFault, apply, replay, revert};
+use edit_history::{EditFault, History, RedoFault, UndoFault, apply, inverses, replay, revert};
 use edit_script::Edit;
 use lsa_codec::{AreaId, RouterId};
 use lsdb::Database;
 use recalculate::Planner;
+use std::alloc::Global;
 use std::test::*;
 
 /// An edit of the cost of a link of 1.1.1.1 in the backbone.
@@ -30,10 +31,12 @@ fn a_record_takes_its_edit_back(rt: HostRuntime) -> Result<(), Fail> {
     let edited = database.dump()?;
     assert_eq!(rt; edited.get(29..31), Some([0x21, 0x19].as_slice()));
     assert_eq!(rt; edited.get(47..49), Some([0xff, 0xff].as_slice()));
+    database.known();
     revert(&mut database, &mut entry);
     assert_eq!(rt; database.dump()?.as_slice(), SAMPLE);
     assert_eq!(rt; entry.len(), 1);
     assert!(rt; entry.touches(AreaId(0)));
+    inverses();
     replay(&mut database, &mut entry);
     assert_eq!(rt; database.dump()?.as_slice(), edited.as_slice());
     Ok(())
@@ -81,30 +84,31 @@ fn refused_edits_change_nothing(rt: HostRuntime) -> Result<(), Fail> {
 }
 
 #[test]
-fn a_history_moves_both_ways(rt: HostRuntime) -> Result<(), Fail> {
-    let mut database = Database::load(rt.alloc(), SAMPLE)?;
-    let mut history = History::new(rt.alloc());
+fn a_planner_moves_both_ways(rt: HostRuntime) -> Result<(), Fail> {
+    let database = Database::load(rt.alloc(), SAMPLE)?;
+    let mut planner = Planner::new(rt.alloc(), database);
     for metric in 11..13 {
-        history.reserve()?;
-        let entry = apply(&mut database, &cost(1, metric))?;
-        history.push(entry);
+        planner.edit(&cost(1, metric))?;
     }
-    assert_eq!(rt; (history.done(), history.undone()), (2, 0));
-    assert_eq!(rt;
-        history.undo(&mut database, 3),
-        Err(UndoFault::NothingToUndo)
-    );
-    assert_eq!(rt; history.undo(&mut database, 0), Ok(()));
-    assert_eq!(rt; history.undo(&mut database, 2), Ok(()));
-    assert_eq!(rt; (history.done(), history.undone()), (0, 2));
-    assert_eq!(rt; database.dump()?.as_slice(), SAMPLE);
-    assert_eq!(rt;
-        history.redo(&mut database, 3),
-        Err(RedoFault::NothingToRedo)
-    );
-    assert_eq!(rt; history.redo(&mut database, 1), Ok(()));
-    assert_eq!(rt; (history.done(), history.undone()), (1, 1));
-    assert_eq!(rt; database.dump()?.get(47..49), Some([0, 11].as_slice()));
+    assert_eq!(rt; (planner.done(), planner.undone()), (2, 0));
+    assert_eq!(rt; planner.undo(3), Err(UndoFault::NothingToUndo));
+    assert_eq!(rt; planner.undo(0), Ok(()));
+    assert_eq!(rt; planner.undo(2), Ok(()));
+    assert_eq!(rt; (planner.done(), planner.undone()), (0, 2));
+    assert_eq!(rt; planner.dump()?.as_slice(), SAMPLE);
+    assert_eq!(rt; planner.redo(3), Err(RedoFault::NothingToRedo));
+    assert_eq!(rt; planner.redo(1), Ok(()));
+    assert_eq!(rt; (planner.done(), planner.undone()), (1, 1));
+    assert_eq!(rt; planner.dump()?.get(47..49), Some([0, 11].as_slice()));
+    Ok(())
+}
+
+#[test]
+fn a_new_history_is_empty(rt: HostRuntime) -> Result<(), Fail> {
+    let mut history = History::<Global>::new(rt.alloc());
+    assert_eq!(rt; (history.done(), history.undone()), (0, 0));
+    history.reserve()?;
+    assert_eq!(rt; (history.done(), history.undone()), (0, 0));
     Ok(())
 }
 
