@@ -1,5 +1,5 @@
 -- The fields of LSAs that are made: links, LS age and flags of router-LSAs, and the fields of the other types.
-use Rattle.std.proofs.Common.{◌≡◌, ℕ, zero, suc, ◌+◌, ◌-◌, ◌≤◌, ◌<◌, ◌^◌, Bool, true, false, eqb, not, ◌&&◌, List, [], ◌∷◌, ◌++◌, take, length, get_or, set, Option, Some, Ok, refl, sym, ap, ◌∙◌, subst, arith, inl, inr}
+use Rattle.std.proofs.Common.{◌≡◌, ℕ, suc, ◌+◌, ◌-◌, ◌≤◌, ◌<◌, ◌^◌, Bool, true, false, eqb, not, ◌&&◌, List, [], ◌∷◌, ◌++◌, take, length, get_or, set, Option, Some, Ok, refl, sym, ap, ◌∙◌, subst, arith, inl, inr}
 use Rattle.std.specs.Prelude.{is_some, nat_lt, nat_le, None, if◌then◌else◌}
 use Rattle.std.specs.List.{remove, filter, list_any, flat_map}
 use Rattle.std.proofs.lemmas.Bool.{ltb-false, eqb-true}
@@ -12,7 +12,7 @@ use Rattle.lsa_codec.specs.declared.link.LinkKind.TheVariants.{Stub}
 use Rattle.byteorder.specs.Endian.{big_bytes}
 use Rattle.lsa_codec.specs.declared.fault.MakeFault.TheVariants.{NoLink, ZeroCost, TooLong}
 use Rattle.lsa_codec.specs.Fields.{number_at, put_number, kind_of, mask_of}
-use Rattle.lsa_codec.specs.Links.{after_links, links_from, link_at, link_length, links_of, link_count, link_numbered, has_cost, remetered, unplaced}
+use Rattle.lsa_codec.specs.Links.{after_links, links_from, link_at, links_of, link_count, link_numbered, has_cost, remetered}
 use Rattle.lsa_codec.specs.Prefix.{Net, IsNet, masked, mask_of_len, len_of_mask}
 use Rattle.lsa_codec.specs.Accepted.{IsAccepted}
 use Rattle.lsa_codec.specs.Views.{has_metric, net_of_lsa, metric_of}
