@@ -58,7 +58,7 @@ links_rewritten test lsa made old kind e =
     subst (IsRewriteOf lsa) is (rewrite_links lsa kept old kind (kept_filtered (λ link. not (test link)) lsa old kind))
 
 -- a maker that did not fail, the fault first
-guard : (b : Bool) (fault : MakeFault) (x made : List ℕ) → cond b (Err fault) (ok_of x) ≡ ok_of made → (b ≡ false) × (x ≡ made)
+pub guard : (b : Bool) (fault : MakeFault) (x made : List ℕ) → cond b (Err fault) (ok_of x) ≡ ok_of made → (b ≡ false) × (x ≡ made)
 guard true fault x made e = absurd cc
 guard false fault x made e =
     let is : x ≡ made = cc in

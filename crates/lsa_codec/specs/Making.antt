@@ -7,9 +7,10 @@ use Rattle.lsa_codec.specs.declared.fault.MakeFault.TheVariants.{NoLink, ZeroCos
 use Rattle.lsa_codec.specs.declared.address.Addr.{Addr}
 use Rattle.lsa_codec.specs.declared.address.RouterId.{RouterId}
 use Rattle.lsa_codec.specs.declared.link.Link.{Link}
+use Rattle.lsa_codec.specs.declared.link.LinkKind.TheVariants.{Stub}
 use Rattle.lsa_codec.specs.declared.relink.Target.{Target}
 use Rattle.lsa_codec.specs.declared.relink.Target.TheVariants as target
-use Rattle.lsa_codec.specs.Fields.{put_number}
+use Rattle.lsa_codec.specs.Fields.{put_number, octet_at, age_of}
 use Rattle.lsa_codec.specs.Checksum.{with_checksum}
 use Rattle.lsa_codec.specs.Links.{links_of, link_at, link_length, link_count, link_numbered, first_link, has_cost, is_point_to_point, is_transit}
 use Rattle.lsa_codec.specs.Accepted.{IsAccepted, is_link_mask_good, is_link_cost_good}
@@ -68,6 +69,16 @@ without_links test lsa =
 abbrev pub stub_text : Net → ℕ → List ℕ
 stub_text net metric = big_bytes 4 net.addr.0 ++ big_bytes 4 (mask_of_len net.len) ++ 3 ∷ 0 ∷ big_bytes 2 metric
 
+-- the stub link of a prefix, where it begins at an offset
+abbrev pub stub_link : Net → ℕ → ℕ → Link
+stub_link net cost at = record {
+  id = net.addr;
+  link_data = record { 0 = mask_of_len net.len };
+  kind = Stub;
+  metric = cost;
+  offset = at;
+}
+
 -- a router-LSA with a stub link after its last link
 abbrev pub with_stub : Net → ℕ → List ℕ → Result (List ℕ) MakeFault
 with_stub net metric lsa =
@@ -91,6 +102,11 @@ pub record IsExtensionOf (old new : List ℕ) : Type 0 where
   pub accepted : IsAccepted new
   pub key : key_of new ≡ key_of old
   pub size : length new ≡ length old + 12
+
+-- a router-LSA keeps its LS age and its flags, the bits V, E and B
+pub record KeepsAgeAndFlags (old new : List ℕ) : Type 0 where
+  pub age : age_of new ≡ age_of old
+  pub flags : octet_at 20 new ≡ octet_at 20 old
 
 -- a link that stands in an accepted router-LSA
 pub record IsLinkOf (lsa : List ℕ) (link : Link) : Type 0 where

@@ -1,7 +1,7 @@
 //! Laws: what holds of the definitions that the contracts of this crate cite. Each is a function
 //! that does nothing, and its contract is the law.
 
-ghost use Rattle.std.specs.Prelude.{◌≡◌, ◌+◌, ◌-◌, ◌≤◌, ◌<◌, ◌^◌, ◌++◌, ℕ, List, Bool, true, map, not, length, take, drop, Ok};
+ghost use Rattle.std.specs.Prelude.{◌≡◌, ◌+◌, ◌-◌, ◌≤◌, ◌<◌, ◌^◌, ◌++◌, ◌∷◌, [], ℕ, List, Bool, true, map, not, length, take, drop, set, Some, Ok};
 ghost use Rattle.std.specs.List.{filter, remove};
 ghost use Rattle.lsa_codec.specs.declared.link.Link.{Link};
 ghost use Rattle.lsa_codec.specs.declared.address.Addr.{Addr};
@@ -9,12 +9,12 @@ ghost use Rattle.lsa_codec.specs.declared.address.RouterId.{RouterId};
 ghost use Rattle.lsa_codec.specs.Fields.{kind_of};
 ghost use Rattle.lsa_codec.specs.Prefix.{Net, IsNet, is_mask, mask_of_len, len_of_mask};
 ghost use Rattle.lsa_codec.specs.Checksum.{is_checksum_good, with_checksum};
-ghost use Rattle.lsa_codec.specs.Links.{links_of, unplaced};
+ghost use Rattle.lsa_codec.specs.Links.{links_of, link_numbered, remetered, unplaced};
 ghost use Rattle.lsa_codec.specs.Accepted.{IsAccepted};
 ghost use Rattle.lsa_codec.specs.Decoding.{decoded};
 ghost use Rattle.lsa_codec.specs.Views.{has_metric};
-ghost use Rattle.lsa_codec.specs.Making.{with_cost, without_link, without_links, with_stub, IsRewriteOf, IsExtensionOf};
-ghost use Rattle.lsa_codec.specs.Originating.{with_metric, new_summary, new_external, IsNewLsa};
+ghost use Rattle.lsa_codec.specs.Making.{with_cost, without_link, without_links, with_stub, stub_link, IsRewriteOf, IsExtensionOf, KeepsAgeAndFlags};
+ghost use Rattle.lsa_codec.specs.Originating.{with_metric, new_summary, new_external, IsNewLsa, HasOtherMetric, HasNewFields, HasExternalFields};
 
 /// Decoding finds every accepted LSA, whatever follows it.
 pub fn decoding_is_complete()
@@ -47,6 +47,39 @@ pub fn links_after_removal()
         ≡ map unplaced (filter (λ link. not (test link)) (links_of lsa)) }
 {}
 
+/// The links after another cost are the old ones, with the new metric in link `k`.
+pub fn links_after_cost()
+    ensures { (k metric : ℕ) (link : Link) (lsa made : List ℕ) → IsAccepted lsa → kind_of lsa ≡ 1
+        → metric < 2 ^ 16 → link_numbered k lsa ≡ Some link → with_cost k metric lsa ≡ Ok made
+        → links_of made ≡ set (links_of lsa) (k - 1) (remetered link metric) }
+{}
+
+/// The links after a stub link is added are the old ones, at their offsets, and then that one,
+/// where the old LSA ended.
+pub fn links_after_stub()
+    ensures { (net : Net) (metric : ℕ) (lsa made : List ℕ) → IsAccepted lsa → kind_of lsa ≡ 1
+        → net.addr.0 < 2 ^ 32 → metric < 2 ^ 16 → with_stub net metric lsa ≡ Ok made
+        → links_of made ≡ links_of lsa ++ stub_link net metric (length lsa) ∷ [] }
+{}
+
+/// A router-LSA that is made from another keeps its LS age and its flags.
+pub fn router_makers_keep_age_and_flags()
+    ensures cost { (k metric : ℕ) (lsa made : List ℕ) → IsAccepted lsa → kind_of lsa ≡ 1
+        → metric < 2 ^ 16 → with_cost k metric lsa ≡ Ok made → KeepsAgeAndFlags lsa made }
+    ensures link { (k : ℕ) (lsa made : List ℕ) → IsAccepted lsa → kind_of lsa ≡ 1
+        → without_link k lsa ≡ Ok made → KeepsAgeAndFlags lsa made }
+    ensures links { (test : Link → Bool) (lsa made : List ℕ) → IsAccepted lsa → kind_of lsa ≡ 1
+        → without_links test lsa ≡ Ok made → KeepsAgeAndFlags lsa made }
+    ensures stub { (net : Net) (metric : ℕ) (lsa made : List ℕ) → IsAccepted lsa → kind_of lsa ≡ 1
+        → with_stub net metric lsa ≡ Ok made → KeepsAgeAndFlags lsa made }
+{}
+
+/// A summary-LSA or AS-external-LSA with another metric keeps all other fields.
+pub fn metric_alone_changes()
+    ensures { (metric : ℕ) (lsa : List ℕ) → IsAccepted lsa → has_metric (kind_of lsa) ≡ true
+        → metric < 2 ^ 24 → HasOtherMetric metric lsa (with_metric metric lsa) }
+{}
+
 /// An LSA that a maker makes from another is accepted and has the same key. It is no longer than
 /// the other, but where a stub link is added.
 pub fn makers_keep_the_key()
@@ -71,6 +104,19 @@ pub fn new_lsas_have_their_key()
     ensures external { (adv : RouterId) (net : Net) (type2 : Bool) (metric : ℕ)
         (forward : Addr) (tag : ℕ) → IsNet net → net.addr.0 < 2 ^ 32 → adv.0 < 2 ^ 32
         → IsNewLsa 5 net adv 36 (new_external adv net type2 metric forward tag) }
+{}
+
+/// A new LSA for a prefix has the fields that it was made of. Its LS age is 1.
+pub fn new_lsas_have_their_fields()
+    ensures summary { (options : ℕ) (adv : RouterId) (net : Net) (metric : ℕ)
+        → IsNet net → net.addr.0 < 2 ^ 32 → metric < 2 ^ 24
+        → HasNewFields net metric (new_summary options adv net metric) }
+    ensures external { (adv : RouterId) (net : Net) (type2 : Bool) (metric : ℕ)
+        (forward : Addr) (tag : ℕ) → IsNet net → net.addr.0 < 2 ^ 32 → metric < 2 ^ 24
+        → HasNewFields net metric (new_external adv net type2 metric forward tag) }
+    ensures further { (adv : RouterId) (net : Net) (type2 : Bool) (metric : ℕ)
+        (forward : Addr) (tag : ℕ) → forward.0 < 2 ^ 32 → tag < 2 ^ 32
+        → HasExternalFields type2 forward tag (new_external adv net type2 metric forward tag) }
 {}
 
 /// The masks are exactly those of the lengths up to 32, and each has one length.

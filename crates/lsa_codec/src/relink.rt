@@ -1,19 +1,19 @@
 //! Router-LSAs with fewer or more links than another. The kept links keep their octets and order;
 //! number of links, length and checksum are set anew.
 
-ghost use Rattle.std.specs.Prelude.{◌≡◌, ◌+◌, ◌≤◌, ◌<◌, ◌^◌, ◌++◌, ◌-◌, ℕ, List, Bool, map, not, length, take, IfOk, IfErr, Ok};
+ghost use Rattle.std.specs.Prelude.{◌≡◌, ◌+◌, ◌≤◌, ◌<◌, ◌^◌, ◌++◌, ◌-◌, ℕ, List, Bool, map, not, true, is_some, length, take, IfOk, IfErr, Ok};
 ghost use Rattle.std.specs.List.{All, flat_map, filter, list_any, remove};
 ghost use Rattle.lsa_codec.specs.declared.link.Link.{Link};
 ghost use Rattle.lsa_codec.specs.Accepted.{IsAccepted};
 ghost use Rattle.lsa_codec.specs.declared.fault.MakeFault.TheVariants.{OutOfMemory};
 ghost use Rattle.lsa_codec.specs.Fields.{kind_of};
-ghost use Rattle.lsa_codec.specs.Links.{links_of, link_length, unplaced};
+ghost use Rattle.lsa_codec.specs.Links.{links_of, link_count, link_length, link_numbered, unplaced};
 ghost use Rattle.lsa_codec.specs.Making.{recounted, link_text, with_links, without_link, without_links, leads_to, leads_to_net, is_end_of, with_stub, stub_text, IsMakeFaultOf, IsRewriteOf, IsExtensionOf, IsLinkOf};
 
 use crate::address::{Addr, RouterId};
 use crate::checksum::set_checksum;
 use crate::fault::MakeFault;
-use crate::field::{put_u16, put_u32};
+use crate::field::{put_u16, put_u32, u16_at};
 use crate::link::{Link, LinkKind};
 use crate::lsa::Lsa;
 use crate::prefix::Prefix;
@@ -95,8 +95,7 @@ impl<A: Allocator + Copy> Lsa<A> {
         if router.link_numbered(k).is_none() {
             return Err(MakeFault::NoLink);
         }
-        let mut kept = all_links(&router, alloc)?;
-        kept.remove(usize::from(k) - 1);
+        let kept = links_but(&router, alloc, k)?;
         self.with_links(alloc, &kept)
     }
 
@@ -152,16 +151,10 @@ impl<A: Allocator + Copy> Lsa<A> {
         ensures keeps { IfOk result (λ lsa. IsExtensionOf self.now lsa) }
         ensures fault { IfErr result (λ fault. IsMakeFaultOf fault (with_stub net metric self.now)) }
     {
-        let Some(router) = self.router() else {
-            return Err(MakeFault::NoLink);
-        };
         if self.bytes().len() + 12 > 65535 {
             return Err(MakeFault::TooLong);
         }
-        let count = router.link_count() + 1;
-        let mut bytes = Vec::from_slice(alloc, self.bytes())?;
-        bytes.extend_from_slice(&stub_text(net, metric))?;
-        recount(&mut bytes, count);
+        let bytes = extended(alloc, self.bytes(), net, metric)?;
         Ok(Lsa::accepted(bytes))
     }
 }
@@ -187,6 +180,20 @@ fn all_links<A: Allocator + Copy>(
     ensures { IfOk result (λ links. links.items ≡ links_of router.now) }
 {
     router.links().collect(alloc)
+}
+
+/// All links but link `k`, in order.
+fn links_but<A: Allocator + Copy>(
+    router: &RouterView<'_>,
+    alloc: A,
+    k: u16,
+) -> Result<Vec<Link, A>, AllocError>
+    requires { is_some (link_numbered k router.now) ≡ true }
+    ensures { IfOk result (λ links. links.items ≡ remove (links_of router.now) (k - 1)) }
+{
+    let mut links = all_links(router, alloc)?;
+    links.remove(usize::from(k) - 1);
+    Ok(links)
 }
 
 /// Whether one of the links leads to a target.
@@ -222,4 +229,24 @@ fn stub_text(net: Prefix, metric: u16) -> [u8; 12]
     text[8] = 3;
     put_u16(&mut text, 10, metric);
     text
+}
+
+/// The octets of a router-LSA with a stub link after its last link.
+fn extended<A: Allocator + Copy>(
+    alloc: A,
+    lsa: &[u8],
+    net: Prefix,
+    metric: u16,
+) -> Result<Vec<u8, A>, AllocError>
+    requires header { 24 ≤ length lsa.now }
+    requires short { length lsa.now + 12 < 2 ^ 16 }
+    requires few { link_count lsa.now + 1 < 2 ^ 16 }
+    ensures made { IfOk result (λ v. v.items
+        ≡ recounted (link_count lsa.now + 1) (lsa.now ++ stub_text net metric)) }
+    ensures prefix { net.len ≤ 32 }
+{
+    let mut bytes = Vec::from_slice(alloc, lsa)?;
+    bytes.extend_from_slice(&stub_text(net, metric))?;
+    recount(&mut bytes, u16_at(lsa, 22) + 1);
+    Ok(bytes)
 }

@@ -26,7 +26,7 @@ const EXTERNAL: [u8; 44] = [
     0, 1, 0x80, 0x23, 0, 0x24, 0xff, 0xff, 0, 0, 0x80, 0, 0, 0x14, 0, 0, 0, 0, 0, 0, 0, 0,
 ];
 
-/// Area 0.0.0.1, a stub area, and behind it 0.0.0.0.
+/// Area 0.0.0.1, and behind it 0.0.0.0.
 const FALLING: [u8; 22] = [
     0x4f, 0x53, 0x57, 0x50, 1, 2, 0, 0, 0, 1, 0, 0, 0, 0, 0, 0, 0, 0, 0, 0, 0, 0,
 ];
@@ -89,29 +89,67 @@ fn tells_faults_of_the_header(rt: HostRuntime) {
     assert_eq!(rt; fault_of(&rt, &bytes), at(5, DumpFaultKind::TooManyAreas));
 }
 
+/// The fault of the dump that is cut to so many octets.
+fn fault_where_cut(octets: usize) -> Option<DumpFault> {
+    match octets {
+        0..=3 => at(0, DumpFaultKind::Truncated),
+        4 => at(4, DumpFaultKind::Truncated),
+        5 => at(5, DumpFaultKind::Truncated),
+        6..=9 => at(6, DumpFaultKind::Truncated),
+        10 => at(10, DumpFaultKind::Truncated),
+        11..=12 => at(11, DumpFaultKind::Truncated),
+        13..=48 => at(13, DumpFaultKind::Lsa(LsaFault::Truncated)),
+        49..=96 => at(49, DumpFaultKind::Lsa(LsaFault::Truncated)),
+        97..=98 => at(97, DumpFaultKind::Truncated),
+        _ => None,
+    }
+}
+
 #[test]
 fn tells_where_a_dump_is_cut(rt: HostRuntime) {
-    assert_eq!(rt; fault_of(&rt, &DUMP[..3]), at(0, DumpFaultKind::Truncated));
+    for octets in 0..99 {
+        assert_eq!(rt;
+            fault_of(&rt, &DUMP[..octets]),
+            fault_where_cut(octets),
+            "cut to {octets} octets"
+        );
+    }
     assert_eq!(rt; fault_of(&rt, &[0, 0, 0]), at(0, DumpFaultKind::Truncated));
-    assert_eq!(rt; fault_of(&rt, &DUMP[..4]), at(4, DumpFaultKind::Truncated));
-    assert_eq!(rt; fault_of(&rt, &DUMP[..5]), at(5, DumpFaultKind::Truncated));
-    assert_eq!(rt; fault_of(&rt, &DUMP[..9]), at(6, DumpFaultKind::Truncated));
-    assert_eq!(rt;
-        fault_of(&rt, &DUMP[..10]),
-        at(10, DumpFaultKind::Truncated)
-    );
-    assert_eq!(rt;
-        fault_of(&rt, &DUMP[..12]),
-        at(11, DumpFaultKind::Truncated)
-    );
-    assert_eq!(rt;
-        fault_of(&rt, &DUMP[..60]),
-        at(49, DumpFaultKind::Lsa(LsaFault::Truncated))
-    );
-    assert_eq!(rt;
-        fault_of(&rt, &DUMP[..98]),
-        at(97, DumpFaultKind::Truncated)
-    );
+}
+
+/// The dump with one octet changed.
+fn changed(place: usize, octet: u8) -> [u8; 99] {
+    let mut bytes = DUMP;
+    if let Some(there) = bytes.get_mut(place) {
+        *there = octet;
+    }
+    bytes
+}
+
+#[test]
+fn tells_where_a_field_lies(rt: HostRuntime) {
+    // Two areas; three LSAs and one; two links; a TOS metric; a length of 49 octets and of 51.
+    let lies = [
+        (5, 2, at(97, DumpFaultKind::Truncated)),
+        (12, 3, at(97, DumpFaultKind::Lsa(LsaFault::Truncated))),
+        (12, 1, at(51, DumpFaultKind::Lsa(LsaFault::Length))),
+        (36, 2, at(13, DumpFaultKind::Lsa(LsaFault::Body))),
+        (46, 1, at(13, DumpFaultKind::Lsa(LsaFault::Body))),
+        (68, 0x31, at(49, DumpFaultKind::Lsa(LsaFault::Body))),
+        (68, 0x33, at(49, DumpFaultKind::Lsa(LsaFault::Truncated))),
+    ];
+    for (place, octet, fault) in lies {
+        assert_eq!(rt;
+            fault_of(&rt, &changed(place, octet)),
+            fault,
+            "octet {place} as {octet}"
+        );
+    }
+    // 65,535 LSAs of AS scope.
+    let mut bytes = changed(97, 0xff);
+    bytes[98] = 0xff;
+    let fault = at(99, DumpFaultKind::Lsa(LsaFault::Truncated));
+    assert_eq!(rt; fault_of(&rt, &bytes), fault);
 }
 
 #[test]
@@ -143,27 +181,18 @@ fn tells_faults_of_areas(rt: HostRuntime) {
 #[test]
 fn tells_faults_of_lsas(rt: HostRuntime) {
     let mut bytes = DUMP;
-    bytes[12] = 3;
-    assert_eq!(rt;
-        fault_of(&rt, &bytes),
-        at(97, DumpFaultKind::Lsa(LsaFault::Truncated))
-    );
-    let mut bytes = DUMP;
-    bytes[68] = 0x33;
-    assert_eq!(rt;
-        fault_of(&rt, &bytes),
-        at(49, DumpFaultKind::Lsa(LsaFault::Truncated))
-    );
-    bytes[68] = 0x31;
-    assert_eq!(rt;
-        fault_of(&rt, &bytes),
-        at(49, DumpFaultKind::Lsa(LsaFault::Body))
-    );
-    let mut bytes = DUMP;
     for i in 0..36 {
         bytes[49 + i] = DUMP[13 + i];
     }
     assert_eq!(rt; fault_of(&rt, &bytes), at(49, DumpFaultKind::DuplicateLsa));
+    // The first LSA's link has metric 0: with the old checksum, and with the right one.
+    let mut bytes = changed(48, 0);
+    let fault = at(13, DumpFaultKind::Lsa(LsaFault::Checksum));
+    assert_eq!(rt; fault_of(&rt, &bytes), fault);
+    bytes[29] = 0x21;
+    bytes[30] = 0x19;
+    let fault = at(13, DumpFaultKind::Lsa(LsaFault::ZeroCost));
+    assert_eq!(rt; fault_of(&rt, &bytes), fault);
 }
 
 #[test]
