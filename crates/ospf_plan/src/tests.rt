@@ -5,6 +5,7 @@ mod exits;
 mod failing;
 mod memory;
 mod options;
+mod outcome;
 mod records;
 mod runs;
 mod watching;

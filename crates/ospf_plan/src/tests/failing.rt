@@ -1,11 +1,10 @@
 //! Readers and writers that fail at each octet in turn.
 
 use super::doubles::{Failing, Sink, Source, Zeros};
+use super::outcome::{run_whole, run_without_out};
 use crate::fault::RunFault;
-use crate::running::run;
 use crate::sample::SAMPLE;
 use crate::script::Summary;
-use crate::watch::Watched;
 use lsdb::{DumpFault, DumpFaultKind};
 use std::test::*;
 
@@ -23,39 +22,30 @@ const SUMMARY: Summary = Summary {
 
 #[test]
 fn runs_over_short_reads_and_writes(rt: HostRuntime) -> Result<(), Fail> {
-    let mut dump = Watched::new(Source::new(SAMPLE, 1, None));
-    let mut script = Watched::new(Source::new(SCRIPT, 1, None));
-    let mut replies = Watched::new(Sink::new(rt.alloc(), 1, NEVER, Failing::WriteErrs));
-    let mut out = Watched::new(Sink::new(rt.alloc(), 1, NEVER, Failing::WriteErrs));
-    let result = run(
-        rt.alloc(),
-        &mut dump,
-        &mut script,
-        &mut replies,
-        Some(&mut out),
-    );
-    assert_eq!(rt; result, Ok(SUMMARY));
-    assert_eq!(rt; replies.into_inner().taken.as_slice(), REPLIES);
-    assert_eq!(rt; out.into_inner().taken.as_slice(), SAMPLE);
+    let dump = Source::new(SAMPLE, 1, None);
+    let script = Source::new(SCRIPT, 1, None);
+    let replies = Sink::new(rt.alloc(), 1, NEVER, Failing::WriteErrs);
+    let out = Sink::new(rt.alloc(), 1, NEVER, Failing::WriteErrs);
+    let ended = run_whole(rt.alloc(), dump, script, replies, out);
+    assert_eq!(rt; ended.result, Ok(SUMMARY));
+    assert_eq!(rt; ended.replies.stream.taken.as_slice(), REPLIES);
+    assert_eq!(rt; ended.out.stream.taken.as_slice(), SAMPLE);
     Ok(())
 }
 
 #[test]
 fn the_dump_fails_at_each_octet(rt: HostRuntime) -> Result<(), Fail> {
     for n in 0..SAMPLE.len() + 1 {
-        let mut dump = Watched::new(Source::new(SAMPLE, 1, Some(n)));
-        let mut script = Watched::new(SCRIPT);
-        let mut replies = Watched::new(Vec::new(rt.alloc()));
-        let result = run(
+        let dump = Source::new(SAMPLE, 1, Some(n));
+        let (result, dump, _, replies) = run_without_out(
             rt.alloc(),
-            &mut dump,
-            &mut script,
-            &mut replies,
-            None::<&mut Watched<Vec<u8>>>,
+            dump,
+            SCRIPT,
+            Vec::new(rt.alloc()),
         );
         assert_eq!(rt; result, Err(RunFault::Read), "after {n} octets");
-        assert!(rt; dump.failed());
-        assert!(rt; replies.into_inner().is_empty());
+        assert!(rt; dump.failed);
+        assert!(rt; replies.stream.is_empty());
     }
     Ok(())
 }
@@ -63,21 +53,13 @@ fn the_dump_fails_at_each_octet(rt: HostRuntime) -> Result<(), Fail> {
 #[test]
 fn the_script_fails_at_each_octet(rt: HostRuntime) -> Result<(), Fail> {
     for n in 0..SCRIPT.len() + 1 {
-        let mut dump = Watched::new(SAMPLE);
-        let mut script = Watched::new(Source::new(SCRIPT, 1, Some(n)));
-        let mut replies = Watched::new(Vec::new(rt.alloc()));
-        let mut out = Watched::new(Vec::new(rt.alloc()));
-        let result = run(
-            rt.alloc(),
-            &mut dump,
-            &mut script,
-            &mut replies,
-            Some(&mut out),
-        );
-        assert_eq!(rt; result, Err(RunFault::Read), "after {n} octets");
-        assert!(rt; script.failed());
-        assert!(rt; replies.into_inner().is_empty());
-        assert!(rt; out.into_inner().is_empty());
+        let script = Source::new(SCRIPT, 1, Some(n));
+        let (replies, out) = (Vec::new(rt.alloc()), Vec::new(rt.alloc()));
+        let ended = run_whole(rt.alloc(), SAMPLE, script, replies, out);
+        assert_eq!(rt; ended.result, Err(RunFault::Read), "after {n} octets");
+        assert!(rt; ended.script.failed);
+        assert!(rt; ended.replies.stream.is_empty());
+        assert!(rt; ended.out.stream.is_empty());
     }
     Ok(())
 }
@@ -86,24 +68,13 @@ fn the_script_fails_at_each_octet(rt: HostRuntime) -> Result<(), Fail> {
 fn the_replies_fail_at_each_octet(rt: HostRuntime) -> Result<(), Fail> {
     for failing in [Failing::WriteErrs, Failing::WriteTakesNone] {
         for n in 0..REPLIES.len() {
-            let mut dump = Watched::new(SAMPLE);
-            let mut script = Watched::new(SCRIPT);
-            let mut replies = Watched::new(Sink::new(rt.alloc(), 1, n, failing));
-            let mut out = Watched::new(Vec::new(rt.alloc()));
-            let result = run(
-                rt.alloc(),
-                &mut dump,
-                &mut script,
-                &mut replies,
-                Some(&mut out),
-            );
-            assert_eq!(rt; result, Err(RunFault::Write), "after {n} octets");
-            assert!(rt; replies.failed());
-            assert_eq!(rt;
-                Some(replies.into_inner().taken.as_slice()),
-                REPLIES.get(..n)
-            );
-            assert!(rt; out.into_inner().is_empty());
+            let replies = Sink::new(rt.alloc(), 1, n, failing);
+            let ended = run_whole(rt.alloc(), SAMPLE, SCRIPT, replies, Vec::new(rt.alloc()));
+            assert_eq!(rt; ended.result, Err(RunFault::Write), "after {n} octets");
+            assert!(rt; ended.replies.failed);
+            let taken = ended.replies.stream.taken.as_slice();
+            assert_eq!(rt; Some(taken), REPLIES.get(..n));
+            assert!(rt; ended.out.stream.is_empty());
         }
     }
     Ok(())
@@ -113,21 +84,13 @@ fn the_replies_fail_at_each_octet(rt: HostRuntime) -> Result<(), Fail> {
 fn the_written_dump_fails_at_each_octet(rt: HostRuntime) -> Result<(), Fail> {
     for failing in [Failing::WriteErrs, Failing::WriteTakesNone] {
         for n in 0..SAMPLE.len() {
-            let mut dump = Watched::new(SAMPLE);
-            let mut script = Watched::new(SCRIPT);
-            let mut replies = Watched::new(Vec::new(rt.alloc()));
-            let mut out = Watched::new(Sink::new(rt.alloc(), 1, n, failing));
-            let result = run(
-                rt.alloc(),
-                &mut dump,
-                &mut script,
-                &mut replies,
-                Some(&mut out),
-            );
-            assert_eq!(rt; result, Err(RunFault::Write), "after {n} octets");
-            assert!(rt; out.failed());
-            assert_eq!(rt; replies.into_inner().as_slice(), REPLIES);
-            assert_eq!(rt; Some(out.into_inner().taken.as_slice()), SAMPLE.get(..n));
+            let out = Sink::new(rt.alloc(), 1, n, failing);
+            let ended = run_whole(rt.alloc(), SAMPLE, SCRIPT, Vec::new(rt.alloc()), out);
+            assert_eq!(rt; ended.result, Err(RunFault::Write), "after {n} octets");
+            assert!(rt; ended.out.failed);
+            assert_eq!(rt; ended.replies.stream.as_slice(), REPLIES);
+            let taken = ended.out.stream.taken.as_slice();
+            assert_eq!(rt; Some(taken), SAMPLE.get(..n));
         }
     }
     Ok(())
@@ -135,74 +98,46 @@ fn the_written_dump_fails_at_each_octet(rt: HostRuntime) -> Result<(), Fail> {
 
 #[test]
 fn a_flush_fails(rt: HostRuntime) -> Result<(), Fail> {
-    let mut dump = Watched::new(SAMPLE);
-    let mut script = Watched::new(SCRIPT);
-    let mut replies = Watched::new(Sink::new(rt.alloc(), 1, NEVER, Failing::FlushErrs));
-    let result = run(
-        rt.alloc(),
-        &mut dump,
-        &mut script,
-        &mut replies,
-        None::<&mut Watched<Vec<u8>>>,
-    );
+    let replies = Sink::new(rt.alloc(), 1, NEVER, Failing::FlushErrs);
+    let (result, _, _, replies) = run_without_out(rt.alloc(), SAMPLE, SCRIPT, replies);
     assert_eq!(rt; result, Err(RunFault::Write));
-    assert_eq!(rt; replies.into_inner().taken.as_slice(), REPLIES);
+    assert_eq!(rt; replies.stream.taken.as_slice(), REPLIES);
     Ok(())
 }
 
 #[test]
 fn the_flush_of_the_written_dump_fails(rt: HostRuntime) -> Result<(), Fail> {
-    let mut dump = Watched::new(SAMPLE);
-    let mut script = Watched::new(SCRIPT);
-    let mut replies = Watched::new(Vec::new(rt.alloc()));
-    let mut out = Watched::new(Sink::new(rt.alloc(), 1, NEVER, Failing::FlushErrs));
-    let result = run(
-        rt.alloc(),
-        &mut dump,
-        &mut script,
-        &mut replies,
-        Some(&mut out),
-    );
-    assert_eq!(rt; result, Err(RunFault::Write));
-    assert_eq!(rt; out.into_inner().taken.as_slice(), SAMPLE);
+    let out = Sink::new(rt.alloc(), 1, NEVER, Failing::FlushErrs);
+    let ended = run_whole(rt.alloc(), SAMPLE, SCRIPT, Vec::new(rt.alloc()), out);
+    assert_eq!(rt; ended.result, Err(RunFault::Write));
+    assert_eq!(rt; ended.out.stream.taken.as_slice(), SAMPLE);
     Ok(())
 }
 
 #[test]
 fn an_endless_dump(rt: HostRuntime) -> Result<(), Fail> {
-    let mut dump = Watched::new(Zeros { given: 0 });
-    let mut script = Watched::new(SCRIPT);
-    let mut replies = Watched::new(Vec::new(rt.alloc()));
-    let result = run(
-        rt.alloc(),
-        &mut dump,
-        &mut script,
-        &mut replies,
-        None::<&mut Watched<Vec<u8>>>,
-    );
+    let endless = Zeros { given: 0 };
+    let (result, dump, _, _) = run_without_out(rt.alloc(), endless, SCRIPT, Vec::new(rt.alloc()));
     let fault = DumpFault {
         offset: 0,
         kind: DumpFaultKind::TooLarge,
     };
     assert_eq!(rt; result, Err(RunFault::Dump(fault)));
-    assert_eq!(rt; dump.into_inner().given, 16_777_217);
+    assert_eq!(rt; dump.stream.given, 16_777_217);
     Ok(())
 }
 
 #[test]
 fn an_endless_script(rt: HostRuntime) -> Result<(), Fail> {
-    let mut dump = Watched::new(SAMPLE);
-    let mut script = Watched::new(Zeros { given: 0 });
-    let mut replies = Watched::new(Vec::new(rt.alloc()));
-    let result = run(
+    let endless = Zeros { given: 0 };
+    let (result, _, script, replies) = run_without_out(
         rt.alloc(),
-        &mut dump,
-        &mut script,
-        &mut replies,
-        None::<&mut Watched<Vec<u8>>>,
+        SAMPLE,
+        endless,
+        Vec::new(rt.alloc()),
     );
     assert_eq!(rt; result, Err(RunFault::TooLarge));
-    assert_eq!(rt; script.into_inner().given, 1_048_577);
-    assert!(rt; replies.into_inner().is_empty());
+    assert_eq!(rt; script.stream.given, 1_048_577);
+    assert!(rt; replies.stream.is_empty());
     Ok(())
 }

@@ -1,10 +1,9 @@
 //! Each growth refused in turn, and growths counted.
 
+use super::outcome::run_whole;
 use crate::fault::RunFault;
-use crate::running::run;
 use crate::sample::SAMPLE;
 use crate::script::Summary;
-use crate::watch::Watched;
 use edit_history::{EditFault, RedoFault, UndoFault};
 use edit_script::Edit;
 use lsa_codec::{Addr, AreaId, Lsa, Prefix, RouterId};
@@ -21,17 +20,15 @@ const SCRIPT: &[u8] =
 const REPLIES: &[u8] =
     b"@0 ok\nscript S2 UnknownWord\n@0 refused E4 ZeroCost\n@0 refused U1 NothingToUndo\n@0 ok\n";
 
-/// A run over memory that writes into room of its own.
+/// A run over memory that writes into room of its own: its result, the replies and the dump.
 fn answer<A: Allocator + Copy>(
     alloc: A,
     room: Global,
 ) -> Result<(Result<Summary, RunFault>, Vec<u8>, Vec<u8>), Fail> {
-    let mut dump = Watched::new(SAMPLE);
-    let mut script = Watched::new(SCRIPT);
-    let mut replies = Watched::new(Vec::with_capacity(room, 1000)?);
-    let mut out = Watched::new(Vec::with_capacity(room, 1000)?);
-    let result = run(alloc, &mut dump, &mut script, &mut replies, Some(&mut out));
-    Ok((result, replies.into_inner(), out.into_inner()))
+    let replies = Vec::with_capacity(room, 1000)?;
+    let out = Vec::with_capacity(room, 1000)?;
+    let ended = run_whole(alloc, SAMPLE, SCRIPT, replies, out);
+    Ok((ended.result, ended.replies.stream, ended.out.stream))
 }
 
 #[test]

@@ -1,10 +1,9 @@
 //! Whole runs over slices and vectors.
 
+use super::outcome::run_whole;
 use crate::fault::RunFault;
-use crate::running::run;
 use crate::sample::SAMPLE;
 use crate::script::Summary;
-use crate::watch::Watched;
 use lsdb::{DumpFault, DumpFaultKind};
 use std::alloc::Global;
 use std::test::*;
@@ -18,15 +17,12 @@ struct Ended {
 }
 
 fn run_on(alloc: Global, dump: &[u8], script: &str) -> Ended {
-    let mut dump = Watched::new(dump);
-    let mut script = Watched::new(script.as_bytes());
-    let mut replies = Watched::new(Vec::new(alloc));
-    let mut out = Watched::new(Vec::new(alloc));
-    let result = run(alloc, &mut dump, &mut script, &mut replies, Some(&mut out));
+    let (replies, out) = (Vec::new(alloc), Vec::new(alloc));
+    let ended = run_whole(alloc, dump, script.as_bytes(), replies, out);
     Ended {
-        result,
-        replies: replies.into_inner(),
-        dump: out.into_inner(),
+        result: ended.result,
+        replies: ended.replies.stream,
+        dump: ended.out.stream,
     }
 }
 
