@@ -1,0 +1,14 @@
+//! The graph of an area (RFC 2328, 16.1): its vertices, which are routers and transit networks,
+//! and the edges out of each.
+//!
+//! [`Graph`] numbers the vertices from 0 in the order in which their LSAs stand in the area.
+#![tactic(auto)]
+
+mod edge;
+mod graph;
+mod numbers;
+mod vertex;
+
+pub use edge::Edge;
+pub use graph::Graph;
+pub use vertex::Vertex;
