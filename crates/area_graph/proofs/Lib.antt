@@ -6,3 +6,6 @@ pub mod SmallGraphs
 pub mod VertexLemmas
 pub mod TopologyLemmas
 pub mod EdgeLemmas
+pub mod RankLemmas
+pub mod TieLemmas
+pub mod Equality

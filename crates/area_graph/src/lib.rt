@@ -5,10 +5,14 @@
 #![tactic(auto)]
 
 mod edge;
+mod fault;
 mod graph;
 mod numbers;
+mod ties;
+mod used;
 mod vertex;
 
 pub use edge::Edge;
+pub use fault::GraphFault;
 pub use graph::Graph;
 pub use vertex::Vertex;
