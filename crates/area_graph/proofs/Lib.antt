@@ -9,3 +9,4 @@ pub mod EdgeLemmas
 pub mod RankLemmas
 pub mod TieLemmas
 pub mod Equality
+pub mod DraftLemmas

@@ -10,3 +10,4 @@ pub mod Joins
 pub mod Graphs
 pub mod Ranks
 pub mod Ties
+pub mod Drafts
