@@ -10,3 +10,5 @@ pub mod RankLemmas
 pub mod TieLemmas
 pub mod Equality
 pub mod DraftLemmas
+pub mod AddsLemmas
+pub mod LinkLemmas

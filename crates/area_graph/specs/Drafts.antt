@@ -38,11 +38,13 @@ HasEnds vertices e = Contains vertices e.from × Contains vertices e.to
 abbrev pub IsThis : List Vertex → DirectedEdge Vertex → DirectedEdge Vertex → Type 0
 IsThis vertices f e = (e ≡ f) × HasEnds vertices f
 
--- the edge over a link of a vertex that the other end names, or the edge back of one that leads to a network
+-- this edge, or, where it leads to a network, the edge back
+abbrev pub IsEitherWay : List Vertex → DirectedEdge Vertex → DirectedEdge Vertex → Type 0
+IsEitherWay vertices f e = IsThis vertices f e ⊎ ((is_network f.to ≡ true) × IsThis vertices (back f) e)
+
+-- an edge over a link of a vertex that the other end names
 abbrev pub IsOverLink : List Vertex → (Vertex → Vertex → Bool) → Vertex → Link → DirectedEdge Vertex → Type 0
-IsOverLink vertices is_tied v link e =
-    (f : DirectedEdge Vertex) × (edge_over v link ≡ Some f) × (is_tied f.to f.from ≡ true)
-    × (IsThis vertices f e ⊎ ((is_network f.to ≡ true) × IsThis vertices (back f) e))
+IsOverLink vertices is_tied v link e = (f : DirectedEdge Vertex) × (edge_over v link ≡ Some f) × (is_tied f.to f.from ≡ true) × IsEitherWay vertices f e
 
 abbrev pub IsOverLinks : List Vertex → (Vertex → Vertex → Bool) → Vertex → List Link → DirectedEdge Vertex → Type 0
 IsOverLinks vertices is_tied v links e = (link : Link) × Contains links link × IsOverLink vertices is_tied v link e

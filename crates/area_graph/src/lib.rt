@@ -8,6 +8,7 @@ mod draft;
 mod edge;
 mod fault;
 mod graph;
+mod links;
 mod numbers;
 mod ties;
 mod used;
