@@ -12,3 +12,4 @@ pub mod Equality
 pub mod DraftLemmas
 pub mod AddsLemmas
 pub mod LinkLemmas
+pub mod AreaLemmas

@@ -8,6 +8,7 @@ mod draft;
 mod edge;
 mod fault;
 mod graph;
+mod laws;
 mod links;
 mod numbers;
 mod ties;
