@@ -28,7 +28,7 @@ abbrev pub number_in : Vertex → ℕ
 number_in (Router v) = v.0
 number_in (Network n) = n.0
 
-number_of_vertex : (lsa : List ℕ) → number_in (vertex_of lsa) ≡ link_state_id_of lsa
+pub number_of_vertex : (lsa : List ℕ) → number_in (vertex_of lsa) ≡ link_state_id_of lsa
 number_of_vertex lsa = by (is_router_lsa lsa)
   where
     by : (b : Bool) → number_in (cond b (Router (record { 0 = link_state_id_of lsa })) (Network (record { 0 = link_state_id_of lsa }))) ≡ link_state_id_of lsa

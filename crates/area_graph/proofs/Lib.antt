@@ -13,3 +13,6 @@ pub mod DraftLemmas
 pub mod AddsLemmas
 pub mod LinkLemmas
 pub mod AreaLemmas
+pub mod OverLemmas
+pub mod UsedLemmas
+pub mod GraphLemmas

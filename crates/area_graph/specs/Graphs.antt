@@ -1,5 +1,7 @@
 -- The graph of an area.
-use Rattle.std.specs.Prelude.{◌≡◌, ◌≢◌, ◌↔◌, ℕ, List, AllPairs, Contains, Option, Some, None, ⊤}
+use Rattle.std.specs.Prelude.{◌≡◌, ◌≢◌, ◌↔◌, ℕ, ◌≤◌, List, length, All, AllPairs, Contains, Option, Some, None, ⊤}
+use Rattle.lsa_codec.specs.Key.{key_of}
+use Rattle.lsa_codec.specs.Accepted.{IsAccepted}
 use Rattle.lsdb.specs.Lists.{SectionLsas}
 use Rattle.area_graph.specs.declared.vertex.Vertex.{Vertex}
 use Rattle.area_graph.specs.declared.fault.GraphFault.{GraphFault}
@@ -18,7 +20,11 @@ pub record IsGraphOf (lsas : List (List ℕ)) (graph : Topology) : Type 0 where
 
 -- when each fault comes, for the area if it is there
 abbrev pub FaultMeans : Option SectionLsas → GraphFault → Type 0
-FaultMeans (Some area) NoArea = ⊥
-FaultMeans (Some area) OutOfMemory = ⊤
-FaultMeans None NoArea = ⊤
-FaultMeans None OutOfMemory = ⊥
+FaultMeans None fault = fault ≡ NoArea
+FaultMeans (Some area) fault = fault ≡ OutOfMemory
+
+-- what holds of the LSAs of an area in a database
+pub record AreOfArea (lsas : List (List ℕ)) : Type 0 where
+  pub accepted : All IsAccepted lsas
+  pub distinct : AllPairs (λ a b. key_of a ≢ key_of b) lsas
+  pub few : length lsas ≤ 8192

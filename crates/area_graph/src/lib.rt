@@ -4,6 +4,7 @@
 //! [`Graph`] numbers the vertices from 0 in the order in which their LSAs stand in the area.
 #![tactic(auto)]
 
+mod build;
 mod draft;
 mod edge;
 mod fault;
