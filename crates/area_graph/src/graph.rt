@@ -1,0 +1,93 @@
+//! The graph of an area and its readers.
+
+ghost use Rattle.std.specs.Prelude.{◌≡◌, ◌≢◌, ◌<◌, length, slice_get, Some, IfSome, IfNone, Contains, All, AllPairs, option_map};
+ghost use Rattle.area_graph.specs.Vertex.{is_network};
+ghost use Rattle.area_graph.specs.Topology.{IsTopology, row_at};
+
+use crate::draft::Row;
+use crate::edge::Edge;
+use crate::numbers::{Vertices, number_of};
+use crate::vertex::Vertex;
+use std::alloc::{Allocator, Global};
+use std::marker::Model;
+
+/// The graph of an area. Contracts see it as the list of its vertices and, for each, the list of
+/// the edges out of it.
+///
+/// It has at most 8,192 vertices, all distinct. Each edge leads to one of them. An edge out of a
+/// network leads to a router and costs nothing, and an edge out of a router costs something.
+#[derive(Drop)]
+pub struct Graph<A: Allocator = Global> {
+    pub(crate) vertices: Vertices<A>,
+    pub(crate) rows: Vec<Row<A>, A>,
+}
+
+impl<A: Allocator> Model for Graph<A> {
+    ghost use Rattle.std.specs.Prelude.{map};
+    ghost use Rattle.area_graph.specs.Topology.{Topology, IsTopology};
+
+    ghost Value = { Topology };
+
+    ghost view = { λ g. record { vertices = g.vertices.keys; rows = map (λ row. row.keys) g.rows.items } };
+
+    ghost invariant = { λ g. IsTopology (record { vertices = g.vertices.keys; rows = map (λ row. row.keys) g.rows.items }) };
+}
+
+impl<A: Allocator + Copy> Graph<A> {
+    /// How many vertices there are.
+    pub fn len(&self) -> usize
+        ensures count { result ≡ length self.now.vertices }
+        ensures shape { IsTopology self.now }
+    {
+        self.vertices.len()
+    }
+
+    /// The vertex with a number.
+    pub fn vertex(&self, index: usize) -> Vertex
+        requires { index < length self.now.vertices }
+        ensures vertex { slice_get self.now.vertices index ≡ Some result }
+        ensures shape { IsTopology self.now }
+    {
+        self.vertices.as_slice()[index]
+    }
+
+    /// The number of a vertex, and None where the graph has no such vertex.
+    pub fn index_of(&self, vertex: Vertex) -> Option<usize>
+        ensures number { IfSome result (λ i. slice_get self.now.vertices i ≡ Some vertex) }
+        ensures within { IfSome result (λ i. i < length self.now.vertices) }
+        ensures absent { IfNone result (¬ Contains self.now.vertices vertex) }
+        ensures shape { IsTopology self.now }
+    {
+        number_of(&self.vertices, vertex)
+    }
+
+    /// Whether the vertex with a number is a transit network.
+    pub fn is_network(&self, index: usize) -> bool
+        requires { index < length self.now.vertices }
+        ensures kind { option_map is_network (slice_get self.now.vertices index) ≡ Some result }
+        ensures shape { IsTopology self.now }
+    {
+        self.vertex(index).is_network()
+    }
+
+    /// The edges out of the vertex with a number, no two of them equal.
+    pub fn edges(&self, index: usize) -> &[Edge]
+        requires { index < length self.now.vertices }
+        ensures row { result.now ≡ row_at self.now index }
+        ensures targets { All (λ e. e.to < length self.now.vertices) result.now }
+        ensures once { AllPairs (λ e f. e ≢ f) result.now }
+        ensures shape { IsTopology self.now }
+    {
+        self.row(index)
+    }
+
+    #[tactic(auto, using(crate::proofs::Equality::edges_once))]
+    fn row(&self, index: usize) -> &[Edge]
+        requires { index < length self.now.vertices }
+        ensures row { result.now ≡ row_at self.now index }
+        ensures once { AllPairs (λ e f. e ≢ f) result.now }
+        ensures shape { IsTopology self.now }
+    {
+        self.rows[index].as_slice()
+    }
+}

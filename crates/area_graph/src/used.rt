@@ -1,0 +1,104 @@
+//! The LSAs of an area that make its graph: those in use.
+
+ghost use Rattle.std.specs.Prelude.{◌≡◌, IfOk};
+ghost use Rattle.area_graph.specs.Area.{is_vertex_lsa, vertex_lsas, highest, used, vertex_of};
+
+use crate::ranks::{is_outranked, ranks};
+use crate::vertex::Vertex;
+use lsa_codec::{Lsa, RouterId};
+use lsdb::Lsas;
+use std::alloc::{AllocError, Allocator};
+use std::marker::Model;
+
+/// The LSA of a vertex. Contracts see it as its octets.
+#[derive(Drop)]
+pub(crate) struct VertexLsa<'a, A: Allocator> {
+    lsa: &'a Lsa<A>,
+}
+
+impl<'a, A: Allocator> Model for VertexLsa<'a, A> {
+    ghost use Rattle.std.specs.Prelude.{List, ℕ};
+
+    ghost Value = { List ℕ };
+
+    ghost view = { λ v. v.lsa.now };
+}
+
+impl<'a, A: Allocator + Copy> VertexLsa<'a, A> {
+    fn of(lsa: &'a Lsa<A>) -> VertexLsa<'a, A>
+        ensures { result ≡ lsa.now }
+    {
+        VertexLsa { lsa }
+    }
+
+    pub(crate) fn lsa(&self) -> &'a Lsa<A>
+        ensures { result.now ≡ self.now }
+    {
+        self.lsa
+    }
+}
+
+/// The vertex of a router-LSA or network-LSA.
+pub(crate) fn vertex_of<A: Allocator + Copy>(lsa: &Lsa<A>) -> Vertex
+    ensures { result ≡ vertex_of lsa.now }
+{
+    let key = lsa.key();
+    if key.kind == 1 {
+        Vertex::Router(RouterId(key.id.0))
+    } else {
+        Vertex::Network(key.id)
+    }
+}
+
+fn is_vertex_lsa<A: Allocator + Copy>(lsa: &Lsa<A>) -> bool
+    ensures { result ≡ is_vertex_lsa lsa.now }
+{
+    let kind = lsa.key().kind;
+    !lsa.at_max_age() && (kind == 1 || kind == 2)
+}
+
+/// The live router-LSAs and network-LSAs, in their order.
+fn vertex_lsas<'a, A: Allocator + Copy>(
+    alloc: A,
+    lsas: Lsas<'a, A>,
+) -> Result<Vec<VertexLsa<'a, A>, A>, AllocError>
+    ensures { IfOk result (λ found. found.items ≡ vertex_lsas lsas.entry) }
+{
+    let mut found = Vec::new(alloc);
+    for lsa in lsas {
+        if is_vertex_lsa(lsa) {
+            found.push(VertexLsa::of(lsa))?;
+        }
+    }
+    Ok(found)
+}
+
+/// The LSAs that no other outranks, in their order.
+fn highest<'a, A: Allocator + Copy>(
+    alloc: A,
+    lsas: &[VertexLsa<'a, A>],
+) -> Result<Vec<VertexLsa<'a, A>, A>, AllocError>
+    ensures { IfOk result (λ found. found.items ≡ highest lsas.now) }
+{
+    let ranks = ranks(alloc, lsas)?;
+    let mut found = Vec::new(alloc);
+    for lsa in lsas {
+        if !is_outranked(&ranks, lsa.lsa()) {
+            found.push(VertexLsa::of(lsa.lsa()))?;
+        }
+    }
+    Ok(found)
+}
+
+/// The LSAs of an area that are in use, in their order: the live router-LSAs and, of the live
+/// network-LSAs of one Link State ID, the one with the greatest Advertising Router.
+#[tactic(auto, unfolding(crate::specs::Area::used))]
+pub(crate) fn used<'a, A: Allocator + Copy>(
+    alloc: A,
+    lsas: Lsas<'a, A>,
+) -> Result<Vec<VertexLsa<'a, A>, A>, AllocError>
+    ensures { IfOk result (λ found. found.items ≡ used lsas.entry) }
+{
+    let live = vertex_lsas(alloc, lsas)?;
+    highest(alloc, &live)
+}
