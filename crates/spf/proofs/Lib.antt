@@ -8,6 +8,7 @@ pub mod Taking
 pub mod Settling
 pub mod Covering
 pub mod Settled
+pub mod Stepping
 pub mod Trees
 pub mod Orders
 pub mod WholeTree

@@ -3,7 +3,7 @@
 ghost use Rattle.std.specs.Prelude.{◌≡◌, ℕ, ◌<◌, ◌≤◌, ◌+◌, ◌^◌, [], ◌∷◌, ◌++◌, length, slice_set, slice_index_or, OnOk, None, Some};
 ghost use Rattle.area_graph.specs.Topology.{IsTopology};
 ghost use Rattle.spf.specs.Candidates.{candidate_at};
-ghost use Rattle.spf.specs.Search.{PushesEdge, PushesNeighbours, IsSettled};
+ghost use Rattle.spf.specs.Search.{PushesEdge, PushesNeighbours, SettlesOne, SettlesNew, IsSettled};
 
 use crate::queue::{Candidate, Queue};
 use area_graph::{Edge, Graph};
@@ -71,14 +71,30 @@ fn settle_one<A: Allocator + Copy>(
     requires sized { length distances.old ≡ length graph.now.vertices }
     requires within { next.index < length graph.now.vertices }
     requires small { next.distance < 2 ^ 63 }
-    ensures distances { OnOk result (distances.new ≡ slice_set distances.old next.index (Some next.distance)) }
-    ensures order { OnOk result (order.new.items ≡ order.old.items ++ next.index ∷ []) }
-    ensures pushes { OnOk result (PushesNeighbours graph.now next.index next.distance distances.new queue.old queue.new) }
-    ensures count { OnOk result (length queue.new < length queue.old + 2 ^ 64) }
+    ensures { OnOk result (SettlesOne graph.now next distances.old order.old.items queue.old distances.new order.new.items queue.new) }
 {
     distances[next.index] = Some(next.distance);
     order.push(next.index)?;
     push_neighbours(graph, next.index, next.distance, distances, queue)
+}
+
+/// Settles the vertex of a candidate, unless it is settled.
+fn settle_new<A: Allocator + Copy>(
+    graph: &Graph<A>,
+    next: Candidate,
+    distances: &mut [Option<u64>],
+    order: &mut Vec<usize, A>,
+    queue: &mut Queue<A>,
+) -> Result<(), AllocError>
+    requires sized { length distances.old ≡ length graph.now.vertices }
+    requires within { next.index < length graph.now.vertices }
+    requires small { next.distance < 2 ^ 63 }
+    ensures { OnOk result (SettlesNew graph.now next distances.old order.old.items queue.old distances.new order.new.items queue.new) }
+{
+    if distances[next.index].is_none() {
+        settle_one(graph, next, distances, order, queue)?;
+    }
+    Ok(())
 }
 
 /// Settles every vertex that a path from the root reaches, in the order of their distances.
@@ -99,9 +115,7 @@ pub(crate) fn settle_all<A: Allocator + Copy>(
     let mut queue = Queue::new(alloc);
     queue.push(candidate(graph, 0, root))?;
     while let Some(next) = queue.pop() {
-        if distances[next.index].is_none() {
-            settle_one(graph, next, distances, order, &mut queue)?;
-        }
+        settle_new(graph, next, distances, order, &mut queue)?;
     }
     Ok(())
 }
