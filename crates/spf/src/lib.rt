@@ -18,3 +18,6 @@ pub use laws::distance_law;
 pub use meter::Meter;
 pub use rounds::distances_by_rounds;
 pub use tree::Tree;
+
+#[cfg(test)]
+mod tests;
