@@ -1,26 +1,26 @@
 -- Graphs with one more edge.
-use Rattle.std.proofs.Common.{◌≡◌, ◌≢◌, ℕ, zero, suc, ◌+◌, ◌<◌, ◌≤◌, ◌^◌, Bool, true, false, cond, ◌&&◌, ◌||◌, eqb, List, [], ◌∷◌, ◌++◌, map, length, get_or, set, Option, None, Some, refl, sym, ap, ◌∙◌, subst, arith, ◌⊎◌, inl, inr, ⊎_elim, true≢false}
+use Rattle.std.proofs.Common.{◌≡◌, ◌≢◌, ℕ, zero, suc, ◌<◌, ◌^◌, Bool, true, false, cond, ◌&&◌, eqb, List, [], ◌∷◌, ◌++◌, map, length, get_or, set, Some, refl, sym, ap, ◌∙◌, subst, arith, ◌⊎◌, inl, inr, ⊎_elim, true≢false}
 use Rattle.std.specs.List.{slice_get, Contains, AllPairs, list_any, position}
-use Rattle.std.proofs.lemmas.List.Elements.{Contains-push, Contains-push_cases, Contains-append_left, Contains-get_or}
+use Rattle.std.proofs.lemmas.List.Elements.{Contains-push, Contains-push_cases, Contains-append_left}
 use Rattle.std.proofs.lemmas.List.Quantifiers.{all_pairs_push}
 use Rattle.std.proofs.lemmas.List.Folds.{list_any_at}
-use Rattle.std.proofs.lemmas.List.{get_or-set_same, get_or-set_other, length-set, length-map, map-set, get_or-map, get_or_default, map_push, get_or_append_left, get_or_past, get_or_at, length_push}
+use Rattle.std.proofs.lemmas.List.{get_or-set_same, get_or-set_other, length-set, length-map, map-set, get_or-map}
 use Rattle.std.proofs.Math.Seq.{map-set_same}
 use Rattle.std.specs.Result.{OnOk, OnErr}
 use Rattle.std.specs.declared.result.Result.{Result}
 use Rattle.std.specs.declared.result.Result.TheVariants.{Ok, Err}
 use Rattle.std.proofs.lemmas.Map.Views.{Contains-from_any}
 use Rattle.std.proofs.lemmas.Option.{slice_get_within, get_or_from_slice_get}
-use Rattle.std.proofs.lemmas.Bool.{cases_eq, cases_lt, eqb-true, eq-eqb, and_parts, and_from}
+use Rattle.std.proofs.lemmas.Bool.{cases_eq, eqb-true, eq-eqb, and_parts, and_from}
 use Rattle.indexmap.specs.IndexSet.{insert_key}
 use Rattle.area_graph.specs.declared.vertex.Vertex.{Vertex}
 use Rattle.area_graph.specs.declared.edge.Edge.{Edge}
 use Rattle.area_graph.specs.Paths.{DirectedEdge}
-use Rattle.area_graph.specs.Topology.{Topology, IsArc, IsEdge, row_at}
-use Rattle.area_graph.specs.Drafts.{same_edge, IsDraft, with_edge, Adds, HasEnds, IsThis}
+use Rattle.area_graph.specs.Topology.{Topology, IsEdge, row_at}
+use Rattle.area_graph.specs.Drafts.{same_edge, IsDraft, with_edge, Adds, IsThis}
 use Rattle.area_graph.specs.Vertex.{is_same}
 use Rattle.area_graph.proofs.VertexLemmas.{found}
-use Rattle.area_graph.proofs.Members.{In-from_Contains, Contains-from_In, Some-same}
+use Rattle.area_graph.proofs.Members.{In-from_Contains, Some-same}
 
 -- ---- one row
 
@@ -37,6 +37,9 @@ same_itself : (a : Edge) → same_edge a a ≡ true
 same_itself a =
     and_from (eqb a.to a.to) (eqb a.cost a.cost && eqb a.link_data.0 a.link_data.0) (eq-eqb a.to a.to refl)
     (and_from (eqb a.cost a.cost) (eqb a.link_data.0 a.link_data.0) (eq-eqb a.cost a.cost refl) (eq-eqb a.link_data.0 a.link_data.0 refl))
+
+pub edge_same : (a b : Edge) → a ≡ b → same_edge a b ≡ true
+edge_same a b e = subst (λ (c : Edge). same_edge a c ≡ true) e (same_itself a)
 
 -- what a row has after an edge is inserted
 record Inserted (row : List Edge) (e : Edge) (new : List Edge) : Type 0 where
@@ -92,9 +95,9 @@ module _ (t : Topology) (draft : IsDraft t) (i : ℕ) (within : i < length t.ver
   draft_more to cost = record {
     a_row_each = length-set t.rows i (insert_key same_edge (row_at t i) e) ∙ draft.a_row_each;
     once = λ j. ⊎_elim
-      (λ same. subst (λ (k : ℕ). AllPairs (λ a b. a ≢ b) (row_at (with_edge t i e) k)) (sym same) (subst (λ (r : List Edge). AllPairs (λ a b. a ≢ b) r) (sym row_here) ((inserted (row_at t i) e).once (draft.once i))))
-      (λ other. subst (λ (r : List Edge). AllPairs (λ a b. a ≢ b) r) (sym (row_else j other)) (draft.once j))
-      (cases_eq j i);
+        (λ same. subst (λ (k : ℕ). AllPairs (λ a b. a ≢ b) (row_at (with_edge t i e) k)) (sym same) (subst (λ (r : List Edge). AllPairs (λ a b. a ≢ b) r) (sym row_here) ((inserted (row_at t i) e).once (draft.once i))))
+        (λ other. subst (λ (r : List Edge). AllPairs (λ a b. a ≢ b) r) (sym (row_else j other)) (draft.once j))
+        (cases_eq j i);
     in_range = λ a arc. ⊎_elim (λ old. draft.in_range a old) (λ new. subst (λ n. n < length t.vertices) (sym (ap (λ (x : Edge). x.to) new.1)) to) (row_only a.from (record { to = a.to; cost = a.cost; link_data = a.link_data }) arc);
     cost_below = λ a arc. ⊎_elim (λ old. draft.cost_below a old) (λ new. subst (λ n. n < 2 ^ 16) (sym (ap (λ (x : Edge). x.cost) new.1)) cost) (row_only a.from (record { to = a.to; cost = a.cost; link_data = a.link_data }) arc);
   }

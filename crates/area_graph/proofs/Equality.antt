@@ -1,10 +1,16 @@
 -- `==` of the crate's types.
-use Rattle.std.proofs.Common.{◌≡◌, Bool, ◌&&◌, refl, ap, ◌∙◌}
+use Rattle.std.proofs.Common.{◌≡◌, ◌≢◌, Bool, ◌&&◌, List, refl, ap, ◌∙◌, sym}
 use Rattle.area_graph.specs.declared.vertex.Vertex.{Vertex}
 use Rattle.area_graph.specs.declared.vertex.Vertex.TheVariants.{Router, Network}
 use Rattle.area_graph.specs.declared.ties.Tie.{Tie}
 use Rattle.area_graph.specs.contracts.vertex.VertexPartialEq.TheImpl as vertex_impl
 use Rattle.area_graph.specs.contracts.ties.TiePartialEq.TheImpl as tie_impl
+use Rattle.area_graph.specs.contracts.edge.EdgePartialEq.TheImpl as edge_impl
+use Rattle.area_graph.specs.declared.edge.Edge.{Edge}
+use Rattle.area_graph.specs.Drafts.{same_edge}
+use Rattle.area_graph.proofs.DraftLemmas.{edge_is, edge_same}
+use Rattle.std.specs.List.{AllPairs, IsDistinct}
+use Rattle.std.proofs.lemmas.Map.Made.{AllPairs-from_IsDistinct}
 use Rattle.area_graph.specs.Vertex.{is_same}
 use Rattle.area_graph.specs.Ties.{same_tie}
 
@@ -25,3 +31,14 @@ tie_by a b = ap (λ t. t && vertex_eq a.named b.named) (vertex_eq-is a.of b.of) 
 
 pub tie_eq-is : tie_eq ≡ same_tie
 tie_eq-is = λ i a b. tie_by a b i
+
+abbrev pub edge_eq : Edge → Edge → Bool
+edge_eq = (edge_impl.ghosts).eq
+
+edge_by : (a b : Edge) → edge_eq a b ≡ same_edge a b
+edge_by a b = refl
+
+-- edges that a set keeps are all different
+pub edges_once : (es : List Edge) → IsDistinct edge_eq es → AllPairs (λ e f. e ≢ f) es
+edges_once es distinct =
+    AllPairs-from_IsDistinct (λ a b. (λ h. edge_is a b (sym (edge_by a b) ∙ h), λ e. edge_by a b ∙ edge_same a b e)) es distinct

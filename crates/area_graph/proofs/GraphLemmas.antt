@@ -1,5 +1,5 @@
 -- The graph of an area, from its parts.
-use Rattle.std.proofs.Common.{◌≡◌, ◌≢◌, ℕ, ◌+◌, ◌<◌, ◌≤◌, Bool, true, false, cond, not, eqb, List, [], ◌∷◌, map, length, get_or, Option, None, Some, refl, sym, subst, ap, ◌∙◌, ◌⊎◌, inl, inr, ⊎_elim, arith, true≢false}
+use Rattle.std.proofs.Common.{◌≡◌, ◌≢◌, ℕ, ◌<◌, Bool, true, false, cond, not, eqb, List, [], ◌∷◌, map, length, Option, None, Some, refl, sym, subst, ap, ◌∙◌, inl, inr, ⊎_elim, arith, true≢false}
 use Rattle.std.specs.Prelude.{◌||◌}
 use Rattle.std.specs.List.{Contains, AllPairs, All, list_any, list_all, find}
 use Rattle.std.proofs.lemmas.List.{length-map, get_or-map}
@@ -9,12 +9,10 @@ use Rattle.lsa_codec.specs.declared.address.Addr.{Addr}
 use Rattle.lsa_codec.specs.declared.address.RouterId.{RouterId}
 use Rattle.lsa_codec.specs.declared.address.AreaId.{AreaId}
 use Rattle.lsa_codec.specs.declared.link.Link.{Link}
-use Rattle.lsa_codec.specs.declared.link.LinkKind.{LinkKind}
 use Rattle.lsa_codec.specs.Fields.{kind_of}
 use Rattle.lsa_codec.specs.Key.{key_of}
 use Rattle.lsa_codec.specs.Links.{links_of, has_cost}
 use Rattle.lsa_codec.specs.Accepted.{IsAccepted, is_link_cost_good}
-use Rattle.lsdb.specs.declared.section.Section.{Section}
 use Rattle.lsdb.specs.declared.section.Section.TheVariants.{Area}
 use Rattle.lsdb.specs.Lists.{SectionLsas, Lists, IsSection, IsDatabase, AreaHead, limit_of, is_section, lsas_or_none, lsas_of}
 use Rattle.area_graph.specs.declared.vertex.Vertex.{Vertex}
@@ -22,7 +20,7 @@ use Rattle.area_graph.specs.declared.vertex.Vertex.TheVariants.{Router, Network}
 use Rattle.area_graph.specs.Vertex.{is_network}
 use Rattle.area_graph.specs.Paths.{DirectedEdge}
 use Rattle.area_graph.specs.AllPaths.{distance_of}
-use Rattle.area_graph.specs.Topology.{Topology, IsTopology, IsEdge, edges_of}
+use Rattle.area_graph.specs.Topology.{Topology, IsEdge, edges_of}
 use Rattle.area_graph.specs.Area.{used, vertex_of}
 use Rattle.area_graph.specs.AreaEdges.{area_edges, names}
 use Rattle.area_graph.specs.Joins.{IsLinkTo, HasLink, Joins}

@@ -1,5 +1,5 @@
 -- The edges over a link.
-use Rattle.std.proofs.Common.{◌≡◌, ℕ, Bool, true, false, List, Option, Some, sym, ap, ◌∙◌, subst, ⊎_elim, ◌⊎◌, inl, inr, true≢false}
+use Rattle.std.proofs.Common.{◌≡◌, Bool, true, false, List, Option, Some, sym, ap, ◌∙◌, subst, ⊎_elim, ◌⊎◌, inl, inr, true≢false}
 use Rattle.std.specs.Option.{option_map}
 use Rattle.lsa_codec.specs.declared.link.Link.{Link}
 use Rattle.area_graph.specs.declared.vertex.Vertex.{Vertex}

@@ -1,5 +1,5 @@
 -- `area_edges` has exactly the edges that are added over the links of all LSAs.
-use Rattle.std.proofs.Common.{◌≡◌, ℕ, Bool, true, false, List, map, Some, refl, sym, ap, ◌∙◌, subst, ◌⊎◌, inl, inr, ⊎_elim}
+use Rattle.std.proofs.Common.{◌≡◌, ℕ, Bool, true, List, map, Some, refl, sym, ◌∙◌, subst, inl, inr, ⊎_elim}
 use Rattle.std.specs.List.{Contains, flat_map, filter, list_any}
 use Rattle.std.proofs.lemmas.Bool.{and_parts}
 use Rattle.area_graph.specs.declared.vertex.Vertex.{Vertex}
@@ -7,7 +7,7 @@ use Rattle.area_graph.specs.Vertex.{is_same, is_network}
 use Rattle.area_graph.specs.Paths.{DirectedEdge}
 use Rattle.area_graph.specs.Area.{vertex_of}
 use Rattle.area_graph.specs.AreaEdges.{names, named_by, edge_over, router_links, edges_over, is_returned, router_edges, back, area_edges}
-use Rattle.area_graph.specs.Drafts.{HasEnds, IsThis, IsEitherWay, IsOverLsas}
+use Rattle.area_graph.specs.Drafts.{HasEnds, IsEitherWay, IsOverLsas}
 use Rattle.area_graph.proofs.Members.{In, In-from_Contains, Contains-from_In, In-left, In-right, In-cases, In-map, map-In, In-flat_map, flat_map-In, In-filter, filter-In, In-filter_map, filter_map-In, list_any-In}
 use Rattle.area_graph.proofs.AllPathsLemmas.{same_from_is_same}
 use Rattle.area_graph.proofs.AreaLemmas.{over_is}

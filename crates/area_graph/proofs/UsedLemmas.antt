@@ -1,19 +1,17 @@
 -- The LSAs in use of an area.
-use Rattle.std.proofs.Common.{◌≡◌, ◌≢◌, ℕ, ◌<◌, ◌≤◌, Bool, true, false, not, cond, eqb, ltb, List, [], map, length, get_or, filter, refl, sym, subst, ap, ◌∙◌, ◌⊎◌, inl, inr, ⊎_elim, arith, true≢false}
+use Rattle.std.proofs.Common.{◌≡◌, ◌≢◌, ℕ, ◌<◌, ◌≤◌, Bool, true, false, not, eqb, ltb, List, [], map, length, get_or, refl, sym, subst, ap, ◌∙◌, ◌⊎◌, inl, inr, ⊎_elim, arith, true≢false}
 use Rattle.std.specs.Prelude.{◌&&◌, ◌||◌}
-use Rattle.std.specs.List.{Contains, AllPairs, All, list_any}
+use Rattle.std.specs.List.{AllPairs, All, list_any}
 use Rattle.std.proofs.lemmas.List.{length-map, get_or-map}
-use Rattle.std.proofs.lemmas.List.Elements.{All-contains, All-filter, Contains-get_or}
+use Rattle.std.proofs.lemmas.List.Elements.{All-filter, Contains-get_or}
 use Rattle.std.proofs.lemmas.List.Kept.{AllPairs-filter}
 use Rattle.std.proofs.lemmas.List.Sums.{length-filter, count_by-le-length}
-use Rattle.std.proofs.lemmas.Bool.{cases_lt, eq-eqb, eqb-true, lt-ltb, and_parts, and_from, or_cases}
-use Rattle.lsa_codec.specs.declared.key.Key.{Key}
+use Rattle.std.proofs.lemmas.Bool.{cases_lt, eq-eqb, eqb-true, lt-ltb, and_parts, and_from}
 use Rattle.lsa_codec.specs.Fields.{kind_of, link_state_id_of, advertising_router_of}
 use Rattle.lsa_codec.specs.Key.{key_of}
 use Rattle.lsa_codec.specs.Accepted.{IsAccepted}
-use Rattle.area_graph.specs.declared.vertex.Vertex.{Vertex}
 use Rattle.area_graph.specs.Vertex.{is_network}
-use Rattle.area_graph.specs.Area.{is_live, is_router_lsa, is_network_lsa, is_vertex_lsa, vertex_lsas, outranks, is_outranked_by, highest, used, vertex_of}
+use Rattle.area_graph.specs.Area.{is_live, is_router_lsa, is_network_lsa, is_vertex_lsa, vertex_lsas, outranks, is_outranked_by, used, vertex_of}
 use Rattle.area_graph.proofs.Members.{In, In-from_Contains, filter-In, In-list_any}
 use Rattle.area_graph.proofs.AreaLemmas.{number_in, number_of_vertex, kind_of_vertex}
 

@@ -1,5 +1,5 @@
 -- Vertices and their numbers.
-use Rattle.std.proofs.Common.{[], refl, ◌+◌, ◌≤◌, ◌∷◌, ◌++◌, map, take, Bool, true, false, cond, subst, arith, ◌≡◌, ◌≢◌, ℕ, ◌<◌, List, length, get_or, Option, None, Some, sym, ap, ◌∙◌}
+use Rattle.std.proofs.Common.{[], refl, ◌+◌, ◌∷◌, ◌++◌, map, take, Bool, true, false, cond, arith, ◌≡◌, ◌≢◌, ℕ, ◌<◌, List, length, get_or, Option, None, Some, sym, ap, ◌∙◌}
 use Rattle.std.specs.List.{list_any}
 use Rattle.std.specs.Prelude.{Contains, AllPairs, IfSome, slice_get, position}
 use Rattle.std.proofs.lemmas.List.Quantifiers.{position-Some}

@@ -1,12 +1,12 @@
 -- Graphs to which edges are added.
-use Rattle.std.specs.Prelude.{◌≡◌, ◌≢◌, ℕ, ◌<◌, ◌^◌, Bool, true, ◌==◌, ◌&&◌, List, [], length, map, AllPairs, Contains, Some, ◌⊎◌, slice_set}
+use Rattle.std.specs.Prelude.{◌≡◌, ◌≢◌, ℕ, ◌<◌, ◌^◌, Bool, true, ◌==◌, ◌&&◌, List, length, AllPairs, Contains, Some, ◌⊎◌, slice_set}
 use Rattle.lsa_codec.specs.declared.link.Link.{Link}
 use Rattle.indexmap.specs.IndexSet.{insert_key}
 use Rattle.area_graph.specs.declared.vertex.Vertex.{Vertex}
 use Rattle.area_graph.specs.declared.edge.Edge.{Edge}
 use Rattle.area_graph.specs.Vertex.{is_network}
 use Rattle.area_graph.specs.Paths.{DirectedEdge}
-use Rattle.area_graph.specs.Topology.{Topology, IsArc, IsEdge, row_at}
+use Rattle.area_graph.specs.Topology.{Topology, IsArc, row_at}
 use Rattle.area_graph.specs.Area.{vertex_of}
 use Rattle.area_graph.specs.AreaEdges.{edge_over, router_links, back}
 

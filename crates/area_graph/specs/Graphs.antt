@@ -1,5 +1,5 @@
 -- The graph of an area.
-use Rattle.std.specs.Prelude.{◌≡◌, ◌≢◌, ◌↔◌, ℕ, ◌≤◌, List, length, All, AllPairs, Contains, Option, Some, None, ⊤}
+use Rattle.std.specs.Prelude.{◌≡◌, ◌≢◌, ◌↔◌, ℕ, ◌≤◌, List, length, All, AllPairs, Contains, Option, Some, None}
 use Rattle.lsa_codec.specs.Key.{key_of}
 use Rattle.lsa_codec.specs.Accepted.{IsAccepted}
 use Rattle.lsdb.specs.Lists.{SectionLsas}

@@ -1,5 +1,5 @@
 -- Which vertices name which others, as a set of pairs.
-use Rattle.std.specs.Prelude.{◌≡◌, ℕ, Bool, ◌==◌, ◌&&◌, ◌||◌, List}
+use Rattle.std.specs.Prelude.{◌≡◌, ℕ, Bool, ◌&&◌, ◌||◌, List}
 use Rattle.std.specs.List.{list_any}
 use Rattle.std.specs.HashSet.{HashSet, contains}
 use Rattle.area_graph.specs.declared.vertex.Vertex.{Vertex}

@@ -1,7 +1,6 @@
 //! A graph to which edges are added.
 
-ghost use Rattle.std.specs.Prelude.{◌≡◌, ◌<◌, ◌^◌, length, slice_index_or, [], OnOk, OnErr, IfOk, ℕ};
-ghost use Rattle.std.specs.Prelude.{map};
+ghost use Rattle.std.specs.Prelude.{◌≡◌, ◌<◌, ◌^◌, ℕ, [], length, map, slice_index_or, OnOk, OnErr, IfOk};
 ghost use Rattle.area_graph.specs.declared.vertex.Vertex.{Vertex as AnyVertex};
 ghost use Rattle.indexmap.specs.IndexSet.{insert_key};
 ghost use Rattle.area_graph.specs.Paths.{DirectedEdge};
@@ -81,14 +80,30 @@ impl<A: Allocator + Copy> Draft<A> {
     }
 
     /// Adds an edge, unless it is there or an end of it is no vertex.
-    pub(crate) fn add(&mut self, from: Vertex, to: Vertex, cost: u16, link_data: Addr) -> Result<(), AllocError>
+    pub(crate) fn add(
+        &mut self,
+        from: Vertex,
+        to: Vertex,
+        cost: u16,
+        link_data: Addr,
+    ) -> Result<(), AllocError>
         ensures vertices { self.new.vertices ≡ self.old.vertices }
         ensures edges { OnOk result (Adds (IsThis self.old.vertices (record { from = from; to = to; cost = cost; link_data = link_data })) (IsEdge self.old) (IsEdge self.new)) }
     {
-        let (Some(row), Some(to)) = (number_of(&self.vertices, from), number_of(&self.vertices, to)) else {
+        let (Some(row), Some(to)) = (
+            number_of(&self.vertices, from),
+            number_of(&self.vertices, to),
+        ) else {
             return Ok(());
         };
-        self.insert(row, Edge { to, cost, link_data })
+        self.insert(
+            row,
+            Edge {
+                to,
+                cost,
+                link_data,
+            },
+        )
     }
 
     /// The graph as it is.

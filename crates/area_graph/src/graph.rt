@@ -1,6 +1,6 @@
 //! The graph of an area and its readers.
 
-ghost use Rattle.std.specs.Prelude.{◌≡◌, ◌<◌, length, slice_get, Some, IfSome, IfNone, Contains, All, option_map};
+ghost use Rattle.std.specs.Prelude.{◌≡◌, ◌≢◌, ◌<◌, length, slice_get, Some, IfSome, IfNone, Contains, All, AllPairs, option_map};
 ghost use Rattle.area_graph.specs.Vertex.{is_network};
 ghost use Rattle.area_graph.specs.Topology.{IsTopology, row_at};
 
@@ -75,14 +75,17 @@ impl<A: Allocator + Copy> Graph<A> {
         requires { index < length self.now.vertices }
         ensures row { result.now ≡ row_at self.now index }
         ensures targets { All (λ e. e.to < length self.now.vertices) result.now }
+        ensures once { AllPairs (λ e f. e ≢ f) result.now }
         ensures shape { IsTopology self.now }
     {
         self.row(index)
     }
 
+    #[tactic(auto, using(crate::proofs::Equality::edges_once))]
     fn row(&self, index: usize) -> &[Edge]
         requires { index < length self.now.vertices }
         ensures row { result.now ≡ row_at self.now index }
+        ensures once { AllPairs (λ e f. e ≢ f) result.now }
         ensures shape { IsTopology self.now }
     {
         self.rows[index].as_slice()

@@ -4,19 +4,31 @@
 //! [`Graph`] numbers the vertices from 0 in the order in which their LSAs stand in the area.
 #![tactic(auto)]
 
-mod build;
-mod draft;
+// What a graph is.
 mod edge;
 mod fault;
 mod graph;
-mod laws;
-mod links;
+mod vertex;
+
+// The LSAs that make it.
 mod numbers;
+mod ranks;
 mod ties;
 mod used;
-mod vertex;
+
+// How it is built.
+mod build;
+mod draft;
+mod links;
+
+// What holds of the definitions.
+mod laws;
 
 pub use edge::Edge;
 pub use fault::GraphFault;
 pub use graph::Graph;
+pub use laws::{distances_are_over_all_paths, edges_join_both_ways};
 pub use vertex::Vertex;
+
+#[cfg(test)]
+mod tests;

@@ -49,14 +49,22 @@ fn insert<A: Allocator + Copy>(ties: &mut Ties<A>, tie: Tie) -> Result<(), Alloc
     Ok(())
 }
 
-fn add_tie<A: Allocator + Copy>(ties: &mut Ties<A>, of: Vertex, named: Vertex) -> Result<(), AllocError>
+fn add_tie<A: Allocator + Copy>(
+    ties: &mut Ties<A>,
+    of: Vertex,
+    named: Vertex,
+) -> Result<(), AllocError>
     ensures { OnOk result (AddsTies of (named ∷ []) ties.old ties.new) }
 {
     insert(ties, Tie { of, named })
 }
 
 /// Adds the pair of a vertex and the one that a link of it leads to.
-fn tie_link<A: Allocator + Copy>(ties: &mut Ties<A>, of: Vertex, link: Link) -> Result<(), AllocError>
+fn tie_link<A: Allocator + Copy>(
+    ties: &mut Ties<A>,
+    of: Vertex,
+    link: Link,
+) -> Result<(), AllocError>
     ensures { OnOk result (AddsTies of (filter_map target_of (link ∷ [])) ties.old ties.new) }
 {
     match target_of(link) {
@@ -65,7 +73,11 @@ fn tie_link<A: Allocator + Copy>(ties: &mut Ties<A>, of: Vertex, link: Link) -> 
     }
 }
 
-fn tie_links<A: Allocator + Copy>(ties: &mut Ties<A>, of: Vertex, links: Links<'_>) -> Result<(), AllocError>
+fn tie_links<A: Allocator + Copy>(
+    ties: &mut Ties<A>,
+    of: Vertex,
+    links: Links<'_>,
+) -> Result<(), AllocError>
     ensures { OnOk result (AddsTies of (filter_map target_of links.entry) ties.old ties.new) }
 {
     for link in links {
@@ -74,7 +86,11 @@ fn tie_links<A: Allocator + Copy>(ties: &mut Ties<A>, of: Vertex, links: Links<'
     Ok(())
 }
 
-fn tie_routers<A: Allocator + Copy>(ties: &mut Ties<A>, of: Vertex, routers: Attached<'_>) -> Result<(), AllocError>
+fn tie_routers<A: Allocator + Copy>(
+    ties: &mut Ties<A>,
+    of: Vertex,
+    routers: Attached<'_>,
+) -> Result<(), AllocError>
     ensures { OnOk result (AddsTies of (map (λ router. Router router) routers.entry) ties.old ties.new) }
 {
     for router in routers {
@@ -98,7 +114,10 @@ fn tie_named<A: Allocator + Copy>(ties: &mut Ties<A>, lsa: &Lsa<A>) -> Result<()
 }
 
 /// The pairs of all these LSAs.
-pub(crate) fn ties<A: Allocator + Copy>(alloc: A, lsas: &[VertexLsa<'_, A>]) -> Result<Ties<A>, AllocError>
+pub(crate) fn ties<A: Allocator + Copy>(
+    alloc: A,
+    lsas: &[VertexLsa<'_, A>],
+) -> Result<Ties<A>, AllocError>
     ensures { IfOk result (AreTiesOf lsas.now) }
 {
     let mut ties = HashSet::new(alloc);

@@ -1,16 +1,13 @@
 //! The LSAs of an area that make its graph: those in use.
 
-ghost use Rattle.std.specs.Prelude.{◌≡◌, ℕ, ◌&&◌, ◌∷◌, ◌++◌, [], List, OnOk, IfOk};
-ghost use Rattle.area_graph.specs.Area.{is_network_lsa, is_vertex_lsa, vertex_lsas, highest, used, vertex_of};
-ghost use Rattle.area_graph.specs.Ranks.{AreRanksOf, rank_in, exceeds, ranked};
-ghost use Rattle.lsa_codec.specs.Fields.{link_state_id_of, advertising_router_of};
+ghost use Rattle.std.specs.Prelude.{◌≡◌, IfOk};
+ghost use Rattle.area_graph.specs.Area.{is_vertex_lsa, vertex_lsas, highest, used, vertex_of};
 
+use crate::ranks::{is_outranked, ranks};
 use crate::vertex::Vertex;
-use lsa_codec::{Addr, Lsa, RouterId};
+use lsa_codec::{Lsa, RouterId};
 use lsdb::Lsas;
 use std::alloc::{AllocError, Allocator};
-use std::collections::HashMap;
-use std::hash::{BuildHasherDefault, FoldHasher};
 use std::marker::Model;
 
 /// The LSA of a vertex. Contracts see it as its octets.
@@ -53,9 +50,6 @@ pub(crate) fn vertex_of<A: Allocator + Copy>(lsa: &Lsa<A>) -> Vertex
     }
 }
 
-/// The greatest Advertising Router of the network-LSAs of each Link State ID.
-type Ranks<A> = HashMap<Addr, RouterId, BuildHasherDefault<FoldHasher>, A>;
-
 fn is_vertex_lsa<A: Allocator + Copy>(lsa: &Lsa<A>) -> bool
     ensures { result ≡ is_vertex_lsa lsa.now }
 {
@@ -77,62 +71,6 @@ fn vertex_lsas<'a, A: Allocator + Copy>(
         }
     }
     Ok(found)
-}
-
-fn rank_in<A: Allocator + Copy>(ranks: &Ranks<A>, network: Addr) -> Option<RouterId>
-    ensures { result ≡ rank_in ranks.now network.0 }
-{
-    ranks.get(&network).copied()
-}
-
-/// Whether the rank of a Link State ID is a greater Router ID than this one.
-fn exceeds<A: Allocator + Copy>(ranks: &Ranks<A>, network: Addr, router: RouterId) -> bool
-    ensures { result ≡ exceeds router.0 (rank_in ranks.now network.0) }
-{
-    match rank_in(ranks, network) {
-        Some(greatest) => router.0 < greatest.0,
-        None => false,
-    }
-}
-
-fn set_rank<A: Allocator + Copy>(ranks: &mut Ranks<A>, network: Addr, router: RouterId) -> Result<(), AllocError>
-    ensures { OnOk result ((id : ℕ) → rank_in ranks.new id ≡ ranked network.0 router id (rank_in ranks.old id)) }
-{
-    ranks.insert(network, router)?;
-    Ok(())
-}
-
-/// Sees to it that the rank of a network is no less than the Advertising Router of its LSA.
-fn rank<A: Allocator + Copy>(ranks: &mut Ranks<A>, lsa: &Lsa<A>) -> Result<(), AllocError>
-    ensures { OnOk result ((lsas : List (List ℕ)) → AreRanksOf lsas ranks.old → AreRanksOf (lsas ++ lsa.now ∷ []) ranks.new) }
-{
-    let key = lsa.key();
-    if key.kind != 2 || exceeds(ranks, key.id, key.adv) {
-        return Ok(());
-    }
-    set_rank(ranks, key.id, key.adv)
-}
-
-/// The greatest Advertising Router of the network-LSAs of each Link State ID.
-fn ranks<A: Allocator + Copy>(
-    alloc: A,
-    lsas: &[VertexLsa<'_, A>],
-) -> Result<Ranks<A>, AllocError>
-    ensures { IfOk result (AreRanksOf lsas.now) }
-{
-    let mut ranks = HashMap::new(alloc);
-    for lsa in lsas {
-        rank(&mut ranks, lsa.lsa())?;
-    }
-    Ok(ranks)
-}
-
-/// Whether a network-LSA has a lower Advertising Router than another of its Link State ID.
-fn is_outranked<A: Allocator + Copy>(ranks: &Ranks<A>, lsa: &Lsa<A>) -> bool
-    ensures { result ≡ (is_network_lsa lsa.now && exceeds (advertising_router_of lsa.now) (rank_in ranks.now (link_state_id_of lsa.now))) }
-{
-    let key = lsa.key();
-    key.kind == 2 && exceeds(ranks, key.id, key.adv)
 }
 
 /// The LSAs that no other outranks, in their order.

@@ -1,4 +1,4 @@
-use Rattle.std.proofs.Common.{◌≡◌, ◌≢◌, ◌∙◌, sym, subst, map, List, ℕ}
+use Rattle.std.proofs.Common.{◌≢◌, ◌∙◌, sym, subst, map, List, ℕ}
 use Rattle.std.specs.List.{AllPairs}
 use Rattle.area_graph.specs.Topology.{Topology}
 use Rattle.area_graph.specs.Area.{vertex_of}

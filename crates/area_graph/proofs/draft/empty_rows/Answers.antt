@@ -1,4 +1,4 @@
-use Rattle.std.proofs.Common.{◌≡◌, ◌∙◌, ap, length, get_or, [], map, subst, sym, ◌+◌}
+use Rattle.std.proofs.Common.{◌∙◌, ap, length, get_or, [], map, ◌+◌}
 use Rattle.std.proofs.lemmas.List.{length_push}
 use Rattle.area_graph.proofs.DraftLemmas.{empty_push}
 use Rattle.area_graph.proofs.draft.empty_rows.Goals as goal

@@ -1,4 +1,4 @@
-use Rattle.std.proofs.Common.{◌≡◌, ◌∙◌, subst, List, ℕ}
+use Rattle.std.proofs.Common.{◌∙◌, subst, List, ℕ}
 use Rattle.area_graph.specs.declared.vertex.Vertex.{Vertex}
 use Rattle.area_graph.specs.Paths.{DirectedEdge}
 use Rattle.area_graph.specs.Topology.{IsEdge}
@@ -16,5 +16,5 @@ loop-lsa-preserved g c =
     let added = subst (λ (l : List ℕ). Adds (over c.loop-lsa.draft.vertices l) (IsEdge c.loop-lsa.draft) (IsEdge c.add_lsa.new.draft)) c.lsa.ensures c.in_ok-add_lsa.ensures.edges in (
       c.in_ok-add_lsa.ensures.vertices ∙ c.loop-lsa.invariant.0,
       Adds-at (over c.args.draft.now.vertices) c.args.lsas.now c.loop-lsa.lsa-index c.lsa-item.result (IsEdge c.args.draft.now) (IsEdge c.loop-lsa.draft) (IsEdge c.add_lsa.new.draft) c.loop-lsa-test.true c.lsa-item.is c.loop-lsa.invariant.1
-      (subst (λ (vs : List Vertex). Adds (over vs c.lsa-item.result) (IsEdge c.loop-lsa.draft) (IsEdge c.add_lsa.new.draft)) c.loop-lsa.invariant.0 added),
+          (subst (λ (vs : List Vertex). Adds (over vs c.lsa-item.result) (IsEdge c.loop-lsa.draft) (IsEdge c.add_lsa.new.draft)) c.loop-lsa.invariant.0 added),
     )

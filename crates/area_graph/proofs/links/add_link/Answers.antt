@@ -1,4 +1,4 @@
-use Rattle.std.proofs.Common.{◌≡◌, ◌∙◌, sym}
+use Rattle.std.proofs.Common.{◌∙◌, sym}
 use Rattle.std.proofs.lemmas.Result.{on_ok_weaker}
 use Rattle.area_graph.specs.Topology.{IsEdge}
 use Rattle.area_graph.specs.Ties.{is_tied}

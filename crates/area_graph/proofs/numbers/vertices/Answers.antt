@@ -1,4 +1,4 @@
-use Rattle.std.proofs.Common.{◌≡◌, ◌∙◌, ap}
+use Rattle.std.proofs.Common.{◌∙◌, ap}
 use Rattle.area_graph.specs.Area.{vertex_of}
 use Rattle.area_graph.specs.Vertex.{is_same}
 use Rattle.indexmap.specs.IndexSet.{insert_key}

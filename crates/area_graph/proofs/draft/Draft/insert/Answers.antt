@@ -1,4 +1,4 @@
-use Rattle.std.proofs.Common.{◌≡◌, ◌∙◌, ap, subst, sym, ◌<◌, length}
+use Rattle.std.proofs.Common.{◌∙◌, ap, subst, sym, ◌<◌, length}
 use Rattle.std.proofs.lemmas.Result.{on_ok_weaker, on_err_weaker}
 use Rattle.area_graph.specs.Topology.{Topology}
 use Rattle.area_graph.specs.Drafts.{with_edge}

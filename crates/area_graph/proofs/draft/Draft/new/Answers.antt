@@ -1,4 +1,4 @@
-use Rattle.std.proofs.Common.{◌≡◌, ◌∙◌, length, map}
+use Rattle.std.proofs.Common.{◌∙◌}
 use Rattle.std.proofs.lemmas.List.{length-map}
 use Rattle.area_graph.proofs.DraftLemmas.{empty_draft, no_edge}
 use Rattle.area_graph.proofs.draft.Draft.new.Goals as goal

@@ -1,4 +1,4 @@
-use Rattle.std.proofs.Common.{◌≡◌, sym, subst, List, ℕ}
+use Rattle.std.proofs.Common.{sym, subst, List, ℕ}
 use Rattle.lsdb.specs.Places.{lists_of}
 use Rattle.area_graph.specs.Graphs.{AreOfArea}
 use Rattle.area_graph.proofs.GraphLemmas.{are_of_area}
