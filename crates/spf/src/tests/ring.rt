@@ -1,0 +1,114 @@
+//! Both programs on a ring.
+
+ghost use Rattle.std.specs.Prelude.{◌<◌};
+
+use super::dumps::{RouterLink, dump, network_lsa, router_lsa, to_network, to_router};
+use super::trees::{graph_of, reached};
+use crate::{Meter, Tree, distances_by_rounds};
+use lsa_codec::RouterId;
+use std::alloc::Global;
+use std::test::*;
+
+const ROUTERS: u32 = 40;
+
+/// A router that names one of the ring, and that none names.
+const ALONE: u32 = 0x0909_0909;
+
+/// The distances from the first router of the ring: those of its 40 routers and its 10 networks.
+const FROM_FIRST: [u64; 50] = [
+    0, 1, 2, 5, 6, 8, 8, 9, 11, 13, 13, 15, 18, 19, 20, 23, 24, 26, 26, 27, 29, 31, 31, 29, 28, 28,
+    26, 22, 21, 21, 19, 15, 14, 14, 12, 8, 7, 7, 5, 1, 2, 8, 13, 20, 26, 31, 28, 21, 14, 7,
+];
+
+/// A router of the ring, by its place.
+fn router(place: u32) -> u32 {
+    0x0101_0100 | place % ROUTERS
+}
+
+/// The network of four places of the ring.
+fn network(place: u32) -> u32 {
+    0x0a05_0000 | place / 4 % 10
+}
+
+/// A router's links to both neighbours, whose costs lie between 1 and 4 and are not the same both
+/// ways, to its network unless it is the last of the four, and at each eighth place to a router
+/// that has no link back.
+fn links(alloc: Global, place: u32) -> Result<Vec<RouterLink>, Fail>
+    requires { place < 40 }
+{
+    let mut links = Vec::new(alloc);
+    links.push(to_router(router(place + 1), 0x0a00_0001, 1 + (place % 3) as u16))?;
+    links.push(to_router(router(place + 39), 0x0a00_0002, 1 + (place % 4) as u16))?;
+    if place % 4 != 3 {
+        links.push(to_network(network(place), 0x0a05_0100, 2))?;
+    }
+    if place % 8 == 0 {
+        links.push(to_router(router(place + 20), 0x0a00_0003, 1))?;
+    }
+    Ok(links)
+}
+
+/// The ring: 40 routers, 10 networks of four places each, and the router that stands alone.
+fn ring(alloc: Global) -> Result<Vec<u8>, Fail> {
+    let mut lsas = Vec::new(alloc);
+    for place in 0..ROUTERS {
+        lsas.push(router_lsa(alloc, router(place), &links(alloc, place)?)?)?;
+    }
+    for number in 0..10 {
+        let first = 4 * number;
+        let attached = [
+            router(first),
+            router(first + 1),
+            router(first + 2),
+            router(first + 3),
+        ];
+        lsas.push(network_lsa(alloc, network(first), router(first), &attached)?)?;
+    }
+    let named = [to_router(router(0), 0x0a00_0004, 1)];
+    lsas.push(router_lsa(alloc, ALONE, &named)?)?;
+    dump(alloc, &lsas)
+}
+
+/// Whether the distances by rounds are those of the tree: the same where the tree reaches, and none
+/// elsewhere.
+fn agree(tree: &Tree, by_rounds: &[Option<u64>]) -> bool {
+    let same = tree.order().iter().all(|&index| by_rounds.get(index).copied()
+        == Some(tree.distance(index)));
+    let found = by_rounds
+        .iter()
+        .filter(|distance| distance.is_some())
+        .count();
+    same && found == tree.order().len()
+}
+
+#[test]
+fn both_programs_agree(rt: HostRuntime) -> Result<(), Fail> {
+    let graph = graph_of(rt.alloc(), &ring(rt.alloc())?)?;
+    assert_eq!(rt; graph.len(), 51);
+    let mut meter = Meter::new();
+    for place in 0..ROUTERS {
+        let root = RouterId(router(place));
+        let tree = Tree::build(rt.alloc(), &graph, root, &mut meter)?;
+        let by_rounds = distances_by_rounds(rt.alloc(), &graph, root)?;
+        assert!(rt; agree(&tree, &by_rounds), "from place {place}");
+        assert_eq!(rt; tree.order().len(), 50);
+    }
+    let tree = Tree::build(rt.alloc(), &graph, RouterId(ALONE), &mut meter)?;
+    let by_rounds = distances_by_rounds(rt.alloc(), &graph, RouterId(ALONE))?;
+    assert!(rt; agree(&tree, &by_rounds));
+    assert_eq!(rt; tree.order(), [50].as_slice());
+    assert_eq!(rt; meter.count(), 41);
+    Ok(())
+}
+
+#[test]
+fn distances_on_the_ring(rt: HostRuntime) -> Result<(), Fail> {
+    let graph = graph_of(rt.alloc(), &ring(rt.alloc())?)?;
+    let mut meter = Meter::new();
+    let tree = Tree::build(rt.alloc(), &graph, RouterId(router(0)), &mut meter)?;
+    assert_eq!(rt; tree.order().len(), 50);
+    for (index, distance) in reached(rt.alloc(), &tree)? {
+        assert_eq!(rt; distance, FROM_FIRST.get(index).copied());
+    }
+    Ok(())
+}

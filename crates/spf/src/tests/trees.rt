@@ -1,0 +1,95 @@
+//! Trees of the two small areas.
+
+use super::areas::{R1, R3, R4, SAMPLE, network_of_three};
+use crate::{Meter, SpfFault, Tree, distances_by_rounds};
+use area_graph::Graph;
+use lsa_codec::{AreaId, RouterId};
+use lsdb::Database;
+use rationed::Rationed;
+use std::alloc::Allocator;
+use std::test::*;
+
+/// The graph of area 0.0.0.0.
+pub fn graph_of<A: Allocator + Copy>(alloc: A, dump: &[u8]) -> Result<Graph<A>, Fail> {
+    let database = Database::load(alloc, dump)?;
+    Ok(Graph::build(alloc, &database, AreaId(0))?)
+}
+
+/// The vertices that a tree reaches, in their order, each with its distance.
+pub fn reached<A: Allocator + Copy>(
+    alloc: A,
+    tree: &Tree<A>,
+) -> Result<Vec<(usize, Option<u64>), A>, Fail> {
+    let mut reached = Vec::new(alloc);
+    for index in tree.order() {
+        reached.push((*index, tree.distance(*index)))?;
+    }
+    Ok(reached)
+}
+
+#[test]
+fn reaches_the_sample(rt: HostRuntime) -> Result<(), Fail> {
+    let graph = graph_of(rt.alloc(), &SAMPLE)?;
+    let mut meter = Meter::new();
+    let tree = Tree::build(rt.alloc(), &graph, RouterId(R1), &mut meter)?;
+    assert_eq!(rt; tree.root(), 0);
+    let expected = [(0, Some(0)), (1, Some(10))];
+    assert_eq!(rt; reached(rt.alloc(), &tree)?.as_slice(), expected.as_slice());
+    assert_eq!(rt; tree.settled(1), Some(1));
+    assert_eq!(rt; tree.settled(2), None);
+    assert_eq!(rt; meter.count(), 1);
+    Ok(())
+}
+
+#[test]
+fn misses_a_router(rt: HostRuntime) -> Result<(), Fail> {
+    let graph = graph_of(rt.alloc(), &SAMPLE)?;
+    let mut meter = Meter::new();
+    let absent = RouterId(0x0909_0909);
+    let fault = Tree::build(rt.alloc(), &graph, absent, &mut meter).err();
+    assert_eq!(rt; fault, Some(SpfFault::NoRouter));
+    assert_eq!(rt; meter.count(), 0);
+    let fault = distances_by_rounds(rt.alloc(), &graph, absent).err();
+    assert_eq!(rt; fault, Some(SpfFault::NoRouter));
+    Ok(())
+}
+
+#[test]
+fn reaches_a_network_before_a_router(rt: HostRuntime) -> Result<(), Fail> {
+    let graph = graph_of(rt.alloc(), &network_of_three(rt.alloc())?)?;
+    let mut meter = Meter::new();
+    for (root, order, distances) in [
+        (R1, [0, 2, 3, 1], [0, 5, 10, 10]),
+        (R3, [1, 3, 0, 2], [0, 10, 10, 10]),
+        (R4, [2, 3, 0, 1], [0, 5, 5, 5]),
+    ] {
+        let tree = Tree::build(rt.alloc(), &graph, RouterId(root), &mut meter)?;
+        assert_eq!(rt; tree.order(), order.as_slice());
+        for ((_, distance), expected) in reached(rt.alloc(), &tree)?.iter().zip(distances) {
+            assert_eq!(rt; *distance, Some(expected));
+        }
+    }
+    assert_eq!(rt; meter.count(), 3);
+    Ok(())
+}
+
+#[test]
+fn counts_where_memory_runs_out(rt: HostRuntime) -> Result<(), Fail> {
+    let counted = Rationed::new(rt.alloc(), u64::MAX);
+    let graph = graph_of(&counted, &SAMPLE)?;
+    let before = u64::MAX - counted.left();
+    let mut meter = Meter::new();
+    let built = Tree::build(&counted, &graph, RouterId(R1), &mut meter);
+    assert!(rt; built.is_ok());
+    let growths = u64::MAX - counted.left();
+    assert!(rt; before < growths);
+    for enough in before..growths {
+        let rationed = Rationed::new(rt.alloc(), enough);
+        let graph = graph_of(&rationed, &SAMPLE)?;
+        let mut meter = Meter::new();
+        let fault = Tree::build(&rationed, &graph, RouterId(R1), &mut meter).err();
+        assert_eq!(rt; fault, Some(SpfFault::OutOfMemory), "with {enough} growths");
+        assert_eq!(rt; meter.count(), 1, "with {enough} growths");
+    }
+    Ok(())
+}
