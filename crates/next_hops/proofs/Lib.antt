@@ -1,0 +1,2 @@
+pub mod HopOrder
+pub mod Inserted

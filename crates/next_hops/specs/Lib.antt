@@ -1,0 +1,2 @@
+pub mod Hop
+pub mod Storage
