@@ -1,0 +1,14 @@
+pub mod Reached
+pub mod Closing
+pub mod Relaxing
+pub mod Keys
+pub mod Pushing
+pub mod Searching
+pub mod Taking
+pub mod Settling
+pub mod Covering
+pub mod Settled
+pub mod Stepping
+pub mod Trees
+pub mod Orders
+pub mod WholeTree

@@ -1,0 +1,4 @@
+pub mod Candidates
+pub mod Distances
+pub mod Relaxation
+pub mod Search

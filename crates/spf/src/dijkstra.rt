@@ -1,0 +1,121 @@
+//! Vertices settled in the order of their distances (Dijkstra's algorithm, RFC 2328, 16.1).
+
+ghost use Rattle.std.specs.Prelude.{◌≡◌, ℕ, ◌<◌, ◌≤◌, ◌+◌, ◌^◌, [], ◌∷◌, ◌++◌, length, slice_set, slice_index_or, OnOk, None, Some};
+ghost use Rattle.area_graph.specs.Topology.{IsTopology};
+ghost use Rattle.spf.specs.Candidates.{candidate_at};
+ghost use Rattle.spf.specs.Search.{PushesEdge, PushesNeighbours, SettlesOne, SettlesNew, IsSettled};
+
+use crate::queue::{Candidate, Queue};
+use area_graph::{Edge, Graph};
+use std::alloc::{AllocError, Allocator};
+
+/// A vertex at a distance, as a candidate.
+fn candidate<A: Allocator + Copy>(graph: &Graph<A>, distance: u64, index: usize) -> Candidate
+    requires { index < length graph.now.vertices }
+    ensures { result ≡ candidate_at graph.now distance index }
+{
+    Candidate {
+        distance,
+        is_router: !graph.vertex(index).is_network(),
+        index,
+    }
+}
+
+/// Adds a candidate for the vertex that an edge leads to, unless that vertex is settled.
+fn push_edge<A: Allocator + Copy>(
+    graph: &Graph<A>,
+    edge: Edge,
+    distance: u64,
+    distances: &[Option<u64>],
+    queue: &mut Queue<A>,
+) -> Result<(), AllocError>
+    requires sized { length distances.now ≡ length graph.now.vertices }
+    requires target { edge.to < length graph.now.vertices }
+    requires small { distance < 2 ^ 63 }
+    ensures { OnOk result (PushesEdge graph.now edge distance distances.now queue.old queue.new) }
+{
+    if distances[edge.to].is_none() {
+        queue.push(candidate(graph, distance + u64::from(edge.cost), edge.to))?;
+    }
+    Ok(())
+}
+
+/// Adds a candidate for each edge out of a vertex to one that isn't settled.
+fn push_neighbours<A: Allocator + Copy>(
+    graph: &Graph<A>,
+    from: usize,
+    distance: u64,
+    distances: &[Option<u64>],
+    queue: &mut Queue<A>,
+) -> Result<(), AllocError>
+    requires sized { length distances.now ≡ length graph.now.vertices }
+    requires from { from < length graph.now.vertices }
+    requires small { distance < 2 ^ 63 }
+    ensures pushes { OnOk result (PushesNeighbours graph.now from distance distances.now queue.old queue.new) }
+    ensures count { OnOk result (length queue.new < length queue.old + 2 ^ 64) }
+{
+    for &edge in graph.edges(from) {
+        push_edge(graph, edge, distance, distances, queue)?;
+    }
+    Ok(())
+}
+
+/// Gives a vertex its distance, and follows its edges.
+fn settle_one<A: Allocator + Copy>(
+    graph: &Graph<A>,
+    next: Candidate,
+    distances: &mut [Option<u64>],
+    order: &mut Vec<usize, A>,
+    queue: &mut Queue<A>,
+) -> Result<(), AllocError>
+    requires sized { length distances.old ≡ length graph.now.vertices }
+    requires within { next.index < length graph.now.vertices }
+    requires small { next.distance < 2 ^ 63 }
+    ensures { OnOk result (SettlesOne graph.now next distances.old order.old.items queue.old distances.new order.new.items queue.new) }
+{
+    distances[next.index] = Some(next.distance);
+    order.push(next.index)?;
+    push_neighbours(graph, next.index, next.distance, distances, queue)
+}
+
+/// Settles the vertex of a candidate, unless it is settled.
+fn settle_new<A: Allocator + Copy>(
+    graph: &Graph<A>,
+    next: Candidate,
+    distances: &mut [Option<u64>],
+    order: &mut Vec<usize, A>,
+    queue: &mut Queue<A>,
+) -> Result<(), AllocError>
+    requires sized { length distances.old ≡ length graph.now.vertices }
+    requires within { next.index < length graph.now.vertices }
+    requires small { next.distance < 2 ^ 63 }
+    ensures { OnOk result (SettlesNew graph.now next distances.old order.old.items queue.old distances.new order.new.items queue.new) }
+{
+    if distances[next.index].is_none() {
+        settle_one(graph, next, distances, order, queue)?;
+    }
+    Ok(())
+}
+
+/// Settles every vertex that a path from the root reaches, in the order of their distances.
+pub(crate) fn settle_all<A: Allocator + Copy>(
+    alloc: A,
+    graph: &Graph<A>,
+    root: usize,
+    distances: &mut [Option<u64>],
+    order: &mut Vec<usize, A>,
+) -> Result<(), AllocError>
+    requires sized { length distances.old ≡ length graph.now.vertices }
+    requires root { root < length graph.now.vertices }
+    requires shape { IsTopology graph.now }
+    requires unreached { (i : ℕ) → slice_index_or distances.old i None ≡ None }
+    requires unordered { order.old.items ≡ [] }
+    ensures { OnOk result (IsSettled graph.now root distances.new order.new.items) }
+{
+    let mut queue = Queue::new(alloc);
+    queue.push(candidate(graph, 0, root))?;
+    while let Some(next) = queue.pop() {
+        settle_new(graph, next, distances, order, &mut queue)?;
+    }
+    Ok(())
+}
