@@ -1,7 +1,8 @@
 //! A next hop, its order and its text.
 
-ghost use Rattle.std.specs.Prelude.{Some};
+ghost use Rattle.std.specs.Prelude.{◌≡◌, Some};
 ghost use Rattle.next_hops.specs.Hop.{hop_text};
+ghost use Rattle.next_hops.specs.Passing.{extended};
 
 use lsa_codec::Addr;
 use std::fmt;
@@ -23,6 +24,19 @@ pub enum Hop {
     Attached(Addr),
     /// Over this interface's network, to the router with this address on it.
     Gateway(Addr, Addr),
+}
+
+impl Hop {
+    /// The first hop of a path that goes on over an edge carrying this address: behind a network
+    /// the address is the gateway's.
+    pub(crate) fn extended(self, link_data: Addr) -> Hop
+        ensures { result ≡ extended self link_data }
+    {
+        match self {
+            Hop::Attached(interface) => Hop::Gateway(interface, link_data),
+            other => other,
+        }
+    }
 }
 
 impl fmt::Display for Hop {

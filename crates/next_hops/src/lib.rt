@@ -5,10 +5,13 @@
 #![tactic(auto)]
 
 mod hop;
+mod hops;
 mod laws;
 mod list;
+mod passing;
 mod storage;
 
 pub use hop::Hop;
-pub use laws::hop_order;
+pub use hops::Hops;
+pub use laws::{hop_order, hops_law};
 pub use list::HopList;

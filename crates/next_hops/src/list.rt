@@ -3,10 +3,12 @@
 ghost use Rattle.std.specs.Prelude.{◌≡◌, ◌≤◌, [], ◌∷◌, ◌++◌, length, insert, IfOk, IfErr, MatchResult};
 ghost use Rattle.area_graph.specs.Rising.{rising};
 ghost use Rattle.next_hops.specs.Hop.{hop_cmp, IsSortedHops};
+ghost use Rattle.next_hops.specs.Passing.{extended};
 
 use crate::hop::Hop;
 use crate::laws::hop_order;
 use crate::storage::Storage;
+use lsa_codec::Addr;
 use std::alloc::{AllocError, Allocator, Global};
 use std::marker::Model;
 
@@ -33,7 +35,7 @@ impl<A: Allocator> Model for HopList<A> {
 }
 
 impl<A: Allocator + Copy> HopList<A> {
-    ghost use Rattle.std.specs.Prelude.{ℕ, take, OnOk, OnErr};
+    ghost use Rattle.std.specs.Prelude.{ℕ, map, take, OnOk, OnErr};
 
     /// No hops. It takes no memory.
     pub fn new(alloc: A) -> HopList<A>
@@ -80,6 +82,17 @@ impl<A: Allocator + Copy> HopList<A> {
         let _ = &self.storage;
         for hop in more {
             self.add(*hop)?;
+        }
+        Ok(())
+    }
+
+    /// Adds hops as they are over one more edge, which carries this address.
+    pub(crate) fn join_extended(&mut self, more: &[Hop], link_data: Addr) -> Result<(), AllocError>
+        ensures joined { OnOk result (self.new ≡ rising hop_cmp (self.old ++ map (λ h. extended h link_data) more.now)) }
+    {
+        let _ = &self.storage;
+        for hop in more {
+            self.add(hop.extended(link_data))?;
         }
         Ok(())
     }
