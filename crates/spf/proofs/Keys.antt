@@ -1,6 +1,5 @@
 -- The order of candidates as an order of numbers: in proofs, two candidates are compared by their keys.
 use Rattle.std.proofs.Common.{◌≡◌, ℕ, ◌+◌, ◌*◌, ◌<◌, ◌≤◌, Bool, true, false, not, length, Option, cond, refl, sym, ap, ◌∙◌, subst, arith, ⊎_elim}
-use Rattle.std.specs.List.{slice_get}
 use Rattle.std.specs.Option.{option_map_or}
 use Rattle.std.specs.Ordering.{is_lt, nat_cmp, bool_cmp, ordering_then, ordering_reverse}
 use Rattle.std.specs.declared.cmp.Ordering.{Ordering}
@@ -9,7 +8,6 @@ use Rattle.std.specs.Cmp.{nat_cmp_is, IsTotalOrder, bool_cmp_total}
 use Rattle.std.proofs.lemmas.Bool.{cases_eq, cases_lt, false≢true}
 use Rattle.std.proofs.lemmas.Cmp.{nat_cmp_total, on_total, then_total}
 use Rattle.std.proofs.lemmas.Option.{slice_get-get_or}
-use Rattle.lsa_codec.specs.declared.address.RouterId.{RouterId}
 use Rattle.area_graph.specs.declared.vertex.Vertex.{Vertex}
 use Rattle.area_graph.specs.declared.vertex.Vertex.TheVariants.{Router}
 use Rattle.area_graph.specs.Vertex.{is_network}

@@ -1,19 +1,16 @@
 -- What pushing candidates adds to the queue.
-use Rattle.std.proofs.Common.{◌≡◌, ◌≢◌, ℕ, zero, suc, ◌+◌, ◌*◌, ◌<◌, ◌≤◌, ◌^◌, Bool, true, false, List, [], ◌∷◌, ◌++◌, length, get_or, set, take, Option, None, Some, IsSome, is_some, cond, refl, sym, ap, ◌∙◌, subst, arith, ◌⊎◌, inl, inr, ⊎_elim}
+use Rattle.std.proofs.Common.{◌≡◌, ℕ, zero, suc, ◌+◌, ◌<◌, ◌≤◌, List, [], ◌∷◌, ◌++◌, length, get_or, Option, None, Some, IsSome, is_some, refl, sym, ap, subst, arith, ◌⊎◌, inl, inr, ⊎_elim}
 use Rattle.std.specs.List.{All, Contains}
 use Rattle.std.specs.List.Sorted.{IsPermutation}
-use Rattle.std.proofs.lemmas.List.{take_more, get_or_push}
-use Rattle.std.proofs.lemmas.List.Elements.{All-contains, All-more, All-weaker, Contains-get_or, Contains-push_cases, Contains-append_cases, Contains-append_left, Contains-push, All-push}
+use Rattle.std.proofs.lemmas.List.Elements.{All-contains, All-weaker, Contains-append_left, Contains-push, All-push}
 use Rattle.std.proofs.lemmas.List.Sorted.{Contains-permutation, IsPermutation-sym, length_permutation}
-use Rattle.std.proofs.lemmas.Bool.{cases_eq, cases_lt}
-use Rattle.area_graph.specs.Paths.{DirectedEdge}
 use Rattle.area_graph.specs.declared.edge.Edge.{Edge}
-use Rattle.area_graph.specs.Topology.{Topology, IsArc, row_at}
+use Rattle.area_graph.specs.Topology.{Topology, row_at}
 use Rattle.spf.specs.declared.queue.Candidate.{Candidate}
 use Rattle.spf.specs.Candidates.{candidate_at}
 use Rattle.spf.specs.Search.{PushesEdge, PushesNeighbours}
 use Rattle.std.specs.Prelude.{MatchOption}
-use Rattle.spf.proofs.Closing.{arc_from, IsArc-row}
+use Rattle.spf.proofs.Closing.{arc_from}
 
 -- what is in a list is its head or in its tail
 pub Contains-cons_cases : {X : Type 0} (x : X) (xs : List X) (y : X) → Contains (x ∷ xs) y → (x ≡ y) ⊎ Contains xs y

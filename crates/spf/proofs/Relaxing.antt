@@ -1,5 +1,5 @@
 -- Rounds over edges: what a lowered distance keeps, and that it makes rounds end.
-use Rattle.std.proofs.Common.{◌≡◌, ◌≢◌, ℕ, ◌+◌, ◌*◌, ◌<◌, ◌≤◌, ◌^◌, Bool, true, false, List, length, get_or, set, Option, None, Some, is_some, cond, unwrap_or, sum_by, refl, sym, ◌∙◌, subst, arith, ⊎_elim}
+use Rattle.std.proofs.Common.{◌≡◌, ℕ, ◌+◌, ◌*◌, ◌<◌, ◌≤◌, ◌^◌, Bool, true, false, List, length, get_or, set, Option, None, Some, is_some, cond, unwrap_or, refl, sym, ◌∙◌, subst, arith, ⊎_elim}
 use Rattle.std.specs.Bool.{OnFalse}
 use Rattle.std.proofs.lemmas.Bool.{false≢true}
 use Rattle.std.proofs.lemmas.List.{get_or-set_other, length-set}

@@ -1,8 +1,4 @@
-use Rattle.std.proofs.Common.{◌≡◌, ℕ, ◌+◌, ◌≤◌, length, take, None, IsSome, get_or, ◌⊎◌}
-use Rattle.std.specs.List.{All, Contains}
-use Rattle.area_graph.specs.declared.edge.Edge.{Edge}
-use Rattle.spf.specs.declared.queue.Candidate.{Candidate}
-use Rattle.spf.specs.Candidates.{candidate_at}
+use Rattle.std.proofs.Common.{◌+◌, ◌≤◌, length, take}
 use Rattle.spf.proofs.Pushing.{PushesRow}
 use Rattle.spf.proofs.dijkstra.push_neighbours.Given as goal
 

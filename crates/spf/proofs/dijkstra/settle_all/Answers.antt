@@ -1,4 +1,4 @@
-use Rattle.std.proofs.Common.{◌≡◌, ℕ, ◌*◌, ◌<◌, ◌≤◌, List, [], ◌∷◌, length, sym, subst, arith, rules}
+use Rattle.std.proofs.Common.{ℕ, ◌*◌, ◌≤◌, List, [], ◌∷◌, length, sym, subst, arith}
 use Rattle.std.specs.List.Sorted.{IsPermutation}
 use Rattle.spf.specs.declared.queue.Candidate.{Candidate}
 use Rattle.spf.specs.Relaxation.{reached_count}

@@ -1,4 +1,3 @@
-use Rattle.std.proofs.Common.{ℕ}
 use Rattle.spf.proofs.Searching.{Searching}
 use Rattle.spf.proofs.Taking.{work}
 use Rattle.spf.proofs.dijkstra.settle_all.Given as goal

@@ -1,13 +1,11 @@
-use Rattle.std.proofs.Common.{◌≡◌, ℕ, ◌+◌, ◌<◌, ◌^◌, List, Option, None, Some, Bool, true, false, length, get_or, set, take, refl, sym, ◌∙◌, ◌≤◌, subst, arith}
+use Rattle.std.proofs.Common.{◌≡◌, ℕ, ◌+◌, ◌<◌, ◌^◌, List, Option, None, Some, true, length, get_or, set, take, sym, ◌∙◌, ◌≤◌, subst, arith}
 use Rattle.std.specs.List.{All}
 use Rattle.std.proofs.lemmas.Bool.{false≢true}
 use Rattle.std.proofs.lemmas.List.Elements.{All-more}
 use Rattle.std.proofs.lemmas.List.{take_all}
-use Rattle.area_graph.specs.Paths.{DirectedEdge}
-use Rattle.lsa_codec.specs.declared.address.Addr.{Addr}
 use Rattle.area_graph.specs.declared.edge.Edge.{Edge}
-use Rattle.area_graph.specs.Topology.{Topology, IsArc, row_at}
-use Rattle.spf.specs.Relaxation.{IsAtMost, IsMoreThan, Bounded, Relaxed, IsClosedAt, Closed}
+use Rattle.area_graph.specs.Topology.{IsArc}
+use Rattle.spf.specs.Relaxation.{IsAtMost, IsMoreThan, Relaxed}
 use Rattle.spf.proofs.Closing.{IsArc-row, arc_from, IsClosedAt-row}
 use Rattle.spf.proofs.Relaxing.{Relaxed-more, Relaxed-improve, at_stays, OnFalse-from}
 use Rattle.spf.proofs.rounds.relax_from.Goals as goal

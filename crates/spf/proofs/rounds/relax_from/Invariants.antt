@@ -1,4 +1,4 @@
-use Rattle.std.proofs.Common.{◌≡◌, ℕ, ◌+◌, get_or, take, true, false, Some, None}
+use Rattle.std.proofs.Common.{◌≡◌, ◌+◌, get_or, take, false, Some, None}
 use Rattle.std.specs.List.{All}
 use Rattle.area_graph.specs.declared.edge.Edge.{Edge}
 use Rattle.spf.specs.Relaxation.{IsAtMost, Relaxed}

@@ -1,5 +1,4 @@
-use Rattle.std.proofs.Common.{ℕ, ◌<◌, ◌≤◌, ◌^◌, length, arith}
-use Rattle.spf.specs.Relaxation.{Bounded}
+use Rattle.std.proofs.Common.{◌<◌, ◌^◌, arith}
 use Rattle.spf.proofs.Reached.{Bounded-small}
 use Rattle.spf.proofs.rounds.relax_round.Goals as goal
 

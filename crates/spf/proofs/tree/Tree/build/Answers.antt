@@ -1,5 +1,4 @@
 use Rattle.area_graph.specs.declared.vertex.Vertex.TheVariants.{Router}
-use Rattle.std.proofs.Common.{ℕ, subst}
 use Rattle.spf.specs.Search.{IsSettled}
 use Rattle.spf.proofs.Trees.{IsTreeOf-settled}
 use Rattle.spf.proofs.WholeTree.{tree-is}
