@@ -43,6 +43,7 @@ impl<A: Allocator + Copy> Hops<A> {
     /// Memory ran out.
     pub fn build(alloc: A, graph: &Graph<A>, tree: &Tree<A>) -> Result<Hops<A>, AllocError>
         requires tree { (root : Vertex) × IsTreeOf graph.now root tree.now }
+        ensures sized { IfOk result (λ hops. length hops ≡ length graph.now.vertices) }
         ensures table { IfOk result (λ hops. (root : Vertex) → IsTreeOf graph.now root tree.now → hops ≡ table_of graph.now root) }
         ensures paths { IfOk result (λ hops. (root : Vertex) → IsTreeOf graph.now root tree.now → AreHopsOf graph.now root hops) }
     {

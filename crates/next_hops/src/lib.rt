@@ -15,3 +15,6 @@ pub use hop::Hop;
 pub use hops::Hops;
 pub use laws::{hop_order, hops_law};
 pub use list::HopList;
+
+#[cfg(test)]
+mod tests;

@@ -11,6 +11,9 @@ use std::alloc::{AllocError, Allocator};
 const IN_PLACE: usize = 4;
 
 /// Hops that are kept in place while they are few, and else in memory.
+///
+/// A `SmallVec` would keep the allocator with the hops in place, and ask that the whole takes less
+/// than half of the address space; where the allocator is a type parameter, its size is not known.
 #[derive(Drop)]
 pub(crate) enum Storage<A: Allocator> {
     InPlace(ArrayVec<Hop, 4>),

@@ -1,0 +1,3 @@
+//! Lists of hops.
+
+mod lists;
