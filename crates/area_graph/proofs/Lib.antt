@@ -6,3 +6,13 @@ pub mod SmallGraphs
 pub mod VertexLemmas
 pub mod TopologyLemmas
 pub mod EdgeLemmas
+pub mod RankLemmas
+pub mod TieLemmas
+pub mod Equality
+pub mod DraftLemmas
+pub mod AddsLemmas
+pub mod LinkLemmas
+pub mod AreaLemmas
+pub mod OverLemmas
+pub mod UsedLemmas
+pub mod GraphLemmas

@@ -4,3 +4,10 @@ pub mod Least
 pub mod Rising
 pub mod AllPaths
 pub mod Topology
+pub mod Area
+pub mod AreaEdges
+pub mod Joins
+pub mod Graphs
+pub mod Ranks
+pub mod Ties
+pub mod Drafts

@@ -3,7 +3,7 @@
 use lsa_codec::Addr;
 
 /// An edge out of a vertex of a graph.
-#[derive(Clone, Copy, Debug, PartialEq, Eq, Drop)]
+#[derive(Clone, Copy, Debug, PartialEq, Eq, Hash)]
 pub struct Edge {
     /// The number of the vertex that it leads to.
     pub to: usize,

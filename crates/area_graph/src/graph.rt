@@ -4,6 +4,7 @@ ghost use Rattle.std.specs.Prelude.{◌≡◌, ◌<◌, length, slice_get, Some,
 ghost use Rattle.area_graph.specs.Vertex.{is_network};
 ghost use Rattle.area_graph.specs.Topology.{IsTopology, row_at};
 
+use crate::draft::Row;
 use crate::edge::Edge;
 use crate::numbers::{Vertices, number_of};
 use crate::vertex::Vertex;
@@ -18,7 +19,7 @@ use std::marker::Model;
 #[derive(Drop)]
 pub struct Graph<A: Allocator = Global> {
     pub(crate) vertices: Vertices<A>,
-    pub(crate) rows: Vec<Vec<Edge, A>, A>,
+    pub(crate) rows: Vec<Row<A>, A>,
 }
 
 impl<A: Allocator> Model for Graph<A> {
@@ -27,9 +28,9 @@ impl<A: Allocator> Model for Graph<A> {
 
     ghost Value = { Topology };
 
-    ghost view = { λ g. record { vertices = g.vertices.keys; rows = map (λ row. row.items) g.rows.items } };
+    ghost view = { λ g. record { vertices = g.vertices.keys; rows = map (λ row. row.keys) g.rows.items } };
 
-    ghost invariant = { λ g. IsTopology (record { vertices = g.vertices.keys; rows = map (λ row. row.items) g.rows.items }) };
+    ghost invariant = { λ g. IsTopology (record { vertices = g.vertices.keys; rows = map (λ row. row.keys) g.rows.items }) };
 }
 
 impl<A: Allocator + Copy> Graph<A> {
@@ -84,6 +85,6 @@ impl<A: Allocator + Copy> Graph<A> {
         ensures row { result.now ≡ row_at self.now index }
         ensures shape { IsTopology self.now }
     {
-        &self.rows[index]
+        self.rows[index].as_slice()
     }
 }

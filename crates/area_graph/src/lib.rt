@@ -4,11 +4,19 @@
 //! [`Graph`] numbers the vertices from 0 in the order in which their LSAs stand in the area.
 #![tactic(auto)]
 
+mod build;
+mod draft;
 mod edge;
+mod fault;
 mod graph;
+mod laws;
+mod links;
 mod numbers;
+mod ties;
+mod used;
 mod vertex;
 
 pub use edge::Edge;
+pub use fault::GraphFault;
 pub use graph::Graph;
 pub use vertex::Vertex;

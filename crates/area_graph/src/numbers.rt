@@ -1,11 +1,14 @@
 //! The vertices of a graph and their numbers.
 
-ghost use Rattle.std.specs.Prelude.{◌≡◌, ◌<◌, length, position, IfSome, IfNone, Contains};
+ghost use Rattle.std.specs.Prelude.{◌≡◌, ◌≢◌, ◌<◌, length, map, position, OnOk, IfOk, IfSome, IfNone, Contains, AllPairs};
+ghost use Rattle.indexmap.specs.IndexSet.{insert_key};
+ghost use Rattle.area_graph.specs.Area.{vertex_of};
 ghost use Rattle.area_graph.specs.Vertex.{is_same};
 
+use crate::used::{VertexLsa, vertex_of};
 use crate::vertex::Vertex;
 use indexmap::IndexSet;
-use std::alloc::Allocator;
+use std::alloc::{AllocError, Allocator};
 use std::hash::{BuildHasherDefault, FoldHasher};
 
 /// Vertices in order, each of which is found by a hash.
@@ -21,4 +24,29 @@ pub(crate) fn number_of<A: Allocator + Copy>(
     ensures absent { IfNone result (¬ Contains vertices.now.keys vertex) }
 {
     vertices.get_index_of(&vertex)
+}
+
+fn add_vertex<A: Allocator + Copy>(
+    vertices: &mut Vertices<A>,
+    vertex: Vertex,
+) -> Result<(), AllocError>
+    ensures { OnOk result (vertices.new.keys ≡ insert_key is_same vertices.old.keys vertex) }
+{
+    vertices.insert(vertex)?;
+    Ok(())
+}
+
+/// The vertices of LSAs, in their order.
+pub(crate) fn vertices<A: Allocator + Copy>(
+    alloc: A,
+    lsas: &[VertexLsa<'_, A>],
+) -> Result<Vertices<A>, AllocError>
+    requires { AllPairs (λ v w. v ≢ w) (map vertex_of lsas.now) }
+    ensures { IfOk result (λ found. found.keys ≡ map vertex_of lsas.now) }
+{
+    let mut found = IndexSet::new(alloc);
+    for lsa in lsas {
+        add_vertex(&mut found, vertex_of(lsa.lsa()))?;
+    }
+    Ok(found)
 }

@@ -1,0 +1,27 @@
+-- `==` of the crate's types.
+use Rattle.std.proofs.Common.{◌≡◌, Bool, ◌&&◌, refl, ap, ◌∙◌}
+use Rattle.area_graph.specs.declared.vertex.Vertex.{Vertex}
+use Rattle.area_graph.specs.declared.vertex.Vertex.TheVariants.{Router, Network}
+use Rattle.area_graph.specs.declared.ties.Tie.{Tie}
+use Rattle.area_graph.specs.contracts.vertex.VertexPartialEq.TheImpl as vertex_impl
+use Rattle.area_graph.specs.contracts.ties.TiePartialEq.TheImpl as tie_impl
+use Rattle.area_graph.specs.Vertex.{is_same}
+use Rattle.area_graph.specs.Ties.{same_tie}
+
+abbrev pub vertex_eq : Vertex → Vertex → Bool
+vertex_eq = (vertex_impl.ghosts).eq
+
+abbrev pub tie_eq : Tie → Tie → Bool
+tie_eq = (tie_impl.ghosts).eq
+
+pub vertex_eq-is : (v w : Vertex) → vertex_eq v w ≡ is_same v w
+vertex_eq-is (Router v) (Router w) = refl
+vertex_eq-is (Router v) (Network n) = refl
+vertex_eq-is (Network n) (Router v) = refl
+vertex_eq-is (Network n) (Network m) = refl
+
+tie_by : (a b : Tie) → tie_eq a b ≡ same_tie a b
+tie_by a b = ap (λ t. t && vertex_eq a.named b.named) (vertex_eq-is a.of b.of) ∙ ap (λ t. is_same a.of b.of && t) (vertex_eq-is a.named b.named)
+
+pub tie_eq-is : tie_eq ≡ same_tie
+tie_eq-is = λ i a b. tie_by a b i

@@ -1,0 +1,7 @@
+use Rattle.area_graph.proofs.AreaLemmas.{Contains-area_edges}
+use Rattle.area_graph.proofs.OverLemmas.{over-area_edges}
+use Rattle.area_graph.proofs.UsedLemmas.{vertices_distinct}
+use Rattle.area_graph.proofs.laws.edges_join_both_ways.Goals as goal
+
+pub returns : goal.returns
+returns c = Contains-area_edges

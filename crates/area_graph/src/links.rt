@@ -1,0 +1,96 @@
+//! The edges over the links of router-LSAs.
+
+ghost use Rattle.std.specs.Prelude.{◌≡◌, OnOk};
+ghost use Rattle.area_graph.specs.Topology.{IsEdge};
+ghost use Rattle.area_graph.specs.Area.{vertex_of};
+ghost use Rattle.area_graph.specs.AreaEdges.{router_links};
+ghost use Rattle.area_graph.specs.Ties.{is_tied};
+ghost use Rattle.area_graph.specs.Drafts.{Adds, IsEitherWay, IsOverLink, IsOverLinks, IsOverLsas};
+
+use crate::draft::Draft;
+use crate::ties::{Ties, is_tied, target_of};
+use crate::used::{VertexLsa, vertex_of};
+use crate::vertex::Vertex;
+use lsa_codec::{Link, Links, Lsa};
+use std::alloc::{AllocError, Allocator};
+
+/// Adds the edge over a link, and the edge back where it leads to a network.
+fn add_both<A: Allocator + Copy>(
+    draft: &mut Draft<A>,
+    from: Vertex,
+    to: Vertex,
+    link: Link,
+) -> Result<(), AllocError>
+    ensures vertices { draft.new.vertices ≡ draft.old.vertices }
+    ensures edges { OnOk result (Adds (IsEitherWay draft.old.vertices (record { from = from; to = to; cost = link.metric; link_data = link.link_data })) (IsEdge draft.old) (IsEdge draft.new)) }
+{
+    draft.add(from, to, link.metric, link.link_data)?;
+    if !to.is_network() {
+        return Ok(());
+    }
+    draft.add(to, from, 0, link.link_data)
+}
+
+/// Adds the edges over a link of a vertex, where the other end names the vertex.
+fn add_link<A: Allocator + Copy>(
+    draft: &mut Draft<A>,
+    ties: &Ties<A>,
+    from: Vertex,
+    link: Link,
+) -> Result<(), AllocError>
+    ensures vertices { draft.new.vertices ≡ draft.old.vertices }
+    ensures edges { OnOk result (Adds (IsOverLink draft.old.vertices (is_tied ties.now) from link) (IsEdge draft.old) (IsEdge draft.new)) }
+{
+    let Some(to) = target_of(link) else {
+        return Ok(());
+    };
+    if !is_tied(ties, to, from) {
+        return Ok(());
+    }
+    add_both(draft, from, to, link)
+}
+
+fn add_links<A: Allocator + Copy>(
+    draft: &mut Draft<A>,
+    ties: &Ties<A>,
+    from: Vertex,
+    links: Links<'_>,
+) -> Result<(), AllocError>
+    ensures vertices { draft.new.vertices ≡ draft.old.vertices }
+    ensures edges { OnOk result (Adds (IsOverLinks draft.old.vertices (is_tied ties.now) from links.entry) (IsEdge draft.old) (IsEdge draft.new)) }
+{
+    for link in links {
+        add_link(draft, ties, from, link)?;
+    }
+    Ok(())
+}
+
+/// Adds the edges over the links of an LSA, which only router-LSAs have.
+fn add_lsa<A: Allocator + Copy>(
+    draft: &mut Draft<A>,
+    ties: &Ties<A>,
+    lsa: &Lsa<A>,
+) -> Result<(), AllocError>
+    ensures vertices { draft.new.vertices ≡ draft.old.vertices }
+    ensures edges { OnOk result (Adds (IsOverLinks draft.old.vertices (is_tied ties.now) (vertex_of lsa.now) (router_links lsa.now)) (IsEdge draft.old) (IsEdge draft.new)) }
+{
+    let Some(router) = lsa.router() else {
+        return Ok(());
+    };
+    add_links(draft, ties, vertex_of(lsa), router.links())
+}
+
+/// Adds the edges over the links of all these LSAs.
+pub(crate) fn add_edges<A: Allocator + Copy>(
+    draft: &mut Draft<A>,
+    ties: &Ties<A>,
+    lsas: &[VertexLsa<'_, A>],
+) -> Result<(), AllocError>
+    ensures vertices { draft.new.vertices ≡ draft.old.vertices }
+    ensures edges { OnOk result (Adds (IsOverLsas draft.old.vertices (is_tied ties.now) lsas.now) (IsEdge draft.old) (IsEdge draft.new)) }
+{
+    for lsa in lsas {
+        add_lsa(draft, ties, lsa.lsa())?;
+    }
+    Ok(())
+}
