@@ -11,9 +11,9 @@ use Rattle.area_graph.specs.Topology.{Topology}
 use Rattle.area_graph.proofs.Members.{In-from_Contains, Contains-from_In, In-map, map-In}
 use Rattle.spf.specs.Distances.{Distances}
 use Rattle.next_hops.specs.declared.hop.Hop.{Hop}
-use Rattle.next_hops.specs.Hop.{hop_cmp, IsSortedHops}
+use Rattle.next_hops.specs.Hop.{hop_cmp, IsSortedHops, extended}
 use Rattle.next_hops.specs.FirstHops.{hops_at}
-use Rattle.next_hops.specs.Passing.{Grows, IsExtended, IsPassed, arc_of, extended}
+use Rattle.next_hops.specs.Passing.{Grows, IsExtended, IsPassed, arc_of}
 use Rattle.next_hops.proofs.Inserted.{IsSortedHops-rising, Contains-rising_hops}
 
 pub Grows-none : (P : ℕ → Hop → Type 0) (a : List (List Hop)) → ((i : ℕ) (h : Hop) → P i h → ⊥) → Grows P a a

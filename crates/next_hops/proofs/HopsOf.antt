@@ -65,6 +65,12 @@ hops_of-same_members edges others costly there back v w =
       λ hop. (Contains-hops_of edges costly v w h).1 (IsHopTo-same_edges (λ e. Contains others e) (λ e. Contains edges e) back there v w h hop),
     ))
 
+-- where the graph has the edges of another list, such as those of an area's LSAs
+pub hops_of-edges : (t : Topology) → IsTopology t → (edges : List (DirectedEdge Vertex)) → ((e : DirectedEdge Vertex) → IsEdge t e → Contains edges e) → ((e : DirectedEdge Vertex) → Contains edges e → IsEdge t e)
+    → (v w : Vertex) → hops_of (edges_of t) v w ≡ hops_of edges v w
+hops_of-edges t shape edges there back v w =
+    hops_of-same_members (edges_of t) edges (NothingFree-edges t shape) (λ e i. there e (edges_of-only t e i)) (λ e i. edges_of-has t e (back e i)) v w
+
 -- sorted hops of all vertices are a function of the graph and the root
 pub table-is : (t : Topology) → IsTopology t → (root : Vertex) (table : List (List Hop)) → All (λ hops. IsSortedHops hops) table → AreHopsOf t root table → table ≡ table_of t root
 table-is t shape root table sorted of =

@@ -4,6 +4,7 @@ use Rattle.std.specs.Ordering.{ordering_then, nat_cmp}
 use Rattle.std.specs.declared.cmp.Ordering.{Ordering}
 use Rattle.std.specs.declared.cmp.Ordering.TheVariants.{Less}
 use Rattle.lsa_codec.specs.Spelling.{address_text}
+use Rattle.lsa_codec.specs.declared.address.Addr.{Addr}
 use Rattle.next_hops.specs.declared.hop.Hop.{Hop}
 use Rattle.next_hops.specs.declared.hop.Hop.TheVariants.{Connected, Link, Attached, Gateway}
 
@@ -35,6 +36,13 @@ hop_cmp g h = ordering_then (nat_cmp (kind_of g) (kind_of h)) (ordering_then (na
 -- in rising order, without repeats
 abbrev pub IsSortedHops : List Hop → Type 0
 IsSortedHops hops = AllPairs (λ g h. hop_cmp g h ≡ Less) hops
+
+-- the hop where the way goes on to the address a: on a network of the router's own, that is the gateway
+abbrev pub extended : Hop → Addr → Hop
+extended Connected a = Connected
+extended (Link d) a = Link d
+extended (Attached d) a = Gateway d a
+extended (Gateway d b) a = Gateway d b
 
 -- how a hop is written: its kind and its addresses, joined by colons
 abbrev pub hop_text : Hop → List ℕ

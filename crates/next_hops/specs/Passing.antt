@@ -8,16 +8,9 @@ use Rattle.area_graph.specs.Paths.{DirectedEdge}
 use Rattle.area_graph.specs.Topology.{Topology, row_at}
 use Rattle.spf.specs.Distances.{Distances}
 use Rattle.next_hops.specs.declared.hop.Hop.{Hop}
-use Rattle.next_hops.specs.declared.hop.Hop.TheVariants.{Connected, Link, Attached, Gateway}
-use Rattle.next_hops.specs.Hop.{IsSortedHops}
+use Rattle.next_hops.specs.declared.hop.Hop.TheVariants.{Link, Attached}
+use Rattle.next_hops.specs.Hop.{IsSortedHops, extended}
 use Rattle.next_hops.specs.FirstHops.{hops_at}
-
--- the first hop of a path that goes on over an edge carrying this address
-abbrev pub extended : Hop → Addr → Hop
-extended Connected a = Connected
-extended (Link d) a = Link d
-extended (Attached d) a = Gateway d a
-extended (Gateway d b) a = Gateway d b
 
 -- one of these hops, over one more edge
 abbrev pub IsExtended : List Hop → Addr → Hop → Type 0

@@ -1,8 +1,7 @@
 //! A next hop, its order and its text.
 
 ghost use Rattle.std.specs.Prelude.{◌≡◌, Some};
-ghost use Rattle.next_hops.specs.Hop.{hop_text};
-ghost use Rattle.next_hops.specs.Passing.{extended};
+ghost use Rattle.next_hops.specs.Hop.{hop_text, extended};
 
 use lsa_codec::Addr;
 use std::fmt;
@@ -27,13 +26,13 @@ pub enum Hop {
 }
 
 impl Hop {
-    /// The first hop of a path that goes on over an edge carrying this address: behind a network
-    /// the address is the gateway's.
-    pub(crate) fn extended(self, link_data: Addr) -> Hop
-        ensures { result ≡ extended self link_data }
+    /// The hop where the way goes on to an address. From [`Attached`](Hop::Attached) that is the
+    /// gateway on the interface's network; any other hop stays as it is.
+    pub fn extended(self, address: Addr) -> Hop
+        ensures { result ≡ extended self address }
     {
         match self {
-            Hop::Attached(interface) => Hop::Gateway(interface, link_data),
+            Hop::Attached(interface) => Hop::Gateway(interface, address),
             other => other,
         }
     }

@@ -2,8 +2,7 @@
 
 ghost use Rattle.std.specs.Prelude.{◌≡◌, ◌≤◌, [], ◌∷◌, ◌++◌, length, insert, IfOk, IfErr, MatchResult};
 ghost use Rattle.area_graph.specs.Rising.{rising};
-ghost use Rattle.next_hops.specs.Hop.{hop_cmp, IsSortedHops};
-ghost use Rattle.next_hops.specs.Passing.{extended};
+ghost use Rattle.next_hops.specs.Hop.{hop_cmp, IsSortedHops, extended};
 
 use crate::hop::Hop;
 use crate::laws::hop_order;
@@ -86,13 +85,18 @@ impl<A: Allocator + Copy> HopList<A> {
         Ok(())
     }
 
-    /// Adds hops as they are over one more edge, which carries this address.
-    pub(crate) fn join_extended(&mut self, more: &[Hop], link_data: Addr) -> Result<(), AllocError>
-        ensures joined { OnOk result (self.new ≡ rising hop_cmp (self.old ++ map (λ h. extended h link_data) more.now)) }
+    /// Adds hops as they are where the way goes on to an address ([`Hop::extended`]).
+    ///
+    /// # Errors
+    ///
+    /// Memory ran out; the list then has the first few of them as well.
+    pub fn join_extended(&mut self, more: &[Hop], address: Addr) -> Result<(), AllocError>
+        ensures joined { OnOk result (self.new ≡ rising hop_cmp (self.old ++ map (λ h. extended h address) more.now)) }
+        ensures begun { OnErr result ((n : ℕ) × (self.new ≡ rising hop_cmp (self.old ++ map (λ h. extended h address) (take n more.now)))) }
     {
         let _ = &self.storage;
         for hop in more {
-            self.add(hop.extended(link_data))?;
+            self.add(hop.extended(address))?;
         }
         Ok(())
     }

@@ -15,7 +15,7 @@ returns g c =
     let lists = c.args.lists.now in
     let hop = c.first_hop.result in
     let within : to < length lists = omega arith in
-    let at_root : c.args.from ≡ c.args.tree.now.root = c.if-from-root.false ∙ c.root.ensures in
+    let at_root : c.args.from ≡ c.args.tree.now.root = omega arith in
     let read : get_or lists to c.index-lists-edge.result ≡ hops_at lists to = get_or_default lists to c.index-lists-edge.result [] within in
     on_ok_weaker c.add.result
     (λ added. Grows-same _ (λ (i : ℕ) (h : Hop). (i ≡ to) × (c.args.from ≡ c.args.tree.now.root) × (first_at c.args.graph.now to c.args.edge.now.link_data ≡ h)) lists _

@@ -3,8 +3,7 @@ use Rattle.std.proofs.lemmas.List.{append-nil, append_assoc, map-append, take_mo
 use Rattle.area_graph.specs.Rising.{rising}
 use Rattle.next_hops.specs.declared.hop.Hop.{Hop}
 use Rattle.next_hops.specs.declared.hop.Hop.TheVariants.{Connected}
-use Rattle.next_hops.specs.Hop.{hop_cmp, IsSortedHops}
-use Rattle.next_hops.specs.Passing.{extended}
+use Rattle.next_hops.specs.Hop.{hop_cmp, IsSortedHops, extended}
 use Rattle.next_hops.proofs.Inserted.{rising-sorted, rising-joined}
 use Rattle.next_hops.proofs.list.HopList.join_extended.Goals as goal
 
@@ -18,7 +17,7 @@ pub loop-hop-preserved : goal.loop-hop-preserved
 loop-hop-preserved g c =
     let hops = c.args.self.now in
     let more = c.args.more.now in
-    let over = λ (h : Hop). extended h c.args.link_data in
+    let over = λ (h : Hop). extended h c.args.address in
     let i = c.loop-hop.hop-index in
     let hop = get_or more i Connected in
     c.in_ok-add.ensures.added
