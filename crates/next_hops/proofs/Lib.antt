@@ -1,0 +1,7 @@
+pub mod HopOrder
+pub mod Inserted
+pub mod Growing
+pub mod PathHops
+pub mod Handing
+pub mod HopsOf
+mod SmallHops

@@ -1,0 +1,4 @@
+pub mod Hop
+pub mod Storage
+pub mod FirstHops
+pub mod Passing

@@ -1,0 +1,20 @@
+//! The equal-cost next hops of each vertex of an area (RFC 2328, 16.1.1).
+//!
+//! A [`Hop`] says where packets go first. [`Hops`] has, for each vertex of an area's graph, the
+//! first hops of all paths of least cost from the calculating router.
+#![tactic(auto)]
+
+mod hop;
+mod hops;
+mod laws;
+mod list;
+mod passing;
+mod storage;
+
+pub use hop::Hop;
+pub use hops::Hops;
+pub use laws::{hop_order, hops_law};
+pub use list::HopList;
+
+#[cfg(test)]
+mod tests;
