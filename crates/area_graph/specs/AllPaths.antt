@@ -1,5 +1,5 @@
 -- All paths over a list of edges, each no longer than the list, and the distance that they give
--- (RFC 2328 section 16.1). Nothing computes these words: `unfoldable`, they open where a lemma says so.
+-- (RFC 2328, 16.1). Nothing computes these words: `unfoldable`, they open where a lemma says so.
 use Rattle.std.specs.Prelude.{ℕ, zero, suc, Bool, ◌&&◌, nat_le, List, [], ◌∷◌, map, length, filter, flat_map, Option}
 use Rattle.std.specs.List.{list_all}
 use Rattle.std.specs.Ordering.{nat_cmp}
