@@ -134,4 +134,34 @@ impl<A: Allocator + Copy> Planner<A> {
     {
         self.history.undone()
     }
+
+    /// A copy of the database that the session began at. The session stays as it is, also where
+    /// memory runs out, which is the error.
+    pub fn base(&mut self) -> Result<Database<A>, AllocError>
+        ensures base { IfOk result (λ database. lists_of database ≡ self.old.base) }
+        ensures session { self.new ≡ self.old }
+    {
+        let done = self.undo_all();
+        let copy = self.database.clone_of();
+        self.redo_all(done);
+        copy
+    }
+
+    /// Takes all done edits back, and tells how many they were.
+    fn undo_all(&mut self) -> usize
+        ensures count { result ≡ length self.old.done }
+        ensures session { self.new ≡ moved_back (length self.old.done) self.old }
+    {
+        let done = self.done();
+        let _ = self.history.undo(&mut self.database, done);
+        done
+    }
+
+    /// Carries the first `count` undone edits out again.
+    fn redo_all(&mut self, count: usize)
+        requires { count ≤ length self.old.undone }
+        ensures { self.new ≡ moved_on count self.old }
+    {
+        let _ = self.history.redo(&mut self.database, count);
+    }
 }
