@@ -3,3 +3,4 @@ pub mod OptionValues
 pub mod FirstLine
 pub mod Steps
 pub mod Runs
+pub mod Naming
