@@ -4,3 +4,4 @@ pub mod FirstLine
 pub mod Steps
 pub mod Runs
 pub mod Naming
+pub mod Apart

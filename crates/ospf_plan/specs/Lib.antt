@@ -5,6 +5,7 @@ pub mod CommandLine
 pub mod OptionsFaults
 pub mod Replies
 pub mod Run
+pub mod Alone
 pub mod Lines
 pub mod Inputs
 pub mod Exit

@@ -13,6 +13,7 @@ mod files;
 mod finish;
 mod given;
 mod inputs;
+mod laws;
 mod lines;
 mod options_fault;
 mod reading;
