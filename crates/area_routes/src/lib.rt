@@ -14,14 +14,20 @@ mod offer;
 mod rank;
 mod route;
 
+// The best of many candidates.
+mod best;
+mod way;
+
 // What holds of the definitions.
 mod laws;
 
 pub use area_result::AreaResult;
 pub use areas::AreaList;
+pub use best::BestWays;
 pub use entry::{EntryKind, RouterEntry};
 pub use inter_result::InterResult;
-pub use laws::route_orders;
+pub use laws::{route_orders, ways_are_best};
 pub use offer::Offer;
 pub use rank::{PathType, Rank};
 pub use route::Route;
+pub use way::Way;
