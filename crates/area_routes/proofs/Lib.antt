@@ -6,3 +6,6 @@ pub mod Entries
 pub mod Merging
 pub mod Loops
 pub mod Words
+pub mod Gathering
+pub mod Reaching
+pub mod Beaten

@@ -7,3 +7,10 @@ pub mod Merge
 pub mod Routes
 pub mod Intra
 pub mod Inter
+pub mod Reached
+pub mod Networks
+pub mod Stubs
+pub mod Entries
+pub mod AreaResults
+pub mod Growing
+pub mod Standings

@@ -18,6 +18,13 @@ mod route;
 mod best;
 mod way;
 
+// What an area gives.
+mod building;
+mod networks;
+mod reached;
+mod router_entries;
+mod stubs;
+
 // What holds of the definitions.
 mod laws;
 
