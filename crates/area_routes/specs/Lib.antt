@@ -1,0 +1,16 @@
+pub mod Order
+pub mod Values
+pub mod Candidate
+pub mod Best
+pub mod InWords
+pub mod Merge
+pub mod Routes
+pub mod Intra
+pub mod Inter
+pub mod Reached
+pub mod Networks
+pub mod Stubs
+pub mod Entries
+pub mod AreaResults
+pub mod Growing
+pub mod Standings
