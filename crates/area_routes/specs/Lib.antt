@@ -1,0 +1,9 @@
+pub mod Order
+pub mod Values
+pub mod Candidate
+pub mod Best
+pub mod InWords
+pub mod Merge
+pub mod Routes
+pub mod Intra
+pub mod Inter

@@ -1,0 +1,27 @@
+//! Intra-area routes, inter-area routes and router entries of a router (RFC 2328, 16.1 and 16.2).
+//!
+//! An [`AreaResult`] has what one area offers: ways to prefixes, and the routers that are area
+//! border routers or AS boundary routers. [`BestWays`] picks the best ways to each destination
+//! from any number of candidates, and joins those that are equally good.
+#![tactic(auto)]
+
+// What routes are.
+mod area_result;
+mod areas;
+mod entry;
+mod inter_result;
+mod offer;
+mod rank;
+mod route;
+
+// What holds of the definitions.
+mod laws;
+
+pub use area_result::AreaResult;
+pub use areas::AreaList;
+pub use entry::{EntryKind, RouterEntry};
+pub use inter_result::InterResult;
+pub use laws::route_orders;
+pub use offer::Offer;
+pub use rank::{PathType, Rank};
+pub use route::Route;
