@@ -1,1 +1,4 @@
 pub mod Attaching
+pub mod First
+pub mod Orders
+pub mod Least

@@ -2,5 +2,8 @@
 #![tactic(auto)]
 
 mod attached;
+mod choose;
+mod lookup;
 
 pub use attached::is_attached;
+pub use choose::preferred;
