@@ -52,7 +52,7 @@ path_over routes lsa e = if forward_of lsa == 0 then Some (path_by_entry lsa e) 
 abbrev pub external_candidate : RouterId → List RouteValue → List EntryValue → List ℕ → Option (Candidate Net)
 external_candidate router routes entries lsa =
     if (kind_of lsa == 5) && is_usable router lsa then
-      (if has_route routes (net_of_lsa lsa) then None else option_and_then (path_over routes lsa) (preferred entries (originator_of lsa)))
+    (if has_route routes (net_of_lsa lsa) then None else option_and_then (path_over routes lsa) (preferred entries (originator_of lsa)))
     else None
 
 -- the paths that a router has: AS-external-LSAs are flooded through areas that are not stub areas alone (3.6)

@@ -2,6 +2,7 @@
 
 ghost use Rattle.std.specs.Prelude.{◌≡◌, ◌≤◌, length};
 ghost use Rattle.std.specs.Option.{option_copied};
+ghost use Rattle.lsa_codec.specs.Prefix.{masked};
 ghost use Rattle.area_routes.specs.Routes.{AreSortedRoutes, has_route, route_to};
 ghost use Rattle.external_routes.specs.Choose.{forward_match};
 ghost use Rattle.external_routes.specs.Lookup.{MarksLengths};
@@ -43,6 +44,25 @@ pub(crate) fn has_route<A: Allocator + Copy>(routes: &[Route<A>], net: Prefix) -
     route_to(routes, net).is_some()
 }
 
+/// The route to the prefix of a length that covers an address, where `marks` has the lengths of the
+/// routes' prefixes.
+fn covering<'a, A: Allocator + Copy>(
+    routes: &'a [Route<A>],
+    marks: &[bool; 33],
+    addr: Addr,
+    len: u8,
+) -> Option<&'a Route<A>>
+    requires len { len ≤ 32 }
+    requires sorted { AreSortedRoutes routes.now }
+    requires marked { MarksLengths routes.now marks.now }
+    ensures { option_copied result ≡ route_to routes.now (masked addr len) }
+{
+    if !marks[usize::from(len)] {
+        return None;
+    }
+    route_to(routes, Prefix::masked(addr, len))
+}
+
 /// The route of the longest prefix that covers an address, where `marks` has the lengths of the
 /// routes' prefixes.
 pub(crate) fn forward_match<'a, A: Allocator + Copy>(
@@ -55,10 +75,7 @@ pub(crate) fn forward_match<'a, A: Allocator + Copy>(
     ensures { option_copied result ≡ forward_match routes.now addr }
 {
     for shorter in 0..33 {
-        let len = 32 - shorter;
-        if marks[usize::from(len)]
-            && let Some(route) = route_to(routes, Prefix::masked(addr, len))
-        {
+        if let Some(route) = covering(routes, marks, addr, 32 - shorter) {
             return Some(route);
         }
     }
