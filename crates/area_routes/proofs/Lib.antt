@@ -6,3 +6,6 @@ pub mod Entries
 pub mod Merging
 pub mod Loops
 pub mod Words
+pub mod Bounds
+pub mod Sorted
+pub mod Made

@@ -18,6 +18,10 @@ mod route;
 mod best;
 mod way;
 
+// Routes within areas.
+mod intra_area;
+mod routes;
+
 // What holds of the definitions.
 mod laws;
 
@@ -26,6 +30,7 @@ pub use areas::AreaList;
 pub use best::BestWays;
 pub use entry::{EntryKind, RouterEntry};
 pub use inter_result::InterResult;
+pub use intra_area::intra;
 pub use laws::{route_orders, ways_are_best};
 pub use offer::Offer;
 pub use rank::{PathType, Rank};
