@@ -43,4 +43,19 @@ impl<A: Allocator + Copy> AreaList<A> {
     {
         self.areas.as_slice()
     }
+
+    /// Adds an area, unless it is there.
+    ///
+    /// # Errors
+    ///
+    /// Memory ran out; the list is as before.
+    pub fn add(&mut self, area: AreaId) -> Result<(), AllocError>
+        ensures added { OnOk result (self.new ≡ rising area_cmp (self.old ++ area ∷ [])) }
+        ensures same { OnErr result (self.new ≡ self.old) }
+    {
+        self.areas.push(area)?;
+        self.areas.sort_unstable();
+        self.areas.dedup();
+        Ok(())
+    }
 }

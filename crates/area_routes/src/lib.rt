@@ -14,14 +14,25 @@ mod offer;
 mod rank;
 mod route;
 
+// The best of many candidates.
+mod best;
+mod way;
+
+// Routes within areas.
+mod intra_area;
+mod routes;
+
 // What holds of the definitions.
 mod laws;
 
 pub use area_result::AreaResult;
 pub use areas::AreaList;
+pub use best::BestWays;
 pub use entry::{EntryKind, RouterEntry};
 pub use inter_result::InterResult;
-pub use laws::route_orders;
+pub use intra_area::intra;
+pub use laws::{route_orders, ways_are_best};
 pub use offer::Offer;
 pub use rank::{PathType, Rank};
 pub use route::Route;
+pub use way::Way;
