@@ -9,3 +9,6 @@ pub mod Words
 pub mod Gathering
 pub mod Reaching
 pub mod Beaten
+pub mod Bounds
+pub mod Sorted
+pub mod Made

@@ -25,6 +25,10 @@ mod reached;
 mod router_entries;
 mod stubs;
 
+// Routes within areas.
+mod intra_area;
+mod routes;
+
 // What holds of the definitions.
 mod laws;
 
@@ -33,6 +37,7 @@ pub use areas::AreaList;
 pub use best::BestWays;
 pub use entry::{EntryKind, RouterEntry};
 pub use inter_result::InterResult;
+pub use intra_area::intra;
 pub use laws::{route_orders, ways_are_best};
 pub use offer::Offer;
 pub use rank::{PathType, Rank};
