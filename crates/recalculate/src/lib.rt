@@ -2,5 +2,6 @@
 #![tactic(auto)]
 
 mod planner;
+mod prefer;
 
 pub use planner::Planner;

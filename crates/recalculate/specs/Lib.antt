@@ -1,0 +1,2 @@
+pub mod Preferring
+pub mod Tables
