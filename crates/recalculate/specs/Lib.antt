@@ -1,2 +1,3 @@
 pub mod Preferring
 pub mod Tables
+pub mod Counting

@@ -3,5 +3,6 @@
 
 mod planner;
 mod prefer;
+mod results;
 
 pub use planner::Planner;
