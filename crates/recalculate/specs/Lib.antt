@@ -1,3 +1,4 @@
 pub mod Preferring
 pub mod Tables
+pub mod Fault
 pub mod Counting

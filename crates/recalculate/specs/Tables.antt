@@ -1,5 +1,5 @@
 -- The routing table of a router, as a function of the link state database (RFC 2328, 11 and 16).
-use Rattle.std.specs.Prelude.{List, [], ◌∷◌, map, Option, None, Some}
+use Rattle.std.specs.Prelude.{◌≡◌, List, [], ◌∷◌, map, Option, None, Some}
 use Rattle.lsa_codec.specs.declared.address.AreaId.{AreaId}
 use Rattle.lsa_codec.specs.declared.address.RouterId.{RouterId}
 use Rattle.lsdb.specs.declared.section.Section.TheVariants.{Area}
@@ -10,6 +10,8 @@ use Rattle.area_routes.specs.Intra.{intra_of}
 use Rattle.area_routes.specs.Inter.{inter_of}
 use Rattle.external_routes.specs.Attached.{attached_areas}
 use Rattle.external_routes.specs.External.{externals_of}
+use Rattle.recalculate.specs.declared.table.TableFault.{TableFault}
+use Rattle.recalculate.specs.declared.table.TableFault.TheVariants.{NoRouter, OutOfMemory}
 use Rattle.recalculate.specs.Preferring.{preferring}
 
 -- a router and its routes, in order of prefix, one for each
@@ -45,3 +47,8 @@ table_by db router (area ∷ areas) = Some (record { router = router; routes = r
 -- the table of a router; a router that is attached to no area has none
 unfoldable pub table_in : Lists → RouterId → Option TableValue
 table_in db router = table_by db router (attached_areas db router)
+
+-- when each fault comes, for the table if there is one
+abbrev pub FaultMeans : Option TableValue → TableFault → Type 0
+FaultMeans None fault = fault ≡ NoRouter
+FaultMeans (Some table) fault = fault ≡ OutOfMemory

@@ -4,5 +4,7 @@
 mod planner;
 mod prefer;
 mod results;
+mod table;
 
 pub use planner::Planner;
+pub use table::{Table, TableFault, table_of};
