@@ -11,3 +11,5 @@ pub mod Sorted
 pub mod Made
 pub mod Searching
 pub mod Indexing
+pub mod Costs
+pub mod Gathered
