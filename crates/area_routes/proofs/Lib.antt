@@ -12,3 +12,7 @@ pub mod Beaten
 pub mod Bounds
 pub mod Sorted
 pub mod Made
+pub mod Searching
+pub mod Indexing
+pub mod Costs
+pub mod Gathered

@@ -14,3 +14,4 @@ pub mod Entries
 pub mod AreaResults
 pub mod Growing
 pub mod Standings
+pub mod EntryIndex

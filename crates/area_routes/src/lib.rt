@@ -29,6 +29,15 @@ mod stubs;
 mod intra_area;
 mod routes;
 
+// Routes between areas.
+mod all_entries;
+mod entry_index;
+mod examined;
+mod indexed_area;
+mod inter_area;
+mod lookup;
+mod summary;
+
 // What holds of the definitions.
 mod laws;
 
@@ -36,9 +45,11 @@ pub use area_result::AreaResult;
 pub use areas::AreaList;
 pub use best::BestWays;
 pub use entry::{EntryKind, RouterEntry};
+pub use inter_area::inter;
 pub use inter_result::InterResult;
 pub use intra_area::intra;
 pub use laws::{route_orders, ways_are_best};
+pub use lookup::{has_route, route_to};
 pub use offer::Offer;
 pub use rank::{PathType, Rank};
 pub use route::Route;
