@@ -47,11 +47,15 @@ path_by_route lsa r = external_path lsa (route_class r) r.cost (map (λ hop. ext
 abbrev pub path_over : List RouteValue → List ℕ → EntryValue → Option (Candidate Net)
 path_over routes lsa e = if forward_of lsa == 0 then Some (path_by_entry lsa e) else option_map (path_by_route lsa) (forward_match routes (forward_address lsa))
 
--- the path of an LSA that is an AS-external-LSA, live, below LSInfinity and of another originator, where the originator has
--- an entry as an AS boundary router and the prefix has no other route
+-- an AS-external-LSA that is live, below LSInfinity, and of another originator than the calculating router
+abbrev pub is_examined : RouterId → List ℕ → Bool
+is_examined router lsa = (kind_of lsa == 5) && is_usable router lsa
+
+-- the path of an LSA that is examined, where the prefix has no other route and the originator has an entry as an AS boundary
+-- router
 abbrev pub external_candidate : RouterId → List RouteValue → List EntryValue → List ℕ → Option (Candidate Net)
 external_candidate router routes entries lsa =
-    if (kind_of lsa == 5) && is_usable router lsa then
+    if is_examined router lsa then
     (if has_route routes (net_of_lsa lsa) then None else option_and_then (path_over routes lsa) (preferred entries (originator_of lsa)))
     else None
 

@@ -2,8 +2,12 @@
 #![tactic(auto)]
 
 mod attached;
+mod candidates;
 mod choose;
+mod inside;
 mod lookup;
+mod routes;
 
 pub use attached::is_attached;
 pub use choose::preferred;
+pub use routes::externals;

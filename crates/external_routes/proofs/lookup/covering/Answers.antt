@@ -1,4 +1,4 @@
-use Rattle.std.proofs.Common.{◌≡◌, false, get_or, ap, sym, ◌∙◌}
+use Rattle.std.proofs.Common.{false, get_or, ap, sym, ◌∙◌}
 use Rattle.external_routes.proofs.Longest.{unmarked_none}
 use Rattle.external_routes.proofs.lookup.covering.Goals as goal
 

@@ -1,4 +1,4 @@
-use Rattle.std.proofs.Common.{◌≡◌, ◌≤◌, ap, sym, subst, ◌∙◌, arith}
+use Rattle.std.proofs.Common.{◌≡◌, ◌≤◌, ap, subst, ◌∙◌}
 use Rattle.external_routes.proofs.Marks.{marks_all, marks_more}
 use Rattle.external_routes.proofs.lookup.lengths.Goals as goal
 
