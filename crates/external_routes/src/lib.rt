@@ -5,6 +5,7 @@ mod attached;
 mod candidates;
 mod choose;
 mod inside;
+mod kept;
 mod lookup;
 mod routes;
 
