@@ -42,6 +42,7 @@ pub record AreWays (ways : WaysInside) : Type 0 where
   pub entries : EntriesBelow (2 ^ 40) ways.entries
 
 -- the same, and what is kept beside them is right
-pub record IsKept (ways : WaysInside) (marks : List Bool) : Type 0 where
+pub record IsKept (ways : WaysInside) (marks : List Bool) (kept : BTreeMap RouterId ℕ) : Type 0 where
   pub are : AreWays ways
   pub marked : MarksLengths ways.routes marks
+  pub preferred : KeepsPreferred ways.entries (length ways.entries) kept

@@ -7,7 +7,7 @@ ghost use Rattle.area_routes.specs.Values.{EntriesBelow, RoutesBelow};
 ghost use Rattle.external_routes.specs.Choose.{forward_match, preferred};
 ghost use Rattle.external_routes.specs.Lookup.{AreWays};
 
-use crate::choose::preferred;
+use crate::kept::{Kept, kept_for, preferred_entries};
 use crate::lookup::{forward_match, has_route, lengths};
 use area_routes::{Route, RouterEntry};
 use lsa_codec::{Addr, Prefix, RouterId};
@@ -22,6 +22,8 @@ pub(crate) struct Inside<'a, A: Allocator = Global> {
     entries: &'a [RouterEntry<A>],
     /// Which lengths the routes' prefixes have.
     lengths: [bool; 33],
+    /// The preferred entry of each AS boundary router.
+    preferred: Kept<A>,
 }
 
 impl<'a, A: Allocator> Model for Inside<'a, A> {
@@ -31,7 +33,7 @@ impl<'a, A: Allocator> Model for Inside<'a, A> {
 
     ghost view = { λ i. record { routes = i.routes.now; entries = i.entries.now } };
 
-    ghost invariant = { λ i. IsKept (record { routes = i.routes.now; entries = i.entries.now }) i.lengths };
+    ghost invariant = { λ i. IsKept (record { routes = i.routes.now; entries = i.entries.now }) i.lengths i.preferred };
 }
 
 impl<'a, A: Allocator + Copy> Inside<'a, A> {
@@ -46,10 +48,12 @@ impl<'a, A: Allocator + Copy> Inside<'a, A> {
         requires entries { EntriesBelow (2 ^ 40) entries.now }
         ensures { IfOk result (λ inside. inside ≡ record { routes = routes.now; entries = entries.now }) }
     {
+        let preferred = preferred_entries(alloc, entries)?;
         Ok(Inside {
             routes,
             entries,
             lengths: lengths(routes),
+            preferred,
         })
     }
 
@@ -73,6 +77,6 @@ impl<'a, A: Allocator + Copy> Inside<'a, A> {
         ensures entry { option_copied result ≡ preferred self.now.entries asbr }
         ensures small { IfSome result (λ entry. entry.now.cost < 2 ^ 40) }
     {
-        preferred(self.entries, asbr)
+        kept_for(&self.preferred, self.entries, asbr)
     }
 }

@@ -29,10 +29,7 @@ pub(crate) fn kept_for<'a, A: Allocator + Copy>(
 }
 
 /// Whether an entry comes first: it is preferred to the other, if there is one.
-fn comes_first<A: Allocator + Copy>(
-    entry: &RouterEntry<A>,
-    other: Option<&RouterEntry<A>>,
-) -> bool
+fn comes_first<A: Allocator + Copy>(entry: &RouterEntry<A>, other: Option<&RouterEntry<A>>) -> bool
     ensures { result ≡ comes_first entry.now (option_copied other.entry) }
 {
     match other {
