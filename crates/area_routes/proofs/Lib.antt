@@ -9,3 +9,5 @@ pub mod Words
 pub mod Bounds
 pub mod Sorted
 pub mod Made
+pub mod Searching
+pub mod Indexing

@@ -7,3 +7,4 @@ pub mod Merge
 pub mod Routes
 pub mod Intra
 pub mod Inter
+pub mod EntryIndex

@@ -22,6 +22,10 @@ mod way;
 mod intra_area;
 mod routes;
 
+// Routes between areas.
+mod entry_index;
+mod lookup;
+
 // What holds of the definitions.
 mod laws;
 
@@ -32,6 +36,7 @@ pub use entry::{EntryKind, RouterEntry};
 pub use inter_result::InterResult;
 pub use intra_area::intra;
 pub use laws::{route_orders, ways_are_best};
+pub use lookup::{has_route, route_to};
 pub use offer::Offer;
 pub use rank::{PathType, Rank};
 pub use route::Route;
