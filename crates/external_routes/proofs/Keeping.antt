@@ -1,6 +1,6 @@
 -- The preferred entry of each router, kept one entry after another.
 use Rattle.std.proofs.Common.{◌≡◌, ℕ, ◌+◌, Bool, true, false, cond, List, take, Option, None, Some, refl, sym, ap, subst, ◌∙◌}
-use Rattle.std.specs.Prelude.{◌&&◌, not}
+use Rattle.std.specs.Prelude.{◌&&◌}
 use Rattle.std.specs.List.{slice_get}
 use Rattle.std.specs.Ordering.{eq_by_cmp}
 use Rattle.std.proofs.lemmas.Bool.{eq-eqb, eqb-true, false≢true}
@@ -9,11 +9,11 @@ use Rattle.std.proofs.lemmas.Map.Views.{tells_apart}
 use Rattle.std.proofs.lemmas.Option.{get_or_from_slice_get, slice_get_within}
 use Rattle.lsa_codec.specs.declared.address.RouterId.{RouterId}
 use Rattle.area_graph.specs.Least.{later}
-use Rattle.area_routes.specs.Inter.{is_border, same_router}
+use Rattle.area_routes.specs.Inter.{same_router}
 use Rattle.area_routes.specs.Order.{router_cmp}
 use Rattle.area_routes.specs.Values.{EntryValue}
 use Rattle.area_routes.proofs.Orders.{router_exact, router_total}
-use Rattle.external_routes.specs.Choose.{is_asbr, preference, preferred}
+use Rattle.external_routes.specs.Choose.{is_asbr, is_asbr_kind, preference, preferred}
 use Rattle.external_routes.specs.Lookup.{comes_first, entry_at}
 use Rattle.external_routes.proofs.First.{first_more}
 use Rattle.external_routes.proofs.Orders.{preference_total}
@@ -60,7 +60,7 @@ module _ (entries : List EntryValue) (i : ℕ) (x : EntryValue) (here : slice_ge
       by false is = other asbr is
 
   apart : (asbr : RouterId) → same_router x.router asbr ≡ false → is_asbr asbr x ≡ false
-  apart asbr other = ap (λ b. not (is_border x.kind) && b) other ∙ by (not (is_border x.kind))
+  apart asbr other = ap (λ b. is_asbr_kind x.kind && b) other ∙ by (is_asbr_kind x.kind)
     where
       by : (b : Bool) → (b && false) ≡ false
       by true = refl

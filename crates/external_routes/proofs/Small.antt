@@ -13,7 +13,7 @@ use Rattle.area_graph.specs.Area.{is_live}
 use Rattle.area_routes.specs.declared.rank.PathType.TheVariants.{Ext1, Ext2}
 use Rattle.area_routes.specs.declared.rank.Rank.{Rank}
 use Rattle.area_routes.specs.Candidate.{Candidate}
-use Rattle.area_routes.specs.Inter.{is_usable, ls_infinity, originator_of, same_router}
+use Rattle.area_routes.specs.Inter.{ls_infinity, originator_of, same_router}
 use Rattle.area_routes.specs.Routes.{has_route}
 use Rattle.area_routes.specs.Values.{EntriesBelow, EntryValue, RouteValue, RoutesBelow}
 use Rattle.external_routes.specs.Choose.{covers, entry_class, forward_match, is_asbr, longer, preference, preferred, route_class}
@@ -32,7 +32,7 @@ rank_small lsa class cost m c = by (is_type2_of lsa)
 
 metric_below : (router : RouterId) (lsa : List ℕ) → is_examined router lsa ≡ true → metric_of lsa < 2 ^ 24
 metric_below router lsa h =
-    let usable = and_parts (eqb (kind_of lsa) 5) (is_usable router lsa) h in
+    let usable = and_parts (eqb (kind_of lsa) 5) (is_live lsa && (nat_lt (metric_of lsa) ls_infinity && not (same_router (originator_of lsa) router))) h in
     let rest = and_parts (is_live lsa) (nat_lt (metric_of lsa) ls_infinity && not (same_router (originator_of lsa) router)) usable.1 in
     let metric = and_parts (nat_lt (metric_of lsa) ls_infinity) (not (same_router (originator_of lsa) router)) rest.1 in
     let below : metric_of lsa < ls_infinity = ltb-true (metric_of lsa) ls_infinity metric.0 in

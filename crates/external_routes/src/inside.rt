@@ -7,9 +7,9 @@ ghost use Rattle.area_routes.specs.Values.{EntriesBelow, RoutesBelow};
 ghost use Rattle.external_routes.specs.Choose.{forward_match, preferred};
 ghost use Rattle.external_routes.specs.Lookup.{AreWays};
 
+use crate::forward::{forward_match, lengths};
 use crate::kept::{Kept, kept_for, preferred_entries};
-use crate::lookup::{forward_match, has_route, lengths};
-use area_routes::{Route, RouterEntry};
+use area_routes::{Route, RouterEntry, has_route};
 use lsa_codec::{Addr, Prefix, RouterId};
 use std::alloc::{AllocError, Allocator, Global};
 use std::marker::Model;
