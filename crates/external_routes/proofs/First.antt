@@ -1,13 +1,14 @@
 -- The first least element of those that pass a test, with one more element.
-use Rattle.std.proofs.Common.{◌≡◌, ℕ, ◌+◌, ◌<◌, Bool, true, false, cond, List, [], ◌∷◌, ◌++◌, take, get_or, length, Option, Some, None, refl, sym, ap, subst, ◌∙◌}
+use Rattle.std.proofs.Common.{Bor, IfSome, ◌≡◌, ℕ, ◌+◌, ◌<◌, Bool, true, false, cond, List, [], ◌∷◌, ◌++◌, take, get_or, length, Option, Some, None, refl, sym, ap, subst, ◌∙◌}
 use Rattle.std.specs.List.{All, filter}
+use Rattle.std.specs.Option.{option_copied}
 use Rattle.std.specs.Ordering.{is_lt}
 use Rattle.std.specs.Cmp.{IsTotalOrder}
 use Rattle.std.specs.declared.cmp.Ordering.{Ordering}
 use Rattle.std.proofs.lemmas.List.{append-nil, take_more}
 use Rattle.std.proofs.lemmas.List.Elements.{All-filter, All-head, All-tail, filter-append}
 use Rattle.area_graph.specs.Least.{later, least, lesser}
-use Rattle.external_routes.proofs.Least.{least_push}
+use Rattle.area_routes.proofs.Least.{least_push}
 
 module _ {K : Type 0} (R : K → K → Ordering) (P : K → Type 0) where
   -- what the least of a list has, as all have it
@@ -44,3 +45,8 @@ module _ {K : Type 0} {R : K → K → Ordering} (o : IsTotalOrder R) (p : K →
 
     pub first_no : p x ≡ false → best ≡ least R (filter p (take (i + 1) xs))
     first_no e = before ∙ sym (first_more xs i x l item ∙ ap (λ b. cond b (Some (later R (least R (filter p (take i xs))) x)) (least R (filter p (take i xs)))) e)
+
+-- what all have, the first least one behind a reference has
+pub first_has : {K : Type 0} (R : K → K → Ordering) (P : K → Type 0) (p : K → Bool) (xs : List K) (r : Option (Bor K)) → All P xs → option_copied r ≡ least R (filter p xs) → IfSome r (λ x. P x.now)
+first_has R P p xs None a h = tt
+first_has R P p xs (Some x) a h = first_all R P p xs x.now a h

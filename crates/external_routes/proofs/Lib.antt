@@ -1,7 +1,8 @@
 pub mod Attaching
 pub mod First
 pub mod Orders
-pub mod Least
-pub mod Searched
 pub mod Marks
 pub mod Longest
+pub mod Small
+pub mod Whole
+pub mod Keeping

@@ -1,11 +1,11 @@
 -- The route of the longest prefix that covers an address, when shorter and shorter prefixes are looked up.
-use Rattle.std.proofs.Common.{◌≡◌, ℕ, ◌+◌, ◌-◌, ◌<◌, ◌≤◌, Bool, true, false, cond, eqb, List, [], ◌∷◌, length, get_or, Option, None, Some, refl, sym, ap, subst, ◌∙◌, arith, ⊎_elim}
+use Rattle.std.proofs.Common.{◌≡◌, ℕ, ◌+◌, ◌-◌, ◌<◌, ◌≤◌, Bool, true, false, cond, List, [], ◌∷◌, length, get_or, Option, None, Some, refl, sym, ap, subst, ◌∙◌, arith, ⊎_elim}
 use Rattle.std.specs.Prelude.{bit_and}
 use Rattle.std.specs.List.{All, filter, find}
 use Rattle.std.specs.Ordering.{eq_by_cmp, is_lt, nat_cmp}
 use Rattle.std.specs.Cmp.{nat_cmp_is}
 use Rattle.std.specs.declared.cmp.Ordering.TheVariants.{Less}
-use Rattle.std.proofs.lemmas.Bool.{cases_eq, cases_lt, eq-eqb, eqb-true, false≢true}
+use Rattle.std.proofs.lemmas.Bool.{cases_eq, eq-eqb, eqb-true, false≢true}
 use Rattle.std.proofs.lemmas.Bool.Decides.{nat_tests}
 use Rattle.std.proofs.lemmas.Cmp.{eq_by_cmp_equiv}
 use Rattle.std.proofs.lemmas.List.Elements.{All-head, All-tail, All-cons}
@@ -18,9 +18,8 @@ use Rattle.area_routes.specs.Routes.{route_to}
 use Rattle.area_routes.specs.Values.{RouteValue}
 use Rattle.area_routes.proofs.Orders.{prefix_exact, prefix_total}
 use Rattle.external_routes.specs.Choose.{covers, forward_match, longer}
-use Rattle.external_routes.specs.Lookup.{IsMarked, MarksLengths}
+use Rattle.external_routes.specs.Lookup.{MarksLengths}
 use Rattle.external_routes.proofs.First.{least_all}
-use Rattle.external_routes.proofs.Searched.{find_none}
 
 -- what is known of those that pass a test holds of what the test keeps
 All-filter_yes : {X : Type 0} (p : X → Bool) (P : X → Type 0) (xs : List X) → All (λ x. p x ≡ true → P x) xs → All P (filter p xs)
@@ -34,6 +33,11 @@ All-filter_yes p P (x ∷ xs) all = by (p x) refl (All-filter_yes p P xs (All-ta
 filter_none : {X : Type 0} (p : X → Bool) (xs : List X) → All (λ x. p x ≡ false) xs → filter p xs ≡ []
 filter_none p [] all = refl
 filter_none p (x ∷ xs) all = ap (λ b. cond b (x ∷ filter p xs) (filter p xs)) (All-head (λ y. p y ≡ false) x xs all) ∙ filter_none p xs (All-tail (λ y. p y ≡ false) x xs all)
+
+-- where none passes, none is found
+find_none : {X : Type 0} (p : X → Bool) (xs : List X) → All (λ x. p x ≡ false) xs → find p xs ≡ None
+find_none p [] all = refl
+find_none p (x ∷ xs) all = ap (λ b. cond b (Some x) (find p xs)) (All-head (λ y. p y ≡ false) x xs all) ∙ find_none p xs (All-tail (λ y. p y ≡ false) x xs all)
 
 -- where none is found, none passes
 missed : {X : Type 0} (p : X → Bool) (xs : List X) → find p xs ≡ None → All (λ x. p x ≡ false) xs

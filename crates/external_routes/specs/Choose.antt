@@ -11,7 +11,9 @@ use Rattle.area_graph.specs.Least.{least}
 use Rattle.area_routes.specs.declared.rank.PathType.{PathType}
 use Rattle.area_routes.specs.declared.rank.PathType.TheVariants.{Intra, Inter, Ext1, Ext2}
 use Rattle.area_routes.specs.Values.{EntryValue, RouteValue}
-use Rattle.area_routes.specs.Inter.{is_asbr_intra, is_border, same_router}
+use Rattle.area_routes.specs.declared.entry.EntryKind.{EntryKind}
+use Rattle.area_routes.specs.declared.entry.EntryKind.TheVariants.{Border, AsbrIntra, AsbrInter}
+use Rattle.area_routes.specs.Inter.{same_router}
 
 -- ---- classes
 
@@ -23,6 +25,17 @@ is_intra Intra = true
 is_intra Inter = false
 is_intra Ext1 = false
 is_intra Ext2 = false
+
+-- the kinds of entries of AS boundary routers: inside an area, and of another area
+abbrev pub is_asbr_intra : EntryKind → Bool
+is_asbr_intra Border = false
+is_asbr_intra AsbrIntra = true
+is_asbr_intra AsbrInter = false
+
+abbrev pub is_asbr_kind : EntryKind → Bool
+is_asbr_kind Border = false
+is_asbr_kind AsbrIntra = true
+is_asbr_kind AsbrInter = true
 
 -- the class of an entry: 0 for an intra-area path through an area that is not the backbone, which is preferred, else 1
 -- (16.4.1)
@@ -42,7 +55,7 @@ preference a b = ordering_then (nat_cmp (entry_class a) (entry_class b)) (orderi
 
 -- an entry of this router as an AS boundary router
 abbrev pub is_asbr : RouterId → EntryValue → Bool
-is_asbr router e = not (is_border e.kind) && same_router e.router router
+is_asbr router e = is_asbr_kind e.kind && same_router e.router router
 
 -- the preferred of a router's entries as an AS boundary router
 abbrev pub preferred : List EntryValue → RouterId → Option EntryValue

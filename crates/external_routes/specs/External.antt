@@ -1,5 +1,5 @@
 -- External routes (RFC 2328, 16.4).
-use Rattle.std.specs.Prelude.{ℕ, ◌+◌, ◌&&◌, ◌==◌, List, [], Bool, if◌then◌else◌, Option, None, Some, map}
+use Rattle.std.specs.Prelude.{ℕ, ◌+◌, ◌&&◌, ◌==◌, List, [], Bool, if◌then◌else◌, Option, None, Some, map, nat_lt, not}
 use Rattle.std.specs.List.{filter_map}
 use Rattle.std.specs.Option.{option_and_then, option_map}
 use Rattle.lsa_codec.specs.declared.address.Addr.{Addr}
@@ -9,13 +9,14 @@ use Rattle.lsa_codec.specs.Prefix.{Net}
 use Rattle.lsa_codec.specs.Views.{forward_of, is_type2_of, metric_of, net_of_lsa}
 use Rattle.lsdb.specs.declared.section.Section.TheVariants.{AsWide}
 use Rattle.lsdb.specs.Lists.{Lists, lsas_of}
+use Rattle.area_graph.specs.Area.{is_live}
 use Rattle.next_hops.specs.declared.hop.Hop.{Hop}
 use Rattle.next_hops.specs.Hop.{extended}
 use Rattle.area_routes.specs.declared.rank.PathType.TheVariants.{Ext1, Ext2}
 use Rattle.area_routes.specs.declared.rank.Rank.{Rank}
 use Rattle.area_routes.specs.Values.{EntryValue, RouteValue}
 use Rattle.area_routes.specs.Candidate.{Candidate}
-use Rattle.area_routes.specs.Inter.{is_usable, originator_of}
+use Rattle.area_routes.specs.Inter.{ls_infinity, originator_of, same_router}
 use Rattle.area_routes.specs.Routes.{has_route, routes_of}
 use Rattle.external_routes.specs.Attached.{is_attached_outside_stubs}
 use Rattle.external_routes.specs.Choose.{entry_class, forward_match, preferred, route_class}
@@ -47,11 +48,15 @@ path_by_route lsa r = external_path lsa (route_class r) r.cost (map (λ hop. ext
 abbrev pub path_over : List RouteValue → List ℕ → EntryValue → Option (Candidate Net)
 path_over routes lsa e = if forward_of lsa == 0 then Some (path_by_entry lsa e) else option_map (path_by_route lsa) (forward_match routes (forward_address lsa))
 
--- the path of an LSA that is an AS-external-LSA, live, below LSInfinity and of another originator, where the originator has
--- an entry as an AS boundary router and the prefix has no other route
+-- an AS-external-LSA that is live, below LSInfinity, and of another originator than the calculating router
+abbrev pub is_examined : RouterId → List ℕ → Bool
+is_examined router lsa = (kind_of lsa == 5) && (is_live lsa && (nat_lt (metric_of lsa) ls_infinity && not (same_router (originator_of lsa) router)))
+
+-- the path of an LSA that is examined, where the prefix has no other route and the originator has an entry as an AS boundary
+-- router
 abbrev pub external_candidate : RouterId → List RouteValue → List EntryValue → List ℕ → Option (Candidate Net)
 external_candidate router routes entries lsa =
-    if (kind_of lsa == 5) && is_usable router lsa then
+    if is_examined router lsa then
     (if has_route routes (net_of_lsa lsa) then None else option_and_then (path_over routes lsa) (preferred entries (originator_of lsa)))
     else None
 

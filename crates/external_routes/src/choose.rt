@@ -45,7 +45,7 @@ pub(crate) fn route_class<A: Allocator + Copy>(route: &Route<A>) -> u8
 }
 
 /// Which of two entries is preferred (RFC 2328, 16.4.1).
-fn preference<A: Allocator + Copy>(a: &RouterEntry<A>, b: &RouterEntry<A>) -> Ordering
+pub(crate) fn preference<A: Allocator + Copy>(a: &RouterEntry<A>, b: &RouterEntry<A>) -> Ordering
     ensures { result ≡ preference a.now b.now }
 {
     let class = entry_class(a).cmp(&entry_class(b));
@@ -53,7 +53,7 @@ fn preference<A: Allocator + Copy>(a: &RouterEntry<A>, b: &RouterEntry<A>) -> Or
 }
 
 /// Whether an entry is one of the router as an AS boundary router.
-fn is_asbr<A: Allocator + Copy>(entry: &RouterEntry<A>, router: RouterId) -> bool
+pub(crate) fn is_asbr<A: Allocator + Copy>(entry: &RouterEntry<A>, router: RouterId) -> bool
     ensures { result ≡ is_asbr router entry.now }
 {
     entry.kind != EntryKind::Border && entry.router == router

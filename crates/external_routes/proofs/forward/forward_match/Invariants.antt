@@ -1,5 +1,5 @@
 use Rattle.external_routes.proofs.Longest.{LeftOut}
-use Rattle.external_routes.proofs.lookup.forward_match.Given as goal
+use Rattle.external_routes.proofs.forward.forward_match.Given as goal
 
 -- no route that covers the address has one of the lengths so far
 abbrev pub invariant-loop-shorter : goal.invariant-loop-shorter

@@ -1,6 +1,6 @@
-use Rattle.std.proofs.Common.{◌≡◌, false, get_or, ap, sym, ◌∙◌}
+use Rattle.std.proofs.Common.{false, get_or, ap, sym, ◌∙◌}
 use Rattle.external_routes.proofs.Longest.{unmarked_none}
-use Rattle.external_routes.proofs.lookup.covering.Goals as goal
+use Rattle.external_routes.proofs.forward.covering.Goals as goal
 
 pub returns-then-not-marks-from : goal.returns-then-not-marks-from
 returns-then-not-marks-from g c =

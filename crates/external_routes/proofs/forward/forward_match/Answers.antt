@@ -1,7 +1,7 @@
 use Rattle.std.proofs.Common.{◌≡◌, ap, sym, subst, ◌∙◌, arith}
 use Rattle.std.specs.Option.{option_copied}
 use Rattle.external_routes.proofs.Longest.{LeftOut, left_out_all, left_out_found, left_out_missed, left_out_none}
-use Rattle.external_routes.proofs.lookup.forward_match.Goals as goal
+use Rattle.external_routes.proofs.forward.forward_match.Goals as goal
 
 pub loop-shorter-init : goal.loop-shorter-init
 loop-shorter-init g c = left_out_none c.args.addr c.args.routes.now c.args.marks.now c.requires.marked

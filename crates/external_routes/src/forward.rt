@@ -1,13 +1,13 @@
-//! Routes looked up in a list in order of prefix.
+//! The match of a forwarding address among routes in order of prefix.
 
 ghost use Rattle.std.specs.Prelude.{◌≡◌, ◌≤◌, length};
 ghost use Rattle.std.specs.Option.{option_copied};
 ghost use Rattle.lsa_codec.specs.Prefix.{masked};
-ghost use Rattle.area_routes.specs.Routes.{AreSortedRoutes, has_route, route_to};
+ghost use Rattle.area_routes.specs.Routes.{AreSortedRoutes, route_to};
 ghost use Rattle.external_routes.specs.Choose.{forward_match};
 ghost use Rattle.external_routes.specs.Lookup.{MarksLengths};
 
-use area_routes::Route;
+use area_routes::{Route, route_to};
 use lsa_codec::{Addr, Prefix};
 use std::alloc::Allocator;
 
@@ -23,25 +23,6 @@ pub(crate) fn lengths<A: Allocator + Copy>(routes: &[Route<A>]) -> [bool; 33]
         marks[usize::from(route.net.len())] = true;
     }
     marks
-}
-
-/// The route to a prefix.
-fn route_to<A: Allocator + Copy>(routes: &[Route<A>], net: Prefix) -> Option<&Route<A>>
-    requires { AreSortedRoutes routes.now }
-    ensures { option_copied result ≡ route_to routes.now net }
-{
-    match routes.binary_search_by_key(&net, |route| route.net) {
-        Ok(place) => Some(&routes[place]),
-        Err(_) => None,
-    }
-}
-
-/// Whether a prefix has a route.
-pub(crate) fn has_route<A: Allocator + Copy>(routes: &[Route<A>], net: Prefix) -> bool
-    requires { AreSortedRoutes routes.now }
-    ensures { result ≡ has_route routes.now net }
-{
-    route_to(routes, net).is_some()
 }
 
 /// The route to the prefix of a length that covers an address, where `marks` has the lengths of the

@@ -1,6 +1,6 @@
 use Rattle.std.proofs.Common.{◌≡◌, length, take}
 use Rattle.external_routes.specs.Lookup.{MarksLengths}
-use Rattle.external_routes.proofs.lookup.lengths.Given as goal
+use Rattle.external_routes.proofs.forward.lengths.Given as goal
 
 -- the lengths so far are marked
 abbrev pub invariant-loop-route : goal.invariant-loop-route

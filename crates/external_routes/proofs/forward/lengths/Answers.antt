@@ -1,6 +1,6 @@
-use Rattle.std.proofs.Common.{◌≡◌, ◌≤◌, ap, sym, subst, ◌∙◌, arith}
+use Rattle.std.proofs.Common.{◌≡◌, ◌≤◌, ap, subst, ◌∙◌}
 use Rattle.external_routes.proofs.Marks.{marks_all, marks_more}
-use Rattle.external_routes.proofs.lookup.lengths.Goals as goal
+use Rattle.external_routes.proofs.forward.lengths.Goals as goal
 
 pub loop-route-preserved : goal.loop-route-preserved
 loop-route-preserved g c =
