@@ -1,6 +1,6 @@
 //! What the areas of a router give.
 
-ghost use Rattle.std.specs.Prelude.{◌≡◌, true, Contains, IfOk, OnOk, length};
+ghost use Rattle.std.specs.Prelude.{◌≡◌, ◌≢◌, [], true, Contains, IfOk, OnOk, OnErr, length};
 ghost use Rattle.lsdb.specs.declared.section.Section.TheVariants.{Area};
 ghost use Rattle.lsdb.specs.Lists.{lsas_of};
 ghost use Rattle.lsdb.specs.Places.{lists_of};
@@ -84,6 +84,7 @@ pub(crate) fn results_of<A: Allocator + Copy>(
     meter: &mut Meter,
 ) -> Result<Vec<AreaResult<A>, A>, AllocError>
     ensures results { IfOk result (λ results. results.items ≡ results_in (lists_of database.now) router (attached_areas (lists_of database.now) router)) }
+    ensures memory { OnErr result (attached_areas (lists_of database.now) router ≢ []) }
     ensures meter { IfOk result (λ results. meter.new ≡ counted_by (length results.items) meter.old) }
 {
     let mut results = Vec::new(alloc);

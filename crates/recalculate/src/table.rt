@@ -4,6 +4,7 @@ ghost use Rattle.std.specs.Prelude.{◌≡◌, [], IfOk, IfErr, IsErrOf, Some, N
 ghost use Rattle.lsdb.specs.Places.{lists_of};
 ghost use Rattle.area_routes.specs.Routes.{AreSortedRoutes};
 ghost use Rattle.external_routes.specs.Attached.{attached_areas};
+ghost use Rattle.recalculate.specs.declared.table.TableFault.TheVariants.{OutOfMemory};
 ghost use Rattle.recalculate.specs.Counting.{counted_by};
 ghost use Rattle.recalculate.specs.Tables.{table_in, routes_from, FaultMeans};
 ghost use Rattle.recalculate.specs.Fault.{code_of, name_of};
@@ -21,7 +22,7 @@ use thiserror::Error;
 
 /// The routing table of a router (RFC 2328, 11). Contracts see it as the router and its routes,
 /// which stand in order of prefix, one for each.
-#[derive(Debug, Drop)]
+#[derive(Drop)]
 pub struct Table<A: Allocator = Global> {
     router: RouterId,
     routes: Vec<Route<A>, A>,
@@ -78,9 +79,9 @@ pub enum TableFault {
 }
 
 impl From<AllocError> for TableFault {
-    fn from(_: AllocError) -> TableFault
-        ensures { result ≡ TableFault.OutOfMemory }
-    {
+    ghost from_gives = { λ _ fault. fault ≡ OutOfMemory };
+
+    fn from(_error: AllocError) -> TableFault {
         TableFault::OutOfMemory
     }
 }

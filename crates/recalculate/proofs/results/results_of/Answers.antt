@@ -3,6 +3,7 @@ use Rattle.lsdb.specs.Lists.{AreaHead, areas_of}
 use Rattle.lsdb.specs.Places.{lists_of}
 use Rattle.recalculate.specs.Counting.{counted_by}
 use Rattle.recalculate.proofs.Counted.{more_results, same_results, more_counted, all_results, none_counted}
+use Rattle.recalculate.proofs.Tabled.{attached_somewhere, on_err}
 use Rattle.recalculate.proofs.results.results_of.Goals as goal
 use Rattle.recalculate.proofs.results.results_of.Goals.{then-is_attached+in_ok-result_in+in_ok-push, else-is_attached}
 
@@ -39,3 +40,15 @@ returns-clause-results g c =
 
 pub returns-clause-meter : goal.returns-clause-meter
 returns-clause-meter g c = c.loop-i.invariant.meter
+
+pub returns-in_err-result_in-clause-memory : goal.returns-in_err-result_in-clause-memory
+returns-in_err-result_in-clause-memory g c =
+    on_err c.from_residual.result
+    (let head : AreaHead = record { id = c.area-is_stub.result.0.0; is_stub = c.area-is_stub.result.1 } in
+    attached_somewhere (lists_of c.args.database.now) c.args.router c.loop-i.i head c.area-is_stub.ensures (sym c.is_attached.ensures ∙ c.if-is_attached.true))
+
+pub returns-in_err-push-clause-memory : goal.returns-in_err-push-clause-memory
+returns-in_err-push-clause-memory g c =
+    on_err c.from_residual-in_err-push.result
+    (let head : AreaHead = record { id = c.area-is_stub.result.0.0; is_stub = c.area-is_stub.result.1 } in
+    attached_somewhere (lists_of c.args.database.now) c.args.router c.loop-i.i head c.area-is_stub.ensures (sym c.is_attached.ensures ∙ c.if-is_attached.true))
