@@ -1,6 +1,8 @@
 -- The table from its parts.
 use Rattle.std.proofs.Common.{◌≡◌, ◌≢◌, ℕ, ◌<◌, ◌≤◌, ◌^◌, Bool, true, false, List, [], ◌∷◌, map, filter, length, Option, Some, None, Result, Ok, Err, IfOk, IfErr, OnErr, inl, inr, zero, suc, refl, sym, ap, ◌∙◌, subst, arith}
 use Rattle.std.specs.List.{All, slice_get}
+use Rattle.std.specs.List.Sorted.{IsStrictlySortedBy}
+use Rattle.area_routes.specs.Routes.{AreSortedRoutes}
 use Rattle.lsa_codec.specs.declared.address.RouterId.{RouterId}
 use Rattle.lsdb.specs.Lists.{AreaHead, Lists, areas_of}
 use Rattle.area_graph.proofs.Members.{In, In-filter, In-from_Contains}
@@ -97,3 +99,17 @@ full_list xs some none = some (ap length none)
 pub on_err : {T E P : Type 0} (r : Result T E) → P → OnErr r P
 on_err (Ok v) p = tt
 on_err (Err e) p = p
+
+-- no routes stand in order
+pub none_sorted : AreSortedRoutes []
+unfolding IsStrictlySortedBy
+none_sorted = tt
+
+-- ---- the table in the database that a session shows
+
+pub if_table : {X E : Type 0} (table : X → TableValue) (d s : Lists) (router : RouterId) (r : Result X E) → d ≡ s → IfOk r (λ v. table_in d router ≡ Some (table v)) → IfOk r (λ v. table_in s router ≡ Some (table v))
+if_table table d s router (Ok v) same h = subst (λ db. table_in db router ≡ Some (table v)) same h
+if_table table d s router (Err e) same h = tt
+
+pub if_fault : {X : Type 0} (d s : Lists) (router : RouterId) (r : Result X TableFault) → d ≡ s → IfErr r (FaultMeans (table_in d router)) → IfErr r (FaultMeans (table_in s router))
+if_fault d s router r same h = subst (λ db. IfErr r (FaultMeans (table_in db router))) same h
