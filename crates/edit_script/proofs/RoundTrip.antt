@@ -9,7 +9,7 @@ use Rattle.edit_script.specs.declared.edit.Edit.TheVariants.{Cost}
 use Rattle.edit_script.specs.declared.command.Command.{Command}
 use Rattle.edit_script.specs.declared.command.Command.TheVariants as command
 use Rattle.edit_script.specs.Words.{Word, is_blank, words}
-use Rattle.edit_script.specs.Reading.{command_of, cost_of, undo_of}
+use Rattle.edit_script.specs.Reading.{command_of, cost_of, undo_of, table_of}
 use Rattle.edit_script.specs.Line.{meaning, meaning_of_words, behind_branch}
 use Rattle.edit_script.specs.Spelling.{spelling, edit_words, command_words, Says, IsEditInRange, IsInRange}
 use Rattle.edit_script.proofs.Split.{IsWord, words_joined}
@@ -38,16 +38,18 @@ words_again (Cost area router link metric) h = words_joined _ _ (are_words (Cost
 
 -- the words of a command are read again
 read_again : (c : Command) → IsInRange c → (branch : ℕ) → behind_branch branch (command_words c) ≡ Ok (branch, c)
-unfolding behind_branch command_of cost_of undo_of
+unfolding behind_branch command_of cost_of undo_of table_of
 read_again (command.Edit (Cost area router link metric)) h branch =
     simp (address_again area.0 h.0, address_again router.0 h.1, number_again 65535 link (omega arith) (omega arith), number_again 65535 metric (omega arith) (omega arith))
 read_again (command.Undo count) h branch = simp (number_again 4294967295 count (omega arith) (omega arith))
+read_again (command.Table router) h branch = simp (address_again router.0 h)
 
 -- no command word begins with `#` or `@`
 without_branch : (c : Command) → meaning_of_words (command_words c) ≡ behind_branch 0 (command_words c)
 unfolding meaning_of_words behind_branch
 without_branch (command.Edit (Cost area router link metric)) = refl
 without_branch (command.Undo count) = refl
+without_branch (command.Table router) = refl
 
 with_branch : (c : Command) → meaning_of_words (codes "@0" ∷ command_words c) ≡ behind_branch 0 (command_words c)
 unfolding meaning_of_words

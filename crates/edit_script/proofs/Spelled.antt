@@ -19,7 +19,7 @@ use Rattle.edit_script.specs.declared.fault.ScriptFault.TheVariants.{BadNumber, 
 use Rattle.edit_script.specs.Words.{Word}
 use Rattle.edit_script.specs.Arguments as arguments
 use Rattle.edit_script.specs.Arguments.{digits_after, is_number, number_up_to, four_parts, address_of, address_of_parts}
-use Rattle.edit_script.specs.Reading.{◌>>=◌, one_of, four_of, number, address, cost_of, undo_of, edit_command, command_of}
+use Rattle.edit_script.specs.Reading.{◌>>=◌, one_of, four_of, number, address, cost_of, undo_of, table_of, edit_command, command_of}
 use Rattle.edit_script.specs.Line.{branch_of, in_branch, behind_branch, meaning_of_words}
 use Rattle.edit_script.specs.Spelling.{edit_words, command_words, Says}
 use Rattle.edit_script.proofs.Numbers.{own, AreBytes}
@@ -162,6 +162,16 @@ undo_read arguments c h =
     let P : Command → Type 0 = λ d. codes "undo" ∷ arguments ≡ command_words d in
     subst P given (ap (λ (ws : List Word). codes "undo" ∷ ws) (one_is arguments word.0 word.1.0 ∙ ap (λ (w : Word). w ∷ []) k))
 
+table_read : (arguments : List Word) (c : Command) → table_of arguments ≡ Ok c → codes "table" ∷ arguments ≡ command_words c
+unfolding table_of
+table_read arguments c h =
+    let word = then_ok (one_of arguments) _ c h in
+    let router = then_ok (address word.0) _ c word.1.1 in
+    let r = address_read word.0 router.0 router.1.0 in
+    let given : command.Table (record { 0 = router.0 }) ≡ c = let found = router.1.1 in cc in
+    let P : Command → Type 0 = λ d. codes "table" ∷ arguments ≡ command_words d in
+    subst P given (ap (λ (ws : List Word). codes "table" ∷ ws) (one_is arguments word.0 word.1.0 ∙ ap (λ (w : Word). w ∷ []) r))
+
 edit_read : (words : List Word) (given : Result Edit ScriptFault) (c : Command) → ((edit : Edit) → given ≡ Ok edit → words ≡ edit_words edit) → edit_command given ≡ Ok c → words ≡ command_words c
 edit_read words given c spelled h =
     let found = then_ok given _ c h in
@@ -183,7 +193,8 @@ command_read : (word : Word) (arguments : List Word) (c : Command) → command_o
 unfolding command_of
 command_read word arguments c h =
     by_name (codes "cost") word arguments _ _ c (edit_read (codes "cost" ∷ arguments) (cost_of arguments) c (cost_read arguments))
-    (by_name (codes "undo") word arguments _ _ c (undo_read arguments c) (λ e. absurd cc))
+    (by_name (codes "undo") word arguments _ _ c (undo_read arguments c)
+    (by_name (codes "table") word arguments _ _ c (table_read arguments c) (λ e. absurd cc)))
     h
 
 -- ---- the line

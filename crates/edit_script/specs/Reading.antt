@@ -60,6 +60,13 @@ undo_of arguments = do
   count ← number 4294967295 word
   Ok (command.Undo count)
 
+-- table ROUTER
+unfoldable pub table_of : List Word → Result Command ScriptFault
+table_of arguments = do
+  word ← one_of arguments
+  router ← address word
+  Ok (command.Table (record { 0 = router }))
+
 abbrev pub edit_command : Result Edit ScriptFault → Result Command ScriptFault
 edit_command given = given >>= λ e. Ok (command.Edit e)
 
@@ -68,4 +75,5 @@ unfoldable pub command_of : Word → List Word → Result Command ScriptFault
 command_of word arguments =
     if bytes_eq word (codes "cost") then edit_command (cost_of arguments)
     else if bytes_eq word (codes "undo") then undo_of arguments
+    else if bytes_eq word (codes "table") then table_of arguments
     else Err UnknownWord

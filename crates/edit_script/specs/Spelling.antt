@@ -16,6 +16,7 @@ edit_words (Cost area router link metric) = codes "cost" ∷ address_text area.0
 abbrev pub command_words : Command → List Word
 command_words (command.Edit edit) = edit_words edit
 command_words (command.Undo count) = codes "undo" ∷ decimal count ∷ []
+command_words (command.Table router) = codes "table" ∷ address_text router.0 ∷ []
 
 -- the line of an edit: its words, joined by single spaces (32)
 abbrev pub spelling : Edit → List ℕ
@@ -33,3 +34,4 @@ IsEditInRange (Cost area router link metric) = (area.0 < 2 ^ 32) × (router.0 < 
 abbrev pub IsInRange : Command → Type 0
 IsInRange (command.Edit edit) = IsEditInRange edit
 IsInRange (command.Undo count) = count < 2 ^ 32
+IsInRange (command.Table router) = router.0 < 2 ^ 32

@@ -1,8 +1,8 @@
 //! The lines of a script: what a command says, reading it from a line, and printing an edit.
 //!
 //! A line is words between blanks: an optional branch, as `@0`, a command word and the command's
-//! arguments. `cost AREA ROUTER LINK METRIC` is an edit of the link state database, and `undo
-//! COUNT` takes back the last edits. [`parse`] reads a line without memory, and [`print`] writes an
+//! arguments. `cost AREA ROUTER LINK METRIC` is an edit of the link state database, `undo COUNT`
+//! takes back the last edits, and `table ROUTER` shows a routing table. [`parse`] reads a line without memory, and [`print`] writes an
 //! edit as the line that reads back to it.
 #![tactic(auto)]
 

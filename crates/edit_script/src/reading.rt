@@ -2,7 +2,7 @@
 
 ghost use Rattle.std.specs.Prelude.{◌≡◌};
 ghost use Rattle.edit_script.specs.Words.{words};
-ghost use Rattle.edit_script.specs.Reading.{Gives, number, address, one_of, four_of, cost_of, undo_of, command_of};
+ghost use Rattle.edit_script.specs.Reading.{Gives, number, address, one_of, four_of, cost_of, undo_of, table_of, command_of};
 
 use crate::arguments::{address_of, number_up_to};
 use crate::command::Command;
@@ -103,6 +103,15 @@ fn undo(arguments: &[u8]) -> Result<Command, ScriptFault>
     Ok(Command::Undo(count))
 }
 
+/// `table ROUTER`.
+#[tactic(auto, unfolding(crate::specs::Reading::table_of))]
+fn table(arguments: &[u8]) -> Result<Command, ScriptFault>
+    ensures { result ≡ table_of (words arguments.now) }
+{
+    let router = RouterId(address(one(arguments)?)?);
+    Ok(Command::Table(router))
+}
+
 /// The command of a command word and its arguments.
 #[tactic(auto, unfolding(crate::specs::Reading::command_of))]
 pub(crate) fn command(word: &[u8], arguments: &[u8]) -> Result<Command, ScriptFault>
@@ -112,6 +121,8 @@ pub(crate) fn command(word: &[u8], arguments: &[u8]) -> Result<Command, ScriptFa
         Ok(Command::Edit(cost(arguments)?))
     } else if word == b"undo".as_slice() {
         undo(arguments)
+    } else if word == b"table".as_slice() {
+        table(arguments)
     } else {
         Err(ScriptFault::UnknownWord)
     }

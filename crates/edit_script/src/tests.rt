@@ -4,7 +4,7 @@ use std::test::Fail;
 
 #[test]
 fn finds_the_first_fault(rt: HostRuntime) {
-    let lines: [(&[u8], ScriptFault); 46] = [
+    let lines: [(&[u8], ScriptFault); 50] = [
         (b"", ScriptFault::Empty),
         (b"   ", ScriptFault::Empty),
         (b"\t\r", ScriptFault::Empty),
@@ -29,7 +29,9 @@ fn finds_the_first_fault(rt: HostRuntime) {
         (b"undo", ScriptFault::MissingWord),
         (b"cost 0.0.0.0 1.1.1.1 1", ScriptFault::MissingWord),
         (b"cost x", ScriptFault::MissingWord),
+        (b"table", ScriptFault::MissingWord),
         (b"undo 1 2", ScriptFault::ExtraWord),
+        (b"table 1.1.1.1 2.2.2.2", ScriptFault::ExtraWord),
         (b"undo x y", ScriptFault::ExtraWord),
         (b"undo 1 # x", ScriptFault::ExtraWord),
         (b"cost 1.1.1 1.1.1.1 x y z", ScriptFault::ExtraWord),
@@ -51,6 +53,8 @@ fn finds_the_first_fault(rt: HostRuntime) {
         (b"cost 0 1.1.1.1 1 7", ScriptFault::BadAddress),
         (b"cost 0.0.0.0 1.1.1 x 65536", ScriptFault::BadAddress),
         (b"cost 1 0.0.0.0 1.1.1.1 7", ScriptFault::BadAddress),
+        (b"table 1.1.1", ScriptFault::BadAddress),
+        (b"tables", ScriptFault::UnknownWord),
     ];
     for (line, fault) in lines {
         assert_eq!(rt; parse(line).err(), Some(fault), "at {line:?}");
@@ -71,12 +75,17 @@ fn reads_commands(rt: HostRuntime) {
         link: 65535,
         metric: 65535,
     };
-    let lines: [(&[u8], Command); 8] = [
+    let lines: [(&[u8], Command); 10] = [
         (b"@0  undo 2", Command::Undo(2)),
         (b"@0 undo 1", Command::Undo(1)),
         (b"undo 0", Command::Undo(0)),
         (b"undo 4294967295", Command::Undo(4294967295)),
         (b"\tundo\r30 \r", Command::Undo(30)),
+        (b"table 1.1.1.1", Command::Table(RouterId(0x01010101))),
+        (
+            b"@0 table 255.0.0.9\r",
+            Command::Table(RouterId(0xff000009)),
+        ),
         (b"cost  0.0.0.0 1.1.1.1 1 7", Command::Edit(cost)),
         (b"@0\tcost 0.0.0.0\t1.1.1.1 1 7\r", Command::Edit(cost)),
         (
