@@ -5,8 +5,8 @@ ghost use Rattle.edit_script.specs.Words.{words};
 ghost use Rattle.edit_script.specs.Line.{branch_of, behind_branch, meaning};
 
 use crate::command::Command;
+use crate::commands::command;
 use crate::fault::ScriptFault;
-use crate::reading::command;
 use crate::words::next_word;
 
 /// The branch that a word names; else S8. Branch 0 is the only one yet.
