@@ -11,9 +11,9 @@ use Rattle.edit_script.specs.declared.edit.MetricType.TheVariants.{Type1, Type2}
 use Rattle.edit_script.specs.declared.command.Command.{Command}
 use Rattle.edit_script.specs.declared.command.Command.TheVariants as command
 use Rattle.edit_script.specs.Words.{Word, is_blank, words}
-use Rattle.edit_script.specs.Reading.{metric_type, edit_of, cost_of, drop_link_of, fail_link_of, fail_net_of, fail_router_of, add_stub_of, summary_of, add_summary_of, add_external_of, drop_external_of, command_of, undo_of, table_of}
+use Rattle.edit_script.specs.Reading.{metric_type, edit_of, cost_of, drop_link_of, fail_link_of, fail_net_of, fail_router_of, add_stub_of, summary_of, add_summary_of, add_external_of, drop_external_of, command_of, undo_of, redo_of, table_of, tables_of, compare_of, info_of}
 use Rattle.edit_script.specs.Line.{meaning, meaning_of_words, behind_branch}
-use Rattle.edit_script.specs.Spelling.{spelling, type_text, edit_words, command_words, Says, IsEditInRange, IsInRange}
+use Rattle.edit_script.specs.Spelling.{spelling, type_text, edit_words, command_words, branch_word, Says, IsEditInRange, IsInRange}
 use Rattle.edit_script.proofs.Split.{IsWord, words_joined}
 use Rattle.edit_script.proofs.Numbers.{number_again, address_again, prefix_again, IsWord-decimal, IsWord-address, IsWord-prefix}
 
@@ -99,10 +99,14 @@ edit_again (DropExternal router prefix) h branch =
 
 -- the words of a command are read again
 read_again : (c : Command) → IsInRange c → (branch : ℕ) → behind_branch branch (command_words c) ≡ Ok (branch, c)
-unfolding behind_branch command_of undo_of table_of
+unfolding behind_branch command_of undo_of redo_of table_of tables_of compare_of info_of
 read_again (command.Edit edit) h branch = edit_again edit h branch
 read_again (command.Undo count) h branch = simp (number_again 4294967295 count (omega arith) (omega arith))
+read_again (command.Redo count) h branch = simp (number_again 4294967295 count (omega arith) (omega arith))
 read_again (command.Table router) h branch = simp (address_again router.0 h)
+read_again command.Tables h branch = refl
+read_again (command.Compare router) h branch = simp (address_again router.0 h)
+read_again command.Info h branch = refl
 
 -- no command word begins with `#` or `@`
 without_branch : (c : Command) → meaning_of_words (command_words c) ≡ behind_branch 0 (command_words c)
@@ -118,19 +122,23 @@ without_branch (command.Edit (AddSummary area router prefix metric)) = refl
 without_branch (command.Edit (AddExternal router prefix type metric forward tag)) = refl
 without_branch (command.Edit (DropExternal router prefix)) = refl
 without_branch (command.Undo count) = refl
+without_branch (command.Redo count) = refl
 without_branch (command.Table router) = refl
+without_branch command.Tables = refl
+without_branch (command.Compare router) = refl
+without_branch command.Info = refl
 
-with_branch : (c : Command) → meaning_of_words (codes "@0" ∷ command_words c) ≡ behind_branch 0 (command_words c)
+with_branch : (branch : ℕ) (c : Command) → branch < 8 → meaning_of_words (branch_word branch ∷ command_words c) ≡ behind_branch branch (command_words c)
 unfolding meaning_of_words
-with_branch c = refl
+with_branch branch c small = simp (number_again 7 branch (omega arith) (omega arith))
 
 -- words that say a command mean it
 pub means : (words : List Word) (branch : ℕ) (c : Command) → IsInRange c → Says words branch c → meaning_of_words words ≡ Ok (branch, c)
 means words branch c h says =
     elim says.1 [
-      | inl bare ↦ rw (says.0, bare) (without_branch c ∙ read_again c h 0)
-      | inr named ↦ rw (says.0, named) (with_branch c ∙ read_again c h 0)
+      | inl named ↦ rw named (with_branch branch c says.0 ∙ read_again c h branch)
+      | inr bare ↦ rw (bare.0, bare.1) (without_branch c ∙ read_again c h 0)
     ]
 
 pub reads_back : (edit : Edit) → IsEditInRange edit → meaning (spelling edit) ≡ Ok (0, command.Edit edit)
-reads_back edit h = ap meaning_of_words (words_again edit h) ∙ means (edit_words edit) 0 (command.Edit edit) h (refl, inl refl)
+reads_back edit h = ap meaning_of_words (words_again edit h) ∙ means (edit_words edit) 0 (command.Edit edit) h (omega arith, inr (refl, refl))

@@ -18,13 +18,13 @@ use Rattle.edit_script.specs.declared.edit.MetricType.TheVariants.{Type1, Type2}
 use Rattle.edit_script.specs.declared.command.Command.{Command}
 use Rattle.edit_script.specs.declared.command.Command.TheVariants as command
 use Rattle.edit_script.specs.declared.fault.ScriptFault.{ScriptFault}
-use Rattle.edit_script.specs.declared.fault.ScriptFault.TheVariants.{BadNumber, BadAddress, BadPrefix}
+use Rattle.edit_script.specs.declared.fault.ScriptFault.TheVariants.{BadNumber, BadAddress, BadPrefix, BadBranch}
 use Rattle.edit_script.specs.Words.{Word}
 use Rattle.edit_script.specs.Arguments as arguments
 use Rattle.edit_script.specs.Arguments.{digits_after, is_number, number_up_to, two_parts, four_parts, address_of, address_of_parts, prefix_of, prefix_of_parts}
-use Rattle.edit_script.specs.Reading.{◌>>=◌, one_of, two_of, three_of, four_of, six_of, number, address, prefix, metric_type, cost_of, drop_link_of, fail_link_of, fail_net_of, fail_router_of, add_stub_of, summary_of, add_summary_of, add_external_of, drop_external_of, edit_of, undo_of, table_of, edit_command, command_of}
+use Rattle.edit_script.specs.Reading.{◌>>=◌, one_of, two_of, three_of, four_of, six_of, number, address, prefix, metric_type, cost_of, drop_link_of, fail_link_of, fail_net_of, fail_router_of, add_stub_of, summary_of, add_summary_of, add_external_of, drop_external_of, edit_of, none_of, undo_of, redo_of, table_of, tables_of, compare_of, info_of, edit_command, command_of}
 use Rattle.edit_script.specs.Line.{branch_of, in_branch, behind_branch, meaning_of_words}
-use Rattle.edit_script.specs.Spelling.{type_text, edit_words, command_words, Says}
+use Rattle.edit_script.specs.Spelling.{type_text, edit_words, command_words, branch_word, Says}
 use Rattle.edit_script.proofs.Numbers.{own, AreBytes, prefix_joined}
 
 -- ---- what a result of several steps says of each step
@@ -194,6 +194,10 @@ type_read word type h =
     type_named (codes "1") word Type1 _ type refl (type_named (codes "2") word Type2 _ type refl (λ e. absurd cc)) h
 
 -- ---- so many arguments
+
+none_are : (arguments : List Word) (w : Unit {0}) → none_of arguments ≡ Ok w → arguments ≡ []
+none_are [] w h = refl
+none_are (a ∷ arguments) w h = absurd cc
 
 one_is : (arguments : List Word) (word : Word) → one_of arguments ≡ Ok word → arguments ≡ word ∷ []
 one_is [] w h = absurd cc
@@ -404,20 +408,56 @@ unfolding undo_of
 undo_read arguments c h =
     let word = then_ok (one_of arguments) _ c h in
     let count = then_ok (number 4294967295 word.0) _ c word.1.1 in
-    let k = number_read 4294967295 word.0 count.0 (omega arith) count.1.0 in
+    let spelled = number_read 4294967295 word.0 count.0 (omega arith) count.1.0 in
     let given : command.Undo count.0 ≡ c = same_ok _ c count.1.1 in
     let P : Command → Type 0 = λ d. codes "undo" ∷ arguments ≡ command_words d in
-    subst P given (ap (λ (ws : List Word). codes "undo" ∷ ws) (one_is arguments word.0 word.1.0 ∙ ap (λ (w : Word). w ∷ []) k))
+    subst P given (ap (λ (ws : List Word). codes "undo" ∷ ws) (one_is arguments word.0 word.1.0 ∙ ap (λ (w : Word). w ∷ []) spelled))
+
+redo_read : (arguments : List Word) (c : Command) → redo_of arguments ≡ Ok c → codes "redo" ∷ arguments ≡ command_words c
+unfolding redo_of
+redo_read arguments c h =
+    let word = then_ok (one_of arguments) _ c h in
+    let count = then_ok (number 4294967295 word.0) _ c word.1.1 in
+    let spelled = number_read 4294967295 word.0 count.0 (omega arith) count.1.0 in
+    let given : command.Redo count.0 ≡ c = same_ok _ c count.1.1 in
+    let P : Command → Type 0 = λ d. codes "redo" ∷ arguments ≡ command_words d in
+    subst P given (ap (λ (ws : List Word). codes "redo" ∷ ws) (one_is arguments word.0 word.1.0 ∙ ap (λ (w : Word). w ∷ []) spelled))
 
 table_read : (arguments : List Word) (c : Command) → table_of arguments ≡ Ok c → codes "table" ∷ arguments ≡ command_words c
 unfolding table_of
 table_read arguments c h =
     let word = then_ok (one_of arguments) _ c h in
     let router = then_ok (address word.0) _ c word.1.1 in
-    let r = address_read word.0 router.0 router.1.0 in
+    let spelled = address_read word.0 router.0 router.1.0 in
     let given : command.Table (record { 0 = router.0 }) ≡ c = same_ok _ c router.1.1 in
     let P : Command → Type 0 = λ d. codes "table" ∷ arguments ≡ command_words d in
-    subst P given (ap (λ (ws : List Word). codes "table" ∷ ws) (one_is arguments word.0 word.1.0 ∙ ap (λ (w : Word). w ∷ []) r))
+    subst P given (ap (λ (ws : List Word). codes "table" ∷ ws) (one_is arguments word.0 word.1.0 ∙ ap (λ (w : Word). w ∷ []) spelled))
+
+tables_read : (arguments : List Word) (c : Command) → tables_of arguments ≡ Ok c → codes "tables" ∷ arguments ≡ command_words c
+unfolding tables_of
+tables_read arguments c h =
+    let nothing = then_ok (none_of arguments) _ c h in
+    let given : command.Tables ≡ c = same_ok _ c nothing.1.1 in
+    let P : Command → Type 0 = λ d. codes "tables" ∷ arguments ≡ command_words d in
+    subst P given (ap (λ (ws : List Word). codes "tables" ∷ ws) (none_are arguments nothing.0 nothing.1.0))
+
+compare_read : (arguments : List Word) (c : Command) → compare_of arguments ≡ Ok c → codes "compare" ∷ arguments ≡ command_words c
+unfolding compare_of
+compare_read arguments c h =
+    let word = then_ok (one_of arguments) _ c h in
+    let router = then_ok (address word.0) _ c word.1.1 in
+    let spelled = address_read word.0 router.0 router.1.0 in
+    let given : command.Compare (record { 0 = router.0 }) ≡ c = same_ok _ c router.1.1 in
+    let P : Command → Type 0 = λ d. codes "compare" ∷ arguments ≡ command_words d in
+    subst P given (ap (λ (ws : List Word). codes "compare" ∷ ws) (one_is arguments word.0 word.1.0 ∙ ap (λ (w : Word). w ∷ []) spelled))
+
+info_read : (arguments : List Word) (c : Command) → info_of arguments ≡ Ok c → codes "info" ∷ arguments ≡ command_words c
+unfolding info_of
+info_read arguments c h =
+    let nothing = then_ok (none_of arguments) _ c h in
+    let given : command.Info ≡ c = same_ok _ c nothing.1.1 in
+    let P : Command → Type 0 = λ d. codes "info" ∷ arguments ≡ command_words d in
+    subst P given (ap (λ (ws : List Word). codes "info" ∷ ws) (none_are arguments nothing.0 nothing.1.0))
 
 edit_read : (words : List Word) (given : Result Edit ScriptFault) (c : Command) → ((edit : Edit) → given ≡ Ok edit → words ≡ edit_words edit) → edit_command given ≡ Ok c → words ≡ command_words c
 edit_read words given c spelled h =
@@ -456,8 +496,12 @@ command_read : (word : Word) (arguments : List Word) (c : Command) → command_o
 unfolding command_of
 command_read word arguments c h =
     by_name command_words (codes "undo") word arguments _ _ c (undo_read arguments c)
+    (by_name command_words (codes "redo") word arguments _ _ c (redo_read arguments c)
     (by_name command_words (codes "table") word arguments _ _ c (table_read arguments c)
-    (edit_read (word ∷ arguments) (edit_of word arguments) c (edit_word_read word arguments)))
+    (by_name command_words (codes "tables") word arguments _ _ c (tables_read arguments c)
+    (by_name command_words (codes "compare") word arguments _ _ c (compare_read arguments c)
+    (by_name command_words (codes "info") word arguments _ _ c (info_read arguments c)
+    (edit_read (word ∷ arguments) (edit_of word arguments) c (edit_word_read word arguments)))))))
     h
 
 -- ---- the line
@@ -471,12 +515,12 @@ in_branch_read branch b given c h =
     let same : (branch, found.0) ≡ (b, c) = let e = found.1.1 in cc in
     (found.1.0 ∙ ap (λ (x : ℕ × Command). done x.1) same, ap (λ (x : ℕ × Command). x.0) same)
 
-branch_is : (word : Word) (branch : ℕ) → branch_of word ≡ Ok branch → (word ≡ codes "@0") × (branch ≡ 0)
-branch_is word branch h =
-    elim (cases_Bool (bytes_eq word (codes "@0"))) [
-      | inl holds ↦ let e = sym (cond-true _ _ _ holds) ∙ h in ((bytes_eq-Decides word (codes "@0")).0 holds, cc)
-      | inr fails ↦ absurd (let e = sym (cond-false _ _ _ fails) ∙ h in cc)
-    ]
+branch_is : (word : Word) (branch : ℕ) → eqb (get_or word 0 0) 64 ≡ true → branch_of word ≡ Ok branch → (word ≡ branch_word branch) × (branch < 8)
+branch_is [] branch at h = absurd cc
+branch_is (first ∷ digit) branch at h =
+    let number = number_spelled 7 digit branch (omega arith) (of_ok (number_up_to 7 digit) BadBranch branch h) in
+    let same : first ≡ 64 = eqb-true first 64 at in
+    (rw (same, number.0) refl, omega (arith, number.1))
 
 behind_branch_read : (branch b : ℕ) (words : List Word) (c : Command) → behind_branch branch words ≡ Ok (b, c) → (words ≡ command_words c) × (branch ≡ b)
 unfolding behind_branch
@@ -490,12 +534,13 @@ said_by first rest branch c h =
     elim (cases_Bool (eqb (get_or first 0 0) 64)) [
       | inl named ↦
           let found = then_ok (branch_of first) _ (branch, c) (sym (cond-true _ _ _ named) ∙ h) in
-          let name = branch_is first found.0 found.1.0 in
+          let name = branch_is first found.0 named found.1.0 in
           let read = behind_branch_read found.0 branch rest c found.1.1 in
-          (sym read.1 ∙ name.1, inr (rw (name.0, read.0) refl))
+          let same : first ≡ branch_word branch = name.0 ∙ ap branch_word read.1 in
+          (omega (arith, name.1, read.1), inl (rw (same, read.0) refl))
       | inr bare ↦
           let found = in_branch_read 0 branch (command_of first rest) c (sym (cond-false _ _ _ bare) ∙ h) in
-          (sym found.1, inl (command_read first rest c found.0))
+          (omega (arith, found.1), inr (sym found.1, command_read first rest c found.0))
     ]
 
 -- words that mean a command say it

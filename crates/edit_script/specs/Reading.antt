@@ -46,6 +46,10 @@ metric_type word =
 abbrev pub miscount : ℕ → List Word → ScriptFault
 miscount n arguments = if nat_lt (length arguments) n then MissingWord else ExtraWord
 
+abbrev pub none_of : List Word → Result (Unit {0}) ScriptFault
+none_of [] = Ok tt
+none_of arguments = Err (miscount 0 arguments)
+
 abbrev pub one_of : List Word → Result Word ScriptFault
 one_of (a ∷ []) = Ok a
 one_of arguments = Err (miscount 1 arguments)
@@ -185,12 +189,38 @@ undo_of arguments = do
   count ← number 4294967295 word
   Ok (command.Undo count)
 
+-- redo COUNT
+unfoldable pub redo_of : List Word → Result Command ScriptFault
+redo_of arguments = do
+  word ← one_of arguments
+  count ← number 4294967295 word
+  Ok (command.Redo count)
+
 -- table ROUTER
 unfoldable pub table_of : List Word → Result Command ScriptFault
 table_of arguments = do
   word ← one_of arguments
   router ← address word
   Ok (command.Table (record { 0 = router }))
+
+-- tables
+unfoldable pub tables_of : List Word → Result Command ScriptFault
+tables_of arguments = do
+  _ ← none_of arguments
+  Ok command.Tables
+
+-- compare ROUTER
+unfoldable pub compare_of : List Word → Result Command ScriptFault
+compare_of arguments = do
+  word ← one_of arguments
+  router ← address word
+  Ok (command.Compare (record { 0 = router }))
+
+-- info
+unfoldable pub info_of : List Word → Result Command ScriptFault
+info_of arguments = do
+  _ ← none_of arguments
+  Ok command.Info
 
 abbrev pub edit_command : Result Edit ScriptFault → Result Command ScriptFault
 edit_command given = given >>= λ e. Ok (command.Edit e)
@@ -199,5 +229,9 @@ edit_command given = given >>= λ e. Ok (command.Edit e)
 unfoldable pub command_of : Word → List Word → Result Command ScriptFault
 command_of word arguments =
     if bytes_eq word (codes "undo") then undo_of arguments
+    else if bytes_eq word (codes "redo") then redo_of arguments
     else if bytes_eq word (codes "table") then table_of arguments
+    else if bytes_eq word (codes "tables") then tables_of arguments
+    else if bytes_eq word (codes "compare") then compare_of arguments
+    else if bytes_eq word (codes "info") then info_of arguments
     else edit_command (edit_of word arguments)

@@ -1,5 +1,5 @@
 -- How a command is spelled: its command word and its arguments.
-use Rattle.std.specs.Prelude.{◌≡◌, ℕ, ◌<◌, ◌^◌, ◌⊎◌, List, [], ◌∷◌, codes, decimal}
+use Rattle.std.specs.Prelude.{◌≡◌, ℕ, ◌<◌, ◌^◌, ◌⊎◌, List, [], ◌∷◌, ◌++◌, codes, decimal}
 use Rattle.std.specs.List.{join_with_byte}
 use Rattle.lsa_codec.specs.Spelling.{address_text, prefix_text}
 use Rattle.lsa_codec.specs.Prefix.{Net, IsNet}
@@ -34,15 +34,23 @@ edit_words (DropExternal router prefix) = codes "drop-external" ∷ address_text
 abbrev pub command_words : Command → List Word
 command_words (command.Edit edit) = edit_words edit
 command_words (command.Undo count) = codes "undo" ∷ decimal count ∷ []
+command_words (command.Redo count) = codes "redo" ∷ decimal count ∷ []
 command_words (command.Table router) = codes "table" ∷ address_text router.0 ∷ []
+command_words command.Tables = codes "tables" ∷ []
+command_words (command.Compare router) = codes "compare" ∷ address_text router.0 ∷ []
+command_words command.Info = codes "info" ∷ []
 
 -- the line of an edit: its words, joined by single spaces (32)
 abbrev pub spelling : Edit → List ℕ
 spelling edit = join_with_byte 32 (edit_words edit)
 
--- the words say the command in the branch, which is 0: they are the command's words, and `@0` may stand before them
+-- the word of a branch
+abbrev pub branch_word : ℕ → Word
+branch_word branch = codes "@" ++ decimal branch
+
+-- the words say the command in the branch, 0 to 7: they are the branch's word and the command's words; for branch 0 the command's words alone say it too
 abbrev pub Says : List Word → ℕ → Command → Type 0
-Says words branch c = (branch ≡ 0) × ((words ≡ command_words c) ⊎ (words ≡ codes "@0" ∷ command_words c))
+Says words branch c = (branch < 8) × ((words ≡ branch_word branch ∷ command_words c) ⊎ ((branch ≡ 0) × (words ≡ command_words c)))
 
 -- a prefix, whose address is of 32 bits
 pub record IsPrefix (net : Net) : Type 0 where
@@ -66,4 +74,8 @@ IsEditInRange (DropExternal router prefix) = (router.0 < 2 ^ 32) × IsPrefix pre
 abbrev pub IsInRange : Command → Type 0
 IsInRange (command.Edit edit) = IsEditInRange edit
 IsInRange (command.Undo count) = count < 2 ^ 32
+IsInRange (command.Redo count) = count < 2 ^ 32
 IsInRange (command.Table router) = router.0 < 2 ^ 32
+IsInRange command.Tables = Unit
+IsInRange (command.Compare router) = router.0 < 2 ^ 32
+IsInRange command.Info = Unit

@@ -2,7 +2,7 @@
 
 ghost use Rattle.std.specs.Prelude.{◌≡◌};
 ghost use Rattle.edit_script.specs.Words.{words};
-ghost use Rattle.edit_script.specs.Reading.{Gives, number, address, prefix, metric_type, one_of, two_of, three_of, four_of, six_of};
+ghost use Rattle.edit_script.specs.Reading.{Gives, number, address, prefix, metric_type, none_of, one_of, two_of, three_of, four_of, six_of};
 
 use crate::arguments::{address_of, number_up_to, prefix_of};
 use crate::edit::MetricType;
@@ -65,6 +65,16 @@ pub(crate) fn prefix(word: &[u8]) -> Result<Prefix, ScriptFault>
 }
 
 // ---- so many arguments
+
+/// No word of `arguments`; else S4.
+pub(crate) fn none(arguments: &[u8]) -> Result<(), ScriptFault>
+    ensures { Gives (λ x. tt) result (none_of (words arguments.now)) }
+{
+    match next_word(arguments) {
+        None => Ok(()),
+        Some(_) => Err(ScriptFault::ExtraWord),
+    }
+}
 
 /// The only word of `arguments`; else S3 or S4.
 pub(crate) fn one(arguments: &[u8]) -> Result<&[u8], ScriptFault>

@@ -180,23 +180,29 @@ fn route_edits() -> [(&'static str, Edit); 6] {
 
 #[test]
 fn finds_the_first_fault(rt: HostRuntime) {
-    let lines: [(&[u8], ScriptFault); 50] = [
+    let lines: [(&[u8], ScriptFault); 64] = [
         (b"", ScriptFault::Empty),
         (b"   ", ScriptFault::Empty),
         (b"\t\r", ScriptFault::Empty),
         (b"# x", ScriptFault::Empty),
         (b" # x", ScriptFault::Empty),
-        (b"#@0 undo 1", ScriptFault::Empty),
-        (b"@8 undo 1", ScriptFault::BadBranch),
-        (b"@1 undo 1", ScriptFault::BadBranch),
+        (b"#@1 info", ScriptFault::Empty),
+        (b"@8 info", ScriptFault::BadBranch),
+        (b"@8", ScriptFault::BadBranch),
+        (b"@8 frob", ScriptFault::BadBranch),
+        (b"@10 info", ScriptFault::BadBranch),
         (b"@00 undo 1", ScriptFault::BadBranch),
+        (b"@01 undo 1", ScriptFault::BadBranch),
         (b"@ 0 undo 1", ScriptFault::BadBranch),
+        (b"@/ undo 1", ScriptFault::BadBranch),
         (b"@x", ScriptFault::BadBranch),
-        (b"@0", ScriptFault::MissingWord),
+        (b"@1\x0binfo", ScriptFault::BadBranch),
+        (b"@1", ScriptFault::MissingWord),
         (b"@0\r", ScriptFault::MissingWord),
         (b"frob", ScriptFault::UnknownWord),
-        (b"@0 # x", ScriptFault::UnknownWord),
-        (b"@0 @0 undo 1", ScriptFault::UnknownWord),
+        (b"@1 # x", ScriptFault::UnknownWord),
+        (b"@1 @2 info", ScriptFault::UnknownWord),
+        (b"info@1", ScriptFault::UnknownWord),
         (b"Cost 0.0.0.0 1.1.1.1 1 7", ScriptFault::UnknownWord),
         (b"undo\x0b1", ScriptFault::UnknownWord),
         (b"undo\x0c1", ScriptFault::UnknownWord),
@@ -205,9 +211,15 @@ fn finds_the_first_fault(rt: HostRuntime) {
         (b"undo", ScriptFault::MissingWord),
         (b"cost 0.0.0.0 1.1.1.1 1", ScriptFault::MissingWord),
         (b"cost x", ScriptFault::MissingWord),
+        (b"redo", ScriptFault::MissingWord),
         (b"table", ScriptFault::MissingWord),
+        (b"compare", ScriptFault::MissingWord),
         (b"undo 1 2", ScriptFault::ExtraWord),
+        (b"redo 1 2", ScriptFault::ExtraWord),
         (b"table 1.1.1.1 2.2.2.2", ScriptFault::ExtraWord),
+        (b"tables 1.1.1.1", ScriptFault::ExtraWord),
+        (b"compare x y", ScriptFault::ExtraWord),
+        (b"info #", ScriptFault::ExtraWord),
         (b"undo x y", ScriptFault::ExtraWord),
         (b"undo 1 # x", ScriptFault::ExtraWord),
         (b"cost 1.1.1 1.1.1.1 x y z", ScriptFault::ExtraWord),
@@ -216,6 +228,8 @@ fn finds_the_first_fault(rt: HostRuntime) {
         (b"undo +1", ScriptFault::BadNumber),
         (b"undo 4294967296", ScriptFault::BadNumber),
         (b"undo 18446744073709551617", ScriptFault::BadNumber),
+        (b"redo 4294967296", ScriptFault::BadNumber),
+        (b"@7 redo 00", ScriptFault::BadNumber),
         (b"undo 1\x0b", ScriptFault::BadNumber),
         (b"cost 0.0.0.0 1.1.1.1 65536 7", ScriptFault::BadNumber),
         (b"cost 0.0.0.0 1.1.1.1 1 65536", ScriptFault::BadNumber),
@@ -230,7 +244,7 @@ fn finds_the_first_fault(rt: HostRuntime) {
         (b"cost 0.0.0.0 1.1.1 x 65536", ScriptFault::BadAddress),
         (b"cost 1 0.0.0.0 1.1.1.1 7", ScriptFault::BadAddress),
         (b"table 1.1.1", ScriptFault::BadAddress),
-        (b"tables", ScriptFault::UnknownWord),
+        (b"compare 1.1.1", ScriptFault::BadAddress),
     ];
     for (line, fault) in lines {
         assert_eq!(rt; fault_of(line), Some(fault), "at {line:?}");
@@ -377,22 +391,42 @@ fn finds_the_first_fault_of_an_edit(rt: HostRuntime) {
 
 #[test]
 fn reads_commands(rt: HostRuntime) {
-    let lines: [(&[u8], Command); 9] = [
-        (b"@0  undo 2", Command::Undo(2)),
-        (b"@0 undo 1", Command::Undo(1)),
-        (b"undo 0", Command::Undo(0)),
-        (b"undo 4294967295", Command::Undo(4294967295)),
-        (b"\tundo\r30 \r", Command::Undo(30)),
-        (b"table 1.1.1.1", Command::Table(R1)),
+    let lines: [(&[u8], u8, Command); 17] = [
+        (b"@3  undo 2", 3, Command::Undo(2)),
+        (b"@0 undo 1", 0, Command::Undo(1)),
+        (b"undo 0", 0, Command::Undo(0)),
+        (b"undo 4294967295", 0, Command::Undo(4294967295)),
+        (b"\tundo\r30 \r", 0, Command::Undo(30)),
+        (b"redo 0", 0, Command::Redo(0)),
+        (b"@7\tredo 4294967295", 7, Command::Redo(4294967295)),
+        (b"table 1.1.1.1", 0, Command::Table(R1)),
         (
-            b"@0 table 255.0.0.9\r",
+            b"@5 table 255.0.0.9\r",
+            5,
             Command::Table(RouterId(0xff000009)),
         ),
-        (b"cost  0.0.0.0 1.1.1.1 1 7", Command::Edit(cost())),
-        (b"@0\tcost 0.0.0.0\t1.1.1.1 1 7\r", Command::Edit(cost())),
+        (b"tables", 0, Command::Tables),
+        (b"@2 tables\r", 2, Command::Tables),
+        (b"compare 2.2.2.2", 0, Command::Compare(R2)),
+        (b"@4 compare 2.2.2.2", 4, Command::Compare(R2)),
+        (b"info", 0, Command::Info),
+        (b" \t@6\r\rinfo", 6, Command::Info),
+        (b"cost  0.0.0.0 1.1.1.1 1 7", 0, Command::Edit(cost())),
+        (b"@1\tcost 0.0.0.0\t1.1.1.1 1 7\r", 1, Command::Edit(cost())),
     ];
-    for (line, command) in &lines {
-        assert!(rt; means(line, 0, command), "at {line:?}");
+    for (line, branch, command) in &lines {
+        assert!(rt; means(line, *branch, command), "at {line:?}");
+    }
+}
+
+#[test]
+fn reads_each_branch(rt: HostRuntime) {
+    let lines: [&[u8]; 8] = [
+        b"@0 info", b"@1 info", b"@2 info", b"@3 info", b"@4 info", b"@5 info", b"@6 info",
+        b"@7 info",
+    ];
+    for (branch, line) in lines.iter().enumerate() {
+        assert!(rt; means(line, branch as u8, &Command::Info), "at {line:?}");
     }
 }
 
