@@ -1,27 +1,6 @@
-//! The lines of a script: what a command says, reading it from a line, and printing an edit.
-//!
-//! A line is words between blanks: an optional branch, as `@0`, a command word and the command's
-//! arguments. `cost AREA ROUTER LINK METRIC` is an edit of the link state database, and `undo
-//! COUNT` takes back the last edits. [`parse`] reads a line without memory, and [`print`] writes an
-//! edit as the line that reads back to it.
+//! What an edit says.
 #![tactic(auto)]
 
-mod arguments;
-mod command;
 mod edit;
-mod fault;
-mod laws;
-mod line;
-mod printing;
-mod reading;
-mod words;
 
-pub use command::Command;
-pub use edit::Edit;
-pub use fault::ScriptFault;
-pub use laws::{reads_back, reads_what_is_said};
-pub use line::parse;
-pub use printing::print;
-
-#[cfg(test)]
-mod tests;
+pub use edit::{Edit, MetricType};
