@@ -8,8 +8,9 @@ pub mod Keys
 pub mod Ruled
 pub mod Carried
 pub mod Finding
-pub mod Rewriting
-pub mod Costs
+pub mod Follows
+pub mod OneLsa
+pub mod Remade
 pub mod Returning
 pub mod Telling
 pub mod Folding

@@ -10,6 +10,7 @@ mod applying;
 mod fault;
 mod history;
 mod laws;
+mod links;
 mod lookup;
 mod planning;
 mod record;
