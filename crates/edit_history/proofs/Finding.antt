@@ -63,7 +63,7 @@ router_lsa_is d area router slot lsa at =
 
 -- ---- what was found
 
-same_place : (o : Place) (lsa : List ℕ) (p : Option Place) → p ≡ Some o → p ≡ Some (Some lsa) → o ≡ Some lsa
+pub same_place : (o : Place) (lsa : List ℕ) (p : Option Place) → p ≡ Some o → p ≡ Some (Some lsa) → o ≡ Some lsa
 same_place o lsa p is held = let two : (let q : Option Place = Some o in q) ≡ Some (Some lsa) = sym is ∙ held in cc
 
 -- the LSA of a key that was found, and read at its place

@@ -53,3 +53,11 @@ has_rule db (Err fault) ok = ok
 
 pub no_memory_ruled : (d : Places) (edit : Edit) → IsOk (rule_of (lists_of d) edit) → IsRefused d edit OutOfMemory
 no_memory_ruled d edit ok = record { known = λ other. absurd (other refl); memory = λ _. has_rule (lists_of d) (rule_of (lists_of d) edit) ok }
+
+-- ---- one step of a rule
+
+pub on_ok : {A B : Type 0} (r : Result A EditFault) (x : A) (f : A → Result B EditFault) → r ≡ Ok x → (r >>= f) ≡ f x
+on_ok {A} {B} r x f is = ap (λ (q : Result A EditFault). q >>= f) is
+
+pub on_err : {A B : Type 0} (r : Result A EditFault) (fault : EditFault) (f : A → Result B EditFault) → r ≡ Err fault → (r >>= f) ≡ Err fault
+on_err {A} {B} r fault f is = ap (λ (q : Result A EditFault). q >>= f) is

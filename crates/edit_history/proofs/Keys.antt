@@ -65,13 +65,13 @@ only_key key front back lsa distinct is =
       after = each (λ x. key_of lsa ≢ key_of x) (λ x. has_key key x ≡ false) back (λ x ne. other_key key x (λ e. ne (is ∙ sym e))) after;
     }
 
-head_before : (name : Section) (a b : Option AreaHead) → is_head_of name b ≡ true → IsBefore a b → is_head_of name a ≡ false
+pub head_before : (name : Section) (a b : Option AreaHead) → is_head_of name b ≡ true → IsBefore a b → is_head_of name a ≡ false
 head_before name None b has before = absurd before
 head_before AsWide (Some a) b has before = refl
 head_before (Area id) (Some a) None has before = absurd cc
 head_before (Area id) (Some a) (Some b) has before = let same : b.id ≡ id.0 = eqb-true _ _ has in ne_eqb a.id id.0 (λ e. omega (arith, e, same, before))
 
-head_after : (name : Section) (a b : Option AreaHead) → is_head_of name a ≡ true → IsBefore a b → is_head_of name b ≡ false
+pub head_after : (name : Section) (a b : Option AreaHead) → is_head_of name a ≡ true → IsBefore a b → is_head_of name b ≡ false
 head_after name None b has before = absurd before
 head_after AsWide (Some a) b has before = absurd cc
 head_after (Area id) (Some a) None has before = refl

@@ -8,7 +8,12 @@ pub mod Keys
 pub mod Ruled
 pub mod Carried
 pub mod Finding
+pub mod Searched
 pub mod Follows
+pub mod Walks
+pub mod Failed
+pub mod FailedRows
+pub mod Rooms
 pub mod OneLsa
 pub mod Remade
 pub mod Returning

@@ -1,5 +1,5 @@
 -- One LSA is rewritten or removed.
-use Rattle.std.proofs.Common.{◌≡◌, ℕ, Bool, true, false, List, [], ◌∷◌, ◌++◌, Option, Some, None, refl, sym, ap, ◌∙◌, subst}
+use Rattle.std.proofs.Common.{◌≡◌, ℕ, Bool, true, false, List, [], ◌∷◌, ◌++◌, Option, Some, None, Ok, refl, sym, ap, ◌∙◌, subst}
 use Rattle.std.specs.Prelude.{All, AllPairs, IsSome, unwrap_or, if◌then◌else◌}
 use Rattle.lsa_codec.specs.declared.key.Key.{Key}
 use Rattle.lsa_codec.specs.Fields.{kind_of}
@@ -11,11 +11,14 @@ use Rattle.lsdb.specs.Places.{Place, Places, slot_at, put, lists_of, IsNamed}
 use Rattle.lsdb.proofs.Slots.{slot_at-put}
 use Rattle.lsdb.proofs.Middle.{all_at_mid}
 use Rattle.lsdb.proofs.Dominated.{section_with, between}
+use Rattle.edit_script.specs.declared.edit.Edit.{Edit}
 use Rattle.edit_history.specs.Rules.{Fate, stays, Change, section_name, one_lsa, lists_after, changes_by}
+use Rattle.edit_history.specs.Effect.{rule_of}
 use Rattle.edit_history.specs.Exchange.{SwapData}
+use Rattle.edit_history.specs.Applied.{Planned}
 use Rattle.edit_history.proofs.Keys.{own_key, found_passes, only_key, only_section, name_is}
 use Rattle.edit_history.proofs.Ruled.{TouchesOne, fate_of, change_to, one_after, one_change}
-use Rattle.edit_history.proofs.Follows.{Follows}
+use Rattle.edit_history.proofs.Follows.{Follows, planned_here}
 
 -- ---- the rule touches this LSA alone
 
@@ -86,3 +89,10 @@ exchanged d name key slot lsa other sound named held is next =
           ∙ ap (λ (c : Change). c ∷ [])
           (sym (one_told name (section_name w.area) key.kind (kind_of lsa) (slot_at d slot) (slot_at (put d slot other) slot) lsa other (name_is name w.area in_section) (sym (ap (λ (k : Key). k.kind) is)) held now));
     }
+
+-- the plan of an edit that touches one LSA
+pub planned_one : (d : Places) (edit : Edit) (name : Section) (key : Key) (slot : SlotId) (lsa : List ℕ) (other : Place) (kind : ℕ) (swap : SwapData) (items : List SwapData) → IsDatabase (lists_of d) → IsNamed d name slot.section → slot_at d slot ≡ Some (Some lsa)
+    → key_of lsa ≡ key → key.kind ≡ kind → IsDatabase (lists_of (put d slot other)) → rule_of (lists_of d) edit ≡ Ok (one_lsa name key (fate_of other)) → swap ≡ one_swap slot name kind other → items ≡ swap ∷ [] → Planned d d edit items
+planned_one d edit name key slot lsa other kind swap items sound named held is kind_is next ruled swap_is items_is =
+    planned_here d edit (one_lsa name key (fate_of other)) (one_swap slot name key.kind other ∷ []) items ruled (exchanged d name key slot lsa other sound named held is next)
+    (items_is ∙ ap (λ (s : SwapData). s ∷ []) (swap_is ∙ ap (λ (k : ℕ). one_swap slot name k other) (sym kind_is)))

@@ -22,8 +22,8 @@ use Rattle.edit_history.specs.Exchange.{SwapData}
 use Rattle.edit_history.specs.Applied.{Planned, IsRefused}
 use Rattle.edit_history.specs.Plans.{IsFirst}
 use Rattle.edit_history.proofs.Finding.{router_lsa_is, key_is, not_memory}
-use Rattle.edit_history.proofs.OneLsa.{one_swap, exchanged}
-use Rattle.edit_history.proofs.Follows.{Follows, planned_here, refused_as, no_memory, no_memory_ruled}
+use Rattle.edit_history.proofs.OneLsa.{one_swap, planned_one}
+use Rattle.edit_history.proofs.Follows.{refused_as, no_memory, no_memory_ruled}
 
 abbrev Maker : Type 0
 Maker = List ℕ → Result (List ℕ) MakeFault
@@ -91,6 +91,5 @@ no_swap d edit area router make slot lsa new remakes at made_new = no_memory d e
 pub planned : (d : Places) (edit : Edit) (area : AreaId) (router : RouterId) (make : Maker) (slot : SlotId) (lsa new : List ℕ) (swap : SwapData) (items : List SwapData) → IsDatabase (lists_of d) → Remakes edit area router make
     → IsFirst d (Area area) (has_key (router_key router.0)) slot lsa → make lsa ≡ Ok new → IsRewriteOf lsa new → swap ≡ one_swap slot (Area area) 1 (Some new) → items ≡ swap ∷ [] → Planned d d edit items
 planned d edit area router make slot lsa new swap items sound remakes at made_new rewrite swap_is items_is =
-    let f = exchanged d (Area area) (router_key router.0) slot lsa (Some new) sound at.named at.held (key_is d (Area area) (router_key router.0) slot lsa at) (put_safe d slot (Some lsa) (Some new) at.held rewrite sound) in
-    planned_here d edit (one_lsa (Area area) (router_key router.0) (rewritten new)) (one_swap slot (Area area) 1 (Some new) ∷ []) items (ruled d edit area router make slot lsa new remakes at made_new) f
-    (items_is ∙ ap (λ (s : SwapData). s ∷ []) swap_is)
+    planned_one d edit (Area area) (router_key router.0) slot lsa (Some new) 1 swap items sound at.named at.held (key_is d (Area area) (router_key router.0) slot lsa at) refl (put_safe d slot (Some lsa) (Some new) at.held rewrite sound)
+    (ruled d edit area router make slot lsa new remakes at made_new) swap_is items_is

@@ -26,10 +26,10 @@ Stays fates area x = fates area x ≡ stays
 abbrev pub AllStay : Fates → SectionLsas → Type 0
 AllStay fates s = All (Stays fates s.area) s.lsas
 
-abbrev after : Fates → Option AreaHead → List ℕ → Option (List ℕ)
+abbrev pub after : Fates → Option AreaHead → List ℕ → Option (List ℕ)
 after fates area lsa = outcome (fates area lsa) lsa
 
-abbrev change : Fates → Option AreaHead → List ℕ → Option Change
+abbrev pub change : Fates → Option AreaHead → List ℕ → Option Change
 change fates area lsa = change_of (section_name area) lsa (fates area lsa)
 
 all_stay : (fates : Fates) (area : Option AreaHead) (xs : List (List ℕ)) → All (Stays fates area) xs → filter_map (after fates area) xs ≡ xs

@@ -4,8 +4,10 @@
 ghost use Rattle.std.specs.Prelude.{◌≡◌, IfOk, IfErr, OnErr};
 ghost use Rattle.edit_history.specs.Applied.{Planned, IsRefused};
 
+use crate::failures::{plan_fail_link, plan_fail_net, plan_fail_router};
 use crate::fault::EditFault;
-use crate::links::{plan_cost, plan_drop_link};
+use crate::links::{plan_add_stub, plan_cost, plan_drop_link};
+use crate::prefixes::{plan_drop_external, plan_summary};
 use crate::swap::Swap;
 use edit_script::Edit;
 use lsdb::Database;
@@ -28,6 +30,26 @@ pub fn plan<A: Allocator + Copy>(
             metric,
         } => plan_cost(database, area, router, link, metric),
         Edit::DropLink { area, router, link } => plan_drop_link(database, area, router, link),
+        Edit::FailLink {
+            area,
+            router,
+            neighbor,
+        } => plan_fail_link(database, area, router, neighbor),
+        Edit::FailNet { area, network } => plan_fail_net(database, area, network),
+        Edit::FailRouter { router } => plan_fail_router(database, router),
+        Edit::AddStub {
+            area,
+            router,
+            prefix,
+            metric,
+        } => plan_add_stub(database, area, router, prefix, metric),
+        Edit::Summary {
+            area,
+            router,
+            prefix,
+            metric,
+        } => plan_summary(database, area, router, prefix, metric),
+        Edit::DropExternal { router, prefix } => plan_drop_external(database, router, prefix),
         _ => Err(EditFault::NoArea),
     }
 }

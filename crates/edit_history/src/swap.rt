@@ -64,10 +64,7 @@ impl<A: Allocator + Copy> Swap<A> {
 }
 
 /// A single swap.
-pub fn one_swap<A: Allocator + Copy>(
-    alloc: A,
-    swap: Swap<A>,
-) -> Result<Vec<Swap<A>, A>, AllocError>
+pub fn one_swap<A: Allocator + Copy>(alloc: A, swap: Swap<A>) -> Result<Vec<Swap<A>, A>, AllocError>
     ensures { IfOk result (λ v. v.items ≡ swap ∷ []) }
 {
     let mut swaps = Vec::with_capacity(alloc, 1)?;
