@@ -16,6 +16,8 @@ pub mod FailedRows
 pub mod Rooms
 pub mod OneLsa
 pub mod Remade
+pub mod Stubs
+pub mod Told
 pub mod Returning
 pub mod Telling
 pub mod Folding

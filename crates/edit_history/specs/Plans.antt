@@ -5,7 +5,7 @@ use Rattle.lsa_codec.specs.Fields.{kind_of}
 use Rattle.lsdb.specs.declared.section.Section.{Section}
 use Rattle.lsdb.specs.declared.slot.SlotId.{SlotId}
 use Rattle.lsdb.specs.Lists.{lsas_of}
-use Rattle.lsdb.specs.Places.{Place, Places, slot_at, lists_of, IsNamed}
+use Rattle.lsdb.specs.Places.{Place, Places, slot_at, lists_of, IsNamed, OpensPlace}
 use Rattle.edit_history.specs.declared.lookup.Wanted.{Wanted}
 use Rattle.edit_history.specs.declared.lookup.Wanted.TheVariants as wanted
 use Rattle.edit_history.specs.Rules.{Fate, stays, removed, rewritten, Fates, section_name}
@@ -56,3 +56,11 @@ abbrev pub place_swap : (List ℕ → Fate) → SlotId → Section → Option Pl
 place_swap fate slot name None = None
 place_swap fate slot name (Some None) = None
 place_swap fate slot name (Some (Some lsa)) = swap_for slot name lsa (fate lsa)
+
+-- ---- new LSAs
+
+-- a place was opened at the end of a section, and the only swap fills it with a new LSA
+pub record Opens (d e : Places) (name : Section) (lsa : List ℕ) (swaps : List SwapData) : Type 0 where
+  pub slot : SlotId
+  pub opens : OpensPlace d e name slot
+  pub swap : swaps ≡ (record { slot = slot; section = name; kind = kind_of lsa; other = Some lsa }) ∷ []

@@ -166,11 +166,7 @@ pub fn has_router<A: Allocator + Copy>(database: &Database<A>, router: RouterId)
 }
 
 /// Whether an LSA that is looked for stands at a place.
-fn is_wanted_at<A: Allocator + Copy>(
-    database: &Database<A>,
-    slot: SlotId,
-    wanted: &Wanted,
-) -> bool
+fn is_wanted_at<A: Allocator + Copy>(database: &Database<A>, slot: SlotId, wanted: &Wanted) -> bool
     ensures { result ≡ passes (is_wanted wanted.now) (slot_at database.now slot) }
 {
     let Some(lsa) = database.get(slot) else {

@@ -7,7 +7,7 @@ ghost use Rattle.edit_history.specs.Applied.{Planned, IsRefused};
 use crate::failures::{plan_fail_link, plan_fail_net, plan_fail_router};
 use crate::fault::EditFault;
 use crate::links::{plan_add_stub, plan_cost, plan_drop_link};
-use crate::prefixes::{plan_drop_external, plan_summary};
+use crate::prefixes::{plan_add_external, plan_add_summary, plan_drop_external, plan_summary};
 use crate::swap::Swap;
 use edit_script::Edit;
 use lsdb::Database;
@@ -50,6 +50,19 @@ pub fn plan<A: Allocator + Copy>(
             metric,
         } => plan_summary(database, area, router, prefix, metric),
         Edit::DropExternal { router, prefix } => plan_drop_external(database, router, prefix),
-        _ => Err(EditFault::NoArea),
+        Edit::AddSummary {
+            area,
+            router,
+            prefix,
+            metric,
+        } => plan_add_summary(database, area, router, prefix, metric),
+        Edit::AddExternal {
+            router,
+            prefix,
+            metric_type,
+            metric,
+            forward,
+            tag,
+        } => plan_add_external(database, router, prefix, metric_type, metric, forward, tag),
     }
 }

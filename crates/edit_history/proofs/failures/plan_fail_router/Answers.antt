@@ -17,8 +17,8 @@ returns-then-not-has_router-clause-refused g c =
     let none : c.has_router.result ≡ false = search rules in
     router_none c.args.database.now c.args.router (sym c.has_router.ensures ∙ none)
 
-pub section_name-requires : goal.section_name-requires
-section_name-requires g c = exists_at c.args.database.now c.loop-number.number (omega arith)
+pub section_name-section-requires : goal.section_name-section-requires
+section_name-section-requires g c = exists_at c.args.database.now c.loop-number.number (omega arith)
 
 pub add_swaps-requires : goal.add_swaps-requires
 add_swaps-requires g c = exists_at c.args.database.now c.loop-number.number (omega arith)
