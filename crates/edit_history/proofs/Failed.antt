@@ -115,7 +115,7 @@ one_from name fate (s ∷ ss) k (suc i) n t e order at named =
     ap (λ (xs : List SwapData). xs ++ swaps_from (within name fate).fates (suc k) ss) (not_in name fate s.area k s.places (head_before name s.area t.area named first))
     ∙ one_from name fate ss (suc k) i n t (omega arith) (pairs_tail IsBefore s.area (heads_of (lists_of ss)) order) at named
 
-list_item : (d : Places) (i : ℕ) (t : SectionPlaces) → item_at d i ≡ Some t → item_at (lists_of d) i ≡ Some (section_of t)
+pub list_item : (d : Places) (i : ℕ) (t : SectionPlaces) → item_at d i ≡ Some t → item_at (lists_of d) i ≡ Some (section_of t)
 list_item [] i t at = absurd cc
 list_item (s ∷ ss) zero t at = let same : s ≡ t = cc in ap (λ (u : SectionPlaces). let o : Option SectionLsas = Some (section_of u) in o) same
 list_item (s ∷ ss) (suc i) t at = list_item ss i t at

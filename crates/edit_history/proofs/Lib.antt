@@ -14,6 +14,8 @@ pub mod Walks
 pub mod Failed
 pub mod FailedRows
 pub mod Rooms
+pub mod Adding
+pub mod AddedRows
 pub mod OneLsa
 pub mod Remade
 pub mod Stubs

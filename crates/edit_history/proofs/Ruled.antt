@@ -32,12 +32,12 @@ after fates area lsa = outcome (fates area lsa) lsa
 abbrev pub change : Fates → Option AreaHead → List ℕ → Option Change
 change fates area lsa = change_of (section_name area) lsa (fates area lsa)
 
-all_stay : (fates : Fates) (area : Option AreaHead) (xs : List (List ℕ)) → All (Stays fates area) xs → filter_map (after fates area) xs ≡ xs
+pub all_stay : (fates : Fates) (area : Option AreaHead) (xs : List (List ℕ)) → All (Stays fates area) xs → filter_map (after fates area) xs ≡ xs
 all_stay fates area [] h = refl
 all_stay fates area (x ∷ xs) h =
     ap (λ (f : Fate). cons_option (outcome f x) (filter_map (after fates area) xs)) (let e : fates area x ≡ stays = All-head (Stays fates area) x xs h in e) ∙ ap (λ (ys : List (List ℕ)). x ∷ ys) (all_stay fates area xs (All-tail (Stays fates area) x xs h))
 
-none_change : (fates : Fates) (area : Option AreaHead) (xs : List (List ℕ)) → All (Stays fates area) xs → filter_map (change fates area) xs ≡ []
+pub none_change : (fates : Fates) (area : Option AreaHead) (xs : List (List ℕ)) → All (Stays fates area) xs → filter_map (change fates area) xs ≡ []
 none_change fates area [] h = refl
 none_change fates area (x ∷ xs) h =
     ap (λ (f : Fate). cons_option (change_of (section_name area) x f) (filter_map (change fates area) xs)) (let e : fates area x ≡ stays = All-head (Stays fates area) x xs h in e) ∙ none_change fates area xs (All-tail (Stays fates area) x xs h)
