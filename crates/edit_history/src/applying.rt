@@ -26,7 +26,7 @@ pub fn apply<A: Allocator + Copy>(
     ensures refused { IfErr result (λ f. IsRefused database.old edit.now f) }
     ensures kept { OnErr result (database.new ≡ database.old) }
 {
-    let swaps = plan(&*database, edit)?;
+    let swaps = plan(database, edit)?;
     database.known();
     Ok(Record::carry_out(database, *edit, swaps))
 }

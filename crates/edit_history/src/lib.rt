@@ -7,11 +7,15 @@
 #![tactic(auto)]
 
 mod applying;
+mod failures;
 mod fault;
 mod history;
 mod laws;
+mod limits;
+mod links;
 mod lookup;
 mod planning;
+mod prefixes;
 mod record;
 mod swap;
 
