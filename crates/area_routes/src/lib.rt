@@ -38,3 +38,6 @@ pub use offer::Offer;
 pub use rank::{PathType, Rank};
 pub use route::Route;
 pub use way::Way;
+
+#[cfg(test)]
+mod area_tests;
