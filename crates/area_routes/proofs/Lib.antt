@@ -5,7 +5,12 @@ pub mod Least
 pub mod Entries
 pub mod Merging
 pub mod Loops
-pub mod Words
 pub mod Gathering
 pub mod Reaching
 pub mod Beaten
+pub mod Words
+pub mod Bounds
+pub mod Sorted
+pub mod Made
+pub mod Searching
+pub mod Indexing

@@ -1,7 +1,7 @@
 -- Inter-area routes, and router entries of all areas (RFC 2328, 16.2).
-use Rattle.std.specs.Prelude.{ℕ, ◌+◌, List, [], ◌∷◌, ◌++◌, Bool, true, false, ◌&&◌, ◌==◌, not, if◌then◌else◌, Option, None, Some, map, nat_lt}
-use Rattle.std.specs.List.{filter_map, flat_map, find, list_any}
-use Rattle.std.specs.Option.{option_and_then, option_map, option_map_or}
+use Rattle.std.specs.Prelude.{ℕ, ◌+◌, List, [], ◌∷◌, ◌++◌, Bool, ◌&&◌, ◌==◌, not, if◌then◌else◌, Option, None, Some, is_some, map, nat_lt, ◌||◌}
+use Rattle.std.specs.List.{filter_map, flat_map, find}
+use Rattle.std.specs.Option.{option_and_then, option_map}
 use Rattle.lsa_codec.specs.declared.address.AreaId.{AreaId}
 use Rattle.lsa_codec.specs.declared.address.RouterId.{RouterId}
 use Rattle.lsa_codec.specs.Fields.{kind_of, link_state_id_of, advertising_router_of}
@@ -36,23 +36,25 @@ examined (r ∷ s ∷ rest) = backbone (r ∷ s ∷ rest)
 abbrev pub same_router : RouterId → RouterId → Bool
 same_router a b = a.0 == b.0
 
-abbrev pub is_border : EntryKind → Bool
-is_border Border = true
-is_border AsbrIntra = false
-is_border AsbrInter = false
+abbrev pub kind_number : EntryKind → ℕ
+kind_number Border = 0
+kind_number AsbrIntra = 1
+kind_number AsbrInter = 2
 
-abbrev pub is_asbr_intra : EntryKind → Bool
-is_asbr_intra Border = false
-is_asbr_intra AsbrIntra = true
-is_asbr_intra AsbrInter = false
+abbrev pub same_kind : EntryKind → EntryKind → Bool
+same_kind a b = kind_number a == kind_number b
+
+-- the entry of a router of some kind
+abbrev pub entry_of : EntryKind → List EntryValue → RouterId → Option EntryValue
+entry_of kind entries router = find (λ e. same_kind e.kind kind && same_router e.router router) entries
 
 -- the entry of a router as an area border router
 abbrev pub border_of : List EntryValue → RouterId → Option EntryValue
-border_of entries router = find (λ e. is_border e.kind && same_router e.router router) entries
+border_of entries router = entry_of Border entries router
 
 -- whether a router is an AS boundary router of the area
 abbrev pub has_asbr : List EntryValue → RouterId → Bool
-has_asbr entries router = list_any (λ e. is_asbr_intra e.kind && same_router e.router router) entries
+has_asbr entries router = is_some (entry_of AsbrIntra entries router)
 
 -- ---- summary-LSAs
 
@@ -60,17 +62,24 @@ has_asbr entries router = list_any (λ e. is_asbr_intra e.kind && same_router e.
 abbrev pub ls_infinity : ℕ
 ls_infinity = 0xffffff
 
+abbrev pub is_summary : List ℕ → Bool
+is_summary lsa = (kind_of lsa == 3) || (kind_of lsa == 4)
+
 -- the router that made an LSA
 abbrev pub originator_of : List ℕ → RouterId
 originator_of lsa = record { 0 = advertising_router_of lsa }
 
--- the AS boundary router that a summary-LSA of type 4 tells of
-abbrev pub asbr_of_summary : List ℕ → Option RouterId
-asbr_of_summary lsa = if kind_of lsa == 4 then Some (record { 0 = link_state_id_of lsa }) else None
+-- the router that the Link State ID of a summary-LSA of type 4 names
+abbrev pub named_router : List ℕ → RouterId
+named_router lsa = record { 0 = link_state_id_of lsa }
 
--- live, below LSInfinity, and of another originator than the calculating router
+-- a summary-LSA that is live, below LSInfinity, and of another originator than the calculating router
 abbrev pub is_usable : RouterId → List ℕ → Bool
-is_usable router lsa = is_live lsa && (nat_lt (metric_of lsa) ls_infinity && not (same_router (originator_of lsa) router))
+is_usable router lsa = is_summary lsa && (is_live lsa && (nat_lt (metric_of lsa) ls_infinity && not (same_router (originator_of lsa) router)))
+
+-- the prefix that a summary-LSA of type 3 tells of, where it has no intra-area route
+abbrev pub network_told : List RouteValue → List ℕ → Option Net
+network_told intra lsa = option_and_then (λ net. if has_route intra net then None else Some net) (net_of_summary lsa)
 
 -- the way by an entry of the originator, at the summary's metric
 abbrev pub by_border : {K : Type 0} → K → AreaId → ℕ → EntryValue → Candidate K
@@ -82,17 +91,18 @@ module _ (router : RouterId) (area : AreaResultValue) where
   candidate_to lsa key =
       if is_usable router lsa then option_map (by_border key area.area (metric_of lsa)) (border_of area.entries (originator_of lsa)) else None
 
-  -- to a prefix, where that has no intra-area route
+  -- the router that a summary-LSA of type 4 tells of, where it is not the calculating router and not an AS boundary router of the area
+  abbrev pub asbr_told : List ℕ → Option RouterId
+  asbr_told lsa =
+      if (kind_of lsa == 4) && (not (same_router (named_router lsa) router) && not (has_asbr area.entries (named_router lsa))) then Some (named_router lsa) else None
+
+  -- the way to a prefix of another area
   abbrev pub network_candidate : List RouteValue → List ℕ → Option (Candidate Net)
-  network_candidate intra lsa = option_and_then (λ net. if has_route intra net then None else candidate_to lsa net) (net_of_summary lsa)
+  network_candidate intra lsa = option_and_then (candidate_to lsa) (network_told intra lsa)
 
-  -- whether entries of AS boundary routers of other areas leave this router out: the calculating router, and those of the area
-  abbrev pub is_own_asbr : RouterId → Bool
-  is_own_asbr asbr = if same_router asbr router then true else has_asbr area.entries asbr
-
-  -- to an AS boundary router of another area
+  -- the way to an AS boundary router of another area
   abbrev pub asbr_candidate : List ℕ → Option (Candidate RouterId)
-  asbr_candidate lsa = option_and_then (λ asbr. if is_own_asbr asbr then None else candidate_to lsa asbr) (asbr_of_summary lsa)
+  asbr_candidate lsa = option_and_then (candidate_to lsa) (asbr_told lsa)
 
   -- the routes by the summary-LSAs among these LSAs
   abbrev pub inter_routes : List RouteValue → List (List ℕ) → List RouteValue

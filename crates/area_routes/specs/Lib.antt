@@ -4,9 +4,6 @@ pub mod Candidate
 pub mod Best
 pub mod InWords
 pub mod Merge
-pub mod Routes
-pub mod Intra
-pub mod Inter
 pub mod Reached
 pub mod Networks
 pub mod Stubs
@@ -14,3 +11,7 @@ pub mod Entries
 pub mod AreaResults
 pub mod Growing
 pub mod Standings
+pub mod Routes
+pub mod Intra
+pub mod Inter
+pub mod EntryIndex

@@ -14,16 +14,24 @@ mod offer;
 mod rank;
 mod route;
 
-// The best of many candidates.
-mod best;
-mod way;
-
 // What an area gives.
 mod building;
 mod networks;
 mod reached;
 mod router_entries;
 mod stubs;
+
+// The best of many candidates.
+mod best;
+mod way;
+
+// Routes within areas.
+mod intra_area;
+mod routes;
+
+// Routes between areas.
+mod entry_index;
+mod lookup;
 
 // What holds of the definitions.
 mod laws;
@@ -33,7 +41,9 @@ pub use areas::AreaList;
 pub use best::BestWays;
 pub use entry::{EntryKind, RouterEntry};
 pub use inter_result::InterResult;
+pub use intra_area::intra;
 pub use laws::{route_orders, ways_are_best};
+pub use lookup::{has_route, route_to};
 pub use offer::Offer;
 pub use rank::{PathType, Rank};
 pub use route::Route;
