@@ -8,6 +8,7 @@ pub mod Loops
 pub mod Gathering
 pub mod Reaching
 pub mod Beaten
+pub mod Choosing
 pub mod Words
 pub mod Bounds
 pub mod Sorted

@@ -6,6 +6,7 @@ pub mod InWords
 pub mod Merge
 pub mod Reached
 pub mod Networks
+pub mod Choice
 pub mod Stubs
 pub mod Entries
 pub mod AreaResults

@@ -16,6 +16,7 @@ mod route;
 
 // What an area gives.
 mod building;
+mod choice;
 mod networks;
 mod reached;
 mod router_entries;
@@ -39,6 +40,7 @@ mod laws;
 pub use area_result::AreaResult;
 pub use areas::AreaList;
 pub use best::BestWays;
+pub use choice::network_choice;
 pub use entry::{EntryKind, RouterEntry};
 pub use inter_result::InterResult;
 pub use intra_area::intra;
