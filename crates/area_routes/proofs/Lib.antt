@@ -13,3 +13,6 @@ pub mod Searching
 pub mod Indexing
 pub mod Costs
 pub mod Gathered
+pub mod Gathering
+pub mod Reaching
+pub mod Beaten

@@ -18,6 +18,13 @@ mod route;
 mod best;
 mod way;
 
+// What an area gives.
+mod building;
+mod networks;
+mod reached;
+mod router_entries;
+mod stubs;
+
 // Routes within areas.
 mod intra_area;
 mod routes;
@@ -47,3 +54,6 @@ pub use offer::Offer;
 pub use rank::{PathType, Rank};
 pub use route::Route;
 pub use way::Way;
+
+#[cfg(test)]
+mod area_tests;
