@@ -57,3 +57,5 @@ pub use way::Way;
 
 #[cfg(test)]
 mod area_tests;
+#[cfg(test)]
+mod route_tests;
