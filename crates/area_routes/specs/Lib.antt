@@ -4,6 +4,10 @@ pub mod Candidate
 pub mod Best
 pub mod InWords
 pub mod Merge
+pub mod Routes
+pub mod Intra
+pub mod Inter
+pub mod EntryIndex
 pub mod Reached
 pub mod Networks
 pub mod Choice
@@ -12,7 +16,3 @@ pub mod Entries
 pub mod AreaResults
 pub mod Growing
 pub mod Standings
-pub mod Routes
-pub mod Intra
-pub mod Inter
-pub mod EntryIndex

@@ -1,7 +1,7 @@
 //! What small areas give, worked out by hand.
 
-mod areas;
-mod dumps;
+pub(crate) mod areas;
+pub(crate) mod dumps;
 mod entries;
 mod memory;
 mod networks;

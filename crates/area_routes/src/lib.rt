@@ -14,6 +14,10 @@ mod offer;
 mod rank;
 mod route;
 
+// The best of many candidates.
+mod best;
+mod way;
+
 // What an area gives.
 mod building;
 mod choice;
@@ -22,17 +26,18 @@ mod reached;
 mod router_entries;
 mod stubs;
 
-// The best of many candidates.
-mod best;
-mod way;
-
 // Routes within areas.
 mod intra_area;
 mod routes;
 
 // Routes between areas.
+mod all_entries;
 mod entry_index;
+mod examined;
+mod indexed_area;
+mod inter_area;
 mod lookup;
+mod summary;
 
 // What holds of the definitions.
 mod laws;
@@ -42,6 +47,7 @@ pub use areas::AreaList;
 pub use best::BestWays;
 pub use choice::network_choice;
 pub use entry::{EntryKind, RouterEntry};
+pub use inter_area::inter;
 pub use inter_result::InterResult;
 pub use intra_area::intra;
 pub use laws::{route_orders, ways_are_best};
@@ -53,3 +59,5 @@ pub use way::Way;
 
 #[cfg(test)]
 mod area_tests;
+#[cfg(test)]
+mod route_tests;

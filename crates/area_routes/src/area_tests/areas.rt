@@ -33,7 +33,7 @@ pub fn area_of<A: Allocator + Copy>(
 }
 
 /// Hops as text, each after a space.
-fn hops_text(alloc: Global, hops: &[Hop]) -> Result<String, Fail> {
+pub fn hops_text(alloc: Global, hops: &[Hop]) -> Result<String, Fail> {
     let mut text = String::new(alloc);
     for hop in hops {
         let one = format!(in alloc; " {hop}")?;
@@ -54,7 +54,8 @@ pub fn offers_text(alloc: Global, area: &AreaResult) -> Result<String, Fail> {
     Ok(text)
 }
 
-fn kind_text(kind: EntryKind) -> &'static str {
+/// The kind of an entry as text.
+pub fn kind_text(kind: EntryKind) -> &'static str {
     match kind {
         EntryKind::Border => "border",
         EntryKind::AsbrIntra => "asbr",

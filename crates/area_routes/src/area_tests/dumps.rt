@@ -80,7 +80,7 @@ fn checksum(octets: &[u8]) -> [u8; 2] {
 }
 
 /// An LSA (RFC 2328, A.4.1).
-fn lsa(alloc: Global, header: Header, body: &[u8]) -> Result<Vec<u8>, Fail> {
+pub fn lsa(alloc: Global, header: Header, body: &[u8]) -> Result<Vec<u8>, Fail> {
     let length = u16::try_from(body.len().saturating_add(20))?;
     let mut lsa = Vec::new(alloc);
     lsa.extend_from_slice(&header.age.to_be_bytes())?;
