@@ -21,7 +21,7 @@ use Rattle.area_routes.proofs.Orders.{prefix_exact}
 
 -- ---- the order of standings
 
-before_trans : (d e f i j k : ℕ) → (ltb d e || (eqb d e && ltb j i)) ≡ true → (ltb e f || (eqb e f && ltb k j)) ≡ true → (ltb d f || (eqb d f && ltb k i)) ≡ true
+pub before_trans : (d e f i j k : ℕ) → (ltb d e || (eqb d e && ltb j i)) ≡ true → (ltb e f || (eqb e f && ltb k j)) ≡ true → (ltb d f || (eqb d f && ltb k i)) ≡ true
 before_trans d e f i j k p q = grind (arith, nat_tests)
 
 before_or : (d e f i j k : ℕ) → (ltb d f || (eqb d f && ltb k i)) ≡ true → (ltb d e || (eqb d e && ltb j i)) ≡ false → (ltb e f || (eqb e f && ltb k j)) ≡ true
@@ -52,7 +52,7 @@ behind_rises (Some a) b s h = or_absorbed (stands_before a s) (stands_before b s
 
 -- ---- one more network
 
-same_net : (a b : Net) → eq_by_cmp prefix_cmp a b ≡ true → a ≡ b
+pub same_net : (a b : Net) → eq_by_cmp prefix_cmp a b ≡ true → a ≡ b
 same_net a b h = prefix_exact a b ((Equal-is (prefix_cmp a b)).0 h)
 
 any_push : (ns : List ReachedValue) (r : ReachedValue) (net : Net) (s : Standing)

@@ -16,3 +16,4 @@ pub mod Searching
 pub mod Indexing
 pub mod Costs
 pub mod Gathered
+pub mod Choosing

@@ -7,11 +7,12 @@ pub mod Merge
 pub mod Routes
 pub mod Intra
 pub mod Inter
+pub mod EntryIndex
 pub mod Reached
 pub mod Networks
+pub mod Choice
 pub mod Stubs
 pub mod Entries
 pub mod AreaResults
 pub mod Growing
 pub mod Standings
-pub mod EntryIndex

@@ -20,6 +20,7 @@ mod way;
 
 // What an area gives.
 mod building;
+mod choice;
 mod networks;
 mod reached;
 mod router_entries;
@@ -44,6 +45,7 @@ mod laws;
 pub use area_result::AreaResult;
 pub use areas::AreaList;
 pub use best::BestWays;
+pub use choice::network_choice;
 pub use entry::{EntryKind, RouterEntry};
 pub use inter_area::inter;
 pub use inter_result::InterResult;
@@ -54,3 +56,8 @@ pub use offer::Offer;
 pub use rank::{PathType, Rank};
 pub use route::Route;
 pub use way::Way;
+
+#[cfg(test)]
+mod area_tests;
+#[cfg(test)]
+mod route_tests;
