@@ -3,9 +3,7 @@
 use super::databases::{R1, R2, R3};
 use super::ways::{WayToRouter, asbr, entries};
 use crate::preferred;
-use area_routes::{EntryKind, RouterEntry};
-use lsa_codec::{Addr, RouterId};
-use next_hops::Hop;
+use area_routes::EntryKind;
 use std::alloc::Global;
 use std::test::*;
 
