@@ -1,7 +1,7 @@
 -- What holds of the ranks of all candidates holds of those of all ways.
 use Rattle.std.proofs.Common.{◌≡◌, ℕ, ◌+◌, ◌<◌, Bool, true, false, cond, List, [], ◌∷◌, ◌++◌, map, take, get_or, length, Option, Some, None, IfSome, sym, ap, subst, ◌∙◌}
 use Rattle.std.proofs.lemmas.List.{take_more}
-use Rattle.std.specs.List.{All, filter, filter_map, flat_map, cons_option}
+use Rattle.std.specs.List.{All, filter, filter_map, find, flat_map, cons_option}
 use Rattle.std.specs.Option.{option_map}
 use Rattle.std.specs.Ordering.{eq_by_cmp, is_lt}
 use Rattle.std.specs.declared.cmp.Ordering.{Ordering}
@@ -64,3 +64,21 @@ All-flat_map P Q f h (x ∷ xs) a = All-append P (f x) (flat_map f xs) (h x (All
 pub All-taken : {X : Type 0} (P : X → Type 0) (xs : List X) (i : ℕ) (x : X) → i < length xs → x ≡ get_or xs i x → P x → All P (take i xs) → All P (take (i + 1) xs)
 All-taken P xs i x l item p a =
     subst (λ ys. All P ys) (ap (λ y. take i xs ++ y ∷ []) item ∙ sym (take_more xs i x l)) (All-append P (take i xs) (x ∷ []) a (All-cons P x [] p (All-nil P)))
+
+-- what holds of all holds of the one that is found
+pub found_has : {X : Type 0} (P : X → Type 0) (p : X → Bool) (xs : List X) → All P xs → IfSome (find p xs) P
+found_has P p [] a = tt
+found_has P p (x ∷ xs) a = by (p x) (found_has P p xs (All-tail P x xs a))
+  where
+    by : (b : Bool) → IfSome (find p xs) P → IfSome (cond b (Some x) (find p xs)) P
+    by true rest = All-head P x xs a
+    by false rest = rest
+
+-- what holds of each member that there is
+pub All-filter_map : {X Y : Type 0} (P : Y → Type 0) (f : X → Option Y) → ((x : X) → IfSome (f x) P) → (xs : List X) → All P (filter_map f xs)
+All-filter_map P f h [] = All-nil P
+All-filter_map {X} {Y} P f h (x ∷ xs) = by (f x) (h x) (All-filter_map P f h xs)
+  where
+    by : (o : Option Y) → IfSome o P → All P (filter_map f xs) → All P (cons_option o (filter_map f xs))
+    by None p rest = rest
+    by (Some y) p rest = All-cons P y (filter_map f xs) p rest

@@ -1,7 +1,6 @@
 -- Entries by their routers, with one entry more.
 use Rattle.std.proofs.Common.{◌≡◌, Bool, true, false, cond, List, [], ◌∷◌, ◌++◌, Option, Some, None, is_some, refl, sym, ap, ◌∙◌}
 use Rattle.std.specs.Prelude.{◌&&◌}
-use Rattle.std.specs.List.{find}
 use Rattle.std.specs.Map.{lookup}
 use Rattle.std.specs.Option.{option_or}
 use Rattle.std.specs.Cmp.{unsigned_ties}
@@ -15,7 +14,7 @@ use Rattle.area_routes.specs.EntryIndex.{IsIndexOf}
 use Rattle.area_routes.specs.Inter.{entry_of, same_kind, same_router}
 use Rattle.area_routes.specs.Order.{router_cmp}
 use Rattle.area_routes.specs.Values.{EntryValue}
-use Rattle.area_routes.proofs.Orders.{router_exact, router_total}
+use Rattle.area_routes.proofs.Orders.{router_exact}
 
 or_none : {X : Type 0} (o : Option X) → option_or o None ≡ o
 or_none None = refl

@@ -11,3 +11,8 @@ pub mod Sorted
 pub mod Made
 pub mod Searching
 pub mod Indexing
+pub mod Costs
+pub mod Gathered
+pub mod Gathering
+pub mod Reaching
+pub mod Beaten

@@ -77,6 +77,10 @@ named_router lsa = record { 0 = link_state_id_of lsa }
 abbrev pub is_usable : RouterId → List ℕ → Bool
 is_usable router lsa = is_summary lsa && (is_live lsa && (nat_lt (metric_of lsa) ls_infinity && not (same_router (originator_of lsa) router)))
 
+-- the metric of such a summary-LSA
+abbrev pub usable_metric : RouterId → List ℕ → Option ℕ
+usable_metric router lsa = if is_usable router lsa then Some (metric_of lsa) else None
+
 -- the prefix that a summary-LSA of type 3 tells of, where it has no intra-area route
 abbrev pub network_told : List RouteValue → List ℕ → Option Net
 network_told intra lsa = option_and_then (λ net. if has_route intra net then None else Some net) (net_of_summary lsa)
@@ -85,11 +89,14 @@ network_told intra lsa = option_and_then (λ net. if has_route intra net then No
 abbrev pub by_border : {K : Type 0} → K → AreaId → ℕ → EntryValue → Candidate K
 by_border key area metric b = record { key = key; rank = record { path = Inter; cost2 = 0; class = 0; cost = b.cost + metric }; area = Some area; hops = b.hops }
 
+-- the entry of an AS boundary router of another area
+abbrev pub asbr_entry : AreaId → RouterId × WayValue → EntryValue
+asbr_entry area e = record { router = e.0; area = area; kind = AsbrInter; cost = e.1.rank.cost; hops = e.1.hops }
+
 module _ (router : RouterId) (area : AreaResultValue) where
   -- the way that a summary-LSA gives to what it tells of
   abbrev pub candidate_to : {K : Type 0} → List ℕ → K → Option (Candidate K)
-  candidate_to lsa key =
-      if is_usable router lsa then option_map (by_border key area.area (metric_of lsa)) (border_of area.entries (originator_of lsa)) else None
+  candidate_to lsa key = option_and_then (λ metric. option_map (by_border key area.area metric) (border_of area.entries (originator_of lsa))) (usable_metric router lsa)
 
   -- the router that a summary-LSA of type 4 tells of, where it is not the calculating router and not an AS boundary router of the area
   abbrev pub asbr_told : List ℕ → Option RouterId
@@ -108,13 +115,9 @@ module _ (router : RouterId) (area : AreaResultValue) where
   abbrev pub inter_routes : List RouteValue → List (List ℕ) → List RouteValue
   inter_routes intra lsas = routes_of (filter_map (network_candidate intra) lsas)
 
-  -- the entry of an AS boundary router of another area
-  abbrev pub asbr_entry : RouterId × WayValue → EntryValue
-  asbr_entry e = record { router = e.0; area = area.area; kind = AsbrInter; cost = e.1.rank.cost; hops = e.1.hops }
-
   -- the entries by the summary-LSAs among these LSAs, in order of the routers
   abbrev pub inter_entries : List (List ℕ) → List EntryValue
-  inter_entries lsas = map asbr_entry (ways_of router_cmp (filter_map asbr_candidate lsas))
+  inter_entries lsas = map (asbr_entry area.area) (ways_of router_cmp (filter_map asbr_candidate lsas))
 
 -- ---- all together
 

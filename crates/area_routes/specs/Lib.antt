@@ -8,3 +8,10 @@ pub mod Routes
 pub mod Intra
 pub mod Inter
 pub mod EntryIndex
+pub mod Reached
+pub mod Networks
+pub mod Stubs
+pub mod Entries
+pub mod AreaResults
+pub mod Growing
+pub mod Standings

@@ -18,13 +18,25 @@ mod route;
 mod best;
 mod way;
 
+// What an area gives.
+mod building;
+mod networks;
+mod reached;
+mod router_entries;
+mod stubs;
+
 // Routes within areas.
 mod intra_area;
 mod routes;
 
 // Routes between areas.
+mod all_entries;
 mod entry_index;
+mod examined;
+mod indexed_area;
+mod inter_area;
 mod lookup;
+mod summary;
 
 // What holds of the definitions.
 mod laws;
@@ -33,6 +45,7 @@ pub use area_result::AreaResult;
 pub use areas::AreaList;
 pub use best::BestWays;
 pub use entry::{EntryKind, RouterEntry};
+pub use inter_area::inter;
 pub use inter_result::InterResult;
 pub use intra_area::intra;
 pub use laws::{route_orders, ways_are_best};
@@ -41,3 +54,8 @@ pub use offer::Offer;
 pub use rank::{PathType, Rank};
 pub use route::Route;
 pub use way::Way;
+
+#[cfg(test)]
+mod area_tests;
+#[cfg(test)]
+mod route_tests;

@@ -1,4 +1,4 @@
-use Rattle.std.proofs.Common.{◌≡◌, cond, Some, is_some, sym, ap, ◌∙◌}
+use Rattle.std.proofs.Common.{cond, Some, is_some, sym, ap, ◌∙◌}
 use Rattle.std.specs.Map.{lookup}
 use Rattle.std.specs.Ordering.{eq_by_cmp, is_eq}
 use Rattle.area_routes.specs.Order.{router_cmp}

@@ -1,8 +1,7 @@
-use Rattle.std.proofs.Common.{◌++◌, ◌∷◌, [], List, Some, map, subst, ap, ◌∙◌}
-use Rattle.lsa_codec.specs.Prefix.{Net}
+use Rattle.std.proofs.Common.{◌++◌, ◌∷◌, [], List, map, subst}
 use Rattle.lsa_codec.specs.declared.address.AreaId.{AreaId}
 use Rattle.area_routes.specs.Best.{Gathers}
-use Rattle.area_routes.specs.Intra.{intra_candidate, intra_candidates}
+use Rattle.area_routes.specs.Intra.{intra_candidate}
 use Rattle.area_routes.specs.Order.{prefix_cmp}
 use Rattle.area_routes.specs.Values.{OfferValue}
 use Rattle.area_routes.proofs.Loops.{adds_all, adds_more, map_adds}

@@ -1,4 +1,4 @@
-use Rattle.std.proofs.Common.{◌≡◌, ◌<◌, ◌≤◌, ◌^◌, ℕ, List, take, subst, sym}
+use Rattle.std.proofs.Common.{◌≡◌, ◌<◌, ◌^◌, ℕ, List, take, subst}
 use Rattle.std.specs.List.{All, flat_map}
 use Rattle.std.proofs.lemmas.List.{take_all}
 use Rattle.std.proofs.lemmas.Result.{IfOk-weaker}
@@ -14,12 +14,11 @@ use Rattle.area_routes.proofs.Loops.{adds_step, flat_map_adds}
 use Rattle.area_routes.proofs.intra_area.intra.Goals as goal
 
 pub loop-area-preserved : goal.loop-area-preserved
-loop-area-preserved g c =
-    (
-      adds_step (flat_map_adds intra_candidates) (λ cs. Gathers prefix_cmp cs c.loop-area.ways) (λ cs. Gathers prefix_cmp cs c.admit_area.new.ways)
+loop-area-preserved g c = (
+  adds_step (flat_map_adds intra_candidates) (λ cs. Gathers prefix_cmp cs c.loop-area.ways) (λ cs. Gathers prefix_cmp cs c.admit_area.new.ways)
       c.args.results.now c.loop-area.area-index c.area-item.result c.loop-area-test.true c.area-item.is c.loop-area.invariant.0 c.in_ok-admit_area.ensures.admitted,
-      All-taken AreCheap c.args.results.now c.loop-area.area-index c.area-item.result c.loop-area-test.true c.area-item.is c.admit_area.ensures.cheap c.loop-area.invariant.1
-    )
+  All-taken AreCheap c.args.results.now c.loop-area.area-index c.area-item.result c.loop-area-test.true c.area-item.is c.admit_area.ensures.cheap c.loop-area.invariant.1,
+)
 
 -- all areas are taken at the end
 whole : (results : List AreaResultValue) (i : ℕ) (P : List AreaResultValue → Type 0) → take i results ≡ results → P (take i results) → P results
