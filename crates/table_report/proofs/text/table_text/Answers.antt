@@ -1,7 +1,6 @@
-use Rattle.std.proofs.Common.{◌≡◌, ◌∙◌, ap, codes, map, refl, sym}
+use Rattle.std.proofs.Common.{◌∙◌, ap, codes, map, refl, sym}
 use Rattle.std.specs.String.{string_bytes}
 use Rattle.std.proofs.lemmas.List.{length-map}
-use Rattle.recalculate.specs.Tables.{TableValue}
 use Rattle.table_report.specs.Texts.{headed, line_of}
 use Rattle.table_report.proofs.Joined.{line_more, all_lines, headed_is, table_text_is}
 use Rattle.table_report.proofs.text.table_text.Goals as goal
