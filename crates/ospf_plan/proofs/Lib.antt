@@ -5,3 +5,4 @@ pub mod Steps
 pub mod Runs
 pub mod Naming
 pub mod Apart
+pub mod Answering

@@ -117,11 +117,24 @@ fn tables<A: Allocator + Copy>(
     ensures kept { planner.new ≡ planner.old }
 {
     let routers = planner.routers()?;
+    let tables = tables_of(alloc, planner, &routers)?;
+    Ok(Reply::Tables(tables))
+}
+
+/// The routing tables of routers now, of those that are attached to an area.
+fn tables_of<A: Allocator + Copy>(
+    alloc: A,
+    planner: &mut Planner<A>,
+    routers: &[RouterId],
+) -> Result<Vec<Table<A>, A>, AllocError>
+    ensures tables { IfOk result (λ tables. tables.items ≡ filter_map (table_in (state planner.old)) routers.now) }
+    ensures kept { planner.new ≡ planner.old }
+{
     let mut tables = Vec::new(alloc);
-    for router in routers.as_slice() {
+    for router in routers {
         add_table(&mut tables, table_now(planner, *router)?)?;
     }
-    Ok(Reply::Tables(tables))
+    Ok(tables)
 }
 
 /// Adds a table, if there is one.
