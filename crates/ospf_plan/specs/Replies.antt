@@ -122,12 +122,18 @@ refusal_name (refusal.Table fault) = table_name fault
 abbrev pub mark_of : ℕ → List ℕ
 mark_of branch = codes "@" ++ decimal branch ++ codes " "
 
--- the counts of a session
+-- the counts of a session: of its LSAs, of what virtual links leave in them, and of its edits
+abbrev pub lsa_counts : Info → List ℕ
+lsa_counts info = codes "info areas " ++ decimal info.areas ++ codes " lsas " ++ decimal info.lsas ++ codes " as " ++ decimal info.as_lsas
+
+abbrev pub link_counts : Info → List ℕ
+link_counts info = codes " vbits " ++ decimal info.vbits ++ codes " vlinks " ++ decimal info.vlinks
+
+abbrev pub edit_counts : Info → List ℕ
+edit_counts info = codes " done " ++ decimal info.done ++ codes " undone " ++ decimal info.undone ++ codes "\n"
+
 abbrev pub info_text : Info → List ℕ
-info_text info =
-    codes "info areas " ++ decimal info.areas ++ codes " lsas " ++ decimal info.lsas ++ codes " as " ++ decimal info.as_lsas
-    ++ codes " vbits " ++ decimal info.vbits ++ codes " vlinks " ++ decimal info.vlinks
-    ++ codes " done " ++ decimal info.done ++ codes " undone " ++ decimal info.undone ++ codes "\n"
+info_text info = lsa_counts info ++ link_counts info ++ edit_counts info
 
 -- `ok`, `refused CODE NAME`, the text of a table, of tables or of a comparison, or counts
 abbrev pub said_text : Said → List ℕ

@@ -109,10 +109,7 @@ fn table<A: Allocator + Copy>(
 }
 
 /// The reply to `tables`.
-fn tables<A: Allocator + Copy>(
-    alloc: A,
-    planner: &mut Planner<A>,
-) -> Result<Reply<A>, AllocError>
+fn tables<A: Allocator + Copy>(alloc: A, planner: &mut Planner<A>) -> Result<Reply<A>, AllocError>
     ensures reply { IfOk result (λ reply. said_by reply ≡ tables (filter_map (table_in (state planner.old)) (attached_routers (state planner.old)))) }
     ensures kept { planner.new ≡ planner.old }
 {

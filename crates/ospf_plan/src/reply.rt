@@ -3,7 +3,7 @@
 ghost use Rattle.std.specs.Prelude.{◌≡◌, ◌++◌, IfOk, codes, decimal, flat_map, length};
 ghost use Rattle.std.specs.String.{string_bytes};
 ghost use Rattle.table_report.specs.Texts.{table_text};
-ghost use Rattle.ospf_plan.specs.Replies.{refusal_code, refusal_name, info_text, said_by, said_text, mark_of, reply_text, script_text, is_refusal};
+ghost use Rattle.ospf_plan.specs.Replies.{refusal_code, refusal_name, lsa_counts, link_counts, edit_counts, info_text, said_by, said_text, mark_of, reply_text, script_text, is_refusal};
 
 use edit_history::{EditFault, RedoFault, UndoFault};
 use edit_script::ScriptFault;
@@ -157,17 +157,42 @@ fn tables_text<A: Allocator + Copy>(
 fn info_text<A: Allocator + Copy>(alloc: A, info: &Info) -> Result<Vec<u8, A>, AllocError>
     ensures { IfOk result (λ text. text.items ≡ info_text info.now) }
 {
+    let mut text = lsa_counts(alloc, info)?;
+    text.push_str(&link_counts(alloc, info)?)?;
+    text.push_str(&edit_counts(alloc, info)?)?;
+    Ok(text.into_bytes())
+}
+
+/// The counts of areas and LSAs.
+fn lsa_counts<A: Allocator + Copy>(alloc: A, info: &Info) -> Result<String<A>, AllocError>
+    ensures { IfOk result (λ text. string_bytes text ≡ lsa_counts info.now) }
+{
     let Info {
         areas,
         lsas,
         as_lsas,
-        vbits,
-        vlinks,
-        done,
-        undone,
+        ..
     } = *info;
-    let text = format!(in alloc; "info areas {areas} lsas {lsas} as {as_lsas} vbits {vbits} vlinks {vlinks} done {done} undone {undone}\n")?;
-    Ok(text.into_bytes())
+    let text = format!(in alloc; "info areas {areas} lsas {lsas} as {as_lsas}")?;
+    Ok(text)
+}
+
+/// The counts of what virtual links leave in LSAs.
+fn link_counts<A: Allocator + Copy>(alloc: A, info: &Info) -> Result<String<A>, AllocError>
+    ensures { IfOk result (λ text. string_bytes text ≡ link_counts info.now) }
+{
+    let Info { vbits, vlinks, .. } = *info;
+    let text = format!(in alloc; " vbits {vbits} vlinks {vlinks}")?;
+    Ok(text)
+}
+
+/// The counts of edits.
+fn edit_counts<A: Allocator + Copy>(alloc: A, info: &Info) -> Result<String<A>, AllocError>
+    ensures { IfOk result (λ text. string_bytes text ≡ edit_counts info.now) }
+{
+    let Info { done, undone, .. } = *info;
+    let text = format!(in alloc; " done {done} undone {undone}\n")?;
+    Ok(text)
 }
 
 /// The text for a line that is no command: `script S2 UnknownWord`, and a line feed.

@@ -45,7 +45,8 @@ fn replies(alloc: Global, dump: &[u8], script: &str) -> Result<Vec<u8>, Fail> {
 
 #[test]
 fn a_cost_in_tables_and_comparisons(rt: HostRuntime) -> Result<(), Fail> {
-    let script = "cost 0.0.0.0 1.1.1.1 1 65535\ntable 1.1.1.1\ncompare 1.1.1.1\nundo 1\ntable 1.1.1.1\ncompare 1.1.1.1\n";
+    let script =
+        "cost 0.0.0.0 1.1.1.1 1 65535\ntable 1.1.1.1\ncompare 1.1.1.1\nundo 1\ntable 1.1.1.1\ncompare 1.1.1.1\n";
     let ended = run_in(rt.alloc(), rt.alloc(), SAMPLE, script)?;
     let expected = b"@0 ok
 @0 table 1.1.1.1 1
@@ -99,7 +100,8 @@ fn counts_of_virtual_links(rt: HostRuntime) -> Result<(), Fail> {
 
 #[test]
 fn redo_after_undo_and_after_an_edit(rt: HostRuntime) -> Result<(), Fail> {
-    let script = "cost 0.0.0.0 1.1.1.1 1 11\ncost 0.0.0.0 1.1.1.1 1 12\nundo 3\nundo 2\nredo 1\ncost 0.0.0.0 1.1.1.1 1 13\nredo 1\ninfo\n";
+    let script =
+        "cost 0.0.0.0 1.1.1.1 1 11\ncost 0.0.0.0 1.1.1.1 1 12\nundo 3\nundo 2\nredo 1\ncost 0.0.0.0 1.1.1.1 1 13\nredo 1\ninfo\n";
     let ended = run_in(rt.alloc(), rt.alloc(), SAMPLE, script)?;
     let expected = b"@0 ok
 @0 ok
@@ -117,7 +119,8 @@ fn redo_after_undo_and_after_an_edit(rt: HostRuntime) -> Result<(), Fail> {
 
 #[test]
 fn branches_do_not_see_one_another(rt: HostRuntime) -> Result<(), Fail> {
-    let script = "@1 fail-router 2.2.2.2\n@2 table 1.1.1.1\n@1 table 1.1.1.1\n@1 compare 1.1.1.1\n@1 compare 2.2.2.2\n@1 table 2.2.2.2\n";
+    let script =
+        "@1 fail-router 2.2.2.2\n@2 table 1.1.1.1\n@1 table 1.1.1.1\n@1 compare 1.1.1.1\n@1 compare 2.2.2.2\n@1 table 2.2.2.2\n";
     let ended = run_in(rt.alloc(), rt.alloc(), SAMPLE, script)?;
     let expected = b"@1 ok
 @2 table 1.1.1.1 1
@@ -155,9 +158,39 @@ const LINES: [[&str; 3]; 3] = [
 
 /// Which line of which branch comes next, in three interleavings.
 const ORDERS: [[(usize, usize); 9]; 3] = [
-    [(0, 0), (1, 0), (2, 0), (0, 1), (1, 1), (2, 1), (0, 2), (1, 2), (2, 2)],
-    [(2, 0), (2, 1), (1, 0), (0, 0), (1, 1), (0, 1), (0, 2), (2, 2), (1, 2)],
-    [(1, 0), (0, 0), (0, 1), (2, 0), (0, 2), (1, 1), (1, 2), (2, 1), (2, 2)],
+    [
+        (0, 0),
+        (1, 0),
+        (2, 0),
+        (0, 1),
+        (1, 1),
+        (2, 1),
+        (0, 2),
+        (1, 2),
+        (2, 2),
+    ],
+    [
+        (2, 0),
+        (2, 1),
+        (1, 0),
+        (0, 0),
+        (1, 1),
+        (0, 1),
+        (0, 2),
+        (2, 2),
+        (1, 2),
+    ],
+    [
+        (1, 0),
+        (0, 0),
+        (0, 1),
+        (2, 0),
+        (0, 2),
+        (1, 1),
+        (1, 2),
+        (2, 1),
+        (2, 2),
+    ],
 ];
 
 /// What the line of a branch is answered where its branch is alone.
@@ -175,7 +208,12 @@ fn interleaved_branches_answer_as_alone(rt: HostRuntime) -> Result<(), Fail> {
         let mut script = String::new(rt.alloc());
         let mut expected = Vec::new(rt.alloc());
         for (branch, line) in order {
-            script.push_str(LINES.get(*branch).and_then(|lines| lines.get(*line)).ok_or("a line")?)?;
+            script.push_str(
+                LINES
+                    .get(*branch)
+                    .and_then(|lines| lines.get(*line))
+                    .ok_or("a line")?,
+            )?;
             let before = alone(rt.alloc(), *branch, *line)?;
             let after = alone(rt.alloc(), *branch, *line + 1)?;
             expected.extend_from_slice(after.get(before.len()..).ok_or("an answer")?)?;
@@ -246,8 +284,15 @@ fn refuse_each_growth(rt: &HostRuntime, dump: &[u8], script: &str) -> Result<(),
     for n in 0..growths {
         let rationed = Rationed::new(rt.alloc(), n);
         let ended = run_in(&rationed, rt.alloc(), dump, script.as_str())?;
-        assert_eq!(rt; ended.result, Err(RunFault::OutOfMemory), "with {n} growths");
-        assert!(rt; ample.replies.starts_with(ended.replies.as_slice()), "with {n} growths");
+        assert_eq!(rt;
+            ended.result,
+            Err(RunFault::OutOfMemory),
+            "with {n} growths"
+        );
+        assert!(rt;
+            ample.replies.starts_with(ended.replies.as_slice()),
+            "with {n} growths"
+        );
         assert!(rt; ended.dump.is_empty(), "with {n} growths");
     }
     let enough = Rationed::new(rt.alloc(), growths);
