@@ -1,8 +1,8 @@
 -- The routers of live router-LSAs are those that are attached to areas.
-use Rattle.std.proofs.Common.{◌≡◌, ◌≢◌, ◌↔◌, ℕ, Bool, true, false, not, cond, eqb, List, [], ◌∷◌, map, filter, Option, Some, None, refl, sym, ap, ◌∙◌, subst, inl, inr, true≢false}
+use Rattle.std.proofs.Common.{◌≡◌, ◌≢◌, ◌↔◌, ℕ, Bool, true, false, not, cond, eqb, List, [], ◌∷◌, Option, Some, None, refl, sym, ap, ◌∙◌, subst, inl, inr, true≢false}
 use Rattle.std.specs.Prelude.{◌&&◌, ◌||◌}
 use Rattle.std.specs.Cmp.{Equal-is, unsigned_ties}
-use Rattle.std.specs.List.{All, AllPairs, Contains, filter_map, find, list_any}
+use Rattle.std.specs.List.{AllPairs, Contains, filter_map, find}
 use Rattle.std.specs.Option.{option_map_or}
 use Rattle.std.specs.Ordering.{eq_by_cmp}
 use Rattle.std.proofs.lemmas.Bool.{and_from, and_parts, eq-eqb, eqb-true}
@@ -13,7 +13,7 @@ use Rattle.lsa_codec.specs.declared.key.Key.{Key}
 use Rattle.lsa_codec.specs.Accepted.{IsAccepted}
 use Rattle.lsa_codec.specs.Fields.{kind_of, link_state_id_of, advertising_router_of}
 use Rattle.lsa_codec.specs.Key.{key_of}
-use Rattle.lsdb.specs.Lists.{AreaHead, IsDatabase, Lists, areas_of, has_key}
+use Rattle.lsdb.specs.Lists.{IsDatabase, Lists, areas_of, has_key}
 use Rattle.lsdb.proofs.Middle.{pairs_head, pairs_tail}
 use Rattle.area_graph.specs.Area.{is_live, is_router_lsa}
 use Rattle.area_graph.specs.Graphs.{AreOfArea}
@@ -60,7 +60,7 @@ find_only key (x ∷ xs) lsa distinct (inl p) h =
     ap (λ b. cond b (Some x) (find (has_key key) xs)) (ap (has_key key) p ∙ h) ∙ ap (λ (l : List ℕ). Some l) p
 find_only key (x ∷ xs) lsa distinct (inr i) h =
     let apart : key_of x ≢ key_of lsa =
-        All-contains (λ y. key_of x ≢ key_of y) xs lsa (pairs_head (λ a b. key_of a ≢ key_of b) x xs distinct) (Contains-from_In xs lsa i) in
+    All-contains (λ y. key_of x ≢ key_of y) xs lsa (pairs_head (λ a b. key_of a ≢ key_of b) x xs distinct) (Contains-from_In xs lsa i) in
     ap (λ b. cond b (Some x) (find (has_key key) xs)) (other_key key x (λ e. apart (e ∙ sym (same_key_true (key_of lsa) key h))))
     ∙ find_only key xs lsa (pairs_tail (λ a b. key_of a ≢ key_of b) x xs distinct) i h
 
