@@ -17,7 +17,7 @@ use Rattle.area_graph.proofs.Members.{In, In-filter, In-map, Contains-from_In}
 use Rattle.external_routes.specs.Attached.{router_key, has_live_router_lsa, is_attached}
 
 -- what a search finds is there, and passes
-found_In : {X : Type 0} (p : X → Bool) (xs : List X) (x : X) → find p xs ≡ Some x → In xs x × (p x ≡ true)
+pub found_In : {X : Type 0} (p : X → Bool) (xs : List X) (x : X) → find p xs ≡ Some x → In xs x × (p x ≡ true)
 found_In p [] x h = cc
 found_In p (y ∷ ys) x h = by (p y) refl h (found_In p ys x)
   where

@@ -1,7 +1,6 @@
 -- What a session counts: areas, LSAs and what virtual links leave in them (RFC 2328, 12.2 and A.4.2), and edits.
 use Rattle.std.specs.Prelude.{ℕ, Bool, true, false, ◌&&◌, if◌then◌else◌, List, length}
 use Rattle.std.specs.List.{count_by, flat_map, sum_by}
-use Rattle.lsa_codec.specs.declared.link.Link.{Link}
 use Rattle.lsa_codec.specs.declared.link.LinkKind.{LinkKind}
 use Rattle.lsa_codec.specs.declared.link.LinkKind.TheVariants.{PointToPoint, Transit, Stub, Virtual, Other}
 use Rattle.lsa_codec.specs.Links.{links_of}

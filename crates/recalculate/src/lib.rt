@@ -3,6 +3,7 @@
 
 mod attached;
 mod counts;
+mod laws;
 mod planner;
 mod prefer;
 mod results;
@@ -10,6 +11,7 @@ mod table;
 
 pub use attached::routers;
 pub use counts::Info;
+pub use laws::routers_are_attached;
 pub use planner::Planner;
 pub use table::{Table, TableFault, table_of};
 

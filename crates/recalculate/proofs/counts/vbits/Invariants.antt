@@ -1,4 +1,4 @@
-use Rattle.std.proofs.Common.{◌≡◌, ◌≤◌, ◌*◌, take, length}
+use Rattle.std.proofs.Common.{◌≡◌, ◌≤◌, ◌*◌, take}
 use Rattle.std.specs.List.{count_by}
 use Rattle.lsdb.specs.Lists.{areas_of}
 use Rattle.lsdb.specs.Places.{lists_of}

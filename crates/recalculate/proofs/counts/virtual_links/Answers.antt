@@ -1,9 +1,5 @@
-use Rattle.std.proofs.Common.{◌≡◌, ◌∙◌, ◌≤◌, arith, ap, inl, length, sym, subst, ℕ, List}
-use Rattle.std.specs.List.{count_by}
-use Rattle.std.proofs.lemmas.Iterator.Consumers.{YieldsList-at, YieldsList-from_filter, YieldsList-from_first, count_from_yields_List}
-use Rattle.std.proofs.lemmas.List.Sums.{count_by-le-length, length-filter}
+use Rattle.std.proofs.Common.{◌≡◌, ◌∙◌, arith, ap, inl, length}
 use Rattle.lsa_codec.specs.Links.{links_of}
-use Rattle.recalculate.specs.Counts.{is_virtual, virtual_links}
 use Rattle.recalculate.proofs.Totals.{links_few}
 use Rattle.recalculate.proofs.counts.virtual_links.Goals as goal
 
