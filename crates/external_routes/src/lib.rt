@@ -20,3 +20,6 @@ mod routes;
 pub use attached::is_attached;
 pub use choose::preferred;
 pub use routes::externals;
+
+#[cfg(test)]
+mod tests;

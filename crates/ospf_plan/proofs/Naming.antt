@@ -34,10 +34,19 @@ undone_base : (s : Session) (k : ℕ) (may : Bool) → (cond may (moved_back k s
 undone_base s k true = refl
 undone_base s k false = refl
 
+redone_base : (s : Session) (k : ℕ) (may : Bool) → (cond may (moved_on k s) s).base ≡ s.base
+redone_base s k true = refl
+redone_base s k false = refl
+
 pub after_base : (s : Session) (c : Command) → (after s c).base ≡ s.base
 unfolding edited
 after_base s (command.Edit e) = edited_base s e (effect (state s) e) (ltb (length s.done) most_edits)
 after_base s (command.Undo k) = undone_base s k (nat_le k (length s.done))
+after_base s (command.Redo k) = redone_base s k (nat_le k (length s.undone))
+after_base s (command.Table router) = refl
+after_base s command.Tables = refl
+after_base s (command.Compare router) = refl
+after_base s command.Info = refl
 
 pub edited_keeps_base : (s t : Session) (e : Edit) → edited s e ≡ Ok t → t.base ≡ s.base
 edited_keeps_base s t e is = ap (λ r. (unless_refused s r).base) (sym is) ∙ after_base s (command.Edit e)

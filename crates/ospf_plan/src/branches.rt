@@ -5,10 +5,10 @@ ghost use Rattle.lsdb.specs.Places.{lists_of};
 ghost use Rattle.lsdb.specs.Text.{text};
 ghost use Rattle.edit_history.specs.Session.{start, state};
 ghost use Rattle.ospf_plan.specs.Branches.{all_begin, in_branch, is_named, sessions_of};
-ghost use Rattle.ospf_plan.specs.Replies.{reply_to, after, takes_memory};
+ghost use Rattle.ospf_plan.specs.Replies.{reply_to, after, takes_memory, said_by};
 
-use crate::reply::{Refusal, Reply};
-use edit_history::EditFault;
+use crate::asking::carry_out;
+use crate::reply::Reply;
 use edit_script::Command;
 use lsdb::Database;
 use recalculate::Planner;
@@ -47,39 +47,40 @@ impl<A: Allocator + Copy> Branches<A> {
         }
     }
 
-    /// Carries one command out in a branch, 0 to 7. `undo` in a branch that was named before takes no memory.
+    /// Carries one command out in a branch, 0 to 7. `undo`, `redo` and
+    /// `info` in a branch that was named before take no memory.
     ///
     /// # Errors
     ///
     /// Memory ran out. Then no branch has changed, and no more branches are named.
-    pub fn step(&mut self, branch: u8, command: &Command) -> Result<Reply, AllocError>
+    pub fn step(&mut self, branch: u8, command: &Command) -> Result<Reply<A>, AllocError>
         requires { branch < 8 }
-        ensures reply { IfOk result (λ reply. reply ≡ reply_to (sessions_of self.old branch) command.now) }
+        ensures reply { IfOk result (λ reply. said_by reply ≡ reply_to (sessions_of self.old branch) command.now) }
         ensures sessions { OnOk result (sessions_of self.new ≡ in_branch branch (after (sessions_of self.old branch) command.now) (sessions_of self.old)) }
         ensures named { OnOk result (is_named self.new branch ≡ true) }
         ensures kept { OnErr result (self.new ≡ self.old) }
         ensures memory { takes_memory command.now ≡ false → is_named self.old branch ≡ true → IsOk result }
     {
         if branch == 0 {
-            return carry_out(&mut self.first, command);
+            return carry_out(self.alloc, &mut self.first, command);
         }
         match self.others.get_mut(&branch) {
-            Some(planner) => carry_out(planner, command),
+            Some(planner) => carry_out(self.alloc, planner, command),
             None => self.step_first(branch, command),
         }
     }
 
     /// Carries out the first command of a branch that was not named before.
-    fn step_first(&mut self, branch: u8, command: &Command) -> Result<Reply, AllocError>
+    fn step_first(&mut self, branch: u8, command: &Command) -> Result<Reply<A>, AllocError>
         requires behind { (branch == 0) ≡ false }
         requires new { is_named self.old branch ≡ false }
-        ensures reply { IfOk result (λ reply. reply ≡ reply_to (sessions_of self.old branch) command.now) }
+        ensures reply { IfOk result (λ reply. said_by reply ≡ reply_to (sessions_of self.old branch) command.now) }
         ensures sessions { OnOk result (sessions_of self.new ≡ in_branch branch (after (sessions_of self.old branch) command.now) (sessions_of self.old)) }
         ensures named { OnOk result (is_named self.new branch ≡ true) }
         ensures kept { OnErr result (self.new ≡ self.old) }
     {
         let mut planner = self.begun()?;
-        let reply = carry_out(&mut planner, command)?;
+        let reply = carry_out(self.alloc, &mut planner, command)?;
         self.name(branch, planner)?;
         Ok(reply)
     }
@@ -122,30 +123,5 @@ impl<A: Allocator + Copy> Branches<A> {
             Some(planner) => planner.dump(),
             None => self.first.base()?.dump(),
         }
-    }
-}
-
-/// Carries one command out on a planner.
-#[tactic(auto, using(crate::proofs::Naming::after_base))]
-fn carry_out<A: Allocator + Copy>(
-    planner: &mut Planner<A>,
-    command: &Command,
-) -> Result<Reply, AllocError>
-    ensures reply { IfOk result (λ reply. reply ≡ reply_to planner.old command.now) }
-    ensures session { OnOk result (planner.new ≡ after planner.old command.now) }
-    ensures base { planner.new.base ≡ planner.old.base }
-    ensures kept { OnErr result (planner.new ≡ planner.old) }
-    ensures memory { takes_memory command.now ≡ false → IsOk result }
-{
-    match *command {
-        Command::Edit(edit) => match planner.edit(&edit) {
-            Ok(()) => Ok(Reply::Done),
-            Err(EditFault::OutOfMemory) => Err(AllocError),
-            Err(fault) => Ok(Reply::Refused(Refusal::Edit(fault))),
-        },
-        Command::Undo(count) => match planner.undo(count) {
-            Ok(()) => Ok(Reply::Done),
-            Err(fault) => Ok(Reply::Refused(Refusal::Undo(fault))),
-        },
     }
 }

@@ -5,6 +5,7 @@
 //! the command line names.
 #![tactic(auto)]
 
+mod asking;
 mod branches;
 mod command_line;
 mod exit;
