@@ -15,7 +15,8 @@ use Rattle.recalculate.specs.declared.table.TableFault.TheVariants.{NoRouter}
 use Rattle.recalculate.specs.declared.counts.Info.{Info}
 use Rattle.recalculate.specs.Fault.{code_of as table_code, name_of as table_name}
 use Rattle.recalculate.specs.Tables.{TableValue, table_in}
-use Rattle.recalculate.specs.Counts.{info_of, attached_routers}
+use Rattle.recalculate.specs.Counts.{info_of}
+use Rattle.recalculate.specs.Routers.{attached_routers}
 use Rattle.table_report.specs.Texts.{table_text}
 use Rattle.table_report.specs.Comparing.{compare_text}
 use Rattle.ospf_plan.specs.declared.reply.Reply.{Reply}
