@@ -12,3 +12,6 @@ pub use attached::routers;
 pub use counts::Info;
 pub use planner::Planner;
 pub use table::{Table, TableFault, table_of};
+
+#[cfg(test)]
+mod info_tests;

@@ -1,5 +1,5 @@
 -- Prefixes in order, and the lines for them.
-use Rattle.std.proofs.Common.{◌≡◌, ℕ, ◌+◌, ◌<◌, Bool, List, [], ◌∷◌, ◌++◌, length, map, take, get_or, Option, None, Some, refl, sym, ap, ◌∙◌}
+use Rattle.std.proofs.Common.{◌≡◌, ℕ, ◌+◌, ◌<◌, List, [], ◌∷◌, ◌++◌, length, map, take, get_or, Option, None, Some, refl, sym, ap, ◌∙◌}
 use Rattle.std.specs.Prelude.{◌&&◌, ◌==◌}
 use Rattle.std.specs.List.{filter_map, cons_option}
 use Rattle.std.specs.Cmp.{unsigned_ties}

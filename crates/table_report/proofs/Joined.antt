@@ -29,6 +29,13 @@ pub hops_joined : (first : Hop) (more : List Hop) → hop_text first ++ flat_map
 hops_joined first [] = append-nil (hop_text first)
 hops_joined first (hop ∷ more) = ap (λ l. hop_text first ++ 44 ∷ l) (hops_joined hop more)
 
+-- all hops
+pub all_hops : (start begun text : List ℕ) (first : Hop) (more hops : List Hop) (i : ℕ) → length more ≤ i → begun ≡ start ++ hop_text first
+    → text ≡ begun ++ flat_map hop_after (take i more) → hops ≡ first ∷ more → text ≡ start ++ hops_text hops
+all_hops start begun text first more hops i done begins so_far are =
+    so_far ∙ ap (λ l. begun ++ flat_map hop_after l) (take_all i more done) ∙ ap (λ l. l ++ flat_map hop_after more) begins
+    ∙ append_assoc start (hop_text first) (flat_map hop_after more) ∙ ap (λ l. start ++ l) (hops_joined first more) ∙ ap (λ l. start ++ hops_text l) (sym are)
+
 module _ {X : Type 0} (line : X → List ℕ) where
   -- a line with its end
   abbrev pub ended : X → List ℕ

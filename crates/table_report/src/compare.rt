@@ -16,10 +16,7 @@ use recalculate::Table;
 use std::alloc::{AllocError, Allocator};
 
 /// The prefixes of routes.
-fn nets_of<A: Allocator + Copy>(
-    alloc: A,
-    routes: &[Route<A>],
-) -> Result<Vec<Prefix, A>, AllocError>
+fn nets_of<A: Allocator + Copy>(alloc: A, routes: &[Route<A>]) -> Result<Vec<Prefix, A>, AllocError>
     ensures { IfOk result (λ found. found.items ≡ nets routes.now) }
 {
     routes.iter().map(|route| route.net).collect(alloc)

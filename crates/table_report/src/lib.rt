@@ -7,3 +7,6 @@ mod text;
 
 pub use compare::compare_text;
 pub use text::table_text;
+
+#[cfg(test)]
+mod tests;

@@ -22,10 +22,7 @@ fn kind_word(kind: PathType) -> &'static str
 }
 
 /// Adds the lowest of areas that rise, and a dash where there is none.
-fn push_area<A: Allocator + Copy>(
-    text: &mut String<A>,
-    areas: &[AreaId],
-) -> Result<(), AllocError>
+fn push_area<A: Allocator + Copy>(text: &mut String<A>, areas: &[AreaId]) -> Result<(), AllocError>
     ensures { OnOk result (string_bytes text.new ≡ string_bytes text.old ++ area_text areas.now) }
 {
     match areas.first() {

@@ -15,10 +15,7 @@ use std::alloc::{AllocError, Allocator};
 /// # Errors
 ///
 /// Memory ran out.
-pub fn table_text<A: Allocator + Copy>(
-    alloc: A,
-    table: &Table<A>,
-) -> Result<Vec<u8, A>, AllocError>
+pub fn table_text<A: Allocator + Copy>(alloc: A, table: &Table<A>) -> Result<Vec<u8, A>, AllocError>
     ensures { IfOk result (λ text. text.items ≡ table_text table.now) }
 {
     let router = table.router();

@@ -1,4 +1,4 @@
-use Rattle.std.proofs.Common.{◌≡◌, ◌∷◌, [], ◌++◌, ◌∙◌, sym, ap}
+use Rattle.std.proofs.Common.{◌++◌, ◌∙◌, sym, ap}
 use Rattle.std.proofs.lemmas.List.{map-append}
 use Rattle.std.proofs.lemmas.List.Filters.{dedup_is}
 use Rattle.area_graph.specs.Rising.{rising}

@@ -1,7 +1,6 @@
-use Rattle.std.proofs.Common.{◌≡◌, ◌∙◌, ap, codes, map, refl, sym}
+use Rattle.std.proofs.Common.{◌∙◌, ap, codes, map, refl, sym}
 use Rattle.std.specs.String.{string_bytes}
 use Rattle.std.proofs.lemmas.List.{length-map}
-use Rattle.recalculate.specs.Tables.{TableValue}
 use Rattle.table_report.specs.Texts.{headed, line_of}
 use Rattle.table_report.proofs.Joined.{line_more, all_lines, headed_is, table_text_is}
 use Rattle.table_report.proofs.text.table_text.Goals as goal
@@ -17,6 +16,6 @@ returns g c =
     let start = string_bytes c.in_ok-text.text in
     let text = string_bytes c.loop-route.text in
     let all = all_lines line_of start routes c.loop-route.route-index text c.loop-route-test.false c.loop-route.invariant in
-    let whole = headed_is (codes "table") c.router-router.result (map line_of routes) (map line_of routes) _ start text c.in_ok-text.ensures.ok (sym (length-map line_of routes)) all refl in
-    c.into_bytes.ensures.value ∙ whole ∙ ap (λ r. headed (codes "table") r (map line_of routes)) c.router-router.ensures
+    let whole = headed_is (codes "table") c.router-router.result (map line_of routes) (map line_of routes) _ start text c.in_ok-text.ensures.ok (sym (length-map routes line_of)) all refl in
+    ap (λ v. v.items) c.into_bytes.ensures.value ∙ whole ∙ ap (λ r. headed (codes "table") r (map line_of routes)) c.router-router.ensures
     ∙ ap (λ l. headed (codes "table") c.args.table.now.router (map line_of l)) c.routes-routes.ensures.routes ∙ table_text_is c.args.table.now
