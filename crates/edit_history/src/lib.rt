@@ -24,3 +24,6 @@ pub use fault::{EditFault, RedoFault, UndoFault};
 pub use history::History;
 pub use laws::{changes_told, folded, inverses, moves};
 pub use record::{Record, replay, revert};
+
+#[cfg(test)]
+mod tests;
