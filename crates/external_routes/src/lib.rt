@@ -17,8 +17,12 @@ mod kept;
 mod candidates;
 mod routes;
 
+// What holds of the definitions.
+mod laws;
+
 pub use attached::is_attached;
 pub use choose::preferred;
+pub use laws::attached_routers_are_vertices;
 pub use routes::externals;
 
 #[cfg(test)]
