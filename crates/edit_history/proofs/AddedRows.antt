@@ -1,5 +1,5 @@
 -- The edits that add a summary-LSA or an AS-external-LSA: their refusals, and their rules.
-use Rattle.std.proofs.Common.{◌≡◌, ◌≢◌, ℕ, zero, suc, ◌<◌, ◌^◌, Bool, true, false, List, [], ◌∷◌, length, Option, Some, None, Result, Ok, Err, refl, sym, ap, ◌∙◌, subst}
+use Rattle.std.proofs.Common.{◌≡◌, ℕ, zero, suc, ◌<◌, ◌^◌, Bool, true, false, List, [], ◌∷◌, Option, Some, None, Result, Ok, Err, refl, sym, ap, ◌∙◌, subst}
 use Rattle.std.specs.Prelude.{if◌then◌else◌}
 use Rattle.std.specs.List.{find}
 use Rattle.lsa_codec.specs.declared.address.Addr.{Addr}
@@ -29,7 +29,7 @@ use Rattle.edit_history.proofs.Failed.{list_item}
 use Rattle.edit_history.proofs.FailedRows.{no_lsa_in, lsa_in}
 use Rattle.edit_history.proofs.Rooms.{room_not_memory}
 use Rattle.edit_history.proofs.Follows.{refused_as, no_memory, on_ok, on_err}
-use Rattle.edit_history.proofs.Adding.{IsKeyed, IsNew, planned_new, added_refused, added_ruled, new_room}
+use Rattle.edit_history.proofs.Adding.{IsKeyed, planned_new, added_refused, added_ruled, new_room}
 
 abbrev pub prefix_key : ℕ → RouterId → Net → Key
 prefix_key kind router prefix = record { kind = kind; id = prefix.addr; adv = router }

@@ -1,7 +1,7 @@
 -- A new LSA at the end of a section.
-use Rattle.std.proofs.Common.{◌≡◌, ◌≢◌, ℕ, ◌+◌, ◌<◌, ◌≤◌, Bool, true, false, ◌||◌, List, [], ◌∷◌, ◌++◌, length, map, Option, Some, None, Result, Ok, Err, refl, sym, ap, ◌∙◌, subst, arith, rules}
-use Rattle.std.specs.Prelude.{All, AllPairs, IsSome, unwrap_or, if◌then◌else◌, not, nat_le}
-use Rattle.std.specs.List.{find, list_any, filter_map}
+use Rattle.std.proofs.Common.{◌≡◌, ℕ, ◌+◌, Bool, true, false, ◌||◌, List, [], ◌∷◌, ◌++◌, length, Option, Some, None, Result, Ok, Err, refl, sym, ap, ◌∙◌, subst, arith, rules}
+use Rattle.std.specs.Prelude.{All, AllPairs, IsSome, unwrap_or, if◌then◌else◌}
+use Rattle.std.specs.List.{find}
 use Rattle.std.proofs.lemmas.Bool.{leb-false, ltb-false}
 use Rattle.std.proofs.lemmas.List.Elements.{All-head, All-tail}
 use Rattle.lsa_codec.specs.declared.key.Key.{Key}
@@ -15,19 +15,19 @@ use Rattle.lsdb.specs.Lists.{AreaHead, SectionLsas, Lists, IsBefore, IsDatabase,
 use Rattle.lsdb.specs.Places.{Place, Places, item_at, slot_at, put, update_at, open_at, lists_of, places_in, lsas_or_none, IsNamed}
 use Rattle.lsdb.proofs.Middle.{map_mid}
 use Rattle.lsdb.proofs.Slots.{slot_at-put, lists_of-open_at}
-use Rattle.lsdb.proofs.Added.{with_lsa, Fits, lists-new, added_safe, Split, split}
+use Rattle.lsdb.proofs.Added.{with_lsa, Fits, lists-new, added_safe, split}
 use Rattle.edit_script.specs.declared.edit.Edit.{Edit}
 use Rattle.edit_history.specs.declared.fault.EditFault.{EditFault}
 use Rattle.edit_history.specs.Rules.{stays, Rule, adding, kept_lsas, fated_changes, section_after, lists_after, Change, addition, section_name, section_changes, changes_by}
-use Rattle.edit_history.specs.Effect.{most_lsas, is_dump_full, is_full, room_for, has_room, added, rule_of, ◌>>=◌}
-use Rattle.edit_history.specs.Exchange.{SwapData, taken}
-use Rattle.edit_history.specs.Applied.{told, CarriesOut, Planned}
+use Rattle.edit_history.specs.Effect.{most_lsas, room_for, has_room, added, rule_of, ◌>>=◌}
+use Rattle.edit_history.specs.Exchange.{SwapData}
+use Rattle.edit_history.specs.Applied.{Planned}
 use Rattle.edit_history.specs.Plans.{Opens}
 use Rattle.edit_history.proofs.Keys.{found_passes, only_section, name_is}
 use Rattle.edit_history.proofs.Ruled.{Stays, all_stay, none_change, changes_mid}
 use Rattle.edit_history.proofs.Rooms.{IsRoom, is_room}
 use Rattle.edit_history.proofs.Searched.{none_found}
-use Rattle.edit_history.proofs.Follows.{Follows, carries, on_ok, on_err}
+use Rattle.edit_history.proofs.Follows.{Follows, carries}
 
 -- ---- what the rule leaves
 

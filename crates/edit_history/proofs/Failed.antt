@@ -1,5 +1,5 @@
 -- Links, networks and routers that fail: the fates are safe, and loops collect the swaps that carry them out.
-use Rattle.std.proofs.Common.{◌≡◌, ◌≢◌, ℕ, zero, suc, ◌+◌, ◌<◌, ◌≤◌, Bool, true, false, List, [], ◌∷◌, ◌++◌, length, drop, map, append_assoc, Option, Some, None, Result, Ok, Err, refl, sym, ap, ◌∙◌, subst, arith, rules, cond}
+use Rattle.std.proofs.Common.{◌≡◌, ℕ, zero, suc, ◌+◌, ◌<◌, ◌≤◌, Bool, true, false, List, [], ◌∷◌, ◌++◌, length, drop, append_assoc, Option, Some, None, Result, Ok, Err, refl, sym, ap, ◌∙◌, subst, arith, rules}
 use Rattle.std.specs.Prelude.{All, AllPairs, IsSome, option_to_list, if◌then◌else◌, ◌==◌}
 use Rattle.std.specs.List.{cons_option}
 use Rattle.std.proofs.lemmas.Bool.{eqb-true}
@@ -17,15 +17,15 @@ use Rattle.lsa_codec.specs.Making.{without_links, leads_to, leads_to_net}
 use Rattle.lsa_codec.proofs.Rewritten.{links_rewritten}
 use Rattle.lsdb.specs.declared.section.Section.{Section}
 use Rattle.lsdb.specs.declared.slot.SlotId.{SlotId}
-use Rattle.lsdb.specs.Lists.{AreaHead, SectionLsas, Lists, IsBefore, IsDatabase, heads_of, has_key, is_head_of, is_section}
+use Rattle.lsdb.specs.Lists.{AreaHead, SectionLsas, IsBefore, IsDatabase, heads_of, has_key, is_head_of, is_section}
 use Rattle.lsdb.specs.Places.{Place, Places, SectionPlaces, item_at, slot_at, section_of, lists_of, places_in, places_or_none, head_or_none, IsNamed}
 use Rattle.lsdb.proofs.Middle.{pairs_head, pairs_tail}
-use Rattle.edit_history.specs.Rules.{Fate, stays, removed, rewritten, Fates, by_fates, within, section_name}
+use Rattle.edit_history.specs.Rules.{Fate, stays, by_fates, within, section_name}
 use Rattle.edit_history.specs.Effect.{router_key, is_network, cut, link_fate, net_fate, router_fate}
 use Rattle.edit_history.specs.Exchange.{SwapData}
 use Rattle.edit_history.specs.Plans.{slot_of, swap_for, section_swaps, swaps_from, place_swap}
 use Rattle.edit_history.proofs.Keys.{same_key_true, found_passes, head_before, head_after, name_is}
-use Rattle.edit_history.proofs.Searched.{Here, here, place_there}
+use Rattle.edit_history.proofs.Searched.{here, place_there}
 use Rattle.edit_history.proofs.Follows.{Follows}
 use Rattle.edit_history.proofs.Walks.{IsSafeFate, IsSafe, walks_follow}
 

@@ -1,5 +1,5 @@
 -- The edits by which links, networks and routers fail: their refusals, and their rules.
-use Rattle.std.proofs.Common.{◌≡◌, ◌≢◌, ℕ, Bool, true, false, List, Option, Some, None, Result, Ok, Err, refl, sym, ap, ◌∙◌, subst}
+use Rattle.std.proofs.Common.{◌≡◌, ℕ, Bool, true, false, List, Option, Some, None, Result, Ok, Err, refl, sym, ap, ◌∙◌}
 use Rattle.std.specs.Prelude.{◌==◌, if◌then◌else◌}
 use Rattle.std.specs.List.{find}
 use Rattle.lsa_codec.specs.declared.address.Addr.{Addr}
@@ -9,7 +9,6 @@ use Rattle.lsdb.specs.declared.section.Section.TheVariants.{Area}
 use Rattle.lsdb.specs.declared.slot.SlotId.{SlotId}
 use Rattle.lsdb.specs.Lists.{SectionLsas, Lists, is_section, has_key, lsas_of}
 use Rattle.lsdb.specs.Places.{Places, lists_of, IsNamed}
-use Rattle.edit_script.specs.declared.edit.Edit.{Edit}
 use Rattle.edit_script.specs.declared.edit.Edit.TheVariants.{FailLink, FailNet, FailRouter}
 use Rattle.edit_history.specs.declared.fault.EditFault.{EditFault}
 use Rattle.edit_history.specs.declared.fault.EditFault.TheVariants.{NoArea, NoRouter, NoLink, SameRouter, NoNetwork}
@@ -17,7 +16,7 @@ use Rattle.edit_history.specs.Rules.{Rule, by_fates, within}
 use Rattle.edit_history.specs.Effect.{area_of, router_key, router_lsa_in, or_refused, has_router, is_network, are_linked, link_fate, net_fate, router_fate, rule_of, ◌>>=◌}
 use Rattle.edit_history.specs.Applied.{IsRefused}
 use Rattle.edit_history.specs.Plans.{IsFirst}
-use Rattle.edit_history.proofs.Finding.{no_area, has_area, named_there, no_router_in, router_in}
+use Rattle.edit_history.proofs.Finding.{no_area, has_area, named_there}
 use Rattle.edit_history.proofs.Follows.{refused_as, on_ok, on_err}
 
 -- ---- links between two routers

@@ -6,7 +6,7 @@ use Rattle.lsa_codec.specs.Fields.{kind_of}
 use Rattle.lsa_codec.specs.Key.{key_of}
 use Rattle.lsdb.specs.declared.section.Section.{Section}
 use Rattle.lsdb.specs.declared.slot.SlotId.{SlotId}
-use Rattle.lsdb.specs.Lists.{AreaHead, Lists, IsDatabase, IsSection, IsBefore, heads_of, is_section, is_head_of, has_key}
+use Rattle.lsdb.specs.Lists.{AreaHead, Lists, IsDatabase, IsSection, IsBefore, heads_of, is_section, is_head_of}
 use Rattle.lsdb.specs.Places.{Place, Places, slot_at, put, lists_of, IsNamed}
 use Rattle.lsdb.proofs.Slots.{slot_at-put}
 use Rattle.lsdb.proofs.Middle.{all_at_mid}
@@ -17,7 +17,7 @@ use Rattle.edit_history.specs.Effect.{rule_of}
 use Rattle.edit_history.specs.Exchange.{SwapData}
 use Rattle.edit_history.specs.Applied.{Planned}
 use Rattle.edit_history.proofs.Keys.{own_key, found_passes, only_key, only_section, name_is}
-use Rattle.edit_history.proofs.Ruled.{TouchesOne, fate_of, change_to, one_after, one_change}
+use Rattle.edit_history.proofs.Ruled.{TouchesOne, fate_of, one_after, one_change}
 use Rattle.edit_history.proofs.Follows.{Follows, planned_here}
 
 -- ---- the rule touches this LSA alone

@@ -1,6 +1,5 @@
 -- Summary-LSAs and AS-external-LSAs that are there: another metric, and removal.
-use Rattle.std.proofs.Common.{◌≡◌, ◌≢◌, ℕ, Bool, true, List, [], ◌∷◌, Option, Some, None, Result, Ok, Err, refl, sym, ap, ◌∙◌, subst}
-use Rattle.std.specs.Prelude.{◌==◌}
+use Rattle.std.proofs.Common.{◌≡◌, ℕ, true, List, [], ◌∷◌, Option, Some, None, Result, Ok, refl, sym, ap, ◌∙◌}
 use Rattle.std.specs.List.{find}
 use Rattle.std.proofs.lemmas.Bool.{and_parts, eqb-true}
 use Rattle.lsa_codec.specs.declared.address.AreaId.{AreaId}
@@ -14,7 +13,7 @@ use Rattle.lsa_codec.specs.Originating.{with_metric}
 use Rattle.lsdb.specs.declared.section.Section.{Section}
 use Rattle.lsdb.specs.declared.section.Section.TheVariants.{Area, AsWide}
 use Rattle.lsdb.specs.declared.slot.SlotId.{SlotId}
-use Rattle.lsdb.specs.Lists.{SectionLsas, Lists, IsDatabase, is_section, lsas_of}
+use Rattle.lsdb.specs.Lists.{Lists, IsDatabase, is_section, lsas_of}
 use Rattle.lsdb.specs.Places.{Places, lists_of, IsNamed}
 use Rattle.lsdb.proofs.Dominated.{put_safe}
 use Rattle.edit_script.specs.declared.edit.Edit.TheVariants.{Summary, DropExternal}

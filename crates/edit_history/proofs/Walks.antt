@@ -1,5 +1,5 @@
 -- Fates carried out place by place, from the first section to the last.
-use Rattle.std.proofs.Common.{◌≡◌, ℕ, zero, suc, ◌+◌, Bool, true, false, List, [], ◌∷◌, ◌++◌, length, map, append_assoc, length-append, Option, Some, None, refl, sym, ap, ◌∙◌, subst, arith}
+use Rattle.std.proofs.Common.{◌≡◌, ℕ, zero, suc, List, [], ◌∷◌, ◌++◌, length, map, append_assoc, length-append, Option, Some, None, refl, sym, ap, ◌∙◌, subst, arith}
 use Rattle.std.specs.Prelude.{All, IsSome, unwrap_or}
 use Rattle.std.specs.List.{filter_map, cons_option}
 use Rattle.lsa_codec.specs.Accepted.{IsAccepted}
@@ -7,8 +7,8 @@ use Rattle.lsa_codec.specs.Fields.{kind_of}
 use Rattle.lsa_codec.specs.Making.{IsRewriteOf}
 use Rattle.lsdb.specs.declared.section.Section.{Section}
 use Rattle.lsdb.specs.declared.slot.SlotId.{SlotId}
-use Rattle.lsdb.specs.Lists.{AreaHead, SectionLsas, Lists, IsSection, IsDatabase}
-use Rattle.lsdb.specs.Places.{Place, Places, SectionPlaces, item_at, slot_at, put, put_place, update_at, place_in, full, section_of, lists_of, IsPutSafe}
+use Rattle.lsdb.specs.Lists.{AreaHead, Lists, IsSection, IsDatabase}
+use Rattle.lsdb.specs.Places.{Place, Places, SectionPlaces, item_at, slot_at, put, put_place, full, section_of, lists_of, IsPutSafe}
 use Rattle.lsdb.proofs.Middle.{all_at_mid}
 use Rattle.lsdb.proofs.Dominated.{put_safe, section_with, full-cons, between}
 use Rattle.edit_history.specs.Rules.{Fate, stays, removed, rewritten, Fates, by_fates, Change, outcome, change_of, section_name, lists_after, section_after, changes_by}

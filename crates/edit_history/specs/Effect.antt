@@ -15,7 +15,7 @@ use Rattle.lsa_codec.specs.Making.{with_cost, without_link, without_links, leads
 use Rattle.lsa_codec.specs.Originating.{with_metric, new_summary, new_external}
 use Rattle.lsdb.specs.declared.section.Section.{Section}
 use Rattle.lsdb.specs.declared.section.Section.TheVariants.{Area, AsWide}
-use Rattle.lsdb.specs.Lists.{AreaHead, SectionLsas, Lists, is_section, has_key, lsas_of, limit_of, size, largest_text}
+use Rattle.lsdb.specs.Lists.{AreaHead, SectionLsas, Lists, is_section, has_key, lsas_of, size, largest_text}
 use Rattle.edit_script.specs.declared.edit.Edit.{Edit}
 use Rattle.edit_script.specs.declared.edit.Edit.TheVariants.{Cost, DropLink, FailLink, FailNet, FailRouter, AddStub, Summary, AddSummary, AddExternal, DropExternal}
 use Rattle.edit_script.specs.declared.edit.MetricType.{MetricType}

@@ -2,12 +2,11 @@ use Rattle.std.proofs.Common.{◌≡◌, true, false, sym, ◌∙◌, subst, rul
 use Rattle.std.specs.Prelude.{◌==◌}
 use Rattle.std.proofs.lemmas.Result.{err_from_is_err_and, IfOk-weaker, IfErr-weaker}
 use Rattle.lsdb.specs.declared.section.Section.TheVariants.{Area}
-use Rattle.lsdb.specs.Places.{lists_of, places_in}
+use Rattle.lsdb.specs.Places.{places_in}
 use Rattle.edit_script.specs.declared.edit.Edit.TheVariants.{FailLink}
 use Rattle.edit_history.specs.declared.fault.EditFault.{EditFault}
-use Rattle.edit_history.specs.declared.fault.EditFault.TheVariants.{OutOfMemory}
 use Rattle.edit_history.specs.Rules.{within}
-use Rattle.edit_history.specs.Effect.{router_key, link_fate, rule_of}
+use Rattle.edit_history.specs.Effect.{router_key, link_fate}
 use Rattle.edit_history.specs.Plans.{section_swaps}
 use Rattle.edit_history.specs.Applied.{IsRefused}
 use Rattle.edit_history.proofs.Finding.{kind_is}

@@ -1,5 +1,4 @@
 use Rattle.std.proofs.Common.{◌≡◌, ◌+◌, true, false, sym, ◌∙◌, subst, arith, rules}
-use Rattle.lsdb.specs.Places.{lists_of}
 use Rattle.edit_script.specs.declared.edit.Edit.TheVariants.{FailRouter}
 use Rattle.edit_history.specs.declared.fault.EditFault.{EditFault}
 use Rattle.edit_history.specs.Rules.{by_fates}

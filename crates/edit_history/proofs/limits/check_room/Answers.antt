@@ -1,4 +1,4 @@
-use Rattle.std.proofs.Common.{◌≡◌, true, false, sym, ◌∙◌, rules}
+use Rattle.std.proofs.Common.{sym, ◌∙◌}
 use Rattle.lsdb.specs.Places.{lists_of}
 use Rattle.edit_history.proofs.Searched.{key_placed}
 use Rattle.edit_history.proofs.Rooms.{taken, full, room}

@@ -1,4 +1,3 @@
-use Rattle.std.proofs.Common.{ap, ◌∙◌}
 use Rattle.std.proofs.lemmas.Result.{err_from_is_err_and}
 use Rattle.lsa_codec.specs.Making.{without_link}
 use Rattle.lsdb.specs.declared.section.Section.TheVariants.{Area}
