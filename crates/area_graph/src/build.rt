@@ -13,7 +13,7 @@ use crate::graph::Graph;
 use crate::links::add_edges;
 use crate::numbers::vertices;
 use crate::ties::ties;
-use crate::used::used;
+use crate::used::used_lsas;
 use lsa_codec::AreaId;
 use lsdb::{Database, Lsas, Section};
 use std::alloc::{AllocError, Allocator};
@@ -23,7 +23,7 @@ fn graph_of<A: Allocator + Copy>(alloc: A, lsas: Lsas<'_, A>) -> Result<Graph<A>
     requires { AreOfArea lsas }
     ensures { IfOk result (IsGraphOf lsas.entry) }
 {
-    let used = used(alloc, lsas)?;
+    let used = used_lsas(alloc, lsas)?;
     let vertices = vertices(alloc, &used)?;
     let ties = ties(alloc, &used)?;
     let mut draft = Draft::new(alloc, vertices)?;

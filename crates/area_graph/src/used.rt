@@ -10,9 +10,9 @@ use lsdb::Lsas;
 use std::alloc::{AllocError, Allocator};
 use std::marker::Model;
 
-/// The LSA of a vertex. Contracts see it as its octets.
+/// The LSA of a vertex of an area's graph. Contracts see it as its octets.
 #[derive(Drop)]
-pub(crate) struct VertexLsa<'a, A: Allocator> {
+pub struct VertexLsa<'a, A: Allocator> {
     lsa: &'a Lsa<A>,
 }
 
@@ -31,7 +31,8 @@ impl<'a, A: Allocator + Copy> VertexLsa<'a, A> {
         VertexLsa { lsa }
     }
 
-    pub(crate) fn lsa(&self) -> &'a Lsa<A>
+    /// The router-LSA or network-LSA.
+    pub fn lsa(&self) -> &'a Lsa<A>
         ensures { result.now ≡ self.now }
     {
         self.lsa
@@ -91,9 +92,14 @@ fn highest<'a, A: Allocator + Copy>(
 }
 
 /// The LSAs of an area that are in use, in their order: the live router-LSAs and, of the live
-/// network-LSAs of one Link State ID, the one with the greatest Advertising Router.
+/// network-LSAs of one Link State ID, the one with the greatest Advertising Router. They are those
+/// of the vertices of the area's graph, in the order of the vertices' numbers.
+///
+/// # Errors
+///
+/// Memory ran out.
 #[tactic(auto, unfolding(crate::specs::Area::used))]
-pub(crate) fn used<'a, A: Allocator + Copy>(
+pub fn used_lsas<'a, A: Allocator + Copy>(
     alloc: A,
     lsas: Lsas<'a, A>,
 ) -> Result<Vec<VertexLsa<'a, A>, A>, AllocError>

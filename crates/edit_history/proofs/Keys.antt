@@ -1,12 +1,16 @@
--- LSAs by their keys, and areas by their IDs.
+-- LSAs by their keys, and sections by their names.
 use Rattle.std.proofs.Common.{◌≡◌, ◌≢◌, ℕ, Bool, true, false, List, [], ◌∷◌, ◌++◌, map, Option, Some, None, refl, sym, ap, ◌∙◌, subst, arith, cond}
 use Rattle.std.specs.Prelude.{All, AllPairs}
 use Rattle.std.specs.List.{find}
-use Rattle.std.proofs.lemmas.Bool.{and_parts, eqb-true, ne_eqb}
+use Rattle.std.proofs.lemmas.Bool.{and_parts, and_from, eqb-true, eq-eqb, ne_eqb}
+use Rattle.lsa_codec.specs.declared.address.AreaId.{AreaId}
 use Rattle.lsa_codec.specs.declared.key.Key.{Key}
 use Rattle.lsa_codec.specs.Key.{key_of}
-use Rattle.lsdb.specs.Lists.{AreaHead, SectionLsas, Lists, same_key, has_key, has_id, IsBefore}
+use Rattle.lsdb.specs.declared.section.Section.{Section}
+use Rattle.lsdb.specs.declared.section.Section.TheVariants.{Area, AsWide}
+use Rattle.lsdb.specs.Lists.{AreaHead, SectionLsas, Lists, same_key, has_key, is_head_of, IsBefore}
 use Rattle.lsdb.proofs.Middle.{pairs_before, pairs_after, map_mid, all_map}
+use Rattle.edit_history.specs.Rules.{section_name}
 
 key_from : (k l i j a b : ℕ) → k ≡ l → i ≡ j → a ≡ b → let p : Key = record { kind = k; id = record { 0 = i }; adv = record { 0 = a } } in let q : Key = record { kind = l; id = record { 0 = j }; adv = record { 0 = b } } in p ≡ q
 key_from k l i j a b e f g = rw (e, f, g) refl
@@ -28,6 +32,11 @@ false_unless false h = refl
 pub other_key : (key : Key) (lsa : List ℕ) → key_of lsa ≢ key → has_key key lsa ≡ false
 other_key key lsa apart = false_unless (has_key key lsa) (λ e. apart (same_key_true (key_of lsa) key e))
 
+-- an LSA has its own key
+pub own_key : (key : Key) (lsa : List ℕ) → key_of lsa ≡ key → has_key key lsa ≡ true
+own_key key lsa same =
+    and_from _ _ (eq-eqb _ _ (ap (λ (k : Key). k.kind) same)) (and_from _ _ (eq-eqb _ _ (ap (λ (k : Key). k.id.0) same)) (eq-eqb _ _ (ap (λ (k : Key). k.adv.0) same)))
+
 -- what was found passes
 pub found_passes : {X : Type 0} (p : X → Bool) (xs : List X) (x : X) → find p xs ≡ Some x → p x ≡ true
 found_passes p [] x e = absurd cc
@@ -36,7 +45,7 @@ found_passes p (y ∷ ys) x e = by_test (p y) refl (found_passes p ys x) e where
   by_test true is more e = let same : y ≡ x = cc in ap p (sym same) ∙ is
   by_test false is more e = more e
 
--- ---- the only LSA of a key, the only area of an ID
+-- ---- the only LSA of a key, the only section of a name
 
 -- no LSA before it or after it has its key
 pub record IsOnly (p : List ℕ → Bool) (front back : List (List ℕ)) : Type 0 where
@@ -56,29 +65,39 @@ only_key key front back lsa distinct is =
       after = each (λ x. key_of lsa ≢ key_of x) (λ x. has_key key x ≡ false) back (λ x ne. other_key key x (λ e. ne (is ∙ sym e))) after;
     }
 
-id_before : (id : ℕ) (a b : Option AreaHead) → has_id id b ≡ true → IsBefore a b → has_id id a ≡ false
-id_before id None b has before = absurd before
-id_before id (Some a) None has before = absurd cc
-id_before id (Some a) (Some b) has before = let same : b.id ≡ id = eqb-true _ _ has in ne_eqb a.id id (λ e. omega (arith, e, same, before))
+pub head_before : (name : Section) (a b : Option AreaHead) → is_head_of name b ≡ true → IsBefore a b → is_head_of name a ≡ false
+head_before name None b has before = absurd before
+head_before AsWide (Some a) b has before = refl
+head_before (Area id) (Some a) None has before = absurd cc
+head_before (Area id) (Some a) (Some b) has before = let same : b.id ≡ id.0 = eqb-true _ _ has in ne_eqb a.id id.0 (λ e. omega (arith, e, same, before))
 
-id_after : (id : ℕ) (a b : Option AreaHead) → has_id id a ≡ true → IsBefore a b → has_id id b ≡ false
-id_after id None b has before = absurd before
-id_after id (Some a) None has before = refl
-id_after id (Some a) (Some b) has before = let same : a.id ≡ id = eqb-true _ _ has in ne_eqb b.id id (λ e. omega (arith, e, same, before))
+pub head_after : (name : Section) (a b : Option AreaHead) → is_head_of name a ≡ true → IsBefore a b → is_head_of name b ≡ false
+head_after name None b has before = absurd before
+head_after AsWide (Some a) b has before = absurd cc
+head_after (Area id) (Some a) None has before = refl
+head_after (Area id) (Some a) (Some b) has before = let same : a.id ≡ id.0 = eqb-true _ _ has in ne_eqb b.id id.0 (λ e. omega (arith, e, same, before))
 
 abbrev pub head_in : SectionLsas → Option AreaHead
 head_in s = s.area
 
-pub record IsOnlyArea (id : ℕ) (low high : Lists) : Type 0 where
-  pub below : All (λ (s : SectionLsas). has_id id s.area ≡ false) low
-  pub above : All (λ (s : SectionLsas). has_id id s.area ≡ false) high
+-- no section before it or after it has its name
+pub record IsOnlySection (name : Section) (low high : Lists) : Type 0 where
+  pub below : All (λ (s : SectionLsas). is_head_of name s.area ≡ false) low
+  pub above : All (λ (s : SectionLsas). is_head_of name s.area ≡ false) high
 
-pub only_area : (id : ℕ) (low high : Lists) (s : SectionLsas) → AllPairs IsBefore (map head_in (low ++ s ∷ high)) → has_id id s.area ≡ true → IsOnlyArea id low high
-only_area id low high s order has =
+pub only_section : (name : Section) (low high : Lists) (s : SectionLsas) → AllPairs IsBefore (map head_in (low ++ s ∷ high)) → is_head_of name s.area ≡ true → IsOnlySection name low high
+only_section name low high s order has =
     let apart : AllPairs IsBefore (map head_in low ++ s.area ∷ map head_in high) = subst (AllPairs IsBefore) (map_mid head_in low high s) order in
     let before = all_map (λ a. IsBefore a s.area) head_in low (pairs_before IsBefore (map head_in low) (map head_in high) s.area apart) in
     let after = all_map (λ a. IsBefore s.area a) head_in high (pairs_after IsBefore (map head_in low) (map head_in high) s.area apart) in
     record {
-      below = each (λ (t : SectionLsas). IsBefore t.area s.area) (λ (t : SectionLsas). has_id id t.area ≡ false) low (λ t b. id_before id t.area s.area has b) before;
-      above = each (λ (t : SectionLsas). IsBefore s.area t.area) (λ (t : SectionLsas). has_id id t.area ≡ false) high (λ t b. id_after id s.area t.area has b) after;
+      below = each (λ (t : SectionLsas). IsBefore t.area s.area) (λ (t : SectionLsas). is_head_of name t.area ≡ false) low (λ t b. head_before name t.area s.area has b) before;
+      above = each (λ (t : SectionLsas). IsBefore s.area t.area) (λ (t : SectionLsas). is_head_of name t.area ≡ false) high (λ t b. head_after name s.area t.area has b) after;
     }
+
+-- a section of that name is named so
+pub name_is : (name : Section) (head : Option AreaHead) → is_head_of name head ≡ true → name ≡ section_name head
+name_is AsWide None h = refl
+name_is AsWide (Some head) h = absurd cc
+name_is (Area area) None h = absurd cc
+name_is (Area area) (Some head) h = ap (λ (i : ℕ). let id : AreaId = record { 0 = i } in let s : Section = Area id in s) (sym (eqb-true _ _ h))

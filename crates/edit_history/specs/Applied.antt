@@ -20,6 +20,11 @@ pub record CarriesOut (d : Places) (edit : Edit) (swaps : List SwapData) : Type 
   pub leads : effect (lists_of d) edit ≡ Ok (lists_of (done_places d swaps))
   pub tells : changes (lists_of d) edit ≡ Ok (map (told (done_places d swaps)) (done_swaps d swaps))
 
+-- the swaps carry the edit out, once places were opened for them
+pub record Planned (d e : Places) (edit : Edit) (swaps : List SwapData) : Type 0 where
+  pub opens : Grown d e
+  pub carries : CarriesOut e edit swaps
+
 -- the edit led to this database; the swaps tell its changes, and take it back
 pub record TakesBack (e : Places) (edit : Edit) (swaps : List SwapData) : Type 0 where
   pub can : CanUndo e swaps

@@ -1,20 +1,29 @@
 -- The effect of an edit on a database: the first refusal, or the rule that it follows.
-use Rattle.std.specs.Prelude.{ℕ, ◌==◌, ◌&&◌, ◌||◌, Bool, false, List, Option, Some, None, Result, Ok, Err, if◌then◌else◌}
+use Rattle.std.specs.Prelude.{ℕ, ◌+◌, ◌==◌, ◌&&◌, ◌||◌, nat_le, nat_lt, Bool, true, false, List, length, Option, Some, None, Result, Ok, Err, if◌then◌else◌}
 use Rattle.std.specs.List.{list_any, find}
+use Rattle.lsa_codec.specs.declared.address.Addr.{Addr}
 use Rattle.lsa_codec.specs.declared.address.AreaId.{AreaId}
 use Rattle.lsa_codec.specs.declared.address.RouterId.{RouterId}
 use Rattle.lsa_codec.specs.declared.key.Key.{Key}
 use Rattle.lsa_codec.specs.declared.fault.MakeFault.{MakeFault}
-use Rattle.lsa_codec.specs.Making.{with_cost}
+use Rattle.lsa_codec.specs.Fields.{kind_of, link_state_id_of, advertising_router_of}
+use Rattle.lsa_codec.specs.Key.{key_of}
+use Rattle.lsa_codec.specs.Links.{links_of}
+use Rattle.lsa_codec.specs.Prefix.{Net}
+use Rattle.lsa_codec.specs.Views.{net_of_lsa}
+use Rattle.lsa_codec.specs.Making.{with_cost, without_link, without_links, leads_to, leads_to_net, with_stub}
+use Rattle.lsa_codec.specs.Originating.{with_metric, new_summary, new_external}
 use Rattle.lsdb.specs.declared.section.Section.{Section}
 use Rattle.lsdb.specs.declared.section.Section.TheVariants.{Area, AsWide}
-use Rattle.lsdb.specs.Lists.{Lists, has_id, is_section, has_key}
+use Rattle.lsdb.specs.Lists.{AreaHead, SectionLsas, Lists, is_section, has_key, lsas_of, size, largest_text}
 use Rattle.edit_script.specs.declared.edit.Edit.{Edit}
-use Rattle.edit_script.specs.declared.edit.Edit.TheVariants.{Cost}
+use Rattle.edit_script.specs.declared.edit.Edit.TheVariants.{Cost, DropLink, FailLink, FailNet, FailRouter, AddStub, Summary, AddSummary, AddExternal, DropExternal}
+use Rattle.edit_script.specs.declared.edit.MetricType.{MetricType}
+use Rattle.edit_script.specs.declared.edit.MetricType.TheVariants.{Type1, Type2}
 use Rattle.edit_history.specs.declared.fault.EditFault.{EditFault}
-use Rattle.edit_history.specs.declared.fault.EditFault.TheVariants.{NoArea, NoRouter}
+use Rattle.edit_history.specs.declared.fault.EditFault.TheVariants.{NoArea, NoRouter, NoLink, SameRouter, NoNetwork, NoSummary, NoExternal, KeyTaken, Full}
 use Rattle.edit_history.specs.Fault.{fault_of}
-use Rattle.edit_history.specs.Rules.{Rule, stays, rewritten, lists_after, Change, changes_by}
+use Rattle.edit_history.specs.Rules.{Fate, stays, removed, rewritten, Rule, by_fates, within, one_lsa, adding, lists_after, Change, changes_by}
 
 -- ---- refusals
 
@@ -33,28 +42,164 @@ abbrev pub made : Result (List ℕ) MakeFault → Result (List ℕ) EditFault
 made (Ok lsa) = Ok lsa
 made (Err fault) = Err (fault_of fault)
 
--- ---- the edits
+-- the area, or the refusal
+abbrev pub area_of : Lists → AreaId → Result SectionLsas EditFault
+area_of db area = or_refused NoArea (find (is_section (Area area)) db)
 
 -- the Link State ID of a router-LSA is its router's ID (RFC 2328, 12.1.4)
 abbrev pub router_key : ℕ → Key
 router_key router = record { kind = 1; id = record { 0 = router }; adv = record { 0 = router } }
 
 -- the router-LSA of a router in an area, or the refusal
+abbrev pub router_lsa_in : SectionLsas → RouterId → Result (List ℕ) EditFault
+router_lsa_in section router = or_refused NoRouter (find (has_key (router_key router.0)) section.lsas)
+
 abbrev pub router_lsa_of : Lists → AreaId → RouterId → Result (List ℕ) EditFault
 router_lsa_of db area router = do
-  section ← or_refused NoArea (find (is_section (Area area)) db)
-  or_refused NoRouter (find (has_key (router_key router.0)) section.lsas)
+  section ← area_of db area
+  router_lsa_in section router
 
--- the LSA of a key in an area gets other octets
-abbrev pub rewriting : ℕ → Key → List ℕ → Rule
-rewriting area key new = λ head lsa. if has_id area head && has_key key lsa then rewritten new else stays
+abbrev pub is_in_section : RouterId → SectionLsas → Bool
+is_in_section router section = list_any (has_key (router_key router.0)) section.lsas
+
+-- whether a router originated a router-LSA for any area
+abbrev pub has_router : RouterId → Lists → Bool
+has_router router db = list_any (is_in_section router) db
+
+-- ---- limits
+
+-- the octets of a link without TOS metrics (RFC 2328, A.4.2)
+abbrev pub stub_octets : ℕ
+stub_octets = 12
+
+-- whether the dump would be too long with so many octets more
+abbrev pub is_dump_full : Lists → ℕ → Bool
+is_dump_full db more = nat_lt largest_text (size db + more)
+
+-- the most LSAs that a section holds
+abbrev pub most_lsas : Section → ℕ
+most_lsas (Area id) = 8192
+most_lsas AsWide = 65535
+
+-- whether a section or the dump would pass its limit with an LSA more, of so many octets
+abbrev pub is_full : Lists → Section → ℕ → Bool
+is_full db name octets = nat_le (most_lsas name) (length (lsas_of name db)) || is_dump_full db octets
+
+-- ---- LSAs that are made anew
+
+-- a router-LSA is made anew
+abbrev pub remaking : Lists → AreaId → RouterId → (List ℕ → Result (List ℕ) MakeFault) → Result Rule EditFault
+remaking db area router make = do
+  lsa ← router_lsa_of db area router
+  new ← made (make lsa)
+  Ok (one_lsa (Area area) (router_key router.0) (rewritten new))
+
+-- the prefix of a summary-LSA of type 3 or of an AS-external-LSA; others have none
+abbrev pub prefix_of : List ℕ → Option Net
+prefix_of lsa = if (kind_of lsa == 3) || (kind_of lsa == 5) then Some (net_of_lsa lsa) else None
+
+abbrev pub is_prefix : Net → Option Net → Bool
+is_prefix net None = false
+is_prefix net (Some other) = (other.addr.0 == net.addr.0) && (other.len == net.len)
+
+-- an LSA of this type that a router originated for a prefix
+abbrev pub is_for : ℕ → RouterId → Net → List ℕ → Bool
+is_for kind router net lsa = (kind_of lsa == kind) && ((advertising_router_of lsa == router.0) && is_prefix net (prefix_of lsa))
+
+-- ---- failures
+
+-- the Link State ID of a network-LSA is the address of its Designated Router (RFC 2328, 12.1.4)
+abbrev pub is_network : Addr → List ℕ → Bool
+is_network network lsa = (kind_of lsa == 2) && (link_state_id_of lsa == network.0)
+
+-- a router-LSA without the links that go; where it has none of them it stays as it is
+abbrev pub cut : Result (List ℕ) MakeFault → Fate
+cut (Ok new) = rewritten new
+cut (Err fault) = stays
+
+-- the point-to-point links between two routers go, on both sides
+abbrev pub link_fate : RouterId → RouterId → List ℕ → Fate
+link_fate router neighbor lsa =
+    if has_key (router_key router.0) lsa then cut (without_links (leads_to neighbor) lsa) else
+    if has_key (router_key neighbor.0) lsa then cut (without_links (leads_to router) lsa) else stays
+
+-- the network-LSAs of a network go, and all links to it
+abbrev pub net_fate : Addr → List ℕ → Fate
+net_fate network lsa =
+    if is_network network lsa then removed else
+    if kind_of lsa == 1 then cut (without_links (leads_to_net network) lsa) else stays
+
+-- all LSAs of a router go
+abbrev pub router_fate : RouterId → List ℕ → Fate
+router_fate router lsa = if advertising_router_of lsa == router.0 then removed else stays
+
+-- whether one of two router-LSAs has a point-to-point link to the other's router
+abbrev pub are_linked : RouterId → RouterId → List ℕ → List ℕ → Bool
+are_linked router neighbor lsa other = list_any (leads_to neighbor) (links_of lsa) || list_any (leads_to router) (links_of other)
+
+-- ---- new LSAs
+
+-- bit E, which says that an area takes AS-external-LSAs, is clear in stub areas alone (RFC 2328, A.2)
+abbrev pub is_stub : Option AreaHead → Bool
+is_stub None = false
+is_stub (Some area) = area.is_stub
+
+abbrev pub options_in : Option AreaHead → ℕ
+options_in area = if is_stub area then 0 else 2
+
+abbrev pub is_type2 : MetricType → Bool
+is_type2 Type1 = false
+is_type2 Type2 = true
+
+abbrev pub has_room : Result (Unit {0}) EditFault
+has_room = Ok tt
+
+-- whether a section has room for a new LSA of a key, of so many octets, or the refusal
+abbrev pub room_for : Lists → Section → Key → ℕ → Result (Unit {0}) EditFault
+room_for db name key octets =
+    if list_any (has_key key) (lsas_of name db) then Err KeyTaken else
+    if is_full db name octets then Err Full else has_room
+
+-- a new LSA at the end of a section
+abbrev pub added : Lists → Section → List ℕ → Result Rule EditFault
+added db name new = do
+  room ← room_for db name (key_of new) (length new)
+  Ok (adding name new)
+
+-- ---- the edits
 
 -- the first refusal of an edit, or its rule
 unfoldable pub rule_of : Lists → Edit → Result Rule EditFault
-rule_of db (Cost area router link metric) = do
+rule_of db (Cost area router link metric) = remaking db area router (with_cost link metric)
+rule_of db (DropLink area router link) = remaking db area router (without_link link)
+rule_of db (FailLink area router neighbor) = do
+  section ← area_of db area
+  if router.0 == neighbor.0 then Err SameRouter else do
+    lsa ← router_lsa_in section router
+    other ← router_lsa_in section neighbor
+    if are_linked router neighbor lsa other then Ok (within (Area area) (link_fate router neighbor)) else Err NoLink
+rule_of db (FailNet area network) = do
+  section ← area_of db area
+  lsa ← or_refused NoNetwork (find (is_network network) section.lsas)
+  Ok (within (Area area) (net_fate network))
+rule_of db (FailRouter router) = if has_router router db then Ok (by_fates (λ head. router_fate router)) else Err NoRouter
+rule_of db (AddStub area router prefix metric) = do
   lsa ← router_lsa_of db area router
-  new ← made (with_cost link metric lsa)
-  Ok (rewriting area.0 (router_key router.0) new)
+  new ← made (with_stub prefix metric lsa)
+  if is_dump_full db stub_octets then Err Full else Ok (one_lsa (Area area) (router_key router.0) (rewritten new))
+rule_of db (Summary area router prefix metric) = do
+  section ← area_of db area
+  lsa ← or_refused NoSummary (find (is_for 3 router prefix) section.lsas)
+  Ok (one_lsa (Area area) (key_of lsa) (rewritten (with_metric metric lsa)))
+rule_of db (AddSummary area router prefix metric) = do
+  section ← area_of db area
+  lsa ← router_lsa_in section router
+  added db (Area area) (new_summary (options_in section.area) router prefix metric)
+rule_of db (AddExternal router prefix metric_type metric forward tag) =
+    if has_router router db then added db AsWide (new_external router prefix (is_type2 metric_type) metric forward tag) else Err NoRouter
+rule_of db (DropExternal router prefix) = do
+  lsa ← or_refused NoExternal (find (is_for 5 router prefix) (lsas_of AsWide db))
+  Ok (one_lsa AsWide (key_of lsa) removed)
 
 -- the database after an edit, or its refusal
 abbrev pub effect : Lists → Edit → Result Lists EditFault

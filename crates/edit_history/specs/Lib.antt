@@ -5,5 +5,6 @@ pub mod Exchange
 pub mod Grown
 pub mod Applied
 pub mod Plans
+pub mod Failing
 pub mod Journal
 pub mod Session

@@ -1,15 +1,66 @@
--- What a plan finds before anything is exchanged.
-use Rattle.std.specs.Prelude.{◌≡◌, ℕ, List, Some}
-use Rattle.std.specs.List.{find}
-use Rattle.lsa_codec.specs.declared.address.AreaId.{AreaId}
-use Rattle.lsa_codec.specs.declared.key.Key.{Key}
-use Rattle.lsdb.specs.declared.section.Section.TheVariants.{Area}
+-- What a plan finds before anything is exchanged, and the swaps that carry fates out.
+use Rattle.std.specs.Prelude.{◌≡◌, ℕ, suc, Bool, false, List, [], ◌∷◌, ◌++◌, Option, Some, None}
+use Rattle.std.specs.List.{find, cons_option}
+use Rattle.lsa_codec.specs.Fields.{kind_of}
+use Rattle.lsdb.specs.declared.section.Section.{Section}
 use Rattle.lsdb.specs.declared.slot.SlotId.{SlotId}
-use Rattle.lsdb.specs.Lists.{is_section, has_key}
-use Rattle.lsdb.specs.Places.{Places, item_at, slot_at, lists_of, lsas_in}
+use Rattle.lsdb.specs.Lists.{lsas_of}
+use Rattle.lsdb.specs.Places.{Place, Places, slot_at, lists_of, IsNamed, OpensPlace}
+use Rattle.edit_history.specs.declared.lookup.Wanted.{Wanted}
+use Rattle.edit_history.specs.declared.lookup.Wanted.TheVariants as wanted
+use Rattle.edit_history.specs.Rules.{Fate, stays, removed, rewritten, Fates, section_name}
+use Rattle.edit_history.specs.Effect.{is_network, is_for}
+use Rattle.edit_history.specs.Exchange.{SwapData}
 
--- the LSA of a key in an area, and its place
-pub record IsLsaAt (d : Places) (area : AreaId) (key : Key) (slot : SlotId) (lsa : List ℕ) : Type 0 where
-  pub section : item_at (lists_of d) slot.section ≡ find (is_section (Area area)) (lists_of d)
-  pub first : find (has_key key) (lsas_in d slot.section) ≡ Some lsa
+-- the first LSA of a section that passes a test, and its place
+pub record IsFirst (d : Places) (name : Section) (test : List ℕ → Bool) (slot : SlotId) (lsa : List ℕ) : Type 0 where
+  pub named : IsNamed d name slot.section
+  pub first : find test (lsas_of name (lists_of d)) ≡ Some lsa
   pub held : slot_at d slot ≡ Some (Some lsa)
+
+-- the test that an LSA passes that is looked for by more than its key
+abbrev pub is_wanted : Wanted → List ℕ → Bool
+is_wanted (wanted.Network network) lsa = is_network network lsa
+is_wanted (wanted.Summary router prefix) lsa = is_for 3 router prefix lsa
+is_wanted (wanted.External router prefix) lsa = is_for 5 router prefix lsa
+
+-- whether an LSA stands at a place and passes a test
+abbrev pub passes : (List ℕ → Bool) → Option Place → Bool
+passes test None = false
+passes test (Some None) = false
+passes test (Some (Some lsa)) = test lsa
+
+-- ---- the swaps that carry fates out, by section and place
+
+abbrev pub swap_for : SlotId → Section → List ℕ → Fate → Option SwapData
+swap_for slot name lsa stays = None
+swap_for slot name lsa removed = Some (record { slot = slot; section = name; kind = kind_of lsa; other = None })
+swap_for slot name lsa (rewritten new) = Some (record { slot = slot; section = name; kind = kind_of lsa; other = Some new })
+
+abbrev pub slot_of : ℕ → ℕ → SlotId
+slot_of section index = record { section = section; index = index }
+
+-- the swaps of the places of a section from an index on
+abbrev pub section_swaps : (List ℕ → Fate) → ℕ → Section → ℕ → List Place → List SwapData
+section_swaps fate section name i [] = []
+section_swaps fate section name i (None ∷ ps) = section_swaps fate section name (suc i) ps
+section_swaps fate section name i (Some lsa ∷ ps) = cons_option (swap_for (slot_of section i) name lsa (fate lsa)) (section_swaps fate section name (suc i) ps)
+
+-- the swaps of the sections from a number on
+abbrev pub swaps_from : Fates → ℕ → Places → List SwapData
+swaps_from fates section [] = []
+swaps_from fates section (s ∷ ss) = section_swaps (fates s.area) section (section_name s.area) 0 s.places ++ swaps_from fates (suc section) ss
+
+-- the swap that carries a fate out at a place
+abbrev pub place_swap : (List ℕ → Fate) → SlotId → Section → Option Place → Option SwapData
+place_swap fate slot name None = None
+place_swap fate slot name (Some None) = None
+place_swap fate slot name (Some (Some lsa)) = swap_for slot name lsa (fate lsa)
+
+-- ---- new LSAs
+
+-- a place was opened at the end of a section, and the only swap fills it with a new LSA
+pub record Opens (d e : Places) (name : Section) (lsa : List ℕ) (swaps : List SwapData) : Type 0 where
+  pub slot : SlotId
+  pub opens : OpensPlace d e name slot
+  pub swap : swaps ≡ (record { slot = slot; section = name; kind = kind_of lsa; other = Some lsa }) ∷ []

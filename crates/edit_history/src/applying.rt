@@ -12,12 +12,20 @@ use std::alloc::Allocator;
 
 /// Carries an edit out, and answers its record.
 ///
-/// The first refusal in the order of [`EditFault`] is answered: for an edit of a cost
-/// [`NoArea`](EditFault::NoArea), [`NoRouter`](EditFault::NoRouter),
-/// [`NoLink`](EditFault::NoLink), then [`ZeroCost`](EditFault::ZeroCost).
+/// The first refusal is answered. These are tested, in this order:
+///
+/// - a cost: `NoArea`, `NoRouter`, `NoLink`, `ZeroCost`; a link that is dropped: `NoArea`,
+///   `NoRouter`, `NoLink`;
+/// - links between two routers that fail: `NoArea`, `SameRouter`, `NoRouter` for either, `NoLink`;
+///   a network that fails: `NoArea`, `NoNetwork`; a router that fails: `NoRouter`;
+/// - a new stub link: `NoArea`, `NoRouter`, `TooLong`, `Full`;
+/// - another metric of a summary: `NoArea`, `NoSummary`; a new summary: `NoArea`, `NoRouter`,
+///   `KeyTaken`, `Full`;
+/// - a new AS-external-LSA: `NoRouter`, `KeyTaken`, `Full`; one that is dropped: `NoExternal`.
+///
 /// [`OutOfMemory`](EditFault::OutOfMemory) comes only for an edit that would be carried out, where
-/// memory ran out. All memory is taken before the first LSA is exchanged, and after a refusal the
-/// database is as it was.
+/// memory ran out. All memory is taken, and a place for a new LSA is opened, before the first LSA
+/// is exchanged; after a refusal the database is as it was, place for place.
 pub fn apply<A: Allocator + Copy>(
     database: &mut Database<A>,
     edit: &Edit,
@@ -26,7 +34,7 @@ pub fn apply<A: Allocator + Copy>(
     ensures refused { IfErr result (λ f. IsRefused database.old edit.now f) }
     ensures kept { OnErr result (database.new ≡ database.old) }
 {
-    let swaps = plan(&*database, edit)?;
+    let swaps = plan(database, edit)?;
     database.known();
     Ok(Record::carry_out(database, *edit, swaps))
 }

@@ -7,11 +7,15 @@
 #![tactic(auto)]
 
 mod applying;
+mod failures;
 mod fault;
 mod history;
 mod laws;
+mod limits;
+mod links;
 mod lookup;
 mod planning;
+mod prefixes;
 mod record;
 mod swap;
 
@@ -20,3 +24,6 @@ pub use fault::{EditFault, RedoFault, UndoFault};
 pub use history::History;
 pub use laws::{changes_told, folded, inverses, moves};
 pub use record::{Record, replay, revert};
+
+#[cfg(test)]
+mod tests;

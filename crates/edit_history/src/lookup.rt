@@ -1,20 +1,91 @@
 //! The LSAs that an edit names, or its refusal where there are none.
 
-ghost use Rattle.std.specs.Prelude.{◌≡◌, IfOk, IfErr, Err};
-ghost use Rattle.lsdb.specs.Places.{lists_of};
-ghost use Rattle.edit_history.specs.Effect.{router_key, router_lsa_of};
-ghost use Rattle.edit_history.specs.Plans.{IsLsaAt};
+ghost use Rattle.std.specs.Prelude.{◌≡◌, Some, None, Err, IsSome, MatchOption, IfOk, IfErr};
+ghost use Rattle.std.specs.List.{find, list_any};
+ghost use Rattle.lsdb.specs.declared.section.Section.TheVariants.{Area};
+ghost use Rattle.lsdb.specs.Lists.{is_section, has_key, lsas_of};
+ghost use Rattle.lsdb.specs.Places.{item_at, slot_at, lists_of, lsas_in, IsNamed};
+ghost use Rattle.edit_history.specs.declared.fault.EditFault.TheVariants.{NoArea, NoRouter};
+ghost use Rattle.edit_history.specs.Effect.{router_key, router_lsa_of, has_router, prefix_of, is_prefix, is_for};
+ghost use Rattle.edit_history.specs.Plans.{IsFirst, is_wanted, passes};
 
 use crate::fault::EditFault;
-use lsa_codec::{Addr, AreaId, Key, Lsa, RouterId};
+use lsa_codec::{Addr, AreaId, Key, Lsa, Prefix, RouterId};
 use lsdb::{Database, Section, SlotId};
 use std::alloc::Allocator;
 
 /// The LS type of router-LSAs (RFC 2328, A.4.1).
 pub const ROUTER_LSA: u8 = 1;
 
+/// The LS type of network-LSAs.
+pub const NETWORK_LSA: u8 = 2;
+
+/// The LS type of summary-LSAs for networks.
+pub const SUMMARY_LSA: u8 = 3;
+
+/// The LS type of AS-external-LSAs.
+pub const EXTERNAL_LSA: u8 = 5;
+
+/// An LSA that is looked for by more than its key.
+#[derive(Clone, Copy)]
+pub enum Wanted {
+    /// A network-LSA of the network whose Designated Router has this address.
+    Network(Addr),
+    /// A summary-LSA of type 3 of a router for a prefix.
+    Summary(RouterId, Prefix),
+    /// An AS-external-LSA of a router for a prefix.
+    External(RouterId, Prefix),
+}
+
+impl Wanted {
+    /// Whether an LSA is one that is looked for.
+    fn is_met_by<A: Allocator + Copy>(&self, lsa: &Lsa<A>) -> bool
+        ensures { result ≡ is_wanted self.now lsa.now }
+    {
+        match *self {
+            Wanted::Network(network) => {
+                let key = lsa.key();
+                key.kind == NETWORK_LSA && key.id == network
+            }
+            Wanted::Summary(router, prefix) => is_for(lsa, SUMMARY_LSA, router, prefix),
+            Wanted::External(router, prefix) => is_for(lsa, EXTERNAL_LSA, router, prefix),
+        }
+    }
+}
+
+/// The prefix of a summary-LSA of type 3 or of an AS-external-LSA. Others have none.
+fn prefix_of<A: Allocator + Copy>(lsa: &Lsa<A>) -> Option<Prefix>
+    ensures { result ≡ prefix_of lsa.now }
+{
+    if let Some(summary) = lsa.summary() {
+        return summary.net();
+    }
+    let Some(external) = lsa.external() else {
+        return None;
+    };
+    Some(external.net())
+}
+
+/// Whether an LSA has this prefix.
+fn is_prefix<A: Allocator + Copy>(lsa: &Lsa<A>, prefix: Prefix) -> bool
+    ensures { result ≡ is_prefix prefix (prefix_of lsa.now) }
+{
+    let Some(other) = prefix_of(lsa) else {
+        return false;
+    };
+    other.addr() == prefix.addr() && other.len() == prefix.len()
+}
+
+/// Whether an LSA is of this type, and a router originated it for a prefix.
+fn is_for<A: Allocator + Copy>(lsa: &Lsa<A>, kind: u8, router: RouterId, prefix: Prefix) -> bool
+    ensures { result ≡ is_for kind router prefix lsa.now }
+{
+    let key = lsa.key();
+    key.kind == kind && key.adv == router && is_prefix(lsa, prefix)
+}
+
 /// The key of a router's router-LSA (RFC 2328, 12.1.4).
-fn router_key(router: RouterId) -> Key
+pub fn router_key(router: RouterId) -> Key
     ensures { result ≡ router_key router.0 }
 {
     Key {
@@ -24,23 +95,120 @@ fn router_key(router: RouterId) -> Key
     }
 }
 
-/// The router-LSA that a router originated for an area (RFC 2328, 12.4.1), and its place.
-pub fn router_lsa<A: Allocator + Copy>(
+/// The number of an area's section.
+pub fn area_section<A: Allocator + Copy>(
     database: &Database<A>,
     area: AreaId,
-    router: RouterId,
-) -> Result<(SlotId, &Lsa<A>), EditFault>
-    ensures found { IfOk result (λ found. IsLsaAt database.now area (router_key router.0) found.0 found.1.now) }
-    ensures refused { IfErr result (λ fault. router_lsa_of (lists_of database.now) area router ≡ Err fault) }
+) -> Result<usize, EditFault>
+    ensures found { IfOk result (λ section. IsNamed database.now (Area area) section) }
+    ensures refused { IfErr result (λ fault. (fault ≡ NoArea) × (find (is_section (Area area)) (lists_of database.now) ≡ None)) }
 {
     let Some(section) = database.index_of(Section::Area(area)) else {
         return Err(EditFault::NoArea);
     };
-    let Some(slot) = database.find_in(section, router_key(router)) else {
+    Ok(section)
+}
+
+/// The router-LSA that a router originated for an area that is there (RFC 2328, 12.4.1), and its
+/// place.
+pub fn router_lsa_in<A: Allocator + Copy>(
+    database: &Database<A>,
+    area: AreaId,
+    router: RouterId,
+) -> Result<(SlotId, &Lsa<A>), EditFault>
+    ensures found { IfOk result (λ found. IsFirst database.now (Area area) (has_key (router_key router.0)) found.0 found.1.now) }
+    ensures refused { IfErr result (λ fault. (fault ≡ NoRouter) × (find (has_key (router_key router.0)) (lsas_of (Area area) (lists_of database.now)) ≡ None)) }
+{
+    let Some(slot) = database.find(Section::Area(area), router_key(router)) else {
         return Err(EditFault::NoRouter);
     };
     let Some(lsa) = database.get(slot) else {
         return Err(EditFault::NoRouter);
     };
     Ok((slot, lsa))
+}
+
+/// The router-LSA that a router originated for an area (RFC 2328, 12.4.1), and its place.
+pub fn router_lsa<A: Allocator + Copy>(
+    database: &Database<A>,
+    area: AreaId,
+    router: RouterId,
+) -> Result<(SlotId, &Lsa<A>), EditFault>
+    ensures found { IfOk result (λ found. IsFirst database.now (Area area) (has_key (router_key router.0)) found.0 found.1.now) }
+    ensures refused { IfErr result (λ fault. router_lsa_of (lists_of database.now) area router ≡ Err fault) }
+{
+    area_section(database, area)?;
+    router_lsa_in(database, area, router)
+}
+
+/// Whether a router originated a router-LSA that stands in a section, by the section's number.
+fn is_in_section<A: Allocator + Copy>(
+    database: &Database<A>,
+    section: usize,
+    router: RouterId,
+) -> bool
+    requires { IsSome (item_at (lists_of database.now) section) }
+    ensures { result ≡ list_any (has_key (router_key router.0)) (lsas_in database.now section) }
+{
+    database.find_in(section, router_key(router)).is_some()
+}
+
+/// Whether a router originated a router-LSA for any area.
+pub fn has_router<A: Allocator + Copy>(database: &Database<A>, router: RouterId) -> bool
+    ensures { result ≡ has_router router (lists_of database.now) }
+{
+    for section in 0..database.section_count() {
+        if is_in_section(database, section, router) {
+            return true;
+        }
+    }
+    false
+}
+
+/// Whether an LSA that is looked for stands at a place.
+fn is_wanted_at<A: Allocator + Copy>(database: &Database<A>, slot: SlotId, wanted: &Wanted) -> bool
+    ensures { result ≡ passes (is_wanted wanted.now) (slot_at database.now slot) }
+{
+    let Some(lsa) = database.get(slot) else {
+        return false;
+    };
+    wanted.is_met_by(lsa)
+}
+
+/// The place of the first LSA of a section that is looked for, by the section's number.
+fn first_in<A: Allocator + Copy>(
+    database: &Database<A>,
+    section: usize,
+    wanted: &Wanted,
+) -> Option<SlotId>
+    requires { IsSome (item_at database.now section) }
+    ensures { MatchOption result (find (is_wanted wanted.now) (lsas_in database.now section) ≡ None) (λ slot. (slot.section ≡ section) × (slot_at database.now slot ≡ Some (find (is_wanted wanted.now) (lsas_in database.now section))) × IsSome (find (is_wanted wanted.now) (lsas_in database.now section))) }
+{
+    for index in 0..database.place_count(section) {
+        let slot = SlotId { section, index };
+        if is_wanted_at(database, slot, wanted) {
+            return Some(slot);
+        }
+    }
+    None
+}
+
+/// The first LSA of a section that is looked for, and its place.
+pub fn first<'a, A: Allocator + Copy>(
+    database: &'a Database<A>,
+    section: Section,
+    wanted: &Wanted,
+) -> Option<(SlotId, &'a Lsa<A>)>
+    ensures { MatchOption result (find (is_wanted wanted.now) (lsas_of section (lists_of database.now)) ≡ None) (λ found. IsFirst database.now section (is_wanted wanted.now) found.0 found.1.now) }
+{
+    let Some(index) = database.index_of(section) else {
+        return None;
+    };
+    let Some(slot) = first_in(database, index, wanted) else {
+        return None;
+    };
+    let Some(lsa) = database.get(slot) else {
+        return None;
+    };
+    Some((slot, lsa))
 }

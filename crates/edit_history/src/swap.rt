@@ -1,6 +1,6 @@
 //! One place that an edit changes, and what the database lacks of it.
 
-ghost use Rattle.std.specs.Prelude.{◌≡◌, IsSome};
+ghost use Rattle.std.specs.Prelude.{◌≡◌, ◌∷◌, [], IsSome, IfOk};
 ghost use Rattle.lsdb.specs.Lists.{IsDatabase};
 ghost use Rattle.lsdb.specs.Places.{put, slot_at, lists_of};
 ghost use Rattle.edit_history.specs.Effect.{is_of_graph};
@@ -8,7 +8,7 @@ ghost use Rattle.edit_history.specs.Exchange.{CanDo, CanUndo, taken, done_places
 
 use lsa_codec::{AreaId, Lsa};
 use lsdb::{Database, Section, SlotId};
-use std::alloc::{Allocator, Global};
+use std::alloc::{AllocError, Allocator, Global};
 use std::marker::Model;
 
 /// A place, the section and the LS type of the LSA that stands there or stood there, and what the
@@ -61,6 +61,15 @@ impl<A: Allocator + Copy> Swap<A> {
     {
         database.swap(self.slot, &mut self.other);
     }
+}
+
+/// A single swap.
+pub fn one_swap<A: Allocator + Copy>(alloc: A, swap: Swap<A>) -> Result<Vec<Swap<A>, A>, AllocError>
+    ensures { IfOk result (λ v. v.items ≡ swap ∷ []) }
+{
+    let mut swaps = Vec::with_capacity(alloc, 1)?;
+    swaps.push(swap)?;
+    Ok(swaps)
 }
 
 /// Does swaps, from the first to the last.

@@ -1,6 +1,6 @@
--- Numbers and addresses that are written are read again.
-use Rattle.std.proofs.Common.{◌≡◌, ℕ, ◌+◌, ◌/◌, ◌%◌, ◌^◌, ◌<◌, ◌≤◌, Bool, true, false, eqb, ltb, leb, List, [], ◌∷◌, ◌++◌, length, get_or, length-append, Some, None, refl, ap, ◌∙◌, arith, rules, inl, inr}
-use Rattle.std.specs.Prelude.{decimal, not, ◌&&◌, ◌||◌}
+-- Numbers, addresses and prefixes that are written are read again.
+use Rattle.std.proofs.Common.{◌≡◌, ℕ, ◌+◌, ◌/◌, ◌%◌, ◌^◌, ◌<◌, ◌≤◌, Bool, true, false, eqb, ltb, leb, List, [], ◌∷◌, ◌++◌, length, get_or, length-append, append_assoc, Some, None, refl, sym, ap, subst, ◌∙◌, arith, rules, inl, inr}
+use Rattle.std.specs.Prelude.{decimal, codes, not, ◌&&◌, ◌||◌}
 use Rattle.std.specs.List.{slice_split, join_with_byte}
 use Rattle.std.specs.Str.{all_ascii_digits}
 use Rattle.std.specs.Char.{is_ascii_digit}
@@ -12,8 +12,10 @@ use Rattle.std.proofs.lemmas.Bool.{cases_lt, and_parts, and_from, or_left, or_ri
 use Rattle.std.proofs.lemmas.List.Elements.{All-nil, All-cons, All-append}
 use Rattle.std.proofs.lemmas.Nat.{from_be_bytes-to_be_bytes_4}
 use Rattle.edit_script.specs.Words.{is_blank}
-use Rattle.edit_script.specs.Arguments.{digits_after, is_number, number_up_to, address_of, address_of_parts}
-use Rattle.lsa_codec.specs.Spelling.{address_text}
+use Rattle.edit_script.specs.Arguments.{digits_after, is_number, number_up_to, address_of, address_of_parts, prefix_of, prefix_of_parts}
+use Rattle.lsa_codec.specs.Prefix.{Net, net_of, is_masked}
+use Rattle.lsa_codec.specs.Spelling.{address_text, prefix_text}
+use Rattle.edit_script.specs.Spelling.{IsPrefix}
 use Rattle.edit_script.proofs.Split.{Lacks, split_joined, IsWord}
 
 pub own : IsNumeralModel (λ ds. all_ascii_digits ds ≡ true) (digits_after 0)
@@ -102,6 +104,29 @@ Lacks-address p s dot n =
     (All-append P (decimal (n / 256 % 256)) (46 ∷ decimal (n % 256)) (small (n / 256))
     (All-cons P 46 (decimal (n % 256)) dot (small n))))))
 
+-- ---- prefixes
+
+slash_spares : SparesDigits (λ b. eqb b 47)
+slash_spares = record { spares = λ b low high. ne_eqb b 47 (λ e. omega arith) }
+
+split_slash : (addr len : ℕ) → len ≤ 32 → slice_split (λ b. eqb b 47) (join_with_byte 47 (address_text addr ∷ decimal len ∷ [])) ≡ address_text addr ∷ decimal len ∷ []
+split_slash addr len h =
+    split_joined (λ b. eqb b 47) 47 refl (address_text addr) (decimal len ∷ [])
+    (Lacks-address (λ b. eqb b 47) slash_spares refl addr, (Lacks-decimal (λ b. eqb b 47) slash_spares len (omega arith), tt))
+
+pub prefix_joined : (net : Net) → prefix_text net ≡ join_with_byte 47 (address_text net.addr.0 ∷ decimal net.len ∷ [])
+prefix_joined net = append_assoc (address_text net.addr.0) (codes "/") (decimal net.len)
+
+made_again : (net : Net) → IsPrefix net → net_of net.addr net.len ≡ Some net
+made_again net h = cond-true _ _ _ (and_from (leb net.len 32) (is_masked net.addr net.len) (le-leb net.len 32 h.prefix.short) h.prefix.masked)
+
+pub prefix_again : (net : Net) → IsPrefix net → prefix_of (prefix_text net) ≡ Some net
+unfolding prefix_of_parts
+prefix_again net h =
+    ap prefix_of (prefix_joined net)
+    ∙ ap prefix_of_parts (split_slash net.addr.0 net.len h.prefix.short)
+    ∙ simp (address_again net.addr.0 h.addr, number_again 32 net.len h.prefix.short (omega arith)) (made_again net h)
+
 -- ---- words
 
 blank_spares : SparesDigits is_blank
@@ -115,3 +140,12 @@ IsWord-address n = record {
   lacks = Lacks-address is_blank blank_spares refl n;
   some = omega (arith, length-append (decimal (n / 16777216 % 256)) (46 ∷ (decimal (n / 65536 % 256) ++ 46 ∷ (decimal (n / 256 % 256) ++ 46 ∷ decimal (n % 256)))));
 }
+
+pub IsWord-prefix : (net : Net) → IsPrefix net → IsWord (prefix_text net)
+IsWord-prefix net h =
+    let P : ℕ → Type 0 = λ b. is_blank b ≡ false in
+    let short : net.len ≤ 32 = h.prefix.short in
+    subst IsWord (sym (prefix_joined net)) (record {
+      lacks = All-append P (address_text net.addr.0) (47 ∷ decimal net.len) (Lacks-address is_blank blank_spares refl net.addr.0) (All-cons P 47 (decimal net.len) refl (Lacks-decimal is_blank blank_spares net.len (omega arith)));
+      some = omega (arith, length-append (address_text net.addr.0) (47 ∷ decimal net.len));
+    })

@@ -5,15 +5,17 @@ use Rattle.std.proofs.lemmas.Bool.{and_parts, not-true}
 use Rattle.std.proofs.lemmas.List.Elements.{All-from_recursion}
 use Rattle.std.specs.List.{AllByRecursion}
 use Rattle.edit_script.specs.declared.edit.Edit.{Edit}
-use Rattle.edit_script.specs.declared.edit.Edit.TheVariants.{Cost}
+use Rattle.edit_script.specs.declared.edit.Edit.TheVariants.{Cost, DropLink, FailLink, FailNet, FailRouter, AddStub, Summary, AddSummary, AddExternal, DropExternal}
+use Rattle.edit_script.specs.declared.edit.MetricType.{MetricType}
+use Rattle.edit_script.specs.declared.edit.MetricType.TheVariants.{Type1, Type2}
 use Rattle.edit_script.specs.declared.command.Command.{Command}
 use Rattle.edit_script.specs.declared.command.Command.TheVariants as command
 use Rattle.edit_script.specs.Words.{Word, is_blank, words}
-use Rattle.edit_script.specs.Reading.{command_of, cost_of, undo_of}
+use Rattle.edit_script.specs.Reading.{metric_type, edit_of, cost_of, drop_link_of, fail_link_of, fail_net_of, fail_router_of, add_stub_of, summary_of, add_summary_of, add_external_of, drop_external_of, command_of, undo_of, redo_of, table_of, tables_of, compare_of, info_of}
 use Rattle.edit_script.specs.Line.{meaning, meaning_of_words, behind_branch}
-use Rattle.edit_script.specs.Spelling.{spelling, edit_words, command_words, Says, IsEditInRange, IsInRange}
+use Rattle.edit_script.specs.Spelling.{spelling, type_text, edit_words, command_words, branch_word, Says, IsEditInRange, IsInRange}
 use Rattle.edit_script.proofs.Split.{IsWord, words_joined}
-use Rattle.edit_script.proofs.Numbers.{number_again, address_again, IsWord-decimal, IsWord-address}
+use Rattle.edit_script.proofs.Numbers.{number_again, address_again, prefix_again, IsWord-decimal, IsWord-address, IsWord-prefix}
 
 -- a test that computes at a word that is written out
 abbrev has_no_blank : Word → Bool
@@ -29,37 +31,114 @@ lacks_blanks (byte ∷ bytes) h =
 literal : (word : Word) → has_no_blank word ≡ true → 0 < length word → IsWord word
 literal word h some = record { lacks = All-from_recursion (λ byte. is_blank byte ≡ false) word (lacks_blanks word h); some = some }
 
+type_word : (type : MetricType) → IsWord (type_text type)
+type_word Type1 = literal (codes "1") refl (omega arith)
+type_word Type2 = literal (codes "2") refl (omega arith)
+
 are_words : (edit : Edit) → IsEditInRange edit → AllByRecursion IsWord (edit_words edit)
 are_words (Cost area router link metric) h =
     (literal (codes "cost") refl (omega arith), (IsWord-address area.0, (IsWord-address router.0, (IsWord-decimal link (omega arith), (IsWord-decimal metric (omega arith), tt)))))
+are_words (DropLink area router link) h =
+    (literal (codes "drop-link") refl (omega arith), (IsWord-address area.0, (IsWord-address router.0, (IsWord-decimal link (omega arith), tt))))
+are_words (FailLink area router neighbor) h =
+    (literal (codes "fail-link") refl (omega arith), (IsWord-address area.0, (IsWord-address router.0, (IsWord-address neighbor.0, tt))))
+are_words (FailNet area network) h =
+    (literal (codes "fail-net") refl (omega arith), (IsWord-address area.0, (IsWord-address network.0, tt)))
+are_words (FailRouter router) h =
+    (literal (codes "fail-router") refl (omega arith), (IsWord-address router.0, tt))
+are_words (AddStub area router prefix metric) h =
+    (literal (codes "add-stub") refl (omega arith), (IsWord-address area.0, (IsWord-address router.0, (IsWord-prefix prefix h.2, (IsWord-decimal metric (omega arith), tt)))))
+are_words (Summary area router prefix metric) h =
+    (literal (codes "summary") refl (omega arith), (IsWord-address area.0, (IsWord-address router.0, (IsWord-prefix prefix h.2, (IsWord-decimal metric (omega arith), tt)))))
+are_words (AddSummary area router prefix metric) h =
+    (literal (codes "add-summary") refl (omega arith), (IsWord-address area.0, (IsWord-address router.0, (IsWord-prefix prefix h.2, (IsWord-decimal metric (omega arith), tt)))))
+are_words (AddExternal router prefix type metric forward tag) h =
+    (literal (codes "add-external") refl (omega arith), (IsWord-address router.0, (IsWord-prefix prefix h.1, (type_word type, (IsWord-decimal metric (omega arith), (IsWord-address forward.0, (IsWord-decimal tag (omega arith), tt)))))))
+are_words (DropExternal router prefix) h =
+    (literal (codes "drop-external") refl (omega arith), (IsWord-address router.0, (IsWord-prefix prefix h.1, tt)))
 
 words_again : (edit : Edit) → IsEditInRange edit → words (spelling edit) ≡ edit_words edit
 words_again (Cost area router link metric) h = words_joined _ _ (are_words (Cost area router link metric) h)
+words_again (DropLink area router link) h = words_joined _ _ (are_words (DropLink area router link) h)
+words_again (FailLink area router neighbor) h = words_joined _ _ (are_words (FailLink area router neighbor) h)
+words_again (FailNet area network) h = words_joined _ _ (are_words (FailNet area network) h)
+words_again (FailRouter router) h = words_joined _ _ (are_words (FailRouter router) h)
+words_again (AddStub area router prefix metric) h = words_joined _ _ (are_words (AddStub area router prefix metric) h)
+words_again (Summary area router prefix metric) h = words_joined _ _ (are_words (Summary area router prefix metric) h)
+words_again (AddSummary area router prefix metric) h = words_joined _ _ (are_words (AddSummary area router prefix metric) h)
+words_again (AddExternal router prefix type metric forward tag) h = words_joined _ _ (are_words (AddExternal router prefix type metric forward tag) h)
+words_again (DropExternal router prefix) h = words_joined _ _ (are_words (DropExternal router prefix) h)
+
+type_again : (type : MetricType) → metric_type (type_text type) ≡ Ok type
+type_again Type1 = refl
+type_again Type2 = refl
+
+-- the words of an edit are read again
+edit_again : (edit : Edit) → IsEditInRange edit → (branch : ℕ) → behind_branch branch (edit_words edit) ≡ Ok (branch, command.Edit edit)
+unfolding behind_branch command_of edit_of cost_of drop_link_of fail_link_of fail_net_of fail_router_of add_stub_of summary_of add_summary_of add_external_of drop_external_of
+edit_again (Cost area router link metric) h branch =
+    simp (address_again area.0 h.0, address_again router.0 h.1, number_again 65535 link (omega arith) (omega arith), number_again 65535 metric (omega arith) (omega arith))
+edit_again (DropLink area router link) h branch =
+    simp (address_again area.0 h.0, address_again router.0 h.1, number_again 65535 link (omega arith) (omega arith))
+edit_again (FailLink area router neighbor) h branch =
+    simp (address_again area.0 h.0, address_again router.0 h.1, address_again neighbor.0 h.2)
+edit_again (FailNet area network) h branch =
+    simp (address_again area.0 h.0, address_again network.0 h.1)
+edit_again (FailRouter router) h branch =
+    simp (address_again router.0 h)
+edit_again (AddStub area router prefix metric) h branch =
+    simp (address_again area.0 h.0, address_again router.0 h.1, prefix_again prefix h.2, number_again 65535 metric (omega arith) (omega arith))
+edit_again (Summary area router prefix metric) h branch =
+    simp (address_again area.0 h.0, address_again router.0 h.1, prefix_again prefix h.2, number_again 16777215 metric (omega arith) (omega arith))
+edit_again (AddSummary area router prefix metric) h branch =
+    simp (address_again area.0 h.0, address_again router.0 h.1, prefix_again prefix h.2, number_again 16777215 metric (omega arith) (omega arith))
+edit_again (AddExternal router prefix type metric forward tag) h branch =
+    simp (address_again router.0 h.0, prefix_again prefix h.1, type_again type, number_again 16777215 metric (omega arith) (omega arith), address_again forward.0 h.3, number_again 4294967295 tag (omega arith) (omega arith))
+edit_again (DropExternal router prefix) h branch =
+    simp (address_again router.0 h.0, prefix_again prefix h.1)
 
 -- the words of a command are read again
 read_again : (c : Command) → IsInRange c → (branch : ℕ) → behind_branch branch (command_words c) ≡ Ok (branch, c)
-unfolding behind_branch command_of cost_of undo_of
-read_again (command.Edit (Cost area router link metric)) h branch =
-    simp (address_again area.0 h.0, address_again router.0 h.1, number_again 65535 link (omega arith) (omega arith), number_again 65535 metric (omega arith) (omega arith))
+unfolding behind_branch command_of undo_of redo_of table_of tables_of compare_of info_of
+read_again (command.Edit edit) h branch = edit_again edit h branch
 read_again (command.Undo count) h branch = simp (number_again 4294967295 count (omega arith) (omega arith))
+read_again (command.Redo count) h branch = simp (number_again 4294967295 count (omega arith) (omega arith))
+read_again (command.Table router) h branch = simp (address_again router.0 h)
+read_again command.Tables h branch = refl
+read_again (command.Compare router) h branch = simp (address_again router.0 h)
+read_again command.Info h branch = refl
 
 -- no command word begins with `#` or `@`
 without_branch : (c : Command) → meaning_of_words (command_words c) ≡ behind_branch 0 (command_words c)
 unfolding meaning_of_words behind_branch
 without_branch (command.Edit (Cost area router link metric)) = refl
+without_branch (command.Edit (DropLink area router link)) = refl
+without_branch (command.Edit (FailLink area router neighbor)) = refl
+without_branch (command.Edit (FailNet area network)) = refl
+without_branch (command.Edit (FailRouter router)) = refl
+without_branch (command.Edit (AddStub area router prefix metric)) = refl
+without_branch (command.Edit (Summary area router prefix metric)) = refl
+without_branch (command.Edit (AddSummary area router prefix metric)) = refl
+without_branch (command.Edit (AddExternal router prefix type metric forward tag)) = refl
+without_branch (command.Edit (DropExternal router prefix)) = refl
 without_branch (command.Undo count) = refl
+without_branch (command.Redo count) = refl
+without_branch (command.Table router) = refl
+without_branch command.Tables = refl
+without_branch (command.Compare router) = refl
+without_branch command.Info = refl
 
-with_branch : (c : Command) → meaning_of_words (codes "@0" ∷ command_words c) ≡ behind_branch 0 (command_words c)
+with_branch : (branch : ℕ) (c : Command) → branch < 8 → meaning_of_words (branch_word branch ∷ command_words c) ≡ behind_branch branch (command_words c)
 unfolding meaning_of_words
-with_branch c = refl
+with_branch branch c small = simp (number_again 7 branch (omega arith) (omega arith))
 
 -- words that say a command mean it
 pub means : (words : List Word) (branch : ℕ) (c : Command) → IsInRange c → Says words branch c → meaning_of_words words ≡ Ok (branch, c)
 means words branch c h says =
     elim says.1 [
-      | inl bare ↦ rw (says.0, bare) (without_branch c ∙ read_again c h 0)
-      | inr named ↦ rw (says.0, named) (with_branch c ∙ read_again c h 0)
+      | inl named ↦ rw named (with_branch branch c says.0 ∙ read_again c h branch)
+      | inr bare ↦ rw (bare.0, bare.1) (without_branch c ∙ read_again c h 0)
     ]
 
 pub reads_back : (edit : Edit) → IsEditInRange edit → meaning (spelling edit) ≡ Ok (0, command.Edit edit)
-reads_back edit h = ap meaning_of_words (words_again edit h) ∙ means (edit_words edit) 0 (command.Edit edit) h (refl, inl refl)
+reads_back edit h = ap meaning_of_words (words_again edit h) ∙ means (edit_words edit) 0 (command.Edit edit) h (omega arith, inr (refl, refl))

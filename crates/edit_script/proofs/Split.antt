@@ -6,7 +6,7 @@ use Rattle.std.proofs.lemmas.Bool.{cases_lt, cond-true, cond-false, lt-ltb, le-l
 use Rattle.std.proofs.lemmas.List.Sums.{fails_before_first}
 use Rattle.std.proofs.lemmas.List.{take_all, drop-drop, length-drop}
 use Rattle.std.proofs.lemmas.List.Splits.{slice_split_none, slice_split_at, slice_split_first, length-slice_split}
-use Rattle.edit_script.specs.Arguments.{four_parts}
+use Rattle.edit_script.specs.Arguments.{two_parts, four_parts}
 use Rattle.edit_script.specs.Words.{is_blank, is_nonempty, words}
 
 -- no byte of a part passes the test
@@ -63,6 +63,12 @@ pub drop_one : (i : ℕ) (xs : List ℕ) → take (length (drop i xs) - 1) (drop
 drop_one i xs = take_all _ (drop 1 (drop i xs)) (omega (arith, length-drop 1 (drop i xs))) ∙ drop-drop 1 i xs
 
 -- ---- so many parts
+
+pub two_parts_more : (p : ℕ → Bool) (xs a b : List ℕ) → two_parts (a ∷ b ∷ slice_split p xs) ≡ None
+two_parts_more p xs a b = at_more (slice_split p xs) (omega (arith, length-slice_split p xs)) where
+  at_more : (ps : List (List ℕ)) → 0 < length ps → two_parts (a ∷ b ∷ ps) ≡ None
+  at_more [] h = absurd (omega arith)
+  at_more (q ∷ ps) h = refl
 
 pub four_parts_more : (p : ℕ → Bool) (xs a b c d : List ℕ) → four_parts (a ∷ b ∷ c ∷ d ∷ slice_split p xs) ≡ None
 four_parts_more p xs a b c d = at_more (slice_split p xs) (omega (arith, length-slice_split p xs)) where

@@ -1,8 +1,9 @@
--- What one argument of a command says: a number or an address.
+-- What one argument of a command says: a number, an address or a prefix.
 use Rattle.std.specs.Prelude.{ℕ, ◌+◌, ◌-◌, ◌*◌, ◌==◌, ◌&&◌, ◌||◌, not, nat_lt, nat_le, Bool, List, [], ◌∷◌, length, Option, Some, None, if◌then◌else◌, slice_index}
 use Rattle.std.specs.Int.{w32, from_be_bytes}
 use Rattle.std.specs.List.{slice_split}
 use Rattle.std.specs.Str.{all_ascii_digits}
+use Rattle.lsa_codec.specs.Prefix.{Net, net_of}
 use Rattle.edit_script.specs.Words.{Word}
 
 infixl 10 ◌>>=◌
@@ -44,3 +45,19 @@ address_of_parts parts = do
 -- the address that a word spells in dotted decimal, where it spells one: the parts between its dots (46)
 abbrev pub address_of : Word → Option ℕ
 address_of word = address_of_parts (slice_split (λ byte. byte == 46) word)
+
+abbrev pub two_parts : List Word → Option (Word × Word)
+two_parts (a ∷ b ∷ []) = Some (a, b)
+two_parts _ = None
+
+-- an address, and a number to 32 for the length of the mask; the bits of the address past the length are 0
+unfoldable pub prefix_of_parts : List Word → Option Net
+prefix_of_parts parts = do
+  part ← two_parts parts
+  addr ← address_of part.0
+  len ← number_up_to 32 part.1
+  net_of (record { 0 = addr }) len
+
+-- the prefix that a word spells, where it spells one: the parts beside its slash (47)
+abbrev pub prefix_of : Word → Option Net
+prefix_of word = prefix_of_parts (slice_split (λ byte. byte == 47) word)

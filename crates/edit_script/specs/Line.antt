@@ -1,14 +1,16 @@
 -- What a line of a script means: a branch and a command, or its first fault.
-use Rattle.std.specs.Prelude.{ℕ, ◌==◌, List, [], ◌∷◌, Result, Ok, Err, if◌then◌else◌, slice_index, codes, bytes_eq}
+use Rattle.std.specs.Prelude.{ℕ, ◌==◌, List, [], ◌∷◌, Result, Ok, Err, if◌then◌else◌, slice_index, ok_or}
 use Rattle.edit_script.specs.declared.command.Command.{Command}
 use Rattle.edit_script.specs.declared.fault.ScriptFault.{ScriptFault}
 use Rattle.edit_script.specs.declared.fault.ScriptFault.TheVariants.{Empty, MissingWord, BadBranch}
 use Rattle.edit_script.specs.Words.{Word, words}
+use Rattle.edit_script.specs.Arguments.{number_up_to}
 use Rattle.edit_script.specs.Reading.{◌>>=◌, command_of}
 
--- the branch that a word names; `@0` is the only one yet
+-- the branch that a word names: behind its `@` stands a number 0 to 7
 abbrev pub branch_of : Word → Result ℕ ScriptFault
-branch_of word = if bytes_eq word (codes "@0") then Ok 0 else Err BadBranch
+branch_of [] = Err BadBranch
+branch_of (at ∷ digit) = ok_or (number_up_to 7 digit) BadBranch
 
 abbrev pub in_branch : ℕ → Result Command ScriptFault → Result (ℕ × Command) ScriptFault
 in_branch branch given = given >>= λ c. Ok (branch, c)

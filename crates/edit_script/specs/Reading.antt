@@ -1,13 +1,16 @@
 -- What a command word and its arguments mean: a command, or their first fault.
 use Rattle.std.specs.Prelude.{◌≡◌, ℕ, nat_lt, List, [], ◌∷◌, length, Result, Ok, Err, if◌then◌else◌, ok_or, codes, bytes_eq}
+use Rattle.lsa_codec.specs.Prefix.{Net}
 use Rattle.edit_script.specs.declared.edit.Edit.{Edit}
-use Rattle.edit_script.specs.declared.edit.Edit.TheVariants.{Cost}
+use Rattle.edit_script.specs.declared.edit.Edit.TheVariants.{Cost, DropLink, FailLink, FailNet, FailRouter, AddStub, Summary, AddSummary, AddExternal, DropExternal}
+use Rattle.edit_script.specs.declared.edit.MetricType.{MetricType}
+use Rattle.edit_script.specs.declared.edit.MetricType.TheVariants.{Type1, Type2}
 use Rattle.edit_script.specs.declared.command.Command.{Command}
 use Rattle.edit_script.specs.declared.command.Command.TheVariants as command
 use Rattle.edit_script.specs.declared.fault.ScriptFault.{ScriptFault}
-use Rattle.edit_script.specs.declared.fault.ScriptFault.TheVariants.{UnknownWord, MissingWord, ExtraWord, BadNumber, BadAddress}
+use Rattle.edit_script.specs.declared.fault.ScriptFault.TheVariants.{UnknownWord, MissingWord, ExtraWord, BadNumber, BadAddress, BadPrefix}
 use Rattle.edit_script.specs.Words.{Word}
-use Rattle.edit_script.specs.Arguments.{number_up_to, address_of}
+use Rattle.edit_script.specs.Arguments.{number_up_to, address_of, prefix_of}
 
 infixl 10 ◌>>=◌
 abbrev pub ◌>>=◌ : {A B : Type 0} → Result A ScriptFault → (A → Result B ScriptFault) → Result B ScriptFault
@@ -27,21 +30,47 @@ number max word = ok_or (number_up_to max word) BadNumber
 abbrev pub address : Word → Result ℕ ScriptFault
 address word = ok_or (address_of word) BadAddress
 
+abbrev pub prefix : Word → Result Net ScriptFault
+prefix word = ok_or (prefix_of word) BadPrefix
+
+-- the type of an external metric
+abbrev pub metric_type : Word → Result MetricType ScriptFault
+metric_type word =
+    if bytes_eq word (codes "1") then Ok Type1
+    else if bytes_eq word (codes "2") then Ok Type2
+    else Err BadNumber
+
 -- ---- so many arguments
 
 -- the fault of arguments that are not n in number
 abbrev pub miscount : ℕ → List Word → ScriptFault
 miscount n arguments = if nat_lt (length arguments) n then MissingWord else ExtraWord
 
+abbrev pub none_of : List Word → Result (Unit {0}) ScriptFault
+none_of [] = Ok tt
+none_of arguments = Err (miscount 0 arguments)
+
 abbrev pub one_of : List Word → Result Word ScriptFault
 one_of (a ∷ []) = Ok a
 one_of arguments = Err (miscount 1 arguments)
+
+abbrev pub two_of : List Word → Result (Word × Word) ScriptFault
+two_of (a ∷ b ∷ []) = Ok (a, b)
+two_of arguments = Err (miscount 2 arguments)
+
+abbrev pub three_of : List Word → Result (Word × Word × Word) ScriptFault
+three_of (a ∷ b ∷ c ∷ []) = Ok (a, b, c)
+three_of arguments = Err (miscount 3 arguments)
 
 abbrev pub four_of : List Word → Result (Word × Word × Word × Word) ScriptFault
 four_of (a ∷ b ∷ c ∷ d ∷ []) = Ok (a, b, c, d)
 four_of arguments = Err (miscount 4 arguments)
 
--- ---- the commands, by their arguments
+abbrev pub six_of : List Word → Result (Word × Word × Word × Word × Word × Word) ScriptFault
+six_of (a ∷ b ∷ c ∷ d ∷ e ∷ f ∷ []) = Ok (a, b, c, d, e, f)
+six_of arguments = Err (miscount 6 arguments)
+
+-- ---- the edits, by their arguments
 
 -- cost AREA ROUTER LINK METRIC
 unfoldable pub cost_of : List Word → Result Edit ScriptFault
@@ -53,6 +82,106 @@ cost_of arguments = do
   metric ← number 65535 word.3
   Ok (Cost (record { 0 = area }) (record { 0 = router }) link metric)
 
+-- drop-link AREA ROUTER LINK
+unfoldable pub drop_link_of : List Word → Result Edit ScriptFault
+drop_link_of arguments = do
+  word ← three_of arguments
+  area ← address word.0
+  router ← address word.1
+  link ← number 65535 word.2
+  Ok (DropLink (record { 0 = area }) (record { 0 = router }) link)
+
+-- fail-link AREA ROUTER NEIGHBOR
+unfoldable pub fail_link_of : List Word → Result Edit ScriptFault
+fail_link_of arguments = do
+  word ← three_of arguments
+  area ← address word.0
+  router ← address word.1
+  neighbor ← address word.2
+  Ok (FailLink (record { 0 = area }) (record { 0 = router }) (record { 0 = neighbor }))
+
+-- fail-net AREA ADDRESS
+unfoldable pub fail_net_of : List Word → Result Edit ScriptFault
+fail_net_of arguments = do
+  word ← two_of arguments
+  area ← address word.0
+  network ← address word.1
+  Ok (FailNet (record { 0 = area }) (record { 0 = network }))
+
+-- fail-router ROUTER
+unfoldable pub fail_router_of : List Word → Result Edit ScriptFault
+fail_router_of arguments = do
+  word ← one_of arguments
+  router ← address word
+  Ok (FailRouter (record { 0 = router }))
+
+-- add-stub AREA ROUTER PREFIX METRIC
+unfoldable pub add_stub_of : List Word → Result Edit ScriptFault
+add_stub_of arguments = do
+  word ← four_of arguments
+  area ← address word.0
+  router ← address word.1
+  prefix ← prefix word.2
+  metric ← number 65535 word.3
+  Ok (AddStub (record { 0 = area }) (record { 0 = router }) prefix metric)
+
+-- summary AREA ROUTER PREFIX METRIC
+unfoldable pub summary_of : List Word → Result Edit ScriptFault
+summary_of arguments = do
+  word ← four_of arguments
+  area ← address word.0
+  router ← address word.1
+  prefix ← prefix word.2
+  metric ← number 16777215 word.3
+  Ok (Summary (record { 0 = area }) (record { 0 = router }) prefix metric)
+
+-- add-summary AREA ROUTER PREFIX METRIC
+unfoldable pub add_summary_of : List Word → Result Edit ScriptFault
+add_summary_of arguments = do
+  word ← four_of arguments
+  area ← address word.0
+  router ← address word.1
+  prefix ← prefix word.2
+  metric ← number 16777215 word.3
+  Ok (AddSummary (record { 0 = area }) (record { 0 = router }) prefix metric)
+
+-- add-external ROUTER PREFIX TYPE METRIC FORWARD TAG
+unfoldable pub add_external_of : List Word → Result Edit ScriptFault
+add_external_of arguments = do
+  word ← six_of arguments
+  router ← address word.0
+  prefix ← prefix word.1
+  type ← metric_type word.2
+  metric ← number 16777215 word.3
+  forward ← address word.4
+  tag ← number 4294967295 word.5
+  Ok (AddExternal (record { 0 = router }) prefix type metric (record { 0 = forward }) tag)
+
+-- drop-external ROUTER PREFIX
+unfoldable pub drop_external_of : List Word → Result Edit ScriptFault
+drop_external_of arguments = do
+  word ← two_of arguments
+  router ← address word.0
+  prefix ← prefix word.1
+  Ok (DropExternal (record { 0 = router }) prefix)
+
+-- the command word of an edit, and its arguments
+unfoldable pub edit_of : Word → List Word → Result Edit ScriptFault
+edit_of word arguments =
+    if bytes_eq word (codes "cost") then cost_of arguments
+    else if bytes_eq word (codes "drop-link") then drop_link_of arguments
+    else if bytes_eq word (codes "fail-link") then fail_link_of arguments
+    else if bytes_eq word (codes "fail-net") then fail_net_of arguments
+    else if bytes_eq word (codes "fail-router") then fail_router_of arguments
+    else if bytes_eq word (codes "add-stub") then add_stub_of arguments
+    else if bytes_eq word (codes "summary") then summary_of arguments
+    else if bytes_eq word (codes "add-summary") then add_summary_of arguments
+    else if bytes_eq word (codes "add-external") then add_external_of arguments
+    else if bytes_eq word (codes "drop-external") then drop_external_of arguments
+    else Err UnknownWord
+
+-- ---- the commands, by their arguments
+
 -- undo COUNT
 unfoldable pub undo_of : List Word → Result Command ScriptFault
 undo_of arguments = do
@@ -60,12 +189,49 @@ undo_of arguments = do
   count ← number 4294967295 word
   Ok (command.Undo count)
 
+-- redo COUNT
+unfoldable pub redo_of : List Word → Result Command ScriptFault
+redo_of arguments = do
+  word ← one_of arguments
+  count ← number 4294967295 word
+  Ok (command.Redo count)
+
+-- table ROUTER
+unfoldable pub table_of : List Word → Result Command ScriptFault
+table_of arguments = do
+  word ← one_of arguments
+  router ← address word
+  Ok (command.Table (record { 0 = router }))
+
+-- tables
+unfoldable pub tables_of : List Word → Result Command ScriptFault
+tables_of arguments = do
+  _ ← none_of arguments
+  Ok command.Tables
+
+-- compare ROUTER
+unfoldable pub compare_of : List Word → Result Command ScriptFault
+compare_of arguments = do
+  word ← one_of arguments
+  router ← address word
+  Ok (command.Compare (record { 0 = router }))
+
+-- info
+unfoldable pub info_of : List Word → Result Command ScriptFault
+info_of arguments = do
+  _ ← none_of arguments
+  Ok command.Info
+
 abbrev pub edit_command : Result Edit ScriptFault → Result Command ScriptFault
 edit_command given = given >>= λ e. Ok (command.Edit e)
 
 -- a command word and its arguments
 unfoldable pub command_of : Word → List Word → Result Command ScriptFault
 command_of word arguments =
-    if bytes_eq word (codes "cost") then edit_command (cost_of arguments)
-    else if bytes_eq word (codes "undo") then undo_of arguments
-    else Err UnknownWord
+    if bytes_eq word (codes "undo") then undo_of arguments
+    else if bytes_eq word (codes "redo") then redo_of arguments
+    else if bytes_eq word (codes "table") then table_of arguments
+    else if bytes_eq word (codes "tables") then tables_of arguments
+    else if bytes_eq word (codes "compare") then compare_of arguments
+    else if bytes_eq word (codes "info") then info_of arguments
+    else edit_command (edit_of word arguments)

@@ -1,10 +1,11 @@
-//! What one argument of a command says: a number or an address.
+//! What one argument of a command says: a number, an address or a prefix.
 
 ghost use Rattle.std.specs.Prelude.{◌≡◌, ◌==◌, ◌≤◌, Some, None, IfSome, option_map};
 ghost use Rattle.std.specs.List.{slice_split};
-ghost use Rattle.edit_script.specs.Arguments.{within, number_up_to, four_parts, address_of};
+ghost use Rattle.edit_script.specs.Arguments.{within, number_up_to, two_parts, four_parts, address_of, prefix_of};
 
 use crate::words::cut_at_byte;
+use lsa_codec::{Addr, Prefix};
 
 /// The value of decimal digits, where it is at most `max`.
 fn digits_up_to(max: u32, digits: &[u8]) -> Option<u32>
@@ -80,4 +81,30 @@ pub(crate) fn address_of(word: &[u8]) -> Option<u32>
     let third = octet(third)?;
     let fourth = octet(fourth)?;
     Some(u32::from_be_bytes([first, second, third, fourth]))
+}
+
+/// The parts of a word with one slash.
+#[tactic(auto, using(crate::proofs::Split::two_parts_more))]
+fn two_parts(word: &[u8]) -> Option<(&[u8], &[u8])>
+    ensures { option_map (λ x. (x.0.now, x.1.now)) result
+        ≡ two_parts (slice_split (λ b. b == 47) word.now) }
+{
+    let Some((first, second)) = cut_at_byte(word, b'/') else {
+        return None;
+    };
+    match cut_at_byte(second, b'/') {
+        None => Some((first, second)),
+        Some(_) => None,
+    }
+}
+
+/// The prefix that a word spells, as `10.0.0.0/8`.
+#[tactic(auto, unfolding(crate::specs::Arguments::prefix_of_parts))]
+pub(crate) fn prefix_of(word: &[u8]) -> Option<Prefix>
+    ensures { result ≡ prefix_of word.now }
+{
+    let (address, length) = two_parts(word)?;
+    let address = address_of(address)?;
+    let length = number_up_to(32, length)?;
+    Prefix::new(Addr(address), length as u8)
 }

@@ -33,7 +33,7 @@ pub enum ScriptFault {
     /// S6: an argument is no address in dotted decimal.
     #[error("BadAddress")]
     BadAddress,
-    /// S7: an argument is no prefix, as `10.0.0.0/8`. No command has a prefix yet.
+    /// S7: an argument is no prefix, as `10.0.0.0/8`, whatever part of it is wrong.
     #[error("BadPrefix")]
     BadPrefix,
     /// S8: the first word begins with `@` and names no branch.

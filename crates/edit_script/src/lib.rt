@@ -1,14 +1,17 @@
 //! The lines of a script: what a command says, reading it from a line, and printing an edit.
 //!
-//! A line is words between blanks: an optional branch, as `@0`, a command word and the command's
-//! arguments. `cost AREA ROUTER LINK METRIC` is an edit of the link state database, and `undo
-//! COUNT` takes back the last edits. [`parse`] reads a line without memory, and [`print`] writes an
-//! edit as the line that reads back to it.
+//! A line is words between blanks: an optional branch, `@0` to `@7`, a command word and the
+//! command's arguments. `cost AREA ROUTER LINK METRIC` and nine others are edits of the link state
+//! database, `undo COUNT` and `redo COUNT` take edits back and carry them out again, and `table
+//! ROUTER`, `tables`, `compare ROUTER` and `info` show what the edits lead to. [`parse`] reads a
+//! line without memory, and [`print`] writes an edit as the line that reads back to it.
 #![tactic(auto)]
 
 mod arguments;
 mod command;
+mod commands;
 mod edit;
+mod edits;
 mod fault;
 mod laws;
 mod line;
@@ -17,7 +20,7 @@ mod reading;
 mod words;
 
 pub use command::Command;
-pub use edit::Edit;
+pub use edit::{Edit, MetricType};
 pub use fault::ScriptFault;
 pub use laws::{reads_back, reads_what_is_said};
 pub use line::parse;

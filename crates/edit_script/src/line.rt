@@ -1,32 +1,35 @@
 //! Reading a line: its branch, and the command behind it.
 
-ghost use Rattle.std.specs.Prelude.{◌≡◌, IfOk};
+ghost use Rattle.std.specs.Prelude.{◌≡◌, ◌<◌, IfOk};
 ghost use Rattle.edit_script.specs.Words.{words};
 ghost use Rattle.edit_script.specs.Line.{branch_of, behind_branch, meaning};
 
+use crate::arguments::number_up_to;
 use crate::command::Command;
+use crate::commands::command;
 use crate::fault::ScriptFault;
-use crate::reading::command;
 use crate::words::next_word;
 
-/// The branch that a word names; else S8. Branch 0 is the only one yet.
+/// The branch that a word names, 0 to 7 behind its `@`; else S8.
 fn branch(word: &[u8]) -> Result<u8, ScriptFault>
     ensures value { result ≡ branch_of word.now }
-    ensures only { IfOk result (λ branch. branch ≡ 0) }
+    ensures small { IfOk result (λ branch. branch < 8) }
 {
-    if word == b"@0".as_slice() {
-        Ok(0)
-    } else {
-        Err(ScriptFault::BadBranch)
+    let [_, digit @ ..] = word else {
+        return Err(ScriptFault::BadBranch);
+    };
+    match number_up_to(7, digit) {
+        Some(branch) => Ok(branch as u8),
+        None => Err(ScriptFault::BadBranch),
     }
 }
 
 /// The command that stands after the branch.
 #[tactic(auto, unfolding(crate::specs::Line::behind_branch))]
 fn behind_branch(branch: u8, rest: &[u8]) -> Result<(u8, Command), ScriptFault>
-    requires { branch ≡ 0 }
+    requires { branch < 8 }
     ensures value { result ≡ behind_branch branch (words rest.now) }
-    ensures only { IfOk result (λ x. x.0 ≡ 0) }
+    ensures small { IfOk result (λ x. x.0 < 8) }
 {
     match next_word(rest) {
         Some((word, arguments)) => Ok((branch, command(word, arguments)?)),
@@ -37,12 +40,12 @@ fn behind_branch(branch: u8, rest: &[u8]) -> Result<(u8, Command), ScriptFault>
 /// The branch and the command that a line of a script means, or its first fault.
 ///
 /// The line comes without its end of line. Its words are its maximal runs of bytes other than
-/// space, tab and carriage return. The branch is 0, the only one yet. The faults S1 to S8
-/// come in the order that [`ScriptFault`] gives. It takes no memory.
+/// space, tab and carriage return. The branch is 0 to 7, and 0 where the line names none. The
+/// faults S1 to S8 come in the order that [`ScriptFault`] gives. It takes no memory.
 #[tactic(auto, unfolding(crate::specs::Line::meaning_of_words))]
 pub fn parse(line: &[u8]) -> Result<(u8, Command), ScriptFault>
     ensures value { result ≡ meaning line.now }
-    ensures branch { IfOk result (λ x. x.0 ≡ 0) }
+    ensures branch { IfOk result (λ x. x.0 < 8) }
 {
     let Some((first, rest)) = next_word(line) else {
         return Err(ScriptFault::Empty);

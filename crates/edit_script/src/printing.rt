@@ -4,9 +4,10 @@ ghost use Rattle.std.specs.Prelude.{◌≡◌, ◌<◌, ◌^◌, Ok, IfOk};
 ghost use Rattle.std.specs.String.{string_bytes};
 ghost use Rattle.edit_script.specs.declared.command.Command.TheVariants as command;
 ghost use Rattle.edit_script.specs.Line.{meaning};
-ghost use Rattle.edit_script.specs.Spelling.{spelling, IsEditInRange};
+ghost use Rattle.edit_script.specs.Spelling.{spelling, IsEditInRange, IsPrefix};
 
 use crate::edit::Edit;
+use lsa_codec::{AreaId, Metric, Prefix, RouterId};
 use std::alloc::{AllocError, Allocator};
 
 /// The line of an edit, without a branch and without an end of line.
@@ -32,12 +33,90 @@ fn know_ranges(edit: &Edit)
             link,
             metric,
         } => {
-            know_range(area.0);
-            know_range(router.0);
+            know_place(area, router);
             know_range16(link);
             know_range16(metric);
         }
+        Edit::DropLink { area, router, link } => {
+            know_place(area, router);
+            know_range16(link);
+        }
+        Edit::FailLink {
+            area,
+            router,
+            neighbor,
+        } => {
+            know_place(area, router);
+            know_range(neighbor.0);
+        }
+        Edit::FailNet { area, network } => {
+            know_range(area.0);
+            know_range(network.0);
+        }
+        Edit::FailRouter { router } => know_range(router.0),
+        Edit::AddStub {
+            area,
+            router,
+            prefix,
+            metric,
+        } => {
+            know_place(area, router);
+            know_prefix(prefix);
+            know_range16(metric);
+        }
+        Edit::Summary {
+            area,
+            router,
+            prefix,
+            metric,
+        }
+        | Edit::AddSummary {
+            area,
+            router,
+            prefix,
+            metric,
+        } => {
+            know_place(area, router);
+            know_prefix(prefix);
+            know_metric(metric);
+        }
+        Edit::AddExternal {
+            router,
+            prefix,
+            metric,
+            forward,
+            tag,
+            ..
+        } => {
+            know_range(router.0);
+            know_prefix(prefix);
+            know_metric(metric);
+            know_range(forward.0);
+            know_range(tag);
+        }
+        Edit::DropExternal { router, prefix } => {
+            know_range(router.0);
+            know_prefix(prefix);
+        }
     }
+}
+
+fn know_place(area: AreaId, router: RouterId)
+    ensures area { area.0 < 2 ^ 32 }
+    ensures router { router.0 < 2 ^ 32 }
+{}
+
+fn know_prefix(prefix: Prefix)
+    ensures { IsPrefix prefix }
+{
+    let addr = prefix.addr();
+    know_range(addr.0);
+}
+
+fn know_metric(metric: Metric)
+    ensures { metric < 2 ^ 24 }
+{
+    let _value = metric.value();
 }
 
 fn know_range(number: u32)

@@ -1,27 +1,26 @@
-//! Reading a command from its command word and its arguments.
+//! Reading the arguments of a command: each argument, and how many there are.
 
 ghost use Rattle.std.specs.Prelude.{◌≡◌};
 ghost use Rattle.edit_script.specs.Words.{words};
-ghost use Rattle.edit_script.specs.Reading.{Gives, number, address, one_of, four_of, cost_of, undo_of, command_of};
+ghost use Rattle.edit_script.specs.Reading.{Gives, number, address, prefix, metric_type, none_of, one_of, two_of, three_of, four_of, six_of};
 
-use crate::arguments::{address_of, number_up_to};
-use crate::command::Command;
-use crate::edit::Edit;
+use crate::arguments::{address_of, number_up_to, prefix_of};
+use crate::edit::MetricType;
 use crate::fault::ScriptFault;
 use crate::words::next_word;
-use lsa_codec::{AreaId, RouterId};
+use lsa_codec::{Metric, Prefix};
 
 // ---- one argument
 
 /// The number that a word spells, where it is at most `max`; else S5.
-fn number(max: u32, word: &[u8]) -> Result<u32, ScriptFault>
+pub(crate) fn number(max: u32, word: &[u8]) -> Result<u32, ScriptFault>
     ensures { result ≡ number max word.now }
 {
     number_up_to(max, word).ok_or(ScriptFault::BadNumber)
 }
 
 /// The number of 16 bits that a word spells; else S5.
-fn number16(word: &[u8]) -> Result<u16, ScriptFault>
+pub(crate) fn number16(word: &[u8]) -> Result<u16, ScriptFault>
     ensures { result ≡ number 65535 word.now }
 {
     match number_up_to(65535, word) {
@@ -30,17 +29,55 @@ fn number16(word: &[u8]) -> Result<u16, ScriptFault>
     }
 }
 
+/// The metric of 24 bits that a word spells; else S5.
+pub(crate) fn metric24(word: &[u8]) -> Result<Metric, ScriptFault>
+    ensures { result ≡ number 16777215 word.now }
+{
+    match number_up_to(16777215, word) {
+        Some(number) => Metric::new(number).ok_or(ScriptFault::BadNumber),
+        None => Err(ScriptFault::BadNumber),
+    }
+}
+
+/// The type of an external metric that a word names, 1 or 2; else S5.
+pub(crate) fn metric_type(word: &[u8]) -> Result<MetricType, ScriptFault>
+    ensures { result ≡ metric_type word.now }
+{
+    match word {
+        b"1" => Ok(MetricType::Type1),
+        b"2" => Ok(MetricType::Type2),
+        _ => Err(ScriptFault::BadNumber),
+    }
+}
+
 /// The address that a word spells; else S6.
-fn address(word: &[u8]) -> Result<u32, ScriptFault>
+pub(crate) fn address(word: &[u8]) -> Result<u32, ScriptFault>
     ensures { result ≡ address word.now }
 {
     address_of(word).ok_or(ScriptFault::BadAddress)
 }
 
+/// The prefix that a word spells; else S7.
+pub(crate) fn prefix(word: &[u8]) -> Result<Prefix, ScriptFault>
+    ensures { result ≡ prefix word.now }
+{
+    prefix_of(word).ok_or(ScriptFault::BadPrefix)
+}
+
 // ---- so many arguments
 
+/// No word of `arguments`; else S4.
+pub(crate) fn none(arguments: &[u8]) -> Result<(), ScriptFault>
+    ensures { Gives (λ x. tt) result (none_of (words arguments.now)) }
+{
+    match next_word(arguments) {
+        None => Ok(()),
+        Some(_) => Err(ScriptFault::ExtraWord),
+    }
+}
+
 /// The only word of `arguments`; else S3 or S4.
-fn one(arguments: &[u8]) -> Result<&[u8], ScriptFault>
+pub(crate) fn one(arguments: &[u8]) -> Result<&[u8], ScriptFault>
     ensures { Gives (λ x. x.now) result (one_of (words arguments.now)) }
 {
     let Some((first, rest)) = next_word(arguments) else {
@@ -52,8 +89,43 @@ fn one(arguments: &[u8]) -> Result<&[u8], ScriptFault>
     }
 }
 
+/// The two words of `arguments`; else S3 or S4.
+pub(crate) fn two(arguments: &[u8]) -> Result<(&[u8], &[u8]), ScriptFault>
+    ensures { Gives (λ x. (x.0.now, x.1.now)) result (two_of (words arguments.now)) }
+{
+    let Some((first, rest)) = next_word(arguments) else {
+        return Err(ScriptFault::MissingWord);
+    };
+    let Some((second, rest)) = next_word(rest) else {
+        return Err(ScriptFault::MissingWord);
+    };
+    match next_word(rest) {
+        None => Ok((first, second)),
+        Some(_) => Err(ScriptFault::ExtraWord),
+    }
+}
+
+/// The three words of `arguments`; else S3 or S4.
+pub(crate) fn three(arguments: &[u8]) -> Result<(&[u8], &[u8], &[u8]), ScriptFault>
+    ensures { Gives (λ x. (x.0.now, x.1.now, x.2.now)) result (three_of (words arguments.now)) }
+{
+    let Some((first, rest)) = next_word(arguments) else {
+        return Err(ScriptFault::MissingWord);
+    };
+    let Some((second, rest)) = next_word(rest) else {
+        return Err(ScriptFault::MissingWord);
+    };
+    let Some((third, rest)) = next_word(rest) else {
+        return Err(ScriptFault::MissingWord);
+    };
+    match next_word(rest) {
+        None => Ok((first, second, third)),
+        Some(_) => Err(ScriptFault::ExtraWord),
+    }
+}
+
 /// The four words of `arguments`; else S3 or S4.
-fn four(arguments: &[u8]) -> Result<(&[u8], &[u8], &[u8], &[u8]), ScriptFault>
+pub(crate) fn four(arguments: &[u8]) -> Result<(&[u8], &[u8], &[u8], &[u8]), ScriptFault>
     ensures { Gives (λ x. (x.0.now, x.1.now, x.2.now, x.3.now)) result (four_of (words arguments.now)) }
 {
     let Some((first, rest)) = next_word(arguments) else {
@@ -74,45 +146,32 @@ fn four(arguments: &[u8]) -> Result<(&[u8], &[u8], &[u8], &[u8]), ScriptFault>
     }
 }
 
-// ---- the commands, by their arguments
-
-/// `cost AREA ROUTER LINK METRIC`.
-#[tactic(auto, unfolding(crate::specs::Reading::cost_of))]
-fn cost(arguments: &[u8]) -> Result<Edit, ScriptFault>
-    ensures { result ≡ cost_of (words arguments.now) }
+/// The six words of `arguments`; else S3 or S4.
+pub(crate) fn six(
+    arguments: &[u8],
+) -> Result<(&[u8], &[u8], &[u8], &[u8], &[u8], &[u8]), ScriptFault>
+    ensures { Gives (λ x. (x.0.now, x.1.now, x.2.now, x.3.now, x.4.now, x.5.now)) result (six_of (words arguments.now)) }
 {
-    let (area, router, link, metric) = four(arguments)?;
-    let area = AreaId(address(area)?);
-    let router = RouterId(address(router)?);
-    let link = number16(link)?;
-    let metric = number16(metric)?;
-    Ok(Edit::Cost {
-        area,
-        router,
-        link,
-        metric,
-    })
-}
-
-/// `undo COUNT`.
-#[tactic(auto, unfolding(crate::specs::Reading::undo_of))]
-fn undo(arguments: &[u8]) -> Result<Command, ScriptFault>
-    ensures { result ≡ undo_of (words arguments.now) }
-{
-    let count = number(u32::MAX, one(arguments)?)?;
-    Ok(Command::Undo(count))
-}
-
-/// The command of a command word and its arguments.
-#[tactic(auto, unfolding(crate::specs::Reading::command_of))]
-pub(crate) fn command(word: &[u8], arguments: &[u8]) -> Result<Command, ScriptFault>
-    ensures { result ≡ command_of word.now (words arguments.now) }
-{
-    if word == b"cost".as_slice() {
-        Ok(Command::Edit(cost(arguments)?))
-    } else if word == b"undo".as_slice() {
-        undo(arguments)
-    } else {
-        Err(ScriptFault::UnknownWord)
+    let Some((first, rest)) = next_word(arguments) else {
+        return Err(ScriptFault::MissingWord);
+    };
+    let Some((second, rest)) = next_word(rest) else {
+        return Err(ScriptFault::MissingWord);
+    };
+    let Some((third, rest)) = next_word(rest) else {
+        return Err(ScriptFault::MissingWord);
+    };
+    let Some((fourth, rest)) = next_word(rest) else {
+        return Err(ScriptFault::MissingWord);
+    };
+    let Some((fifth, rest)) = next_word(rest) else {
+        return Err(ScriptFault::MissingWord);
+    };
+    let Some((sixth, rest)) = next_word(rest) else {
+        return Err(ScriptFault::MissingWord);
+    };
+    match next_word(rest) {
+        None => Ok((first, second, third, fourth, fifth, sixth)),
+        Some(_) => Err(ScriptFault::ExtraWord),
     }
 }

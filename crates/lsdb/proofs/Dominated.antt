@@ -6,9 +6,8 @@ use Rattle.std.proofs.lemmas.List.Sums.{sum_by-cons, sum_by-append}
 use Rattle.lsa_codec.specs.declared.key.Key.{Key}
 use Rattle.lsa_codec.specs.Key.{key_of}
 use Rattle.lsa_codec.specs.Accepted.{IsAccepted}
-use Rattle.lsa_codec.specs.Making.{IsRewriteOf}
 use Rattle.lsdb.specs.declared.slot.SlotId.{SlotId}
-use Rattle.lsdb.specs.Lists.{AreaHead, SectionLsas, Lists, AreKeys, IsSection, AreHeads, is_in_scope, IsDatabase, lsas_size, section_size, size, heads_of}
+use Rattle.lsdb.specs.Lists.{AreaHead, SectionLsas, Lists, AreKeys, IsSection, AreHeads, is_in_scope, IsDatabase, lsas_size, section_size, size, largest_text, heads_of}
 use Rattle.lsdb.specs.Places.{Place, Places, SectionPlaces, item_at, put_place, put, place_in, slot_at, full, section_of, lists_of, IsPutSafe, place_size}
 use Rattle.lsdb.proofs.Middle.{all_mid, all_without, pairs_without, map_mid, map_two, length_mid}
 
@@ -94,10 +93,10 @@ between d slot old new h = between_at d slot.section slot.index old new h
 keys_rewritten : (front back : List (List ℕ)) (x y : List ℕ) → key_of y ≡ key_of x → map key_of (front ++ y ∷ back) ≡ map key_of (front ++ x ∷ back)
 keys_rewritten front back x y e = map_mid key_of front back y ∙ ap (λ (k : Key). map key_of front ++ k ∷ map key_of back) e ∙ sym (map_mid key_of front back x)
 
-section_rewritten : (area : Option AreaHead) (front back : List (List ℕ)) (x y : List ℕ) → IsRewriteOf x y → IsSection (section_with area (front ++ x ∷ back)) → IsSection (section_with area (front ++ y ∷ back))
-section_rewritten area front back x y r s = record {
-  accepted = all_mid IsAccepted front back x y (λ _. r.accepted) s.accepted;
-  keys = subst (AreKeys area) (sym (keys_rewritten front back x y r.key)) s.keys;
+section_rewritten : (area : Option AreaHead) (front back : List (List ℕ)) (x y : List ℕ) → IsAccepted y → key_of y ≡ key_of x → IsSection (section_with area (front ++ x ∷ back)) → IsSection (section_with area (front ++ y ∷ back))
+section_rewritten area front back x y accepted key s = record {
+  accepted = all_mid IsAccepted front back x y (λ _. accepted) s.accepted;
+  keys = subst (AreKeys area) (sym (keys_rewritten front back x y key)) s.keys;
 }
 
 keys_removed : (area : Option AreaHead) (front back : List Key) (k : Key) → AreKeys area (front ++ k ∷ back) → AreKeys area (front ++ back)
@@ -114,7 +113,7 @@ section_emptied area front back x s = record {
 }
 
 section_safe : (area : Option AreaHead) (front back : List (List ℕ)) (old new : Place) → IsPutSafe old new → IsSection (section_with area (front ++ cons_option old back)) → IsSection (section_with area (front ++ cons_option new back))
-section_safe area front back (Some x) (Some y) safe s = section_rewritten area front back x y safe s
+section_safe area front back (Some x) (Some y) safe s = section_rewritten area front back x y safe.accepted safe.key s
 section_safe area front back (Some x) None safe s = section_emptied area front back x s
 section_safe area front back None None safe s = s
 section_safe area front back None (Some y) safe s = absurd safe
@@ -169,4 +168,17 @@ put_safe d slot old new h safe db =
       heads = subst AreHeads (sym (heads-put d slot old new h)) db.heads;
       sections = subst (All IsSection) (sym w.after) (all_mid IsSection w.low w.high s t (section_safe w.area w.front w.back old new safe) sections);
       small = omega (arith, size-put d slot old new h, smaller old new safe, db.small);
+    }
+
+-- a place takes an LSA of the same key that is longer, where the dump has room for it
+pub extended_safe : (d : Places) (slot : SlotId) (x y : List ℕ) → slot_at d slot ≡ Some (Some x) → IsAccepted y → key_of y ≡ key_of x → size (lists_of d) + length y ≤ largest_text + length x → IsDatabase (lists_of d) → IsDatabase (lists_of (put d slot (Some y)))
+extended_safe d slot x y h accepted key room db =
+    let w = between d slot (Some x) (Some y) h in
+    let s = section_with w.area (w.front ++ x ∷ w.back) in
+    let t = section_with w.area (w.front ++ y ∷ w.back) in
+    let sections : All IsSection (w.low ++ s ∷ w.high) = subst (All IsSection) w.before db.sections in
+    record {
+      heads = subst AreHeads (sym (heads-put d slot (Some x) (Some y) h)) db.heads;
+      sections = subst (All IsSection) (sym w.after) (all_mid IsSection w.low w.high s t (section_rewritten w.area w.front w.back x y accepted key) sections);
+      small = omega (arith, size-put d slot (Some x) (Some y) h, room);
     }

@@ -1,6 +1,7 @@
 -- What a database is: areas with their LSAs, and behind them the LSAs of AS scope (RFC 2328, 12.2).
 use Rattle.std.specs.Prelude.{◌≡◌, ◌≢◌, ◌<◌, ◌≤◌, ◌^◌, ℕ, ◌+◌, Bool, true, false, List, [], length, map, All, AllPairs, Option, Some, None, ◌==◌, ◌&&◌, ◌||◌, not}
 use Rattle.std.specs.List.{list_any, sum_by, filter_map, find}
+use Rattle.lsa_codec.specs.declared.address.AreaId.{AreaId}
 use Rattle.lsa_codec.specs.declared.key.Key.{Key}
 use Rattle.lsa_codec.specs.Key.{key_of}
 use Rattle.lsa_codec.specs.Accepted.{IsAccepted}
@@ -105,6 +106,10 @@ has_key key lsa = same_key (key_of lsa) key
 abbrev pub has_id : ℕ → Option AreaHead → Bool
 has_id id None = false
 has_id id (Some area) = area.id == id
+
+-- the ID of an area, and whether it is a stub area
+abbrev pub id_and_kind : AreaHead → AreaId × Bool
+id_and_kind area = (record { 0 = area.id }, area.is_stub)
 
 -- the section of an area, or the one of AS scope, by its head
 abbrev pub is_head_of : Section → Option AreaHead → Bool

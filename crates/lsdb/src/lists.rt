@@ -1,8 +1,8 @@
 //! The lists that the full places make: areas, and the LSAs of each section.
 
-ghost use Rattle.std.specs.Prelude.{◌≡◌, ◌<◌, ◌≤◌, Some, IsSome, length, slice_get};
-ghost use Rattle.lsdb.specs.Lists.{lsas_of, areas_of};
-ghost use Rattle.lsdb.specs.Places.{item_at, lists_of, lsas_in};
+ghost use Rattle.std.specs.Prelude.{◌≡◌, ◌<◌, ◌≤◌, Some, IsSome, length, slice_get, option_map};
+ghost use Rattle.lsdb.specs.Lists.{id_and_kind, lsas_of, areas_of};
+ghost use Rattle.lsdb.specs.Places.{item_at, head_or_none, lists_of, lsas_in};
 
 use crate::database::Database;
 use crate::lsas::Lsas;
@@ -28,6 +28,18 @@ impl<A: Allocator + Copy> Database<A> {
             Some(head) => (head.id, head.is_stub),
             None => unreachable!(),
         }
+    }
+
+    /// The area of a section, by the section's number: its ID, and whether it is a stub area (RFC
+    /// 2328, 3.6). `None` for the LSAs of AS scope.
+    pub fn area_in(&self, section: usize) -> Option<(AreaId, bool)>
+        requires { IsSome (item_at (lists_of self.now) section) }
+        ensures { result ≡ option_map id_and_kind (head_or_none (item_at self.now section)) }
+    {
+        let Some(head) = self.sections[section].area else {
+            return None;
+        };
+        Some((head.id, head.is_stub))
     }
 
     /// The LSAs of a section, in order, by the section's number.

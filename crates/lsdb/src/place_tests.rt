@@ -49,6 +49,8 @@ fn reads_the_areas(rt: HostRuntime) -> Result<(), Fail> {
     let (stub, is_stub) = database.area(1);
     assert_eq!(rt; stub, AreaId(1));
     assert!(rt; is_stub);
+    assert_eq!(rt; database.area_in(1), Some((AreaId(1), true)));
+    assert_eq!(rt; database.area_in(2), None);
     Ok(())
 }
 

@@ -8,22 +8,23 @@ use Rattle.lsdb.specs.declared.fault.DumpFault.{DumpFault}
 use Rattle.lsdb.specs.declared.fault.DumpFaultKind.TheVariants as kind
 use Rattle.lsdb.specs.Text.{text}
 use Rattle.lsdb.specs.Loading.{loaded, IsFirst}
-use Rattle.edit_history.specs.Session.{Session, state}
-use Rattle.ospf_plan.specs.Run.{Answer, answers, answers_from, session_after, dump_after, lines_of, begun, text_of, run_answers, run_text, run_dump}
+use Rattle.edit_history.specs.Session.{state}
+use Rattle.ospf_plan.specs.Branches.{Sessions}
+use Rattle.ospf_plan.specs.Run.{Answer, answers, answers_from, sessions_after, dump_after, lines_of, begun, text_of, run_answers, run_text, run_dump}
 use Rattle.ospf_plan.specs.WholeText.{IsAll, IsLonger, AppendsPrefix}
 use Rattle.ospf_plan.specs.WholeRun.{IfBoth, IsSummaryOf}
 use Rattle.ospf_plan.specs.declared.script.Summary.{Summary}
 
-answers_are : (bytes script : List ℕ) (s : Session) → begun (loaded bytes) ≡ Ok s → run_answers bytes script ≡ answers s (lines_of script)
+answers_are : (bytes script : List ℕ) (s : Sessions) → begun (loaded bytes) ≡ Ok s → run_answers bytes script ≡ answers s (lines_of script)
 unfolding run_answers
 answers_are bytes script s e = ap (λ r. answers_from r (lines_of script)) e
 
-dump_is : (bytes script : List ℕ) (s : Session) → begun (loaded bytes) ≡ Ok s → run_dump bytes script ≡ text (state (session_after s (lines_of script)))
+dump_is : (bytes script : List ℕ) (s : Sessions) → begun (loaded bytes) ≡ Ok s → run_dump bytes script ≡ text (state (sessions_after s (lines_of script) 0))
 unfolding run_dump
 dump_is bytes script s e = ap (λ r. dump_after r (lines_of script)) e
 
 -- what holds of the answers to the script that was read holds of the run's
-pub if_answers : (P : List Answer → Type 0) (dump script : Option (List ℕ)) (s : Session) (lines : List ℕ)
+pub if_answers : (P : List Answer → Type 0) (dump script : Option (List ℕ)) (s : Sessions) (lines : List ℕ)
     → IfSome dump (λ bytes. begun (loaded bytes) ≡ Ok s) → IsAll script lines → P (answers s (lines_of lines))
     → IfBoth dump script (λ bytes text. P (run_answers bytes text))
 if_answers P None script s lines loads all holds = tt
@@ -32,29 +33,29 @@ if_answers P (Some bytes) (Some known) s lines loads all holds =
     subst P (ap (λ l. answers s (lines_of l)) all ∙ sym (answers_are bytes known s loads)) holds
 
 -- the answers to the script that was read are written whole, or a prefix of them is; and they are counted
-pub if_written : (old new dump script : Option (List ℕ)) (s : Session) (lines : List ℕ)
+pub if_written : (old new dump script : Option (List ℕ)) (s : Sessions) (lines : List ℕ)
     → IfSome dump (λ bytes. begun (loaded bytes) ≡ Ok s) → IsAll script lines → Appends old new (text_of (answers s (lines_of lines)))
     → IfBoth dump script (λ bytes known. Appends old new (run_text bytes known))
 if_written old new = if_answers (λ told. Appends old new (text_of told))
 
-pub if_prefix : (old new dump script : Option (List ℕ)) (s : Session) (lines : List ℕ)
+pub if_prefix : (old new dump script : Option (List ℕ)) (s : Sessions) (lines : List ℕ)
     → IfSome dump (λ bytes. begun (loaded bytes) ≡ Ok s) → IsAll script lines → AppendsPrefix old new (text_of (answers s (lines_of lines)))
     → IfBoth dump script (λ bytes known. AppendsPrefix old new (run_text bytes known))
 if_prefix old new = if_answers (λ told. AppendsPrefix old new (text_of told))
 
-pub if_counted : (summary : Summary) (dump script : Option (List ℕ)) (s : Session) (lines : List ℕ)
+pub if_counted : (summary : Summary) (dump script : Option (List ℕ)) (s : Sessions) (lines : List ℕ)
     → IfSome dump (λ bytes. begun (loaded bytes) ≡ Ok s) → IsAll script lines → IsSummaryOf (answers s (lines_of lines)) summary
     → IfBoth dump script (λ bytes known. IsSummaryOf (run_answers bytes known) summary)
 if_counted summary = if_answers (λ told. IsSummaryOf told summary)
 
 -- the dump that the script leaves
-pub if_dump : (dump script : Option (List ℕ)) (s t : Session) (lines : List ℕ)
-    → IfSome dump (λ bytes. begun (loaded bytes) ≡ Ok s) → IsAll script lines → t ≡ session_after s (lines_of lines)
-    → IfBoth dump script (λ bytes known. text (state t) ≡ run_dump bytes known)
+pub if_dump : (dump script : Option (List ℕ)) (s t : Sessions) (lines : List ℕ)
+    → IfSome dump (λ bytes. begun (loaded bytes) ≡ Ok s) → IsAll script lines → t ≡ sessions_after s (lines_of lines)
+    → IfBoth dump script (λ bytes known. text (state (t 0)) ≡ run_dump bytes known)
 if_dump None script s t lines loads all ends = tt
 if_dump (Some bytes) None s t lines loads all ends = tt
 if_dump (Some bytes) (Some known) s t lines loads all ends =
-    ap (λ u. text (state u)) ends ∙ ap (λ l. text (state (session_after s (lines_of l)))) all ∙ sym (dump_is bytes known s loads)
+    ap (λ (u : Sessions). text (state (u 0))) ends ∙ ap (λ l. text (state (sessions_after s (lines_of l) 0))) all ∙ sym (dump_is bytes known s loads)
 
 -- a prefix of that dump is written
 pub if_dump_prefix : (old new dump script : Option (List ℕ)) (items whole : List ℕ) → items ≡ whole

@@ -1,9 +1,11 @@
+pub mod Branches
 pub mod Watched
 pub mod WholeText
 pub mod CommandLine
 pub mod OptionsFaults
 pub mod Replies
 pub mod Run
+pub mod Alone
 pub mod Lines
 pub mod Inputs
 pub mod Exit

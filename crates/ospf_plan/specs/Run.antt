@@ -9,7 +9,8 @@ use Rattle.edit_script.specs.declared.command.Command.{Command}
 use Rattle.edit_script.specs.declared.fault.ScriptFault.{ScriptFault}
 use Rattle.edit_script.specs.declared.fault.ScriptFault.TheVariants.{Empty, UnknownWord, MissingWord, ExtraWord, BadNumber, BadAddress, BadPrefix, BadBranch}
 use Rattle.edit_script.specs.Line.{meaning}
-use Rattle.edit_history.specs.Session.{Session, start, state}
+use Rattle.edit_history.specs.Session.{state}
+use Rattle.ospf_plan.specs.Branches.{Sessions, all_begin, in_branch}
 use Rattle.ospf_plan.specs.Replies.{reply_to, after, is_refusal, reply_text, script_text}
 
 -- ---- lines
@@ -24,35 +25,35 @@ pub record Answer : Type 0 where
   pub refused : Bool
 
 -- what a line is answered, by its meaning: nothing, where it has no words or is a comment
-abbrev pub answer_to : Session → Result (ℕ × Command) ScriptFault → List Answer
-answer_to s (Err Empty) = []
-answer_to s (Err fault) = record { text = script_text fault; refused = true } ∷ []
-answer_to s (Ok (branch, command)) = record { text = reply_text branch (reply_to s command); refused = is_refusal (reply_to s command) } ∷ []
+abbrev pub answer_to : Sessions → Result (ℕ × Command) ScriptFault → List Answer
+answer_to all (Err Empty) = []
+answer_to all (Err fault) = record { text = script_text fault; refused = true } ∷ []
+answer_to all (Ok (branch, command)) = record { text = reply_text branch (reply_to (all branch) command); refused = is_refusal (reply_to (all branch) command) } ∷ []
 
--- the session after a line
-abbrev pub after_line : Session → Result (ℕ × Command) ScriptFault → Session
-after_line s (Err fault) = s
-after_line s (Ok (branch, command)) = after s command
+-- the sessions after a line: its command is carried out in its branch, and the other branches stay
+abbrev pub after_line : Sessions → Result (ℕ × Command) ScriptFault → Sessions
+after_line all (Err fault) = all
+after_line all (Ok (branch, command)) = in_branch branch (after (all branch) command) all
 
--- what lines are answered, in order, each from the session that the lines before it left
-unfoldable pub answers : Session → List (List ℕ) → List Answer
-answers s [] = []
-answers s (line ∷ lines) = answer_to s (meaning line) ++ answers (after_line s (meaning line)) lines
+-- what lines are answered, in order, each from the sessions that the lines before it left
+unfoldable pub answers : Sessions → List (List ℕ) → List Answer
+answers all [] = []
+answers all (line ∷ lines) = answer_to all (meaning line) ++ answers (after_line all (meaning line)) lines
 
--- the session after lines
-unfoldable pub session_after : Session → List (List ℕ) → Session
-session_after s [] = s
-session_after s (line ∷ lines) = session_after (after_line s (meaning line)) lines
+-- the sessions after lines
+unfoldable pub sessions_after : Sessions → List (List ℕ) → Sessions
+sessions_after all [] = all
+sessions_after all (line ∷ lines) = sessions_after (after_line all (meaning line)) lines
 
 -- ---- a run
 
--- the session that begins at the database of a dump
-abbrev pub begun : Result Lists DumpFault → Result Session DumpFault
-begun (Ok lists) = Ok (start lists)
+-- the branches that begin at the database of a dump
+abbrev pub begun : Result Lists DumpFault → Result Sessions DumpFault
+begun (Ok lists) = Ok (all_begin lists)
 begun (Err fault) = Err fault
 
-abbrev pub answers_from : Result Session DumpFault → List (List ℕ) → List Answer
-answers_from (Ok s) lines = answers s lines
+abbrev pub answers_from : Result Sessions DumpFault → List (List ℕ) → List Answer
+answers_from (Ok all) lines = answers all lines
 answers_from (Err fault) lines = []
 
 -- what a script is answered on a dump; a refused dump answers nothing
@@ -67,10 +68,11 @@ text_of told = flat_map (λ answer. answer.text) told
 abbrev pub run_text : List ℕ → List ℕ → List ℕ
 run_text dump script = text_of (run_answers dump script)
 
-abbrev pub dump_after : Result Session DumpFault → List (List ℕ) → List ℕ
-dump_after (Ok s) lines = text (state (session_after s lines))
+abbrev pub dump_after : Result Sessions DumpFault → List (List ℕ) → List ℕ
+dump_after (Ok all) lines = text (state (sessions_after all lines 0))
 dump_after (Err fault) lines = []
 
--- the dump that a script leaves: the text of the edits that are not undone, folded over the loaded database
+-- the dump that a script leaves, which is that of branch 0: the text of its edits that are not undone, folded over
+-- the loaded database
 unfoldable pub run_dump : List ℕ → List ℕ → List ℕ
 run_dump dump script = dump_after (begun (loaded dump)) (lines_of script)

@@ -5,6 +5,7 @@ ghost use Rattle.std.specs.Io.KnownBytes.{IsAtEnd};
 ghost use Rattle.ospf_plan.specs.Watched.{inner_of, has_failed};
 ghost use Rattle.ospf_plan.specs.WholeText.{IsAll, IsLonger, ConsumesAtMost};
 ghost use Rattle.lsdb.specs.Loading.{loaded, IsFirst};
+ghost use Rattle.ospf_plan.specs.Branches.{sessions_of};
 ghost use Rattle.ospf_plan.specs.Run.{begun};
 ghost use Rattle.ospf_plan.specs.Inputs.{IsDumpEnd, IsScriptEnd, IsAccepted};
 
@@ -28,7 +29,7 @@ pub(crate) fn read_branches<A: Allocator + Copy, R: Read>(
     dump: &mut Watched<R>,
 ) -> Result<Branches<A>, RunFault>
     requires { has_failed dump.old ≡ false }
-    ensures loads { IfOk result (λ branches. IfSome (R.remaining (inner_of dump.old)) (λ bytes. begun (loaded bytes) ≡ Ok branches)) }
+    ensures loads { IfOk result (λ branches. IfSome (R.remaining (inner_of dump.old)) (λ bytes. begun (loaded bytes) ≡ Ok (sessions_of branches))) }
     ensures accepted { OnOk result (IfSome (R.remaining (inner_of dump.old)) IsAccepted) }
     ensures refused { IfErr result (IsDumpEnd (R.remaining (inner_of dump.old))) }
     ensures failed { (result ≡ Err RunFault.Read) ↔ (has_failed dump.new ≡ true) }

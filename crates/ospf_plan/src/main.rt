@@ -5,6 +5,7 @@
 //! the command line names.
 #![tactic(auto)]
 
+mod asking;
 mod branches;
 mod command_line;
 mod exit;
@@ -13,6 +14,7 @@ mod files;
 mod finish;
 mod given;
 mod inputs;
+mod laws;
 mod lines;
 mod options_fault;
 mod reading;

@@ -6,6 +6,7 @@ ghost use Rattle.ospf_plan.specs.Watched.{inner_of, has_failed};
 ghost use Rattle.ospf_plan.specs.WholeText.{AppendsPrefix, ConsumesAtMost};
 ghost use Rattle.lsdb.specs.Text.{text};
 ghost use Rattle.edit_history.specs.Session.{state};
+ghost use Rattle.ospf_plan.specs.Branches.{sessions_of};
 ghost use Rattle.ospf_plan.specs.Run.{run_answers, run_text, run_dump};
 ghost use Rattle.ospf_plan.specs.Streams.{at_call, at_return, contents_of, has_any_failed};
 ghost use Rattle.ospf_plan.specs.WholeRun.{IfBoth, IsSummaryOf, MayEndRun, IsBeforeReplies, KeepsBoth};
@@ -108,7 +109,7 @@ fn run_with_out<A: Allocator + Copy, R: Read, S: Read, W: Write, D: Write>(
     ensures dump_bounded { ConsumesAtMost (R.remaining (inner_of dump.old)) (R.remaining (inner_of dump.new)) 16777217 }
     ensures script_bounded { ConsumesAtMost (S.remaining (inner_of script.old)) (S.remaining (inner_of script.new)) 1048577 }
 {
-    let (summary, branches) = answer_all(alloc, dump, script, replies)?;
+    let (summary, mut branches) = answer_all(alloc, dump, script, replies)?;
     let end = branches.dump(0)?;
     write_and_flush(end.as_slice(), replies, out)?;
     Ok(summary)
@@ -160,7 +161,7 @@ fn answer_all<A: Allocator + Copy, R: Read, S: Read, W: Write>(
         (λ bytes script. Appends (W.contents (inner_of replies.old)) (W.contents (inner_of replies.new))
         (run_text bytes script))) }
     ensures dump { IfOk result (λ done. IfBoth (R.remaining (inner_of dump.old)) (S.remaining (inner_of script.old))
-        (λ bytes script. text (state done.1) ≡ run_dump bytes script)) }
+        (λ bytes script. text (state (sessions_of done.1 0)) ≡ run_dump bytes script)) }
     ensures summary { IfOk result (λ done. IfBoth (R.remaining (inner_of dump.old)) (S.remaining (inner_of script.old))
         (λ bytes script. IsSummaryOf (run_answers bytes script) done.0)) }
     ensures prefix { IfBoth (R.remaining (inner_of dump.old)) (S.remaining (inner_of script.old))

@@ -5,7 +5,8 @@ ghost use Rattle.std.specs.Io.KnownBytes.{Appends};
 ghost use Rattle.ospf_plan.specs.Watched.{inner_of, has_failed};
 ghost use Rattle.ospf_plan.specs.WholeText.{AppendsPrefix};
 ghost use Rattle.edit_script.specs.Line.{meaning};
-ghost use Rattle.ospf_plan.specs.Run.{Answer, answer_to, after_line, answers, session_after, lines_of, text_of};
+ghost use Rattle.ospf_plan.specs.Run.{Answer, answer_to, after_line, answers, sessions_after, lines_of, text_of};
+ghost use Rattle.ospf_plan.specs.Branches.{sessions_of};
 ghost use Rattle.ospf_plan.specs.WholeRun.{refused_count};
 
 use crate::branches::Branches;
@@ -49,8 +50,8 @@ fn carry_out<A: Allocator + Copy>(
     branches: &mut Branches<A>,
     line: &[u8],
 ) -> Result<Option<Answer<A>>, AllocError>
-    ensures answer { IfOk result (λ told. option_to_list told ≡ answer_to branches.old (meaning line.now)) }
-    ensures session { OnOk result (branches.new ≡ after_line branches.old (meaning line.now)) }
+    ensures answer { IfOk result (λ told. option_to_list told ≡ answer_to (sessions_of branches.old) (meaning line.now)) }
+    ensures sessions { OnOk result (sessions_of branches.new ≡ after_line (sessions_of branches.old) (meaning line.now)) }
 {
     match parse(line) {
         Err(ScriptFault::Empty) => Ok(None),
@@ -79,12 +80,12 @@ fn answer_line<A: Allocator + Copy, W: Write>(
     requires open { has_failed replies.old ≡ false }
     requires room { (summary.old.commands + 1 < 2 ^ 64) × (summary.old.refused + 1 < 2 ^ 64) }
     ensures whole { OnOk result (Appends (W.contents (inner_of replies.old)) (W.contents (inner_of replies.new))
-        (text_of (answer_to branches.old (meaning line.now)))) }
-    ensures session { OnOk result (branches.new ≡ after_line branches.old (meaning line.now)) }
-    ensures commands { OnOk result (summary.new.commands ≡ summary.old.commands + length (answer_to branches.old (meaning line.now))) }
-    ensures refused { OnOk result (summary.new.refused ≡ summary.old.refused + refused_count (answer_to branches.old (meaning line.now))) }
+        (text_of (answer_to (sessions_of branches.old) (meaning line.now)))) }
+    ensures sessions { OnOk result (sessions_of branches.new ≡ after_line (sessions_of branches.old) (meaning line.now)) }
+    ensures commands { OnOk result (summary.new.commands ≡ summary.old.commands + length (answer_to (sessions_of branches.old) (meaning line.now))) }
+    ensures refused { OnOk result (summary.new.refused ≡ summary.old.refused + refused_count (answer_to (sessions_of branches.old) (meaning line.now))) }
     ensures prefix { AppendsPrefix (W.contents (inner_of replies.old)) (W.contents (inner_of replies.new))
-        (text_of (answer_to branches.old (meaning line.now))) }
+        (text_of (answer_to (sessions_of branches.old) (meaning line.now))) }
     ensures failed { (result ≡ Err RunFault.Write) ↔ (has_failed replies.new ≡ true) }
     ensures memory { has_failed replies.new ≡ false → IfErr result (λ fault. fault ≡ RunFault.OutOfMemory) }
 {
@@ -109,12 +110,12 @@ pub(crate) fn answer_script<A: Allocator + Copy, W: Write>(
     requires open { has_failed replies.old ≡ false }
     requires size { length script.now ≤ 1048576 }
     ensures whole { OnOk result (Appends (W.contents (inner_of replies.old)) (W.contents (inner_of replies.new))
-        (text_of (answers branches.old (lines_of script.now)))) }
-    ensures session { OnOk result (branches.new ≡ session_after branches.old (lines_of script.now)) }
-    ensures commands { IfOk result (λ summary. summary.commands ≡ length (answers branches.old (lines_of script.now))) }
-    ensures refused { IfOk result (λ summary. summary.refused ≡ refused_count (answers branches.old (lines_of script.now))) }
+        (text_of (answers (sessions_of branches.old) (lines_of script.now)))) }
+    ensures sessions { OnOk result (sessions_of branches.new ≡ sessions_after (sessions_of branches.old) (lines_of script.now)) }
+    ensures commands { IfOk result (λ summary. summary.commands ≡ length (answers (sessions_of branches.old) (lines_of script.now))) }
+    ensures refused { IfOk result (λ summary. summary.refused ≡ refused_count (answers (sessions_of branches.old) (lines_of script.now))) }
     ensures prefix { AppendsPrefix (W.contents (inner_of replies.old)) (W.contents (inner_of replies.new))
-        (text_of (answers branches.old (lines_of script.now))) }
+        (text_of (answers (sessions_of branches.old) (lines_of script.now))) }
     ensures failed { (result ≡ Err RunFault.Write) ↔ (has_failed replies.new ≡ true) }
     ensures memory { has_failed replies.new ≡ false → IfErr result (λ fault. fault ≡ RunFault.OutOfMemory) }
 {

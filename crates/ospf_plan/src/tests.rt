@@ -1,6 +1,7 @@
 //! Whole runs and their parts, with expected values from outside the program.
 
 mod doubles;
+mod dumps;
 mod exits;
 mod failing;
 mod memory;
@@ -8,4 +9,5 @@ mod options;
 mod outcome;
 mod records;
 mod runs;
+mod sessions;
 mod watching;

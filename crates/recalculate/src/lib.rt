@@ -1,6 +1,19 @@
 //! A planner: a link state database with the edits that are done on it, and those that were undone.
 #![tactic(auto)]
 
+mod attached;
+mod counts;
+mod laws;
 mod planner;
+mod prefer;
+mod results;
+mod table;
 
+pub use attached::routers;
+pub use counts::Info;
+pub use laws::routers_are_attached;
 pub use planner::Planner;
+pub use table::{Table, TableFault, table_of};
+
+#[cfg(test)]
+mod info_tests;

@@ -1,8 +1,11 @@
 //! A session of edits.
 
+use crate::table::{Table, TableFault, table_of};
 use edit_history::{EditFault, History, RedoFault, UndoFault, apply};
 use edit_script::Edit;
+use lsa_codec::RouterId;
 use lsdb::Database;
+use spf::Meter;
 use std::alloc::{AllocError, Allocator, Global};
 use std::marker::Model;
 
@@ -18,6 +21,7 @@ const MOST_EDITS: usize = 10_000;
 pub struct Planner<A: Allocator = Global> {
     database: Database<A>,
     history: History<A>,
+    meter: Meter,
 }
 
 impl<A: Allocator> Model for Planner<A> {
@@ -32,10 +36,11 @@ impl<A: Allocator> Model for Planner<A> {
 }
 
 impl<A: Allocator + Copy> Planner<A> {
-    ghost use Rattle.std.specs.Prelude.{◌≡◌, ◌≢◌, ◌≤◌, ◌↔◌, Ok, Err, length, IsOk, OnOk, OnErr, IfOk, IfErr, IsErrOf};
+    ghost use Rattle.std.specs.Prelude.{◌≡◌, ◌≢◌, ◌≤◌, ◌↔◌, Ok, Err, Some, length, IsOk, OnOk, OnErr, IfOk, IfErr, IsErrOf};
     ghost use Rattle.lsdb.specs.Places.{lists_of};
     ghost use Rattle.lsdb.specs.Text.{text};
     ghost use Rattle.edit_history.specs.declared.fault.EditFault.TheVariants.{HistoryFull, OutOfMemory};
+    ghost use Rattle.recalculate.specs.Tables.{table_in, FaultMeans};
     ghost use Rattle.edit_history.specs.Session.{start, state, effects, most_edits, edited, moved_back, moved_on};
 
     /// The session that begins at a database: no edit is done, and none is undone. It takes no
@@ -48,6 +53,7 @@ impl<A: Allocator + Copy> Planner<A> {
         Planner {
             database,
             history: History::new(alloc),
+            meter: Meter::new(),
         }
     }
 
@@ -133,5 +139,72 @@ impl<A: Allocator + Copy> Planner<A> {
         ensures { result ≡ length self.now.undone }
     {
         self.history.undone()
+    }
+
+    /// The routing table of a router in the session's database (RFC 2328, 16). The session stays as
+    /// it is, also after an error.
+    ///
+    /// # Errors
+    ///
+    /// [`NoRouter`](TableFault::NoRouter) exactly where the router is attached to no area, and
+    /// [`OutOfMemory`](TableFault::OutOfMemory).
+    pub fn table(&mut self, router: RouterId) -> Result<Table<A>, TableFault>
+        ensures table { IfOk result (λ table. table_in (state self.old) router ≡ Some table) }
+        ensures fault { IfErr result (FaultMeans (table_in (state self.old) router)) }
+        ensures session { self.new ≡ self.old }
+    {
+        table_of(
+            self.database.alloc(),
+            &self.database,
+            router,
+            &mut self.meter,
+        )
+    }
+
+    /// The routing table of a router in the database that the session began at. The session stays
+    /// as it is, also after an error.
+    ///
+    /// # Errors
+    ///
+    /// As those of [`table`](Planner::table), for that database.
+    pub fn base_table(&mut self, router: RouterId) -> Result<Table<A>, TableFault>
+        ensures table { IfOk result (λ table. table_in self.old.base router ≡ Some table) }
+        ensures fault { IfErr result (FaultMeans (table_in self.old.base router)) }
+        ensures session { self.new ≡ self.old }
+    {
+        let done = self.undo_all();
+        let table = self.table(router);
+        self.redo_all(done);
+        table
+    }
+
+    /// A copy of the database that the session began at. The session stays as it is, also where
+    /// memory runs out, which is the error.
+    pub fn base(&mut self) -> Result<Database<A>, AllocError>
+        ensures base { IfOk result (λ database. lists_of database ≡ self.old.base) }
+        ensures session { self.new ≡ self.old }
+    {
+        let done = self.undo_all();
+        let copy = self.database.clone_of();
+        self.redo_all(done);
+        copy
+    }
+
+    /// Takes all done edits back, and tells how many they were.
+    fn undo_all(&mut self) -> usize
+        ensures count { result ≡ length self.old.done }
+        ensures session { self.new ≡ moved_back (length self.old.done) self.old }
+    {
+        let done = self.done();
+        let _ = self.history.undo(&mut self.database, done);
+        done
+    }
+
+    /// Carries the first `count` undone edits out again.
+    fn redo_all(&mut self, count: usize)
+        requires { count ≤ length self.old.undone }
+        ensures { self.new ≡ moved_on count self.old }
+    {
+        let _ = self.history.redo(&mut self.database, count);
     }
 }

@@ -20,7 +20,7 @@ returns-clause-replies g c =
 pub returns-clause-dump : goal.returns-clause-dump
 returns-clause-dump g c =
     let all : IsAll (g.S.Read.remaining (inner_of c.args.script.now)) c.as_slice.result.now = rw c.as_slice.ensures.value c.in_ok-text.ensures.whole in
-    if_dump _ _ _ _ _ c.in_ok-branches.ensures.loads all c.in_ok-summary.ensures.session
+    if_dump _ _ _ _ _ c.in_ok-branches.ensures.loads all c.in_ok-summary.ensures.sessions
 
 pub returns-clause-summary : goal.returns-clause-summary
 returns-clause-summary g c =

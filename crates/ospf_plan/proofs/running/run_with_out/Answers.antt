@@ -7,7 +7,7 @@ pub returns-in_err-end-clause-out_prefix : goal.returns-in_err-end-clause-out_pr
 returns-in_err-end-clause-out_prefix g c = if_nothing _ _ _ _
 
 pub returns-clause-out_prefix : goal.returns-clause-out_prefix
-returns-clause-out_prefix g c = if_dump_prefix _ _ _ _ _ _ (c.as_slice.ensures.value ∙ c.in_ok-end.ensures) c.in_ok-summary.ensures.dump c.write_and_flush.ensures.prefix
+returns-clause-out_prefix g c = if_dump_prefix _ _ _ _ _ _ (c.as_slice.ensures.value ∙ c.in_ok-end.ensures.dump) c.in_ok-summary.ensures.dump c.write_and_flush.ensures.prefix
 
 pub returns-clause-replies_prefix : goal.returns-clause-replies_prefix
 returns-clause-replies_prefix g c = if_prefix_kept _ _ _ _ _ run_text c.in_ok-summary.ensures.prefix c.write_and_flush.ensures.replies

@@ -22,19 +22,19 @@ lines-preserved g c =
     let next : lines_left c.lines.rest ≡ line ∷ more = rw c.in-Some.is c.first_line.ensures.lines in
     record {
       still_open = search rules;
-      written = rw c.in_ok-answer_line.ensures.session
+      written = rw c.in_ok-answer_line.ensures.sessions
           (written_line _ _ _ _ _ _ (lines_left c.lines.rest) line more c.lines.invariant.written next c.in_ok-answer_line.ensures.whole);
-      commands = rw c.in_ok-answer_line.ensures.session
+      commands = rw c.in_ok-answer_line.ensures.sessions
           (commands_line _ _ _ _ (lines_left c.lines.rest) line more c.lines.invariant.commands next c.in_ok-answer_line.ensures.commands);
-      refused = rw c.in_ok-answer_line.ensures.session
+      refused = rw c.in_ok-answer_line.ensures.sessions
           (refused_line _ _ _ _ (lines_left c.lines.rest) line more c.lines.invariant.refused next c.in_ok-answer_line.ensures.refused);
     }
 
 pub returns-clause-whole : goal.returns-clause-whole
 returns-clause-whole g c = written_all _ _ _ _ _ (lines_left c.lines.rest) c.lines.invariant.written (rw c.in_default.is refl)
 
-pub returns-clause-session : goal.returns-clause-session
-returns-clause-session g c = written_end _ _ _ _ _ (lines_left c.lines.rest) c.lines.invariant.written (rw c.in_default.is refl)
+pub returns-clause-sessions : goal.returns-clause-sessions
+returns-clause-sessions g c = written_end _ _ _ _ _ (lines_left c.lines.rest) c.lines.invariant.written (rw c.in_default.is refl)
 
 pub returns-clause-commands : goal.returns-clause-commands
 returns-clause-commands g c = commands_all _ _ _ (lines_left c.lines.rest) c.lines.invariant.commands (rw c.in_default.is refl)

@@ -1,5 +1,6 @@
 use Rattle.std.proofs.Common.{◌≡◌, ◌+◌, false, length}
 use Rattle.ospf_plan.specs.Watched.{inner_of, has_failed}
+use Rattle.ospf_plan.specs.Branches.{sessions_of}
 use Rattle.ospf_plan.specs.Run.{lines_of, answers}
 use Rattle.ospf_plan.specs.Lines.{lines_left}
 use Rattle.ospf_plan.specs.WholeRun.{refused_count}
@@ -10,9 +11,9 @@ abbrev pub invariant-lines : goal.invariant-lines
 invariant-lines g l = record {
   still_open : has_failed l.replies ≡ false;
   written : Written (g.W.Write.contents (inner_of l.initial.replies)) (g.W.Write.contents (inner_of l.replies))
-      l.initial.branches (lines_of l.script) l.branches (lines_left l.rest);
-  commands : l.summary.commands + length (answers l.branches (lines_left l.rest)) ≡ length (answers l.initial.branches (lines_of l.script));
-  refused : l.summary.refused + refused_count (answers l.branches (lines_left l.rest)) ≡ refused_count (answers l.initial.branches (lines_of l.script));
+      (sessions_of l.initial.branches) (lines_of l.script) (sessions_of l.branches) (lines_left l.rest);
+  commands : l.summary.commands + length (answers (sessions_of l.branches) (lines_left l.rest)) ≡ length (answers (sessions_of l.initial.branches) (lines_of l.script));
+  refused : l.summary.refused + refused_count (answers (sessions_of l.branches) (lines_left l.rest)) ≡ refused_count (answers (sessions_of l.initial.branches) (lines_of l.script));
 }
 
 abbrev pub decreases-lines : goal.decreases-lines

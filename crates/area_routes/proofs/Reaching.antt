@@ -1,0 +1,67 @@
+-- Vertices that are reached: the step of the loop that collects them, and the distances and hops of an area.
+use Rattle.std.proofs.Common.{◌≡◌, ℕ, ◌+◌, ◌<◌, List, [], ◌∷◌, ◌++◌, map, take, get_or, length, Option, Some, sym, ap, ◌∙◌}
+use Rattle.std.proofs.Math.Path.{fun_ext}
+use Rattle.std.specs.List.{filter_map, cons_option}
+use Rattle.std.proofs.lemmas.List.{take_more}
+use Rattle.std.proofs.lemmas.Simd.{map-map}
+use Rattle.lsa_codec.specs.declared.address.RouterId.{RouterId}
+use Rattle.area_graph.specs.declared.vertex.Vertex.{Vertex}
+use Rattle.area_graph.specs.declared.vertex.Vertex.TheVariants.{Router}
+use Rattle.area_graph.specs.Area.{used, vertex_of}
+use Rattle.area_graph.specs.AreaEdges.{area_edges}
+use Rattle.area_graph.specs.AllPaths.{distance_of}
+use Rattle.area_graph.specs.Topology.{Topology}
+use Rattle.area_graph.proofs.GraphLemmas.{distance_of-area}
+use Rattle.spf.specs.Distances.{Distances}
+use Rattle.spf.proofs.Trees.{distances-are}
+use Rattle.next_hops.specs.declared.hop.Hop.{Hop}
+use Rattle.next_hops.specs.FirstHops.{hops_of}
+use Rattle.next_hops.proofs.HopsOf.{hops_of-edges}
+use Rattle.lsa_codec.specs.declared.address.AreaId.{AreaId}
+use Rattle.std.specs.List.{slice_get}
+use Rattle.area_routes.specs.Reached.{ReachedValue, reached_by}
+use Rattle.area_routes.specs.AreaResults.{AreOf, given_by, area_result}
+use Rattle.area_routes.proofs.Loops.{filter_map_adds}
+
+-- one more item of a list, with what there is of it
+pub found_more : {X Y : Type 0} (f : X → Option Y) (xs : List X) (i : ℕ) (x : X) → i < length xs → x ≡ get_or xs i x → (old new : List Y)
+    → old ≡ filter_map f (take i xs) → new ≡ old ++ cons_option (f x) [] → new ≡ filter_map f (take (i + 1) xs)
+found_more {X} {Y} f xs i x lt at old new before step =
+    step ∙ ap (λ (ys : List Y). ys ++ cons_option (f x) []) before ∙ sym ((filter_map_adds f).push (take i xs) x)
+    ∙ ap (λ (ys : List X). filter_map f ys) (ap (λ (y : X). take i xs ++ y ∷ []) at ∙ sym (take_more xs i x lt))
+
+-- the distance of each vertex by its LSA
+pub distances_by_lsa : (lsas : List (List ℕ)) (root : RouterId) (t : Topology) (tree : Distances) (hops : List (List Hop)) → AreOf lsas root t tree hops
+    → tree.distances ≡ map (λ l. distance_of (area_edges (used lsas)) (Router root) (vertex_of l)) (used lsas)
+distances_by_lsa lsas root t tree hops are =
+    let d : Vertex → Option ℕ = λ v. distance_of (area_edges (used lsas)) (Router root) v in
+    distances-are t (Router root) tree are.of_graph
+    ∙ ap (λ (f : Vertex → Option ℕ). map f t.vertices) (fun_ext (λ v. distance_of-area lsas t are.of_area (Router root) v))
+    ∙ ap (λ (vs : List Vertex). map d vs) are.of_area.vertices ∙ map-map d vertex_of (used lsas)
+
+-- the hops of each vertex by its LSA
+pub hops_by_lsa : (lsas : List (List ℕ)) (root : RouterId) (t : Topology) (tree : Distances) (hops : List (List Hop)) → AreOf lsas root t tree hops
+    → hops ≡ map (λ l. hops_of (area_edges (used lsas)) (Router root) (vertex_of l)) (used lsas)
+hops_by_lsa lsas root t tree hops are =
+    let h : Vertex → List Hop = λ v. hops_of (area_edges (used lsas)) (Router root) v in
+    are.of_tree
+    ∙ ap (λ (f : Vertex → List Hop). map f t.vertices) (fun_ext (λ v. hops_of-edges t are.of_area.shape (area_edges (used lsas)) (λ e i. (are.of_area.edges e).0 i) (λ e i. (are.of_area.edges e).1 i) (Router root) v))
+    ∙ ap (λ (vs : List Vertex). map h vs) are.of_area.vertices ∙ map-map h vertex_of (used lsas)
+
+-- the root of a tree is one vertex
+pub one_root : (vs : List Vertex) (i j : ℕ) (a b : RouterId) → i ≡ j → slice_get vs i ≡ Some (Router a) → slice_get vs j ≡ Some (Router b) → a ≡ b
+one_root vs i j a b e p q = cc
+
+-- what the vertices give that are found by distance and hops is what the area gives
+pub given_by-area : (area : AreaId) (lsas : List (List ℕ)) (root : RouterId) (t : Topology) (tree : Distances) (hops : List (List Hop)) → AreOf lsas root t tree hops
+    → (us : List (List ℕ)) → us ≡ used lsas → (rs : List ReachedValue)
+    → ((distance : Vertex → Option ℕ) (first : Vertex → List Hop) → tree.distances ≡ map (λ l. distance (vertex_of l)) us → hops ≡ map (λ l. first (vertex_of l)) us → rs ≡ filter_map (reached_by distance first) us)
+    → given_by area root rs ≡ area_result area lsas root
+unfolding area_result
+given_by-area area lsas root t tree hops are us is rs found =
+    let d : Vertex → Option ℕ = λ v. distance_of (area_edges (used lsas)) (Router root) v in
+    let h : Vertex → List Hop = λ v. hops_of (area_edges (used lsas)) (Router root) v in
+    ap (λ (xs : List ReachedValue). given_by area root xs)
+    (found d h (distances_by_lsa lsas root t tree hops are ∙ ap (λ (ls : List (List ℕ)). map (λ l. d (vertex_of l)) ls) (sym is))
+    (hops_by_lsa lsas root t tree hops are ∙ ap (λ (ls : List (List ℕ)). map (λ l. h (vertex_of l)) ls) (sym is))
+    ∙ ap (λ (ls : List (List ℕ)). filter_map (reached_by d h) ls) is)

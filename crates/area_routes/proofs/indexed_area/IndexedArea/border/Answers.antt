@@ -1,0 +1,20 @@
+use Rattle.std.proofs.Common.{◌<◌, ◌^◌, Option, Some, None, IfSome, Bor, sym, subst, ◌∙◌}
+use Rattle.std.specs.Prelude.{◌&&◌}
+use Rattle.std.specs.Option.{option_copied}
+use Rattle.area_routes.specs.declared.entry.EntryKind.TheVariants.{Border}
+use Rattle.area_routes.specs.Inter.{same_kind, same_router}
+use Rattle.area_routes.specs.Values.{EntryValue}
+use Rattle.area_routes.proofs.Bounds.{found_has}
+use Rattle.area_routes.proofs.indexed_area.IndexedArea.border.Goals as goal
+
+-- what holds of the value holds behind the reference
+behind : (P : EntryValue → Type 0) (r : Option (Bor EntryValue)) → IfSome (option_copied r) P → IfSome r (λ e. P e.now)
+behind P None h = tt
+behind P (Some e) h = h
+
+pub returns-clause-cheap : goal.returns-clause-cheap
+returns-clause-cheap g c =
+    let cheap : EntryValue → Type 0 = λ e. e.cost < 2 ^ 33 in
+    behind cheap c.get.result
+    (subst (λ (o : Option EntryValue). IfSome o cheap) (sym (c.get.ensures ∙ c.self.invariant.borders_of c.args.router))
+    (found_has cheap (λ e. same_kind e.kind Border && same_router e.router c.args.router) c.self.inside.result.now.entries c.self.invariant.cheap.entries))

@@ -1,0 +1,14 @@
+use Rattle.std.proofs.Common.{◌≡◌, ◌++◌, [], Some, Option, subst, sym, ◌∙◌}
+use Rattle.std.specs.List.{cons_option}
+use Rattle.std.specs.Option.{option_and_then}
+use Rattle.lsa_codec.specs.declared.address.RouterId.{RouterId}
+use Rattle.area_routes.specs.Best.{Gathers}
+use Rattle.area_routes.specs.Inter.{asbr_told, candidate_to}
+use Rattle.area_routes.specs.Order.{router_cmp}
+use Rattle.area_routes.proofs.inter_area.admit_asbr.Goals as goal
+
+pub returns-in_ok-admit_summary : goal.returns-in_ok-admit_summary
+returns-in_ok-admit_summary g c = λ cs before.
+    let told : Some c.in-Some.asbr ≡ asbr_told c.args.router c.args.area.now c.args.lsa.now = sym c.in-Some.is ∙ c.asbr_told.ensures in
+    let P : Option RouterId → Type 0 = λ o. Gathers router_cmp (cs ++ cons_option (option_and_then (candidate_to c.args.router c.args.area.now c.args.lsa.now) o) []) c.admit_summary.new.ways in
+    subst P told (c.in_ok-admit_summary.ensures cs before)

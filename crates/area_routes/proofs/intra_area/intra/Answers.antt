@@ -1,0 +1,49 @@
+use Rattle.std.proofs.Common.{◌≡◌, ◌<◌, ◌^◌, ℕ, List, take, subst}
+use Rattle.std.specs.List.{All, flat_map}
+use Rattle.std.proofs.lemmas.List.{take_all}
+use Rattle.std.proofs.lemmas.Result.{IfOk-weaker}
+use Rattle.std.proofs.lemmas.List.Elements.{All-map}
+use Rattle.lsa_codec.specs.Prefix.{Net}
+use Rattle.area_routes.specs.Best.{Gathers}
+use Rattle.area_routes.specs.Candidate.{Candidate}
+use Rattle.area_routes.specs.Intra.{intra_candidate, intra_candidates, intra_of}
+use Rattle.area_routes.specs.Order.{prefix_cmp}
+use Rattle.area_routes.specs.Values.{AreaResultValue, AreCheap}
+use Rattle.area_routes.proofs.Bounds.{All-flat_map, All-taken}
+use Rattle.area_routes.proofs.Loops.{adds_step, flat_map_adds}
+use Rattle.area_routes.proofs.intra_area.intra.Goals as goal
+
+pub loop-area-preserved : goal.loop-area-preserved
+loop-area-preserved g c = (
+  adds_step (flat_map_adds intra_candidates) (λ cs. Gathers prefix_cmp cs c.loop-area.ways) (λ cs. Gathers prefix_cmp cs c.admit_area.new.ways)
+      c.args.results.now c.loop-area.area-index c.area-item.result c.loop-area-test.true c.area-item.is c.loop-area.invariant.0 c.in_ok-admit_area.ensures.admitted,
+  All-taken AreCheap c.args.results.now c.loop-area.area-index c.area-item.result c.loop-area-test.true c.area-item.is c.admit_area.ensures.cheap c.loop-area.invariant.1,
+)
+
+-- all areas are taken at the end
+whole : (results : List AreaResultValue) (i : ℕ) (P : List AreaResultValue → Type 0) → take i results ≡ results → P (take i results) → P results
+whole results i P all p = subst P all p
+
+-- what areas offer is cheap where the areas are
+cheap : (results : List AreaResultValue) → All AreCheap results → All (λ c. c.rank.cost < 2 ^ 33) (flat_map intra_candidates results)
+cheap results a = All-flat_map (λ (c : Candidate Net). c.rank.cost < 2 ^ 33) AreCheap intra_candidates (λ r h. All-map (λ (c : Candidate Net). c.rank.cost < 2 ^ 33) (intra_candidate r.area) r.offers h.offers) results a
+
+pub returns-clause-routes : goal.returns-clause-routes
+unfolding intra_of
+returns-clause-routes g c =
+    let all = take_all c.loop-area.area-index c.args.results.now c.loop-area-test.false in
+    let at = whole c.args.results.now c.loop-area.area-index (λ rs. Gathers prefix_cmp (flat_map intra_candidates rs) c.loop-area.ways) all c.loop-area.invariant.0 in
+    IfOk-weaker c.into_routes.result _ _ (λ x h. h (flat_map intra_candidates c.args.results.now) at) c.into_routes.ensures.routes
+
+pub returns-clause-sorted : goal.returns-clause-sorted
+returns-clause-sorted g c =
+    let all = take_all c.loop-area.area-index c.args.results.now c.loop-area-test.false in
+    let at = whole c.args.results.now c.loop-area.area-index (λ rs. Gathers prefix_cmp (flat_map intra_candidates rs) c.loop-area.ways) all c.loop-area.invariant.0 in
+    IfOk-weaker c.into_routes.result _ _ (λ x h. h (flat_map intra_candidates c.args.results.now) at) c.into_routes.ensures.sorted
+
+pub returns-clause-small : goal.returns-clause-small
+returns-clause-small g c =
+    let all = take_all c.loop-area.area-index c.args.results.now c.loop-area-test.false in
+    let at = whole c.args.results.now c.loop-area.area-index (λ rs. Gathers prefix_cmp (flat_map intra_candidates rs) c.loop-area.ways) all c.loop-area.invariant.0 in
+    let below = cheap c.args.results.now (whole c.args.results.now c.loop-area.area-index (λ rs. All AreCheap rs) all c.loop-area.invariant.1) in
+    IfOk-weaker c.into_routes.result _ _ (λ x h. h (2 ^ 33) (flat_map intra_candidates c.args.results.now) at below) c.into_routes.ensures.small

@@ -1,0 +1,15 @@
+use Rattle.std.proofs.Common.{rules}
+use Rattle.std.proofs.lemmas.List.Sorted.{answers_always}
+use Rattle.area_routes.proofs.Orders.{prefix_total}
+use Rattle.area_routes.proofs.Searching.{found_at, not_found}
+use Rattle.area_routes.proofs.lookup.route_to.Goals as goal
+
+pub returns-in-Ok : goal.returns-in-Ok
+returns-in-Ok g c =
+    let at = c.in-Ok.ensures.position (λ r. r.net) (answers_always _ _ _ (λ f a r h called. search rules)) in
+    found_at prefix_total (λ r. r.net) c.args.net c.args.routes.now c.in-Ok.index c.requires c.in-Ok.ensures.bound at c.index-routes-index.result c.index-routes-index.is
+
+pub returns-in-Err : goal.returns-in-Err
+returns-in-Err g c =
+    let at = c.in-Err.ensures.position (λ r. r.net) (answers_always _ _ _ (λ f a r h called. search rules)) in
+    not_found prefix_total (λ r. r.net) c.args.net c.args.routes.now c.in-Err.field-0 c.requires at

@@ -1,0 +1,30 @@
+-- What an area gives, as a function of its LSAs and the calculating router (RFC 2328, 16.1).
+use Rattle.std.specs.Prelude.{◌≡◌, ℕ, List, ◌++◌}
+use Rattle.lsa_codec.specs.declared.address.AreaId.{AreaId}
+use Rattle.lsa_codec.specs.declared.address.RouterId.{RouterId}
+use Rattle.area_graph.specs.declared.vertex.Vertex.TheVariants.{Router}
+use Rattle.area_graph.specs.Area.{used}
+use Rattle.area_graph.specs.Topology.{Topology}
+use Rattle.area_graph.specs.Graphs.{IsGraphOf}
+use Rattle.spf.specs.Distances.{Distances, IsTreeOf}
+use Rattle.next_hops.specs.declared.hop.Hop.{Hop}
+use Rattle.next_hops.specs.FirstHops.{table_of}
+use Rattle.area_routes.specs.Values.{AreaResultValue}
+use Rattle.area_routes.specs.Reached.{ReachedValue, reached_from}
+use Rattle.area_routes.specs.Networks.{network_offers}
+use Rattle.area_routes.specs.Stubs.{stub_offers}
+use Rattle.area_routes.specs.Entries.{area_entries}
+
+-- what the vertices that are reached give
+abbrev pub given_by : AreaId → RouterId → List ReachedValue → AreaResultValue
+given_by area root rs = record { area = area; offers = network_offers rs ++ stub_offers root rs; entries = area_entries area root rs }
+
+-- what an area with these LSAs gives to a router
+unfoldable pub area_result : AreaId → List (List ℕ) → RouterId → AreaResultValue
+area_result area lsas root = given_by area root (reached_from root (used lsas))
+
+-- graph, tree and hops are those of these LSAs and this router
+pub record AreOf (lsas : List (List ℕ)) (root : RouterId) (graph : Topology) (tree : Distances) (hops : List (List Hop)) : Type 0 where
+  pub of_area : IsGraphOf lsas graph
+  pub of_graph : IsTreeOf graph (Router root) tree
+  pub of_tree : hops ≡ table_of graph (Router root)

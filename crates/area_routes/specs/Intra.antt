@@ -1,0 +1,21 @@
+-- Intra-area routes (RFC 2328, 16.1).
+use Rattle.std.specs.Prelude.{List, Some, map}
+use Rattle.std.specs.List.{flat_map}
+use Rattle.lsa_codec.specs.declared.address.AreaId.{AreaId}
+use Rattle.lsa_codec.specs.Prefix.{Net}
+use Rattle.area_routes.specs.declared.rank.PathType.TheVariants.{Intra}
+use Rattle.area_routes.specs.Values.{AreaResultValue, OfferValue, RouteValue}
+use Rattle.area_routes.specs.Candidate.{Candidate}
+use Rattle.area_routes.specs.Routes.{routes_of}
+
+-- the way to a prefix that an area offers
+abbrev pub intra_candidate : AreaId → OfferValue → Candidate Net
+intra_candidate area o = record { key = o.net; rank = record { path = Intra; cost2 = 0; class = 0; cost = o.cost }; area = Some area; hops = o.hops }
+
+-- all ways to prefixes that an area offers
+abbrev pub intra_candidates : AreaResultValue → List (Candidate Net)
+intra_candidates r = map (intra_candidate r.area) r.offers
+
+-- to each prefix the least cost of the ways that all areas offer, with the areas and next hops of those that have it
+unfoldable pub intra_of : List AreaResultValue → List RouteValue
+intra_of results = routes_of (flat_map intra_candidates results)

@@ -1,0 +1,64 @@
+-- Routes, router entries and what an area gives, as contracts see them (RFC 2328, 11 and 16.1).
+use Rattle.std.specs.Prelude.{ℕ, ◌<◌, ◌^◌, List, All}
+use Rattle.lsa_codec.specs.declared.address.AreaId.{AreaId}
+use Rattle.lsa_codec.specs.declared.address.RouterId.{RouterId}
+use Rattle.lsa_codec.specs.Prefix.{Net}
+use Rattle.next_hops.specs.declared.hop.Hop.{Hop}
+use Rattle.area_routes.specs.declared.rank.PathType.{PathType}
+use Rattle.area_routes.specs.declared.rank.Rank.{Rank}
+use Rattle.area_routes.specs.declared.entry.EntryKind.{EntryKind}
+
+-- a route to a network: the areas that its paths lead through, their cost and their next hops
+pub record RouteValue : Type 0 where
+  pub net : Net
+  pub kind : PathType
+  pub areas : List AreaId
+  pub cost : ℕ
+  pub cost2 : ℕ
+  pub hops : List Hop
+
+-- a way to a router through an area
+pub record EntryValue : Type 0 where
+  pub router : RouterId
+  pub area : AreaId
+  pub kind : EntryKind
+  pub cost : ℕ
+  pub hops : List Hop
+
+-- a way to a prefix within one area
+pub record OfferValue : Type 0 where
+  pub net : Net
+  pub cost : ℕ
+  pub hops : List Hop
+
+-- what an area gives: ways to prefixes, and the entries of its area border routers and AS boundary routers
+pub record AreaResultValue : Type 0 where
+  pub area : AreaId
+  pub offers : List OfferValue
+  pub entries : List EntryValue
+
+-- inter-area routes, and all router entries
+pub record InterValue : Type 0 where
+  pub routes : List RouteValue
+  pub routers : List EntryValue
+
+-- what the best of the paths to one destination have together
+pub record WayValue : Type 0 where
+  pub rank : Rank
+  pub areas : List AreaId
+  pub hops : List Hop
+
+-- all costs are below a bound
+abbrev pub RoutesBelow : ℕ → List RouteValue → Type 0
+RoutesBelow bound routes = All (λ r. r.cost < bound) routes
+
+abbrev pub EntriesBelow : ℕ → List EntryValue → Type 0
+EntriesBelow bound entries = All (λ e. e.cost < bound) entries
+
+abbrev pub OffersBelow : ℕ → List OfferValue → Type 0
+OffersBelow bound offers = All (λ o. o.cost < bound) offers
+
+-- each cost in an area is below 2^33: a distance is below 2^32, and the metric of a link below 2^16
+pub record AreCheap (result : AreaResultValue) : Type 0 where
+  pub offers : OffersBelow (2 ^ 33) result.offers
+  pub entries : EntriesBelow (2 ^ 33) result.entries

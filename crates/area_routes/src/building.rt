@@ -1,0 +1,121 @@
+//! Building what an area gives.
+
+ghost use Rattle.std.specs.Prelude.{◌≡◌, ◌<◌, ◌^◌, ◌∷◌, [], IfOk, OnOk};
+ghost use Rattle.lsa_codec.specs.declared.address.RouterId.{RouterId as AnyRouter};
+ghost use Rattle.lsdb.specs.declared.section.Section.TheVariants.{Area};
+ghost use Rattle.lsdb.specs.Lists.{lsas_of};
+ghost use Rattle.lsdb.specs.Places.{lists_of};
+ghost use Rattle.area_routes.specs.AreaResults.{AreOf, area_result, given_by};
+ghost use Rattle.area_routes.specs.Growing.{nothing_of, with_offers, with_entries};
+
+use crate::area_result::AreaResult;
+use crate::entry::{EntryKind, RouterEntry};
+use crate::networks::add_networks;
+use crate::offer::Offer;
+use crate::reached::{Reached, reached_vertices};
+use crate::router_entries::add_entries;
+use crate::stubs::add_stubs;
+use area_graph::{Graph, Vertex, used_lsas};
+use lsa_codec::{AreaId, Prefix, RouterId};
+use lsdb::{Database, Section};
+use next_hops::{HopList, Hops};
+use spf::Tree;
+use std::alloc::{AllocError, Allocator};
+
+impl<A: Allocator + Copy> AreaResult<A> {
+    /// Nothing yet.
+    fn nothing_of(alloc: A, area: AreaId) -> AreaResult<A>
+        ensures { result ≡ nothing_of area }
+    {
+        AreaResult {
+            area,
+            offers: Vec::new(alloc),
+            entries: Vec::new(alloc),
+        }
+    }
+
+    /// Adds a way to a prefix.
+    pub(crate) fn offer(
+        &mut self,
+        net: Prefix,
+        cost: u64,
+        hops: HopList<A>,
+    ) -> Result<(), AllocError>
+        requires { cost < 2 ^ 33 }
+        ensures { OnOk result (self.new ≡ with_offers self.old (record { net = net; cost = cost; hops = hops } ∷ [])) }
+    {
+        self.offers.push(Offer { net, cost, hops })?;
+        Ok(())
+    }
+
+    /// Adds the entry of a router.
+    pub(crate) fn enter(
+        &mut self,
+        router: RouterId,
+        kind: EntryKind,
+        cost: u64,
+        hops: HopList<A>,
+    ) -> Result<(), AllocError>
+        requires { cost < 2 ^ 33 }
+        ensures { OnOk result (self.new ≡ with_entries self.old (record { router = router; area = self.old.area; kind = kind; cost = cost; hops = hops } ∷ [])) }
+    {
+        self.entries.push(RouterEntry {
+            router,
+            area: self.area,
+            kind,
+            cost,
+            hops,
+        })?;
+        Ok(())
+    }
+
+    /// What the vertices that are reached give.
+    fn given_by(
+        alloc: A,
+        area: AreaId,
+        root: RouterId,
+        reached: &[Reached<'_, A>],
+    ) -> Result<AreaResult<A>, AllocError>
+        ensures { IfOk result (λ given. given ≡ given_by area root reached.now) }
+    {
+        let mut given = AreaResult::nothing_of(alloc, area);
+        add_networks(alloc, &mut given, reached)?;
+        add_stubs(alloc, &mut given, root, reached)?;
+        add_entries(alloc, &mut given, root, reached)?;
+        Ok(given)
+    }
+
+    /// What an area gives to the root of a tree (RFC 2328, 16.1). The graph must be that of the
+    /// area, the tree one of this graph, and the hops those of this tree.
+    ///
+    /// The offers are those of the networks that are reached, of several of one prefix the nearest
+    /// alone, or of those as near the one of the greatest Link State ID; and then those of the stub
+    /// links of the routers that are reached, at the router's distance and the link's metric
+    /// together. The entries are those of the other routers that are reached:
+    /// [`Border`](EntryKind::Border) where bit B of the router-LSA is set, and then
+    /// [`AsbrIntra`](EntryKind::AsbrIntra) where bit E is. Both stand in the order of the graph's
+    /// vertices.
+    ///
+    /// # Errors
+    ///
+    /// Memory ran out.
+    pub fn build(
+        alloc: A,
+        database: &Database<A>,
+        area: AreaId,
+        graph: &Graph<A>,
+        tree: &Tree<A>,
+        hops: &Hops<A>,
+    ) -> Result<AreaResult<A>, AllocError>
+        requires { (root : AnyRouter) × AreOf (lsas_of (Area area) (lists_of database.now)) root graph.now tree.now hops.now }
+        ensures { IfOk result (λ given. (root : AnyRouter) → AreOf (lsas_of (Area area) (lists_of database.now)) root graph.now tree.now hops.now
+            → given ≡ area_result area (lsas_of (Area area) (lists_of database.now)) root) }
+    {
+        let Vertex::Router(root) = graph.vertex(tree.root()) else {
+            unreachable!()
+        };
+        let lsas = used_lsas(alloc, database.lsas(Section::Area(area)))?;
+        let reached = reached_vertices(alloc, &lsas, tree, hops)?;
+        AreaResult::given_by(alloc, area, root, &reached)
+    }
+}

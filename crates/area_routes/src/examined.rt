@@ -1,0 +1,31 @@
+//! The area whose summary-LSAs are examined.
+
+ghost use Rattle.std.specs.Prelude.{◌≡◌};
+ghost use Rattle.std.specs.Option.{option_copied};
+ghost use Rattle.area_routes.specs.Inter.{backbone, examined};
+
+use crate::area_result::AreaResult;
+use lsa_codec::AreaId;
+use std::alloc::Allocator;
+
+/// The backbone's Area ID (RFC 2328, 3.1).
+const BACKBONE: AreaId = AreaId(0);
+
+/// The result of the backbone.
+fn backbone<A: Allocator + Copy>(results: &[AreaResult<A>]) -> Option<&AreaResult<A>>
+    ensures { option_copied result ≡ backbone results.now }
+{
+    results.iter().find(|area| area.area() == BACKBONE)
+}
+
+/// The result of the area whose summary-LSAs are examined: the only area's, and of several the
+/// backbone's alone (RFC 2328, 16.2).
+pub(crate) fn examined<A: Allocator + Copy>(results: &[AreaResult<A>]) -> Option<&AreaResult<A>>
+    ensures { option_copied result ≡ examined results.now }
+{
+    match results {
+        [] => None,
+        [only] => Some(only),
+        _ => backbone(results),
+    }
+}

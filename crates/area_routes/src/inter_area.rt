@@ -1,0 +1,201 @@
+//! Inter-area routes, and the entries of AS boundary routers of other areas.
+
+ghost use Rattle.std.specs.Prelude.{◌≡◌, ◌++◌, ◌^◌, List, [], OnOk, IfOk, map};
+ghost use Rattle.std.specs.List.{cons_option};
+ghost use Rattle.std.proofs.lemmas.Map.Lookups.{CmpEqualImpliesEq};
+ghost use Rattle.lsa_codec.specs.Prefix.{Net};
+ghost use Rattle.lsa_codec.specs.declared.address.RouterId.{RouterId as AnyRouter};
+ghost use Rattle.lsdb.specs.Places.{lists_of};
+ghost use Rattle.area_routes.specs.Best.{Gathers};
+ghost use Rattle.area_routes.specs.Candidate.{Candidate};
+ghost use Rattle.area_routes.specs.Inter.{asbr_candidate, asbr_entry, candidate_to, inter_entries, inter_of, inter_routes, network_candidate};
+ghost use Rattle.area_routes.specs.Order.{prefix_cmp, router_cmp};
+ghost use Rattle.area_routes.specs.Routes.{AreSortedRoutes};
+ghost use Rattle.area_routes.specs.Values.{AreCheap, EntriesBelow, RoutesBelow};
+
+use crate::all_entries::all_entries;
+use crate::area_result::AreaResult;
+use crate::best::BestWays;
+use crate::entry::{EntryKind, RouterEntry};
+use crate::examined::examined;
+use crate::indexed_area::IndexedArea;
+use crate::inter_result::InterResult;
+use crate::rank::{PathType, Rank};
+use crate::route::Route;
+use crate::summary::{asbr_told, network_told, usable_metric};
+use crate::way::Way;
+use lsa_codec::{AreaId, Lsa, Prefix, RouterId};
+use lsdb::{Database, Lsas, Section};
+use std::alloc::{AllocError, Allocator};
+
+/// The inter-area routes of a router, in order of prefix, and all its router entries (RFC 2328,
+/// 16.2). The results are those of all areas to which the router is attached, in rising order, and
+/// the routes are its intra-area routes.
+///
+/// A router attached to one area examines the summary-LSAs of that area; one that is attached to
+/// several examines those of the backbone alone, and none where it is not attached to the
+/// backbone. A summary-LSA counts where it is live, has a metric below LSInfinity, and is
+/// of another originator that has an entry as an area border router of the area. The cost is that
+/// of this entry and the metric together. Of one prefix, or of one AS boundary router, the ways of
+/// least cost are joined.
+///
+/// # Errors
+///
+/// Memory ran out.
+pub fn inter<A: Allocator + Copy>(
+    alloc: A,
+    database: &Database<A>,
+    router: RouterId,
+    results: &[AreaResult<A>],
+    intra: &[Route<A>],
+) -> Result<InterResult<A>, AllocError>
+    requires { AreSortedRoutes intra.now }
+    ensures value { IfOk result (λ found. found ≡ inter_of (lists_of database.now) router results.now intra.now) }
+    ensures sorted { IfOk result (λ found. AreSortedRoutes found.routes) }
+    ensures small_routes { IfOk result (λ found. RoutesBelow (2 ^ 34) found.routes) }
+    ensures small_entries { IfOk result (λ found. EntriesBelow (2 ^ 34) found.routers) }
+{
+    let mut routers = all_entries(alloc, results)?;
+    let Some(area) = examined(results) else {
+        return Ok(InterResult {
+            routes: Vec::new(alloc),
+            routers,
+        });
+    };
+    let section = Section::Area(area.area());
+    let area = IndexedArea::new(alloc, area)?;
+    let routes = inter_routes(alloc, database.lsas(section), router, &area, intra)?;
+    let mut entries = inter_entries(alloc, database.lsas(section), router, &area)?;
+    routers.append(&mut entries)?;
+    Ok(InterResult { routes, routers })
+}
+
+/// The inter-area routes by the summary-LSAs of the examined area.
+fn inter_routes<A: Allocator + Copy>(
+    alloc: A,
+    lsas: Lsas<'_, A>,
+    router: RouterId,
+    area: &IndexedArea<'_, A>,
+    intra: &[Route<A>],
+) -> Result<Vec<Route<A>, A>, AllocError>
+    requires cheap { AreCheap area.now }
+    requires sorted { AreSortedRoutes intra.now }
+    ensures routes { IfOk result (λ routes. routes.items ≡ inter_routes router area.now intra.now lsas.entry) }
+    ensures sorted { IfOk result (λ routes. AreSortedRoutes routes.items) }
+    ensures small { IfOk result (λ routes. RoutesBelow (2 ^ 34) routes.items) }
+{
+    let mut ways = BestWays::new(alloc);
+    for lsa in lsas {
+        admit_network(alloc, &mut ways, lsa, router, area, intra)?;
+    }
+    ways.into_routes(alloc)
+}
+
+/// The entries of AS boundary routers of other areas, by router, by the summary-LSAs of the
+/// examined area.
+fn inter_entries<A: Allocator + Copy>(
+    alloc: A,
+    lsas: Lsas<'_, A>,
+    router: RouterId,
+    area: &IndexedArea<'_, A>,
+) -> Result<Vec<RouterEntry<A>, A>, AllocError>
+    requires { AreCheap area.now }
+    ensures entries { IfOk result (λ entries. entries.items ≡ inter_entries router area.now lsas.entry) }
+    ensures small { IfOk result (λ entries. EntriesBelow (2 ^ 34) entries.items) }
+{
+    let mut ways = BestWays::new(alloc);
+    for lsa in lsas {
+        admit_asbr(alloc, &mut ways, lsa, router, area)?;
+    }
+    entries(alloc, ways.into_list(alloc)?, area.area())
+}
+
+/// Takes the way to a prefix of another area that an LSA gives, if it does, into account.
+fn admit_network<A: Allocator + Copy>(
+    alloc: A,
+    ways: &mut BestWays<Prefix, A>,
+    lsa: &Lsa<A>,
+    router: RouterId,
+    area: &IndexedArea<'_, A>,
+    intra: &[Route<A>],
+) -> Result<(), AllocError>
+    requires { AreSortedRoutes intra.now }
+    ensures { OnOk result ((cs : List (Candidate Net)) → Gathers prefix_cmp cs ways.old
+        → Gathers prefix_cmp (cs ++ cons_option (network_candidate router area.now intra.now lsa.now) []) ways.new) }
+{
+    if let Some(net) = network_told(lsa, intra) {
+        admit_summary(alloc, ways, net, lsa, router, area)?;
+    }
+    Ok(())
+}
+
+/// Takes the way to an AS boundary router of another area that an LSA gives, if it does, into
+/// account.
+fn admit_asbr<A: Allocator + Copy>(
+    alloc: A,
+    ways: &mut BestWays<RouterId, A>,
+    lsa: &Lsa<A>,
+    router: RouterId,
+    area: &IndexedArea<'_, A>,
+) -> Result<(), AllocError>
+    ensures { OnOk result ((cs : List (Candidate AnyRouter)) → Gathers router_cmp cs ways.old
+        → Gathers router_cmp (cs ++ cons_option (asbr_candidate router area.now lsa.now) []) ways.new) }
+{
+    if let Some(asbr) = asbr_told(lsa, router, area) {
+        admit_summary(alloc, ways, asbr, lsa, router, area)?;
+    }
+    Ok(())
+}
+
+/// Takes the way by a summary-LSA to what it tells of into account, where the LSA is usable and its
+/// originator has an entry.
+fn admit_summary<K: Ord + Copy + Drop, A: Allocator + Copy>(
+    alloc: A,
+    ways: &mut BestWays<K, A>,
+    key: K,
+    lsa: &Lsa<A>,
+    router: RouterId,
+    area: &IndexedArea<'_, A>,
+) -> Result<(), AllocError>
+    requires { CmpEqualImpliesEq K.cmp }
+    ensures { OnOk result ((cs : List (Candidate K)) → Gathers K.cmp cs ways.old
+        → Gathers K.cmp (cs ++ cons_option (candidate_to router area.now lsa.now key) []) ways.new) }
+{
+    let (Some(metric), Some(border)) = (usable_metric(lsa, router), area.border(lsa.key().adv))
+    else {
+        return Ok(());
+    };
+    let rank = Rank {
+        path: PathType::Inter,
+        cost2: 0,
+        class: 0,
+        cost: border.cost + u64::from(metric),
+    };
+    ways.admit(alloc, key, rank, Some(area.area()), border.hops.as_slice())
+}
+
+/// The entry of an AS boundary router of another area.
+fn entry<A: Allocator + Copy>(asbr: RouterId, way: Way<A>, area: AreaId) -> RouterEntry<A>
+    ensures { result ≡ asbr_entry area (asbr, way) }
+{
+    RouterEntry {
+        router: asbr,
+        area,
+        kind: EntryKind::AsbrInter,
+        cost: way.rank.cost,
+        hops: way.hops,
+    }
+}
+
+/// Such an entry for each way.
+fn entries<A: Allocator + Copy>(
+    alloc: A,
+    ways: Vec<(RouterId, Way<A>), A>,
+    area: AreaId,
+) -> Result<Vec<RouterEntry<A>, A>, AllocError>
+    ensures { IfOk result (λ entries. entries.items ≡ map (asbr_entry area) ways.items) }
+{
+    ways.into_iter()
+        .map(|(asbr, way)| entry(asbr, way, area))
+        .collect(alloc)
+}

@@ -1,0 +1,26 @@
+//! What the summary-LSAs give.
+
+ghost use Rattle.std.specs.Prelude.{◌≡◌};
+
+use crate::entry::RouterEntry;
+use crate::route::Route;
+use std::alloc::{Allocator, Global};
+use std::marker::Model;
+
+/// The inter-area routes of a router, and all its router entries (RFC 2328, 16.2).
+#[derive(Drop)]
+pub struct InterResult<A: Allocator = Global> {
+    /// The inter-area routes, in order of prefix.
+    pub routes: Vec<Route<A>, A>,
+    /// The entries of all areas in rising order of the areas, and then those of AS boundary
+    /// routers that summary-LSAs tell of, in order of the routers.
+    pub routers: Vec<RouterEntry<A>, A>,
+}
+
+impl<A: Allocator> Model for InterResult<A> {
+    ghost use Rattle.area_routes.specs.Values.{InterValue};
+
+    ghost Value = { InterValue };
+
+    ghost view = { λ r. record { routes = r.routes.items; routers = r.routers.items } };
+}

@@ -1,0 +1,76 @@
+//! Intra-area routes.
+
+ghost use Rattle.std.specs.Prelude.{◌≡◌, [], ◌∷◌, ◌++◌, ◌^◌, List, OnOk, IfOk};
+ghost use Rattle.lsa_codec.specs.Prefix.{Net};
+ghost use Rattle.area_routes.specs.Best.{Gathers};
+ghost use Rattle.area_routes.specs.Candidate.{Candidate};
+ghost use Rattle.area_routes.specs.Intra.{intra_candidate, intra_candidates, intra_of};
+ghost use Rattle.area_routes.specs.Order.{prefix_cmp};
+ghost use Rattle.area_routes.specs.Routes.{AreSortedRoutes};
+ghost use Rattle.area_routes.specs.Values.{AreCheap, RoutesBelow};
+
+use crate::area_result::AreaResult;
+use crate::best::BestWays;
+use crate::offer::Offer;
+use crate::rank::{PathType, Rank};
+use crate::route::Route;
+use lsa_codec::{AreaId, Prefix};
+use std::alloc::{AllocError, Allocator};
+
+/// The intra-area routes of a router, in order of prefix (RFC 2328, 16.1). The results are those
+/// of all areas to which the router is attached.
+///
+/// To each prefix the route has the least cost that any of the areas offers, with the areas and
+/// the next hops of all ways of that cost.
+///
+/// # Errors
+///
+/// Memory ran out.
+pub fn intra<A: Allocator + Copy>(
+    alloc: A,
+    results: &[AreaResult<A>],
+) -> Result<Vec<Route<A>, A>, AllocError>
+    ensures routes { IfOk result (λ routes. routes.items ≡ intra_of results.now) }
+    ensures sorted { IfOk result (λ routes. AreSortedRoutes routes.items) }
+    ensures small { IfOk result (λ routes. RoutesBelow (2 ^ 33) routes.items) }
+{
+    let mut ways = BestWays::new(alloc);
+    for area in results {
+        admit_area(alloc, &mut ways, area)?;
+    }
+    ways.into_routes(alloc)
+}
+
+/// Takes all ways that an area offers into account.
+fn admit_area<A: Allocator + Copy>(
+    alloc: A,
+    ways: &mut BestWays<Prefix, A>,
+    area: &AreaResult<A>,
+) -> Result<(), AllocError>
+    ensures admitted { OnOk result ((cs : List (Candidate Net)) → Gathers prefix_cmp cs ways.old → Gathers prefix_cmp (cs ++ intra_candidates area.now) ways.new) }
+    ensures cheap { AreCheap area.now }
+{
+    let offers = area.offers();
+    for offer in offers {
+        admit_offer(alloc, ways, area.area(), offer)?;
+    }
+    Ok(())
+}
+
+/// Takes a way that an area offers into account.
+fn admit_offer<A: Allocator + Copy>(
+    alloc: A,
+    ways: &mut BestWays<Prefix, A>,
+    area: AreaId,
+    offer: &Offer<A>,
+) -> Result<(), AllocError>
+    ensures { OnOk result ((cs : List (Candidate Net)) → Gathers prefix_cmp cs ways.old → Gathers prefix_cmp (cs ++ intra_candidate area offer.now ∷ []) ways.new) }
+{
+    let rank = Rank {
+        path: PathType::Intra,
+        cost2: 0,
+        class: 0,
+        cost: offer.cost,
+    };
+    ways.admit(alloc, offer.net, rank, Some(area), offer.hops.as_slice())
+}

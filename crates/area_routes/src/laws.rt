@@ -1,0 +1,36 @@
+//! Laws: what holds of the definitions that the contracts of this crate cite. Each is a function
+//! that does nothing, and its contract is the law.
+
+ghost use Rattle.std.specs.Prelude.{◌≡◌, List};
+ghost use Rattle.std.specs.Cmp.{IsTotalOrder};
+ghost use Rattle.std.specs.declared.cmp.Ordering.TheVariants.{Equal};
+ghost use Rattle.area_routes.specs.declared.rank.Rank.{Rank as AnyRank};
+ghost use Rattle.lsa_codec.specs.Prefix.{Net};
+ghost use Rattle.std.proofs.lemmas.Map.Lookups.{CmpEqualImpliesEq};
+ghost use Rattle.area_routes.specs.Best.{ways_of};
+ghost use Rattle.area_routes.specs.Candidate.{Candidate};
+ghost use Rattle.area_routes.specs.InWords.{AreBestWays};
+ghost use Rattle.area_routes.specs.Order.{prefix_cmp, rank_cmp};
+ghost use Rattle.area_routes.specs.Values.{WayValue};
+
+use crate::rank::Rank;
+use lsa_codec::Prefix;
+
+/// The orders of prefixes and ranks are the `Ord` of [`Prefix`] and [`Rank`]. They are total, and
+/// two values compare as equal only where they are the same.
+pub fn route_orders()
+    ensures prefixes { (a b : Net) → ⟦<Prefix as Ord>⟧.cmp a b ≡ prefix_cmp a b }
+    ensures ranks { (a b : AnyRank) → ⟦<Rank as Ord>⟧.cmp a b ≡ rank_cmp a b }
+    ensures total { IsTotalOrder prefix_cmp × IsTotalOrder rank_cmp }
+    ensures exact_prefixes { (a b : Net) → prefix_cmp a b ≡ Equal → a ≡ b }
+    ensures exact_ranks { (a b : AnyRank) → rank_cmp a b ≡ Equal → a ≡ b }
+{}
+
+/// The ways that are computed are the best ways in words, and no other list is: destinations in
+/// order, each with the least rank of its candidates, and with exactly the areas and next hops of
+/// those candidates that have this rank.
+pub fn ways_are_best<K: Ord + Copy + Drop>()
+    requires { CmpEqualImpliesEq K.cmp }
+    ensures best { (cs : List (Candidate K)) → AreBestWays K.cmp cs (ways_of K.cmp cs) }
+    ensures only { (cs : List (Candidate K)) (ways : List (K × WayValue)) → AreBestWays K.cmp cs ways → ways ≡ ways_of K.cmp cs }
+{}

@@ -1,0 +1,63 @@
+//! Intra-area routes, inter-area routes and router entries of a router (RFC 2328, 16.1 and 16.2).
+//!
+//! An [`AreaResult`] has what one area offers: ways to prefixes, and the routers that are area
+//! border routers or AS boundary routers. [`BestWays`] picks the best ways to each destination
+//! from any number of candidates, and joins those that are equally good.
+#![tactic(auto)]
+
+// What routes are.
+mod area_result;
+mod areas;
+mod entry;
+mod inter_result;
+mod offer;
+mod rank;
+mod route;
+
+// The best of many candidates.
+mod best;
+mod way;
+
+// What an area gives.
+mod building;
+mod choice;
+mod networks;
+mod reached;
+mod router_entries;
+mod stubs;
+
+// Routes within areas.
+mod intra_area;
+mod routes;
+
+// Routes between areas.
+mod all_entries;
+mod entry_index;
+mod examined;
+mod indexed_area;
+mod inter_area;
+mod lookup;
+mod summary;
+
+// What holds of the definitions.
+mod laws;
+
+pub use area_result::AreaResult;
+pub use areas::AreaList;
+pub use best::BestWays;
+pub use choice::network_choice;
+pub use entry::{EntryKind, RouterEntry};
+pub use inter_area::inter;
+pub use inter_result::InterResult;
+pub use intra_area::intra;
+pub use laws::{route_orders, ways_are_best};
+pub use lookup::{has_route, route_to};
+pub use offer::Offer;
+pub use rank::{PathType, Rank};
+pub use route::Route;
+pub use way::Way;
+
+#[cfg(test)]
+mod area_tests;
+#[cfg(test)]
+mod route_tests;

@@ -1,0 +1,127 @@
+//! The networks that an area offers (RFC 2328, 16.1).
+
+ghost use Rattle.std.specs.Prelude.{◌≡◌, List, [], ◌∷◌, ◌++◌, Some, OnOk, IfOk};
+ghost use Rattle.std.specs.BTreeMap.{get, Updates};
+ghost use Rattle.area_routes.specs.Order.{prefix_cmp};
+ghost use Rattle.area_routes.specs.Reached.{ReachedValue};
+ghost use Rattle.area_routes.specs.Networks.{networks, network_offers};
+ghost use Rattle.area_routes.specs.Standings.{AreStandingsOf, is_behind, stands_before, standing_of, unbeaten};
+ghost use Rattle.area_routes.specs.Growing.{with_offers};
+
+use crate::area_result::AreaResult;
+use crate::reached::Reached;
+use lsa_codec::{Addr, Prefix};
+use std::alloc::{AllocError, Allocator};
+use std::collections::BTreeMap;
+
+/// How a network stands among those of its prefix: its distance and its Link State ID.
+#[derive(Clone, Copy, Debug)]
+pub(crate) struct Standing {
+    distance: u64,
+    id: Addr,
+}
+
+/// The best standing of the networks of each prefix.
+type Standings<A> = BTreeMap<Prefix, Standing, A>;
+
+fn standing_of<A: Allocator + Copy>(reached: &Reached<'_, A>) -> Standing
+    ensures { result ≡ standing_of reached.now }
+{
+    Standing {
+        distance: reached.distance(),
+        id: reached.lsa().key().id,
+    }
+}
+
+/// Whether the first is nearer, or as near and of a greater Link State ID.
+fn stands_before(one: Standing, other: Standing) -> bool
+    ensures { result ≡ stands_before one other }
+{
+    one.distance < other.distance || (one.distance == other.distance && other.id.0 < one.id.0)
+}
+
+/// Whether a network of the prefix stands before this one.
+fn is_behind<A: Allocator + Copy>(standings: &Standings<A>, net: Prefix, standing: Standing) -> bool
+    ensures { result ≡ is_behind (get prefix_cmp standings.now net) standing }
+{
+    match standings.get(&net) {
+        Some(best) => stands_before(*best, standing),
+        None => false,
+    }
+}
+
+fn set_standing<A: Allocator + Copy>(
+    standings: &mut Standings<A>,
+    net: Prefix,
+    standing: Standing,
+) -> Result<(), AllocError>
+    ensures { OnOk result (Updates prefix_cmp standings.old standings.new net (Some standing)) }
+{
+    standings.insert(net, standing)?;
+    Ok(())
+}
+
+/// Takes a vertex into account, if it is a network.
+fn compare<A: Allocator + Copy>(
+    standings: &mut Standings<A>,
+    reached: &Reached<'_, A>,
+) -> Result<(), AllocError>
+    ensures { OnOk result ((ns : List ReachedValue) → AreStandingsOf ns standings.old → AreStandingsOf (ns ++ networks (reached.now ∷ [])) standings.new) }
+{
+    let Some(net) = reached.net() else {
+        return Ok(());
+    };
+    let standing = standing_of(reached);
+    if is_behind(standings, net, standing) {
+        return Ok(());
+    }
+    set_standing(standings, net, standing)
+}
+
+/// The best standing of the networks of each prefix.
+fn best_standings<A: Allocator + Copy>(
+    alloc: A,
+    reached: &[Reached<'_, A>],
+) -> Result<Standings<A>, AllocError>
+    ensures { IfOk result (λ standings. AreStandingsOf (networks reached.now) standings) }
+{
+    let mut standings = BTreeMap::new(alloc);
+    for vertex in reached {
+        compare(&mut standings, vertex)?;
+    }
+    Ok(standings)
+}
+
+/// Adds what a vertex offers, if it is the network that is chosen of those of its prefix.
+fn add_network<A: Allocator + Copy>(
+    alloc: A,
+    area: &mut AreaResult<A>,
+    standings: &Standings<A>,
+    reached: &Reached<'_, A>,
+) -> Result<(), AllocError>
+    ensures { OnOk result ((ns : List ReachedValue) → AreStandingsOf ns standings.now → area.new ≡ with_offers area.old (unbeaten ns reached.now)) }
+{
+    let Some(net) = reached.net() else {
+        return Ok(());
+    };
+    if is_behind(standings, net, standing_of(reached)) {
+        return Ok(());
+    }
+    area.offer(net, reached.distance(), reached.hop_list(alloc)?)
+}
+
+/// Adds what the networks offer: of those of one prefix the nearest alone, and of several as near
+/// the one of the greatest Link State ID.
+pub(crate) fn add_networks<A: Allocator + Copy>(
+    alloc: A,
+    area: &mut AreaResult<A>,
+    reached: &[Reached<'_, A>],
+) -> Result<(), AllocError>
+    ensures { OnOk result (area.new ≡ with_offers area.old (network_offers reached.now)) }
+{
+    let standings = best_standings(alloc, reached)?;
+    for vertex in reached {
+        add_network(alloc, area, &standings, vertex)?;
+    }
+    Ok(())
+}

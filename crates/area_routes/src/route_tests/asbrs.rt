@@ -1,0 +1,72 @@
+//! Router entries of all areas, and those by summary-LSAs of type 4.
+
+use super::areas::{Summary, asbr, dump_of, inter_in, routers_text, summary_lsa};
+use crate::area_tests::areas::{R1, R2, R3};
+use crate::area_tests::dumps::{router_lsa_of, to_router};
+use std::alloc::Global;
+use std::test::*;
+
+const R8: u32 = 0x0808_0808;
+
+const R9: u32 = 0x0909_0909;
+
+/// In the backbone 1.1.1.1 has links of cost 10 to 2.2.2.2 and 3.3.3.3, which are area border
+/// routers; 3.3.3.3 is an AS boundary router, too. In area 0.0.0.1 it has a link of cost 1 to
+/// 9.9.9.9, which is both.
+fn sample(alloc: Global, summaries: &[Summary]) -> Result<Vec<u8>, Fail> {
+    let links = [
+        to_router(R2, 0x0a00_0001, 10),
+        to_router(R3, 0x0a00_0101, 10),
+    ];
+    let mut backbone = vec![in alloc;
+        router_lsa_of(alloc, 1, R1, 3, &links)?,
+        router_lsa_of(alloc, 1, R2, 1, &[to_router(R1, 0x0a00_0002, 10)])?,
+        router_lsa_of(alloc, 1, R3, 3, &[to_router(R1, 0x0a00_0103, 10)])?,
+    ]?;
+    for summary in summaries {
+        backbone.push(summary_lsa(alloc, *summary)?)?;
+    }
+    let other = vec![in alloc;
+        router_lsa_of(alloc, 1, R1, 3, &[to_router(R9, 0x0a01_0001, 1)])?,
+        router_lsa_of(alloc, 1, R9, 3, &[to_router(R1, 0x0a01_0009, 1)])?,
+    ]?;
+    let areas = vec![in alloc; (0, backbone), (1, other)]?;
+    dump_of(alloc, &areas)
+}
+
+/// The entries of the areas.
+const WITHIN: &str =
+    "border 2.2.2.2 0.0.0.0 10 link:10.0.0.1\nborder 3.3.3.3 0.0.0.0 10 link:10.0.1.1\nasbr 3.3.3.3 0.0.0.0 10 link:10.0.1.1\nborder 9.9.9.9 0.0.0.1 1 link:10.1.0.1\nasbr 9.9.9.9 0.0.0.1 1 link:10.1.0.1\n";
+
+#[test]
+fn entries_of_all_areas(rt: HostRuntime) -> Result<(), Fail> {
+    let dump = sample(rt.alloc(), &[])?;
+    let found = inter_in(rt.alloc(), &dump, &[0, 1], R1)?;
+    assert_eq!(rt; routers_text(rt.alloc(), &found.routers)?.as_str(), WITHIN);
+    Ok(())
+}
+
+/// Summaries of the calculating router, and of an AS boundary router of the backbone, give no
+/// entry; one of an AS boundary router of another area does.
+#[test]
+fn entries_by_summaries(rt: HostRuntime) -> Result<(), Fail> {
+    let summaries = [
+        asbr(R9, R2, 5),
+        asbr(R1, R2, 5),
+        asbr(R3, R2, 1),
+        asbr(R8, R3, 7),
+        asbr(R8, R2, 7),
+        asbr(R2, R2, 0),
+    ];
+    let dump = sample(rt.alloc(), &summaries)?;
+    let found = inter_in(rt.alloc(), &dump, &[0, 1], R1)?;
+    let others =
+        "other 2.2.2.2 0.0.0.0 10 link:10.0.0.1\nother 8.8.8.8 0.0.0.0 17 link:10.0.0.1 link:10.0.1.1\nother 9.9.9.9 0.0.0.0 15 link:10.0.0.1\n";
+    let expected = format!(in rt.alloc(); "{WITHIN}{others}")?;
+    assert_eq!(rt;
+        routers_text(rt.alloc(), &found.routers)?.as_str(),
+        expected.as_str()
+    );
+    assert_eq!(rt; found.routes.len(), 0);
+    Ok(())
+}

@@ -1,0 +1,56 @@
+//! What summary-LSAs tell of.
+
+ghost use Rattle.std.specs.Prelude.{◌≡◌, ◌<◌, IfSome};
+ghost use Rattle.area_routes.specs.Inter.{asbr_told, ls_infinity, network_told, usable_metric};
+ghost use Rattle.area_routes.specs.Routes.{AreSortedRoutes};
+
+use crate::indexed_area::IndexedArea;
+use crate::lookup::has_route;
+use crate::route::Route;
+use lsa_codec::{Lsa, Prefix, RouterId};
+use std::alloc::Allocator;
+
+/// The metric that says that there is no route (RFC 2328, appendix B).
+const LS_INFINITY: u32 = 0xffffff;
+
+/// The metric of a summary-LSA that is live, below LSInfinity, and of another originator than the
+/// calculating router.
+pub(crate) fn usable_metric<A: Allocator + Copy>(lsa: &Lsa<A>, router: RouterId) -> Option<u32>
+    ensures metric { result ≡ usable_metric router lsa.now }
+    ensures below { IfSome result (λ metric. metric < ls_infinity) }
+{
+    let metric = lsa.summary()?.metric();
+    if lsa.at_max_age() || metric >= LS_INFINITY || lsa.key().adv == router {
+        return None;
+    }
+    Some(metric)
+}
+
+/// The prefix that a summary-LSA of type 3 tells of, where it has no intra-area route.
+pub(crate) fn network_told<A: Allocator + Copy>(lsa: &Lsa<A>, intra: &[Route<A>]) -> Option<Prefix>
+    requires { AreSortedRoutes intra.now }
+    ensures { result ≡ network_told intra.now lsa.now }
+{
+    let net = lsa.summary()?.net()?;
+    if has_route(intra, net) {
+        return None;
+    }
+    Some(net)
+}
+
+/// The router that a summary-LSA of type 4 tells of, where it is not the calculating router and
+/// not an AS boundary router of the area.
+pub(crate) fn asbr_told<A: Allocator + Copy>(
+    lsa: &Lsa<A>,
+    router: RouterId,
+    area: &IndexedArea<'_, A>,
+) -> Option<RouterId>
+    ensures { result ≡ asbr_told router area.now lsa.now }
+{
+    let key = lsa.key();
+    let asbr = RouterId(key.id.0);
+    if key.kind != 4 || asbr == router || area.has_asbr(asbr) {
+        return None;
+    }
+    Some(asbr)
+}

@@ -1,0 +1,86 @@
+//! The best ways to one destination.
+
+ghost use Rattle.std.specs.Prelude.{◌≡◌, OnOk, IfOk, Some};
+ghost use Rattle.area_routes.specs.Merge.{fresh, merged, merge};
+
+use crate::areas::AreaList;
+use crate::rank::Rank;
+use lsa_codec::AreaId;
+use next_hops::{Hop, HopList};
+use std::alloc::{AllocError, Allocator, Global};
+use std::cmp::Ordering;
+use std::marker::Model;
+
+/// What the best of the paths to one destination have together.
+#[derive(Drop)]
+pub struct Way<A: Allocator = Global> {
+    /// What they are compared by, the same for all of them.
+    pub(crate) rank: Rank,
+    /// The areas that they lead through, in rising order.
+    pub(crate) areas: AreaList<A>,
+    /// Their next hops.
+    pub(crate) hops: HopList<A>,
+}
+
+impl<A: Allocator> Model for Way<A> {
+    ghost use Rattle.area_routes.specs.Values.{WayValue};
+
+    ghost Value = { WayValue };
+
+    ghost view = { λ w. record { rank = w.rank; areas = w.areas; hops = w.hops } };
+}
+
+impl<A: Allocator + Copy> Way<A> {
+    /// What the paths are compared by, the same for all of them.
+    pub fn rank(&self) -> Rank
+        ensures { result ≡ self.now.rank }
+    {
+        self.rank
+    }
+
+    /// The way of one candidate.
+    pub(crate) fn of(
+        alloc: A,
+        rank: Rank,
+        area: Option<AreaId>,
+        hops: &[Hop],
+    ) -> Result<Way<A>, AllocError>
+        ensures { IfOk result (λ way. way ≡ fresh rank area hops.now) }
+    {
+        let mut way = Way {
+            rank,
+            areas: AreaList::new(alloc),
+            hops: HopList::new(alloc),
+        };
+        way.join(area, hops)?;
+        Ok(way)
+    }
+
+    /// Adds the area and the hops of a candidate of the same rank.
+    fn join(&mut self, area: Option<AreaId>, hops: &[Hop]) -> Result<(), AllocError>
+        ensures { OnOk result (self.new ≡ merged self.old area hops.now) }
+    {
+        if let Some(area) = area {
+            self.areas.add(area)?;
+        }
+        self.hops.join(hops)
+    }
+
+    /// Takes a further candidate for the same destination into account.
+    pub(crate) fn merge(
+        &mut self,
+        alloc: A,
+        rank: Rank,
+        area: Option<AreaId>,
+        hops: &[Hop],
+    ) -> Result<(), AllocError>
+        ensures { OnOk result (self.new ≡ merge (Some self.old) rank area hops.now) }
+    {
+        match rank.cmp(&self.rank()) {
+            Ordering::Less => *self = Way::of(alloc, rank, area, hops)?,
+            Ordering::Equal => self.join(area, hops)?,
+            Ordering::Greater => (),
+        }
+        Ok(())
+    }
+}

@@ -1,0 +1,312 @@
+//! Failures: the links between two routers, a network, or a router goes.
+
+ghost use Rattle.std.specs.Prelude.{◌≡◌, ◌++◌, IsSome, IfOk, IfErr, OnOk, option_to_list};
+ghost use Rattle.std.specs.List.{list_any};
+ghost use Rattle.lsa_codec.specs.Fields.{kind_of};
+ghost use Rattle.lsa_codec.specs.Links.{links_of};
+ghost use Rattle.lsa_codec.specs.Making.{leads_to};
+ghost use Rattle.lsdb.specs.declared.section.Section.TheVariants.{Area};
+ghost use Rattle.lsdb.specs.Places.{item_at, slot_at, places_in, head_or_none};
+ghost use Rattle.edit_script.specs.declared.edit.Edit.TheVariants.{FailLink, FailNet, FailRouter};
+ghost use Rattle.edit_history.specs.declared.fault.EditFault.TheVariants.{OutOfMemory};
+ghost use Rattle.edit_history.specs.Rules.{section_name};
+ghost use Rattle.edit_history.specs.Effect.{are_linked, link_fate, net_fate, router_fate};
+ghost use Rattle.edit_history.specs.Plans.{swap_for, place_swap, section_swaps};
+ghost use Rattle.edit_history.specs.Failing.{fate_by, shortened};
+ghost use Rattle.edit_history.specs.Applied.{Planned, IsRefused};
+
+use crate::fault::EditFault;
+use crate::lookup::{
+    NETWORK_LSA, ROUTER_LSA, Wanted, area_section, first, has_router, router_key, router_lsa_in,
+};
+use crate::swap::Swap;
+use lsa_codec::{Addr, AreaId, Link, LinkKind, Lsa, MakeFault, RouterId};
+use lsdb::{Database, Section, SlotId};
+use std::alloc::Allocator;
+
+/// What fails.
+#[derive(Clone, Copy)]
+enum Failure {
+    /// The point-to-point links between two routers.
+    Links(RouterId, RouterId),
+    /// The network whose Designated Router has this address.
+    Network(Addr),
+    /// A router.
+    Router(RouterId),
+}
+
+/// The swap of a router-LSA for the one that was made of it without some of its links: none where
+/// it has no such link. The error is want of memory.
+fn shortened<A: Allocator + Copy>(
+    slot: SlotId,
+    section: Section,
+    made: Result<Lsa<A>, MakeFault>,
+) -> Result<Option<Swap<A>>, EditFault>
+    ensures { result ≡ shortened slot section made }
+{
+    match made {
+        Ok(new) => Ok(Some(Swap::new(slot, section, ROUTER_LSA, Some(new)))),
+        Err(MakeFault::NoLink) => Ok(None),
+        Err(_) => Err(EditFault::OutOfMemory),
+    }
+}
+
+/// The swap for an LSA at a place where the point-to-point links between two routers go.
+fn swap_for_links<A: Allocator + Copy>(
+    alloc: A,
+    slot: SlotId,
+    section: Section,
+    lsa: &Lsa<A>,
+    router: RouterId,
+    neighbor: RouterId,
+) -> Result<Option<Swap<A>>, EditFault>
+    ensures swap { IfOk result (λ swap. swap ≡ swap_for slot section lsa.now (link_fate router neighbor lsa.now)) }
+    ensures memory { IfErr result (λ fault. fault ≡ OutOfMemory) }
+{
+    let key = lsa.key();
+    if key == router_key(router) {
+        return shortened(slot, section, lsa.without_links_to(alloc, neighbor));
+    }
+    if key == router_key(neighbor) {
+        return shortened(slot, section, lsa.without_links_to(alloc, router));
+    }
+    Ok(None)
+}
+
+/// The swap for an LSA at a place where a network goes.
+fn swap_for_network<A: Allocator + Copy>(
+    alloc: A,
+    slot: SlotId,
+    section: Section,
+    lsa: &Lsa<A>,
+    network: Addr,
+) -> Result<Option<Swap<A>>, EditFault>
+    ensures swap { IfOk result (λ swap. swap ≡ swap_for slot section lsa.now (net_fate network lsa.now)) }
+    ensures memory { IfErr result (λ fault. fault ≡ OutOfMemory) }
+{
+    let key = lsa.key();
+    if key.kind == NETWORK_LSA && key.id == network {
+        return Ok(Some(Swap::new(slot, section, NETWORK_LSA, None)));
+    }
+    if key.kind == ROUTER_LSA {
+        return shortened(slot, section, lsa.without_net_links(alloc, network));
+    }
+    Ok(None)
+}
+
+/// The swap for an LSA at a place where a router goes.
+fn swap_for_router<A: Allocator + Copy>(
+    slot: SlotId,
+    section: Section,
+    lsa: &Lsa<A>,
+    router: RouterId,
+) -> Option<Swap<A>>
+    ensures { result ≡ swap_for slot section lsa.now (router_fate router lsa.now) }
+{
+    let key = lsa.key();
+    if key.adv != router {
+        return None;
+    }
+    Some(Swap::new(slot, section, key.kind, None))
+}
+
+impl Failure {
+    /// The swap that it makes of an LSA at a place; none where the LSA stays. The error is want of
+    /// memory.
+    fn swap<A: Allocator + Copy>(
+        self,
+        alloc: A,
+        slot: SlotId,
+        section: Section,
+        lsa: &Lsa<A>,
+    ) -> Result<Option<Swap<A>>, EditFault>
+        ensures swap { IfOk result (λ swap. swap ≡ swap_for slot section lsa.now (fate_by self lsa.now)) }
+        ensures memory { IfErr result (λ fault. fault ≡ OutOfMemory) }
+    {
+        match self {
+            Failure::Links(router, neighbor) => {
+                swap_for_links(alloc, slot, section, lsa, router, neighbor)
+            }
+            Failure::Network(network) => swap_for_network(alloc, slot, section, lsa, network),
+            Failure::Router(router) => Ok(swap_for_router(slot, section, lsa, router)),
+        }
+    }
+}
+
+/// Adds the swap of a place, if it has one. The error is want of memory.
+fn add_swap<A: Allocator + Copy>(
+    database: &Database<A>,
+    slot: SlotId,
+    section: Section,
+    failure: Failure,
+    swaps: &mut Vec<Swap<A>, A>,
+) -> Result<(), EditFault>
+    ensures swaps { OnOk result (swaps.new.items ≡ swaps.old.items ++ option_to_list (place_swap (fate_by failure) slot section (slot_at database.now slot))) }
+    ensures memory { IfErr result (λ fault. fault ≡ OutOfMemory) }
+{
+    let Some(lsa) = database.get(slot) else {
+        return Ok(());
+    };
+    let Some(swap) = failure.swap(database.alloc(), slot, section, lsa)? else {
+        return Ok(());
+    };
+    if swaps.push(swap).is_err() {
+        return Err(EditFault::OutOfMemory);
+    }
+    Ok(())
+}
+
+/// Adds the swaps of the places of a section, by its number and its name. The error is want of
+/// memory.
+fn add_swaps<A: Allocator + Copy>(
+    database: &Database<A>,
+    number: usize,
+    section: Section,
+    failure: Failure,
+    swaps: &mut Vec<Swap<A>, A>,
+) -> Result<(), EditFault>
+    requires { IsSome (item_at database.now number) }
+    ensures swaps { OnOk result (swaps.new.items ≡ swaps.old.items ++ section_swaps (fate_by failure) number section 0 (places_in database.now number)) }
+    ensures memory { IfErr result (λ fault. fault ≡ OutOfMemory) }
+{
+    for index in 0..database.place_count(number) {
+        let slot = SlotId {
+            section: number,
+            index,
+        };
+        match add_swap(database, slot, section, failure, swaps) {
+            Ok(()) => {}
+            Err(fault) => return Err(fault),
+        }
+    }
+    Ok(())
+}
+
+/// The swaps of the places of an area, by its number and its ID. The error is want of memory.
+fn swaps_in<A: Allocator + Copy>(
+    database: &Database<A>,
+    number: usize,
+    area: AreaId,
+    failure: Failure,
+) -> Result<Vec<Swap<A>, A>, EditFault>
+    requires { IsSome (item_at database.now number) }
+    ensures swaps { IfOk result (λ v. v.items ≡ section_swaps (fate_by failure) number (Area area) 0 (places_in database.now number)) }
+    ensures memory { IfErr result (λ fault. fault ≡ OutOfMemory) }
+{
+    let mut swaps = Vec::new(database.alloc());
+    add_swaps(database, number, Section::Area(area), failure, &mut swaps)?;
+    Ok(swaps)
+}
+
+/// Whether a link is a point-to-point link to a router.
+fn leads_to(link: Link, router: RouterId) -> bool
+    ensures { result ≡ leads_to router link }
+{
+    matches!(link.kind, LinkKind::PointToPoint) && link.id.0 == router.0
+}
+
+/// Whether a router-LSA has a point-to-point link to a router.
+fn has_link_to<A: Allocator + Copy>(lsa: &Lsa<A>, router: RouterId) -> bool
+    requires { kind_of lsa.now ≡ 1 }
+    ensures { result ≡ list_any (leads_to router) (links_of lsa.now) }
+{
+    let Some(view) = lsa.router() else {
+        return false;
+    };
+    view.links().any(|link| leads_to(link, router))
+}
+
+/// Whether one of the router-LSAs of two routers has a point-to-point link to the other router.
+fn are_linked<A: Allocator + Copy>(
+    router: RouterId,
+    neighbor: RouterId,
+    lsa: &Lsa<A>,
+    other: &Lsa<A>,
+) -> bool
+    requires one { kind_of lsa.now ≡ 1 }
+    requires two { kind_of other.now ≡ 1 }
+    ensures { result ≡ are_linked router neighbor lsa.now other.now }
+{
+    has_link_to(lsa, neighbor) || has_link_to(other, router)
+}
+
+/// The point-to-point links between two routers go, on both sides. A router-LSA without such a
+/// link stays as it is.
+pub fn plan_fail_link<A: Allocator + Copy>(
+    database: &Database<A>,
+    area: AreaId,
+    router: RouterId,
+    neighbor: RouterId,
+) -> Result<Vec<Swap<A>, A>, EditFault>
+    ensures planned { IfOk result (λ v. Planned database.now database.now (FailLink area router neighbor) v.items) }
+    ensures refused { IfErr result (λ f. IsRefused database.now (FailLink area router neighbor) f) }
+{
+    database.known();
+    let number = area_section(database, area)?;
+    if router == neighbor {
+        return Err(EditFault::SameRouter);
+    }
+    let (_, lsa) = router_lsa_in(database, area, router)?;
+    let (_, other) = router_lsa_in(database, area, neighbor)?;
+    if !are_linked(router, neighbor, lsa, other) {
+        return Err(EditFault::NoLink);
+    }
+    swaps_in(database, number, area, Failure::Links(router, neighbor))
+}
+
+/// The network-LSAs of a network go, and all links of router-LSAs to it.
+pub fn plan_fail_net<A: Allocator + Copy>(
+    database: &Database<A>,
+    area: AreaId,
+    network: Addr,
+) -> Result<Vec<Swap<A>, A>, EditFault>
+    ensures planned { IfOk result (λ v. Planned database.now database.now (FailNet area network) v.items) }
+    ensures refused { IfErr result (λ f. IsRefused database.now (FailNet area network) f) }
+{
+    database.known();
+    let number = area_section(database, area)?;
+    let Some(_) = first(database, Section::Area(area), &Wanted::Network(network)) else {
+        return Err(EditFault::NoNetwork);
+    };
+    swaps_in(database, number, area, Failure::Network(network))
+}
+
+/// The name of a section, by its number.
+fn section_name<A: Allocator + Copy>(database: &Database<A>, number: usize) -> Section
+    requires { IsSome (item_at database.now number) }
+    ensures { result ≡ section_name (head_or_none (item_at database.now number)) }
+{
+    match database.area_in(number) {
+        Some((area, _)) => Section::Area(area),
+        None => Section::AsWide,
+    }
+}
+
+/// All LSAs that a router originated go, in all areas and those of AS scope.
+pub fn plan_fail_router<A: Allocator + Copy>(
+    database: &Database<A>,
+    router: RouterId,
+) -> Result<Vec<Swap<A>, A>, EditFault>
+    ensures planned { IfOk result (λ v. Planned database.now database.now (FailRouter router) v.items) }
+    ensures refused { IfErr result (λ f. IsRefused database.now (FailRouter router) f) }
+{
+    database.known();
+    if !has_router(database, router) {
+        return Err(EditFault::NoRouter);
+    }
+    let mut swaps = Vec::new(database.alloc());
+    for number in 0..database.section_count() {
+        let section = section_name(database, number);
+        match add_swaps(
+            database,
+            number,
+            section,
+            Failure::Router(router),
+            &mut swaps,
+        ) {
+            Ok(()) => {}
+            Err(fault) => return Err(fault),
+        }
+    }
+    Ok(swaps)
+}

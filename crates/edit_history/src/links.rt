@@ -1,0 +1,79 @@
+//! Edits of the links of one router-LSA.
+
+ghost use Rattle.std.specs.Prelude.{◌≡◌, IfOk, IfErr};
+ghost use Rattle.edit_script.specs.declared.edit.Edit.TheVariants.{Cost, DropLink, AddStub};
+ghost use Rattle.edit_history.specs.Applied.{Planned, IsRefused};
+
+use crate::fault::EditFault;
+use crate::limits::is_dump_full;
+use crate::lookup::{ROUTER_LSA, router_lsa};
+use crate::swap::{Swap, one_swap};
+use lsa_codec::{AreaId, Prefix, RouterId};
+use lsdb::{Database, Section};
+use std::alloc::Allocator;
+
+/// The octets of a link without TOS metrics (RFC 2328, A.4.2).
+const STUB_OCTETS: u16 = 12;
+
+/// The length of the longest LSA, in octets.
+const LONGEST_LSA: usize = 65_535;
+
+/// The metric of a link is another one: the cost of an interface (RFC 2328, C.3), told in the
+/// router-LSA that its router originates for the area (12.4.1).
+pub fn plan_cost<A: Allocator + Copy>(
+    database: &Database<A>,
+    area: AreaId,
+    router: RouterId,
+    link: u16,
+    metric: u16,
+) -> Result<Vec<Swap<A>, A>, EditFault>
+    ensures planned { IfOk result (λ v. Planned database.now database.now (Cost area router link metric) v.items) }
+    ensures refused { IfErr result (λ f. IsRefused database.now (Cost area router link metric) f) }
+{
+    database.known();
+    let (slot, lsa) = router_lsa(database, area, router)?;
+    let new = lsa.with_cost(database.alloc(), link, metric)?;
+    let swap = Swap::new(slot, Section::Area(area), ROUTER_LSA, Some(new));
+    Ok(one_swap(database.alloc(), swap)?)
+}
+
+/// A link goes, with its TOS metrics.
+pub fn plan_drop_link<A: Allocator + Copy>(
+    database: &Database<A>,
+    area: AreaId,
+    router: RouterId,
+    link: u16,
+) -> Result<Vec<Swap<A>, A>, EditFault>
+    ensures planned { IfOk result (λ v. Planned database.now database.now (DropLink area router link) v.items) }
+    ensures refused { IfErr result (λ f. IsRefused database.now (DropLink area router link) f) }
+{
+    database.known();
+    let (slot, lsa) = router_lsa(database, area, router)?;
+    let new = lsa.without_link(database.alloc(), link)?;
+    let swap = Swap::new(slot, Section::Area(area), ROUTER_LSA, Some(new));
+    Ok(one_swap(database.alloc(), swap)?)
+}
+
+/// A router-LSA gets a link to a stub network, after its last link.
+pub fn plan_add_stub<A: Allocator + Copy>(
+    database: &Database<A>,
+    area: AreaId,
+    router: RouterId,
+    prefix: Prefix,
+    metric: u16,
+) -> Result<Vec<Swap<A>, A>, EditFault>
+    ensures planned { IfOk result (λ v. Planned database.now database.now (AddStub area router prefix metric) v.items) }
+    ensures refused { IfErr result (λ f. IsRefused database.now (AddStub area router prefix metric) f) }
+{
+    database.known();
+    let (slot, lsa) = router_lsa(database, area, router)?;
+    if lsa.bytes().len() + usize::from(STUB_OCTETS) > LONGEST_LSA {
+        return Err(EditFault::TooLong);
+    }
+    if is_dump_full(database, STUB_OCTETS) {
+        return Err(EditFault::Full);
+    }
+    let new = lsa.with_stub(database.alloc(), prefix, metric)?;
+    let swap = Swap::new(slot, Section::Area(area), ROUTER_LSA, Some(new));
+    Ok(one_swap(database.alloc(), swap)?)
+}

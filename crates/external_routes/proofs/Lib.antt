@@ -1,0 +1,9 @@
+pub mod Attaching
+pub mod First
+pub mod Orders
+pub mod Marks
+pub mod Longest
+pub mod Small
+pub mod Whole
+pub mod Keeping
+pub mod Vertices

@@ -1,0 +1,4 @@
+pub mod Attached
+pub mod Choose
+pub mod External
+pub mod Lookup

@@ -1,0 +1,48 @@
+-- What is kept to look up routes and router entries quickly.
+use Rattle.std.specs.Prelude.{◌≡◌, ℕ, ◌≤◌, ◌^◌, Bool, true, false, List, All, Option, length, slice_get, slice_index_or, take}
+use Rattle.std.specs.BTreeMap.{BTreeMap, get}
+use Rattle.std.specs.Option.{option_and_then, option_map_or}
+use Rattle.std.specs.Ordering.{is_lt}
+use Rattle.lsa_codec.specs.declared.address.RouterId.{RouterId}
+use Rattle.area_routes.specs.Order.{router_cmp}
+use Rattle.area_routes.specs.Routes.{AreSortedRoutes}
+use Rattle.area_routes.specs.Values.{EntryValue, RouteValue, EntriesBelow, RoutesBelow}
+use Rattle.external_routes.specs.Choose.{preference, preferred}
+
+-- the length of the route's prefix is one that prefixes have, and it is marked
+pub record IsMarked (marks : List Bool) (r : RouteValue) : Type 0 where
+  pub short : r.net.len ≤ 32
+  pub marked : slice_index_or marks r.net.len false ≡ true
+
+-- the lengths of the routes' prefixes are marked
+abbrev pub MarksLengths : List RouteValue → List Bool → Type 0
+MarksLengths routes marks = All (IsMarked marks) routes
+
+-- the entry with an index, if there is one
+abbrev pub entry_at : List EntryValue → Option ℕ → Option EntryValue
+entry_at entries index = option_and_then (λ i. slice_get entries i) index
+
+-- whether an entry comes first: it is preferred to the other, if there is one
+abbrev pub comes_first : EntryValue → Option EntryValue → Bool
+comes_first entry other = option_map_or (λ e. is_lt (preference entry e)) other true
+
+-- of each router the index of its preferred entry among the first n is kept
+abbrev pub KeepsPreferred : List EntryValue → ℕ → BTreeMap RouterId ℕ → Type 0
+KeepsPreferred entries n kept = (asbr : RouterId) → entry_at entries (get router_cmp kept asbr) ≡ preferred (take n entries) asbr
+
+-- the routes and the router entries of a router inside the AS
+pub record WaysInside : Type 0 where
+  pub routes : List RouteValue
+  pub entries : List EntryValue
+
+-- the routes stand in order of prefix, and all costs are below 2^40
+pub record AreWays (ways : WaysInside) : Type 0 where
+  pub sorted : AreSortedRoutes ways.routes
+  pub routes : RoutesBelow (2 ^ 40) ways.routes
+  pub entries : EntriesBelow (2 ^ 40) ways.entries
+
+-- the same, and what is kept beside them is right
+pub record IsKept (ways : WaysInside) (marks : List Bool) (kept : BTreeMap RouterId ℕ) : Type 0 where
+  pub are : AreWays ways
+  pub marked : MarksLengths ways.routes marks
+  pub preferred : KeepsPreferred ways.entries (length ways.entries) kept

@@ -1,0 +1,64 @@
+//! The match of a forwarding address among routes in order of prefix.
+
+ghost use Rattle.std.specs.Prelude.{◌≡◌, ◌≤◌, length};
+ghost use Rattle.std.specs.Option.{option_copied};
+ghost use Rattle.lsa_codec.specs.Prefix.{masked};
+ghost use Rattle.area_routes.specs.Routes.{AreSortedRoutes, route_to};
+ghost use Rattle.external_routes.specs.Choose.{forward_match};
+ghost use Rattle.external_routes.specs.Lookup.{MarksLengths};
+
+use area_routes::{Route, route_to};
+use lsa_codec::{Addr, Prefix};
+use std::alloc::Allocator;
+
+/// How many lengths a prefix may have: 0 to 32.
+const LENGTHS: usize = 33;
+
+/// Marks the lengths of the routes' prefixes.
+pub(crate) fn lengths<A: Allocator + Copy>(routes: &[Route<A>]) -> [bool; 33]
+    ensures { MarksLengths routes.now result }
+{
+    let mut marks = [false; LENGTHS];
+    for route in routes {
+        marks[usize::from(route.net.len())] = true;
+    }
+    marks
+}
+
+/// The route to the prefix of a length that covers an address, where `marks` has the lengths of the
+/// routes' prefixes.
+fn covering<'a, A: Allocator + Copy>(
+    routes: &'a [Route<A>],
+    marks: &[bool; 33],
+    addr: Addr,
+    len: u8,
+) -> Option<&'a Route<A>>
+    requires len { len ≤ 32 }
+    requires sorted { AreSortedRoutes routes.now }
+    requires marked { MarksLengths routes.now marks.now }
+    ensures { option_copied result ≡ route_to routes.now (masked addr len) }
+{
+    if !marks[usize::from(len)] {
+        return None;
+    }
+    route_to(routes, Prefix::masked(addr, len))
+}
+
+/// The route of the longest prefix that covers an address, where `marks` has the lengths of the
+/// routes' prefixes.
+pub(crate) fn forward_match<'a, A: Allocator + Copy>(
+    routes: &'a [Route<A>],
+    marks: &[bool; 33],
+    addr: Addr,
+) -> Option<&'a Route<A>>
+    requires sorted { AreSortedRoutes routes.now }
+    requires marked { MarksLengths routes.now marks.now }
+    ensures { option_copied result ≡ forward_match routes.now addr }
+{
+    for shorter in 0..33 {
+        if let Some(route) = covering(routes, marks, addr, 32 - shorter) {
+            return Some(route);
+        }
+    }
+    None
+}

@@ -1,0 +1,70 @@
+//! External routes.
+
+ghost use Rattle.std.specs.Prelude.{◌≡◌, ◌<◌, ◌^◌, IfOk, List};
+ghost use Rattle.std.specs.List.{filter_map};
+ghost use Rattle.lsdb.specs.Places.{lists_of};
+ghost use Rattle.area_routes.specs.Best.{Gathers};
+ghost use Rattle.area_routes.specs.Order.{prefix_cmp};
+ghost use Rattle.area_routes.specs.Routes.{AreSortedRoutes};
+ghost use Rattle.area_routes.specs.Values.{EntriesBelow, RoutesBelow};
+ghost use Rattle.external_routes.specs.External.{external_candidate, externals_of};
+
+use crate::attached::is_attached_outside_stubs;
+use crate::candidates::admit_lsa;
+use crate::inside::Inside;
+use area_routes::{BestWays, Route, RouterEntry};
+use lsa_codec::{Prefix, RouterId};
+use lsdb::{Database, Lsas, Section};
+use std::alloc::{AllocError, Allocator};
+
+/// Takes what LSAs offer into account, one after another.
+fn ways_of<A: Allocator + Copy>(
+    alloc: A,
+    lsas: Lsas<'_, A>,
+    router: RouterId,
+    inside: &Inside<'_, A>,
+) -> Result<BestWays<Prefix, A>, AllocError>
+    ensures { IfOk result (λ ways. Gathers prefix_cmp (filter_map (external_candidate router inside.now.routes inside.now.entries) lsas.entry) ways) }
+{
+    let mut ways = BestWays::new(alloc);
+    for lsa in lsas {
+        admit_lsa(alloc, &mut ways, inside, router, lsa)?;
+    }
+    Ok(ways)
+}
+
+/// The external routes of a router, in order of prefix (RFC 2328, 16.4). The routes are all its
+/// intra-area and inter-area routes, in order of prefix, and the entries are all its router
+/// entries; their costs are below 2^40.
+///
+/// A router that is attached to stub areas alone has none. For other routers each AS-external-LSA
+/// counts that is not at MaxAge, has a metric below LSInfinity, was made by another router that has
+/// an entry as an AS boundary router, and tells of a prefix without a route. The path leads over
+/// the preferred entry ([`preferred`](crate::preferred)) or, where the LSA has a forwarding
+/// address, over the route of the longest prefix that covers it; without one there is no path. To
+/// each prefix the route has the next hops of all best paths (RFC 2328, 16.4.1).
+///
+/// # Errors
+///
+/// Memory ran out.
+pub fn externals<A: Allocator + Copy>(
+    alloc: A,
+    database: &Database<A>,
+    router: RouterId,
+    routes: &[Route<A>],
+    entries: &[RouterEntry<A>],
+) -> Result<Vec<Route<A>, A>, AllocError>
+    requires sorted { AreSortedRoutes routes.now }
+    requires routes { RoutesBelow (2 ^ 40) routes.now }
+    requires entries { EntriesBelow (2 ^ 40) entries.now }
+    ensures routes { IfOk result (λ found. found.items ≡ externals_of (lists_of database.now) router routes.now entries.now) }
+    ensures sorted { IfOk result (λ found. AreSortedRoutes found.items) }
+    ensures small { IfOk result (λ found. RoutesBelow (2 ^ 41) found.items) }
+{
+    if !is_attached_outside_stubs(database, router) {
+        return Ok(Vec::new(alloc));
+    }
+    let inside = Inside::new(alloc, routes, entries)?;
+    let ways = ways_of(alloc, database.lsas(Section::AsWide), router, &inside)?;
+    ways.into_routes(alloc)
+}

@@ -1,0 +1,118 @@
+//! Ways inside the AS, and the text of routes.
+
+ghost use Rattle.std.specs.Prelude.{◌<◌, ◌^◌, IfOk};
+ghost use Rattle.area_routes.specs.Routes.{AreSortedRoutes};
+ghost use Rattle.area_routes.specs.Values.{EntriesBelow, RoutesBelow};
+
+use area_routes::{BestWays, EntryKind, PathType, Rank, Route, RouterEntry};
+use lsa_codec::{Addr, AreaId, Prefix, RouterId};
+use next_hops::{Hop, HopList};
+use std::alloc::{Allocator, Global};
+use std::test::*;
+
+/// A way to a prefix, of one hop or two.
+#[derive(Clone, Copy, Debug)]
+pub struct WayTo {
+    pub net: Prefix,
+    pub path: PathType,
+    pub area: u32,
+    pub cost: u32,
+    pub hops: [Hop; 2],
+}
+
+fn wide(cost: u32) -> u64
+    ensures { result < 2 ^ 40 }
+{
+    u64::from(cost)
+}
+
+/// The routes over these ways, in order of prefix.
+pub fn routes<A: Allocator + Copy>(alloc: A, ways: &[WayTo]) -> Result<Vec<Route<A>, A>, Fail>
+    ensures sorted { IfOk result (λ routes. AreSortedRoutes routes.items) }
+    ensures small { IfOk result (λ routes. RoutesBelow (2 ^ 40) routes.items) }
+{
+    let mut best = BestWays::new(alloc);
+    for way in ways {
+        let rank = Rank {
+            path: way.path,
+            cost2: 0,
+            class: 0,
+            cost: wide(way.cost),
+        };
+        best.admit(alloc, way.net, rank, Some(AreaId(way.area)), &way.hops)?;
+    }
+    Ok(best.into_routes(alloc)?)
+}
+
+/// A way to a router.
+#[derive(Clone, Copy, Debug)]
+pub struct WayToRouter {
+    pub router: RouterId,
+    pub area: u32,
+    pub kind: EntryKind,
+    pub cost: u32,
+    pub hop: Hop,
+}
+
+/// The entries of these ways.
+pub fn entries<A: Allocator + Copy>(
+    alloc: A,
+    ways: &[WayToRouter],
+) -> Result<Vec<RouterEntry<A>, A>, Fail>
+    ensures { IfOk result (λ entries. EntriesBelow (2 ^ 40) entries.items) }
+{
+    let mut entries = Vec::new(alloc);
+    for way in ways {
+        let mut hops = HopList::new(alloc);
+        hops.add(way.hop)?;
+        entries.push(RouterEntry {
+            router: way.router,
+            area: AreaId(way.area),
+            kind: way.kind,
+            cost: wide(way.cost),
+            hops,
+        })?;
+    }
+    Ok(entries)
+}
+
+/// An entry as an AS boundary router inside an area, over the interface 10.AREA.0.1.
+pub fn asbr(router: RouterId, area: u32, cost: u32) -> WayToRouter {
+    WayToRouter {
+        router,
+        area,
+        kind: EntryKind::AsbrIntra,
+        cost,
+        hop: Hop::Link(Addr(0x0a00_0001 | area << 16)),
+    }
+}
+
+fn word(kind: PathType) -> &'static str {
+    match kind {
+        PathType::Intra => "intra",
+        PathType::Inter => "inter",
+        PathType::Ext1 => "ext1",
+        PathType::Ext2 => "ext2",
+    }
+}
+
+/// The routes, a line for each: prefix, type, cost, type 2 metric, areas or a dash, next hops.
+pub fn text(alloc: Global, routes: &[Route]) -> Result<String, Fail> {
+    let mut text = String::new(alloc);
+    for route in routes {
+        let (net, kind) = (route.net, word(route.kind));
+        let (cost, cost2) = (route.cost, route.cost2);
+        text.push_str(&format!(in alloc; "{net} {kind} {cost} {cost2}")?)?;
+        if route.areas.as_slice().is_empty() {
+            text.push_str(" -")?;
+        }
+        for area in route.areas.as_slice() {
+            text.push_str(&format!(in alloc; " {area}")?)?;
+        }
+        for hop in route.hops.as_slice() {
+            text.push_str(&format!(in alloc; " {hop}")?)?;
+        }
+        text.push_str("\n")?;
+    }
+    Ok(text)
+}

@@ -1,0 +1,147 @@
+-- The sessions of branches when one of them goes on.
+use Rattle.std.proofs.Common.{◌≡◌, ℕ, List, Bool, true, false, eqb, cond, Option, None, Some, Result, Ok, Err, refl, sym, ap, subst, ◌∙◌, zero, suc, length, ltb}
+use Rattle.std.specs.Prelude.{nat_le, IfSome, IsSome}
+use Rattle.std.specs.Map.{lookup, set_value}
+use Rattle.std.specs.BTreeMap.{BTreeMap, Updates, WritesThrough, is_at}
+use Rattle.std.specs.Cmp.{unsigned_tied}
+use Rattle.std.proofs.lemmas.Map.Steps.{set_value_same}
+use Rattle.std.specs.Ordering.{nat_cmp, eq_by_cmp}
+use Rattle.std.specs.Result.{OnOk, OnErr}
+use Rattle.std.proofs.Math.Dec.{eqb-zero-suc}
+use Rattle.std.proofs.lemmas.Bool.{eqb-true}
+use Rattle.lsdb.specs.Lists.{Lists}
+use Rattle.edit_script.specs.declared.edit.Edit.{Edit}
+use Rattle.edit_script.specs.declared.command.Command.{Command}
+use Rattle.edit_script.specs.declared.command.Command.TheVariants as command
+use Rattle.edit_history.specs.declared.fault.EditFault.{EditFault}
+use Rattle.edit_history.specs.declared.fault.EditFault.TheVariants.{HistoryFull}
+use Rattle.edit_history.specs.Effect.{effect}
+use Rattle.edit_history.specs.Session.{Session, edited, accepted, state, most_edits, moved_back, moved_on}
+use Rattle.ospf_plan.specs.Branches.{Named, Sessions, sessions_of, in_branch, session_or_begin, HaveOneBase}
+use Rattle.ospf_plan.specs.Replies.{after, unless_refused}
+
+-- ---- a command leaves the base
+
+accepted_base : (s : Session) (e : Edit) (r : Result Lists EditFault) → (unless_refused s (accepted s e r)).base ≡ s.base
+accepted_base s e (Ok db) = refl
+accepted_base s e (Err fault) = refl
+
+edited_base : (s : Session) (e : Edit) (r : Result Lists EditFault) (room : Bool) → (unless_refused s (cond room (accepted s e r) (Err HistoryFull))).base ≡ s.base
+edited_base s e r true = accepted_base s e r
+edited_base s e r false = refl
+
+undone_base : (s : Session) (k : ℕ) (may : Bool) → (cond may (moved_back k s) s).base ≡ s.base
+undone_base s k true = refl
+undone_base s k false = refl
+
+redone_base : (s : Session) (k : ℕ) (may : Bool) → (cond may (moved_on k s) s).base ≡ s.base
+redone_base s k true = refl
+redone_base s k false = refl
+
+pub after_base : (s : Session) (c : Command) → (after s c).base ≡ s.base
+unfolding edited
+after_base s (command.Edit e) = edited_base s e (effect (state s) e) (ltb (length s.done) most_edits)
+after_base s (command.Undo k) = undone_base s k (nat_le k (length s.done))
+after_base s (command.Redo k) = redone_base s k (nat_le k (length s.undone))
+after_base s (command.Table router) = refl
+after_base s command.Tables = refl
+after_base s (command.Compare router) = refl
+after_base s command.Info = refl
+
+pub edited_keeps_base : (s t : Session) (e : Edit) → edited s e ≡ Ok t → t.base ≡ s.base
+edited_keeps_base s t e is = ap (λ r. (unless_refused s r).base) (sym is) ∙ after_base s (command.Edit e)
+
+-- ---- one branch goes on
+
+abbrev pub the_named : Session → List (ℕ × Session) → Named
+the_named first others = record { first = first; others = others }
+
+-- the session of a number in a list of named branches
+abbrev pub found : List (ℕ × Session) → ℕ → Option Session
+found es branch = lookup (eq_by_cmp nat_cmp branch) es
+
+-- branch 0 went on
+first_at : (named : Named) (t : Session) (o : Option Session) (branch : ℕ) (z : Bool) → eqb branch 0 ≡ z → t.base ≡ named.first.base
+    → cond z t (session_or_begin t.base o) ≡ cond (eqb 0 branch) t (cond z named.first (session_or_begin named.first.base o))
+first_at named t o branch true e same = rw (eqb-true branch 0 e) refl
+first_at named t o zero false e same = absurd cc
+first_at named t o (suc branch) false e same = rw (eqb-zero-suc branch) (ap (λ base. session_or_begin base o) same)
+
+first_went : (named : Named) (t : Session) → t.base ≡ named.first.base
+    → sessions_of (record { first = t; others = named.others }) ≡ in_branch 0 t (sessions_of named)
+first_went named t same = λ i branch. first_at named t (found named.others branch) branch (eqb branch 0) refl same i
+
+pub first_goes_on : (named : Named) (branch : ℕ) (t : Session) (c : Command) → branch ≡ 0 → t ≡ after named.first c
+    → sessions_of (record { first = t; others = named.others }) ≡ in_branch branch (after (sessions_of named branch) c) (sessions_of named)
+first_goes_on named branch t c zeroth is =
+    first_went named t (ap (λ (s : Session). s.base) is ∙ after_base named.first c)
+    ∙ ap (λ (s : Session). in_branch 0 s (sessions_of named)) is
+    ∙ ap (λ k. in_branch k (after (sessions_of named k) c) (sessions_of named)) (sym zeroth)
+
+pub first_base : (named : Named) (t : Session) → t.base ≡ named.first.base → HaveOneBase named → HaveOneBase (record { first = t; others = named.others })
+first_base named t same one branch = subst (λ base. IfSome (found named.others branch) (λ s. s.base ≡ base)) (sym same) (one branch)
+
+-- another one did
+pub record GoesOn (old new : List (ℕ × Session)) (branch : ℕ) (t : Session) : Type 0 where
+  pub at : found new branch ≡ Some t
+  pub others : (other : ℕ) → eqb branch other ≡ false → found new other ≡ found old other
+
+other_at : (named : Named) (new : List (ℕ × Session)) (branch : ℕ) (t : Session) → eqb branch 0 ≡ false → GoesOn named.others new branch t
+    → (other : ℕ) (same : Bool) → eqb branch other ≡ same
+    → sessions_of (record { first = named.first; others = new }) other ≡ cond same t (sessions_of named other)
+other_at named new branch t behind went other true e =
+    ap (sessions_of (record { first = named.first; others = new })) (sym (eqb-true branch other e))
+    ∙ rw (behind, went.at) refl
+other_at named new branch t behind went other false e =
+    ap (λ o. cond (eqb other 0) named.first (session_or_begin named.first.base o)) (went.others other e)
+
+pub other_goes_on : (named : Named) (new : List (ℕ × Session)) (branch : ℕ) (t : Session) → eqb branch 0 ≡ false → GoesOn named.others new branch t
+    → sessions_of (record { first = named.first; others = new }) ≡ in_branch branch t (sessions_of named)
+other_goes_on named new branch t behind went = λ i other. other_at named new branch t behind went other (eqb branch other) refl i
+
+base_at : (named : Named) (new : List (ℕ × Session)) (branch : ℕ) (t : Session) → t.base ≡ named.first.base → GoesOn named.others new branch t → HaveOneBase named
+    → (other : ℕ) (same : Bool) → eqb branch other ≡ same → IfSome (found new other) (λ s. s.base ≡ named.first.base)
+base_at named new branch t is went one other true e = rw (sym (eqb-true branch other e), went.at) is
+base_at named new branch t is went one other false e = rw (went.others other e) (one other)
+
+pub one_base : (named : Named) (new : List (ℕ × Session)) (branch : ℕ) (t : Session) → t.base ≡ named.first.base → GoesOn named.others new branch t → HaveOneBase named
+    → HaveOneBase (record { first = named.first; others = new })
+one_base named new branch t is went one other = base_at named new branch t is went one other (eqb branch other) refl
+
+-- the map after an insertion, or after a branch in it went on
+pub inserted : (old new : BTreeMap ℕ Session) (branch : ℕ) (t : Session) → Updates nat_cmp old new branch (Some t) → GoesOn old.entries new.entries branch t
+inserted old new branch t updates = record {
+  at = updates.1;
+  others = λ other e. updates.2 other (unsigned_tied branch other ∙ e);
+}
+
+pub written : (old new : BTreeMap ℕ Session) (branch : ℕ) (s t : Session) → Some s ≡ found old.entries branch → WritesThrough nat_cmp (nat_cmp branch) old t new → GoesOn old.entries new.entries branch t
+written old new branch s t was writes = inserted old new branch t (writes.3 (subst (λ o. IsSome o) was refl))
+
+-- the session of a branch other than 0 that was named
+pub session_at : (named : Named) (branch : ℕ) (s : Session) → eqb branch 0 ≡ false → Some s ≡ found named.others branch → sessions_of named branch ≡ s
+session_at named branch s behind was = rw (behind, sym was) refl
+
+pub base_of : (named : Named) (branch : ℕ) (s : Session) → Some s ≡ found named.others branch → HaveOneBase named → s.base ≡ named.first.base
+base_of named branch s was one = subst (λ o. IfSome o (λ (x : Session). x.base ≡ named.first.base)) (sym was) (one branch)
+
+pub written_on : (named : Named) (new : BTreeMap ℕ Session) (old : BTreeMap ℕ Session) (branch : ℕ) (s t : Session) (c : Command) → named.others ≡ old.entries → eqb branch 0 ≡ false
+    → Some s ≡ found old.entries branch → WritesThrough nat_cmp (nat_cmp branch) old t new → t ≡ after s c
+    → sessions_of (record { first = named.first; others = new.entries }) ≡ in_branch branch (after (sessions_of named branch) c) (sessions_of named)
+written_on named new old branch s t c same behind was writes is =
+    other_goes_on named new.entries branch t behind (rw same (written old new branch s t was writes))
+    ∙ ap (λ (u : Session). in_branch branch u (sessions_of named)) (is ∙ ap (λ (u : Session). after u c) (sym (session_at named branch s behind (was ∙ ap (λ es. found es branch) (sym same)))))
+
+-- a value that was written back
+pub written_same : (old new : BTreeMap ℕ Session) (branch : ℕ) (s t : Session) → Some s ≡ found old.entries branch → WritesThrough nat_cmp (nat_cmp branch) old t new → t ≡ s → new.entries ≡ old.entries
+written_same old new branch s t was writes same =
+    writes.0 ∙ ap (set_value (is_at (nat_cmp branch)) old.entries) same ∙ set_value_same (is_at (nat_cmp branch)) old.entries s (sym was)
+
+-- what follows from what holds of a success, or of an error
+pub on_ok : {T E P Q : Type 0} (r : Result T E) → (P → Q) → OnOk r P → OnOk r Q
+on_ok (Ok v) f p = f p
+on_ok (Err e) f p = tt
+
+pub on_err : {T E P Q : Type 0} (r : Result T E) → (P → Q) → OnErr r P → OnErr r Q
+on_err (Ok v) f p = tt
+on_err (Err e) f p = f p

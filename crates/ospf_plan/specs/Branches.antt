@@ -1,0 +1,39 @@
+-- The branches of a run: studies that begin at the loaded database, each with a session of its own.
+use Rattle.std.specs.Prelude.{◌≡◌, ℕ, ◌==◌, ◌||◌, if◌then◌else◌, Bool, is_some, IfSome, List, Option, None, Some}
+use Rattle.std.specs.Map.{lookup}
+use Rattle.std.specs.Ordering.{nat_cmp, eq_by_cmp}
+use Rattle.lsdb.specs.Lists.{Lists}
+use Rattle.edit_history.specs.Session.{Session, start}
+
+-- the session of each branch, by the branch's number
+abbrev pub Sessions : Type 0
+Sessions = ℕ → Session
+
+-- every branch begins at the loaded database
+abbrev pub all_begin : Lists → Sessions
+all_begin base = λ branch. start base
+
+-- one branch goes on, and the others stay
+abbrev pub in_branch : ℕ → Session → Sessions → Sessions
+in_branch branch s all = λ other. if branch == other then s else all other
+
+-- ---- the branches that were named so far: branch 0, and others by their numbers
+
+pub record Named : Type 0 where
+  pub first : Session
+  pub others : List (ℕ × Session)
+
+abbrev pub is_named : Named → ℕ → Bool
+is_named named branch = (branch == 0) || is_some (lookup (eq_by_cmp nat_cmp branch) named.others)
+
+-- a branch that was not named yet is at its beginning
+abbrev pub session_or_begin : Lists → Option Session → Session
+session_or_begin base None = start base
+session_or_begin base (Some s) = s
+
+abbrev pub sessions_of : Named → Sessions
+sessions_of named = λ branch. if branch == 0 then named.first else session_or_begin named.first.base (lookup (eq_by_cmp nat_cmp branch) named.others)
+
+-- all began at one database
+abbrev pub HaveOneBase : Named → Type 0
+HaveOneBase named = (branch : ℕ) → IfSome (lookup (eq_by_cmp nat_cmp branch) named.others) (λ s. s.base ≡ named.first.base)

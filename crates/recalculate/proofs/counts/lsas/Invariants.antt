@@ -1,0 +1,12 @@
+use Rattle.std.proofs.Common.{◌≡◌, ◌≤◌, ◌*◌, take, length}
+use Rattle.lsdb.specs.Lists.{areas_of}
+use Rattle.lsdb.specs.Places.{lists_of}
+use Rattle.recalculate.proofs.Totals.{lsas_among}
+use Rattle.recalculate.proofs.counts.lsas.Given as goal
+
+-- the count of the areas so far
+abbrev pub invariant-loop-i : goal.invariant-loop-i
+invariant-loop-i g l = record {
+  count : l.count ≡ length (lsas_among (lists_of l.database) (take l.i (areas_of (lists_of l.database))));
+  few : l.count ≤ 65535 * l.i;
+}

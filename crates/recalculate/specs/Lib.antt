@@ -1,0 +1,6 @@
+pub mod Preferring
+pub mod Tables
+pub mod Fault
+pub mod Counting
+pub mod Counts
+pub mod Routers

@@ -1,0 +1,132 @@
+use super::*;
+use edit_script::Edit;
+use lsa_codec::RouterId;
+use lsdb::Database;
+use std::test::*;
+
+const ROUTER_1: RouterId = RouterId(0x0101_0101);
+
+const ROUTER_2: RouterId = RouterId(0x0202_0202);
+
+/// One ordinary area 0.0.0.0 with the router-LSAs of 1.1.1.1 and 2.2.2.2, and no LSAs of AS scope.
+const DUMP: [u8; 99] = [
+    0x4f, 0x53, 0x57, 0x50, 1, 1, 0, 0, 0, 0, 0, 0, 2, 0x00, 0x01, 0x02, 0x01, 1, 1, 1, 1, 1, 1, 1,
+    1, 0x80, 0, 0, 1, 0xd5, 0x5a, 0, 0x24, 0, 0, 0, 1, 2, 2, 2, 2, 0x0a, 0, 0, 1, 1, 0, 0, 0x0a,
+    0x00, 0x01, 0x02, 0x01, 2, 2, 2, 2, 2, 2, 2, 2, 0x80, 0, 0, 1, 0x62, 0xa7, 0, 0x30, 0, 0, 0, 2,
+    1, 1, 1, 1, 0x0a, 0, 0, 2, 1, 0, 0, 0x0a, 0x0a, 2, 0, 0, 0xff, 0xff, 0, 0, 3, 0, 0, 5, 0, 0,
+];
+
+/// The router-LSA of 2.2.2.2 alone, with bit V, and its first link of type 4.
+const VIRTUAL: [u8; 63] = [
+    0x4f, 0x53, 0x57, 0x50, 1, 1, 0, 0, 0, 0, 0, 0, 1, 0x00, 0x01, 0x02, 0x01, 2, 2, 2, 2, 2, 2, 2,
+    2, 0x80, 0, 0, 1, 0x9b, 0x67, 0, 0x30, 4, 0, 0, 2, 1, 1, 1, 1, 0x0a, 0, 0, 2, 4, 0, 0, 0x0a,
+    0x0a, 2, 0, 0, 0xff, 0xff, 0, 0, 3, 0, 0, 5, 0, 0,
+];
+
+/// The router-LSA of 1.1.1.1 in the areas 0.0.0.0 and 0.0.0.1, and an AS-external-LSA.
+const TWO_AREAS: [u8; 130] = [
+    0x4f, 0x53, 0x57, 0x50, 1, 2, 0, 0, 0, 0, 0, 0, 1, 0x00, 0x01, 0x02, 0x01, 1, 1, 1, 1, 1, 1, 1,
+    1, 0x80, 0, 0, 1, 0xd5, 0x5a, 0, 0x24, 0, 0, 0, 1, 2, 2, 2, 2, 0x0a, 0, 0, 1, 1, 0, 0, 0x0a, 0,
+    0, 0, 1, 0, 0, 1, 0x00, 0x01, 0x02, 0x01, 1, 1, 1, 1, 1, 1, 1, 1, 0x80, 0, 0, 1, 0xd5, 0x5a, 0,
+    0x24, 0, 0, 0, 1, 2, 2, 2, 2, 0x0a, 0, 0, 1, 1, 0, 0, 0x0a, 0, 1, 0x00, 0x01, 0x02, 0x05, 0x0a,
+    9, 0, 0, 2, 2, 2, 2, 0x80, 0, 0, 1, 0x80, 0x23, 0, 0x24, 0xff, 0xff, 0, 0, 0x80, 0, 0, 0x14, 0,
+    0, 0, 0, 0, 0, 0, 0,
+];
+
+/// No area, and no LSA.
+const EMPTY: [u8; 8] = [0x4f, 0x53, 0x57, 0x50, 1, 0, 0, 0];
+
+/// What is counted where nothing is.
+const NOTHING: Info = Info {
+    areas: 0,
+    lsas: 0,
+    as_lsas: 0,
+    vbits: 0,
+    vlinks: 0,
+    done: 0,
+    undone: 0,
+};
+
+fn session(rt: &impl AllocGlobal, dump: &[u8]) -> Result<Planner, Fail> {
+    let database = Database::load(rt.alloc(), dump).ok().ok_or("a dump")?;
+    Ok(Planner::new(rt.alloc(), database))
+}
+
+#[test]
+fn counts_areas_and_lsas(rt: HostRuntime) -> Result<(), Fail> {
+    let loaded = Info {
+        areas: 1,
+        lsas: 2,
+        ..NOTHING
+    };
+    assert_eq!(rt; session(&rt, &EMPTY)?.info(), NOTHING);
+    assert_eq!(rt; session(&rt, &DUMP)?.info(), loaded);
+    let found = session(&rt, &TWO_AREAS)?.info();
+    assert_eq!(rt;
+        found,
+        Info {
+            areas: 2,
+            as_lsas: 1,
+            ..loaded
+        }
+    );
+    Ok(())
+}
+
+#[test]
+fn counts_what_virtual_links_leave(rt: HostRuntime) -> Result<(), Fail> {
+    let mut found = session(&rt, &VIRTUAL)?.info();
+    assert_eq!(rt; (found.vbits, found.vlinks), (1, 1));
+    found = session(&rt, &DUMP)?.info();
+    assert_eq!(rt; (found.vbits, found.vlinks), (0, 0));
+    Ok(())
+}
+
+#[test]
+fn counts_lsas_at_max_age(rt: HostRuntime) -> Result<(), Fail> {
+    let mut dump = VIRTUAL;
+    dump[13] = 0x0e;
+    dump[14] = 0x10;
+    let found = session(&rt, &dump)?.info();
+    assert_eq!(rt; (found.lsas, found.vbits, found.vlinks), (1, 1, 1));
+    Ok(())
+}
+
+#[test]
+fn counts_edits(rt: HostRuntime) -> Result<(), Fail> {
+    let mut session = session(&rt, &DUMP)?;
+    let fails = Edit::FailRouter { router: ROUTER_1 };
+    session.edit(&fails).ok().ok_or("an edit")?;
+    let found = session.info();
+    assert_eq!(rt; (found.lsas, found.done, found.undone), (1, 1, 0));
+    session.undo(1).ok().ok_or("an edit")?;
+    let found = session.info();
+    assert_eq!(rt; (found.lsas, found.done, found.undone), (2, 0, 1));
+    Ok(())
+}
+
+#[test]
+fn lists_routers_in_rising_order(rt: HostRuntime) -> Result<(), Fail> {
+    let found = session(&rt, &DUMP)?.routers()?;
+    assert_eq!(rt; found.as_slice(), [ROUTER_1, ROUTER_2].as_slice());
+    let found = session(&rt, &EMPTY)?.routers()?;
+    assert_eq!(rt; found.len(), 0);
+    Ok(())
+}
+
+#[test]
+fn leaves_out_routers_at_max_age(rt: HostRuntime) -> Result<(), Fail> {
+    let mut dump = DUMP;
+    dump[13] = 0x0e;
+    dump[14] = 0x10;
+    let found = session(&rt, &dump)?.routers()?;
+    assert_eq!(rt; found.as_slice(), [ROUTER_2].as_slice());
+    Ok(())
+}
+
+#[test]
+fn lists_a_router_of_two_areas_once(rt: HostRuntime) -> Result<(), Fail> {
+    let found = session(&rt, &TWO_AREAS)?.routers()?;
+    assert_eq!(rt; found.as_slice(), [ROUTER_1].as_slice());
+    Ok(())
+}

@@ -1,0 +1,151 @@
+//! The routing table of a router.
+
+ghost use Rattle.std.specs.Prelude.{◌≡◌, [], IfOk, IfErr, IsErrOf, Some, None, length};
+ghost use Rattle.lsdb.specs.Places.{lists_of};
+ghost use Rattle.area_routes.specs.Routes.{AreSortedRoutes};
+ghost use Rattle.external_routes.specs.Attached.{attached_areas};
+ghost use Rattle.recalculate.specs.declared.table.TableFault.TheVariants.{OutOfMemory};
+ghost use Rattle.recalculate.specs.Counting.{counted_by};
+ghost use Rattle.recalculate.specs.Tables.{table_in, routes_from, FaultMeans};
+ghost use Rattle.recalculate.specs.Fault.{code_of, name_of};
+
+use crate::prefer::prefer;
+use crate::results::results_of;
+use area_routes::{AreaResult, Route, inter, intra};
+use external_routes::externals;
+use lsa_codec::RouterId;
+use lsdb::Database;
+use spf::Meter;
+use std::alloc::{AllocError, Allocator, Global};
+use std::marker::Model;
+use thiserror::Error;
+
+/// The routing table of a router (RFC 2328, 11). Contracts see it as the router and its routes,
+/// which stand in order of prefix, one for each.
+#[derive(Drop)]
+pub struct Table<A: Allocator = Global> {
+    router: RouterId,
+    routes: Vec<Route<A>, A>,
+}
+
+impl<A: Allocator> Model for Table<A> {
+    ghost use Rattle.area_routes.specs.Routes.{AreSortedRoutes};
+    ghost use Rattle.recalculate.specs.Tables.{TableValue};
+
+    ghost Value = { TableValue };
+
+    ghost view = { λ t. record { router = t.router; routes = t.routes.items } };
+
+    ghost invariant = { λ t. AreSortedRoutes t.routes.items };
+}
+
+impl<A: Allocator + Copy> Table<A> {
+    /// The table without routes.
+    pub fn empty(alloc: A, router: RouterId) -> Table<A>
+        ensures { result ≡ record { router = router; routes = [] } }
+    {
+        Table {
+            router,
+            routes: Vec::new(alloc),
+        }
+    }
+
+    /// The router.
+    pub fn router(&self) -> RouterId
+        ensures { result ≡ self.now.router }
+    {
+        self.router
+    }
+
+    /// Its routes in order of prefix, one for each: the intra-area route, else the inter-area
+    /// route, else the external route.
+    pub fn routes(&self) -> &[Route<A>]
+        ensures routes { result.now ≡ self.now.routes }
+        ensures sorted { AreSortedRoutes result.now }
+    {
+        &self.routes
+    }
+}
+
+/// Why a router has no table. Its `Display` is the fault's name.
+#[derive(Clone, Copy, Debug, PartialEq, Eq, Error)]
+pub enum TableFault {
+    /// The router is attached to no area (N1).
+    #[error("NoRouter")]
+    NoRouter,
+    /// Memory ran out (N2).
+    #[error("OutOfMemory")]
+    OutOfMemory,
+}
+
+impl From<AllocError> for TableFault {
+    ghost from_gives = { λ _ fault. fault ≡ OutOfMemory };
+
+    fn from(_error: AllocError) -> TableFault {
+        TableFault::OutOfMemory
+    }
+}
+
+impl TableFault {
+    /// The printed code, as `N1`.
+    pub fn code(self) -> &'static str
+        ensures { result.now ≡ code_of self }
+    {
+        match self {
+            TableFault::NoRouter => "N1",
+            TableFault::OutOfMemory => "N2",
+        }
+    }
+
+    /// The printed name, as `NoRouter`.
+    pub fn name(self) -> &'static str
+        ensures { result.now ≡ name_of self }
+    {
+        match self {
+            TableFault::NoRouter => "NoRouter",
+            TableFault::OutOfMemory => "OutOfMemory",
+        }
+    }
+}
+
+/// The routing table of a router in a link state database (RFC 2328, 16). The meter counts a tree
+/// for each area that the router is attached to.
+///
+/// # Errors
+///
+/// [`NoRouter`](TableFault::NoRouter) exactly where the router is attached to no area, and
+/// [`OutOfMemory`](TableFault::OutOfMemory).
+pub fn table_of<A: Allocator + Copy>(
+    alloc: A,
+    database: &Database<A>,
+    router: RouterId,
+    meter: &mut Meter,
+) -> Result<Table<A>, TableFault>
+    ensures table { IfOk result (λ table. table_in (lists_of database.now) router ≡ Some table) }
+    ensures fault { IfErr result (FaultMeans (table_in (lists_of database.now) router)) }
+    ensures meter { IfOk result (λ table. meter.new ≡ counted_by (length (attached_areas (lists_of database.now) router)) meter.old) }
+{
+    let results = results_of(alloc, database, router, meter)?;
+    if results.is_empty() {
+        return Err(TableFault::NoRouter);
+    }
+    let routes = routes_from(alloc, database, router, &results)?;
+    Ok(Table { router, routes })
+}
+
+/// The routes from what the areas of a router give.
+fn routes_from<A: Allocator + Copy>(
+    alloc: A,
+    database: &Database<A>,
+    router: RouterId,
+    results: &[AreaResult<A>],
+) -> Result<Vec<Route<A>, A>, AllocError>
+    ensures routes { IfOk result (λ routes. routes.items ≡ routes_from (lists_of database.now) router results.now) }
+    ensures sorted { IfOk result (λ routes. AreSortedRoutes routes.items) }
+{
+    let intra = intra(alloc, results)?;
+    let inter = inter(alloc, database, router, results, &intra)?;
+    let inside = prefer(alloc, intra, inter.routes)?;
+    let external = externals(alloc, database, router, &inside, &inter.routers)?;
+    prefer(alloc, inside, external)
+}

@@ -1,0 +1,39 @@
+-- Prefixes in order, and the lines for them.
+use Rattle.std.proofs.Common.{◌≡◌, ℕ, ◌+◌, ◌<◌, List, [], ◌∷◌, ◌++◌, length, map, take, get_or, Option, None, Some, refl, sym, ap, ◌∙◌}
+use Rattle.std.specs.Prelude.{◌&&◌, ◌==◌}
+use Rattle.std.specs.List.{filter_map, cons_option}
+use Rattle.std.specs.Cmp.{unsigned_ties}
+use Rattle.std.specs.Ordering.{eq_by_cmp, is_eq, nat_cmp, ordering_then}
+use Rattle.std.specs.declared.cmp.Ordering.{Ordering}
+use Rattle.std.specs.declared.cmp.Ordering.TheVariants.{Less, Equal, Greater}
+use Rattle.std.proofs.lemmas.List.{append-nil, map-append, take_more}
+use Rattle.std.proofs.lemmas.List.Elements.{filter_map-append}
+use Rattle.lsa_codec.specs.Prefix.{Net}
+use Rattle.area_routes.specs.Order.{prefix_cmp}
+
+-- ---- equal prefixes
+
+equal_then : (a b : Ordering) → is_eq (ordering_then a b) ≡ (is_eq a && is_eq b)
+equal_then Less b = refl
+equal_then Equal b = refl
+equal_then Greater b = refl
+
+pub same_prefix : (x y : Net) → ((x.addr.0 == y.addr.0) && (x.len == y.len)) ≡ eq_by_cmp prefix_cmp x y
+same_prefix x y =
+    ap (λ b. b && (x.len == y.len)) (unsigned_ties x.addr.0 y.addr.0) ∙ ap (λ b. is_eq (nat_cmp x.addr.0 y.addr.0) && b) (unsigned_ties x.len y.len)
+    ∙ sym (equal_then (nat_cmp x.addr.0 y.addr.0) (nat_cmp x.len y.len))
+
+-- ---- a line, or none, for one more prefix
+
+module _ {X Y S : Type 0} (shown : S → Y) (f : X → Option Y) (xs : List X) (i : ℕ) (x : X) (lines : List S) (lt : i < length xs) (is : x ≡ get_or xs i x)
+    (so_far : map shown lines ≡ filter_map f (take i xs)) where
+  one_more : filter_map f (take i xs) ++ cons_option (f x) [] ≡ filter_map f (take (i + 1) xs)
+  one_more = sym (filter_map-append f (take i xs) (x ∷ [])) ∙ ap (λ y. filter_map f (take i xs ++ y ∷ [])) is ∙ ap (filter_map f) (sym (take_more xs i x lt))
+
+  pub no_line : None ≡ f x → map shown lines ≡ filter_map f (take (i + 1) xs)
+  no_line none = so_far ∙ sym (append-nil (filter_map f (take i xs))) ∙ ap (λ o. filter_map f (take i xs) ++ cons_option o []) none ∙ one_more
+
+  pub one_line : (new : List S) (line : S) → new ≡ lines ++ line ∷ [] → Some (shown line) ≡ f x → map shown new ≡ filter_map f (take (i + 1) xs)
+  one_line new line push some =
+      ap (map shown) push ∙ map-append shown lines (line ∷ []) ∙ ap (λ l. l ++ shown line ∷ []) so_far
+      ∙ ap (λ o. filter_map f (take i xs) ++ cons_option o []) some ∙ one_more

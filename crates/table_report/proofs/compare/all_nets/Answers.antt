@@ -1,0 +1,18 @@
+use Rattle.std.proofs.Common.{◌++◌, ◌∙◌, sym, ap}
+use Rattle.std.proofs.lemmas.List.{map-append}
+use Rattle.std.proofs.lemmas.List.Filters.{dedup_is}
+use Rattle.area_graph.specs.Rising.{rising}
+use Rattle.area_routes.specs.Order.{prefix_cmp}
+use Rattle.area_routes.specs.Routes.{nets}
+use Rattle.area_routes.proofs.Orders.{prefix_exact, prefix_total}
+use Rattle.area_routes.proofs.Rising.{dedup_rising}
+use Rattle.table_report.proofs.Differing.{same_prefix}
+use Rattle.table_report.proofs.compare.all_nets.Goals as goal
+
+pub returns : goal.returns
+returns g c =
+    dedup_is _ _ _ c.dedup.ensures.filtered
+    ∙ dedup_rising prefix_total prefix_exact same_prefix _ _ c.sort_unstable.ensures.permutation c.sort_unstable.ensures.sorted
+    ∙ ap (rising prefix_cmp)
+    (c.in_ok-append.ensures.items ∙ ap (λ l. l ++ c.in_ok-nets_of.field-0.items) c.in_ok-nets.ensures ∙ ap (λ l. nets c.args.before.now ++ l) c.in_ok-nets_of.ensures
+    ∙ sym (map-append (λ r. r.net) c.args.before.now c.args.now.now))

@@ -1,0 +1,139 @@
+//! The text of the differences of two routing tables.
+
+ghost use Rattle.std.specs.Prelude.{◌≡◌, ◌++◌, IfOk, Some, codes, map, option_map};
+ghost use Rattle.std.specs.Option.{option_copied};
+ghost use Rattle.std.specs.String.{string_bytes};
+ghost use Rattle.area_graph.specs.Rising.{rising};
+ghost use Rattle.area_routes.specs.Order.{prefix_cmp};
+ghost use Rattle.area_routes.specs.Routes.{AreSortedRoutes, nets};
+ghost use Rattle.table_report.specs.Comparing.{change, changes, compare_text};
+ghost use Rattle.table_report.specs.Texts.{line_of};
+
+use crate::line::{push_line, push_rest};
+use area_routes::{Route, route_to};
+use lsa_codec::{Prefix, RouterId};
+use recalculate::Table;
+use std::alloc::{AllocError, Allocator};
+
+/// The prefixes of routes.
+fn nets_of<A: Allocator + Copy>(alloc: A, routes: &[Route<A>]) -> Result<Vec<Prefix, A>, AllocError>
+    ensures { IfOk result (λ found. found.items ≡ nets routes.now) }
+{
+    routes.iter().map(|route| route.net).collect(alloc)
+}
+
+/// The prefixes of both lists of routes, in order, each once.
+fn all_nets<A: Allocator + Copy>(
+    alloc: A,
+    before: &[Route<A>],
+    now: &[Route<A>],
+) -> Result<Vec<Prefix, A>, AllocError>
+    ensures { IfOk result (λ found. found.items ≡ rising prefix_cmp (nets (before.now ++ now.now))) }
+{
+    let mut nets = nets_of(alloc, before)?;
+    nets.append(&mut nets_of(alloc, now)?)?;
+    nets.sort_unstable();
+    nets.dedup();
+    Ok(nets)
+}
+
+/// A mark, a space and the line of a route.
+fn marked<A: Allocator + Copy>(
+    alloc: A,
+    mark: &str,
+    route: &Route<A>,
+) -> Result<String<A>, AllocError>
+    ensures { IfOk result (λ text. string_bytes text ≡ mark.now ++ codes " " ++ line_of route.now) }
+{
+    let mut text = format!(in alloc; "{mark} ")?;
+    push_line(&mut text, route)?;
+    Ok(text)
+}
+
+/// The line of a route, without its end.
+fn line_of<A: Allocator + Copy>(alloc: A, route: &Route<A>) -> Result<String<A>, AllocError>
+    ensures { IfOk result (λ text. string_bytes text ≡ line_of route.now) }
+{
+    let mut text = String::new(alloc);
+    push_line(&mut text, route)?;
+    Ok(text)
+}
+
+/// The line for a prefix that both tables have, unless their lines are equal.
+fn changed<A: Allocator + Copy>(
+    alloc: A,
+    before: &Route<A>,
+    now: &Route<A>,
+) -> Result<Option<String<A>>, AllocError>
+    ensures { IfOk result (λ line. option_map string_bytes line ≡ change (Some before.now) (Some now.now)) }
+{
+    if line_of(alloc, before)? == line_of(alloc, now)? {
+        return Ok(None);
+    }
+    let mut text = marked(alloc, "~", now)?;
+    text.push_str(" was ")?;
+    push_rest(&mut text, before)?;
+    Ok(Some(text))
+}
+
+/// The line for a prefix by its routes, if there is one.
+fn change<A: Allocator + Copy>(
+    alloc: A,
+    before: Option<&Route<A>>,
+    now: Option<&Route<A>>,
+) -> Result<Option<String<A>>, AllocError>
+    ensures { IfOk result (λ line. option_map string_bytes line ≡ change (option_copied before.entry) (option_copied now.entry)) }
+{
+    match (before, now) {
+        (None, None) => Ok(None),
+        (None, Some(now)) => Ok(Some(marked(alloc, "+", now)?)),
+        (Some(before), None) => Ok(Some(marked(alloc, "-", before)?)),
+        (Some(before), Some(now)) => changed(alloc, before, now),
+    }
+}
+
+/// The lines for the prefixes at which two lists of routes differ, in order of prefix.
+fn changes<A: Allocator + Copy>(
+    alloc: A,
+    before: &[Route<A>],
+    now: &[Route<A>],
+) -> Result<Vec<String<A>, A>, AllocError>
+    requires before { AreSortedRoutes before.now }
+    requires now { AreSortedRoutes now.now }
+    ensures { IfOk result (λ lines. map string_bytes lines.items ≡ changes before.now now.now) }
+{
+    let nets = all_nets(alloc, before, now)?;
+    let mut lines = Vec::new(alloc);
+    for net in nets.as_slice() {
+        if let Some(line) = change(alloc, route_to(before, *net), route_to(now, *net))? {
+            lines.push(line)?;
+        }
+    }
+    Ok(lines)
+}
+
+/// The text of what a routing table of a router has otherwise than an earlier one:
+/// `compare 1.1.1.1 1`, and a line for each prefix whose lines differ, in order of prefix. Such a
+/// line is `+ LINE` where only the present table has the prefix, `- LINE` where only the earlier
+/// one has it, and else `~ LINE was REST`, where REST is the earlier line without its prefix.
+///
+/// # Errors
+///
+/// Memory ran out.
+pub fn compare_text<A: Allocator + Copy>(
+    alloc: A,
+    router: RouterId,
+    before: &Table<A>,
+    now: &Table<A>,
+) -> Result<Vec<u8, A>, AllocError>
+    ensures { IfOk result (λ text. text.items ≡ compare_text router before.now now.now) }
+{
+    let lines = changes(alloc, before.routes(), now.routes())?;
+    let count = lines.len();
+    let mut text = format!(in alloc; "compare {router} {count}\n")?;
+    for line in &lines {
+        text.push_str(line)?;
+        text.push_str("\n")?;
+    }
+    Ok(text.into_bytes())
+}
