@@ -1,0 +1,19 @@
+//! Link state databases for tests, octet by octet.
+//!
+//! A plain program makes LSAs from their fields, with good checksums, and dumps from LSAs. It shares
+//! nothing with the crates that are tested with it. No contract says what it makes: each test
+//! loads it, and looks at what comes of it.
+#![tactic(auto)]
+
+mod dumps;
+mod fletcher;
+mod known;
+mod link;
+mod lsas;
+#[cfg(test)]
+mod tests;
+
+pub use dumps::{dump, dump_of};
+pub use known::{MASK_16, R1, R2, R3, R4, SAMPLE, network_of_three};
+pub use link::{RouterLink, to_network, to_router, to_stub};
+pub use lsas::{Header, lsa, network_lsa, network_lsa_of, router_lsa, router_lsa_of};

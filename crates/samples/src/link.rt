@@ -1,0 +1,44 @@
+//! The links of router-LSAs.
+
+/// A link of a router-LSA, without TOS metrics (RFC 2328, A.4.2).
+#[derive(Clone, Copy, Debug)]
+pub struct RouterLink {
+    /// The type.
+    pub kind: u8,
+    /// The Link ID.
+    pub id: u32,
+    /// The Link Data.
+    pub data: u32,
+    /// The metric.
+    pub metric: u16,
+}
+
+/// A point-to-point link to a router, with the address of the interface.
+pub fn to_router(router: u32, data: u32, metric: u16) -> RouterLink {
+    RouterLink {
+        kind: 1,
+        id: router,
+        data,
+        metric,
+    }
+}
+
+/// A link to the transit network with this Designated Router's address, with that of the interface.
+pub fn to_network(address: u32, data: u32, metric: u16) -> RouterLink {
+    RouterLink {
+        kind: 2,
+        id: address,
+        data,
+        metric,
+    }
+}
+
+/// A link to a stub network.
+pub fn to_stub(number: u32, mask: u32, metric: u16) -> RouterLink {
+    RouterLink {
+        kind: 3,
+        id: number,
+        data: mask,
+        metric,
+    }
+}
