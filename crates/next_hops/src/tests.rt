@@ -1,7 +1,6 @@
 //! Lists of hops, the hops of small areas, and those of a ring by two programs.
 
 mod areas;
-mod dumps;
 mod lists;
 mod plain;
 mod ring;

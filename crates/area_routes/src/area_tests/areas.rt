@@ -9,15 +9,6 @@ use spf::{Meter, Tree};
 use std::alloc::{Allocator, Global};
 use std::test::*;
 
-pub const R1: u32 = 0x0101_0101;
-
-pub const R2: u32 = 0x0202_0202;
-
-pub const R3: u32 = 0x0303_0303;
-
-/// The mask 255.255.0.0.
-pub const MASK_16: u32 = 0xffff_0000;
-
 /// What area 0.0.0.0 gives to a router.
 pub fn area_of<A: Allocator + Copy>(
     alloc: A,

@@ -1,7 +1,7 @@
 //! The entries of area border routers and AS boundary routers.
 
-use super::areas::{R1, R2, R3, area_of, entries_text};
-use super::dumps::{dump, router_lsa_of, to_router};
+use super::areas::{area_of, entries_text};
+use samples::{R1, R2, R3, dump, router_lsa_of, to_router};
 use std::alloc::Global;
 use std::test::*;
 
@@ -18,7 +18,7 @@ fn with_flags(alloc: Global, flags: [u8; 3]) -> Result<Vec<u8>, Fail> {
         router_lsa_of(alloc, 1, R1, first, &links)?,
         router_lsa_of(alloc, 1, R2, second, &[to_router(R1, 0x0a00_0002, 10)])?,
     ]?;
-    dump(alloc, &lsas)
+    Ok(dump(alloc, &lsas)?)
 }
 
 #[test]

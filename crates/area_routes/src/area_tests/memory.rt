@@ -1,13 +1,12 @@
 //! What an area gives where memory runs out.
 
-use super::areas::{MASK_16, R1, R2};
-use super::dumps::{dump, network_lsa, router_lsa, router_lsa_of, to_network, to_stub};
 use crate::AreaResult;
 use area_graph::Graph;
 use lsa_codec::{AreaId, RouterId};
 use lsdb::Database;
 use next_hops::Hops;
 use rationed::Rationed;
+use samples::{MASK_16, R1, R2, dump, network_lsa, router_lsa, router_lsa_of, to_network, to_stub};
 use spf::{Meter, Tree};
 use std::alloc::Global;
 use std::test::*;
@@ -23,9 +22,9 @@ fn sample(alloc: Global) -> Result<Vec<u8>, Fail> {
     let lsas = vec![in alloc;
         router_lsa(alloc, R1, &first)?,
         router_lsa_of(alloc, 1, R2, 3, &second)?,
-        network_lsa(alloc, 1, (net, MASK_16), R1, &[R1, R2])?,
+        network_lsa(alloc, net, R1, &[R1, R2])?,
     ]?;
-    dump(alloc, &lsas)
+    Ok(dump(alloc, &lsas)?)
 }
 
 /// The growths that are left before the area's result is built and after it, and whether it is

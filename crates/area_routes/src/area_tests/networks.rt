@@ -1,7 +1,7 @@
 //! The networks that areas offer.
 
-use super::areas::{MASK_16, R1, R2, R3, area_of, offers_text};
-use super::dumps::{dump, network_lsa, router_lsa, to_network, to_router};
+use super::areas::{area_of, offers_text};
+use samples::{R1, R2, R3, dump, network_lsa, network_lsa_of, router_lsa, to_network, to_router};
 use std::alloc::Global;
 use std::test::*;
 
@@ -12,11 +12,11 @@ fn two_of_one_prefix(alloc: Global, first: u16, second: u16) -> Result<Vec<u8>, 
         to_network(0x0a05_0009, 0x0a05_0007, second),
     ];
     let lsas = vec![in alloc;
-        network_lsa(alloc, 1, (0x0a05_0009, MASK_16), R2, &[R1])?,
+        network_lsa(alloc, 0x0a05_0009, R2, &[R1])?,
         router_lsa(alloc, R1, &links)?,
-        network_lsa(alloc, 1, (0x0a05_0001, MASK_16), R1, &[R1])?,
+        network_lsa(alloc, 0x0a05_0001, R1, &[R1])?,
     ]?;
-    dump(alloc, &lsas)
+    Ok(dump(alloc, &lsas)?)
 }
 
 #[test]
@@ -47,8 +47,8 @@ fn masks_part_prefixes(rt: HostRuntime) -> Result<(), Fail> {
     ];
     let lsas = vec![in alloc;
         router_lsa(alloc, R1, &links)?,
-        network_lsa(alloc, 1, (0x0a05_0001, MASK_16), R1, &[R1])?,
-        network_lsa(alloc, 1, (0x0a05_0009, 0xffff_ff00), R2, &[R1])?,
+        network_lsa(alloc, 0x0a05_0001, R1, &[R1])?,
+        network_lsa_of(alloc, 1, (0x0a05_0009, 0xffff_ff00), R2, &[R1])?,
     ]?;
     let area = area_of(alloc, &dump(alloc, &lsas)?, R1)?;
     let expected = "10.5.0.0/16 10 attached:10.5.0.1\n10.5.0.0/24 5 attached:10.5.0.7\n";
@@ -63,9 +63,9 @@ fn mask_of_the_lsa_in_use(rt: HostRuntime) -> Result<(), Fail> {
     let alloc = rt.alloc();
     let lsas = vec![in alloc;
         router_lsa(alloc, R1, &[to_network(0x0a05_0001, 0x0a05_0001, 10)])?,
-        network_lsa(alloc, 1, (0x0a05_0001, MASK_16), R1, &[R1])?,
-        network_lsa(alloc, 1, (0x0a05_0001, 0xffff_ff00), R2, &[R1])?,
-        network_lsa(alloc, 3600, (0x0a05_0001, 0xff00_0000), R3, &[R1])?,
+        network_lsa(alloc, 0x0a05_0001, R1, &[R1])?,
+        network_lsa_of(alloc, 1, (0x0a05_0001, 0xffff_ff00), R2, &[R1])?,
+        network_lsa_of(alloc, 3600, (0x0a05_0001, 0xff00_0000), R3, &[R1])?,
     ]?;
     let area = area_of(alloc, &dump(alloc, &lsas)?, R1)?;
     let expected = "10.5.0.0/24 10 attached:10.5.0.1\n";
@@ -91,7 +91,7 @@ fn hops_of_all_ways(rt: HostRuntime) -> Result<(), Fail> {
         router_lsa(alloc, R1, &first)?,
         router_lsa(alloc, R3, &[to_network(net, net, 10)])?,
         router_lsa(alloc, R2, &second)?,
-        network_lsa(alloc, 1, (net, MASK_16), R3, &[R1, R2, R3])?,
+        network_lsa(alloc, net, R3, &[R1, R2, R3])?,
     ]?;
     let area = area_of(alloc, &dump(alloc, &lsas)?, R1)?;
     let expected = "10.5.0.0/16 10 link:10.0.0.1 attached:10.5.0.1\n";
@@ -105,7 +105,7 @@ fn network_not_reached(rt: HostRuntime) -> Result<(), Fail> {
     let alloc = rt.alloc();
     let lsas = vec![in alloc;
         router_lsa(alloc, R1, &[])?,
-        network_lsa(alloc, 1, (0x0a05_0001, MASK_16), R1, &[R1])?,
+        network_lsa(alloc, 0x0a05_0001, R1, &[R1])?,
     ]?;
     let area = area_of(alloc, &dump(alloc, &lsas)?, R1)?;
     assert_eq!(rt; offers_text(alloc, &area)?.as_str(), "");

@@ -1,7 +1,10 @@
 //! The stub networks that areas offer.
 
-use super::areas::{MASK_16, R1, R2, R3, area_of, entries_text, offers_text};
-use super::dumps::{dump, network_lsa, router_lsa, router_lsa_of, to_network, to_router, to_stub};
+use super::areas::{area_of, entries_text, offers_text};
+use samples::{
+    MASK_16, R1, R2, R3, dump, network_lsa, router_lsa, router_lsa_of, to_network, to_router,
+    to_stub,
+};
 use std::alloc::Global;
 use std::test::*;
 
@@ -21,7 +24,7 @@ fn with_stubs(alloc: Global, age: u16) -> Result<Vec<u8>, Fail> {
         router_lsa_of(alloc, age, R2, 3, &second)?,
         router_lsa(alloc, R1, &first)?,
     ]?;
-    dump(alloc, &lsas)
+    Ok(dump(alloc, &lsas)?)
 }
 
 #[test]
@@ -83,7 +86,7 @@ fn networks_before_stubs(rt: HostRuntime) -> Result<(), Fail> {
     let lsas = vec![in alloc;
         router_lsa(alloc, R1, &[to_network(net, net, 4)])?,
         router_lsa(alloc, R2, &second)?,
-        network_lsa(alloc, 1, (net, MASK_16), R1, &[R1, R2])?,
+        network_lsa(alloc, net, R1, &[R1, R2])?,
     ]?;
     let area = area_of(alloc, &dump(alloc, &lsas)?, R1)?;
     let expected = "10.5.0.0/16 4 attached:10.5.0.1\n10.2.0.0/16 11 gateway:10.5.0.1:10.5.0.2\n";

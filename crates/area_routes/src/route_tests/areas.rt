@@ -1,12 +1,12 @@
 //! Dumps of several areas, and the routes in them as text.
 
 use crate::area_tests::areas::{hops_text, kind_text};
-use crate::area_tests::dumps::{Header, lsa};
 use crate::{AreaResult, InterResult, Route, RouterEntry, inter, intra};
 use area_graph::Graph;
 use lsa_codec::{AreaId, RouterId};
 use lsdb::Database;
 use next_hops::Hops;
+use samples::{Header, lsa};
 use spf::{Meter, Tree};
 use std::alloc::{Allocator, Global};
 use std::test::*;
@@ -59,24 +59,7 @@ pub fn summary_lsa(alloc: Global, summary: Summary) -> Result<Vec<u8>, Fail> {
         id,
         router,
     };
-    lsa(alloc, header, &[0xff, 0xff, 0, 0, 0, high, middle, low])
-}
-
-/// The dump of areas that are not stub areas, in rising order, and of no LSAs of AS scope.
-pub fn dump_of(alloc: Global, areas: &[(u32, Vec<Vec<u8>>)]) -> Result<Vec<u8>, Fail> {
-    let mut dump = Vec::new(alloc);
-    dump.extend_from_slice(&[0x4f, 0x53, 0x57, 0x50, 1])?;
-    dump.push(u8::try_from(areas.len())?)?;
-    for (area, lsas) in areas {
-        dump.extend_from_slice(&area.to_be_bytes())?;
-        dump.push(0)?;
-        dump.extend_from_slice(&u16::try_from(lsas.len())?.to_be_bytes())?;
-        for lsa in lsas {
-            dump.extend_from_slice(lsa)?;
-        }
-    }
-    dump.extend_from_slice(&[0, 0])?;
-    Ok(dump)
+    Ok(lsa(alloc, header, &[0xff, 0xff, 0, 0, 0, high, middle, low])?)
 }
 
 /// What areas give to a router.

@@ -1,8 +1,7 @@
 //! Router entries of all areas, and those by summary-LSAs of type 4.
 
-use super::areas::{Summary, asbr, dump_of, inter_in, routers_text, summary_lsa};
-use crate::area_tests::areas::{R1, R2, R3};
-use crate::area_tests::dumps::{router_lsa_of, to_router};
+use super::areas::{Summary, asbr, inter_in, routers_text, summary_lsa};
+use samples::{R1, R2, R3, dump_of, router_lsa_of, to_router};
 use std::alloc::Global;
 use std::test::*;
 
@@ -31,7 +30,7 @@ fn sample(alloc: Global, summaries: &[Summary]) -> Result<Vec<u8>, Fail> {
         router_lsa_of(alloc, 1, R9, 3, &[to_router(R1, 0x0a01_0009, 1)])?,
     ]?;
     let areas = vec![in alloc; (0, backbone), (1, other)]?;
-    dump_of(alloc, &areas)
+    Ok(dump_of(alloc, &areas, &[])?)
 }
 
 /// The entries of the areas.

@@ -1,8 +1,7 @@
 //! Intra-area routes.
 
-use super::areas::{dump_of, intra_text};
-use crate::area_tests::areas::{MASK_16, R1, R2, R3};
-use crate::area_tests::dumps::{router_lsa, to_router, to_stub};
+use super::areas::intra_text;
+use samples::{MASK_16, R1, R2, R3, dump_of, router_lsa, to_router, to_stub};
 use std::alloc::Global;
 use std::test::*;
 
@@ -40,7 +39,7 @@ fn one_prefix_in_two_areas(alloc: Global, metrics: [u16; 2]) -> Result<Vec<u8>, 
         )?,
     ]?;
     let areas = vec![in alloc; (0, backbone), (1, other)]?;
-    dump_of(alloc, &areas)
+    Ok(dump_of(alloc, &areas, &[])?)
 }
 
 #[test]

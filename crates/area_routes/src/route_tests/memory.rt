@@ -1,12 +1,11 @@
 //! Routes where memory runs out.
 
-use super::areas::{asbr, dump_of, network, results_of, summary_lsa};
-use crate::area_tests::areas::{MASK_16, R1, R2};
-use crate::area_tests::dumps::{router_lsa_of, to_router, to_stub};
+use super::areas::{asbr, network, results_of, summary_lsa};
 use crate::{inter, intra};
 use lsa_codec::RouterId;
 use lsdb::Database;
 use rationed::Rationed;
+use samples::{MASK_16, R1, R2, dump_of, router_lsa_of, to_router, to_stub};
 use std::alloc::Global;
 use std::test::*;
 
@@ -23,7 +22,7 @@ fn sample(alloc: Global) -> Result<Vec<u8>, Fail> {
         summary_lsa(alloc, asbr(0x0909_0909, R2, 20))?,
     ]?;
     let areas = vec![in alloc; (0, lsas)]?;
-    dump_of(alloc, &areas)
+    Ok(dump_of(alloc, &areas, &[])?)
 }
 
 /// The growths that are left before the routes are made and after it, and whether they are made.

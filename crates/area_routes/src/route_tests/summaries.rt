@@ -1,8 +1,7 @@
 //! Inter-area routes by summary-LSAs of type 3.
 
-use super::areas::{Summary, dump_of, inter_in, network, routes_text, summary_lsa};
-use crate::area_tests::areas::{MASK_16, R1, R2, R3};
-use crate::area_tests::dumps::{router_lsa_of, to_router, to_stub};
+use super::areas::{Summary, inter_in, network, routes_text, summary_lsa};
+use samples::{MASK_16, R1, R2, R3, dump_of, router_lsa_of, to_router, to_stub};
 use std::alloc::Global;
 use std::test::*;
 
@@ -36,7 +35,7 @@ fn two_areas(
         far.push(summary_lsa(alloc, *summary)?)?;
     }
     let areas = vec![in alloc; (first_id, near), (second_id, far)]?;
-    dump_of(alloc, &areas)
+    Ok(dump_of(alloc, &areas, &[])?)
 }
 
 /// In the first area 10.20.0.0/16 and, at LSInfinity, 10.21.0.0/16 by 2.2.2.2, and 10.22.0.0/16 by
@@ -124,7 +123,7 @@ fn three_neighbours(alloc: Global, summaries: &[Summary]) -> Result<Vec<u8>, Fai
         lsas.push(summary_lsa(alloc, *summary)?)?;
     }
     let areas = vec![in alloc; (5, lsas)]?;
-    dump_of(alloc, &areas)
+    Ok(dump_of(alloc, &areas, &[])?)
 }
 
 /// 10.20.0.0/16 is as near by 2.2.2.2 as by 3.3.3.3; 4.4.4.4 is no area border router. 10.22.0.0/16

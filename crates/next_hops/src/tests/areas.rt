@@ -2,30 +2,16 @@
 
 ghost use Rattle.std.specs.Prelude.{◌≡◌, length, IfOk};
 
-use super::dumps::{dump, network_lsa, router_lsa, to_network, to_router};
 use crate::{Hop, Hops};
 use area_graph::{Graph, Vertex};
 use lsa_codec::{Addr, AreaId, RouterId};
 use lsdb::Database;
+use samples::{
+    R1, R2, R3, R4, SAMPLE, dump, network_lsa, network_of_three, router_lsa, to_network, to_router,
+};
 use spf::{Meter, Tree};
 use std::alloc::{Allocator, Global};
 use std::test::*;
-
-/// Area 0.0.0.0 with the router-LSAs of 1.1.1.1 and 2.2.2.2, joined by a link of cost 10.
-const SAMPLE: [u8; 99] = [
-    0x4f, 0x53, 0x57, 0x50, 1, 1, 0, 0, 0, 0, 0, 0, 2, 0x00, 0x01, 0x02, 0x01, 1, 1, 1, 1, 1, 1, 1,
-    1, 0x80, 0, 0, 1, 0xd5, 0x5a, 0, 0x24, 0, 0, 0, 1, 2, 2, 2, 2, 0x0a, 0, 0, 1, 1, 0, 0, 0x0a,
-    0x00, 0x01, 0x02, 0x01, 2, 2, 2, 2, 2, 2, 2, 2, 0x80, 0, 0, 1, 0x62, 0xa7, 0, 0x30, 0, 0, 0, 2,
-    1, 1, 1, 1, 0x0a, 0, 0, 2, 1, 0, 0, 0x0a, 0x0a, 2, 0, 0, 0xff, 0xff, 0, 0, 3, 0, 0, 5, 0, 0,
-];
-
-const R1: u32 = 0x0101_0101;
-
-const R2: u32 = 0x0202_0202;
-
-const R3: u32 = 0x0303_0303;
-
-const R4: u32 = 0x0404_0404;
 
 /// The graph of area 0.0.0.0.
 pub fn graph_of<A: Allocator + Copy>(alloc: A, dump: &[u8]) -> Result<Graph<A>, Fail> {
@@ -53,28 +39,6 @@ fn hops_of_the_sample(rt: HostRuntime) -> Result<(), Fail> {
     assert_eq!(rt; hops.of(0), [].as_slice());
     assert_eq!(rt; hops.of(1), [Hop::Link(Addr(0x0a00_0001))].as_slice());
     Ok(())
-}
-
-/// The network 10.5.0.3 joins 1.1.1.1 and 3.3.3.3 at cost 10 and 4.4.4.4 at cost 5. A link of cost 5
-/// joins 1.1.1.1 and 4.4.4.4. The vertices are numbered 1.1.1.1, 3.3.3.3, 4.4.4.4, the network.
-fn network_of_three(alloc: Global) -> Result<Vec<u8>, Fail> {
-    let network = 0x0a05_0003;
-    let first = [
-        to_network(network, 0x0a05_0001, 10),
-        to_router(R4, 0x0a00_0001, 5),
-    ];
-    let third = [to_network(network, 0x0a05_0003, 10)];
-    let fourth = [
-        to_router(R1, 0x0a00_0004, 5),
-        to_network(network, 0x0a05_0004, 5),
-    ];
-    let lsas = [
-        router_lsa(alloc, R1, &first)?,
-        router_lsa(alloc, R3, &third)?,
-        router_lsa(alloc, R4, &fourth)?,
-        network_lsa(alloc, network, R3, &[R1, R3, R4])?,
-    ];
-    dump(alloc, &lsas)
 }
 
 #[test]
@@ -106,7 +70,7 @@ fn parallel_links(alloc: Global) -> Result<Vec<u8>, Fail> {
         router_lsa(alloc, R1, &first)?,
         router_lsa(alloc, R2, &second)?,
     ];
-    dump(alloc, &lsas)
+    Ok(dump(alloc, &lsas)?)
 }
 
 #[test]
@@ -137,7 +101,7 @@ fn two_networks(alloc: Global) -> Result<Vec<u8>, Fail> {
         network_lsa(alloc, 0x0a05_0002, R2, &[R1, R2])?,
         network_lsa(alloc, 0x0a05_0003, R3, &[R1, R3])?,
     ];
-    dump(alloc, &lsas)
+    Ok(dump(alloc, &lsas)?)
 }
 
 #[test]

@@ -3,11 +3,11 @@
 ghost use Rattle.std.specs.Prelude.{◌<◌};
 
 use super::areas::{graph_of, hops_from};
-use super::dumps::{RouterLink, dump, network_lsa, router_lsa, to_network, to_router};
 use super::plain::plain_hops;
 use crate::Hop;
 use area_graph::Vertex;
 use lsa_codec::{Addr, RouterId};
+use samples::{RouterLink, dump, network_lsa, router_lsa, to_network, to_router};
 use spf::distances_by_rounds;
 use std::alloc::Global;
 use std::test::*;
@@ -68,7 +68,7 @@ fn ring(alloc: Global) -> Result<Vec<u8>, Fail> {
         ];
         lsas.push(network_lsa(alloc, network(first), router(first), &attached)?)?;
     }
-    dump(alloc, &lsas)
+    Ok(dump(alloc, &lsas)?)
 }
 
 #[test]

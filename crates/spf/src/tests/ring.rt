@@ -2,10 +2,10 @@
 
 ghost use Rattle.std.specs.Prelude.{◌<◌};
 
-use super::dumps::{RouterLink, dump, network_lsa, router_lsa, to_network, to_router};
 use super::trees::{graph_of, reached};
 use crate::{Meter, Tree, distances_by_rounds};
 use lsa_codec::RouterId;
+use samples::{RouterLink, dump, network_lsa, router_lsa, to_network, to_router};
 use std::alloc::Global;
 use std::test::*;
 
@@ -66,7 +66,7 @@ fn ring(alloc: Global) -> Result<Vec<u8>, Fail> {
     }
     let named = [to_router(router(0), 0x0a00_0004, 1)];
     lsas.push(router_lsa(alloc, ALONE, &named)?)?;
-    dump(alloc, &lsas)
+    Ok(dump(alloc, &lsas)?)
 }
 
 /// Whether the distances by rounds are those of the tree: the same where the tree reaches, and none

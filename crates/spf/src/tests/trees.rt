@@ -1,11 +1,11 @@
 //! Trees of the two small areas.
 
-use super::areas::{R1, R3, R4, SAMPLE, network_of_three};
 use crate::{Meter, SpfFault, Tree, distances_by_rounds};
 use area_graph::Graph;
 use lsa_codec::{AreaId, RouterId};
 use lsdb::Database;
 use rationed::Rationed;
+use samples::{R1, R3, R4, SAMPLE, network_of_three};
 use std::alloc::Allocator;
 use std::test::*;
 

@@ -1,25 +1,29 @@
 //! The texts of the differences of tables.
 
-use super::dumps::{R1, R2, router_lsa, table, to_router, to_stub};
+use super::dumps::table;
 use crate::{compare_text, table_text};
 use lsa_codec::RouterId;
 use rationed::Rationed;
 use recalculate::Table;
+use samples::{MASK_16, R1, R2, router_lsa, to_router, to_stub};
 use std::alloc::{AllocError, Allocator, Global};
 use std::test::*;
 
 /// The table of 1.1.1.1 where a link of a metric leads to 2.2.2.2, which has a stub network.
 fn over_a_link(alloc: Global, metric: u16) -> Result<Table, Fail> {
-    let back = [to_router(R1, 0x0a00_0002, 10), to_stub(0x0a02_0000, 5)];
+    let back = [
+        to_router(R1, 0x0a00_0002, 10),
+        to_stub(0x0a02_0000, MASK_16, 5),
+    ];
     let mut lsas = Vec::new(alloc);
-    lsas.push(router_lsa(alloc, R1, 0, &[to_router(R2, 0x0a00_0001, metric)])?)?;
-    lsas.push(router_lsa(alloc, R2, 0, &back)?)?;
-    table(alloc, alloc, R1, &[lsas], &[])
+    lsas.push(router_lsa(alloc, R1, &[to_router(R2, 0x0a00_0001, metric)])?)?;
+    lsas.push(router_lsa(alloc, R2, &back)?)?;
+    table(alloc, alloc, R1, &[(0, lsas)], &[])
 }
 
 /// The text of the differences of two tables.
-fn text(alloc: Global, router: RouterId, before: &Table, now: &Table) -> Result<String, Fail> {
-    Ok(String::from_utf8(compare_text(alloc, router, before, now)?)?)
+fn text(alloc: Global, router: u32, before: &Table, now: &Table) -> Result<String, Fail> {
+    Ok(String::from_utf8(compare_text(alloc, RouterId(router), before, now)?)?)
 }
 
 #[test]
@@ -37,7 +41,7 @@ fn another_cost(rt: HostRuntime) -> Result<(), Fail> {
 #[test]
 fn a_lost_route_and_a_new_one(rt: HostRuntime) -> Result<(), Fail> {
     let alloc = rt.alloc();
-    let (full, empty) = (over_a_link(alloc, 10)?, Table::empty(alloc, R1));
+    let (full, empty) = (over_a_link(alloc, 10)?, Table::empty(alloc, RouterId(R1)));
     let lost = "compare 1.1.1.1 1\n\
         - 10.2.0.0/16 intra 15 0 0.0.0.0 link:10.0.0.1\n";
     assert_eq!(rt; text(alloc, R1, &full, &empty)?.as_str(), lost);
@@ -55,10 +59,10 @@ fn with_stubs<A: Allocator + Copy>(
     plain: Global,
     stubs: [(u32, u16); 3],
 ) -> Result<Table<A>, Fail> {
-    let links = stubs.map(|(n, metric)| to_stub(0x0a00_0000 | n << 16, metric));
+    let links = stubs.map(|(n, metric)| to_stub(0x0a00_0000 | n << 16, MASK_16, metric));
     let mut lsas = Vec::new(plain);
-    lsas.push(router_lsa(plain, R1, 0, &links)?)?;
-    table(alloc, plain, R1, &[lsas], &[])
+    lsas.push(router_lsa(plain, R1, &links)?)?;
+    table(alloc, plain, R1, &[(0, lsas)], &[])
 }
 
 #[test]
@@ -83,7 +87,7 @@ fn lengths<A: Allocator + Copy>(
     let now = with_stubs(rationed, plain, [(2, 2), (3, 4), (4, 5)])?;
     let left = rationed.left();
     match table_text(rationed, &now) {
-        Ok(table) => match compare_text(rationed, R1, &before, &now) {
+        Ok(table) => match compare_text(rationed, RouterId(R1), &before, &now) {
             Ok(compared) => Ok((Ok((table.len(), compared.len())), left)),
             Err(fault) => Ok((Err(fault), left)),
         },

@@ -1,20 +1,20 @@
 //! The texts of tables.
 
-use super::dumps::{
-    BORDER, BOUNDARY, R1, R2, R3, R4, external_lsa, network_lsa, router_lsa, summary_lsa, table,
-    to_network, to_router, to_stub,
-};
+use super::dumps::{BORDER, BOUNDARY, external_lsa, summary_lsa, table};
 use crate::table_text;
 use lsa_codec::RouterId;
 use recalculate::Table;
+use samples::{
+    MASK_16, R1, R2, R3, R4, network_lsa, router_lsa, router_lsa_of, to_network, to_router, to_stub,
+};
 use std::alloc::Global;
 use std::test::*;
 
 /// The text of a router's table.
 fn text(
     alloc: Global,
-    router: RouterId,
-    areas: &[Vec<Vec<u8>>],
+    router: u32,
+    areas: &[(u32, Vec<Vec<u8>>)],
     externals: &[Vec<u8>],
 ) -> Result<String, Fail> {
     let table = table(alloc, alloc, router, areas, externals)?;
@@ -25,10 +25,13 @@ fn text(
 fn the_table_of_each_end_of_a_link(rt: HostRuntime) -> Result<(), Fail> {
     let alloc = rt.alloc();
     let mut lsas = Vec::new(alloc);
-    let ends = [to_router(R1, 0x0a00_0002, 10), to_stub(0x0a02_0000, 5)];
-    lsas.push(router_lsa(alloc, R1, 0, &[to_router(R2, 0x0a00_0001, 10)])?)?;
-    lsas.push(router_lsa(alloc, R2, 0, &ends)?)?;
-    let areas = [lsas];
+    let ends = [
+        to_router(R1, 0x0a00_0002, 10),
+        to_stub(0x0a02_0000, MASK_16, 5),
+    ];
+    lsas.push(router_lsa(alloc, R1, &[to_router(R2, 0x0a00_0001, 10)])?)?;
+    lsas.push(router_lsa(alloc, R2, &ends)?)?;
+    let areas = [(0, lsas)];
     let near = "table 1.1.1.1 1\n\
         10.2.0.0/16 intra 15 0 0.0.0.0 link:10.0.0.1\n";
     assert_eq!(rt; text(alloc, R1, &areas, &[])?.as_str(), near);
@@ -44,20 +47,20 @@ fn two_links_of_equal_cost(rt: HostRuntime) -> Result<(), Fail> {
     let near = [
         to_router(R2, 0x0a00_0001, 10),
         to_router(R2, 0x0a00_0101, 10),
-        to_stub(0x0a01_0000, 1),
+        to_stub(0x0a01_0000, MASK_16, 1),
     ];
     let far = [
         to_router(R1, 0x0a00_0002, 10),
         to_router(R1, 0x0a00_0102, 10),
-        to_stub(0x0a02_0000, 5),
+        to_stub(0x0a02_0000, MASK_16, 5),
     ];
     let mut lsas = Vec::new(alloc);
-    lsas.push(router_lsa(alloc, R1, 0, &near)?)?;
-    lsas.push(router_lsa(alloc, R2, 0, &far)?)?;
+    lsas.push(router_lsa(alloc, R1, &near)?)?;
+    lsas.push(router_lsa(alloc, R2, &far)?)?;
     let expected = "table 1.1.1.1 2\n\
         10.1.0.0/16 intra 1 0 0.0.0.0 connected\n\
         10.2.0.0/16 intra 15 0 0.0.0.0 link:10.0.0.1,link:10.0.1.1\n";
-    assert_eq!(rt; text(alloc, R1, &[lsas], &[])?.as_str(), expected);
+    assert_eq!(rt; text(alloc, R1, &[(0, lsas)], &[])?.as_str(), expected);
     Ok(())
 }
 
@@ -70,16 +73,16 @@ fn three_at_a_network(alloc: Global) -> Result<Vec<Vec<u8>>, Fail> {
     ];
     let third = [
         to_network(network, 0x0a05_0003, 10),
-        to_stub(0x0a03_0000, 1),
+        to_stub(0x0a03_0000, MASK_16, 1),
     ];
     let fourth = [
         to_router(R1, 0x0a00_0002, 5),
         to_network(network, 0x0a05_0004, 5),
     ];
     let mut lsas = Vec::new(alloc);
-    lsas.push(router_lsa(alloc, R1, 0, &first)?)?;
-    lsas.push(router_lsa(alloc, R3, BOUNDARY, &third)?)?;
-    lsas.push(router_lsa(alloc, R4, 0, &fourth)?)?;
+    lsas.push(router_lsa(alloc, R1, &first)?)?;
+    lsas.push(router_lsa_of(alloc, 1, R3, BOUNDARY, &third)?)?;
+    lsas.push(router_lsa(alloc, R4, &fourth)?)?;
     lsas.push(network_lsa(alloc, network, R3, &[R1, R3, R4])?)?;
     Ok(lsas)
 }
@@ -87,7 +90,7 @@ fn three_at_a_network(alloc: Global) -> Result<Vec<Vec<u8>>, Fail> {
 #[test]
 fn each_kind_of_hop(rt: HostRuntime) -> Result<(), Fail> {
     let alloc = rt.alloc();
-    let found = text(alloc, R1, &[three_at_a_network(alloc)?], &[])?;
+    let found = text(alloc, R1, &[(0, three_at_a_network(alloc)?)], &[])?;
     let expected = "table 1.1.1.1 2\n\
         10.3.0.0/16 intra 11 0 0.0.0.0 link:10.0.0.1,gateway:10.5.0.1:10.5.0.3\n\
         10.5.0.0/16 intra 10 0 0.0.0.0 link:10.0.0.1,attached:10.5.0.1\n";
@@ -101,7 +104,7 @@ fn an_external_route_by_a_forwarding_address(rt: HostRuntime) -> Result<(), Fail
     let mut externals = Vec::new(alloc);
     externals.push(external_lsa(alloc, R3, 0x0a1e_0000, false, 5, 0x0a05_004d)?)?;
     externals.push(external_lsa(alloc, R3, 0x0a1f_0000, false, 5, 0x0a1e_0001)?)?;
-    let found = text(alloc, R1, &[three_at_a_network(alloc)?], &externals)?;
+    let found = text(alloc, R1, &[(0, three_at_a_network(alloc)?)], &externals)?;
     let expected = "table 1.1.1.1 3\n\
         10.3.0.0/16 intra 11 0 0.0.0.0 link:10.0.0.1,gateway:10.5.0.1:10.5.0.3\n\
         10.5.0.0/16 intra 10 0 0.0.0.0 link:10.0.0.1,attached:10.5.0.1\n\
@@ -114,30 +117,30 @@ fn an_external_route_by_a_forwarding_address(rt: HostRuntime) -> Result<(), Fail
 fn an_inter_area_route(rt: HostRuntime) -> Result<(), Fail> {
     let alloc = rt.alloc();
     let mut lsas = Vec::new(alloc);
-    lsas.push(router_lsa(alloc, R1, 0, &[to_router(R2, 0x0a00_0001, 10)])?)?;
-    lsas.push(router_lsa(alloc, R2, BORDER, &[to_router(R1, 0x0a00_0002, 10)])?)?;
+    lsas.push(router_lsa(alloc, R1, &[to_router(R2, 0x0a00_0001, 10)])?)?;
+    lsas.push(router_lsa_of(alloc, 1, R2, BORDER, &[to_router(R1, 0x0a00_0002, 10)])?)?;
     lsas.push(summary_lsa(alloc, R2, 0x0a14_0000, 20)?)?;
     let expected = "table 1.1.1.1 1\n\
         10.20.0.0/16 inter 30 0 0.0.0.0 link:10.0.0.1\n";
-    assert_eq!(rt; text(alloc, R1, &[lsas], &[])?.as_str(), expected);
+    assert_eq!(rt; text(alloc, R1, &[(0, lsas)], &[])?.as_str(), expected);
     Ok(())
 }
 
 /// An area in which a link of 1.1.1.1 leads to an AS boundary router with a stub network.
 fn area_to(
     alloc: Global,
-    router: RouterId,
+    router: u32,
     data: u32,
     metric: u16,
     stub_metric: u16,
 ) -> Result<Vec<Vec<u8>>, Fail> {
     let back = [
         to_router(R1, data | 2, metric),
-        to_stub(0x0a28_0000, stub_metric),
+        to_stub(0x0a28_0000, MASK_16, stub_metric),
     ];
     let mut lsas = Vec::new(alloc);
-    lsas.push(router_lsa(alloc, R1, BORDER, &[to_router(router, data | 1, metric)])?)?;
-    lsas.push(router_lsa(alloc, router, BOUNDARY, &back)?)?;
+    lsas.push(router_lsa_of(alloc, 1, R1, BORDER, &[to_router(router, data | 1, metric)])?)?;
+    lsas.push(router_lsa_of(alloc, 1, router, BOUNDARY, &back)?)?;
     Ok(lsas)
 }
 
@@ -145,8 +148,8 @@ fn area_to(
 fn the_lowest_of_two_areas_and_both_types_of_external_routes(rt: HostRuntime) -> Result<(), Fail> {
     let alloc = rt.alloc();
     let areas = [
-        area_to(alloc, R3, 0x0a00_0000, 10, 45)?,
-        area_to(alloc, R2, 0x0a01_0000, 50, 5)?,
+        (0, area_to(alloc, R3, 0x0a00_0000, 10, 45)?),
+        (1, area_to(alloc, R2, 0x0a01_0000, 50, 5)?),
     ];
     let mut externals = Vec::new(alloc);
     externals.push(external_lsa(alloc, R2, 0x0a09_0000, true, 20, 0)?)?;
@@ -163,7 +166,7 @@ fn the_lowest_of_two_areas_and_both_types_of_external_routes(rt: HostRuntime) ->
 
 #[test]
 fn a_table_without_routes(rt: HostRuntime) -> Result<(), Fail> {
-    let table = Table::empty(rt.alloc(), R1);
+    let table = Table::empty(rt.alloc(), RouterId(R1));
     let text = String::from_utf8(table_text(rt.alloc(), &table)?)?;
     assert_eq!(rt; text.as_str(), "table 1.1.1.1 0\n");
     Ok(())
