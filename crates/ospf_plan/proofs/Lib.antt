@@ -1,4 +1,3 @@
-pub mod Prefixes
 pub mod OptionValues
 pub mod FirstLine
 pub mod Steps

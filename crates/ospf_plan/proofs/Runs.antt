@@ -11,7 +11,7 @@ use Rattle.lsdb.specs.Loading.{loaded, IsFirst}
 use Rattle.edit_history.specs.Session.{state}
 use Rattle.ospf_plan.specs.Branches.{Sessions}
 use Rattle.ospf_plan.specs.Run.{Answer, answers, answers_from, sessions_after, dump_after, lines_of, begun, text_of, run_answers, run_text, run_dump}
-use Rattle.ospf_plan.specs.WholeText.{IsAll, IsLonger, AppendsPrefix}
+use Rattle.streams.specs.WholeText.{IsAll, IsLonger, AppendsPrefix}
 use Rattle.ospf_plan.specs.WholeRun.{IfBoth, IsSummaryOf}
 use Rattle.ospf_plan.specs.declared.script.Summary.{Summary}
 

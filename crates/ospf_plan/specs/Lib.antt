@@ -1,6 +1,4 @@
 pub mod Branches
-pub mod Watched
-pub mod WholeText
 pub mod CommandLine
 pub mod OptionsFaults
 pub mod Replies

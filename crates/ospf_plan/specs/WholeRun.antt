@@ -1,7 +1,7 @@
 -- A whole run, where the bytes of its inputs are known.
 use Rattle.std.specs.Prelude.{◌≡◌, ℕ, List, length, count_by, Option, None, Some, IfSome}
 use Rattle.std.specs.Io.KnownBytes.{Keeps}
-use Rattle.ospf_plan.specs.WholeText.{IsLonger}
+use Rattle.streams.specs.WholeText.{IsLonger}
 use Rattle.ospf_plan.specs.Run.{Answer}
 use Rattle.ospf_plan.specs.Inputs.{IsAccepted, IsRefusedDump}
 use Rattle.ospf_plan.specs.declared.script.Summary.{Summary}

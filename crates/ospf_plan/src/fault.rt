@@ -3,9 +3,9 @@
 ghost use Rattle.std.specs.Prelude.{◌≡◌};
 ghost use Rattle.ospf_plan.specs.declared.fault.RunFault.TheVariants.{OutOfMemory, Write};
 
-use crate::writing::WriteFault;
 use lsdb::DumpFault;
 use std::alloc::AllocError;
+use streams::WriteFault;
 
 /// Why a run ended early.
 #[derive(Clone, Copy, Debug, PartialEq, Eq)]

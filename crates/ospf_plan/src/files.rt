@@ -5,10 +5,9 @@ use crate::given::Options;
 use crate::running::run;
 use crate::sample::SAMPLE;
 use crate::script::Summary;
-use crate::watch::Watched;
-use crate::writing::write_whole;
 use std::io::{Read, Write};
 use std::{fs, io};
+use streams::{Watched, write_whole};
 
 /// Opens the inputs, runs, and writes the dump that the script leaves to its file.
 pub(crate) fn run_files(rt: &HostRuntime, given: &Options) -> Result<Summary, ExitFault> {

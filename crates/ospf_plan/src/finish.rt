@@ -2,12 +2,11 @@
 
 ghost use Rattle.std.specs.Prelude.{◌≡◌, ◌↔◌, ◌||◌, false, true, OnOk, IsErr};
 ghost use Rattle.std.specs.Io.KnownBytes.{Appends, Keeps};
-ghost use Rattle.ospf_plan.specs.Watched.{inner_of, has_failed};
-ghost use Rattle.ospf_plan.specs.WholeText.{AppendsPrefix};
+ghost use Rattle.streams.specs.Watched.{inner_of, has_failed};
+ghost use Rattle.streams.specs.WholeText.{AppendsPrefix};
 
-use crate::watch::Watched;
-use crate::writing::{WriteFault, write_whole};
 use std::io::Write;
+use streams::{Watched, WriteFault, write_whole};
 
 /// Writes the dump to `out`, and flushes both writers.
 pub(crate) fn write_and_flush<W: Write, D: Write>(

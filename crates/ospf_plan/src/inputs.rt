@@ -2,8 +2,8 @@
 
 ghost use Rattle.std.specs.Prelude.{◌≡◌, ◌≢◌, ◌↔◌, ◌≤◌, ◌+◌, ℕ, List, Option, true, false, Ok, vec_len, IfSome, IfOk, IfErr, OnOk};
 ghost use Rattle.std.specs.Io.KnownBytes.{IsAtEnd};
-ghost use Rattle.ospf_plan.specs.Watched.{inner_of, has_failed};
-ghost use Rattle.ospf_plan.specs.WholeText.{IsAll, IsLonger, ConsumesAtMost};
+ghost use Rattle.streams.specs.Watched.{inner_of, has_failed};
+ghost use Rattle.streams.specs.WholeText.{IsAll, IsLonger, ConsumesAtMost};
 ghost use Rattle.lsdb.specs.Loading.{loaded, IsFirst};
 ghost use Rattle.ospf_plan.specs.Branches.{sessions_of};
 ghost use Rattle.ospf_plan.specs.Run.{begun};
@@ -11,11 +11,10 @@ ghost use Rattle.ospf_plan.specs.Inputs.{IsDumpEnd, IsScriptEnd, IsAccepted};
 
 use crate::branches::Branches;
 use crate::fault::RunFault;
-use crate::reading::{ReadFault, read_whole};
-use crate::watch::Watched;
 use lsdb::{Database, DumpFault, DumpFaultKind};
 use std::alloc::Allocator;
 use std::io::Read;
+use streams::{ReadFault, Watched, read_whole};
 
 /// The greatest length of a dump, in octets.
 pub const DUMP_LIMIT: usize = 16_777_216;

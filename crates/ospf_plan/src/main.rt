@@ -17,15 +17,12 @@ mod inputs;
 mod laws;
 mod lines;
 mod options_fault;
-mod reading;
 mod reply;
 mod running;
 mod sample;
 mod script;
 #[cfg(test)]
 mod tests;
-mod watch;
-mod writing;
 
 use clap::Error;
 use command_line::options;

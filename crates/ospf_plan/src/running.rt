@@ -2,8 +2,8 @@
 
 ghost use Rattle.std.specs.Prelude.{◌≡◌, ◌↔◌, ◌||◌, ◌<◌, length, false, true, None, OnOk, IfOk, IfErr, IfSome};
 ghost use Rattle.std.specs.Io.KnownBytes.{Appends, Keeps, IsAtEnd};
-ghost use Rattle.ospf_plan.specs.Watched.{inner_of, has_failed};
-ghost use Rattle.ospf_plan.specs.WholeText.{AppendsPrefix, ConsumesAtMost};
+ghost use Rattle.streams.specs.Watched.{inner_of, has_failed};
+ghost use Rattle.streams.specs.WholeText.{AppendsPrefix, ConsumesAtMost};
 ghost use Rattle.lsdb.specs.Text.{text};
 ghost use Rattle.edit_history.specs.Session.{state};
 ghost use Rattle.ospf_plan.specs.Branches.{sessions_of};
@@ -17,9 +17,9 @@ use crate::fault::RunFault;
 use crate::finish::{flush, write_and_flush};
 use crate::inputs::{read_branches, read_script};
 use crate::script::{Summary, answer_script};
-use crate::watch::Watched;
 use std::alloc::Allocator;
 use std::io::{Read, Write};
+use streams::Watched;
 
 /// Reads a dump and a script, writes the reply to each line, and then the dump of the end to `out`, where it is given.
 pub fn run<A: Allocator + Copy, R: Read, S: Read, W: Write, D: Write>(

@@ -2,8 +2,8 @@
 
 ghost use Rattle.std.specs.Prelude.{◌≡◌, ◌↔◌, ◌+◌, ◌<◌, ◌≤◌, ◌^◌, false, true, length, count_by, option_map, option_to_list, OnOk, OnErr, IfOk, IfErr};
 ghost use Rattle.std.specs.Io.KnownBytes.{Appends};
-ghost use Rattle.ospf_plan.specs.Watched.{inner_of, has_failed};
-ghost use Rattle.ospf_plan.specs.WholeText.{AppendsPrefix};
+ghost use Rattle.streams.specs.Watched.{inner_of, has_failed};
+ghost use Rattle.streams.specs.WholeText.{AppendsPrefix};
 ghost use Rattle.edit_script.specs.Line.{meaning};
 ghost use Rattle.ospf_plan.specs.Run.{Answer, answer_to, after_line, answers, sessions_after, lines_of, text_of};
 ghost use Rattle.ospf_plan.specs.Branches.{sessions_of};
@@ -13,12 +13,11 @@ use crate::branches::Branches;
 use crate::fault::RunFault;
 use crate::lines::first_line;
 use crate::reply::{reply_text, script_text};
-use crate::watch::Watched;
-use crate::writing::write_whole;
 use edit_script::{ScriptFault, parse};
 use std::alloc::{AllocError, Allocator, Global};
 use std::io::Write;
 use std::marker::Model;
+use streams::{Watched, write_whole};
 
 /// How many lines of a script had a reply, and how many of these were refused, by `refused` or `script`.
 #[derive(Clone, Copy, Debug, PartialEq, Eq)]

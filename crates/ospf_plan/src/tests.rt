@@ -1,6 +1,5 @@
 //! Whole runs and their parts, with expected values from outside the program.
 
-mod doubles;
 mod dumps;
 mod exits;
 mod failing;
@@ -10,4 +9,3 @@ mod outcome;
 mod records;
 mod runs;
 mod sessions;
-mod watching;

@@ -1,10 +1,11 @@
-//! Link state databases for tests, octet by octet.
+//! For tests: link state databases, octet by octet, and readers and writers that fail when told to.
 //!
 //! A plain program makes LSAs from their fields, with good checksums, and dumps from LSAs. It shares
 //! nothing with the crates that are tested with it. No contract says what it makes: each test
 //! loads it, and looks at what comes of it.
 #![tactic(auto)]
 
+mod doubles;
 mod dumps;
 mod fletcher;
 mod known;
@@ -13,6 +14,7 @@ mod lsas;
 #[cfg(test)]
 mod tests;
 
+pub use doubles::{Failing, FailsOnce, Sink, Source, Zeros};
 pub use dumps::{dump, dump_of};
 pub use known::{MASK_16, R1, R2, R3, R4, SAMPLE, network_of_three};
 pub use link::{RouterLink, to_network, to_router, to_stub};

@@ -1,11 +1,11 @@
 //! Readers and writers that fail at each octet in turn.
 
-use super::doubles::{Failing, Sink, Source, Zeros};
 use super::outcome::{run_whole, run_without_out};
 use crate::fault::RunFault;
 use crate::sample::SAMPLE;
 use crate::script::Summary;
 use lsdb::{DumpFault, DumpFaultKind};
+use samples::{Failing, Sink, Source, Zeros};
 use std::test::*;
 
 const SCRIPT: &[u8] = b"cost 0.0.0.0 1.1.1.1 1 65535\n# note\n\nfrob\nundo 1";

@@ -3,9 +3,9 @@
 use crate::fault::RunFault;
 use crate::running::run;
 use crate::script::Summary;
-use crate::watch::Watched;
 use std::alloc::{Allocator, Global};
 use std::io::{Read, Write};
+use streams::Watched;
 
 /// A reader or writer after a run, and whether it has failed.
 #[derive(Drop)]

@@ -1,6 +1,6 @@
 use Rattle.std.proofs.Common.{◌≡◌, ap, Err}
-use Rattle.ospf_plan.specs.Watched.{inner_of}
-use Rattle.ospf_plan.specs.WholeText.{IsAll}
+use Rattle.streams.specs.Watched.{inner_of}
+use Rattle.streams.specs.WholeText.{IsAll}
 use Rattle.ospf_plan.proofs.Runs.{too_large, known_first}
 use Rattle.ospf_plan.proofs.inputs.read_branches.Goals as goal
 

@@ -1,6 +1,6 @@
 use Rattle.std.proofs.Common.{◌≡◌}
-use Rattle.ospf_plan.specs.Watched.{inner_of}
-use Rattle.ospf_plan.specs.WholeText.{IsAll}
+use Rattle.streams.specs.Watched.{inner_of}
+use Rattle.streams.specs.WholeText.{IsAll}
 use Rattle.ospf_plan.proofs.Runs.{if_written, if_prefix, if_counted, if_dump, if_nothing}
 use Rattle.ospf_plan.proofs.running.answer_all.Goals as goal
 

@@ -1,5 +1,5 @@
 use Rattle.std.proofs.Common.{◌≡◌, ◌+◌, false, length}
-use Rattle.ospf_plan.specs.Watched.{inner_of, has_failed}
+use Rattle.streams.specs.Watched.{inner_of, has_failed}
 use Rattle.ospf_plan.specs.Branches.{sessions_of}
 use Rattle.ospf_plan.specs.Run.{lines_of, answers}
 use Rattle.ospf_plan.specs.Lines.{lines_left}

@@ -1,6 +1,6 @@
 use Rattle.std.proofs.Common.{◌+◌, ◌≤◌, ◌++◌, ℕ, List, arith, rules, length, take, length-append, length-take-le}
 use Rattle.std.proofs.KnownBytes.{Consumes-trans}
-use Rattle.ospf_plan.proofs.reading.read_whole.Goals as goal
+use Rattle.streams.proofs.reading.read_whole.Goals as goal
 
 joined_length : (xs ys : List ℕ) (n most : ℕ) → n ≤ length ys → length xs + n ≤ most → length (xs ++ take n ys) ≤ most
 joined_length xs ys n most fits within = omega (arith, length-append xs (take n ys), length-take-le n ys fits)

@@ -1,7 +1,7 @@
 use Rattle.std.proofs.Common.{◌≡◌, ◌+◌, ◌-◌, ◌≤◌, false, vec_len}
 use Rattle.std.specs.Io.KnownBytes.{Consumes}
-use Rattle.ospf_plan.specs.Watched.{inner_of, has_failed}
-use Rattle.ospf_plan.proofs.reading.read_whole.Given as goal
+use Rattle.streams.specs.Watched.{inner_of, has_failed}
+use Rattle.streams.proofs.reading.read_whole.Given as goal
 
 abbrev pub invariant-chunks : goal.invariant-chunks
 invariant-chunks g l = record {

@@ -2,9 +2,9 @@
 
 ghost use Rattle.std.specs.Prelude.{◌≡◌, ◌+◌, ◌<◌, ◌≤◌, ◌^◌, ◌↔◌, false, true, vec_len, IfOk, OnOk};
 ghost use Rattle.std.specs.Io.KnownBytes.{IsAtEnd};
-ghost use Rattle.ospf_plan.specs.declared.reading.ReadFault.TheVariants.{OutOfMemory};
-ghost use Rattle.ospf_plan.specs.Watched.{inner_of, has_failed};
-ghost use Rattle.ospf_plan.specs.WholeText.{IsAll, IsLonger, ConsumesAtMost};
+ghost use Rattle.streams.specs.declared.reading.ReadFault.TheVariants.{OutOfMemory};
+ghost use Rattle.streams.specs.Watched.{inner_of, has_failed};
+ghost use Rattle.streams.specs.WholeText.{IsAll, IsLonger, ConsumesAtMost};
 
 use crate::watch::Watched;
 use std::alloc::{AllocError, Allocator};

@@ -1,6 +1,6 @@
 use Rattle.std.proofs.Common.{rules}
-use Rattle.ospf_plan.proofs.Prefixes.{Appends-take}
-use Rattle.ospf_plan.proofs.writing.write_whole.Goals as goal
+use Rattle.streams.proofs.Prefixes.{Appends-take}
+use Rattle.streams.proofs.writing.write_whole.Goals as goal
 
 pub writes-preserved : goal.writes-preserved
 writes-preserved g c = record {

@@ -1,9 +1,7 @@
 //! Watched readers and writers, and whole texts read and written.
 
-use super::doubles::{Failing, FailsOnce, Sink, Source, Zeros};
-use crate::reading::{ReadFault, read_whole};
-use crate::watch::Watched;
-use crate::writing::{WriteFault, write_whole};
+use crate::{ReadFault, Watched, WriteFault, read_whole, write_whole};
+use samples::{Failing, FailsOnce, Sink, Source, Zeros};
 use std::io::ErrorKind;
 use std::test::Fail;
 

@@ -14,6 +14,7 @@ pub struct Source<'a> {
 }
 
 impl<'a> Source<'a> {
+    /// A reader that gives `text`, and fails at `fails_at`, if it is given.
     pub fn new(text: &'a [u8], step: usize, fails_at: Option<usize>) -> Source<'a> {
         Source {
             left: text,
@@ -43,6 +44,7 @@ impl Read for Source<'_> {
 /// Fails at its first call and is at its end at each later one. It counts the calls.
 #[derive(Drop)]
 pub struct FailsOnce {
+    /// The calls so far.
     pub calls: u64,
 }
 
@@ -59,6 +61,7 @@ impl Read for FailsOnce {
 /// Gives zeros without end, and counts them.
 #[derive(Drop)]
 pub struct Zeros {
+    /// The zeros given so far.
     pub given: u64,
 }
 
@@ -85,6 +88,7 @@ pub enum Failing {
 /// flush.
 #[derive(Drop)]
 pub struct Sink {
+    /// What it took.
     pub taken: Vec<u8>,
     step: usize,
     fails_at: usize,
@@ -92,6 +96,7 @@ pub struct Sink {
 }
 
 impl Sink {
+    /// A writer that has taken nothing.
     pub fn new(alloc: Global, step: usize, fails_at: usize, failing: Failing) -> Sink {
         Sink {
             taken: Vec::new(alloc),

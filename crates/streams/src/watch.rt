@@ -3,7 +3,7 @@
 ghost use Rattle.std.specs.Prelude.{◌≡◌, ◌||◌, false, is_err};
 ghost use Rattle.std.specs.Io.{ReadsAtMost, WritesAtMost};
 ghost use Rattle.std.specs.Io.KnownBytes.{Keeps, ReadConsumes, WriteAppends};
-ghost use Rattle.ospf_plan.specs.Watched.{inner_of, has_failed, is_failed_write};
+ghost use Rattle.streams.specs.Watched.{inner_of, has_failed, is_failed_write};
 
 use std::io;
 use std::io::{Read, Write};

@@ -5,7 +5,7 @@ use Rattle.std.proofs.lemmas.List.{take_rest}
 use Rattle.std.specs.Io.{StartsWith}
 use Rattle.std.specs.Io.KnownBytes.{Appends}
 use Rattle.std.proofs.KnownBytes.{Appends-trans, starts_with_rest}
-use Rattle.ospf_plan.specs.WholeText.{AppendsPrefix}
+use Rattle.streams.specs.WholeText.{AppendsPrefix}
 
 -- a text starts with its first part
 pub starts_with_front : (text part rest : List ℕ) → text ≡ part ++ rest → StartsWith text part

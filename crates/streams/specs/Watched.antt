@@ -1,6 +1,6 @@
 -- What a clause says of a watched reader or writer.
 use Rattle.std.specs.Prelude.{ℕ, Bool, true, ◌==◌, ◌&&◌, not, List, length, Result, Ok, Err}
-use Rattle.ospf_plan.specs.declared.watch.Watched.{Watched}
+use Rattle.streams.specs.declared.watch.Watched.{Watched}
 
 -- the reader or writer that is watched
 abbrev pub inner_of : {T : Type 0} → Watched T → T

@@ -1,7 +1,7 @@
 use Rattle.std.proofs.Common.{◌≡◌, ◌-◌, ◌≤◌, false, length, take}
 use Rattle.std.specs.Io.KnownBytes.{Appends}
-use Rattle.ospf_plan.specs.Watched.{inner_of, has_failed}
-use Rattle.ospf_plan.proofs.writing.write_whole.Given as goal
+use Rattle.streams.specs.Watched.{inner_of, has_failed}
+use Rattle.streams.proofs.writing.write_whole.Given as goal
 
 abbrev pub invariant-writes : goal.invariant-writes
 invariant-writes g l = record {
