@@ -1,11 +1,15 @@
 //! Edits on small databases, with expected octets from outside the program.
 
+mod limits;
+mod memory;
+mod opaque;
+mod refusals;
+
 use super::*;
 use edit_script::{Edit, MetricType};
-use lsa_codec::{Addr, AreaId, Lsa, Metric, Prefix, RouterId};
+use lsa_codec::{Addr, AreaId, Metric, Prefix, RouterId};
 use lsdb::{Database, Section};
-use rationed::Rationed;
-use std::alloc::{Allocator, Global};
+use std::alloc::Allocator;
 use std::process::Abort;
 use std::test::*;
 
@@ -300,16 +304,21 @@ fn the_first_summary_has_another_metric(rt: HostRuntime) -> Result<(), Fail> {
     Ok(())
 }
 
-/// An edit that adds the AS-external-LSA `NEW_EXTERNAL`.
-fn new_external() -> Result<Edit, Fail> {
+/// An edit that adds an AS-external-LSA of a router for a prefix.
+fn external_of(router: RouterId, address: u32) -> Result<Edit, Fail> {
     Ok(Edit::AddExternal {
-        router: SECOND,
-        prefix: prefix(0x0a090000),
+        router,
+        prefix: prefix(address),
         metric_type: MetricType::Type2,
         metric: metric(20)?,
         forward: Addr(0),
         tag: 0,
     })
+}
+
+/// The same of 2.2.2.2: `NEW_EXTERNAL` for 10.9.0.0/16.
+fn new_external(address: u32) -> Result<Edit, Fail> {
+    external_of(SECOND, address)
 }
 
 #[test]
@@ -321,18 +330,23 @@ fn external_routes_go_and_come(rt: HostRuntime) -> Result<(), Fail> {
     let [first, second, third] = external_lsas();
     leads_to(&rt, dropped, 1, &areas_lsas(), &[first, third])?;
     let added = [first, second, third, NEW_EXTERNAL.as_slice()];
-    leads_to(&rt, new_external()?, 1, &areas_lsas(), &added)?;
+    leads_to(&rt, new_external(0x0a090000)?, 1, &areas_lsas(), &added)?;
     Ok(())
 }
 
-/// An edit that adds a summary-LSA of 2.2.2.2 for a prefix.
-fn new_summary(area: AreaId, address: u32) -> Result<Edit, Fail> {
+/// An edit that adds a summary-LSA of a router for a prefix.
+fn summary_of(area: AreaId, router: RouterId, address: u32) -> Result<Edit, Fail> {
     Ok(Edit::AddSummary {
         area,
-        router: SECOND,
+        router,
         prefix: prefix(address),
         metric: metric(7)?,
     })
+}
+
+/// The same of 2.2.2.2.
+fn new_summary(area: AreaId, address: u32) -> Result<Edit, Fail> {
+    summary_of(area, SECOND, address)
 }
 
 #[test]
@@ -348,14 +362,19 @@ fn new_summaries_by_area(rt: HostRuntime) -> Result<(), Fail> {
     Ok(())
 }
 
-/// An edit that adds a stub link of cost 0 to the router-LSA of 1.1.1.1.
-fn new_stub(address: u32) -> Edit {
+/// An edit that adds a stub link of cost 0 to a router-LSA.
+fn stub_of(area: AreaId, router: RouterId, address: u32) -> Edit {
     Edit::AddStub {
-        area: AreaId(0),
-        router: FIRST,
+        area,
+        router,
         prefix: prefix(address),
         metric: 0,
     }
+}
+
+/// The same to the router-LSA of 1.1.1.1 in area 0.0.0.0.
+fn new_stub(address: u32) -> Edit {
+    stub_of(AreaId(0), FIRST, address)
 }
 
 #[test]
@@ -372,233 +391,5 @@ fn a_stub_link_stands_last(rt: HostRuntime) -> Result<(), Fail> {
     database.known();
     revert(&mut database, &mut entry);
     assert_eq!(rt; database.dump()?.as_slice(), SAMPLE.as_slice());
-    Ok(())
-}
-
-#[test]
-fn refused_edits_change_nothing(rt: HostRuntime) -> Result<(), Fail> {
-    let (area, elsewhere) = (AreaId(0), AreaId(7));
-    let link = 3;
-    let net = prefix(0x0a140000);
-    let none = prefix(0x0a630000);
-    let cost = metric(5)?;
-    let fail = |area, router, neighbor| Edit::FailLink {
-        area,
-        router,
-        neighbor,
-    };
-    let cases = [
-        (
-            Edit::DropLink {
-                area: elsewhere,
-                router: FIRST,
-                link,
-            },
-            EditFault::NoArea,
-        ),
-        (
-            Edit::DropLink {
-                area,
-                router: NOBODY,
-                link,
-            },
-            EditFault::NoRouter,
-        ),
-        (
-            Edit::DropLink {
-                area,
-                router: FIRST,
-                link: 5,
-            },
-            EditFault::NoLink,
-        ),
-        (
-            Edit::DropLink {
-                area,
-                router: FIRST,
-                link: 0,
-            },
-            EditFault::NoLink,
-        ),
-        (fail(elsewhere, FIRST, FIRST), EditFault::NoArea),
-        (fail(area, NOBODY, NOBODY), EditFault::SameRouter),
-        (fail(area, NOBODY, FIRST), EditFault::NoRouter),
-        (fail(area, FIRST, NOBODY), EditFault::NoRouter),
-        (fail(area, FIRST, RouterId(0x03030303)), EditFault::NoLink),
-        (
-            Edit::FailNet {
-                area: elsewhere,
-                network: Addr(0x0a050003),
-            },
-            EditFault::NoArea,
-        ),
-        (
-            Edit::FailNet {
-                area,
-                network: Addr(0x0a050001),
-            },
-            EditFault::NoNetwork,
-        ),
-        (Edit::FailRouter { router: NOBODY }, EditFault::NoRouter),
-        (
-            Edit::Summary {
-                area: elsewhere,
-                router: SECOND,
-                prefix: net,
-                metric: cost,
-            },
-            EditFault::NoArea,
-        ),
-        (
-            Edit::Summary {
-                area,
-                router: FIRST,
-                prefix: net,
-                metric: cost,
-            },
-            EditFault::NoSummary,
-        ),
-        (
-            Edit::Summary {
-                area,
-                router: SECOND,
-                prefix: none,
-                metric: cost,
-            },
-            EditFault::NoSummary,
-        ),
-        (
-            Edit::AddSummary {
-                area,
-                router: NOBODY,
-                prefix: none,
-                metric: cost,
-            },
-            EditFault::NoRouter,
-        ),
-        (
-            Edit::AddSummary {
-                area,
-                router: SECOND,
-                prefix: net,
-                metric: cost,
-            },
-            EditFault::KeyTaken,
-        ),
-        (
-            Edit::DropExternal {
-                router: SECOND,
-                prefix: net,
-            },
-            EditFault::NoExternal,
-        ),
-        (
-            Edit::DropExternal {
-                router: FIRST,
-                prefix: prefix(0x0a5b0000),
-            },
-            EditFault::NoExternal,
-        ),
-    ];
-    let mut database = Database::load(rt.alloc(), &NETS)?;
-    for (edit, fault) in cases {
-        assert_eq!(rt; apply(&mut database, &edit).err(), Some(fault));
-        assert_eq!(rt; database.dump()?.as_slice(), NETS.as_slice());
-    }
-    Ok(())
-}
-
-#[test]
-fn a_router_lsa_has_at_most_5459_links(rt: HostRuntime) -> Result<(), Fail> {
-    let mut database = Database::load(rt.alloc(), &SAMPLE)?;
-    for n in 0..5458u32 {
-        apply(&mut database, &new_stub(n * 0x1_0000))?;
-    }
-    let full = database.size();
-    assert_eq!(rt;
-        apply(&mut database, &new_stub(0)).err(),
-        Some(EditFault::TooLong)
-    );
-    assert_eq!(rt; database.size(), full);
-    Ok(())
-}
-
-/// The sample with 8,189 summary-LSAs of 2.2.2.2 behind its router-LSAs: an area of 8,191 LSAs.
-fn crowded(alloc: Global) -> Result<Vec<u8>, Fail> {
-    let mut dump = Vec::from_slice(alloc, SAMPLE.get(..97).ok_or("the area")?)?;
-    for n in 0..8189u32 {
-        let summary = Lsa::new_summary(alloc, 2, SECOND, prefix(n * 0x1_0000), 7)?;
-        dump.extend_from_slice(summary.bytes())?;
-    }
-    dump.extend_from_slice(&[0, 0])?;
-    *dump.get_mut(11).ok_or("the count")? = 0x1f;
-    *dump.get_mut(12).ok_or("the count")? = 0xff;
-    Ok(dump)
-}
-
-#[test]
-fn an_area_has_at_most_8192_lsas(rt: HostRuntime) -> Result<(), Fail> {
-    let dump = crowded(rt.alloc())?;
-    let mut database = Database::load(rt.alloc(), &dump)?;
-    apply(&mut database, &new_summary(AreaId(0), 0x7000_0000)?)?;
-    assert_eq!(rt; database.count(BACKBONE), 8192);
-    let next = new_summary(AreaId(0), 0x7100_0000)?;
-    assert_eq!(rt; apply(&mut database, &next).err(), Some(EditFault::Full));
-    let again = new_summary(AreaId(0), 0)?;
-    assert_eq!(rt;
-        apply(&mut database, &again).err(),
-        Some(EditFault::KeyTaken)
-    );
-    assert_eq!(rt; database.count(BACKBONE), 8192);
-    Ok(())
-}
-
-/// Refuses each growth of an edit in turn: the database stays as it was. Answers how many growths
-/// the edit asks for.
-fn refused_growths(rt: &(impl AllocGlobal + Abort), edit: Edit) -> Result<u64, Fail> {
-    let counted = Rationed::new(rt.alloc(), u64::MAX);
-    let mut ample = Database::load(&counted, &NETS)?;
-    let loaded = counted.left();
-    apply(&mut ample, &edit)?;
-    let growths = loaded.saturating_sub(counted.left());
-    for left in 0..growths {
-        let rationed = Rationed::new(rt.alloc(), (u64::MAX - loaded).saturating_add(left));
-        let mut database = Database::load(&rationed, &NETS)?;
-        assert_eq!(rt;
-            apply(&mut database, &edit).err(),
-            Some(EditFault::OutOfMemory)
-        );
-        assert!(rt; has_all(&database), "after {left} growths of {edit:?}");
-    }
-    Ok(growths)
-}
-
-#[test]
-fn refused_growths_change_nothing(rt: HostRuntime) -> Result<(), Fail> {
-    let area = AreaId(0);
-    let net = Edit::FailNet {
-        area,
-        network: Addr(0x0a050003),
-    };
-    let link = Edit::FailLink {
-        area,
-        router: FIRST,
-        neighbor: SECOND,
-    };
-    let edits = [
-        net,
-        link,
-        Edit::FailRouter { router: SECOND },
-        new_stub(0x0a070000),
-        new_summary(area, 0x0a080000)?,
-        new_external()?,
-    ];
-    for edit in edits {
-        let growths = refused_growths(&rt, edit)?;
-        assert!(rt;
-            0 < growths && growths <= 16,
-            "{growths} growths of {edit:?}"
-        );
-    }
     Ok(())
 }
