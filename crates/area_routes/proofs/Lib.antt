@@ -17,3 +17,4 @@ pub mod Indexing
 pub mod Costs
 pub mod Gathered
 pub mod Choosing
+pub mod OverAllPaths

@@ -9,6 +9,7 @@ pub mod Intra
 pub mod Inter
 pub mod EntryIndex
 pub mod Reached
+pub mod OverAllPaths
 pub mod Networks
 pub mod Choice
 pub mod Stubs

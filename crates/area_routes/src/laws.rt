@@ -1,16 +1,20 @@
 //! Laws: what holds of the definitions that the contracts of this crate cite. Each is a function
 //! that does nothing, and its contract is the law.
 
-ghost use Rattle.std.specs.Prelude.{◌≡◌, List};
+ghost use Rattle.std.specs.Prelude.{◌≡◌, ℕ, All, List};
 ghost use Rattle.std.specs.Cmp.{IsTotalOrder};
 ghost use Rattle.std.specs.declared.cmp.Ordering.TheVariants.{Equal};
 ghost use Rattle.area_routes.specs.declared.rank.Rank.{Rank as AnyRank};
+ghost use Rattle.lsa_codec.specs.Accepted.{IsAccepted};
 ghost use Rattle.lsa_codec.specs.Prefix.{Net};
+ghost use Rattle.lsa_codec.specs.declared.address.RouterId.{RouterId};
 ghost use Rattle.std.proofs.lemmas.Map.Lookups.{CmpEqualImpliesEq};
 ghost use Rattle.area_routes.specs.Best.{ways_of};
 ghost use Rattle.area_routes.specs.Candidate.{Candidate};
 ghost use Rattle.area_routes.specs.InWords.{AreBestWays};
 ghost use Rattle.area_routes.specs.Order.{prefix_cmp, rank_cmp};
+ghost use Rattle.area_routes.specs.OverAllPaths.{AreOverAllPaths};
+ghost use Rattle.area_routes.specs.Reached.{reached_from};
 ghost use Rattle.area_routes.specs.Values.{WayValue};
 
 use crate::rank::Rank;
@@ -33,4 +37,12 @@ pub fn ways_are_best<K: Ord + Copy + Drop>()
     requires { CmpEqualImpliesEq K.cmp }
     ensures best { (cs : List (Candidate K)) → AreBestWays K.cmp cs (ways_of K.cmp cs) }
     ensures only { (cs : List (Candidate K)) (ways : List (K × WayValue)) → AreBestWays K.cmp cs ways → ways ≡ ways_of K.cmp cs }
+{}
+
+/// The vertices that are reached from a router over accepted LSAs, their distances and their next
+/// hops are those over all paths of the area, of any length: the vertices to which a path leads,
+/// and no others, each at the least cost of all paths, with exactly the first hops of all paths of
+/// this cost.
+pub fn reached_over_all_paths()
+    ensures { (root : RouterId) (lsas : List (List ℕ)) → All IsAccepted lsas → AreOverAllPaths root lsas (reached_from root lsas) }
 {}

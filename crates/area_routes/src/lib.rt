@@ -50,7 +50,7 @@ pub use entry::{EntryKind, RouterEntry};
 pub use inter_area::inter;
 pub use inter_result::InterResult;
 pub use intra_area::intra;
-pub use laws::{route_orders, ways_are_best};
+pub use laws::{reached_over_all_paths, route_orders, ways_are_best};
 pub use lookup::{has_route, route_to};
 pub use offer::Offer;
 pub use rank::{PathType, Rank};

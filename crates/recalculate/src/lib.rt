@@ -11,7 +11,7 @@ mod table;
 
 pub use attached::routers;
 pub use counts::Info;
-pub use laws::routers_are_attached;
+pub use laws::{routers_are_attached, tables_are_over_all_paths};
 pub use planner::Planner;
 pub use table::{Table, TableFault, table_of};
 

@@ -69,3 +69,27 @@ fn entries_by_summaries(rt: HostRuntime) -> Result<(), Fail> {
     assert_eq!(rt; found.routes.len(), 0);
     Ok(())
 }
+
+/// A summary at MaxAge, one at LSInfinity and one of the calculating router itself give no entry;
+/// one just below both limits does.
+#[test]
+fn no_entries_by_summaries_that_do_not_count(rt: HostRuntime) -> Result<(), Fail> {
+    let old = Summary {
+        age: 3600,
+        ..asbr(R8, R2, 5)
+    };
+    let far = Summary {
+        age: 3599,
+        ..asbr(R8, R3, 16_777_214)
+    };
+    let summaries = [old, far, asbr(R9, R2, 16_777_215), asbr(R8, R1, 1)];
+    let dump = sample(rt.alloc(), &summaries)?;
+    let found = inter_in(rt.alloc(), &dump, &[0, 1], R1)?;
+    let others = "other 8.8.8.8 0.0.0.0 16777224 link:10.0.1.1\n";
+    let expected = format!(in rt.alloc(); "{WITHIN}{others}")?;
+    assert_eq!(rt;
+        routers_text(rt.alloc(), &found.routers)?.as_str(),
+        expected.as_str()
+    );
+    Ok(())
+}
