@@ -1,8 +1,7 @@
 //! Routers and databases that several crates are tested with.
 
-use crate::dumps::dump;
 use crate::link::{to_network, to_router};
-use crate::lsas::{network_lsa, router_lsa};
+use crate::list::LsaList;
 use std::alloc::{AllocError, Global};
 
 /// 1.1.1.1.
@@ -43,11 +42,10 @@ pub fn network_of_three(alloc: Global) -> Result<Vec<u8>, AllocError> {
         to_router(R1, 0x0a00_0004, 5),
         to_network(network, 0x0a05_0004, 5),
     ];
-    let lsas = [
-        router_lsa(alloc, R1, &first)?,
-        router_lsa(alloc, R3, &third)?,
-        router_lsa(alloc, R4, &fourth)?,
-        network_lsa(alloc, network, R3, &[R1, R3, R4])?,
-    ];
-    dump(alloc, &lsas)
+    let mut area = LsaList::new(alloc);
+    area.router(R1, &first)?;
+    area.router(R3, &third)?;
+    area.router(R4, &fourth)?;
+    area.network(network, R3, &[R1, R3, R4])?;
+    area.dump()
 }

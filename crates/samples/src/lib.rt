@@ -6,16 +6,16 @@
 #![tactic(auto)]
 
 mod doubles;
-mod dumps;
 mod fletcher;
 mod known;
 mod link;
-mod lsas;
+mod list;
+mod lsa;
 #[cfg(test)]
 mod tests;
 
 pub use doubles::{Failing, FailsOnce, Sink, Source, Zeros};
-pub use dumps::{dump, dump_of};
 pub use known::{MASK_16, R1, R2, R3, R4, SAMPLE, network_of_three};
 pub use link::{RouterLink, to_network, to_router, to_stub};
-pub use lsas::{Header, lsa, network_lsa, network_lsa_of, router_lsa, router_lsa_of};
+pub use list::{LsaList, dump_of};
+pub use lsa::Header;

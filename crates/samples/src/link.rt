@@ -13,6 +13,16 @@ pub struct RouterLink {
     pub metric: u16,
 }
 
+impl RouterLink {
+    /// The octets of the link.
+    pub(crate) fn octets(&self) -> [u8; 12] {
+        let [i0, i1, i2, i3] = self.id.to_be_bytes();
+        let [d0, d1, d2, d3] = self.data.to_be_bytes();
+        let [high, low] = self.metric.to_be_bytes();
+        [i0, i1, i2, i3, d0, d1, d2, d3, self.kind, 0, high, low]
+    }
+}
+
 /// A point-to-point link to a router, with the address of the interface.
 pub fn to_router(router: u32, data: u32, metric: u16) -> RouterLink {
     RouterLink {

@@ -1,7 +1,7 @@
 //! The entries of area border routers and AS boundary routers.
 
 use super::areas::{area_of, entries_text};
-use samples::{R1, R2, R3, dump, router_lsa_of, to_router};
+use samples::{LsaList, R1, R2, R3, to_router};
 use std::alloc::Global;
 use std::test::*;
 
@@ -13,12 +13,11 @@ fn with_flags(alloc: Global, flags: [u8; 3]) -> Result<Vec<u8>, Fail> {
         to_router(R2, 0x0a00_0001, 10),
         to_router(R3, 0x0a00_0005, 20),
     ];
-    let lsas = vec![in alloc;
-        router_lsa_of(alloc, 1, R3, third, &[to_router(R1, 0x0a00_0006, 20)])?,
-        router_lsa_of(alloc, 1, R1, first, &links)?,
-        router_lsa_of(alloc, 1, R2, second, &[to_router(R1, 0x0a00_0002, 10)])?,
-    ]?;
-    Ok(dump(alloc, &lsas)?)
+    let mut area = LsaList::new(alloc);
+    area.router_of(1, R3, third, &[to_router(R1, 0x0a00_0006, 20)])?;
+    area.router_of(1, R1, first, &links)?;
+    area.router_of(1, R2, second, &[to_router(R1, 0x0a00_0002, 10)])?;
+    Ok(area.dump()?)
 }
 
 #[test]

@@ -6,7 +6,7 @@ use lsa_codec::{AreaId, RouterId};
 use lsdb::Database;
 use next_hops::Hops;
 use rationed::Rationed;
-use samples::{MASK_16, R1, R2, dump, network_lsa, router_lsa, router_lsa_of, to_network, to_stub};
+use samples::{LsaList, MASK_16, R1, R2, to_network, to_stub};
 use spf::{Meter, Tree};
 use std::alloc::Global;
 use std::test::*;
@@ -19,12 +19,11 @@ fn sample(alloc: Global) -> Result<Vec<u8>, Fail> {
         to_network(net, 0x0a05_0002, 10),
         to_stub(0x0a02_0000, MASK_16, 1),
     ];
-    let lsas = vec![in alloc;
-        router_lsa(alloc, R1, &first)?,
-        router_lsa_of(alloc, 1, R2, 3, &second)?,
-        network_lsa(alloc, net, R1, &[R1, R2])?,
-    ]?;
-    Ok(dump(alloc, &lsas)?)
+    let mut area = LsaList::new(alloc);
+    area.router(R1, &first)?;
+    area.router_of(1, R2, 3, &second)?;
+    area.network(net, R1, &[R1, R2])?;
+    Ok(area.dump()?)
 }
 
 /// The growths that are left before the area's result is built and after it, and whether it is

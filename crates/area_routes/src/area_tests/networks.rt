@@ -1,7 +1,7 @@
 //! The networks that areas offer.
 
 use super::areas::{area_of, offers_text};
-use samples::{R1, R2, R3, dump, network_lsa, network_lsa_of, router_lsa, to_network, to_router};
+use samples::{LsaList, R1, R2, R3, to_network, to_router};
 use std::alloc::Global;
 use std::test::*;
 
@@ -11,12 +11,11 @@ fn two_of_one_prefix(alloc: Global, first: u16, second: u16) -> Result<Vec<u8>, 
         to_network(0x0a05_0001, 0x0a05_0001, first),
         to_network(0x0a05_0009, 0x0a05_0007, second),
     ];
-    let lsas = vec![in alloc;
-        network_lsa(alloc, 0x0a05_0009, R2, &[R1])?,
-        router_lsa(alloc, R1, &links)?,
-        network_lsa(alloc, 0x0a05_0001, R1, &[R1])?,
-    ]?;
-    Ok(dump(alloc, &lsas)?)
+    let mut area = LsaList::new(alloc);
+    area.network(0x0a05_0009, R2, &[R1])?;
+    area.router(R1, &links)?;
+    area.network(0x0a05_0001, R1, &[R1])?;
+    Ok(area.dump()?)
 }
 
 #[test]
@@ -45,12 +44,11 @@ fn masks_part_prefixes(rt: HostRuntime) -> Result<(), Fail> {
         to_network(0x0a05_0001, 0x0a05_0001, 10),
         to_network(0x0a05_0009, 0x0a05_0007, 5),
     ];
-    let lsas = vec![in alloc;
-        router_lsa(alloc, R1, &links)?,
-        network_lsa(alloc, 0x0a05_0001, R1, &[R1])?,
-        network_lsa_of(alloc, 1, (0x0a05_0009, 0xffff_ff00), R2, &[R1])?,
-    ]?;
-    let area = area_of(alloc, &dump(alloc, &lsas)?, R1)?;
+    let mut area = LsaList::new(alloc);
+    area.router(R1, &links)?;
+    area.network(0x0a05_0001, R1, &[R1])?;
+    area.network_of(1, (0x0a05_0009, 0xffff_ff00), R2, &[R1])?;
+    let area = area_of(alloc, &area.dump()?, R1)?;
     let expected = "10.5.0.0/16 10 attached:10.5.0.1\n10.5.0.0/24 5 attached:10.5.0.7\n";
     assert_eq!(rt; offers_text(alloc, &area)?.as_str(), expected);
     Ok(())
@@ -61,13 +59,12 @@ fn masks_part_prefixes(rt: HostRuntime) -> Result<(), Fail> {
 #[test]
 fn mask_of_the_lsa_in_use(rt: HostRuntime) -> Result<(), Fail> {
     let alloc = rt.alloc();
-    let lsas = vec![in alloc;
-        router_lsa(alloc, R1, &[to_network(0x0a05_0001, 0x0a05_0001, 10)])?,
-        network_lsa(alloc, 0x0a05_0001, R1, &[R1])?,
-        network_lsa_of(alloc, 1, (0x0a05_0001, 0xffff_ff00), R2, &[R1])?,
-        network_lsa_of(alloc, 3600, (0x0a05_0001, 0xff00_0000), R3, &[R1])?,
-    ]?;
-    let area = area_of(alloc, &dump(alloc, &lsas)?, R1)?;
+    let mut area = LsaList::new(alloc);
+    area.router(R1, &[to_network(0x0a05_0001, 0x0a05_0001, 10)])?;
+    area.network(0x0a05_0001, R1, &[R1])?;
+    area.network_of(1, (0x0a05_0001, 0xffff_ff00), R2, &[R1])?;
+    area.network_of(3600, (0x0a05_0001, 0xff00_0000), R3, &[R1])?;
+    let area = area_of(alloc, &area.dump()?, R1)?;
     let expected = "10.5.0.0/24 10 attached:10.5.0.1\n";
     assert_eq!(rt; offers_text(alloc, &area)?.as_str(), expected);
     Ok(())
@@ -87,13 +84,12 @@ fn hops_of_all_ways(rt: HostRuntime) -> Result<(), Fail> {
         to_network(net, 0x0a05_0002, 5),
         to_router(R1, 0x0a00_0002, 5),
     ];
-    let lsas = vec![in alloc;
-        router_lsa(alloc, R1, &first)?,
-        router_lsa(alloc, R3, &[to_network(net, net, 10)])?,
-        router_lsa(alloc, R2, &second)?,
-        network_lsa(alloc, net, R3, &[R1, R2, R3])?,
-    ]?;
-    let area = area_of(alloc, &dump(alloc, &lsas)?, R1)?;
+    let mut area = LsaList::new(alloc);
+    area.router(R1, &first)?;
+    area.router(R3, &[to_network(net, net, 10)])?;
+    area.router(R2, &second)?;
+    area.network(net, R3, &[R1, R2, R3])?;
+    let area = area_of(alloc, &area.dump()?, R1)?;
     let expected = "10.5.0.0/16 10 link:10.0.0.1 attached:10.5.0.1\n";
     assert_eq!(rt; offers_text(alloc, &area)?.as_str(), expected);
     Ok(())
@@ -103,11 +99,10 @@ fn hops_of_all_ways(rt: HostRuntime) -> Result<(), Fail> {
 #[test]
 fn network_not_reached(rt: HostRuntime) -> Result<(), Fail> {
     let alloc = rt.alloc();
-    let lsas = vec![in alloc;
-        router_lsa(alloc, R1, &[])?,
-        network_lsa(alloc, 0x0a05_0001, R1, &[R1])?,
-    ]?;
-    let area = area_of(alloc, &dump(alloc, &lsas)?, R1)?;
+    let mut area = LsaList::new(alloc);
+    area.router(R1, &[])?;
+    area.network(0x0a05_0001, R1, &[R1])?;
+    let area = area_of(alloc, &area.dump()?, R1)?;
     assert_eq!(rt; offers_text(alloc, &area)?.as_str(), "");
     Ok(())
 }

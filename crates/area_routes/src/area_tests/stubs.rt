@@ -1,10 +1,7 @@
 //! The stub networks that areas offer.
 
 use super::areas::{area_of, entries_text, offers_text};
-use samples::{
-    MASK_16, R1, R2, R3, dump, network_lsa, router_lsa, router_lsa_of, to_network, to_router,
-    to_stub,
-};
+use samples::{LsaList, MASK_16, R1, R2, R3, to_network, to_router, to_stub};
 use std::alloc::Global;
 use std::test::*;
 
@@ -20,11 +17,10 @@ fn with_stubs(alloc: Global, age: u16) -> Result<Vec<u8>, Fail> {
         to_stub(0x0a02_0304, MASK_16, 0),
         to_stub(0x0a09_0000, MASK_16, 5),
     ];
-    let lsas = vec![in alloc;
-        router_lsa_of(alloc, age, R2, 3, &second)?,
-        router_lsa(alloc, R1, &first)?,
-    ]?;
-    Ok(dump(alloc, &lsas)?)
+    let mut area = LsaList::new(alloc);
+    area.router_of(age, R2, 3, &second)?;
+    area.router(R1, &first)?;
+    Ok(area.dump()?)
 }
 
 #[test]
@@ -63,11 +59,10 @@ fn nothing_of_a_router_not_reached(rt: HostRuntime) -> Result<(), Fail> {
         to_stub(0x0a03_0000, MASK_16, 1),
         to_router(R1, 0x0a00_0003, 1),
     ];
-    let lsas = vec![in alloc;
-        router_lsa(alloc, R1, &[])?,
-        router_lsa_of(alloc, 1, R3, 3, &links)?,
-    ]?;
-    let area = area_of(alloc, &dump(alloc, &lsas)?, R1)?;
+    let mut area = LsaList::new(alloc);
+    area.router(R1, &[])?;
+    area.router_of(1, R3, 3, &links)?;
+    let area = area_of(alloc, &area.dump()?, R1)?;
     assert_eq!(rt; offers_text(alloc, &area)?.as_str(), "");
     assert_eq!(rt; entries_text(alloc, &area)?.as_str(), "");
     Ok(())
@@ -83,12 +78,11 @@ fn networks_before_stubs(rt: HostRuntime) -> Result<(), Fail> {
         to_stub(0x0a02_0000, MASK_16, 7),
         to_network(net, 0x0a05_0002, 3),
     ];
-    let lsas = vec![in alloc;
-        router_lsa(alloc, R1, &[to_network(net, net, 4)])?,
-        router_lsa(alloc, R2, &second)?,
-        network_lsa(alloc, net, R1, &[R1, R2])?,
-    ]?;
-    let area = area_of(alloc, &dump(alloc, &lsas)?, R1)?;
+    let mut area = LsaList::new(alloc);
+    area.router(R1, &[to_network(net, net, 4)])?;
+    area.router(R2, &second)?;
+    area.network(net, R1, &[R1, R2])?;
+    let area = area_of(alloc, &area.dump()?, R1)?;
     let expected = "10.5.0.0/16 4 attached:10.5.0.1\n10.2.0.0/16 11 gateway:10.5.0.1:10.5.0.2\n";
     assert_eq!(rt; offers_text(alloc, &area)?.as_str(), expected);
     Ok(())

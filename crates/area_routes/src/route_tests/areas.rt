@@ -6,9 +6,9 @@ use area_graph::Graph;
 use lsa_codec::{AreaId, RouterId};
 use lsdb::Database;
 use next_hops::Hops;
-use samples::{Header, lsa};
+use samples::{Header, LsaList};
 use spf::{Meter, Tree};
-use std::alloc::{Allocator, Global};
+use std::alloc::{AllocError, Allocator, Global};
 use std::test::*;
 
 /// A summary-LSA (RFC 2328, A.4.4).
@@ -43,23 +43,16 @@ pub fn asbr(id: u32, router: u32, metric: u32) -> Summary {
     }
 }
 
-/// The LSA of a summary. The mask is 255.255.0.0.
-pub fn summary_lsa(alloc: Global, summary: Summary) -> Result<Vec<u8>, Fail> {
-    let Summary {
-        age,
-        kind,
-        id,
-        router,
-        metric,
-    } = summary;
-    let [_, high, middle, low] = metric.to_be_bytes();
+/// Adds the LSA of a summary. The mask is 255.255.0.0.
+pub fn push_summary(area: &mut LsaList, summary: Summary) -> Result<(), AllocError> {
+    let [_, high, middle, low] = summary.metric.to_be_bytes();
     let header = Header {
-        age,
-        kind,
-        id,
-        router,
+        age: summary.age,
+        kind: summary.kind,
+        id: summary.id,
+        router: summary.router,
     };
-    Ok(lsa(alloc, header, &[0xff, 0xff, 0, 0, 0, high, middle, low])?)
+    area.lsa(header, &[0xff, 0xff, 0, 0, 0, high, middle, low])
 }
 
 /// What areas give to a router.

@@ -1,7 +1,7 @@
 //! Router entries of all areas, and those by summary-LSAs of type 4.
 
-use super::areas::{Summary, asbr, inter_in, routers_text, summary_lsa};
-use samples::{R1, R2, R3, dump_of, router_lsa_of, to_router};
+use super::areas::{Summary, asbr, inter_in, push_summary, routers_text};
+use samples::{LsaList, R1, R2, R3, dump_of, to_router};
 use std::alloc::Global;
 use std::test::*;
 
@@ -17,20 +17,18 @@ fn sample(alloc: Global, summaries: &[Summary]) -> Result<Vec<u8>, Fail> {
         to_router(R2, 0x0a00_0001, 10),
         to_router(R3, 0x0a00_0101, 10),
     ];
-    let mut backbone = vec![in alloc;
-        router_lsa_of(alloc, 1, R1, 3, &links)?,
-        router_lsa_of(alloc, 1, R2, 1, &[to_router(R1, 0x0a00_0002, 10)])?,
-        router_lsa_of(alloc, 1, R3, 3, &[to_router(R1, 0x0a00_0103, 10)])?,
-    ]?;
+    let mut backbone = LsaList::new(alloc);
+    backbone.router_of(1, R1, 3, &links)?;
+    backbone.router_of(1, R2, 1, &[to_router(R1, 0x0a00_0002, 10)])?;
+    backbone.router_of(1, R3, 3, &[to_router(R1, 0x0a00_0103, 10)])?;
     for summary in summaries {
-        backbone.push(summary_lsa(alloc, *summary)?)?;
+        push_summary(&mut backbone, *summary)?;
     }
-    let other = vec![in alloc;
-        router_lsa_of(alloc, 1, R1, 3, &[to_router(R9, 0x0a01_0001, 1)])?,
-        router_lsa_of(alloc, 1, R9, 3, &[to_router(R1, 0x0a01_0009, 1)])?,
-    ]?;
-    let areas = vec![in alloc; (0, backbone), (1, other)]?;
-    Ok(dump_of(alloc, &areas, &[])?)
+    let mut other = LsaList::new(alloc);
+    other.router_of(1, R1, 3, &[to_router(R9, 0x0a01_0001, 1)])?;
+    other.router_of(1, R9, 3, &[to_router(R1, 0x0a01_0009, 1)])?;
+    let areas = [(0, backbone), (1, other)];
+    Ok(dump_of(alloc, &areas, &LsaList::new(alloc))?)
 }
 
 /// The entries of the areas.

@@ -1,7 +1,7 @@
 //! Intra-area routes.
 
 use super::areas::intra_text;
-use samples::{MASK_16, R1, R2, R3, dump_of, router_lsa, to_router, to_stub};
+use samples::{LsaList, MASK_16, R1, R2, R3, dump_of, to_router, to_stub};
 use std::alloc::Global;
 use std::test::*;
 
@@ -9,37 +9,26 @@ use std::test::*;
 /// 0.0.0.1. Both have a stub link for 10.40.0.0/16, of these metrics.
 fn one_prefix_in_two_areas(alloc: Global, metrics: [u16; 2]) -> Result<Vec<u8>, Fail> {
     let [third, second] = metrics;
-    let backbone = vec![in alloc;
-        router_lsa(alloc, R1, &[to_router(R3, 0x0a00_0001, 10)])?,
-        router_lsa(
-            alloc,
-            R3,
-            &[
-                to_router(R1, 0x0a00_0003, 10),
-                to_stub(0x0a28_0000, MASK_16, third)
-            ]
-        )?,
-    ]?;
-    let other = vec![in alloc;
-        router_lsa(
-            alloc,
-            R1,
-            &[
-                to_router(R2, 0x0a01_0001, 50),
-                to_stub(0x0a07_0000, MASK_16, 0)
-            ]
-        )?,
-        router_lsa(
-            alloc,
-            R2,
-            &[
-                to_router(R1, 0x0a01_0002, 50),
-                to_stub(0x0a28_0000, MASK_16, second)
-            ]
-        )?,
-    ]?;
-    let areas = vec![in alloc; (0, backbone), (1, other)]?;
-    Ok(dump_of(alloc, &areas, &[])?)
+    let mut backbone = LsaList::new(alloc);
+    backbone.router(R1, &[to_router(R3, 0x0a00_0001, 10)])?;
+    let ends = [
+        to_router(R1, 0x0a00_0003, 10),
+        to_stub(0x0a28_0000, MASK_16, third),
+    ];
+    backbone.router(R3, &ends)?;
+    let mut other = LsaList::new(alloc);
+    let near = [
+        to_router(R2, 0x0a01_0001, 50),
+        to_stub(0x0a07_0000, MASK_16, 0),
+    ];
+    other.router(R1, &near)?;
+    let far = [
+        to_router(R1, 0x0a01_0002, 50),
+        to_stub(0x0a28_0000, MASK_16, second),
+    ];
+    other.router(R2, &far)?;
+    let areas = [(0, backbone), (1, other)];
+    Ok(dump_of(alloc, &areas, &LsaList::new(alloc))?)
 }
 
 #[test]

@@ -1,11 +1,11 @@
 //! Routes where memory runs out.
 
-use super::areas::{asbr, network, results_of, summary_lsa};
+use super::areas::{asbr, network, push_summary, results_of};
 use crate::{inter, intra};
 use lsa_codec::RouterId;
 use lsdb::Database;
 use rationed::Rationed;
-use samples::{MASK_16, R1, R2, dump_of, router_lsa_of, to_router, to_stub};
+use samples::{LsaList, MASK_16, R1, R2, dump_of, to_router, to_stub};
 use std::alloc::Global;
 use std::test::*;
 
@@ -15,14 +15,13 @@ fn sample(alloc: Global) -> Result<Vec<u8>, Fail> {
         to_router(R1, 0x0a00_0002, 10),
         to_stub(0x0a02_0000, MASK_16, 1),
     ];
-    let lsas = vec![in alloc;
-        router_lsa_of(alloc, 1, R1, 0, &[to_router(R2, 0x0a00_0001, 10)])?,
-        router_lsa_of(alloc, 1, R2, 3, &second)?,
-        summary_lsa(alloc, network(0x0a14_0000, R2, 20))?,
-        summary_lsa(alloc, asbr(0x0909_0909, R2, 20))?,
-    ]?;
-    let areas = vec![in alloc; (0, lsas)]?;
-    Ok(dump_of(alloc, &areas, &[])?)
+    let mut area = LsaList::new(alloc);
+    area.router_of(1, R1, 0, &[to_router(R2, 0x0a00_0001, 10)])?;
+    area.router_of(1, R2, 3, &second)?;
+    push_summary(&mut area, network(0x0a14_0000, R2, 20))?;
+    push_summary(&mut area, asbr(0x0909_0909, R2, 20))?;
+    let areas = [(0, area)];
+    Ok(dump_of(alloc, &areas, &LsaList::new(alloc))?)
 }
 
 /// The growths that are left before the routes are made and after it, and whether they are made.

@@ -1,7 +1,7 @@
 //! Inter-area routes by summary-LSAs of type 3.
 
-use super::areas::{Summary, inter_in, network, routes_text, summary_lsa};
-use samples::{MASK_16, R1, R2, R3, dump_of, router_lsa_of, to_router, to_stub};
+use super::areas::{Summary, inter_in, network, push_summary, routes_text};
+use samples::{LsaList, MASK_16, R1, R2, R3, dump_of, to_router, to_stub};
 use std::alloc::Global;
 use std::test::*;
 
@@ -20,22 +20,20 @@ fn two_areas(
     second: &[Summary],
 ) -> Result<Vec<u8>, Fail> {
     let [first_id, second_id] = ids;
-    let mut near = vec![in alloc;
-        router_lsa_of(alloc, 1, R1, 1, &[to_router(R2, 0x0a00_0001, 10)])?,
-        router_lsa_of(alloc, 1, R2, 1, &[to_router(R1, 0x0a00_0002, 10)])?,
-    ]?;
+    let mut near = LsaList::new(alloc);
+    near.router_of(1, R1, 1, &[to_router(R2, 0x0a00_0001, 10)])?;
+    near.router_of(1, R2, 1, &[to_router(R1, 0x0a00_0002, 10)])?;
     for summary in first {
-        near.push(summary_lsa(alloc, *summary)?)?;
+        push_summary(&mut near, *summary)?;
     }
-    let mut far = vec![in alloc;
-        router_lsa_of(alloc, 1, R1, 1, &[to_router(R3, 0x0a01_0001, 1)])?,
-        router_lsa_of(alloc, 1, R3, 1, &[to_router(R1, 0x0a01_0003, 1)])?,
-    ]?;
+    let mut far = LsaList::new(alloc);
+    far.router_of(1, R1, 1, &[to_router(R3, 0x0a01_0001, 1)])?;
+    far.router_of(1, R3, 1, &[to_router(R1, 0x0a01_0003, 1)])?;
     for summary in second {
-        far.push(summary_lsa(alloc, *summary)?)?;
+        push_summary(&mut far, *summary)?;
     }
-    let areas = vec![in alloc; (first_id, near), (second_id, far)]?;
-    Ok(dump_of(alloc, &areas, &[])?)
+    let areas = [(first_id, near), (second_id, far)];
+    Ok(dump_of(alloc, &areas, &LsaList::new(alloc))?)
 }
 
 /// In the first area 10.20.0.0/16 and, at LSInfinity, 10.21.0.0/16 by 2.2.2.2, and 10.22.0.0/16 by
@@ -113,17 +111,16 @@ fn three_neighbours(alloc: Global, summaries: &[Summary]) -> Result<Vec<u8>, Fai
         to_router(R1, 0x0a00_0204, 1),
         to_stub(NET_22, MASK_16, 1000),
     ];
-    let mut lsas = vec![in alloc;
-        router_lsa_of(alloc, 1, R1, 0, &links)?,
-        router_lsa_of(alloc, 1, R2, 1, &[to_router(R1, 0x0a00_0002, 10)])?,
-        router_lsa_of(alloc, 1, R3, 3, &[to_router(R1, 0x0a00_0103, 15)])?,
-        router_lsa_of(alloc, 1, r4, 2, &fourth)?,
-    ]?;
+    let mut area = LsaList::new(alloc);
+    area.router_of(1, R1, 0, &links)?;
+    area.router_of(1, R2, 1, &[to_router(R1, 0x0a00_0002, 10)])?;
+    area.router_of(1, R3, 3, &[to_router(R1, 0x0a00_0103, 15)])?;
+    area.router_of(1, r4, 2, &fourth)?;
     for summary in summaries {
-        lsas.push(summary_lsa(alloc, *summary)?)?;
+        push_summary(&mut area, *summary)?;
     }
-    let areas = vec![in alloc; (5, lsas)]?;
-    Ok(dump_of(alloc, &areas, &[])?)
+    let areas = [(5, area)];
+    Ok(dump_of(alloc, &areas, &LsaList::new(alloc))?)
 }
 
 /// 10.20.0.0/16 is as near by 2.2.2.2 as by 3.3.3.3; 4.4.4.4 is no area border router. 10.22.0.0/16

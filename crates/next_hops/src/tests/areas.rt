@@ -6,9 +6,7 @@ use crate::{Hop, Hops};
 use area_graph::{Graph, Vertex};
 use lsa_codec::{Addr, AreaId, RouterId};
 use lsdb::Database;
-use samples::{
-    R1, R2, R3, R4, SAMPLE, dump, network_lsa, network_of_three, router_lsa, to_network, to_router,
-};
+use samples::{LsaList, R1, R2, R3, R4, SAMPLE, network_of_three, to_network, to_router};
 use spf::{Meter, Tree};
 use std::alloc::{Allocator, Global};
 use std::test::*;
@@ -66,11 +64,10 @@ fn parallel_links(alloc: Global) -> Result<Vec<u8>, Fail> {
         to_router(R1, 0x0a00_0002, 10),
         to_router(R1, 0x0a00_0102, 10),
     ];
-    let lsas = [
-        router_lsa(alloc, R1, &first)?,
-        router_lsa(alloc, R2, &second)?,
-    ];
-    Ok(dump(alloc, &lsas)?)
+    let mut area = LsaList::new(alloc);
+    area.router(R1, &first)?;
+    area.router(R2, &second)?;
+    Ok(area.dump()?)
 }
 
 #[test]
@@ -93,15 +90,14 @@ fn two_networks(alloc: Global) -> Result<Vec<u8>, Fail> {
     ];
     let second = [to_network(0x0a05_0002, 0x0a05_0002, 10)];
     let third = [to_network(0x0a05_0003, 0x0a05_0003, 10)];
-    let lsas = [
-        router_lsa(alloc, R1, &first)?,
-        router_lsa(alloc, R2, &second)?,
-        router_lsa(alloc, R3, &third)?,
-        router_lsa(alloc, R4, &[])?,
-        network_lsa(alloc, 0x0a05_0002, R2, &[R1, R2])?,
-        network_lsa(alloc, 0x0a05_0003, R3, &[R1, R3])?,
-    ];
-    Ok(dump(alloc, &lsas)?)
+    let mut area = LsaList::new(alloc);
+    area.router(R1, &first)?;
+    area.router(R2, &second)?;
+    area.router(R3, &third)?;
+    area.router(R4, &[])?;
+    area.network(0x0a05_0002, R2, &[R1, R2])?;
+    area.network(0x0a05_0003, R3, &[R1, R3])?;
+    Ok(area.dump()?)
 }
 
 #[test]

@@ -7,7 +7,7 @@ use super::plain::plain_hops;
 use crate::Hop;
 use area_graph::Vertex;
 use lsa_codec::{Addr, RouterId};
-use samples::{RouterLink, dump, network_lsa, router_lsa, to_network, to_router};
+use samples::{LsaList, RouterLink, to_network, to_router};
 use spf::distances_by_rounds;
 use std::alloc::Global;
 use std::test::*;
@@ -54,9 +54,9 @@ fn links(alloc: Global, place: u32) -> Result<Vec<RouterLink>, Fail>
 
 /// The ring: 40 routers, and 10 networks of four places each.
 fn ring(alloc: Global) -> Result<Vec<u8>, Fail> {
-    let mut lsas = Vec::new(alloc);
+    let mut area = LsaList::new(alloc);
     for place in 0..ROUTERS {
-        lsas.push(router_lsa(alloc, router(place), &links(alloc, place)?)?)?;
+        area.router(router(place), &links(alloc, place)?)?;
     }
     for number in 0..10 {
         let first = 4 * number;
@@ -66,9 +66,9 @@ fn ring(alloc: Global) -> Result<Vec<u8>, Fail> {
             router(first + 2),
             router(first + 3),
         ];
-        lsas.push(network_lsa(alloc, network(first), router(first), &attached)?)?;
+        area.network(network(first), router(first), &attached)?;
     }
-    Ok(dump(alloc, &lsas)?)
+    Ok(area.dump()?)
 }
 
 #[test]

@@ -5,7 +5,7 @@ ghost use Rattle.std.specs.Prelude.{◌<◌};
 use super::trees::{graph_of, reached};
 use crate::{Meter, Tree, distances_by_rounds};
 use lsa_codec::RouterId;
-use samples::{RouterLink, dump, network_lsa, router_lsa, to_network, to_router};
+use samples::{LsaList, RouterLink, to_network, to_router};
 use std::alloc::Global;
 use std::test::*;
 
@@ -50,9 +50,9 @@ fn links(alloc: Global, place: u32) -> Result<Vec<RouterLink>, Fail>
 
 /// The ring: 40 routers, 10 networks of four places each, and the router that stands alone.
 fn ring(alloc: Global) -> Result<Vec<u8>, Fail> {
-    let mut lsas = Vec::new(alloc);
+    let mut area = LsaList::new(alloc);
     for place in 0..ROUTERS {
-        lsas.push(router_lsa(alloc, router(place), &links(alloc, place)?)?)?;
+        area.router(router(place), &links(alloc, place)?)?;
     }
     for number in 0..10 {
         let first = 4 * number;
@@ -62,11 +62,11 @@ fn ring(alloc: Global) -> Result<Vec<u8>, Fail> {
             router(first + 2),
             router(first + 3),
         ];
-        lsas.push(network_lsa(alloc, network(first), router(first), &attached)?)?;
+        area.network(network(first), router(first), &attached)?;
     }
     let named = [to_router(router(0), 0x0a00_0004, 1)];
-    lsas.push(router_lsa(alloc, ALONE, &named)?)?;
-    Ok(dump(alloc, &lsas)?)
+    area.router(ALONE, &named)?;
+    Ok(area.dump()?)
 }
 
 /// Whether the distances by rounds are those of the tree: the same where the tree reaches, and none

@@ -5,7 +5,7 @@ use crate::{compare_text, table_text};
 use lsa_codec::RouterId;
 use rationed::Rationed;
 use recalculate::Table;
-use samples::{MASK_16, R1, R2, router_lsa, to_router, to_stub};
+use samples::{LsaList, MASK_16, R1, R2, to_router, to_stub};
 use std::alloc::{AllocError, Allocator, Global};
 use std::test::*;
 
@@ -15,10 +15,10 @@ fn over_a_link(alloc: Global, metric: u16) -> Result<Table, Fail> {
         to_router(R1, 0x0a00_0002, 10),
         to_stub(0x0a02_0000, MASK_16, 5),
     ];
-    let mut lsas = Vec::new(alloc);
-    lsas.push(router_lsa(alloc, R1, &[to_router(R2, 0x0a00_0001, metric)])?)?;
-    lsas.push(router_lsa(alloc, R2, &back)?)?;
-    table(alloc, alloc, R1, &[(0, lsas)], &[])
+    let mut area = LsaList::new(alloc);
+    area.router(R1, &[to_router(R2, 0x0a00_0001, metric)])?;
+    area.router(R2, &back)?;
+    table(alloc, alloc, R1, &[(0, area)], &LsaList::new(alloc))
 }
 
 /// The text of the differences of two tables.
@@ -60,9 +60,9 @@ fn with_stubs<A: Allocator + Copy>(
     stubs: [(u32, u16); 3],
 ) -> Result<Table<A>, Fail> {
     let links = stubs.map(|(n, metric)| to_stub(0x0a00_0000 | n << 16, MASK_16, metric));
-    let mut lsas = Vec::new(plain);
-    lsas.push(router_lsa(plain, R1, &links)?)?;
-    table(alloc, plain, R1, &[(0, lsas)], &[])
+    let mut area = LsaList::new(plain);
+    area.router(R1, &links)?;
+    table(alloc, plain, R1, &[(0, area)], &LsaList::new(plain))
 }
 
 #[test]

@@ -5,9 +5,9 @@ ghost use Rattle.std.specs.Prelude.{◌<◌, ◌^◌};
 use lsa_codec::{Addr, Lsa, Prefix, RouterId};
 use lsdb::Database;
 use recalculate::{Table, table_of};
-use samples::{Header, dump_of, lsa};
+use samples::{Header, LsaList, dump_of};
 use spf::Meter;
-use std::alloc::{Allocator, Global};
+use std::alloc::{AllocError, Allocator, Global};
 use std::test::*;
 
 /// Bit B, of an area border router (RFC 2328, A.4.2).
@@ -16,26 +16,32 @@ pub const BORDER: u8 = 1;
 /// Bit E, of an AS boundary router (RFC 2328, A.4.2).
 pub const BOUNDARY: u8 = 2;
 
-/// A summary-LSA for a network of mask 255.255.0.0 (RFC 2328, A.4.4).
-pub fn summary_lsa(alloc: Global, router: u32, address: u32, metric: u8) -> Result<Vec<u8>, Fail> {
+/// Adds a summary-LSA for a network of mask 255.255.0.0 (RFC 2328, A.4.4).
+pub fn push_summary(
+    area: &mut LsaList,
+    router: u32,
+    address: u32,
+    metric: u8,
+) -> Result<(), AllocError> {
     let header = Header {
         age: 1,
         kind: 3,
         id: address,
         router,
     };
-    Ok(lsa(alloc, header, &[0xff, 0xff, 0, 0, 0, 0, 0, metric])?)
+    area.lsa(header, &[0xff, 0xff, 0, 0, 0, 0, 0, metric])
 }
 
-/// An AS-external-LSA for a network of mask 255.255.0.0 (RFC 2328, A.4.5).
-pub fn external_lsa(
+/// Adds an AS-external-LSA for a network of mask 255.255.0.0 (RFC 2328, A.4.5).
+pub fn push_external(
+    externals: &mut LsaList,
     alloc: Global,
     router: u32,
     address: u32,
     type2: bool,
     metric: u32,
     forward: u32,
-) -> Result<Vec<u8>, Fail>
+) -> Result<(), Fail>
     requires { metric < 2 ^ 24 }
 {
     let net = Prefix::new(Addr(address), 16).ok_or("a prefix")?;
@@ -48,7 +54,7 @@ pub fn external_lsa(
         Addr(forward),
         0,
     )?;
-    Ok(Vec::from_slice(alloc, lsa.bytes())?)
+    Ok(externals.push(lsa.bytes())?)
 }
 
 /// The table of a router in the database of these areas and of these LSAs of AS scope.
@@ -56,8 +62,8 @@ pub fn table<A: Allocator + Copy>(
     alloc: A,
     plain: Global,
     router: u32,
-    areas: &[(u32, Vec<Vec<u8>>)],
-    externals: &[Vec<u8>],
+    areas: &[(u32, LsaList)],
+    externals: &LsaList,
 ) -> Result<Table<A>, Fail> {
     let dump = dump_of(plain, areas, externals)?;
     let database = Database::load(alloc, &dump)?;

@@ -1,12 +1,10 @@
 //! The texts of tables.
 
-use super::dumps::{BORDER, BOUNDARY, external_lsa, summary_lsa, table};
+use super::dumps::{BORDER, BOUNDARY, push_external, push_summary, table};
 use crate::table_text;
 use lsa_codec::RouterId;
 use recalculate::Table;
-use samples::{
-    MASK_16, R1, R2, R3, R4, network_lsa, router_lsa, router_lsa_of, to_network, to_router, to_stub,
-};
+use samples::{LsaList, MASK_16, R1, R2, R3, R4, to_network, to_router, to_stub};
 use std::alloc::Global;
 use std::test::*;
 
@@ -14,8 +12,8 @@ use std::test::*;
 fn text(
     alloc: Global,
     router: u32,
-    areas: &[(u32, Vec<Vec<u8>>)],
-    externals: &[Vec<u8>],
+    areas: &[(u32, LsaList)],
+    externals: &LsaList,
 ) -> Result<String, Fail> {
     let table = table(alloc, alloc, router, areas, externals)?;
     Ok(String::from_utf8(table_text(alloc, &table)?)?)
@@ -24,20 +22,21 @@ fn text(
 #[test]
 fn the_table_of_each_end_of_a_link(rt: HostRuntime) -> Result<(), Fail> {
     let alloc = rt.alloc();
-    let mut lsas = Vec::new(alloc);
+    let mut area = LsaList::new(alloc);
     let ends = [
         to_router(R1, 0x0a00_0002, 10),
         to_stub(0x0a02_0000, MASK_16, 5),
     ];
-    lsas.push(router_lsa(alloc, R1, &[to_router(R2, 0x0a00_0001, 10)])?)?;
-    lsas.push(router_lsa(alloc, R2, &ends)?)?;
-    let areas = [(0, lsas)];
+    area.router(R1, &[to_router(R2, 0x0a00_0001, 10)])?;
+    area.router(R2, &ends)?;
+    let areas = [(0, area)];
+    let none = LsaList::new(alloc);
     let near = "table 1.1.1.1 1\n\
         10.2.0.0/16 intra 15 0 0.0.0.0 link:10.0.0.1\n";
-    assert_eq!(rt; text(alloc, R1, &areas, &[])?.as_str(), near);
+    assert_eq!(rt; text(alloc, R1, &areas, &none)?.as_str(), near);
     let own = "table 2.2.2.2 1\n\
         10.2.0.0/16 intra 5 0 0.0.0.0 connected\n";
-    assert_eq!(rt; text(alloc, R2, &areas, &[])?.as_str(), own);
+    assert_eq!(rt; text(alloc, R2, &areas, &none)?.as_str(), own);
     Ok(())
 }
 
@@ -54,18 +53,21 @@ fn two_links_of_equal_cost(rt: HostRuntime) -> Result<(), Fail> {
         to_router(R1, 0x0a00_0102, 10),
         to_stub(0x0a02_0000, MASK_16, 5),
     ];
-    let mut lsas = Vec::new(alloc);
-    lsas.push(router_lsa(alloc, R1, &near)?)?;
-    lsas.push(router_lsa(alloc, R2, &far)?)?;
+    let mut area = LsaList::new(alloc);
+    area.router(R1, &near)?;
+    area.router(R2, &far)?;
     let expected = "table 1.1.1.1 2\n\
         10.1.0.0/16 intra 1 0 0.0.0.0 connected\n\
         10.2.0.0/16 intra 15 0 0.0.0.0 link:10.0.0.1,link:10.0.1.1\n";
-    assert_eq!(rt; text(alloc, R1, &[(0, lsas)], &[])?.as_str(), expected);
+    assert_eq!(rt;
+        text(alloc, R1, &[(0, area)], &LsaList::new(alloc))?.as_str(),
+        expected
+    );
     Ok(())
 }
 
 /// A network joins three routers, and a link two of them.
-fn three_at_a_network(alloc: Global) -> Result<Vec<Vec<u8>>, Fail> {
+fn three_at_a_network(alloc: Global) -> Result<LsaList, Fail> {
     let network = 0x0a05_0003;
     let first = [
         to_network(network, 0x0a05_0001, 10),
@@ -79,18 +81,23 @@ fn three_at_a_network(alloc: Global) -> Result<Vec<Vec<u8>>, Fail> {
         to_router(R1, 0x0a00_0002, 5),
         to_network(network, 0x0a05_0004, 5),
     ];
-    let mut lsas = Vec::new(alloc);
-    lsas.push(router_lsa(alloc, R1, &first)?)?;
-    lsas.push(router_lsa_of(alloc, 1, R3, BOUNDARY, &third)?)?;
-    lsas.push(router_lsa(alloc, R4, &fourth)?)?;
-    lsas.push(network_lsa(alloc, network, R3, &[R1, R3, R4])?)?;
-    Ok(lsas)
+    let mut area = LsaList::new(alloc);
+    area.router(R1, &first)?;
+    area.router_of(1, R3, BOUNDARY, &third)?;
+    area.router(R4, &fourth)?;
+    area.network(network, R3, &[R1, R3, R4])?;
+    Ok(area)
 }
 
 #[test]
 fn each_kind_of_hop(rt: HostRuntime) -> Result<(), Fail> {
     let alloc = rt.alloc();
-    let found = text(alloc, R1, &[(0, three_at_a_network(alloc)?)], &[])?;
+    let found = text(
+        alloc,
+        R1,
+        &[(0, three_at_a_network(alloc)?)],
+        &LsaList::new(alloc),
+    )?;
     let expected = "table 1.1.1.1 2\n\
         10.3.0.0/16 intra 11 0 0.0.0.0 link:10.0.0.1,gateway:10.5.0.1:10.5.0.3\n\
         10.5.0.0/16 intra 10 0 0.0.0.0 link:10.0.0.1,attached:10.5.0.1\n";
@@ -101,9 +108,25 @@ fn each_kind_of_hop(rt: HostRuntime) -> Result<(), Fail> {
 #[test]
 fn an_external_route_by_a_forwarding_address(rt: HostRuntime) -> Result<(), Fail> {
     let alloc = rt.alloc();
-    let mut externals = Vec::new(alloc);
-    externals.push(external_lsa(alloc, R3, 0x0a1e_0000, false, 5, 0x0a05_004d)?)?;
-    externals.push(external_lsa(alloc, R3, 0x0a1f_0000, false, 5, 0x0a1e_0001)?)?;
+    let mut externals = LsaList::new(alloc);
+    push_external(
+        &mut externals,
+        alloc,
+        R3,
+        0x0a1e_0000,
+        false,
+        5,
+        0x0a05_004d,
+    )?;
+    push_external(
+        &mut externals,
+        alloc,
+        R3,
+        0x0a1f_0000,
+        false,
+        5,
+        0x0a1e_0001,
+    )?;
     let found = text(alloc, R1, &[(0, three_at_a_network(alloc)?)], &externals)?;
     let expected = "table 1.1.1.1 3\n\
         10.3.0.0/16 intra 11 0 0.0.0.0 link:10.0.0.1,gateway:10.5.0.1:10.5.0.3\n\
@@ -116,13 +139,16 @@ fn an_external_route_by_a_forwarding_address(rt: HostRuntime) -> Result<(), Fail
 #[test]
 fn an_inter_area_route(rt: HostRuntime) -> Result<(), Fail> {
     let alloc = rt.alloc();
-    let mut lsas = Vec::new(alloc);
-    lsas.push(router_lsa(alloc, R1, &[to_router(R2, 0x0a00_0001, 10)])?)?;
-    lsas.push(router_lsa_of(alloc, 1, R2, BORDER, &[to_router(R1, 0x0a00_0002, 10)])?)?;
-    lsas.push(summary_lsa(alloc, R2, 0x0a14_0000, 20)?)?;
+    let mut area = LsaList::new(alloc);
+    area.router(R1, &[to_router(R2, 0x0a00_0001, 10)])?;
+    area.router_of(1, R2, BORDER, &[to_router(R1, 0x0a00_0002, 10)])?;
+    push_summary(&mut area, R2, 0x0a14_0000, 20)?;
     let expected = "table 1.1.1.1 1\n\
         10.20.0.0/16 inter 30 0 0.0.0.0 link:10.0.0.1\n";
-    assert_eq!(rt; text(alloc, R1, &[(0, lsas)], &[])?.as_str(), expected);
+    assert_eq!(rt;
+        text(alloc, R1, &[(0, area)], &LsaList::new(alloc))?.as_str(),
+        expected
+    );
     Ok(())
 }
 
@@ -133,15 +159,15 @@ fn area_to(
     data: u32,
     metric: u16,
     stub_metric: u16,
-) -> Result<Vec<Vec<u8>>, Fail> {
+) -> Result<LsaList, Fail> {
     let back = [
         to_router(R1, data | 2, metric),
         to_stub(0x0a28_0000, MASK_16, stub_metric),
     ];
-    let mut lsas = Vec::new(alloc);
-    lsas.push(router_lsa_of(alloc, 1, R1, BORDER, &[to_router(router, data | 1, metric)])?)?;
-    lsas.push(router_lsa_of(alloc, 1, router, BOUNDARY, &back)?)?;
-    Ok(lsas)
+    let mut area = LsaList::new(alloc);
+    area.router_of(1, R1, BORDER, &[to_router(router, data | 1, metric)])?;
+    area.router_of(1, router, BOUNDARY, &back)?;
+    Ok(area)
 }
 
 #[test]
@@ -151,11 +177,11 @@ fn the_lowest_of_two_areas_and_both_types_of_external_routes(rt: HostRuntime) ->
         (0, area_to(alloc, R3, 0x0a00_0000, 10, 45)?),
         (1, area_to(alloc, R2, 0x0a01_0000, 50, 5)?),
     ];
-    let mut externals = Vec::new(alloc);
-    externals.push(external_lsa(alloc, R2, 0x0a09_0000, true, 20, 0)?)?;
-    externals.push(external_lsa(alloc, R3, 0x0a09_0000, true, 20, 0)?)?;
-    externals.push(external_lsa(alloc, R2, 0x0a0a_0000, true, 1, 0)?)?;
-    externals.push(external_lsa(alloc, R3, 0x0a0a_0000, false, 1000, 0)?)?;
+    let mut externals = LsaList::new(alloc);
+    push_external(&mut externals, alloc, R2, 0x0a09_0000, true, 20, 0)?;
+    push_external(&mut externals, alloc, R3, 0x0a09_0000, true, 20, 0)?;
+    push_external(&mut externals, alloc, R2, 0x0a0a_0000, true, 1, 0)?;
+    push_external(&mut externals, alloc, R3, 0x0a0a_0000, false, 1000, 0)?;
     let expected = "table 1.1.1.1 3\n\
         10.9.0.0/16 ext2 50 20 - link:10.1.0.1\n\
         10.10.0.0/16 ext1 1010 0 - link:10.0.0.1\n\

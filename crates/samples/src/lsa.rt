@@ -1,0 +1,49 @@
+//! LSAs, with good checksums.
+
+use crate::fletcher::checksum;
+use std::alloc::{AllocError, Global};
+
+/// What differs in the headers of LSAs (RFC 2328, A.4.1). Their options are 2, and their sequence
+/// numbers 80000001.
+#[derive(Clone, Copy, Debug)]
+pub struct Header {
+    /// The LS age.
+    pub age: u16,
+    /// The LS type.
+    pub kind: u8,
+    /// The Link State ID.
+    pub id: u32,
+    /// The Advertising Router.
+    pub router: u32,
+}
+
+/// The octets of an LSA with this checksum.
+fn with_checksum(
+    alloc: Global,
+    header: Header,
+    checksum: [u8; 2],
+    body: &[u8],
+) -> Result<Vec<u8>, AllocError> {
+    let length = u16::try_from(body.len().saturating_add(20)).unwrap_or(u16::MAX);
+    let mut lsa = Vec::new(alloc);
+    lsa.extend_from_slice(&header.age.to_be_bytes())?;
+    lsa.extend_from_slice(&[2, header.kind])?;
+    lsa.extend_from_slice(&header.id.to_be_bytes())?;
+    lsa.extend_from_slice(&header.router.to_be_bytes())?;
+    lsa.extend_from_slice(&[0x80, 0, 0, 1])?;
+    lsa.extend_from_slice(&checksum)?;
+    lsa.extend_from_slice(&length.to_be_bytes())?;
+    lsa.extend_from_slice(body)?;
+    Ok(lsa)
+}
+
+/// The octets of an LSA with a good checksum.
+pub(crate) fn lsa_octets(
+    alloc: Global,
+    header: Header,
+    body: &[u8],
+) -> Result<Vec<u8>, AllocError> {
+    let unsigned = with_checksum(alloc, header, [0, 0], body)?;
+    let sums = checksum(unsigned.get(2..).unwrap_or(&[]));
+    with_checksum(alloc, header, sums, body)
+}
