@@ -21,7 +21,7 @@ pub const MASK_16: u32 = 0xffff_0000;
 
 /// Area 0.0.0.0 with the router-LSAs of 1.1.1.1 and 2.2.2.2, joined by a link of cost 10, with Link
 /// Data 10.0.0.1 and 10.0.0.2. The stub network 10.2.0.0/16 of 2.2.2.2 has cost 5.
-pub const SAMPLE: [u8; 99] = [
+pub const SAMPLE: &[u8] = &[
     0x4f, 0x53, 0x57, 0x50, 1, 1, 0, 0, 0, 0, 0, 0, 2, 0x00, 0x01, 0x02, 0x01, 1, 1, 1, 1, 1, 1, 1,
     1, 0x80, 0, 0, 1, 0xd5, 0x5a, 0, 0x24, 0, 0, 0, 1, 2, 2, 2, 2, 0x0a, 0, 0, 1, 1, 0, 0, 0x0a,
     0x00, 0x01, 0x02, 0x01, 2, 2, 2, 2, 2, 2, 2, 2, 0x80, 0, 0, 1, 0x62, 0xa7, 0, 0x30, 0, 0, 0, 2,

@@ -18,11 +18,11 @@ fn makes_the_sample(rt: HostRuntime) -> Result<(), Fail> {
     let mut area = LsaList::new(rt.alloc());
     area.router(R1, &[to_router(R2, 0x0a00_0001, 10)])?;
     area.router(R2, &far)?;
-    assert_eq!(rt; area.dump()?.as_slice(), SAMPLE.as_slice());
+    assert_eq!(rt; area.dump()?.as_slice(), SAMPLE);
     let areas = [(0, area)];
     let none = LsaList::new(rt.alloc());
     let dump = dump_of(rt.alloc(), &areas, &none)?;
-    assert_eq!(rt; dump.as_slice(), SAMPLE.as_slice());
+    assert_eq!(rt; dump.as_slice(), SAMPLE);
     Ok(())
 }
 

@@ -31,7 +31,7 @@ pub fn hops_from<A: Allocator + Copy>(
 
 #[test]
 fn hops_of_the_sample(rt: HostRuntime) -> Result<(), Fail> {
-    let graph = graph_of(rt.alloc(), &SAMPLE)?;
+    let graph = graph_of(rt.alloc(), SAMPLE)?;
     assert!(rt; graph.len() == 2);
     let hops = hops_from(rt.alloc(), &graph, R1)?;
     assert_eq!(rt; hops.of(0), [].as_slice());

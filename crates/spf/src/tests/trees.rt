@@ -29,7 +29,7 @@ pub fn reached<A: Allocator + Copy>(
 
 #[test]
 fn reaches_the_sample(rt: HostRuntime) -> Result<(), Fail> {
-    let graph = graph_of(rt.alloc(), &SAMPLE)?;
+    let graph = graph_of(rt.alloc(), SAMPLE)?;
     let mut meter = Meter::new();
     let tree = Tree::build(rt.alloc(), &graph, RouterId(R1), &mut meter)?;
     assert_eq!(rt; tree.root(), 0);
@@ -43,7 +43,7 @@ fn reaches_the_sample(rt: HostRuntime) -> Result<(), Fail> {
 
 #[test]
 fn misses_a_router(rt: HostRuntime) -> Result<(), Fail> {
-    let graph = graph_of(rt.alloc(), &SAMPLE)?;
+    let graph = graph_of(rt.alloc(), SAMPLE)?;
     let mut meter = Meter::new();
     let absent = RouterId(0x0909_0909);
     let fault = Tree::build(rt.alloc(), &graph, absent, &mut meter).err();
@@ -76,7 +76,7 @@ fn reaches_a_network_before_a_router(rt: HostRuntime) -> Result<(), Fail> {
 #[test]
 fn counts_where_memory_runs_out(rt: HostRuntime) -> Result<(), Fail> {
     let counted = Rationed::new(rt.alloc(), u64::MAX);
-    let graph = graph_of(&counted, &SAMPLE)?;
+    let graph = graph_of(&counted, SAMPLE)?;
     let before = u64::MAX - counted.left();
     let mut meter = Meter::new();
     let built = Tree::build(&counted, &graph, RouterId(R1), &mut meter);
@@ -85,7 +85,7 @@ fn counts_where_memory_runs_out(rt: HostRuntime) -> Result<(), Fail> {
     assert!(rt; before < growths);
     for enough in before..growths {
         let rationed = Rationed::new(rt.alloc(), enough);
-        let graph = graph_of(&rationed, &SAMPLE)?;
+        let graph = graph_of(&rationed, SAMPLE)?;
         let mut meter = Meter::new();
         let fault = Tree::build(&rationed, &graph, RouterId(R1), &mut meter).err();
         assert_eq!(rt; fault, Some(SpfFault::OutOfMemory), "with {enough} growths");
