@@ -14,7 +14,7 @@ use std::process::Abort;
 use std::test::*;
 
 /// Area 0.0.0.0 with 1.1.1.1 and 2.2.2.2, joined by a link of cost 10, and a stub link of 2.2.2.2.
-const SAMPLE: [u8; 99] = [
+const SAMPLE: &[u8] = &[
     0x4f, 0x53, 0x57, 0x50, 0x01, 0x01, 0x00, 0x00, 0x00, 0x00, 0x00, 0x00, 0x02, 0x00, 0x01, 0x02,
     0x01, 0x01, 0x01, 0x01, 0x01, 0x01, 0x01, 0x01, 0x01, 0x80, 0x00, 0x00, 0x01, 0xd5, 0x5a, 0x00,
     0x24, 0x00, 0x00, 0x00, 0x01, 0x02, 0x02, 0x02, 0x02, 0x0a, 0x00, 0x00, 0x01, 0x01, 0x00, 0x00,
@@ -31,7 +31,7 @@ const SAMPLE: [u8; 99] = [
 /// 4.4.4.4 at age 3600 (the link to the network, and a stub link for the address 10.5.0.3). The stub
 /// area 0.0.0.1: a router-LSA of 2.2.2.2. Behind them the AS-external-LSAs of 2.2.2.2 for
 /// 10.91.0.0/16 and 10.92.0.0/16 and of 3.3.3.3 for 10.93.0.0/16.
-const NETS: [u8; 486] = [
+const NETS: &[u8] = &[
     0x4f, 0x53, 0x57, 0x50, 0x01, 0x02, 0x00, 0x00, 0x00, 0x00, 0x00, 0x00, 0x07, 0x00, 0x01, 0x02,
     0x01, 0x01, 0x01, 0x01, 0x01, 0x01, 0x01, 0x01, 0x01, 0x80, 0x00, 0x00, 0x01, 0xc4, 0xe7, 0x00,
     0x48, 0x00, 0x00, 0x00, 0x04, 0x02, 0x02, 0x02, 0x02, 0x0a, 0x00, 0x00, 0x01, 0x01, 0x00, 0x00,
@@ -66,28 +66,28 @@ const NETS: [u8; 486] = [
 ];
 
 /// The router-LSA of 2.2.2.2 without its first link.
-const WITHOUT_LINK: [u8; 48] = [
+const WITHOUT_LINK: &[u8] = &[
     0x00, 0x01, 0x02, 0x01, 0x02, 0x02, 0x02, 0x02, 0x02, 0x02, 0x02, 0x02, 0x80, 0x00, 0x00, 0x01,
     0x75, 0x91, 0x00, 0x30, 0x02, 0x00, 0x00, 0x02, 0x01, 0x01, 0x01, 0x01, 0x0a, 0x00, 0x01, 0x02,
     0x01, 0x00, 0x00, 0x0a, 0x0a, 0x02, 0x00, 0x00, 0xff, 0xff, 0x00, 0x00, 0x03, 0x00, 0x00, 0x05,
 ];
 
 /// The router-LSA of 1.1.1.1 without its links to 2.2.2.2.
-const WITHOUT_2: [u8; 48] = [
+const WITHOUT_2: &[u8] = &[
     0x00, 0x01, 0x02, 0x01, 0x01, 0x01, 0x01, 0x01, 0x01, 0x01, 0x01, 0x01, 0x80, 0x00, 0x00, 0x01,
     0x3f, 0xc4, 0x00, 0x30, 0x00, 0x00, 0x00, 0x02, 0x0a, 0x01, 0x00, 0x00, 0xff, 0xff, 0x00, 0x00,
     0x03, 0x00, 0x00, 0x01, 0x0a, 0x05, 0x00, 0x03, 0x0a, 0x05, 0x00, 0x01, 0x02, 0x00, 0x00, 0x0a,
 ];
 
 /// The router-LSA of 2.2.2.2 without its links to 1.1.1.1.
-const WITHOUT_1: [u8; 36] = [
+const WITHOUT_1: &[u8] = &[
     0x00, 0x01, 0x02, 0x01, 0x02, 0x02, 0x02, 0x02, 0x02, 0x02, 0x02, 0x02, 0x80, 0x00, 0x00, 0x01,
     0xe8, 0x47, 0x00, 0x24, 0x02, 0x00, 0x00, 0x01, 0x0a, 0x02, 0x00, 0x00, 0xff, 0xff, 0x00, 0x00,
     0x03, 0x00, 0x00, 0x05,
 ];
 
 /// The router-LSAs of 1.1.1.1, 3.3.3.3 and 4.4.4.4 without their links to the network.
-const WITHOUT_NET_1: [u8; 60] = [
+const WITHOUT_NET_1: &[u8] = &[
     0x00, 0x01, 0x02, 0x01, 0x01, 0x01, 0x01, 0x01, 0x01, 0x01, 0x01, 0x01, 0x80, 0x00, 0x00, 0x01,
     0x10, 0xd7, 0x00, 0x3c, 0x00, 0x00, 0x00, 0x03, 0x02, 0x02, 0x02, 0x02, 0x0a, 0x00, 0x00, 0x01,
     0x01, 0x00, 0x00, 0x0a, 0x02, 0x02, 0x02, 0x02, 0x0a, 0x00, 0x01, 0x01, 0x01, 0x00, 0x00, 0x0a,
@@ -95,46 +95,46 @@ const WITHOUT_NET_1: [u8; 60] = [
 ];
 
 /// See `WITHOUT_NET_1`.
-const WITHOUT_NET_3: [u8; 36] = [
+const WITHOUT_NET_3: &[u8] = &[
     0x00, 0x01, 0x02, 0x01, 0x03, 0x03, 0x03, 0x03, 0x03, 0x03, 0x03, 0x03, 0x80, 0x00, 0x00, 0x01,
     0x56, 0xd6, 0x00, 0x24, 0x00, 0x00, 0x00, 0x01, 0x0a, 0x03, 0x00, 0x00, 0xff, 0xff, 0x00, 0x00,
     0x03, 0x00, 0x00, 0x01,
 ];
 
 /// See `WITHOUT_NET_1`.
-const WITHOUT_NET_4: [u8; 36] = [
+const WITHOUT_NET_4: &[u8] = &[
     0x0e, 0x10, 0x02, 0x01, 0x04, 0x04, 0x04, 0x04, 0x04, 0x04, 0x04, 0x04, 0x80, 0x00, 0x00, 0x01,
     0x38, 0xe7, 0x00, 0x24, 0x00, 0x00, 0x00, 0x01, 0x0a, 0x05, 0x00, 0x03, 0xff, 0xff, 0xff, 0xff,
     0x03, 0x00, 0x00, 0x01,
 ];
 
 /// The first summary-LSA of 2.2.2.2 with the metric LSInfinity.
-const UNREACHABLE: [u8; 28] = [
+const UNREACHABLE: &[u8] = &[
     0x00, 0x01, 0x02, 0x03, 0x0a, 0x14, 0x00, 0x00, 0x02, 0x02, 0x02, 0x02, 0x80, 0x00, 0x00, 0x01,
     0xbb, 0x7b, 0x00, 0x1c, 0xff, 0xff, 0x00, 0x00, 0x00, 0xff, 0xff, 0xff,
 ];
 
 /// The router-LSA of 1.1.1.1 in the sample with a stub link to 10.7.0.0/16 of cost 0.
-const WITH_STUB: [u8; 48] = [
+const WITH_STUB: &[u8] = &[
     0x00, 0x01, 0x02, 0x01, 0x01, 0x01, 0x01, 0x01, 0x01, 0x01, 0x01, 0x01, 0x80, 0x00, 0x00, 0x01,
     0x90, 0x7e, 0x00, 0x30, 0x00, 0x00, 0x00, 0x02, 0x02, 0x02, 0x02, 0x02, 0x0a, 0x00, 0x00, 0x01,
     0x01, 0x00, 0x00, 0x0a, 0x0a, 0x07, 0x00, 0x00, 0xff, 0xff, 0x00, 0x00, 0x03, 0x00, 0x00, 0x00,
 ];
 
 /// A new summary-LSA of 2.2.2.2 for 10.8.0.0/16, of metric 7.
-const NEW_SUMMARY: [u8; 28] = [
+const NEW_SUMMARY: &[u8] = &[
     0x00, 0x01, 0x02, 0x03, 0x0a, 0x08, 0x00, 0x00, 0x02, 0x02, 0x02, 0x02, 0x80, 0x00, 0x00, 0x01,
     0x92, 0xa9, 0x00, 0x1c, 0xff, 0xff, 0x00, 0x00, 0x00, 0x00, 0x00, 0x07,
 ];
 
 /// The same in a stub area.
-const NEW_STUB_SUMMARY: [u8; 28] = [
+const NEW_STUB_SUMMARY: &[u8] = &[
     0x00, 0x01, 0x00, 0x03, 0x0a, 0x08, 0x00, 0x00, 0x02, 0x02, 0x02, 0x02, 0x80, 0x00, 0x00, 0x01,
     0xb0, 0x8d, 0x00, 0x1c, 0xff, 0xff, 0x00, 0x00, 0x00, 0x00, 0x00, 0x07,
 ];
 
 /// A new AS-external-LSA of 2.2.2.2 for 10.9.0.0/16, of type 2 and metric 20.
-const NEW_EXTERNAL: [u8; 36] = [
+const NEW_EXTERNAL: &[u8] = &[
     0x00, 0x01, 0x02, 0x05, 0x0a, 0x09, 0x00, 0x00, 0x02, 0x02, 0x02, 0x02, 0x80, 0x00, 0x00, 0x01,
     0x80, 0x23, 0x00, 0x24, 0xff, 0xff, 0x00, 0x00, 0x80, 0x00, 0x00, 0x14, 0x00, 0x00, 0x00, 0x00,
     0x00, 0x00, 0x00, 0x00,
@@ -213,7 +213,7 @@ fn leads_to(
     backbone: &[&[u8]],
     external: &[&[u8]],
 ) -> Result<(), Fail> {
-    let mut database = Database::load(rt.alloc(), &NETS)?;
+    let mut database = Database::load(rt.alloc(), NETS)?;
     let mut entry = apply(&mut database, &edit)?;
     assert_eq!(rt; entry.edit(), edit);
     assert_eq!(rt; entry.len(), changed);
@@ -228,7 +228,7 @@ fn leads_to(
     let edited = database.dump()?;
     database.known();
     revert(&mut database, &mut entry);
-    assert_eq!(rt; database.dump()?.as_slice(), NETS.as_slice());
+    assert_eq!(rt; database.dump()?.as_slice(), NETS);
     inverses();
     replay(&mut database, &mut entry);
     assert_eq!(rt; database.dump()?.as_slice(), edited.as_slice());
@@ -244,14 +244,14 @@ fn links_go(rt: HostRuntime) -> Result<(), Fail> {
         router: SECOND,
         link: 1,
     };
-    let left = [first, net, &WITHOUT_LINK, third, near, far, fourth];
+    let left = [first, net, WITHOUT_LINK, third, near, far, fourth];
     leads_to(&rt, dropped, 1, &left, &external_lsas())?;
     let failed = Edit::FailLink {
         area,
         router: SECOND,
         neighbor: FIRST,
     };
-    let left = [&WITHOUT_2, net, &WITHOUT_1, third, near, far, fourth];
+    let left = [WITHOUT_2, net, WITHOUT_1, third, near, far, fourth];
     leads_to(&rt, failed, 2, &left, &external_lsas())
 }
 
@@ -263,12 +263,12 @@ fn a_network_goes(rt: HostRuntime) -> Result<(), Fail> {
     };
     let [_, _, second, _, near, far, _] = areas_lsas();
     let left = [
-        &WITHOUT_NET_1,
+        WITHOUT_NET_1,
         second,
-        &WITHOUT_NET_3,
+        WITHOUT_NET_3,
         near,
         far,
-        &WITHOUT_NET_4,
+        WITHOUT_NET_4,
     ];
     leads_to(&rt, failed, 4, &left, &external_lsas())
 }
@@ -279,7 +279,7 @@ fn a_router_goes(rt: HostRuntime) -> Result<(), Fail> {
     let [first, net, _, third, _, _, fourth] = areas_lsas();
     let [_, _, last] = external_lsas();
     leads_to(&rt, failed, 6, &[first, net, third, fourth], &[last])?;
-    let mut database = Database::load(rt.alloc(), &NETS)?;
+    let mut database = Database::load(rt.alloc(), NETS)?;
     let entry = apply(&mut database, &failed)?;
     assert_eq!(rt; database.count(STUB_AREA), 0);
     assert!(rt; entry.touches(AreaId(0)) && entry.touches(AreaId(1)));
@@ -296,9 +296,9 @@ fn the_first_summary_has_another_metric(rt: HostRuntime) -> Result<(), Fail> {
         metric: metric(16_777_215)?,
     };
     let [first, net, second, third, _, far, fourth] = areas_lsas();
-    let left = [first, net, second, third, &UNREACHABLE, far, fourth];
+    let left = [first, net, second, third, UNREACHABLE, far, fourth];
     leads_to(&rt, unreachable, 1, &left, &external_lsas())?;
-    let mut database = Database::load(rt.alloc(), &NETS)?;
+    let mut database = Database::load(rt.alloc(), NETS)?;
     let entry = apply(&mut database, &unreachable)?;
     assert!(rt; !entry.touches(area));
     Ok(())
@@ -329,7 +329,7 @@ fn external_routes_go_and_come(rt: HostRuntime) -> Result<(), Fail> {
     };
     let [first, second, third] = external_lsas();
     leads_to(&rt, dropped, 1, &areas_lsas(), &[first, third])?;
-    let added = [first, second, third, NEW_EXTERNAL.as_slice()];
+    let added = [first, second, third, NEW_EXTERNAL];
     leads_to(&rt, new_external(0x0a090000)?, 1, &areas_lsas(), &added)?;
     Ok(())
 }
@@ -353,12 +353,12 @@ fn new_summary(area: AreaId, address: u32) -> Result<Edit, Fail> {
 fn new_summaries_by_area(rt: HostRuntime) -> Result<(), Fail> {
     let [first, net, second, third, near, far, fourth] = areas_lsas();
     let in_backbone = new_summary(AreaId(0), 0x0a080000)?;
-    let added = [first, net, second, third, near, far, fourth, &NEW_SUMMARY];
+    let added = [first, net, second, third, near, far, fourth, NEW_SUMMARY];
     leads_to(&rt, in_backbone, 1, &added, &external_lsas())?;
-    let mut database = Database::load(rt.alloc(), &NETS)?;
+    let mut database = Database::load(rt.alloc(), NETS)?;
     let entry = apply(&mut database, &new_summary(AreaId(1), 0x0a080000)?)?;
     assert!(rt; !entry.touches(AreaId(1)));
-    assert!(rt; has_lsas(&database, STUB_AREA, &[part(340, 376), &NEW_STUB_SUMMARY]));
+    assert!(rt; has_lsas(&database, STUB_AREA, &[part(340, 376), NEW_STUB_SUMMARY]));
     Ok(())
 }
 
@@ -379,17 +379,17 @@ fn new_stub(address: u32) -> Edit {
 
 #[test]
 fn a_stub_link_stands_last(rt: HostRuntime) -> Result<(), Fail> {
-    let mut database = Database::load(rt.alloc(), &SAMPLE)?;
+    let mut database = Database::load(rt.alloc(), SAMPLE)?;
     let mut entry = apply(&mut database, &new_stub(0x0a070000))?;
     assert!(rt;
         has_lsas(
             &database,
             BACKBONE,
-            &[&WITH_STUB, SAMPLE.get(49..97).ok_or("an LSA")?]
+            &[WITH_STUB, SAMPLE.get(49..97).ok_or("an LSA")?]
         )
     );
     database.known();
     revert(&mut database, &mut entry);
-    assert_eq!(rt; database.dump()?.as_slice(), SAMPLE.as_slice());
+    assert_eq!(rt; database.dump()?.as_slice(), SAMPLE);
     Ok(())
 }

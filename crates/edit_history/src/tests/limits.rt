@@ -9,24 +9,24 @@ use std::alloc::Global;
 const THIRD: RouterId = RouterId(0x03030303);
 
 /// The front of the router-LSA of 3.3.3.3 with 5,459 links: 65,532 octets.
-const MANY_LINKS: [u8; 24] = [
+const MANY_LINKS: &[u8] = &[
     0x00, 0x01, 0x02, 0x01, 0x03, 0x03, 0x03, 0x03, 0x03, 0x03, 0x03, 0x03, 0x80, 0x00, 0x00, 0x01,
     0x70, 0x65, 0xff, 0xfc, 0x00, 0x00, 0x15, 0x53,
 ];
 
 /// Each of its links: to the stub network 10.7.0.0/16, of cost 0.
-const STUB_LINK: [u8; 12] = [
+const STUB_LINK: &[u8] = &[
     0x0a, 0x07, 0x00, 0x00, 0xff, 0xff, 0x00, 0x00, 0x03, 0x00, 0x00, 0x00,
 ];
 
 /// The header of an opaque LSA of AS scope with 64 octets of zeros behind it.
-const LAST_OF_84: [u8; 20] = [
+const LAST_OF_84: &[u8] = &[
     0x00, 0x01, 0x02, 0x0b, 0x02, 0x00, 0x00, 0x00, 0x02, 0x02, 0x02, 0x02, 0x80, 0x00, 0x00, 0x01,
     0x15, 0xfd, 0x00, 0x54,
 ];
 
 /// The same with 65 octets of zeros.
-const LAST_OF_85: [u8; 20] = [
+const LAST_OF_85: &[u8] = &[
     0x00, 0x01, 0x02, 0x0b, 0x02, 0x00, 0x00, 0x00, 0x02, 0x02, 0x02, 0x02, 0x80, 0x00, 0x00, 0x01,
     0x17, 0xfa, 0x00, 0x55,
 ];
@@ -56,9 +56,9 @@ fn long_dump(alloc: Global, last: &[u8], octets: usize) -> Result<Vec<u8>, Fail>
     let mut dump = Vec::with_capacity(alloc, 16_777_216)?;
     dump.extend_from_slice(SAMPLE.get(..97).ok_or("the area")?)?;
     *dump.get_mut(12).ok_or("the count")? = 3;
-    dump.extend_from_slice(&MANY_LINKS)?;
+    dump.extend_from_slice(MANY_LINKS)?;
     for _ in 0..5459 {
-        dump.extend_from_slice(&STUB_LINK)?;
+        dump.extend_from_slice(STUB_LINK)?;
     }
     dump.extend_from_slice(&[1, 0])?;
     add_longest(&mut dump, &zeros)?;
@@ -100,7 +100,7 @@ fn fills(
 
 #[test]
 fn a_dump_may_have_16777216_octets(rt: HostRuntime) -> Result<(), Fail> {
-    let dump = long_dump(rt.alloc(), &LAST_OF_84, 64)?;
+    let dump = long_dump(rt.alloc(), LAST_OF_84, 64)?;
     assert_eq!(rt; dump.len(), 16_777_140);
     let [stub, summary, external] = growing_edits()?;
     fills(&rt, &dump, &stub, &summary, &external)?;
@@ -130,7 +130,7 @@ fn overfills(
 
 #[test]
 fn a_dump_has_no_more_octets(rt: HostRuntime) -> Result<(), Fail> {
-    let dump = long_dump(rt.alloc(), &LAST_OF_85, 65)?;
+    let dump = long_dump(rt.alloc(), LAST_OF_85, 65)?;
     assert_eq!(rt; dump.len(), 16_777_141);
     let [stub, summary, external] = growing_edits()?;
     overfills(&rt, &dump, &stub, &summary, &external)?;
@@ -151,7 +151,7 @@ fn is_refused<A: Allocator + Copy>(
 #[test]
 fn refusals_of_an_edit_come_before_a_full_dump(rt: HostRuntime) -> Result<(), Fail> {
     let area = AreaId(0);
-    let dump = long_dump(rt.alloc(), &LAST_OF_84, 64)?;
+    let dump = long_dump(rt.alloc(), LAST_OF_84, 64)?;
     let mut database = Database::load(rt.alloc(), &dump)?;
     let [stub, summary, external] = growing_edits()?;
     apply(&mut database, &stub)?;
@@ -184,7 +184,7 @@ fn refusals_of_an_edit_come_before_a_full_dump(rt: HostRuntime) -> Result<(), Fa
 
 #[test]
 fn a_router_lsa_has_at_most_5459_links(rt: HostRuntime) -> Result<(), Fail> {
-    let mut database = Database::load(rt.alloc(), &SAMPLE)?;
+    let mut database = Database::load(rt.alloc(), SAMPLE)?;
     for n in 0..5458u32 {
         apply(&mut database, &new_stub(n * 0x1_0000))?;
     }

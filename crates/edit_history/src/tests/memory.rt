@@ -11,7 +11,7 @@ use rationed::Rationed;
 
 /// The router-LSA of 1.1.1.1 in `NETS` after the ten edits: its stub link of cost 7, and the new
 /// one.
-const EDITED_FIRST: [u8; 48] = [
+const EDITED_FIRST: &[u8] = &[
     0x00, 0x01, 0x02, 0x01, 0x01, 0x01, 0x01, 0x01, 0x01, 0x01, 0x01, 0x01, 0x80, 0x00, 0x00, 0x01,
     0x06, 0x12, 0x00, 0x30, 0x00, 0x00, 0x00, 0x02, 0x0a, 0x01, 0x00, 0x00, 0xff, 0xff, 0x00, 0x00,
     0x03, 0x00, 0x00, 0x07, 0x0a, 0x07, 0x00, 0x00, 0xff, 0xff, 0x00, 0x00, 0x03, 0x00, 0x00, 0x00,
@@ -86,16 +86,16 @@ fn ten_edits() -> Result<[Edit; 10], Fail> {
 /// Whether a database has the LSAs of `NETS` after the ten edits.
 fn has_edited<A: Allocator + Copy>(database: &Database<A>) -> bool {
     let backbone: [&[u8]; 6] = [
-        &EDITED_FIRST,
-        &WITHOUT_1,
-        &UNREACHABLE,
+        EDITED_FIRST,
+        WITHOUT_1,
+        UNREACHABLE,
         part(257, 285),
-        &WITHOUT_NET_4,
-        &NEW_SUMMARY,
+        WITHOUT_NET_4,
+        NEW_SUMMARY,
     ];
     has_lsas(database, BACKBONE, &backbone)
         && has_lsas(database, STUB_AREA, &[part(340, 376)])
-        && has_lsas(database, Section::AsWide, &[part(378, 414), &NEW_EXTERNAL])
+        && has_lsas(database, Section::AsWide, &[part(378, 414), NEW_EXTERNAL])
 }
 
 /// Carries an edit out, and keeps its record.
@@ -165,9 +165,9 @@ fn on<A: Allocator + Copy>(
 fn undo_and_redo_take_no_memory(rt: HostRuntime) -> Result<(), Fail> {
     let edits = ten_edits()?;
     let counted = Rationed::new(rt.alloc(), u64::MAX);
-    let _ample = edited(&counted, &NETS, &edits)?;
+    let _ample = edited(&counted, NETS, &edits)?;
     let rationed = Rationed::new(rt.alloc(), u64::MAX - counted.left());
-    let (mut database, mut history) = edited(&rationed, &NETS, &edits)?;
+    let (mut database, mut history) = edited(&rationed, NETS, &edits)?;
     assert_eq!(rt; rationed.left(), 0);
     assert!(rt; has_edited(&database));
     assert_eq!(rt; back(&mut database, &mut history, 10), Ok(()));
@@ -204,10 +204,10 @@ fn has_same<A: Allocator + Copy, B: Allocator + Copy>(
 /// Takes an edit of `NETS` back and carries it out again, where no growth is left.
 fn goes_and_comes(rt: &(impl AllocGlobal + Abort), edit: &Edit) -> Result<(), Fail> {
     let counted = Rationed::new(rt.alloc(), u64::MAX);
-    let mut ample = Database::load(&counted, &NETS)?;
+    let mut ample = Database::load(&counted, NETS)?;
     apply(&mut ample, edit)?;
     let rationed = Rationed::new(rt.alloc(), u64::MAX - counted.left());
-    let mut database = Database::load(&rationed, &NETS)?;
+    let mut database = Database::load(&rationed, NETS)?;
     let mut entry = apply(&mut database, edit)?;
     assert_eq!(rt; rationed.left(), 0);
     database.known();
@@ -240,7 +240,7 @@ fn a_removed_lsa_comes_back_to_its_place(rt: HostRuntime) -> Result<(), Fail> {
         section: 2,
         index: 1,
     });
-    let (mut database, mut history) = edited(rt.alloc(), &NETS, &[])?;
+    let (mut database, mut history) = edited(rt.alloc(), NETS, &[])?;
     assert_eq!(rt; database.find(Section::AsWide, key), place);
     carry_out(&mut database, &mut history, &drop_external(0x0a5c0000))?;
     assert_eq!(rt; database.find(Section::AsWide, key), None);
@@ -252,7 +252,7 @@ fn a_removed_lsa_comes_back_to_its_place(rt: HostRuntime) -> Result<(), Fail> {
     assert_eq!(rt; database.find(Section::AsWide, key), last);
     assert_eq!(rt; history.undo(&mut database, 2), Ok(()));
     assert_eq!(rt; database.find(Section::AsWide, key), place);
-    assert_eq!(rt; database.dump()?.as_slice(), NETS.as_slice());
+    assert_eq!(rt; database.dump()?.as_slice(), NETS);
     Ok(())
 }
 
@@ -260,13 +260,13 @@ fn a_removed_lsa_comes_back_to_its_place(rt: HostRuntime) -> Result<(), Fail> {
 /// the edit asks for.
 fn refused_growths(rt: &(impl AllocGlobal + Abort), edit: Edit) -> Result<u64, Fail> {
     let counted = Rationed::new(rt.alloc(), u64::MAX);
-    let mut ample = Database::load(&counted, &NETS)?;
+    let mut ample = Database::load(&counted, NETS)?;
     let loaded = counted.left();
     apply(&mut ample, &edit)?;
     let growths = loaded.saturating_sub(counted.left());
     for left in 0..growths {
         let rationed = Rationed::new(rt.alloc(), (u64::MAX - loaded).saturating_add(left));
-        let mut database = Database::load(&rationed, &NETS)?;
+        let mut database = Database::load(&rationed, NETS)?;
         assert_eq!(rt;
             apply(&mut database, &edit).err(),
             Some(EditFault::OutOfMemory)

@@ -59,13 +59,13 @@ fn drop_external(router: RouterId, address: u32) -> Edit {
 /// Asks for edits that are refused, once with memory and once where no growth is left.
 fn are_refused(rt: &(impl AllocGlobal + Abort), cases: &[(Edit, EditFault)]) -> Result<(), Fail> {
     let counted = Rationed::new(rt.alloc(), u64::MAX);
-    let mut ample = Database::load(&counted, &NETS)?;
+    let mut ample = Database::load(&counted, NETS)?;
     let rationed = Rationed::new(rt.alloc(), u64::MAX - counted.left());
-    let mut poor = Database::load(&rationed, &NETS)?;
+    let mut poor = Database::load(&rationed, NETS)?;
     assert_eq!(rt; rationed.left(), 0);
     for (edit, fault) in cases {
         assert_eq!(rt; apply(&mut ample, edit).err(), Some(*fault), "{edit:?}");
-        assert_eq!(rt; ample.dump()?.as_slice(), NETS.as_slice());
+        assert_eq!(rt; ample.dump()?.as_slice(), NETS);
         assert_eq!(rt; apply(&mut poor, edit).err(), Some(*fault), "{edit:?}");
         assert!(rt; has_all(&poor), "{edit:?}");
     }
