@@ -1,5 +1,5 @@
-use Rattle.std.proofs.Common.{◌≡◌, ◌∙◌, sym, ap, rules, arith, length}
-use Rattle.lsdb.specs.Lists.{AreaHead, areas_of}
+use Rattle.std.proofs.Common.{◌∙◌, sym, ap, arith, length}
+use Rattle.lsdb.specs.Lists.{AreaHead}
 use Rattle.lsdb.specs.Places.{lists_of}
 use Rattle.recalculate.specs.Counting.{counted_by}
 use Rattle.recalculate.proofs.Counted.{more_results, same_results, more_counted, all_results, none_counted, room_for_more, at_most_more, at_most_all}
