@@ -84,9 +84,6 @@ none_counted old n none = ap (λ l. counted_by (length l) n) (sym none)
 
 -- ---- how many trees were counted, whatever came of them
 
-pub not_counted : (most n : ℕ) → CountsAtMost most n n
-not_counted most n = record { trees = zero; few = omega arith; counts = refl }
-
 pub one_counted : (old new : ℕ) → new ≡ counted old → CountsAtMost 1 old new
 one_counted old new is = record { trees = suc zero; few = omega arith; counts = is }
 

@@ -13,7 +13,6 @@ use Rattle.external_routes.specs.Attached.{attached_areas}
 use Rattle.external_routes.specs.External.{externals_of}
 use Rattle.recalculate.specs.declared.table.TableFault.{TableFault}
 use Rattle.recalculate.specs.declared.table.TableFault.TheVariants.{NoRouter, OutOfMemory}
-use Rattle.recalculate.specs.Counting.{counted_by}
 use Rattle.recalculate.specs.Preferring.{preferring}
 use Rattle.recalculate.specs.Tables.{TableValue, results_in, routes_from, table_by, table_in, FaultMeans}
 use Rattle.recalculate.proofs.Counted.{joins}
@@ -95,15 +94,6 @@ empty_list (x ∷ xs) h = absurd (omega (arith, h))
 
 pub full_list : {X : Type 0} (xs : List X) → (length xs ≡ 0 → ⊥) → xs ≡ [] → ⊥
 full_list xs some none = some (ap length none)
-
--- ---- where no tree is counted
-
-pub none_counted : {X : Type 0} (xs : List X) (old new : ℕ) → length xs ≡ 0 → new ≡ counted_by (length xs) old → new ≡ old
-none_counted xs old new none is = is ∙ ap (λ k. counted_by k old) none
-
--- want of memory is not the other fault
-pub other_fault : {X P : Type 0} (r : Result X TableFault) (fault : TableFault) → r ≡ Err fault → fault ≡ OutOfMemory → r ≡ Err NoRouter → P
-other_fault r fault gave memory none = absurd cc
 
 -- what holds anyhow holds of an error
 pub on_err : {T E P : Type 0} (r : Result T E) → P → OnErr r P

@@ -1,8 +1,5 @@
-use Rattle.recalculate.proofs.Counted.{not_counted, one_counted}
+use Rattle.recalculate.proofs.Counted.{one_counted}
 use Rattle.recalculate.proofs.results.result_in.Goals as goal
-
-pub returns-in_err-graph-clause-at_most : goal.returns-in_err-graph-clause-at_most
-returns-in_err-graph-clause-at_most g c = not_counted 1 c.args.meter.now
 
 pub returns-in_err-tree-clause-at_most : goal.returns-in_err-tree-clause-at_most
 returns-in_err-tree-clause-at_most g c = one_counted _ _ c.tree_of.ensures.meter

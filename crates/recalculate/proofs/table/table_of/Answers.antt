@@ -4,7 +4,7 @@ use Rattle.std.proofs.lemmas.Bool.{eqb-true, eq-eqb}
 use Rattle.std.proofs.lemmas.Result.{err_from_is_err_and}
 use Rattle.lsdb.specs.Places.{lists_of}
 use Rattle.recalculate.specs.Tables.{routes_from}
-use Rattle.recalculate.proofs.Tabled.{table_is, no_table, no_memory, none_counted, other_fault, some_results, empty_list, full_list}
+use Rattle.recalculate.proofs.Tabled.{table_is, no_table, no_memory, some_results, empty_list, full_list}
 use Rattle.recalculate.proofs.table.table_of.Goals as goal
 
 pub returns-in_err-results-clause-fault : goal.returns-in_err-results-clause-fault
@@ -29,19 +29,3 @@ returns-clause-table g c =
     table_is (lists_of c.args.database.now) c.args.router c.in_ok-results.results.items c.in_ok-routes.routes.items c.in_ok-results.ensures.results
     (full_list c.in_ok-results.results.items (λ none. true≢false (sym (eq-eqb (vec_len c.in_ok-results.results) 0 (omega (arith, c.in_ok-results.results.ok, none))) ∙ (sym c.is_empty.ensures ∙ c.if-is_empty.false))))
     (c.in_ok-routes.ensures.routes ∙ ap (routes_from (lists_of c.args.database.now) c.args.router) c.deref.ensures.value)
-
-pub returns-in_err-results-clause-no_router : goal.returns-in_err-results-clause-no_router
-returns-in_err-results-clause-no_router g c = λ none.
-    let gave = err_from_is_err_and c.from_residual.result c.from_residual.ensures.1 in
-    other_fault c.from_residual.result gave.0 gave.1 gave.2 none
-
-pub returns-then-is_empty-clause-no_router : goal.returns-then-is_empty-clause-no_router
-returns-then-is_empty-clause-no_router g c = λ _.
-    none_counted c.in_ok-results.results.items c.args.meter.now c.results_of.new.meter
-    (omega (arith, c.in_ok-results.results.ok, eqb-true (vec_len c.in_ok-results.results) 0 (sym c.is_empty.ensures ∙ c.if-is_empty.true)))
-    c.in_ok-results.ensures.meter
-
-pub returns-in_err-routes-clause-no_router : goal.returns-in_err-routes-clause-no_router
-returns-in_err-routes-clause-no_router g c = λ none.
-    let gave = err_from_is_err_and c.from_residual-in_err-routes.result c.from_residual-in_err-routes.ensures.1 in
-    other_fault c.from_residual-in_err-routes.result gave.0 gave.1 gave.2 none
