@@ -1,9 +1,11 @@
 -- The sessions of branches when one of them goes on.
-use Rattle.std.proofs.Common.{◌≡◌, ℕ, List, Bool, true, false, eqb, cond, Option, None, Some, Result, Ok, Err, refl, sym, ap, subst, ◌∙◌, zero, suc, length, ltb}
+use Rattle.std.proofs.Common.{◌≡◌, ℕ, List, [], ◌∷◌, Bool, true, false, eqb, cond, Option, None, Some, Result, Ok, Err, refl, sym, ap, subst, ◌∙◌, zero, suc, length, ltb}
 use Rattle.std.specs.Prelude.{nat_le, IfSome, IsSome}
 use Rattle.std.specs.Map.{lookup, set_value}
 use Rattle.std.specs.BTreeMap.{BTreeMap, Updates, WritesThrough, is_at}
 use Rattle.std.specs.Cmp.{unsigned_tied}
+use Rattle.std.specs.Option.{option_map}
+use Rattle.std.proofs.lemmas.Map.Made.{lookup-map_values}
 use Rattle.std.proofs.lemmas.Map.Steps.{set_value_same}
 use Rattle.std.specs.Ordering.{nat_cmp, eq_by_cmp}
 use Rattle.std.specs.Result.{OnOk, OnErr}
@@ -16,8 +18,9 @@ use Rattle.edit_script.specs.declared.command.Command.TheVariants as command
 use Rattle.edit_history.specs.declared.fault.EditFault.{EditFault}
 use Rattle.edit_history.specs.declared.fault.EditFault.TheVariants.{HistoryFull}
 use Rattle.edit_history.specs.Effect.{effect}
-use Rattle.edit_history.specs.Session.{Session, edited, accepted, state, most_edits, moved_back, moved_on}
-use Rattle.ospf_plan.specs.Branches.{Named, Sessions, sessions_of, in_branch, session_or_begin, HaveOneBase}
+use Rattle.edit_history.specs.Session.{Session, edited, accepted, start, state, most_edits, moved_back, moved_on}
+use Rattle.recalculate.specs.Planning.{PlannerValue}
+use Rattle.ospf_plan.specs.Branches.{Named, Sessions, sessions_by, sessions_of, named_by, is_named, in_branch, session_or_begin, HaveOneBase}
 use Rattle.ospf_plan.specs.Replies.{after, unless_refused}
 
 -- ---- a command leaves the base
@@ -108,34 +111,77 @@ pub one_base : (named : Named) (new : List (ℕ × Session)) (branch : ℕ) (t :
     → HaveOneBase (record { first = named.first; others = new })
 one_base named new branch t is went one other = base_at named new branch t is went one other (eqb branch other) refl
 
+-- ---- planners in a map, by their sessions
+
+abbrev its_session : PlannerValue → Session
+its_session p = p.session
+
+-- the planner of a number
+abbrev pub planner_at : List (ℕ × PlannerValue) → ℕ → Option PlannerValue
+planner_at ps branch = lookup (eq_by_cmp nat_cmp branch) ps
+
+pub shown : (ps : List (ℕ × PlannerValue)) (branch : ℕ) → found (sessions_by ps) branch ≡ option_map its_session (planner_at ps branch)
+shown ps branch = lookup-map_values its_session (eq_by_cmp nat_cmp branch) ps
+
+pub shown_some : (ps : List (ℕ × PlannerValue)) (branch : ℕ) (p : PlannerValue) → Some p ≡ planner_at ps branch → Some p.session ≡ found (sessions_by ps) branch
+shown_some ps branch p was = ap (option_map its_session) was ∙ sym (shown ps branch)
+
 -- the map after an insertion, or after a branch in it went on
-pub inserted : (old new : BTreeMap ℕ Session) (branch : ℕ) (t : Session) → Updates nat_cmp old new branch (Some t) → GoesOn old.entries new.entries branch t
-inserted old new branch t updates = record {
-  at = updates.1;
-  others = λ other e. updates.2 other (unsigned_tied branch other ∙ e);
+pub inserted : (old new : BTreeMap ℕ PlannerValue) (branch : ℕ) (p : PlannerValue) → Updates nat_cmp old new branch (Some p)
+    → GoesOn (sessions_by old.entries) (sessions_by new.entries) branch p.session
+inserted old new branch p updates = record {
+  at = shown new.entries branch ∙ ap (option_map its_session) updates.1;
+  others = λ other e. shown new.entries other ∙ ap (option_map its_session) (updates.2 other (unsigned_tied branch other ∙ e)) ∙ sym (shown old.entries other);
 }
 
-pub written : (old new : BTreeMap ℕ Session) (branch : ℕ) (s t : Session) → Some s ≡ found old.entries branch → WritesThrough nat_cmp (nat_cmp branch) old t new → GoesOn old.entries new.entries branch t
-written old new branch s t was writes = inserted old new branch t (writes.3 (subst (λ o. IsSome o) was refl))
+pub written : (old new : BTreeMap ℕ PlannerValue) (branch : ℕ) (p q : PlannerValue) → Some p ≡ planner_at old.entries branch → WritesThrough nat_cmp (nat_cmp branch) old q new
+    → GoesOn (sessions_by old.entries) (sessions_by new.entries) branch q.session
+written old new branch p q was writes = inserted old new branch q (writes.3 (subst (λ o. IsSome o) was refl))
 
--- the session of a branch other than 0 that was named
-pub session_at : (named : Named) (branch : ℕ) (s : Session) → eqb branch 0 ≡ false → Some s ≡ found named.others branch → sessions_of named branch ≡ s
-session_at named branch s behind was = rw (behind, sym was) refl
+-- it is named then
+pub now_named : (first : Session) (old new : List (ℕ × Session)) (branch : ℕ) (t : Session) → eqb branch 0 ≡ false → GoesOn old new branch t → is_named (the_named first new) branch ≡ true
+now_named first old new branch t behind went = rw (behind, went.at) refl
+
+-- the session of another branch than 0, where there is a planner for it and where there is none
+pub session_of_named : (first : PlannerValue) (ps : List (ℕ × PlannerValue)) (branch : ℕ) (p : PlannerValue) → eqb branch 0 ≡ false → Some p ≡ planner_at ps branch
+    → sessions_of (named_by first ps) branch ≡ p.session
+session_of_named first ps branch p behind was = rw (behind, shown ps branch, sym was) refl
+
+pub session_of_unnamed : (first : PlannerValue) (ps : List (ℕ × PlannerValue)) (branch : ℕ) → eqb branch 0 ≡ false → None ≡ planner_at ps branch
+    → sessions_of (named_by first ps) branch ≡ start first.session.base
+session_of_unnamed first ps branch behind none = rw (behind, shown ps branch, sym none) refl
+
+pub not_named : (first : PlannerValue) (ps : List (ℕ × PlannerValue)) (branch : ℕ) → eqb branch 0 ≡ false → None ≡ planner_at ps branch → is_named (named_by first ps) branch ≡ false
+not_named first ps branch behind none = rw (behind, shown ps branch, sym none) refl
 
 pub base_of : (named : Named) (branch : ℕ) (s : Session) → Some s ≡ found named.others branch → HaveOneBase named → s.base ≡ named.first.base
 base_of named branch s was one = subst (λ o. IfSome o (λ (x : Session). x.base ≡ named.first.base)) (sym was) (one branch)
 
-pub written_on : (named : Named) (new : BTreeMap ℕ Session) (old : BTreeMap ℕ Session) (branch : ℕ) (s t : Session) (c : Command) → named.others ≡ old.entries → eqb branch 0 ≡ false
-    → Some s ≡ found old.entries branch → WritesThrough nat_cmp (nat_cmp branch) old t new → t ≡ after s c
-    → sessions_of (record { first = named.first; others = new.entries }) ≡ in_branch branch (after (sessions_of named branch) c) (sessions_of named)
-written_on named new old branch s t c same behind was writes is =
-    other_goes_on named new.entries branch t behind (rw same (written old new branch s t was writes))
-    ∙ ap (λ (u : Session). in_branch branch u (sessions_of named)) (is ∙ ap (λ (u : Session). after u c) (sym (session_at named branch s behind (was ∙ ap (λ es. found es branch) (sym same)))))
+pub written_on : (first : PlannerValue) (old new : BTreeMap ℕ PlannerValue) (branch : ℕ) (p q : PlannerValue) (c : Command) → eqb branch 0 ≡ false
+    → Some p ≡ planner_at old.entries branch → WritesThrough nat_cmp (nat_cmp branch) old q new → q.session ≡ after p.session c
+    → sessions_of (named_by first new.entries) ≡ in_branch branch (after (sessions_of (named_by first old.entries) branch) c) (sessions_of (named_by first old.entries))
+written_on first old new branch p q c behind was writes is =
+    let named : Named = named_by first old.entries in
+    other_goes_on named (sessions_by new.entries) branch q.session behind (written old new branch p q was writes)
+    ∙ ap (λ (u : Session). in_branch branch u (sessions_of named))
+    (is ∙ ap (λ (u : Session). after u c) (sym (session_of_named first old.entries branch p behind was)))
 
--- a value that was written back
-pub written_same : (old new : BTreeMap ℕ Session) (branch : ℕ) (s t : Session) → Some s ≡ found old.entries branch → WritesThrough nat_cmp (nat_cmp branch) old t new → t ≡ s → new.entries ≡ old.entries
-written_same old new branch s t was writes same =
-    writes.0 ∙ ap (set_value (is_at (nat_cmp branch)) old.entries) same ∙ set_value_same (is_at (nat_cmp branch)) old.entries s (sym was)
+-- a planner that was written back with its session
+set_at : (k : ℕ) (v q : PlannerValue) (ps : List (ℕ × PlannerValue)) (news : List (ℕ × PlannerValue)) (sets : List (ℕ × Session)) (here : Bool) → sessions_by news ≡ sets
+    → sessions_by (cond here ((k, q) ∷ ps) ((k, v) ∷ news)) ≡ cond here ((k, q.session) ∷ sessions_by ps) ((k, v.session) ∷ sets)
+set_at k v q ps news sets true rest = refl
+set_at k v q ps news sets false rest = ap (λ (l : List (ℕ × Session)). (k, v.session) ∷ l) rest
+
+sessions_by-set_value : (test : ℕ → Bool) (ps : List (ℕ × PlannerValue)) (q : PlannerValue) → sessions_by (set_value test ps q) ≡ set_value test (sessions_by ps) q.session
+sessions_by-set_value test [] q = refl
+sessions_by-set_value test (p ∷ ps) q = set_at p.0 p.1 q ps (set_value test ps q) (set_value test (sessions_by ps) q.session) (test p.0) (sessions_by-set_value test ps q)
+
+pub written_same : (old new : BTreeMap ℕ PlannerValue) (branch : ℕ) (p q : PlannerValue) → Some p ≡ planner_at old.entries branch → WritesThrough nat_cmp (nat_cmp branch) old q new → q.session ≡ p.session
+    → sessions_by new.entries ≡ sessions_by old.entries
+written_same old new branch p q was writes same =
+    ap sessions_by writes.0 ∙ sessions_by-set_value (is_at (nat_cmp branch)) old.entries q
+    ∙ ap (set_value (is_at (nat_cmp branch)) (sessions_by old.entries)) same
+    ∙ set_value_same (is_at (nat_cmp branch)) (sessions_by old.entries) p.session (sym (shown_some old.entries branch p was))
 
 -- what follows from what holds of a success, or of an error
 pub on_ok : {T E P Q : Type 0} (r : Result T E) → (P → Q) → OnOk r P → OnOk r Q

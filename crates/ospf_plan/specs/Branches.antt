@@ -1,9 +1,10 @@
 -- The branches of a run: studies that begin at the loaded database, each with a session of its own.
-use Rattle.std.specs.Prelude.{◌≡◌, ℕ, ◌==◌, ◌||◌, if◌then◌else◌, Bool, is_some, IfSome, List, Option, None, Some}
+use Rattle.std.specs.Prelude.{◌≡◌, ℕ, ◌==◌, ◌||◌, if◌then◌else◌, Bool, is_some, IfSome, List, map, Option, None, Some}
 use Rattle.std.specs.Map.{lookup}
 use Rattle.std.specs.Ordering.{nat_cmp, eq_by_cmp}
 use Rattle.lsdb.specs.Lists.{Lists}
 use Rattle.edit_history.specs.Session.{Session, start}
+use Rattle.recalculate.specs.Planning.{PlannerValue}
 
 -- the session of each branch, by the branch's number
 abbrev pub Sessions : Type 0
@@ -17,11 +18,18 @@ all_begin base = λ branch. start base
 abbrev pub in_branch : ℕ → Session → Sessions → Sessions
 in_branch branch s all = λ other. if branch == other then s else all other
 
--- ---- the branches that were named so far: branch 0, and others by their numbers
+-- ---- the sessions of the branches that were named so far: branch 0, and others by their numbers
 
 pub record Named : Type 0 where
   pub first : Session
   pub others : List (ℕ × Session)
+
+-- those of planners
+abbrev pub sessions_by : List (ℕ × PlannerValue) → List (ℕ × Session)
+sessions_by planners = map (λ p. (p.0, p.1.session)) planners
+
+abbrev pub named_by : PlannerValue → List (ℕ × PlannerValue) → Named
+named_by first others = record { first = first.session; others = sessions_by others }
 
 abbrev pub is_named : Named → ℕ → Bool
 is_named named branch = (branch == 0) || is_some (lookup (eq_by_cmp nat_cmp branch) named.others)

@@ -21,10 +21,10 @@ pub(crate) fn carry_out<A: Allocator + Copy>(
     planner: &mut Planner<A>,
     command: &Command,
 ) -> Result<Reply<A>, AllocError>
-    ensures reply { IfOk result (λ reply. said_by reply ≡ reply_to planner.old command.now) }
-    ensures session { OnOk result (planner.new ≡ after planner.old command.now) }
-    ensures base { planner.new.base ≡ planner.old.base }
-    ensures kept { OnErr result (planner.new ≡ planner.old) }
+    ensures reply { IfOk result (λ reply. said_by reply ≡ reply_to planner.old.session command.now) }
+    ensures session { OnOk result (planner.new.session ≡ after planner.old.session command.now) }
+    ensures base { planner.new.session.base ≡ planner.old.session.base }
+    ensures kept { OnErr result (planner.new.session ≡ planner.old.session) }
     ensures memory { takes_memory command.now ≡ false → IsOk result }
 {
     match *command {
@@ -49,10 +49,10 @@ fn carry_out_edit<A: Allocator + Copy>(
     planner: &mut Planner<A>,
     edit: &Edit,
 ) -> Result<Reply<A>, AllocError>
-    ensures reply { IfOk result (λ reply. said_by reply ≡ edit_reply (edited planner.old edit.now)) }
-    ensures session { OnOk result (planner.new ≡ unless_refused planner.old (edited planner.old edit.now)) }
-    ensures base { planner.new.base ≡ planner.old.base }
-    ensures kept { OnErr result (planner.new ≡ planner.old) }
+    ensures reply { IfOk result (λ reply. said_by reply ≡ edit_reply (edited planner.old.session edit.now)) }
+    ensures session { OnOk result (planner.new.session ≡ unless_refused planner.old.session (edited planner.old.session edit.now)) }
+    ensures base { planner.new.session.base ≡ planner.old.session.base }
+    ensures kept { OnErr result (planner.new.session ≡ planner.old.session) }
 {
     match planner.edit(edit) {
         Ok(()) => Ok(Reply::Done),
@@ -66,8 +66,8 @@ fn table_now<A: Allocator + Copy>(
     planner: &mut Planner<A>,
     router: RouterId,
 ) -> Result<Option<Table<A>>, AllocError>
-    ensures table { IfOk result (λ table. table ≡ table_in (state planner.old) router) }
-    ensures kept { planner.new ≡ planner.old }
+    ensures table { IfOk result (λ table. table ≡ table_in (state planner.old.session) router) }
+    ensures kept { planner.new.session ≡ planner.old.session }
 {
     match planner.table(router) {
         Ok(table) => Ok(Some(table)),
@@ -81,8 +81,8 @@ fn table_before<A: Allocator + Copy>(
     planner: &mut Planner<A>,
     router: RouterId,
 ) -> Result<Option<Table<A>>, AllocError>
-    ensures table { IfOk result (λ table. table ≡ table_in planner.old.base router) }
-    ensures kept { planner.new ≡ planner.old }
+    ensures table { IfOk result (λ table. table ≡ table_in planner.old.session.base router) }
+    ensures kept { planner.new.session ≡ planner.old.session }
 {
     match planner.base_table(router) {
         Ok(table) => Ok(Some(table)),
@@ -99,8 +99,8 @@ fn table<A: Allocator + Copy>(
     planner: &mut Planner<A>,
     router: RouterId,
 ) -> Result<Reply<A>, AllocError>
-    ensures reply { IfOk result (λ reply. said_by reply ≡ table_reply (table_in (state planner.old) router)) }
-    ensures kept { planner.new ≡ planner.old }
+    ensures reply { IfOk result (λ reply. said_by reply ≡ table_reply (table_in (state planner.old.session) router)) }
+    ensures kept { planner.new.session ≡ planner.old.session }
 {
     Ok(match table_now(planner, router)? {
         Some(table) => Reply::Table(table),
@@ -110,8 +110,8 @@ fn table<A: Allocator + Copy>(
 
 /// The reply to `tables`.
 fn tables<A: Allocator + Copy>(alloc: A, planner: &mut Planner<A>) -> Result<Reply<A>, AllocError>
-    ensures reply { IfOk result (λ reply. said_by reply ≡ tables (filter_map (table_in (state planner.old)) (attached_routers (state planner.old)))) }
-    ensures kept { planner.new ≡ planner.old }
+    ensures reply { IfOk result (λ reply. said_by reply ≡ tables (filter_map (table_in (state planner.old.session)) (attached_routers (state planner.old.session)))) }
+    ensures kept { planner.new.session ≡ planner.old.session }
 {
     let routers = planner.routers()?;
     let tables = tables_of(alloc, planner, &routers)?;
@@ -124,8 +124,8 @@ fn tables_of<A: Allocator + Copy>(
     planner: &mut Planner<A>,
     routers: &[RouterId],
 ) -> Result<Vec<Table<A>, A>, AllocError>
-    ensures tables { IfOk result (λ tables. tables.items ≡ filter_map (table_in (state planner.old)) routers.now) }
-    ensures kept { planner.new ≡ planner.old }
+    ensures tables { IfOk result (λ tables. tables.items ≡ filter_map (table_in (state planner.old.session)) routers.now) }
+    ensures kept { planner.new.session ≡ planner.old.session }
 {
     let mut tables = Vec::new(alloc);
     for router in routers {
@@ -153,8 +153,8 @@ fn compare<A: Allocator + Copy>(
     planner: &mut Planner<A>,
     router: RouterId,
 ) -> Result<Reply<A>, AllocError>
-    ensures reply { IfOk result (λ reply. said_by reply ≡ compare_reply router (table_in planner.old.base router) (table_in (state planner.old) router)) }
-    ensures kept { planner.new ≡ planner.old }
+    ensures reply { IfOk result (λ reply. said_by reply ≡ compare_reply router (table_in planner.old.session.base router) (table_in (state planner.old.session) router)) }
+    ensures kept { planner.new.session ≡ planner.old.session }
 {
     let Some(before) = table_before(planner, router)? else {
         return Ok(Reply::Refused(NO_ROUTER));

@@ -18,6 +18,8 @@ use std::marker::Model;
 
 /// The branches of a run, by the numbers 0 to 7: each is a study of its own that begins at the loaded database. A
 /// branch is made when it is first named; until then it is at its beginning. Branch 0 is there from the start.
+///
+/// They are seen as the sessions of the branches that were named.
 #[derive(Drop)]
 pub struct Branches<A: Allocator = Global> {
     first: Planner<A>,
@@ -26,13 +28,13 @@ pub struct Branches<A: Allocator = Global> {
 }
 
 impl<A: Allocator> Model for Branches<A> {
-    ghost use Rattle.ospf_plan.specs.Branches.{Named, HaveOneBase};
+    ghost use Rattle.ospf_plan.specs.Branches.{Named, HaveOneBase, named_by};
 
     ghost Value = { Named };
 
-    ghost view = { λ b. record { first = b.first; others = b.others.entries } };
+    ghost view = { λ b. named_by b.first b.others.entries };
 
-    ghost invariant = { λ b. HaveOneBase (record { first = b.first; others = b.others.entries }) };
+    ghost invariant = { λ b. HaveOneBase (named_by b.first b.others.entries) };
 }
 
 impl<A: Allocator + Copy> Branches<A> {
@@ -87,7 +89,7 @@ impl<A: Allocator + Copy> Branches<A> {
 
     /// A planner at the beginning of all branches.
     fn begun(&mut self) -> Result<Planner<A>, AllocError>
-        ensures begun { IfOk result (λ planner. planner ≡ start self.old.first.base) }
+        ensures begun { IfOk result (λ planner. planner.session ≡ start self.old.first.base) }
         ensures kept { self.new ≡ self.old }
     {
         let base = self.first.base()?;
@@ -97,8 +99,8 @@ impl<A: Allocator + Copy> Branches<A> {
     /// Names a branch other than 0, which goes on with a planner.
     fn name(&mut self, branch: u8, planner: Planner<A>) -> Result<(), AllocError>
         requires behind { (branch == 0) ≡ false }
-        requires base { planner.base ≡ self.old.first.base }
-        ensures sessions { OnOk result (sessions_of self.new ≡ in_branch branch planner (sessions_of self.old)) }
+        requires base { planner.session.base ≡ self.old.first.base }
+        ensures sessions { OnOk result (sessions_of self.new ≡ in_branch branch planner.session (sessions_of self.old)) }
         ensures named { OnOk result (is_named self.new branch ≡ true) }
         ensures kept { OnErr result (self.new ≡ self.old) }
     {

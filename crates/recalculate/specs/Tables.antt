@@ -1,6 +1,5 @@
 -- The routing table of a router, as a function of the link state database (RFC 2328, 11 and 16).
 use Rattle.std.specs.Prelude.{◌≡◌, List, [], ◌∷◌, map, Option, None, Some}
-use Rattle.lsa_codec.specs.declared.address.AreaId.{AreaId}
 use Rattle.lsa_codec.specs.declared.address.RouterId.{RouterId}
 use Rattle.lsdb.specs.declared.section.Section.TheVariants.{Area}
 use Rattle.lsdb.specs.Lists.{AreaHead, Lists, lsas_of}

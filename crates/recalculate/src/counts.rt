@@ -38,7 +38,7 @@ pub struct Info {
 impl<A: Allocator + Copy> Planner<A> {
     /// What the session counts. It takes no memory.
     pub fn info(&self) -> Info
-        ensures { result ≡ info_of self.now }
+        ensures { result ≡ info_of self.now.session }
     {
         let database = self.database();
         Info {

@@ -4,12 +4,12 @@ use lsa_codec::RouterId;
 use lsdb::Database;
 use std::test::*;
 
-const ROUTER_1: RouterId = RouterId(0x0101_0101);
+pub(crate) const ROUTER_1: RouterId = RouterId(0x0101_0101);
 
 const ROUTER_2: RouterId = RouterId(0x0202_0202);
 
 /// One ordinary area 0.0.0.0 with the router-LSAs of 1.1.1.1 and 2.2.2.2, and no LSAs of AS scope.
-const DUMP: [u8; 99] = [
+pub(crate) const DUMP: [u8; 99] = [
     0x4f, 0x53, 0x57, 0x50, 1, 1, 0, 0, 0, 0, 0, 0, 2, 0x00, 0x01, 0x02, 0x01, 1, 1, 1, 1, 1, 1, 1,
     1, 0x80, 0, 0, 1, 0xd5, 0x5a, 0, 0x24, 0, 0, 0, 1, 2, 2, 2, 2, 0x0a, 0, 0, 1, 1, 0, 0, 0x0a,
     0x00, 0x01, 0x02, 0x01, 2, 2, 2, 2, 2, 2, 2, 2, 0x80, 0, 0, 1, 0x62, 0xa7, 0, 0x30, 0, 0, 0, 2,
@@ -24,7 +24,7 @@ const VIRTUAL: [u8; 63] = [
 ];
 
 /// The router-LSA of 1.1.1.1 in the areas 0.0.0.0 and 0.0.0.1, and an AS-external-LSA.
-const TWO_AREAS: [u8; 130] = [
+pub(crate) const TWO_AREAS: [u8; 130] = [
     0x4f, 0x53, 0x57, 0x50, 1, 2, 0, 0, 0, 0, 0, 0, 1, 0x00, 0x01, 0x02, 0x01, 1, 1, 1, 1, 1, 1, 1,
     1, 0x80, 0, 0, 1, 0xd5, 0x5a, 0, 0x24, 0, 0, 0, 1, 2, 2, 2, 2, 0x0a, 0, 0, 1, 1, 0, 0, 0x0a, 0,
     0, 0, 1, 0, 0, 1, 0x00, 0x01, 0x02, 0x01, 1, 1, 1, 1, 1, 1, 1, 1, 0x80, 0, 0, 1, 0xd5, 0x5a, 0,
@@ -47,7 +47,7 @@ const NOTHING: Info = Info {
     undone: 0,
 };
 
-fn session(rt: &impl AllocGlobal, dump: &[u8]) -> Result<Planner, Fail> {
+pub(crate) fn session(rt: &impl AllocGlobal, dump: &[u8]) -> Result<Planner, Fail> {
     let database = Database::load(rt.alloc(), dump).ok().ok_or("a dump")?;
     Ok(Planner::new(rt.alloc(), database))
 }

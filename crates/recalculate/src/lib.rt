@@ -17,3 +17,5 @@ pub use table::{Table, TableFault, table_of};
 
 #[cfg(test)]
 mod info_tests;
+#[cfg(test)]
+mod runs_tests;

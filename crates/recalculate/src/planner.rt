@@ -15,8 +15,9 @@ const MOST_EDITS: usize = 10_000;
 /// A link state database, the edits that led to it from the one that was loaded, and those that
 /// were undone since.
 ///
-/// It is seen as its session: the loaded database, the edits done and the edits undone. After any
-/// calls its database is the effect of the done edits, in order, on the loaded one.
+/// It is seen as its session, which is the loaded database, the edits done and the edits undone,
+/// and as how many trees it has calculated. After any calls its database is the effect of the done
+/// edits, in order, on the loaded one.
 #[derive(Drop)]
 pub struct Planner<A: Allocator = Global> {
     database: Database<A>,
@@ -26,11 +27,12 @@ pub struct Planner<A: Allocator = Global> {
 
 impl<A: Allocator> Model for Planner<A> {
     ghost use Rattle.edit_history.specs.Journal.{Links};
-    ghost use Rattle.edit_history.specs.Session.{Session, session_of};
+    ghost use Rattle.edit_history.specs.Session.{session_of};
+    ghost use Rattle.recalculate.specs.Planning.{PlannerValue};
 
-    ghost Value = { Session };
+    ghost Value = { PlannerValue };
 
-    ghost view = { λ p. session_of p.database p.history.lists };
+    ghost view = { λ p. record { session = session_of p.database p.history.lists; runs = p.meter } };
 
     ghost invariant = { λ p. Links p.database p.history.lists };
 }
@@ -39,15 +41,18 @@ impl<A: Allocator + Copy> Planner<A> {
     ghost use Rattle.std.specs.Prelude.{◌≡◌, ◌≢◌, ◌≤◌, ◌↔◌, Ok, Err, Some, length, IsOk, OnOk, OnErr, IfOk, IfErr, IsErrOf};
     ghost use Rattle.lsdb.specs.Places.{lists_of};
     ghost use Rattle.lsdb.specs.Text.{text};
+    ghost use Rattle.external_routes.specs.Attached.{attached_areas};
     ghost use Rattle.edit_history.specs.declared.fault.EditFault.TheVariants.{HistoryFull, OutOfMemory};
+    ghost use Rattle.recalculate.specs.Counting.{counted_by, CountsAtMost};
     ghost use Rattle.recalculate.specs.Tables.{table_in, FaultMeans};
     ghost use Rattle.edit_history.specs.Session.{start, state, effects, most_edits, edited, moved_back, moved_on};
 
-    /// The session that begins at a database: no edit is done, and none is undone. It takes no
-    /// memory.
+    /// The session that begins at a database: no edit is done, none is undone, and no tree is
+    /// calculated. It takes no memory.
     #[tactic(auto, using(crate::proofs::Steps::start_links))]
     pub fn new(alloc: A, database: Database<A>) -> Planner<A>
-        ensures { result ≡ start (lists_of database) }
+        ensures session { result.session ≡ start (lists_of database) }
+        ensures runs { result.runs ≡ 0 }
     {
         database.known();
         Planner {
@@ -61,15 +66,16 @@ impl<A: Allocator + Copy> Planner<A> {
     /// None of them is refused on the way.
     #[tactic(auto, using(edit_history::proofs::Growing::state_is, edit_history::proofs::Folding::done_accepted))]
     pub fn database(&self) -> &Database<A>
-        ensures state { lists_of result.now ≡ state self.now }
-        ensures accepted { effects self.now.base self.now.done ≡ Ok (lists_of result.now) }
+        ensures state { lists_of result.now ≡ state self.now.session }
+        ensures accepted { effects self.now.session.base self.now.session.done
+            ≡ Ok (lists_of result.now) }
     {
         &self.database
     }
 
     /// The dump of the database. An error is want of memory.
     pub fn dump(&self) -> Result<Vec<u8, A>, AllocError>
-        ensures { IfOk result (λ dump. dump.items ≡ text (state self.now)) }
+        ensures { IfOk result (λ dump. dump.items ≡ text (state self.now.session)) }
     {
         self.database().dump()
     }
@@ -82,10 +88,12 @@ impl<A: Allocator + Copy> Planner<A> {
     /// refusal of the edit, as [`apply`] answers it; [`OutOfMemory`](EditFault::OutOfMemory) may
     /// stand in place of the latter where memory ran out. The session is then as it was.
     pub fn edit(&mut self, edit: &Edit) -> Result<(), EditFault>
-        ensures ok { OnOk result (edited self.old edit.now ≡ Ok self.new) }
-        ensures full { most_edits ≤ length self.old.done → IsErrOf result HistoryFull }
-        ensures refused { IfErr result (λ f. f ≢ OutOfMemory → edited self.old edit.now ≡ Err f) }
+        ensures ok { OnOk result (edited self.old.session edit.now ≡ Ok self.new.session) }
+        ensures full { most_edits ≤ length self.old.session.done → IsErrOf result HistoryFull }
+        ensures refused { IfErr result
+            (λ f. f ≢ OutOfMemory → edited self.old.session edit.now ≡ Err f) }
         ensures err { OnErr result (self.new ≡ self.old) }
+        ensures runs { self.new.runs ≡ self.old.runs }
     {
         if self.history.done() >= MOST_EDITS {
             return Err(EditFault::HistoryFull);
@@ -104,9 +112,10 @@ impl<A: Allocator + Copy> Planner<A> {
     /// [`NothingToUndo`](UndoFault::NothingToUndo) exactly where fewer edits are done; the session
     /// is then as it was. A `count` of 0 is accepted.
     pub fn undo(&mut self, count: u32) -> Result<(), UndoFault>
-        ensures ok { IsOk result ↔ (count ≤ length self.old.done) }
-        ensures session { OnOk result (self.new ≡ moved_back count self.old) }
+        ensures ok { IsOk result ↔ (count ≤ length self.old.session.done) }
+        ensures session { OnOk result (self.new.session ≡ moved_back count self.old.session) }
         ensures err { OnErr result (self.new ≡ self.old) }
+        ensures runs { self.new.runs ≡ self.old.runs }
     {
         self.history.undo(&mut self.database, count as usize)
     }
@@ -118,9 +127,10 @@ impl<A: Allocator + Copy> Planner<A> {
     /// [`NothingToRedo`](RedoFault::NothingToRedo) exactly where fewer edits are undone; the
     /// session is then as it was. A `count` of 0 is accepted.
     pub fn redo(&mut self, count: u32) -> Result<(), RedoFault>
-        ensures ok { IsOk result ↔ (count ≤ length self.old.undone) }
-        ensures session { OnOk result (self.new ≡ moved_on count self.old) }
+        ensures ok { IsOk result ↔ (count ≤ length self.old.session.undone) }
+        ensures session { OnOk result (self.new.session ≡ moved_on count self.old.session) }
         ensures err { OnErr result (self.new ≡ self.old) }
+        ensures runs { self.new.runs ≡ self.old.runs }
     {
         self.history.redo(&mut self.database, count as usize)
     }
@@ -128,7 +138,7 @@ impl<A: Allocator + Copy> Planner<A> {
     /// How many edits are done.
     #[tactic(auto, using(edit_history::proofs::Linked::done_len))]
     pub fn done(&self) -> usize
-        ensures { result ≡ length self.now.done }
+        ensures { result ≡ length self.now.session.done }
     {
         self.history.done()
     }
@@ -136,22 +146,37 @@ impl<A: Allocator + Copy> Planner<A> {
     /// How many edits are undone.
     #[tactic(auto, using(edit_history::proofs::Linked::undone_len))]
     pub fn undone(&self) -> usize
-        ensures { result ≡ length self.now.undone }
+        ensures { result ≡ length self.now.session.undone }
     {
         self.history.undone()
     }
 
-    /// The routing table of a router in the session's database (RFC 2328, 16). The session stays as
-    /// it is, also after an error.
+    /// How many shortest-path trees the planner has calculated for tables. Only
+    /// [`table`](Planner::table) and [`base_table`](Planner::base_table) raise it. It stays at its
+    /// greatest value, 2^64 - 1, and takes no memory.
+    pub fn runs(&self) -> u64
+        ensures { result ≡ self.now.runs }
+    {
+        self.meter.count()
+    }
+
+    /// The routing table of a router in the session's database (RFC 2328, 16). A tree is calculated
+    /// for each area that the router is attached to. The session stays as it is, also after an
+    /// error.
     ///
     /// # Errors
     ///
     /// [`NoRouter`](TableFault::NoRouter) exactly where the router is attached to no area, and
-    /// [`OutOfMemory`](TableFault::OutOfMemory).
+    /// [`OutOfMemory`](TableFault::OutOfMemory); the trees begun before it count.
     pub fn table(&mut self, router: RouterId) -> Result<Table<A>, TableFault>
-        ensures table { IfOk result (λ table. table_in (state self.old) router ≡ Some table) }
-        ensures fault { IfErr result (FaultMeans (table_in (state self.old) router)) }
-        ensures session { self.new ≡ self.old }
+        ensures table { IfOk result (λ table. table_in (state self.old.session) router ≡ Some table) }
+        ensures fault { IfErr result (FaultMeans (table_in (state self.old.session) router)) }
+        ensures session { self.new.session ≡ self.old.session }
+        ensures runs { OnOk result (self.new.runs
+            ≡ counted_by (length (attached_areas (state self.old.session) router)) self.old.runs) }
+        ensures no_router { result ≡ Err TableFault.NoRouter → self.new.runs ≡ self.old.runs }
+        ensures at_most { CountsAtMost (length (attached_areas (state self.old.session) router))
+            self.old.runs self.new.runs }
     {
         table_of(
             self.database.alloc(),
@@ -168,9 +193,14 @@ impl<A: Allocator + Copy> Planner<A> {
     ///
     /// As those of [`table`](Planner::table), for that database.
     pub fn base_table(&mut self, router: RouterId) -> Result<Table<A>, TableFault>
-        ensures table { IfOk result (λ table. table_in self.old.base router ≡ Some table) }
-        ensures fault { IfErr result (FaultMeans (table_in self.old.base router)) }
-        ensures session { self.new ≡ self.old }
+        ensures table { IfOk result (λ table. table_in self.old.session.base router ≡ Some table) }
+        ensures fault { IfErr result (FaultMeans (table_in self.old.session.base router)) }
+        ensures session { self.new.session ≡ self.old.session }
+        ensures runs { OnOk result (self.new.runs
+            ≡ counted_by (length (attached_areas self.old.session.base router)) self.old.runs) }
+        ensures no_router { result ≡ Err TableFault.NoRouter → self.new.runs ≡ self.old.runs }
+        ensures at_most { CountsAtMost (length (attached_areas self.old.session.base router))
+            self.old.runs self.new.runs }
     {
         let done = self.undo_all();
         let table = self.table(router);
@@ -181,8 +211,8 @@ impl<A: Allocator + Copy> Planner<A> {
     /// A copy of the database that the session began at. The session stays as it is, also where
     /// memory runs out, which is the error.
     pub fn base(&mut self) -> Result<Database<A>, AllocError>
-        ensures base { IfOk result (λ database. lists_of database ≡ self.old.base) }
-        ensures session { self.new ≡ self.old }
+        ensures base { IfOk result (λ database. lists_of database ≡ self.old.session.base) }
+        ensures kept { self.new ≡ self.old }
     {
         let done = self.undo_all();
         let copy = self.database.clone_of();
@@ -192,8 +222,10 @@ impl<A: Allocator + Copy> Planner<A> {
 
     /// Takes all done edits back, and tells how many they were.
     fn undo_all(&mut self) -> usize
-        ensures count { result ≡ length self.old.done }
-        ensures session { self.new ≡ moved_back (length self.old.done) self.old }
+        ensures count { result ≡ length self.old.session.done }
+        ensures session { self.new.session
+            ≡ moved_back (length self.old.session.done) self.old.session }
+        ensures runs { self.new.runs ≡ self.old.runs }
     {
         let done = self.done();
         let _ = self.history.undo(&mut self.database, done);
@@ -202,8 +234,9 @@ impl<A: Allocator + Copy> Planner<A> {
 
     /// Carries the first `count` undone edits out again.
     fn redo_all(&mut self, count: usize)
-        requires { count ≤ length self.old.undone }
-        ensures { self.new ≡ moved_on count self.old }
+        requires { count ≤ length self.old.session.undone }
+        ensures session { self.new.session ≡ moved_on count self.old.session }
+        ensures runs { self.new.runs ≡ self.old.runs }
     {
         let _ = self.history.redo(&mut self.database, count);
     }

@@ -10,7 +10,7 @@ ghost use Rattle.spf.specs.Distances.{IsTreeOf, counted};
 ghost use Rattle.area_routes.specs.AreaResults.{area_result};
 ghost use Rattle.external_routes.specs.Attached.{attached_areas, is_attached};
 ghost use Rattle.recalculate.specs.Tables.{results_in};
-ghost use Rattle.recalculate.specs.Counting.{counted_by};
+ghost use Rattle.recalculate.specs.Counting.{counted_by, CountsAtMost};
 
 use area_graph::{Graph, GraphFault};
 use area_routes::AreaResult;
@@ -68,6 +68,7 @@ fn result_in<A: Allocator + Copy>(
     requires { is_attached (lists_of database.now) area router ≡ true }
     ensures result { IfOk result (λ given. given ≡ area_result area (lsas_of (Area area) (lists_of database.now)) router) }
     ensures meter { OnOk result (meter.new ≡ counted meter.old) }
+    ensures at_most { CountsAtMost 1 meter.old meter.new }
 {
     let graph = graph_of(alloc, database, area, router)?;
     let tree = tree_of(alloc, &graph, router, meter)?;
@@ -86,6 +87,8 @@ pub(crate) fn results_of<A: Allocator + Copy>(
     ensures results { IfOk result (λ results. results.items ≡ results_in (lists_of database.now) router (attached_areas (lists_of database.now) router)) }
     ensures memory { OnErr result (attached_areas (lists_of database.now) router ≢ []) }
     ensures meter { IfOk result (λ results. meter.new ≡ counted_by (length results.items) meter.old) }
+    ensures at_most { CountsAtMost (length (attached_areas (lists_of database.now) router))
+        meter.old meter.new }
 {
     let mut results = Vec::new(alloc);
     for i in 0..database.area_count() {

@@ -1,11 +1,11 @@
 //! The routing table of a router.
 
-ghost use Rattle.std.specs.Prelude.{◌≡◌, [], IfOk, IfErr, IsErrOf, Some, None, length};
+ghost use Rattle.std.specs.Prelude.{◌≡◌, [], IfOk, IfErr, IsErrOf, OnOk, Some, None, length};
 ghost use Rattle.lsdb.specs.Places.{lists_of};
 ghost use Rattle.area_routes.specs.Routes.{AreSortedRoutes};
 ghost use Rattle.external_routes.specs.Attached.{attached_areas};
 ghost use Rattle.recalculate.specs.declared.table.TableFault.TheVariants.{OutOfMemory};
-ghost use Rattle.recalculate.specs.Counting.{counted_by};
+ghost use Rattle.recalculate.specs.Counting.{counted_by, CountsAtMost};
 ghost use Rattle.recalculate.specs.Tables.{table_in, routes_from, FaultMeans};
 ghost use Rattle.recalculate.specs.Fault.{code_of, name_of};
 
@@ -114,7 +114,7 @@ impl TableFault {
 /// # Errors
 ///
 /// [`NoRouter`](TableFault::NoRouter) exactly where the router is attached to no area, and
-/// [`OutOfMemory`](TableFault::OutOfMemory).
+/// [`OutOfMemory`](TableFault::OutOfMemory); the trees begun before it count.
 pub fn table_of<A: Allocator + Copy>(
     alloc: A,
     database: &Database<A>,
@@ -123,7 +123,11 @@ pub fn table_of<A: Allocator + Copy>(
 ) -> Result<Table<A>, TableFault>
     ensures table { IfOk result (λ table. table_in (lists_of database.now) router ≡ Some table) }
     ensures fault { IfErr result (FaultMeans (table_in (lists_of database.now) router)) }
-    ensures meter { IfOk result (λ table. meter.new ≡ counted_by (length (attached_areas (lists_of database.now) router)) meter.old) }
+    ensures meter { OnOk result (meter.new
+        ≡ counted_by (length (attached_areas (lists_of database.now) router)) meter.old) }
+    ensures no_router { result ≡ Err TableFault.NoRouter → meter.new ≡ meter.old }
+    ensures at_most { CountsAtMost (length (attached_areas (lists_of database.now) router))
+        meter.old meter.new }
 {
     let results = results_of(alloc, database, router, meter)?;
     if results.is_empty() {

@@ -7,6 +7,6 @@ use Rattle.ospf_plan.proofs.asking.tables_of.Given as goal
 -- the tables are those of the routers so far, and the session is as it was
 abbrev pub invariant-loop-router : goal.invariant-loop-router
 invariant-loop-router g l = record {
-  kept : l.planner ≡ l.initial.planner;
-  tables : l.tables.items ≡ filter_map (table_in (state l.initial.planner)) (take l.router-index l.routers);
+  kept : l.planner.session ≡ l.initial.planner.session;
+  tables : l.tables.items ≡ filter_map (table_in (state l.initial.planner.session)) (take l.router-index l.routers);
 }

@@ -1,4 +1,3 @@
-use Rattle.std.proofs.Common.{IfOk}
 use Rattle.recalculate.proofs.Preferred.{if_values, if_sorted, if_small}
 use Rattle.recalculate.proofs.prefer.prefer.Goals as goal
 

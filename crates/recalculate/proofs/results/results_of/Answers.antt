@@ -1,8 +1,8 @@
-use Rattle.std.proofs.Common.{◌≡◌, ◌∙◌, sym, ap, rules, arith, length}
-use Rattle.lsdb.specs.Lists.{AreaHead, areas_of}
+use Rattle.std.proofs.Common.{◌∙◌, sym, ap, arith, length}
+use Rattle.lsdb.specs.Lists.{AreaHead}
 use Rattle.lsdb.specs.Places.{lists_of}
 use Rattle.recalculate.specs.Counting.{counted_by}
-use Rattle.recalculate.proofs.Counted.{more_results, same_results, more_counted, all_results, none_counted}
+use Rattle.recalculate.proofs.Counted.{more_results, same_results, more_counted, all_results, none_counted, room_for_more, at_most_more, at_most_all}
 use Rattle.recalculate.proofs.Tabled.{attached_somewhere, on_err}
 use Rattle.recalculate.proofs.results.results_of.Goals as goal
 use Rattle.recalculate.proofs.results.results_of.Goals.{then-is_attached+in_ok-result_in+in_ok-push, else-is_attached}
@@ -52,3 +52,24 @@ returns-in_err-push-clause-memory g c =
     on_err c.from_residual-in_err-push.result
     (let head : AreaHead = record { id = c.area-is_stub.result.0.0; is_stub = c.area-is_stub.result.1 } in
     attached_somewhere (lists_of c.args.database.now) c.args.router c.loop-i.i head c.area-is_stub.ensures (sym c.is_attached.ensures ∙ c.if-is_attached.true))
+
+pub returns-clause-at_most : goal.returns-clause-at_most
+returns-clause-at_most g c =
+    let db = lists_of c.args.database.now in
+    at_most_all db c.args.router c.loop-i.results.items c.args.meter.now c.loop-i.meter
+    (all_results db c.args.router c.loop-i.i c.loop-i.results.items (omega (arith, c.area_count-i-end.ensures, c.loop-i-test.false)) c.loop-i.invariant.results)
+    c.loop-i.invariant.meter
+
+pub returns-in_err-result_in-clause-at_most : goal.returns-in_err-result_in-clause-at_most
+returns-in_err-result_in-clause-at_most g c =
+    let head : AreaHead = record { id = c.area-is_stub.result.0.0; is_stub = c.area-is_stub.result.1 } in
+    at_most_more _ _ _ _ (length c.loop-i.results.items)
+    (room_for_more (lists_of c.args.database.now) c.args.router c.loop-i.i head c.area-is_stub.ensures c.loop-i.results.items c.loop-i.invariant.results (sym c.is_attached.ensures ∙ c.if-is_attached.true))
+    c.loop-i.invariant.meter c.result_in.ensures.at_most
+
+pub returns-in_err-push-clause-at_most : goal.returns-in_err-push-clause-at_most
+returns-in_err-push-clause-at_most g c =
+    let head : AreaHead = record { id = c.area-is_stub.result.0.0; is_stub = c.area-is_stub.result.1 } in
+    at_most_more _ _ _ _ (length c.loop-i.results.items)
+    (room_for_more (lists_of c.args.database.now) c.args.router c.loop-i.i head c.area-is_stub.ensures c.loop-i.results.items c.loop-i.invariant.results (sym c.is_attached.ensures ∙ c.if-is_attached.true))
+    c.loop-i.invariant.meter c.result_in.ensures.at_most

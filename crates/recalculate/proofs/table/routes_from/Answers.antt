@@ -1,9 +1,8 @@
-use Rattle.std.proofs.Common.{◌≡◌, ◌∙◌, ◌^◌, ap, sym, subst, arith}
+use Rattle.std.proofs.Common.{◌∙◌, ◌^◌, ap, sym, subst, arith}
 use Rattle.lsdb.specs.Places.{lists_of}
 use Rattle.area_routes.specs.Values.{InterValue, RoutesBelow, EntriesBelow}
 use Rattle.area_routes.specs.Inter.{inter_of}
 use Rattle.external_routes.specs.External.{externals_of}
-use Rattle.recalculate.specs.Preferring.{preferring}
 use Rattle.recalculate.proofs.Tabled.{routes_below, entries_below, if_routes}
 use Rattle.recalculate.proofs.table.routes_from.Goals as goal
 
