@@ -9,7 +9,7 @@ pub(crate) const ROUTER_1: RouterId = RouterId(0x0101_0101);
 const ROUTER_2: RouterId = RouterId(0x0202_0202);
 
 /// One ordinary area 0.0.0.0 with the router-LSAs of 1.1.1.1 and 2.2.2.2, and no LSAs of AS scope.
-pub(crate) const DUMP: [u8; 99] = [
+pub(crate) const DUMP: &[u8] = &[
     0x4f, 0x53, 0x57, 0x50, 1, 1, 0, 0, 0, 0, 0, 0, 2, 0x00, 0x01, 0x02, 0x01, 1, 1, 1, 1, 1, 1, 1,
     1, 0x80, 0, 0, 1, 0xd5, 0x5a, 0, 0x24, 0, 0, 0, 1, 2, 2, 2, 2, 0x0a, 0, 0, 1, 1, 0, 0, 0x0a,
     0x00, 0x01, 0x02, 0x01, 2, 2, 2, 2, 2, 2, 2, 2, 0x80, 0, 0, 1, 0x62, 0xa7, 0, 0x30, 0, 0, 0, 2,
@@ -17,14 +17,14 @@ pub(crate) const DUMP: [u8; 99] = [
 ];
 
 /// The router-LSA of 2.2.2.2 alone, with bit V, and its first link of type 4.
-const VIRTUAL: [u8; 63] = [
+const VIRTUAL: &[u8] = &[
     0x4f, 0x53, 0x57, 0x50, 1, 1, 0, 0, 0, 0, 0, 0, 1, 0x00, 0x01, 0x02, 0x01, 2, 2, 2, 2, 2, 2, 2,
     2, 0x80, 0, 0, 1, 0x9b, 0x67, 0, 0x30, 4, 0, 0, 2, 1, 1, 1, 1, 0x0a, 0, 0, 2, 4, 0, 0, 0x0a,
     0x0a, 2, 0, 0, 0xff, 0xff, 0, 0, 3, 0, 0, 5, 0, 0,
 ];
 
 /// The router-LSA of 1.1.1.1 in the areas 0.0.0.0 and 0.0.0.1, and an AS-external-LSA.
-pub(crate) const TWO_AREAS: [u8; 130] = [
+pub(crate) const TWO_AREAS: &[u8] = &[
     0x4f, 0x53, 0x57, 0x50, 1, 2, 0, 0, 0, 0, 0, 0, 1, 0x00, 0x01, 0x02, 0x01, 1, 1, 1, 1, 1, 1, 1,
     1, 0x80, 0, 0, 1, 0xd5, 0x5a, 0, 0x24, 0, 0, 0, 1, 2, 2, 2, 2, 0x0a, 0, 0, 1, 1, 0, 0, 0x0a, 0,
     0, 0, 1, 0, 0, 1, 0x00, 0x01, 0x02, 0x01, 1, 1, 1, 1, 1, 1, 1, 1, 0x80, 0, 0, 1, 0xd5, 0x5a, 0,
@@ -34,7 +34,7 @@ pub(crate) const TWO_AREAS: [u8; 130] = [
 ];
 
 /// No area, and no LSA.
-const EMPTY: [u8; 8] = [0x4f, 0x53, 0x57, 0x50, 1, 0, 0, 0];
+const EMPTY: &[u8] = &[0x4f, 0x53, 0x57, 0x50, 1, 0, 0, 0];
 
 /// What is counted where nothing is.
 const NOTHING: Info = Info {
@@ -59,9 +59,9 @@ fn counts_areas_and_lsas(rt: HostRuntime) -> Result<(), Fail> {
         lsas: 2,
         ..NOTHING
     };
-    assert_eq!(rt; session(&rt, &EMPTY)?.info(), NOTHING);
-    assert_eq!(rt; session(&rt, &DUMP)?.info(), loaded);
-    let found = session(&rt, &TWO_AREAS)?.info();
+    assert_eq!(rt; session(&rt, EMPTY)?.info(), NOTHING);
+    assert_eq!(rt; session(&rt, DUMP)?.info(), loaded);
+    let found = session(&rt, TWO_AREAS)?.info();
     assert_eq!(rt;
         found,
         Info {
@@ -75,18 +75,24 @@ fn counts_areas_and_lsas(rt: HostRuntime) -> Result<(), Fail> {
 
 #[test]
 fn counts_what_virtual_links_leave(rt: HostRuntime) -> Result<(), Fail> {
-    let mut found = session(&rt, &VIRTUAL)?.info();
+    let mut found = session(&rt, VIRTUAL)?.info();
     assert_eq!(rt; (found.vbits, found.vlinks), (1, 1));
-    found = session(&rt, &DUMP)?.info();
+    found = session(&rt, DUMP)?.info();
     assert_eq!(rt; (found.vbits, found.vlinks), (0, 0));
     Ok(())
 }
 
+/// A dump whose first LSA is at MaxAge.
+fn with_first_at_max_age(rt: &impl AllocGlobal, dump: &[u8]) -> Result<Vec<u8>, Fail> {
+    let mut dump = Vec::from_slice(rt.alloc(), dump)?;
+    *dump.get_mut(13).ok_or("an LSA")? = 0x0e;
+    *dump.get_mut(14).ok_or("an LSA")? = 0x10;
+    Ok(dump)
+}
+
 #[test]
 fn counts_lsas_at_max_age(rt: HostRuntime) -> Result<(), Fail> {
-    let mut dump = VIRTUAL;
-    dump[13] = 0x0e;
-    dump[14] = 0x10;
+    let dump = with_first_at_max_age(&rt, VIRTUAL)?;
     let found = session(&rt, &dump)?.info();
     assert_eq!(rt; (found.lsas, found.vbits, found.vlinks), (1, 1, 1));
     Ok(())
@@ -94,7 +100,7 @@ fn counts_lsas_at_max_age(rt: HostRuntime) -> Result<(), Fail> {
 
 #[test]
 fn counts_edits(rt: HostRuntime) -> Result<(), Fail> {
-    let mut session = session(&rt, &DUMP)?;
+    let mut session = session(&rt, DUMP)?;
     let fails = Edit::FailRouter { router: ROUTER_1 };
     session.edit(&fails).ok().ok_or("an edit")?;
     let found = session.info();
@@ -107,18 +113,16 @@ fn counts_edits(rt: HostRuntime) -> Result<(), Fail> {
 
 #[test]
 fn lists_routers_in_rising_order(rt: HostRuntime) -> Result<(), Fail> {
-    let found = session(&rt, &DUMP)?.routers()?;
+    let found = session(&rt, DUMP)?.routers()?;
     assert_eq!(rt; found.as_slice(), [ROUTER_1, ROUTER_2].as_slice());
-    let found = session(&rt, &EMPTY)?.routers()?;
+    let found = session(&rt, EMPTY)?.routers()?;
     assert_eq!(rt; found.len(), 0);
     Ok(())
 }
 
 #[test]
 fn leaves_out_routers_at_max_age(rt: HostRuntime) -> Result<(), Fail> {
-    let mut dump = DUMP;
-    dump[13] = 0x0e;
-    dump[14] = 0x10;
+    let dump = with_first_at_max_age(&rt, DUMP)?;
     let found = session(&rt, &dump)?.routers()?;
     assert_eq!(rt; found.as_slice(), [ROUTER_2].as_slice());
     Ok(())
@@ -126,7 +130,7 @@ fn leaves_out_routers_at_max_age(rt: HostRuntime) -> Result<(), Fail> {
 
 #[test]
 fn lists_a_router_of_two_areas_once(rt: HostRuntime) -> Result<(), Fail> {
-    let found = session(&rt, &TWO_AREAS)?.routers()?;
+    let found = session(&rt, TWO_AREAS)?.routers()?;
     assert_eq!(rt; found.as_slice(), [ROUTER_1].as_slice());
     Ok(())
 }
