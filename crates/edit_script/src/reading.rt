@@ -1,7 +1,8 @@
 //! Reading the arguments of a command: each argument, and how many there are.
 
-ghost use Rattle.std.specs.Prelude.{◌≡◌};
+ghost use Rattle.std.specs.Prelude.{◌≡◌, [], ◌∷◌, MatchResult};
 ghost use Rattle.edit_script.specs.Words.{words};
+ghost use Rattle.edit_script.specs.declared.fault.ScriptFault.TheVariants.{MissingWord};
 ghost use Rattle.edit_script.specs.Reading.{Gives, number, address, prefix, metric_type, none_of, one_of, two_of, three_of, four_of, six_of};
 
 use crate::arguments::{address_of, number_up_to, prefix_of};
@@ -76,13 +77,19 @@ pub(crate) fn none(arguments: &[u8]) -> Result<(), ScriptFault>
     }
 }
 
+/// The first word of `arguments`, and what follows it; else S3.
+fn word(arguments: &[u8]) -> Result<(&[u8], &[u8]), ScriptFault>
+    ensures { MatchResult result (λ x. words arguments.now ≡ x.0.now ∷ words x.1.now)
+        (λ fault. (fault ≡ MissingWord) × (words arguments.now ≡ [])) }
+{
+    next_word(arguments).ok_or(ScriptFault::MissingWord)
+}
+
 /// The only word of `arguments`; else S3 or S4.
 pub(crate) fn one(arguments: &[u8]) -> Result<&[u8], ScriptFault>
     ensures { Gives (λ x. x.now) result (one_of (words arguments.now)) }
 {
-    let Some((first, rest)) = next_word(arguments) else {
-        return Err(ScriptFault::MissingWord);
-    };
+    let (first, rest) = word(arguments)?;
     match next_word(rest) {
         None => Ok(first),
         Some(_) => Err(ScriptFault::ExtraWord),
@@ -93,12 +100,8 @@ pub(crate) fn one(arguments: &[u8]) -> Result<&[u8], ScriptFault>
 pub(crate) fn two(arguments: &[u8]) -> Result<(&[u8], &[u8]), ScriptFault>
     ensures { Gives (λ x. (x.0.now, x.1.now)) result (two_of (words arguments.now)) }
 {
-    let Some((first, rest)) = next_word(arguments) else {
-        return Err(ScriptFault::MissingWord);
-    };
-    let Some((second, rest)) = next_word(rest) else {
-        return Err(ScriptFault::MissingWord);
-    };
+    let (first, rest) = word(arguments)?;
+    let (second, rest) = word(rest)?;
     match next_word(rest) {
         None => Ok((first, second)),
         Some(_) => Err(ScriptFault::ExtraWord),
@@ -109,15 +112,9 @@ pub(crate) fn two(arguments: &[u8]) -> Result<(&[u8], &[u8]), ScriptFault>
 pub(crate) fn three(arguments: &[u8]) -> Result<(&[u8], &[u8], &[u8]), ScriptFault>
     ensures { Gives (λ x. (x.0.now, x.1.now, x.2.now)) result (three_of (words arguments.now)) }
 {
-    let Some((first, rest)) = next_word(arguments) else {
-        return Err(ScriptFault::MissingWord);
-    };
-    let Some((second, rest)) = next_word(rest) else {
-        return Err(ScriptFault::MissingWord);
-    };
-    let Some((third, rest)) = next_word(rest) else {
-        return Err(ScriptFault::MissingWord);
-    };
+    let (first, rest) = word(arguments)?;
+    let (second, rest) = word(rest)?;
+    let (third, rest) = word(rest)?;
     match next_word(rest) {
         None => Ok((first, second, third)),
         Some(_) => Err(ScriptFault::ExtraWord),
@@ -128,18 +125,10 @@ pub(crate) fn three(arguments: &[u8]) -> Result<(&[u8], &[u8], &[u8]), ScriptFau
 pub(crate) fn four(arguments: &[u8]) -> Result<(&[u8], &[u8], &[u8], &[u8]), ScriptFault>
     ensures { Gives (λ x. (x.0.now, x.1.now, x.2.now, x.3.now)) result (four_of (words arguments.now)) }
 {
-    let Some((first, rest)) = next_word(arguments) else {
-        return Err(ScriptFault::MissingWord);
-    };
-    let Some((second, rest)) = next_word(rest) else {
-        return Err(ScriptFault::MissingWord);
-    };
-    let Some((third, rest)) = next_word(rest) else {
-        return Err(ScriptFault::MissingWord);
-    };
-    let Some((fourth, rest)) = next_word(rest) else {
-        return Err(ScriptFault::MissingWord);
-    };
+    let (first, rest) = word(arguments)?;
+    let (second, rest) = word(rest)?;
+    let (third, rest) = word(rest)?;
+    let (fourth, rest) = word(rest)?;
     match next_word(rest) {
         None => Ok((first, second, third, fourth)),
         Some(_) => Err(ScriptFault::ExtraWord),
@@ -152,24 +141,12 @@ pub(crate) fn six(
 ) -> Result<(&[u8], &[u8], &[u8], &[u8], &[u8], &[u8]), ScriptFault>
     ensures { Gives (λ x. (x.0.now, x.1.now, x.2.now, x.3.now, x.4.now, x.5.now)) result (six_of (words arguments.now)) }
 {
-    let Some((first, rest)) = next_word(arguments) else {
-        return Err(ScriptFault::MissingWord);
-    };
-    let Some((second, rest)) = next_word(rest) else {
-        return Err(ScriptFault::MissingWord);
-    };
-    let Some((third, rest)) = next_word(rest) else {
-        return Err(ScriptFault::MissingWord);
-    };
-    let Some((fourth, rest)) = next_word(rest) else {
-        return Err(ScriptFault::MissingWord);
-    };
-    let Some((fifth, rest)) = next_word(rest) else {
-        return Err(ScriptFault::MissingWord);
-    };
-    let Some((sixth, rest)) = next_word(rest) else {
-        return Err(ScriptFault::MissingWord);
-    };
+    let (first, rest) = word(arguments)?;
+    let (second, rest) = word(rest)?;
+    let (third, rest) = word(rest)?;
+    let (fourth, rest) = word(rest)?;
+    let (fifth, rest) = word(rest)?;
+    let (sixth, rest) = word(rest)?;
     match next_word(rest) {
         None => Ok((first, second, third, fourth, fifth, sixth)),
         Some(_) => Err(ScriptFault::ExtraWord),
