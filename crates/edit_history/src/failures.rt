@@ -174,10 +174,7 @@ fn add_swaps<A: Allocator + Copy>(
             section: number,
             index,
         };
-        match add_swap(database, slot, section, failure, swaps) {
-            Ok(()) => {}
-            Err(fault) => return Err(fault),
-        }
+        add_swap(database, slot, section, failure, swaps)?;
     }
     Ok(())
 }
@@ -297,16 +294,13 @@ pub fn plan_fail_router<A: Allocator + Copy>(
     let mut swaps = Vec::new(database.alloc());
     for number in 0..database.section_count() {
         let section = section_name(database, number);
-        match add_swaps(
+        add_swaps(
             database,
             number,
             section,
             Failure::Router(router),
             &mut swaps,
-        ) {
-            Ok(()) => {}
-            Err(fault) => return Err(fault),
-        }
+        )?;
     }
     Ok(swaps)
 }

@@ -1,4 +1,5 @@
 use Rattle.std.proofs.Common.{◌≡◌, ◌+◌, true, false, sym, ◌∙◌, subst, arith, rules}
+use Rattle.std.proofs.lemmas.Result.{err_from_is_err_and}
 use Rattle.edit_script.specs.declared.edit.Edit.TheVariants.{FailRouter}
 use Rattle.edit_history.specs.declared.fault.EditFault.{EditFault}
 use Rattle.edit_history.specs.Rules.{by_fates}
@@ -24,12 +25,13 @@ add_swaps-requires g c = exists_at c.args.database.now c.loop-number.number (ome
 
 pub loop-number-preserved : goal.loop-number-preserved
 loop-number-preserved g c =
-    section_turn (router_fate c.args.router) c.args.database.now c.loop-number.number (c.loop-number.number + 1) c.section_name-section.result _ _ _ (omega arith) (omega arith) c.section_name-section.ensures c.in-Ok.ensures.swaps c.loop-number.invariant
+    section_turn (router_fate c.args.router) c.args.database.now c.loop-number.number (c.loop-number.number + 1) c.section_name-section.result _ _ _ (omega arith) (omega arith) c.section_name-section.ensures c.in_ok-add_swaps.ensures.swaps c.loop-number.invariant
 
-pub returns-in-Err-clause-refused : goal.returns-in-Err-clause-refused
-returns-in-Err-clause-refused g c =
+pub returns-in_err-add_swaps-clause-refused : goal.returns-in_err-add_swaps-clause-refused
+returns-in_err-add_swaps-clause-refused g c =
+    let gave = err_from_is_err_and c.from_residual.result c.from_residual.ensures.1 in
     let there : c.has_router.result ≡ true = search rules in
-    subst (λ (e : EditFault). IsRefused c.args.database.now (FailRouter c.args.router) e) (sym c.in-Err.ensures.memory) (no_memory c.args.database.now (FailRouter c.args.router) _ (router_ruled c.args.database.now c.args.router (sym c.has_router.ensures ∙ there)))
+    rw (gave.1, gave.2) (subst (λ (e : EditFault). IsRefused c.args.database.now (FailRouter c.args.router) e) (sym c.in_err-add_swaps.ensures.memory) (no_memory c.args.database.now (FailRouter c.args.router) _ (router_ruled c.args.database.now c.args.router (sym c.has_router.ensures ∙ there))))
 
 pub returns-clause-planned : goal.returns-clause-planned
 returns-clause-planned g c =
