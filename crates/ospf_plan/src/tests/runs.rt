@@ -130,18 +130,42 @@ fn lines_that_are_no_commands(rt: HostRuntime) -> Result<(), Fail> {
     Ok(())
 }
 
-#[test]
-fn the_history_is_full(rt: HostRuntime) -> Result<(), Fail> {
-    let mut script = String::new(rt.alloc());
+/// Ten thousand edits, one more, one that would be refused in any case, and an undo of all that are done. Each line
+/// begins with `branch`.
+fn full_history(alloc: Global, branch: &str) -> Result<String, Fail> {
+    let mut script = String::new(alloc);
     for _ in 0..10_001 {
+        script.push_str(branch)?;
         script.push_str("cost 0.0.0.0 1.1.1.1 1 7\n")?;
     }
-    script.push_str("undo 10000\n")?;
+    for line in ["cost 0.0.0.0 1.1.1.1 1 0\n", "undo 10000\n"] {
+        script.push_str(branch)?;
+        script.push_str(line)?;
+    }
+    Ok(script)
+}
+
+#[test]
+fn the_history_is_full(rt: HostRuntime) -> Result<(), Fail> {
+    let script = full_history(rt.alloc(), "")?;
     let ended = run_on(rt.alloc(), SAMPLE, script.as_str());
-    assert_eq!(rt; ended.result, summary(10_002, 1));
-    let refusal = b"@0 refused E12 HistoryFull\n@0 ok\n".as_slice();
-    assert!(rt; ended.replies.ends_with(refusal));
+    assert_eq!(rt; ended.result, summary(10_003, 2));
+    let last = b"@0 ok\n@0 refused E12 HistoryFull\n@0 refused E12 HistoryFull\n@0 ok\n".as_slice();
+    assert!(rt; ended.replies.ends_with(last));
     assert_eq!(rt; ended.dump.as_slice(), SAMPLE);
+    Ok(())
+}
+
+#[test]
+fn the_history_of_one_branch_is_full(rt: HostRuntime) -> Result<(), Fail> {
+    let mut script = full_history(rt.alloc(), "@1 ")?;
+    script.push_str("cost 0.0.0.0 1.1.1.1 1 13\n@1 undo 1\n")?;
+    let ended = run_on(rt.alloc(), SAMPLE, script.as_str());
+    assert_eq!(rt; ended.result, summary(10_005, 3));
+    let last =
+        b"@1 refused E12 HistoryFull\n@1 refused E12 HistoryFull\n@1 ok\n@0 ok\n@1 refused U1 NothingToUndo\n".as_slice();
+    assert!(rt; ended.replies.ends_with(last));
+    assert_eq!(rt; ended.dump.get(47..49), Some([0, 13].as_slice()));
     Ok(())
 }
 
