@@ -6,9 +6,9 @@ use Rattle.edit_script.specs.declared.command.Command.{Command}
 use Rattle.edit_script.specs.declared.fault.ScriptFault.{ScriptFault}
 use Rattle.edit_script.specs.Line.{meaning}
 use Rattle.edit_history.specs.Session.{Session, start}
-use Rattle.ospf_plan.specs.Branches.{Sessions, all_begin, in_branch}
+use Rattle.ospf_plan.specs.Branches.{Sessions, all_begin}
 use Rattle.ospf_plan.specs.Replies.{after}
-use Rattle.ospf_plan.specs.Run.{Answer, answer_to, after_line, answers, sessions_after}
+use Rattle.ospf_plan.specs.Run.{answer_to, after_line, answers, sessions_after}
 use Rattle.ospf_plan.specs.Alone.{is_in, lines_in, answers_in, command_in, commands_in, after_all}
 
 -- what a line means

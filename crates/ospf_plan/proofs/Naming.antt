@@ -20,7 +20,7 @@ use Rattle.edit_history.specs.declared.fault.EditFault.TheVariants.{HistoryFull}
 use Rattle.edit_history.specs.Effect.{effect}
 use Rattle.edit_history.specs.Session.{Session, edited, accepted, start, state, most_edits, moved_back, moved_on}
 use Rattle.recalculate.specs.Planning.{PlannerValue}
-use Rattle.ospf_plan.specs.Branches.{Named, Sessions, sessions_by, sessions_of, named_by, is_named, in_branch, session_or_begin, HaveOneBase}
+use Rattle.ospf_plan.specs.Branches.{Named, sessions_by, sessions_of, named_by, is_named, in_branch, session_or_begin, HaveOneBase}
 use Rattle.ospf_plan.specs.Replies.{after, unless_refused}
 
 -- ---- a command leaves the base

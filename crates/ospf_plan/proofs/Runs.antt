@@ -1,7 +1,7 @@
 -- What a run is answered, from what was read of its inputs.
-use Rattle.std.proofs.Common.{◌≡◌, ◌∙◌, ap, sym, subst, refl, ℕ, ◌<◌, ◌≤◌, List, [], ◌∷◌, ◌++◌, length, Option, None, Some, Ok, Err, arith, rules, inl, inr}
+use Rattle.std.proofs.Common.{◌≡◌, ◌∙◌, ap, sym, subst, refl, ℕ, List, [], length, Option, None, Some, Ok, Err, inl, inr}
 use Rattle.std.specs.Prelude.{IfSome}
-use Rattle.std.specs.Io.KnownBytes.{Appends, Keeps, IsAtEnd}
+use Rattle.std.specs.Io.KnownBytes.{Appends, Keeps}
 use Rattle.std.proofs.KnownBytes.{Appends-nil, Appends-kept}
 use Rattle.std.proofs.lemmas.Bool.{cond_below}
 use Rattle.lsdb.specs.declared.fault.DumpFault.{DumpFault}
@@ -91,11 +91,6 @@ first_fault (Some bytes) fault other (inr first) = first
 pub known_first : (known : Option (List ℕ)) (read : List ℕ) (fault : DumpFault) → IsAll known read → IsFirst fault (loaded read) → IfSome known (λ bytes. IsFirst fault (loaded bytes))
 known_first None read fault all first = tt
 known_first (Some bytes) read fault all first = subst (λ b. IsFirst fault (loaded b)) all first
-
--- what is left of a reader at its end
-pub none_unread : (left : Option (List ℕ)) (P : Type 0) → IsAtEnd left → IfSome left (λ rest. 0 < length rest → P)
-none_unread None P end = tt
-none_unread (Some rest) P end = λ more. absurd (omega (arith, more, ap length end))
 
 -- a prefix that was written, and then nothing more
 pub prefix_kept : (a b c : Option (List ℕ)) (whole : List ℕ) → AppendsPrefix a b whole → Keeps b c → AppendsPrefix a c whole

@@ -1,14 +1,13 @@
 -- The steps of a run over the lines of its script.
-use Rattle.std.proofs.Common.{◌≡◌, ℕ, ◌+◌, ◌<◌, ◌≤◌, ◌^◌, List, [], ◌∷◌, ◌++◌, Option, None, Some, Bool, eqb, cond, length, sym, ap, subst, ◌∙◌, append_assoc, append-nil, refl, arith, rules, Result, Ok, Err}
+use Rattle.std.proofs.Common.{◌≡◌, ℕ, ◌+◌, ◌<◌, ◌≤◌, ◌^◌, List, [], ◌∷◌, ◌++◌, Option, None, Some, eqb, cond, length, sym, ap, subst, ◌∙◌, append_assoc, append-nil, refl, arith, rules, Result, Ok, Err}
 use Rattle.std.specs.Borrow.{Bor}
-use Rattle.std.specs.Prelude.{count_by}
 use Rattle.std.proofs.lemmas.List.{length-append}
 use Rattle.std.proofs.lemmas.List.Sums.{count_by-le-length, sum_by-append}
 use Rattle.std.proofs.lemmas.List.Splits.{length-slice_split}
 use Rattle.std.specs.Io.KnownBytes.{Appends}
 use Rattle.std.proofs.KnownBytes.{Appends-trans, Appends-nil}
 use Rattle.streams.specs.WholeText.{AppendsPrefix}
-use Rattle.streams.proofs.Prefixes.{AppendsPrefix-after, starts_with_front}
+use Rattle.streams.proofs.Prefixes.{AppendsPrefix-after}
 use Rattle.edit_script.specs.declared.command.Command.{Command}
 use Rattle.edit_script.specs.declared.fault.ScriptFault.{ScriptFault}
 use Rattle.edit_script.specs.declared.fault.ScriptFault.TheVariants.{Empty, UnknownWord, MissingWord, ExtraWord, BadNumber, BadAddress, BadPrefix, BadBranch}

@@ -1,12 +1,11 @@
 -- What a command is answered, and what it leaves; the texts of answers.
-use Rattle.std.specs.Prelude.{ℕ, nat_le, if◌then◌else◌, List, [], ◌∷◌, ◌++◌, length, flat_map, filter_map, Option, None, Some, Result, Ok, Err, codes, decimal, Bool, true, false}
+use Rattle.std.specs.Prelude.{ℕ, nat_le, if◌then◌else◌, List, [], ◌++◌, length, flat_map, filter_map, Option, None, Some, Result, Ok, Err, codes, decimal, Bool, true, false}
 use Rattle.lsa_codec.specs.declared.address.RouterId.{RouterId}
 use Rattle.edit_script.specs.declared.command.Command.{Command}
 use Rattle.edit_script.specs.declared.command.Command.TheVariants as command
 use Rattle.edit_script.specs.declared.fault.ScriptFault.{ScriptFault}
 use Rattle.edit_script.specs.Fault.{code_of as script_code, name_of as script_name}
 use Rattle.edit_history.specs.declared.fault.EditFault.{EditFault}
-use Rattle.edit_history.specs.declared.fault.UndoFault.{UndoFault}
 use Rattle.edit_history.specs.declared.fault.UndoFault.TheVariants.{NothingToUndo}
 use Rattle.edit_history.specs.declared.fault.RedoFault.TheVariants.{NothingToRedo}
 use Rattle.edit_history.specs.Fault.{code_of as edit_code, name_of as edit_name}

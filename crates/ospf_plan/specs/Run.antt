@@ -7,7 +7,7 @@ use Rattle.lsdb.specs.Text.{text}
 use Rattle.lsdb.specs.Loading.{loaded}
 use Rattle.edit_script.specs.declared.command.Command.{Command}
 use Rattle.edit_script.specs.declared.fault.ScriptFault.{ScriptFault}
-use Rattle.edit_script.specs.declared.fault.ScriptFault.TheVariants.{Empty, UnknownWord, MissingWord, ExtraWord, BadNumber, BadAddress, BadPrefix, BadBranch}
+use Rattle.edit_script.specs.declared.fault.ScriptFault.TheVariants.{Empty}
 use Rattle.edit_script.specs.Line.{meaning}
 use Rattle.edit_history.specs.Session.{state}
 use Rattle.ospf_plan.specs.Branches.{Sessions, all_begin, in_branch}

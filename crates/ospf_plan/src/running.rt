@@ -67,84 +67,18 @@ pub fn run<A: Allocator + Copy, R: Read, S: Read, W: Write, D: Write>(
     ensures script_bounded { ConsumesAtMost (S.remaining (inner_of script.old)) (S.remaining (inner_of script.new)) 1048577 }
 {
     match out {
-        None => run_without_out(alloc, dump, script, replies),
-        Some(writer) => run_with_out(alloc, dump, script, replies, writer),
+        None => {
+            let (summary, _branches) = answer_all(alloc, dump, script, replies)?;
+            flush(replies)?;
+            Ok(summary)
+        }
+        Some(out) => {
+            let (summary, mut branches) = answer_all(alloc, dump, script, replies)?;
+            let end = branches.dump(0)?;
+            write_and_flush(end.as_slice(), replies, out)?;
+            Ok(summary)
+        }
     }
-}
-
-/// A run that writes its replies, and the dump of the end to `out`.
-fn run_with_out<A: Allocator + Copy, R: Read, S: Read, W: Write, D: Write>(
-    alloc: A,
-    dump: &mut Watched<R>,
-    script: &mut Watched<S>,
-    replies: &mut Watched<W>,
-    out: &mut Watched<D>,
-) -> Result<Summary, RunFault>
-    requires dump_open { has_failed dump.old ≡ false }
-    requires script_open { has_failed script.old ≡ false }
-    requires replies_open { has_failed replies.old ≡ false }
-    requires out_open { has_failed out.old ≡ false }
-    ensures replies { OnOk result (IfBoth (R.remaining (inner_of dump.old)) (S.remaining (inner_of script.old))
-        (λ bytes script. Appends (W.contents (inner_of replies.old)) (W.contents (inner_of replies.new))
-        (run_text bytes script))) }
-    ensures out { OnOk result (IfBoth (R.remaining (inner_of dump.old)) (S.remaining (inner_of script.old))
-        (λ bytes script. Appends (D.contents (inner_of out.old)) (D.contents (inner_of out.new))
-        (run_dump bytes script))) }
-    ensures summary { IfOk result (λ summary. IfBoth (R.remaining (inner_of dump.old)) (S.remaining (inner_of script.old))
-        (λ bytes script. IsSummaryOf (run_answers bytes script) summary)) }
-    ensures replies_prefix { IfBoth (R.remaining (inner_of dump.old)) (S.remaining (inner_of script.old))
-        (λ bytes script. AppendsPrefix (W.contents (inner_of replies.old)) (W.contents (inner_of replies.new))
-        (run_text bytes script)) }
-    ensures out_prefix { IfBoth (R.remaining (inner_of dump.old)) (S.remaining (inner_of script.old))
-        (λ bytes script. AppendsPrefix (D.contents (inner_of out.old)) (D.contents (inner_of out.new))
-        (run_dump bytes script)) }
-    ensures accepted { OnOk result (IfSome (R.remaining (inner_of dump.old)) IsAccepted) }
-    ensures faults { IfErr result (MayEndRun (R.remaining (inner_of dump.old)) (S.remaining (inner_of script.old))) }
-    ensures read { (result ≡ Err RunFault.Read) ↔ ((has_failed dump.new || has_failed script.new) ≡ true) }
-    ensures write { (result ≡ Err RunFault.Write) ↔ ((has_failed replies.new || has_failed out.new) ≡ true) }
-    ensures untouched { IfErr result (λ fault. IsBeforeReplies fault →
-        KeepsBoth (W.contents (inner_of replies.old)) (W.contents (inner_of replies.new)) (D.contents (inner_of out.old)) (D.contents (inner_of out.new))) }
-    ensures unread { IfSome (S.remaining (inner_of script.new)) (λ rest. 0 < length rest →
-        KeepsBoth (W.contents (inner_of replies.old)) (W.contents (inner_of replies.new)) (D.contents (inner_of out.old)) (D.contents (inner_of out.new))) }
-    ensures dump_bounded { ConsumesAtMost (R.remaining (inner_of dump.old)) (R.remaining (inner_of dump.new)) 16777217 }
-    ensures script_bounded { ConsumesAtMost (S.remaining (inner_of script.old)) (S.remaining (inner_of script.new)) 1048577 }
-{
-    let (summary, mut branches) = answer_all(alloc, dump, script, replies)?;
-    let end = branches.dump(0)?;
-    write_and_flush(end.as_slice(), replies, out)?;
-    Ok(summary)
-}
-
-/// A run that writes its replies alone.
-fn run_without_out<A: Allocator + Copy, R: Read, S: Read, W: Write>(
-    alloc: A,
-    dump: &mut Watched<R>,
-    script: &mut Watched<S>,
-    replies: &mut Watched<W>,
-) -> Result<Summary, RunFault>
-    requires dump_open { has_failed dump.old ≡ false }
-    requires script_open { has_failed script.old ≡ false }
-    requires replies_open { has_failed replies.old ≡ false }
-    ensures replies { OnOk result (IfBoth (R.remaining (inner_of dump.old)) (S.remaining (inner_of script.old))
-        (λ bytes script. Appends (W.contents (inner_of replies.old)) (W.contents (inner_of replies.new))
-        (run_text bytes script))) }
-    ensures summary { IfOk result (λ summary. IfBoth (R.remaining (inner_of dump.old)) (S.remaining (inner_of script.old))
-        (λ bytes script. IsSummaryOf (run_answers bytes script) summary)) }
-    ensures prefix { IfBoth (R.remaining (inner_of dump.old)) (S.remaining (inner_of script.old))
-        (λ bytes script. AppendsPrefix (W.contents (inner_of replies.old)) (W.contents (inner_of replies.new))
-        (run_text bytes script)) }
-    ensures accepted { OnOk result (IfSome (R.remaining (inner_of dump.old)) IsAccepted) }
-    ensures faults { IfErr result (MayEndRun (R.remaining (inner_of dump.old)) (S.remaining (inner_of script.old))) }
-    ensures read { (result ≡ Err RunFault.Read) ↔ ((has_failed dump.new || has_failed script.new) ≡ true) }
-    ensures write { (result ≡ Err RunFault.Write) ↔ (has_failed replies.new ≡ true) }
-    ensures untouched { IfErr result (λ fault. IsBeforeReplies fault → Keeps (W.contents (inner_of replies.old)) (W.contents (inner_of replies.new))) }
-    ensures unread { IfSome (S.remaining (inner_of script.new)) (λ rest. 0 < length rest → Keeps (W.contents (inner_of replies.old)) (W.contents (inner_of replies.new))) }
-    ensures dump_bounded { ConsumesAtMost (R.remaining (inner_of dump.old)) (R.remaining (inner_of dump.new)) 16777217 }
-    ensures script_bounded { ConsumesAtMost (S.remaining (inner_of script.old)) (S.remaining (inner_of script.new)) 1048577 }
-{
-    let (summary, _branches) = answer_all(alloc, dump, script, replies)?;
-    flush(replies)?;
-    Ok(summary)
 }
 
 /// Reads both inputs, carries out the script, and writes its replies.

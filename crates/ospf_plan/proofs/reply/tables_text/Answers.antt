@@ -1,4 +1,4 @@
-use Rattle.std.proofs.Common.{◌++◌, ◌∙◌, ap, take, length, arith}
+use Rattle.std.proofs.Common.{◌++◌, ◌∙◌, ap, length, arith}
 use Rattle.std.specs.Prelude.{codes, decimal, flat_map}
 use Rattle.std.proofs.lemmas.List.{take_all}
 use Rattle.table_report.specs.Texts.{table_text}

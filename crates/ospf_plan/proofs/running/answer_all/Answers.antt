@@ -1,4 +1,3 @@
-use Rattle.std.proofs.Common.{◌≡◌}
 use Rattle.streams.specs.Watched.{inner_of}
 use Rattle.streams.specs.WholeText.{IsAll}
 use Rattle.ospf_plan.proofs.Runs.{if_written, if_prefix, if_counted, if_dump, if_nothing}

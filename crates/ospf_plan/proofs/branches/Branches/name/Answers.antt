@@ -1,5 +1,5 @@
 use Rattle.std.proofs.Common.{◌∙◌, ap, sym, subst}
-use Rattle.ospf_plan.specs.Branches.{Named, Sessions, HaveOneBase, named_by, sessions_by, sessions_of, in_branch}
+use Rattle.ospf_plan.specs.Branches.{Named, HaveOneBase, named_by, sessions_by, sessions_of, in_branch}
 use Rattle.ospf_plan.proofs.Naming.{inserted, now_named, one_base, other_goes_on}
 use Rattle.ospf_plan.proofs.branches.Branches.name.Goals as goal
 

@@ -1,5 +1,5 @@
 use Rattle.std.proofs.Common.{◌≡◌, ◌∙◌, ℕ, IfOk, ap, false, sym, subst, true≢false}
-use Rattle.std.specs.Prelude.{OnOk, OnErr}
+use Rattle.std.specs.Prelude.{OnOk}
 use Rattle.std.specs.BTreeMap.{BTreeMap}
 use Rattle.std.proofs.lemmas.Bool.{ne_eqb}
 use Rattle.edit_history.specs.Session.{Session}
