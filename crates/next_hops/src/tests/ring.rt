@@ -7,26 +7,17 @@ use super::plain::plain_hops;
 use crate::Hop;
 use area_graph::Vertex;
 use lsa_codec::{Addr, RouterId};
-use samples::{LsaList, RouterLink, to_network, to_router};
+use samples::{
+    LsaList, RING_ROUTERS, RouterLink, add_ring_networks, ring_network, ring_router, to_network,
+    to_router,
+};
 use spf::distances_by_rounds;
 use std::alloc::Global;
 use std::test::*;
 
-const ROUTERS: u32 = 40;
-
-/// A router of the ring, by its place.
-fn router(place: u32) -> u32 {
-    0x0101_0100 | place % ROUTERS
-}
-
-/// The network of four places of the ring.
-fn network(place: u32) -> u32 {
-    0x0a05_0000 | place / 4 % 10
-}
-
 /// The address of a router's interface.
 fn interface(place: u32, number: u32) -> u32 {
-    0x0a00_0000 | place % ROUTERS << 8 | number
+    0x0a00_0000 | place % RING_ROUTERS << 8 | number
 }
 
 /// A router's links to both neighbours, to its network unless it is the last of the four, at each
@@ -36,18 +27,18 @@ fn links(alloc: Global, place: u32) -> Result<Vec<RouterLink>, Fail>
     requires { place < 40 }
 {
     let mut links = Vec::new(alloc);
-    links.push(to_router(router(place + 1), interface(place, 1), 1))?;
+    links.push(to_router(ring_router(place + 1), interface(place, 1), 1))?;
     let back = if place % 5 == 0 { 2 } else { 1 };
-    links.push(to_router(router(place + 39), interface(place, 2), back))?;
+    links.push(to_router(ring_router(place + 39), interface(place, 2), back))?;
     if place % 4 != 3 {
-        links.push(to_network(network(place), 0x0a06_0000 | place, 2))?;
+        links.push(to_network(ring_network(place), 0x0a06_0000 | place, 2))?;
     }
     if place % 8 == 0 {
-        links.push(to_router(router(place + 20), interface(place, 3), 1))?;
+        links.push(to_router(ring_router(place + 20), interface(place, 3), 1))?;
     }
     if place % 10 == 0 {
-        links.push(to_router(router(place + 1), interface(place, 5), 1))?;
-        links.push(to_router(router(place + 1), interface(place, 4), 1))?;
+        links.push(to_router(ring_router(place + 1), interface(place, 5), 1))?;
+        links.push(to_router(ring_router(place + 1), interface(place, 4), 1))?;
     }
     Ok(links)
 }
@@ -55,19 +46,10 @@ fn links(alloc: Global, place: u32) -> Result<Vec<RouterLink>, Fail>
 /// The ring: 40 routers, and 10 networks of four places each.
 fn ring(alloc: Global) -> Result<Vec<u8>, Fail> {
     let mut area = LsaList::new(alloc);
-    for place in 0..ROUTERS {
-        area.router(router(place), &links(alloc, place)?)?;
+    for place in 0..RING_ROUTERS {
+        area.router(ring_router(place), &links(alloc, place)?)?;
     }
-    for number in 0..10 {
-        let first = 4 * number;
-        let attached = [
-            router(first),
-            router(first + 1),
-            router(first + 2),
-            router(first + 3),
-        ];
-        area.network(network(first), router(first), &attached)?;
-    }
+    add_ring_networks(&mut area)?;
     Ok(area.dump()?)
 }
 
@@ -76,8 +58,8 @@ fn both_programs_agree(rt: HostRuntime) -> Result<(), Fail> {
     let graph = graph_of(rt.alloc(), &ring(rt.alloc())?)?;
     assert_eq!(rt; graph.len(), 50);
     let mut found: usize = 0;
-    for place in 0..ROUTERS {
-        let root = RouterId(router(place));
+    for place in 0..RING_ROUTERS {
+        let root = RouterId(ring_router(place));
         let number = graph.index_of(Vertex::Router(root)).ok_or("a router")?;
         let distances = distances_by_rounds(rt.alloc(), &graph, root)?;
         let plain = plain_hops(rt.alloc(), &graph, &distances, number)?;
@@ -96,7 +78,7 @@ fn both_programs_agree(rt: HostRuntime) -> Result<(), Fail> {
 fn hops_to_the_other_side(rt: HostRuntime) -> Result<(), Fail> {
     let graph = graph_of(rt.alloc(), &ring(rt.alloc())?)?;
     assert!(rt; graph.len() == 50);
-    let hops = hops_from(rt.alloc(), &graph, router(0))?;
+    let hops = hops_from(rt.alloc(), &graph, ring_router(0))?;
     let gateway = Hop::Gateway(Addr(0x0a06_0000), Addr(0x0a06_0002));
     let all = [
         Hop::Link(Addr(interface(0, 1))),

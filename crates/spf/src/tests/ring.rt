@@ -5,11 +5,12 @@ ghost use Rattle.std.specs.Prelude.{◌<◌};
 use super::trees::{graph_of, reached};
 use crate::{Meter, Tree, distances_by_rounds};
 use lsa_codec::RouterId;
-use samples::{LsaList, RouterLink, to_network, to_router};
+use samples::{
+    LsaList, RING_ROUTERS, RouterLink, add_ring_networks, ring_network, ring_router, to_network,
+    to_router,
+};
 use std::alloc::Global;
 use std::test::*;
-
-const ROUTERS: u32 = 40;
 
 /// A router that names one of the ring, and that none names.
 const ALONE: u32 = 0x0909_0909;
@@ -20,16 +21,6 @@ const FROM_FIRST: [u64; 50] = [
     26, 22, 21, 21, 19, 15, 14, 14, 12, 8, 7, 7, 5, 1, 2, 8, 13, 20, 26, 31, 28, 21, 14, 7,
 ];
 
-/// A router of the ring, by its place.
-fn router(place: u32) -> u32 {
-    0x0101_0100 | place % ROUTERS
-}
-
-/// The network of four places of the ring.
-fn network(place: u32) -> u32 {
-    0x0a05_0000 | place / 4 % 10
-}
-
 /// A router's links to both neighbours, whose costs lie between 1 and 4 and are not the same both
 /// ways, to its network unless it is the last of the four, and at each eighth place to a router
 /// that has no link back.
@@ -37,13 +28,13 @@ fn links(alloc: Global, place: u32) -> Result<Vec<RouterLink>, Fail>
     requires { place < 40 }
 {
     let mut links = Vec::new(alloc);
-    links.push(to_router(router(place + 1), 0x0a00_0001, 1 + (place % 3) as u16))?;
-    links.push(to_router(router(place + 39), 0x0a00_0002, 1 + (place % 4) as u16))?;
+    links.push(to_router(ring_router(place + 1), 0x0a00_0001, 1 + (place % 3) as u16))?;
+    links.push(to_router(ring_router(place + 39), 0x0a00_0002, 1 + (place % 4) as u16))?;
     if place % 4 != 3 {
-        links.push(to_network(network(place), 0x0a05_0100, 2))?;
+        links.push(to_network(ring_network(place), 0x0a05_0100, 2))?;
     }
     if place % 8 == 0 {
-        links.push(to_router(router(place + 20), 0x0a00_0003, 1))?;
+        links.push(to_router(ring_router(place + 20), 0x0a00_0003, 1))?;
     }
     Ok(links)
 }
@@ -51,20 +42,11 @@ fn links(alloc: Global, place: u32) -> Result<Vec<RouterLink>, Fail>
 /// The ring: 40 routers, 10 networks of four places each, and the router that stands alone.
 fn ring(alloc: Global) -> Result<Vec<u8>, Fail> {
     let mut area = LsaList::new(alloc);
-    for place in 0..ROUTERS {
-        area.router(router(place), &links(alloc, place)?)?;
+    for place in 0..RING_ROUTERS {
+        area.router(ring_router(place), &links(alloc, place)?)?;
     }
-    for number in 0..10 {
-        let first = 4 * number;
-        let attached = [
-            router(first),
-            router(first + 1),
-            router(first + 2),
-            router(first + 3),
-        ];
-        area.network(network(first), router(first), &attached)?;
-    }
-    let named = [to_router(router(0), 0x0a00_0004, 1)];
+    add_ring_networks(&mut area)?;
+    let named = [to_router(ring_router(0), 0x0a00_0004, 1)];
     area.router(ALONE, &named)?;
     Ok(area.dump()?)
 }
@@ -86,8 +68,8 @@ fn both_programs_agree(rt: HostRuntime) -> Result<(), Fail> {
     let graph = graph_of(rt.alloc(), &ring(rt.alloc())?)?;
     assert_eq!(rt; graph.len(), 51);
     let mut meter = Meter::new();
-    for place in 0..ROUTERS {
-        let root = RouterId(router(place));
+    for place in 0..RING_ROUTERS {
+        let root = RouterId(ring_router(place));
         let tree = Tree::build(rt.alloc(), &graph, root, &mut meter)?;
         let by_rounds = distances_by_rounds(rt.alloc(), &graph, root)?;
         assert!(rt; agree(&tree, &by_rounds), "from place {place}");
@@ -105,7 +87,7 @@ fn both_programs_agree(rt: HostRuntime) -> Result<(), Fail> {
 fn distances_on_the_ring(rt: HostRuntime) -> Result<(), Fail> {
     let graph = graph_of(rt.alloc(), &ring(rt.alloc())?)?;
     let mut meter = Meter::new();
-    let tree = Tree::build(rt.alloc(), &graph, RouterId(router(0)), &mut meter)?;
+    let tree = Tree::build(rt.alloc(), &graph, RouterId(ring_router(0)), &mut meter)?;
     assert_eq!(rt; tree.order().len(), 50);
     for (index, distance) in reached(rt.alloc(), &tree)? {
         assert_eq!(rt; distance, FROM_FIRST.get(index).copied());
