@@ -11,7 +11,8 @@ use Rattle.lsa_codec.specs.Prefix.{Net}
 use Rattle.lsa_codec.specs.Making.{recounted, stub_text, with_stub, IsExtensionOf, IsMakeFaultOf}
 use Rattle.lsdb.specs.declared.section.Section.TheVariants.{Area}
 use Rattle.lsdb.specs.declared.slot.SlotId.{SlotId}
-use Rattle.lsdb.specs.Lists.{Lists, IsDatabase, has_key, size, largest_text}
+use Rattle.lsdb.specs.Limits.{longest_dump}
+use Rattle.lsdb.specs.Lists.{Lists, IsDatabase, has_key, size}
 use Rattle.lsdb.specs.Places.{Places, lists_of}
 use Rattle.lsdb.proofs.Dominated.{extended_safe}
 use Rattle.edit_script.specs.declared.edit.Edit.TheVariants.{AddStub}
@@ -103,6 +104,6 @@ pub stub_planned : (d : Places) (area : AreaId) (router : RouterId) (prefix : Ne
 stub_planned d area router prefix metric slot lsa new swap items sound at short is made_new extension swap_is items_is =
     let ruled : rule_of (lists_of d) (AddStub area router prefix metric) ≡ Ok (one_lsa (Area area) (router_key router.0) (rewritten new)) =
     stub_made d area router prefix metric slot lsa false at short is ∙ ap (λ (x : List ℕ). full_rule area router x false) (made_same prefix metric lsa new short made_new) in
-    let room : size (lists_of d) + 12 ≤ largest_text = ltb-false largest_text (size (lists_of d) + 12) is in
+    let room : size (lists_of d) + 12 ≤ longest_dump = ltb-false longest_dump (size (lists_of d) + 12) is in
     planned_one d (AddStub area router prefix metric) (Area area) (router_key router.0) slot lsa (Some new) 1 swap items sound at.named at.held (key_is d (Area area) (router_key router.0) slot lsa at) refl
     (extended_safe d slot lsa new at.held extension.accepted extension.key (omega (arith, extension.size, room)) sound) ruled swap_is items_is

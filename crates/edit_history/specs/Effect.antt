@@ -15,7 +15,8 @@ use Rattle.lsa_codec.specs.Making.{with_cost, without_link, without_links, leads
 use Rattle.lsa_codec.specs.Originating.{with_metric, new_summary, new_external}
 use Rattle.lsdb.specs.declared.section.Section.{Section}
 use Rattle.lsdb.specs.declared.section.Section.TheVariants.{Area, AsWide}
-use Rattle.lsdb.specs.Lists.{AreaHead, SectionLsas, Lists, is_section, has_key, lsas_of, size, largest_text}
+use Rattle.lsdb.specs.Limits.{longest_dump}
+use Rattle.lsdb.specs.Lists.{AreaHead, SectionLsas, Lists, is_section, has_key, lsas_of, size}
 use Rattle.edit_script.specs.declared.edit.Edit.{Edit}
 use Rattle.edit_script.specs.declared.edit.Edit.TheVariants.{Cost, DropLink, FailLink, FailNet, FailRouter, AddStub, Summary, AddSummary, AddExternal, DropExternal}
 use Rattle.edit_script.specs.declared.edit.MetricType.{MetricType}
@@ -74,7 +75,7 @@ stub_octets = 12
 
 -- whether the dump would be too long with so many octets more
 abbrev pub is_dump_full : Lists → ℕ → Bool
-is_dump_full db more = nat_lt largest_text (size db + more)
+is_dump_full db more = nat_lt longest_dump (size db + more)
 
 -- the most LSAs that a section holds
 abbrev pub most_lsas : Section → ℕ
