@@ -1,5 +1,5 @@
 -- The effect of an edit on a database: the first refusal, or the rule that it follows.
-use Rattle.std.specs.Prelude.{ℕ, ◌+◌, ◌==◌, ◌&&◌, ◌||◌, nat_le, nat_lt, Bool, true, false, List, length, Option, Some, None, Result, Ok, Err, if◌then◌else◌}
+use Rattle.std.specs.Prelude.{ℕ, ◌+◌, ◌==◌, ◌&&◌, ◌||◌, nat_le, nat_lt, Bool, true, false, List, length, filter, Option, Some, None, Result, Ok, Err, if◌then◌else◌}
 use Rattle.std.specs.List.{list_any, find}
 use Rattle.lsa_codec.specs.LsTypes.{router_lsa, network_lsa, summary_lsa, external_lsa}
 use Rattle.lsa_codec.specs.declared.address.Addr.{Addr}
@@ -209,11 +209,27 @@ changes db edit = rule_of db edit >>= λ rule. Ok (changes_by rule db)
 
 -- ---- which areas it touches
 
--- router-LSAs and network-LSAs make up the graph of an area (RFC 2328, 16.1)
+-- the types of the LSAs that make up the graph of an area: router-LSAs and network-LSAs (RFC 2328, 16.1)
+abbrev pub is_graph_kind : ℕ → Bool
+is_graph_kind kind = (kind == router_lsa) || (kind == network_lsa)
+
 abbrev pub is_of_graph : AreaId → Section → ℕ → Bool
-is_of_graph area (Area id) kind = (id.0 == area.0) && ((kind == router_lsa) || (kind == network_lsa))
+is_of_graph area (Area id) kind = (id.0 == area.0) && is_graph_kind kind
 is_of_graph area AsWide kind = false
 
 -- whether a router-LSA or network-LSA of the area is among the changes
 abbrev pub touched : AreaId → List Change → Bool
 touched area cs = list_any (λ (c : Change). is_of_graph area c.section c.kind) cs
+
+-- a refused edit touches no area
+abbrev pub touched_by : AreaId → Result (List Change) EditFault → Bool
+touched_by area (Ok cs) = touched area cs
+touched_by area (Err fault) = false
+
+-- whether an edit touches an area: it rewrites, removes or adds a router-LSA or network-LSA of it
+abbrev pub edit_touches : AreaId → Lists → Edit → Bool
+edit_touches area db edit = touched_by area (changes db edit)
+
+-- the router-LSAs and network-LSAs of an area, in order
+abbrev pub graph_lsas : AreaId → Lists → List (List ℕ)
+graph_lsas area db = filter (λ lsa. is_graph_kind (kind_of lsa)) (lsas_of (Area area) db)

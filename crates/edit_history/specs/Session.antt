@@ -1,11 +1,12 @@
 -- Sessions: a base, the edits done, and the edits undone.
-use Rattle.std.specs.Prelude.{◌≡◌, ℕ, ◌-◌, nat_lt, List, [], ◌∷◌, ◌++◌, length, map, reverse, take, drop, Result, Ok, Err, if◌then◌else◌}
+use Rattle.std.specs.Prelude.{◌≡◌, ℕ, ◌-◌, nat_lt, Bool, false, ◌||◌, List, [], ◌∷◌, ◌++◌, length, map, reverse, take, drop, Result, Ok, Err, if◌then◌else◌}
+use Rattle.lsa_codec.specs.declared.address.AreaId.{AreaId}
 use Rattle.lsdb.specs.Lists.{Lists}
 use Rattle.lsdb.specs.Places.{Places, lists_of}
 use Rattle.edit_script.specs.declared.edit.Edit.{Edit}
 use Rattle.edit_history.specs.declared.fault.EditFault.{EditFault}
 use Rattle.edit_history.specs.declared.fault.EditFault.TheVariants.{HistoryFull}
-use Rattle.edit_history.specs.Effect.{effect, ◌>>=◌}
+use Rattle.edit_history.specs.Effect.{effect, ◌>>=◌, edit_touches}
 use Rattle.edit_history.specs.Exchange.{RecordData}
 use Rattle.edit_history.specs.Journal.{HistoryData, origin}
 
@@ -64,6 +65,21 @@ moved_back k s = record { base = s.base; done = take (length s.done - k) s.done;
 -- the first k of the undone edits move to the end of the done ones
 abbrev pub moved_on : ℕ → Session → Session
 moved_on k s = record { base = s.base; done = s.done ++ take k s.undone; undone = drop k s.undone }
+
+-- ---- which areas the edits touch
+
+-- whether one of some edits, carried out in order, touches an area
+abbrev pub edits_touch : AreaId → Lists → List Edit → Bool
+edits_touch area db [] = false
+edits_touch area db (e ∷ es) = edit_touches area db e || edits_touch area (unless_refused db (effect db e)) es
+
+-- whether one of the last k done edits touches an area
+abbrev pub undo_touches : ℕ → AreaId → Session → Bool
+undo_touches k area s = edits_touch area (state (moved_back k s)) (drop (length s.done - k) s.done)
+
+-- whether one of the first k undone edits touches an area
+abbrev pub redo_touches : ℕ → AreaId → Session → Bool
+redo_touches k area s = edits_touch area (state s) (take k s.undone)
 
 -- ---- the session that a history shows at a database
 

@@ -16,9 +16,7 @@ ghost use Rattle.edit_history.specs.Failing.{fate_by, shortened};
 ghost use Rattle.edit_history.specs.Applied.{Planned, IsRefused};
 
 use crate::fault::EditFault;
-use crate::lookup::{
-    Wanted, area_section, first, has_router, router_lsa_in,
-};
+use crate::lookup::{Wanted, area_section, first, has_router, router_lsa_in};
 use crate::swap::Swap;
 use lsa_codec::{
     Addr, AreaId, Key, Link, LinkKind, Lsa, MakeFault, NETWORK_LSA, ROUTER_LSA, RouterId,

@@ -1,15 +1,16 @@
 //! Laws of records and sessions.
 
-ghost use Rattle.std.specs.Prelude.{◌≡◌, ◌≤◌, ℕ, List, Ok, IsOk, length};
-ghost use Rattle.lsdb.specs.Lists.{IsDatabase};
+ghost use Rattle.std.specs.Prelude.{◌≡◌, ◌≤◌, ℕ, false, List, Ok, IsOk, length};
+ghost use Rattle.lsa_codec.specs.declared.address.AreaId.{AreaId};
+ghost use Rattle.lsdb.specs.Lists.{IsDatabase, Lists};
 ghost use Rattle.lsdb.specs.Places.{Places, lists_of};
 ghost use Rattle.edit_script.specs.declared.edit.Edit.{Edit};
 ghost use Rattle.edit_history.specs.Rules.{Change};
-ghost use Rattle.edit_history.specs.Effect.{changes};
-ghost use Rattle.edit_history.specs.Exchange.{SwapData, RecordData, CanDo, CanUndo, UndoesAgain, DoesAgain, undone_places};
+ghost use Rattle.edit_history.specs.Effect.{effect, changes, edit_touches, graph_lsas};
+ghost use Rattle.edit_history.specs.Exchange.{SwapData, RecordData, CanDo, CanUndo, UndoesAgain, DoesAgain, undone_places, touches};
 ghost use Rattle.edit_history.specs.Applied.{Applied, TakesBack, CarriesOut, Tells};
 ghost use Rattle.edit_history.specs.Journal.{HistoryData, Links};
-ghost use Rattle.edit_history.specs.Session.{Session, session_of, state, effects, edited_by, moved_back, moved_on};
+ghost use Rattle.edit_history.specs.Session.{Session, session_of, state, effects, edited_by, moved_back, moved_on, undo_touches, redo_touches};
 
 /// What is done is undone again, to the same places and swaps, and the other way round.
 pub fn inverses()
@@ -40,4 +41,23 @@ pub fn moves()
     ensures redone { (s : Session) (k : ℕ) → k ≤ length s.done → moved_on k (moved_back k s) ≡ s }
     ensures undone { (s : Session) (k : ℕ) → k ≤ length s.undone → moved_back k (moved_on k s) ≡ s }
     ensures back { (s t : Session) (es : List Edit) → edited_by s es ≡ Ok t → state (moved_back (length es) t) ≡ state s }
+{}
+
+/// An edit that touches no router-LSA or network-LSA of an area leaves those of the area as they
+/// are, in their order. So do edits that are undone or redone, where none of them touches one. The
+/// record of an edit that was carried out touches the areas that the edit touches.
+pub fn untouched_areas_stay()
+    ensures applied { (d e : Places) (edit : Edit) (r : RecordData) (area : AreaId)
+        → Applied d e edit r → touches area r ≡ edit_touches area (lists_of d) edit }
+    ensures edit { (db after : Lists) (edit : Edit) (area : AreaId) → IsDatabase db
+        → effect db edit ≡ Ok after → edit_touches area db edit ≡ false
+        → graph_lsas area after ≡ graph_lsas area db }
+    ensures undone { (d : Places) (h : HistoryData) (k : ℕ) (area : AreaId) → Links d h
+        → undo_touches k area (session_of d h) ≡ false
+        → graph_lsas area (state (moved_back k (session_of d h)))
+        ≡ graph_lsas area (state (session_of d h)) }
+    ensures redone { (d : Places) (h : HistoryData) (k : ℕ) (area : AreaId) → Links d h
+        → redo_touches k area (session_of d h) ≡ false
+        → graph_lsas area (state (moved_on k (session_of d h)))
+        ≡ graph_lsas area (state (session_of d h)) }
 {}

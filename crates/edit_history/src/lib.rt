@@ -22,7 +22,7 @@ mod swap;
 pub use applying::apply;
 pub use fault::{EditFault, RedoFault, UndoFault};
 pub use history::History;
-pub use laws::{changes_told, folded, inverses, moves};
+pub use laws::{changes_told, folded, inverses, moves, untouched_areas_stay};
 pub use record::{Record, replay, revert};
 
 #[cfg(test)]

@@ -11,9 +11,7 @@ ghost use Rattle.edit_history.specs.Effect.{router_lsa_of, has_router, prefix_of
 ghost use Rattle.edit_history.specs.Plans.{IsFirst, is_wanted, passes};
 
 use crate::fault::EditFault;
-use lsa_codec::{
-    Addr, AreaId, EXTERNAL_LSA, Key, Lsa, NETWORK_LSA, Prefix, RouterId, SUMMARY_LSA,
-};
+use lsa_codec::{Addr, AreaId, EXTERNAL_LSA, Key, Lsa, NETWORK_LSA, Prefix, RouterId, SUMMARY_LSA};
 use lsdb::{Database, Section, SlotId};
 use std::alloc::Allocator;
 
