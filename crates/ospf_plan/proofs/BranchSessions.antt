@@ -20,7 +20,7 @@ use Rattle.edit_history.specs.declared.fault.EditFault.TheVariants.{HistoryFull}
 use Rattle.edit_history.specs.Effect.{effect}
 use Rattle.edit_history.specs.Session.{Session, edited, accepted, start, state, most_edits, moved_back, moved_on}
 use Rattle.recalculate.specs.Planning.{PlannerValue}
-use Rattle.ospf_plan.specs.Branches.{Named, sessions_by, sessions_of, named_by, is_named, in_branch, session_or_begin, HaveOneBase}
+use Rattle.ospf_plan.specs.Branches.{Named, sessions_by, sessions_of, named_by, is_named, with_session, session_or_begin, HaveOneBase}
 use Rattle.ospf_plan.specs.Replies.{after, unless_refused}
 
 -- ---- a command leaves the base
@@ -71,15 +71,15 @@ first_at named t o zero false e same = absurd cc
 first_at named t o (suc branch) false e same = rw (eqb-zero-suc branch) (ap (λ base. session_or_begin base o) same)
 
 first_went : (named : Named) (t : Session) → t.base ≡ named.first.base
-    → sessions_of (record { first = t; others = named.others }) ≡ in_branch 0 t (sessions_of named)
+    → sessions_of (record { first = t; others = named.others }) ≡ with_session 0 t (sessions_of named)
 first_went named t same = λ i branch. first_at named t (found named.others branch) branch (eqb branch 0) refl same i
 
 pub first_goes_on : (named : Named) (branch : ℕ) (t : Session) (c : Command) → branch ≡ 0 → t ≡ after named.first c
-    → sessions_of (record { first = t; others = named.others }) ≡ in_branch branch (after (sessions_of named branch) c) (sessions_of named)
+    → sessions_of (record { first = t; others = named.others }) ≡ with_session branch (after (sessions_of named branch) c) (sessions_of named)
 first_goes_on named branch t c zeroth is =
     first_went named t (ap (λ (s : Session). s.base) is ∙ after_base named.first c)
-    ∙ ap (λ (s : Session). in_branch 0 s (sessions_of named)) is
-    ∙ ap (λ k. in_branch k (after (sessions_of named k) c) (sessions_of named)) (sym zeroth)
+    ∙ ap (λ (s : Session). with_session 0 s (sessions_of named)) is
+    ∙ ap (λ k. with_session k (after (sessions_of named k) c) (sessions_of named)) (sym zeroth)
 
 pub first_base : (named : Named) (t : Session) → t.base ≡ named.first.base → HaveOneBase named → HaveOneBase (record { first = t; others = named.others })
 first_base named t same one branch = subst (λ base. IfSome (found named.others branch) (λ s. s.base ≡ base)) (sym same) (one branch)
@@ -99,7 +99,7 @@ other_at named new branch t behind went other false e =
     ap (λ o. cond (eqb other 0) named.first (session_or_begin named.first.base o)) (went.others other e)
 
 pub other_goes_on : (named : Named) (new : List (ℕ × Session)) (branch : ℕ) (t : Session) → eqb branch 0 ≡ false → GoesOn named.others new branch t
-    → sessions_of (record { first = named.first; others = new }) ≡ in_branch branch t (sessions_of named)
+    → sessions_of (record { first = named.first; others = new }) ≡ with_session branch t (sessions_of named)
 other_goes_on named new branch t behind went = λ i other. other_at named new branch t behind went other (eqb branch other) refl i
 
 base_at : (named : Named) (new : List (ℕ × Session)) (branch : ℕ) (t : Session) → t.base ≡ named.first.base → GoesOn named.others new branch t → HaveOneBase named
@@ -159,11 +159,11 @@ base_of named branch s was one = subst (λ o. IfSome o (λ (x : Session). x.base
 
 pub written_on : (first : PlannerValue) (old new : BTreeMap ℕ PlannerValue) (branch : ℕ) (p q : PlannerValue) (c : Command) → eqb branch 0 ≡ false
     → Some p ≡ planner_at old.entries branch → WritesThrough nat_cmp (nat_cmp branch) old q new → q.session ≡ after p.session c
-    → sessions_of (named_by first new.entries) ≡ in_branch branch (after (sessions_of (named_by first old.entries) branch) c) (sessions_of (named_by first old.entries))
+    → sessions_of (named_by first new.entries) ≡ with_session branch (after (sessions_of (named_by first old.entries) branch) c) (sessions_of (named_by first old.entries))
 written_on first old new branch p q c behind was writes is =
     let named : Named = named_by first old.entries in
     other_goes_on named (sessions_by new.entries) branch q.session behind (written old new branch p q was writes)
-    ∙ ap (λ (u : Session). in_branch branch u (sessions_of named))
+    ∙ ap (λ (u : Session). with_session branch u (sessions_of named))
     (is ∙ ap (λ (u : Session). after u c) (sym (session_of_named first old.entries branch p behind was)))
 
 -- a planner that was written back with its session
