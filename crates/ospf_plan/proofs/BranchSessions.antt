@@ -1,6 +1,6 @@
 -- The sessions of branches when one of them goes on.
-use Rattle.std.proofs.Common.{◌≡◌, ℕ, List, [], ◌∷◌, Bool, true, false, eqb, cond, Option, None, Some, Result, Ok, Err, refl, sym, ap, subst, ◌∙◌, zero, suc, length, ltb}
-use Rattle.std.specs.Prelude.{nat_le, IfSome, IsSome}
+use Rattle.std.proofs.Common.{◌≡◌, ℕ, List, [], ◌∷◌, Bool, true, false, eqb, cond, Option, None, Some, Result, Ok, Err, refl, sym, ap, subst, ◌∙◌, zero, suc, length, ltb, true≢false}
+use Rattle.std.specs.Prelude.{nat_le, is_some, IfSome, IsSome}
 use Rattle.std.specs.Map.{lookup, set_value}
 use Rattle.std.specs.BTreeMap.{BTreeMap, Updates, WritesThrough, is_at}
 use Rattle.std.specs.Cmp.{unsigned_tied}
@@ -20,8 +20,9 @@ use Rattle.edit_history.specs.declared.fault.EditFault.TheVariants.{HistoryFull}
 use Rattle.edit_history.specs.Effect.{effect}
 use Rattle.edit_history.specs.Session.{Session, edited, accepted, start, state, most_edits, moved_back, moved_on}
 use Rattle.recalculate.specs.Planning.{PlannerValue}
-use Rattle.ospf_plan.specs.Branches.{Named, sessions_by, sessions_of, named_by, is_named, with_session, session_or_begin, HaveOneBase}
-use Rattle.ospf_plan.specs.Replies.{after, unless_refused}
+use Rattle.ospf_plan.specs.Branches.{Named, Sessions, sessions_by, sessions_of, named_by, with_session, session_or_begin, HaveOneBase}
+use Rattle.ospf_plan.specs.steps.Planners.{has_planner}
+use Rattle.ospf_plan.specs.Replies.{Said, reply_to, after, unless_refused}
 
 -- ---- a command leaves the base
 
@@ -139,7 +140,7 @@ pub written : (old new : BTreeMap ℕ PlannerValue) (branch : ℕ) (p q : Planne
 written old new branch p q was writes = inserted old new branch q (writes.3 (subst (λ o. IsSome o) was refl))
 
 -- it is named then
-pub now_named : (first : Session) (old new : List (ℕ × Session)) (branch : ℕ) (t : Session) → eqb branch 0 ≡ false → GoesOn old new branch t → is_named (the_named first new) branch ≡ true
+pub now_named : (first : Session) (old new : List (ℕ × Session)) (branch : ℕ) (t : Session) → eqb branch 0 ≡ false → GoesOn old new branch t → has_planner (the_named first new) branch ≡ true
 now_named first old new branch t behind went = rw (behind, went.at) refl
 
 -- the session of another branch than 0, where there is a planner for it and where there is none
@@ -151,7 +152,7 @@ pub session_of_unnamed : (first : PlannerValue) (ps : List (ℕ × PlannerValue)
     → sessions_of (named_by first ps) branch ≡ start first.session.base
 session_of_unnamed first ps branch behind none = rw (behind, shown ps branch, sym none) refl
 
-pub not_named : (first : PlannerValue) (ps : List (ℕ × PlannerValue)) (branch : ℕ) → eqb branch 0 ≡ false → None ≡ planner_at ps branch → is_named (named_by first ps) branch ≡ false
+pub not_named : (first : PlannerValue) (ps : List (ℕ × PlannerValue)) (branch : ℕ) → eqb branch 0 ≡ false → None ≡ planner_at ps branch → has_planner (named_by first ps) branch ≡ false
 not_named first ps branch behind none = rw (behind, shown ps branch, sym none) refl
 
 pub base_of : (named : Named) (branch : ℕ) (s : Session) → Some s ≡ found named.others branch → HaveOneBase named → s.base ≡ named.first.base
@@ -182,6 +183,37 @@ written_same old new branch p q was writes same =
     ap sessions_by writes.0 ∙ sessions_by-set_value (is_at (nat_cmp branch)) old.entries q
     ∙ ap (set_value (is_at (nat_cmp branch)) (sessions_by old.entries)) same
     ∙ set_value_same (is_at (nat_cmp branch)) (sessions_by old.entries) p.session (sym (shown_some old.entries branch p was))
+
+-- ---- a branch that is at its beginning
+
+own_at : (branch other : ℕ) (all : Sessions) (same : Bool) → eqb branch other ≡ same → all other ≡ cond same (all branch) (all other)
+own_at branch other all true e = ap all (sym (eqb-true branch other e))
+own_at branch other all false e = refl
+
+with_own : (branch : ℕ) (all : Sessions) → all ≡ with_session branch (all branch) all
+with_own branch all = λ i other. own_at branch other all (eqb branch other) refl i
+
+begins_at : (first : Session) (o : Option Session) (z : Bool) → z ≡ false → cond z true (is_some o) ≡ false
+    → cond z first (session_or_begin first.base o) ≡ start first.base
+begins_at first o true behind none = absurd (true≢false behind)
+begins_at first None false behind none = refl
+begins_at first (Some s) false behind none = absurd (true≢false none)
+
+begins : (named : Named) (branch : ℕ) → eqb branch 0 ≡ false → has_planner named branch ≡ false → sessions_of named branch ≡ start named.first.base
+begins named branch behind none = begins_at named.first (found named.others branch) (eqb branch 0) behind none
+
+-- what a command is answered there, and that it stays there
+pub begins_reply : (named : Named) (branch : ℕ) (c : Command) (said : Said) → eqb branch 0 ≡ false → has_planner named branch ≡ false
+    → said ≡ reply_to (start named.first.base) c → said ≡ reply_to (sessions_of named branch) c
+begins_reply named branch c said behind none is = is ∙ ap (λ (s : Session). reply_to s c) (sym (begins named branch behind none))
+
+pub begins_stays : (named : Named) (branch : ℕ) (c : Command) → eqb branch 0 ≡ false → has_planner named branch ≡ false
+    → after (start named.first.base) c ≡ start named.first.base
+    → sessions_of named ≡ with_session branch (after (sessions_of named branch) c) (sessions_of named)
+begins_stays named branch c behind none stays =
+    let at = begins named branch behind none in
+    with_own branch (sessions_of named)
+    ∙ ap (λ (s : Session). with_session branch s (sessions_of named)) (at ∙ sym stays ∙ ap (λ (s : Session). after s c) (sym at))
 
 -- what follows from what holds of a success, or of an error
 pub on_ok : {T E P Q : Type 0} (r : Result T E) → (P → Q) → OnOk r P → OnOk r Q

@@ -5,3 +5,4 @@ pub mod KnownInputs
 pub mod BranchSessions
 pub mod BranchesApart
 pub mod AllTables
+pub mod RefusedCommands

@@ -1,5 +1,5 @@
 -- The branches of a run: studies that begin at the loaded database, each with a session of its own.
-use Rattle.std.specs.Prelude.{◌≡◌, ℕ, ◌==◌, ◌||◌, if◌then◌else◌, Bool, is_some, IfSome, List, map, Option, None, Some}
+use Rattle.std.specs.Prelude.{◌≡◌, ℕ, ◌==◌, if◌then◌else◌, IfSome, List, map, Option, None, Some}
 use Rattle.std.specs.Map.{lookup}
 use Rattle.std.specs.Ordering.{nat_cmp, eq_by_cmp}
 use Rattle.lsdb.specs.Lists.{Lists}
@@ -30,9 +30,6 @@ sessions_by planners = map (λ p. (p.0, p.1.session)) planners
 
 abbrev pub named_by : PlannerValue → List (ℕ × PlannerValue) → Named
 named_by first others = record { first = first.session; others = sessions_by others }
-
-abbrev pub is_named : Named → ℕ → Bool
-is_named named branch = (branch == 0) || is_some (lookup (eq_by_cmp nat_cmp branch) named.others)
 
 -- a branch without a planner is at its beginning
 abbrev pub session_or_begin : Lists → Option Session → Session

@@ -1,8 +1,7 @@
 -- The command line of the program, as clap reads it.
 use Rattle.std.specs.Prelude.{◌≡◌, List, Option, Some, codes, true, option_map, string_bytes}
-use Rattle.clap.specs.Words.{App, Rule, Text, first_of, first_value, matches_of, new_app, new_rule, with_rule}
+use Rattle.clap.specs.Words.{App, Rule, Text, first_of, matches_of, new_app, new_rule, with_rule}
 use Rattle.clap.specs.declared.builder.action.ArgAction.TheVariants.{Set}
-use Rattle.clap.specs.declared.parser.matches.Found.{Found}
 use Rattle.ospf_plan.specs.declared.command_line.Options.{Options}
 
 -- an option `--NAME FILE`
@@ -28,9 +27,3 @@ pub record IsGiven (words : List Text) (o : Options) : Type 0 where
   pub dump : option_map string_bytes o.dump ≡ value_of words (codes "dump")
   pub script : option_map string_bytes o.script ≡ value_of words (codes "script")
   pub out : option_map string_bytes o.out ≡ value_of words (codes "out")
-
--- each field has the value of its option in what clap found
-pub record IsRead (found : Found) (o : Options) : Type 0 where
-  pub dump : option_map string_bytes o.dump ≡ first_value found (codes "dump")
-  pub script : option_map string_bytes o.script ≡ first_value found (codes "script")
-  pub out : option_map string_bytes o.out ≡ first_value found (codes "out")

@@ -4,7 +4,8 @@ ghost use Rattle.std.specs.Prelude.{◌≡◌, ◌<◌, ◌==◌, IfOk, OnOk, On
 ghost use Rattle.lsdb.specs.Places.{lists_of};
 ghost use Rattle.lsdb.specs.Text.{text};
 ghost use Rattle.edit_history.specs.Session.{start, state};
-ghost use Rattle.ospf_plan.specs.Branches.{all_begin, with_session, is_named, sessions_of};
+ghost use Rattle.ospf_plan.specs.Branches.{all_begin, with_session, sessions_of};
+ghost use Rattle.ospf_plan.specs.steps.Planners.{has_planner};
 ghost use Rattle.ospf_plan.specs.Replies.{reply_to, after, takes_memory, said_by};
 
 use crate::commands::execute;
@@ -84,7 +85,7 @@ impl<A: Allocator + Copy> Branches<A> {
     /// Carries a command out in a branch that is at its beginning, and gives it a planner if it may take memory.
     fn step_first(&mut self, branch: u8, command: &Command) -> Result<Reply<A>, AllocError>
         requires behind { (branch == 0) ≡ false }
-        requires new { is_named self.old branch ≡ false }
+        requires new { has_planner self.old branch ≡ false }
         ensures reply { IfOk result (λ reply. said_by reply ≡ reply_to (sessions_of self.old branch) command.now) }
         ensures sessions { OnOk result (sessions_of self.new
             ≡ with_session branch (after (sessions_of self.old branch) command.now) (sessions_of self.old)) }
@@ -103,7 +104,7 @@ impl<A: Allocator + Copy> Branches<A> {
     /// Begins a branch, with its first command.
     fn begin(&mut self, branch: u8, command: &Command) -> Result<Reply<A>, AllocError>
         requires behind { (branch == 0) ≡ false }
-        requires new { is_named self.old branch ≡ false }
+        requires new { has_planner self.old branch ≡ false }
         ensures reply { IfOk result (λ reply. said_by reply ≡ reply_to (sessions_of self.old branch) command.now) }
         ensures sessions { OnOk result (sessions_of self.new
             ≡ with_session branch (after (sessions_of self.old branch) command.now) (sessions_of self.old)) }

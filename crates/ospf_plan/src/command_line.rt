@@ -3,7 +3,8 @@
 ghost use Rattle.std.specs.Prelude.{◌≡◌, false, [], map, option_map, string_bytes, IfOk, IfErr, OnOk};
 ghost use Rattle.clap.specs.Words.{app_of, fault_of, first_value, found_of, rule_of};
 ghost use Rattle.ospf_plan.specs.declared.command_line.OptionsFault.TheVariants.{OutOfMemory};
-ghost use Rattle.ospf_plan.specs.CommandLine.{file_rule, ospf_plan, IsGiven, IsRead};
+ghost use Rattle.ospf_plan.specs.CommandLine.{file_rule, ospf_plan, IsGiven};
+ghost use Rattle.ospf_plan.specs.steps.FoundFiles.{IsRead};
 ghost use Rattle.ospf_plan.specs.OptionsFaults.{IsFaultOf, IsRefusal};
 
 use crate::help::{ABOUT, COMMANDS, VERSION};

@@ -1,6 +1,8 @@
 //! The files that the command line names.
 
-ghost use Rattle.std.specs.Prelude.{◌≡◌, IfErr, Ok};
+ghost use Rattle.std.specs.Prelude.{◌≡◌, ◌↔◌, false, true, IfOk, IfErr, OnOk, OnErr, IsErr};
+ghost use Rattle.std.specs.Io.KnownBytes.{Appends};
+ghost use Rattle.streams.specs.Watched.{inner_of, has_failed};
 
 use crate::command_line::Options;
 use crate::fault::{ExitFault, FileArg, RunFault};
@@ -72,14 +74,20 @@ fn save(rt: &HostRuntime, path: &str, dump: &[u8]) -> Result<(), ExitFault> {
     write_saved(&mut Watched::new(file), dump)
 }
 
-/// Writes the dump that a script leaves.
+/// Writes the dump that a script leaves, and flushes it.
 fn write_saved<W: Write>(file: &mut Watched<W>, dump: &[u8]) -> Result<(), ExitFault>
+    requires { has_failed file.old ≡ false }
+    ensures whole { OnOk result (Appends (W.contents (inner_of file.old)) (W.contents (inner_of file.new)) dump.now) }
+    ensures failed { IsErr result ↔ (has_failed file.new ≡ true) }
+    ensures fault { IfErr result (λ fault. fault ≡ ExitFault.Run RunFault.Write) }
 {
-    Ok(write_and_flush(file, dump).map_err(|_| ExitFault::Run(RunFault::Write))?)
+    write_and_flush(file, dump).map_err(|_| ExitFault::Run(RunFault::Write))
 }
 
 /// The file, or the fault that it can not be opened.
 fn opened<T>(file: io::Result<T>, name: FileArg) -> Result<T, ExitFault>
+    ensures file { IfOk file (λ file. result ≡ Ok file) }
+    ensures fault { OnErr file (result ≡ Err (ExitFault.Open name)) }
 {
     file.map_err(|_| ExitFault::Open(name))
 }

@@ -4,7 +4,8 @@ use Rattle.std.specs.BTreeMap.{BTreeMap}
 use Rattle.std.proofs.lemmas.Bool.{ne_eqb}
 use Rattle.edit_history.specs.Session.{Session}
 use Rattle.recalculate.specs.Planning.{PlannerValue}
-use Rattle.ospf_plan.specs.Branches.{Named, is_named, named_by, sessions_by, sessions_of, with_session}
+use Rattle.ospf_plan.specs.Branches.{Named, named_by, sessions_by, sessions_of, with_session}
+use Rattle.ospf_plan.specs.steps.Planners.{has_planner}
 use Rattle.ospf_plan.specs.Replies.{after, reply_to, said_by}
 use Rattle.ospf_plan.proofs.BranchSessions.{the_named, first_goes_on, first_base, not_named, now_named, one_base, session_of_named, shown_some, written, written_on, written_same, base_of, on_ok, on_err}
 use Rattle.ospf_plan.proofs.branches.Branches.step.Goals as goal
@@ -69,7 +70,7 @@ returns-in-Some-clause-reply g c =
 
 pub step_first-requires-clause-new : goal.step_first-requires-clause-new
 step_first-requires-clause-new g c =
-    subst (λ (m : BTreeMap ℕ PlannerValue). is_named (named_by c.self.inside.first m.entries) c.args.branch ≡ false) (sym c.get_mut.follows.holds-at-none)
+    subst (λ (m : BTreeMap ℕ PlannerValue). has_planner (named_by c.self.inside.first m.entries) c.args.branch ≡ false) (sym c.get_mut.follows.holds-at-none)
     (not_named c.self.inside.first c.self.inside.others.entries c.args.branch (ne_eqb c.args.branch 0 c.if-branch-eq0.false) c.in-None.ensures.value)
 
 pub returns-in-None-clause-reply : goal.returns-in-None-clause-reply
@@ -81,5 +82,5 @@ returns-in-None-clause-reply g c =
 pub returns-in-None-clause-memory : goal.returns-in-None-clause-memory
 returns-in-None-clause-memory g c = λ _ named.
     let behind = ne_eqb c.args.branch 0 c.if-branch-eq0.false in
-    absurd (true≢false (sym named ∙ ap (λ (n : Named). is_named n c.args.branch) (sym c.self.view_is)
+    absurd (true≢false (sym named ∙ ap (λ (n : Named). has_planner n c.args.branch) (sym c.self.view_is)
     ∙ not_named c.self.inside.first c.self.inside.others.entries c.args.branch behind c.in-None.ensures.value))
