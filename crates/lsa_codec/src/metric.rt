@@ -2,6 +2,7 @@
 
 ghost use Rattle.std.specs.Prelude.{◌≡◌, ◌<◌, ◌^◌, Some, None, nat_lt, if◌then◌else◌};
 
+use crate::decimal::Decimal;
 use std::fmt;
 use std::marker::Model;
 
@@ -53,7 +54,7 @@ impl fmt::Display for Metric {
     ghost output = { λ metric. Some (decimal metric) };
 
     fn fmt<W: fmt::Write>(&self, f: &mut fmt::Formatter<W>) -> fmt::Result {
-        let value = self.value;
+        let value = Decimal(u64::from(self.value));
         write!(f, "{value}")
     }
 }
