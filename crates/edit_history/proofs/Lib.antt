@@ -25,3 +25,5 @@ pub mod Telling
 pub mod Folding
 pub mod Sparing
 pub mod Touching
+pub mod Accepting
+pub mod HistoryLemmas

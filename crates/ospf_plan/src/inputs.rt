@@ -7,7 +7,8 @@ ghost use Rattle.streams.specs.WholeText.{IsAll, IsLonger, ConsumesAtMost};
 ghost use Rattle.lsdb.specs.Loading.{loaded, IsFirst};
 ghost use Rattle.ospf_plan.specs.Branches.{sessions_of};
 ghost use Rattle.ospf_plan.specs.Run.{begun};
-ghost use Rattle.ospf_plan.specs.Inputs.{IsDumpEnd, IsScriptEnd, IsAccepted};
+ghost use Rattle.ospf_plan.specs.Inputs.{IsAccepted};
+ghost use Rattle.ospf_plan.specs.steps.Reading.{IsDumpEnd, IsScriptEnd};
 
 use crate::branches::Branches;
 use crate::fault::RunFault;
