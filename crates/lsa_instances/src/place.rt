@@ -1,0 +1,23 @@
+//! What tells LSAs apart.
+
+use lsa_codec::{AreaId, Key};
+
+/// The flooding scope of an LSA: one area, or the whole AS (RFC 2328, 13; RFC 5250, 2). Areas are
+/// ordered by their IDs, and the AS stands behind them.
+#[derive(Clone, Copy, Debug, PartialEq, Eq, PartialOrd, Ord)]
+pub enum Scope {
+    /// The area with this ID.
+    Area(AreaId),
+    /// The whole AS: LSAs of the types 5 and 11.
+    AsWide,
+}
+
+/// The place of an LSA in a link state database: two sightings of one place are instances of one
+/// LSA. Places are ordered by scope, then by key.
+#[derive(Clone, Copy, Debug, PartialEq, Eq, PartialOrd, Ord)]
+pub struct Place {
+    /// Where the LSA is flooded.
+    pub scope: Scope,
+    /// What names it there.
+    pub key: Key,
+}
