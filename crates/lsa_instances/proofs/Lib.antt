@@ -4,3 +4,4 @@ pub mod Looking
 pub mod Flushed
 pub mod Steps
 pub mod Reordered
+pub mod Unique

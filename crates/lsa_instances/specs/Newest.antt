@@ -5,6 +5,7 @@ use Rattle.std.specs.Ordering.{is_eq, is_gt}
 use Rattle.std.specs.declared.cmp.Ordering.TheVariants.{Less}
 use Rattle.lsa_codec.specs.Fields.{age_of}
 use Rattle.lsa_codec.specs.Key.{is_at_max_age}
+use Rattle.lsa_instances.specs.declared.place.Place.{Place}
 use Rattle.lsa_instances.specs.declared.sighting.Sighting.{Sighting}
 use Rattle.lsa_instances.specs.Instance.{instance_cmp}
 use Rattle.lsa_instances.specs.Order.{place_cmp, place_of}
@@ -47,3 +48,7 @@ pub record AreNewest {A : Type 0} (told newest : List (Sighting A)) : Type 0 whe
   pub each : All (IsNewest told) newest
   pub whole : All (λ y. is_flushed told y ≡ false → Any (λ x. place_of x ≡ place_of y) newest) told
   pub order : AllPairs (λ x y. place_cmp (place_of x) (place_of y) ≡ Less) newest
+
+-- what a database keeps of a sighting
+abbrev pub place_and_octets : {A : Type 0} → Sighting A → Place × List ℕ
+place_and_octets x = (place_of x, x.lsa)

@@ -1,7 +1,8 @@
 -- The orders of places and of sightings.
-use Rattle.std.specs.Prelude.{ℕ}
+use Rattle.std.specs.Prelude.{ℕ, Option, Some, None, ◌==◌, ◌||◌, if◌then◌else◌}
 use Rattle.std.specs.Ordering.{nat_cmp, ordering_then}
 use Rattle.std.specs.declared.cmp.Ordering.{Ordering}
+use Rattle.lsa_codec.specs.declared.address.AreaId.{AreaId}
 use Rattle.lsa_codec.specs.declared.key.Key.{Key}
 use Rattle.lsa_codec.specs.Key.{key_of}
 use Rattle.lsa_instances.specs.declared.place.Place.{Place}
@@ -18,6 +19,15 @@ scope_number AsWide = 1
 abbrev pub area_of : Scope → ℕ
 area_of (Area id) = id.0
 area_of AsWide = 0
+
+-- the scope of an LSA of this type that is told in an area, or in none: types 5 and 11 have AS scope (RFC 2328, 3.6;
+-- RFC 5250, 2), all others that of the area
+abbrev pub in_area : Option AreaId → Option Scope
+in_area None = None
+in_area (Some id) = Some (Area id)
+
+abbrev pub scope_told : ℕ → Option AreaId → Option Scope
+scope_told kind area = if (kind == 5) || (kind == 11) then Some AsWide else in_area area
 
 -- areas by their IDs, and behind them the whole AS
 abbrev pub scope_cmp : Scope → Scope → Ordering

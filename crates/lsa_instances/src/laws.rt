@@ -1,12 +1,11 @@
 //! What holds of the definitions.
 
-ghost use Rattle.std.specs.Prelude.{◌≡◌, ℕ, Contains, List, IsPermutation};
+ghost use Rattle.std.specs.Prelude.{◌≡◌, ℕ, List, map, IsPermutation};
 ghost use Rattle.std.specs.Cmp.{IsTotalOrder};
 ghost use Rattle.std.specs.declared.cmp.Ordering.TheVariants.{Equal, Greater};
 ghost use Rattle.lsa_instances.specs.declared.sighting.Sighting.{Sighting as AnySighting};
 ghost use Rattle.lsa_instances.specs.Instance.{instance_cmp, IsNewerByRule};
-ghost use Rattle.lsa_instances.specs.Newest.{AreNewest};
-ghost use Rattle.lsa_instances.specs.Order.{place_of};
+ghost use Rattle.lsa_instances.specs.Newest.{AreNewest, place_and_octets};
 
 use std::alloc::Allocator;
 
@@ -26,7 +25,7 @@ pub fn newest_in_any_order<A: Allocator>()
     ensures same { (told other newest : List (AnySighting A)) → IsPermutation told other
         → AreNewest told newest → AreNewest other newest }
 
-    // Of one LSA, no two answers have different octets.
-    ensures determined { (told a b : List (AnySighting A)) → AreNewest told a → AreNewest told b
-        → (x y : AnySighting A) → Contains a x → Contains b y → place_of x ≡ place_of y → x.lsa ≡ y.lsa }
+    // Two answers have the same LSAs, octet for octet, in the same order.
+    ensures only { (told a b : List (AnySighting A)) → AreNewest told a → AreNewest told b
+        → map place_and_octets a ≡ map place_and_octets b }
 {}

@@ -164,3 +164,12 @@ fn lsas_stand_in_order_of_their_places(rt: HostRuntime) -> Result<(), Fail> {
     assert!(rt; found[3].lsa.bytes() == ANNOUNCED);
     Ok(())
 }
+
+#[test]
+fn lsas_of_as_scope_have_no_area(rt: HostRuntime) -> Result<(), Fail> {
+    assert_eq!(rt; Scope::of(5, Some(AreaId(1))), Some(Scope::AsWide));
+    assert_eq!(rt; Scope::of(11, None), Some(Scope::AsWide));
+    assert_eq!(rt; Scope::of(7, Some(AreaId(1))), Some(Scope::Area(AreaId(1))));
+    assert_eq!(rt; Scope::of(10, None), None);
+    Ok(())
+}
