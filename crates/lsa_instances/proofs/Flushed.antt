@@ -81,15 +81,16 @@ module _ {A : Type 0} where
         → not (began_after (last_with flush x) y) ≡ (is_stopped flush y || not (began_after x.seen y))
     same_lsa None y e = refl
     same_lsa (Some f) y e =
-        let at_true : is_eq (place_cmp f.place (place_of x)) ≡ true → not (began_after (last_with (Some f) x) y) ≡ (is_stopped (Some f) y || not (began_after x.seen y)) =
+        let Same : Type 0 = not (began_after (last_with (Some f) x) y) ≡ (is_stopped (Some f) y || not (began_after x.seen y)) in
+        let at_true : is_eq (place_cmp f.place (place_of x)) ≡ true → Same =
         λ (t : is_eq (place_cmp f.place (place_of x)) ≡ true).
         let u : is_eq (place_cmp f.place (place_of y)) ≡ true = ap (λ q. is_eq (place_cmp f.place q)) (sym e) ∙ t in
         rw (t, u) (after_latest f.last x.seen y.seen (age_of y.lsa)) in
-        let at_false : is_eq (place_cmp f.place (place_of x)) ≡ false → not (began_after (last_with (Some f) x) y) ≡ (is_stopped (Some f) y || not (began_after x.seen y)) =
+        let at_false : is_eq (place_cmp f.place (place_of x)) ≡ false → Same =
         λ (t : is_eq (place_cmp f.place (place_of x)) ≡ false).
         let u : is_eq (place_cmp f.place (place_of y)) ≡ false = ap (λ q. is_eq (place_cmp f.place q)) (sym e) ∙ t in
         rw (t, u) refl in
-        elim (cases_Bool (is_eq (place_cmp f.place (place_of x)))) as (λ _. not (began_after (last_with (Some f) x) y) ≡ (is_stopped (Some f) y || not (began_after x.seen y)))
+        elim (cases_Bool (is_eq (place_cmp f.place (place_of x)))) as (λ _. Same)
         [ inl t ↦ at_true t | inr t ↦ at_false t ]
 
     flushing : (y : Sighting A) → is_at_max_age x.lsa ≡ true → is_eq (place_cmp (place_of x) (place_of y)) ≡ true
