@@ -17,8 +17,8 @@ use Rattle.edit_history.specs.Effect.{rule_of}
 use Rattle.edit_history.specs.Exchange.{SwapData}
 use Rattle.edit_history.specs.Applied.{Planned}
 use Rattle.edit_history.proofs.Keys.{own_key, found_passes, only_key, only_section, name_is}
-use Rattle.edit_history.proofs.Ruled.{TouchesOne, fate_of, one_after, one_change}
-use Rattle.edit_history.proofs.Follows.{Follows, planned_here}
+use Rattle.edit_history.proofs.RuleOutcomes.{TouchesOne, fate_of, one_after, one_change}
+use Rattle.edit_history.proofs.RulesCarriedOut.{Follows, planned_here}
 
 -- ---- the rule touches this LSA alone
 

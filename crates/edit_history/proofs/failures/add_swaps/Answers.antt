@@ -1,6 +1,6 @@
 use Rattle.std.proofs.Common.{◌+◌, arith}
 use Rattle.edit_history.specs.Failing.{fate_by}
-use Rattle.edit_history.proofs.Failed.{place_turn, place_end}
+use Rattle.edit_history.proofs.FailureFates.{place_turn, place_end}
 use Rattle.edit_history.proofs.failures.add_swaps.Goals as goal
 
 pub loop-index-preserved : goal.loop-index-preserved

@@ -9,11 +9,11 @@ use Rattle.edit_history.specs.Rules.{within}
 use Rattle.edit_history.specs.Effect.{router_key, link_fate}
 use Rattle.edit_history.specs.Plans.{section_swaps}
 use Rattle.edit_history.specs.Applied.{IsRefused}
-use Rattle.edit_history.proofs.Finding.{kind_is}
-use Rattle.edit_history.proofs.Searched.{there_too}
-use Rattle.edit_history.proofs.Follows.{planned_here, no_memory}
-use Rattle.edit_history.proofs.Failed.{link_safe, section_follows}
-use Rattle.edit_history.proofs.FailedRows.{link_no_area, link_same, link_no_router, link_no_neighbor, link_none, link_ruled}
+use Rattle.edit_history.proofs.NamedLsas.{kind_is}
+use Rattle.edit_history.proofs.Searches.{there_too}
+use Rattle.edit_history.proofs.RulesCarriedOut.{planned_here, no_memory}
+use Rattle.edit_history.proofs.FailureFates.{link_safe, section_follows}
+use Rattle.edit_history.proofs.FailureRules.{link_no_area, link_same, link_no_router, link_no_neighbor, link_none, link_ruled}
 use Rattle.edit_history.proofs.failures.plan_fail_link.Goals as goal
 
 pub returns-in_err-number-clause-refused : goal.returns-in_err-number-clause-refused

@@ -8,10 +8,10 @@ use Rattle.edit_history.specs.Rules.{within}
 use Rattle.edit_history.specs.Effect.{net_fate}
 use Rattle.edit_history.specs.Plans.{section_swaps}
 use Rattle.edit_history.specs.Applied.{IsRefused}
-use Rattle.edit_history.proofs.Searched.{there_too}
-use Rattle.edit_history.proofs.Follows.{planned_here, no_memory}
-use Rattle.edit_history.proofs.Failed.{net_safe, section_follows}
-use Rattle.edit_history.proofs.FailedRows.{net_no_area, net_none, net_ruled}
+use Rattle.edit_history.proofs.Searches.{there_too}
+use Rattle.edit_history.proofs.RulesCarriedOut.{planned_here, no_memory}
+use Rattle.edit_history.proofs.FailureFates.{net_safe, section_follows}
+use Rattle.edit_history.proofs.FailureRules.{net_no_area, net_none, net_ruled}
 use Rattle.edit_history.proofs.failures.plan_fail_net.Goals as goal
 
 pub returns-in_err-number-clause-refused : goal.returns-in_err-number-clause-refused

@@ -6,10 +6,10 @@ use Rattle.edit_history.specs.Rules.{by_fates}
 use Rattle.edit_history.specs.Effect.{router_fate}
 use Rattle.edit_history.specs.Plans.{swaps_from}
 use Rattle.edit_history.specs.Applied.{IsRefused}
-use Rattle.edit_history.proofs.Searched.{exists_at}
-use Rattle.edit_history.proofs.Follows.{planned_here, no_memory}
-use Rattle.edit_history.proofs.Failed.{router_follows, section_turn, section_end}
-use Rattle.edit_history.proofs.FailedRows.{router_none, router_ruled}
+use Rattle.edit_history.proofs.Searches.{exists_at}
+use Rattle.edit_history.proofs.RulesCarriedOut.{planned_here, no_memory}
+use Rattle.edit_history.proofs.FailureFates.{router_follows, section_turn, section_end}
+use Rattle.edit_history.proofs.FailureRules.{router_none, router_ruled}
 use Rattle.edit_history.proofs.failures.plan_fail_router.Goals as goal
 
 pub returns-then-not-has_router-clause-refused : goal.returns-then-not-has_router-clause-refused

@@ -1,7 +1,7 @@
 use Rattle.std.proofs.Common.{sym, ◌∙◌}
 use Rattle.lsdb.specs.Places.{lists_of}
-use Rattle.edit_history.proofs.Searched.{key_placed}
-use Rattle.edit_history.proofs.Rooms.{taken, full, room}
+use Rattle.edit_history.proofs.Searches.{key_placed}
+use Rattle.edit_history.proofs.RoomForLsas.{taken, full, room}
 use Rattle.edit_history.proofs.limits.check_room.Goals as goal
 
 pub returns-then-is_some-clause-refused : goal.returns-then-is_some-clause-refused

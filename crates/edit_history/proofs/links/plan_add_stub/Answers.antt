@@ -5,8 +5,8 @@ use Rattle.edit_script.specs.declared.edit.Edit.TheVariants.{AddStub}
 use Rattle.edit_history.specs.declared.fault.EditFault.{EditFault}
 use Rattle.edit_history.specs.Effect.{router_key}
 use Rattle.edit_history.specs.Applied.{IsRefused}
-use Rattle.edit_history.proofs.Finding.{kind_is}
-use Rattle.edit_history.proofs.Stubs.{stub_no_router, stub_too_long, stub_full, stub_memory, stub_fault, stub_planned}
+use Rattle.edit_history.proofs.NamedLsas.{kind_is}
+use Rattle.edit_history.proofs.StubEdits.{stub_no_router, stub_too_long, stub_full, stub_memory, stub_fault, stub_planned}
 use Rattle.edit_history.proofs.links.plan_add_stub.Goals as goal
 
 pub returns-in_err-slot-clause-refused : goal.returns-in_err-slot-clause-refused

@@ -3,8 +3,8 @@ use Rattle.lsa_codec.specs.Making.{with_cost}
 use Rattle.lsdb.specs.declared.section.Section.TheVariants.{Area}
 use Rattle.edit_script.specs.declared.edit.Edit.TheVariants.{Cost}
 use Rattle.edit_history.specs.Effect.{router_key}
-use Rattle.edit_history.proofs.Finding.{kind_is}
-use Rattle.edit_history.proofs.Remade.{cost_remakes, no_router_lsa, not_made, no_swap, planned}
+use Rattle.edit_history.proofs.NamedLsas.{kind_is}
+use Rattle.edit_history.proofs.LinkEdits.{cost_remakes, no_router_lsa, not_made, no_swap, planned}
 use Rattle.edit_history.proofs.links.plan_cost.Goals as goal
 
 pub returns-in_err-slot-clause-refused : goal.returns-in_err-slot-clause-refused

@@ -3,8 +3,8 @@ use Rattle.lsa_codec.specs.Making.{without_link}
 use Rattle.lsdb.specs.declared.section.Section.TheVariants.{Area}
 use Rattle.edit_script.specs.declared.edit.Edit.TheVariants.{DropLink}
 use Rattle.edit_history.specs.Effect.{router_key}
-use Rattle.edit_history.proofs.Finding.{kind_is}
-use Rattle.edit_history.proofs.Remade.{drop_link_remakes, no_router_lsa, not_made, no_swap, planned}
+use Rattle.edit_history.proofs.NamedLsas.{kind_is}
+use Rattle.edit_history.proofs.LinkEdits.{drop_link_remakes, no_router_lsa, not_made, no_swap, planned}
 use Rattle.edit_history.proofs.links.plan_drop_link.Goals as goal
 
 pub returns-in_err-slot-clause-refused : goal.returns-in_err-slot-clause-refused

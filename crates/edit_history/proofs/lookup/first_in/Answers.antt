@@ -1,6 +1,6 @@
 use Rattle.std.proofs.Common.{refl, ◌+◌, arith}
 use Rattle.edit_history.specs.Plans.{is_wanted}
-use Rattle.edit_history.proofs.Searched.{first_hit, first_miss, first_none}
+use Rattle.edit_history.proofs.Searches.{first_hit, first_miss, first_none}
 use Rattle.edit_history.proofs.lookup.first_in.Goals as goal
 
 pub returns-then-is_wanted_at : goal.returns-then-is_wanted_at

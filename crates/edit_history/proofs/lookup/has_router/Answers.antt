@@ -1,5 +1,5 @@
 use Rattle.std.proofs.Common.{sym, ◌+◌, arith}
-use Rattle.edit_history.proofs.Searched.{exists_in_lists, router_here, router_not_here, router_nowhere}
+use Rattle.edit_history.proofs.Searches.{exists_in_lists, router_here, router_not_here, router_nowhere}
 use Rattle.edit_history.proofs.lookup.has_router.Goals as goal
 
 pub is_in_section-requires : goal.is_in_section-requires

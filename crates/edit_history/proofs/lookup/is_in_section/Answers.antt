@@ -1,7 +1,7 @@
 use Rattle.std.proofs.Common.{◌∙◌}
 use Rattle.lsdb.specs.Places.{lsas_in}
 use Rattle.edit_history.specs.Effect.{router_key}
-use Rattle.edit_history.proofs.Searched.{key_in}
+use Rattle.edit_history.proofs.Searches.{key_in}
 use Rattle.edit_history.proofs.lookup.is_in_section.Goals as goal
 
 pub returns : goal.returns

@@ -4,7 +4,7 @@ use Rattle.edit_script.specs.declared.edit.Edit.TheVariants.{AddExternal}
 use Rattle.edit_history.specs.declared.fault.EditFault.{EditFault}
 use Rattle.edit_history.specs.Fault.{fault_of}
 use Rattle.edit_history.specs.Applied.{IsRefused}
-use Rattle.edit_history.proofs.AddedRows.{external_no_router, external_no_room, external_memory, external_planned}
+use Rattle.edit_history.proofs.AdditionRules.{external_no_router, external_no_room, external_memory, external_planned}
 use Rattle.edit_history.proofs.prefixes.plan_add_external.Goals as goal
 
 pub returns-then-not-has_router-clause-refused : goal.returns-then-not-has_router-clause-refused

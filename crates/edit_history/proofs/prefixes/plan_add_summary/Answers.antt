@@ -4,8 +4,8 @@ use Rattle.edit_script.specs.declared.edit.Edit.TheVariants.{AddSummary}
 use Rattle.edit_history.specs.declared.fault.EditFault.{EditFault}
 use Rattle.edit_history.specs.Fault.{fault_of}
 use Rattle.edit_history.specs.Applied.{IsRefused}
-use Rattle.edit_history.proofs.Searched.{there_too}
-use Rattle.edit_history.proofs.AddedRows.{add_no_area, add_no_router, add_no_room, add_memory, add_planned}
+use Rattle.edit_history.proofs.Searches.{there_too}
+use Rattle.edit_history.proofs.AdditionRules.{add_no_area, add_no_router, add_no_room, add_memory, add_planned}
 use Rattle.edit_history.proofs.prefixes.plan_add_summary.Goals as goal
 
 pub returns-in_err-number-clause-refused : goal.returns-in_err-number-clause-refused

@@ -1,5 +1,5 @@
 use Rattle.std.proofs.lemmas.Result.{err_from_is_err_and}
-use Rattle.edit_history.proofs.Told.{external_none, external_memory, external_planned}
+use Rattle.edit_history.proofs.PrefixEdits.{external_none, external_memory, external_planned}
 use Rattle.edit_history.proofs.prefixes.plan_drop_external.Goals as goal
 
 pub returns-in_default-clause-refused : goal.returns-in_default-clause-refused

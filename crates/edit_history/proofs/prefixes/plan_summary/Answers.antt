@@ -5,7 +5,7 @@ use Rattle.edit_script.specs.declared.edit.Edit.TheVariants.{Summary}
 use Rattle.edit_history.specs.declared.fault.EditFault.{EditFault}
 use Rattle.edit_history.specs.Fault.{fault_of}
 use Rattle.edit_history.specs.Applied.{IsRefused}
-use Rattle.edit_history.proofs.Told.{summary_no_area, summary_none, has_summary_metric, summary_memory, summary_planned}
+use Rattle.edit_history.proofs.PrefixEdits.{summary_no_area, summary_none, has_summary_metric, summary_memory, summary_planned}
 use Rattle.edit_history.proofs.prefixes.plan_summary.Goals as goal
 
 pub returns-in_err-area_section-clause-refused : goal.returns-in_err-area_section-clause-refused

@@ -25,9 +25,9 @@ use Rattle.edit_history.specs.Effect.{router_key, is_network, cut, link_fate, ne
 use Rattle.edit_history.specs.Exchange.{SwapData}
 use Rattle.edit_history.specs.Plans.{slot_of, swap_for, section_swaps, swaps_from, place_swap}
 use Rattle.edit_history.proofs.Keys.{same_key_true, found_passes, head_before, head_after, name_is}
-use Rattle.edit_history.proofs.Searched.{here, place_there}
-use Rattle.edit_history.proofs.Follows.{Follows}
-use Rattle.edit_history.proofs.Walks.{IsSafeFate, IsSafe, walks_follow}
+use Rattle.edit_history.proofs.Searches.{here, place_there}
+use Rattle.edit_history.proofs.RulesCarriedOut.{Follows}
+use Rattle.edit_history.proofs.FatesByPlace.{IsSafeFate, IsSafe, walks_follow}
 
 -- ---- the fates are safe
 

@@ -24,12 +24,12 @@ use Rattle.edit_history.specs.Effect.{area_of, router_key, router_lsa_in, has_ro
 use Rattle.edit_history.specs.Exchange.{SwapData}
 use Rattle.edit_history.specs.Applied.{Planned, IsRefused}
 use Rattle.edit_history.specs.Plans.{IsFirst, Opens}
-use Rattle.edit_history.proofs.Finding.{no_area, has_area, named_there}
-use Rattle.edit_history.proofs.Failed.{list_item}
-use Rattle.edit_history.proofs.FailedRows.{no_lsa_in, lsa_in}
-use Rattle.edit_history.proofs.Rooms.{room_not_memory}
-use Rattle.edit_history.proofs.Follows.{refused_as, no_memory, on_ok, on_err}
-use Rattle.edit_history.proofs.Adding.{IsKeyed, planned_new, added_refused, added_ruled, new_room}
+use Rattle.edit_history.proofs.NamedLsas.{no_area, has_area, named_there}
+use Rattle.edit_history.proofs.FailureFates.{list_item}
+use Rattle.edit_history.proofs.FailureRules.{no_lsa_in, lsa_in}
+use Rattle.edit_history.proofs.RoomForLsas.{room_not_memory}
+use Rattle.edit_history.proofs.RulesCarriedOut.{refused_as, no_memory, on_ok, on_err}
+use Rattle.edit_history.proofs.Additions.{IsKeyed, planned_new, added_refused, added_ruled, new_room}
 
 abbrev pub prefix_key : ℕ → RouterId → Net → Key
 prefix_key kind router prefix = record { kind = kind; id = prefix.addr; adv = router }

@@ -16,8 +16,8 @@ use Rattle.edit_history.specs.Rules.{Rule, by_fates, within}
 use Rattle.edit_history.specs.Effect.{area_of, router_key, router_lsa_in, or_refused, has_router, is_network, are_linked, link_fate, net_fate, router_fate, rule_of, ◌>>=◌}
 use Rattle.edit_history.specs.Applied.{IsRefused}
 use Rattle.edit_history.specs.Plans.{IsFirst}
-use Rattle.edit_history.proofs.Finding.{no_area, has_area, named_there}
-use Rattle.edit_history.proofs.Follows.{refused_as, on_ok, on_err}
+use Rattle.edit_history.proofs.NamedLsas.{no_area, has_area, named_there}
+use Rattle.edit_history.proofs.RulesCarriedOut.{refused_as, on_ok, on_err}
 
 -- ---- links between two routers
 

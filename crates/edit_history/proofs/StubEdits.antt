@@ -23,9 +23,9 @@ use Rattle.edit_history.specs.Effect.{router_key, router_lsa_of, is_dump_full, s
 use Rattle.edit_history.specs.Exchange.{SwapData}
 use Rattle.edit_history.specs.Applied.{Planned, IsRefused}
 use Rattle.edit_history.specs.Plans.{IsFirst}
-use Rattle.edit_history.proofs.Finding.{router_lsa_is, key_is, not_memory}
+use Rattle.edit_history.proofs.NamedLsas.{router_lsa_is, key_is, not_memory}
 use Rattle.edit_history.proofs.OneLsa.{one_swap, planned_one}
-use Rattle.edit_history.proofs.Follows.{refused_as, no_memory, on_ok, on_err}
+use Rattle.edit_history.proofs.RulesCarriedOut.{refused_as, no_memory, on_ok, on_err}
 
 abbrev full_rule : AreaId → RouterId → List ℕ → Bool → Result Rule EditFault
 full_rule area router new full = if full then Err Full else Ok (one_lsa (Area area) (router_key router.0) (rewritten new))

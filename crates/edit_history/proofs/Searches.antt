@@ -11,7 +11,7 @@ use Rattle.lsdb.specs.Lists.{SectionLsas, Lists, has_key, is_section, lsas_of}
 use Rattle.lsdb.specs.Places.{Place, Places, SectionPlaces, item_at, slot_at, place_in, full, lists_of, lsas_in, lsas_or_none, places_in, places_or_none, IsNamed, IsPlaceOf}
 use Rattle.edit_history.specs.Effect.{router_key, is_in_section}
 use Rattle.edit_history.specs.Plans.{IsFirst, passes, slot_of}
-use Rattle.edit_history.proofs.Finding.{same_place}
+use Rattle.edit_history.proofs.NamedLsas.{same_place}
 
 -- ---- any and first
 

@@ -10,7 +10,7 @@ use Rattle.edit_history.specs.Rules.{Rule, Change, lists_after, changes_by}
 use Rattle.edit_history.specs.Effect.{rule_of, ◌>>=◌}
 use Rattle.edit_history.specs.Exchange.{SwapData, CanDo, done_places, done_swaps}
 use Rattle.edit_history.specs.Applied.{told, CarriesOut, Planned, IsRefused}
-use Rattle.edit_history.proofs.Carried.{grown_same}
+use Rattle.edit_history.proofs.CarriedPlans.{grown_same}
 
 -- the swaps do what the rule says
 pub record Follows (d : Places) (rule : Rule) (swaps : List SwapData) : Type 0 where

@@ -24,10 +24,10 @@ use Rattle.edit_history.specs.Exchange.{SwapData}
 use Rattle.edit_history.specs.Applied.{Planned}
 use Rattle.edit_history.specs.Plans.{Opens}
 use Rattle.edit_history.proofs.Keys.{found_passes, only_section, name_is}
-use Rattle.edit_history.proofs.Ruled.{Stays, all_stay, none_change, changes_mid}
-use Rattle.edit_history.proofs.Rooms.{IsRoom, is_room}
-use Rattle.edit_history.proofs.Searched.{none_found}
-use Rattle.edit_history.proofs.Follows.{Follows, carries}
+use Rattle.edit_history.proofs.RuleOutcomes.{Stays, all_stay, none_change, changes_mid}
+use Rattle.edit_history.proofs.RoomForLsas.{IsRoom, is_room}
+use Rattle.edit_history.proofs.Searches.{none_found}
+use Rattle.edit_history.proofs.RulesCarriedOut.{Follows, carries}
 
 -- ---- what the rule leaves
 

@@ -21,9 +21,9 @@ use Rattle.edit_history.specs.Effect.{router_key, router_lsa_of, remaking, rule_
 use Rattle.edit_history.specs.Exchange.{SwapData}
 use Rattle.edit_history.specs.Applied.{Planned, IsRefused}
 use Rattle.edit_history.specs.Plans.{IsFirst}
-use Rattle.edit_history.proofs.Finding.{router_lsa_is, key_is, not_memory}
+use Rattle.edit_history.proofs.NamedLsas.{router_lsa_is, key_is, not_memory}
 use Rattle.edit_history.proofs.OneLsa.{one_swap, planned_one}
-use Rattle.edit_history.proofs.Follows.{refused_as, no_memory, no_memory_ruled}
+use Rattle.edit_history.proofs.RulesCarriedOut.{refused_as, no_memory, no_memory_ruled}
 
 abbrev Maker : Type 0
 Maker = List ℕ → Result (List ℕ) MakeFault

@@ -25,9 +25,9 @@ use Rattle.edit_history.specs.Exchange.{SwapData}
 use Rattle.edit_history.specs.Applied.{Planned, IsRefused}
 use Rattle.edit_history.specs.Plans.{IsFirst}
 use Rattle.edit_history.proofs.Keys.{found_passes}
-use Rattle.edit_history.proofs.Finding.{no_area, has_area, named_there}
+use Rattle.edit_history.proofs.NamedLsas.{no_area, has_area, named_there}
 use Rattle.edit_history.proofs.OneLsa.{one_swap, planned_one}
-use Rattle.edit_history.proofs.Follows.{refused_as, no_memory, on_ok, on_err}
+use Rattle.edit_history.proofs.RulesCarriedOut.{refused_as, no_memory, on_ok, on_err}
 
 pub kind_found : (d : Places) (name : Section) (kind : ℕ) (router : RouterId) (prefix : Net) (slot : SlotId) (lsa : List ℕ) → IsFirst d name (is_for kind router prefix) slot lsa → kind_of lsa ≡ kind
 kind_found d name kind router prefix slot lsa at =

@@ -15,8 +15,8 @@ use Rattle.edit_history.specs.Rules.{Fate, stays, removed, rewritten, Fates, by_
 use Rattle.edit_history.specs.Exchange.{SwapData, CanDo, done_places, done_swaps, taken}
 use Rattle.edit_history.specs.Plans.{slot_of, swap_for, section_swaps, swaps_from}
 use Rattle.edit_history.specs.Applied.{told}
-use Rattle.edit_history.proofs.Ruled.{after, change}
-use Rattle.edit_history.proofs.Follows.{Follows}
+use Rattle.edit_history.proofs.RuleOutcomes.{after, change}
+use Rattle.edit_history.proofs.RulesCarriedOut.{Follows}
 
 -- the swaps lead from d to e, each state on the way is a database, and they tell the changes
 pub record Walks (d e : Places) (ss : List SwapData) (cs : List Change) : Type 0 where
