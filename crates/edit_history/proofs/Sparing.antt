@@ -12,7 +12,7 @@ use Rattle.lsa_codec.specs.declared.key.Key.{Key}
 use Rattle.lsa_codec.specs.declared.fault.MakeFault.{MakeFault}
 use Rattle.lsa_codec.specs.Accepted.{IsAccepted}
 use Rattle.lsa_codec.specs.Fields.{kind_of, advertising_router_of}
-use Rattle.lsa_codec.specs.Key.{key_of}
+use Rattle.lsa_codec.specs.Key.{key_of, router_key}
 use Rattle.lsa_codec.specs.Prefix.{Net}
 use Rattle.lsa_codec.specs.Views.{has_metric}
 use Rattle.lsa_codec.specs.Making.{with_cost, without_link, with_stub}
@@ -26,7 +26,7 @@ use Rattle.edit_script.specs.declared.edit.Edit.TheVariants.{Cost, DropLink, Fai
 use Rattle.edit_history.specs.declared.fault.EditFault.{EditFault}
 use Rattle.edit_history.specs.declared.fault.EditFault.TheVariants.{NoArea, NoRouter, NoLink, SameRouter, NoNetwork, NoSummary, NoExternal, Full}
 use Rattle.edit_history.specs.Rules.{Fate, stays, removed, rewritten, Fates, Rule, NewLsa, Change, by_fates, one_lsa, within, adding, outcome, change_of, addition, with_added, section_name, section_after, section_changes, lists_after, changes_by}
-use Rattle.edit_history.specs.Effect.{◌>>=◌, or_refused, made, area_of, router_key, router_lsa_in, router_lsa_of, has_router, stub_octets, is_dump_full, remaking, is_for, is_network, are_linked, options_in, is_type2, room_for, added, cut, link_fate, net_fate, router_fate, rule_of, effect, changes, is_graph_kind, touched, touched_by, edit_touches, graph_lsas}
+use Rattle.edit_history.specs.Effect.{◌>>=◌, or_refused, made, area_of, router_lsa_in, router_lsa_of, has_router, stub_octets, is_dump_full, remaking, is_for, is_network, are_linked, options_in, is_type2, room_for, added, cut, link_fate, net_fate, router_fate, rule_of, effect, changes, is_graph_kind, touched, touched_by, edit_touches, graph_lsas}
 use Rattle.edit_history.proofs.Keys.{same_key_true, found_passes}
 
 abbrev is_graph_lsa : List ℕ → Bool
@@ -53,10 +53,10 @@ spared_if false f g one two = two refl
 no_router_lsa : (lsa : List ℕ) → is_graph_lsa lsa ≡ false → kind_of lsa ≡ 1 → ⊥
 no_router_lsa lsa other is = let of_graph : is_graph_lsa lsa ≡ true = ap is_graph_kind is in cc
 
-no_router_key : (router : ℕ) (lsa : List ℕ) → is_graph_lsa lsa ≡ false → has_key (router_key router) lsa ≡ true → ⊥
+no_router_key : (router : RouterId) (lsa : List ℕ) → is_graph_lsa lsa ≡ false → has_key (router_key router) lsa ≡ true → ⊥
 no_router_key router lsa other has = no_router_lsa lsa other (ap (λ (k : Key). k.kind) (same_key_true (key_of lsa) (router_key router) has))
 
-router_lsa_spares : (name : Section) (router : ℕ) (fate : Fate) → Spares (one_lsa name (router_key router) fate)
+router_lsa_spares : (name : Section) (router : RouterId) (fate : Fate) → Spares (one_lsa name (router_key router) fate)
 router_lsa_spares name router fate head lsa other =
     spared_if (is_head_of name head) _ _ (λ _. spared_if (has_key (router_key router) lsa) _ _ (λ has. absurd (no_router_key router lsa other has)) (λ _. tt)) (λ _. tt)
 
@@ -67,8 +67,8 @@ one_spares name key fate spared head lsa other =
 links_spare : (area : AreaId) (router neighbor : RouterId) → Spares (within (Area area) (link_fate router neighbor))
 links_spare area router neighbor head lsa other =
     spared_if (is_head_of (Area area) head) _ _
-    (λ _. spared_if (has_key (router_key router.0) lsa) _ _ (λ has. absurd (no_router_key router.0 lsa other has))
-    (λ _. spared_if (has_key (router_key neighbor.0) lsa) _ _ (λ has. absurd (no_router_key neighbor.0 lsa other has)) (λ _. tt)))
+    (λ _. spared_if (has_key (router_key router) lsa) _ _ (λ has. absurd (no_router_key router lsa other has))
+    (λ _. spared_if (has_key (router_key neighbor) lsa) _ _ (λ has. absurd (no_router_key neighbor lsa other has)) (λ _. tt)))
     (λ _. tt)
 
 network_spares : (area : AreaId) (network : Addr) → Spares (within (Area area) (net_fate network))
@@ -121,10 +121,10 @@ added_spares : (db : Lists) (name : Section) (new : List ℕ) → IfRuled (added
 added_spares db name new = if_bound (room_for db name (key_of new) (length new)) (λ room. let r : Result Rule EditFault = Ok (adding name new) in r) (λ room _. ruled (adding name new) (λ head lsa other. tt))
 
 abbrev remade : AreaId → RouterId → List ℕ → Result Rule EditFault
-remade area router new = Ok (one_lsa (Area area) (router_key router.0) (rewritten new))
+remade area router new = Ok (one_lsa (Area area) (router_key router) (rewritten new))
 
 remade_spares : (area : AreaId) (router : RouterId) (new : List ℕ) → IfRuled (remade area router new)
-remade_spares area router new = ruled _ (router_lsa_spares (Area area) router.0 (rewritten new))
+remade_spares area router new = ruled _ (router_lsa_spares (Area area) router (rewritten new))
 
 remaking_spares : (db : Lists) (area : AreaId) (router : RouterId) (make : List ℕ → Result (List ℕ) MakeFault) → IfRuled (remaking db area router make)
 remaking_spares db area router make =

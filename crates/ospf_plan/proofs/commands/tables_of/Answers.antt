@@ -2,8 +2,8 @@ use Rattle.std.proofs.Common.{◌∙◌, ap, get_or}
 use Rattle.lsa_codec.specs.declared.address.RouterId.{RouterId}
 use Rattle.edit_history.specs.Session.{Session, state}
 use Rattle.recalculate.specs.Tables.{table_in}
-use Rattle.ospf_plan.proofs.Answering.{one_more, all_taken}
-use Rattle.ospf_plan.proofs.asking.tables_of.Goals as goal
+use Rattle.ospf_plan.proofs.AllTables.{one_more, all_taken}
+use Rattle.ospf_plan.proofs.commands.tables_of.Goals as goal
 
 pub loop-router-preserved : goal.loop-router-preserved
 loop-router-preserved g c =

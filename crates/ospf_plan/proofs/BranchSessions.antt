@@ -1,6 +1,6 @@
 -- The sessions of branches when one of them goes on.
-use Rattle.std.proofs.Common.{◌≡◌, ℕ, List, [], ◌∷◌, Bool, true, false, eqb, cond, Option, None, Some, Result, Ok, Err, refl, sym, ap, subst, ◌∙◌, zero, suc, length, ltb}
-use Rattle.std.specs.Prelude.{nat_le, IfSome, IsSome}
+use Rattle.std.proofs.Common.{◌≡◌, ℕ, List, [], ◌∷◌, Bool, true, false, eqb, cond, Option, None, Some, Result, Ok, Err, refl, sym, ap, subst, ◌∙◌, zero, suc, length, ltb, true≢false}
+use Rattle.std.specs.Prelude.{nat_le, is_some, IfSome, IsSome}
 use Rattle.std.specs.Map.{lookup, set_value}
 use Rattle.std.specs.BTreeMap.{BTreeMap, Updates, WritesThrough, is_at}
 use Rattle.std.specs.Cmp.{unsigned_tied}
@@ -20,8 +20,9 @@ use Rattle.edit_history.specs.declared.fault.EditFault.TheVariants.{HistoryFull}
 use Rattle.edit_history.specs.Effect.{effect}
 use Rattle.edit_history.specs.Session.{Session, edited, accepted, start, state, most_edits, moved_back, moved_on}
 use Rattle.recalculate.specs.Planning.{PlannerValue}
-use Rattle.ospf_plan.specs.Branches.{Named, sessions_by, sessions_of, named_by, is_named, in_branch, session_or_begin, HaveOneBase}
-use Rattle.ospf_plan.specs.Replies.{after, unless_refused}
+use Rattle.ospf_plan.specs.Branches.{Named, Sessions, sessions_by, sessions_of, named_by, with_session, session_or_begin, HaveOneBase}
+use Rattle.ospf_plan.specs.steps.Planners.{has_planner}
+use Rattle.ospf_plan.specs.Replies.{Said, reply_to, after, unless_refused}
 
 -- ---- a command leaves the base
 
@@ -71,15 +72,15 @@ first_at named t o zero false e same = absurd cc
 first_at named t o (suc branch) false e same = rw (eqb-zero-suc branch) (ap (λ base. session_or_begin base o) same)
 
 first_went : (named : Named) (t : Session) → t.base ≡ named.first.base
-    → sessions_of (record { first = t; others = named.others }) ≡ in_branch 0 t (sessions_of named)
+    → sessions_of (record { first = t; others = named.others }) ≡ with_session 0 t (sessions_of named)
 first_went named t same = λ i branch. first_at named t (found named.others branch) branch (eqb branch 0) refl same i
 
 pub first_goes_on : (named : Named) (branch : ℕ) (t : Session) (c : Command) → branch ≡ 0 → t ≡ after named.first c
-    → sessions_of (record { first = t; others = named.others }) ≡ in_branch branch (after (sessions_of named branch) c) (sessions_of named)
+    → sessions_of (record { first = t; others = named.others }) ≡ with_session branch (after (sessions_of named branch) c) (sessions_of named)
 first_goes_on named branch t c zeroth is =
     first_went named t (ap (λ (s : Session). s.base) is ∙ after_base named.first c)
-    ∙ ap (λ (s : Session). in_branch 0 s (sessions_of named)) is
-    ∙ ap (λ k. in_branch k (after (sessions_of named k) c) (sessions_of named)) (sym zeroth)
+    ∙ ap (λ (s : Session). with_session 0 s (sessions_of named)) is
+    ∙ ap (λ k. with_session k (after (sessions_of named k) c) (sessions_of named)) (sym zeroth)
 
 pub first_base : (named : Named) (t : Session) → t.base ≡ named.first.base → HaveOneBase named → HaveOneBase (record { first = t; others = named.others })
 first_base named t same one branch = subst (λ base. IfSome (found named.others branch) (λ s. s.base ≡ base)) (sym same) (one branch)
@@ -99,7 +100,7 @@ other_at named new branch t behind went other false e =
     ap (λ o. cond (eqb other 0) named.first (session_or_begin named.first.base o)) (went.others other e)
 
 pub other_goes_on : (named : Named) (new : List (ℕ × Session)) (branch : ℕ) (t : Session) → eqb branch 0 ≡ false → GoesOn named.others new branch t
-    → sessions_of (record { first = named.first; others = new }) ≡ in_branch branch t (sessions_of named)
+    → sessions_of (record { first = named.first; others = new }) ≡ with_session branch t (sessions_of named)
 other_goes_on named new branch t behind went = λ i other. other_at named new branch t behind went other (eqb branch other) refl i
 
 base_at : (named : Named) (new : List (ℕ × Session)) (branch : ℕ) (t : Session) → t.base ≡ named.first.base → GoesOn named.others new branch t → HaveOneBase named
@@ -139,7 +140,7 @@ pub written : (old new : BTreeMap ℕ PlannerValue) (branch : ℕ) (p q : Planne
 written old new branch p q was writes = inserted old new branch q (writes.3 (subst (λ o. IsSome o) was refl))
 
 -- it is named then
-pub now_named : (first : Session) (old new : List (ℕ × Session)) (branch : ℕ) (t : Session) → eqb branch 0 ≡ false → GoesOn old new branch t → is_named (the_named first new) branch ≡ true
+pub now_named : (first : Session) (old new : List (ℕ × Session)) (branch : ℕ) (t : Session) → eqb branch 0 ≡ false → GoesOn old new branch t → has_planner (the_named first new) branch ≡ true
 now_named first old new branch t behind went = rw (behind, went.at) refl
 
 -- the session of another branch than 0, where there is a planner for it and where there is none
@@ -151,7 +152,7 @@ pub session_of_unnamed : (first : PlannerValue) (ps : List (ℕ × PlannerValue)
     → sessions_of (named_by first ps) branch ≡ start first.session.base
 session_of_unnamed first ps branch behind none = rw (behind, shown ps branch, sym none) refl
 
-pub not_named : (first : PlannerValue) (ps : List (ℕ × PlannerValue)) (branch : ℕ) → eqb branch 0 ≡ false → None ≡ planner_at ps branch → is_named (named_by first ps) branch ≡ false
+pub not_named : (first : PlannerValue) (ps : List (ℕ × PlannerValue)) (branch : ℕ) → eqb branch 0 ≡ false → None ≡ planner_at ps branch → has_planner (named_by first ps) branch ≡ false
 not_named first ps branch behind none = rw (behind, shown ps branch, sym none) refl
 
 pub base_of : (named : Named) (branch : ℕ) (s : Session) → Some s ≡ found named.others branch → HaveOneBase named → s.base ≡ named.first.base
@@ -159,11 +160,11 @@ base_of named branch s was one = subst (λ o. IfSome o (λ (x : Session). x.base
 
 pub written_on : (first : PlannerValue) (old new : BTreeMap ℕ PlannerValue) (branch : ℕ) (p q : PlannerValue) (c : Command) → eqb branch 0 ≡ false
     → Some p ≡ planner_at old.entries branch → WritesThrough nat_cmp (nat_cmp branch) old q new → q.session ≡ after p.session c
-    → sessions_of (named_by first new.entries) ≡ in_branch branch (after (sessions_of (named_by first old.entries) branch) c) (sessions_of (named_by first old.entries))
+    → sessions_of (named_by first new.entries) ≡ with_session branch (after (sessions_of (named_by first old.entries) branch) c) (sessions_of (named_by first old.entries))
 written_on first old new branch p q c behind was writes is =
     let named : Named = named_by first old.entries in
     other_goes_on named (sessions_by new.entries) branch q.session behind (written old new branch p q was writes)
-    ∙ ap (λ (u : Session). in_branch branch u (sessions_of named))
+    ∙ ap (λ (u : Session). with_session branch u (sessions_of named))
     (is ∙ ap (λ (u : Session). after u c) (sym (session_of_named first old.entries branch p behind was)))
 
 -- a planner that was written back with its session
@@ -182,6 +183,37 @@ written_same old new branch p q was writes same =
     ap sessions_by writes.0 ∙ sessions_by-set_value (is_at (nat_cmp branch)) old.entries q
     ∙ ap (set_value (is_at (nat_cmp branch)) (sessions_by old.entries)) same
     ∙ set_value_same (is_at (nat_cmp branch)) (sessions_by old.entries) p.session (sym (shown_some old.entries branch p was))
+
+-- ---- a branch that is at its beginning
+
+own_at : (branch other : ℕ) (all : Sessions) (same : Bool) → eqb branch other ≡ same → all other ≡ cond same (all branch) (all other)
+own_at branch other all true e = ap all (sym (eqb-true branch other e))
+own_at branch other all false e = refl
+
+with_own : (branch : ℕ) (all : Sessions) → all ≡ with_session branch (all branch) all
+with_own branch all = λ i other. own_at branch other all (eqb branch other) refl i
+
+begins_at : (first : Session) (o : Option Session) (z : Bool) → z ≡ false → cond z true (is_some o) ≡ false
+    → cond z first (session_or_begin first.base o) ≡ start first.base
+begins_at first o true behind none = absurd (true≢false behind)
+begins_at first None false behind none = refl
+begins_at first (Some s) false behind none = absurd (true≢false none)
+
+begins : (named : Named) (branch : ℕ) → eqb branch 0 ≡ false → has_planner named branch ≡ false → sessions_of named branch ≡ start named.first.base
+begins named branch behind none = begins_at named.first (found named.others branch) (eqb branch 0) behind none
+
+-- what a command is answered there, and that it stays there
+pub begins_reply : (named : Named) (branch : ℕ) (c : Command) (said : Said) → eqb branch 0 ≡ false → has_planner named branch ≡ false
+    → said ≡ reply_to (start named.first.base) c → said ≡ reply_to (sessions_of named branch) c
+begins_reply named branch c said behind none is = is ∙ ap (λ (s : Session). reply_to s c) (sym (begins named branch behind none))
+
+pub begins_stays : (named : Named) (branch : ℕ) (c : Command) → eqb branch 0 ≡ false → has_planner named branch ≡ false
+    → after (start named.first.base) c ≡ start named.first.base
+    → sessions_of named ≡ with_session branch (after (sessions_of named branch) c) (sessions_of named)
+begins_stays named branch c behind none stays =
+    let at = begins named branch behind none in
+    with_own branch (sessions_of named)
+    ∙ ap (λ (s : Session). with_session branch s (sessions_of named)) (at ∙ sym stays ∙ ap (λ (s : Session). after s c) (sym at))
 
 -- what follows from what holds of a success, or of an error
 pub on_ok : {T E P Q : Type 0} (r : Result T E) → (P → Q) → OnOk r P → OnOk r Q

@@ -1,4 +1,4 @@
-//! Commands carried out on one planner.
+//! The commands of a script, executed on one planner.
 
 ghost use Rattle.std.specs.Prelude.{◌≡◌, ◌++◌, IfOk, OnOk, OnErr, IsOk, false, filter_map, option_to_list};
 ghost use Rattle.edit_history.specs.Session.{state, edited};
@@ -13,10 +13,10 @@ use lsa_codec::RouterId;
 use recalculate::{Planner, Table, TableFault};
 use std::alloc::{AllocError, Allocator};
 
-/// Carries one command out on a planner. An error is want of memory, and then the session is as it was. `undo`, `redo`
+/// Executes one command on a planner. An error is want of memory, and then the session is as it was. `undo`, `redo`
 /// and `info` take no memory.
-#[tactic(auto, using(crate::proofs::Naming::after_base))]
-pub(crate) fn carry_out<A: Allocator + Copy>(
+#[tactic(auto, using(crate::proofs::BranchSessions::after_base))]
+pub(crate) fn execute<A: Allocator + Copy>(
     alloc: A,
     planner: &mut Planner<A>,
     command: &Command,
@@ -28,7 +28,7 @@ pub(crate) fn carry_out<A: Allocator + Copy>(
     ensures memory { takes_memory command.now ≡ false → IsOk result }
 {
     match *command {
-        Command::Edit(edit) => carry_out_edit(planner, &edit),
+        Command::Edit(edit) => execute_edit(planner, &edit),
         Command::Undo(count) => Ok(match planner.undo(count) {
             Ok(()) => Reply::Done,
             Err(fault) => Reply::Refused(Refusal::Undo(fault)),
@@ -45,7 +45,7 @@ pub(crate) fn carry_out<A: Allocator + Copy>(
 }
 
 /// Carries an edit out.
-fn carry_out_edit<A: Allocator + Copy>(
+fn execute_edit<A: Allocator + Copy>(
     planner: &mut Planner<A>,
     edit: &Edit,
 ) -> Result<Reply<A>, AllocError>

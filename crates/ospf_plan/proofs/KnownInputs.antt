@@ -10,7 +10,7 @@ use Rattle.lsdb.specs.Text.{text}
 use Rattle.lsdb.specs.Loading.{loaded, IsFirst}
 use Rattle.edit_history.specs.Session.{state}
 use Rattle.ospf_plan.specs.Branches.{Sessions}
-use Rattle.ospf_plan.specs.Run.{Answer, answers, answers_from, sessions_after, dump_after, lines_of, begun, text_of, run_answers, run_text, run_dump}
+use Rattle.ospf_plan.specs.Run.{Answer, answers, answers_from, sessions_after, dump_after, lines_of, begun, text_of, run_answers, run_text, final_dump}
 use Rattle.streams.specs.WholeText.{IsAll, IsLonger, AppendsPrefix}
 use Rattle.ospf_plan.specs.WholeRun.{IfBoth, IsSummaryOf}
 use Rattle.ospf_plan.specs.declared.script.Summary.{Summary}
@@ -19,8 +19,8 @@ answers_are : (bytes script : List ℕ) (s : Sessions) → begun (loaded bytes) 
 unfolding run_answers
 answers_are bytes script s e = ap (λ r. answers_from r (lines_of script)) e
 
-dump_is : (bytes script : List ℕ) (s : Sessions) → begun (loaded bytes) ≡ Ok s → run_dump bytes script ≡ text (state (sessions_after s (lines_of script) 0))
-unfolding run_dump
+dump_is : (bytes script : List ℕ) (s : Sessions) → begun (loaded bytes) ≡ Ok s → final_dump bytes script ≡ text (state (sessions_after s (lines_of script) 0))
+unfolding final_dump
 dump_is bytes script s e = ap (λ r. dump_after r (lines_of script)) e
 
 -- what holds of the answers to the script that was read holds of the run's
@@ -51,7 +51,7 @@ if_counted summary = if_answers (λ told. IsSummaryOf told summary)
 -- the dump that the script leaves
 pub if_dump : (dump script : Option (List ℕ)) (s t : Sessions) (lines : List ℕ)
     → IfSome dump (λ bytes. begun (loaded bytes) ≡ Ok s) → IsAll script lines → t ≡ sessions_after s (lines_of lines)
-    → IfBoth dump script (λ bytes known. text (state (t 0)) ≡ run_dump bytes known)
+    → IfBoth dump script (λ bytes known. text (state (t 0)) ≡ final_dump bytes known)
 if_dump None script s t lines loads all ends = tt
 if_dump (Some bytes) None s t lines loads all ends = tt
 if_dump (Some bytes) (Some known) s t lines loads all ends =
@@ -59,8 +59,8 @@ if_dump (Some bytes) (Some known) s t lines loads all ends =
 
 -- a prefix of that dump is written
 pub if_dump_prefix : (old new dump script : Option (List ℕ)) (items whole : List ℕ) → items ≡ whole
-    → IfBoth dump script (λ bytes known. whole ≡ run_dump bytes known) → AppendsPrefix old new items
-    → IfBoth dump script (λ bytes known. AppendsPrefix old new (run_dump bytes known))
+    → IfBoth dump script (λ bytes known. whole ≡ final_dump bytes known) → AppendsPrefix old new items
+    → IfBoth dump script (λ bytes known. AppendsPrefix old new (final_dump bytes known))
 if_dump_prefix old new None script items whole same is part = tt
 if_dump_prefix old new (Some bytes) None items whole same is part = tt
 if_dump_prefix old new (Some bytes) (Some known) items whole same is part = subst (AppendsPrefix old new) (same ∙ is) part
