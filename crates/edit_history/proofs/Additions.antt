@@ -23,12 +23,12 @@ use Rattle.edit_history.specs.Rules.{stays, Rule, adding, kept_lsas, fated_chang
 use Rattle.edit_history.specs.Effect.{most_lsas, room_for, has_room, added, rule_of, ◌>>=◌}
 use Rattle.edit_history.specs.Exchange.{SwapData}
 use Rattle.edit_history.specs.Applied.{Planned}
-use Rattle.edit_history.specs.Plans.{Opens}
+use Rattle.edit_history.specs.steps.Plans.{Opens}
 use Rattle.edit_history.proofs.Keys.{found_passes, only_section, name_is}
-use Rattle.edit_history.proofs.Ruled.{Stays, all_stay, none_change, changes_mid}
-use Rattle.edit_history.proofs.Rooms.{IsRoom, is_room}
-use Rattle.edit_history.proofs.Searched.{none_found}
-use Rattle.edit_history.proofs.Follows.{Follows, carries}
+use Rattle.edit_history.proofs.RuleOutcomes.{Stays, all_stay, none_change, changes_mid}
+use Rattle.edit_history.proofs.RoomForLsas.{IsRoom, is_room}
+use Rattle.edit_history.proofs.Searches.{none_found}
+use Rattle.edit_history.proofs.RulesCarriedOut.{Follows, carries}
 
 -- ---- what the rule leaves
 
@@ -53,15 +53,18 @@ elsewhere name x s apart =
 
 at_end : (name : Section) (x : List ℕ) (s : SectionLsas) → is_head_of name s.area ≡ true → section_after (adding name x) s ≡ with_lsa x s
 at_end name x s here =
-    ap (λ (b : Bool). with_lsas s.area (end_of b x (kept_lsas (adding name x).fates s))) here ∙ ap (λ (xs : List (List ℕ)). with_lsas s.area (xs ++ x ∷ [])) (kept_all name x s)
+    ap (λ (b : Bool). with_lsas s.area (end_of b x (kept_lsas (adding name x).fates s))) here
+    ∙ ap (λ (xs : List (List ℕ)). with_lsas s.area (xs ++ x ∷ [])) (kept_all name x s)
 
 no_change : (name : Section) (x : List ℕ) (s : SectionLsas) → is_head_of name s.area ≡ false → section_changes (adding name x) s ≡ []
 no_change name x s apart =
     ap (λ (b : Bool). end_of b (addition (section_name s.area) x) (fated_changes (adding name x).fates s)) apart ∙ changed_none name x s
 
-one_change : (name : Section) (x : List ℕ) (s : SectionLsas) → is_head_of name s.area ≡ true → section_changes (adding name x) s ≡ addition (section_name s.area) x ∷ []
+one_change : (name : Section) (x : List ℕ) (s : SectionLsas) → is_head_of name s.area ≡ true
+    → section_changes (adding name x) s ≡ addition (section_name s.area) x ∷ []
 one_change name x s here =
-    ap (λ (b : Bool). end_of b (addition (section_name s.area) x) (fated_changes (adding name x).fates s)) here ∙ ap (λ (cs : List Change). cs ++ addition (section_name s.area) x ∷ []) (changed_none name x s)
+    ap (λ (b : Bool). end_of b (addition (section_name s.area) x) (fated_changes (adding name x).fates s)) here
+    ∙ ap (λ (cs : List Change). cs ++ addition (section_name s.area) x ∷ []) (changed_none name x s)
 
 abbrev IsElsewhere : Section → SectionLsas → Type 0
 IsElsewhere name s = is_head_of name s.area ≡ false
@@ -69,13 +72,15 @@ IsElsewhere name s = is_head_of name s.area ≡ false
 all_elsewhere : (name : Section) (x : List ℕ) (ss : Lists) → All (IsElsewhere name) ss → lists_after (adding name x) ss ≡ ss
 all_elsewhere name x [] h = refl
 all_elsewhere name x (s ∷ ss) h =
-    ap (λ (t : SectionLsas). t ∷ lists_after (adding name x) ss) (elsewhere name x s (let e : is_head_of name s.area ≡ false = All-head (IsElsewhere name) s ss h in e))
+    ap (λ (t : SectionLsas). t ∷ lists_after (adding name x) ss)
+    (elsewhere name x s (let e : is_head_of name s.area ≡ false = All-head (IsElsewhere name) s ss h in e))
     ∙ ap (λ (ts : Lists). s ∷ ts) (all_elsewhere name x ss (All-tail (IsElsewhere name) s ss h))
 
 none_changed : (name : Section) (x : List ℕ) (ss : Lists) → All (IsElsewhere name) ss → changes_by (adding name x) ss ≡ []
 none_changed name x [] h = refl
 none_changed name x (s ∷ ss) h =
-    ap (λ (cs : List Change). cs ++ changes_by (adding name x) ss) (no_change name x s (let e : is_head_of name s.area ≡ false = All-head (IsElsewhere name) s ss h in e))
+    ap (λ (cs : List Change). cs ++ changes_by (adding name x) ss)
+    (no_change name x s (let e : is_head_of name s.area ≡ false = All-head (IsElsewhere name) s ss h in e))
     ∙ none_changed name x ss (All-tail (IsElsewhere name) s ss h)
 
 -- ---- the section that gets the LSA
@@ -95,7 +100,8 @@ gets d name i x sound is_named = by_item (item_at (lists_of d) i) refl is_named.
       let found : find (is_section name) (lists_of d) ≡ Some s = sym is_named.same ∙ at in
       let named : is_head_of name s.area ≡ true = found_passes (is_section name) (lists_of d) s found in
       let w = split (lists_of d) i s (with_lsa x) at in
-      let order : AllPairs IsBefore (heads_of (w.low ++ s ∷ w.high)) = subst (λ (db : Lists). AllPairs IsBefore (heads_of db)) w.before sound.heads.order in
+      let order : AllPairs IsBefore (heads_of (w.low ++ s ∷ w.high)) = subst
+      (λ (db : Lists). AllPairs IsBefore (heads_of db)) w.before sound.heads.order in
       let only = only_section name w.low w.high s order named in
       let rule = adding name x in
       record {
@@ -163,7 +169,8 @@ new_at name kind old now = record { section = name; kind = kind; old = unwrap_or
 abbrev fills : SlotId → Section → List ℕ → SwapData
 fills slot name x = record { slot = slot; section = name; kind = kind_of x; other = Some x }
 
-follows : (d : Places) (name : Section) (slot : SlotId) (x : List ℕ) → IsDatabase (lists_of d) → IsNamed d name slot.section → slot.index ≡ length (places_in d slot.section) → slot_at (open_at d slot.section) slot ≡ Some None → IsNew (lists_of d) name x
+follows : (d : Places) (name : Section) (slot : SlotId) (x : List ℕ) → IsDatabase (lists_of d) → IsNamed d name slot.section
+    → slot.index ≡ length (places_in d slot.section) → slot_at (open_at d slot.section) slot ≡ Some None → IsNew (lists_of d) name x
     → Follows (open_at d slot.section) (adding name x) (fills slot name x ∷ [])
 follows d name slot x sound named last empty new =
     let e = open_at d slot.section in
@@ -181,19 +188,25 @@ follows d name slot x sound named last empty new =
       tells =
           ap (changes_by (adding name x)) same
           ∙ g.tells
-          ∙ sym (ap (λ (o : Option Place). new_at name (kind_of x) o (slot_at (put e slot (Some x)) slot) ∷ []) empty ∙ ap (λ (o : Option Place). new_at name (kind_of x) (Some None) o ∷ []) now);
+          ∙ sym (ap (λ (o : Option Place). new_at name (kind_of x) o (slot_at (put e slot (Some x)) slot) ∷ []) empty
+          ∙ ap (λ (o : Option Place). new_at name (kind_of x) (Some None) o ∷ []) now);
     }
 
-pub planned_new : (d e : Places) (edit : Edit) (name : Section) (x : List ℕ) (items : List SwapData) → IsDatabase (lists_of d) → rule_of (lists_of d) edit ≡ Ok (adding name x) → IsNew (lists_of d) name x → Opens d e name x items → Planned d e edit items
-planned_new d e edit name x items sound ruled new o = subst (λ (ss : List SwapData). Planned d e edit ss) (sym o.swap) (subst (λ (w : Places). Planned d w edit (fills o.slot name x ∷ [])) (sym o.opens.opened) here) where
-  empty : slot_at (open_at d o.slot.section) o.slot ≡ Some None
-  empty = ap (λ (w : Places). slot_at w o.slot) (sym o.opens.opened) ∙ o.opens.empty
+pub planned_new : (d e : Places) (edit : Edit) (name : Section) (x : List ℕ) (items : List SwapData) → IsDatabase (lists_of d)
+    → rule_of (lists_of d) edit ≡ Ok (adding name x) → IsNew (lists_of d) name x → Opens d e name x items → Planned d e edit items
+planned_new d e edit name x items sound ruled new o =
+    subst (λ (ss : List SwapData). Planned d e edit ss) (sym o.swap)
+    (subst (λ (w : Places). Planned d w edit (fills o.slot name x ∷ [])) (sym o.opens.opened) here) where
+      empty : slot_at (open_at d o.slot.section) o.slot ≡ Some None
+      empty = ap (λ (w : Places). slot_at w o.slot) (sym o.opens.opened) ∙ o.opens.empty
 
-  here : Planned d (open_at d o.slot.section) edit (fills o.slot name x ∷ [])
-  here = record {
-    opens = (o.slot.section ∷ [], refl);
-    carries = carries (open_at d o.slot.section) edit (adding name x) (fills o.slot name x ∷ []) (ap (λ (db : Lists). rule_of db edit) (lists_of-open_at d o.slot.section) ∙ ruled) (follows d name o.slot x sound o.opens.named o.opens.last empty new);
-  }
+      here : Planned d (open_at d o.slot.section) edit (fills o.slot name x ∷ [])
+      here = record {
+        opens = (o.slot.section ∷ [], refl);
+        carries = carries (open_at d o.slot.section) edit (adding name x) (fills o.slot name x ∷ [])
+            (ap (λ (db : Lists). rule_of db edit) (lists_of-open_at d o.slot.section) ∙ ruled)
+            (follows d name o.slot x sound o.opens.named o.opens.last empty new);
+      }
 
 -- ---- the refusals
 
@@ -205,14 +218,18 @@ pub record IsKeyed (x : List ℕ) (key : Key) (octets : ℕ) : Type 0 where
 abbrev add_rule : Section → List ℕ → Result (Unit {0}) EditFault → Result Rule EditFault
 add_rule name x room = room >>= λ there. Ok (adding name x)
 
-room_same : (db : Lists) (name : Section) (x : List ℕ) (key : Key) (octets : ℕ) → IsKeyed x key octets → room_for db name (key_of x) (length x) ≡ room_for db name key octets
+room_same : (db : Lists) (name : Section) (x : List ℕ) (key : Key) (octets : ℕ) → IsKeyed x key octets
+    → room_for db name (key_of x) (length x) ≡ room_for db name key octets
 room_same db name x key octets keyed = ap (λ (k : Key). room_for db name k (length x)) keyed.key_is ∙ ap (room_for db name key) keyed.size_is
 
-pub added_refused : (db : Lists) (name : Section) (x : List ℕ) (key : Key) (octets : ℕ) (fault : EditFault) → IsKeyed x key octets → room_for db name key octets ≡ Err fault → added db name x ≡ Err fault
+pub added_refused : (db : Lists) (name : Section) (x : List ℕ) (key : Key) (octets : ℕ) (fault : EditFault) → IsKeyed x key octets
+    → room_for db name key octets ≡ Err fault → added db name x ≡ Err fault
 added_refused db name x key octets fault keyed is = ap (add_rule name x) (room_same db name x key octets keyed ∙ is)
 
-pub added_ruled : (db : Lists) (name : Section) (x : List ℕ) (key : Key) (octets : ℕ) → IsKeyed x key octets → room_for db name key octets ≡ has_room → added db name x ≡ Ok (adding name x)
+pub added_ruled : (db : Lists) (name : Section) (x : List ℕ) (key : Key) (octets : ℕ) → IsKeyed x key octets → room_for db name key octets ≡ has_room
+    → added db name x ≡ Ok (adding name x)
 added_ruled db name x key octets keyed is = ap (add_rule name x) (room_same db name x key octets keyed ∙ is)
 
-pub new_room : (db : Lists) (name : Section) (x : List ℕ) (key : Key) (octets : ℕ) → IsKeyed x key octets → room_for db name key octets ≡ has_room → IsRoom db name (key_of x) (length x)
+pub new_room : (db : Lists) (name : Section) (x : List ℕ) (key : Key) (octets : ℕ) → IsKeyed x key octets → room_for db name key octets ≡ has_room
+    → IsRoom db name (key_of x) (length x)
 new_room db name x key octets keyed is = is_room db name (key_of x) (length x) (room_same db name x key octets keyed ∙ is)

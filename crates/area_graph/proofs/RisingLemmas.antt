@@ -10,7 +10,7 @@ use Rattle.std.specs.declared.cmp.Ordering.TheVariants.{Less, Equal, Greater}
 use Rattle.std.proofs.lemmas.Map.Lookups.{CmpEqualImpliesEq}
 use Rattle.std.proofs.lemmas.List.Elements.{Contains-get_or}
 use Rattle.area_graph.specs.Rising.{rising}
-use Rattle.area_graph.proofs.Members.{In, In-from_Contains, Contains-from_In}
+use Rattle.area_graph.proofs.MemberLemmas.{In, In-from_Contains, Contains-from_In}
 
 module _ {K : Type 0} {R : K → K → Ordering} (o : IsTotalOrder R) (exact : CmpEqualImpliesEq R) where
   -- each is below those after it
@@ -29,7 +29,8 @@ module _ {K : Type 0} {R : K → K → Ordering} (o : IsTotalOrder R) (exact : C
   In-insert [] k x (inr q) = inl q
   In-insert (y ∷ ys) k x h = by_order (R k y) refl h (In-insert ys k x)
     where
-      by_order : (r : Ordering) → R k y ≡ r → In (y ∷ ys) x ⊎ (k ≡ x) → (In ys x ⊎ (k ≡ x) → In (insert_key R ys k) x) → In (match_ordering r (k ∷ y ∷ ys) (y ∷ ys) (y ∷ insert_key R ys k)) x
+      by_order : (r : Ordering) → R k y ≡ r → In (y ∷ ys) x ⊎ (k ≡ x) → (In ys x ⊎ (k ≡ x) → In (insert_key R ys k) x)
+          → In (match_ordering r (k ∷ y ∷ ys) (y ∷ ys) (y ∷ insert_key R ys k)) x
       by_order Less is (inl i) rest = inr i
       by_order Less is (inr q) rest = inl q
       by_order Equal is (inl i) rest = i
@@ -43,7 +44,8 @@ module _ {K : Type 0} {R : K → K → Ordering} (o : IsTotalOrder R) (exact : C
   insert-In [] k x (inr i) = absurd i
   insert-In (y ∷ ys) k x h = by_order (R k y) h (insert-In ys k x)
     where
-      by_order : (r : Ordering) → In (match_ordering r (k ∷ y ∷ ys) (y ∷ ys) (y ∷ insert_key R ys k)) x → (In (insert_key R ys k) x → In ys x ⊎ (k ≡ x)) → In (y ∷ ys) x ⊎ (k ≡ x)
+      by_order : (r : Ordering) → In (match_ordering r (k ∷ y ∷ ys) (y ∷ ys) (y ∷ insert_key R ys k)) x
+          → (In (insert_key R ys k) x → In ys x ⊎ (k ≡ x)) → In (y ∷ ys) x ⊎ (k ≡ x)
       by_order Less (inl q) rest = inr q
       by_order Less (inr i) rest = inl i
       by_order Equal i rest = inl i
@@ -73,7 +75,11 @@ module _ {K : Type 0} {R : K → K → Ordering} (o : IsTotalOrder R) (exact : C
       by_order : (r : Ordering) → R k y ≡ r → InOrder (insert_key R ys k) → InOrder (match_ordering r (k ∷ y ∷ ys) (y ∷ ys) (y ∷ insert_key R ys k))
       by_order Less is rest = (λ x. ⊎_elim (λ q. subst (λ (z : K). R k z ≡ Less) q is) (λ i. o.trans k y x is (s.0 x i)), s)
       by_order Equal is rest = s
-      by_order Greater is rest = (λ x i. ⊎_elim (λ j. s.0 x j) (λ q. subst (λ (z : K). R y z ≡ Less) q (o.antisymm y k ∙ ap ordering_reverse is)) (insert-In ys k x i), rest)
+      by_order Greater is rest = (
+        λ x i. ⊎_elim (λ j. s.0 x j) (λ q. subst (λ (z : K). R y z ≡ Less) q (o.antisymm y k ∙ ap ordering_reverse is))
+            (insert-In ys k x i),
+        rest,
+      )
 
   InOrder-rising : (ks : List K) → InOrder (rising R ks)
   InOrder-rising [] = tt
@@ -109,7 +115,8 @@ module _ {K : Type 0} {R : K → K → Ordering} (o : IsTotalOrder R) (exact : C
       (λ x i. In-rising ks x (In-from_Contains ks x ((same x).0 (Contains-from_In xs x i))))
       (λ x i. In-from_Contains xs x ((same x).1 (Contains-from_In ks x (rising-In ks x i))))
 
-  by_place : (k : K) (ks : List K) → ((x : K) → In ks x → R k x ≡ Less) → AllPairs (λ a b. R a b ≡ Less) ks → (i j : ℕ) (d : K) → i < j → j < length (k ∷ ks) → R (get_or (k ∷ ks) i d) (get_or (k ∷ ks) j d) ≡ Less
+  by_place : (k : K) (ks : List K) → ((x : K) → In ks x → R k x ≡ Less) → AllPairs (λ a b. R a b ≡ Less) ks → (i j : ℕ) (d : K) → i < j
+      → j < length (k ∷ ks) → R (get_or (k ∷ ks) i d) (get_or (k ∷ ks) j d) ≡ Less
   by_place k ks below rest i zero d lt within = absurd (omega arith)
   by_place k ks below rest zero (suc j) d lt within = below (get_or ks j d) (In-from_Contains ks (get_or ks j d) (Contains-get_or ks j d (omega arith)))
   by_place k ks below rest (suc i) (suc j) d lt within = rest i j d (omega arith) (omega arith)

@@ -10,7 +10,7 @@ use Rattle.edit_history.specs.Rules.{Rule, Change, lists_after, changes_by}
 use Rattle.edit_history.specs.Effect.{rule_of, ◌>>=◌}
 use Rattle.edit_history.specs.Exchange.{SwapData, CanDo, done_places, done_swaps}
 use Rattle.edit_history.specs.Applied.{told, CarriesOut, Planned, IsRefused}
-use Rattle.edit_history.proofs.Carried.{grown_same}
+use Rattle.edit_history.proofs.CarriedPlans.{grown_same}
 
 -- the swaps do what the rule says
 pub record Follows (d : Places) (rule : Rule) (swaps : List SwapData) : Type 0 where
@@ -24,7 +24,8 @@ after_rule db r = r >>= λ rule. Ok (lists_after rule db)
 abbrev changes_of_rule : Lists → Result Rule EditFault → Result (List Change) EditFault
 changes_of_rule db r = r >>= λ rule. Ok (changes_by rule db)
 
-pub carries : (d : Places) (edit : Edit) (rule : Rule) (swaps : List SwapData) → rule_of (lists_of d) edit ≡ Ok rule → Follows d rule swaps → CarriesOut d edit swaps
+pub carries : (d : Places) (edit : Edit) (rule : Rule) (swaps : List SwapData) → rule_of (lists_of d) edit ≡ Ok rule → Follows d rule swaps
+    → CarriesOut d edit swaps
 carries d edit rule swaps ruled f = record {
   can = f.can;
   leads = ap (after_rule (lists_of d)) ruled ∙ ap (λ (db : Lists). let a : Result Lists EditFault = Ok db in a) f.leads;
@@ -32,8 +33,10 @@ carries d edit rule swaps ruled f = record {
 }
 
 -- no place has to be opened
-pub planned_here : (d : Places) (edit : Edit) (rule : Rule) (swaps items : List SwapData) → rule_of (lists_of d) edit ≡ Ok rule → Follows d rule swaps → items ≡ swaps → Planned d d edit items
-planned_here d edit rule swaps items ruled f is = subst (λ (ss : List SwapData). Planned d d edit ss) (sym is) (record { opens = grown_same d d refl; carries = carries d edit rule swaps ruled f })
+pub planned_here : (d : Places) (edit : Edit) (rule : Rule) (swaps items : List SwapData) → rule_of (lists_of d) edit ≡ Ok rule → Follows d rule swaps
+    → items ≡ swaps → Planned d d edit items
+planned_here d edit rule swaps items ruled f is =
+    subst (λ (ss : List SwapData). Planned d d edit ss) (sym is) (record { opens = grown_same d d refl; carries = carries d edit rule swaps ruled f })
 
 -- ---- refusals
 

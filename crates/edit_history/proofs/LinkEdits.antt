@@ -21,10 +21,10 @@ use Rattle.edit_history.specs.Rules.{Rule, rewritten, one_lsa}
 use Rattle.edit_history.specs.Effect.{router_lsa_of, remaking, rule_of, made, ◌>>=◌}
 use Rattle.edit_history.specs.Exchange.{SwapData}
 use Rattle.edit_history.specs.Applied.{Planned, IsRefused}
-use Rattle.edit_history.specs.Plans.{IsFirst}
-use Rattle.edit_history.proofs.Finding.{router_lsa_is, key_is, not_memory}
+use Rattle.edit_history.specs.steps.Plans.{IsFirst}
+use Rattle.edit_history.proofs.NamedLsas.{router_lsa_is, key_is, not_memory}
 use Rattle.edit_history.proofs.OneLsa.{one_swap, planned_one}
-use Rattle.edit_history.proofs.Follows.{refused_as, no_memory, no_memory_ruled}
+use Rattle.edit_history.proofs.RulesCarriedOut.{refused_as, no_memory, no_memory_ruled}
 
 abbrev Maker : Type 0
 Maker = List ℕ → Result (List ℕ) MakeFault
@@ -47,50 +47,61 @@ drop_link_remakes area router link = record { row = λ db. refl }
 
 -- ---- refusals
 
-pub no_router_lsa : (d : Places) (edit : Edit) (area : AreaId) (router : RouterId) (make : Maker) (fault : EditFault) → Remakes edit area router make → router_lsa_of (lists_of d) area router ≡ Err fault → IsRefused d edit fault
+pub no_router_lsa : (d : Places) (edit : Edit) (area : AreaId) (router : RouterId) (make : Maker) (fault : EditFault) → Remakes edit area router make
+    → router_lsa_of (lists_of d) area router ≡ Err fault → IsRefused d edit fault
 no_router_lsa d edit area router make fault remakes is =
     refused_as d edit fault (not_memory (lists_of d) area router fault is)
     (remakes.row (lists_of d) ∙ ap (λ (r : Result (List ℕ) EditFault). r >>= λ lsa. rule_from area router (made (make lsa))) is)
 
-rule_found : (d : Places) (edit : Edit) (area : AreaId) (router : RouterId) (make : Maker) (slot : SlotId) (lsa : List ℕ) → Remakes edit area router make → IsFirst d (Area area) (has_key (router_key router)) slot lsa
+rule_found : (d : Places) (edit : Edit) (area : AreaId) (router : RouterId) (make : Maker) (slot : SlotId) (lsa : List ℕ)
+    → Remakes edit area router make → IsFirst d (Area area) (has_key (router_key router)) slot lsa
     → rule_of (lists_of d) edit ≡ rule_from area router (made (make lsa))
 rule_found d edit area router make slot lsa remakes at =
-    remakes.row (lists_of d) ∙ ap (λ (r : Result (List ℕ) EditFault). r >>= λ lsa. rule_from area router (made (make lsa))) (router_lsa_is d area router slot lsa at)
+    remakes.row (lists_of d) ∙ ap (λ (r : Result (List ℕ) EditFault). r >>= λ lsa. rule_from area router (made (make lsa)))
+    (router_lsa_is d area router slot lsa at)
 
 -- where the new LSA was made, the edit has a rule
 made_has_rule : (area : AreaId) (router : RouterId) (answer : Result (List ℕ) MakeFault) → IsOk answer → IsOk (rule_from area router (made answer))
 made_has_rule area router (Ok new) ok = refl
 made_has_rule area router (Err fault) ok = absurd (search rules)
 
-pub not_made : (d : Places) (edit : Edit) (area : AreaId) (router : RouterId) (make : Maker) (slot : SlotId) (lsa : List ℕ) (fault : MakeFault) → Remakes edit area router make
+pub not_made : (d : Places) (edit : Edit) (area : AreaId) (router : RouterId) (make : Maker) (slot : SlotId) (lsa : List ℕ) (fault : MakeFault)
+    → Remakes edit area router make
     → IsFirst d (Area area) (has_key (router_key router)) slot lsa → IsMakeFaultOf fault (make lsa) → IsRefused d edit (fault_of fault)
 not_made d edit area router make slot lsa fault remakes at is = by_fault fault is where
   rule : rule_of (lists_of d) edit ≡ rule_from area router (made (make lsa))
   rule = rule_found d edit area router make slot lsa remakes at
 
   refused_so : (fault : MakeFault) → fault_of fault ≢ OutOfMemory → make lsa ≡ Err fault → IsRefused d edit (fault_of fault)
-  refused_so fault other is = refused_as d edit (fault_of fault) other (rule ∙ ap (λ (r : Result (List ℕ) MakeFault). rule_from area router (made r)) is)
+  refused_so fault other is =
+      refused_as d edit (fault_of fault) other (rule ∙ ap (λ (r : Result (List ℕ) MakeFault). rule_from area router (made r)) is)
 
   by_fault : (fault : MakeFault) → IsMakeFaultOf fault (make lsa) → IsRefused d edit (fault_of fault)
   by_fault faults.NoLink is = refused_so faults.NoLink (λ e. cc) is
   by_fault faults.ZeroCost is = refused_so faults.ZeroCost (λ e. cc) is
   by_fault faults.TooLong is = refused_so faults.TooLong (λ e. cc) is
-  by_fault faults.OutOfMemory is = no_memory_ruled d edit (subst (λ (r : Result Rule EditFault). IsOk r) (sym rule) (made_has_rule area router (make lsa) is))
+  by_fault faults.OutOfMemory is =
+      no_memory_ruled d edit (subst (λ (r : Result Rule EditFault). IsOk r) (sym rule) (made_has_rule area router (make lsa) is))
 
-ruled : (d : Places) (edit : Edit) (area : AreaId) (router : RouterId) (make : Maker) (slot : SlotId) (lsa new : List ℕ) → Remakes edit area router make → IsFirst d (Area area) (has_key (router_key router)) slot lsa
+ruled : (d : Places) (edit : Edit) (area : AreaId) (router : RouterId) (make : Maker) (slot : SlotId) (lsa new : List ℕ)
+    → Remakes edit area router make → IsFirst d (Area area) (has_key (router_key router)) slot lsa
     → make lsa ≡ Ok new → rule_of (lists_of d) edit ≡ Ok (one_lsa (Area area) (router_key router) (rewritten new))
 ruled d edit area router make slot lsa new remakes at made_new =
     rule_found d edit area router make slot lsa remakes at ∙ ap (λ (a : Result (List ℕ) MakeFault). rule_from area router (made a)) made_new
 
 -- memory ran out behind the new LSA
-pub no_swap : (d : Places) (edit : Edit) (area : AreaId) (router : RouterId) (make : Maker) (slot : SlotId) (lsa new : List ℕ) → Remakes edit area router make → IsFirst d (Area area) (has_key (router_key router)) slot lsa
+pub no_swap : (d : Places) (edit : Edit) (area : AreaId) (router : RouterId) (make : Maker) (slot : SlotId) (lsa new : List ℕ)
+    → Remakes edit area router make → IsFirst d (Area area) (has_key (router_key router)) slot lsa
     → make lsa ≡ Ok new → IsRefused d edit OutOfMemory
 no_swap d edit area router make slot lsa new remakes at made_new = no_memory d edit _ (ruled d edit area router make slot lsa new remakes at made_new)
 
 -- ---- the plan
 
-pub planned : (d : Places) (edit : Edit) (area : AreaId) (router : RouterId) (make : Maker) (slot : SlotId) (lsa new : List ℕ) (swap : SwapData) (items : List SwapData) → IsDatabase (lists_of d) → Remakes edit area router make
-    → IsFirst d (Area area) (has_key (router_key router)) slot lsa → make lsa ≡ Ok new → IsRewriteOf lsa new → swap ≡ one_swap slot (Area area) 1 (Some new) → items ≡ swap ∷ [] → Planned d d edit items
+pub planned : (d : Places) (edit : Edit) (area : AreaId) (router : RouterId) (make : Maker) (slot : SlotId) (lsa new : List ℕ) (swap : SwapData)
+    (items : List SwapData) → IsDatabase (lists_of d) → Remakes edit area router make
+    → IsFirst d (Area area) (has_key (router_key router)) slot lsa → make lsa ≡ Ok new → IsRewriteOf lsa new
+    → swap ≡ one_swap slot (Area area) 1 (Some new) → items ≡ swap ∷ [] → Planned d d edit items
 planned d edit area router make slot lsa new swap items sound remakes at made_new rewrite swap_is items_is =
-    planned_one d edit (Area area) (router_key router) slot lsa (Some new) 1 swap items sound at.named at.held (key_is d (Area area) (router_key router) slot lsa at) refl (put_safe d slot (Some lsa) (Some new) at.held rewrite sound)
+    planned_one d edit (Area area) (router_key router) slot lsa (Some new) 1 swap items sound at.named at.held
+    (key_is d (Area area) (router_key router) slot lsa at) refl (put_safe d slot (Some lsa) (Some new) at.held rewrite sound)
     (ruled d edit area router make slot lsa new remakes at made_new) swap_is items_is

@@ -35,10 +35,12 @@ tells_at e r cs is = record {
 same_list : (a : Result (List Change) EditFault) (xs ys : List Change) → a ≡ Ok xs → a ≡ Ok ys → ys ≡ xs
 same_list a xs ys p q = let both : (let r : Result (List Change) EditFault = Ok ys in r) ≡ Ok xs = sym q ∙ p in cc
 
-pub applied_tells : (d e : Places) (edit : Edit) (r : RecordData) (cs : List Change) → Applied d e edit r → changes (lists_of d) edit ≡ Ok cs → Tells r cs
+pub applied_tells : (d e : Places) (edit : Edit) (r : RecordData) (cs : List Change) → Applied d e edit r → changes (lists_of d) edit ≡ Ok cs
+    → Tells r cs
 applied_tells d e edit r cs applied is = tells_at e r cs (same_list (changes (lists_of d) edit) (map (told e) r.swaps) cs applied.tells is)
 
-pub done_tells : (e : Places) (r : RecordData) (cs : List Change) → TakesBack e r.edit r.swaps → changes (lists_of (undone_places e r.swaps)) r.edit ≡ Ok cs → Tells r cs
+pub done_tells : (e : Places) (r : RecordData) (cs : List Change) → TakesBack e r.edit r.swaps
+    → changes (lists_of (undone_places e r.swaps)) r.edit ≡ Ok cs → Tells r cs
 done_tells e r cs back is = tells_at e r cs (same_list (changes (lists_of (undone_places e r.swaps)) r.edit) (map (told e) r.swaps) cs back.tells is)
 
 pub undone_tells : (d : Places) (r : RecordData) (cs : List Change) → CarriesOut d r.edit r.swaps → changes (lists_of d) r.edit ≡ Ok cs → Tells r cs

@@ -50,7 +50,8 @@ module _ {X : Type 0} where
   filter-In p [] x h = absurd h
   filter-In p (z ∷ xs) x h = by_test (p z) refl h (filter-In p xs x)
     where
-      by_test : (b : Bool) → p z ≡ b → In (cond b (z ∷ filter p xs) (filter p xs)) x → (In (filter p xs) x → In xs x × (p x ≡ true)) → In (z ∷ xs) x × (p x ≡ true)
+      by_test : (b : Bool) → p z ≡ b → In (cond b (z ∷ filter p xs) (filter p xs)) x → (In (filter p xs) x → In xs x × (p x ≡ true))
+          → In (z ∷ xs) x × (p x ≡ true)
       by_test true is (inl q) rest = (inl q, ap p (sym q) ∙ is)
       by_test true is (inr i) rest = (let r = rest i in (inr r.0, r.1))
       by_test false is i rest = (let r = rest i in (inr r.0, r.1))
@@ -169,7 +170,8 @@ pub filter_map-In : {X Y : Type 0} (f : X → Option Y) (xs : List X) (y : Y) �
 filter_map-In f [] y h = absurd h
 filter_map-In {X} {Y} f (z ∷ xs) y h = by_first (f z) refl h (filter_map-In f xs y)
   where
-    by_first : (o : Option Y) → f z ≡ o → In (cons_option o (filter_map f xs)) y → (In (filter_map f xs) y → (x : X) × In xs x × (f x ≡ Some y)) → (x : X) × In (z ∷ xs) x × (f x ≡ Some y)
+    by_first : (o : Option Y) → f z ≡ o → In (cons_option o (filter_map f xs)) y → (In (filter_map f xs) y → (x : X) × In xs x × (f x ≡ Some y))
+        → (x : X) × In (z ∷ xs) x × (f x ≡ Some y)
     by_first None is i rest = (let r = rest i in (r.0, inr r.1, r.2))
     by_first (Some w) is (inl q) rest = (z, inl refl, is ∙ ap (λ (v : Y). Some v) q)
     by_first (Some w) is (inr i) rest = (let r = rest i in (r.0, inr r.1, r.2))
@@ -187,7 +189,8 @@ zip-In {X} {Y} (a ∷ xs) (b ∷ ys) p d (inl q) = (0, ap (λ (r : X × Y). Some
 zip-In (a ∷ xs) (b ∷ ys) p d (inr i) = let r = zip-In xs ys p d i in (suc r.0, r.1, r.2)
 
 -- a list is a function of another, place by place
-pub map-by_place : {X Y : Type 0} (f : X → Y) (xs : List X) (ys : List Y) (d : Y) → length ys ≡ length xs → ((i : ℕ) (x : X) → slice_get xs i ≡ Some x → get_or ys i d ≡ f x) → ys ≡ map f xs
+pub map-by_place : {X Y : Type 0} (f : X → Y) (xs : List X) (ys : List Y) (d : Y) → length ys ≡ length xs
+    → ((i : ℕ) (x : X) → slice_get xs i ≡ Some x → get_or ys i d ≡ f x) → ys ≡ map f xs
 map-by_place f [] [] d sized h = refl
 map-by_place f [] (y ∷ ys) d sized h = absurd (omega arith)
 map-by_place f (x ∷ xs) [] d sized h = absurd (omega arith)

@@ -13,10 +13,10 @@ use Rattle.lsdb.proofs.ListLemmas.{all_at_mid}
 use Rattle.lsdb.proofs.PlaceLemmas.{put_safe, section_with, full-cons, between}
 use Rattle.edit_history.specs.Rules.{Fate, stays, removed, rewritten, Fates, by_fates, Change, outcome, change_of, section_name, lists_after, section_after, changes_by}
 use Rattle.edit_history.specs.Exchange.{SwapData, CanDo, done_places, done_swaps, taken}
-use Rattle.edit_history.specs.Plans.{slot_of, swap_for, section_swaps, swaps_from}
+use Rattle.edit_history.specs.steps.Plans.{slot_of, swap_for, section_swaps, swaps_from}
 use Rattle.edit_history.specs.Applied.{told}
-use Rattle.edit_history.proofs.Ruled.{after, change}
-use Rattle.edit_history.proofs.Follows.{Follows}
+use Rattle.edit_history.proofs.RuleOutcomes.{after, change}
+use Rattle.edit_history.proofs.RulesCarriedOut.{Follows}
 
 -- the swaps lead from d to e, each state on the way is a database, and they tell the changes
 pub record Walks (d e : Places) (ss : List SwapData) (cs : List Change) : Type 0 where
@@ -45,7 +45,8 @@ places_after fates d = map (λ s. section_places s.area (map (place_after fates 
 
 -- ---- one place in the middle
 
-place_mid : (pre post : List Place) (p v : Place) (i : ℕ) → i ≡ length pre → (put_place v (pre ++ p ∷ post) i ≡ pre ++ v ∷ post) × (item_at (pre ++ p ∷ post) i ≡ Some p)
+place_mid : (pre post : List Place) (p v : Place) (i : ℕ) → i ≡ length pre
+    → (put_place v (pre ++ p ∷ post) i ≡ pre ++ v ∷ post) × (item_at (pre ++ p ∷ post) i ≡ Some p)
 place_mid [] post p v zero e = (refl, refl)
 place_mid [] post p v (suc i) e = absurd (omega arith)
 place_mid (q ∷ pre) post p v zero e = absurd (omega arith)
@@ -54,15 +55,20 @@ place_mid (q ∷ pre) post p v (suc i) e = let rest = place_mid pre post p v i (
 slot_mid : (low high : Places) (area : Option AreaHead) (pre post : List Place) (p v : Place) (section i : ℕ) → section ≡ length low → i ≡ length pre
     → (put (low ++ section_places area (pre ++ p ∷ post) ∷ high) (slot_of section i) v ≡ low ++ section_places area (pre ++ v ∷ post) ∷ high)
     × (slot_at (low ++ section_places area (pre ++ p ∷ post) ∷ high) (slot_of section i) ≡ Some p)
-slot_mid [] high area pre post p v zero i e f = let m = place_mid pre post p v i f in (ap (λ (ps : List Place). section_places area ps ∷ high) m.0, m.1)
+slot_mid [] high area pre post p v zero i e f = let m = place_mid pre post p v i f in
+    (ap (λ (ps : List Place). section_places area ps ∷ high) m.0, m.1)
 slot_mid [] high area pre post p v (suc section) i e f = absurd (omega arith)
 slot_mid (l ∷ low) high area pre post p v zero i e f = absurd (omega arith)
-slot_mid (l ∷ low) high area pre post p v (suc section) i e f = let rest = slot_mid low high area pre post p v section i (omega arith) f in (ap (λ (ls : Places). l ∷ ls) rest.0, rest.1)
+slot_mid (l ∷ low) high area pre post p v (suc section) i e f = let rest = slot_mid low high area pre post p v section i (omega arith) f in
+    (ap (λ (ls : Places). l ∷ ls) rest.0, rest.1)
 
 -- ---- one swap more
 
-pub walk_swap : (d m e : Places) (slot : SlotId) (name : Section) (x : List ℕ) (v : Place) (ss : List SwapData) (cs : List Change) → IsDatabase (lists_of d) → slot_at d slot ≡ Some (Some x) → IsPutSafe (Some x) v → put d slot v ≡ m → slot_at e slot ≡ Some v → (IsDatabase (lists_of m) → Walks m e ss cs)
-    → Walks d e ((record { slot = slot; section = name; kind = kind_of x; other = v }) ∷ ss) ((record { section = name; kind = kind_of x; old = Some x; new = v }) ∷ cs)
+pub walk_swap : (d m e : Places) (slot : SlotId) (name : Section) (x : List ℕ) (v : Place) (ss : List SwapData) (cs : List Change)
+    → IsDatabase (lists_of d) → slot_at d slot ≡ Some (Some x) → IsPutSafe (Some x) v → put d slot v ≡ m → slot_at e slot ≡ Some v
+    → (IsDatabase (lists_of m) → Walks m e ss cs)
+    → Walks d e ((record { slot = slot; section = name; kind = kind_of x; other = v }) ∷ ss)
+    ((record { section = name; kind = kind_of x; old = Some x; new = v }) ∷ cs)
 walk_swap d m e slot name x v ss cs sound at safe made now rest =
     let next : IsDatabase (lists_of (put d slot v)) = put_safe d slot (Some x) v at safe sound in
     let r = rest (subst (λ (w : Places). IsDatabase (lists_of w)) made next) in
@@ -71,9 +77,16 @@ walk_swap d m e slot name x v ss cs sound at safe made now rest =
       can = (subst (λ (o : Option Place). IsSome o) (sym at) refl, next, subst (λ (w : Places). CanDo w ss) (sym made) r.can);
       leads = ap (λ (w : Places). done_places w ss) made ∙ r.leads;
       tells =
-          ap (λ (w : Places). told e (taken d (record { slot = slot; section = name; kind = kind_of x; other = v })) ∷ map (told e) (done_swaps w ss)) made
+          ap (λ (w : Places). told e (taken d (record { slot = slot; section = name; kind = kind_of x; other = v })) ∷ map (told e)
+          (done_swaps w ss)) made
           ∙ ap (λ (xs : List Change). told e (taken d (record { slot = slot; section = name; kind = kind_of x; other = v })) ∷ xs) r.tells
-          ∙ ap (λ (o : Option Place). one (record { section = name; kind = kind_of x; old = unwrap_or o None; new = unwrap_or (slot_at e slot) None })) at
+          ∙ ap (λ (o : Option Place). one (record {
+            section = name;
+            kind = kind_of x;
+            old = unwrap_or o None;
+            new = unwrap_or
+                (slot_at e slot) None;
+          })) at
           ∙ ap (λ (o : Option Place). one (record { section = name; kind = kind_of x; old = Some x; new = unwrap_or o None })) now;
     }
 
@@ -82,12 +95,18 @@ walk_swap d m e slot name x v ss cs sound at safe made now rest =
 abbrev changed_in : Fates → Option AreaHead → List Place → List Change
 changed_in fates area ps = filter_map (change fates area) (full ps)
 
-pub walk_place : (fates : Fates) (low high : Places) (area : Option AreaHead) (pre post : List Place) (x : List ℕ) (f : Fate) (section i : ℕ) → IsSafe fates → IsSafeFate x f → section ≡ length low → i ≡ length pre
+pub walk_place : (fates : Fates) (low high : Places) (area : Option AreaHead) (pre post : List Place) (x : List ℕ) (f : Fate) (section i : ℕ)
+    → IsSafe fates → IsSafeFate x f → section ≡ length low → i ≡ length pre
     → IsDatabase (lists_of (low ++ section_places area (pre ++ Some x ∷ post) ∷ high))
-    → ((v : Place) → IsDatabase (lists_of (low ++ section_places area (pre ++ v ∷ post) ∷ high)) → Walks (low ++ section_places area (pre ++ v ∷ post) ∷ high) (low ++ section_places area (pre ++ v ∷ map (place_after fates area) post) ∷ places_after fates high)
-    (section_swaps (fates area) section (section_name area) (suc i) post ++ swaps_from fates (suc section) high) (changed_in fates area post ++ changes_by (by_fates fates) (lists_of high)))
-    → Walks (low ++ section_places area (pre ++ Some x ∷ post) ∷ high) (low ++ section_places area (pre ++ outcome f x ∷ map (place_after fates area) post) ∷ places_after fates high)
-    (cons_option (swap_for (slot_of section i) (section_name area) x f) (section_swaps (fates area) section (section_name area) (suc i) post) ++ swaps_from fates (suc section) high)
+    → ((v : Place) → IsDatabase (lists_of (low ++ section_places area (pre ++ v ∷ post) ∷ high))
+    → Walks (low ++ section_places area (pre ++ v ∷ post) ∷ high)
+    (low ++ section_places area (pre ++ v ∷ map (place_after fates area) post) ∷ places_after fates high)
+    (section_swaps (fates area) section (section_name area) (suc i) post ++ swaps_from fates (suc section) high)
+    (changed_in fates area post ++ changes_by (by_fates fates) (lists_of high)))
+    → Walks (low ++ section_places area (pre ++ Some x ∷ post) ∷ high)
+    (low ++ section_places area (pre ++ outcome f x ∷ map (place_after fates area) post) ∷ places_after fates high)
+    (cons_option (swap_for (slot_of section i) (section_name area) x f)
+    (section_swaps (fates area) section (section_name area) (suc i) post) ++ swaps_from fates (suc section) high)
     (cons_option (change_of (section_name area) x f) (changed_in fates area post) ++ changes_by (by_fates fates) (lists_of high))
 walk_place fates low high area pre post x stays section i safe fits e g sound rest = rest (Some x) sound
 walk_place fates low high area pre post x removed section i safe fits e g sound rest =
@@ -101,14 +120,17 @@ walk_place fates low high area pre post x (rewritten new) section i safe fits e 
 
 -- the place that was passed stands with those before it
 shifted : (low high high' : Places) (area : Option AreaHead) (pre post post' : List Place) (v : Place) (ss : List SwapData) (cs : List Change)
-    → (IsDatabase (lists_of (low ++ section_places area ((pre ++ v ∷ []) ++ post) ∷ high)) → Walks (low ++ section_places area ((pre ++ v ∷ []) ++ post) ∷ high) (low ++ section_places area ((pre ++ v ∷ []) ++ post') ∷ high') ss cs)
-    → IsDatabase (lists_of (low ++ section_places area (pre ++ v ∷ post) ∷ high)) → Walks (low ++ section_places area (pre ++ v ∷ post) ∷ high) (low ++ section_places area (pre ++ v ∷ post') ∷ high') ss cs
+    → (IsDatabase (lists_of (low ++ section_places area ((pre ++ v ∷ []) ++ post) ∷ high))
+    → Walks (low ++ section_places area ((pre ++ v ∷ []) ++ post) ∷ high) (low ++ section_places area ((pre ++ v ∷ []) ++ post') ∷ high') ss cs)
+    → IsDatabase (lists_of (low ++ section_places area (pre ++ v ∷ post) ∷ high))
+    → Walks (low ++ section_places area (pre ++ v ∷ post) ∷ high) (low ++ section_places area (pre ++ v ∷ post') ∷ high') ss cs
 shifted low high high' area pre post post' v ss cs walks sound =
     let one : (pre ++ v ∷ []) ++ post ≡ pre ++ v ∷ post = append_assoc pre (v ∷ []) post in
     let two : (pre ++ v ∷ []) ++ post' ≡ pre ++ v ∷ post' = append_assoc pre (v ∷ []) post' in
     let w = walks (subst (λ (ps : List Place). IsDatabase (lists_of (low ++ section_places area ps ∷ high))) (sym one) sound) in
     subst (λ (qs : List Place). Walks (low ++ section_places area (pre ++ v ∷ post) ∷ high) (low ++ section_places area qs ∷ high') ss cs) two
-    (subst (λ (ps : List Place). Walks (low ++ section_places area ps ∷ high) (low ++ section_places area ((pre ++ v ∷ []) ++ post') ∷ high') ss cs) one w)
+    (subst (λ (ps : List Place). Walks (low ++ section_places area ps ∷ high)
+    (low ++ section_places area ((pre ++ v ∷ []) ++ post') ∷ high') ss cs) one w)
 
 -- the section that was passed stands with those before it
 passed : (low high high' : Places) (l s s' : SectionPlaces) (ss : List SwapData) (cs : List Change)
@@ -132,14 +154,19 @@ accepted_at d slot x at sound =
     all_at_mid IsAccepted w.front w.back x section.accepted
 
 -- the walk on from place i of a section
-pub walk : (fates : Fates) (low high : Places) (area : Option AreaHead) (pre post : List Place) (section i : ℕ) → IsSafe fates → section ≡ length low → i ≡ length pre
+pub walk : (fates : Fates) (low high : Places) (area : Option AreaHead) (pre post : List Place) (section i : ℕ) → IsSafe fates → section ≡ length low
+    → i ≡ length pre
     → IsDatabase (lists_of (low ++ section_places area (pre ++ post) ∷ high))
-    → Walks (low ++ section_places area (pre ++ post) ∷ high) (low ++ section_places area (pre ++ map (place_after fates area) post) ∷ places_after fates high)
-    (section_swaps (fates area) section (section_name area) i post ++ swaps_from fates (suc section) high) (changed_in fates area post ++ changes_by (by_fates fates) (lists_of high))
+    → Walks (low ++ section_places area (pre ++ post) ∷ high)
+    (low ++ section_places area (pre ++ map (place_after fates area) post) ∷ places_after fates high)
+    (section_swaps (fates area) section (section_name area) i post ++ swaps_from fates (suc section) high)
+    (changed_in fates area post ++ changes_by (by_fates fates) (lists_of high))
 walk fates low [] area pre [] section i safe e g sound = record { can = tt; leads = refl; tells = refl }
 walk fates low (s ∷ high) area pre [] section i safe e g sound =
-    passed low high (places_after fates high) (section_places area (pre ++ [])) s (section_places s.area (map (place_after fates s.area) s.places)) _ _
-    (walk fates (low ++ section_places area (pre ++ []) ∷ []) high s.area [] s.places (suc section) 0 safe (pushed low (section_places area (pre ++ [])) section e) refl) sound
+    passed low high (places_after fates high) (section_places area (pre ++ [])) s
+    (section_places s.area (map (place_after fates s.area) s.places)) _ _
+    (walk fates (low ++ section_places area (pre ++ []) ∷ []) high s.area [] s.places (suc section) 0 safe
+    (pushed low (section_places area (pre ++ [])) section e) refl) sound
 walk fates low high area pre (None ∷ post) section i safe e g sound =
     shifted low high (places_after fates high) area pre post (map (place_after fates area) post) None _ _
     (walk fates low high area (pre ++ None ∷ []) post section (suc i) safe e (pushed pre None i g)) sound
@@ -152,14 +179,17 @@ walk fates low high area pre (Some x ∷ post) section i safe e g sound =
     w
 
 -- all fates, carried out at all places
-pub walked : (fates : Fates) (d : Places) → IsSafe fates → IsDatabase (lists_of d) → Walks d (places_after fates d) (swaps_from fates 0 d) (changes_by (by_fates fates) (lists_of d))
+pub walked : (fates : Fates) (d : Places) → IsSafe fates → IsDatabase (lists_of d)
+    → Walks d (places_after fates d) (swaps_from fates 0 d) (changes_by (by_fates fates) (lists_of d))
 walked fates [] safe sound = record { can = tt; leads = refl; tells = refl }
 walked fates (s ∷ ss) safe sound = walk fates [] ss s.area [] s.places 0 0 safe refl refl sound
 
-full-after : (fates : Fates) (area : Option AreaHead) (ps : List Place) → full (map (place_after fates area) ps) ≡ filter_map (after fates area) (full ps)
+full-after : (fates : Fates) (area : Option AreaHead) (ps : List Place)
+    → full (map (place_after fates area) ps) ≡ filter_map (after fates area) (full ps)
 full-after fates area [] = refl
 full-after fates area (None ∷ ps) = full-after fates area ps
-full-after fates area (Some x ∷ ps) = full-cons (outcome (fates area x) x) (map (place_after fates area) ps) ∙ ap (cons_option (outcome (fates area x) x)) (full-after fates area ps)
+full-after fates area (Some x ∷ ps) =
+    full-cons (outcome (fates area x) x) (map (place_after fates area) ps) ∙ ap (cons_option (outcome (fates area x) x)) (full-after fates area ps)
 
 -- the places show what the fates leave of the lists
 pub lists-after : (fates : Fates) (d : Places) → lists_of (places_after fates d) ≡ lists_after (by_fates fates) (lists_of d)

@@ -11,10 +11,12 @@ use Rattle.edit_history.specs.Rules.{Fate, stays, removed, rewritten, Rule, Fate
 use Rattle.lsdb.specs.declared.section.Section.{Section}
 use Rattle.lsdb.specs.Places.{Place}
 
-filter_map_mid : {X Y : Type 0} (h : X → Option Y) (front back : List X) (x : X) → filter_map h (front ++ x ∷ back) ≡ filter_map h front ++ cons_option (h x) (filter_map h back)
+filter_map_mid : {X Y : Type 0} (h : X → Option Y) (front back : List X) (x : X)
+    → filter_map h (front ++ x ∷ back) ≡ filter_map h front ++ cons_option (h x) (filter_map h back)
 filter_map_mid h [] back x = refl
 filter_map_mid {X} {Y} h (z ∷ front) back x = ap (cons_option (h z)) (filter_map_mid h front back x) ∙ shift (h z) where
-  shift : (o : Option Y) → cons_option o (filter_map h front ++ cons_option (h x) (filter_map h back)) ≡ cons_option o (filter_map h front) ++ cons_option (h x) (filter_map h back)
+  shift : (o : Option Y) → cons_option o (filter_map h front ++ cons_option (h x) (filter_map h back)) ≡ cons_option o
+      (filter_map h front) ++ cons_option (h x) (filter_map h back)
   shift None = refl
   shift (Some y) = refl
 
@@ -35,25 +37,30 @@ change fates area lsa = change_of (section_name area) lsa (fates area lsa)
 pub all_stay : (fates : Fates) (area : Option AreaHead) (xs : List (List ℕ)) → All (Stays fates area) xs → filter_map (after fates area) xs ≡ xs
 all_stay fates area [] h = refl
 all_stay fates area (x ∷ xs) h =
-    ap (λ (f : Fate). cons_option (outcome f x) (filter_map (after fates area) xs)) (let e : fates area x ≡ stays = All-head (Stays fates area) x xs h in e) ∙ ap (λ (ys : List (List ℕ)). x ∷ ys) (all_stay fates area xs (All-tail (Stays fates area) x xs h))
+    ap (λ (f : Fate). cons_option (outcome f x) (filter_map (after fates area) xs))
+    (let e : fates area x ≡ stays = All-head (Stays fates area) x xs h in e)
+    ∙ ap (λ (ys : List (List ℕ)). x ∷ ys) (all_stay fates area xs (All-tail (Stays fates area) x xs h))
 
 pub none_change : (fates : Fates) (area : Option AreaHead) (xs : List (List ℕ)) → All (Stays fates area) xs → filter_map (change fates area) xs ≡ []
 none_change fates area [] h = refl
 none_change fates area (x ∷ xs) h =
-    ap (λ (f : Fate). cons_option (change_of (section_name area) x f) (filter_map (change fates area) xs)) (let e : fates area x ≡ stays = All-head (Stays fates area) x xs h in e) ∙ none_change fates area xs (All-tail (Stays fates area) x xs h)
+    ap (λ (f : Fate). cons_option (change_of (section_name area) x f) (filter_map (change fates area) xs))
+    (let e : fates area x ≡ stays = All-head (Stays fates area) x xs h in e) ∙ none_change fates area xs (All-tail (Stays fates area) x xs h)
 
 -- ---- sections that stay
 
 sections_stay : (fates : Fates) (ss : Lists) → All (AllStay fates) ss → lists_after (by_fates fates) ss ≡ ss
 sections_stay fates [] h = refl
 sections_stay fates (s ∷ ss) h =
-    ap (λ (xs : List (List ℕ)). section_with s.area xs ∷ lists_after (by_fates fates) ss) (all_stay fates s.area s.lsas (All-head (AllStay fates) s ss h))
+    ap (λ (xs : List (List ℕ)). section_with s.area xs ∷ lists_after (by_fates fates) ss)
+    (all_stay fates s.area s.lsas (All-head (AllStay fates) s ss h))
     ∙ ap (λ (ts : Lists). s ∷ ts) (sections_stay fates ss (All-tail (AllStay fates) s ss h))
 
 no_changes : (fates : Fates) (ss : Lists) → All (AllStay fates) ss → changes_by (by_fates fates) ss ≡ []
 no_changes fates [] h = refl
 no_changes fates (s ∷ ss) h =
-    ap (λ (xs : List Change). xs ++ changes_by (by_fates fates) ss) (none_change fates s.area s.lsas (All-head (AllStay fates) s ss h)) ∙ no_changes fates ss (All-tail (AllStay fates) s ss h)
+    ap (λ (xs : List Change). xs ++ changes_by (by_fates fates) ss) (none_change fates s.area s.lsas (All-head (AllStay fates) s ss h))
+    ∙ no_changes fates ss (All-tail (AllStay fates) s ss h)
 
 -- ---- a rule that touches one LSA alone
 
@@ -73,15 +80,18 @@ change_is : (section : Section) (x : List ℕ) (other : Place) → change_of sec
 change_is section x None = refl
 change_is section x (Some new) = refl
 
-pub record TouchesOne (fates : Fates) (low high : Lists) (area : Option AreaHead) (front back : List (List ℕ)) (x : List ℕ) (other : Place) : Type 0 where
+pub record TouchesOne (fates : Fates) (low high : Lists) (area : Option AreaHead) (front back : List (List ℕ)) (x : List ℕ)
+    (other : Place) : Type 0 where
   pub below : All (AllStay fates) low
   pub above : All (AllStay fates) high
   pub before : All (Stays fates area) front
   pub behind : All (Stays fates area) back
   pub here : fates area x ≡ fate_of other
 
-pub one_after : (fates : Fates) (low high : Lists) (area : Option AreaHead) (front back : List (List ℕ)) (x : List ℕ) (other : Place) → TouchesOne fates low high area front back x other
-    → lists_after (by_fates fates) (low ++ section_with area (front ++ x ∷ back) ∷ high) ≡ low ++ section_with area (front ++ cons_option other back) ∷ high
+pub one_after : (fates : Fates) (low high : Lists) (area : Option AreaHead) (front back : List (List ℕ)) (x : List ℕ) (other : Place)
+    → TouchesOne fates low high area front back x other
+    → lists_after (by_fates fates) (low ++ section_with area (front ++ x ∷ back) ∷ high) ≡ low ++ section_with area
+    (front ++ cons_option other back) ∷ high
 one_after fates low high area front back x other t =
     let inner : filter_map (after fates area) (front ++ x ∷ back) ≡ front ++ cons_option other back =
     filter_map_mid (after fates area) front back x
@@ -90,17 +100,20 @@ one_after fates low high area front back x other t =
     ∙ ap (λ (p : Place). front ++ cons_option p (filter_map (after fates area) back)) (outcome_is x other)
     ∙ ap (λ (ys : List (List ℕ)). front ++ cons_option other ys) (all_stay fates area back t.behind) in
     map_mid (section_after (by_fates fates)) low high (section_with area (front ++ x ∷ back))
-    ∙ ap (λ (ss : Lists). ss ++ section_after (by_fates fates) (section_with area (front ++ x ∷ back)) ∷ lists_after (by_fates fates) high) (sections_stay fates low t.below)
+    ∙ ap (λ (ss : Lists). ss ++ section_after (by_fates fates) (section_with area (front ++ x ∷ back)) ∷ lists_after (by_fates fates) high)
+    (sections_stay fates low t.below)
     ∙ ap (λ (ys : List (List ℕ)). low ++ section_with area ys ∷ lists_after (by_fates fates) high) inner
     ∙ ap (λ (ss : Lists). low ++ section_with area (front ++ cons_option other back) ∷ ss) (sections_stay fates high t.above)
 
-pub changes_mid : (rule : Rule) (low high : Lists) (s : SectionLsas) → changes_by rule (low ++ s ∷ high) ≡ changes_by rule low ++ (section_changes rule s ++ changes_by rule high)
+pub changes_mid : (rule : Rule) (low high : Lists) (s : SectionLsas)
+    → changes_by rule (low ++ s ∷ high) ≡ changes_by rule low ++ (section_changes rule s ++ changes_by rule high)
 changes_mid rule [] high s = refl
 changes_mid rule (l ∷ low) high s =
     ap (λ (xs : List Change). section_changes rule l ++ xs) (changes_mid rule low high s)
     ∙ sym (append_assoc (section_changes rule l) (changes_by rule low) (section_changes rule s ++ changes_by rule high))
 
-pub one_change : (fates : Fates) (low high : Lists) (area : Option AreaHead) (front back : List (List ℕ)) (x : List ℕ) (other : Place) → TouchesOne fates low high area front back x other
+pub one_change : (fates : Fates) (low high : Lists) (area : Option AreaHead) (front back : List (List ℕ)) (x : List ℕ) (other : Place)
+    → TouchesOne fates low high area front back x other
     → changes_by (by_fates fates) (low ++ section_with area (front ++ x ∷ back) ∷ high) ≡ change_to (section_name area) x other ∷ []
 one_change fates low high area front back x other t =
     let inner : filter_map (change fates area) (front ++ x ∷ back) ≡ change_to (section_name area) x other ∷ [] =
@@ -110,6 +123,7 @@ one_change fates low high area front back x other t =
     ∙ ap (λ (o : Option Change). cons_option o (filter_map (change fates area) back)) (change_is (section_name area) x other)
     ∙ ap (λ (ys : List Change). change_to (section_name area) x other ∷ ys) (none_change fates area back t.behind) in
     changes_mid (by_fates fates) low high (section_with area (front ++ x ∷ back))
-    ∙ ap (λ (ys : List Change). ys ++ (filter_map (change fates area) (front ++ x ∷ back) ++ changes_by (by_fates fates) high)) (no_changes fates low t.below)
+    ∙ ap (λ (ys : List Change). ys ++ (filter_map (change fates area) (front ++ x ∷ back) ++ changes_by (by_fates fates) high))
+    (no_changes fates low t.below)
     ∙ ap (λ (ys : List Change). ys ++ changes_by (by_fates fates) high) inner
     ∙ ap (λ (ys : List Change). change_to (section_name area) x other ∷ ys) (no_changes fates high t.above)
