@@ -5,7 +5,7 @@ use Rattle.area_graph.specs.Paths.{DirectedEdge}
 use Rattle.area_graph.specs.Topology.{Topology, IsArc}
 use Rattle.spf.specs.declared.queue.Candidate.{Candidate}
 use Rattle.spf.specs.Candidates.{candidate_at, IsEarlier}
-use Rattle.spf.specs.Relaxation.{Bounded, Sound, Closed}
+use Rattle.spf.specs.steps.Relaxation.{Bounded, Sound, Closed}
 
 -- new is old, with a candidate for the vertex that an edge leads to, unless that vertex is settled
 abbrev pub PushesEdge : Topology → Edge → ℕ → List (Option ℕ) → List Candidate → List Candidate → Type 0
