@@ -18,3 +18,6 @@ pub mod Costs
 pub mod Gathered
 pub mod Choosing
 pub mod OverAllPaths
+pub mod Vertices
+pub mod Pairs
+pub mod EntriesOnce
