@@ -6,7 +6,7 @@ use Rattle.lsa_codec.specs.declared.address.Addr.{Addr}
 use Rattle.lsa_codec.specs.declared.address.AreaId.{AreaId}
 use Rattle.lsa_codec.specs.declared.address.RouterId.{RouterId}
 use Rattle.lsa_codec.specs.declared.key.Key.{Key}
-use Rattle.lsa_codec.specs.Key.{key_of}
+use Rattle.lsa_codec.specs.Key.{key_of, router_key}
 use Rattle.lsa_codec.specs.Prefix.{Net, IsNet}
 use Rattle.lsa_codec.specs.Originating.{new_summary, new_external, IsNewLsa}
 use Rattle.lsa_codec.proofs.Rewritten.{summary_new, external_new}
@@ -20,7 +20,7 @@ use Rattle.edit_script.specs.declared.edit.MetricType.{MetricType}
 use Rattle.edit_history.specs.declared.fault.EditFault.{EditFault}
 use Rattle.edit_history.specs.declared.fault.EditFault.TheVariants.{NoArea, NoRouter, OutOfMemory}
 use Rattle.edit_history.specs.Rules.{Rule, adding}
-use Rattle.edit_history.specs.Effect.{area_of, router_key, router_lsa_in, has_router, options_in, is_type2, room_for, has_room, added, rule_of, ◌>>=◌}
+use Rattle.edit_history.specs.Effect.{area_of, router_lsa_in, has_router, options_in, is_type2, room_for, has_room, added, rule_of, ◌>>=◌}
 use Rattle.edit_history.specs.Exchange.{SwapData}
 use Rattle.edit_history.specs.Applied.{Planned, IsRefused}
 use Rattle.edit_history.specs.Plans.{IsFirst, Opens}
@@ -80,7 +80,7 @@ add_in d area router prefix metric number named =
     let h = has_area (lists_of d) area (named_there d (Area area) number named) in
     summary_row (lists_of d) area router prefix metric ∙ on_ok (area_of (lists_of d) area) h.section (summary_rule (lists_of d) area router prefix metric) h.is
 
-pub add_no_router : (d : Places) (area : AreaId) (router : RouterId) (prefix : Net) (metric number : ℕ) → IsNamed d (Area area) number → find (has_key (router_key router.0)) (lsas_of (Area area) (lists_of d)) ≡ None → IsRefused d (AddSummary area router prefix metric) NoRouter
+pub add_no_router : (d : Places) (area : AreaId) (router : RouterId) (prefix : Net) (metric number : ℕ) → IsNamed d (Area area) number → find (has_key (router_key router)) (lsas_of (Area area) (lists_of d)) ≡ None → IsRefused d (AddSummary area router prefix metric) NoRouter
 add_no_router d area router prefix metric number named none =
     let h = has_area (lists_of d) area (named_there d (Area area) number named) in
     refused_as d (AddSummary area router prefix metric) NoRouter (λ e. cc)
@@ -88,7 +88,7 @@ add_no_router d area router prefix metric number named none =
     ∙ on_err (router_lsa_in h.section router) NoRouter (λ lsa. added (lists_of d) (Area area) (summary_for h.section.area router prefix metric)) (no_lsa_in (lists_of d) area router h.section h.lsas none))
 
 -- the router is there
-add_row : (d : Places) (area : AreaId) (router : RouterId) (prefix : Net) (metric number : ℕ) (slot : SlotId) (lsa : List ℕ) → IsNamed d (Area area) number → IsFirst d (Area area) (has_key (router_key router.0)) slot lsa
+add_row : (d : Places) (area : AreaId) (router : RouterId) (prefix : Net) (metric number : ℕ) (slot : SlotId) (lsa : List ℕ) → IsNamed d (Area area) number → IsFirst d (Area area) (has_key (router_key router)) slot lsa
     → rule_of (lists_of d) (AddSummary area router prefix metric) ≡ added (lists_of d) (Area area) (summary_for (head_or_none (item_at d number)) router prefix metric)
 add_row d area router prefix metric number slot lsa named at =
     let h = has_area (lists_of d) area (named_there d (Area area) number named) in
@@ -99,7 +99,7 @@ add_row d area router prefix metric number slot lsa named at =
 new_one : (head : Option AreaHead) (router : RouterId) (prefix : Net) (metric : ℕ) → AreWide router prefix → IsNewLsa 3 prefix router 28 (summary_for head router prefix metric)
 new_one head router prefix metric wide = summary_new (options_in head) router prefix metric wide.is_net wide.addr wide.wide
 
-pub add_no_room : (d : Places) (area : AreaId) (router : RouterId) (prefix : Net) (metric number : ℕ) (slot : SlotId) (lsa : List ℕ) (key : Key) (fault : EditFault) → IsNamed d (Area area) number → IsFirst d (Area area) (has_key (router_key router.0)) slot lsa
+pub add_no_room : (d : Places) (area : AreaId) (router : RouterId) (prefix : Net) (metric number : ℕ) (slot : SlotId) (lsa : List ℕ) (key : Key) (fault : EditFault) → IsNamed d (Area area) number → IsFirst d (Area area) (has_key (router_key router)) slot lsa
     → AreWide router prefix → key ≡ prefix_key 3 router prefix → room_for (lists_of d) (Area area) key 28 ≡ Err fault → IsRefused d (AddSummary area router prefix metric) fault
 add_no_room d area router prefix metric number slot lsa key fault named at wide is no_room =
     let head = head_or_none (item_at d number) in
@@ -107,14 +107,14 @@ add_no_room d area router prefix metric number slot lsa key fault named at wide 
     (add_row d area router prefix metric number slot lsa named at
     ∙ added_refused (lists_of d) (Area area) (summary_for head router prefix metric) (prefix_key 3 router prefix) 28 fault (keyed 3 28 router prefix _ (new_one head router prefix metric wide)) (subst (λ (k : Key). room_for (lists_of d) (Area area) k 28 ≡ Err fault) is no_room))
 
-add_ruled : (d : Places) (area : AreaId) (router : RouterId) (prefix : Net) (metric number : ℕ) (slot : SlotId) (lsa : List ℕ) (key : Key) → IsNamed d (Area area) number → IsFirst d (Area area) (has_key (router_key router.0)) slot lsa
+add_ruled : (d : Places) (area : AreaId) (router : RouterId) (prefix : Net) (metric number : ℕ) (slot : SlotId) (lsa : List ℕ) (key : Key) → IsNamed d (Area area) number → IsFirst d (Area area) (has_key (router_key router)) slot lsa
     → AreWide router prefix → key ≡ prefix_key 3 router prefix → room_for (lists_of d) (Area area) key 28 ≡ has_room → rule_of (lists_of d) (AddSummary area router prefix metric) ≡ Ok (adding (Area area) (summary_for (head_or_none (item_at d number)) router prefix metric))
 add_ruled d area router prefix metric number slot lsa key named at wide is room =
     let head = head_or_none (item_at d number) in
     add_row d area router prefix metric number slot lsa named at
     ∙ added_ruled (lists_of d) (Area area) (summary_for head router prefix metric) (prefix_key 3 router prefix) 28 (keyed 3 28 router prefix _ (new_one head router prefix metric wide)) (subst (λ (k : Key). room_for (lists_of d) (Area area) k 28 ≡ has_room) is room)
 
-pub add_memory : (d : Places) (area : AreaId) (router : RouterId) (prefix : Net) (metric number : ℕ) (slot : SlotId) (lsa : List ℕ) (key : Key) → IsNamed d (Area area) number → IsFirst d (Area area) (has_key (router_key router.0)) slot lsa
+pub add_memory : (d : Places) (area : AreaId) (router : RouterId) (prefix : Net) (metric number : ℕ) (slot : SlotId) (lsa : List ℕ) (key : Key) → IsNamed d (Area area) number → IsFirst d (Area area) (has_key (router_key router)) slot lsa
     → AreWide router prefix → key ≡ prefix_key 3 router prefix → room_for (lists_of d) (Area area) key 28 ≡ has_room → IsRefused d (AddSummary area router prefix metric) OutOfMemory
 add_memory d area router prefix metric number slot lsa key named at wide is room = no_memory d (AddSummary area router prefix metric) _ (add_ruled d area router prefix metric number slot lsa key named at wide is room)
 
@@ -123,7 +123,7 @@ area_scope area router prefix x is None named = absurd cc
 area_scope area router prefix x is (Some head) named = ap (is_in_scope (Some head)) is
 
 pub add_planned : (d e : Places) (area : AreaId) (router : RouterId) (prefix : Net) (metric number : ℕ) (slot : SlotId) (lsa : List ℕ) (key : Key) (options cost : ℕ) (x : List ℕ) (items : List SwapData) → IsDatabase (lists_of d) → IsNamed d (Area area) number
-    → IsFirst d (Area area) (has_key (router_key router.0)) slot lsa → AreWide router prefix → key ≡ prefix_key 3 router prefix → room_for (lists_of d) (Area area) key 28 ≡ has_room
+    → IsFirst d (Area area) (has_key (router_key router)) slot lsa → AreWide router prefix → key ≡ prefix_key 3 router prefix → room_for (lists_of d) (Area area) key 28 ≡ has_room
     → options ≡ options_in (head_or_none (item_at d number)) → cost ≡ metric → x ≡ new_summary options router prefix cost → Opens d e (Area area) x items → Planned d e (AddSummary area router prefix metric) items
 add_planned d e area router prefix metric number slot lsa key options cost x items sound named at wide is room options_is cost_is made opens =
     let head = head_or_none (item_at d number) in

@@ -11,7 +11,8 @@ use Rattle.lsa_codec.specs.Key.{key_of}
 use Rattle.lsdb.specs.declared.section.Section.{Section}
 use Rattle.lsdb.specs.declared.section.Section.TheVariants.{Area, AsWide}
 use Rattle.lsdb.specs.declared.slot.SlotId.{SlotId}
-use Rattle.lsdb.specs.Lists.{AreaHead, SectionLsas, Lists, IsBefore, IsDatabase, heads_of, is_head_of, is_section, is_in_scope, limit_of, has_key, lsas_of, size, largest_text}
+use Rattle.lsdb.specs.Limits.{longest_dump}
+use Rattle.lsdb.specs.Lists.{AreaHead, SectionLsas, Lists, IsBefore, IsDatabase, heads_of, is_head_of, is_section, is_in_scope, limit_of, has_key, lsas_of, size}
 use Rattle.lsdb.specs.Places.{Place, Places, item_at, slot_at, put, update_at, open_at, lists_of, places_in, lsas_or_none, IsNamed}
 use Rattle.lsdb.proofs.Middle.{map_mid}
 use Rattle.lsdb.proofs.Slots.{slot_at-put, lists_of-open_at}
@@ -145,7 +146,7 @@ fits db name i x g new =
     let lsas : lsas_of name db ≡ g.section.lsas = ap lsas_or_none g.found in
     let both = neither _ _ new.room.fits in
     let few = leb-false (most_lsas name) (length (lsas_of name db)) both.0 in
-    let short = ltb-false largest_text (size db + length x) both.1 in
+    let short = ltb-false longest_dump (size db + length x) both.1 in
     record {
       accepted = new.accepted;
       scope = new.scope g.section.area g.named;

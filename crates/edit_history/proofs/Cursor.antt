@@ -1,6 +1,8 @@
 -- The records around the cursor, as they are seen from the vector.
-use Rattle.std.proofs.Common.{◌≡◌, ℕ, zero, suc, ◌<◌, List, [], ◌∷◌, ◌++◌, length, get_or, take, drop, refl, sym, ap, ◌∙◌, arith}
+use Rattle.std.proofs.Common.{◌≡◌, ℕ, zero, suc, ◌+◌, ◌-◌, ◌<◌, ◌≤◌, Bool, true, false, ◌||◌, List, [], ◌∷◌, ◌++◌, length, get_or, take, drop, refl, sym, ap, ◌∙◌, arith}
 use Rattle.std.specs.Prelude.{reverse, slice_set}
+use Rattle.std.specs.List.{list_any}
+use Rattle.std.proofs.Math.Seq.{take-append_seam, take-add}
 use Rattle.std.proofs.lemmas.List.{reverse-append, length-reverse, length-take, length-drop}
 use Rattle.edit_history.specs.Exchange.{RecordData}
 use Rattle.edit_history.specs.Journal.{HistoryData}
@@ -77,3 +79,43 @@ pub future_len : (items : List RecordData) (i : ℕ) (h : HistoryData) → seen 
 future_len items i h view some =
     let e : length h.future ≡ length (drop i items) = ap (λ (k : HistoryData). length k.future) (sym view) in
     omega (arith, length-drop i items)
+
+-- ---- the records beside the cursor
+
+any_append : (p : RecordData → Bool) (xs : List RecordData) (r : RecordData) → list_any p (xs ++ r ∷ []) ≡ (p r || list_any p xs)
+any_append p [] r = refl
+any_append p (x ∷ xs) r = ap (λ (b : Bool). p x || b) (any_append p xs r) ∙ or_swapped (p x) (p r) (list_any p xs) where
+  or_swapped : (a b c : Bool) → (a || (b || c)) ≡ (b || (a || c))
+  or_swapped true true c = refl
+  or_swapped true false c = refl
+  or_swapped false b c = refl
+
+any_reverse : (p : RecordData → Bool) (xs : List RecordData) → list_any p (reverse xs) ≡ list_any p xs
+any_reverse p [] = refl
+any_reverse p (x ∷ xs) = ap (list_any p) (reverse-append (x ∷ []) xs) ∙ any_append p (reverse xs) x ∙ ap (λ (b : Bool). p x || b) (any_reverse p xs)
+
+-- the last records before the cursor are the first of the past
+pub any_behind : (p : RecordData → Bool) (items : List RecordData) (cursor count : ℕ) (h : HistoryData) → seen items cursor ≡ h → cursor ≤ length items → count ≤ length h.past
+    → list_any p (take (cursor - (cursor - count)) (drop (cursor - count) items)) ≡ list_any p (take count h.past)
+any_behind p items cursor count h view le some =
+    let m = cursor - count in
+    let n = cursor - m in
+    let e : length h.past ≡ length (take cursor items) = ap (λ (k : HistoryData). length k.past) (sym view) ∙ length-reverse (take cursor items) in
+    let few : count ≤ cursor = omega (arith, length-take cursor items) in
+    let whole : m + n ≡ cursor = omega arith in
+    let last : List RecordData = take n (drop m items) in
+    let split : take cursor items ≡ take m items ++ last = ap (λ (k : ℕ). take k items) (sym whole) ∙ take-add m n items in
+    let size : length (reverse last) ≡ count = length-reverse last ∙ omega (arith, length-take n (drop m items), length-drop m items) in
+    sym (ap (λ (k : HistoryData). list_any p (take count k.past)) (sym view)
+    ∙ ap (λ (rs : List RecordData). list_any p (take count (reverse rs))) split
+    ∙ ap (λ (rs : List RecordData). list_any p (take count rs)) (reverse-append (take m items) last)
+    ∙ ap (λ (k : ℕ). list_any p (take k (reverse last ++ reverse (take m items)))) (sym size)
+    ∙ ap (list_any p) (take-append_seam (reverse last) (reverse (take m items)))
+    ∙ any_reverse p last)
+
+-- the records from the cursor on are the first of the future
+pub any_ahead : (p : RecordData → Bool) (items : List RecordData) (cursor count : ℕ) (h : HistoryData) → seen items cursor ≡ h
+    → list_any p (take (cursor + count - cursor) (drop cursor items)) ≡ list_any p (take count h.future)
+any_ahead p items cursor count h view =
+    ap (λ (k : ℕ). list_any p (take k (drop cursor items))) (let size : cursor + count - cursor ≡ count = omega arith in size)
+    ∙ ap (λ (k : HistoryData). list_any p (take count k.future)) view

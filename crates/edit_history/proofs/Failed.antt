@@ -12,7 +12,7 @@ use Rattle.lsa_codec.specs.declared.key.Key.{Key}
 use Rattle.lsa_codec.specs.declared.link.Link.{Link}
 use Rattle.lsa_codec.specs.Accepted.{IsAccepted}
 use Rattle.lsa_codec.specs.Fields.{kind_of, advertising_router_of}
-use Rattle.lsa_codec.specs.Key.{key_of}
+use Rattle.lsa_codec.specs.Key.{key_of, router_key}
 use Rattle.lsa_codec.specs.Making.{without_links, leads_to, leads_to_net}
 use Rattle.lsa_codec.proofs.Rewritten.{links_rewritten}
 use Rattle.lsdb.specs.declared.section.Section.{Section}
@@ -21,7 +21,7 @@ use Rattle.lsdb.specs.Lists.{AreaHead, SectionLsas, IsBefore, IsDatabase, heads_
 use Rattle.lsdb.specs.Places.{Place, Places, SectionPlaces, item_at, slot_at, section_of, lists_of, places_in, places_or_none, head_or_none, IsNamed}
 use Rattle.lsdb.proofs.Middle.{pairs_head, pairs_tail}
 use Rattle.edit_history.specs.Rules.{Fate, stays, by_fates, within, section_name}
-use Rattle.edit_history.specs.Effect.{router_key, is_network, cut, link_fate, net_fate, router_fate}
+use Rattle.edit_history.specs.Effect.{is_network, cut, link_fate, net_fate, router_fate}
 use Rattle.edit_history.specs.Exchange.{SwapData}
 use Rattle.edit_history.specs.Plans.{slot_of, swap_for, section_swaps, swaps_from, place_swap}
 use Rattle.edit_history.proofs.Keys.{same_key_true, found_passes, head_before, head_after, name_is}
@@ -37,8 +37,8 @@ cut_safe test x accepted kind = by_answer (without_links test x) refl where
   by_answer (Ok new) is = links_rewritten test x new accepted kind is
   by_answer (Err fault) is = tt
 
-kind_by_key : (router : RouterId) (x : List ℕ) → has_key (router_key router.0) x ≡ true → kind_of x ≡ 1
-kind_by_key router x has = ap (λ (k : Key). k.kind) (same_key_true (key_of x) (router_key router.0) has)
+kind_by_key : (router : RouterId) (x : List ℕ) → has_key (router_key router) x ≡ true → kind_of x ≡ 1
+kind_by_key router x has = ap (λ (k : Key). k.kind) (same_key_true (key_of x) (router_key router) has)
 
 safe_if : (x : List ℕ) (b : Bool) (f g : Fate) → (b ≡ true → IsSafeFate x f) → (b ≡ false → IsSafeFate x g) → IsSafeFate x (if b then f else g)
 safe_if x true f g one two = one refl
@@ -46,8 +46,8 @@ safe_if x false f g one two = two refl
 
 pub link_safe : (router neighbor : RouterId) (x : List ℕ) → IsAccepted x → IsSafeFate x (link_fate router neighbor x)
 link_safe router neighbor x accepted =
-    safe_if x (has_key (router_key router.0) x) _ _ (λ e. cut_safe (leads_to neighbor) x accepted (kind_by_key router x e))
-    (λ _. safe_if x (has_key (router_key neighbor.0) x) _ _ (λ e. cut_safe (leads_to router) x accepted (kind_by_key neighbor x e)) (λ _. tt))
+    safe_if x (has_key (router_key router) x) _ _ (λ e. cut_safe (leads_to neighbor) x accepted (kind_by_key router x e))
+    (λ _. safe_if x (has_key (router_key neighbor) x) _ _ (λ e. cut_safe (leads_to router) x accepted (kind_by_key neighbor x e)) (λ _. tt))
 
 pub net_safe : (network : Addr) (x : List ℕ) → IsAccepted x → IsSafeFate x (net_fate network x)
 net_safe network x accepted =

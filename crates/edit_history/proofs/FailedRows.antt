@@ -2,6 +2,7 @@
 use Rattle.std.proofs.Common.{◌≡◌, ℕ, Bool, true, false, List, Option, Some, None, Result, Ok, Err, refl, sym, ap, ◌∙◌}
 use Rattle.std.specs.Prelude.{◌==◌, if◌then◌else◌}
 use Rattle.std.specs.List.{find}
+use Rattle.lsa_codec.specs.Key.{router_key}
 use Rattle.lsa_codec.specs.declared.address.Addr.{Addr}
 use Rattle.lsa_codec.specs.declared.address.AreaId.{AreaId}
 use Rattle.lsa_codec.specs.declared.address.RouterId.{RouterId}
@@ -13,7 +14,7 @@ use Rattle.edit_script.specs.declared.edit.Edit.TheVariants.{FailLink, FailNet, 
 use Rattle.edit_history.specs.declared.fault.EditFault.{EditFault}
 use Rattle.edit_history.specs.declared.fault.EditFault.TheVariants.{NoArea, NoRouter, NoLink, SameRouter, NoNetwork}
 use Rattle.edit_history.specs.Rules.{Rule, by_fates, within}
-use Rattle.edit_history.specs.Effect.{area_of, router_key, router_lsa_in, or_refused, has_router, is_network, are_linked, link_fate, net_fate, router_fate, rule_of, ◌>>=◌}
+use Rattle.edit_history.specs.Effect.{area_of, router_lsa_in, or_refused, has_router, is_network, are_linked, link_fate, net_fate, router_fate, rule_of, ◌>>=◌}
 use Rattle.edit_history.specs.Applied.{IsRefused}
 use Rattle.edit_history.specs.Plans.{IsFirst}
 use Rattle.edit_history.proofs.Finding.{no_area, has_area, named_there}
@@ -54,21 +55,21 @@ link_in d area router neighbor number same answer named is rest =
 pub link_same : (d : Places) (area : AreaId) (router neighbor : RouterId) (number : ℕ) → IsNamed d (Area area) number → (router.0 == neighbor.0) ≡ true → IsRefused d (FailLink area router neighbor) SameRouter
 link_same d area router neighbor number named is = refused_as d (FailLink area router neighbor) SameRouter (λ e. cc) (link_in d area router neighbor number true (Err SameRouter) named is (λ section lsas. refl))
 
-pub no_lsa_in : (db : Lists) (area : AreaId) (router : RouterId) (section : SectionLsas) → lsas_of (Area area) db ≡ section.lsas → find (has_key (router_key router.0)) (lsas_of (Area area) db) ≡ None → router_lsa_in section router ≡ Err NoRouter
-no_lsa_in db area router section lsas none = ap (or_refused NoRouter) (ap (find (has_key (router_key router.0))) (sym lsas) ∙ none)
+pub no_lsa_in : (db : Lists) (area : AreaId) (router : RouterId) (section : SectionLsas) → lsas_of (Area area) db ≡ section.lsas → find (has_key (router_key router)) (lsas_of (Area area) db) ≡ None → router_lsa_in section router ≡ Err NoRouter
+no_lsa_in db area router section lsas none = ap (or_refused NoRouter) (ap (find (has_key (router_key router))) (sym lsas) ∙ none)
 
-pub lsa_in : (db : Lists) (area : AreaId) (router : RouterId) (section : SectionLsas) (lsa : List ℕ) → lsas_of (Area area) db ≡ section.lsas → find (has_key (router_key router.0)) (lsas_of (Area area) db) ≡ Some lsa → router_lsa_in section router ≡ Ok lsa
-lsa_in db area router section lsa lsas first = ap (or_refused NoRouter) (ap (find (has_key (router_key router.0))) (sym lsas) ∙ first)
+pub lsa_in : (db : Lists) (area : AreaId) (router : RouterId) (section : SectionLsas) (lsa : List ℕ) → lsas_of (Area area) db ≡ section.lsas → find (has_key (router_key router)) (lsas_of (Area area) db) ≡ Some lsa → router_lsa_in section router ≡ Ok lsa
+lsa_in db area router section lsa lsas first = ap (or_refused NoRouter) (ap (find (has_key (router_key router))) (sym lsas) ∙ first)
 
-pub link_no_router : (d : Places) (area : AreaId) (router neighbor : RouterId) (number : ℕ) → IsNamed d (Area area) number → (router.0 == neighbor.0) ≡ false → find (has_key (router_key router.0)) (lsas_of (Area area) (lists_of d)) ≡ None
+pub link_no_router : (d : Places) (area : AreaId) (router neighbor : RouterId) (number : ℕ) → IsNamed d (Area area) number → (router.0 == neighbor.0) ≡ false → find (has_key (router_key router)) (lsas_of (Area area) (lists_of d)) ≡ None
     → IsRefused d (FailLink area router neighbor) NoRouter
 link_no_router d area router neighbor number named is none =
     refused_as d (FailLink area router neighbor) NoRouter (λ e. cc)
     (link_in d area router neighbor number false (Err NoRouter) named is
     (λ section lsas. on_err (router_lsa_in section router) NoRouter (other_rule area router neighbor section) (no_lsa_in (lists_of d) area router section lsas none)))
 
-pub link_no_neighbor : (d : Places) (area : AreaId) (router neighbor : RouterId) (number : ℕ) (slot : SlotId) (lsa : List ℕ) → IsNamed d (Area area) number → (router.0 == neighbor.0) ≡ false → IsFirst d (Area area) (has_key (router_key router.0)) slot lsa
-    → find (has_key (router_key neighbor.0)) (lsas_of (Area area) (lists_of d)) ≡ None → IsRefused d (FailLink area router neighbor) NoRouter
+pub link_no_neighbor : (d : Places) (area : AreaId) (router neighbor : RouterId) (number : ℕ) (slot : SlotId) (lsa : List ℕ) → IsNamed d (Area area) number → (router.0 == neighbor.0) ≡ false → IsFirst d (Area area) (has_key (router_key router)) slot lsa
+    → find (has_key (router_key neighbor)) (lsas_of (Area area) (lists_of d)) ≡ None → IsRefused d (FailLink area router neighbor) NoRouter
 link_no_neighbor d area router neighbor number slot lsa named is at none =
     refused_as d (FailLink area router neighbor) NoRouter (λ e. cc)
     (link_in d area router neighbor number false (Err NoRouter) named is
@@ -76,7 +77,7 @@ link_no_neighbor d area router neighbor number slot lsa named is at none =
     ∙ on_err (router_lsa_in section neighbor) NoRouter (λ other. linked_rule area router neighbor (are_linked router neighbor lsa other)) (no_lsa_in (lists_of d) area neighbor section lsas none)))
 
 both_there : (d : Places) (area : AreaId) (router neighbor : RouterId) (number : ℕ) (slot : SlotId) (lsa : List ℕ) (place : SlotId) (other : List ℕ) (linked : Bool) → IsNamed d (Area area) number → (router.0 == neighbor.0) ≡ false
-    → IsFirst d (Area area) (has_key (router_key router.0)) slot lsa → IsFirst d (Area area) (has_key (router_key neighbor.0)) place other → are_linked router neighbor lsa other ≡ linked
+    → IsFirst d (Area area) (has_key (router_key router)) slot lsa → IsFirst d (Area area) (has_key (router_key neighbor)) place other → are_linked router neighbor lsa other ≡ linked
     → rule_of (lists_of d) (FailLink area router neighbor) ≡ linked_rule area router neighbor linked
 both_there d area router neighbor number slot lsa place other linked named is at there links =
     link_in d area router neighbor number false (linked_rule area router neighbor linked) named is
@@ -85,12 +86,12 @@ both_there d area router neighbor number slot lsa place other linked named is at
     ∙ ap (linked_rule area router neighbor) links)
 
 pub link_none : (d : Places) (area : AreaId) (router neighbor : RouterId) (number : ℕ) (slot : SlotId) (lsa : List ℕ) (place : SlotId) (other : List ℕ) → IsNamed d (Area area) number → (router.0 == neighbor.0) ≡ false
-    → IsFirst d (Area area) (has_key (router_key router.0)) slot lsa → IsFirst d (Area area) (has_key (router_key neighbor.0)) place other → are_linked router neighbor lsa other ≡ false → IsRefused d (FailLink area router neighbor) NoLink
+    → IsFirst d (Area area) (has_key (router_key router)) slot lsa → IsFirst d (Area area) (has_key (router_key neighbor)) place other → are_linked router neighbor lsa other ≡ false → IsRefused d (FailLink area router neighbor) NoLink
 link_none d area router neighbor number slot lsa place other named is at there links =
     refused_as d (FailLink area router neighbor) NoLink (λ e. cc) (both_there d area router neighbor number slot lsa place other false named is at there links)
 
 pub link_ruled : (d : Places) (area : AreaId) (router neighbor : RouterId) (number : ℕ) (slot : SlotId) (lsa : List ℕ) (place : SlotId) (other : List ℕ) → IsNamed d (Area area) number → (router.0 == neighbor.0) ≡ false
-    → IsFirst d (Area area) (has_key (router_key router.0)) slot lsa → IsFirst d (Area area) (has_key (router_key neighbor.0)) place other → are_linked router neighbor lsa other ≡ true
+    → IsFirst d (Area area) (has_key (router_key router)) slot lsa → IsFirst d (Area area) (has_key (router_key neighbor)) place other → are_linked router neighbor lsa other ≡ true
     → rule_of (lists_of d) (FailLink area router neighbor) ≡ Ok (within (Area area) (link_fate router neighbor))
 link_ruled d area router neighbor number slot lsa place other named is at there links = both_there d area router neighbor number slot lsa place other true named is at there links
 

@@ -6,7 +6,7 @@ use Rattle.lsa_codec.specs.declared.address.AreaId.{AreaId}
 use Rattle.lsa_codec.specs.declared.address.RouterId.{RouterId}
 use Rattle.lsa_codec.specs.declared.key.Key.{Key}
 use Rattle.lsa_codec.specs.Fields.{kind_of}
-use Rattle.lsa_codec.specs.Key.{key_of}
+use Rattle.lsa_codec.specs.Key.{key_of, router_key}
 use Rattle.lsdb.specs.declared.section.Section.{Section}
 use Rattle.lsdb.specs.declared.section.Section.TheVariants.{Area}
 use Rattle.lsdb.specs.declared.slot.SlotId.{SlotId}
@@ -14,7 +14,7 @@ use Rattle.lsdb.specs.Lists.{SectionLsas, Lists, is_section, has_key, lsas_of}
 use Rattle.lsdb.specs.Places.{Place, Places, slot_at, lists_of, lsas_or_none, IsNamed, IsPlaceOf}
 use Rattle.edit_history.specs.declared.fault.EditFault.{EditFault}
 use Rattle.edit_history.specs.declared.fault.EditFault.TheVariants.{NoArea, NoRouter, OutOfMemory}
-use Rattle.edit_history.specs.Effect.{router_key, router_lsa_in, router_lsa_of, area_of, or_refused, ◌>>=◌}
+use Rattle.edit_history.specs.Effect.{router_lsa_in, router_lsa_of, area_of, or_refused, ◌>>=◌}
 use Rattle.edit_history.specs.Plans.{IsFirst}
 use Rattle.edit_history.proofs.Keys.{same_key_true, found_passes}
 
@@ -47,16 +47,16 @@ router_lsa_after router s = s >>= λ section. router_lsa_in section router
 pub no_router_area : (db : Lists) (area : AreaId) (router : RouterId) → find (is_section (Area area)) db ≡ None → router_lsa_of db area router ≡ Err NoArea
 no_router_area db area router none = ap (router_lsa_after router) (no_area db area none)
 
-pub no_router_in : (db : Lists) (area : AreaId) (router : RouterId) (h : HasArea db area) → find (has_key (router_key router.0)) (lsas_of (Area area) db) ≡ None → router_lsa_in h.section router ≡ Err NoRouter
-no_router_in db area router h none = ap (or_refused NoRouter) (ap (find (has_key (router_key router.0))) (sym h.lsas) ∙ none)
+pub no_router_in : (db : Lists) (area : AreaId) (router : RouterId) (h : HasArea db area) → find (has_key (router_key router)) (lsas_of (Area area) db) ≡ None → router_lsa_in h.section router ≡ Err NoRouter
+no_router_in db area router h none = ap (or_refused NoRouter) (ap (find (has_key (router_key router))) (sym h.lsas) ∙ none)
 
-pub router_in : (db : Lists) (area : AreaId) (router : RouterId) (lsa : List ℕ) (h : HasArea db area) → find (has_key (router_key router.0)) (lsas_of (Area area) db) ≡ Some lsa → router_lsa_in h.section router ≡ Ok lsa
-router_in db area router lsa h first = ap (or_refused NoRouter) (ap (find (has_key (router_key router.0))) (sym h.lsas) ∙ first)
+pub router_in : (db : Lists) (area : AreaId) (router : RouterId) (lsa : List ℕ) (h : HasArea db area) → find (has_key (router_key router)) (lsas_of (Area area) db) ≡ Some lsa → router_lsa_in h.section router ≡ Ok lsa
+router_in db area router lsa h first = ap (or_refused NoRouter) (ap (find (has_key (router_key router))) (sym h.lsas) ∙ first)
 
-pub no_router : (db : Lists) (area : AreaId) (router : RouterId) → IsSome (find (is_section (Area area)) db) → find (has_key (router_key router.0)) (lsas_of (Area area) db) ≡ None → router_lsa_of db area router ≡ Err NoRouter
+pub no_router : (db : Lists) (area : AreaId) (router : RouterId) → IsSome (find (is_section (Area area)) db) → find (has_key (router_key router)) (lsas_of (Area area) db) ≡ None → router_lsa_of db area router ≡ Err NoRouter
 no_router db area router some none = let h = has_area db area some in ap (router_lsa_after router) h.is ∙ no_router_in db area router h none
 
-pub router_lsa_is : (d : Places) (area : AreaId) (router : RouterId) (slot : SlotId) (lsa : List ℕ) → IsFirst d (Area area) (has_key (router_key router.0)) slot lsa → router_lsa_of (lists_of d) area router ≡ Ok lsa
+pub router_lsa_is : (d : Places) (area : AreaId) (router : RouterId) (slot : SlotId) (lsa : List ℕ) → IsFirst d (Area area) (has_key (router_key router)) slot lsa → router_lsa_of (lists_of d) area router ≡ Ok lsa
 router_lsa_is d area router slot lsa at =
     let h = has_area (lists_of d) area (named_there d (Area area) slot.section at.named) in
     ap (router_lsa_after router) h.is ∙ router_in (lists_of d) area router lsa h at.first
@@ -89,4 +89,4 @@ pub not_memory : (db : Lists) (area : AreaId) (router : RouterId) (fault : EditF
 not_memory db area router fault is = by_section (find (is_section (Area area)) db) is where
   by_section : (o : Option SectionLsas) → router_lsa_after router (or_refused NoArea o) ≡ Err fault → fault ≢ OutOfMemory
   by_section None is = λ memory. let e : (let r : Result (List ℕ) EditFault = Err NoArea in r) ≡ Err OutOfMemory = is ∙ ap (λ (f : EditFault). let r : Result (List ℕ) EditFault = Err f in r) memory in cc
-  by_section (Some s) is = not_memory_in (find (has_key (router_key router.0)) s.lsas) fault is
+  by_section (Some s) is = not_memory_in (find (has_key (router_key router)) s.lsas) fault is

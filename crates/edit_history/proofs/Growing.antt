@@ -174,7 +174,7 @@ after_snoc : (c : Lists) (es : List Edit) (e : Edit) → after_edits c (es ++ e 
 after_snoc c [] e = refl
 after_snoc c (x ∷ es) e = after_snoc (unless_refused c (effect c x)) es e
 
-state_back : (d : Places) (rs : List RecordData) → LinksBack d rs → after_edits (lists_of (origin d rs)) (reverse (edits_of rs)) ≡ lists_of d
+pub state_back : (d : Places) (rs : List RecordData) → LinksBack d rs → after_edits (lists_of (origin d rs)) (reverse (edits_of rs)) ≡ lists_of d
 state_back d [] links = refl
 state_back d (r ∷ rs) links =
     let u : Places = undone_places d r.swaps in

@@ -23,3 +23,7 @@ pub mod Told
 pub mod Returning
 pub mod Telling
 pub mod Folding
+pub mod Sparing
+pub mod Touching
+pub mod Accepting
+pub mod HistoryLemmas

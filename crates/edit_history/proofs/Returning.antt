@@ -10,10 +10,10 @@ use Rattle.edit_history.specs.Effect.{effect, ◌>>=◌}
 use Rattle.edit_history.specs.Session.{Session, state, after_edits, accepted, edited, edited_by, moved_back, moved_on}
 use Rattle.edit_history.proofs.Linked.{same_session}
 
-seam_take : (k : ℕ) (xs ys : List Edit) → length xs ≡ k → take k (xs ++ ys) ≡ xs
+pub seam_take : (k : ℕ) (xs ys : List Edit) → length xs ≡ k → take k (xs ++ ys) ≡ xs
 seam_take k xs ys e = ap (λ (n : ℕ). take n (xs ++ ys)) (sym e) ∙ take-append_seam xs ys
 
-seam_drop : (k : ℕ) (xs ys : List Edit) → length xs ≡ k → drop k (xs ++ ys) ≡ ys
+pub seam_drop : (k : ℕ) (xs ys : List Edit) → length xs ≡ k → drop k (xs ++ ys) ≡ ys
 seam_drop k xs ys e = ap (λ (n : ℕ). drop n (xs ++ ys)) (sym e) ∙ drop-append_seam xs ys
 
 -- undone and redone

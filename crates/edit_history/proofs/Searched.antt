@@ -3,13 +3,14 @@ use Rattle.std.proofs.Common.{◌≡◌, ℕ, zero, suc, ◌<◌, ◌≤◌, Boo
 use Rattle.std.specs.Prelude.{IsSome, is_some, MatchOption}
 use Rattle.std.specs.List.{find, list_any}
 use Rattle.std.proofs.lemmas.List.{drop_all}
+use Rattle.lsa_codec.specs.Key.{router_key}
 use Rattle.lsa_codec.specs.declared.address.RouterId.{RouterId}
 use Rattle.lsa_codec.specs.declared.key.Key.{Key}
 use Rattle.lsdb.specs.declared.section.Section.{Section}
 use Rattle.lsdb.specs.declared.slot.SlotId.{SlotId}
 use Rattle.lsdb.specs.Lists.{SectionLsas, Lists, has_key, is_section, lsas_of}
 use Rattle.lsdb.specs.Places.{Place, Places, SectionPlaces, item_at, slot_at, place_in, full, lists_of, lsas_in, lsas_or_none, places_in, places_or_none, IsNamed, IsPlaceOf}
-use Rattle.edit_history.specs.Effect.{router_key, is_in_section}
+use Rattle.edit_history.specs.Effect.{is_in_section}
 use Rattle.edit_history.specs.Plans.{IsFirst, passes, slot_of}
 use Rattle.edit_history.proofs.Finding.{same_place}
 
@@ -145,16 +146,16 @@ any_true router s rest b is yes' = ap (λ c. c || list_any (is_in_section router
 any_false : (router : RouterId) (s : SectionLsas) (rest : Lists) (b : Bool) → b ≡ is_in_section router s → b ≡ false → list_any (is_in_section router) (s ∷ rest) ≡ list_any (is_in_section router) rest
 any_false router s rest b is no' = ap (λ c. c || list_any (is_in_section router) rest) (sym is ∙ no')
 
-seen_in : (router : RouterId) (d : Places) (i j : ℕ) (b : Bool) (h : Here (lists_of d) i j) → b ≡ list_any (has_key (router_key router.0)) (lsas_in d i) → b ≡ is_in_section router h.item
-seen_in router d i j b h is = is ∙ ap (λ (o : Option SectionLsas). list_any (has_key (router_key router.0)) (lsas_or_none o)) h.at
+seen_in : (router : RouterId) (d : Places) (i j : ℕ) (b : Bool) (h : Here (lists_of d) i j) → b ≡ list_any (has_key (router_key router)) (lsas_in d i) → b ≡ is_in_section router h.item
+seen_in router d i j b h is = is ∙ ap (λ (o : Option SectionLsas). list_any (has_key (router_key router)) (lsas_or_none o)) h.at
 
-pub router_here : (router : RouterId) (d : Places) (i : ℕ) (b : Bool) → i < length d → b ≡ list_any (has_key (router_key router.0)) (lsas_in d i) → b ≡ true → list_any (is_in_section router) (drop i (lists_of d)) ≡ list_any (is_in_section router) (lists_of d)
+pub router_here : (router : RouterId) (d : Places) (i : ℕ) (b : Bool) → i < length d → b ≡ list_any (has_key (router_key router)) (lsas_in d i) → b ≡ true → list_any (is_in_section router) (drop i (lists_of d)) ≡ list_any (is_in_section router) (lists_of d)
     → list_any (is_in_section router) (lists_of d) ≡ true
 router_here router d i b lt is pass same =
     let h = here (lists_of d) i (suc i) (omega (arith, lists_count d)) refl in
     sym same ∙ ap (list_any (is_in_section router)) h.rest ∙ any_true router h.item (drop (suc i) (lists_of d)) b (seen_in router d i (suc i) b h is) pass
 
-pub router_not_here : (router : RouterId) (d : Places) (i j : ℕ) (b : Bool) → i < length d → j ≡ suc i → b ≡ list_any (has_key (router_key router.0)) (lsas_in d i) → b ≡ false → list_any (is_in_section router) (drop i (lists_of d)) ≡ list_any (is_in_section router) (lists_of d)
+pub router_not_here : (router : RouterId) (d : Places) (i j : ℕ) (b : Bool) → i < length d → j ≡ suc i → b ≡ list_any (has_key (router_key router)) (lsas_in d i) → b ≡ false → list_any (is_in_section router) (drop i (lists_of d)) ≡ list_any (is_in_section router) (lists_of d)
     → list_any (is_in_section router) (drop j (lists_of d)) ≡ list_any (is_in_section router) (lists_of d)
 router_not_here router d i j b lt e is fail same =
     let h = here (lists_of d) i j (omega (arith, lists_count d)) e in

@@ -2,6 +2,7 @@
 use Rattle.std.proofs.Common.{◌≡◌, ℕ, ◌+◌, ◌<◌, ◌≤◌, Bool, true, false, List, [], ◌∷◌, ◌++◌, Result, Ok, Err, Some, length, refl, sym, ap, ◌∙◌, arith}
 use Rattle.std.specs.Prelude.{if◌then◌else◌}
 use Rattle.std.proofs.lemmas.Bool.{lt-ltb, le-ltb, ltb-false}
+use Rattle.lsa_codec.specs.Key.{router_key}
 use Rattle.lsa_codec.specs.declared.address.AreaId.{AreaId}
 use Rattle.lsa_codec.specs.declared.address.RouterId.{RouterId}
 use Rattle.lsa_codec.specs.declared.fault.MakeFault.{MakeFault}
@@ -11,7 +12,8 @@ use Rattle.lsa_codec.specs.Prefix.{Net}
 use Rattle.lsa_codec.specs.Making.{recounted, stub_text, with_stub, IsExtensionOf, IsMakeFaultOf}
 use Rattle.lsdb.specs.declared.section.Section.TheVariants.{Area}
 use Rattle.lsdb.specs.declared.slot.SlotId.{SlotId}
-use Rattle.lsdb.specs.Lists.{Lists, IsDatabase, has_key, size, largest_text}
+use Rattle.lsdb.specs.Limits.{longest_dump}
+use Rattle.lsdb.specs.Lists.{Lists, IsDatabase, has_key, size}
 use Rattle.lsdb.specs.Places.{Places, lists_of}
 use Rattle.lsdb.proofs.Dominated.{extended_safe}
 use Rattle.edit_script.specs.declared.edit.Edit.TheVariants.{AddStub}
@@ -19,7 +21,7 @@ use Rattle.edit_history.specs.declared.fault.EditFault.{EditFault}
 use Rattle.edit_history.specs.declared.fault.EditFault.TheVariants.{TooLong, Full, OutOfMemory}
 use Rattle.edit_history.specs.Fault.{fault_of}
 use Rattle.edit_history.specs.Rules.{Rule, rewritten, one_lsa}
-use Rattle.edit_history.specs.Effect.{router_key, router_lsa_of, is_dump_full, stub_octets, rule_of, made, ◌>>=◌}
+use Rattle.edit_history.specs.Effect.{router_lsa_of, is_dump_full, stub_octets, rule_of, made, ◌>>=◌}
 use Rattle.edit_history.specs.Exchange.{SwapData}
 use Rattle.edit_history.specs.Applied.{Planned, IsRefused}
 use Rattle.edit_history.specs.Plans.{IsFirst}
@@ -28,7 +30,7 @@ use Rattle.edit_history.proofs.OneLsa.{one_swap, planned_one}
 use Rattle.edit_history.proofs.Follows.{refused_as, no_memory, on_ok, on_err}
 
 abbrev full_rule : AreaId → RouterId → List ℕ → Bool → Result Rule EditFault
-full_rule area router new full = if full then Err Full else Ok (one_lsa (Area area) (router_key router.0) (rewritten new))
+full_rule area router new full = if full then Err Full else Ok (one_lsa (Area area) (router_key router) (rewritten new))
 
 abbrev made_rule : Lists → AreaId → RouterId → Result (List ℕ) EditFault → Result Rule EditFault
 made_rule db area router new = new >>= λ lsa. full_rule area router lsa (is_dump_full db stub_octets)
@@ -42,7 +44,7 @@ stub_no_router d area router prefix metric fault is =
     refused_as d (AddStub area router prefix metric) fault (not_memory (lists_of d) area router fault is)
     (stub_row (lists_of d) area router prefix metric ∙ on_err (router_lsa_of (lists_of d) area router) fault (λ lsa. made_rule (lists_of d) area router (made (with_stub prefix metric lsa))) is)
 
-stub_found : (d : Places) (area : AreaId) (router : RouterId) (prefix : Net) (metric : ℕ) (slot : SlotId) (lsa : List ℕ) → IsFirst d (Area area) (has_key (router_key router.0)) slot lsa
+stub_found : (d : Places) (area : AreaId) (router : RouterId) (prefix : Net) (metric : ℕ) (slot : SlotId) (lsa : List ℕ) → IsFirst d (Area area) (has_key (router_key router)) slot lsa
     → rule_of (lists_of d) (AddStub area router prefix metric) ≡ made_rule (lists_of d) area router (made (with_stub prefix metric lsa))
 stub_found d area router prefix metric slot lsa at =
     stub_row (lists_of d) area router prefix metric ∙ on_ok (router_lsa_of (lists_of d) area router) lsa (λ x. made_rule (lists_of d) area router (made (with_stub prefix metric x))) (router_lsa_is d area router slot lsa at)
@@ -61,25 +63,25 @@ too_long prefix metric lsa long = ap (stub_by (extended prefix metric lsa)) (lt-
 not_too_long : (prefix : Net) (metric : ℕ) (lsa : List ℕ) → length lsa + 12 ≤ 65535 → with_stub prefix metric lsa ≡ Ok (extended prefix metric lsa)
 not_too_long prefix metric lsa short = ap (stub_by (extended prefix metric lsa)) (le-ltb 65535 (length lsa + 12) short)
 
-pub stub_too_long : (d : Places) (area : AreaId) (router : RouterId) (prefix : Net) (metric : ℕ) (slot : SlotId) (lsa : List ℕ) → IsFirst d (Area area) (has_key (router_key router.0)) slot lsa → 65535 < length lsa + 12
+pub stub_too_long : (d : Places) (area : AreaId) (router : RouterId) (prefix : Net) (metric : ℕ) (slot : SlotId) (lsa : List ℕ) → IsFirst d (Area area) (has_key (router_key router)) slot lsa → 65535 < length lsa + 12
     → IsRefused d (AddStub area router prefix metric) TooLong
 stub_too_long d area router prefix metric slot lsa at long =
     refused_as d (AddStub area router prefix metric) TooLong (λ e. cc)
     (stub_found d area router prefix metric slot lsa at ∙ ap (λ (r : Result (List ℕ) MakeFault). made_rule (lists_of d) area router (made r)) (too_long prefix metric lsa long))
 
-stub_made : (d : Places) (area : AreaId) (router : RouterId) (prefix : Net) (metric : ℕ) (slot : SlotId) (lsa : List ℕ) (full : Bool) → IsFirst d (Area area) (has_key (router_key router.0)) slot lsa → length lsa + 12 ≤ 65535 → is_dump_full (lists_of d) 12 ≡ full
+stub_made : (d : Places) (area : AreaId) (router : RouterId) (prefix : Net) (metric : ℕ) (slot : SlotId) (lsa : List ℕ) (full : Bool) → IsFirst d (Area area) (has_key (router_key router)) slot lsa → length lsa + 12 ≤ 65535 → is_dump_full (lists_of d) 12 ≡ full
     → rule_of (lists_of d) (AddStub area router prefix metric) ≡ full_rule area router (extended prefix metric lsa) full
 stub_made d area router prefix metric slot lsa full at short is =
     stub_found d area router prefix metric slot lsa at
     ∙ ap (λ (r : Result (List ℕ) MakeFault). made_rule (lists_of d) area router (made r)) (not_too_long prefix metric lsa short)
     ∙ ap (full_rule area router (extended prefix metric lsa)) is
 
-pub stub_full : (d : Places) (area : AreaId) (router : RouterId) (prefix : Net) (metric : ℕ) (slot : SlotId) (lsa : List ℕ) → IsFirst d (Area area) (has_key (router_key router.0)) slot lsa → length lsa + 12 ≤ 65535 → is_dump_full (lists_of d) 12 ≡ true
+pub stub_full : (d : Places) (area : AreaId) (router : RouterId) (prefix : Net) (metric : ℕ) (slot : SlotId) (lsa : List ℕ) → IsFirst d (Area area) (has_key (router_key router)) slot lsa → length lsa + 12 ≤ 65535 → is_dump_full (lists_of d) 12 ≡ true
     → IsRefused d (AddStub area router prefix metric) Full
 stub_full d area router prefix metric slot lsa at short is = refused_as d (AddStub area router prefix metric) Full (λ e. cc) (stub_made d area router prefix metric slot lsa true at short is)
 
 -- memory ran out
-pub stub_memory : (d : Places) (area : AreaId) (router : RouterId) (prefix : Net) (metric : ℕ) (slot : SlotId) (lsa : List ℕ) → IsFirst d (Area area) (has_key (router_key router.0)) slot lsa → length lsa + 12 ≤ 65535 → is_dump_full (lists_of d) 12 ≡ false
+pub stub_memory : (d : Places) (area : AreaId) (router : RouterId) (prefix : Net) (metric : ℕ) (slot : SlotId) (lsa : List ℕ) → IsFirst d (Area area) (has_key (router_key router)) slot lsa → length lsa + 12 ≤ 65535 → is_dump_full (lists_of d) 12 ≡ false
     → IsRefused d (AddStub area router prefix metric) OutOfMemory
 stub_memory d area router prefix metric slot lsa at short is = no_memory d (AddStub area router prefix metric) _ (stub_made d area router prefix metric slot lsa false at short is)
 
@@ -98,11 +100,11 @@ stub_fault prefix metric lsa faults.OutOfMemory short is = refl
 made_same : (prefix : Net) (metric : ℕ) (lsa new : List ℕ) → length lsa + 12 ≤ 65535 → with_stub prefix metric lsa ≡ Ok new → extended prefix metric lsa ≡ new
 made_same prefix metric lsa new short is = let e : (let r : Result (List ℕ) MakeFault = Ok (extended prefix metric lsa) in r) ≡ Ok new = sym (not_too_long prefix metric lsa short) ∙ is in cc
 
-pub stub_planned : (d : Places) (area : AreaId) (router : RouterId) (prefix : Net) (metric : ℕ) (slot : SlotId) (lsa new : List ℕ) (swap : SwapData) (items : List SwapData) → IsDatabase (lists_of d) → IsFirst d (Area area) (has_key (router_key router.0)) slot lsa
+pub stub_planned : (d : Places) (area : AreaId) (router : RouterId) (prefix : Net) (metric : ℕ) (slot : SlotId) (lsa new : List ℕ) (swap : SwapData) (items : List SwapData) → IsDatabase (lists_of d) → IsFirst d (Area area) (has_key (router_key router)) slot lsa
     → length lsa + 12 ≤ 65535 → is_dump_full (lists_of d) 12 ≡ false → with_stub prefix metric lsa ≡ Ok new → IsExtensionOf lsa new → swap ≡ one_swap slot (Area area) 1 (Some new) → items ≡ swap ∷ [] → Planned d d (AddStub area router prefix metric) items
 stub_planned d area router prefix metric slot lsa new swap items sound at short is made_new extension swap_is items_is =
-    let ruled : rule_of (lists_of d) (AddStub area router prefix metric) ≡ Ok (one_lsa (Area area) (router_key router.0) (rewritten new)) =
+    let ruled : rule_of (lists_of d) (AddStub area router prefix metric) ≡ Ok (one_lsa (Area area) (router_key router) (rewritten new)) =
     stub_made d area router prefix metric slot lsa false at short is ∙ ap (λ (x : List ℕ). full_rule area router x false) (made_same prefix metric lsa new short made_new) in
-    let room : size (lists_of d) + 12 ≤ largest_text = ltb-false largest_text (size (lists_of d) + 12) is in
-    planned_one d (AddStub area router prefix metric) (Area area) (router_key router.0) slot lsa (Some new) 1 swap items sound at.named at.held (key_is d (Area area) (router_key router.0) slot lsa at) refl
+    let room : size (lists_of d) + 12 ≤ longest_dump = ltb-false longest_dump (size (lists_of d) + 12) is in
+    planned_one d (AddStub area router prefix metric) (Area area) (router_key router) slot lsa (Some new) 1 swap items sound at.named at.held (key_is d (Area area) (router_key router) slot lsa at) refl
     (extended_safe d slot lsa new at.held extension.accepted extension.key (omega (arith, extension.size, room)) sound) ruled swap_is items_is

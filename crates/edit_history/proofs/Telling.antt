@@ -14,11 +14,11 @@ use Rattle.edit_history.specs.Applied.{told, Applied, CarriesOut, TakesBack, Tel
 abbrev touches_any : AreaId → List SwapData → Bool
 touches_any area ss = list_any (λ (s : SwapData). is_of_graph area s.section s.kind) ss
 
-touched_told : (area : AreaId) (e : Places) (ss : List SwapData) → touches_any area ss ≡ touched area (map (told e) ss)
+pub touched_told : (area : AreaId) (e : Places) (ss : List SwapData) → touches_any area ss ≡ touched area (map (told e) ss)
 touched_told area e [] = refl
 touched_told area e (s ∷ ss) = ap (λ (b : Bool). is_of_graph area s.section s.kind || b) (touched_told area e ss)
 
-touched_done : (area : AreaId) (d : Places) (ss : List SwapData) → touches_any area (done_swaps d ss) ≡ touches_any area ss
+pub touched_done : (area : AreaId) (d : Places) (ss : List SwapData) → touches_any area (done_swaps d ss) ≡ touches_any area ss
 touched_done area d [] = refl
 touched_done area d (s ∷ ss) = ap (λ (b : Bool). is_of_graph area s.section s.kind || b) (touched_done area (put d s.slot s.other) ss)
 

@@ -1,5 +1,6 @@
 -- What becomes of LSAs where something fails, by what fails.
 use Rattle.std.specs.Prelude.{List, ℕ, Option, Some, None, Result, Ok, Err}
+use Rattle.lsa_codec.specs.LsTypes.{router_lsa}
 use Rattle.lsa_codec.specs.declared.fault.MakeFault.{MakeFault}
 use Rattle.lsa_codec.specs.declared.fault.MakeFault.TheVariants as make
 use Rattle.lsdb.specs.declared.section.Section.{Section}
@@ -20,7 +21,7 @@ fate_by (Router router) lsa = router_fate router lsa
 
 -- the swap of a router-LSA for a shorter one; none where no link goes
 abbrev pub shortened : SlotId → Section → Result (List ℕ) MakeFault → Result (Option SwapData) EditFault
-shortened slot name (Ok new) = Ok (Some (record { slot = slot; section = name; kind = 1; other = Some new }))
+shortened slot name (Ok new) = Ok (Some (record { slot = slot; section = name; kind = router_lsa; other = Some new }))
 shortened slot name (Err make.NoLink) = Ok None
 shortened slot name (Err make.ZeroCost) = Err OutOfMemory
 shortened slot name (Err make.TooLong) = Err OutOfMemory

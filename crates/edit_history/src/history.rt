@@ -1,10 +1,22 @@
 //! The records of a session's edits.
 
+ghost use Rattle.std.specs.Prelude.{◌≡◌};
+ghost use Rattle.std.specs.List.{list_any};
+ghost use Rattle.edit_history.specs.Exchange.{touches};
+
 use crate::fault::{RedoFault, UndoFault};
 use crate::record::{Record, replay, revert};
+use lsa_codec::AreaId;
 use lsdb::Database;
 use std::alloc::{AllocError, Allocator, Global};
 use std::marker::Model;
+
+/// Whether one of some records touches an area.
+fn any_touches<A: Allocator + Copy>(records: &[Record<A>], area: AreaId) -> bool
+    ensures { result ≡ list_any (touches area) records.now }
+{
+    records.iter().any(|record| record.touches(area))
+}
 
 /// The records of the edits that are done, and of those that were undone since.
 #[derive(Drop)]
@@ -27,7 +39,8 @@ impl<A: Allocator> Model for History<A> {
 impl<A: Allocator + Copy> History<A> {
     ghost use Rattle.std.specs.Prelude.{◌≡◌, ◌+◌, ◌<◌, ◌≤◌, [], ◌∷◌, length, OnOk, OnErr, IsOk, ◌↔◌};
     ghost use Rattle.edit_history.specs.Journal.{Links};
-    ghost use Rattle.edit_history.specs.Session.{session_of, moved_back, moved_on, StepsBack, StepsOn};
+    ghost use Rattle.edit_history.specs.Session.{session_of, moved_back, moved_on, undo_touches, redo_touches, StepsBack, StepsOn};
+    ghost use Rattle.lsdb.specs.Places.{Places};
 
     /// No edits. It takes no memory.
     pub fn new(alloc: A) -> History<A>
@@ -141,6 +154,28 @@ impl<A: Allocator + Copy> History<A> {
         }
         self.step_on_by(database, count);
         Ok(())
+    }
+
+    /// Whether one of the last `count` done edits touches an area: rewrote, removed or added a
+    /// router-LSA or network-LSA of it. These make up the area's graph (RFC 2328, 16.1); where none
+    /// of the edits touches them, taking the edits back leaves them as they are. It takes no memory.
+    pub fn undo_touches(&self, count: usize, area: AreaId) -> bool
+        requires { count ≤ length self.now.lists.past }
+        ensures { (d : Places) → Links d self.now.lists
+            → result ≡ undo_touches count area (session_of d self.now.lists) }
+    {
+        any_touches(&self.records[self.cursor - count..self.cursor], area)
+    }
+
+    /// Whether one of the first `count` undone edits touches an area, as in
+    /// [`undo_touches`](History::undo_touches). Where none does, carrying them out again leaves the
+    /// area's router-LSAs and network-LSAs as they are. It takes no memory.
+    pub fn redo_touches(&self, count: usize, area: AreaId) -> bool
+        requires { count ≤ length self.now.lists.future }
+        ensures { (d : Places) → Links d self.now.lists
+            → result ≡ redo_touches count area (session_of d self.now.lists) }
+    {
+        any_touches(&self.records[self.cursor..self.cursor + count], area)
     }
 
     /// Makes room for one record behind the done ones.

@@ -11,12 +11,10 @@ ghost use Rattle.edit_history.specs.Applied.{Planned, IsRefused};
 
 use crate::fault::EditFault;
 use crate::limits::check_room;
-use crate::lookup::{
-    EXTERNAL_LSA, SUMMARY_LSA, Wanted, area_section, first, has_router, router_lsa_in,
-};
+use crate::lookup::{Wanted, area_section, first, has_router, router_lsa_in};
 use crate::swap::{Swap, one_swap};
 use edit_script::MetricType;
-use lsa_codec::{Addr, AreaId, Key, Lsa, Metric, Prefix, RouterId};
+use lsa_codec::{Addr, AreaId, EXTERNAL_LSA, Key, Lsa, Metric, Prefix, RouterId, SUMMARY_LSA};
 use lsdb::{Database, Section};
 use std::alloc::Allocator;
 

@@ -2,8 +2,12 @@
 
 ghost use Rattle.std.specs.Prelude.{◌≡◌, ◌<◌, ◌^◌, Some, None, nat_lt, if◌then◌else◌};
 
+use crate::decimal::Decimal;
 use std::fmt;
 use std::marker::Model;
+
+/// LSInfinity, the greatest metric, which says that a destination is not reachable (RFC 2328, B).
+pub const LS_INFINITY: u32 = 0xff_ffff;
 
 /// A metric of 24 bits, 0 to 16,777,215, as summary-LSAs and AS-external-LSAs carry it (RFC 2328,
 /// A.4.4 and A.4.5). Its greatest value is LSInfinity, which says that a destination is not
@@ -53,7 +57,7 @@ impl fmt::Display for Metric {
     ghost output = { λ metric. Some (decimal metric) };
 
     fn fmt<W: fmt::Write>(&self, f: &mut fmt::Formatter<W>) -> fmt::Result {
-        let value = self.value;
+        let value = Decimal(u64::from(self.value));
         write!(f, "{value}")
     }
 }

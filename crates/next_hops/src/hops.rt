@@ -49,7 +49,7 @@ impl<A: Allocator + Copy> Hops<A> {
     {
         let mut lists = empty_lists(alloc, graph.len())?;
         for from in tree.order() {
-            pass_on(alloc, graph, tree, *from, &mut lists)?;
+            pass_on(alloc, graph, tree, usize::from(*from), &mut lists)?;
         }
         Ok(Hops { lists })
     }

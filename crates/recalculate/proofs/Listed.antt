@@ -24,7 +24,8 @@ use Rattle.area_routes.specs.Order.{router_cmp}
 use Rattle.area_routes.proofs.Orders.{router_exact, router_total}
 use Rattle.area_routes.proofs.Rising.{any_rising}
 use Rattle.edit_history.proofs.Keys.{other_key, same_key_true}
-use Rattle.area_routes.specs.Attached.{attached_areas, has_live_router_lsa, router_key}
+use Rattle.lsa_codec.specs.Key.{router_key}
+use Rattle.area_routes.specs.Attached.{attached_areas, has_live_router_lsa}
 use Rattle.recalculate.specs.Counts.{area_lsas, lsas_in}
 use Rattle.recalculate.specs.Routers.{attached_routers, live_router}
 use Rattle.recalculate.proofs.Attaching.{found_In}

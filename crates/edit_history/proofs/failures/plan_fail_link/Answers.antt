@@ -1,12 +1,13 @@
 use Rattle.std.proofs.Common.{◌≡◌, true, false, sym, ◌∙◌, subst, rules}
 use Rattle.std.specs.Prelude.{◌==◌}
 use Rattle.std.proofs.lemmas.Result.{err_from_is_err_and, IfOk-weaker, IfErr-weaker}
+use Rattle.lsa_codec.specs.Key.{router_key}
 use Rattle.lsdb.specs.declared.section.Section.TheVariants.{Area}
 use Rattle.lsdb.specs.Places.{places_in}
 use Rattle.edit_script.specs.declared.edit.Edit.TheVariants.{FailLink}
 use Rattle.edit_history.specs.declared.fault.EditFault.{EditFault}
 use Rattle.edit_history.specs.Rules.{within}
-use Rattle.edit_history.specs.Effect.{router_key, link_fate}
+use Rattle.edit_history.specs.Effect.{link_fate}
 use Rattle.edit_history.specs.Plans.{section_swaps}
 use Rattle.edit_history.specs.Applied.{IsRefused}
 use Rattle.edit_history.proofs.Finding.{kind_is}
@@ -38,10 +39,10 @@ returns-in_err-other-clause-refused g c =
     (link_no_neighbor c.args.database.now c.args.area c.args.router c.args.neighbor c.in_ok-number.number c.in_ok-lsa.field-0-0 c.in_ok-lsa.lsa.now c.in_ok-number.ensures.found (let apart : (c.args.router.0 == c.args.neighbor.0) ≡ false = search rules in apart) c.in_ok-lsa.ensures.found c.in_err-other.ensures.refused.1))
 
 pub are_linked-requires-clause-one : goal.are_linked-requires-clause-one
-are_linked-requires-clause-one g c = kind_is c.args.database.now (Area c.args.area) (router_key c.args.router.0) c.in_ok-lsa.field-0-0 c.in_ok-lsa.lsa.now c.in_ok-lsa.ensures.found
+are_linked-requires-clause-one g c = kind_is c.args.database.now (Area c.args.area) (router_key c.args.router) c.in_ok-lsa.field-0-0 c.in_ok-lsa.lsa.now c.in_ok-lsa.ensures.found
 
 pub are_linked-requires-clause-two : goal.are_linked-requires-clause-two
-are_linked-requires-clause-two g c = kind_is c.args.database.now (Area c.args.area) (router_key c.args.neighbor.0) c.in_ok-other.field-0-0 c.in_ok-other.other.now c.in_ok-other.ensures.found
+are_linked-requires-clause-two g c = kind_is c.args.database.now (Area c.args.area) (router_key c.args.neighbor) c.in_ok-other.field-0-0 c.in_ok-other.other.now c.in_ok-other.ensures.found
 
 pub returns-then-not-are_linked-clause-refused : goal.returns-then-not-are_linked-clause-refused
 returns-then-not-are_linked-clause-refused g c =

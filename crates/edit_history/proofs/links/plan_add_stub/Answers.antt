@@ -1,9 +1,9 @@
 use Rattle.std.proofs.Common.{◌+◌, ◌<◌, ◌≤◌, length, sym, ap, ◌∙◌, subst, arith}
 use Rattle.std.proofs.lemmas.Result.{err_from_is_err_and}
+use Rattle.lsa_codec.specs.Key.{router_key}
 use Rattle.lsdb.specs.declared.section.Section.TheVariants.{Area}
 use Rattle.edit_script.specs.declared.edit.Edit.TheVariants.{AddStub}
 use Rattle.edit_history.specs.declared.fault.EditFault.{EditFault}
-use Rattle.edit_history.specs.Effect.{router_key}
 use Rattle.edit_history.specs.Applied.{IsRefused}
 use Rattle.edit_history.proofs.Finding.{kind_is}
 use Rattle.edit_history.proofs.Stubs.{stub_no_router, stub_too_long, stub_full, stub_memory, stub_fault, stub_planned}
@@ -21,7 +21,7 @@ pub returns-then-is_dump_full-clause-refused : goal.returns-then-is_dump_full-cl
 returns-then-is_dump_full-clause-refused g c = stub_full c.args.database.now c.args.area c.args.router c.args.prefix c.args.metric c.in_ok-slot.slot c.in_ok-slot.lsa.now c.in_ok-slot.ensures.found (let short : length c.in_ok-slot.lsa.now + 12 ≤ 65535 = omega (arith, ap length c.bytes.ensures.bytes, c.if-bytes-from-gt-LONGEST_LSA.false) in short) (sym c.is_dump_full.ensures ∙ c.if-is_dump_full.true)
 
 pub with_stub-requires : goal.with_stub-requires
-with_stub-requires g c = record { router = kind_is c.args.database.now (Area c.args.area) (router_key c.args.router.0) c.in_ok-slot.slot c.in_ok-slot.lsa.now c.in_ok-slot.ensures.found }
+with_stub-requires g c = record { router = kind_is c.args.database.now (Area c.args.area) (router_key c.args.router) c.in_ok-slot.slot c.in_ok-slot.lsa.now c.in_ok-slot.ensures.found }
 
 pub returns-in_err-new-clause-refused : goal.returns-in_err-new-clause-refused
 returns-in_err-new-clause-refused g c =

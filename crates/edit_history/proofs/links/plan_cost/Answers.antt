@@ -1,8 +1,8 @@
 use Rattle.std.proofs.lemmas.Result.{err_from_is_err_and}
+use Rattle.lsa_codec.specs.Key.{router_key}
 use Rattle.lsa_codec.specs.Making.{with_cost}
 use Rattle.lsdb.specs.declared.section.Section.TheVariants.{Area}
 use Rattle.edit_script.specs.declared.edit.Edit.TheVariants.{Cost}
-use Rattle.edit_history.specs.Effect.{router_key}
 use Rattle.edit_history.proofs.Finding.{kind_is}
 use Rattle.edit_history.proofs.Remade.{cost_remakes, no_router_lsa, not_made, no_swap, planned}
 use Rattle.edit_history.proofs.links.plan_cost.Goals as goal
@@ -13,7 +13,7 @@ returns-in_err-slot-clause-refused g c =
     rw (gave.1, gave.2) (no_router_lsa c.args.database.now (Cost c.args.area c.args.router c.args.link c.args.metric) c.args.area c.args.router (with_cost c.args.link c.args.metric) c.in_err-slot.field-0.0 (cost_remakes c.args.area c.args.router c.args.link c.args.metric) c.in_err-slot.ensures.refused)
 
 pub with_cost-requires : goal.with_cost-requires
-with_cost-requires g c = record { router = kind_is c.args.database.now (Area c.args.area) (router_key c.args.router.0) c.in_ok-slot.slot c.in_ok-slot.lsa.now c.in_ok-slot.ensures.found }
+with_cost-requires g c = record { router = kind_is c.args.database.now (Area c.args.area) (router_key c.args.router) c.in_ok-slot.slot c.in_ok-slot.lsa.now c.in_ok-slot.ensures.found }
 
 pub returns-in_err-new-clause-refused : goal.returns-in_err-new-clause-refused
 returns-in_err-new-clause-refused g c =

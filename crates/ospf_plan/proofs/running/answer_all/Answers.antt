@@ -1,6 +1,6 @@
 use Rattle.streams.specs.Watched.{inner_of}
 use Rattle.streams.specs.WholeText.{IsAll}
-use Rattle.ospf_plan.proofs.Runs.{if_written, if_prefix, if_counted, if_dump, if_nothing}
+use Rattle.ospf_plan.proofs.KnownInputs.{if_written, if_prefix, if_counted, if_dump, if_nothing}
 use Rattle.ospf_plan.proofs.running.answer_all.Goals as goal
 
 pub returns-in_err-text-clause-prefix : goal.returns-in_err-text-clause-prefix

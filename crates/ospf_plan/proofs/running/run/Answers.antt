@@ -1,6 +1,6 @@
 use Rattle.ospf_plan.specs.Run.{run_text}
 use Rattle.std.proofs.Common.{◌∙◌, None, rules}
-use Rattle.ospf_plan.proofs.Runs.{if_nothing, if_dump_prefix, if_prefix_kept}
+use Rattle.ospf_plan.proofs.KnownInputs.{if_nothing, if_dump_prefix, if_prefix_kept}
 use Rattle.ospf_plan.proofs.running.run.Goals as goal
 
 pub returns-in_err-flush-in-None-clause-out_prefix : goal.returns-in_err-flush-in-None-clause-out_prefix

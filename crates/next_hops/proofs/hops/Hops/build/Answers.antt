@@ -17,7 +17,7 @@ loop-from-preserved g c =
     let within : p < length tree.order = subst (λ (xs : List ℕ). p < length xs) c.order-from-items.ensures.order c.loop-from-test.true in
     let grown : Grows (λ (i : ℕ) (h : Hop). IsPassedFrom t tree (hops_at old (get_or tree.order p 0)) (get_or tree.order p 0) i h) old new =
     subst (λ (xs : List ℕ). Grows (λ (i : ℕ) (h : Hop). IsPassedFrom t tree (hops_at old (get_or xs p 0)) (get_or xs p 0) i h) old new) c.order-from-items.ensures.order
-    (subst (λ (xs : List (List Hop)). Grows (λ (i : ℕ) (h : Hop). IsPassedFrom t tree (hops_at xs (get_or c.order-from-items.result.now p 0)) (get_or c.order-from-items.result.now p 0) i h) xs new) c.deref_mut.ensures.value c.in_ok-pass_on.ensures) in
+    (subst (λ (xs : List (List Hop)). Grows (λ (i : ℕ) (h : Hop). IsPassedFrom t tree (hops_at xs (get_or c.order-from-items.result.now p 0)) (get_or c.order-from-items.result.now p 0) i h) xs new) c.deref_mut.ensures.value (rw c.from.ensures at c.in_ok-pass_on.ensures)) in
     let as_many : length new ≡ c.loop-from.lists.len = omega (arith, grown.sized, c.deref_mut.ensures.len) in
     subst (λ (xs : List (List Hop)). HandedOn t tree (p + 1) xs) (sym (with_items_is c.loop-from.lists new as_many))
     (HandedOn-next t c.len.ensures.shape c.requires.tree.0 tree c.requires.tree.1 p old new within c.loop-from.invariant grown)

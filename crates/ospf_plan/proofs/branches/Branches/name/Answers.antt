@@ -1,6 +1,6 @@
 use Rattle.std.proofs.Common.{◌∙◌, ap, sym, subst}
-use Rattle.ospf_plan.specs.Branches.{Named, HaveOneBase, named_by, sessions_by, sessions_of, in_branch}
-use Rattle.ospf_plan.proofs.Naming.{inserted, now_named, one_base, other_goes_on}
+use Rattle.ospf_plan.specs.Branches.{Named, HaveOneBase, named_by, sessions_by, sessions_of, with_session}
+use Rattle.ospf_plan.proofs.BranchSessions.{inserted, now_named, one_base, other_goes_on}
 use Rattle.ospf_plan.proofs.branches.Branches.name.Goals as goal
 
 pub invariant_of-self : goal.invariant_of-self
@@ -17,7 +17,7 @@ pub returns-clause-sessions : goal.returns-clause-sessions
 returns-clause-sessions g c =
     other_goes_on (named_by c.self.inside.first c.self.inside.others.entries) (sessions_by c.insert.new.self.entries) c.args.branch c.args.planner.session c.requires.behind
     (inserted c.self.inside.others c.insert.new.self c.args.branch c.args.planner c.in_ok-insert.ensures.updates)
-    ∙ ap (λ named. in_branch c.args.branch c.args.planner.session (sessions_of named)) c.self.view_is
+    ∙ ap (λ named. with_session c.args.branch c.args.planner.session (sessions_of named)) c.self.view_is
 
 pub returns-clause-named : goal.returns-clause-named
 returns-clause-named g c =
