@@ -38,7 +38,7 @@ use Rattle.area_routes.specs.Reached.{ReachedValue, reached_by, reached_from}
 use Rattle.area_routes.specs.Stubs.{is_lsa_of}
 use Rattle.area_routes.specs.Values.{AreaResultValue, EntryValue, RouteValue, WayValue}
 use Rattle.area_routes.proofs.Merging.{sorted_ways}
-use Rattle.area_routes.proofs.Orders.{router_exact, router_total}
+use Rattle.area_routes.proofs.OrderLemmas.{router_exact, router_total}
 use Rattle.area_routes.proofs.Pairs.{AllPairs-from, Pairs, Pairs-append, Pairs-filter, Pairs-filter_map, Pairs-flat_map, Pairs-from, Pairs-map, Pairs-unmap}
 
 abbrev Differ : EntryValue → EntryValue → Type 0

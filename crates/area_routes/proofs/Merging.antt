@@ -25,10 +25,10 @@ use Rattle.area_routes.specs.Candidate.{Candidate}
 use Rattle.area_routes.specs.Values.{WayValue}
 use Rattle.lsa_codec.specs.declared.address.AreaId.{AreaId}
 use Rattle.area_routes.specs.declared.rank.Rank.{Rank}
-use Rattle.area_routes.proofs.Entries.{lookup_entries, same_entries, sorted_entries}
-use Rattle.area_routes.proofs.Least.{least_push, below_all}
-use Rattle.area_routes.proofs.Orders.{area_exact, area_total, hop_exact, hop_total, rank_total}
-use Rattle.area_routes.proofs.Rising.{rising_append, sorted_rising, any_rising}
+use Rattle.area_routes.proofs.LookupLemmas.{lookup_entries, same_entries, sorted_entries}
+use Rattle.area_routes.proofs.LeastLemmas.{least_push, below_all}
+use Rattle.area_routes.proofs.OrderLemmas.{area_exact, area_total, hop_exact, hop_total, rank_total}
+use Rattle.area_routes.proofs.RisingLemmas.{rising_append, sorted_rising, any_rising}
 
 module _ {K : Type 0} where
   ranks : List (Candidate K) → List Rank

@@ -11,7 +11,7 @@ use Rattle.area_routes.specs.Inter.{asbr_candidate, asbr_entry}
 use Rattle.area_routes.specs.Order.{router_cmp}
 use Rattle.area_routes.specs.Values.{EntriesBelow}
 use Rattle.area_routes.proofs.Costs.{asbrs_below, entries_below}
-use Rattle.area_routes.proofs.Loops.{filter_map_adds}
+use Rattle.area_routes.proofs.AddsLemmas.{filter_map_adds}
 use Rattle.area_routes.proofs.inter_area.inter_entries.Goals as goal
 
 pub loop-lsa-preserved : goal.loop-lsa-preserved

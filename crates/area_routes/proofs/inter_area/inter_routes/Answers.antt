@@ -8,7 +8,7 @@ use Rattle.area_routes.specs.Candidate.{Candidate}
 use Rattle.area_routes.specs.Inter.{network_candidate}
 use Rattle.area_routes.specs.Order.{prefix_cmp}
 use Rattle.area_routes.proofs.Costs.{networks_below}
-use Rattle.area_routes.proofs.Loops.{filter_map_adds}
+use Rattle.area_routes.proofs.AddsLemmas.{filter_map_adds}
 use Rattle.area_routes.proofs.inter_area.inter_routes.Goals as goal
 
 pub loop-lsa-preserved : goal.loop-lsa-preserved

@@ -10,7 +10,7 @@ use Rattle.area_routes.specs.Order.{prefix_cmp}
 use Rattle.area_routes.specs.Values.{AreaResultValue, AreCheap, RoutesBelow}
 use Rattle.area_routes.proofs.Bounds.{All-flat_map, All-taken}
 use Rattle.area_routes.proofs.Made.{wider_routes}
-use Rattle.area_routes.proofs.Loops.{adds_step, flat_map_adds}
+use Rattle.area_routes.proofs.AddsLemmas.{adds_step, flat_map_adds}
 use Rattle.area_routes.proofs.intra_area.intra.Goals as goal
 
 pub loop-area-preserved : goal.loop-area-preserved
