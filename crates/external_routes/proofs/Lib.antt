@@ -1,4 +1,4 @@
-pub mod Flooding
+pub mod OutsideStubs
 pub mod First
 pub mod Orders
 pub mod Marks

@@ -1,6 +1,6 @@
 use Rattle.std.proofs.Common.{sym, ◌∙◌}
 use Rattle.lsdb.specs.Places.{lists_of}
-use Rattle.external_routes.proofs.Flooding.{outside_found, outside_other, outside_stub}
+use Rattle.external_routes.proofs.OutsideStubs.{outside_found, outside_other, outside_stub}
 use Rattle.external_routes.proofs.flooding.is_attached_outside_stubs.Goals as goal
 use Rattle.external_routes.proofs.flooding.is_attached_outside_stubs.Goals.{else-not-is_stub-via-then-not-is_stub+else-is_attached, else-not-is_stub-via-else-not-is_stub}
 

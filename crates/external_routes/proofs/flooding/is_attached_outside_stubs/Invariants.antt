@@ -1,7 +1,7 @@
 use Rattle.std.proofs.Common.{◌≡◌, false, take}
 use Rattle.lsdb.specs.Lists.{areas_of}
 use Rattle.lsdb.specs.Places.{lists_of}
-use Rattle.external_routes.proofs.Flooding.{outside}
+use Rattle.external_routes.proofs.OutsideStubs.{outside}
 use Rattle.external_routes.proofs.flooding.is_attached_outside_stubs.Given as goal
 
 -- the areas so far are stub areas, or the router is not attached to them
