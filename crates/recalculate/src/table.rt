@@ -2,7 +2,6 @@
 
 ghost use Rattle.std.specs.Prelude.{◌≡◌, [], IfOk, IfErr, IsErrOf, OnOk, Some, None, length};
 ghost use Rattle.lsdb.specs.Places.{lists_of};
-ghost use Rattle.area_routes.specs.Routes.{AreSortedRoutes};
 ghost use Rattle.area_routes.specs.Attached.{attached_areas};
 ghost use Rattle.recalculate.specs.declared.table.TableFault.TheVariants.{OutOfMemory};
 ghost use Rattle.recalculate.specs.Counting.{counted_by, CountsAtMost};
@@ -11,7 +10,7 @@ ghost use Rattle.recalculate.specs.Fault.{code_of, name_of};
 
 use crate::prefer::{prefer, prefer_intra};
 use crate::results::results_of;
-use area_routes::{AreaResult, Route, Routes, inter, intra};
+use area_routes::{AreaResult, Routes, inter, intra};
 use external_routes::externals;
 use lsa_codec::RouterId;
 use lsdb::Database;
@@ -56,11 +55,10 @@ impl<A: Allocator + Copy> Table<A> {
 
     /// Its routes in order of prefix, one for each: the intra-area route, else the inter-area
     /// route, else the external route.
-    pub fn routes(&self) -> &[Route<A>]
-        ensures routes { result.now ≡ self.now.routes }
-        ensures sorted { AreSortedRoutes result.now }
+    pub fn routes(&self) -> &Routes<A>
+        ensures { result.now ≡ self.now.routes }
     {
-        self.routes.as_slice()
+        &self.routes
     }
 }
 
