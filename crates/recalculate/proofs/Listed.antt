@@ -12,7 +12,7 @@ use Rattle.lsa_codec.specs.declared.address.RouterId.{RouterId}
 use Rattle.lsa_codec.specs.declared.key.Key.{Key}
 use Rattle.lsa_codec.specs.Accepted.{IsAccepted}
 use Rattle.lsa_codec.specs.Fields.{kind_of, link_state_id_of, advertising_router_of}
-use Rattle.lsa_codec.specs.Key.{key_of}
+use Rattle.lsa_codec.specs.Key.{key_of, router_key}
 use Rattle.lsdb.specs.Lists.{IsDatabase, Lists, areas_of, has_key}
 use Rattle.lsdb.proofs.Middle.{pairs_head, pairs_tail}
 use Rattle.area_graph.specs.Area.{is_live, is_router_lsa}
@@ -24,7 +24,6 @@ use Rattle.area_routes.specs.Order.{router_cmp}
 use Rattle.area_routes.proofs.OrderLemmas.{router_exact, router_total}
 use Rattle.area_routes.proofs.RisingLemmas.{any_rising}
 use Rattle.edit_history.proofs.Keys.{other_key, same_key_true}
-use Rattle.lsa_codec.specs.Key.{router_key}
 use Rattle.area_routes.specs.Attached.{attached_areas, has_live_router_lsa}
 use Rattle.recalculate.specs.Counts.{area_lsas, lsas_in}
 use Rattle.recalculate.specs.Routers.{attached_routers, live_router}
