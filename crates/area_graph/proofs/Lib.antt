@@ -8,10 +8,11 @@ pub mod TopologyLemmas
 pub mod EdgeLemmas
 pub mod RankLemmas
 pub mod TieLemmas
+pub mod OnceLemmas
+pub mod SpanLemmas
 pub mod Equality
 pub mod DraftLemmas
 pub mod AddsLemmas
-pub mod LinkLemmas
 pub mod AreaLemmas
 pub mod OverLemmas
 pub mod UsedLemmas

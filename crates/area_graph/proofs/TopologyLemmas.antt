@@ -1,6 +1,6 @@
 -- Paths over the vertices' numbers, and over the vertices themselves.
-use Rattle.std.proofs.Common.{◌≡◌, ℕ, ◌+◌, ◌<◌, ◌≤◌, Bool, true, false, List, [], ◌∷◌, map, length, get_or, Option, None, Some, refl, sym, ap, ◌∙◌, subst, arith, ◌⊎◌, inl, inr, ⊎_elim}
-use Rattle.std.specs.List.{slice_get, Contains, All}
+use Rattle.std.proofs.Common.{◌≡◌, ◌≢◌, ℕ, ◌+◌, ◌<◌, ◌≤◌, Bool, true, false, List, [], ◌∷◌, map, length, get_or, Option, None, Some, refl, sym, ap, ◌∙◌, subst, arith, ◌⊎◌, inl, inr, ⊎_elim}
+use Rattle.std.specs.List.{slice_get, Contains, All, AllPairs}
 use Rattle.std.proofs.lemmas.List.Elements.{Contains-get_or}
 use Rattle.std.proofs.lemmas.List.{get_or_past}
 use Rattle.std.proofs.lemmas.Option.{slice_get-get_or, get_or_from_slice_get, slice_get_within}
@@ -21,6 +21,10 @@ pub targets_in_row : (t : Topology) → IsTopology t → (i : ℕ) (row : List E
 targets_in_row t shape i row is k d lt =
     let e = get_or row k d in
     shape.in_range (record { from = i; to = e.to; cost = e.cost; link_data = e.link_data }) (subst (λ (xs : List Edge). Contains xs e) is (Contains-get_or row k d lt))
+
+-- and stands there once
+pub once_in_row : (t : Topology) → IsTopology t → (i : ℕ) (row : List Edge) → row ≡ row_at t i → AllPairs (λ e f. e ≢ f) row
+once_in_row t shape i row is = subst (λ (xs : List Edge). AllPairs (λ e f. e ≢ f) xs) (sym is) (shape.once i)
 
 -- an edge by its vertices
 abbrev pub named : Topology → DirectedEdge ℕ → DirectedEdge Vertex

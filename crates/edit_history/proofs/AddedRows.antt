@@ -9,7 +9,7 @@ use Rattle.lsa_codec.specs.declared.key.Key.{Key}
 use Rattle.lsa_codec.specs.Key.{key_of, router_key}
 use Rattle.lsa_codec.specs.Prefix.{Net, IsNet}
 use Rattle.lsa_codec.specs.Originating.{new_summary, new_external, IsNewLsa}
-use Rattle.lsa_codec.proofs.Rewritten.{summary_new, external_new}
+use Rattle.lsa_codec.proofs.LsaLemmas.{summary_new, external_new}
 use Rattle.lsdb.specs.declared.section.Section.{Section}
 use Rattle.lsdb.specs.declared.section.Section.TheVariants.{Area, AsWide}
 use Rattle.lsdb.specs.declared.slot.SlotId.{SlotId}

@@ -14,9 +14,9 @@ use Rattle.lsdb.specs.declared.slot.SlotId.{SlotId}
 use Rattle.lsdb.specs.Limits.{longest_dump}
 use Rattle.lsdb.specs.Lists.{AreaHead, SectionLsas, Lists, IsBefore, IsDatabase, heads_of, is_head_of, is_section, is_in_scope, limit_of, has_key, lsas_of, size}
 use Rattle.lsdb.specs.Places.{Place, Places, item_at, slot_at, put, update_at, open_at, lists_of, places_in, lsas_or_none, IsNamed}
-use Rattle.lsdb.proofs.Middle.{map_mid}
-use Rattle.lsdb.proofs.Slots.{slot_at-put, lists_of-open_at}
-use Rattle.lsdb.proofs.Added.{with_lsa, Fits, lists-new, added_safe, split}
+use Rattle.lsdb.proofs.ListLemmas.{map_mid}
+use Rattle.lsdb.proofs.PlaceLemmas.{slot_at-put, lists_of-open_at}
+use Rattle.lsdb.proofs.PlaceLemmas.{with_lsa, Fits, lists-new, added_safe, split}
 use Rattle.edit_script.specs.declared.edit.Edit.{Edit}
 use Rattle.edit_history.specs.declared.fault.EditFault.{EditFault}
 use Rattle.edit_history.specs.Rules.{stays, Rule, adding, kept_lsas, fated_changes, section_after, lists_after, Change, addition, section_name, section_changes, changes_by}

@@ -2,7 +2,7 @@
 use Rattle.std.proofs.Common.{◌≡◌, ℕ, List, [], ◌∷◌, refl, sym, ap, ◌∙◌, subst}
 use Rattle.lsdb.specs.Places.{Places, open_at, lists_of}
 use Rattle.lsdb.specs.Lists.{Lists, IsDatabase}
-use Rattle.lsdb.proofs.Slots.{lists_of-open_at}
+use Rattle.lsdb.proofs.PlaceLemmas.{lists_of-open_at}
 use Rattle.edit_script.specs.declared.edit.Edit.{Edit}
 use Rattle.edit_history.specs.Exchange.{SwapData, RecordData, done_places, done_swaps}
 use Rattle.edit_history.specs.Effect.{effect, changes}

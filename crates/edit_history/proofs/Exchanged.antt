@@ -4,7 +4,7 @@ use Rattle.std.specs.Prelude.{IsSome, unwrap_or}
 use Rattle.lsdb.specs.declared.slot.SlotId.{SlotId}
 use Rattle.lsdb.specs.Places.{Place, Places, put, slot_at, lists_of}
 use Rattle.lsdb.specs.Lists.{IsDatabase}
-use Rattle.lsdb.proofs.Slots.{put-put, put-slot_at, slot_at-put}
+use Rattle.lsdb.proofs.PlaceLemmas.{put-put, put-slot_at, slot_at-put}
 use Rattle.edit_history.specs.Exchange.{SwapData, taken, done_places, done_swaps, CanDo, undone_places, undone_swaps, CanUndo, UndoesAgain, DoesAgain}
 
 pub some_is : (o : Option Place) → IsSome o → o ≡ Some (unwrap_or o None)

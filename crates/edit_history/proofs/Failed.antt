@@ -14,12 +14,12 @@ use Rattle.lsa_codec.specs.Accepted.{IsAccepted}
 use Rattle.lsa_codec.specs.Fields.{kind_of, advertising_router_of}
 use Rattle.lsa_codec.specs.Key.{key_of, router_key}
 use Rattle.lsa_codec.specs.Making.{without_links, leads_to, leads_to_net}
-use Rattle.lsa_codec.proofs.Rewritten.{links_rewritten}
+use Rattle.lsa_codec.proofs.LsaLemmas.{links_rewritten}
 use Rattle.lsdb.specs.declared.section.Section.{Section}
 use Rattle.lsdb.specs.declared.slot.SlotId.{SlotId}
 use Rattle.lsdb.specs.Lists.{AreaHead, SectionLsas, IsBefore, IsDatabase, heads_of, has_key, is_head_of, is_section}
 use Rattle.lsdb.specs.Places.{Place, Places, SectionPlaces, item_at, slot_at, section_of, lists_of, places_in, places_or_none, head_or_none, IsNamed}
-use Rattle.lsdb.proofs.Middle.{pairs_head, pairs_tail}
+use Rattle.lsdb.proofs.ListLemmas.{pairs_head, pairs_tail}
 use Rattle.edit_history.specs.Rules.{Fate, stays, by_fates, within, section_name}
 use Rattle.edit_history.specs.Effect.{is_network, cut, link_fate, net_fate, router_fate}
 use Rattle.edit_history.specs.Exchange.{SwapData}

@@ -4,7 +4,7 @@ use Rattle.std.specs.Prelude.{IsSome, unwrap_or, reverse, map}
 use Rattle.lsdb.specs.Lists.{Lists, IsDatabase}
 use Rattle.lsdb.specs.declared.slot.SlotId.{SlotId}
 use Rattle.lsdb.specs.Places.{Place, Places, put, slot_at, place_in, item_at, open_at, lists_of}
-use Rattle.lsdb.proofs.Slots.{slot_at-open_at, put-open_at, lists_of-open_at}
+use Rattle.lsdb.proofs.PlaceLemmas.{slot_at-open_at, put-open_at, lists_of-open_at}
 use Rattle.edit_script.specs.declared.edit.Edit.{Edit}
 use Rattle.edit_history.specs.declared.fault.EditFault.{EditFault}
 use Rattle.edit_history.specs.Rules.{Change}

@@ -9,7 +9,7 @@ use Rattle.lsa_codec.specs.Key.{key_of}
 use Rattle.lsdb.specs.declared.section.Section.{Section}
 use Rattle.lsdb.specs.declared.section.Section.TheVariants.{Area, AsWide}
 use Rattle.lsdb.specs.Lists.{AreaHead, SectionLsas, Lists, same_key, has_key, is_head_of, IsBefore}
-use Rattle.lsdb.proofs.Middle.{pairs_before, pairs_after, map_mid, all_map}
+use Rattle.lsdb.proofs.ListLemmas.{pairs_before, pairs_after, map_mid, all_map}
 use Rattle.edit_history.specs.Rules.{section_name}
 
 key_from : (k l i j a b : ℕ) → k ≡ l → i ≡ j → a ≡ b → let p : Key = record { kind = k; id = record { 0 = i }; adv = record { 0 = a } } in let q : Key = record { kind = l; id = record { 0 = j }; adv = record { 0 = b } } in p ≡ q

@@ -8,9 +8,9 @@ use Rattle.lsdb.specs.declared.section.Section.{Section}
 use Rattle.lsdb.specs.declared.slot.SlotId.{SlotId}
 use Rattle.lsdb.specs.Lists.{AreaHead, Lists, IsDatabase, IsSection, IsBefore, heads_of, is_section, is_head_of}
 use Rattle.lsdb.specs.Places.{Place, Places, slot_at, put, lists_of, IsNamed}
-use Rattle.lsdb.proofs.Slots.{slot_at-put}
-use Rattle.lsdb.proofs.Middle.{all_at_mid}
-use Rattle.lsdb.proofs.Dominated.{section_with, between}
+use Rattle.lsdb.proofs.PlaceLemmas.{slot_at-put}
+use Rattle.lsdb.proofs.ListLemmas.{all_at_mid}
+use Rattle.lsdb.proofs.PlaceLemmas.{section_with, between}
 use Rattle.edit_script.specs.declared.edit.Edit.{Edit}
 use Rattle.edit_history.specs.Rules.{Fate, stays, Change, section_name, one_lsa, lists_after, changes_by}
 use Rattle.edit_history.specs.Effect.{rule_of}

@@ -11,7 +11,7 @@ use Rattle.lsdb.specs.declared.section.Section.TheVariants.{Area}
 use Rattle.lsdb.specs.declared.slot.SlotId.{SlotId}
 use Rattle.lsdb.specs.Lists.{Lists, IsDatabase, has_key}
 use Rattle.lsdb.specs.Places.{Places, lists_of}
-use Rattle.lsdb.proofs.Dominated.{put_safe}
+use Rattle.lsdb.proofs.PlaceLemmas.{put_safe}
 use Rattle.edit_script.specs.declared.edit.Edit.{Edit}
 use Rattle.edit_script.specs.declared.edit.Edit.TheVariants.{Cost, DropLink}
 use Rattle.edit_history.specs.declared.fault.EditFault.{EditFault}

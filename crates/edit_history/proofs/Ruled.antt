@@ -5,8 +5,8 @@ use Rattle.std.specs.List.{filter_map, cons_option}
 use Rattle.std.proofs.lemmas.List.Elements.{All-head, All-tail}
 use Rattle.lsa_codec.specs.Fields.{kind_of}
 use Rattle.lsdb.specs.Lists.{AreaHead, SectionLsas, Lists}
-use Rattle.lsdb.proofs.Middle.{map_mid}
-use Rattle.lsdb.proofs.Dominated.{section_with}
+use Rattle.lsdb.proofs.ListLemmas.{map_mid}
+use Rattle.lsdb.proofs.PlaceLemmas.{section_with}
 use Rattle.edit_history.specs.Rules.{Fate, stays, removed, rewritten, Rule, Fates, by_fates, outcome, section_after, lists_after, Change, change_of, section_name, section_changes, changes_by}
 use Rattle.lsdb.specs.declared.section.Section.{Section}
 use Rattle.lsdb.specs.Places.{Place}

@@ -17,7 +17,7 @@ use Rattle.lsa_codec.specs.Prefix.{Net}
 use Rattle.lsa_codec.specs.Views.{has_metric}
 use Rattle.lsa_codec.specs.Making.{with_cost, without_link, with_stub}
 use Rattle.lsa_codec.specs.Originating.{with_metric, new_summary, new_external}
-use Rattle.lsa_codec.proofs.Rewritten.{metric_rewritten}
+use Rattle.lsa_codec.proofs.LsaLemmas.{metric_rewritten}
 use Rattle.lsdb.specs.declared.section.Section.{Section}
 use Rattle.lsdb.specs.declared.section.Section.TheVariants.{Area, AsWide}
 use Rattle.lsdb.specs.Lists.{AreaHead, SectionLsas, Lists, IsDatabase, IsSection, is_head_of, is_section, has_key, lsas_or_none, lsas_of}

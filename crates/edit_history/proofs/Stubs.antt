@@ -15,7 +15,7 @@ use Rattle.lsdb.specs.declared.slot.SlotId.{SlotId}
 use Rattle.lsdb.specs.Limits.{longest_dump}
 use Rattle.lsdb.specs.Lists.{Lists, IsDatabase, has_key, size}
 use Rattle.lsdb.specs.Places.{Places, lists_of}
-use Rattle.lsdb.proofs.Dominated.{extended_safe}
+use Rattle.lsdb.proofs.PlaceLemmas.{extended_safe}
 use Rattle.edit_script.specs.declared.edit.Edit.TheVariants.{AddStub}
 use Rattle.edit_history.specs.declared.fault.EditFault.{EditFault}
 use Rattle.edit_history.specs.declared.fault.EditFault.TheVariants.{TooLong, Full, OutOfMemory}

@@ -15,7 +15,7 @@ use Rattle.lsdb.specs.declared.section.Section.TheVariants.{Area, AsWide}
 use Rattle.lsdb.specs.declared.slot.SlotId.{SlotId}
 use Rattle.lsdb.specs.Lists.{Lists, IsDatabase, is_section, lsas_of}
 use Rattle.lsdb.specs.Places.{Places, lists_of, IsNamed}
-use Rattle.lsdb.proofs.Dominated.{put_safe}
+use Rattle.lsdb.proofs.PlaceLemmas.{put_safe}
 use Rattle.edit_script.specs.declared.edit.Edit.TheVariants.{Summary, DropExternal}
 use Rattle.edit_history.specs.declared.fault.EditFault.{EditFault}
 use Rattle.edit_history.specs.declared.fault.EditFault.TheVariants.{NoArea, NoSummary, NoExternal, OutOfMemory}

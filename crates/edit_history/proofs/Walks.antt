@@ -9,8 +9,8 @@ use Rattle.lsdb.specs.declared.section.Section.{Section}
 use Rattle.lsdb.specs.declared.slot.SlotId.{SlotId}
 use Rattle.lsdb.specs.Lists.{AreaHead, Lists, IsSection, IsDatabase}
 use Rattle.lsdb.specs.Places.{Place, Places, SectionPlaces, item_at, slot_at, put, put_place, full, section_of, lists_of, IsPutSafe}
-use Rattle.lsdb.proofs.Middle.{all_at_mid}
-use Rattle.lsdb.proofs.Dominated.{put_safe, section_with, full-cons, between}
+use Rattle.lsdb.proofs.ListLemmas.{all_at_mid}
+use Rattle.lsdb.proofs.PlaceLemmas.{put_safe, section_with, full-cons, between}
 use Rattle.edit_history.specs.Rules.{Fate, stays, removed, rewritten, Fates, by_fates, Change, outcome, change_of, section_name, lists_after, section_after, changes_by}
 use Rattle.edit_history.specs.Exchange.{SwapData, CanDo, done_places, done_swaps, taken}
 use Rattle.edit_history.specs.Plans.{slot_of, swap_for, section_swaps, swaps_from}

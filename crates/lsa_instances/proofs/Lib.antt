@@ -5,3 +5,4 @@ pub mod Flushed
 pub mod Steps
 pub mod Reordered
 pub mod Unique
+pub mod Rising

@@ -39,10 +39,10 @@ instance_exact a b h =
     let s = then_both (nat_cmp (seconds_of b) (seconds_of a)) (slice_cmp nat_cmp a b) r.1 in
     exact_bytes a b s.1
 
-scope_total : IsTotalOrder scope_cmp
+pub scope_total : IsTotalOrder scope_cmp
 scope_total = then_total (on_total scope_number nat_cmp_total) (on_total area_of nat_cmp_total)
 
-scope_exact : (a b : Scope) → scope_cmp a b ≡ Equal → a ≡ b
+pub scope_exact : (a b : Scope) → scope_cmp a b ≡ Equal → a ≡ b
 scope_exact (Area a) (Area b) h =
     ap (λ (n : ℕ). let id : AreaId = record { 0 = n } in Area id) (exact_unsigned a.0 b.0 h)
 scope_exact AsWide AsWide h = refl

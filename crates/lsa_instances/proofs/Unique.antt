@@ -17,10 +17,10 @@ any_cons : {X : Type 0} (P : X → Type 0) (y : X) (ys : List X) (k : ℕ) (x : 
 any_cons P y ys zero x l e h = inl (subst P (sym e) h)
 any_cons P y ys (suc k) x l e h = inr (k, x, omega arith, e, h)
 
-pairs_head : {X : Type 0} (R : X → X → Type 0) (x : X) (xs : List X) → AllPairs R (x ∷ xs) → All (R x) xs
+pub pairs_head : {X : Type 0} (R : X → X → Type 0) (x : X) (xs : List X) → AllPairs R (x ∷ xs) → All (R x) xs
 pairs_head R x xs h = λ k d l. h 0 (suc k) d (omega arith) (omega arith)
 
-pairs_tail : {X : Type 0} (R : X → X → Type 0) (x : X) (xs : List X) → AllPairs R (x ∷ xs) → AllPairs R xs
+pub pairs_tail : {X : Type 0} (R : X → X → Type 0) (x : X) (xs : List X) → AllPairs R (x ∷ xs) → AllPairs R xs
 pairs_tail R x xs h = λ i j d l m. h (suc i) (suc j) d (omega arith) (omega arith)
 
 -- two lists in strict order by a value, each of whose values is one of the other's, have the same values

@@ -1,14 +1,15 @@
 -- Which sightings are of flushed LSAs, and which are the newest of the others.
-use Rattle.std.specs.Prelude.{◌≡◌, ℕ, ◌-◌, ◌*◌, Bool, false, not, ◌&&◌, nat_lt, List, All, AllPairs, Contains, Option, None, Some}
-use Rattle.std.specs.List.{Any, list_any}
+use Rattle.std.specs.Prelude.{◌≡◌, ℕ, ◌-◌, ◌*◌, Bool, false, not, ◌&&◌, nat_lt, List, map, All, AllPairs, Contains, Option, None, Some}
+use Rattle.std.specs.List.{Any, filter, list_any}
 use Rattle.std.specs.Ordering.{is_eq, is_gt}
 use Rattle.std.specs.declared.cmp.Ordering.TheVariants.{Less}
 use Rattle.lsa_codec.specs.Fields.{age_of}
 use Rattle.lsa_codec.specs.Key.{is_at_max_age}
 use Rattle.lsa_instances.specs.declared.place.Place.{Place}
+use Rattle.lsa_instances.specs.declared.place.Scope.{Scope}
 use Rattle.lsa_instances.specs.declared.sighting.Sighting.{Sighting}
 use Rattle.lsa_instances.specs.Instance.{instance_cmp}
-use Rattle.lsa_instances.specs.Order.{place_cmp, place_of}
+use Rattle.lsa_instances.specs.Order.{place_cmp, place_of, scope_cmp}
 
 -- in nanoseconds
 abbrev pub second : ℕ
@@ -52,3 +53,10 @@ pub record AreNewest {A : Type 0} (told newest : List (Sighting A)) : Type 0 whe
 -- what a database keeps of a sighting
 abbrev pub place_and_octets : {A : Type 0} → Sighting A → Place × List ℕ
 place_and_octets x = (place_of x, x.lsa)
+
+abbrev pub is_of_scope : {A : Type 0} → Scope → Sighting A → Bool
+is_of_scope scope x = is_eq (scope_cmp x.scope scope)
+
+-- the LSAs of one scope, in their order: what a section of a database has
+abbrev pub lsas_of_scope : {A : Type 0} → Scope → List (Sighting A) → List (List ℕ)
+lsas_of_scope scope newest = map (λ x. x.lsa) (filter (is_of_scope scope) newest)

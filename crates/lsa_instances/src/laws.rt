@@ -1,11 +1,14 @@
 //! What holds of the definitions.
 
-ghost use Rattle.std.specs.Prelude.{◌≡◌, ℕ, List, map, IsPermutation};
+ghost use Rattle.std.specs.Prelude.{◌≡◌, ℕ, AllPairs, List, map, IsPermutation};
 ghost use Rattle.std.specs.Cmp.{IsTotalOrder};
-ghost use Rattle.std.specs.declared.cmp.Ordering.TheVariants.{Equal, Greater};
+ghost use Rattle.std.specs.declared.cmp.Ordering.TheVariants.{Equal, Greater, Less};
+ghost use Rattle.lsa_codec.specs.Key.{key_of};
+ghost use Rattle.lsa_instances.specs.declared.place.Scope.{Scope as AnyScope};
 ghost use Rattle.lsa_instances.specs.declared.sighting.Sighting.{Sighting as AnySighting};
 ghost use Rattle.lsa_instances.specs.Instance.{instance_cmp, IsNewerByRule};
-ghost use Rattle.lsa_instances.specs.Newest.{AreNewest, place_and_octets};
+ghost use Rattle.lsa_instances.specs.Newest.{AreNewest, lsas_of_scope, place_and_octets};
+ghost use Rattle.lsa_instances.specs.Order.{key_cmp};
 
 use std::alloc::Allocator;
 
@@ -28,4 +31,11 @@ pub fn newest_in_any_order<A: Allocator>()
     // Two answers have the same LSAs, octet for octet, in the same order.
     ensures only { (told a b : List (AnySighting A)) → AreNewest told a → AreNewest told b
         → map place_and_octets a ≡ map place_and_octets b }
+{}
+
+/// Within a scope the keys of the newest rise strictly: so each LSA stands once in its section, and
+/// the order of a section's LSAs depends on their keys alone.
+pub fn keys_rise<A: Allocator>()
+    ensures { (told newest : List (AnySighting A)) (scope : AnyScope) → AreNewest told newest
+        → AllPairs (λ a b. key_cmp (key_of a) (key_of b) ≡ Less) (lsas_of_scope scope newest) }
 {}

@@ -15,7 +15,7 @@ mod place;
 mod sighting;
 
 pub use choice::newest;
-pub use laws::{instance_order, newest_in_any_order};
+pub use laws::{instance_order, keys_rise, newest_in_any_order};
 pub use order::compare_instances;
 pub use place::{Place, Scope};
 pub use sighting::Sighting;

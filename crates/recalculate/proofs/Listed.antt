@@ -14,7 +14,7 @@ use Rattle.lsa_codec.specs.Accepted.{IsAccepted}
 use Rattle.lsa_codec.specs.Fields.{kind_of, link_state_id_of, advertising_router_of}
 use Rattle.lsa_codec.specs.Key.{key_of, router_key}
 use Rattle.lsdb.specs.Lists.{IsDatabase, Lists, areas_of, has_key}
-use Rattle.lsdb.proofs.Middle.{pairs_head, pairs_tail}
+use Rattle.lsdb.proofs.ListLemmas.{pairs_head, pairs_tail}
 use Rattle.area_graph.specs.Area.{is_live, is_router_lsa}
 use Rattle.area_graph.specs.Graphs.{AreOfArea}
 use Rattle.area_graph.specs.Rising.{rising}
