@@ -25,7 +25,8 @@ abbrev added_row : List Vertex → Vertex → List (DirectedEdge Vertex) → Lis
 added_row vertices v es = filter_map (numbered vertices) (filter (is_out_of v) es)
 
 -- some edges, and then others
-pub Adds-then : (xs ys : List (DirectedEdge Vertex)) (old mid new : Topology) → mid.vertices ≡ old.vertices → Adds xs old mid → Adds ys mid new → Adds (xs ++ ys) old new
+pub Adds-then : (xs ys : List (DirectedEdge Vertex)) (old mid new : Topology) → mid.vertices ≡ old.vertices → Adds xs old mid → Adds ys mid new
+    → Adds (xs ++ ys) old new
 Adds-then xs ys old mid new same a b = record { rows = both }
   where
     split : (v : Vertex) → added_row old.vertices v (xs ++ ys) ≡ added_row old.vertices v xs ++ added_row old.vertices v ys
@@ -48,7 +49,8 @@ Adds-then xs ys old mid new same a b = record { rows = both }
 pub Adds-one_way : (e : DirectedEdge Vertex) (old new : Topology) → is_network e.to ≡ false → Adds (e ∷ []) old new → Adds (both_ways e) old new
 Adds-one_way e old new router a = subst (λ (b : Bool). Adds (cond b (e ∷ back e ∷ []) (e ∷ [])) old new) (sym router) a
 
-pub Adds-both_ways : (e : DirectedEdge Vertex) (old mid new : Topology) → is_network e.to ≡ true → mid.vertices ≡ old.vertices → Adds (e ∷ []) old mid → Adds (back e ∷ []) mid new → Adds (both_ways e) old new
+pub Adds-both_ways : (e : DirectedEdge Vertex) (old mid new : Topology) → is_network e.to ≡ true → mid.vertices ≡ old.vertices → Adds (e ∷ []) old mid
+    → Adds (back e ∷ []) mid new → Adds (both_ways e) old new
 Adds-both_ways e old mid new network same a b =
     subst (λ (t : Bool). Adds (cond t (e ∷ back e ∷ []) (e ∷ [])) old new) (sym network) (Adds-then (e ∷ []) (back e ∷ []) old mid new same a b)
 
@@ -70,8 +72,10 @@ module _ (is_tied : Vertex → Vertex → Bool) where
       (Adds-then (over_links is_tied v links) (over_links is_tied v (link ∷ [])) old mid new same a b)
 
   -- the edges over the links of one more LSA
-  pub over_lsas-more : (lsas : List (List ℕ)) (i : ℕ) (lsa : List ℕ) (old mid new : Topology) → i < length lsas → lsa ≡ get_or lsas i lsa → mid.vertices ≡ old.vertices
-      → Adds (over_lsas is_tied (take i lsas)) old mid → Adds (over_links is_tied (vertex_of lsa) (router_links lsa)) mid new → Adds (over_lsas is_tied (take (i + 1) lsas)) old new
+  pub over_lsas-more : (lsas : List (List ℕ)) (i : ℕ) (lsa : List ℕ) (old mid new : Topology) → i < length lsas → lsa ≡ get_or lsas i lsa
+      → mid.vertices ≡ old.vertices
+      → Adds (over_lsas is_tied (take i lsas)) old mid → Adds (over_links is_tied (vertex_of lsa) (router_links lsa)) mid new
+      → Adds (over_lsas is_tied (take (i + 1) lsas)) old new
   over_lsas-more lsas i lsa old mid new lt at same a b =
       subst (λ (ls : List (List ℕ)). Adds (over_lsas is_tied ls) old new) (sym (take_more lsas i lsa lt ∙ ap (λ (l : List ℕ). take i lsas ++ l ∷ []) (sym at)))
       (subst (λ (es : List (DirectedEdge Vertex)). Adds es old new) (sym split)
@@ -79,13 +83,15 @@ module _ (is_tied : Vertex → Vertex → Bool) where
     where
       split : over_lsas is_tied (take i lsas ++ lsa ∷ []) ≡ over_lsas is_tied (take i lsas) ++ over_links is_tied (vertex_of lsa) (router_links lsa)
       split =
-          ap (returned is_tied) (flat_map-append edges_over (take i lsas) (lsa ∷ []) ∙ ap (λ (es : List (DirectedEdge Vertex)). flat_map edges_over (take i lsas) ++ es) (append-nil (edges_over lsa)))
+          ap (returned is_tied) (flat_map-append edges_over (take i lsas) (lsa ∷ [])
+          ∙ ap (λ (es : List (DirectedEdge Vertex)). flat_map edges_over (take i lsas) ++ es) (append-nil (edges_over lsa)))
           ∙ returned-append (flat_map edges_over (take i lsas)) (edges_over lsa)
 
   -- one link: it leads to a vertex that names the first, or not
   module _ (v : Vertex) (link : Link) where
     over_one : Option Vertex → List (DirectedEdge Vertex)
-    over_one o = returned is_tied (filter_map (λ l. option_map (λ w. let e : DirectedEdge Vertex = record { from = v; to = w; cost = link.metric; link_data = link.link_data } in e) o) (link ∷ []))
+    over_one o = returned is_tied (filter_map (λ l. option_map
+        (λ w. let e : DirectedEdge Vertex = record { from = v; to = w; cost = link.metric; link_data = link.link_data } in e) o) (link ∷ []))
 
     pub adds_no_target : (t : Topology) → target_of link ≡ None → Adds (over_links is_tied v (link ∷ [])) t t
     unfolding over_one
@@ -95,10 +101,12 @@ module _ (is_tied : Vertex → Vertex → Bool) where
     unfolding over_one
     adds_not_tied t w some free =
         let e : DirectedEdge Vertex = record { from = v; to = w; cost = link.metric; link_data = link.link_data } in
-        subst (λ (es : List (DirectedEdge Vertex)). Adds es t t) (sym (ap over_one some ∙ ap (λ (b : Bool). flat_map both_ways (cond b (e ∷ []) [])) free)) (adds_nothing t)
+        subst (λ (es : List (DirectedEdge Vertex)). Adds es t t)
+        (sym (ap over_one some ∙ ap (λ (b : Bool). flat_map both_ways (cond b (e ∷ []) [])) free)) (adds_nothing t)
 
     pub adds_tied : (old new : Topology) (w : Vertex) → target_of link ≡ Some w → is_tied w v ≡ true
-        → Adds (both_ways (record { from = v; to = w; cost = link.metric; link_data = link.link_data })) old new → Adds (over_links is_tied v (link ∷ [])) old new
+        → Adds (both_ways (record { from = v; to = w; cost = link.metric; link_data = link.link_data })) old new
+        → Adds (over_links is_tied v (link ∷ [])) old new
     unfolding over_one
     adds_tied old new w some tied a =
         let e : DirectedEdge Vertex = record { from = v; to = w; cost = link.metric; link_data = link.link_data } in

@@ -18,7 +18,7 @@ use Rattle.area_graph.specs.Drafts.{IsDraft, with_edge, Adds}
 use Rattle.area_graph.specs.Vertex.{is_same}
 use Rattle.area_graph.proofs.VertexLemmas.{found, missing, at_one_place}
 use Rattle.area_graph.proofs.AllPathsLemmas.{same_from_is_same, is_same-from}
-use Rattle.area_graph.proofs.Members.{In-from_Contains, Some-same}
+use Rattle.area_graph.proofs.MemberLemmas.{In-from_Contains, Some-same}
 
 -- ---- rows
 
@@ -39,7 +39,8 @@ module _ (t : Topology) (draft : IsDraft t) (i : ℕ) (within : i < length t.ver
       (λ same. ⊎_elim
       (λ old. inl (subst (λ (k : ℕ). Contains (row_at t k) f) (sym same) old))
       (λ new. inr (sym new))
-      (Contains-push_cases (row_at t i) e f (subst (λ (r : List Edge). Contains r f) row_here (subst (λ (k : ℕ). Contains (row_at (with_edge t i e) k) f) same h))))
+      (Contains-push_cases (row_at t i) e f (subst (λ (r : List Edge). Contains r f) row_here
+      (subst (λ (k : ℕ). Contains (row_at (with_edge t i e) k) f) same h))))
       (λ other. inl (subst (λ (r : List Edge). Contains r f) (row_else j other) h))
       (cases_eq j i)
 
@@ -47,8 +48,10 @@ module _ (t : Topology) (draft : IsDraft t) (i : ℕ) (within : i < length t.ver
   draft_more to cost = record {
     a_row_each = length-set t.rows i (row_at t i ++ e ∷ []) ∙ draft.a_row_each;
     distinct = draft.distinct;
-    in_range = λ a arc. ⊎_elim (λ old. draft.in_range a old) (λ new. subst (λ n. n < length t.vertices) (sym (ap (λ (x : Edge). x.to) new)) to) (row_only a.from (record { to = a.to; cost = a.cost; link_data = a.link_data }) arc);
-    cost_below = λ a arc. ⊎_elim (λ old. draft.cost_below a old) (λ new. subst (λ n. n < 2 ^ 16) (sym (ap (λ (x : Edge). x.cost) new)) cost) (row_only a.from (record { to = a.to; cost = a.cost; link_data = a.link_data }) arc);
+    in_range = λ a arc. ⊎_elim (λ old. draft.in_range a old) (λ new. subst (λ n. n < length t.vertices) (sym (ap (λ (x : Edge). x.to) new)) to)
+        (row_only a.from (record { to = a.to; cost = a.cost; link_data = a.link_data }) arc);
+    cost_below = λ a arc. ⊎_elim (λ old. draft.cost_below a old) (λ new. subst (λ n. n < 2 ^ 16) (sym (ap (λ (x : Edge). x.cost) new)) cost)
+        (row_only a.from (record { to = a.to; cost = a.cost; link_data = a.link_data }) arc);
   }
 
 -- ---- one more edge
@@ -70,7 +73,8 @@ module _ (vertices : List Vertex) (f : DirectedEdge Vertex) where
       by false = refl
       by true = ap (λ (o : Option ℕ). cons_option (option_map (λ to. let e : Edge = record { to = to; cost = f.cost; link_data = f.link_data } in e) o) []) none
 
-  here : (v : Vertex) (to : ℕ) → is_same f.from v ≡ true → position (is_same f.to) vertices ≡ Some to → row_of_one vertices v f ≡ record { to = to; cost = f.cost; link_data = f.link_data } ∷ []
+  here : (v : Vertex) (to : ℕ) → is_same f.from v ≡ true → position (is_same f.to) vertices ≡ Some to
+      → row_of_one vertices v f ≡ record { to = to; cost = f.cost; link_data = f.link_data } ∷ []
   unfolding row_of_one
   here v to out at =
       ap (λ (b : Bool). filter_map (numbered vertices) (cond b (f ∷ []) [])) out
@@ -90,7 +94,8 @@ unfolding row_of_one
 adds_none-to t f none = record { rows = λ i v at. sym (ap (λ (r : List Edge). row_at t i ++ r) (nowhere t.vertices f none v) ∙ append-nil (row_at t i)) }
 
 -- an edge between vertices, whose numbers were found
-pub adds_one : (t : Topology) → IsDraft t → (f : DirectedEdge Vertex) (i : ℕ) (e : Edge) → position (is_same f.from) t.vertices ≡ Some i → position (is_same f.to) t.vertices ≡ Some e.to
+pub adds_one : (t : Topology) → IsDraft t → (f : DirectedEdge Vertex) (i : ℕ) (e : Edge) → position (is_same f.from) t.vertices ≡ Some i
+    → position (is_same f.to) t.vertices ≡ Some e.to
     → e.cost ≡ f.cost → e.link_data ≡ f.link_data → (new : Topology) → new ≡ with_edge t i e → Adds (f ∷ []) t new
 unfolding row_of_one
 adds_one t draft f i e at_i at_to cost carried new is =
@@ -103,7 +108,8 @@ adds_one t draft f i e at_i at_to cost carried new is =
     same j v at_j k =
         let this : f.from ≡ v = Some-same (sym from.1 ∙ ap (slice_get t.vertices) (sym k) ∙ at_j) in
         let one : row_of_one t.vertices v f ≡ e ∷ [] =
-        here t.vertices f v e.to (is_same-from f.from v this) at_to ∙ (λ n. (let g : Edge = record { to = e.to; cost = sym cost n; link_data = sym carried n } in g) ∷ []) in
+        here t.vertices f v e.to (is_same-from f.from v this) at_to
+        ∙ (λ n. (let g : Edge = record { to = e.to; cost = sym cost n; link_data = sym carried n } in g) ∷ []) in
         ap (λ (n : ℕ). row_at (with_edge t i e) n) k ∙ row_here t draft i from.0 e ∙ ap (λ (n : ℕ). row_at t n ++ e ∷ []) (sym k)
         ∙ ap (λ (r : List Edge). row_at t j ++ r) (sym one)
 
@@ -151,7 +157,8 @@ module _ {R : Type 0} (edges : R → List Edge) (vertices : List Vertex) (rows :
 
 -- ---- rows without edges
 
-pub empty_push : {R : Type 0} (edges : R → List Edge) (rows : List R) (row : R) → ((i : ℕ) → get_or (map edges rows) i [] ≡ []) → edges row ≡ [] → (i : ℕ) → get_or (map edges (rows ++ row ∷ [])) i [] ≡ []
+pub empty_push : {R : Type 0} (edges : R → List Edge) (rows : List R) (row : R) → ((i : ℕ) → get_or (map edges rows) i [] ≡ []) → edges row ≡ []
+    → (i : ℕ) → get_or (map edges (rows ++ row ∷ [])) i [] ≡ []
 empty_push edges [] row all is zero = is
 empty_push edges [] row all is (suc i) = refl
 empty_push edges (r ∷ rows) row all is zero = all 0
@@ -164,6 +171,8 @@ pub empty_draft : (t : Topology) → length t.rows ≡ length t.vertices → All
 empty_draft t sized distinct none = record {
   a_row_each = sized;
   distinct = distinct;
-  in_range = λ a arc. absurd (no_member _ (subst (λ (r : List Edge). Contains r (record { to = a.to; cost = a.cost; link_data = a.link_data })) (none a.from) arc));
-  cost_below = λ a arc. absurd (no_member _ (subst (λ (r : List Edge). Contains r (record { to = a.to; cost = a.cost; link_data = a.link_data })) (none a.from) arc));
+  in_range = λ a arc. absurd (no_member _ (subst (λ (r : List Edge). Contains r (record { to = a.to; cost = a.cost; link_data = a.link_data }))
+      (none a.from) arc));
+  cost_below = λ a arc. absurd (no_member _ (subst (λ (r : List Edge). Contains r (record { to = a.to; cost = a.cost; link_data = a.link_data }))
+      (none a.from) arc));
 }

@@ -30,11 +30,11 @@ use Rattle.area_graph.specs.declared.edge.Edge.{Edge}
 use Rattle.area_graph.specs.Rows.{same_edge, each_once, numbered, is_out_of, row_of, rows_of}
 use Rattle.area_graph.specs.Drafts.{IsDraft, Adds, over_lsas, edges_once}
 use Rattle.area_graph.specs.Graphs.{IsGraphOf, AreOfArea}
-use Rattle.area_graph.proofs.Members.{In, In-from_Contains, Contains-from_In, list_all-In, Some-same, In-filter, filter-In, In-filter_map, filter_map-In, map-by_place}
+use Rattle.area_graph.proofs.MemberLemmas.{In, In-from_Contains, Contains-from_In, list_all-In, Some-same, In-filter, filter-In, In-filter_map, filter_map-In, map-by_place}
 use Rattle.area_graph.proofs.AllPathsLemmas.{same_from_is_same, is_same-from}
 use Rattle.area_graph.proofs.VertexLemmas.{found, has_number}
 use Rattle.area_graph.proofs.OnceLemmas.{Contains-each_once, each_once-In, each_once-distinct}
-use Rattle.area_graph.proofs.AreaLemmas.{Contains-area_edges}
+use Rattle.area_graph.proofs.JoinLemmas.{Contains-area_edges}
 use Rattle.area_graph.proofs.OverLemmas.{ends, over_lsas-outs}
 use Rattle.area_graph.proofs.UsedLemmas.{used_accepted, used_few}
 use Rattle.area_graph.proofs.EdgeLemmas.{distance_of-edges}
@@ -48,7 +48,8 @@ link_has_cost link (Network n) h = ap has_cost h.0
 -- an accepted LSA has no link to a vertex that costs nothing
 link_costs : (lsa : List ℕ) (link : Link) (t : Vertex) → IsAccepted lsa → kind_of lsa ≡ 1 → Contains (links_of lsa) link → IsLinkTo t link → 0 < link.metric
 link_costs lsa link t accepted one c to =
-    let all : list_all is_link_cost_good (links_of lsa) ≡ true = subst (λ b. (not b || list_all is_link_cost_good (links_of lsa)) ≡ true) (eq-eqb (kind_of lsa) 1 one) accepted.costs in
+    let all : list_all is_link_cost_good (links_of lsa) ≡ true =
+    subst (λ b. (not b || list_all is_link_cost_good (links_of lsa)) ≡ true) (eq-eqb (kind_of lsa) 1 one) accepted.costs in
     let good : is_link_cost_good link ≡ true = list_all-In is_link_cost_good (links_of lsa) all link (In-from_Contains (links_of lsa) link c) in
     let costs : not (eqb link.metric 0) ≡ true = subst (λ b. (not b || not (eqb link.metric 0)) ≡ true) (link_has_cost link t to) good in
     ⊎_elim (λ positive. positive)
@@ -78,7 +79,8 @@ row_once t i = get_or-map-all (each_once same_edge) t.rows i []
 
 -- a draft whose rows have the edges of the area
 module _ (lsas : List (List ℕ)) (are : AreOfArea lsas) (t : Topology) (draft : IsDraft t) (vertices_are : t.vertices ≡ vertices_of lsas)
-    (rows_are : (i : ℕ) (v : Vertex) → slice_get t.vertices i ≡ Some v → row_at t i ≡ filter_map (numbered t.vertices) (filter (is_out_of v) (area_edges (used lsas)))) where
+    (rows_are : (i : ℕ) (v : Vertex) → slice_get t.vertices i ≡ Some v
+    → row_at t i ≡ filter_map (numbered t.vertices) (filter (is_out_of v) (area_edges (used lsas)))) where
   abbrev graph : Topology
   graph = edges_once t
 
@@ -106,7 +108,8 @@ module _ (lsas : List (List ℕ)) (are : AreOfArea lsas) (t : Topology) (draft :
       Contains-from_In area e (subst (λ (g : DirectedEdge Vertex). In area g) (by f (position (is_same (f.edge).to) t.vertices) refl f.number) f.there)
     where
       by : (f : IsOfArea e (record { to = j; cost = e.cost; link_data = e.link_data })) (o : Option ℕ) → position (is_same (f.edge).to) t.vertices ≡ o
-          → option_map (λ to. let g : Edge = record { to = to; cost = (f.edge).cost; link_data = (f.edge).link_data } in g) o ≡ Some (record { to = j; cost = e.cost; link_data = e.link_data }) → f.edge ≡ e
+          → option_map (λ to. let g : Edge = record { to = to; cost = (f.edge).cost; link_data = (f.edge).link_data } in g) o ≡ Some
+          (record { to = j; cost = e.cost; link_data = e.link_data }) → f.edge ≡ e
       by f None at is = absurd (cc)
       by f (Some k) at is =
           let same = Some-same is in
@@ -132,7 +135,8 @@ module _ (lsas : List (List ℕ)) (are : AreOfArea lsas) (t : Topology) (draft :
       let o : Edge = record { to = to.0; cost = e.cost; link_data = e.link_data } in
       let make : ℕ → Edge = λ k. record { to = k; cost = e.cost; link_data = e.link_data } in
       let stands : In (filter_map (numbered t.vertices) (filter (is_out_of e.from) area)) o =
-      In-filter_map (numbered t.vertices) (filter (is_out_of e.from) area) e o (In-filter (is_out_of e.from) area e i (is_same-from e.from e.from refl)) (ap (option_map make) to.2) in
+      In-filter_map (numbered t.vertices) (filter (is_out_of e.from) area) e o
+      (In-filter (is_out_of e.from) area e i (is_same-from e.from e.from refl)) (ap (option_map make) to.2) in
       let arc = Contains-each_once (row_at t from.0) o (subst (λ (r : List Edge). In r o) (sym (rows_are from.0 e.from from.1)) stands) in
       (from.0, to.0, subst (λ (r : List Edge). Contains r o) (sym (row_once t from.0)) arc, from.1, to.1)
 
@@ -184,8 +188,10 @@ module _ (lsas : List (List ℕ)) (are : AreOfArea lsas) (t : Topology) (draft :
 
 -- the same, for the steps in which it is built
 pub built : (lsas vertex_lsas tie_lsas edge_lsas : List (List ℕ)) → AreOfArea lsas → vertex_lsas ≡ used lsas → tie_lsas ≡ used lsas → edge_lsas ≡ used lsas
-    → (keys : List Vertex) → keys ≡ map vertex_of vertex_lsas → (is_tied : Vertex → Vertex → Bool) → ((v w : Vertex) → is_tied v w ≡ list_any (names v w) tie_lsas)
-    → (old t : Topology) → old.vertices ≡ keys → ((i : ℕ) → row_at old i ≡ []) → t.vertices ≡ old.vertices → IsDraft t → Adds (over_lsas is_tied edge_lsas) old t
+    → (keys : List Vertex) → keys ≡ map vertex_of vertex_lsas → (is_tied : Vertex → Vertex → Bool)
+    → ((v w : Vertex) → is_tied v w ≡ list_any (names v w) tie_lsas)
+    → (old t : Topology) → old.vertices ≡ keys → ((i : ℕ) → row_at old i ≡ []) → t.vertices ≡ old.vertices → IsDraft t
+    → Adds (over_lsas is_tied edge_lsas) old t
     → IsGraphOf lsas (edges_once t)
 built lsas vertex_lsas tie_lsas edge_lsas are uv ut ue keys k is_tied ties old t ok none tv draft adds =
     is_graph lsas are t draft (tv ∙ ok ∙ k ∙ ap (map vertex_of) uv) row
@@ -199,7 +205,8 @@ built lsas vertex_lsas tie_lsas edge_lsas are uv ut ue keys k is_tied ties old t
         ∙ ap (filter_map (numbered t.vertices)) (over_lsas-outs (used lsas) is_tied (λ v w. ties v w ∙ ap (list_any (names v w)) ut) v)
 
 -- the distances in the graph are those over the edges of the area
-pub distance_of-area : (lsas : List (List ℕ)) (t : Topology) → IsGraphOf lsas t → (v w : Vertex) → distance_of (edges_of t) v w ≡ distance_of (area_edges (used lsas)) v w
+pub distance_of-area : (lsas : List (List ℕ)) (t : Topology) → IsGraphOf lsas t → (v w : Vertex)
+    → distance_of (edges_of t) v w ≡ distance_of (area_edges (used lsas)) v w
 distance_of-area lsas t graph v w = distance_of-edges t (area_edges (used lsas)) (λ e h. (graph.edges e).0 h) (λ e h. (graph.edges e).1 h) v w
 
 -- ---- the LSAs of an area in a database

@@ -1,5 +1,5 @@
-pub mod Members
-pub mod Sorted
+pub mod MemberLemmas
+pub mod RisingLemmas
 pub mod PathLemmas
 pub mod AllPathsLemmas
 pub mod SmallGraphs
@@ -14,6 +14,7 @@ pub mod Equality
 pub mod DraftLemmas
 pub mod AddsLemmas
 pub mod AreaLemmas
+pub mod JoinLemmas
 pub mod OverLemmas
 pub mod UsedLemmas
 pub mod GraphLemmas

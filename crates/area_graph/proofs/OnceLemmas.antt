@@ -11,7 +11,7 @@ use Rattle.std.proofs.lemmas.Bool.{eqb-true, eq-eqb, and_parts, and_from}
 use Rattle.indexmap.specs.IndexSet.{insert_key}
 use Rattle.area_graph.specs.declared.edge.Edge.{Edge}
 use Rattle.area_graph.specs.Rows.{same_edge, each_once}
-use Rattle.area_graph.proofs.Members.{In, In-from_Contains, list_any-In, In-list_any}
+use Rattle.area_graph.proofs.MemberLemmas.{In, In-from_Contains, list_any-In, In-list_any}
 
 -- ---- `same_edge` is equality
 
@@ -50,7 +50,8 @@ inserted row e = by (list_any (same_edge e) row) refl
       kept = λ f h. Contains-append_left row (e ∷ []) f h;
       here = Contains-push row e;
       only = λ f h. ⊎_elim (λ old. inl old) (λ new. inr (sym new)) (Contains-push_cases row e f h);
-      once = λ o. all_pairs_push (λ a b. a ≢ b) row e o (λ k d lt same. true≢false (sym (list_any_at (same_edge e) row k d lt (ap (same_edge e) same ∙ same_itself e)) ∙ is));
+      once = λ o. all_pairs_push (λ a b. a ≢ b) row e o (λ k d lt same. true≢false
+          (sym (list_any_at (same_edge e) row k d lt (ap (same_edge e) same ∙ same_itself e)) ∙ is));
     }
 
 -- ---- all edges
@@ -69,7 +70,8 @@ all_inserted row (e ∷ es) =
     let rest = all_inserted (insert_key same_edge row e) es in
     record {
       kept = λ f h. rest.kept f (one.kept f h);
-      all = λ f. ⊎_elim (λ is. subst (λ (g : Edge). Contains (fold (insert_key same_edge) (insert_key same_edge row e) es) g) is (rest.kept e one.here)) (λ i. rest.all f i);
+      all = λ f. ⊎_elim (λ is. subst (λ (g : Edge). Contains (fold (insert_key same_edge) (insert_key same_edge row e) es) g) is
+          (rest.kept e one.here)) (λ i. rest.all f i);
       only = λ f h. ⊎_elim (λ old. ⊎_elim (λ before. inl before) (λ is. inr (inl (sym is))) (one.only f old)) (λ i. inr (inr i)) (rest.only f h);
       once = λ o. rest.once (one.once o);
     }
@@ -85,12 +87,14 @@ module _ (es : List Edge) where
   each_once-distinct = (all_inserted [] es).once (λ j k d lt below. absurd (omega (arith, below)))
 
 -- one more edge of a list
-pub each_once-more : (es : List Edge) (i : ℕ) (d : Edge) → i < length es → each_once same_edge (take (i + 1) es) ≡ insert_key same_edge (each_once same_edge (take i es)) (get_or es i d)
+pub each_once-more : (es : List Edge) (i : ℕ) (d : Edge) → i < length es
+    → each_once same_edge (take (i + 1) es) ≡ insert_key same_edge (each_once same_edge (take i es)) (get_or es i d)
 each_once-more es i d lt =
     ap (each_once same_edge) (take_more es i d lt) ∙ fold_push (insert_key same_edge) [] (take i es) (get_or es i d)
 
 -- an edge that does not stand among those before it, in a list whose edges before it stand once
-pub distinct-more : (es : List Edge) (i : ℕ) (d : Edge) → i < length es → each_once same_edge (take i es) ≡ take i es → list_any (same_edge (get_or es i d)) (take i es) ≡ false
+pub distinct-more : (es : List Edge) (i : ℕ) (d : Edge) → i < length es → each_once same_edge (take i es) ≡ take i es
+    → list_any (same_edge (get_or es i d)) (take i es) ≡ false
     → each_once same_edge (take (i + 1) es) ≡ take (i + 1) es
 distinct-more es i d lt before new =
     each_once-more es i d lt ∙ ap (λ (row : List Edge). insert_key same_edge row (get_or es i d)) before

@@ -14,7 +14,7 @@ use Rattle.area_graph.specs.Area.{is_router_lsa, vertex_of}
 use Rattle.area_graph.specs.AreaEdges.{names, named_by, edge_over, router_links, edges_over, is_returned, router_edges, back, area_edges}
 use Rattle.area_graph.specs.Rows.{is_out_of}
 use Rattle.area_graph.specs.Drafts.{both_ways, over_lsas}
-use Rattle.area_graph.proofs.Members.{In, In-cases, In-map, map-In, flat_map-In, filter-In, filter_map-In, list_any-In}
+use Rattle.area_graph.proofs.MemberLemmas.{In, In-cases, In-map, map-In, flat_map-In, filter-In, filter_map-In, list_any-In}
 use Rattle.area_graph.proofs.AllPathsLemmas.{same_from_is_same}
 use Rattle.area_graph.proofs.AreaLemmas.{over_is, kind_of_vertex}
 
@@ -112,7 +112,8 @@ module _ (v : Vertex) where
         by true is rest = outs-skip (back e) (map back (to_networks es)) (other_kind e.to v true is router) ∙ rest
 
   module _ (network : is_network v ≡ true) where
-    both-network : (e : DirectedEdge Vertex) → is_network e.from ≡ false → (b : Bool) → outs (cond b (e ∷ back e ∷ []) (e ∷ [])) ≡ outs (map back (cond b (e ∷ []) []))
+    both-network : (e : DirectedEdge Vertex) → is_network e.from ≡ false → (b : Bool)
+        → outs (cond b (e ∷ back e ∷ []) (e ∷ [])) ≡ outs (map back (cond b (e ∷ []) []))
     both-network e from false = outs-skip e [] (other_kind e.from v false from network)
     both-network e from true = outs-skip e (back e ∷ []) (other_kind e.from v false from network)
 
@@ -120,23 +121,28 @@ module _ (v : Vertex) where
     fronts-network [] from = refl
     fronts-network (e ∷ es) from = outs-skip e es (other_kind e.from v false (from e (inl refl)) network) ∙ fronts-network es (λ f i. from f (inr i))
 
-    outs-network : (es : List (DirectedEdge Vertex)) → ((e : DirectedEdge Vertex) → In es e → is_network e.from ≡ false) → outs (flat_map both_ways es) ≡ outs (map back (to_networks es))
+    outs-network : (es : List (DirectedEdge Vertex)) → ((e : DirectedEdge Vertex) → In es e → is_network e.from ≡ false)
+        → outs (flat_map both_ways es) ≡ outs (map back (to_networks es))
     outs-network [] from = refl
     outs-network (e ∷ es) from =
         filter-append (is_out_of v) (both_ways e) (flat_map both_ways es)
         ∙ (λ i. both-network e (from e (inl refl)) (is_network e.to) i ++ outs-network es (λ f j. from f (inr j)) i)
         ∙ by (is_network e.to)
       where
-        by : (b : Bool) → outs (map back (cond b (e ∷ []) [])) ++ outs (map back (to_networks es)) ≡ outs (map back (cond b (e ∷ to_networks es) (to_networks es)))
+        by : (b : Bool) → outs (map back (cond b (e ∷ []) [])) ++ outs (map back (to_networks es)) ≡ outs
+            (map back (cond b (e ∷ to_networks es) (to_networks es)))
         by false = refl
         by true = sym (filter-append (is_out_of v) (back e ∷ []) (map back (to_networks es)))
 
   -- those out of one vertex stand in the same order
-  same_outs : (es : List (DirectedEdge Vertex)) → ((e : DirectedEdge Vertex) → In es e → is_network e.from ≡ false) → (b : Bool) → is_network v ≡ b → outs (flat_map both_ways es) ≡ outs (es ++ map back (to_networks es))
+  same_outs : (es : List (DirectedEdge Vertex)) → ((e : DirectedEdge Vertex) → In es e → is_network e.from ≡ false) → (b : Bool) → is_network v ≡ b
+      → outs (flat_map both_ways es) ≡ outs (es ++ map back (to_networks es))
   same_outs es from false router =
-      outs-router router es ∙ sym (append-nil (outs es)) ∙ ap (λ (xs : List (DirectedEdge Vertex)). outs es ++ xs) (sym (backs-router router es)) ∙ sym (filter-append (is_out_of v) es (map back (to_networks es)))
+      outs-router router es ∙ sym (append-nil (outs es)) ∙ ap (λ (xs : List (DirectedEdge Vertex)). outs es ++ xs) (sym (backs-router router es))
+      ∙ sym (filter-append (is_out_of v) es (map back (to_networks es)))
   same_outs es from true network =
-      outs-network network es from ∙ ap (λ (xs : List (DirectedEdge Vertex)). xs ++ outs (map back (to_networks es))) (sym (fronts-network network es from)) ∙ sym (filter-append (is_out_of v) es (map back (to_networks es)))
+      outs-network network es from ∙ ap (λ (xs : List (DirectedEdge Vertex)). xs ++ outs (map back (to_networks es)))
+      (sym (fronts-network network es from)) ∙ sym (filter-append (is_out_of v) es (map back (to_networks es)))
 
 -- what was added over the links of all LSAs are the edges of the area, vertex by vertex
 pub over_lsas-outs : (lsas : List (List ℕ)) (is_tied : Vertex → Vertex → Bool) → ((v w : Vertex) → is_tied v w ≡ list_any (names v w) lsas)

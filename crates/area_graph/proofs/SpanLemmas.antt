@@ -26,7 +26,8 @@ module _ {X : Type 0} where
       ∙ ap (λ (rows : List (List X)). slice_range xs s.start s.end ∷ rows) (rows_at-append xs ys spans (λ k d lt. within (suc k) d (omega arith)))
 
   -- one more list
-  pub rows_at-push : (xs ys : List X) (spans : List Span) (span : Span) → All (IsWithin (length xs)) spans → span.start ≡ length xs → span.end ≡ length (xs ++ ys)
+  pub rows_at-push : (xs ys : List X) (spans : List Span) (span : Span) → All (IsWithin (length xs)) spans → span.start ≡ length xs
+      → span.end ≡ length (xs ++ ys)
       → rows_at (xs ++ ys) (spans ++ span ∷ []) ≡ rows_at xs spans ++ ys ∷ []
   rows_at-push xs ys spans span within start end =
       map_push (λ (s : Span). slice_range (xs ++ ys) s.start s.end) spans span

@@ -12,7 +12,7 @@ use Rattle.area_graph.specs.Area.{vertex_of}
 use Rattle.area_graph.specs.declared.vertex.Vertex.{Vertex}
 use Rattle.area_graph.specs.Vertex.{is_same}
 use Rattle.area_graph.proofs.AllPathsLemmas.{same_from_is_same}
-use Rattle.area_graph.proofs.Members.{Some-same}
+use Rattle.area_graph.proofs.MemberLemmas.{Some-same}
 
 -- the vertex at the place that `position` finds
 pub found : (vs : List Vertex) (v : Vertex) (i : ℕ) → position (is_same v) vs ≡ Some i → (i < length vs) × (slice_get vs i ≡ Some v)
@@ -29,7 +29,8 @@ pub at_one_place : (vs : List Vertex) → AllPairs (λ v w. v ≢ w) vs → (i j
 at_one_place vs distinct i j v at_i at_j =
     ⊎_elim (λ same. same) (λ other. absurd (⊎_elim
     (λ lt. distinct i j v lt (slice_get_within vs j v at_j) (get_or_from_slice_get vs i v v at_i ∙ sym (get_or_from_slice_get vs j v v at_j)))
-    (λ ge. (let lt : j < i = omega arith in distinct j i v lt (slice_get_within vs i v at_i) (get_or_from_slice_get vs j v v at_j ∙ sym (get_or_from_slice_get vs i v v at_i))))
+    (λ ge. (let lt : j < i = omega arith in distinct j i v lt (slice_get_within vs i v at_i)
+    (get_or_from_slice_get vs j v v at_j ∙ sym (get_or_from_slice_get vs i v v at_i))))
     (cases_lt i j))) (cases_eq i j)
 
 -- an item that passes a test is not before the first that does
@@ -52,7 +53,8 @@ pub missing : (vs : List Vertex) (v : Vertex) → position (is_same v) vs ≡ No
 missing vs v none i w at same = let n = has_number vs v w i at same in let some : position (is_same v) vs ≡ Some n.0 = n.1 in absurd (cc)
 
 -- a vertex after distinct ones is new
-pub new_vertex : (vs : List Vertex) → AllPairs (λ v w. v ≢ w) vs → (i : ℕ) (v : Vertex) → i < length vs → get_or vs i v ≡ v → list_any (is_same v) (take i vs) ≡ false
+pub new_vertex : (vs : List Vertex) → AllPairs (λ v w. v ≢ w) vs → (i : ℕ) (v : Vertex) → i < length vs → get_or vs i v ≡ v
+    → list_any (is_same v) (take i vs) ≡ false
 new_vertex vs distinct i v lt at = by (list_any (is_same v) (take i vs)) refl
   where
     by : (b : Bool) → list_any (is_same v) (take i vs) ≡ b → b ≡ false
@@ -75,7 +77,8 @@ vertices_more lsas distinct i lsa lt at keys new old is =
     let within : i < length vs = rw (length-map lsas vertex_of) lt in
     let here : get_or vs i (vertex_of lsa) ≡ vertex_of lsa = get_or-map vertex_of lsas i lsa (vertex_of lsa) lt ∙ ap vertex_of (sym at) in
     let front : keys ≡ take i vs = old ∙ sym (take-map vertex_of i lsas) in
-    let fresh : list_any (is_same (vertex_of lsa)) keys ≡ false = ap (list_any (is_same (vertex_of lsa))) front ∙ new_vertex vs distinct i (vertex_of lsa) within here in
+    let fresh : list_any (is_same (vertex_of lsa)) keys ≡ false = ap (list_any (is_same (vertex_of lsa))) front
+    ∙ new_vertex vs distinct i (vertex_of lsa) within here in
     let grown : new ≡ keys ++ vertex_of lsa ∷ [] = is ∙ ap (λ (b : Bool). cond b keys (keys ++ vertex_of lsa ∷ [])) fresh in
     let whole : map vertex_of (take (i + 1) lsas) ≡ map vertex_of (take i lsas) ++ vertex_of lsa ∷ [] =
     ap (map vertex_of) (take_more lsas i lsa lt ∙ ap (λ (x : List ℕ). take i lsas ++ x ∷ []) (sym at)) ∙ map_push vertex_of (take i lsas) lsa in

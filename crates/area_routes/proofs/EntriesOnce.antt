@@ -21,7 +21,7 @@ use Rattle.area_graph.specs.AllPaths.{distance_of}
 use Rattle.area_graph.specs.AreaEdges.{area_edges}
 use Rattle.area_graph.specs.Graphs.{AreOfArea}
 use Rattle.area_graph.proofs.GraphLemmas.{are_of_area}
-use Rattle.area_graph.proofs.Members.{In, In-cases, flat_map-In, map-In}
+use Rattle.area_graph.proofs.MemberLemmas.{In, In-cases, flat_map-In, map-In}
 use Rattle.area_graph.proofs.UsedLemmas.{vertices_distinct}
 use Rattle.next_hops.specs.declared.hop.Hop.{Hop}
 use Rattle.next_hops.specs.FirstHops.{hops_of}

@@ -3,7 +3,7 @@ use Rattle.std.proofs.Common.{◌≡◌, ◌<◌, Bool, true, false, cond, List,
 use Rattle.std.specs.List.{AllPairs, cons_option, filter, filter_map, flat_map}
 use Rattle.std.proofs.lemmas.List.Elements.{All-contains, Contains-get_or}
 use Rattle.std.proofs.lemmas.List.Kept.{AllPairs-cons}
-use Rattle.area_graph.proofs.Members.{Contains-from_In, In, In-cases, In-from_Contains, In-map, filter-In, filter_map-In, flat_map-In}
+use Rattle.area_graph.proofs.MemberLemmas.{Contains-from_In, In, In-cases, In-from_Contains, In-map, filter-In, filter_map-In, flat_map-In}
 
 -- the same as `AllPairs`, by recursion
 abbrev pub Pairs : {X : Type 0} → (X → X → Type 0) → List X → Type 0

@@ -21,7 +21,7 @@ use Rattle.area_graph.specs.declared.vertex.Vertex.{Vertex}
 use Rattle.area_graph.specs.declared.vertex.Vertex.TheVariants.{Router}
 use Rattle.area_graph.proofs.AreaLemmas.{router_lsa_of, vertex_of_router}
 use Rattle.area_graph.proofs.GraphLemmas.{are_of_area}
-use Rattle.area_graph.proofs.Members.{Contains-from_In, In, In-filter, In-from_Contains, In-map, map-In}
+use Rattle.area_graph.proofs.MemberLemmas.{Contains-from_In, In, In-filter, In-from_Contains, In-map, map-In}
 use Rattle.area_graph.proofs.UsedLemmas.{used_In}
 use Rattle.area_routes.specs.Attached.{has_live_router_lsa, is_attached}
 

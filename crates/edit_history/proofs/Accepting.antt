@@ -25,7 +25,8 @@ effects_append db (x ∷ xs) ys = by_answer (effect db x) (λ after. effects_app
 folded : (db after : Lists) (es : List Edit) → effects db es ≡ Ok after → after_edits db es ≡ after
 folded db after [] is = let same : db ≡ after = cc in same
 folded db after (e ∷ es) is = by_answer (effect db e) is (λ next. folded next after es) where
-  by_answer : (r : Result Lists EditFault) → (r >>= λ next. effects next es) ≡ Ok after → ((next : Lists) → effects next es ≡ Ok after → after_edits next es ≡ after) → after_edits (unless_refused db r) es ≡ after
+  by_answer : (r : Result Lists EditFault) → (r >>= λ next. effects next es) ≡ Ok after
+      → ((next : Lists) → effects next es ≡ Ok after → after_edits next es ≡ after) → after_edits (unless_refused db r) es ≡ after
   by_answer (Ok next) is rest = rest next is
   by_answer (Err fault) is rest = absurd cc
 
@@ -43,7 +44,8 @@ parts s all = by_parts s (effects s.base s.done) refl (subst (λ (r : Result Lis
 
 whole : (s : Session) → NoneRefused s → AllAccepted s
 whole s none =
-    subst (λ (r : Result Lists EditFault). IsOk r) (sym (effects_append s.base s.done s.undone ∙ ap (λ (r : Result Lists EditFault). r >>= λ after. effects after s.undone) none.done)) none.undone
+    subst (λ (r : Result Lists EditFault). IsOk r) (sym
+    (effects_append s.base s.done s.undone ∙ ap (λ (r : Result Lists EditFault). r >>= λ after. effects after s.undone) none.done)) none.undone
 
 pub none_at_start : (db : Lists) → NoneRefused (start db)
 none_at_start db = record { done = refl; undone = refl }
@@ -52,20 +54,24 @@ none_at_start db = record { done = refl; undone = refl }
 
 same_edits : (s t : Session) → t.base ≡ s.base → t.done ++ t.undone ≡ s.done ++ s.undone → NoneRefused s → NoneRefused t
 same_edits s t base edits none =
-    parts t (subst (λ (es : List Edit). IsOk (effects t.base es)) (sym edits) (subst (λ (db : Lists). IsOk (effects db (s.done ++ s.undone))) (sym base) (whole s none)))
+    parts t (subst (λ (es : List Edit). IsOk (effects t.base es)) (sym edits)
+    (subst (λ (db : Lists). IsOk (effects db (s.done ++ s.undone))) (sym base) (whole s none)))
 
 pub none_after_undo : (s : Session) (k : ℕ) → NoneRefused s → NoneRefused (moved_back k s)
 none_after_undo s k none =
     let n = length s.done - k in
-    same_edits s (moved_back k s) refl (sym (append_assoc (take n s.done) (drop n s.done) s.undone) ∙ ap (λ (es : List Edit). es ++ s.undone) (take-append-drop n s.done)) none
+    same_edits s (moved_back k s) refl (sym (append_assoc (take n s.done) (drop n s.done) s.undone) ∙ ap (λ (es : List Edit). es ++ s.undone)
+    (take-append-drop n s.done)) none
 
 pub none_after_redo : (s : Session) (k : ℕ) → NoneRefused s → NoneRefused (moved_on k s)
 none_after_redo s k none =
-    same_edits s (moved_on k s) refl (append_assoc s.done (take k s.undone) (drop k s.undone) ∙ ap (λ (es : List Edit). s.done ++ es) (take-append-drop k s.undone)) none
+    same_edits s (moved_on k s) refl (append_assoc s.done (take k s.undone) (drop k s.undone) ∙ ap (λ (es : List Edit). s.done ++ es)
+    (take-append-drop k s.undone)) none
 
 -- ---- an edit
 
-accepted_one : (s t : Session) (e : Edit) (r : Result Lists EditFault) → effect (state s) e ≡ r → accepted s e r ≡ Ok t → NoneRefused s → NoneRefused t
+accepted_one : (s t : Session) (e : Edit) (r : Result Lists EditFault) → effect (state s) e ≡ r → accepted s e r ≡ Ok t → NoneRefused s
+    → NoneRefused t
 accepted_one s t e (Err fault) leads is none = absurd cc
 accepted_one s t e (Ok db) leads is none =
     let same : (let u : Session = record { base = s.base; done = s.done ++ e ∷ []; undone = [] } in u) ≡ t = cc in
@@ -75,7 +81,8 @@ accepted_one s t e (Ok db) leads is none =
     ∙ ap (λ (r : Result Lists EditFault). r >>= λ next. effects next []) leads in
     subst NoneRefused same
     (parts (record { base = s.base; done = s.done ++ e ∷ []; undone = [] })
-    (subst (λ (es : List Edit). IsOk (effects s.base es)) (sym (append-nil (s.done ++ e ∷ []))) (subst (λ (r : Result Lists EditFault). IsOk r) (sym after) refl)))
+    (subst (λ (es : List Edit). IsOk (effects s.base es)) (sym (append-nil (s.done ++ e ∷ [])))
+    (subst (λ (r : Result Lists EditFault). IsOk r) (sym after) refl)))
 
 pub none_after_edit : (s t : Session) (e : Edit) → NoneRefused s → edited s e ≡ Ok t → NoneRefused t
 unfolding edited

@@ -43,7 +43,8 @@ undo_done d (s ∷ ss) sound can =
       can = (
         rest.can,
         subst (λ (u : Places). IsSome (slot_at u s.slot)) (sym rest.places) (exists_after d s.slot s.other can.0),
-        subst (λ (u : Places). IsDatabase (lists_of u)) (sym (ap (λ (u : Places). put u s.slot (there d s.slot)) rest.places ∙ back_again d s.slot s.other can.0)) sound,
+        subst (λ (u : Places). IsDatabase (lists_of u))
+            (sym (ap (λ (u : Places). put u s.slot (there d s.slot)) rest.places ∙ back_again d s.slot s.other can.0)) sound,
       );
     }
 

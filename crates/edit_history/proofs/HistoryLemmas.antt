@@ -30,7 +30,8 @@ pushed r h = record { past = r ∷ h.past; future = [] }
 pub start_linked : (d : Places) → IsDatabase (lists_of d) → Links d (record { past = []; future = [] })
 start_linked d sound = record { sound = sound; back = tt; on = tt }
 
-pub pushed_linked : (d e : Places) (h : HistoryData) (edit : Edit) (r : RecordData) → Links d h → IsDatabase (lists_of e) → Applied d e edit r → Links e (pushed r h)
+pub pushed_linked : (d e : Places) (h : HistoryData) (edit : Edit) (r : RecordData) → Links d h → IsDatabase (lists_of e) → Applied d e edit r
+    → Links e (pushed r h)
 pushed_linked d e h edit r links sound applied = (recorded d e h edit r links sound applied).links
 
 pub opened_linked : (d e : Places) (h : HistoryData) → Links d h → Grown d e → Links e h
@@ -54,23 +55,28 @@ pub edited_full : (d : Places) (h : HistoryData) (e : Edit) → most_edits ≤ l
 unfolding edited
 edited_full d h e full =
     let s : Session = session_of d h in
-    cond-false (ltb (length s.done) most_edits) (accepted s e (effect (state s) e)) (refused HistoryFull) (le-ltb (length s.done) most_edits (omega (arith, done_len d h)))
+    cond-false (ltb (length s.done) most_edits) (accepted s e (effect (state s) e)) (refused HistoryFull)
+    (le-ltb (length s.done) most_edits (omega (arith, done_len d h)))
 
-with_room : (d : Places) (h : HistoryData) (e : Edit) → length h.past < most_edits → Links d h → edited (session_of d h) e ≡ accepted (session_of d h) e (effect (lists_of d) e)
+with_room : (d : Places) (h : HistoryData) (e : Edit) → length h.past < most_edits → Links d h
+    → edited (session_of d h) e ≡ accepted (session_of d h) e (effect (lists_of d) e)
 unfolding edited
 with_room d h e room links =
     let s : Session = session_of d h in
-    cond-true (ltb (length s.done) most_edits) (accepted s e (effect (state s) e)) (refused HistoryFull) (lt-ltb (length s.done) most_edits (omega (arith, done_len d h)))
+    cond-true (ltb (length s.done) most_edits) (accepted s e (effect (state s) e)) (refused HistoryFull)
+    (lt-ltb (length s.done) most_edits (omega (arith, done_len d h)))
     ∙ ap (λ (db : Lists). accepted s e (effect db e)) (state_is d h links)
 
-pub edited_refused : (d : Places) (h : HistoryData) (e : Edit) (f : EditFault) → length h.past < most_edits → Links d h → effect (lists_of d) e ≡ Err f → edited (session_of d h) e ≡ Err f
+pub edited_refused : (d : Places) (h : HistoryData) (e : Edit) (f : EditFault) → length h.past < most_edits → Links d h
+    → effect (lists_of d) e ≡ Err f → edited (session_of d h) e ≡ Err f
 edited_refused d h e f room links is = with_room d h e room links ∙ ap (accepted (session_of d h) e) is
 
 -- the session with these edits done
 abbrev doing : Lists → List Edit → Session
 doing base done = record { base = base; done = done; undone = [] }
 
-pub edited_accepted : (d d' : Places) (h : HistoryData) (e : Edit) (r : RecordData) → length h.past < most_edits → Links d h → Applied d d' e r → edited (session_of d h) e ≡ Ok (session_of d' (pushed r h))
+pub edited_accepted : (d d' : Places) (h : HistoryData) (e : Edit) (r : RecordData) → length h.past < most_edits → Links d h → Applied d d' e r
+    → edited (session_of d h) e ≡ Ok (session_of d' (pushed r h))
 edited_accepted d d' h e r room links applied =
     let base = (grown_stays d (undone_places d' r.swaps) h applied.before links).base in
     let before : List Edit = reverse (edits_of h.past) in

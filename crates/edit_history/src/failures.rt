@@ -11,8 +11,8 @@ ghost use Rattle.edit_script.specs.declared.edit.Edit.TheVariants.{FailLink, Fai
 ghost use Rattle.edit_history.specs.declared.fault.EditFault.TheVariants.{OutOfMemory};
 ghost use Rattle.edit_history.specs.Rules.{section_name};
 ghost use Rattle.edit_history.specs.Effect.{are_linked, link_fate, net_fate, router_fate};
-ghost use Rattle.edit_history.specs.Plans.{swap_for, place_swap, section_swaps};
-ghost use Rattle.edit_history.specs.Failing.{fate_by, shortened};
+ghost use Rattle.edit_history.specs.steps.Plans.{swap_for, place_swap, section_swaps};
+ghost use Rattle.edit_history.specs.steps.Failing.{fate_by, shortened};
 ghost use Rattle.edit_history.specs.Applied.{Planned, IsRefused};
 
 use crate::fault::EditFault;

@@ -8,7 +8,7 @@ ghost use Rattle.lsdb.specs.Lists.{is_section, has_key, lsas_of};
 ghost use Rattle.lsdb.specs.Places.{item_at, slot_at, lists_of, lsas_in, IsNamed};
 ghost use Rattle.edit_history.specs.declared.fault.EditFault.TheVariants.{NoArea, NoRouter};
 ghost use Rattle.edit_history.specs.Effect.{router_lsa_of, has_router, prefix_of, is_prefix, is_for};
-ghost use Rattle.edit_history.specs.Plans.{IsFirst, is_wanted, passes};
+ghost use Rattle.edit_history.specs.steps.Plans.{IsFirst, is_wanted, passes};
 
 use crate::fault::EditFault;
 use lsa_codec::{Addr, AreaId, EXTERNAL_LSA, Key, Lsa, NETWORK_LSA, Prefix, RouterId, SUMMARY_LSA};

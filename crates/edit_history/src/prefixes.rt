@@ -6,7 +6,7 @@ ghost use Rattle.lsdb.specs.Places.{item_at, head_or_none};
 ghost use Rattle.edit_script.specs.declared.edit.Edit.TheVariants.{Summary, AddSummary, AddExternal, DropExternal};
 ghost use Rattle.edit_history.specs.declared.fault.EditFault.TheVariants.{OutOfMemory};
 ghost use Rattle.edit_history.specs.Effect.{options_in, is_type2};
-ghost use Rattle.edit_history.specs.Plans.{Opens};
+ghost use Rattle.edit_history.specs.steps.Plans.{Opens};
 ghost use Rattle.edit_history.specs.Applied.{Planned, IsRefused};
 
 use crate::fault::EditFault;

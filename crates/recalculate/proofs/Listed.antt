@@ -19,7 +19,7 @@ use Rattle.area_graph.specs.Area.{is_live, is_router_lsa}
 use Rattle.area_graph.specs.Graphs.{AreOfArea}
 use Rattle.area_graph.specs.Rising.{rising}
 use Rattle.area_graph.proofs.GraphLemmas.{are_of_area}
-use Rattle.area_graph.proofs.Members.{Contains-from_In, In, In-filter, In-filter_map, In-flat_map, In-from_Contains, In-list_any, Some-same, filter-In, filter_map-In, flat_map-In}
+use Rattle.area_graph.proofs.MemberLemmas.{Contains-from_In, In, In-filter, In-filter_map, In-flat_map, In-from_Contains, In-list_any, Some-same, filter-In, filter_map-In, flat_map-In}
 use Rattle.area_routes.specs.Order.{router_cmp}
 use Rattle.area_routes.proofs.OrderLemmas.{router_exact, router_total}
 use Rattle.area_routes.proofs.RisingLemmas.{any_rising}

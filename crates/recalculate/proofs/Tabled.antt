@@ -3,7 +3,7 @@ use Rattle.std.proofs.Common.{◌≡◌, ℕ, ◌≤◌, true, List, [], ◌∷�
 use Rattle.std.specs.List.{slice_get}
 use Rattle.lsa_codec.specs.declared.address.RouterId.{RouterId}
 use Rattle.lsdb.specs.Lists.{AreaHead, Lists, areas_of}
-use Rattle.area_graph.proofs.Members.{In, In-filter}
+use Rattle.area_graph.proofs.MemberLemmas.{In, In-filter}
 use Rattle.area_routes.specs.Values.{AreaResultValue, InterValue, RouteValue}
 use Rattle.area_routes.specs.Intra.{intra_of}
 use Rattle.area_routes.specs.Inter.{inter_of}

@@ -14,5 +14,6 @@ pub returns-clause-edges : goal.returns-clause-edges
 returns-clause-edges g c =
     let e : DirectedEdge Vertex = record { from = c.args.from; to = c.args.to; cost = c.args.link.metric; link_data = c.args.link.link_data } in
     on_ok_weaker c.add-2.result
-    (Adds-both_ways e c.args.draft.now c.add.new.self c.add-2.new.self (sym c.is_network.ensures ∙ c.if-not-is_network.false) c.in_ok-add.ensures.vertices c.in_ok-add.ensures.edges)
+    (Adds-both_ways e c.args.draft.now c.add.new.self c.add-2.new.self
+    (sym c.is_network.ensures ∙ c.if-not-is_network.false) c.in_ok-add.ensures.vertices c.in_ok-add.ensures.edges)
     c.add-2.ensures.edges

@@ -9,10 +9,12 @@ returns-in_default-clause-edges g c = adds_no_target (is_tied c.args.ties.now) c
 
 pub returns-then-not-is_tied-clause-edges : goal.returns-then-not-is_tied-clause-edges
 returns-then-not-is_tied-clause-edges g c =
-    adds_not_tied (is_tied c.args.ties.now) c.args.from c.args.link c.args.draft.now c.in-Some.to (sym c.in-Some.ensures) (sym c.is_tied.ensures ∙ c.if-not-is_tied.true)
+    adds_not_tied (is_tied c.args.ties.now) c.args.from c.args.link c.args.draft.now c.in-Some.to (sym c.in-Some.ensures)
+    (sym c.is_tied.ensures ∙ c.if-not-is_tied.true)
 
 pub returns-clause-edges : goal.returns-clause-edges
 returns-clause-edges g c =
     on_ok_weaker c.add_both.result
-    (adds_tied (is_tied c.args.ties.now) c.args.from c.args.link c.args.draft.now c.add_both.new.draft c.in-Some.to (sym c.in-Some.ensures) (sym c.is_tied.ensures ∙ c.if-not-is_tied.false))
+    (adds_tied (is_tied c.args.ties.now) c.args.from c.args.link c.args.draft.now c.add_both.new.draft c.in-Some.to (sym c.in-Some.ensures)
+    (sym c.is_tied.ensures ∙ c.if-not-is_tied.false))
     c.add_both.ensures.edges
