@@ -1,6 +1,8 @@
 -- The records around the cursor, as they are seen from the vector.
-use Rattle.std.proofs.Common.{◌≡◌, ℕ, zero, suc, ◌<◌, List, [], ◌∷◌, ◌++◌, length, get_or, take, drop, refl, sym, ap, ◌∙◌, arith}
+use Rattle.std.proofs.Common.{◌≡◌, ℕ, zero, suc, ◌+◌, ◌-◌, ◌<◌, ◌≤◌, Bool, true, false, ◌||◌, List, [], ◌∷◌, ◌++◌, length, get_or, take, drop, refl, sym, ap, ◌∙◌, arith}
 use Rattle.std.specs.Prelude.{reverse, slice_set}
+use Rattle.std.specs.List.{list_any}
+use Rattle.std.proofs.Math.Seq.{take-append_seam, take-add}
 use Rattle.std.proofs.lemmas.List.{reverse-append, length-reverse, length-take, length-drop}
 use Rattle.edit_history.specs.Exchange.{RecordData}
 use Rattle.edit_history.specs.Journal.{HistoryData}
@@ -40,32 +42,43 @@ drop_set_next (x ∷ xs) (suc i) v = drop_set_next xs i v
 abbrev pub seen : List RecordData → ℕ → HistoryData
 seen items cursor = record { past = reverse (take cursor items); future = drop cursor items }
 
-past_is : (items : List RecordData) (i : ℕ) (r : RecordData) → i < length items → r ≡ get_or items i r → reverse (take (suc i) items) ≡ r ∷ reverse (take i items)
+past_is : (items : List RecordData) (i : ℕ) (r : RecordData) → i < length items → r ≡ get_or items i r
+    → reverse (take (suc i) items) ≡ r ∷ reverse (take i items)
 past_is items i r lt h = ap (reverse {A = RecordData}) (take_next items i r lt h) ∙ reverse-append (take i items) (r ∷ [])
 
 -- around the cursor suc i
-pub seen_behind : (items : List RecordData) (i j : ℕ) (r : RecordData) → j ≡ suc i → i < length items → r ≡ get_or items i r → seen items j ≡ record { past = r ∷ reverse (take i items); future = drop j items }
+pub seen_behind : (items : List RecordData) (i j : ℕ) (r : RecordData) → j ≡ suc i → i < length items → r ≡ get_or items i r
+    → seen items j ≡ record { past = r ∷ reverse (take i items); future = drop j items }
 seen_behind items i j r is lt h =
     ap (λ (k : ℕ). let s : HistoryData = record { past = reverse (take k items); future = drop j items } in s) is
     ∙ ap (λ (past : List RecordData). let s : HistoryData = record { past = past; future = drop j items } in s) (past_is items i r lt h)
 
 -- after a step back
-pub seen_after_back : (items : List RecordData) (i j : ℕ) (v : RecordData) → j ≡ suc i → i < length items → seen (slice_set items i v) i ≡ record { past = reverse (take i items); future = v ∷ drop j items }
+pub seen_after_back : (items : List RecordData) (i j : ℕ) (v : RecordData) → j ≡ suc i → i < length items
+    → seen (slice_set items i v) i ≡ record { past = reverse (take i items); future = v ∷ drop j items }
 seen_after_back items i j v is lt =
-    ap (λ (front : List RecordData). let s : HistoryData = record { past = reverse front; future = drop i (slice_set items i v) } in s) (take_set items i v)
-    ∙ ap (λ (future : List RecordData). let s : HistoryData = record { past = reverse (take i items); future = future } in s) (drop_set items i v lt ∙ ap (λ (k : ℕ). v ∷ drop k items) (sym is))
+    ap (λ (front : List RecordData). let s : HistoryData = record { past = reverse front; future = drop i (slice_set items i v) } in s)
+    (take_set items i v)
+    ∙ ap (λ (future : List RecordData). let s : HistoryData = record { past = reverse (take i items); future = future } in s)
+    (drop_set items i v lt ∙ ap (λ (k : ℕ). v ∷ drop k items) (sym is))
 
 -- around the cursor i, ahead
-pub seen_ahead : (items : List RecordData) (i : ℕ) (r : RecordData) → i < length items → r ≡ get_or items i r → seen items i ≡ record { past = reverse (take i items); future = r ∷ drop (suc i) items }
-seen_ahead items i r lt h = ap (λ (future : List RecordData). let s : HistoryData = record { past = reverse (take i items); future = future } in s) (drop_next items i r lt h)
+pub seen_ahead : (items : List RecordData) (i : ℕ) (r : RecordData) → i < length items → r ≡ get_or items i r
+    → seen items i ≡ record { past = reverse (take i items); future = r ∷ drop (suc i) items }
+seen_ahead items i r lt h =
+    ap (λ (future : List RecordData). let s : HistoryData = record { past = reverse (take i items); future = future } in s) (drop_next items i r lt h)
 
 -- after a step on
-pub seen_after_on : (items : List RecordData) (i j : ℕ) (v : RecordData) → j ≡ suc i → i < length items → seen (slice_set items i v) j ≡ record { past = v ∷ reverse (take i items); future = drop (suc i) items }
+pub seen_after_on : (items : List RecordData) (i j : ℕ) (v : RecordData) → j ≡ suc i → i < length items
+    → seen (slice_set items i v) j ≡ record { past = v ∷ reverse (take i items); future = drop (suc i) items }
 seen_after_on items i j v is lt =
     ap (λ (k : ℕ). seen (slice_set items i v) k) is
-    ∙ ap (λ (front : List RecordData). let s : HistoryData = record { past = reverse front; future = drop (suc i) (slice_set items i v) } in s) (take_set_next items i v lt)
-    ∙ ap (λ (past : List RecordData). let s : HistoryData = record { past = past; future = drop (suc i) (slice_set items i v) } in s) (reverse-append (take i items) (v ∷ []))
-    ∙ ap (λ (future : List RecordData). let s : HistoryData = record { past = v ∷ reverse (take i items); future = future } in s) (drop_set_next items i v)
+    ∙ ap (λ (front : List RecordData). let s : HistoryData = record { past = reverse front; future = drop (suc i) (slice_set items i v) } in s)
+    (take_set_next items i v lt)
+    ∙ ap (λ (past : List RecordData). let s : HistoryData = record { past = past; future = drop (suc i) (slice_set items i v) } in s)
+    (reverse-append (take i items) (v ∷ []))
+    ∙ ap (λ (future : List RecordData). let s : HistoryData = record { past = v ∷ reverse (take i items); future = future } in s)
+    (drop_set_next items i v)
 
 -- where there is a past, and a future
 pub past_len : (items : List RecordData) (j : ℕ) (h : HistoryData) → seen items j ≡ h → 0 < length h.past → 0 < j
@@ -77,3 +90,44 @@ pub future_len : (items : List RecordData) (i : ℕ) (h : HistoryData) → seen 
 future_len items i h view some =
     let e : length h.future ≡ length (drop i items) = ap (λ (k : HistoryData). length k.future) (sym view) in
     omega (arith, length-drop i items)
+
+-- ---- the records beside the cursor
+
+any_append : (p : RecordData → Bool) (xs : List RecordData) (r : RecordData) → list_any p (xs ++ r ∷ []) ≡ (p r || list_any p xs)
+any_append p [] r = refl
+any_append p (x ∷ xs) r = ap (λ (b : Bool). p x || b) (any_append p xs r) ∙ or_swapped (p x) (p r) (list_any p xs) where
+  or_swapped : (a b c : Bool) → (a || (b || c)) ≡ (b || (a || c))
+  or_swapped true true c = refl
+  or_swapped true false c = refl
+  or_swapped false b c = refl
+
+any_reverse : (p : RecordData → Bool) (xs : List RecordData) → list_any p (reverse xs) ≡ list_any p xs
+any_reverse p [] = refl
+any_reverse p (x ∷ xs) = ap (list_any p) (reverse-append (x ∷ []) xs) ∙ any_append p (reverse xs) x ∙ ap (λ (b : Bool). p x || b) (any_reverse p xs)
+
+-- the last records before the cursor are the first of the past
+pub any_behind : (p : RecordData → Bool) (items : List RecordData) (cursor count : ℕ) (h : HistoryData) → seen items cursor ≡ h
+    → cursor ≤ length items → count ≤ length h.past
+    → list_any p (take (cursor - (cursor - count)) (drop (cursor - count) items)) ≡ list_any p (take count h.past)
+any_behind p items cursor count h view le some =
+    let m = cursor - count in
+    let n = cursor - m in
+    let e : length h.past ≡ length (take cursor items) = ap (λ (k : HistoryData). length k.past) (sym view) ∙ length-reverse (take cursor items) in
+    let few : count ≤ cursor = omega (arith, length-take cursor items) in
+    let whole : m + n ≡ cursor = omega arith in
+    let last : List RecordData = take n (drop m items) in
+    let split : take cursor items ≡ take m items ++ last = ap (λ (k : ℕ). take k items) (sym whole) ∙ take-add m n items in
+    let size : length (reverse last) ≡ count = length-reverse last ∙ omega (arith, length-take n (drop m items), length-drop m items) in
+    sym (ap (λ (k : HistoryData). list_any p (take count k.past)) (sym view)
+    ∙ ap (λ (rs : List RecordData). list_any p (take count (reverse rs))) split
+    ∙ ap (λ (rs : List RecordData). list_any p (take count rs)) (reverse-append (take m items) last)
+    ∙ ap (λ (k : ℕ). list_any p (take k (reverse last ++ reverse (take m items)))) (sym size)
+    ∙ ap (list_any p) (take-append_seam (reverse last) (reverse (take m items)))
+    ∙ any_reverse p last)
+
+-- the records from the cursor on are the first of the future
+pub any_ahead : (p : RecordData → Bool) (items : List RecordData) (cursor count : ℕ) (h : HistoryData) → seen items cursor ≡ h
+    → list_any p (take (cursor + count - cursor) (drop cursor items)) ≡ list_any p (take count h.future)
+any_ahead p items cursor count h view =
+    ap (λ (k : ℕ). list_any p (take k (drop cursor items))) (let size : cursor + count - cursor ≡ count = omega arith in size)
+    ∙ ap (λ (k : HistoryData). list_any p (take count k.future)) view

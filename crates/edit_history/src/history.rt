@@ -1,10 +1,22 @@
 //! The records of a session's edits.
 
+ghost use Rattle.std.specs.Prelude.{◌≡◌};
+ghost use Rattle.std.specs.List.{list_any};
+ghost use Rattle.edit_history.specs.Exchange.{touches};
+
 use crate::fault::{RedoFault, UndoFault};
 use crate::record::{Record, replay, revert};
+use lsa_codec::AreaId;
 use lsdb::Database;
 use std::alloc::{AllocError, Allocator, Global};
 use std::marker::Model;
+
+/// Whether one of some records touches an area.
+fn any_touches<A: Allocator + Copy>(records: &[Record<A>], area: AreaId) -> bool
+    ensures { result ≡ list_any (touches area) records.now }
+{
+    records.iter().any(|record| record.touches(area))
+}
 
 /// The records of the edits that are done, and of those that were undone since.
 #[derive(Drop)]
@@ -27,7 +39,8 @@ impl<A: Allocator> Model for History<A> {
 impl<A: Allocator + Copy> History<A> {
     ghost use Rattle.std.specs.Prelude.{◌≡◌, ◌+◌, ◌<◌, ◌≤◌, [], ◌∷◌, length, OnOk, OnErr, IsOk, ◌↔◌};
     ghost use Rattle.edit_history.specs.Journal.{Links};
-    ghost use Rattle.edit_history.specs.Session.{session_of, moved_back, moved_on, StepsBack, StepsOn};
+    ghost use Rattle.edit_history.specs.Session.{session_of, moved_back, moved_on, undo_touches, redo_touches, StepsBack, StepsOn};
+    ghost use Rattle.lsdb.specs.Places.{Places};
 
     /// No edits. It takes no memory.
     pub fn new(alloc: A) -> History<A>
@@ -62,8 +75,8 @@ impl<A: Allocator + Copy> History<A> {
         ensures count { length self.old.lists.past ≡ length self.new.lists.past + 1 }
     {
         self.cursor -= 1;
-        let entry = &mut self.records[self.cursor];
-        revert(database, entry);
+        let record = &mut self.records[self.cursor];
+        revert(database, record);
     }
 
     /// One edit on.
@@ -74,8 +87,8 @@ impl<A: Allocator + Copy> History<A> {
         ensures session { StepsOn (session_of database.old self.old.lists) (session_of database.new self.new.lists) }
         ensures count { length self.old.lists.future ≡ length self.new.lists.future + 1 }
     {
-        let entry = &mut self.records[self.cursor];
-        replay(database, entry);
+        let record = &mut self.records[self.cursor];
+        replay(database, record);
         self.cursor += 1;
     }
 
@@ -143,6 +156,28 @@ impl<A: Allocator + Copy> History<A> {
         Ok(())
     }
 
+    /// Whether one of the last `count` done edits touches an area: rewrote, removed or added a
+    /// router-LSA or network-LSA of it. These make up the area's graph (RFC 2328, 16.1); where none
+    /// of the edits touches them, taking the edits back leaves them as they are. It takes no memory.
+    pub fn undo_touches(&self, count: usize, area: AreaId) -> bool
+        requires { count ≤ length self.now.lists.past }
+        ensures { (d : Places) → Links d self.now.lists
+            → result ≡ undo_touches count area (session_of d self.now.lists) }
+    {
+        any_touches(&self.records[self.cursor - count..self.cursor], area)
+    }
+
+    /// Whether one of the first `count` undone edits touches an area, as in
+    /// [`undo_touches`](History::undo_touches). Where none does, carrying them out again leaves the
+    /// area's router-LSAs and network-LSAs as they are. It takes no memory.
+    pub fn redo_touches(&self, count: usize, area: AreaId) -> bool
+        requires { count ≤ length self.now.lists.future }
+        ensures { (d : Places) → Links d self.now.lists
+            → result ≡ redo_touches count area (session_of d self.now.lists) }
+    {
+        any_touches(&self.records[self.cursor..self.cursor + count], area)
+    }
+
     /// Makes room for one record behind the done ones.
     ///
     /// # Errors
@@ -158,12 +193,12 @@ impl<A: Allocator + Copy> History<A> {
 
     /// Adds the record of an edit that was carried out, where room was reserved. The undone records
     /// go. It takes no memory.
-    pub fn push(&mut self, entry: Record<A>)
+    pub fn push(&mut self, latest: Record<A>)
         requires { 0 < self.old.room }
-        ensures { self.new.lists ≡ record { past = entry ∷ self.old.lists.past; future = [] } }
+        ensures { self.new.lists ≡ record { past = latest ∷ self.old.lists.past; future = [] } }
     {
         self.records.truncate(self.cursor);
-        let _ = self.records.push(entry);
+        let _ = self.records.push(latest);
         self.cursor += 1;
     }
 }

@@ -15,7 +15,7 @@ use crate::checksum::set_checksum;
 use crate::fault::MakeFault;
 use crate::field::{put_u16, put_u32, u16_at};
 use crate::link::{Link, LinkKind};
-use crate::lsa::Lsa;
+use crate::lsa::{LONGEST_LSA, Lsa};
 use crate::prefix::Prefix;
 use crate::views::RouterView;
 use std::alloc::{AllocError, Allocator};
@@ -151,7 +151,7 @@ impl<A: Allocator + Copy> Lsa<A> {
         ensures keeps { IfOk result (λ lsa. IsExtensionOf self.now lsa) }
         ensures fault { IfErr result (λ fault. IsMakeFaultOf fault (with_stub net metric self.now)) }
     {
-        if self.bytes().len() + 12 > 65535 {
+        if self.bytes().len() + 12 > LONGEST_LSA {
             return Err(MakeFault::TooLong);
         }
         let bytes = extended(alloc, self.bytes(), net, metric)?;

@@ -11,7 +11,8 @@ use Rattle.std.proofs.lemmas.List.Elements.{All-nil, All-cons, All-head, All-pus
 use Rattle.std.proofs.lemmas.List.Quantifiers.{all_pairs_push}
 use Rattle.lsdb.specs.declared.fault.DumpFault.{DumpFault}
 use Rattle.lsdb.specs.declared.fault.DumpFaultKind.TheVariants.{BadMagic, BadVersion, TrailingBytes, TooManyAreas, TooLarge}
-use Rattle.lsdb.specs.Lists.{AreaHead, SectionLsas, Lists, IsSection, IsBefore, is_as_wide, HasWideId, IsOrdinaryBackbone, AreHeads, IsDatabase, heads_of, head_size, lsas_size, section_size, size, largest_text}
+use Rattle.lsdb.specs.Limits.{longest_dump}
+use Rattle.lsdb.specs.Lists.{AreaHead, SectionLsas, Lists, IsSection, IsBefore, is_as_wide, HasWideId, IsOrdinaryBackbone, AreHeads, IsDatabase, heads_of, head_size, lsas_size, section_size, size}
 use Rattle.lsdb.specs.Text.{magic, version, head_text, section_text, area_count, text}
 use Rattle.lsdb.specs.Loading.{◌>>=◌, At, number_at, section_at, areas_from, magic_at, version_at, area_count_at, sections_at, ended, dump_at, loaded, beginning}
 use Rattle.lsdb.proofs.Middle.{all_at_mid, all_front, pairs_head, pairs_tail, pairs_without}
@@ -191,9 +192,9 @@ dump_takes bytes db fits e =
 pub loaded_takes : (bytes : List ℕ) (db : Lists) → IsBytes bytes → loaded bytes ≡ Ok db → IsDatabase db × (bytes ≡ text db)
 unfolding loaded
 loaded_takes bytes db fits e =
-    let a = guard_ok (ltb largest_text (length bytes)) (told (beginning bytes) TooLarge) (dump_at (beginning bytes)) db e in
+    let a = guard_ok (ltb longest_dump (length bytes)) (told (beginning bytes) TooLarge) (dump_at (beginning bytes)) db e in
     let spelled = dump_takes bytes db fits a.1 in
-    let small : length bytes ≤ largest_text = ltb-false _ _ a.0 in
+    let small : length bytes ≤ longest_dump = ltb-false _ _ a.0 in
     (record { heads = spelled.heads; sections = spelled.sections; small = omega (arith, small, ap length spelled.text, text_size db) }, spelled.text)
 
 -- ---- what is spelled is read again
@@ -302,7 +303,7 @@ database_again db good =
 pub loaded_again : (db : Lists) → IsDatabase db → loaded (text db) ≡ Ok db
 unfolding loaded
 loaded_again db good =
-    let small : ltb largest_text (length (text db)) ≡ false = le-ltb _ _ (omega (arith, good.small, text_size db)) in
+    let small : ltb longest_dump (length (text db)) ≡ false = le-ltb _ _ (omega (arith, good.small, text_size db)) in
     ap (λ (b : Bool). cond b (Err (told (beginning (text db)) TooLarge)) (dump_at (beginning (text db)))) small
     ∙ database_again db good
 

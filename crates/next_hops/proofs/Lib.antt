@@ -5,3 +5,4 @@ pub mod PathHops
 pub mod Handing
 pub mod HopsOf
 mod SmallHops
+pub mod Sharing

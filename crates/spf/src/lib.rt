@@ -6,6 +6,7 @@
 #![tactic(auto)]
 
 mod dijkstra;
+mod distances;
 mod fault;
 mod laws;
 mod meter;

@@ -1,0 +1,287 @@
+-- An edit that touches no router-LSA or network-LSA of an area leaves those of the area as they are.
+use Rattle.std.proofs.Common.{◌≡◌, ℕ, Bool, true, false, cond, ◌&&◌, ◌||◌, List, [], ◌∷◌, ◌++◌, length, Option, Some, None, Result, Ok, Err, refl, sym, ap, ◌∙◌, subst, append-nil}
+use Rattle.std.specs.Prelude.{All, IfOk, filter, map, if◌then◌else◌, ◌==◌}
+use Rattle.std.specs.List.{list_any, find, filter_map, cons_option}
+use Rattle.std.proofs.lemmas.Bool.{or_parts, and_parts, eqb-true}
+use Rattle.std.proofs.lemmas.List.Folds.{list_any-append}
+use Rattle.std.proofs.lemmas.List.Elements.{filter-append, All-head, All-tail}
+use Rattle.lsa_codec.specs.declared.address.Addr.{Addr}
+use Rattle.lsa_codec.specs.declared.address.AreaId.{AreaId}
+use Rattle.lsa_codec.specs.declared.address.RouterId.{RouterId}
+use Rattle.lsa_codec.specs.declared.key.Key.{Key}
+use Rattle.lsa_codec.specs.declared.fault.MakeFault.{MakeFault}
+use Rattle.lsa_codec.specs.Accepted.{IsAccepted}
+use Rattle.lsa_codec.specs.Fields.{kind_of, advertising_router_of}
+use Rattle.lsa_codec.specs.Key.{key_of, router_key}
+use Rattle.lsa_codec.specs.Prefix.{Net}
+use Rattle.lsa_codec.specs.Views.{has_metric}
+use Rattle.lsa_codec.specs.Making.{with_cost, without_link, with_stub}
+use Rattle.lsa_codec.specs.Originating.{with_metric, new_summary, new_external}
+use Rattle.lsa_codec.proofs.LsaLemmas.{metric_rewritten}
+use Rattle.lsdb.specs.declared.section.Section.{Section}
+use Rattle.lsdb.specs.declared.section.Section.TheVariants.{Area, AsWide}
+use Rattle.lsdb.specs.Lists.{AreaHead, SectionLsas, Lists, IsDatabase, IsSection, is_head_of, is_section, has_key, lsas_or_none, lsas_of}
+use Rattle.edit_script.specs.declared.edit.Edit.{Edit}
+use Rattle.edit_script.specs.declared.edit.Edit.TheVariants.{Cost, DropLink, FailLink, FailNet, FailRouter, AddStub, Summary, AddSummary, AddExternal, DropExternal}
+use Rattle.edit_history.specs.declared.fault.EditFault.{EditFault}
+use Rattle.edit_history.specs.declared.fault.EditFault.TheVariants.{NoArea, NoRouter, NoLink, SameRouter, NoNetwork, NoSummary, NoExternal, Full}
+use Rattle.edit_history.specs.Rules.{Fate, stays, removed, rewritten, Fates, Rule, NewLsa, Change, by_fates, one_lsa, within, adding, outcome, change_of, addition, with_added, section_name, section_after, section_changes, lists_after, changes_by}
+use Rattle.edit_history.specs.Effect.{◌>>=◌, or_refused, made, area_of, router_lsa_in, router_lsa_of, has_router, stub_octets, is_dump_full, remaking, is_for, is_network, are_linked, options_in, is_type2, room_for, added, cut, link_fate, net_fate, router_fate, rule_of, effect, changes, is_graph_kind, touched, touched_by, edit_touches, graph_lsas}
+use Rattle.edit_history.proofs.Keys.{same_key_true, found_passes}
+
+abbrev is_graph_lsa : List ℕ → Bool
+is_graph_lsa lsa = is_graph_kind (kind_of lsa)
+
+abbrev graph_of : List (List ℕ) → List (List ℕ)
+graph_of lsas = filter is_graph_lsa lsas
+
+-- ---- fates that make no LSA one of the graph
+
+abbrev IsSpared : Fate → Type 0
+IsSpared stays = Unit {0}
+IsSpared removed = Unit {0}
+IsSpared (rewritten new) = is_graph_lsa new ≡ false
+
+-- an LSA that is not of the graph does not become one of it
+abbrev Spares : Rule → Type 0
+Spares rule = (head : Option AreaHead) (lsa : List ℕ) → is_graph_lsa lsa ≡ false → IsSpared (rule.fates head lsa)
+
+spared_if : (b : Bool) (f g : Fate) → (b ≡ true → IsSpared f) → (b ≡ false → IsSpared g) → IsSpared (if b then f else g)
+spared_if true f g one two = one refl
+spared_if false f g one two = two refl
+
+no_router_lsa : (lsa : List ℕ) → is_graph_lsa lsa ≡ false → kind_of lsa ≡ 1 → ⊥
+no_router_lsa lsa other is = let of_graph : is_graph_lsa lsa ≡ true = ap is_graph_kind is in cc
+
+no_router_key : (router : RouterId) (lsa : List ℕ) → is_graph_lsa lsa ≡ false → has_key (router_key router) lsa ≡ true → ⊥
+no_router_key router lsa other has = no_router_lsa lsa other (ap (λ (k : Key). k.kind) (same_key_true (key_of lsa) (router_key router) has))
+
+router_lsa_spares : (name : Section) (router : RouterId) (fate : Fate) → Spares (one_lsa name (router_key router) fate)
+router_lsa_spares name router fate head lsa other =
+    spared_if (is_head_of name head) _ _ (λ _. spared_if (has_key (router_key router) lsa) _ _ (λ has. absurd (no_router_key router lsa other has))
+    (λ _. tt)) (λ _. tt)
+
+one_spares : (name : Section) (key : Key) (fate : Fate) → IsSpared fate → Spares (one_lsa name key fate)
+one_spares name key fate spared head lsa other =
+    spared_if (is_head_of name head) _ _ (λ _. spared_if (has_key key lsa) _ _ (λ _. spared) (λ _. tt)) (λ _. tt)
+
+links_spare : (area : AreaId) (router neighbor : RouterId) → Spares (within (Area area) (link_fate router neighbor))
+links_spare area router neighbor head lsa other =
+    spared_if (is_head_of (Area area) head) _ _
+    (λ _. spared_if (has_key (router_key router) lsa) _ _ (λ has. absurd (no_router_key router lsa other has))
+    (λ _. spared_if (has_key (router_key neighbor) lsa) _ _ (λ has. absurd (no_router_key neighbor lsa other has)) (λ _. tt)))
+    (λ _. tt)
+
+network_spares : (area : AreaId) (network : Addr) → Spares (within (Area area) (net_fate network))
+network_spares area network head lsa other =
+    spared_if (is_head_of (Area area) head) _ _
+    (λ _. spared_if (is_network network lsa) _ _ (λ _. tt)
+    (λ _. spared_if (kind_of lsa == 1) _ _ (λ is. absurd (no_router_lsa lsa other (eqb-true _ _ is))) (λ _. tt)))
+    (λ _. tt)
+
+router_spares : (router : RouterId) → Spares (by_fates (λ head. router_fate router))
+router_spares router head lsa other = spared_if (advertising_router_of lsa == router.0) _ _ (λ _. tt) (λ _. tt)
+
+-- ---- the rules of edits
+
+record IfRuled (r : Result Rule EditFault) : Type 0 where
+  spares : IfOk r Spares
+
+ruled : (rule : Rule) → Spares rule → IfRuled (let r : Result Rule EditFault = Ok rule in r)
+ruled rule spares = record { spares = spares }
+
+refused : (fault : EditFault) → IfRuled (let r : Result Rule EditFault = Err fault in r)
+refused fault = record { spares = tt }
+
+if_bound : {A : Type 0} (r : Result A EditFault) (f : A → Result Rule EditFault) → ((x : A) → r ≡ Ok x → IfRuled (f x)) → IfRuled (r >>= f)
+if_bound {A} (Ok x) f each = each x refl
+if_bound {A} (Err fault) f each = refused fault
+
+if_either : (b : Bool) (r q : Result Rule EditFault) → IfRuled r → IfRuled q → IfRuled (if b then r else q)
+if_either true r q one two = one
+if_either false r q one two = two
+
+was_found : {X : Type 0} (fault : EditFault) (o : Option X) (x : X) → or_refused fault o ≡ Ok x → o ≡ Some x
+was_found {X} fault None x is = absurd cc
+was_found {X} fault (Some y) x is = let same : y ≡ x = cc in ap (λ (z : X). let o : Option X = Some z in o) same
+
+holds_of_found : {X : Type 0} (P : X → Type 0) (test : X → Bool) (xs : List X) (x : X) → All P xs → find test xs ≡ Some x → P x
+holds_of_found {X} P test [] x all is = absurd cc
+holds_of_found {X} P test (y ∷ ys) x all is = by_test (test y) is (λ more. holds_of_found P test ys x (All-tail P y ys all) more) where
+  by_test : (b : Bool) → cond b (Some y) (find test ys) ≡ Some x → (find test ys ≡ Some x → P x) → P x
+  by_test true e rest = let same : y ≡ x = cc in subst P same (All-head P y ys all)
+  by_test false e rest = rest e
+
+-- a summary-LSA with another metric is not of the graph
+summary_spared : (section : SectionLsas) (router : RouterId) (prefix : Net) (metric : ℕ) (lsa : List ℕ) → IsSection section
+    → find (is_for 3 router prefix) section.lsas ≡ Some lsa → is_graph_lsa (with_metric metric lsa) ≡ false
+summary_spared section router prefix metric lsa sound found =
+    let kind : kind_of lsa ≡ 3 = eqb-true _ _ (and_parts _ _ (found_passes (is_for 3 router prefix) section.lsas lsa found)).0 in
+    let made = metric_rewritten metric lsa (holds_of_found IsAccepted (is_for 3 router prefix) section.lsas lsa sound.accepted found)
+    (ap has_metric kind) in
+    ap (λ (k : Key). is_graph_kind k.kind) made.key ∙ ap is_graph_kind kind
+
+added_spares : (db : Lists) (name : Section) (new : List ℕ) → IfRuled (added db name new)
+added_spares db name new =
+    if_bound (room_for db name (key_of new) (length new)) (λ room. let r : Result Rule EditFault = Ok (adding name new) in r)
+    (λ room _. ruled (adding name new) (λ head lsa other. tt))
+
+abbrev remade : AreaId → RouterId → List ℕ → Result Rule EditFault
+remade area router new = Ok (one_lsa (Area area) (router_key router) (rewritten new))
+
+remade_spares : (area : AreaId) (router : RouterId) (new : List ℕ) → IfRuled (remade area router new)
+remade_spares area router new = ruled _ (router_lsa_spares (Area area) router (rewritten new))
+
+remaking_spares : (db : Lists) (area : AreaId) (router : RouterId) (make : List ℕ → Result (List ℕ) MakeFault)
+    → IfRuled (remaking db area router make)
+remaking_spares db area router make =
+    if_bound (router_lsa_of db area router) (λ lsa. made (make lsa) >>= remade area router)
+    (λ lsa _. if_bound (made (make lsa)) (remade area router) (λ new _. remade_spares area router new))
+
+rule_spares : (db : Lists) (edit : Edit) → IsDatabase db → IfRuled (rule_of db edit)
+unfolding rule_of
+rule_spares db (Cost area router link metric) sound = remaking_spares db area router (with_cost link metric)
+rule_spares db (DropLink area router link) sound = remaking_spares db area router (without_link link)
+rule_spares db (FailLink area router neighbor) sound =
+    let two : SectionLsas → List ℕ → List ℕ → Result Rule EditFault =
+    λ section lsa other. if are_linked router neighbor lsa other then Ok (within (Area area) (link_fate router neighbor)) else Err NoLink in
+    let one : SectionLsas → List ℕ → Result Rule EditFault = λ section lsa. router_lsa_in section neighbor >>= two section lsa in
+    let apart : SectionLsas → Result Rule EditFault = λ section. router_lsa_in section router >>= one section in
+    if_bound (area_of db area) (λ section. if router.0 == neighbor.0 then Err SameRouter else apart section) (λ section _.
+    if_either (router.0 == neighbor.0) (Err SameRouter) (apart section) (refused SameRouter)
+    (if_bound (router_lsa_in section router) (one section) (λ lsa _.
+    if_bound (router_lsa_in section neighbor) (two section lsa) (λ other _.
+    if_either (are_linked router neighbor lsa other) (Ok (within (Area area) (link_fate router neighbor))) (Err NoLink)
+    (ruled _ (links_spare area router neighbor)) (refused NoLink)))))
+rule_spares db (FailNet area network) sound =
+    let rule : Result Rule EditFault = Ok (within (Area area) (net_fate network)) in
+    if_bound (area_of db area) (λ section. or_refused NoNetwork (find (is_network network) section.lsas) >>= λ lsa. rule) (λ section _.
+    if_bound (or_refused NoNetwork (find (is_network network) section.lsas)) (λ lsa. rule) (λ lsa _. ruled _ (network_spares area network)))
+rule_spares db (FailRouter router) sound =
+    if_either (has_router router db) (Ok (by_fates (λ head. router_fate router))) (Err NoRouter) (ruled _ (router_spares router)) (refused NoRouter)
+rule_spares db (AddStub area router prefix metric) sound =
+    let stubbed : List ℕ → Result Rule EditFault = λ new. if is_dump_full db stub_octets then Err Full else remade area router new in
+    if_bound (router_lsa_of db area router) (λ lsa. made (with_stub prefix metric lsa) >>= stubbed) (λ lsa _.
+    if_bound (made (with_stub prefix metric lsa)) stubbed (λ new _.
+    if_either (is_dump_full db stub_octets) (Err Full) (remade area router new) (refused Full) (remade_spares area router new)))
+rule_spares db (Summary area router prefix metric) sound =
+    let other : List ℕ → Result Rule EditFault = λ lsa. Ok (one_lsa (Area area) (key_of lsa) (rewritten (with_metric metric lsa))) in
+    if_bound (area_of db area) (λ section. or_refused NoSummary (find (is_for 3 router prefix) section.lsas) >>= other) (λ section is.
+    if_bound (or_refused NoSummary (find (is_for 3 router prefix) section.lsas)) other (λ lsa found.
+    ruled _ (one_spares (Area area) (key_of lsa) (rewritten (with_metric metric lsa))
+    (summary_spared section router prefix metric lsa
+    (holds_of_found IsSection (is_section (Area area)) db section sound.sections (was_found NoArea (find (is_section (Area area)) db) section is))
+    (was_found NoSummary (find (is_for 3 router prefix) section.lsas) lsa found)))))
+rule_spares db (AddSummary area router prefix metric) sound =
+    let new : SectionLsas → Result Rule EditFault = λ section. added db (Area area) (new_summary (options_in section.area) router prefix metric) in
+    if_bound (area_of db area) (λ section. router_lsa_in section router >>= λ lsa. new section) (λ section _.
+    if_bound (router_lsa_in section router) (λ lsa. new section)
+    (λ lsa _. added_spares db (Area area) (new_summary (options_in section.area) router prefix metric)))
+rule_spares db (AddExternal router prefix metric_type metric forward tag) sound =
+    let new : List ℕ = new_external router prefix (is_type2 metric_type) metric forward tag in
+    if_either (has_router router db) (added db AsWide new) (Err NoRouter) (added_spares db AsWide new) (refused NoRouter)
+rule_spares db (DropExternal router prefix) sound =
+    let gone : List ℕ → Result Rule EditFault = λ lsa. Ok (one_lsa AsWide (key_of lsa) removed) in
+    if_bound (or_refused NoExternal (find (is_for 5 router prefix) (lsas_of AsWide db))) gone
+    (λ lsa _. ruled _ (one_spares AsWide (key_of lsa) removed tt))
+
+-- ---- a section of the area
+
+-- an LSA is not of the graph, where its change touches no graph
+not_of_graph : (b : Bool) (kind : ℕ) → b ≡ true → (b && is_graph_kind kind) ≡ false → is_graph_kind kind ≡ false
+not_of_graph true kind is untouched = untouched
+not_of_graph false kind is untouched = absurd cc
+
+dropped : (lsa : List ℕ) (rest lsas : List (List ℕ)) → is_graph_lsa lsa ≡ false → graph_of rest ≡ graph_of lsas
+    → graph_of rest ≡ graph_of (lsa ∷ lsas)
+dropped lsa rest lsas other same = same ∙ sym (ap (λ (b : Bool). cond b (lsa ∷ graph_of lsas) (graph_of lsas)) other)
+
+kept_graph : (fate : List ℕ → Fate) (id : ℕ) (area : AreaId) (lsas : List (List ℕ))
+    → ((lsa : List ℕ) → is_graph_lsa lsa ≡ false → IsSpared (fate lsa)) → (id == area.0) ≡ true
+    → touched area (filter_map (λ lsa. change_of (Area (record { 0 = id })) lsa (fate lsa)) lsas) ≡ false
+    → graph_of (filter_map (λ lsa. outcome (fate lsa) lsa) lsas) ≡ graph_of lsas
+kept_graph fate id area [] spares here untouched = refl
+kept_graph fate id area (x ∷ xs) spares here untouched =
+    by_fate (fate x) (spares x) untouched (λ rest. kept_graph fate id area xs spares here rest) where
+      rest_after : List (List ℕ)
+      rest_after = filter_map (λ lsa. outcome (fate lsa) lsa) xs
+
+      rest_changes : List Change
+      rest_changes = filter_map (λ lsa. change_of (Area (record { 0 = id })) lsa (fate lsa)) xs
+
+      by_fate : (f : Fate) → (is_graph_lsa x ≡ false → IsSpared f)
+          → touched area (cons_option (change_of (Area (record { 0 = id })) x f) rest_changes) ≡ false
+          → (touched area rest_changes ≡ false → graph_of rest_after ≡ graph_of xs) → graph_of (cons_option (outcome f x) rest_after) ≡ graph_of (x ∷ xs)
+      by_fate stays spared un rest = ap (λ (ys : List (List ℕ)). cond (is_graph_lsa x) (x ∷ ys) ys) (rest un)
+      by_fate removed spared un rest =
+          let parts = or_parts _ _ un in
+          dropped x rest_after xs (not_of_graph (id == area.0) (kind_of x) here parts.0) (rest parts.1)
+      by_fate (rewritten new) spared un rest =
+          let parts = or_parts _ _ un in
+          let other : is_graph_lsa x ≡ false = not_of_graph (id == area.0) (kind_of x) here parts.0 in
+          sym (dropped new rest_after rest_after (spared other) refl) ∙ dropped x rest_after xs other (rest parts.1)
+
+section_graph : (rule : Rule) (area : AreaId) (s : SectionLsas) → Spares rule → is_section (Area area) s ≡ true
+    → touched area (section_changes rule s) ≡ false
+    → graph_of (section_after rule s).lsas ≡ graph_of s.lsas
+section_graph rule area s spares named untouched = by_head s.area s.lsas named (by_added rule.added) untouched where
+  by_head : (head : Option AreaHead) (lsas : List (List ℕ)) → is_head_of (Area area) head ≡ true
+      → ((head : AreaHead) (lsas : List (List ℕ)) → (head.id == area.0) ≡ true
+      → touched area (with_added (addition (section_name (Some head))) rule.added (Some head)
+      (filter_map (λ lsa. change_of (section_name (Some head)) lsa (rule.fates (Some head) lsa)) lsas)) ≡ false
+      → graph_of (with_added (λ lsa. lsa) rule.added (Some head) (filter_map (λ lsa. outcome (rule.fates (Some head) lsa) lsa) lsas)) ≡ graph_of lsas)
+      → touched area (with_added (addition (section_name head)) rule.added head
+      (filter_map (λ lsa. change_of (section_name head) lsa (rule.fates head lsa)) lsas)) ≡ false
+      → graph_of (with_added (λ lsa. lsa) rule.added head (filter_map (λ lsa. outcome (rule.fates head lsa) lsa) lsas)) ≡ graph_of lsas
+  by_head None lsas named each un = absurd cc
+  by_head (Some head) lsas named each un = each head lsas named un
+
+  by_added : (o : Option NewLsa) (head : AreaHead) (lsas : List (List ℕ)) → (head.id == area.0) ≡ true
+      → touched area (with_added (addition (section_name (Some head))) o (Some head)
+      (filter_map (λ lsa. change_of (section_name (Some head)) lsa (rule.fates (Some head) lsa)) lsas)) ≡ false
+      → graph_of (with_added (λ lsa. lsa) o (Some head) (filter_map (λ lsa. outcome (rule.fates (Some head) lsa) lsa) lsas)) ≡ graph_of lsas
+  by_added None head lsas here un = kept_graph (rule.fates (Some head)) head.id area lsas (spares (Some head)) here un
+  by_added (Some new) head lsas here un = by_section (is_head_of new.section (Some head)) un where
+    after : List (List ℕ)
+    after = filter_map (λ lsa. outcome (rule.fates (Some head) lsa) lsa) lsas
+
+    cs : List Change
+    cs = filter_map (λ lsa. change_of (section_name (Some head)) lsa (rule.fates (Some head) lsa)) lsas
+
+    by_section : (b : Bool) → touched area (if b then cs ++ addition (section_name (Some head)) new.lsa ∷ [] else cs) ≡ false
+        → graph_of (if b then after ++ new.lsa ∷ [] else after) ≡ graph_of lsas
+    by_section false rest = kept_graph (rule.fates (Some head)) head.id area lsas (spares (Some head)) here rest
+    by_section true both =
+        let parts = or_parts _ _ (sym (list_any-append _ cs (addition (section_name (Some head)) new.lsa ∷ [])) ∙ both) in
+        let last = or_parts _ _ parts.1 in
+        let other : is_graph_lsa new.lsa ≡ false = not_of_graph (head.id == area.0) (kind_of new.lsa) here last.0 in
+        filter-append is_graph_lsa after (new.lsa ∷ [])
+        ∙ ap (λ (ys : List (List ℕ)). graph_of after ++ ys) (sym (dropped new.lsa [] [] other refl))
+        ∙ append-nil (graph_of after)
+        ∙ kept_graph (rule.fates (Some head)) head.id area lsas (spares (Some head)) here parts.0
+
+-- ---- a whole database
+
+ruled_graph : (rule : Rule) (area : AreaId) (db : Lists) → Spares rule → touched area (changes_by rule db) ≡ false
+    → graph_lsas area (lists_after rule db) ≡ graph_lsas area db
+ruled_graph rule area [] spares untouched = refl
+ruled_graph rule area (s ∷ ss) spares untouched = by_name (is_section (Area area) s) refl (λ rest. ruled_graph rule area ss spares rest) where
+  parts : (touched area (section_changes rule s) ≡ false) × (touched area (changes_by rule ss) ≡ false)
+  parts = or_parts _ _ (sym (list_any-append _ (section_changes rule s) (changes_by rule ss)) ∙ untouched)
+
+  by_name : (b : Bool) → is_section (Area area) s ≡ b
+      → (touched area (changes_by rule ss) ≡ false → graph_lsas area (lists_after rule ss) ≡ graph_lsas area ss)
+      → graph_of (lsas_or_none (cond b (Some (section_after rule s)) (find (is_section (Area area)) (lists_after rule ss)))) ≡ graph_of
+      (lsas_or_none (cond b (Some s) (find (is_section (Area area)) ss)))
+  by_name true named rest = section_graph rule area s spares named parts.0
+  by_name false named rest = rest parts.1
+
+pub untouched_stay : (db after : Lists) (edit : Edit) (area : AreaId) → IsDatabase db → effect db edit ≡ Ok after → edit_touches area db edit ≡ false
+    → graph_lsas area after ≡ graph_lsas area db
+untouched_stay db after edit area sound leads untouched = by_rule (rule_of db edit) (rule_spares db edit sound) leads untouched where
+  by_rule : (r : Result Rule EditFault) → IfRuled r → (r >>= λ rule. Ok (lists_after rule db)) ≡ Ok after
+      → touched_by area (r >>= λ rule. Ok (changes_by rule db)) ≡ false → graph_lsas area after ≡ graph_lsas area db
+  by_rule (Ok rule) ruled is un =
+      let same : lists_after rule db ≡ after = cc in
+      ap (graph_lsas area) (sym same) ∙ ruled_graph rule area db ruled.spares un
+  by_rule (Err fault) ruled is un = absurd cc
