@@ -23,7 +23,7 @@ use Rattle.area_graph.proofs.JoinLemmas.{Contains-area_edges}
 use Rattle.area_graph.proofs.AllPathsLemmas.{IsDistance-distance_of}
 use Rattle.next_hops.specs.declared.hop.Hop.{Hop}
 use Rattle.next_hops.specs.FirstHops.{NothingFree, IsHopTo, hops_of}
-use Rattle.next_hops.proofs.HopsOf.{Contains-hops_of}
+use Rattle.next_hops.proofs.HopLemmas.{Contains-hops_of}
 use Rattle.area_routes.specs.Reached.{ReachedValue, reached_by, reached_from}
 use Rattle.area_routes.specs.OverAllPaths.{IsAreaEdge, AreOverAllPaths}
 
