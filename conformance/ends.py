@@ -15,7 +15,7 @@ SAMPLE = bytes.fromhex(
 )
 
 COST = b"cost 0.0.0.0 1.1.1.1 1 65535\n"
-INFO = b"@0 info areas 1 lsas 2 as 0 vbits 0 vlinks 0 done 0 undone 0\n"
+INFO = b"@0 info areas 1 lsas 2 as 0 vbits 0 vlinks 0 done 1 undone 0\n"
 USAGE = "\n\nUsage: ospf-plan [OPTIONS]\n\nFor more information, try '--help'.\n"
 
 
@@ -45,7 +45,7 @@ def edited_sample() -> bytes:
 ENDS = [
     # ---- 0: done
     End("no option, an empty script", "", 0),
-    End("standard input as script", "", 0, replies=b"@0 ok\n" + INFO.replace(b"done 0", b"done 1"), stdin=COST + b"info"),
+    End("standard input as script", "", 0, replies=b"@0 ok\n" + INFO, stdin=COST + b"info"),
     End("a dump, a script and --out", "--dump FOLDER/dump --script FOLDER/script --out FOLDER/out", 0,
         replies=b"@0 ok\n", out=edited_sample()),
     End("the dump's own file as --out", "--dump FOLDER/out --out FOLDER/out", 0, replies=b"@0 ok\n", stdin=COST,
@@ -81,7 +81,7 @@ ENDS = [
     End("standard output closed", "--out FOLDER/out", 4, "file: Write\n", stdin=COST, stdout="closed"),
     End("a pipe that nobody reads", "--out FOLDER/out", 4, "file: Write\n", stdin=COST, stdout="unread"),
     # ---- 5: want of memory
-    End("a large dump and little memory", "--dump FOLDER/large", 5, "memory: OutOfMemory\n", memory=48 << 20),
+    End("a large dump and little memory", "--dump FOLDER/large", 5, "memory: OutOfMemory\n", memory=16 << 20),
 ]
 
 

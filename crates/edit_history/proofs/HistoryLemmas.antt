@@ -1,4 +1,4 @@
--- For callers of a history: how it is linked to its database, and the session that it shows.
+-- For callers of a history: how it is linked to its database, the session that it shows, and the areas that its edits touch.
 use Rattle.std.proofs.Common.{◌≡◌, ◌<◌, ◌≤◌, List, [], ◌∷◌, ◌++◌, length, Result, Ok, Err, sym, ap, ◌∙◌, arith, ltb}
 use Rattle.std.specs.Prelude.{reverse}
 use Rattle.std.proofs.lemmas.Bool.{lt-ltb, le-ltb, cond-true, cond-false}
@@ -13,13 +13,14 @@ use Rattle.edit_history.specs.Grown.{Grown}
 use Rattle.edit_history.specs.Applied.{Applied}
 use Rattle.edit_history.specs.Journal.{HistoryData, Links, origin}
 use Rattle.edit_history.specs.Session.{Session, session_of, edits_of, edited, accepted, state, most_edits}
-use Rattle.edit_history.proofs.Growing.{grown_stays, recorded}
-use Rattle.edit_history.proofs.Linked.{reverse_cons}
+use Rattle.edit_history.proofs.Growing.{grown_stays}
 pub use Rattle.edit_history.proofs.Folding.{done_accepted, undone_accepted}
-pub use Rattle.edit_history.proofs.Growing.{state_is}
-pub use Rattle.edit_history.proofs.Linked.{done_len, undone_len}
+pub use Rattle.edit_history.proofs.Growing.{state_is, recorded}
+pub use Rattle.edit_history.proofs.Keys.{other_key, same_key_true}
+pub use Rattle.edit_history.proofs.Linked.{done_len, undone_len, reverse_cons}
+pub use Rattle.edit_history.proofs.Returning.{edits_back, back_and_on, on_and_back, seam_drop, seam_take}
 pub use Rattle.edit_history.proofs.Sparing.{untouched_stay}
-pub use Rattle.edit_history.proofs.Touching.{applied_touches, undo_spares, redo_spares}
+pub use Rattle.edit_history.proofs.Touching.{applied_touches, undo_is, undo_spares, redo_is, redo_spares}
 
 -- ---- how it is linked
 

@@ -20,7 +20,7 @@ pub mod OneLsa
 pub mod LinkEdits
 pub mod StubEdits
 pub mod PrefixEdits
-pub mod UndoneAndRedone
+pub mod Returning
 pub mod RecordChanges
 pub mod Folding
 pub mod Sparing

@@ -19,7 +19,7 @@ use Rattle.edit_history.specs.Session.{Session, session_of, edits_of, state, aft
 use Rattle.edit_history.proofs.Exchanged.{undone_sound, done_sound}
 use Rattle.edit_history.proofs.Growing.{state_back, state_is}
 use Rattle.edit_history.proofs.Linked.{reverse_cons}
-use Rattle.edit_history.proofs.UndoneAndRedone.{seam_take, seam_drop}
+use Rattle.edit_history.proofs.Returning.{seam_take, seam_drop}
 use Rattle.edit_history.proofs.Sparing.{untouched_stay}
 use Rattle.edit_history.proofs.RecordChanges.{touched_told, touched_done}
 

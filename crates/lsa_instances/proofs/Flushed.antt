@@ -81,27 +81,32 @@ module _ {A : Type 0} where
         → not (began_after (last_with flush x) y) ≡ (is_stopped flush y || not (began_after x.seen y))
     same_lsa None y e = refl
     same_lsa (Some f) y e =
-        let at_true : is_eq (place_cmp f.place (place_of x)) ≡ true → not (began_after (last_with (Some f) x) y) ≡ (is_stopped (Some f) y || not (began_after x.seen y)) =
+        let Same : Type 0 = not (began_after (last_with (Some f) x) y) ≡ (is_stopped (Some f) y || not (began_after x.seen y)) in
+        let at_true : is_eq (place_cmp f.place (place_of x)) ≡ true → Same =
         λ (t : is_eq (place_cmp f.place (place_of x)) ≡ true).
         let u : is_eq (place_cmp f.place (place_of y)) ≡ true = ap (λ q. is_eq (place_cmp f.place q)) (sym e) ∙ t in
         rw (t, u) (after_latest f.last x.seen y.seen (age_of y.lsa)) in
-        let at_false : is_eq (place_cmp f.place (place_of x)) ≡ false → not (began_after (last_with (Some f) x) y) ≡ (is_stopped (Some f) y || not (began_after x.seen y)) =
+        let at_false : is_eq (place_cmp f.place (place_of x)) ≡ false → Same =
         λ (t : is_eq (place_cmp f.place (place_of x)) ≡ false).
         let u : is_eq (place_cmp f.place (place_of y)) ≡ false = ap (λ q. is_eq (place_cmp f.place q)) (sym e) ∙ t in
         rw (t, u) refl in
-        elim (cases_Bool (is_eq (place_cmp f.place (place_of x)))) as (λ _. not (began_after (last_with (Some f) x) y) ≡ (is_stopped (Some f) y || not (began_after x.seen y)))
+        elim (cases_Bool (is_eq (place_cmp f.place (place_of x)))) as (λ _. Same)
         [ inl t ↦ at_true t | inr t ↦ at_false t ]
 
-    flushing : (y : Sighting A) → is_at_max_age x.lsa ≡ true → is_eq (place_cmp (place_of x) (place_of y)) ≡ true → is_gt (instance_cmp y.lsa x.lsa) ≡ false
+    flushing : (y : Sighting A) → is_at_max_age x.lsa ≡ true → is_eq (place_cmp (place_of x) (place_of y)) ≡ true
+        → is_gt (instance_cmp y.lsa x.lsa) ≡ false
         → flushes x y ≡ not (began_after x.seen y)
     flushing y m e g = all_but_last (is_at_max_age x.lsa) _ _ _ m e g
 
-    before_both : (q r s : Place) → is_gt (place_cmp q r) ≡ false → is_gt (place_cmp r s) ≡ false → is_eq (place_cmp r s) ≡ false → is_eq (place_cmp q s) ≡ false
+    before_both : (q r s : Place) → is_gt (place_cmp q r) ≡ false → is_gt (place_cmp r s) ≡ false
+        → is_eq (place_cmp r s) ≡ false → is_eq (place_cmp q s) ≡ false
     before_both q r s g h n =
         let rs : place_cmp r s ≡ Less = less_from (place_cmp r s) h (λ e. both_ways (is_eq (place_cmp r s)) n (ap is_eq e)) in
         ap is_eq (less_too q r s rs (place_cmp q r) refl g)
 
-    other_lsa : (flush : Option Flush) (y : Sighting A) → Behind p x → Keeps p flush → is_gt (sighting_cmp x y) ≡ false → is_eq (place_cmp (place_of x) (place_of y)) ≡ false → is_stopped flush y ≡ false
+    other_lsa : (flush : Option Flush) (y : Sighting A) → Behind p x → Keeps p flush
+        → is_gt (sighting_cmp x y) ≡ false → is_eq (place_cmp (place_of x) (place_of y)) ≡ false
+        → is_stopped flush y ≡ false
     other_lsa None y b k g n = refl
     other_lsa (Some f) y b k g n =
         let a = k.held f refl in
@@ -110,7 +115,8 @@ module _ {A : Type 0} where
         and_left _ _ (before_both f.place (place_of x) (place_of y) h' (later_place x y g) n)
 
     -- a sighting at MaxAge
-    pub keeps_more : (flush : Option Flush) → Keeps p flush → Behind p x → is_at_max_age x.lsa ≡ true → Keeps (p ++ x ∷ []) (Some (flush_after flush x))
+    pub keeps_more : (flush : Option Flush) → Keeps p flush → Behind p x → is_at_max_age x.lsa ≡ true
+        → Keeps (p ++ x ∷ []) (Some (flush_after flush x))
     keeps_more flush k b m = record {
       stops = λ y d.
           let g = d.at x (Contains-push p x) in

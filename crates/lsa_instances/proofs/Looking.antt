@@ -99,7 +99,8 @@ module _ {A : Type 0} where
   lasted p x y f = (or_parts (is_flushed p y) (flushes x y) (sym (grown p x y) ∙ f)).0
 
   -- what stands before a flush and was not flushed is newer than the flush
-  outlives : (p : List (Sighting A)) (x y : Sighting A) → is_gt (sighting_cmp y x) ≡ false → Contains p y → is_flushed p y ≡ false → flushes x y ≡ false
+  outlives : (p : List (Sighting A)) (x y : Sighting A) → is_gt (sighting_cmp y x) ≡ false → Contains p y
+      → is_flushed p y ≡ false → flushes x y ≡ false
   outlives p x y b c f = false_from_ne_true _ (λ t.
       let a = and_parts (is_at_max_age x.lsa) _ t in
       let d = and_parts (is_eq (place_cmp (place_of x) (place_of y))) _ a.1 in
@@ -137,7 +138,8 @@ module _ {A : Type 0} where
     abbrev pub IsAbsent : List (Sighting A) → Type 0
     IsAbsent newest = (z : Sighting A) → Contains newest z → place_of z ≡ place_of x → ⊥
 
-    itself : (newest : List (Sighting A)) → AreNewest p newest → is_flushed p x ≡ false → is_at_max_age x.lsa ≡ false → IsAbsent newest → IsNewest (p ++ x ∷ []) x
+    itself : (newest : List (Sighting A)) → AreNewest p newest → is_flushed p x ≡ false → is_at_max_age x.lsa ≡ false
+        → IsAbsent newest → IsNewest (p ++ x ∷ []) x
     itself newest n f m none = record {
       told_so = Contains-push p x;
       lasting = grown p x x ∙ or_from _ _ f (no_flush x x m);

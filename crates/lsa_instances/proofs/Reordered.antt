@@ -16,7 +16,8 @@ module _ {A : Type 0} (told other : List (Sighting A)) (h : IsPermutation told o
   newest_too x n = record {
     told_so = Contains-permutation told other x h n.told_so;
     lasting = sym (alike x) ∙ n.lasting;
-    unsurpassed = All-weaker (IsNoNewer told x) (IsNoNewer other x) (λ y k p f. k p (alike y ∙ f)) other (All-permutation (IsNoNewer told x) told other h n.unsurpassed);
+    unsurpassed = All-weaker (IsNoNewer told x) (IsNoNewer other x) (λ y k p f. k p (alike y ∙ f)) other
+        (All-permutation (IsNoNewer told x) told other h n.unsurpassed);
   }
 
   pub reordered : (newest : List (Sighting A)) → AreNewest told newest → AreNewest other newest

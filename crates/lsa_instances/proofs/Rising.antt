@@ -48,4 +48,6 @@ module _ {A : Type 0} (scope : Scope) where
       (rise xs (pairs_tail Before x xs p) rest)
 
   pub keys_rise : (told newest : List (Sighting A)) → AreNewest told newest → AllPairs KeysRise (lsas_of_scope scope newest)
-  keys_rise told newest n = rise (filter (is_of_scope scope) newest) (AllPairs-filter Before (is_of_scope scope) newest n.order) (filter_passes (is_of_scope scope) newest)
+  keys_rise told newest n =
+      let of_scope = filter (is_of_scope scope) newest in
+      rise of_scope (AllPairs-filter Before (is_of_scope scope) newest n.order) (filter_passes (is_of_scope scope) newest)

@@ -64,7 +64,8 @@ module _ {A : Type 0} where
       stops = keeps p x flush k.stops m;
     }
 
-    pub first : is_at_max_age x.lsa ≡ false → is_stopped flush x ≡ false → is_last newest x ≡ false → Looked (p ++ x ∷ []) flush (newest ++ x ∷ [])
+    pub first : is_at_max_age x.lsa ≡ false → is_stopped flush x ≡ false → is_last newest x ≡ false
+        → Looked (p ++ x ∷ []) flush (newest ++ x ∷ [])
     first m s n = record {
       answers = pushed p x b newest k.answers (sym (k.stops.stops x b) ∙ s) m (absent p x b newest k.answers n);
       stops = keeps p x flush k.stops m;

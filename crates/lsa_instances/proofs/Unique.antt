@@ -13,7 +13,8 @@ use Rattle.lsa_instances.specs.Newest.{AreNewest, IsNewest, IsNoNewer, is_flushe
 use Rattle.lsa_instances.proofs.Looking.{tie}
 use Rattle.lsa_instances.proofs.Orders.{instance_exact, instance_total, place_total}
 
-any_cons : {X : Type 0} (P : X → Type 0) (y : X) (ys : List X) (k : ℕ) (x : X) → k < length (y ∷ ys) → get_or (y ∷ ys) k x ≡ x → P x → P y ⊎ Any P ys
+any_cons : {X : Type 0} (P : X → Type 0) (y : X) (ys : List X) (k : ℕ) (x : X)
+    → k < length (y ∷ ys) → get_or (y ∷ ys) k x ≡ x → P x → P y ⊎ Any P ys
 any_cons P y ys zero x l e h = inl (subst P (sym e) h)
 any_cons P y ys (suc k) x l e h = inr (k, x, omega arith, e, h)
 
@@ -70,7 +71,8 @@ module _ {X V : Type 0} (val : X → V) (less : V → V → Type 0) (asym : (v w
       ap (λ v. v ∷ map val xs) e ∙ ap (λ vs. val y ∷ vs) rest
 
 -- two sightings of one LSA, each the newest, have the same octets
-same_octets : {A : Type 0} (told : List (Sighting A)) (x y : Sighting A) → IsNewest told x → IsNewest told y → place_of x ≡ place_of y → x.lsa ≡ y.lsa
+same_octets : {A : Type 0} (told : List (Sighting A)) (x y : Sighting A)
+    → IsNewest told x → IsNewest told y → place_of x ≡ place_of y → x.lsa ≡ y.lsa
 same_octets told x y p q e =
     let y_no_newer : is_gt (instance_cmp y.lsa x.lsa) ≡ false = All-contains (IsNoNewer told x) told y p.unsurpassed q.told_so (sym e) q.lasting in
     let x_no_newer : is_gt (instance_cmp x.lsa y.lsa) ≡ false = All-contains (IsNoNewer told y) told x q.unsurpassed p.told_so e p.lasting in

@@ -16,8 +16,9 @@ pub enum Scope {
 }
 
 impl Scope {
-    /// The scope of an LSA of this LS type that a file tells in an area, or outside of all areas: the
-    /// whole AS for the types 5 and 11, else the area. `None` where it needs an area and has none.
+    /// The scope of an LSA of this LS type that a file tells in an area, or outside of all areas:
+    /// the whole AS for the types 5 and 11, else the area. `None` where it needs an area and has
+    /// none.
     pub fn of(kind: u8, area: Option<AreaId>) -> Option<Scope>
         ensures { result ≡ scope_told kind area }
     {

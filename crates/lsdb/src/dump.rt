@@ -55,7 +55,8 @@ fn put_section<A: Allocator + Copy>(
     section: &SectionOf<A>,
 ) -> Result<(), AllocError>
     requires { length (full section.now.places.items) < 2 ^ 16 }
-    ensures { OnOk result (out.new.items ≡ out.old.items ++ section_text (section_of (section_places_of section.now))) }
+    ensures { OnOk result (out.new.items
+        ≡ out.old.items ++ section_text (section_of (section_places_of section.now))) }
 {
     put_head(out, section.area)?;
     let count = count_of(&section.places) as u16;

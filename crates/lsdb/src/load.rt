@@ -43,7 +43,8 @@ fn read_lsa<'a, A: Allocator + Copy>(
     area: Option<Head>,
     at: Cursor<'a>,
 ) -> Result<(Lsa<A>, Cursor<'a>), ReadError>
-    ensures { Gives (λ x. (x.0, at_of x.1)) result (lsa_at (option_map head_of area) (at_of at.entry)) }
+    ensures { Gives (λ x. (x.0, at_of x.1))
+        result (lsa_at (option_map head_of area) (at_of at.entry)) }
 {
     match Lsa::decode(alloc, at.rest) {
         Err(LsaFault::OutOfMemory) => Err(ReadError::Memory),
@@ -64,7 +65,8 @@ fn read_lsas<'a, A: Allocator + Copy>(
     count: u16,
     start: Cursor<'a>,
 ) -> Result<(Vec<Option<Lsa<A>>, A>, Cursor<'a>), ReadError>
-    ensures { Gives (λ x. (full x.0.items, at_of x.1)) result (lsas_from (option_map head_of area) count [] (at_of start.entry)) }
+    ensures { Gives (λ x. (full x.0.items, at_of x.1))
+        result (lsas_from (option_map head_of area) count [] (at_of start.entry)) }
 {
     let mut places = Vec::new(alloc);
     let mut keys = BTreeSet::new(alloc);
@@ -86,7 +88,8 @@ fn read_section<'a, A: Allocator + Copy>(
     area: Option<Head>,
     at: Cursor<'a>,
 ) -> Result<(SectionOf<A>, Cursor<'a>), ReadError>
-    ensures { Gives (λ x. (section_of (section_places_of x.0), at_of x.1)) result (section_at (option_map head_of area) (at_of at.entry)) }
+    ensures { Gives (λ x. (section_of (section_places_of x.0), at_of x.1))
+        result (section_at (option_map head_of area) (at_of at.entry)) }
 {
     let (count, rest) = read_u16(at)?;
     if limit_of(area) < count {
@@ -108,7 +111,8 @@ fn is_above(id: u32, before: Option<Head>) -> bool
 
 #[tactic(auto, unfolding(crate::specs::Loading::id_at))]
 fn read_id<'a>(before: Option<Head>, at: Cursor<'a>) -> Result<(u32, Cursor<'a>), ReadError>
-    ensures { Gives (λ x. (x.0, at_of x.1)) result (id_at (option_map head_of before) (at_of at.entry)) }
+    ensures { Gives (λ x. (x.0, at_of x.1))
+        result (id_at (option_map head_of before) (at_of at.entry)) }
 {
     let (id, rest) = read_u32(at)?;
     if !is_above(id, before) {
@@ -138,7 +142,8 @@ fn read_area<'a, A: Allocator + Copy>(
     before: Option<Head>,
     at: Cursor<'a>,
 ) -> Result<(SectionOf<A>, Cursor<'a>), ReadError>
-    ensures { Gives (λ x. (section_of (section_places_of x.0), at_of x.1)) result (area_at (option_map head_of before) (at_of at.entry)) }
+    ensures { Gives (λ x. (section_of (section_places_of x.0), at_of x.1))
+        result (area_at (option_map head_of before) (at_of at.entry)) }
 {
     let (id, rest) = read_id(before, at)?;
     let (is_stub, rest) = read_kind(id, rest)?;
@@ -154,7 +159,8 @@ fn read_areas<'a, A: Allocator + Copy>(
     count: u8,
     start: Cursor<'a>,
 ) -> Result<(Vec<SectionOf<A>, A>, Cursor<'a>), ReadError>
-    ensures { Gives (λ x. (lists_of (places_of x.0.items), at_of x.1)) result (areas_from count None [] (at_of start.entry)) }
+    ensures { Gives (λ x. (lists_of (places_of x.0.items), at_of x.1))
+        result (areas_from count None [] (at_of start.entry)) }
 {
     let mut areas = Vec::new(alloc);
     let mut before: Option<Head> = None;
@@ -207,7 +213,8 @@ fn read_sections<'a, A: Allocator + Copy>(
     alloc: A,
     at: Cursor<'a>,
 ) -> Result<(Vec<SectionOf<A>, A>, Cursor<'a>), ReadError>
-    ensures { Gives (λ x. (lists_of (places_of x.0.items), at_of x.1)) result (sections_at (at_of at.entry)) }
+    ensures { Gives (λ x. (lists_of (places_of x.0.items), at_of x.1))
+        result (sections_at (at_of at.entry)) }
 {
     let (count, at) = read_area_count(at)?;
     let (mut sections, at) = read_areas(alloc, count, at)?;

@@ -6,3 +6,4 @@ pub mod Handing
 pub mod HopsOf
 mod SmallHops
 pub mod Sharing
+pub mod HopLemmas

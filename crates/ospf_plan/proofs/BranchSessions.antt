@@ -1,6 +1,6 @@
 -- The sessions of branches when one of them goes on.
 use Rattle.std.proofs.Common.{◌≡◌, ℕ, List, [], ◌∷◌, Bool, true, false, eqb, cond, Option, None, Some, Result, Ok, Err, refl, sym, ap, subst, ◌∙◌, zero, suc, length, ltb, true≢false}
-use Rattle.std.specs.Prelude.{nat_le, is_some, IfSome, IsSome}
+use Rattle.std.specs.Prelude.{◌||◌, nat_le, is_some, IfSome, IsSome}
 use Rattle.std.specs.Map.{lookup, set_value}
 use Rattle.std.specs.BTreeMap.{BTreeMap, Updates, WritesThrough, is_at}
 use Rattle.std.specs.Cmp.{unsigned_tied}
@@ -139,10 +139,6 @@ pub written : (old new : BTreeMap ℕ PlannerValue) (branch : ℕ) (p q : Planne
     → GoesOn (sessions_by old.entries) (sessions_by new.entries) branch q.session
 written old new branch p q was writes = inserted old new branch q (writes.3 (subst (λ o. IsSome o) was refl))
 
--- it is named then
-pub now_named : (first : Session) (old new : List (ℕ × Session)) (branch : ℕ) (t : Session) → eqb branch 0 ≡ false → GoesOn old new branch t → has_planner (the_named first new) branch ≡ true
-now_named first old new branch t behind went = rw (behind, went.at) refl
-
 -- the session of another branch than 0, where there is a planner for it and where there is none
 pub session_of_named : (first : PlannerValue) (ps : List (ℕ × PlannerValue)) (branch : ℕ) (p : PlannerValue) → eqb branch 0 ≡ false → Some p ≡ planner_at ps branch
     → sessions_of (named_by first ps) branch ≡ p.session
@@ -193,7 +189,7 @@ own_at branch other all false e = refl
 with_own : (branch : ℕ) (all : Sessions) → all ≡ with_session branch (all branch) all
 with_own branch all = λ i other. own_at branch other all (eqb branch other) refl i
 
-begins_at : (first : Session) (o : Option Session) (z : Bool) → z ≡ false → cond z true (is_some o) ≡ false
+begins_at : (first : Session) (o : Option Session) (z : Bool) → z ≡ false → (z || is_some o) ≡ false
     → cond z first (session_or_begin first.base o) ≡ start first.base
 begins_at first o true behind none = absurd (true≢false behind)
 begins_at first None false behind none = refl

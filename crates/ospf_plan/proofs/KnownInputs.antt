@@ -1,5 +1,5 @@
 -- What a run is answered, from what was read of its inputs.
-use Rattle.std.proofs.Common.{◌≡◌, ◌∙◌, ap, sym, subst, refl, ℕ, List, [], length, Option, None, Some, Ok, Err, inl, inr}
+use Rattle.std.proofs.Common.{◌≡◌, ◌∙◌, Bool, true, false, true≢false, ap, sym, subst, refl, ℕ, List, [], length, Option, None, Some, Ok, Err, inl, inr}
 use Rattle.std.specs.Prelude.{IfSome}
 use Rattle.std.specs.Io.KnownBytes.{Appends, Keeps}
 use Rattle.std.proofs.KnownBytes.{Appends-nil, Appends-kept}
@@ -102,3 +102,15 @@ pub if_prefix_kept : (a b c dump script : Option (List ℕ)) (whole : List ℕ �
 if_prefix_kept a b c None script whole part kept = tt
 if_prefix_kept a b c (Some bytes) None whole part kept = tt
 if_prefix_kept a b c (Some bytes) (Some known) whole part kept = prefix_kept a b c (whole bytes known) part kept
+
+-- a text that was written, and then nothing more
+pub if_written_kept : (a b c dump script : Option (List ℕ)) (whole : List ℕ → List ℕ → List ℕ)
+    → IfBoth dump script (λ bytes known. Appends a b (whole bytes known)) → Keeps b c
+    → IfBoth dump script (λ bytes known. Appends a c (whole bytes known))
+if_written_kept a b c None script whole text kept = tt
+if_written_kept a b c (Some bytes) None whole text kept = tt
+if_written_kept a b c (Some bytes) (Some known) whole text kept = Appends-kept a b c (whole bytes known) text kept
+
+-- a writer that has failed can not be one that has not
+pub untouched_unless_failed : {failed : Bool} {P : Type 0} → failed ≡ true → failed ≡ false → P
+untouched_unless_failed failing open_still = absurd (true≢false (sym failing ∙ open_still))

@@ -1,9 +1,9 @@
 //! The command line, read by clap.
 
-ghost use Rattle.std.specs.Prelude.{◌≡◌, false, [], map, option_map, string_bytes, IfOk, IfErr, OnOk};
-ghost use Rattle.clap.specs.Words.{app_of, fault_of, first_value, found_of, rule_of};
+ghost use Rattle.std.specs.Prelude.{◌≡◌, false, [], codes, map, option_map, string_bytes, IfOk, IfErr, OnOk};
+ghost use Rattle.clap.specs.Words.{app_of, fault_of, first_value, found_of, new_app, rule_of};
 ghost use Rattle.ospf_plan.specs.declared.command_line.OptionsFault.TheVariants.{OutOfMemory};
-ghost use Rattle.ospf_plan.specs.CommandLine.{file_rule, ospf_plan, IsGiven};
+ghost use Rattle.ospf_plan.specs.CommandLine.{file_rule, ospf_plan, with_version, IsGiven};
 ghost use Rattle.ospf_plan.specs.steps.FoundFiles.{IsRead};
 ghost use Rattle.ospf_plan.specs.OptionsFaults.{IsFaultOf, IsRefusal};
 
@@ -74,11 +74,7 @@ pub fn parse_options(alloc: Global, words: &[String]) -> Result<Options, Options
 fn command<'a>(alloc: Global) -> Result<Command<'a>, AllocError>
     ensures { IfOk result (λ command. app_of command ≡ ospf_plan) }
 {
-    Command::new(alloc, "ospf-plan")
-        .bin_name("ospf-plan")?
-        .about(ABOUT)
-        .version(VERSION)
-        .after_help(COMMANDS)
+    named_command(alloc)?
         .arg(file_option(
             alloc,
             "dump",
@@ -86,6 +82,19 @@ fn command<'a>(alloc: Global) -> Result<Command<'a>, AllocError>
         ))?
         .arg(file_option(alloc, "script", "The script, in place of standard input"))?
         .arg(file_option(alloc, "out", "Where to write the dump after the script"))
+}
+
+/// The command without its options: its name, and the texts of `--help` and `--version`.
+fn named_command<'a>(alloc: Global) -> Result<Command<'a>, AllocError>
+    ensures { IfOk result (λ command. app_of command ≡ with_version (new_app (codes "ospf-plan"))) }
+{
+    Ok(
+        Command::new(alloc, "ospf-plan")
+            .bin_name("ospf-plan")?
+            .about(ABOUT)
+            .version(VERSION)
+            .after_help(COMMANDS),
+    )
 }
 
 /// An option `--NAME FILE`.

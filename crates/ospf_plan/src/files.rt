@@ -59,9 +59,12 @@ fn run_script<R: Read + Drop, S: Read + Drop>(
         Some(path) => {
             let mut out = Watched::new(Vec::new(rt.alloc()));
             let written = Some(&mut out);
-            let summary = run(rt.alloc(), &mut dump, &mut script, &mut replies, written).map_err(
-                ExitFault::Run,
-            )?;
+            let ended = run(rt.alloc(), &mut dump, &mut script, &mut replies, written);
+            // A write to memory fails for want of it alone.
+            if out.failed() {
+                return Err(ExitFault::Run(RunFault::OutOfMemory));
+            }
+            let summary = ended.map_err(ExitFault::Run)?;
             save(rt, path.as_str(), out.into_inner().as_slice())?;
             Ok(summary)
         }

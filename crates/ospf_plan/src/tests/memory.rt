@@ -131,7 +131,10 @@ fn undo_redo_and_info_in_any_branch_while_each_growth_is_refused(
         }
         match branches.step(branch, &Command::Info)? {
             Reply::Info(info) => {
-                assert_eq!(rt; (info.areas, info.lsas, info.done, info.undone), (1, 2, 0, 0));
+                assert_eq!(rt;
+                    (info.areas, info.lsas, info.done, info.undone),
+                    (1, 2, 0, 0)
+                );
             }
             _ => panic!(rt; "no counts"),
         }

@@ -1,4 +1,4 @@
-use Rattle.edit_history.proofs.UndoneAndRedone.{back_and_on, on_and_back, edits_back}
+use Rattle.edit_history.proofs.Returning.{back_and_on, on_and_back, edits_back}
 use Rattle.edit_history.proofs.laws.moves.Goals as goal
 
 pub returns : goal.returns

@@ -26,6 +26,6 @@ returns-in_err-routes-clause-fault g c =
 
 pub returns-clause-table : goal.returns-clause-table
 returns-clause-table g c =
-    table_is (lists_of c.args.database.now) c.args.router c.in_ok-results.results.items c.in_ok-routes.routes.items c.in_ok-results.ensures.results
+    table_is (lists_of c.args.database.now) c.args.router c.in_ok-results.results.items c.in_ok-routes.routes c.in_ok-results.ensures.results
     (full_list c.in_ok-results.results.items (λ none. true≢false (sym (eq-eqb (vec_len c.in_ok-results.results) 0 (omega (arith, c.in_ok-results.results.ok, none))) ∙ (sym c.is_empty.ensures ∙ c.if-is_empty.false))))
-    (c.in_ok-routes.ensures.routes ∙ ap (routes_from (lists_of c.args.database.now) c.args.router) c.deref.ensures.value)
+    (c.in_ok-routes.ensures ∙ ap (routes_from (lists_of c.args.database.now) c.args.router) c.deref.ensures.value)

@@ -1,18 +1,23 @@
-use Rattle.std.proofs.Common.{◌≡◌, ◌∙◌, ℕ, IfOk, ap, false, sym, subst, true≢false}
+use Rattle.std.proofs.Common.{◌≡◌, ◌∙◌, ℕ, IfOk, ap, false, sym, subst}
 use Rattle.std.specs.Prelude.{OnOk}
 use Rattle.std.specs.BTreeMap.{BTreeMap}
 use Rattle.std.proofs.lemmas.Bool.{ne_eqb}
-use Rattle.edit_history.specs.Session.{Session}
+use Rattle.lsdb.specs.Lists.{Lists}
+use Rattle.edit_history.specs.Session.{Session, start}
+use Rattle.recalculate.specs.Counts.{info_of}
 use Rattle.recalculate.specs.Planning.{PlannerValue}
 use Rattle.ospf_plan.specs.Branches.{Named, named_by, sessions_by, sessions_of, with_session}
 use Rattle.ospf_plan.specs.steps.Planners.{has_planner}
 use Rattle.ospf_plan.specs.Replies.{after, reply_to, said_by}
-use Rattle.ospf_plan.proofs.BranchSessions.{the_named, first_goes_on, first_base, not_named, now_named, one_base, session_of_named, shown_some, written, written_on, written_same, base_of, on_ok, on_err}
+use Rattle.ospf_plan.proofs.BranchSessions.{the_named, first_goes_on, first_base, not_named, one_base, session_of_named, shown_some, written, written_on, written_same, base_of, on_ok, on_err}
 use Rattle.ospf_plan.proofs.branches.Branches.step.Goals as goal
 
 pub invariant_of-self : goal.invariant_of-self
 invariant_of-self g c =
-    first_base (named_by c.self.inside.first c.self.inside.others.entries) c.execute.new.planner.session c.execute.ensures.base c.self.invariant
+    let named : Named = named_by c.self.inside.first c.self.inside.others.entries in (
+      first_base named c.execute.new.planner.session c.execute.ensures.base c.self.invariant.0,
+      c.self.invariant.1 ∙ ap (λ (base : Lists). info_of (start base)) (sym c.execute.ensures.base),
+    )
 
 pub returns-then-branch-eq0-clause-sessions : goal.returns-then-branch-eq0-clause-sessions
 returns-then-branch-eq0-clause-sessions g c =
@@ -27,10 +32,14 @@ pub invariant_of-self-in-Some : goal.invariant_of-self-in-Some
 invariant_of-self-in-Some g c =
     let w = c.execute-in-Some.new.planner in
     let old = c.self.inside.others in
+    let new = c.get_mut.follows.lender w in
+    let branch = c.args.branch in
+    let planner = c.in-Some.planner.now in
+    let was = c.in-Some.ensures.value in
     let named : Named = named_by c.self.inside.first old.entries in
-    one_base named (sessions_by (c.get_mut.follows.lender w).entries) c.args.branch w.session
-    (c.execute-in-Some.ensures.base ∙ base_of named c.args.branch c.in-Some.planner.now.session (shown_some old.entries c.args.branch c.in-Some.planner.now c.in-Some.ensures.value) c.self.invariant)
-    (written old (c.get_mut.follows.lender w) c.args.branch c.in-Some.planner.now w c.in-Some.ensures.value (c.get_mut.follows.holds w)) c.self.invariant
+    let one = c.self.invariant.0 in
+    let base = c.execute-in-Some.ensures.base ∙ base_of named branch planner.session (shown_some old.entries branch planner was) one in
+    (one_base named (sessions_by new.entries) branch w.session base (written old new branch planner w was (c.get_mut.follows.holds w)) one, c.self.invariant.1)
 
 pub returns-in-Some-clause-sessions : goal.returns-in-Some-clause-sessions
 returns-in-Some-clause-sessions g c =
@@ -43,15 +52,6 @@ returns-in-Some-clause-sessions g c =
     (on_ok c.execute-in-Some.result
     (written_on c.self.inside.first old (c.get_mut.follows.lender w) b c.in-Some.planner.now w cmd (ne_eqb b 0 c.if-branch-eq0.false) c.in-Some.ensures.value (c.get_mut.follows.holds w))
     c.execute-in-Some.ensures.session)
-
-pub returns-in-Some-clause-named : goal.returns-in-Some-clause-named
-returns-in-Some-clause-named g c =
-    let w = c.execute-in-Some.new.planner in
-    let old = c.self.inside.others in
-    on_ok c.execute-in-Some.result
-    (λ _. now_named c.self.inside.first.session (sessions_by old.entries) (sessions_by (c.get_mut.follows.lender w).entries) c.args.branch w.session (ne_eqb c.args.branch 0 c.if-branch-eq0.false)
-    (written old (c.get_mut.follows.lender w) c.args.branch c.in-Some.planner.now w c.in-Some.ensures.value (c.get_mut.follows.holds w)))
-    c.execute-in-Some.ensures.session
 
 pub returns-in-Some-clause-kept : goal.returns-in-Some-clause-kept
 returns-in-Some-clause-kept g c =
@@ -78,9 +78,3 @@ returns-in-None-clause-reply g c =
     subst (λ (n : Named). IfOk c.step_first.result (λ reply. said_by reply ≡ reply_to (sessions_of n c.args.branch) c.args.command.now))
     (ap (λ (m : BTreeMap ℕ PlannerValue). named_by c.self.inside.first m.entries) c.get_mut.follows.holds-at-none ∙ c.self.view_is)
     c.step_first.ensures.reply
-
-pub returns-in-None-clause-memory : goal.returns-in-None-clause-memory
-returns-in-None-clause-memory g c = λ _ named.
-    let behind = ne_eqb c.args.branch 0 c.if-branch-eq0.false in
-    absurd (true≢false (sym named ∙ ap (λ (n : Named). has_planner n c.args.branch) (sym c.self.view_is)
-    ∙ not_named c.self.inside.first c.self.inside.others.entries c.args.branch behind c.in-None.ensures.value))

@@ -3,7 +3,7 @@ use Rattle.lsdb.specs.Lists.{Lists}
 use Rattle.lsdb.specs.Places.{lists_of}
 use Rattle.edit_history.specs.Session.{state}
 use Rattle.edit_history.proofs.Growing.{state_is}
-use Rattle.external_routes.specs.Attached.{attached_areas}
+use Rattle.area_routes.specs.Attached.{attached_areas}
 use Rattle.recalculate.specs.Counting.{counted_by, CountsAtMost}
 use Rattle.recalculate.specs.Planning.{PlannerValue}
 use Rattle.recalculate.proofs.Tabled.{if_table, if_fault}
