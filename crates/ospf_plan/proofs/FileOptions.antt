@@ -5,7 +5,7 @@ use Rattle.clap.specs.Matches.{first_value, found_of}
 use Rattle.clap.specs.Simple.{HasMatchesOf}
 use Rattle.clap.proofs.WalkLemmas.{first_value-rows}
 use Rattle.clap.specs.declared.parser.matches.ArgMatches.{ArgMatches}
-use Rattle.ospf_plan.specs.declared.command_line.Options.{Options}
+use Rattle.ospf_plan.specs.declared.arguments.Options.{Options}
 use Rattle.ospf_plan.specs.CommandLine.{IsGiven, ospf_plan, value_of}
 use Rattle.ospf_plan.specs.steps.FoundFiles.{IsRead}
 

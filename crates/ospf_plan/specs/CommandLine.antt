@@ -2,7 +2,7 @@
 use Rattle.std.specs.Prelude.{◌≡◌, List, Option, Some, codes, true, option_map, string_bytes}
 use Rattle.clap.specs.Words.{App, Rule, Text, first_of, matches_of, new_app, new_rule, with_rule}
 use Rattle.clap.specs.declared.builder.action.ArgAction.TheVariants.{Set}
-use Rattle.ospf_plan.specs.declared.command_line.Options.{Options}
+use Rattle.ospf_plan.specs.declared.arguments.Options.{Options}
 
 -- an option `--NAME FILE`
 abbrev pub file_rule : Text → Rule

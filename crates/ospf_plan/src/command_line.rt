@@ -2,55 +2,14 @@
 
 ghost use Rattle.std.specs.Prelude.{◌≡◌, false, [], codes, map, option_map, string_bytes, IfOk, IfErr, OnOk};
 ghost use Rattle.clap.specs.Words.{app_of, fault_of, first_value, found_of, new_app, rule_of};
-ghost use Rattle.ospf_plan.specs.declared.command_line.OptionsFault.TheVariants.{OutOfMemory};
 ghost use Rattle.ospf_plan.specs.CommandLine.{file_rule, ospf_plan, with_version, IsGiven};
 ghost use Rattle.ospf_plan.specs.steps.FoundFiles.{IsRead};
-ghost use Rattle.ospf_plan.specs.OptionsFaults.{IsFaultOf, IsRefusal};
+ghost use Rattle.ospf_plan.specs.OptionsFaults.{IsRefusal};
 
+use crate::arguments::{Options, OptionsFault};
 use crate::help::{ABOUT, COMMANDS, VERSION};
-use clap::error::ErrorKind;
-use clap::{Arg, ArgAction, ArgMatches, Command, Error};
+use clap::{Arg, ArgAction, ArgMatches, Command};
 use std::alloc::{AllocError, Global};
-
-/// The files that the command line names.
-#[derive(Debug, Drop)]
-pub struct Options {
-    /// The dump that is loaded. Without it the program takes a small sample of its own.
-    pub dump: Option<String>,
-    /// The script that is carried out. Without it the program reads standard input.
-    pub script: Option<String>,
-    /// Where the dump of the database after the script goes. Without it none is written.
-    pub out: Option<String>,
-}
-
-/// Why words give no options.
-#[derive(Debug, Drop)]
-pub enum OptionsFault {
-    /// The words are refused, or ask for help or for the version. Its text goes where `Error::print` puts it, and
-    /// its status is `Error::exit_code`. It is never for want of memory.
-    Refused(Error),
-    /// A growth was refused.
-    OutOfMemory,
-}
-
-impl From<AllocError> for OptionsFault {
-    ghost from_gives = { λ _ fault. fault ≡ OutOfMemory };
-
-    fn from(_error: AllocError) -> OptionsFault {
-        OptionsFault::OutOfMemory
-    }
-}
-
-impl From<Error> for OptionsFault {
-    ghost from_gives = { λ error fault. IsFaultOf error fault };
-
-    fn from(error: Error) -> OptionsFault {
-        match error.kind() {
-            ErrorKind::OutOfMemory => OptionsFault::OutOfMemory,
-            _ => OptionsFault::Refused(error),
-        }
-    }
-}
 
 /// The options that the words of a command line give. The first word is the program's name.
 ///
@@ -61,7 +20,7 @@ impl From<Error> for OptionsFault {
 ///
 /// `Refused` for words that clap refuses, `--help` and `--version` among them, with clap's own error.
 /// `OutOfMemory` where a growth was refused.
-pub fn parse_options(alloc: Global, words: &[String]) -> Result<Options, OptionsFault>
+pub fn options(alloc: Global, words: &[String]) -> Result<Options, OptionsFault>
     ensures given { IfOk result (IsGiven (map string_bytes words.now)) }
     ensures accepted { OnOk result (fault_of ospf_plan (map string_bytes words.now) ≡ []) }
     ensures refused { IfErr result (IsRefusal (fault_of ospf_plan (map string_bytes words.now))) }

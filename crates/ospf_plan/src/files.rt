@@ -4,7 +4,7 @@ ghost use Rattle.std.specs.Prelude.{◌≡◌, ◌↔◌, false, true, IfOk, IfE
 ghost use Rattle.std.specs.Io.KnownBytes.{Appends};
 ghost use Rattle.streams.specs.Watched.{inner_of, has_failed};
 
-use crate::command_line::Options;
+use crate::arguments::Options;
 use crate::fault::{ExitFault, FileArg, RunFault};
 use crate::output::write_and_flush;
 use crate::running::run;

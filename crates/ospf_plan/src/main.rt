@@ -5,6 +5,7 @@
 //! the command line names.
 #![tactic(auto)]
 
+mod arguments;
 mod branches;
 mod command_line;
 mod commands;
@@ -24,7 +25,8 @@ mod script;
 mod tests;
 
 use clap::Error;
-use command_line::{Options, OptionsFault, parse_options};
+use arguments::{Options, OptionsFault};
+use command_line::options;
 use exit::exit_line;
 use fault::{ExitFault, RunFault};
 use std::io::{ErrorKind, Write};
@@ -39,7 +41,7 @@ fn main(rt: HostRuntime) -> ExitCode {
         Ok(words) => words,
         Err(error) => return end_without_words(&rt, &error),
     };
-    match parse_options(rt.alloc(), words.as_slice()) {
+    match options(rt.alloc(), words.as_slice()) {
         Ok(given) => plan(&rt, &given),
         Err(OptionsFault::Refused(error)) => refuse(&rt, &error),
         Err(OptionsFault::OutOfMemory) => end(&rt, &ExitFault::Run(RunFault::OutOfMemory)),

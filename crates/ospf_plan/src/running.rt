@@ -1,6 +1,6 @@
 //! The whole run: a dump and a script are read, and the replies and the dump that the script leaves are written.
 
-ghost use Rattle.std.specs.Prelude.{◌≡◌, ◌↔◌, ◌||◌, ◌<◌, ◌≤◌, length, false, true, None, OnOk, IfOk, IfErr, IfSome, IsErr};
+ghost use Rattle.std.specs.Prelude.{◌≡◌, ◌≢◌, ◌↔◌, ◌||◌, ◌<◌, ◌≤◌, length, false, true, None, OnOk, IfOk, IfErr, IfSome, IsErr};
 ghost use Rattle.std.specs.Io.KnownBytes.{Appends, Keeps, IsAtEnd};
 ghost use Rattle.streams.specs.Watched.{inner_of, has_failed};
 ghost use Rattle.streams.specs.WholeText.{AppendsPrefix, ConsumesAtMost};
@@ -16,7 +16,7 @@ ghost use Rattle.ospf_plan.specs.Inputs.{IsAccepted};
 use crate::branches::Branches;
 use crate::fault::RunFault;
 use crate::inputs::{read_branches, read_script};
-use crate::output::{flush, write_and_flush};
+use crate::output::{flush, write_end};
 use crate::script::{Summary, answer_script};
 use std::alloc::Allocator;
 use std::io::{Read, Write};
@@ -64,26 +64,27 @@ pub fn run<A: Allocator + Copy, R: Read, S: Read, W: Write, D: Write>(
         Keeps (W.contents (inner_of replies.old)) (W.contents (inner_of replies.new))) }
     ensures unread { IfSome (S.remaining (inner_of script.new)) (λ rest. 0 < length rest →
         Keeps (W.contents (inner_of replies.old)) (W.contents (inner_of replies.new))) }
-    ensures out_untouched { IsErr result → has_any_failed (at_return out.exit) ≡ false →
-        Keeps (contents_of D.contents (at_call out.entry)) (contents_of D.contents (at_return out.exit)) }
+    ensures out_untouched { IfErr result (λ fault. fault ≢ RunFault.Write →
+        Keeps (contents_of D.contents (at_call out.entry)) (contents_of D.contents (at_return out.exit))) }
     ensures dump_bounded { ConsumesAtMost (R.remaining (inner_of dump.old)) (R.remaining (inner_of dump.new)) 16777217 }
     ensures script_bounded { ConsumesAtMost (S.remaining (inner_of script.old)) (S.remaining (inner_of script.new)) 1048577 }
 {
     match out {
         None => {
             let (summary, _branches) = answer_all(alloc, dump, script, replies)?;
+            flush(replies)?;
             Ok(summary)
         }
         Some(out) => {
             let (summary, mut branches) = answer_all(alloc, dump, script, replies)?;
             let end = branches.dump(0)?;
-            write_and_flush(out, end.as_slice())?;
+            write_end(end.as_slice(), replies, out)?;
             Ok(summary)
         }
     }
 }
 
-/// Reads both inputs, carries out the script, and writes its replies, which are flushed.
+/// Reads both inputs, carries out the script, and writes its replies.
 fn answer_all<A: Allocator + Copy, R: Read, S: Read, W: Write>(
     alloc: A,
     dump: &mut Watched<R>,
@@ -119,6 +120,5 @@ fn answer_all<A: Allocator + Copy, R: Read, S: Read, W: Write>(
     let mut branches = read_branches(alloc, dump)?;
     let text = read_script(alloc, script)?;
     let summary = answer_script(alloc, &mut branches, text.as_slice(), replies)?;
-    flush(replies)?;
     Ok((summary, branches))
 }

@@ -2,7 +2,7 @@
 use Rattle.std.specs.Prelude.{◌≡◌, codes, option_map, string_bytes}
 use Rattle.clap.specs.Words.{first_value}
 use Rattle.clap.specs.declared.parser.matches.Found.{Found}
-use Rattle.ospf_plan.specs.declared.command_line.Options.{Options}
+use Rattle.ospf_plan.specs.declared.arguments.Options.{Options}
 
 -- each field has the value of its option in what clap found
 pub record IsRead (found : Found) (o : Options) : Type 0 where

@@ -106,13 +106,13 @@ fn a_flush_fails(rt: HostRuntime) -> Result<(), Fail> {
 }
 
 #[test]
-fn a_flush_fails_before_the_dump_is_written(rt: HostRuntime) -> Result<(), Fail> {
+fn a_flush_fails_after_the_dump_is_written(rt: HostRuntime) -> Result<(), Fail> {
     let replies = Sink::new(rt.alloc(), 1, NEVER, Failing::FlushErrs);
     let ended = run_whole(rt.alloc(), SAMPLE, SCRIPT, replies, Vec::new(rt.alloc()));
     assert_eq!(rt; ended.result, Err(RunFault::Write));
     assert!(rt; ended.replies.failed);
     assert_eq!(rt; ended.replies.stream.taken.as_slice(), REPLIES);
-    assert!(rt; ended.out.stream.is_empty());
+    assert_eq!(rt; ended.out.stream.as_slice(), SAMPLE);
     Ok(())
 }
 

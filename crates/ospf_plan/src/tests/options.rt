@@ -1,6 +1,7 @@
 //! The options of the command line, and the texts of refused ones.
 
-use crate::command_line::{Options, OptionsFault, parse_options};
+use crate::arguments::{Options, OptionsFault};
+use crate::command_line::options;
 use clap::Error;
 use std::alloc::{AllocError, Global};
 use std::test::Fail;
@@ -8,7 +9,7 @@ use std::test::Fail;
 /// The options for the words of a line that are parted by single spaces.
 fn options_of(alloc: Global, line: &str) -> Result<Options, OptionsFault> {
     let words = words_of(alloc, line)?;
-    parse_options(alloc, words.as_slice())
+    options(alloc, words.as_slice())
 }
 
 fn words_of(alloc: Global, line: &str) -> Result<Vec<String>, AllocError> {

@@ -1,7 +1,7 @@
 use Rattle.std.proofs.Common.{map, string_bytes, subst, refl, [], ◌≡◌, true}
 use Rattle.clap.specs.Words.{App, HasMatchesOf, fault_of, is_simple_and_free}
 use Rattle.ospf_plan.proofs.FileOptions.{IsGiven-from_read}
-use Rattle.ospf_plan.proofs.command_line.parse_options.Goals as goal
+use Rattle.ospf_plan.proofs.command_line.options.Goals as goal
 
 -- what clap found is for the words and for the program's command
 pub returns-clause-given : goal.returns-clause-given

@@ -1,0 +1,49 @@
+//! The arguments that the command line gives, or why it gives none.
+
+ghost use Rattle.std.specs.Prelude.{◌≡◌};
+ghost use Rattle.ospf_plan.specs.declared.arguments.OptionsFault.TheVariants.{OutOfMemory};
+ghost use Rattle.ospf_plan.specs.OptionsFaults.{IsFaultOf};
+
+use clap::Error;
+use clap::error::ErrorKind;
+use std::alloc::AllocError;
+
+/// The files that the command line names.
+#[derive(Debug, Drop)]
+pub struct Options {
+    /// The dump that is loaded. Without it the program takes a small sample of its own.
+    pub dump: Option<String>,
+    /// The script that is carried out. Without it the program reads standard input.
+    pub script: Option<String>,
+    /// Where the dump of the database after the script goes. Without it none is written.
+    pub out: Option<String>,
+}
+
+/// Why words give no options.
+#[derive(Debug, Drop)]
+pub enum OptionsFault {
+    /// The words are refused, or ask for help or for the version. Its text goes where `Error::print` puts it, and
+    /// its status is `Error::exit_code`. It is never for want of memory.
+    Refused(Error),
+    /// A growth was refused.
+    OutOfMemory,
+}
+
+impl From<AllocError> for OptionsFault {
+    ghost from_gives = { λ _ fault. fault ≡ OutOfMemory };
+
+    fn from(_error: AllocError) -> OptionsFault {
+        OptionsFault::OutOfMemory
+    }
+}
+
+impl From<Error> for OptionsFault {
+    ghost from_gives = { λ error fault. IsFaultOf error fault };
+
+    fn from(error: Error) -> OptionsFault {
+        match error.kind() {
+            ErrorKind::OutOfMemory => OptionsFault::OutOfMemory,
+            _ => OptionsFault::Refused(error),
+        }
+    }
+}
