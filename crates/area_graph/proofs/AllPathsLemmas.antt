@@ -16,7 +16,7 @@ use Rattle.area_graph.specs.Least.{least, lesser}
 use Rattle.area_graph.specs.Paths.{DirectedEdge, path_cost, IsPath, NoPathBelow, IsDistance}
 use Rattle.area_graph.specs.AllPaths.{lists_within, leads, paths_of, least_paths_of, distance_of}
 use Rattle.area_graph.proofs.PathLemmas.{path_cost-append, IsPath-append, IsDistance-same, IsDistance-same_edges}
-use Rattle.area_graph.proofs.Members.{In, In-from_Contains, Contains-from_In, In-filter, filter-In, list_all-In, In-list_all, Repeats, repeats_or_short, In-map, map-In, In-lists_within, lists_within-In}
+use Rattle.area_graph.proofs.MemberLemmas.{In, In-from_Contains, Contains-from_In, In-filter, filter-In, list_all-In, In-list_all, Repeats, repeats_or_short, In-map, map-In, In-lists_within, lists_within-In}
 
 -- ---- vertices
 
@@ -78,7 +78,8 @@ module _ {V : Type 0} (IsEdge : DirectedEdge V → Type 0) where
         subst (λ (x : V). IsPath IsEdge e.to b x) (sym after.2.1) after.1,
       )
 
-  path_cost-cut : (a b c : List (DirectedEdge V)) (e : DirectedEdge V) → path_cost (a ++ (e ∷ (b ++ (e ∷ c)))) ≡ path_cost (a ++ (e ∷ c)) + (path_cost b + e.cost)
+  path_cost-cut : (a b c : List (DirectedEdge V)) (e : DirectedEdge V)
+      → path_cost (a ++ (e ∷ (b ++ (e ∷ c)))) ≡ path_cost (a ++ (e ∷ c)) + (path_cost b + e.cost)
   path_cost-cut a b c e =
       let one = path_cost-append a (e ∷ (b ++ (e ∷ c))) in
       let two = path_cost-append b (e ∷ c) in
@@ -110,7 +111,8 @@ module _ {V : Type 0} (edges : List (DirectedEdge V)) where
       (λ short. (es, p, short, omega arith))
       (repeats_or_short edges es (members v w es p))
     where
-      shorter : Repeats es → ((fs : List (DirectedEdge V)) → length fs ≤ n → IsPath (λ e. Contains edges e) v fs w → (gs : List (DirectedEdge V)) × IsPath (λ e. Contains edges e) v gs w × (length gs ≤ length edges) × (path_cost gs ≤ path_cost fs))
+      shorter : Repeats es → ((fs : List (DirectedEdge V)) → length fs ≤ n → IsPath (λ e. Contains edges e) v fs w
+          → (gs : List (DirectedEdge V)) × IsPath (λ e. Contains edges e) v gs w × (length gs ≤ length edges) × (path_cost gs ≤ path_cost fs))
           → (fs : List (DirectedEdge V)) × IsPath (λ e. Contains edges e) v fs w × (length fs ≤ length edges) × (path_cost fs ≤ path_cost es)
       shorter (a, b, c, e, is) rest =
           let parts = cut (λ x. Contains edges x) v w a b c e (subst (λ (xs : List (DirectedEdge V)). IsPath (λ x. Contains edges x) v xs w) is p) in
@@ -127,7 +129,8 @@ module _ {V : Type 0} (edges : List (DirectedEdge V)) where
   NothingFree = (e f : DirectedEdge V) → Contains edges e → Contains edges f → f.from ≡ e.to → 0 < e.cost + f.cost
 
   -- then a path of least cost has no more edges than there are
-  pub least_is_short : NothingFree → (v w : V) (es : List (DirectedEdge V)) → IsPath (λ e. Contains edges e) v es w → NoPathBelow (λ e. Contains edges e) v w (path_cost es) → length es ≤ length edges
+  pub least_is_short : NothingFree → (v w : V) (es : List (DirectedEdge V)) → IsPath (λ e. Contains edges e) v es w
+      → NoPathBelow (λ e. Contains edges e) v w (path_cost es) → length es ≤ length edges
   least_is_short costly v w es p low =
       ⊎_elim (λ twice. absurd (never twice)) (λ short. short) (repeats_or_short edges es (members v w es p))
     where
@@ -152,16 +155,19 @@ module _ (edges : List (DirectedEdge Vertex)) where
   leads-from_path v w [] p = is_same-from v w p
   leads-from_path v w (e ∷ es) p = and_from (is_same e.from v) (leads e.to es w) (is_same-from e.from v p.1) (leads-from_path e.to w es p.2)
 
-  path-from_leads : (v w : Vertex) (es : List (DirectedEdge Vertex)) → ((e : DirectedEdge Vertex) → In es e → In edges e) → leads v es w ≡ true → IsPath (λ e. Contains edges e) v es w
+  path-from_leads : (v w : Vertex) (es : List (DirectedEdge Vertex)) → ((e : DirectedEdge Vertex) → In es e → In edges e) → leads v es w ≡ true
+      → IsPath (λ e. Contains edges e) v es w
   unfolding leads
   path-from_leads v w [] h l = same_from_is_same v w l
   path-from_leads v w (e ∷ es) h l =
       let parts = and_parts (is_same e.from v) (leads e.to es w) l in
       (Contains-from_In edges e (h e (inl refl)), same_from_is_same e.from v parts.0, path-from_leads e.to w es (λ x i. h x (inr i)) parts.1)
 
-  pub In-paths_of : (v w : Vertex) (es : List (DirectedEdge Vertex)) → IsPath (λ e. Contains edges e) v es w → length es ≤ length edges → In (paths_of edges v w) es
+  pub In-paths_of : (v w : Vertex) (es : List (DirectedEdge Vertex)) → IsPath (λ e. Contains edges e) v es w → length es ≤ length edges
+      → In (paths_of edges v w) es
   unfolding paths_of
-  In-paths_of v w es p short = In-filter (λ fs. leads v fs w) (lists_within (length edges) edges) es (In-lists_within (length edges) edges es short (members edges v w es p)) (leads-from_path v w es p)
+  In-paths_of v w es p short = In-filter (λ fs. leads v fs w) (lists_within (length edges) edges) es
+      (In-lists_within (length edges) edges es short (members edges v w es p)) (leads-from_path v w es p)
 
   pub paths_of-In : (v w : Vertex) (es : List (DirectedEdge Vertex)) → In (paths_of edges v w) es → IsPath (λ e. Contains edges e) v es w
   unfolding paths_of
@@ -192,31 +198,39 @@ module _ (edges : List (DirectedEdge Vertex)) where
           )
 
   -- so what is the distance over these edges is `distance_of`
-  pub distance_of-is : (IsEdge : DirectedEdge Vertex → Type 0) → ((e : DirectedEdge Vertex) → IsEdge e → Contains edges e) → ((e : DirectedEdge Vertex) → Contains edges e → IsEdge e)
+  pub distance_of-is : (IsEdge : DirectedEdge Vertex → Type 0) → ((e : DirectedEdge Vertex) → IsEdge e → Contains edges e)
+      → ((e : DirectedEdge Vertex) → Contains edges e → IsEdge e)
       → (v w : Vertex) (o : Option ℕ) → IsDistance IsEdge v w o → o ≡ distance_of edges v w
   distance_of-is IsEdge there back v w o h =
-      IsDistance-same (λ e. Contains edges e) v w o (distance_of edges v w) (IsDistance-same_edges IsEdge (λ e. Contains edges e) there back v w o h) (IsDistance-distance_of v w)
+      IsDistance-same (λ e. Contains edges e) v w o (distance_of edges v w) (IsDistance-same_edges IsEdge (λ e. Contains edges e) there back v w o h)
+      (IsDistance-distance_of v w)
 
-  pub least_paths_of-In : (v w : Vertex) (es : List (DirectedEdge Vertex)) → In (least_paths_of edges v w) es → IsPath (λ e. Contains edges e) v es w × NoPathBelow (λ e. Contains edges e) v w (path_cost es)
+  pub least_paths_of-In : (v w : Vertex) (es : List (DirectedEdge Vertex)) → In (least_paths_of edges v w) es
+      → IsPath (λ e. Contains edges e) v es w × NoPathBelow (λ e. Contains edges e) v w (path_cost es)
   unfolding least_paths_of
   least_paths_of-In v w es i =
       let r = filter-In (λ es. list_all (λ fs. nat_le (path_cost es) (path_cost fs)) (paths_of edges v w)) (paths_of edges v w) es i in (
         paths_of-In v w es r.0,
         λ gs p.
             (let s = short_path edges (length gs) v w gs (omega arith) p in
-            let one : path_cost es ≤ path_cost s.0 = leb-true (path_cost es) (path_cost s.0) (list_all-In (λ fs. nat_le (path_cost es) (path_cost fs)) (paths_of edges v w) r.1 s.0 (In-paths_of v w s.0 s.1 s.2)) in
+            let one : path_cost es ≤ path_cost s.0 = leb-true (path_cost es) (path_cost s.0)
+            (list_all-In (λ fs. nat_le (path_cost es) (path_cost fs)) (paths_of edges v w) r.1 s.0 (In-paths_of v w s.0 s.1 s.2)) in
             let two : path_cost s.0 ≤ path_cost gs = s.3 in
             omega arith),
       )
 
-  pub In-least_paths_of : NothingFree edges → (v w : Vertex) (es : List (DirectedEdge Vertex)) → IsPath (λ e. Contains edges e) v es w → NoPathBelow (λ e. Contains edges e) v w (path_cost es) → In (least_paths_of edges v w) es
+  pub In-least_paths_of : NothingFree edges → (v w : Vertex) (es : List (DirectedEdge Vertex)) → IsPath (λ e. Contains edges e) v es w
+      → NoPathBelow (λ e. Contains edges e) v w (path_cost es) → In (least_paths_of edges v w) es
   unfolding least_paths_of
   In-least_paths_of costly v w es p low =
       In-filter (λ es. list_all (λ fs. nat_le (path_cost es) (path_cost fs)) (paths_of edges v w)) (paths_of edges v w) es
       (In-paths_of v w es p (least_is_short edges costly v w es p low))
-      (In-list_all (λ fs. nat_le (path_cost es) (path_cost fs)) (paths_of edges v w) (λ gs i. le-leb (path_cost es) (path_cost gs) (low gs (paths_of-In v w gs i))))
+      (In-list_all (λ fs. nat_le (path_cost es) (path_cost fs)) (paths_of edges v w)
+      (λ gs i. le-leb (path_cost es) (path_cost gs) (low gs (paths_of-In v w gs i))))
 
 -- two lists with the same members give the same distances
-pub distance_of-same_members : (edges others : List (DirectedEdge Vertex)) → ((e : DirectedEdge Vertex) → Contains edges e → Contains others e) → ((e : DirectedEdge Vertex) → Contains others e → Contains edges e)
+pub distance_of-same_members : (edges others : List (DirectedEdge Vertex)) → ((e : DirectedEdge Vertex) → Contains edges e → Contains others e)
+    → ((e : DirectedEdge Vertex) → Contains others e → Contains edges e)
     → (v w : Vertex) → distance_of edges v w ≡ distance_of others v w
-distance_of-same_members edges others there back v w = distance_of-is others (λ e. Contains edges e) there back v w (distance_of edges v w) (IsDistance-distance_of edges v w)
+distance_of-same_members edges others there back v w = distance_of-is others (λ e. Contains edges e) there back v w (distance_of edges v w)
+    (IsDistance-distance_of edges v w)

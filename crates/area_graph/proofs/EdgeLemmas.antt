@@ -8,7 +8,7 @@ use Rattle.area_graph.specs.declared.vertex.Vertex.{Vertex}
 use Rattle.area_graph.specs.Vertex.{is_network}
 use Rattle.area_graph.specs.Paths.{DirectedEdge, IsDistance}
 use Rattle.area_graph.specs.AllPaths.{distance_of}
-use Rattle.area_graph.proofs.Members.{In, In-from_Contains, Contains-from_In, In-flat_map, flat_map-In, In-filter_map, filter_map-In, In-zip, zip-In, Some-same}
+use Rattle.area_graph.proofs.MemberLemmas.{In, In-from_Contains, Contains-from_In, In-flat_map, flat_map-In, In-filter_map, filter_map-In, In-zip, zip-In, Some-same}
 use Rattle.area_graph.proofs.AllPathsLemmas.{NothingFree, distance_of-is, IsDistance-distance_of}
 use Rattle.area_graph.proofs.PathLemmas.{IsDistance-same_edges}
 use Rattle.area_graph.specs.declared.edge.Edge.{Edge}
@@ -35,12 +35,15 @@ module _ (t : Topology) where
   pub edges_of-only : (e : DirectedEdge Vertex) → Contains (edges_of t) e → IsEdge t e
   unfolding edges_of
   edges_of-only e h =
-      let p = flat_map-In (λ p. filter_map (λ f. edge_from t p.0 f) p.1) (zip t.vertices t.rows) e (In-from_Contains (flat_map (λ p. filter_map (λ f. edge_from t p.0 f) p.1) (zip t.vertices t.rows)) e h) in
+      let p = flat_map-In (λ p. filter_map (λ f. edge_from t p.0 f) p.1) (zip t.vertices t.rows) e
+      (In-from_Contains (flat_map (λ p. filter_map (λ f. edge_from t p.0 f) p.1) (zip t.vertices t.rows)) e h) in
       let row = zip-In t.vertices t.rows p.0 [] p.1 in
       let o = filter_map-In (λ f. edge_from t (p.0).0 f) (p.0).1 e p.2 in
-      by_target row.0 (p.0).0 o.0 row.1 (Contains-from_In (row_at t row.0) o.0 (subst (λ (xs : List Edge). In xs o.0) (sym row.2) o.1)) (slice_get t.vertices (o.0).to) refl o.2
+      by_target row.0 (p.0).0 o.0 row.1 (Contains-from_In (row_at t row.0) o.0 (subst (λ (xs : List Edge). In xs o.0) (sym row.2) o.1))
+      (slice_get t.vertices (o.0).to) refl o.2
     where
-      by_target : (i : ℕ) (v : Vertex) (o : Edge) → slice_get t.vertices i ≡ Some v → Contains (row_at t i) o → (w : Option Vertex) → slice_get t.vertices o.to ≡ w
+      by_target : (i : ℕ) (v : Vertex) (o : Edge) → slice_get t.vertices i ≡ Some v → Contains (row_at t i) o → (w : Option Vertex)
+          → slice_get t.vertices o.to ≡ w
           → option_map (λ w. let f : DirectedEdge Vertex = record { from = v; to = w; cost = o.cost; link_data = o.link_data } in f) w ≡ Some e → IsEdge t e
       by_target i v o at_v there None at_w is = absurd (cc)
       by_target i v o at_v there (Some w) at_w is = subst (λ (f : DirectedEdge Vertex). IsEdge t f) (Some-same is) (i, o.to, there, at_v, at_w)
@@ -63,8 +66,10 @@ module _ (t : Topology) where
 
   -- and `distance_of` is the distance
   pub IsDistance-edges : (v w : Vertex) → IsDistance (IsEdge t) v w (distance_of (edges_of t) v w)
-  IsDistance-edges v w = IsDistance-same_edges (λ e. Contains (edges_of t) e) (IsEdge t) edges_of-only edges_of-has v w (distance_of (edges_of t) v w) (IsDistance-distance_of (edges_of t) v w)
+  IsDistance-edges v w = IsDistance-same_edges (λ e. Contains (edges_of t) e) (IsEdge t) edges_of-only edges_of-has v w (distance_of (edges_of t) v w)
+      (IsDistance-distance_of (edges_of t) v w)
 
   -- where the graph has the edges of another list, such as those of an area's LSAs
-  pub distance_of-edges : (edges : List (DirectedEdge Vertex)) → ((e : DirectedEdge Vertex) → IsEdge t e → Contains edges e) → ((e : DirectedEdge Vertex) → Contains edges e → IsEdge t e) → (v w : Vertex) → distance_of (edges_of t) v w ≡ distance_of edges v w
+  pub distance_of-edges : (edges : List (DirectedEdge Vertex)) → ((e : DirectedEdge Vertex) → IsEdge t e → Contains edges e)
+      → ((e : DirectedEdge Vertex) → Contains edges e → IsEdge t e) → (v w : Vertex) → distance_of (edges_of t) v w ≡ distance_of edges v w
   distance_of-edges edges there back v w = distance_of-is edges (IsEdge t) there back v w (distance_of (edges_of t) v w) (IsDistance-edges v w)

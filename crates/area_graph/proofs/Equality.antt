@@ -1,5 +1,5 @@
 -- `==` of the crate's types.
-use Rattle.std.proofs.Common.{◌≡◌, ◌≢◌, Bool, ◌&&◌, List, refl, ap, ◌∙◌, sym}
+use Rattle.std.proofs.Common.{◌≡◌, Bool, ◌&&◌, refl, ap, ◌∙◌}
 use Rattle.area_graph.specs.declared.vertex.Vertex.{Vertex}
 use Rattle.area_graph.specs.declared.vertex.Vertex.TheVariants.{Router, Network}
 use Rattle.area_graph.specs.declared.ties.Tie.{Tie}
@@ -7,10 +7,7 @@ use Rattle.area_graph.specs.contracts.vertex.VertexPartialEq.TheImpl as vertex_i
 use Rattle.area_graph.specs.contracts.ties.TiePartialEq.TheImpl as tie_impl
 use Rattle.area_graph.specs.contracts.edge.EdgePartialEq.TheImpl as edge_impl
 use Rattle.area_graph.specs.declared.edge.Edge.{Edge}
-use Rattle.area_graph.specs.Drafts.{same_edge}
-use Rattle.area_graph.proofs.DraftLemmas.{edge_is, edge_same}
-use Rattle.std.specs.List.{AllPairs, IsDistinct}
-use Rattle.std.proofs.lemmas.Map.Made.{AllPairs-from_IsDistinct}
+use Rattle.area_graph.specs.Rows.{same_edge}
 use Rattle.area_graph.specs.Vertex.{is_same}
 use Rattle.area_graph.specs.Ties.{same_tie}
 
@@ -38,7 +35,5 @@ edge_eq = (edge_impl.ghosts).eq
 edge_by : (a b : Edge) → edge_eq a b ≡ same_edge a b
 edge_by a b = refl
 
--- edges that a set keeps are all different
-pub edges_once : (es : List Edge) → IsDistinct edge_eq es → AllPairs (λ e f. e ≢ f) es
-edges_once es distinct =
-    AllPairs-from_IsDistinct (λ a b. (λ h. edge_is a b (sym (edge_by a b) ∙ h), λ e. edge_by a b ∙ edge_same a b e)) es distinct
+pub edge_eq-is : edge_eq ≡ same_edge
+edge_eq-is = λ i a b. edge_by a b i

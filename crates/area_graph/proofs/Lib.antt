@@ -1,5 +1,5 @@
-pub mod Members
-pub mod Sorted
+pub mod MemberLemmas
+pub mod RisingLemmas
 pub mod PathLemmas
 pub mod AllPathsLemmas
 pub mod SmallGraphs
@@ -8,11 +8,13 @@ pub mod TopologyLemmas
 pub mod EdgeLemmas
 pub mod RankLemmas
 pub mod TieLemmas
+pub mod OnceLemmas
+pub mod SpanLemmas
 pub mod Equality
 pub mod DraftLemmas
 pub mod AddsLemmas
-pub mod LinkLemmas
 pub mod AreaLemmas
+pub mod JoinLemmas
 pub mod OverLemmas
 pub mod UsedLemmas
 pub mod GraphLemmas

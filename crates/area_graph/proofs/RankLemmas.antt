@@ -46,7 +46,8 @@ no_ranks ranks empty id router = sym (ap (λ (es : List (Addr × RouterId)). exc
 -- whether others outrank an LSA, by its rank
 pub outranked_by_rank : {S : Type 0} (lsas : List (List ℕ)) (ranks : HashMap Addr RouterId S) → AreRanksOf lsas ranks → (lsa : List ℕ)
     → (is_network_lsa lsa && exceeds (advertising_router_of lsa) (rank_in ranks (link_state_id_of lsa))) ≡ list_any (is_outranked_by lsa) lsas
-outranked_by_rank lsas ranks are lsa = ap (λ b. is_network_lsa lsa && b) (sym (are (link_state_id_of lsa) (advertising_router_of lsa))) ∙ sym (any_and (is_network_lsa lsa) (outranks (link_state_id_of lsa) (advertising_router_of lsa)) lsas)
+outranked_by_rank lsas ranks are lsa = ap (λ b. is_network_lsa lsa && b) (sym (are (link_state_id_of lsa) (advertising_router_of lsa)))
+    ∙ sym (any_and (is_network_lsa lsa) (outranks (link_state_id_of lsa) (advertising_router_of lsa)) lsas)
   where
     any_and : (b : Bool) (p : List ℕ → Bool) (xs : List (List ℕ)) → list_any (λ x. b && p x) xs ≡ (b && list_any p xs)
     any_and true p xs = refl
@@ -66,18 +67,21 @@ rank_stays lsas lsa ranks are low id router =
     below None h = absurd (true≢false (sym h))
     below (Some greatest) h = (let lt = ltb-true adv greatest.0 h in or_ltb_right adv greatest.0 router (omega arith))
 
-    by_id : (b : Bool) → eqb (link_state_id_of lsa) id ≡ b → exceeds adv (rank_in ranks (link_state_id_of lsa)) ≡ true → (exceeds router (rank_in ranks id) || (b && ltb router adv)) ≡ exceeds router (rank_in ranks id)
+    by_id : (b : Bool) → eqb (link_state_id_of lsa) id ≡ b → exceeds adv (rank_in ranks (link_state_id_of lsa)) ≡ true
+        → (exceeds router (rank_in ranks id) || (b && ltb router adv)) ≡ exceeds router (rank_in ranks id)
     by_id true same h = below (rank_in ranks id) (subst (λ n. exceeds adv (rank_in ranks n) ≡ true) (eqb-true (link_state_id_of lsa) id same) h)
     by_id false other h = or_false (exceeds router (rank_in ranks id))
 
-    by_kind : (b : Bool) → is_network_lsa lsa ≡ b → (exceeds router (rank_in ranks id) || (b && (eqb (link_state_id_of lsa) id && ltb router adv))) ≡ exceeds router (rank_in ranks id)
+    by_kind : (b : Bool) → is_network_lsa lsa ≡ b → (exceeds router (rank_in ranks id) ||
+        (b && (eqb (link_state_id_of lsa) id && ltb router adv))) ≡ exceeds router (rank_in ranks id)
     by_kind true is = by_id (eqb (link_state_id_of lsa) id) refl (low is)
     by_kind false is = or_false (exceeds router (rank_in ranks id))
 
 -- one more LSA, which has the rank from now on
 pub rank_rises : {S : Type 0} (lsas : List (List ℕ)) (lsa : List ℕ) (old new : HashMap Addr RouterId S) → AreRanksOf lsas old → is_network_lsa lsa ≡ true
     → exceeds (advertising_router_of lsa) (rank_in old (link_state_id_of lsa)) ≡ false
-    → ((id : ℕ) → rank_in new id ≡ ranked (link_state_id_of lsa) (record { 0 = advertising_router_of lsa }) id (rank_in old id)) → AreRanksOf (lsas ++ lsa ∷ []) new
+    → ((id : ℕ) → rank_in new id ≡ ranked (link_state_id_of lsa) (record { 0 = advertising_router_of lsa }) id (rank_in old id))
+    → AreRanksOf (lsas ++ lsa ∷ []) new
 rank_rises lsas lsa old new are kind high is id router =
     any_push (outranks id router) lsas lsa ∙ ap (λ b. b || outranks id router lsa) (are id router)
     ∙ ap (λ b. exceeds router (rank_in old id) || (b && (eqb (link_state_id_of lsa) id && ltb router adv))) kind
@@ -90,13 +94,16 @@ rank_rises lsas lsa old new are kind high is id router =
     above None h = refl
     above (Some greatest) h = or_ltb greatest.0 adv router (ltb-false adv greatest.0 h)
 
-    by_id : (b : Bool) → eqb (link_state_id_of lsa) id ≡ b → (exceeds router (rank_in old id) || (b && ltb router adv)) ≡ exceeds router (cond b (Some (record { 0 = adv })) (rank_in old id))
+    by_id : (b : Bool) → eqb (link_state_id_of lsa) id ≡ b → (exceeds router (rank_in old id) || (b && ltb router adv)) ≡ exceeds router
+        (cond b (Some (record { 0 = adv })) (rank_in old id))
     by_id true same = above (rank_in old id) (subst (λ n. exceeds adv (rank_in old n) ≡ false) (eqb-true (link_state_id_of lsa) id same) high)
     by_id false other = or_false (exceeds router (rank_in old id))
 
 -- the same, by the key of the LSA
-pub rank_set : {S : Type 0} (lsas : List (List ℕ)) (lsa : List ℕ) (key : Key) (old new : HashMap Addr RouterId S) → AreRanksOf lsas old → key ≡ key_of lsa → key.kind ≡ 2
-    → exceeds key.adv.0 (rank_in old key.id.0) ≡ false → ((id : ℕ) → rank_in new id ≡ ranked key.id.0 key.adv id (rank_in old id)) → AreRanksOf (lsas ++ lsa ∷ []) new
+pub rank_set : {S : Type 0} (lsas : List (List ℕ)) (lsa : List ℕ) (key : Key) (old new : HashMap Addr RouterId S) → AreRanksOf lsas old
+    → key ≡ key_of lsa → key.kind ≡ 2
+    → exceeds key.adv.0 (rank_in old key.id.0) ≡ false → ((id : ℕ) → rank_in new id ≡ ranked key.id.0 key.adv id (rank_in old id))
+    → AreRanksOf (lsas ++ lsa ∷ []) new
 rank_set lsas lsa key old new are e kind high is =
     rank_rises lsas lsa old new are (eq-eqb (kind_of lsa) 2 (sym (ap (λ (k : Key). k.kind) e) ∙ kind))
     (subst (λ (k : Key). exceeds k.adv.0 (rank_in old k.id.0) ≡ false) e high)
@@ -106,9 +113,11 @@ rank_set lsas lsa key old new are e kind high is =
 pub keep_more : {X : Type 0} (p : X → Bool) (xs : List X) (i : ℕ) (x : X) (kept new : List X) → i < length xs → x ≡ get_or xs i x → p x ≡ true
     → kept ≡ filter p (take i xs) → new ≡ kept ++ x ∷ [] → new ≡ filter p (take (i + 1) xs)
 keep_more p xs i x kept new lt at pass done is =
-    is ∙ ap (λ ks. ks ++ x ∷ []) done ∙ sym (filter_more p xs i x lt ∙ ap (λ y. filter p (take i xs) ++ cond (p y) (y ∷ []) []) (sym at) ∙ ap (λ b. filter p (take i xs) ++ cond b (x ∷ []) []) pass)
+    is ∙ ap (λ ks. ks ++ x ∷ []) done ∙ sym (filter_more p xs i x lt ∙ ap (λ y. filter p (take i xs) ++ cond (p y) (y ∷ []) []) (sym at)
+    ∙ ap (λ b. filter p (take i xs) ++ cond b (x ∷ []) []) pass)
 
 pub skip_more : {X : Type 0} (p : X → Bool) (xs : List X) (i : ℕ) (x : X) (kept new : List X) → i < length xs → x ≡ get_or xs i x → p x ≡ false
     → kept ≡ filter p (take i xs) → new ≡ kept → new ≡ filter p (take (i + 1) xs)
 skip_more p xs i x kept new lt at fail done is =
-    is ∙ done ∙ sym (filter_more p xs i x lt ∙ ap (λ y. filter p (take i xs) ++ cond (p y) (y ∷ []) []) (sym at) ∙ ap (λ b. filter p (take i xs) ++ cond b (x ∷ []) []) fail ∙ append-nil (filter p (take i xs)))
+    is ∙ done ∙ sym (filter_more p xs i x lt ∙ ap (λ y. filter p (take i xs) ++ cond (p y) (y ∷ []) []) (sym at)
+    ∙ ap (λ b. filter p (take i xs) ++ cond b (x ∷ []) []) fail ∙ append-nil (filter p (take i xs)))

@@ -14,7 +14,8 @@ one_more true true o = refl
 one_more true false o = refl
 one_more false b o = refl
 
-pub tie_added : {S : Type 0} (of named : Vertex) (old new : HashSet Tie S) → Updates same_tie old new (record { of = of; named = named }) true → AddsTies of (named ∷ []) old new
+pub tie_added : {S : Type 0} (of named : Vertex) (old new : HashSet Tie S) → Updates same_tie old new (record { of = of; named = named }) true
+    → AddsTies of (named ∷ []) old new
 tie_added of named old new updates v w = let q : Tie = record { of = v; named = w } in updates.0 q ∙ one_more (is_same of v) (is_same named w) (is_tied old v w)
 
 both : (a b c o : Bool) → ((a && c) || ((a && b) || o)) ≡ ((a && (b || c)) || o)
@@ -24,12 +25,15 @@ both true false c o = refl
 both false b c o = refl
 
 -- pairs with some vertices, and then with others
-pub ties_both : {S : Type 0} (of : Vertex) (xs ys : List Vertex) (old mid new : HashSet Tie S) → AddsTies of xs old mid → AddsTies of ys mid new → AddsTies of (xs ++ ys) old new
+pub ties_both : {S : Type 0} (of : Vertex) (xs ys : List Vertex) (old mid new : HashSet Tie S) → AddsTies of xs old mid → AddsTies of ys mid new
+    → AddsTies of (xs ++ ys) old new
 ties_both of xs ys old mid new a b v w =
     b v w ∙ ap (λ t. (is_same of v && list_any (λ n. is_same n w) ys) || t) (a v w)
     ∙ both (is_same of v) (list_any (λ n. is_same n w) xs) (list_any (λ n. is_same n w) ys) (is_tied old v w)
     ∙ ap (λ t. (is_same of v && t) || is_tied old v w) (sym (list_any-append (λ n. is_same n w) xs ys))
 
-pub link_ties_more : {S X : Type 0} (f : X → Option Vertex) (of : Vertex) (xs : List X) (x : X) (old mid new : HashSet Tie S) → AddsTies of (filter_map f xs) old mid → AddsTies of (filter_map f (x ∷ [])) mid new → AddsTies of (filter_map f (xs ++ x ∷ [])) old new
+pub link_ties_more : {S X : Type 0} (f : X → Option Vertex) (of : Vertex) (xs : List X) (x : X) (old mid new : HashSet Tie S)
+    → AddsTies of (filter_map f xs) old mid → AddsTies of (filter_map f (x ∷ [])) mid new → AddsTies of (filter_map f (xs ++ x ∷ [])) old new
 link_ties_more f of xs x old mid new a b =
-    subst (λ (ns : List Vertex). AddsTies of ns old new) (sym (filter_map-append f xs (x ∷ []))) (ties_both of (filter_map f xs) (filter_map f (x ∷ [])) old mid new a b)
+    subst (λ (ns : List Vertex). AddsTies of ns old new) (sym (filter_map-append f xs (x ∷ [])))
+    (ties_both of (filter_map f xs) (filter_map f (x ∷ [])) old mid new a b)

@@ -1,6 +1,6 @@
 -- Paths over the vertices' numbers, and over the vertices themselves.
-use Rattle.std.proofs.Common.{◌≡◌, ℕ, ◌+◌, ◌<◌, ◌≤◌, Bool, true, false, List, [], ◌∷◌, map, length, get_or, Option, None, Some, refl, sym, ap, ◌∙◌, subst, arith, ◌⊎◌, inl, inr, ⊎_elim}
-use Rattle.std.specs.List.{slice_get, Contains, All}
+use Rattle.std.proofs.Common.{◌≡◌, ◌≢◌, ℕ, ◌+◌, ◌<◌, ◌≤◌, Bool, true, false, List, [], ◌∷◌, map, length, get_or, Option, None, Some, refl, sym, ap, ◌∙◌, subst, arith, ◌⊎◌, inl, inr, ⊎_elim}
+use Rattle.std.specs.List.{slice_get, Contains, All, AllPairs}
 use Rattle.std.proofs.lemmas.List.Elements.{Contains-get_or}
 use Rattle.std.proofs.lemmas.List.{get_or_past}
 use Rattle.std.proofs.lemmas.Option.{slice_get-get_or, get_or_from_slice_get, slice_get_within}
@@ -20,7 +20,12 @@ name t i = get_or t.vertices i (Router (record { 0 = 0 }))
 pub targets_in_row : (t : Topology) → IsTopology t → (i : ℕ) (row : List Edge) → row ≡ row_at t i → All (λ (e : Edge). e.to < length t.vertices) row
 targets_in_row t shape i row is k d lt =
     let e = get_or row k d in
-    shape.in_range (record { from = i; to = e.to; cost = e.cost; link_data = e.link_data }) (subst (λ (xs : List Edge). Contains xs e) is (Contains-get_or row k d lt))
+    shape.in_range (record { from = i; to = e.to; cost = e.cost; link_data = e.link_data })
+    (subst (λ (xs : List Edge). Contains xs e) is (Contains-get_or row k d lt))
+
+-- and stands there once
+pub once_in_row : (t : Topology) → IsTopology t → (i : ℕ) (row : List Edge) → row ≡ row_at t i → AllPairs (λ e f. e ≢ f) row
+once_in_row t shape i row is = subst (λ (xs : List Edge). AllPairs (λ e f. e ≢ f) xs) (sym is) (shape.once i)
 
 -- an edge by its vertices
 abbrev pub named : Topology → DirectedEdge ℕ → DirectedEdge Vertex
@@ -36,24 +41,35 @@ module _ (t : Topology) (shape : IsTopology t) where
   IsArc-from e arc =
       ⊎_elim
       (λ within. (let rows : length t.rows ≡ length t.vertices = shape.a_row_each in omega arith))
-      (λ past. absurd (none (subst (λ (xs : List Edge). Contains xs (record { to = e.to; cost = e.cost; link_data = e.link_data })) (get_or_past t.rows e.from [] past) arc)))
+      (λ past. absurd (none (subst (λ (xs : List Edge). Contains xs (record { to = e.to; cost = e.cost; link_data = e.link_data }))
+      (get_or_past t.rows e.from [] past) arc)))
       (cases_lt e.from (length t.rows))
     where
       none : Contains {X = Edge} [] (record { to = e.to; cost = e.cost; link_data = e.link_data }) → ⊥
       none h = let below : h.0 < 0 = h.1 in omega arith
 
   pub IsEdge-named : (e : DirectedEdge ℕ) → IsArc t e → IsEdge t (named t e)
-  IsEdge-named e arc = (e.from, e.to, arc, slice_get-get_or t.vertices e.from (Router (record { 0 = 0 })) (IsArc-from e arc), slice_get-get_or t.vertices e.to (Router (record { 0 = 0 })) (shape.in_range e arc))
+  IsEdge-named e arc = (
+    e.from,
+    e.to,
+    arc,
+    slice_get-get_or t.vertices e.from (Router (record { 0 = 0 }))
+        (IsArc-from e arc),
+    slice_get-get_or t.vertices e.to (Router (record { 0 = 0 })) (shape.in_range e arc),
+  )
 
   -- an edge out of a router costs something, and one out of a network nothing, and leads to a router
-  pub arc_kind : (e : DirectedEdge ℕ) → IsArc t e → ((is_network (name t e.from) ≡ false) × (0 < e.cost)) ⊎ ((is_network (name t e.from) ≡ true) × (e.cost ≡ 0) × (is_network (name t e.to) ≡ false))
+  pub arc_kind : (e : DirectedEdge ℕ) → IsArc t e → ((is_network (name t e.from) ≡ false) × (0 < e.cost)) ⊎
+      ((is_network (name t e.from) ≡ true) × (e.cost ≡ 0) × (is_network (name t e.to) ≡ false))
   arc_kind e arc = by_kind (is_network (name t e.from)) refl
     where
-      by_kind : (b : Bool) → is_network (name t e.from) ≡ b → ((is_network (name t e.from) ≡ false) × (0 < e.cost)) ⊎ ((is_network (name t e.from) ≡ true) × (e.cost ≡ 0) × (is_network (name t e.to) ≡ false))
+      by_kind : (b : Bool) → is_network (name t e.from) ≡ b → ((is_network (name t e.from) ≡ false) × (0 < e.cost)) ⊎
+          ((is_network (name t e.from) ≡ true) × (e.cost ≡ 0) × (is_network (name t e.to) ≡ false))
       by_kind true h = let k = shape.from_network (named t e) (IsEdge-named e arc) h in inr (h, k.0, k.1)
       by_kind false h = inl (h, shape.from_router (named t e) (IsEdge-named e arc) h)
 
-  pub IsPath-named : (es : List (DirectedEdge ℕ)) (i j : ℕ) → IsPath (IsArc t) i es j → IsPath (IsEdge t) (name t i) (map (λ (e : DirectedEdge ℕ). named t e) es) (name t j)
+  pub IsPath-named : (es : List (DirectedEdge ℕ)) (i j : ℕ) → IsPath (IsArc t) i es j
+      → IsPath (IsEdge t) (name t i) (map (λ (e : DirectedEdge ℕ). named t e) es) (name t j)
   IsPath-named [] i j p = ap (λ (n : ℕ). name t n) p
   IsPath-named (e ∷ es) i j p = (IsEdge-named e p.0, ap (λ (n : ℕ). name t n) p.1, IsPath-named es e.to j p.2)
 
@@ -61,16 +77,20 @@ module _ (t : Topology) (shape : IsTopology t) where
   pub one_number : (i j : ℕ) (v : Vertex) → slice_get t.vertices i ≡ Some v → slice_get t.vertices j ≡ Some v → i ≡ j
   one_number i j v at_i at_j =
       ⊎_elim (λ same. same) (λ other. absurd (⊎_elim
-      (λ lt. shape.distinct i j v lt (slice_get_within t.vertices j v at_j) (get_or_from_slice_get t.vertices i v v at_i ∙ sym (get_or_from_slice_get t.vertices j v v at_j)))
-      (λ ge. (let lt : j < i = omega arith in shape.distinct j i v lt (slice_get_within t.vertices i v at_i) (get_or_from_slice_get t.vertices j v v at_j ∙ sym (get_or_from_slice_get t.vertices i v v at_i))))
+      (λ lt. shape.distinct i j v lt (slice_get_within t.vertices j v at_j)
+      (get_or_from_slice_get t.vertices i v v at_i ∙ sym (get_or_from_slice_get t.vertices j v v at_j)))
+      (λ ge. (let lt : j < i = omega arith in shape.distinct j i v lt (slice_get_within t.vertices i v at_i)
+      (get_or_from_slice_get t.vertices j v v at_j ∙ sym (get_or_from_slice_get t.vertices i v v at_i))))
       (cases_lt i j))) (cases_eq i j)
 
   -- an edge of the vertices is the name of one of the numbers
-  edge_named : (e : DirectedEdge Vertex) (i j : ℕ) → slice_get t.vertices i ≡ Some e.from → slice_get t.vertices j ≡ Some e.to → e ≡ named t (record { from = i; to = j; cost = e.cost; link_data = e.link_data })
+  edge_named : (e : DirectedEdge Vertex) (i j : ℕ) → slice_get t.vertices i ≡ Some e.from → slice_get t.vertices j ≡ Some e.to
+      → e ≡ named t (record { from = i; to = j; cost = e.cost; link_data = e.link_data })
   edge_named e i j at_from at_to =
       let one : name t i ≡ e.from = get_or_from_slice_get t.vertices i e.from (Router (record { 0 = 0 })) at_from in
       let two : name t j ≡ e.to = get_or_from_slice_get t.vertices j e.to (Router (record { 0 = 0 })) at_to in
-      ap (λ (v : Vertex). let f : DirectedEdge Vertex = record { from = v; to = e.to; cost = e.cost; link_data = e.link_data } in f) (sym one) ∙ ap (λ (v : Vertex). let f : DirectedEdge Vertex = record { from = name t i; to = v; cost = e.cost; link_data = e.link_data } in f) (sym two)
+      ap (λ (v : Vertex). let f : DirectedEdge Vertex = record { from = v; to = e.to; cost = e.cost; link_data = e.link_data } in f) (sym one)
+      ∙ ap (λ (v : Vertex). let f : DirectedEdge Vertex = record { from = name t i; to = v; cost = e.cost; link_data = e.link_data } in f) (sym two)
 
   -- each path of the vertices is the name of one of the numbers
   pub IsPath-numbered : (es : List (DirectedEdge Vertex)) (i : ℕ) (v w : Vertex) → slice_get t.vertices i ≡ Some v → IsPath (IsEdge t) v es w
@@ -83,7 +103,8 @@ module _ (t : Topology) (shape : IsTopology t) where
         (let f : DirectedEdge ℕ = record { from = k; to = l; cost = e.cost; link_data = e.link_data } in f) ∷ next.1,
         next.2,
         (arc, same, next.3),
-        ap (λ (f : DirectedEdge Vertex). f ∷ es) (edge_named e k l at_from at_to) ∙ ap (λ (fs : List (DirectedEdge Vertex)). named t (record { from = k; to = l; cost = e.cost; link_data = e.link_data }) ∷ fs) next.4,
+        ap (λ (f : DirectedEdge Vertex). f ∷ es) (edge_named e k l at_from at_to)
+            ∙ ap (λ (fs : List (DirectedEdge Vertex)). named t (record { from = k; to = l; cost = e.cost; link_data = e.link_data }) ∷ fs) next.4,
       )
 
   module _ (i j : ℕ) (v w : Vertex) (at_i : slice_get t.vertices i ≡ Some v) (at_j : slice_get t.vertices j ≡ Some w) where
@@ -97,7 +118,8 @@ module _ (t : Topology) (shape : IsTopology t) where
         (subst (λ (x : Vertex). IsPath (IsEdge t) (name t i) (map (λ (e : DirectedEdge ℕ). named t e) es) x) two named_path)
 
     -- and back
-    pub path_down : (es : List (DirectedEdge Vertex)) → IsPath (IsEdge t) v es w → (fs : List (DirectedEdge ℕ)) × IsPath (IsArc t) i fs j × (es ≡ map (λ (e : DirectedEdge ℕ). named t e) fs)
+    pub path_down : (es : List (DirectedEdge Vertex)) → IsPath (IsEdge t) v es w
+        → (fs : List (DirectedEdge ℕ)) × IsPath (IsArc t) i fs j × (es ≡ map (λ (e : DirectedEdge ℕ). named t e) fs)
     path_down es p =
         let q = IsPath-numbered es i v w at_i p in
         let same : q.0 ≡ j = one_number q.0 j w q.2 at_j in

@@ -12,7 +12,7 @@ use Rattle.lsa_codec.specs.Key.{key_of}
 use Rattle.lsa_codec.specs.Accepted.{IsAccepted}
 use Rattle.area_graph.specs.Vertex.{is_network}
 use Rattle.area_graph.specs.Area.{is_live, is_router_lsa, is_network_lsa, is_vertex_lsa, vertex_lsas, outranks, is_outranked_by, used, vertex_of}
-use Rattle.area_graph.proofs.Members.{In, In-from_Contains, filter-In, In-list_any}
+use Rattle.area_graph.proofs.MemberLemmas.{In, In-from_Contains, filter-In, In-list_any}
 use Rattle.area_graph.proofs.AreaLemmas.{number_in, number_of_vertex, kind_of_vertex}
 
 -- an LSA that no other of a list outranks
@@ -30,15 +30,19 @@ one_id a b e = sym (number_of_vertex a) ∙ ap number_in e ∙ number_of_vertex 
 one_kind : (a b : List ℕ) → vertex_of a ≡ vertex_of b → is_router_lsa a ≡ true → is_router_lsa b ≡ false → ⊥
 one_kind a b e ra rb = true≢false (sym (kind_of_vertex b false rb) ∙ sym (ap is_network e) ∙ kind_of_vertex a true ra)
 
-not_below : (live : List (List ℕ)) (a b : List ℕ) → IsHighest live a → In live b → kind_of a ≡ 2 → kind_of b ≡ 2 → link_state_id_of b ≡ link_state_id_of a → advertising_router_of a < advertising_router_of b → ⊥
+not_below : (live : List (List ℕ)) (a b : List ℕ) → IsHighest live a → In live b → kind_of a ≡ 2 → kind_of b ≡ 2
+    → link_state_id_of b ≡ link_state_id_of a → advertising_router_of a < advertising_router_of b → ⊥
 not_below live a b top there ka kb id lt =
     let over : is_outranked_by a b ≡ true =
     and_from (is_network_lsa a) (outranks (link_state_id_of a) (advertising_router_of a) b) (eq-eqb (kind_of a) 2 ka)
-    (and_from (is_network_lsa b) (eqb (link_state_id_of b) (link_state_id_of a) && ltb (advertising_router_of a) (advertising_router_of b)) (eq-eqb (kind_of b) 2 kb)
-    (and_from (eqb (link_state_id_of b) (link_state_id_of a)) (ltb (advertising_router_of a) (advertising_router_of b)) (eq-eqb _ _ id) (lt-ltb (advertising_router_of a) (advertising_router_of b) lt))) in
+    (and_from (is_network_lsa b) (eqb (link_state_id_of b) (link_state_id_of a) && ltb (advertising_router_of a) (advertising_router_of b))
+    (eq-eqb (kind_of b) 2 kb)
+    (and_from (eqb (link_state_id_of b) (link_state_id_of a)) (ltb (advertising_router_of a) (advertising_router_of b)) (eq-eqb _ _ id)
+    (lt-ltb (advertising_router_of a) (advertising_router_of b) lt))) in
     true≢false (sym (In-list_any (is_outranked_by a) live b there over) ∙ top.1)
 
-one_adv : (live : List (List ℕ)) (a b : List ℕ) → IsHighest live a → IsHighest live b → kind_of a ≡ 2 → kind_of b ≡ 2 → link_state_id_of a ≡ link_state_id_of b → advertising_router_of a ≡ advertising_router_of b
+one_adv : (live : List (List ℕ)) (a b : List ℕ) → IsHighest live a → IsHighest live b → kind_of a ≡ 2 → kind_of b ≡ 2
+    → link_state_id_of a ≡ link_state_id_of b → advertising_router_of a ≡ advertising_router_of b
 one_adv live a b ta tb ka kb id =
     ⊎_elim (λ lt. absurd (not_below live a b ta tb.0 ka kb (sym id) lt))
     (λ ge. ⊎_elim (λ lt. absurd (not_below live b a tb ta.0 kb ka id lt)) (λ le. omega arith) (cases_lt (advertising_router_of b) (advertising_router_of a)))
@@ -52,18 +56,21 @@ origin_of a accepted one =
 kind_cases : (lsa : List ℕ) → is_vertex_lsa lsa ≡ true → (is_router_lsa lsa ≡ true) ⊎ ((is_router_lsa lsa ≡ false) × (is_network_lsa lsa ≡ true))
 kind_cases lsa h = by (is_router_lsa lsa) refl (and_parts (is_live lsa) (is_router_lsa lsa || is_network_lsa lsa) h).1
   where
-    by : (b : Bool) → is_router_lsa lsa ≡ b → (b || is_network_lsa lsa) ≡ true → (is_router_lsa lsa ≡ true) ⊎ ((is_router_lsa lsa ≡ false) × (is_network_lsa lsa ≡ true))
+    by : (b : Bool) → is_router_lsa lsa ≡ b → (b || is_network_lsa lsa) ≡ true
+        → (is_router_lsa lsa ≡ true) ⊎ ((is_router_lsa lsa ≡ false) × (is_network_lsa lsa ≡ true))
     by true is k = inl is
     by false is k = inr (is, k)
 
 -- two of them with one vertex have one key
-one_key : (live : List (List ℕ)) (a b : List ℕ) → IsAccepted a → IsAccepted b → IsHighest live a → IsHighest live b → is_vertex_lsa a ≡ true → is_vertex_lsa b ≡ true → vertex_of a ≡ vertex_of b → key_of a ≡ key_of b
+one_key : (live : List (List ℕ)) (a b : List ℕ) → IsAccepted a → IsAccepted b → IsHighest live a → IsHighest live b → is_vertex_lsa a ≡ true
+    → is_vertex_lsa b ≡ true → vertex_of a ≡ vertex_of b → key_of a ≡ key_of b
 one_key live a b aa ab ha hb va vb e = by (kind_cases a va) (kind_cases b vb)
   where
     same : kind_of a ≡ kind_of b → advertising_router_of a ≡ advertising_router_of b → key_of a ≡ key_of b
     same k adv = λ i. record { kind = k i; id = record { 0 = one_id a b e i }; adv = record { 0 = adv i } }
 
-    by : (is_router_lsa a ≡ true) ⊎ ((is_router_lsa a ≡ false) × (is_network_lsa a ≡ true)) → (is_router_lsa b ≡ true) ⊎ ((is_router_lsa b ≡ false) × (is_network_lsa b ≡ true)) → key_of a ≡ key_of b
+    by : (is_router_lsa a ≡ true) ⊎ ((is_router_lsa a ≡ false) × (is_network_lsa a ≡ true))
+        → (is_router_lsa b ≡ true) ⊎ ((is_router_lsa b ≡ false) × (is_network_lsa b ≡ true)) → key_of a ≡ key_of b
     by (inl ra) (inl rb) =
         let ka = eqb-true (kind_of a) 1 ra in
         let kb = eqb-true (kind_of b) 1 rb in
@@ -101,7 +108,8 @@ unfolding used
 used_pairs R lsas pairs = AllPairs-filter R (λ lsa. not (list_any (is_outranked_by lsa) (vertex_lsas lsas))) (vertex_lsas lsas) (AllPairs-filter R is_vertex_lsa lsas pairs)
 
 -- the vertices of an area are distinct
-pub vertices_distinct : (lsas : List (List ℕ)) → All IsAccepted lsas → AllPairs (λ a b. key_of a ≢ key_of b) lsas → AllPairs (λ v w. v ≢ w) (map vertex_of (used lsas))
+pub vertices_distinct : (lsas : List (List ℕ)) → All IsAccepted lsas → AllPairs (λ a b. key_of a ≢ key_of b) lsas
+    → AllPairs (λ v w. v ≢ w) (map vertex_of (used lsas))
 vertices_distinct lsas accepted keys i j d below lt same =
     let us = used lsas in
     let sized = length-map us vertex_of in

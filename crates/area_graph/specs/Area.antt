@@ -1,16 +1,17 @@
 -- The LSAs of an area that make its graph, and the vertices (RFC 2328, 16.1).
 use Rattle.std.specs.Prelude.{ℕ, Bool, ◌&&◌, ◌||◌, not, ◌==◌, nat_lt, if◌then◌else◌, List, filter, map}
 use Rattle.std.specs.List.{list_any}
+use Rattle.lsa_codec.specs.LsTypes.{router_lsa, network_lsa}
 use Rattle.lsa_codec.specs.Fields.{kind_of, link_state_id_of, advertising_router_of}
 use Rattle.lsa_codec.specs.Key.{is_at_max_age}
 use Rattle.area_graph.specs.declared.vertex.Vertex.{Vertex}
 use Rattle.area_graph.specs.declared.vertex.Vertex.TheVariants.{Router, Network}
 
 abbrev pub is_router_lsa : List ℕ → Bool
-is_router_lsa lsa = kind_of lsa == 1
+is_router_lsa lsa = kind_of lsa == router_lsa
 
 abbrev pub is_network_lsa : List ℕ → Bool
-is_network_lsa lsa = kind_of lsa == 2
+is_network_lsa lsa = kind_of lsa == network_lsa
 
 -- not at MaxAge
 abbrev pub is_live : List ℕ → Bool

@@ -1,54 +1,45 @@
 -- Graphs to which edges are added.
-use Rattle.std.specs.Prelude.{◌≡◌, ◌≢◌, ℕ, ◌<◌, ◌^◌, Bool, true, ◌==◌, ◌&&◌, List, length, AllPairs, Contains, Some, ◌⊎◌, slice_set}
+use Rattle.std.specs.Prelude.{◌≡◌, ◌≢◌, ℕ, ◌<◌, ◌^◌, Bool, if◌then◌else◌, List, [], ◌∷◌, ◌++◌, length, map, filter, filter_map, flat_map, AllPairs, Some, slice_get, slice_set}
 use Rattle.lsa_codec.specs.declared.link.Link.{Link}
-use Rattle.indexmap.specs.IndexSet.{insert_key}
 use Rattle.area_graph.specs.declared.vertex.Vertex.{Vertex}
 use Rattle.area_graph.specs.declared.edge.Edge.{Edge}
 use Rattle.area_graph.specs.Vertex.{is_network}
 use Rattle.area_graph.specs.Paths.{DirectedEdge}
 use Rattle.area_graph.specs.Topology.{Topology, IsArc, row_at}
-use Rattle.area_graph.specs.Area.{vertex_of}
-use Rattle.area_graph.specs.AreaEdges.{edge_over, router_links, back}
+use Rattle.area_graph.specs.AreaEdges.{edge_over, edges_over, back}
+use Rattle.area_graph.specs.Rows.{same_edge, each_once, numbered, is_out_of}
 
-abbrev pub same_edge : Edge → Edge → Bool
-same_edge a b = (a.to == b.to) && ((a.cost == b.cost) && (a.link_data.0 == b.link_data.0))
-
--- what holds of a graph while edges are added: each stands once in its row
+-- what holds of a graph while edges are added
 pub record IsDraft (t : Topology) : Type 0 where
   pub a_row_each : length t.rows ≡ length t.vertices
-  pub once : (i : ℕ) → AllPairs (λ e f. e ≢ f) (row_at t i)
+  pub distinct : AllPairs (λ v w. v ≢ w) t.vertices
   pub in_range : (e : DirectedEdge ℕ) → IsArc t e → e.to < length t.vertices
   pub cost_below : (e : DirectedEdge ℕ) → IsArc t e → e.cost < 2 ^ 16
 
 -- the graph with one more edge in a row
 abbrev pub with_edge : Topology → ℕ → Edge → Topology
-with_edge t i e = record { vertices = t.vertices; rows = slice_set t.rows i (insert_key same_edge (row_at t i) e) }
+with_edge t i e = record { vertices = t.vertices; rows = slice_set t.rows i (row_at t i ++ e ∷ []) }
 
--- what is New is what was Old, and that of which P holds
-pub record Adds {X : Type 0} (P Old New : X → Type 0) : Type 0 where
-  pub kept : (x : X) → Old x → New x
-  pub all : (x : X) → P x → New x
-  pub only : (x : X) → New x → Old x ⊎ P x
+-- each row has got those of these edges that are out of its vertex, in their order
+pub record Adds (es : List (DirectedEdge Vertex)) (old new : Topology) : Type 0 where
+  pub rows : (i : ℕ) (v : Vertex) → slice_get old.vertices i ≡ Some v → row_at new i ≡ row_at old i ++ filter_map (numbered old.vertices) (filter (is_out_of v) es)
 
--- both ends of an edge are vertices
-abbrev pub HasEnds : List Vertex → DirectedEdge Vertex → Type 0
-HasEnds vertices e = Contains vertices e.from × Contains vertices e.to
+-- an edge and, where it leads to a network, the edge back
+abbrev pub both_ways : DirectedEdge Vertex → List (DirectedEdge Vertex)
+both_ways e = if is_network e.to then e ∷ back e ∷ [] else e ∷ []
 
--- this very edge, where both its ends are vertices
-abbrev pub IsThis : List Vertex → DirectedEdge Vertex → DirectedEdge Vertex → Type 0
-IsThis vertices f e = (e ≡ f) × HasEnds vertices f
+-- of these edges those whose other end names their first, and their ways back
+abbrev pub returned : (Vertex → Vertex → Bool) → List (DirectedEdge Vertex) → List (DirectedEdge Vertex)
+returned is_tied es = flat_map both_ways (filter (λ e. is_tied e.to e.from) es)
 
--- this edge, or, where it leads to a network, the edge back
-abbrev pub IsEitherWay : List Vertex → DirectedEdge Vertex → DirectedEdge Vertex → Type 0
-IsEitherWay vertices f e = IsThis vertices f e ⊎ ((is_network f.to ≡ true) × IsThis vertices (back f) e)
+-- the edges over links of a vertex
+abbrev pub over_links : (Vertex → Vertex → Bool) → Vertex → List Link → List (DirectedEdge Vertex)
+over_links is_tied v links = returned is_tied (filter_map (edge_over v) links)
 
--- an edge over a link of a vertex that the other end names
-abbrev pub IsOverLink : List Vertex → (Vertex → Vertex → Bool) → Vertex → Link → DirectedEdge Vertex → Type 0
-IsOverLink vertices is_tied v link e = (f : DirectedEdge Vertex) × (edge_over v link ≡ Some f) × (is_tied f.to f.from ≡ true) × IsEitherWay vertices f e
+-- the edges over the links of LSAs
+abbrev pub over_lsas : (Vertex → Vertex → Bool) → List (List ℕ) → List (DirectedEdge Vertex)
+over_lsas is_tied lsas = returned is_tied (flat_map edges_over lsas)
 
-abbrev pub IsOverLinks : List Vertex → (Vertex → Vertex → Bool) → Vertex → List Link → DirectedEdge Vertex → Type 0
-IsOverLinks vertices is_tied v links e = (link : Link) × Contains links link × IsOverLink vertices is_tied v link e
-
--- an edge over a link of one of these LSAs
-abbrev pub IsOverLsas : List Vertex → (Vertex → Vertex → Bool) → List (List ℕ) → DirectedEdge Vertex → Type 0
-IsOverLsas vertices is_tied lsas e = (lsa : List ℕ) × Contains lsas lsa × IsOverLinks vertices is_tied (vertex_of lsa) (router_links lsa) e
+-- the graph where each edge stands once in its row
+abbrev pub edges_once : Topology → Topology
+edges_once t = record { vertices = t.vertices; rows = map (each_once same_edge) t.rows }

@@ -10,10 +10,13 @@ use Rattle.area_graph.specs.Paths.{DirectedEdge}
 use Rattle.area_graph.specs.Topology.{Topology, IsTopology, IsEdge, row_at}
 use Rattle.area_graph.specs.Area.{used, vertices_of}
 use Rattle.area_graph.specs.AreaEdges.{area_edges}
+use Rattle.area_graph.specs.Rows.{rows_of}
 
--- the graph of an area with these LSAs: the vertices in the order of the LSAs in use, and each edge once
+-- the graph of an area with these LSAs: the vertices in the order of the LSAs in use, and each edge once. The first two
+-- fields say all of it, and the others what follows for its edges
 pub record IsGraphOf (lsas : List (List ℕ)) (graph : Topology) : Type 0 where
   pub vertices : graph.vertices ≡ vertices_of lsas
+  pub rows : graph.rows ≡ rows_of lsas
   pub edges : (e : DirectedEdge Vertex) → IsEdge graph e ↔ Contains (area_edges (used lsas)) e
   pub once : (i : ℕ) → AllPairs (λ e f. e ≢ f) (row_at graph i)
   pub shape : IsTopology graph

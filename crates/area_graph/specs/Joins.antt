@@ -1,5 +1,6 @@
 -- The edges of an area as a set, case by case (RFC 2328, 16.1). The LSAs here are those in use.
 use Rattle.std.specs.Prelude.{◌≡◌, ℕ, List, Contains}
+use Rattle.lsa_codec.specs.LsTypes.{router_lsa, network_lsa}
 use Rattle.lsa_codec.specs.declared.address.Addr.{Addr}
 use Rattle.lsa_codec.specs.declared.address.RouterId.{RouterId}
 use Rattle.lsa_codec.specs.declared.link.Link.{Link}
@@ -12,11 +13,11 @@ use Rattle.area_graph.specs.declared.vertex.Vertex.TheVariants.{Router, Network}
 
 -- a router-LSA of a router
 abbrev pub IsRouterLsaOf : RouterId → List ℕ → Type 0
-IsRouterLsaOf router lsa = (kind_of lsa ≡ 1) × (link_state_id_of lsa ≡ router.0)
+IsRouterLsaOf router lsa = (kind_of lsa ≡ router_lsa) × (link_state_id_of lsa ≡ router.0)
 
 -- a network-LSA of a network
 abbrev pub IsNetworkLsaOf : Addr → List ℕ → Type 0
-IsNetworkLsaOf network lsa = (kind_of lsa ≡ 2) × (link_state_id_of lsa ≡ network.0)
+IsNetworkLsaOf network lsa = (kind_of lsa ≡ network_lsa) × (link_state_id_of lsa ≡ network.0)
 
 -- a point-to-point link whose Link ID is the router, or a link to a transit network whose Link ID is the network
 abbrev pub IsLinkTo : Vertex → Link → Type 0

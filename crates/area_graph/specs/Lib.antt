@@ -7,7 +7,9 @@ pub mod Topology
 pub mod Area
 pub mod AreaEdges
 pub mod Joins
+pub mod Rows
 pub mod Graphs
 pub mod Ranks
 pub mod Ties
+pub mod Spans
 pub mod Drafts

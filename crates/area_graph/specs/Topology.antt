@@ -33,11 +33,13 @@ edge_from t v e = option_map (λ w. record { from = v; to = w; cost = e.cost; li
 unfoldable pub edges_of : Topology → List (DirectedEdge Vertex)
 edges_of t = flat_map (λ p. filter_map (λ e. edge_from t p.0 e) p.1) (zip t.vertices t.rows)
 
--- what holds of every graph of an area: a network has edges of cost 0 to routers alone, and a router's edges cost something
+-- what holds of every graph of an area: no row has an edge twice, a network has edges of cost 0 to routers alone, and a
+-- router's edges cost something
 pub record IsTopology (t : Topology) : Type 0 where
   pub a_row_each : length t.rows ≡ length t.vertices
   pub few : length t.vertices ≤ 8192
   pub distinct : AllPairs (λ v w. v ≢ w) t.vertices
+  pub once : (i : ℕ) → AllPairs (λ e f. e ≢ f) (row_at t i)
   pub in_range : (e : DirectedEdge ℕ) → IsArc t e → e.to < length t.vertices
   pub cost_below : (e : DirectedEdge ℕ) → IsArc t e → e.cost < 2 ^ 16
   pub from_network : (e : DirectedEdge Vertex) → IsEdge t e → is_network e.from ≡ true → (e.cost ≡ 0) × (is_network e.to ≡ false)

@@ -28,7 +28,7 @@ fn graph_of<A: Allocator + Copy>(alloc: A, lsas: Lsas<'_, A>) -> Result<Graph<A>
     let ties = ties(alloc, &used)?;
     let mut draft = Draft::new(alloc, vertices)?;
     add_edges(&mut draft, &ties, &used)?;
-    Ok(draft.finish())
+    draft.finish(alloc)
 }
 
 impl<A: Allocator + Copy> Graph<A> {

@@ -1,24 +1,21 @@
 //! A graph to which edges are added.
 
-ghost use Rattle.std.specs.Prelude.{◌≡◌, ◌<◌, ◌^◌, ℕ, [], length, map, slice_index_or, OnOk, OnErr, IfOk};
-ghost use Rattle.area_graph.specs.declared.vertex.Vertex.{Vertex as AnyVertex};
-ghost use Rattle.indexmap.specs.IndexSet.{insert_key};
-ghost use Rattle.area_graph.specs.Paths.{DirectedEdge};
-ghost use Rattle.area_graph.specs.Topology.{Topology, IsTopology, IsEdge};
-ghost use Rattle.area_graph.specs.Drafts.{same_edge, with_edge, Adds, IsThis};
+ghost use Rattle.std.specs.Prelude.{◌≡◌, ◌≢◌, ◌<◌, ◌^◌, ◌++◌, ◌∷◌, ℕ, [], length, map, slice_index_or, AllPairs, OnOk, OnErr, IfOk};
+ghost use Rattle.area_graph.specs.Topology.{IsTopology, row_at};
+ghost use Rattle.area_graph.specs.Rows.{same_edge, each_once};
+ghost use Rattle.area_graph.specs.Drafts.{with_edge, Adds, edges_once};
 
 use crate::edge::Edge;
 use crate::graph::Graph;
 use crate::numbers::{Vertices, number_of};
+use crate::rows::Rows;
 use crate::vertex::Vertex;
-use indexmap::IndexSet;
 use lsa_codec::Addr;
 use std::alloc::{AllocError, Allocator};
-use std::hash::{BuildHasherDefault, FoldHasher};
 use std::marker::Model;
 
-/// The edges out of a vertex, in the order in which they were added, each once.
-pub(crate) type Row<A> = IndexSet<Edge, BuildHasherDefault<FoldHasher>, A>;
+/// The edges out of a vertex, in the order in which they were added.
+type Row<A> = Vec<Edge, A>;
 
 /// A graph that has its vertices and some of its edges.
 #[derive(Drop)]
@@ -34,36 +31,48 @@ impl<A: Allocator> Model for Draft<A> {
 
     ghost Value = { Topology };
 
-    ghost view = { λ d. record { vertices = d.vertices.keys; rows = map (λ row. row.keys) d.rows.items } };
+    ghost view = { λ d. record { vertices = d.vertices.keys; rows = map (λ row. row.items) d.rows.items } };
 
-    ghost invariant = { λ d. IsDraft (record { vertices = d.vertices.keys; rows = map (λ row. row.keys) d.rows.items }) };
+    ghost invariant = { λ d. IsDraft (record { vertices = d.vertices.keys; rows = map (λ row. row.items) d.rows.items }) };
 }
 
 /// So many rows without edges.
 fn empty_rows<A: Allocator + Copy>(alloc: A, count: usize) -> Result<Vec<Row<A>, A>, AllocError>
     ensures count { IfOk result (λ rows. length rows.items ≡ count) }
-    ensures empty { IfOk result (λ rows. (i : ℕ) → slice_index_or (map (λ row. row.keys) rows.items) i [] ≡ []) }
+    ensures empty { IfOk result (λ rows. (i : ℕ) → slice_index_or (map (λ row. row.items) rows.items) i [] ≡ []) }
 {
     let mut rows = Vec::with_capacity(alloc, count)?;
     for _ in 0..count {
-        rows.push(IndexSet::new(alloc))?;
+        rows.push(Vec::new(alloc))?;
     }
     Ok(rows)
 }
 
 fn add_to_row<A: Allocator + Copy>(row: &mut Row<A>, edge: Edge) -> Result<(), AllocError>
-    ensures added { OnOk result (row.new.keys ≡ insert_key same_edge row.old.keys edge) }
-    ensures same { OnErr result (row.new.keys ≡ row.old.keys) }
+    ensures added { OnOk result (row.new.items ≡ row.old.items ++ edge ∷ []) }
+    ensures same { OnErr result (row.new.items ≡ row.old.items) }
 {
-    row.insert(edge)?;
+    row.push(edge)?;
     Ok(())
+}
+
+/// The rows with each edge once.
+fn rows_once<A: Allocator + Copy>(alloc: A, rows: &[Row<A>]) -> Result<Rows<A>, AllocError>
+    ensures { IfOk result (λ once. once ≡ map (each_once same_edge) (map (λ row. row.items) rows.now)) }
+{
+    let mut once = Rows::new(alloc);
+    for row in rows {
+        once.push_once(alloc, row)?;
+    }
+    Ok(once)
 }
 
 impl<A: Allocator + Copy> Draft<A> {
     /// The graph of these vertices without edges.
     pub(crate) fn new(alloc: A, vertices: Vertices<A>) -> Result<Draft<A>, AllocError>
+        requires { AllPairs (λ v w. v ≢ w) vertices.keys }
         ensures vertices { IfOk result (λ draft. draft.vertices ≡ vertices.keys) }
-        ensures empty { IfOk result (λ draft. (e : DirectedEdge AnyVertex) → ¬ IsEdge draft e) }
+        ensures empty { IfOk result (λ draft. (i : ℕ) → row_at draft i ≡ []) }
     {
         let rows = empty_rows(alloc, vertices.len())?;
         Ok(Draft { vertices, rows })
@@ -79,7 +88,7 @@ impl<A: Allocator + Copy> Draft<A> {
         add_to_row(&mut self.rows[row], edge)
     }
 
-    /// Adds an edge, unless it is there or an end of it is no vertex.
+    /// Adds an edge to the row of its first vertex, unless an end of it is no vertex.
     pub(crate) fn add(
         &mut self,
         from: Vertex,
@@ -88,12 +97,12 @@ impl<A: Allocator + Copy> Draft<A> {
         link_data: Addr,
     ) -> Result<(), AllocError>
         ensures vertices { self.new.vertices ≡ self.old.vertices }
-        ensures edges { OnOk result (Adds (IsThis self.old.vertices (record { from = from; to = to; cost = cost; link_data = link_data })) (IsEdge self.old) (IsEdge self.new)) }
+        ensures edges { OnOk result (Adds (record { from = from; to = to; cost = cost; link_data = link_data } ∷ []) self.old self.new) }
     {
-        let (Some(row), Some(to)) = (
-            number_of(&self.vertices, from),
-            number_of(&self.vertices, to),
-        ) else {
+        let Some(row) = number_of(&self.vertices, from) else {
+            return Ok(());
+        };
+        let Some(to) = number_of(&self.vertices, to) else {
             return Ok(());
         };
         self.insert(
@@ -106,14 +115,15 @@ impl<A: Allocator + Copy> Draft<A> {
         )
     }
 
-    /// The graph as it is.
-    pub(crate) fn finish(self) -> Graph<A>
-        requires { IsTopology self }
-        ensures { result ≡ self }
+    /// The graph with each edge once in its row.
+    pub(crate) fn finish(self, alloc: A) -> Result<Graph<A>, AllocError>
+        requires { IsTopology (edges_once self) }
+        ensures { IfOk result (λ graph. graph ≡ edges_once self) }
     {
-        Graph {
+        let rows = rows_once(alloc, &self.rows)?;
+        Ok(Graph {
             vertices: self.vertices,
-            rows: self.rows,
-        }
+            rows,
+        })
     }
 }

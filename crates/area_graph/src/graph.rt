@@ -4,9 +4,9 @@ ghost use Rattle.std.specs.Prelude.{◌≡◌, ◌≢◌, ◌<◌, length, slice
 ghost use Rattle.area_graph.specs.Vertex.{is_network};
 ghost use Rattle.area_graph.specs.Topology.{IsTopology, row_at};
 
-use crate::draft::Row;
 use crate::edge::Edge;
 use crate::numbers::{Vertices, number_of};
+use crate::rows::Rows;
 use crate::vertex::Vertex;
 use std::alloc::{Allocator, Global};
 use std::marker::Model;
@@ -19,18 +19,17 @@ use std::marker::Model;
 #[derive(Drop)]
 pub struct Graph<A: Allocator = Global> {
     pub(crate) vertices: Vertices<A>,
-    pub(crate) rows: Vec<Row<A>, A>,
+    pub(crate) rows: Rows<A>,
 }
 
 impl<A: Allocator> Model for Graph<A> {
-    ghost use Rattle.std.specs.Prelude.{map};
     ghost use Rattle.area_graph.specs.Topology.{Topology, IsTopology};
 
     ghost Value = { Topology };
 
-    ghost view = { λ g. record { vertices = g.vertices.keys; rows = map (λ row. row.keys) g.rows.items } };
+    ghost view = { λ g. record { vertices = g.vertices.keys; rows = g.rows } };
 
-    ghost invariant = { λ g. IsTopology (record { vertices = g.vertices.keys; rows = map (λ row. row.keys) g.rows.items }) };
+    ghost invariant = { λ g. IsTopology (record { vertices = g.vertices.keys; rows = g.rows }) };
 }
 
 impl<A: Allocator + Copy> Graph<A> {
@@ -78,16 +77,6 @@ impl<A: Allocator + Copy> Graph<A> {
         ensures once { AllPairs (λ e f. e ≢ f) result.now }
         ensures shape { IsTopology self.now }
     {
-        self.row(index)
-    }
-
-    #[tactic(auto, using(crate::proofs::Equality::edges_once))]
-    fn row(&self, index: usize) -> &[Edge]
-        requires { index < length self.now.vertices }
-        ensures row { result.now ≡ row_at self.now index }
-        ensures once { AllPairs (λ e f. e ≢ f) result.now }
-        ensures shape { IsTopology self.now }
-    {
-        self.rows[index].as_slice()
+        self.rows.row(index)
     }
 }

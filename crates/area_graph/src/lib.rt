@@ -20,6 +20,7 @@ mod used;
 mod build;
 mod draft;
 mod links;
+mod rows;
 
 // What holds of the definitions.
 mod laws;

@@ -1,11 +1,10 @@
 //! The edges over the links of router-LSAs.
 
-ghost use Rattle.std.specs.Prelude.{◌≡◌, OnOk};
-ghost use Rattle.area_graph.specs.Topology.{IsEdge};
+ghost use Rattle.std.specs.Prelude.{◌≡◌, ◌∷◌, [], OnOk};
 ghost use Rattle.area_graph.specs.Area.{vertex_of};
 ghost use Rattle.area_graph.specs.AreaEdges.{router_links};
 ghost use Rattle.area_graph.specs.Ties.{is_tied};
-ghost use Rattle.area_graph.specs.Drafts.{Adds, IsEitherWay, IsOverLink, IsOverLinks, IsOverLsas};
+ghost use Rattle.area_graph.specs.Drafts.{Adds, both_ways, over_links, over_lsas};
 
 use crate::draft::Draft;
 use crate::ties::{Ties, is_tied, target_of};
@@ -22,7 +21,7 @@ fn add_both<A: Allocator + Copy>(
     link: Link,
 ) -> Result<(), AllocError>
     ensures vertices { draft.new.vertices ≡ draft.old.vertices }
-    ensures edges { OnOk result (Adds (IsEitherWay draft.old.vertices (record { from = from; to = to; cost = link.metric; link_data = link.link_data })) (IsEdge draft.old) (IsEdge draft.new)) }
+    ensures edges { OnOk result (Adds (both_ways (record { from = from; to = to; cost = link.metric; link_data = link.link_data })) draft.old draft.new) }
 {
     draft.add(from, to, link.metric, link.link_data)?;
     if !to.is_network() {
@@ -39,7 +38,7 @@ fn add_link<A: Allocator + Copy>(
     link: Link,
 ) -> Result<(), AllocError>
     ensures vertices { draft.new.vertices ≡ draft.old.vertices }
-    ensures edges { OnOk result (Adds (IsOverLink draft.old.vertices (is_tied ties.now) from link) (IsEdge draft.old) (IsEdge draft.new)) }
+    ensures edges { OnOk result (Adds (over_links (is_tied ties.now) from (link ∷ [])) draft.old draft.new) }
 {
     let Some(to) = target_of(link) else {
         return Ok(());
@@ -57,7 +56,7 @@ fn add_links<A: Allocator + Copy>(
     links: Links<'_>,
 ) -> Result<(), AllocError>
     ensures vertices { draft.new.vertices ≡ draft.old.vertices }
-    ensures edges { OnOk result (Adds (IsOverLinks draft.old.vertices (is_tied ties.now) from links.entry) (IsEdge draft.old) (IsEdge draft.new)) }
+    ensures edges { OnOk result (Adds (over_links (is_tied ties.now) from links.entry) draft.old draft.new) }
 {
     for link in links {
         add_link(draft, ties, from, link)?;
@@ -72,7 +71,7 @@ fn add_lsa<A: Allocator + Copy>(
     lsa: &Lsa<A>,
 ) -> Result<(), AllocError>
     ensures vertices { draft.new.vertices ≡ draft.old.vertices }
-    ensures edges { OnOk result (Adds (IsOverLinks draft.old.vertices (is_tied ties.now) (vertex_of lsa.now) (router_links lsa.now)) (IsEdge draft.old) (IsEdge draft.new)) }
+    ensures edges { OnOk result (Adds (over_links (is_tied ties.now) (vertex_of lsa.now) (router_links lsa.now)) draft.old draft.new) }
 {
     let Some(router) = lsa.router() else {
         return Ok(());
@@ -87,7 +86,7 @@ pub(crate) fn add_edges<A: Allocator + Copy>(
     lsas: &[VertexLsa<'_, A>],
 ) -> Result<(), AllocError>
     ensures vertices { draft.new.vertices ≡ draft.old.vertices }
-    ensures edges { OnOk result (Adds (IsOverLsas draft.old.vertices (is_tied ties.now) lsas.now) (IsEdge draft.old) (IsEdge draft.new)) }
+    ensures edges { OnOk result (Adds (over_lsas (is_tied ties.now) lsas.now) draft.old draft.new) }
 {
     for lsa in lsas {
         add_lsa(draft, ties, lsa.lsa())?;

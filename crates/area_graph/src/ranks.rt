@@ -6,7 +6,7 @@ ghost use Rattle.area_graph.specs.Area.{is_network_lsa};
 ghost use Rattle.area_graph.specs.Ranks.{AreRanksOf, rank_in, exceeds, ranked};
 
 use crate::used::VertexLsa;
-use lsa_codec::{Addr, Lsa, RouterId};
+use lsa_codec::{Addr, Lsa, NETWORK_LSA, RouterId};
 use std::alloc::{AllocError, Allocator};
 use std::collections::HashMap;
 use std::hash::{BuildHasherDefault, FoldHasher};
@@ -71,5 +71,5 @@ pub(crate) fn is_outranked<A: Allocator + Copy>(ranks: &Ranks<A>, lsa: &Lsa<A>) 
     ensures { result ≡ (is_network_lsa lsa.now && exceeds (advertising_router_of lsa.now) (rank_in ranks.now (link_state_id_of lsa.now))) }
 {
     let key = lsa.key();
-    key.kind == 2 && exceeds(ranks, key.id, key.adv)
+    key.kind == NETWORK_LSA && exceeds(ranks, key.id, key.adv)
 }

@@ -5,7 +5,7 @@ ghost use Rattle.area_graph.specs.Area.{is_vertex_lsa, vertex_lsas, highest, use
 
 use crate::ranks::{is_outranked, ranks};
 use crate::vertex::Vertex;
-use lsa_codec::{Lsa, RouterId};
+use lsa_codec::{Lsa, NETWORK_LSA, ROUTER_LSA, RouterId};
 use lsdb::Lsas;
 use std::alloc::{AllocError, Allocator};
 use std::marker::Model;
@@ -44,7 +44,7 @@ pub(crate) fn vertex_of<A: Allocator + Copy>(lsa: &Lsa<A>) -> Vertex
     ensures { result ≡ vertex_of lsa.now }
 {
     let key = lsa.key();
-    if key.kind == 1 {
+    if key.kind == ROUTER_LSA {
         Vertex::Router(RouterId(key.id.0))
     } else {
         Vertex::Network(key.id)
@@ -55,7 +55,7 @@ fn is_vertex_lsa<A: Allocator + Copy>(lsa: &Lsa<A>) -> bool
     ensures { result ≡ is_vertex_lsa lsa.now }
 {
     let kind = lsa.key().kind;
-    !lsa.at_max_age() && (kind == 1 || kind == 2)
+    !lsa.at_max_age() && (kind == ROUTER_LSA || kind == NETWORK_LSA)
 }
 
 /// The live router-LSAs and network-LSAs, in their order.

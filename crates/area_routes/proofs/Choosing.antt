@@ -9,7 +9,7 @@ use Rattle.std.proofs.lemmas.Cmp.{tied_itself}
 use Rattle.lsa_codec.specs.Fields.{link_state_id_of}
 use Rattle.lsa_codec.specs.Prefix.{Net}
 use Rattle.lsa_codec.specs.Views.{net_of_lsa}
-use Rattle.area_graph.proofs.Members.{In, In-from_Contains, Contains-from_In, In-filter, filter-In, In-list_any, list_any-In}
+use Rattle.area_graph.proofs.MemberLemmas.{In, In-from_Contains, Contains-from_In, In-filter, filter-In, In-list_any, list_any-In}
 use Rattle.area_routes.specs.Order.{prefix_cmp}
 use Rattle.area_routes.specs.Reached.{ReachedValue}
 use Rattle.area_routes.specs.Networks.{precedes, beats, chosen}

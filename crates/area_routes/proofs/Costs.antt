@@ -8,12 +8,12 @@ use Rattle.std.proofs.lemmas.List.Elements.{All-map}
 use Rattle.lsa_codec.specs.declared.address.AreaId.{AreaId}
 use Rattle.lsa_codec.specs.declared.address.RouterId.{RouterId}
 use Rattle.lsa_codec.specs.Prefix.{Net}
-use Rattle.lsa_codec.specs.Views.{metric_of}
+use Rattle.lsa_codec.specs.Views.{metric_of, ls_infinity}
 use Rattle.area_graph.specs.Area.{is_live}
 use Rattle.area_routes.specs.declared.entry.EntryKind.TheVariants.{Border}
 use Rattle.area_routes.specs.Best.{ways_of}
 use Rattle.area_routes.specs.Candidate.{Candidate}
-use Rattle.area_routes.specs.Inter.{asbr_candidate, asbr_entry, asbr_told, border_of, by_border, candidate_to, is_summary, is_usable, ls_infinity, network_candidate, network_told, originator_of, same_kind, same_router}
+use Rattle.area_routes.specs.Inter.{asbr_candidate, asbr_entry, asbr_told, border_of, by_border, candidate_to, is_summary, is_usable, network_candidate, network_told, originator_of, same_kind, same_router}
 use Rattle.area_routes.specs.Order.{router_cmp}
 use Rattle.area_routes.specs.Values.{AreaResultValue, AreCheap, EntriesBelow, EntryValue, RouteValue}
 use Rattle.area_routes.proofs.Bounds.{All-filter_map, found_has, ways_have}

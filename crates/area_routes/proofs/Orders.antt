@@ -7,7 +7,7 @@ use Rattle.std.specs.declared.cmp.Ordering.TheVariants.{Less, Equal, Greater}
 use Rattle.std.proofs.lemmas.Cmp.{nat_cmp_total, on_total, then_total}
 use Rattle.std.proofs.lemmas.Map.Lookups.{CmpEqualImpliesEq, exact_unsigned, exact_pairs}
 use Rattle.next_hops.specs.Hop.{hop_cmp}
-use Rattle.next_hops.proofs.HopOrder.{hop_cmp_total, same_hop}
+use Rattle.next_hops.proofs.HopLemmas.{hop_cmp_total, same_hop}
 use Rattle.area_routes.specs.Order.{area_cmp, path_cmp, path_number, prefix_cmp, rank_cmp, router_cmp}
 use Rattle.area_routes.specs.declared.rank.PathType.{PathType}
 use Rattle.area_routes.specs.declared.rank.PathType.TheVariants.{Intra, Inter, Ext1, Ext2}

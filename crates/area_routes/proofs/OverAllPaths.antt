@@ -18,12 +18,12 @@ use Rattle.area_graph.specs.AreaEdges.{area_edges}
 use Rattle.area_graph.specs.AllPaths.{distance_of}
 use Rattle.area_graph.specs.Joins.{IsLinkTo, HasLink, Joins}
 use Rattle.area_graph.specs.Paths.{DirectedEdge, IsPath, IsDistance}
-use Rattle.area_graph.proofs.Members.{In, In-from_Contains, Contains-from_In, In-filter_map, filter_map-In, list_all-In, Some-same}
-use Rattle.area_graph.proofs.AreaLemmas.{Contains-area_edges}
+use Rattle.area_graph.proofs.MemberLemmas.{In, In-from_Contains, Contains-from_In, In-filter_map, filter_map-In, list_all-In, Some-same}
+use Rattle.area_graph.proofs.JoinLemmas.{Contains-area_edges}
 use Rattle.area_graph.proofs.AllPathsLemmas.{IsDistance-distance_of}
 use Rattle.next_hops.specs.declared.hop.Hop.{Hop}
 use Rattle.next_hops.specs.FirstHops.{NothingFree, IsHopTo, hops_of}
-use Rattle.next_hops.proofs.HopsOf.{Contains-hops_of}
+use Rattle.next_hops.proofs.HopLemmas.{Contains-hops_of}
 use Rattle.area_routes.specs.Reached.{ReachedValue, reached_by, reached_from}
 use Rattle.area_routes.specs.OverAllPaths.{IsAreaEdge, AreOverAllPaths}
 

@@ -13,10 +13,10 @@ use Rattle.area_graph.specs.AllPaths.{distance_of}
 use Rattle.area_graph.specs.Topology.{Topology}
 use Rattle.area_graph.proofs.GraphLemmas.{distance_of-area}
 use Rattle.spf.specs.Distances.{Distances}
-use Rattle.spf.proofs.Trees.{distances-are}
+use Rattle.spf.proofs.TreeLemmas.{distances-are}
 use Rattle.next_hops.specs.declared.hop.Hop.{Hop}
 use Rattle.next_hops.specs.FirstHops.{hops_of}
-use Rattle.next_hops.proofs.HopsOf.{hops_of-edges}
+use Rattle.next_hops.proofs.HopLemmas.{hops_of-edges}
 use Rattle.lsa_codec.specs.declared.address.AreaId.{AreaId}
 use Rattle.std.specs.List.{slice_get}
 use Rattle.area_routes.specs.Reached.{ReachedValue, reached_by}

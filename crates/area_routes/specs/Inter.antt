@@ -2,11 +2,13 @@
 use Rattle.std.specs.Prelude.{ℕ, ◌+◌, List, [], ◌∷◌, ◌++◌, Bool, ◌&&◌, ◌==◌, not, if◌then◌else◌, Option, None, Some, is_some, map, nat_lt, ◌||◌}
 use Rattle.std.specs.List.{filter_map, flat_map, find}
 use Rattle.std.specs.Option.{option_and_then, option_map}
+use Rattle.lsa_codec.specs.Areas.{is_backbone}
+use Rattle.lsa_codec.specs.LsTypes.{summary_lsa, asbr_summary_lsa}
 use Rattle.lsa_codec.specs.declared.address.AreaId.{AreaId}
 use Rattle.lsa_codec.specs.declared.address.RouterId.{RouterId}
 use Rattle.lsa_codec.specs.Fields.{kind_of, link_state_id_of, advertising_router_of}
 use Rattle.lsa_codec.specs.Prefix.{Net}
-use Rattle.lsa_codec.specs.Views.{metric_of, net_of_summary}
+use Rattle.lsa_codec.specs.Views.{metric_of, net_of_summary, ls_infinity}
 use Rattle.lsdb.specs.declared.section.Section.TheVariants.{Area}
 use Rattle.lsdb.specs.Lists.{Lists, lsas_of}
 use Rattle.area_graph.specs.Area.{is_live}
@@ -23,7 +25,7 @@ use Rattle.area_routes.specs.Routes.{has_route, routes_of}
 
 -- the backbone's result
 abbrev pub backbone : List AreaResultValue → Option AreaResultValue
-backbone results = find (λ r. r.area.0 == 0) results
+backbone results = find (λ r. is_backbone r.area) results
 
 -- the only area, and of several the backbone alone
 abbrev pub examined : List AreaResultValue → Option AreaResultValue
@@ -58,12 +60,8 @@ has_asbr entries router = is_some (entry_of AsbrIntra entries router)
 
 -- ---- summary-LSAs
 
--- the metric that says that there is no route (RFC 2328, appendix B)
-abbrev pub ls_infinity : ℕ
-ls_infinity = 0xffffff
-
 abbrev pub is_summary : List ℕ → Bool
-is_summary lsa = (kind_of lsa == 3) || (kind_of lsa == 4)
+is_summary lsa = (kind_of lsa == summary_lsa) || (kind_of lsa == asbr_summary_lsa)
 
 -- the router that made an LSA
 abbrev pub originator_of : List ℕ → RouterId
@@ -101,7 +99,7 @@ module _ (router : RouterId) (area : AreaResultValue) where
   -- the router that a summary-LSA of type 4 tells of, where it is not the calculating router and not an AS boundary router of the area
   abbrev pub asbr_told : List ℕ → Option RouterId
   asbr_told lsa =
-      if (kind_of lsa == 4) && (not (same_router (named_router lsa) router) && not (has_asbr area.entries (named_router lsa))) then Some (named_router lsa) else None
+      if (kind_of lsa == asbr_summary_lsa) && (not (same_router (named_router lsa) router) && not (has_asbr area.entries (named_router lsa))) then Some (named_router lsa) else None
 
   -- the way to a prefix of another area
   abbrev pub network_candidate : List RouteValue → List ℕ → Option (Candidate Net)

@@ -8,14 +8,11 @@ use crate::area_result::AreaResult;
 use lsa_codec::AreaId;
 use std::alloc::Allocator;
 
-/// The backbone's Area ID (RFC 2328, 3.1).
-const BACKBONE: AreaId = AreaId(0);
-
 /// The result of the backbone.
 fn backbone<A: Allocator + Copy>(results: &[AreaResult<A>]) -> Option<&AreaResult<A>>
     ensures { option_copied result ≡ backbone results.now }
 {
-    results.iter().find(|area| area.area() == BACKBONE)
+    results.iter().find(|area| area.area() == AreaId::BACKBONE)
 }
 
 /// The result of the area whose summary-LSAs are examined: the only area's, and of several the

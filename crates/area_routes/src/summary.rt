@@ -1,17 +1,15 @@
 //! What summary-LSAs tell of.
 
 ghost use Rattle.std.specs.Prelude.{◌≡◌, ◌<◌, IfSome};
-ghost use Rattle.area_routes.specs.Inter.{asbr_told, ls_infinity, network_told, usable_metric};
+ghost use Rattle.lsa_codec.specs.Views.{ls_infinity};
+ghost use Rattle.area_routes.specs.Inter.{asbr_told, network_told, usable_metric};
 ghost use Rattle.area_routes.specs.Routes.{AreSortedRoutes};
 
 use crate::indexed_area::IndexedArea;
 use crate::lookup::has_route;
 use crate::route::Route;
-use lsa_codec::{Lsa, Prefix, RouterId};
+use lsa_codec::{ASBR_SUMMARY_LSA, LS_INFINITY, Lsa, Prefix, RouterId};
 use std::alloc::Allocator;
-
-/// The metric that says that there is no route (RFC 2328, appendix B).
-const LS_INFINITY: u32 = 0xffffff;
 
 /// The metric of a summary-LSA that is live, below LSInfinity, and of another originator than the
 /// calculating router.
@@ -49,7 +47,7 @@ pub(crate) fn asbr_told<A: Allocator + Copy>(
 {
     let key = lsa.key();
     let asbr = RouterId(key.id.0);
-    if key.kind != 4 || asbr == router || area.has_asbr(asbr) {
+    if key.kind != ASBR_SUMMARY_LSA || asbr == router || area.has_asbr(asbr) {
         return None;
     }
     Some(asbr)

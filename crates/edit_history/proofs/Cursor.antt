@@ -42,32 +42,43 @@ drop_set_next (x ∷ xs) (suc i) v = drop_set_next xs i v
 abbrev pub seen : List RecordData → ℕ → HistoryData
 seen items cursor = record { past = reverse (take cursor items); future = drop cursor items }
 
-past_is : (items : List RecordData) (i : ℕ) (r : RecordData) → i < length items → r ≡ get_or items i r → reverse (take (suc i) items) ≡ r ∷ reverse (take i items)
+past_is : (items : List RecordData) (i : ℕ) (r : RecordData) → i < length items → r ≡ get_or items i r
+    → reverse (take (suc i) items) ≡ r ∷ reverse (take i items)
 past_is items i r lt h = ap (reverse {A = RecordData}) (take_next items i r lt h) ∙ reverse-append (take i items) (r ∷ [])
 
 -- around the cursor suc i
-pub seen_behind : (items : List RecordData) (i j : ℕ) (r : RecordData) → j ≡ suc i → i < length items → r ≡ get_or items i r → seen items j ≡ record { past = r ∷ reverse (take i items); future = drop j items }
+pub seen_behind : (items : List RecordData) (i j : ℕ) (r : RecordData) → j ≡ suc i → i < length items → r ≡ get_or items i r
+    → seen items j ≡ record { past = r ∷ reverse (take i items); future = drop j items }
 seen_behind items i j r is lt h =
     ap (λ (k : ℕ). let s : HistoryData = record { past = reverse (take k items); future = drop j items } in s) is
     ∙ ap (λ (past : List RecordData). let s : HistoryData = record { past = past; future = drop j items } in s) (past_is items i r lt h)
 
 -- after a step back
-pub seen_after_back : (items : List RecordData) (i j : ℕ) (v : RecordData) → j ≡ suc i → i < length items → seen (slice_set items i v) i ≡ record { past = reverse (take i items); future = v ∷ drop j items }
+pub seen_after_back : (items : List RecordData) (i j : ℕ) (v : RecordData) → j ≡ suc i → i < length items
+    → seen (slice_set items i v) i ≡ record { past = reverse (take i items); future = v ∷ drop j items }
 seen_after_back items i j v is lt =
-    ap (λ (front : List RecordData). let s : HistoryData = record { past = reverse front; future = drop i (slice_set items i v) } in s) (take_set items i v)
-    ∙ ap (λ (future : List RecordData). let s : HistoryData = record { past = reverse (take i items); future = future } in s) (drop_set items i v lt ∙ ap (λ (k : ℕ). v ∷ drop k items) (sym is))
+    ap (λ (front : List RecordData). let s : HistoryData = record { past = reverse front; future = drop i (slice_set items i v) } in s)
+    (take_set items i v)
+    ∙ ap (λ (future : List RecordData). let s : HistoryData = record { past = reverse (take i items); future = future } in s)
+    (drop_set items i v lt ∙ ap (λ (k : ℕ). v ∷ drop k items) (sym is))
 
 -- around the cursor i, ahead
-pub seen_ahead : (items : List RecordData) (i : ℕ) (r : RecordData) → i < length items → r ≡ get_or items i r → seen items i ≡ record { past = reverse (take i items); future = r ∷ drop (suc i) items }
-seen_ahead items i r lt h = ap (λ (future : List RecordData). let s : HistoryData = record { past = reverse (take i items); future = future } in s) (drop_next items i r lt h)
+pub seen_ahead : (items : List RecordData) (i : ℕ) (r : RecordData) → i < length items → r ≡ get_or items i r
+    → seen items i ≡ record { past = reverse (take i items); future = r ∷ drop (suc i) items }
+seen_ahead items i r lt h =
+    ap (λ (future : List RecordData). let s : HistoryData = record { past = reverse (take i items); future = future } in s) (drop_next items i r lt h)
 
 -- after a step on
-pub seen_after_on : (items : List RecordData) (i j : ℕ) (v : RecordData) → j ≡ suc i → i < length items → seen (slice_set items i v) j ≡ record { past = v ∷ reverse (take i items); future = drop (suc i) items }
+pub seen_after_on : (items : List RecordData) (i j : ℕ) (v : RecordData) → j ≡ suc i → i < length items
+    → seen (slice_set items i v) j ≡ record { past = v ∷ reverse (take i items); future = drop (suc i) items }
 seen_after_on items i j v is lt =
     ap (λ (k : ℕ). seen (slice_set items i v) k) is
-    ∙ ap (λ (front : List RecordData). let s : HistoryData = record { past = reverse front; future = drop (suc i) (slice_set items i v) } in s) (take_set_next items i v lt)
-    ∙ ap (λ (past : List RecordData). let s : HistoryData = record { past = past; future = drop (suc i) (slice_set items i v) } in s) (reverse-append (take i items) (v ∷ []))
-    ∙ ap (λ (future : List RecordData). let s : HistoryData = record { past = v ∷ reverse (take i items); future = future } in s) (drop_set_next items i v)
+    ∙ ap (λ (front : List RecordData). let s : HistoryData = record { past = reverse front; future = drop (suc i) (slice_set items i v) } in s)
+    (take_set_next items i v lt)
+    ∙ ap (λ (past : List RecordData). let s : HistoryData = record { past = past; future = drop (suc i) (slice_set items i v) } in s)
+    (reverse-append (take i items) (v ∷ []))
+    ∙ ap (λ (future : List RecordData). let s : HistoryData = record { past = v ∷ reverse (take i items); future = future } in s)
+    (drop_set_next items i v)
 
 -- where there is a past, and a future
 pub past_len : (items : List RecordData) (j : ℕ) (h : HistoryData) → seen items j ≡ h → 0 < length h.past → 0 < j
@@ -95,7 +106,8 @@ any_reverse p [] = refl
 any_reverse p (x ∷ xs) = ap (list_any p) (reverse-append (x ∷ []) xs) ∙ any_append p (reverse xs) x ∙ ap (λ (b : Bool). p x || b) (any_reverse p xs)
 
 -- the last records before the cursor are the first of the past
-pub any_behind : (p : RecordData → Bool) (items : List RecordData) (cursor count : ℕ) (h : HistoryData) → seen items cursor ≡ h → cursor ≤ length items → count ≤ length h.past
+pub any_behind : (p : RecordData → Bool) (items : List RecordData) (cursor count : ℕ) (h : HistoryData) → seen items cursor ≡ h
+    → cursor ≤ length items → count ≤ length h.past
     → list_any p (take (cursor - (cursor - count)) (drop (cursor - count) items)) ≡ list_any p (take count h.past)
 any_behind p items cursor count h view le some =
     let m = cursor - count in

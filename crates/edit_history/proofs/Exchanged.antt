@@ -4,7 +4,7 @@ use Rattle.std.specs.Prelude.{IsSome, unwrap_or}
 use Rattle.lsdb.specs.declared.slot.SlotId.{SlotId}
 use Rattle.lsdb.specs.Places.{Place, Places, put, slot_at, lists_of}
 use Rattle.lsdb.specs.Lists.{IsDatabase}
-use Rattle.lsdb.proofs.Slots.{put-put, put-slot_at, slot_at-put}
+use Rattle.lsdb.proofs.PlaceLemmas.{put-put, put-slot_at, slot_at-put}
 use Rattle.edit_history.specs.Exchange.{SwapData, taken, done_places, done_swaps, CanDo, undone_places, undone_swaps, CanUndo, UndoesAgain, DoesAgain}
 
 pub some_is : (o : Option Place) → IsSome o → o ≡ Some (unwrap_or o None)
@@ -43,7 +43,8 @@ undo_done d (s ∷ ss) sound can =
       can = (
         rest.can,
         subst (λ (u : Places). IsSome (slot_at u s.slot)) (sym rest.places) (exists_after d s.slot s.other can.0),
-        subst (λ (u : Places). IsDatabase (lists_of u)) (sym (ap (λ (u : Places). put u s.slot (there d s.slot)) rest.places ∙ back_again d s.slot s.other can.0)) sound,
+        subst (λ (u : Places). IsDatabase (lists_of u))
+            (sym (ap (λ (u : Places). put u s.slot (there d s.slot)) rest.places ∙ back_again d s.slot s.other can.0)) sound,
       );
     }
 

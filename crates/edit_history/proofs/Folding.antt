@@ -17,7 +17,8 @@ effects_snoc db [] e = by_answer (effect db e) where
   by_answer (Ok after) = refl
   by_answer (Err fault) = refl
 effects_snoc db (x ∷ es) e = by_answer (effect db x) (λ after. effects_snoc after es e) where
-  by_answer : (r : Result Lists EditFault) → ((after : Lists) → effects after (es ++ e ∷ []) ≡ (effects after es >>= λ next. effect next e)) → (r >>= λ after. effects after (es ++ e ∷ [])) ≡ ((r >>= λ after. effects after es) >>= λ next. effect next e)
+  by_answer : (r : Result Lists EditFault) → ((after : Lists) → effects after (es ++ e ∷ []) ≡ (effects after es >>= λ next. effect next e))
+      → (r >>= λ after. effects after (es ++ e ∷ [])) ≡ ((r >>= λ after. effects after es) >>= λ next. effect next e)
   by_answer (Ok after) rest = rest after
   by_answer (Err fault) rest = refl
 
@@ -34,7 +35,8 @@ accepted_back d (r ∷ rs) links =
 accepted_on : (d : Places) (rs : List RecordData) → LinksOn d rs → IsOk (effects (lists_of d) (edits_of rs))
 accepted_on d [] links = refl
 accepted_on d (r ∷ rs) links =
-    subst (λ (a : Result Lists EditFault). IsOk (a >>= λ after. effects after (edits_of rs))) (sym links.0.leads) (accepted_on (done_places d r.swaps) rs links.1)
+    subst (λ (a : Result Lists EditFault). IsOk (a >>= λ after. effects after (edits_of rs))) (sym links.0.leads)
+    (accepted_on (done_places d r.swaps) rs links.1)
 
 pub done_accepted : (d : Places) (h : HistoryData) → Links d h → effects (session_of d h).base (session_of d h).done ≡ Ok (lists_of d)
 done_accepted d h links = accepted_back d h.past links.back

@@ -4,7 +4,7 @@ use Rattle.std.specs.Prelude.{IsSome, unwrap_or, reverse, map}
 use Rattle.lsdb.specs.Lists.{Lists, IsDatabase}
 use Rattle.lsdb.specs.declared.slot.SlotId.{SlotId}
 use Rattle.lsdb.specs.Places.{Place, Places, put, slot_at, place_in, item_at, open_at, lists_of}
-use Rattle.lsdb.proofs.Slots.{slot_at-open_at, put-open_at, lists_of-open_at}
+use Rattle.lsdb.proofs.PlaceLemmas.{slot_at-open_at, put-open_at, lists_of-open_at}
 use Rattle.edit_script.specs.declared.edit.Edit.{Edit}
 use Rattle.edit_history.specs.declared.fault.EditFault.{EditFault}
 use Rattle.edit_history.specs.Rules.{Change}
@@ -37,7 +37,8 @@ place_grown [] (suc i) = refl
 place_grown (p ∷ ps) zero = refl
 place_grown (p ∷ ps) (suc i) = place_grown ps i
 
-there_at : (d : Places) (section i n : ℕ) → unwrap_or (place_in (item_at (open_at d n) section) i) None ≡ unwrap_or (place_in (item_at d section) i) None
+there_at : (d : Places) (section i n : ℕ) → unwrap_or (place_in (item_at (open_at d n) section) i) None ≡ unwrap_or
+    (place_in (item_at d section) i) None
 there_at [] section i n = refl
 there_at (s ∷ ss) zero i zero = place_grown s.places i
 there_at (s ∷ ss) zero i (suc n) = refl
@@ -48,17 +49,20 @@ there_grown : (d : Places) (n : ℕ) (slot : SlotId) → there (open_at d n) slo
 there_grown d n slot = there_at d slot.section slot.index n
 
 taken_grown : (d : Places) (n : ℕ) (s : SwapData) → taken (open_at d n) s ≡ taken d s
-taken_grown d n s = ap (λ (p : Place). let t : SwapData = record { slot = s.slot; section = s.section; kind = s.kind; other = p } in t) (there_grown d n s.slot)
+taken_grown d n s = ap (λ (p : Place). let t : SwapData = record { slot = s.slot; section = s.section; kind = s.kind; other = p } in t)
+    (there_grown d n s.slot)
 
 told_grown : (d : Places) (n : ℕ) (s : SwapData) → told (open_at d n) s ≡ told d s
-told_grown d n s = ap (λ (p : Place). let c : Change = record { section = s.section; kind = s.kind; old = s.other; new = p } in c) (there_grown d n s.slot)
+told_grown d n s = ap (λ (p : Place). let c : Change = record { section = s.section; kind = s.kind; old = s.other; new = p } in c)
+    (there_grown d n s.slot)
 
 abbrev all_changes : List Change → Result (List Change) EditFault
 all_changes cs = Ok cs
 
 all_told_grown : (d : Places) (n : ℕ) (ss : List SwapData) → map (told (open_at d n)) ss ≡ map (told d) ss
 all_told_grown d n [] = refl
-all_told_grown d n (s ∷ ss) = ap (λ (c : Change). c ∷ map (told (open_at d n)) ss) (told_grown d n s) ∙ ap (λ (cs : List Change). told d s ∷ cs) (all_told_grown d n ss)
+all_told_grown d n (s ∷ ss) =
+    ap (λ (c : Change). c ∷ map (told (open_at d n)) ss) (told_grown d n s) ∙ ap (λ (cs : List Change). told d s ∷ cs) (all_told_grown d n ss)
 
 -- ---- undoing
 
@@ -71,12 +75,14 @@ undo_grown d n [] can = record { places = refl; can = tt }
 undo_grown d n (s ∷ ss) can =
     let rest = undo_grown d n ss can.0 in
     let u : Places = undone_places d ss in
-    let next : put (undone_places (open_at d n) ss) s.slot s.other ≡ open_at (put u s.slot s.other) n = ap (λ (w : Places). put w s.slot s.other) rest.places ∙ same_put u n s.slot s.other can.1 in
+    let next : put (undone_places (open_at d n) ss) s.slot s.other ≡ open_at (put u s.slot s.other) n = ap
+    (λ (w : Places). put w s.slot s.other) rest.places ∙ same_put u n s.slot s.other can.1 in
     record {
       places = next;
       can = (
         rest.can,
-        subst (λ (w : Places). IsSome (slot_at w s.slot)) (sym rest.places) (subst (λ (o : Option Place). IsSome o) (sym (same_there u n s.slot can.1)) can.1),
+        subst (λ (w : Places). IsSome (slot_at w s.slot)) (sym rest.places)
+            (subst (λ (o : Option Place). IsSome o) (sym (same_there u n s.slot can.1)) can.1),
         subst (λ (w : Places). IsDatabase (lists_of w)) (sym next) (still_sound (put u s.slot s.other) n can.2),
       );
     }
@@ -116,8 +122,10 @@ back_grown d n (r ∷ rs) links =
     let u : Places = undone_places d r.swaps in (
       record {
         can = g.can;
-        leads = ap (λ (w : Places). effect (lists_of w) r.edit) g.places ∙ ap (λ (c : Lists). effect c r.edit) (lists_of-open_at u n) ∙ links.0.leads ∙ ap whole (sym (lists_of-open_at d n));
-        tells = ap (λ (w : Places). changes (lists_of w) r.edit) g.places ∙ ap (λ (c : Lists). changes c r.edit) (lists_of-open_at u n) ∙ links.0.tells ∙ ap all_changes (sym (all_told_grown d n r.swaps));
+        leads = ap (λ (w : Places). effect (lists_of w) r.edit) g.places ∙ ap (λ (c : Lists). effect c r.edit) (lists_of-open_at u n) ∙ links.0.leads
+            ∙ ap whole (sym (lists_of-open_at d n));
+        tells = ap (λ (w : Places). changes (lists_of w) r.edit) g.places ∙ ap (λ (c : Lists). changes c r.edit) (lists_of-open_at u n)
+            ∙ links.0.tells ∙ ap all_changes (sym (all_told_grown d n r.swaps));
       },
       subst (λ (w : Places). LinksBack w rs) (sym g.places) (back_grown u n rs links.1),
     )
@@ -129,7 +137,8 @@ on_grown d n (r ∷ rs) links =
     let u : Places = done_places d r.swaps in (
       record {
         can = g.can;
-        leads = ap (λ (c : Lists). effect c r.edit) (lists_of-open_at d n) ∙ links.0.leads ∙ ap whole (sym (lists_of-open_at u n)) ∙ ap (λ (w : Places). whole (lists_of w)) (sym g.places);
+        leads = ap (λ (c : Lists). effect c r.edit) (lists_of-open_at d n) ∙ links.0.leads ∙ ap whole (sym (lists_of-open_at u n))
+            ∙ ap (λ (w : Places). whole (lists_of w)) (sym g.places);
         tells =
             ap (λ (c : Lists). changes c r.edit) (lists_of-open_at d n)
             ∙ links.0.tells
@@ -196,7 +205,8 @@ pub record Recorded (d e : Places) (h : HistoryData) (r : RecordData) : Type 0 w
   pub links : Links e (record { past = r ∷ h.past; future = [] })
   pub base : lists_of (origin e (r ∷ h.past)) ≡ lists_of (origin d h.past)
 
-pub recorded : (d e : Places) (h : HistoryData) (edit : Edit) (r : RecordData) → Links d h → IsDatabase (lists_of e) → Applied d e edit r → Recorded d e h r
+pub recorded : (d e : Places) (h : HistoryData) (edit : Edit) (r : RecordData) → Links d h → IsDatabase (lists_of e) → Applied d e edit r
+    → Recorded d e h r
 recorded d e h edit r links sound applied =
     let u : Places = undone_places e r.swaps in
     let stays = grown_stays d u h applied.before links in

@@ -9,10 +9,11 @@ use Rattle.lsa_codec.specs.Key.{key_of}
 use Rattle.lsdb.specs.declared.section.Section.{Section}
 use Rattle.lsdb.specs.declared.section.Section.TheVariants.{Area, AsWide}
 use Rattle.lsdb.specs.Lists.{AreaHead, SectionLsas, Lists, same_key, has_key, is_head_of, IsBefore}
-use Rattle.lsdb.proofs.Middle.{pairs_before, pairs_after, map_mid, all_map}
+use Rattle.lsdb.proofs.ListLemmas.{pairs_before, pairs_after, map_mid, all_map}
 use Rattle.edit_history.specs.Rules.{section_name}
 
-key_from : (k l i j a b : ℕ) → k ≡ l → i ≡ j → a ≡ b → let p : Key = record { kind = k; id = record { 0 = i }; adv = record { 0 = a } } in let q : Key = record { kind = l; id = record { 0 = j }; adv = record { 0 = b } } in p ≡ q
+key_from : (k l i j a b : ℕ) → k ≡ l → i ≡ j → a ≡ b → let p : Key = record { kind = k; id = record { 0 = i }; adv = record { 0 = a } } in
+    let q : Key = record { kind = l; id = record { 0 = j }; adv = record { 0 = b } } in p ≡ q
 key_from k l i j a b e f g = rw (e, f, g) refl
 
 pub same_key_true : (a b : Key) → same_key a b ≡ true → a ≡ b
@@ -35,7 +36,8 @@ other_key key lsa apart = false_unless (has_key key lsa) (λ e. apart (same_key_
 -- an LSA has its own key
 pub own_key : (key : Key) (lsa : List ℕ) → key_of lsa ≡ key → has_key key lsa ≡ true
 own_key key lsa same =
-    and_from _ _ (eq-eqb _ _ (ap (λ (k : Key). k.kind) same)) (and_from _ _ (eq-eqb _ _ (ap (λ (k : Key). k.id.0) same)) (eq-eqb _ _ (ap (λ (k : Key). k.adv.0) same)))
+    and_from _ _ (eq-eqb _ _ (ap (λ (k : Key). k.kind) same))
+    (and_from _ _ (eq-eqb _ _ (ap (λ (k : Key). k.id.0) same)) (eq-eqb _ _ (ap (λ (k : Key). k.adv.0) same)))
 
 -- what was found passes
 pub found_passes : {X : Type 0} (p : X → Bool) (xs : List X) (x : X) → find p xs ≡ Some x → p x ≡ true
@@ -55,9 +57,11 @@ pub record IsOnly (p : List ℕ → Bool) (front back : List (List ℕ)) : Type 
 each : {X : Type 0} (P Q : X → Type 0) (xs : List X) → ((x : X) → P x → Q x) → All P xs → All Q xs
 each P Q xs f h k d lt = f _ (h k d lt)
 
-pub only_key : (key : Key) (front back : List (List ℕ)) (lsa : List ℕ) → AllPairs (λ a b. a ≢ b) (map key_of (front ++ lsa ∷ back)) → key_of lsa ≡ key → IsOnly (has_key key) front back
+pub only_key : (key : Key) (front back : List (List ℕ)) (lsa : List ℕ) → AllPairs (λ a b. a ≢ b) (map key_of (front ++ lsa ∷ back)) → key_of lsa ≡ key
+    → IsOnly (has_key key) front back
 only_key key front back lsa distinct is =
-    let apart : AllPairs (λ a b. a ≢ b) (map key_of front ++ key_of lsa ∷ map key_of back) = subst (AllPairs (λ a b. a ≢ b)) (map_mid key_of front back lsa) distinct in
+    let apart : AllPairs (λ a b. a ≢ b) (map key_of front ++ key_of lsa ∷ map key_of back) = subst (AllPairs (λ a b. a ≢ b))
+    (map_mid key_of front back lsa) distinct in
     let before = all_map (λ k. k ≢ key_of lsa) key_of front (pairs_before (λ a b. a ≢ b) (map key_of front) (map key_of back) (key_of lsa) apart) in
     let after = all_map (λ k. key_of lsa ≢ k) key_of back (pairs_after (λ a b. a ≢ b) (map key_of front) (map key_of back) (key_of lsa) apart) in
     record {
@@ -69,13 +73,15 @@ pub head_before : (name : Section) (a b : Option AreaHead) → is_head_of name b
 head_before name None b has before = absurd before
 head_before AsWide (Some a) b has before = refl
 head_before (Area id) (Some a) None has before = absurd cc
-head_before (Area id) (Some a) (Some b) has before = let same : b.id ≡ id.0 = eqb-true _ _ has in ne_eqb a.id id.0 (λ e. omega (arith, e, same, before))
+head_before (Area id) (Some a) (Some b) has before = let same : b.id ≡ id.0 = eqb-true _ _ has in
+    ne_eqb a.id id.0 (λ e. omega (arith, e, same, before))
 
 pub head_after : (name : Section) (a b : Option AreaHead) → is_head_of name a ≡ true → IsBefore a b → is_head_of name b ≡ false
 head_after name None b has before = absurd before
 head_after AsWide (Some a) b has before = absurd cc
 head_after (Area id) (Some a) None has before = refl
-head_after (Area id) (Some a) (Some b) has before = let same : a.id ≡ id.0 = eqb-true _ _ has in ne_eqb b.id id.0 (λ e. omega (arith, e, same, before))
+head_after (Area id) (Some a) (Some b) has before = let same : a.id ≡ id.0 = eqb-true _ _ has in
+    ne_eqb b.id id.0 (λ e. omega (arith, e, same, before))
 
 abbrev pub head_in : SectionLsas → Option AreaHead
 head_in s = s.area
@@ -85,14 +91,17 @@ pub record IsOnlySection (name : Section) (low high : Lists) : Type 0 where
   pub below : All (λ (s : SectionLsas). is_head_of name s.area ≡ false) low
   pub above : All (λ (s : SectionLsas). is_head_of name s.area ≡ false) high
 
-pub only_section : (name : Section) (low high : Lists) (s : SectionLsas) → AllPairs IsBefore (map head_in (low ++ s ∷ high)) → is_head_of name s.area ≡ true → IsOnlySection name low high
+pub only_section : (name : Section) (low high : Lists) (s : SectionLsas) → AllPairs IsBefore (map head_in (low ++ s ∷ high))
+    → is_head_of name s.area ≡ true → IsOnlySection name low high
 only_section name low high s order has =
     let apart : AllPairs IsBefore (map head_in low ++ s.area ∷ map head_in high) = subst (AllPairs IsBefore) (map_mid head_in low high s) order in
     let before = all_map (λ a. IsBefore a s.area) head_in low (pairs_before IsBefore (map head_in low) (map head_in high) s.area apart) in
     let after = all_map (λ a. IsBefore s.area a) head_in high (pairs_after IsBefore (map head_in low) (map head_in high) s.area apart) in
     record {
-      below = each (λ (t : SectionLsas). IsBefore t.area s.area) (λ (t : SectionLsas). is_head_of name t.area ≡ false) low (λ t b. head_before name t.area s.area has b) before;
-      above = each (λ (t : SectionLsas). IsBefore s.area t.area) (λ (t : SectionLsas). is_head_of name t.area ≡ false) high (λ t b. head_after name s.area t.area has b) after;
+      below = each (λ (t : SectionLsas). IsBefore t.area s.area) (λ (t : SectionLsas). is_head_of name t.area ≡ false) low
+          (λ t b. head_before name t.area s.area has b) before;
+      above = each (λ (t : SectionLsas). IsBefore s.area t.area) (λ (t : SectionLsas). is_head_of name t.area ≡ false) high
+          (λ t b. head_after name s.area t.area has b) after;
     }
 
 -- a section of that name is named so

@@ -20,7 +20,8 @@ whole db = Ok db
 abbrev pub all_told : Places → List SwapData → Result (List Change) EditFault
 all_told e ss = Ok (map (told e) ss)
 
-pub step_back : (d : Places) (r : RecordData) (rs fs : List RecordData) → Links d (record { past = r ∷ rs; future = fs }) → Links (undone_places d r.swaps) (record { past = rs; future = undone d r ∷ fs })
+pub step_back : (d : Places) (r : RecordData) (rs fs : List RecordData) → Links d (record { past = r ∷ rs; future = fs })
+    → Links (undone_places d r.swaps) (record { past = rs; future = undone d r ∷ fs })
 step_back d r rs fs links =
     let u : Places = undone_places d r.swaps in
     let us : List SwapData = undone_swaps d r.swaps in
@@ -32,13 +33,15 @@ step_back d r rs fs links =
         record {
           can = again.can;
           leads = links.back.0.leads ∙ ap (λ (e : Places). whole (lists_of e)) (sym again.places);
-          tells = links.back.0.tells ∙ ap (λ (e : Places). all_told e r.swaps) (sym again.places) ∙ ap (all_told (done_places u us)) (sym again.swaps);
+          tells = links.back.0.tells ∙ ap (λ (e : Places). all_told e r.swaps) (sym again.places)
+              ∙ ap (all_told (done_places u us)) (sym again.swaps);
         },
         subst (λ (e : Places). LinksOn e fs) (sym again.places) links.on,
       );
     }
 
-pub step_on : (d : Places) (r : RecordData) (rs fs : List RecordData) → Links d (record { past = rs; future = r ∷ fs }) → Links (done_places d r.swaps) (record { past = redone d r ∷ rs; future = fs })
+pub step_on : (d : Places) (r : RecordData) (rs fs : List RecordData) → Links d (record { past = rs; future = r ∷ fs })
+    → Links (done_places d r.swaps) (record { past = redone d r ∷ rs; future = fs })
 step_on d r rs fs links =
     let again = undo_done d r.swaps links.sound links.on.0.can in
     record {
@@ -59,10 +62,14 @@ step_on d r rs fs links =
 pub reverse_cons : (e : Edit) (es : List Edit) → reverse (e ∷ es) ≡ reverse es ++ e ∷ []
 reverse_cons e es = reverse-append (e ∷ []) es
 
-pub session_back : (d : Places) (r : RecordData) (rs fs : List RecordData) → StepsBack (session_of d (record { past = r ∷ rs; future = fs })) (session_of (undone_places d r.swaps) (record { past = rs; future = undone d r ∷ fs }))
+pub session_back : (d : Places) (r : RecordData) (rs fs : List RecordData)
+    → StepsBack (session_of d (record { past = r ∷ rs; future = fs }))
+    (session_of (undone_places d r.swaps) (record { past = rs; future = undone d r ∷ fs }))
 session_back d r rs fs = record { edit = r.edit; base = refl; done = reverse_cons r.edit (edits_of rs); undone = refl }
 
-pub session_on : (d : Places) (r : RecordData) (rs fs : List RecordData) → Links d (record { past = rs; future = r ∷ fs }) → StepsOn (session_of d (record { past = rs; future = r ∷ fs })) (session_of (done_places d r.swaps) (record { past = redone d r ∷ rs; future = fs }))
+pub session_on : (d : Places) (r : RecordData) (rs fs : List RecordData) → Links d (record { past = rs; future = r ∷ fs })
+    → StepsOn (session_of d (record { past = rs; future = r ∷ fs }))
+    (session_of (done_places d r.swaps) (record { past = redone d r ∷ rs; future = fs }))
 session_on d r rs fs links =
     let again = undo_done d r.swaps links.sound links.on.0.can in
     record { edit = r.edit; base = ap (λ (e : Places). lists_of (origin e rs)) again.places; done = reverse_cons r.edit (edits_of rs); undone = refl }
@@ -73,7 +80,8 @@ not_empty : (front : List Edit) (e : Edit) → front ++ e ∷ [] ≡ [] → ⊥
 not_empty [] e h = cc
 not_empty (f ∷ front) e h = cc
 
-snoc_split : (ds front : List Edit) (e : Edit) (m : ℕ) → front ++ e ∷ [] ≡ take (suc m) ds → suc m ≤ length ds → (front ≡ take m ds) × (e ∷ drop (suc m) ds ≡ drop m ds)
+snoc_split : (ds front : List Edit) (e : Edit) (m : ℕ) → front ++ e ∷ [] ≡ take (suc m) ds → suc m ≤ length ds
+    → (front ≡ take m ds) × (e ∷ drop (suc m) ds ≡ drop m ds)
 snoc_split [] front e m h le = absurd (omega arith)
 snoc_split (d ∷ ds) [] e zero h le = (refl, ap (λ (x : Edit). x ∷ ds) (let same : e ≡ d = cc in same))
 snoc_split (d ∷ []) [] e (suc m) h le = absurd (omega arith)
@@ -105,7 +113,8 @@ pub back_more : (s now next : Session) (i j : ℕ) → j ≡ suc i → j ≤ len
 back_more s now next i j is le at step =
     let m = length s.done - j in
     let count : length s.done - i ≡ suc m = omega arith in
-    let front : next.done ++ step.edit ∷ [] ≡ take (suc m) s.done = sym step.done ∙ ap (λ (x : Session). x.done) at ∙ ap (λ (k : ℕ). take k s.done) count in
+    let front : next.done ++ step.edit ∷ [] ≡ take (suc m) s.done = sym step.done ∙ ap (λ (x : Session). x.done) at
+    ∙ ap (λ (k : ℕ). take k s.done) count in
     let split = snoc_split s.done next.done step.edit m front (omega arith) in
     same_session next (moved_back j s)
     (step.base ∙ ap (λ (x : Session). x.base) at)
@@ -129,7 +138,8 @@ on_more s now next i j is at step =
 
 -- no step
 pub back_none : (s : Session) → s ≡ moved_back 0 s
-back_none s = same_session s (moved_back 0 s) refl (sym (take_all (length s.done - 0) s.done (omega arith))) (ap (λ (xs : List Edit). xs ++ s.undone) (sym (drop_all (length s.done - 0) s.done (omega arith))))
+back_none s = same_session s (moved_back 0 s) refl (sym (take_all (length s.done - 0) s.done (omega arith)))
+    (ap (λ (xs : List Edit). xs ++ s.undone) (sym (drop_all (length s.done - 0) s.done (omega arith))))
 
 pub on_none : (s : Session) → s ≡ moved_on 0 s
 on_none s = same_session s (moved_on 0 s) refl (sym (append-nil s.done)) refl

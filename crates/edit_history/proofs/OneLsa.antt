@@ -8,17 +8,17 @@ use Rattle.lsdb.specs.declared.section.Section.{Section}
 use Rattle.lsdb.specs.declared.slot.SlotId.{SlotId}
 use Rattle.lsdb.specs.Lists.{AreaHead, Lists, IsDatabase, IsSection, IsBefore, heads_of, is_section, is_head_of}
 use Rattle.lsdb.specs.Places.{Place, Places, slot_at, put, lists_of, IsNamed}
-use Rattle.lsdb.proofs.Slots.{slot_at-put}
-use Rattle.lsdb.proofs.Middle.{all_at_mid}
-use Rattle.lsdb.proofs.Dominated.{section_with, between}
+use Rattle.lsdb.proofs.PlaceLemmas.{slot_at-put}
+use Rattle.lsdb.proofs.ListLemmas.{all_at_mid}
+use Rattle.lsdb.proofs.PlaceLemmas.{section_with, between}
 use Rattle.edit_script.specs.declared.edit.Edit.{Edit}
 use Rattle.edit_history.specs.Rules.{Fate, stays, Change, section_name, one_lsa, lists_after, changes_by}
 use Rattle.edit_history.specs.Effect.{rule_of}
 use Rattle.edit_history.specs.Exchange.{SwapData}
 use Rattle.edit_history.specs.Applied.{Planned}
 use Rattle.edit_history.proofs.Keys.{own_key, found_passes, only_key, only_section, name_is}
-use Rattle.edit_history.proofs.Ruled.{TouchesOne, fate_of, one_after, one_change}
-use Rattle.edit_history.proofs.Follows.{Follows, planned_here}
+use Rattle.edit_history.proofs.RuleOutcomes.{TouchesOne, fate_of, one_after, one_change}
+use Rattle.edit_history.proofs.RulesCarriedOut.{Follows, planned_here}
 
 -- ---- the rule touches this LSA alone
 
@@ -36,8 +36,10 @@ not_second a true f p = absurd cc
 not_second true false f p = refl
 not_second false false f p = refl
 
-only_one : (name : Section) (key : Key) (x : List ℕ) (other : Place) (low high : Lists) (area : Option AreaHead) (front back : List (List ℕ)) → let s = section_with area (front ++ x ∷ back) in
-    AllPairs IsBefore (heads_of (low ++ s ∷ high)) → IsSection s → is_head_of name area ≡ true → key_of x ≡ key → TouchesOne (one_lsa name key (fate_of other)).fates low high area front back x other
+only_one : (name : Section) (key : Key) (x : List ℕ) (other : Place) (low high : Lists) (area : Option AreaHead) (front back : List (List ℕ))
+    → let s = section_with area (front ++ x ∷ back) in
+    AllPairs IsBefore (heads_of (low ++ s ∷ high)) → IsSection s → is_head_of name area ≡ true → key_of x ≡ key
+    → TouchesOne (one_lsa name key (fate_of other)).fates low high area front back x other
 only_one name key x other low high area front back order section named is =
     let s = section_with area (front ++ x ∷ back) in
     let sections = only_section name low high s order named in
@@ -55,7 +57,8 @@ only_one name key x other low high area front back order section named is =
 abbrev change_at : Section → ℕ → Option Place → Option Place → Change
 change_at section kind old new = record { section = section; kind = kind; old = unwrap_or old None; new = unwrap_or new None }
 
-one_told : (here section : Section) (this kind : ℕ) (old now : Option Place) (x : List ℕ) (other : Place) → here ≡ section → this ≡ kind → old ≡ Some (Some x) → now ≡ Some other
+one_told : (here section : Section) (this kind : ℕ) (old now : Option Place) (x : List ℕ) (other : Place) → here ≡ section → this ≡ kind
+    → old ≡ Some (Some x) → now ≡ Some other
     → change_at here this old now ≡ change_at section kind (Some (Some x)) (Some other)
 one_told here section this kind old now x other p q before after =
     ap (λ (s : Section). change_at s this old now) p
@@ -69,14 +72,16 @@ abbrev pub one_swap : SlotId → Section → ℕ → Place → SwapData
 one_swap slot name kind other = record { slot = slot; section = name; kind = kind; other = other }
 
 -- an LSA of a section gives its place to another, or leaves it
-pub exchanged : (d : Places) (name : Section) (key : Key) (slot : SlotId) (lsa : List ℕ) (other : Place) → IsDatabase (lists_of d) → IsNamed d name slot.section → slot_at d slot ≡ Some (Some lsa) → key_of lsa ≡ key
+pub exchanged : (d : Places) (name : Section) (key : Key) (slot : SlotId) (lsa : List ℕ) (other : Place) → IsDatabase (lists_of d)
+    → IsNamed d name slot.section → slot_at d slot ≡ Some (Some lsa) → key_of lsa ≡ key
     → IsDatabase (lists_of (put d slot other)) → Follows d (one_lsa name key (fate_of other)) (one_swap slot name key.kind other ∷ [])
 exchanged d name key slot lsa other sound named held is next =
     let w = between d slot (Some lsa) other held in
     let rule = one_lsa name key (fate_of other) in
     let s = section_with w.area (w.front ++ lsa ∷ w.back) in
     let in_section : is_head_of name w.area ≡ true = found_passes (is_section name) (lists_of d) s (sym named.same ∙ w.here) in
-    let order : AllPairs IsBefore (heads_of (w.low ++ s ∷ w.high)) = subst (λ (db : Lists). AllPairs IsBefore (heads_of db)) w.before sound.heads.order in
+    let order : AllPairs IsBefore (heads_of (w.low ++ s ∷ w.high)) = subst
+    (λ (db : Lists). AllPairs IsBefore (heads_of db)) w.before sound.heads.order in
     let section : IsSection s = all_at_mid IsSection w.low w.high s (subst (All IsSection) w.before sound.sections) in
     let t = only_one name key lsa other w.low w.high w.area w.front w.back order section in_section is in
     let now : slot_at (put d slot other) slot ≡ Some other = slot_at-put d slot other (Some lsa) held in
@@ -87,12 +92,17 @@ exchanged d name key slot lsa other sound named held is next =
           ap (changes_by rule) w.before
           ∙ one_change rule.fates w.low w.high w.area w.front w.back lsa other t
           ∙ ap (λ (c : Change). c ∷ [])
-          (sym (one_told name (section_name w.area) key.kind (kind_of lsa) (slot_at d slot) (slot_at (put d slot other) slot) lsa other (name_is name w.area in_section) (sym (ap (λ (k : Key). k.kind) is)) held now));
+          (sym (one_told name (section_name w.area) key.kind (kind_of lsa) (slot_at d slot) (slot_at (put d slot other) slot) lsa other
+          (name_is name w.area in_section) (sym (ap (λ (k : Key). k.kind) is)) held now));
     }
 
 -- the plan of an edit that touches one LSA
-pub planned_one : (d : Places) (edit : Edit) (name : Section) (key : Key) (slot : SlotId) (lsa : List ℕ) (other : Place) (kind : ℕ) (swap : SwapData) (items : List SwapData) → IsDatabase (lists_of d) → IsNamed d name slot.section → slot_at d slot ≡ Some (Some lsa)
-    → key_of lsa ≡ key → key.kind ≡ kind → IsDatabase (lists_of (put d slot other)) → rule_of (lists_of d) edit ≡ Ok (one_lsa name key (fate_of other)) → swap ≡ one_swap slot name kind other → items ≡ swap ∷ [] → Planned d d edit items
+pub planned_one : (d : Places) (edit : Edit) (name : Section) (key : Key) (slot : SlotId) (lsa : List ℕ) (other : Place) (kind : ℕ) (swap : SwapData)
+    (items : List SwapData) → IsDatabase (lists_of d) → IsNamed d name slot.section → slot_at d slot ≡ Some (Some lsa)
+    → key_of lsa ≡ key → key.kind ≡ kind → IsDatabase (lists_of (put d slot other))
+    → rule_of (lists_of d) edit ≡ Ok (one_lsa name key (fate_of other)) → swap ≡ one_swap slot name kind other → items ≡ swap ∷ []
+    → Planned d d edit items
 planned_one d edit name key slot lsa other kind swap items sound named held is kind_is next ruled swap_is items_is =
-    planned_here d edit (one_lsa name key (fate_of other)) (one_swap slot name key.kind other ∷ []) items ruled (exchanged d name key slot lsa other sound named held is next)
+    planned_here d edit (one_lsa name key (fate_of other)) (one_swap slot name key.kind other ∷ []) items ruled
+    (exchanged d name key slot lsa other sound named held is next)
     (items_is ∙ ap (λ (s : SwapData). s ∷ []) (swap_is ∙ ap (λ (k : ℕ). one_swap slot name k other) (sym kind_is)))

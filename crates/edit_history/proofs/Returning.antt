@@ -42,7 +42,8 @@ record Behind (s t : Session) (es : List Edit) : Type 0 where
   pub done : t.done ≡ s.done ++ es
 
 accepted_behind : (s t : Session) (e : Edit) (after : Result Lists EditFault) → accepted s e after ≡ Ok t → Behind s t (e ∷ [])
-accepted_behind s t e (Ok db) h = let same : t ≡ record { base = s.base; done = s.done ++ e ∷ []; undone = [] } = cc in record { base = ap (λ (x : Session). x.base) same; done = ap (λ (x : Session). x.done) same }
+accepted_behind s t e (Ok db) h = let same : t ≡ record { base = s.base; done = s.done ++ e ∷ []; undone = [] } = cc in
+    record { base = ap (λ (x : Session). x.base) same; done = ap (λ (x : Session). x.done) same }
 accepted_behind s t e (Err fault) h = absurd cc
 
 edited_behind : (s t : Session) (e : Edit) → edited s e ≡ Ok t → Behind s t (e ∷ [])
@@ -53,12 +54,15 @@ edited_behind s t e h = by_room (ltb (length s.done) 10000) h where
   by_room false is = absurd cc
 
 behind_both : (s u t : Session) (e : Edit) (es : List Edit) → Behind s u (e ∷ []) → Behind u t es → Behind s t (e ∷ es)
-behind_both s u t e es one more = record { base = more.base ∙ one.base; done = more.done ∙ ap (λ (ds : List Edit). ds ++ es) one.done ∙ append_assoc s.done (e ∷ []) es }
+behind_both s u t e es one more =
+    record { base = more.base ∙ one.base; done = more.done ∙ ap (λ (ds : List Edit). ds ++ es) one.done ∙ append_assoc s.done (e ∷ []) es }
 
 edits_behind : (s t : Session) (es : List Edit) → edited_by s es ≡ Ok t → Behind s t es
-edits_behind s t [] h = let same : t ≡ s = (let both : (let r : Result Session EditFault = Ok s in r) ≡ Ok t = h in cc) in record { base = ap (λ (x : Session). x.base) same; done = ap (λ (x : Session). x.done) same ∙ sym (append-nil s.done) }
+edits_behind s t [] h = let same : t ≡ s = (let both : (let r : Result Session EditFault = Ok s in r) ≡ Ok t = h in cc) in
+    record { base = ap (λ (x : Session). x.base) same; done = ap (λ (x : Session). x.done) same ∙ sym (append-nil s.done) }
 edits_behind s t (e ∷ es) h = by_answer (edited s e) refl h (λ u. edits_behind u t es) where
-  by_answer : (r : Result Session EditFault) → edited s e ≡ r → (r >>= λ u. edited_by u es) ≡ Ok t → ((u : Session) → edited_by u es ≡ Ok t → Behind u t es) → Behind s t (e ∷ es)
+  by_answer : (r : Result Session EditFault) → edited s e ≡ r → (r >>= λ u. edited_by u es) ≡ Ok t
+      → ((u : Session) → edited_by u es ≡ Ok t → Behind u t es) → Behind s t (e ∷ es)
   by_answer (Ok u) is more rest = behind_both s u t e es (edited_behind s u e is) (rest u more)
   by_answer (Err fault) is more rest = absurd cc
 

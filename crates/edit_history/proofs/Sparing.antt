@@ -12,12 +12,12 @@ use Rattle.lsa_codec.specs.declared.key.Key.{Key}
 use Rattle.lsa_codec.specs.declared.fault.MakeFault.{MakeFault}
 use Rattle.lsa_codec.specs.Accepted.{IsAccepted}
 use Rattle.lsa_codec.specs.Fields.{kind_of, advertising_router_of}
-use Rattle.lsa_codec.specs.Key.{key_of}
+use Rattle.lsa_codec.specs.Key.{key_of, router_key}
 use Rattle.lsa_codec.specs.Prefix.{Net}
 use Rattle.lsa_codec.specs.Views.{has_metric}
 use Rattle.lsa_codec.specs.Making.{with_cost, without_link, with_stub}
 use Rattle.lsa_codec.specs.Originating.{with_metric, new_summary, new_external}
-use Rattle.lsa_codec.proofs.Rewritten.{metric_rewritten}
+use Rattle.lsa_codec.proofs.LsaLemmas.{metric_rewritten}
 use Rattle.lsdb.specs.declared.section.Section.{Section}
 use Rattle.lsdb.specs.declared.section.Section.TheVariants.{Area, AsWide}
 use Rattle.lsdb.specs.Lists.{AreaHead, SectionLsas, Lists, IsDatabase, IsSection, is_head_of, is_section, has_key, lsas_or_none, lsas_of}
@@ -26,7 +26,7 @@ use Rattle.edit_script.specs.declared.edit.Edit.TheVariants.{Cost, DropLink, Fai
 use Rattle.edit_history.specs.declared.fault.EditFault.{EditFault}
 use Rattle.edit_history.specs.declared.fault.EditFault.TheVariants.{NoArea, NoRouter, NoLink, SameRouter, NoNetwork, NoSummary, NoExternal, Full}
 use Rattle.edit_history.specs.Rules.{Fate, stays, removed, rewritten, Fates, Rule, NewLsa, Change, by_fates, one_lsa, within, adding, outcome, change_of, addition, with_added, section_name, section_after, section_changes, lists_after, changes_by}
-use Rattle.edit_history.specs.Effect.{◌>>=◌, or_refused, made, area_of, router_key, router_lsa_in, router_lsa_of, has_router, stub_octets, is_dump_full, remaking, is_for, is_network, are_linked, options_in, is_type2, room_for, added, cut, link_fate, net_fate, router_fate, rule_of, effect, changes, is_graph_kind, touched, touched_by, edit_touches, graph_lsas}
+use Rattle.edit_history.specs.Effect.{◌>>=◌, or_refused, made, area_of, router_lsa_in, router_lsa_of, has_router, stub_octets, is_dump_full, remaking, is_for, is_network, are_linked, options_in, is_type2, room_for, added, cut, link_fate, net_fate, router_fate, rule_of, effect, changes, is_graph_kind, touched, touched_by, edit_touches, graph_lsas}
 use Rattle.edit_history.proofs.Keys.{same_key_true, found_passes}
 
 abbrev is_graph_lsa : List ℕ → Bool
@@ -53,12 +53,13 @@ spared_if false f g one two = two refl
 no_router_lsa : (lsa : List ℕ) → is_graph_lsa lsa ≡ false → kind_of lsa ≡ 1 → ⊥
 no_router_lsa lsa other is = let of_graph : is_graph_lsa lsa ≡ true = ap is_graph_kind is in cc
 
-no_router_key : (router : ℕ) (lsa : List ℕ) → is_graph_lsa lsa ≡ false → has_key (router_key router) lsa ≡ true → ⊥
+no_router_key : (router : RouterId) (lsa : List ℕ) → is_graph_lsa lsa ≡ false → has_key (router_key router) lsa ≡ true → ⊥
 no_router_key router lsa other has = no_router_lsa lsa other (ap (λ (k : Key). k.kind) (same_key_true (key_of lsa) (router_key router) has))
 
-router_lsa_spares : (name : Section) (router : ℕ) (fate : Fate) → Spares (one_lsa name (router_key router) fate)
+router_lsa_spares : (name : Section) (router : RouterId) (fate : Fate) → Spares (one_lsa name (router_key router) fate)
 router_lsa_spares name router fate head lsa other =
-    spared_if (is_head_of name head) _ _ (λ _. spared_if (has_key (router_key router) lsa) _ _ (λ has. absurd (no_router_key router lsa other has)) (λ _. tt)) (λ _. tt)
+    spared_if (is_head_of name head) _ _ (λ _. spared_if (has_key (router_key router) lsa) _ _ (λ has. absurd (no_router_key router lsa other has))
+    (λ _. tt)) (λ _. tt)
 
 one_spares : (name : Section) (key : Key) (fate : Fate) → IsSpared fate → Spares (one_lsa name key fate)
 one_spares name key fate spared head lsa other =
@@ -67,14 +68,15 @@ one_spares name key fate spared head lsa other =
 links_spare : (area : AreaId) (router neighbor : RouterId) → Spares (within (Area area) (link_fate router neighbor))
 links_spare area router neighbor head lsa other =
     spared_if (is_head_of (Area area) head) _ _
-    (λ _. spared_if (has_key (router_key router.0) lsa) _ _ (λ has. absurd (no_router_key router.0 lsa other has))
-    (λ _. spared_if (has_key (router_key neighbor.0) lsa) _ _ (λ has. absurd (no_router_key neighbor.0 lsa other has)) (λ _. tt)))
+    (λ _. spared_if (has_key (router_key router) lsa) _ _ (λ has. absurd (no_router_key router lsa other has))
+    (λ _. spared_if (has_key (router_key neighbor) lsa) _ _ (λ has. absurd (no_router_key neighbor lsa other has)) (λ _. tt)))
     (λ _. tt)
 
 network_spares : (area : AreaId) (network : Addr) → Spares (within (Area area) (net_fate network))
 network_spares area network head lsa other =
     spared_if (is_head_of (Area area) head) _ _
-    (λ _. spared_if (is_network network lsa) _ _ (λ _. tt) (λ _. spared_if (kind_of lsa == 1) _ _ (λ is. absurd (no_router_lsa lsa other (eqb-true _ _ is))) (λ _. tt)))
+    (λ _. spared_if (is_network network lsa) _ _ (λ _. tt)
+    (λ _. spared_if (kind_of lsa == 1) _ _ (λ is. absurd (no_router_lsa lsa other (eqb-true _ _ is))) (λ _. tt)))
     (λ _. tt)
 
 router_spares : (router : RouterId) → Spares (by_fates (λ head. router_fate router))
@@ -111,22 +113,27 @@ holds_of_found {X} P test (y ∷ ys) x all is = by_test (test y) is (λ more. ho
   by_test false e rest = rest e
 
 -- a summary-LSA with another metric is not of the graph
-summary_spared : (section : SectionLsas) (router : RouterId) (prefix : Net) (metric : ℕ) (lsa : List ℕ) → IsSection section → find (is_for 3 router prefix) section.lsas ≡ Some lsa → is_graph_lsa (with_metric metric lsa) ≡ false
+summary_spared : (section : SectionLsas) (router : RouterId) (prefix : Net) (metric : ℕ) (lsa : List ℕ) → IsSection section
+    → find (is_for 3 router prefix) section.lsas ≡ Some lsa → is_graph_lsa (with_metric metric lsa) ≡ false
 summary_spared section router prefix metric lsa sound found =
     let kind : kind_of lsa ≡ 3 = eqb-true _ _ (and_parts _ _ (found_passes (is_for 3 router prefix) section.lsas lsa found)).0 in
-    let made = metric_rewritten metric lsa (holds_of_found IsAccepted (is_for 3 router prefix) section.lsas lsa sound.accepted found) (ap has_metric kind) in
+    let made = metric_rewritten metric lsa (holds_of_found IsAccepted (is_for 3 router prefix) section.lsas lsa sound.accepted found)
+    (ap has_metric kind) in
     ap (λ (k : Key). is_graph_kind k.kind) made.key ∙ ap is_graph_kind kind
 
 added_spares : (db : Lists) (name : Section) (new : List ℕ) → IfRuled (added db name new)
-added_spares db name new = if_bound (room_for db name (key_of new) (length new)) (λ room. let r : Result Rule EditFault = Ok (adding name new) in r) (λ room _. ruled (adding name new) (λ head lsa other. tt))
+added_spares db name new =
+    if_bound (room_for db name (key_of new) (length new)) (λ room. let r : Result Rule EditFault = Ok (adding name new) in r)
+    (λ room _. ruled (adding name new) (λ head lsa other. tt))
 
 abbrev remade : AreaId → RouterId → List ℕ → Result Rule EditFault
-remade area router new = Ok (one_lsa (Area area) (router_key router.0) (rewritten new))
+remade area router new = Ok (one_lsa (Area area) (router_key router) (rewritten new))
 
 remade_spares : (area : AreaId) (router : RouterId) (new : List ℕ) → IfRuled (remade area router new)
-remade_spares area router new = ruled _ (router_lsa_spares (Area area) router.0 (rewritten new))
+remade_spares area router new = ruled _ (router_lsa_spares (Area area) router (rewritten new))
 
-remaking_spares : (db : Lists) (area : AreaId) (router : RouterId) (make : List ℕ → Result (List ℕ) MakeFault) → IfRuled (remaking db area router make)
+remaking_spares : (db : Lists) (area : AreaId) (router : RouterId) (make : List ℕ → Result (List ℕ) MakeFault)
+    → IfRuled (remaking db area router make)
 remaking_spares db area router make =
     if_bound (router_lsa_of db area router) (λ lsa. made (make lsa) >>= remade area router)
     (λ lsa _. if_bound (made (make lsa)) (remade area router) (λ new _. remade_spares area router new))
@@ -144,7 +151,8 @@ rule_spares db (FailLink area router neighbor) sound =
     if_either (router.0 == neighbor.0) (Err SameRouter) (apart section) (refused SameRouter)
     (if_bound (router_lsa_in section router) (one section) (λ lsa _.
     if_bound (router_lsa_in section neighbor) (two section lsa) (λ other _.
-    if_either (are_linked router neighbor lsa other) (Ok (within (Area area) (link_fate router neighbor))) (Err NoLink) (ruled _ (links_spare area router neighbor)) (refused NoLink)))))
+    if_either (are_linked router neighbor lsa other) (Ok (within (Area area) (link_fate router neighbor))) (Err NoLink)
+    (ruled _ (links_spare area router neighbor)) (refused NoLink)))))
 rule_spares db (FailNet area network) sound =
     let rule : Result Rule EditFault = Ok (within (Area area) (net_fate network)) in
     if_bound (area_of db area) (λ section. or_refused NoNetwork (find (is_network network) section.lsas) >>= λ lsa. rule) (λ section _.
@@ -167,13 +175,15 @@ rule_spares db (Summary area router prefix metric) sound =
 rule_spares db (AddSummary area router prefix metric) sound =
     let new : SectionLsas → Result Rule EditFault = λ section. added db (Area area) (new_summary (options_in section.area) router prefix metric) in
     if_bound (area_of db area) (λ section. router_lsa_in section router >>= λ lsa. new section) (λ section _.
-    if_bound (router_lsa_in section router) (λ lsa. new section) (λ lsa _. added_spares db (Area area) (new_summary (options_in section.area) router prefix metric)))
+    if_bound (router_lsa_in section router) (λ lsa. new section)
+    (λ lsa _. added_spares db (Area area) (new_summary (options_in section.area) router prefix metric)))
 rule_spares db (AddExternal router prefix metric_type metric forward tag) sound =
     let new : List ℕ = new_external router prefix (is_type2 metric_type) metric forward tag in
     if_either (has_router router db) (added db AsWide new) (Err NoRouter) (added_spares db AsWide new) (refused NoRouter)
 rule_spares db (DropExternal router prefix) sound =
     let gone : List ℕ → Result Rule EditFault = λ lsa. Ok (one_lsa AsWide (key_of lsa) removed) in
-    if_bound (or_refused NoExternal (find (is_for 5 router prefix) (lsas_of AsWide db))) gone (λ lsa _. ruled _ (one_spares AsWide (key_of lsa) removed tt))
+    if_bound (or_refused NoExternal (find (is_for 5 router prefix) (lsas_of AsWide db))) gone
+    (λ lsa _. ruled _ (one_spares AsWide (key_of lsa) removed tt))
 
 -- ---- a section of the area
 
@@ -182,7 +192,8 @@ not_of_graph : (b : Bool) (kind : ℕ) → b ≡ true → (b && is_graph_kind ki
 not_of_graph true kind is untouched = untouched
 not_of_graph false kind is untouched = absurd cc
 
-dropped : (lsa : List ℕ) (rest lsas : List (List ℕ)) → is_graph_lsa lsa ≡ false → graph_of rest ≡ graph_of lsas → graph_of rest ≡ graph_of (lsa ∷ lsas)
+dropped : (lsa : List ℕ) (rest lsas : List (List ℕ)) → is_graph_lsa lsa ≡ false → graph_of rest ≡ graph_of lsas
+    → graph_of rest ≡ graph_of (lsa ∷ lsas)
 dropped lsa rest lsas other same = same ∙ sym (ap (λ (b : Bool). cond b (lsa ∷ graph_of lsas) (graph_of lsas)) other)
 
 kept_graph : (fate : List ℕ → Fate) (id : ℕ) (area : AreaId) (lsas : List (List ℕ))
@@ -190,38 +201,44 @@ kept_graph : (fate : List ℕ → Fate) (id : ℕ) (area : AreaId) (lsas : List 
     → touched area (filter_map (λ lsa. change_of (Area (record { 0 = id })) lsa (fate lsa)) lsas) ≡ false
     → graph_of (filter_map (λ lsa. outcome (fate lsa) lsa) lsas) ≡ graph_of lsas
 kept_graph fate id area [] spares here untouched = refl
-kept_graph fate id area (x ∷ xs) spares here untouched = by_fate (fate x) (spares x) untouched (λ rest. kept_graph fate id area xs spares here rest) where
-  rest_after : List (List ℕ)
-  rest_after = filter_map (λ lsa. outcome (fate lsa) lsa) xs
+kept_graph fate id area (x ∷ xs) spares here untouched =
+    by_fate (fate x) (spares x) untouched (λ rest. kept_graph fate id area xs spares here rest) where
+      rest_after : List (List ℕ)
+      rest_after = filter_map (λ lsa. outcome (fate lsa) lsa) xs
 
-  rest_changes : List Change
-  rest_changes = filter_map (λ lsa. change_of (Area (record { 0 = id })) lsa (fate lsa)) xs
+      rest_changes : List Change
+      rest_changes = filter_map (λ lsa. change_of (Area (record { 0 = id })) lsa (fate lsa)) xs
 
-  by_fate : (f : Fate) → (is_graph_lsa x ≡ false → IsSpared f) → touched area (cons_option (change_of (Area (record { 0 = id })) x f) rest_changes) ≡ false
-      → (touched area rest_changes ≡ false → graph_of rest_after ≡ graph_of xs) → graph_of (cons_option (outcome f x) rest_after) ≡ graph_of (x ∷ xs)
-  by_fate stays spared un rest = ap (λ (ys : List (List ℕ)). cond (is_graph_lsa x) (x ∷ ys) ys) (rest un)
-  by_fate removed spared un rest =
-      let parts = or_parts _ _ un in
-      dropped x rest_after xs (not_of_graph (id == area.0) (kind_of x) here parts.0) (rest parts.1)
-  by_fate (rewritten new) spared un rest =
-      let parts = or_parts _ _ un in
-      let other : is_graph_lsa x ≡ false = not_of_graph (id == area.0) (kind_of x) here parts.0 in
-      sym (dropped new rest_after rest_after (spared other) refl) ∙ dropped x rest_after xs other (rest parts.1)
+      by_fate : (f : Fate) → (is_graph_lsa x ≡ false → IsSpared f)
+          → touched area (cons_option (change_of (Area (record { 0 = id })) x f) rest_changes) ≡ false
+          → (touched area rest_changes ≡ false → graph_of rest_after ≡ graph_of xs) → graph_of (cons_option (outcome f x) rest_after) ≡ graph_of (x ∷ xs)
+      by_fate stays spared un rest = ap (λ (ys : List (List ℕ)). cond (is_graph_lsa x) (x ∷ ys) ys) (rest un)
+      by_fate removed spared un rest =
+          let parts = or_parts _ _ un in
+          dropped x rest_after xs (not_of_graph (id == area.0) (kind_of x) here parts.0) (rest parts.1)
+      by_fate (rewritten new) spared un rest =
+          let parts = or_parts _ _ un in
+          let other : is_graph_lsa x ≡ false = not_of_graph (id == area.0) (kind_of x) here parts.0 in
+          sym (dropped new rest_after rest_after (spared other) refl) ∙ dropped x rest_after xs other (rest parts.1)
 
-section_graph : (rule : Rule) (area : AreaId) (s : SectionLsas) → Spares rule → is_section (Area area) s ≡ true → touched area (section_changes rule s) ≡ false
+section_graph : (rule : Rule) (area : AreaId) (s : SectionLsas) → Spares rule → is_section (Area area) s ≡ true
+    → touched area (section_changes rule s) ≡ false
     → graph_of (section_after rule s).lsas ≡ graph_of s.lsas
 section_graph rule area s spares named untouched = by_head s.area s.lsas named (by_added rule.added) untouched where
   by_head : (head : Option AreaHead) (lsas : List (List ℕ)) → is_head_of (Area area) head ≡ true
       → ((head : AreaHead) (lsas : List (List ℕ)) → (head.id == area.0) ≡ true
-      → touched area (with_added (addition (section_name (Some head))) rule.added (Some head) (filter_map (λ lsa. change_of (section_name (Some head)) lsa (rule.fates (Some head) lsa)) lsas)) ≡ false
+      → touched area (with_added (addition (section_name (Some head))) rule.added (Some head)
+      (filter_map (λ lsa. change_of (section_name (Some head)) lsa (rule.fates (Some head) lsa)) lsas)) ≡ false
       → graph_of (with_added (λ lsa. lsa) rule.added (Some head) (filter_map (λ lsa. outcome (rule.fates (Some head) lsa) lsa) lsas)) ≡ graph_of lsas)
-      → touched area (with_added (addition (section_name head)) rule.added head (filter_map (λ lsa. change_of (section_name head) lsa (rule.fates head lsa)) lsas)) ≡ false
+      → touched area (with_added (addition (section_name head)) rule.added head
+      (filter_map (λ lsa. change_of (section_name head) lsa (rule.fates head lsa)) lsas)) ≡ false
       → graph_of (with_added (λ lsa. lsa) rule.added head (filter_map (λ lsa. outcome (rule.fates head lsa) lsa) lsas)) ≡ graph_of lsas
   by_head None lsas named each un = absurd cc
   by_head (Some head) lsas named each un = each head lsas named un
 
   by_added : (o : Option NewLsa) (head : AreaHead) (lsas : List (List ℕ)) → (head.id == area.0) ≡ true
-      → touched area (with_added (addition (section_name (Some head))) o (Some head) (filter_map (λ lsa. change_of (section_name (Some head)) lsa (rule.fates (Some head) lsa)) lsas)) ≡ false
+      → touched area (with_added (addition (section_name (Some head))) o (Some head)
+      (filter_map (λ lsa. change_of (section_name (Some head)) lsa (rule.fates (Some head) lsa)) lsas)) ≡ false
       → graph_of (with_added (λ lsa. lsa) o (Some head) (filter_map (λ lsa. outcome (rule.fates (Some head) lsa) lsa) lsas)) ≡ graph_of lsas
   by_added None head lsas here un = kept_graph (rule.fates (Some head)) head.id area lsas (spares (Some head)) here un
   by_added (Some new) head lsas here un = by_section (is_head_of new.section (Some head)) un where
@@ -231,7 +248,8 @@ section_graph rule area s spares named untouched = by_head s.area s.lsas named (
     cs : List Change
     cs = filter_map (λ lsa. change_of (section_name (Some head)) lsa (rule.fates (Some head) lsa)) lsas
 
-    by_section : (b : Bool) → touched area (if b then cs ++ addition (section_name (Some head)) new.lsa ∷ [] else cs) ≡ false → graph_of (if b then after ++ new.lsa ∷ [] else after) ≡ graph_of lsas
+    by_section : (b : Bool) → touched area (if b then cs ++ addition (section_name (Some head)) new.lsa ∷ [] else cs) ≡ false
+        → graph_of (if b then after ++ new.lsa ∷ [] else after) ≡ graph_of lsas
     by_section false rest = kept_graph (rule.fates (Some head)) head.id area lsas (spares (Some head)) here rest
     by_section true both =
         let parts = or_parts _ _ (sym (list_any-append _ cs (addition (section_name (Some head)) new.lsa ∷ [])) ∙ both) in
@@ -244,20 +262,25 @@ section_graph rule area s spares named untouched = by_head s.area s.lsas named (
 
 -- ---- a whole database
 
-ruled_graph : (rule : Rule) (area : AreaId) (db : Lists) → Spares rule → touched area (changes_by rule db) ≡ false → graph_lsas area (lists_after rule db) ≡ graph_lsas area db
+ruled_graph : (rule : Rule) (area : AreaId) (db : Lists) → Spares rule → touched area (changes_by rule db) ≡ false
+    → graph_lsas area (lists_after rule db) ≡ graph_lsas area db
 ruled_graph rule area [] spares untouched = refl
 ruled_graph rule area (s ∷ ss) spares untouched = by_name (is_section (Area area) s) refl (λ rest. ruled_graph rule area ss spares rest) where
   parts : (touched area (section_changes rule s) ≡ false) × (touched area (changes_by rule ss) ≡ false)
   parts = or_parts _ _ (sym (list_any-append _ (section_changes rule s) (changes_by rule ss)) ∙ untouched)
 
-  by_name : (b : Bool) → is_section (Area area) s ≡ b → (touched area (changes_by rule ss) ≡ false → graph_lsas area (lists_after rule ss) ≡ graph_lsas area ss)
-      → graph_of (lsas_or_none (cond b (Some (section_after rule s)) (find (is_section (Area area)) (lists_after rule ss)))) ≡ graph_of (lsas_or_none (cond b (Some s) (find (is_section (Area area)) ss)))
+  by_name : (b : Bool) → is_section (Area area) s ≡ b
+      → (touched area (changes_by rule ss) ≡ false → graph_lsas area (lists_after rule ss) ≡ graph_lsas area ss)
+      → graph_of (lsas_or_none (cond b (Some (section_after rule s)) (find (is_section (Area area)) (lists_after rule ss)))) ≡ graph_of
+      (lsas_or_none (cond b (Some s) (find (is_section (Area area)) ss)))
   by_name true named rest = section_graph rule area s spares named parts.0
   by_name false named rest = rest parts.1
 
-pub untouched_stay : (db after : Lists) (edit : Edit) (area : AreaId) → IsDatabase db → effect db edit ≡ Ok after → edit_touches area db edit ≡ false → graph_lsas area after ≡ graph_lsas area db
+pub untouched_stay : (db after : Lists) (edit : Edit) (area : AreaId) → IsDatabase db → effect db edit ≡ Ok after → edit_touches area db edit ≡ false
+    → graph_lsas area after ≡ graph_lsas area db
 untouched_stay db after edit area sound leads untouched = by_rule (rule_of db edit) (rule_spares db edit sound) leads untouched where
-  by_rule : (r : Result Rule EditFault) → IfRuled r → (r >>= λ rule. Ok (lists_after rule db)) ≡ Ok after → touched_by area (r >>= λ rule. Ok (changes_by rule db)) ≡ false → graph_lsas area after ≡ graph_lsas area db
+  by_rule : (r : Result Rule EditFault) → IfRuled r → (r >>= λ rule. Ok (lists_after rule db)) ≡ Ok after
+      → touched_by area (r >>= λ rule. Ok (changes_by rule db)) ≡ false → graph_lsas area after ≡ graph_lsas area db
   by_rule (Ok rule) ruled is un =
       let same : lists_after rule db ≡ after = cc in
       ap (graph_lsas area) (sym same) ∙ ruled_graph rule area db ruled.spares un

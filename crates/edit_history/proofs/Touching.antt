@@ -21,22 +21,27 @@ use Rattle.edit_history.proofs.Growing.{state_back, state_is}
 use Rattle.edit_history.proofs.Linked.{reverse_cons}
 use Rattle.edit_history.proofs.Returning.{seam_take, seam_drop}
 use Rattle.edit_history.proofs.Sparing.{untouched_stay}
-use Rattle.edit_history.proofs.Telling.{touched_told, touched_done}
+use Rattle.edit_history.proofs.RecordChanges.{touched_told, touched_done}
 
 -- ---- one record
 
-pub done_touches : (area : AreaId) (d : Places) (r : RecordData) → TakesBack d r.edit r.swaps → edit_touches area (lists_of (undone_places d r.swaps)) r.edit ≡ touches area r
+pub done_touches : (area : AreaId) (d : Places) (r : RecordData) → TakesBack d r.edit r.swaps
+    → edit_touches area (lists_of (undone_places d r.swaps)) r.edit ≡ touches area r
 done_touches area d r back = ap (touched_by area) back.tells ∙ sym (touched_told area d r.swaps)
 
-pub next_touches : (area : AreaId) (d : Places) (r : RecordData) → CarriesOut d r.edit r.swaps → edit_touches area (lists_of d) r.edit ≡ touches area r
-next_touches area d r on = ap (touched_by area) on.tells ∙ sym (touched_told area (done_places d r.swaps) (done_swaps d r.swaps)) ∙ touched_done area d r.swaps
+pub next_touches : (area : AreaId) (d : Places) (r : RecordData) → CarriesOut d r.edit r.swaps
+    → edit_touches area (lists_of d) r.edit ≡ touches area r
+next_touches area d r on =
+    ap (touched_by area) on.tells ∙ sym (touched_told area (done_places d r.swaps) (done_swaps d r.swaps)) ∙ touched_done area d r.swaps
 
-pub applied_touches : (area : AreaId) (d e : Places) (edit : Edit) (r : RecordData) → Applied d e edit r → touches area r ≡ edit_touches area (lists_of d) edit
+pub applied_touches : (area : AreaId) (d e : Places) (edit : Edit) (r : RecordData) → Applied d e edit r
+    → touches area r ≡ edit_touches area (lists_of d) edit
 applied_touches area d e edit r applied = touched_told area e r.swaps ∙ sym (ap (touched_by area) applied.tells)
 
 -- ---- the records that are taken back
 
-touch_snoc : (area : AreaId) (db : Lists) (es : List Edit) (e : Edit) → edits_touch area db (es ++ e ∷ []) ≡ (edits_touch area db es || edit_touches area (after_edits db es) e)
+touch_snoc : (area : AreaId) (db : Lists) (es : List Edit) (e : Edit)
+    → edits_touch area db (es ++ e ∷ []) ≡ (edits_touch area db es || edit_touches area (after_edits db es) e)
 touch_snoc area db [] e = or-false (edit_touches area db e)
 touch_snoc area db (x ∷ es) e =
     ap (λ (b : Bool). edit_touches area db x || b) (touch_snoc area (unless_refused db (effect db x)) es e)
@@ -51,7 +56,8 @@ or_turned true false = refl
 or_turned false true = refl
 or_turned false false = refl
 
-back_touches : (area : AreaId) (d : Places) (rs : List RecordData) → LinksBack d rs → edits_touch area (lists_of (origin d rs)) (reverse (edits_of rs)) ≡ list_any (touches area) rs
+back_touches : (area : AreaId) (d : Places) (rs : List RecordData) → LinksBack d rs
+    → edits_touch area (lists_of (origin d rs)) (reverse (edits_of rs)) ≡ list_any (touches area) rs
 back_touches area d [] links = refl
 back_touches area d (r ∷ rs) links =
     let u : Places = undone_places d r.swaps in
@@ -63,7 +69,8 @@ back_touches area d (r ∷ rs) links =
     ∙ ap (λ (b : Bool). list_any (touches area) rs || b) (done_touches area d r links.0)
     ∙ or_turned (list_any (touches area) rs) (touches area r)
 
-back_graph : (area : AreaId) (d : Places) (rs : List RecordData) → IsDatabase (lists_of d) → LinksBack d rs → list_any (touches area) rs ≡ false → graph_lsas area (lists_of (origin d rs)) ≡ graph_lsas area (lists_of d)
+back_graph : (area : AreaId) (d : Places) (rs : List RecordData) → IsDatabase (lists_of d) → LinksBack d rs → list_any (touches area) rs ≡ false
+    → graph_lsas area (lists_of (origin d rs)) ≡ graph_lsas area (lists_of d)
 back_graph area d [] sound links untouched = refl
 back_graph area d (r ∷ rs) sound links untouched =
     let parts = or_parts _ _ untouched in
@@ -74,7 +81,8 @@ back_graph area d (r ∷ rs) sound links untouched =
 
 -- ---- the records that are carried out again
 
-on_touches : (area : AreaId) (d : Places) (rs : List RecordData) → LinksOn d rs → edits_touch area (lists_of d) (edits_of rs) ≡ list_any (touches area) rs
+on_touches : (area : AreaId) (d : Places) (rs : List RecordData) → LinksOn d rs
+    → edits_touch area (lists_of d) (edits_of rs) ≡ list_any (touches area) rs
 on_touches area d [] links = refl
 on_touches area d (r ∷ rs) links =
     let e : Places = done_places d r.swaps in
@@ -82,7 +90,8 @@ on_touches area d (r ∷ rs) links =
     ∙ ap (λ (a : Result Lists EditFault). touches area r || edits_touch area (unless_refused (lists_of d) a) (edits_of rs)) links.0.leads
     ∙ ap (λ (b : Bool). touches area r || b) (on_touches area e rs links.1)
 
-on_graph : (area : AreaId) (d : Places) (rs : List RecordData) → IsDatabase (lists_of d) → LinksOn d rs → list_any (touches area) rs ≡ false → graph_lsas area (after_edits (lists_of d) (edits_of rs)) ≡ graph_lsas area (lists_of d)
+on_graph : (area : AreaId) (d : Places) (rs : List RecordData) → IsDatabase (lists_of d) → LinksOn d rs → list_any (touches area) rs ≡ false
+    → graph_lsas area (after_edits (lists_of d) (edits_of rs)) ≡ graph_lsas area (lists_of d)
 on_graph area d [] sound links untouched = refl
 on_graph area d (r ∷ rs) sound links untouched =
     let parts = or_parts _ _ untouched in
@@ -129,9 +138,18 @@ last_done : (k : ℕ) (rs : List RecordData) → LastDone k rs
 last_done k rs =
     let n = length (done_by rs) - k in
     let split : done_by rs ≡ done_by (drop k rs) ++ done_by (take k rs) =
-    ap done_by (sym (take-append-drop k rs)) ∙ ap (λ (es : List Edit). reverse es) (map-append (λ (r : RecordData). r.edit) (take k rs) (drop k rs)) ∙ reverse-append (edits_of (take k rs)) (edits_of (drop k rs)) in
+    ap done_by (sym (take-append-drop k rs)) ∙ ap (λ (es : List Edit). reverse es) (map-append (λ (r : RecordData). r.edit) (take k rs) (drop k rs))
+    ∙ reverse-append (edits_of (take k rs)) (edits_of (drop k rs)) in
     let count : length (done_by (drop k rs)) ≡ n =
-    omega (arith, length-reverse (edits_of (drop k rs)), length-map (drop k rs) (λ (r : RecordData). r.edit), length-drop k rs, length-reverse (edits_of rs), length-map rs (λ (r : RecordData). r.edit)) in
+    omega (
+      arith,
+      length-reverse (edits_of (drop k rs)),
+      length-map (drop k rs) (λ (r : RecordData). r.edit),
+      length-drop k rs,
+      length-reverse
+          (edits_of rs),
+      length-map rs (λ (r : RecordData). r.edit),
+    ) in
     record {
       before = ap (take n) split ∙ seam_take n (done_by (drop k rs)) (done_by (take k rs)) count;
       last = ap (drop n) split ∙ seam_drop n (done_by (drop k rs)) (done_by (take k rs)) count;
@@ -146,14 +164,16 @@ back_state d h k links =
     ∙ ap (λ (e : Places). after_edits (lists_of e) (done_by (drop k h.past))) b.whole
     ∙ state_back (origin d (take k h.past)) (drop k h.past) b.rest
 
-pub undo_is : (d : Places) (h : HistoryData) (k : ℕ) (area : AreaId) → Links d h → list_any (touches area) (take k h.past) ≡ undo_touches k area (session_of d h)
+pub undo_is : (d : Places) (h : HistoryData) (k : ℕ) (area : AreaId) → Links d h
+    → list_any (touches area) (take k h.past) ≡ undo_touches k area (session_of d h)
 undo_is d h k area links =
     let n = length (done_by h.past) - k in
     sym (ap (λ (db : Lists). edits_touch area db (drop n (done_by h.past))) (back_state d h k links)
     ∙ ap (edits_touch area (lists_of (origin d (take k h.past)))) (last_done k h.past).last
     ∙ back_touches area d (take k h.past) (both d k h.past links.back).first)
 
-pub undo_spares : (d : Places) (h : HistoryData) (k : ℕ) (area : AreaId) → Links d h → undo_touches k area (session_of d h) ≡ false → graph_lsas area (state (moved_back k (session_of d h))) ≡ graph_lsas area (state (session_of d h))
+pub undo_spares : (d : Places) (h : HistoryData) (k : ℕ) (area : AreaId) → Links d h → undo_touches k area (session_of d h) ≡ false
+    → graph_lsas area (state (moved_back k (session_of d h))) ≡ graph_lsas area (state (session_of d h))
 undo_spares d h k area links untouched =
     ap (graph_lsas area) (back_state d h k links)
     ∙ back_graph area d (take k h.past) links.sound (both d k h.past links.back).first (undo_is d h k area links ∙ untouched)
@@ -162,7 +182,8 @@ undo_spares d h k area links untouched =
 first_on : (d : Places) (k : ℕ) (rs : List RecordData) → LinksOn d rs → LinksOn d (take k rs)
 first_on d k rs links = on_front d (take k rs) (drop k rs) (subst (LinksOn d) (sym (take-append-drop k rs)) links)
 
-pub redo_is : (d : Places) (h : HistoryData) (k : ℕ) (area : AreaId) → Links d h → list_any (touches area) (take k h.future) ≡ redo_touches k area (session_of d h)
+pub redo_is : (d : Places) (h : HistoryData) (k : ℕ) (area : AreaId) → Links d h
+    → list_any (touches area) (take k h.future) ≡ redo_touches k area (session_of d h)
 redo_is d h k area links =
     sym (ap (λ (db : Lists). edits_touch area db (take k (edits_of h.future))) (state_is d h links)
     ∙ ap (edits_touch area (lists_of d)) (take-map (λ (r : RecordData). r.edit) k h.future)
@@ -172,7 +193,8 @@ after_append : (db : Lists) (xs ys : List Edit) → after_edits db (xs ++ ys) �
 after_append db [] ys = refl
 after_append db (x ∷ xs) ys = after_append (unless_refused db (effect db x)) xs ys
 
-pub redo_spares : (d : Places) (h : HistoryData) (k : ℕ) (area : AreaId) → Links d h → redo_touches k area (session_of d h) ≡ false → graph_lsas area (state (moved_on k (session_of d h))) ≡ graph_lsas area (state (session_of d h))
+pub redo_spares : (d : Places) (h : HistoryData) (k : ℕ) (area : AreaId) → Links d h → redo_touches k area (session_of d h) ≡ false
+    → graph_lsas area (state (moved_on k (session_of d h))) ≡ graph_lsas area (state (session_of d h))
 redo_spares d h k area links untouched =
     let s : Session = session_of d h in
     let is : state s ≡ lists_of d = state_is d h links in

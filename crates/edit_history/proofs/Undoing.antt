@@ -31,13 +31,16 @@ set-front (t ∷ ss) ts zero s lt = refl
 set-front (t ∷ ss) ts (suc i) s lt = ap (λ (us : List SwapData). t ∷ us) (set-front ss ts i s (omega arith))
 
 -- the list in memory before a turn, by the swap that stands at its index
-pub undo_turn : (d now : Places) (ss items : List SwapData) (i j : ℕ) (s : SwapData) → j ≡ suc i → j ≤ length ss → CanUndo d ss → now ≡ undone_places d (drop j ss) → items ≡ take j ss ++ undone_swaps d (drop j ss) → s ≡ get_or items i s
-    → IsSome (slot_at now s.slot) × IsDatabase (lists_of (put now s.slot s.other)) × (put now s.slot s.other ≡ undone_places d (drop i ss)) × (slice_set items i (taken now s) ≡ take i ss ++ undone_swaps d (drop i ss))
+pub undo_turn : (d now : Places) (ss items : List SwapData) (i j : ℕ) (s : SwapData) → j ≡ suc i → j ≤ length ss → CanUndo d ss
+    → now ≡ undone_places d (drop j ss) → items ≡ take j ss ++ undone_swaps d (drop j ss) → s ≡ get_or items i s
+    → IsSome (slot_at now s.slot) × IsDatabase (lists_of (put now s.slot s.other)) × (put now s.slot s.other ≡ undone_places d (drop i ss))
+    × (slice_set items i (taken now s) ≡ take i ss ++ undone_swaps d (drop i ss))
 undo_turn d now ss items i j s next le can places is reads =
     let lt : i < length ss = omega arith in
     let places_at : now ≡ undone_places d (drop (suc i) ss) = places ∙ ap (λ (k : ℕ). undone_places d (drop k ss)) next in
     let items_at : items ≡ take (suc i) ss ++ undone_swaps d (drop (suc i) ss) = is ∙ ap (λ (k : ℕ). take k ss ++ undone_swaps d (drop k ss)) next in
-    let here : s ≡ get_or ss i s = reads ∙ ap (λ (us : List SwapData). get_or us i s) items_at ∙ get_or-front ss (undone_swaps d (drop (suc i) ss)) i s lt in
+    let here : s ≡ get_or ss i s = reads ∙ ap (λ (us : List SwapData). get_or us i s) items_at
+    ∙ get_or-front ss (undone_swaps d (drop (suc i) ss)) i s lt in
     let one = undo_one d ss i s lt can here in (
       subst (λ (u : Places). IsSome (slot_at u s.slot)) (sym places_at) one.exists,
       subst (λ (u : Places). IsDatabase (lists_of (put u s.slot s.other))) (sym places_at) one.sound,

@@ -1,13 +1,14 @@
 -- The effect of an edit on a database: the first refusal, or the rule that it follows.
 use Rattle.std.specs.Prelude.{ℕ, ◌+◌, ◌==◌, ◌&&◌, ◌||◌, nat_le, nat_lt, Bool, true, false, List, length, filter, Option, Some, None, Result, Ok, Err, if◌then◌else◌}
 use Rattle.std.specs.List.{list_any, find}
+use Rattle.lsa_codec.specs.LsTypes.{router_lsa, network_lsa, summary_lsa, external_lsa}
 use Rattle.lsa_codec.specs.declared.address.Addr.{Addr}
 use Rattle.lsa_codec.specs.declared.address.AreaId.{AreaId}
 use Rattle.lsa_codec.specs.declared.address.RouterId.{RouterId}
 use Rattle.lsa_codec.specs.declared.key.Key.{Key}
 use Rattle.lsa_codec.specs.declared.fault.MakeFault.{MakeFault}
 use Rattle.lsa_codec.specs.Fields.{kind_of, link_state_id_of, advertising_router_of}
-use Rattle.lsa_codec.specs.Key.{key_of}
+use Rattle.lsa_codec.specs.Key.{key_of, router_key}
 use Rattle.lsa_codec.specs.Links.{links_of}
 use Rattle.lsa_codec.specs.Prefix.{Net}
 use Rattle.lsa_codec.specs.Views.{net_of_lsa}
@@ -15,7 +16,8 @@ use Rattle.lsa_codec.specs.Making.{with_cost, without_link, without_links, leads
 use Rattle.lsa_codec.specs.Originating.{with_metric, new_summary, new_external}
 use Rattle.lsdb.specs.declared.section.Section.{Section}
 use Rattle.lsdb.specs.declared.section.Section.TheVariants.{Area, AsWide}
-use Rattle.lsdb.specs.Lists.{AreaHead, SectionLsas, Lists, is_section, has_key, lsas_of, size, largest_text}
+use Rattle.lsdb.specs.Limits.{longest_dump, most_lsas_of_area, most_lsas_of_as}
+use Rattle.lsdb.specs.Lists.{AreaHead, SectionLsas, Lists, is_section, has_key, lsas_of, size}
 use Rattle.edit_script.specs.declared.edit.Edit.{Edit}
 use Rattle.edit_script.specs.declared.edit.Edit.TheVariants.{Cost, DropLink, FailLink, FailNet, FailRouter, AddStub, Summary, AddSummary, AddExternal, DropExternal}
 use Rattle.edit_script.specs.declared.edit.MetricType.{MetricType}
@@ -46,13 +48,9 @@ made (Err fault) = Err (fault_of fault)
 abbrev pub area_of : Lists → AreaId → Result SectionLsas EditFault
 area_of db area = or_refused NoArea (find (is_section (Area area)) db)
 
--- the Link State ID of a router-LSA is its router's ID (RFC 2328, 12.1.4)
-abbrev pub router_key : ℕ → Key
-router_key router = record { kind = 1; id = record { 0 = router }; adv = record { 0 = router } }
-
 -- the router-LSA of a router in an area, or the refusal
 abbrev pub router_lsa_in : SectionLsas → RouterId → Result (List ℕ) EditFault
-router_lsa_in section router = or_refused NoRouter (find (has_key (router_key router.0)) section.lsas)
+router_lsa_in section router = or_refused NoRouter (find (has_key (router_key router)) section.lsas)
 
 abbrev pub router_lsa_of : Lists → AreaId → RouterId → Result (List ℕ) EditFault
 router_lsa_of db area router = do
@@ -60,7 +58,7 @@ router_lsa_of db area router = do
   router_lsa_in section router
 
 abbrev pub is_in_section : RouterId → SectionLsas → Bool
-is_in_section router section = list_any (has_key (router_key router.0)) section.lsas
+is_in_section router section = list_any (has_key (router_key router)) section.lsas
 
 -- whether a router originated a router-LSA for any area
 abbrev pub has_router : RouterId → Lists → Bool
@@ -74,12 +72,12 @@ stub_octets = 12
 
 -- whether the dump would be too long with so many octets more
 abbrev pub is_dump_full : Lists → ℕ → Bool
-is_dump_full db more = nat_lt largest_text (size db + more)
+is_dump_full db more = nat_lt longest_dump (size db + more)
 
 -- the most LSAs that a section holds
 abbrev pub most_lsas : Section → ℕ
-most_lsas (Area id) = 8192
-most_lsas AsWide = 65535
+most_lsas (Area id) = most_lsas_of_area
+most_lsas AsWide = most_lsas_of_as
 
 -- whether a section or the dump would pass its limit with an LSA more, of so many octets
 abbrev pub is_full : Lists → Section → ℕ → Bool
@@ -92,11 +90,11 @@ abbrev pub remaking : Lists → AreaId → RouterId → (List ℕ → Result (Li
 remaking db area router make = do
   lsa ← router_lsa_of db area router
   new ← made (make lsa)
-  Ok (one_lsa (Area area) (router_key router.0) (rewritten new))
+  Ok (one_lsa (Area area) (router_key router) (rewritten new))
 
 -- the prefix of a summary-LSA of type 3 or of an AS-external-LSA; others have none
 abbrev pub prefix_of : List ℕ → Option Net
-prefix_of lsa = if (kind_of lsa == 3) || (kind_of lsa == 5) then Some (net_of_lsa lsa) else None
+prefix_of lsa = if (kind_of lsa == summary_lsa) || (kind_of lsa == external_lsa) then Some (net_of_lsa lsa) else None
 
 abbrev pub is_prefix : Net → Option Net → Bool
 is_prefix net None = false
@@ -110,7 +108,7 @@ is_for kind router net lsa = (kind_of lsa == kind) && ((advertising_router_of ls
 
 -- the Link State ID of a network-LSA is the address of its Designated Router (RFC 2328, 12.1.4)
 abbrev pub is_network : Addr → List ℕ → Bool
-is_network network lsa = (kind_of lsa == 2) && (link_state_id_of lsa == network.0)
+is_network network lsa = (kind_of lsa == network_lsa) && (link_state_id_of lsa == network.0)
 
 -- a router-LSA without the links that go; where it has none of them it stays as it is
 abbrev pub cut : Result (List ℕ) MakeFault → Fate
@@ -120,14 +118,14 @@ cut (Err fault) = stays
 -- the point-to-point links between two routers go, on both sides
 abbrev pub link_fate : RouterId → RouterId → List ℕ → Fate
 link_fate router neighbor lsa =
-    if has_key (router_key router.0) lsa then cut (without_links (leads_to neighbor) lsa) else
-    if has_key (router_key neighbor.0) lsa then cut (without_links (leads_to router) lsa) else stays
+    if has_key (router_key router) lsa then cut (without_links (leads_to neighbor) lsa) else
+    if has_key (router_key neighbor) lsa then cut (without_links (leads_to router) lsa) else stays
 
 -- the network-LSAs of a network go, and all links to it
 abbrev pub net_fate : Addr → List ℕ → Fate
 net_fate network lsa =
     if is_network network lsa then removed else
-    if kind_of lsa == 1 then cut (without_links (leads_to_net network) lsa) else stays
+    if kind_of lsa == router_lsa then cut (without_links (leads_to_net network) lsa) else stays
 
 -- all LSAs of a router go
 abbrev pub router_fate : RouterId → List ℕ → Fate
@@ -186,7 +184,7 @@ rule_of db (FailRouter router) = if has_router router db then Ok (by_fates (λ h
 rule_of db (AddStub area router prefix metric) = do
   lsa ← router_lsa_of db area router
   new ← made (with_stub prefix metric lsa)
-  if is_dump_full db stub_octets then Err Full else Ok (one_lsa (Area area) (router_key router.0) (rewritten new))
+  if is_dump_full db stub_octets then Err Full else Ok (one_lsa (Area area) (router_key router) (rewritten new))
 rule_of db (Summary area router prefix metric) = do
   section ← area_of db area
   lsa ← or_refused NoSummary (find (is_for 3 router prefix) section.lsas)
@@ -213,7 +211,7 @@ changes db edit = rule_of db edit >>= λ rule. Ok (changes_by rule db)
 
 -- the types of the LSAs that make up the graph of an area: router-LSAs and network-LSAs (RFC 2328, 16.1)
 abbrev pub is_graph_kind : ℕ → Bool
-is_graph_kind kind = (kind == 1) || (kind == 2)
+is_graph_kind kind = (kind == router_lsa) || (kind == network_lsa)
 
 abbrev pub is_of_graph : AreaId → Section → ℕ → Bool
 is_of_graph area (Area id) kind = (id.0 == area.0) && is_graph_kind kind

@@ -4,7 +4,6 @@ pub mod Effect
 pub mod Exchange
 pub mod Grown
 pub mod Applied
-pub mod Plans
-pub mod Failing
 pub mod Journal
 pub mod Session
+pub mod steps

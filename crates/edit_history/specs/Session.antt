@@ -1,5 +1,5 @@
 -- Sessions: a base, the edits done, and the edits undone.
-use Rattle.std.specs.Prelude.{◌≡◌, ℕ, ◌-◌, nat_lt, Bool, false, ◌||◌, List, [], ◌∷◌, ◌++◌, length, map, reverse, take, drop, Result, Ok, Err, if◌then◌else◌}
+use Rattle.std.specs.Prelude.{◌≡◌, ℕ, ◌-◌, nat_lt, Bool, false, ◌||◌, List, [], ◌∷◌, ◌++◌, length, map, reverse, take, drop, Result, Ok, Err, IsOk, if◌then◌else◌}
 use Rattle.lsa_codec.specs.declared.address.AreaId.{AreaId}
 use Rattle.lsdb.specs.Lists.{Lists}
 use Rattle.lsdb.specs.Places.{Places, lists_of}
@@ -65,6 +65,34 @@ moved_back k s = record { base = s.base; done = take (length s.done - k) s.done;
 -- the first k of the undone edits move to the end of the done ones
 abbrev pub moved_on : ℕ → Session → Session
 moved_on k s = record { base = s.base; done = s.done ++ take k s.undone; undone = drop k s.undone }
+
+-- ---- the sessions that requests lead to
+
+-- what a session is asked for: an edit, to take edits back, or to carry them out again
+pub data Request : Type 0 where
+  edit : Edit → Request
+  undo : ℕ → Request
+  redo : ℕ → Request
+
+-- a refused edit leaves the session as it was
+abbrev pub accepted_or : Session → Result Session EditFault → Session
+accepted_or s (Ok t) = t
+accepted_or s (Err fault) = s
+
+-- the session after a request; more edits than there are can not be undone or redone
+abbrev pub after_request : Session → Request → Session
+after_request s (edit e) = accepted_or s (edited s e)
+after_request s (undo k) = if nat_lt (length s.done) k then s else moved_back k s
+after_request s (redo k) = if nat_lt (length s.undone) k then s else moved_on k s
+
+abbrev pub after_requests : Session → List Request → Session
+after_requests s [] = s
+after_requests s (r ∷ rs) = after_requests (after_request s r) rs
+
+-- no done edit is refused on the way from the base, and no undone one on the way from there
+pub record NoneRefused (s : Session) : Type 0 where
+  pub done : effects s.base s.done ≡ Ok (state s)
+  pub undone : IsOk (effects (state s) s.undone)
 
 -- ---- which areas the edits touch
 

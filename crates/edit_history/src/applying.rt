@@ -36,5 +36,5 @@ pub fn apply<A: Allocator + Copy>(
 {
     let swaps = plan(database, edit)?;
     database.known();
-    Ok(Record::carry_out(database, *edit, swaps))
+    Ok(Record::commit(database, *edit, swaps))
 }

@@ -11,16 +11,16 @@ ghost use Rattle.edit_script.specs.declared.edit.Edit.TheVariants.{FailLink, Fai
 ghost use Rattle.edit_history.specs.declared.fault.EditFault.TheVariants.{OutOfMemory};
 ghost use Rattle.edit_history.specs.Rules.{section_name};
 ghost use Rattle.edit_history.specs.Effect.{are_linked, link_fate, net_fate, router_fate};
-ghost use Rattle.edit_history.specs.Plans.{swap_for, place_swap, section_swaps};
-ghost use Rattle.edit_history.specs.Failing.{fate_by, shortened};
+ghost use Rattle.edit_history.specs.steps.Plans.{swap_for, place_swap, section_swaps};
+ghost use Rattle.edit_history.specs.steps.Failing.{fate_by, shortened};
 ghost use Rattle.edit_history.specs.Applied.{Planned, IsRefused};
 
 use crate::fault::EditFault;
-use crate::lookup::{
-    NETWORK_LSA, ROUTER_LSA, Wanted, area_section, first, has_router, router_key, router_lsa_in,
-};
+use crate::lookup::{Wanted, area_section, first, has_router, router_lsa_in};
 use crate::swap::Swap;
-use lsa_codec::{Addr, AreaId, Link, LinkKind, Lsa, MakeFault, RouterId};
+use lsa_codec::{
+    Addr, AreaId, Key, Link, LinkKind, Lsa, MakeFault, NETWORK_LSA, ROUTER_LSA, RouterId,
+};
 use lsdb::{Database, Section, SlotId};
 use std::alloc::Allocator;
 
@@ -64,10 +64,10 @@ fn swap_for_links<A: Allocator + Copy>(
     ensures memory { IfErr result (λ fault. fault ≡ OutOfMemory) }
 {
     let key = lsa.key();
-    if key == router_key(router) {
+    if key == Key::of_router(router) {
         return shortened(slot, section, lsa.without_links_to(alloc, neighbor));
     }
-    if key == router_key(neighbor) {
+    if key == Key::of_router(neighbor) {
         return shortened(slot, section, lsa.without_links_to(alloc, router));
     }
     Ok(None)

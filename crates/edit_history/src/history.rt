@@ -75,8 +75,8 @@ impl<A: Allocator + Copy> History<A> {
         ensures count { length self.old.lists.past ≡ length self.new.lists.past + 1 }
     {
         self.cursor -= 1;
-        let entry = &mut self.records[self.cursor];
-        revert(database, entry);
+        let record = &mut self.records[self.cursor];
+        revert(database, record);
     }
 
     /// One edit on.
@@ -87,8 +87,8 @@ impl<A: Allocator + Copy> History<A> {
         ensures session { StepsOn (session_of database.old self.old.lists) (session_of database.new self.new.lists) }
         ensures count { length self.old.lists.future ≡ length self.new.lists.future + 1 }
     {
-        let entry = &mut self.records[self.cursor];
-        replay(database, entry);
+        let record = &mut self.records[self.cursor];
+        replay(database, record);
         self.cursor += 1;
     }
 
@@ -193,12 +193,12 @@ impl<A: Allocator + Copy> History<A> {
 
     /// Adds the record of an edit that was carried out, where room was reserved. The undone records
     /// go. It takes no memory.
-    pub fn push(&mut self, entry: Record<A>)
+    pub fn push(&mut self, latest: Record<A>)
         requires { 0 < self.old.room }
-        ensures { self.new.lists ≡ record { past = entry ∷ self.old.lists.past; future = [] } }
+        ensures { self.new.lists ≡ record { past = latest ∷ self.old.lists.past; future = [] } }
     {
         self.records.truncate(self.cursor);
-        let _ = self.records.push(entry);
+        let _ = self.records.push(latest);
         self.cursor += 1;
     }
 }

@@ -1,16 +1,19 @@
 //! Laws of records and sessions.
 
-ghost use Rattle.std.specs.Prelude.{◌≡◌, ◌≤◌, ℕ, false, List, Ok, IsOk, length};
+ghost use Rattle.std.specs.Prelude.{◌≡◌, ◌<◌, ◌≤◌, ℕ, false, List, [], ◌∷◌, Ok, Err, IsOk, length};
 ghost use Rattle.lsa_codec.specs.declared.address.AreaId.{AreaId};
 ghost use Rattle.lsdb.specs.Lists.{IsDatabase, Lists};
 ghost use Rattle.lsdb.specs.Places.{Places, lists_of};
 ghost use Rattle.edit_script.specs.declared.edit.Edit.{Edit};
+ghost use Rattle.edit_history.specs.declared.fault.EditFault.{EditFault};
+ghost use Rattle.edit_history.specs.declared.fault.EditFault.TheVariants.{HistoryFull};
 ghost use Rattle.edit_history.specs.Rules.{Change};
 ghost use Rattle.edit_history.specs.Effect.{effect, changes, edit_touches, graph_lsas};
 ghost use Rattle.edit_history.specs.Exchange.{SwapData, RecordData, CanDo, CanUndo, UndoesAgain, DoesAgain, undone_places, touches};
+ghost use Rattle.edit_history.specs.Grown.{Grown};
 ghost use Rattle.edit_history.specs.Applied.{Applied, TakesBack, CarriesOut, Tells};
 ghost use Rattle.edit_history.specs.Journal.{HistoryData, Links};
-ghost use Rattle.edit_history.specs.Session.{Session, session_of, state, effects, edited_by, moved_back, moved_on, undo_touches, redo_touches};
+ghost use Rattle.edit_history.specs.Session.{Session, Request, NoneRefused, session_of, start, state, effects, most_edits, edited, edited_by, after_requests, moved_back, moved_on, undo_touches, redo_touches};
 
 /// What is done is undone again, to the same places and swaps, and the other way round.
 pub fn inverses()
@@ -24,6 +27,53 @@ pub fn folded()
     ensures state { (d : Places) (h : HistoryData) → Links d h → state (session_of d h) ≡ lists_of d }
     ensures done { (d : Places) (h : HistoryData) → Links d h → effects (session_of d h).base (session_of d h).done ≡ Ok (lists_of d) }
     ensures undone { (d : Places) (h : HistoryData) → Links d h → IsOk (effects (lists_of d) (session_of d h).undone) }
+{}
+
+/// No edit of a session is refused on the way: each done edit is accepted after those before it,
+/// from the base on, and each undone one after these. So it is at the start, and so it stays with
+/// every edit, undo and redo.
+pub fn no_edit_is_refused()
+    ensures start { (db : Lists) → NoneRefused (start db) }
+    ensures edited { (s t : Session) (edit : Edit) → NoneRefused s → edited s edit ≡ Ok t
+        → NoneRefused t }
+    ensures undone { (s : Session) (k : ℕ) → NoneRefused s → NoneRefused (moved_back k s) }
+    ensures redone { (s : Session) (k : ℕ) → NoneRefused s → NoneRefused (moved_on k s) }
+    ensures reached { (db : Lists) (requests : List Request)
+        → NoneRefused (after_requests (start db) requests) }
+{}
+
+/// A history is linked to its database, as [`undo`](crate::History::undo) and
+/// [`redo`](crate::History::redo) ask for: one without edits to every database; one that a record
+/// was pushed to, to the database that [`apply`](crate::apply) left; and places that were opened
+/// since are no bar.
+pub fn histories_are_linked()
+    ensures start { (d : Places) → IsDatabase (lists_of d)
+        → Links d (record { past = []; future = [] }) }
+    ensures pushed { (d e : Places) (h : HistoryData) (edit : Edit) (r : RecordData) → Links d h
+        → IsDatabase (lists_of e) → Applied d e edit r
+        → Links e (record { past = r ∷ h.past; future = [] }) }
+    ensures opened { (d e : Places) (h : HistoryData) → Links d h → Grown d e → Links e h }
+{}
+
+/// The session that a history shows: the edits of its records, in order. A session takes an edit
+/// where [`apply`](crate::apply) carried it out and its record was pushed, and refuses it as
+/// `apply` does. It refuses every edit once it is full.
+pub fn histories_show_sessions()
+    ensures done { (d : Places) (h : HistoryData)
+        → length (session_of d h).done ≡ length h.past }
+    ensures undone { (d : Places) (h : HistoryData)
+        → length (session_of d h).undone ≡ length h.future }
+    ensures opened { (d e : Places) (h : HistoryData) → Links d h → Grown d e
+        → session_of e h ≡ session_of d h }
+    ensures edited { (d e : Places) (h : HistoryData) (edit : Edit) (r : RecordData)
+        → length h.past < most_edits → Links d h → Applied d e edit r
+        → edited (session_of d h) edit
+        ≡ Ok (session_of e (record { past = r ∷ h.past; future = [] })) }
+    ensures refused { (d : Places) (h : HistoryData) (edit : Edit) (fault : EditFault)
+        → length h.past < most_edits → Links d h → effect (lists_of d) edit ≡ Err fault
+        → edited (session_of d h) edit ≡ Err fault }
+    ensures full { (d : Places) (h : HistoryData) (edit : Edit) → most_edits ≤ length h.past
+        → edited (session_of d h) edit ≡ Err HistoryFull }
 {}
 
 /// A record counts the changes of its edit, and touches the areas that these touch: when the edit

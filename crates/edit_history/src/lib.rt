@@ -22,7 +22,10 @@ mod swap;
 pub use applying::apply;
 pub use fault::{EditFault, RedoFault, UndoFault};
 pub use history::History;
-pub use laws::{changes_told, folded, inverses, moves, untouched_areas_stay};
+pub use laws::{
+    changes_told, folded, histories_are_linked, histories_show_sessions, inverses, moves,
+    no_edit_is_refused, untouched_areas_stay,
+};
 pub use record::{Record, replay, revert};
 
 #[cfg(test)]

@@ -8,17 +8,8 @@ ghost use Rattle.edit_history.specs.Effect.{is_dump_full, most_lsas, is_full, ro
 
 use crate::fault::EditFault;
 use lsa_codec::Key;
-use lsdb::{Database, Section};
+use lsdb::{Database, LONGEST_DUMP, MOST_LSAS_OF_AREA, MOST_LSAS_OF_AS, Section};
 use std::alloc::Allocator;
-
-/// The most LSAs of an area.
-const MOST_LSAS_OF_AREA: usize = 8192;
-
-/// The most LSAs of AS scope.
-const MOST_LSAS_OF_AS: usize = 65_535;
-
-/// The length of the longest dump, in octets.
-const LONGEST_DUMP: usize = 16_777_216;
 
 /// Whether the dump would be too long with so many octets more.
 pub fn is_dump_full<A: Allocator + Copy>(database: &Database<A>, octets: u16) -> bool
@@ -33,8 +24,8 @@ fn most_lsas(section: Section) -> usize
     ensures { result ≡ most_lsas section }
 {
     match section {
-        Section::Area(_) => MOST_LSAS_OF_AREA,
-        Section::AsWide => MOST_LSAS_OF_AS,
+        Section::Area(_) => usize::from(MOST_LSAS_OF_AREA),
+        Section::AsWide => usize::from(MOST_LSAS_OF_AS),
     }
 }
 

@@ -6,17 +6,14 @@ ghost use Rattle.edit_history.specs.Applied.{Planned, IsRefused};
 
 use crate::fault::EditFault;
 use crate::limits::is_dump_full;
-use crate::lookup::{ROUTER_LSA, router_lsa};
+use crate::lookup::router_lsa;
 use crate::swap::{Swap, one_swap};
-use lsa_codec::{AreaId, Prefix, RouterId};
+use lsa_codec::{AreaId, LONGEST_LSA, Prefix, ROUTER_LSA, RouterId};
 use lsdb::{Database, Section};
 use std::alloc::Allocator;
 
 /// The octets of a link without TOS metrics (RFC 2328, A.4.2).
 const STUB_OCTETS: u16 = 12;
-
-/// The length of the longest LSA, in octets.
-const LONGEST_LSA: usize = 65_535;
 
 /// The metric of a link is another one: the cost of an interface (RFC 2328, C.3), told in the
 /// router-LSA that its router originates for the area (12.4.1).

@@ -2,29 +2,18 @@
 
 ghost use Rattle.std.specs.Prelude.{◌≡◌, Some, None, Err, IsSome, MatchOption, IfOk, IfErr};
 ghost use Rattle.std.specs.List.{find, list_any};
+ghost use Rattle.lsa_codec.specs.Key.{router_key};
 ghost use Rattle.lsdb.specs.declared.section.Section.TheVariants.{Area};
 ghost use Rattle.lsdb.specs.Lists.{is_section, has_key, lsas_of};
 ghost use Rattle.lsdb.specs.Places.{item_at, slot_at, lists_of, lsas_in, IsNamed};
 ghost use Rattle.edit_history.specs.declared.fault.EditFault.TheVariants.{NoArea, NoRouter};
-ghost use Rattle.edit_history.specs.Effect.{router_key, router_lsa_of, has_router, prefix_of, is_prefix, is_for};
-ghost use Rattle.edit_history.specs.Plans.{IsFirst, is_wanted, passes};
+ghost use Rattle.edit_history.specs.Effect.{router_lsa_of, has_router, prefix_of, is_prefix, is_for};
+ghost use Rattle.edit_history.specs.steps.Plans.{IsFirst, is_wanted, passes};
 
 use crate::fault::EditFault;
-use lsa_codec::{Addr, AreaId, Key, Lsa, Prefix, RouterId};
+use lsa_codec::{Addr, AreaId, EXTERNAL_LSA, Key, Lsa, NETWORK_LSA, Prefix, RouterId, SUMMARY_LSA};
 use lsdb::{Database, Section, SlotId};
 use std::alloc::Allocator;
-
-/// The LS type of router-LSAs (RFC 2328, A.4.1).
-pub const ROUTER_LSA: u8 = 1;
-
-/// The LS type of network-LSAs.
-pub const NETWORK_LSA: u8 = 2;
-
-/// The LS type of summary-LSAs for networks.
-pub const SUMMARY_LSA: u8 = 3;
-
-/// The LS type of AS-external-LSAs.
-pub const EXTERNAL_LSA: u8 = 5;
 
 /// An LSA that is looked for by more than its key.
 #[derive(Clone, Copy)]
@@ -84,17 +73,6 @@ fn is_for<A: Allocator + Copy>(lsa: &Lsa<A>, kind: u8, router: RouterId, prefix:
     key.kind == kind && key.adv == router && is_prefix(lsa, prefix)
 }
 
-/// The key of a router's router-LSA (RFC 2328, 12.1.4).
-pub fn router_key(router: RouterId) -> Key
-    ensures { result ≡ router_key router.0 }
-{
-    Key {
-        kind: ROUTER_LSA,
-        id: Addr(router.0),
-        adv: router,
-    }
-}
-
 /// The number of an area's section.
 pub fn area_section<A: Allocator + Copy>(
     database: &Database<A>,
@@ -116,10 +94,10 @@ pub fn router_lsa_in<A: Allocator + Copy>(
     area: AreaId,
     router: RouterId,
 ) -> Result<(SlotId, &Lsa<A>), EditFault>
-    ensures found { IfOk result (λ found. IsFirst database.now (Area area) (has_key (router_key router.0)) found.0 found.1.now) }
-    ensures refused { IfErr result (λ fault. (fault ≡ NoRouter) × (find (has_key (router_key router.0)) (lsas_of (Area area) (lists_of database.now)) ≡ None)) }
+    ensures found { IfOk result (λ found. IsFirst database.now (Area area) (has_key (router_key router)) found.0 found.1.now) }
+    ensures refused { IfErr result (λ fault. (fault ≡ NoRouter) × (find (has_key (router_key router)) (lsas_of (Area area) (lists_of database.now)) ≡ None)) }
 {
-    let Some(slot) = database.find(Section::Area(area), router_key(router)) else {
+    let Some(slot) = database.find(Section::Area(area), Key::of_router(router)) else {
         return Err(EditFault::NoRouter);
     };
     let Some(lsa) = database.get(slot) else {
@@ -134,7 +112,7 @@ pub fn router_lsa<A: Allocator + Copy>(
     area: AreaId,
     router: RouterId,
 ) -> Result<(SlotId, &Lsa<A>), EditFault>
-    ensures found { IfOk result (λ found. IsFirst database.now (Area area) (has_key (router_key router.0)) found.0 found.1.now) }
+    ensures found { IfOk result (λ found. IsFirst database.now (Area area) (has_key (router_key router)) found.0 found.1.now) }
     ensures refused { IfErr result (λ fault. router_lsa_of (lists_of database.now) area router ≡ Err fault) }
 {
     area_section(database, area)?;
@@ -148,9 +126,9 @@ fn is_in_section<A: Allocator + Copy>(
     router: RouterId,
 ) -> bool
     requires { IsSome (item_at (lists_of database.now) section) }
-    ensures { result ≡ list_any (has_key (router_key router.0)) (lsas_in database.now section) }
+    ensures { result ≡ list_any (has_key (router_key router)) (lsas_in database.now section) }
 {
-    database.find_in(section, router_key(router)).is_some()
+    database.find_in(section, Key::of_router(router)).is_some()
 }
 
 /// Whether a router originated a router-LSA for any area.

@@ -6,17 +6,15 @@ ghost use Rattle.lsdb.specs.Places.{item_at, head_or_none};
 ghost use Rattle.edit_script.specs.declared.edit.Edit.TheVariants.{Summary, AddSummary, AddExternal, DropExternal};
 ghost use Rattle.edit_history.specs.declared.fault.EditFault.TheVariants.{OutOfMemory};
 ghost use Rattle.edit_history.specs.Effect.{options_in, is_type2};
-ghost use Rattle.edit_history.specs.Plans.{Opens};
+ghost use Rattle.edit_history.specs.steps.Plans.{Opens};
 ghost use Rattle.edit_history.specs.Applied.{Planned, IsRefused};
 
 use crate::fault::EditFault;
 use crate::limits::check_room;
-use crate::lookup::{
-    EXTERNAL_LSA, SUMMARY_LSA, Wanted, area_section, first, has_router, router_lsa_in,
-};
+use crate::lookup::{Wanted, area_section, first, has_router, router_lsa_in};
 use crate::swap::{Swap, one_swap};
 use edit_script::MetricType;
-use lsa_codec::{Addr, AreaId, Key, Lsa, Metric, Prefix, RouterId};
+use lsa_codec::{Addr, AreaId, EXTERNAL_LSA, Key, Lsa, Metric, Prefix, RouterId, SUMMARY_LSA};
 use lsdb::{Database, Section};
 use std::alloc::Allocator;
 

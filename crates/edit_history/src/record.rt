@@ -27,8 +27,8 @@ impl<A: Allocator> Model for Record<A> {
 }
 
 impl<A: Allocator + Copy> Record<A> {
-    /// Carries swaps out, and keeps what takes them back.
-    pub(crate) fn carry_out(
+    /// Does the swaps of an edit, and keeps what undoes them.
+    pub(crate) fn commit(
         database: &mut Database<A>,
         edit: Edit,
         swaps: Vec<Swap<A>, A>,
@@ -69,12 +69,12 @@ impl<A: Allocator + Copy> Record<A> {
 ///
 /// The database is the one after the edit. Empty places that were opened since at the ends of
 /// sections are no bar.
-pub fn revert<A: Allocator + Copy>(database: &mut Database<A>, entry: &mut Record<A>)
-    requires { CanUndo database.old entry.old.swaps }
-    ensures database { database.new ≡ undone_places database.old entry.old.swaps }
-    ensures entry { entry.new ≡ undone database.old entry.old }
+pub fn revert<A: Allocator + Copy>(database: &mut Database<A>, last: &mut Record<A>)
+    requires { CanUndo database.old last.old.swaps }
+    ensures database { database.new ≡ undone_places database.old last.old.swaps }
+    ensures taken { last.new ≡ undone database.old last.old }
 {
-    undo_swaps(database, &mut entry.swaps);
+    undo_swaps(database, &mut last.swaps);
 }
 
 /// Carries an edit out again: the database is again the one after it, octet for octet. It takes no
@@ -82,10 +82,10 @@ pub fn revert<A: Allocator + Copy>(database: &mut Database<A>, entry: &mut Recor
 ///
 /// The database is the one before the edit. Empty places that were opened since at the ends of
 /// sections are no bar.
-pub fn replay<A: Allocator + Copy>(database: &mut Database<A>, entry: &mut Record<A>)
-    requires { CanDo database.old entry.old.swaps }
-    ensures database { database.new ≡ done_places database.old entry.old.swaps }
-    ensures entry { entry.new ≡ redone database.old entry.old }
+pub fn replay<A: Allocator + Copy>(database: &mut Database<A>, next: &mut Record<A>)
+    requires { CanDo database.old next.old.swaps }
+    ensures database { database.new ≡ done_places database.old next.old.swaps }
+    ensures taken { next.new ≡ redone database.old next.old }
 {
-    do_swaps(database, &mut entry.swaps);
+    do_swaps(database, &mut next.swaps);
 }

@@ -214,9 +214,9 @@ fn leads_to(
     external: &[&[u8]],
 ) -> Result<(), Fail> {
     let mut database = Database::load(rt.alloc(), NETS)?;
-    let mut entry = apply(&mut database, &edit)?;
-    assert_eq!(rt; entry.edit(), edit);
-    assert_eq!(rt; entry.len(), changed);
+    let mut record = apply(&mut database, &edit)?;
+    assert_eq!(rt; record.edit(), edit);
+    assert_eq!(rt; record.len(), changed);
     assert!(rt;
         has_lsas(&database, BACKBONE, backbone),
         "area 0.0.0.0 after {edit:?}"
@@ -227,10 +227,10 @@ fn leads_to(
     );
     let edited = database.dump()?;
     database.known();
-    revert(&mut database, &mut entry);
+    revert(&mut database, &mut record);
     assert_eq!(rt; database.dump()?.as_slice(), NETS);
     inverses();
-    replay(&mut database, &mut entry);
+    replay(&mut database, &mut record);
     assert_eq!(rt; database.dump()?.as_slice(), edited.as_slice());
     Ok(())
 }
@@ -280,9 +280,9 @@ fn a_router_goes(rt: HostRuntime) -> Result<(), Fail> {
     let [_, _, last] = external_lsas();
     leads_to(&rt, failed, 6, &[first, net, third, fourth], &[last])?;
     let mut database = Database::load(rt.alloc(), NETS)?;
-    let entry = apply(&mut database, &failed)?;
+    let record = apply(&mut database, &failed)?;
     assert_eq!(rt; database.count(STUB_AREA), 0);
-    assert!(rt; entry.touches(AreaId(0)) && entry.touches(AreaId(1)));
+    assert!(rt; record.touches(AreaId(0)) && record.touches(AreaId(1)));
     Ok(())
 }
 
@@ -299,8 +299,8 @@ fn the_first_summary_has_another_metric(rt: HostRuntime) -> Result<(), Fail> {
     let left = [first, net, second, third, UNREACHABLE, far, fourth];
     leads_to(&rt, unreachable, 1, &left, &external_lsas())?;
     let mut database = Database::load(rt.alloc(), NETS)?;
-    let entry = apply(&mut database, &unreachable)?;
-    assert!(rt; !entry.touches(area));
+    let record = apply(&mut database, &unreachable)?;
+    assert!(rt; !record.touches(area));
     Ok(())
 }
 
@@ -356,8 +356,8 @@ fn new_summaries_by_area(rt: HostRuntime) -> Result<(), Fail> {
     let added = [first, net, second, third, near, far, fourth, NEW_SUMMARY];
     leads_to(&rt, in_backbone, 1, &added, &external_lsas())?;
     let mut database = Database::load(rt.alloc(), NETS)?;
-    let entry = apply(&mut database, &new_summary(AreaId(1), 0x0a080000)?)?;
-    assert!(rt; !entry.touches(AreaId(1)));
+    let record = apply(&mut database, &new_summary(AreaId(1), 0x0a080000)?)?;
+    assert!(rt; !record.touches(AreaId(1)));
     assert!(rt; has_lsas(&database, STUB_AREA, &[part(340, 376), NEW_STUB_SUMMARY]));
     Ok(())
 }
@@ -380,7 +380,7 @@ fn new_stub(address: u32) -> Edit {
 #[test]
 fn a_stub_link_stands_last(rt: HostRuntime) -> Result<(), Fail> {
     let mut database = Database::load(rt.alloc(), SAMPLE)?;
-    let mut entry = apply(&mut database, &new_stub(0x0a070000))?;
+    let mut record = apply(&mut database, &new_stub(0x0a070000))?;
     assert!(rt;
         has_lsas(
             &database,
@@ -389,7 +389,7 @@ fn a_stub_link_stands_last(rt: HostRuntime) -> Result<(), Fail> {
         )
     );
     database.known();
-    revert(&mut database, &mut entry);
+    revert(&mut database, &mut record);
     assert_eq!(rt; database.dump()?.as_slice(), SAMPLE);
     Ok(())
 }

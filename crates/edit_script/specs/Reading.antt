@@ -1,5 +1,6 @@
 -- What a command word and its arguments mean: a command, or their first fault.
 use Rattle.std.specs.Prelude.{◌≡◌, ℕ, nat_lt, List, [], ◌∷◌, length, Result, Ok, Err, if◌then◌else◌, ok_or, codes, bytes_eq}
+use Rattle.lsa_codec.specs.Views.{ls_infinity}
 use Rattle.lsa_codec.specs.Prefix.{Net}
 use Rattle.edit_script.specs.declared.edit.Edit.{Edit}
 use Rattle.edit_script.specs.declared.edit.Edit.TheVariants.{Cost, DropLink, FailLink, FailNet, FailRouter, AddStub, Summary, AddSummary, AddExternal, DropExternal}
@@ -132,7 +133,7 @@ summary_of arguments = do
   area ← address word.0
   router ← address word.1
   prefix ← prefix word.2
-  metric ← number 16777215 word.3
+  metric ← number ls_infinity word.3
   Ok (Summary (record { 0 = area }) (record { 0 = router }) prefix metric)
 
 -- add-summary AREA ROUTER PREFIX METRIC
@@ -142,7 +143,7 @@ add_summary_of arguments = do
   area ← address word.0
   router ← address word.1
   prefix ← prefix word.2
-  metric ← number 16777215 word.3
+  metric ← number ls_infinity word.3
   Ok (AddSummary (record { 0 = area }) (record { 0 = router }) prefix metric)
 
 -- add-external ROUTER PREFIX TYPE METRIC FORWARD TAG
@@ -152,7 +153,7 @@ add_external_of arguments = do
   router ← address word.0
   prefix ← prefix word.1
   type ← metric_type word.2
-  metric ← number 16777215 word.3
+  metric ← number ls_infinity word.3
   forward ← address word.4
   tag ← number 4294967295 word.5
   Ok (AddExternal (record { 0 = router }) prefix type metric (record { 0 = forward }) tag)

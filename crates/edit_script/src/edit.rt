@@ -3,7 +3,7 @@
 ghost use Rattle.std.specs.Prelude.{Some};
 ghost use Rattle.edit_script.specs.Spelling.{spelling, type_text};
 
-use lsa_codec::{Addr, AreaId, Metric, Prefix, RouterId};
+use lsa_codec::{Addr, AreaId, Decimal, Metric, Prefix, RouterId};
 use std::fmt;
 
 /// How the metric of an AS-external-LSA counts (RFC 2328, A.4.5).
@@ -150,8 +150,14 @@ impl fmt::Display for Edit {
                 router,
                 link,
                 metric,
-            } => write!(f, "cost {area} {router} {link} {metric}"),
-            Edit::DropLink { area, router, link } => write!(f, "drop-link {area} {router} {link}"),
+            } => {
+                let (link, metric) = (Decimal(u64::from(link)), Decimal(u64::from(metric)));
+                write!(f, "cost {area} {router} {link} {metric}")
+            }
+            Edit::DropLink { area, router, link } => {
+                let link = Decimal(u64::from(link));
+                write!(f, "drop-link {area} {router} {link}")
+            }
             Edit::FailLink {
                 area,
                 router,
@@ -164,7 +170,10 @@ impl fmt::Display for Edit {
                 router,
                 prefix,
                 metric,
-            } => write!(f, "add-stub {area} {router} {prefix} {metric}"),
+            } => {
+                let metric = Decimal(u64::from(metric));
+                write!(f, "add-stub {area} {router} {prefix} {metric}")
+            }
             Edit::Summary {
                 area,
                 router,
@@ -184,10 +193,13 @@ impl fmt::Display for Edit {
                 metric,
                 forward,
                 tag,
-            } => write!(
-                f,
-                "add-external {router} {prefix} {metric_type} {metric} {forward} {tag}"
-            ),
+            } => {
+                let tag = Decimal(u64::from(tag));
+                write!(
+                    f,
+                    "add-external {router} {prefix} {metric_type} {metric} {forward} {tag}"
+                )
+            }
             Edit::DropExternal { router, prefix } => write!(f, "drop-external {router} {prefix}"),
         }
     }

@@ -1,6 +1,7 @@
 //! Reading the arguments of a command: each argument, and how many there are.
 
 ghost use Rattle.std.specs.Prelude.{◌≡◌, [], ◌∷◌, MatchResult};
+ghost use Rattle.lsa_codec.specs.Views.{ls_infinity};
 ghost use Rattle.edit_script.specs.Words.{words};
 ghost use Rattle.edit_script.specs.declared.fault.ScriptFault.TheVariants.{MissingWord};
 ghost use Rattle.edit_script.specs.Reading.{Gives, number, address, prefix, metric_type, none_of, one_of, two_of, three_of, four_of, six_of};
@@ -9,7 +10,7 @@ use crate::arguments::{address_of, number_up_to, prefix_of};
 use crate::edit::MetricType;
 use crate::fault::ScriptFault;
 use crate::words::next_word;
-use lsa_codec::{Metric, Prefix};
+use lsa_codec::{LS_INFINITY, Metric, Prefix};
 
 // ---- one argument
 
@@ -32,9 +33,9 @@ pub(crate) fn number16(word: &[u8]) -> Result<u16, ScriptFault>
 
 /// The metric of 24 bits that a word spells; else S5.
 pub(crate) fn metric24(word: &[u8]) -> Result<Metric, ScriptFault>
-    ensures { result ≡ number 16777215 word.now }
+    ensures { result ≡ number ls_infinity word.now }
 {
-    match number_up_to(16777215, word) {
+    match number_up_to(LS_INFINITY, word) {
         Some(number) => Metric::new(number).ok_or(ScriptFault::BadNumber),
         None => Err(ScriptFault::BadNumber),
     }

@@ -8,12 +8,12 @@ use Rattle.std.proofs.lemmas.List.Elements.{All-cons, All-nil}
 use Rattle.lsa_codec.specs.Fields.{kind_of}
 use Rattle.lsa_codec.specs.Prefix.{Net}
 use Rattle.lsa_codec.specs.declared.address.RouterId.{RouterId}
-use Rattle.lsa_codec.specs.Views.{forward_of, is_type2_of, metric_of, net_of_lsa}
+use Rattle.lsa_codec.specs.Views.{forward_of, is_type2_of, metric_of, net_of_lsa, ls_infinity}
 use Rattle.area_graph.specs.Area.{is_live}
 use Rattle.area_routes.specs.declared.rank.PathType.TheVariants.{Ext1, Ext2}
 use Rattle.area_routes.specs.declared.rank.Rank.{Rank}
 use Rattle.area_routes.specs.Candidate.{Candidate}
-use Rattle.area_routes.specs.Inter.{ls_infinity, originator_of, same_router}
+use Rattle.area_routes.specs.Inter.{originator_of, same_router}
 use Rattle.area_routes.specs.Routes.{has_route}
 use Rattle.area_routes.specs.Values.{EntriesBelow, EntryValue, RouteValue, RoutesBelow}
 use Rattle.external_routes.specs.Choose.{covers, entry_class, forward_match, is_asbr, longer, preference, preferred, route_class}

@@ -12,7 +12,7 @@ use Rattle.lsa_codec.specs.declared.address.RouterId.{RouterId}
 use Rattle.lsa_codec.specs.declared.key.Key.{Key}
 use Rattle.lsa_codec.specs.Accepted.{IsAccepted}
 use Rattle.lsa_codec.specs.Fields.{advertising_router_of, kind_of, link_state_id_of}
-use Rattle.lsa_codec.specs.Key.{key_of}
+use Rattle.lsa_codec.specs.Key.{key_of, router_key}
 use Rattle.lsdb.specs.declared.section.Section.TheVariants.{Area}
 use Rattle.lsdb.specs.Lists.{IsDatabase, Lists, has_key, lsas_of}
 use Rattle.area_graph.specs.Area.{is_live, is_network_lsa, is_outranked_by, is_router_lsa, is_vertex_lsa, outranks, used, vertex_lsas, vertex_of, vertices_of}
@@ -21,9 +21,9 @@ use Rattle.area_graph.specs.declared.vertex.Vertex.{Vertex}
 use Rattle.area_graph.specs.declared.vertex.Vertex.TheVariants.{Router}
 use Rattle.area_graph.proofs.AreaLemmas.{router_lsa_of, vertex_of_router}
 use Rattle.area_graph.proofs.GraphLemmas.{are_of_area}
-use Rattle.area_graph.proofs.Members.{Contains-from_In, In, In-filter, In-from_Contains, In-map, map-In}
+use Rattle.area_graph.proofs.MemberLemmas.{Contains-from_In, In, In-filter, In-from_Contains, In-map, map-In}
 use Rattle.area_graph.proofs.UsedLemmas.{used_In}
-use Rattle.external_routes.specs.Attached.{has_live_router_lsa, is_attached, router_key}
+use Rattle.external_routes.specs.Attached.{has_live_router_lsa, is_attached}
 
 -- what is found is there, and passes
 find-In : {X : Type 0} (p : X → Bool) (xs : List X) (x : X) → find p xs ≡ Some x → In xs x × (p x ≡ true)

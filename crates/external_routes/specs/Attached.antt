@@ -2,16 +2,12 @@
 use Rattle.std.specs.Prelude.{List, ℕ, Bool, false, not, filter}
 use Rattle.std.specs.List.{find, list_any}
 use Rattle.std.specs.Option.{option_map_or}
+use Rattle.lsa_codec.specs.Key.{router_key}
 use Rattle.lsa_codec.specs.declared.address.AreaId.{AreaId}
 use Rattle.lsa_codec.specs.declared.address.RouterId.{RouterId}
-use Rattle.lsa_codec.specs.declared.key.Key.{Key}
 use Rattle.lsdb.specs.declared.section.Section.TheVariants.{Area}
 use Rattle.lsdb.specs.Lists.{AreaHead, Lists, areas_of, has_key, lsas_of}
 use Rattle.area_graph.specs.Area.{is_live}
-
--- the key of a router's router-LSA (12.1.4)
-abbrev pub router_key : RouterId → Key
-router_key router = record { kind = 1; id = record { 0 = router.0 }; adv = router }
 
 -- whether the router's router-LSA is among the LSAs, and not at MaxAge
 abbrev pub has_live_router_lsa : RouterId → List (List ℕ) → Bool

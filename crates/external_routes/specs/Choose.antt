@@ -3,6 +3,7 @@ use Rattle.std.specs.Prelude.{ℕ, List, Bool, true, false, ◌&&◌, not, if◌
 use Rattle.std.specs.List.{filter, list_any}
 use Rattle.std.specs.Ordering.{nat_cmp, ordering_then}
 use Rattle.std.specs.declared.cmp.Ordering.{Ordering}
+use Rattle.lsa_codec.specs.Areas.{is_backbone}
 use Rattle.lsa_codec.specs.declared.address.Addr.{Addr}
 use Rattle.lsa_codec.specs.declared.address.AreaId.{AreaId}
 use Rattle.lsa_codec.specs.declared.address.RouterId.{RouterId}
@@ -16,9 +17,6 @@ use Rattle.area_routes.specs.declared.entry.EntryKind.TheVariants.{Border, AsbrI
 use Rattle.area_routes.specs.Inter.{same_router}
 
 -- ---- classes
-
-abbrev pub is_backbone : AreaId → Bool
-is_backbone area = area.0 == 0
 
 abbrev pub is_intra : PathType → Bool
 is_intra Intra = true

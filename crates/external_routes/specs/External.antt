@@ -2,11 +2,12 @@
 use Rattle.std.specs.Prelude.{ℕ, ◌+◌, ◌&&◌, ◌==◌, List, [], Bool, if◌then◌else◌, Option, None, Some, map, nat_lt, not}
 use Rattle.std.specs.List.{filter_map}
 use Rattle.std.specs.Option.{option_and_then, option_map}
+use Rattle.lsa_codec.specs.LsTypes.{external_lsa}
 use Rattle.lsa_codec.specs.declared.address.Addr.{Addr}
 use Rattle.lsa_codec.specs.declared.address.RouterId.{RouterId}
 use Rattle.lsa_codec.specs.Fields.{kind_of}
 use Rattle.lsa_codec.specs.Prefix.{Net}
-use Rattle.lsa_codec.specs.Views.{forward_of, is_type2_of, metric_of, net_of_lsa}
+use Rattle.lsa_codec.specs.Views.{forward_of, is_type2_of, metric_of, net_of_lsa, ls_infinity}
 use Rattle.lsdb.specs.declared.section.Section.TheVariants.{AsWide}
 use Rattle.lsdb.specs.Lists.{Lists, lsas_of}
 use Rattle.area_graph.specs.Area.{is_live}
@@ -16,7 +17,7 @@ use Rattle.area_routes.specs.declared.rank.PathType.TheVariants.{Ext1, Ext2}
 use Rattle.area_routes.specs.declared.rank.Rank.{Rank}
 use Rattle.area_routes.specs.Values.{EntryValue, RouteValue}
 use Rattle.area_routes.specs.Candidate.{Candidate}
-use Rattle.area_routes.specs.Inter.{ls_infinity, originator_of, same_router}
+use Rattle.area_routes.specs.Inter.{originator_of, same_router}
 use Rattle.area_routes.specs.Routes.{has_route, routes_of}
 use Rattle.external_routes.specs.Attached.{is_attached_outside_stubs}
 use Rattle.external_routes.specs.Choose.{entry_class, forward_match, preferred, route_class}
@@ -50,7 +51,7 @@ path_over routes lsa e = if forward_of lsa == 0 then Some (path_by_entry lsa e) 
 
 -- an AS-external-LSA that is live, below LSInfinity, and of another originator than the calculating router
 abbrev pub is_examined : RouterId → List ℕ → Bool
-is_examined router lsa = (kind_of lsa == 5) && (is_live lsa && (nat_lt (metric_of lsa) ls_infinity && not (same_router (originator_of lsa) router)))
+is_examined router lsa = (kind_of lsa == external_lsa) && (is_live lsa && (nat_lt (metric_of lsa) ls_infinity && not (same_router (originator_of lsa) router)))
 
 -- the path of an LSA that is examined, where the prefix has no other route and the originator has an entry as an AS boundary
 -- router

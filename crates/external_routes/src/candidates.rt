@@ -12,12 +12,9 @@ ghost use Rattle.external_routes.specs.External.{external_candidate, external_pa
 use crate::choose::{entry_class, route_class};
 use crate::inside::Inside;
 use area_routes::{BestWays, PathType, Rank, Route, RouterEntry};
-use lsa_codec::{Addr, ExternalView, Lsa, Prefix, RouterId};
+use lsa_codec::{Addr, ExternalView, LS_INFINITY, Lsa, Prefix, RouterId};
 use next_hops::Hop;
 use std::alloc::{AllocError, Allocator};
-
-/// The metric that says that there is no route (RFC 2328, appendix B).
-const LS_INFINITY: u32 = 0xffffff;
 
 /// The LSA as an AS-external-LSA, where the router examines it: it is live, its metric is below
 /// LSInfinity, and it was made by another router.

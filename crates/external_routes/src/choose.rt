@@ -3,23 +3,21 @@
 ghost use Rattle.std.specs.Prelude.{◌≡◌, not};
 ghost use Rattle.std.specs.List.{list_any};
 ghost use Rattle.std.specs.Option.{option_copied};
+ghost use Rattle.lsa_codec.specs.Areas.{is_backbone};
 ghost use Rattle.area_graph.specs.Least.{later};
-ghost use Rattle.external_routes.specs.Choose.{entry_class, is_asbr, is_backbone, preference, preferred, route_class};
+ghost use Rattle.external_routes.specs.Choose.{entry_class, is_asbr, preference, preferred, route_class};
 
 use area_routes::{EntryKind, PathType, Route, RouterEntry};
 use lsa_codec::{AreaId, RouterId};
 use std::alloc::Allocator;
 use std::cmp::Ordering;
 
-/// The backbone's Area ID (RFC 2328, 3.1).
-const BACKBONE: AreaId = AreaId(0);
-
 /// The class of an entry: 0 for an intra-area path through an area that is not the backbone, else 1
 /// (RFC 2328, 16.4.1).
 pub(crate) fn entry_class<A: Allocator + Copy>(entry: &RouterEntry<A>) -> u8
     ensures { result ≡ entry_class entry.now }
 {
-    if entry.kind == EntryKind::AsbrIntra && entry.area != BACKBONE {
+    if entry.kind == EntryKind::AsbrIntra && entry.area != AreaId::BACKBONE {
         0
     } else {
         1
@@ -30,7 +28,7 @@ pub(crate) fn entry_class<A: Allocator + Copy>(entry: &RouterEntry<A>) -> u8
 fn leaves_backbone(areas: &[AreaId]) -> bool
     ensures { result ≡ list_any (λ area. not (is_backbone area)) areas.now }
 {
-    areas.iter().any(|area| *area != BACKBONE)
+    areas.iter().any(|area| *area != AreaId::BACKBONE)
 }
 
 /// The class of a route: 0 for an intra-area route where one of its areas is not the backbone, else

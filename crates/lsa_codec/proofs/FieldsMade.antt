@@ -24,7 +24,8 @@ use Rattle.lsa_codec.proofs.LinkWalk.{links_agree, links_from_push}
 use Rattle.lsa_codec.proofs.Made.{checksum_made}
 use Rattle.lsa_codec.proofs.MaskLengths.{len_of_mask_of_len}
 use Rattle.lsa_codec.proofs.Cost.{links_with_metric, kept_with_metric, place_of_number}
-use Rattle.lsa_codec.proofs.Relinked.{StandsAt, Recounted, link_at-moved, has_texts, recounted_is, body_of, length-body, kept_few, AreKept, kept_removed, kept_filtered, ok_of, made_is}
+use Rattle.lsa_codec.proofs.LinkTexts.{StandsAt, Recounted, link_at-moved, recounted_is, body_of}
+use Rattle.lsa_codec.proofs.Relinked.{has_texts, length-body, kept_few, AreKept, kept_removed, kept_filtered, ok_of, made_is}
 use Rattle.lsa_codec.proofs.Originated.{remetered_is, metric_long}
 use Rattle.lsa_codec.proofs.Rewritten.{guard}
 

@@ -21,7 +21,8 @@ use Rattle.lsa_codec.specs.Originating.{with_metric, new_summary, new_external, 
 use Rattle.lsa_codec.proofs.Bytes.{number_at-same}
 use Rattle.lsa_codec.proofs.Made.{pair_is}
 use Rattle.lsa_codec.proofs.Cost.{rewrite_with_metric, place_of_number}
-use Rattle.lsa_codec.proofs.Relinked.{has_texts, recounted_is, body_of, length-body, kept_few, accepted_links, accepted_stub, AreKept, kept_removed, kept_filtered, ok_of, made_is}
+use Rattle.lsa_codec.proofs.LinkTexts.{recounted_is, body_of}
+use Rattle.lsa_codec.proofs.Relinked.{has_texts, length-body, kept_few, accepted_links, accepted_stub, AreKept, kept_removed, kept_filtered, ok_of, made_is}
 use Rattle.lsa_codec.proofs.Originated.{remetered_is, accepted_metric, metric_long, accepted_summary, accepted_external}
 
 -- the octets before the checksum have the key

@@ -13,7 +13,7 @@ use Rattle.lsa_codec.specs.declared.relink.Target.TheVariants as target
 use Rattle.lsa_codec.specs.Fields.{put_number, octet_at, age_of}
 use Rattle.lsa_codec.specs.Checksum.{with_checksum}
 use Rattle.lsa_codec.specs.Links.{links_of, link_at, link_length, link_count, link_numbered, first_link, has_cost, is_point_to_point, is_transit}
-use Rattle.lsa_codec.specs.Accepted.{IsAccepted, is_link_mask_good, is_link_cost_good}
+use Rattle.lsa_codec.specs.Accepted.{IsAccepted, longest_lsa, is_link_mask_good, is_link_cost_good}
 use Rattle.lsa_codec.specs.Key.{key_of}
 use Rattle.lsa_codec.specs.Prefix.{Net, mask_of_len}
 
@@ -82,7 +82,7 @@ stub_link net cost at = record {
 -- a router-LSA with a stub link after its last link
 abbrev pub with_stub : Net → ℕ → List ℕ → Result (List ℕ) MakeFault
 with_stub net metric lsa =
-    if nat_lt 65535 (length lsa + 12) then Err TooLong else Ok (recounted (link_count lsa + 1) (lsa ++ stub_text net metric))
+    if nat_lt longest_lsa (length lsa + 12) then Err TooLong else Ok (recounted (link_count lsa + 1) (lsa ++ stub_text net metric))
 
 -- the fault is the one that the answer names; want of memory comes only where there is no other
 abbrev pub IsMakeFaultOf : MakeFault → Result (List ℕ) MakeFault → Type 0

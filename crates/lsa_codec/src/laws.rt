@@ -3,9 +3,14 @@
 
 ghost use Rattle.std.specs.Prelude.{◌≡◌, ◌+◌, ◌-◌, ◌≤◌, ◌<◌, ◌^◌, ◌++◌, ◌∷◌, [], ℕ, List, Bool, true, map, not, length, take, drop, set, Some, Ok};
 ghost use Rattle.std.specs.List.{filter, remove};
+ghost use Rattle.std.specs.Cmp.{IsTotalOrder};
+ghost use Rattle.std.specs.declared.cmp.Ordering.TheVariants.{Equal};
 ghost use Rattle.lsa_codec.specs.declared.link.Link.{Link};
 ghost use Rattle.lsa_codec.specs.declared.address.Addr.{Addr};
-ghost use Rattle.lsa_codec.specs.declared.address.RouterId.{RouterId};
+ghost use Rattle.lsa_codec.specs.declared.address.RouterId.{RouterId as AnyRouter};
+ghost use Rattle.lsa_codec.specs.declared.address.AreaId.{AreaId as AnyArea};
+ghost use Rattle.lsa_codec.specs.declared.key.Key.{Key as AnyKey};
+ghost use Rattle.lsa_codec.specs.Order.{area_cmp, router_cmp, prefix_cmp, key_cmp};
 ghost use Rattle.lsa_codec.specs.Fields.{kind_of};
 ghost use Rattle.lsa_codec.specs.Prefix.{Net, IsNet, is_mask, mask_of_len, len_of_mask};
 ghost use Rattle.lsa_codec.specs.Checksum.{is_checksum_good, with_checksum};
@@ -15,6 +20,10 @@ ghost use Rattle.lsa_codec.specs.Decoding.{decoded};
 ghost use Rattle.lsa_codec.specs.Views.{has_metric};
 ghost use Rattle.lsa_codec.specs.Making.{with_cost, without_link, without_links, with_stub, stub_link, IsRewriteOf, IsExtensionOf, KeepsAgeAndFlags};
 ghost use Rattle.lsa_codec.specs.Originating.{with_metric, new_summary, new_external, IsNewLsa, HasOtherMetric, HasNewFields, HasExternalFields};
+
+use crate::address::{AreaId, RouterId};
+use crate::key::Key;
+use crate::prefix::Prefix;
 
 /// Decoding finds every accepted LSA, whatever follows it.
 pub fn decoding_is_complete()
@@ -98,23 +107,23 @@ pub fn makers_keep_the_key()
 /// A new LSA for a prefix is accepted, has the prefix's address as its Link State ID, and has 28
 /// octets (a summary-LSA) or 36 (an AS-external-LSA).
 pub fn new_lsas_have_their_key()
-    ensures summary { (options : ℕ) (adv : RouterId) (net : Net) (metric : ℕ)
+    ensures summary { (options : ℕ) (adv : AnyRouter) (net : Net) (metric : ℕ)
         → IsNet net → net.addr.0 < 2 ^ 32 → adv.0 < 2 ^ 32
         → IsNewLsa 3 net adv 28 (new_summary options adv net metric) }
-    ensures external { (adv : RouterId) (net : Net) (type2 : Bool) (metric : ℕ)
+    ensures external { (adv : AnyRouter) (net : Net) (type2 : Bool) (metric : ℕ)
         (forward : Addr) (tag : ℕ) → IsNet net → net.addr.0 < 2 ^ 32 → adv.0 < 2 ^ 32
         → IsNewLsa 5 net adv 36 (new_external adv net type2 metric forward tag) }
 {}
 
 /// A new LSA for a prefix has the fields that it was made of. Its LS age is 1.
 pub fn new_lsas_have_their_fields()
-    ensures summary { (options : ℕ) (adv : RouterId) (net : Net) (metric : ℕ)
+    ensures summary { (options : ℕ) (adv : AnyRouter) (net : Net) (metric : ℕ)
         → IsNet net → net.addr.0 < 2 ^ 32 → metric < 2 ^ 24
         → HasNewFields net metric (new_summary options adv net metric) }
-    ensures external { (adv : RouterId) (net : Net) (type2 : Bool) (metric : ℕ)
+    ensures external { (adv : AnyRouter) (net : Net) (type2 : Bool) (metric : ℕ)
         (forward : Addr) (tag : ℕ) → IsNet net → net.addr.0 < 2 ^ 32 → metric < 2 ^ 24
         → HasNewFields net metric (new_external adv net type2 metric forward tag) }
-    ensures further { (adv : RouterId) (net : Net) (type2 : Bool) (metric : ℕ)
+    ensures further { (adv : AnyRouter) (net : Net) (type2 : Bool) (metric : ℕ)
         (forward : Addr) (tag : ℕ) → forward.0 < 2 ^ 32 → tag < 2 ^ 32
         → HasExternalFields type2 forward tag (new_external adv net type2 metric forward tag) }
 {}
@@ -125,4 +134,21 @@ pub fn masks()
         → (len_of_mask mask ≤ 32) × (mask_of_len (len_of_mask mask) ≡ mask) }
     ensures back { (len : ℕ) → len ≤ 32
         → (is_mask (mask_of_len len) ≡ true) × (len_of_mask (mask_of_len len) ≡ len) }
+{}
+
+/// The orders of Area IDs, Router IDs, prefixes and keys are their `Ord`. They are total, and two
+/// values compare as equal only where they are the same.
+pub fn orders()
+    ensures areas { (a b : AnyArea) → ⟦<AreaId as Ord>⟧.cmp a b ≡ area_cmp a b }
+    ensures areas_are_total { IsTotalOrder area_cmp }
+    ensures areas_are_exact { (a b : AnyArea) → area_cmp a b ≡ Equal → a ≡ b }
+    ensures routers { (a b : AnyRouter) → ⟦<RouterId as Ord>⟧.cmp a b ≡ router_cmp a b }
+    ensures routers_are_total { IsTotalOrder router_cmp }
+    ensures routers_are_exact { (a b : AnyRouter) → router_cmp a b ≡ Equal → a ≡ b }
+    ensures prefixes { (a b : Net) → ⟦<Prefix as Ord>⟧.cmp a b ≡ prefix_cmp a b }
+    ensures prefixes_are_total { IsTotalOrder prefix_cmp }
+    ensures prefixes_are_exact { (a b : Net) → prefix_cmp a b ≡ Equal → a ≡ b }
+    ensures keys { (a b : AnyKey) → ⟦<Key as Ord>⟧.cmp a b ≡ key_cmp a b }
+    ensures keys_are_total { IsTotalOrder key_cmp }
+    ensures keys_are_exact { (a b : AnyKey) → key_cmp a b ≡ Equal → a ≡ b }
 {}

@@ -16,6 +16,9 @@ use crate::links::Links;
 use std::alloc::{Allocator, Global};
 use std::marker::Model;
 
+/// The most octets of an LSA, which its length field holds (RFC 2328, A.4.1).
+pub const LONGEST_LSA: usize = 65_535;
+
 /// An accepted LSA, seen as its octets. They are never changed. What makes octets an accepted LSA
 /// is the record `IsAccepted`; `LsaFault` says the same by what fails.
 #[derive(Debug, Drop)]

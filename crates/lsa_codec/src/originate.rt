@@ -13,6 +13,7 @@ use crate::address::{Addr, RouterId};
 use crate::checksum::set_checksum;
 use crate::fault::MakeFault;
 use crate::field::{put_u16, put_u24, put_u32};
+use crate::ls_type::{EXTERNAL_LSA, SUMMARY_LSA};
 use crate::lsa::Lsa;
 use crate::prefix::Prefix;
 use std::alloc::{AllocError, Allocator};
@@ -132,7 +133,7 @@ impl<A: Allocator + Copy> Lsa<A> {
         ensures made { IfOk result (λ lsa. lsa ≡ new_summary options adv net metric) }
         ensures fault { IfErr result (λ fault. fault ≡ OutOfMemory) }
     {
-        let header = new_header(options, 3, net.addr(), adv, 28);
+        let header = new_header(options, SUMMARY_LSA, net.addr(), adv, 28);
         let bytes = assembled(alloc, &header, &summary_body(net, metric))?;
         Ok(Lsa::accepted(bytes))
     }
@@ -154,7 +155,7 @@ impl<A: Allocator + Copy> Lsa<A> {
         ensures made { IfOk result (λ lsa. lsa ≡ new_external adv net type2 metric forward tag) }
         ensures fault { IfErr result (λ fault. fault ≡ OutOfMemory) }
     {
-        let header = new_header(2, 5, net.addr(), adv, 36);
+        let header = new_header(2, EXTERNAL_LSA, net.addr(), adv, 36);
         let bytes = assembled(
             alloc,
             &header,

@@ -15,7 +15,7 @@ use crate::checksum::set_checksum;
 use crate::fault::MakeFault;
 use crate::field::{put_u16, put_u32, u16_at};
 use crate::link::{Link, LinkKind};
-use crate::lsa::Lsa;
+use crate::lsa::{LONGEST_LSA, Lsa};
 use crate::prefix::Prefix;
 use crate::views::RouterView;
 use std::alloc::{AllocError, Allocator};
@@ -57,7 +57,8 @@ fn link_texts<A: Allocator + Copy>(
 ) -> Result<Vec<u8, A>, AllocError>
     requires header { 24 ≤ length lsa.now }
     requires links { All (IsLinkOf lsa.now) kept.now }
-    ensures { IfOk result (λ v. v.items ≡ take 24 lsa.now ++ flat_map (link_text lsa.now) kept.now) }
+    ensures { IfOk result (λ v. v.items
+        ≡ take 24 lsa.now ++ flat_map (link_text lsa.now) kept.now) }
 {
     let mut bytes = Vec::from_slice(alloc, &lsa[..24])?;
     for link in kept {
@@ -149,9 +150,10 @@ impl<A: Allocator + Copy> Lsa<A> {
         requires router { kind_of self.now ≡ 1 }
         ensures made { IfOk result (λ lsa. with_stub net metric self.now ≡ Ok lsa) }
         ensures keeps { IfOk result (λ lsa. IsExtensionOf self.now lsa) }
-        ensures fault { IfErr result (λ fault. IsMakeFaultOf fault (with_stub net metric self.now)) }
+        ensures fault { IfErr result
+            (λ fault. IsMakeFaultOf fault (with_stub net metric self.now)) }
     {
-        if self.bytes().len() + 12 > 65535 {
+        if self.bytes().len() + 12 > LONGEST_LSA {
             return Err(MakeFault::TooLong);
         }
         let bytes = extended(alloc, self.bytes(), net, metric)?;

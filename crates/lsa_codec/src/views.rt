@@ -13,6 +13,7 @@ use crate::address::{Addr, RouterId};
 use crate::field::{u16_at, u24_at, u32_at};
 use crate::link::Link;
 use crate::links::Links;
+use crate::ls_type::{ASBR_SUMMARY_LSA, EXTERNAL_LSA, NETWORK_LSA, ROUTER_LSA, SUMMARY_LSA};
 use crate::lsa::Lsa;
 use crate::prefix::{Prefix, len_of_mask};
 use std::alloc::Allocator;
@@ -100,7 +101,7 @@ impl<A: Allocator + Copy> Lsa<A> {
             (λ view. (view ≡ self.now) × (kind_of self.now ≡ 1) × IsAccepted self.now) }
     {
         let lsa = self.bytes();
-        if lsa[3] != 1 {
+        if lsa[3] != ROUTER_LSA {
             return None;
         }
         Some(RouterView { lsa })
@@ -112,7 +113,7 @@ impl<A: Allocator + Copy> Lsa<A> {
             (λ view. (view ≡ self.now) × (kind_of self.now ≡ 2)) }
     {
         let lsa = self.bytes();
-        if lsa[3] != 2 {
+        if lsa[3] != NETWORK_LSA {
             return None;
         }
         Some(NetworkView { lsa })
@@ -124,7 +125,7 @@ impl<A: Allocator + Copy> Lsa<A> {
             (λ view. (view ≡ self.now) × (3 ≤ kind_of self.now) × (kind_of self.now ≤ 4)) }
     {
         let lsa = self.bytes();
-        if lsa[3] != 3 && lsa[3] != 4 {
+        if lsa[3] != SUMMARY_LSA && lsa[3] != ASBR_SUMMARY_LSA {
             return None;
         }
         Some(SummaryView { lsa })
@@ -136,7 +137,7 @@ impl<A: Allocator + Copy> Lsa<A> {
             (λ view. (view ≡ self.now) × (kind_of self.now ≡ 5)) }
     {
         let lsa = self.bytes();
-        if lsa[3] != 5 {
+        if lsa[3] != EXTERNAL_LSA {
             return None;
         }
         Some(ExternalView { lsa })
@@ -211,7 +212,7 @@ impl<'a> SummaryView<'a> {
     pub fn net(&self) -> Option<Prefix>
         ensures { result ≡ net_of_summary self.now }
     {
-        if self.lsa[3] != 3 {
+        if self.lsa[3] != SUMMARY_LSA {
             return None;
         }
         Some(net_at(self.lsa))
@@ -225,7 +226,7 @@ impl<'a> SummaryView<'a> {
         mask_at(self.lsa)
     }
 
-    /// The cost of the route for TOS 0, a number of 24 bits. 16,777,215 is LSInfinity, which says
+    /// The cost of the route for TOS 0, a number of 24 bits. [`LS_INFINITY`](crate::LS_INFINITY) says
     /// that there is no route (RFC 2328, appendix B).
     pub fn metric(&self) -> u32
         ensures { result ≡ metric_of self.now }
@@ -256,7 +257,7 @@ impl<'a> ExternalView<'a> {
         self.lsa[24] >= 128
     }
 
-    /// The cost of the route for TOS 0, a number of 24 bits. 16,777,215 is LSInfinity, which says
+    /// The cost of the route for TOS 0, a number of 24 bits. [`LS_INFINITY`](crate::LS_INFINITY) says
     /// that there is no route (RFC 2328, appendix B).
     pub fn metric(&self) -> u32
         ensures { result ≡ metric_of self.now }

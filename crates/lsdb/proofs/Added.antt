@@ -10,7 +10,8 @@ use Rattle.std.proofs.lemmas.List.Kept.{AllPairs-cons}
 use Rattle.lsa_codec.specs.declared.key.Key.{Key}
 use Rattle.lsa_codec.specs.Key.{key_of}
 use Rattle.lsa_codec.specs.Accepted.{IsAccepted}
-use Rattle.lsdb.specs.Lists.{AreaHead, SectionLsas, Lists, AreKeys, IsSection, AreHeads, IsDatabase, is_in_scope, limit_of, lsas_size, section_size, size, heads_of, has_key, largest_text}
+use Rattle.lsdb.specs.Limits.{longest_dump}
+use Rattle.lsdb.specs.Lists.{AreaHead, SectionLsas, Lists, AreKeys, IsSection, AreHeads, IsDatabase, is_in_scope, limit_of, lsas_size, section_size, size, heads_of, has_key}
 use Rattle.lsdb.specs.Places.{Place, Places, update_at, item_at, put, put_place, open_at, full, section_of, lists_of, places_in}
 use Rattle.lsdb.proofs.Middle.{all_mid, map_mid, map_two}
 use Rattle.lsdb.proofs.Dominated.{size_around}
@@ -68,7 +69,7 @@ pub record Fits (db : Lists) (s : SectionLsas) (x : List ℕ) : Type 0 where
   pub scope : is_in_scope s.area (key_of x) ≡ true
   pub new : find (has_key (key_of x)) s.lsas ≡ None
   pub room : length s.lsas < limit_of s.area
-  pub small : size db + length x ≤ largest_text
+  pub small : size db + length x ≤ longest_dump
 
 section_added : (db : Lists) (s : SectionLsas) (x : List ℕ) → Fits db s x → IsSection s → IsSection (with_lsa x s)
 section_added db s x fits h = record {

@@ -7,7 +7,8 @@ use Rattle.lsa_codec.specs.declared.key.Key.{Key}
 use Rattle.lsa_codec.specs.Key.{key_of}
 use Rattle.lsa_codec.specs.Accepted.{IsAccepted}
 use Rattle.lsdb.specs.declared.slot.SlotId.{SlotId}
-use Rattle.lsdb.specs.Lists.{AreaHead, SectionLsas, Lists, AreKeys, IsSection, AreHeads, is_in_scope, IsDatabase, lsas_size, section_size, size, largest_text, heads_of}
+use Rattle.lsdb.specs.Limits.{longest_dump}
+use Rattle.lsdb.specs.Lists.{AreaHead, SectionLsas, Lists, AreKeys, IsSection, AreHeads, is_in_scope, IsDatabase, lsas_size, section_size, size, heads_of}
 use Rattle.lsdb.specs.Places.{Place, Places, SectionPlaces, item_at, put_place, put, place_in, slot_at, full, section_of, lists_of, IsPutSafe, place_size}
 use Rattle.lsdb.proofs.Middle.{all_mid, all_without, pairs_without, map_mid, map_two, length_mid}
 
@@ -171,7 +172,7 @@ put_safe d slot old new h safe db =
     }
 
 -- a place takes an LSA of the same key that is longer, where the dump has room for it
-pub extended_safe : (d : Places) (slot : SlotId) (x y : List ℕ) → slot_at d slot ≡ Some (Some x) → IsAccepted y → key_of y ≡ key_of x → size (lists_of d) + length y ≤ largest_text + length x → IsDatabase (lists_of d) → IsDatabase (lists_of (put d slot (Some y)))
+pub extended_safe : (d : Places) (slot : SlotId) (x y : List ℕ) → slot_at d slot ≡ Some (Some x) → IsAccepted y → key_of y ≡ key_of x → size (lists_of d) + length y ≤ longest_dump + length x → IsDatabase (lists_of d) → IsDatabase (lists_of (put d slot (Some y)))
 extended_safe d slot x y h accepted key room db =
     let w = between d slot (Some x) (Some y) h in
     let s = section_with w.area (w.front ++ x ∷ w.back) in

@@ -7,19 +7,21 @@ use Rattle.std.proofs.lemmas.Bool.{ltb-false, le-ltb, eqb-true}
 use Rattle.std.proofs.lemmas.List.{append-nil, nil_from_length, length-append, length-map, map_push}
 use Rattle.std.proofs.lemmas.List.Concat.{flat_map-append, flat_map-cons}
 use Rattle.std.proofs.lemmas.List.Sums.{sum_by-cons}
-use Rattle.std.proofs.lemmas.List.Elements.{All-nil, All-cons, All-head, All-push}
+use Rattle.std.proofs.lemmas.List.Elements.{All-push}
 use Rattle.std.proofs.lemmas.List.Quantifiers.{all_pairs_push}
 use Rattle.lsdb.specs.declared.fault.DumpFault.{DumpFault}
 use Rattle.lsdb.specs.declared.fault.DumpFaultKind.TheVariants.{BadMagic, BadVersion, TrailingBytes, TooManyAreas, TooLarge}
-use Rattle.lsdb.specs.Lists.{AreaHead, SectionLsas, Lists, IsSection, IsBefore, is_as_wide, HasWideId, IsOrdinaryBackbone, AreHeads, IsDatabase, heads_of, head_size, lsas_size, section_size, size, largest_text}
+use Rattle.lsdb.specs.Limits.{longest_dump}
+use Rattle.lsdb.specs.Lists.{AreaHead, SectionLsas, Lists, IsSection, IsBefore, is_as_wide, HasWideId, IsOrdinaryBackbone, AreHeads, IsDatabase, heads_of, head_size, lsas_size, section_size, size}
 use Rattle.lsdb.specs.Text.{magic, version, head_text, section_text, area_count, text}
 use Rattle.lsdb.specs.Loading.{◌>>=◌, At, number_at, section_at, areas_from, magic_at, version_at, area_count_at, sections_at, ended, dump_at, loaded, beginning}
-use Rattle.lsdb.proofs.Middle.{all_at_mid, all_front, pairs_head, pairs_tail, pairs_without}
+use Rattle.lsdb.proofs.Middle.{all_at_mid, all_front, pairs_without}
 use Rattle.lsdb.proofs.Dominated.{section_with}
 use Rattle.lsdb.proofs.Written.{opening}
 use Rattle.lsdb.proofs.Fields.{IsBytes, bind_ok, guard_ok, passed_ok, ok_is, done, told, Takes, Takes-then, wide8, wide32, number_takes, number_again, here}
 use Rattle.lsdb.proofs.SectionText.{lsas_text, section_takes, section_again}
-use Rattle.lsdb.proofs.AreaText.{section_text-split, IsUpTo, IsAfter, AreAreas, AreNext, no_areas, areas_take, areas_again}
+use Rattle.lsdb.proofs.AreaText.{section_text-split, IsUpTo, AreAreas, AreNext, no_areas, areas_take, areas_again}
+use Rattle.lsdb.proofs.LastSection.{split}
 
 -- ---- how long the text is
 
@@ -191,9 +193,9 @@ dump_takes bytes db fits e =
 pub loaded_takes : (bytes : List ℕ) (db : Lists) → IsBytes bytes → loaded bytes ≡ Ok db → IsDatabase db × (bytes ≡ text db)
 unfolding loaded
 loaded_takes bytes db fits e =
-    let a = guard_ok (ltb largest_text (length bytes)) (told (beginning bytes) TooLarge) (dump_at (beginning bytes)) db e in
+    let a = guard_ok (ltb longest_dump (length bytes)) (told (beginning bytes) TooLarge) (dump_at (beginning bytes)) db e in
     let spelled = dump_takes bytes db fits a.1 in
-    let small : length bytes ≤ largest_text = ltb-false _ _ a.0 in
+    let small : length bytes ≤ longest_dump = ltb-false _ _ a.0 in
     (record { heads = spelled.heads; sections = spelled.sections; small = omega (arith, small, ap length spelled.text, text_size db) }, spelled.text)
 
 -- ---- what is spelled is read again
@@ -237,38 +239,6 @@ sections_again areas lsas rest next few good =
     ∙ ap (λ (r : Result (Lists × At) DumpFault). r >>= after_areas) (areas_again areas None [] 6 behind next)
     ∙ ap (λ (r : Result (SectionLsas × At) DumpFault). r >>= with_wide areas) (section_again None lsas (6 + length listed) rest good)
 
--- a database as its areas, and the LSAs of AS scope
-record Split (db : Lists) : Type 0 where
-  pub areas : Lists
-  pub wide : SectionLsas
-  pub is : db ≡ areas ++ wide ∷ []
-  pub none : wide.area ≡ None
-  pub after : All (IsAfter None) (heads_of areas)
-
--- nothing stands behind the LSAs of AS scope
-split_none : (s : SectionLsas) (ss : Lists) → s.area ≡ None → AllPairs IsBefore (heads_of (s ∷ ss)) → Split (s ∷ ss)
-split_none s [] is order = record { areas = []; wide = s; is = refl; none = is; after = All-nil (IsAfter None) }
-split_none s (t ∷ ts) is order =
-    let first : IsBefore s.area t.area = All-head (IsBefore s.area) t.area (heads_of ts) (pairs_head IsBefore s.area (heads_of (t ∷ ts)) order) in
-    absurd (subst (λ (h : Option AreaHead). IsBefore h t.area) is first)
-
-split_some : (s : SectionLsas) (ss : Lists) (a : AreaHead) → s.area ≡ Some a → Split ss → Split (s ∷ ss)
-split_some s ss a is rest = record {
-  areas = s ∷ rest.areas;
-  wide = rest.wide;
-  is = ap (λ (xs : Lists). s ∷ xs) rest.is;
-  none = rest.none;
-  after = All-cons (IsAfter None) s.area (heads_of rest.areas) (subst (IsAfter None) (sym is) tt) rest.after;
-}
-
-split_by : (h : Option AreaHead) (s : SectionLsas) (ss : Lists) → s.area ≡ h → AllPairs IsBefore (heads_of (s ∷ ss)) → (list_any is_as_wide (heads_of ss) ≡ true → Split ss) → list_any is_as_wide (h ∷ heads_of ss) ≡ true → Split (s ∷ ss)
-split_by None s ss is order rest e = split_none s ss is order
-split_by (Some a) s ss is order rest e = split_some s ss a is (rest e)
-
-split : (db : Lists) → AllPairs IsBefore (heads_of db) → list_any is_as_wide (heads_of db) ≡ true → Split db
-split [] order e = absurd cc
-split (s ∷ ss) order e = split_by s.area s ss refl order (split ss (pairs_tail IsBefore s.area (heads_of ss) order)) e
-
 dump_again : (areas : Lists) (lsas : List (List ℕ)) → AreNext None areas → length areas ≤ 64 → IsSection (section_with None lsas) → let db = areas ++ section_with None lsas ∷ [] in dump_at (beginning (text db)) ≡ Ok db
 unfolding dump_at
 dump_again areas lsas next few good =
@@ -302,7 +272,7 @@ database_again db good =
 pub loaded_again : (db : Lists) → IsDatabase db → loaded (text db) ≡ Ok db
 unfolding loaded
 loaded_again db good =
-    let small : ltb largest_text (length (text db)) ≡ false = le-ltb _ _ (omega (arith, good.small, text_size db)) in
+    let small : ltb longest_dump (length (text db)) ≡ false = le-ltb _ _ (omega (arith, good.small, text_size db)) in
     ap (λ (b : Bool). cond b (Err (told (beginning (text db)) TooLarge)) (dump_at (beginning (text db)))) small
     ∙ database_again db good
 

@@ -13,7 +13,7 @@ use Rattle.lsa_codec.specs.Key.{key_of}
 use Rattle.lsa_codec.specs.Fields.{length_of}
 use Rattle.lsa_codec.specs.Accepted.{IsAccepted}
 use Rattle.lsa_codec.specs.Decoding.{decoded}
-use Rattle.lsa_codec.proofs.Complete.{decoded_again, decoded_front}
+use Rattle.lsa_codec.proofs.LsaLemmas.{decoded_again, decoded_front}
 use Rattle.lsdb.specs.declared.fault.DumpFault.{DumpFault}
 use Rattle.lsdb.specs.declared.fault.DumpFaultKind.TheVariants.{WrongSection, DuplicateLsa, TooManyLsas}
 use Rattle.lsdb.specs.Lists.{AreaHead, SectionLsas, IsSection, is_in_scope, limit_of, same_key, has_key}

@@ -3,8 +3,10 @@ use Rattle.std.specs.Prelude.{◌≡◌, ◌≢◌, ◌<◌, ◌≤◌, ◌^◌,
 use Rattle.std.specs.List.{list_any, sum_by, filter_map, find}
 use Rattle.lsa_codec.specs.declared.address.AreaId.{AreaId}
 use Rattle.lsa_codec.specs.declared.key.Key.{Key}
+use Rattle.lsa_codec.specs.LsTypes.{external_lsa, as_opaque_lsa}
 use Rattle.lsa_codec.specs.Key.{key_of}
 use Rattle.lsa_codec.specs.Accepted.{IsAccepted}
+use Rattle.lsdb.specs.Limits.{most_areas, most_lsas_of_area, most_lsas_of_as, longest_dump}
 use Rattle.lsdb.specs.declared.section.Section.{Section}
 use Rattle.lsdb.specs.declared.section.Section.TheVariants.{Area, AsWide}
 
@@ -24,15 +26,15 @@ Lists = List SectionLsas
 
 -- AS-external-LSAs (type 5) and opaque LSAs of type 11 have AS scope
 abbrev pub has_as_scope : Key → Bool
-has_as_scope key = (key.kind == 5) || (key.kind == 11)
+has_as_scope key = (key.kind == external_lsa) || (key.kind == as_opaque_lsa)
 
 abbrev pub is_in_scope : Option AreaHead → Key → Bool
 is_in_scope None key = has_as_scope key
 is_in_scope (Some area) key = not (has_as_scope key)
 
 abbrev pub limit_of : Option AreaHead → ℕ
-limit_of None = 65535
-limit_of (Some area) = 8192
+limit_of None = most_lsas_of_as
+limit_of (Some area) = most_lsas_of_area
 
 -- the keys of one section
 pub record AreKeys (area : Option AreaHead) (keys : List Key) : Type 0 where
@@ -64,7 +66,7 @@ HasWideId None = Unit {0}
 HasWideId (Some area) = area.id < 2 ^ 32
 
 pub record AreHeads (heads : List (Option AreaHead)) : Type 0 where
-  pub few : length heads ≤ 65
+  pub few : length heads ≤ most_areas + 1
   pub ids : All HasWideId heads
   pub order : AllPairs IsBefore heads
   pub backbone : All IsOrdinaryBackbone heads
@@ -84,16 +86,13 @@ section_size section = head_size section.area + lsas_size section.lsas
 abbrev pub size : Lists → ℕ
 size db = 6 + sum_by section_size db
 
-abbrev pub largest_text : ℕ
-largest_text = 16777216
-
 abbrev pub heads_of : Lists → List (Option AreaHead)
 heads_of db = map (λ section. section.area) db
 
 pub record IsDatabase (db : Lists) : Type 0 where
   pub heads : AreHeads (heads_of db)
   pub sections : All IsSection db
-  pub small : size db ≤ largest_text
+  pub small : size db ≤ longest_dump
 
 -- ---- by key and by name
 

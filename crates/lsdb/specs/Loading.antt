@@ -3,6 +3,7 @@ use Rattle.std.specs.Prelude.{◌≡◌, ◌⊎◌, ℕ, zero, suc, ◌+◌, Boo
 use Rattle.std.specs.List.{list_any}
 use Rattle.std.specs.Int.{Width, w8, w16, w32, byte_len, from_be_bytes}
 use Rattle.lsa_codec.specs.declared.fault.LsaFault.{LsaFault}
+use Rattle.lsa_codec.specs.Areas.{is_backbone}
 use Rattle.lsa_codec.specs.Key.{key_of}
 use Rattle.lsa_codec.specs.Decoding.{decoded}
 use Rattle.lsdb.specs.declared.fault.DumpFault.{DumpFault}
@@ -10,7 +11,8 @@ use Rattle.lsdb.specs.declared.fault.DumpFaultKind.{DumpFaultKind}
 use Rattle.lsdb.specs.declared.fault.DumpFaultKind.TheVariants.{BadMagic, BadVersion, Truncated, TrailingBytes, TooManyAreas, AreaOrder, BadAreaKind, TooManyLsas, Lsa, WrongSection, DuplicateLsa, BackboneStub, TooLarge, OutOfMemory}
 use Rattle.lsdb.specs.declared.fault.ReadError.{ReadError}
 use Rattle.lsdb.specs.declared.fault.ReadError.TheVariants as errors
-use Rattle.lsdb.specs.Lists.{AreaHead, SectionLsas, Lists, is_in_scope, limit_of, has_key, largest_text}
+use Rattle.lsdb.specs.Lists.{AreaHead, SectionLsas, Lists, is_in_scope, limit_of, has_key}
+use Rattle.lsdb.specs.Limits.{most_areas, longest_dump}
 use Rattle.lsdb.specs.Text.{magic, version}
 
 -- a place in the dump: how many bytes stand before it, and those that follow
@@ -91,7 +93,7 @@ unfoldable pub kind_at : ℕ → At → Result (Bool × At) DumpFault
 kind_at id at = do
   kind ← number_at w8 at
   if nat_lt 1 kind.0 then fault at BadAreaKind else
-      if (id == 0) && (kind.0 == 1) then fault at BackboneStub else Ok (kind.0 == 1, kind.1)
+      if is_backbone (record { 0 = id }) && (kind.0 == 1) then fault at BackboneStub else Ok (kind.0 == 1, kind.1)
 
 -- an area behind another
 unfoldable pub area_at : Option AreaHead → At → Result (SectionLsas × At) DumpFault
@@ -122,7 +124,7 @@ version_at at = do
 unfoldable pub area_count_at : At → Result (ℕ × At) DumpFault
 area_count_at at = do
   count ← number_at w8 at
-  if nat_lt 64 count.0 then fault at TooManyAreas else Ok count
+  if nat_lt most_areas count.0 then fault at TooManyAreas else Ok count
 
 -- the areas, and behind them the LSAs of AS scope
 unfoldable pub sections_at : At → Result (Lists × At) DumpFault
@@ -147,7 +149,7 @@ abbrev pub beginning : List ℕ → At
 beginning bytes = record { offset = 0; rest = bytes }
 
 unfoldable pub loaded : List ℕ → Result Lists DumpFault
-loaded bytes = if nat_lt largest_text (length bytes) then fault (beginning bytes) TooLarge else dump_at (beginning bytes)
+loaded bytes = if nat_lt longest_dump (length bytes) then fault (beginning bytes) TooLarge else dump_at (beginning bytes)
 
 -- want of memory is told at 0
 abbrev pub no_memory : DumpFault

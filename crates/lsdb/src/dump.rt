@@ -11,6 +11,12 @@ use crate::lsas::Lsas;
 use lsa_codec::Lsa;
 use std::alloc::{AllocError, Allocator};
 
+/// The first four octets of a dump, `OSWP`.
+pub(crate) const MAGIC: u32 = 0x4f535750;
+
+/// The version of the format of dumps.
+pub(crate) const VERSION: u8 = 1;
+
 fn put_head<A: Allocator + Copy>(out: &mut Vec<u8, A>, area: Option<Head>) -> Result<(), AllocError>
     ensures { OnOk result (out.new.items ≡ out.old.items ++ head_text (option_map head_of area)) }
 {
@@ -49,7 +55,8 @@ fn put_section<A: Allocator + Copy>(
     section: &SectionOf<A>,
 ) -> Result<(), AllocError>
     requires { length (full section.now.places.items) < 2 ^ 16 }
-    ensures { OnOk result (out.new.items ≡ out.old.items ++ section_text (section_of (section_places_of section.now))) }
+    ensures { OnOk result (out.new.items
+        ≡ out.old.items ++ section_text (section_of (section_places_of section.now))) }
 {
     put_head(out, section.area)?;
     let count = count_of(&section.places) as u16;
@@ -63,8 +70,8 @@ impl<A: Allocator + Copy> Database<A> {
         ensures { IfOk result (λ v. v.items ≡ text (lists_of self.now)) }
     {
         let mut out = Vec::with_capacity(self.alloc, self.size())?;
-        out.extend_from_slice(&0x4f535750u32.to_be_bytes())?;
-        out.push(1)?;
+        out.extend_from_slice(&MAGIC.to_be_bytes())?;
+        out.push(VERSION)?;
         out.push((self.sections.len() - 1) as u8)?;
         for section in &self.sections {
             put_section(&mut out, section)?;

@@ -4,7 +4,7 @@ ghost use Rattle.std.specs.Prelude.{◌≡◌};
 ghost use Rattle.lsdb.specs.Faults.{fault_code, fault_name};
 ghost use Rattle.lsdb.specs.declared.fault.ReadError.TheVariants.{Memory};
 
-use lsa_codec::LsaFault;
+use lsa_codec::{Decimal, LsaFault};
 use std::alloc::{AllocError, AllocFailed};
 use std::error::Error;
 use std::fmt;
@@ -122,7 +122,8 @@ impl fmt::Display for DumpFault {
 
     fn fmt<W: fmt::Write>(&self, f: &mut fmt::Formatter<W>) -> fmt::Result {
         let (code, name) = (self.kind.code(), self.kind.name());
-        write!(f, "{code} {name} at {}", self.offset)
+        let offset = Decimal(self.offset as u64);
+        write!(f, "{code} {name} at {offset}")
     }
 }
 

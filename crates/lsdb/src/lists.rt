@@ -22,7 +22,8 @@ impl<A: Allocator + Copy> Database<A> {
     /// 0 in rising order of their IDs.
     pub fn area(&self, i: usize) -> (AreaId, bool)
         requires { i < length (areas_of (lists_of self.now)) }
-        ensures { slice_get (areas_of (lists_of self.now)) i ≡ Some (record { id = result.0.0; is_stub = result.1 }) }
+        ensures { slice_get (areas_of (lists_of self.now)) i
+            ≡ Some (record { id = result.0.0; is_stub = result.1 }) }
     {
         match self.sections[i].area {
             Some(head) => (head.id, head.is_stub),

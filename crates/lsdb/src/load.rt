@@ -11,9 +11,11 @@ ghost use Rattle.lsdb.specs.Loading.{Gives, lsa_at, lsas_from, section_at, id_at
 
 use crate::cursor::Cursor;
 use crate::database::{Database, Head, SectionOf};
+use crate::dump::{MAGIC, VERSION};
 use crate::fault::{DumpFault, DumpFaultKind, ReadError};
+use crate::limits::{LONGEST_DUMP, MOST_AREAS, MOST_LSAS_OF_AREA, MOST_LSAS_OF_AS};
 use crate::read::{advanced, fault, read_u8, read_u16, read_u32};
-use lsa_codec::{AreaId, Key, Lsa, LsaFault};
+use lsa_codec::{AS_OPAQUE_LSA, AreaId, EXTERNAL_LSA, Key, Lsa, LsaFault};
 use std::alloc::Allocator;
 use std::collections::BTreeSet;
 
@@ -21,7 +23,7 @@ use std::collections::BTreeSet;
 fn is_in_scope(area: Option<Head>, key: Key) -> bool
     ensures { result ≡ is_in_scope (option_map head_of area) key }
 {
-    let has_as_scope = key.kind == 5 || key.kind == 11;
+    let has_as_scope = key.kind == EXTERNAL_LSA || key.kind == AS_OPAQUE_LSA;
     has_as_scope == area.is_none()
 }
 
@@ -30,8 +32,8 @@ fn limit_of(area: Option<Head>) -> u16
     ensures { result ≡ limit_of (option_map head_of area) }
 {
     match area {
-        Some(_) => 8192,
-        None => 65535,
+        Some(_) => MOST_LSAS_OF_AREA,
+        None => MOST_LSAS_OF_AS,
     }
 }
 
@@ -41,7 +43,8 @@ fn read_lsa<'a, A: Allocator + Copy>(
     area: Option<Head>,
     at: Cursor<'a>,
 ) -> Result<(Lsa<A>, Cursor<'a>), ReadError>
-    ensures { Gives (λ x. (x.0, at_of x.1)) result (lsa_at (option_map head_of area) (at_of at.entry)) }
+    ensures { Gives (λ x. (x.0, at_of x.1))
+        result (lsa_at (option_map head_of area) (at_of at.entry)) }
 {
     match Lsa::decode(alloc, at.rest) {
         Err(LsaFault::OutOfMemory) => Err(ReadError::Memory),
@@ -62,7 +65,8 @@ fn read_lsas<'a, A: Allocator + Copy>(
     count: u16,
     start: Cursor<'a>,
 ) -> Result<(Vec<Option<Lsa<A>>, A>, Cursor<'a>), ReadError>
-    ensures { Gives (λ x. (full x.0.items, at_of x.1)) result (lsas_from (option_map head_of area) count [] (at_of start.entry)) }
+    ensures { Gives (λ x. (full x.0.items, at_of x.1))
+        result (lsas_from (option_map head_of area) count [] (at_of start.entry)) }
 {
     let mut places = Vec::new(alloc);
     let mut keys = BTreeSet::new(alloc);
@@ -84,7 +88,8 @@ fn read_section<'a, A: Allocator + Copy>(
     area: Option<Head>,
     at: Cursor<'a>,
 ) -> Result<(SectionOf<A>, Cursor<'a>), ReadError>
-    ensures { Gives (λ x. (section_of (section_places_of x.0), at_of x.1)) result (section_at (option_map head_of area) (at_of at.entry)) }
+    ensures { Gives (λ x. (section_of (section_places_of x.0), at_of x.1))
+        result (section_at (option_map head_of area) (at_of at.entry)) }
 {
     let (count, rest) = read_u16(at)?;
     if limit_of(area) < count {
@@ -106,7 +111,8 @@ fn is_above(id: u32, before: Option<Head>) -> bool
 
 #[tactic(auto, unfolding(crate::specs::Loading::id_at))]
 fn read_id<'a>(before: Option<Head>, at: Cursor<'a>) -> Result<(u32, Cursor<'a>), ReadError>
-    ensures { Gives (λ x. (x.0, at_of x.1)) result (id_at (option_map head_of before) (at_of at.entry)) }
+    ensures { Gives (λ x. (x.0, at_of x.1))
+        result (id_at (option_map head_of before) (at_of at.entry)) }
 {
     let (id, rest) = read_u32(at)?;
     if !is_above(id, before) {
@@ -124,7 +130,7 @@ fn read_kind(id: u32, at: Cursor<'_>) -> Result<(bool, Cursor<'_>), ReadError>
     if 1 < kind {
         return Err(fault(at, DumpFaultKind::BadAreaKind));
     }
-    if id == 0 && kind == 1 {
+    if id == AreaId::BACKBONE.0 && kind == 1 {
         return Err(fault(at, DumpFaultKind::BackboneStub));
     }
     Ok((kind == 1, rest))
@@ -136,7 +142,8 @@ fn read_area<'a, A: Allocator + Copy>(
     before: Option<Head>,
     at: Cursor<'a>,
 ) -> Result<(SectionOf<A>, Cursor<'a>), ReadError>
-    ensures { Gives (λ x. (section_of (section_places_of x.0), at_of x.1)) result (area_at (option_map head_of before) (at_of at.entry)) }
+    ensures { Gives (λ x. (section_of (section_places_of x.0), at_of x.1))
+        result (area_at (option_map head_of before) (at_of at.entry)) }
 {
     let (id, rest) = read_id(before, at)?;
     let (is_stub, rest) = read_kind(id, rest)?;
@@ -152,7 +159,8 @@ fn read_areas<'a, A: Allocator + Copy>(
     count: u8,
     start: Cursor<'a>,
 ) -> Result<(Vec<SectionOf<A>, A>, Cursor<'a>), ReadError>
-    ensures { Gives (λ x. (lists_of (places_of x.0.items), at_of x.1)) result (areas_from count None [] (at_of start.entry)) }
+    ensures { Gives (λ x. (lists_of (places_of x.0.items), at_of x.1))
+        result (areas_from count None [] (at_of start.entry)) }
 {
     let mut areas = Vec::new(alloc);
     let mut before: Option<Head> = None;
@@ -171,7 +179,7 @@ fn read_magic(at: Cursor<'_>) -> Result<Cursor<'_>, ReadError>
     ensures { Gives at_of result (magic_at (at_of at.entry)) }
 {
     let (found, rest) = read_u32(at)?;
-    if found != 0x4f535750 {
+    if found != MAGIC {
         return Err(fault(at, DumpFaultKind::BadMagic));
     }
     Ok(rest)
@@ -182,7 +190,7 @@ fn read_version(at: Cursor<'_>) -> Result<Cursor<'_>, ReadError>
     ensures { Gives at_of result (version_at (at_of at.entry)) }
 {
     let (found, rest) = read_u8(at)?;
-    if found != 1 {
+    if found != VERSION {
         return Err(fault(at, DumpFaultKind::BadVersion));
     }
     Ok(rest)
@@ -193,7 +201,7 @@ fn read_area_count(at: Cursor<'_>) -> Result<(u8, Cursor<'_>), ReadError>
     ensures { Gives (λ x. (x.0, at_of x.1)) result (area_count_at (at_of at.entry)) }
 {
     let (count, rest) = read_u8(at)?;
-    if 64 < count {
+    if MOST_AREAS < count {
         return Err(fault(at, DumpFaultKind::TooManyAreas));
     }
     Ok((count, rest))
@@ -205,7 +213,8 @@ fn read_sections<'a, A: Allocator + Copy>(
     alloc: A,
     at: Cursor<'a>,
 ) -> Result<(Vec<SectionOf<A>, A>, Cursor<'a>), ReadError>
-    ensures { Gives (λ x. (lists_of (places_of x.0.items), at_of x.1)) result (sections_at (at_of at.entry)) }
+    ensures { Gives (λ x. (lists_of (places_of x.0.items), at_of x.1))
+        result (sections_at (at_of at.entry)) }
 {
     let (count, at) = read_area_count(at)?;
     let (mut sections, at) = read_areas(alloc, count, at)?;
@@ -218,7 +227,7 @@ fn read_sections<'a, A: Allocator + Copy>(
 fn read_dump<A: Allocator + Copy>(alloc: A, bytes: &[u8]) -> Result<Vec<SectionOf<A>, A>, ReadError>
     ensures { Gives (λ sections. lists_of (places_of sections.items)) result (loaded bytes.now) }
 {
-    if 16777216 < bytes.len() {
+    if LONGEST_DUMP < bytes.len() {
         return Err(ReadError::Fault(DumpFault {
             offset: 0,
             kind: DumpFaultKind::TooLarge,

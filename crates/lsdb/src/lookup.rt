@@ -16,7 +16,10 @@ impl<A: Allocator + Copy> Database<A> {
     /// The number of a section: areas in rising order of their IDs, the LSAs of AS scope last.
     /// `None` where the database has no such area.
     pub fn index_of(&self, section: Section) -> Option<usize>
-        ensures { MatchOption result (find (is_section section) (lists_of self.now) ≡ None) (λ index. (item_at (lists_of self.now) index ≡ find (is_section section) (lists_of self.now)) × IsSome (item_at (lists_of self.now) index)) }
+        ensures { MatchOption result (find (is_section section) (lists_of self.now) ≡ None)
+            (λ index. (item_at (lists_of self.now) index
+            ≡ find (is_section section) (lists_of self.now))
+            × IsSome (item_at (lists_of self.now) index)) }
     {
         for index in 0..self.sections.len() {
             if is_head_of(section, self.sections[index].area) {
@@ -29,7 +32,10 @@ impl<A: Allocator + Copy> Database<A> {
     /// The place of the LSA with a key in a section, by the section's number.
     pub fn find_in(&self, section: usize, key: Key) -> Option<SlotId>
         requires { IsSome (item_at (lists_of self.now) section) }
-        ensures { MatchOption result (find (has_key key) (lsas_in self.now section) ≡ None) (λ slot. (slot.section ≡ section) × (slot_at self.now slot ≡ Some (find (has_key key) (lsas_in self.now section))) × IsSome (find (has_key key) (lsas_in self.now section))) }
+        ensures { MatchOption result (find (has_key key) (lsas_in self.now section) ≡ None)
+            (λ slot. (slot.section ≡ section)
+            × (slot_at self.now slot ≡ Some (find (has_key key) (lsas_in self.now section)))
+            × IsSome (find (has_key key) (lsas_in self.now section))) }
     {
         let Some(index) = find_place(&self.sections[section].places, key) else {
             return None;
@@ -40,7 +46,8 @@ impl<A: Allocator + Copy> Database<A> {
     /// The place of the LSA with a key in a section; `None` where the section has no such LSA,
     /// and where there is no such section.
     pub fn find(&self, section: Section, key: Key) -> Option<SlotId>
-        ensures { MatchOption result (find (has_key key) (lsas_of section (lists_of self.now)) ≡ None) (IsPlaceOf self.now section key) }
+        ensures { MatchOption result (find (has_key key) (lsas_of section (lists_of self.now))
+            ≡ None) (IsPlaceOf self.now section key) }
     {
         let Some(index) = self.index_of(section) else {
             return None;
@@ -62,7 +69,9 @@ fn is_head_of(section: Section, head: Option<Head>) -> bool
 
 /// The index of the place with the LSA of a key.
 fn find_place<A: Allocator + Copy>(places: &[Option<Lsa<A>>], key: Key) -> Option<usize>
-    ensures { MatchOption result (find (has_key key) (full places.now) ≡ None) (λ index. (item_at places.now index ≡ Some (find (has_key key) (full places.now))) × IsSome (find (has_key key) (full places.now))) }
+    ensures { MatchOption result (find (has_key key) (full places.now) ≡ None)
+        (λ index. (item_at places.now index ≡ Some (find (has_key key) (full places.now)))
+        × IsSome (find (has_key key) (full places.now))) }
 {
     for index in 0..places.len() {
         if has_key(&places[index], key) {

@@ -51,7 +51,8 @@ impl<'a, A: Allocator + Copy> Iterator for Lsas<'a, A> {
 fn first_full<'a, A: Allocator + Copy>(
     places: &'a [Option<Lsa<A>>],
 ) -> Option<(&'a Lsa<A>, &'a [Option<Lsa<A>>])>
-    ensures { MatchOption result (full places.now ≡ []) (λ found. full places.now ≡ found.0.now ∷ full found.1.now) }
+    ensures { MatchOption result (full places.now ≡ [])
+        (λ found. full places.now ≡ found.0.now ∷ full found.1.now) }
 {
     for index in 0..places.len() {
         if let Some(lsa) = &places[index] {

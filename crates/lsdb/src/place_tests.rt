@@ -180,3 +180,16 @@ fn shows_slot_faults(rt: HostRuntime) -> Result<(), Fail> {
     assert_eq!(rt; format!(in rt.alloc(); "{fault}")?.as_str(), "NoArea");
     Ok(())
 }
+
+#[test]
+fn names_the_faults_of_slots(rt: HostRuntime) -> Result<(), Fail> {
+    let faults: &[(SlotFault, &str)] = &[
+        (SlotFault::NoArea, "NoArea"),
+        (SlotFault::OutOfMemory, "OutOfMemory"),
+    ];
+    for (fault, text) in faults {
+        let printed = format!(in rt.alloc(); "{fault}")?;
+        assert_eq!(rt; printed.as_str(), *text);
+    }
+    Ok(())
+}

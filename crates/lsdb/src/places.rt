@@ -31,7 +31,8 @@ impl<A: Allocator + Copy> Database<A> {
 
     /// The LSA at a place; `None` where the place is empty, and where there is no such place.
     pub fn get(&self, slot: SlotId) -> Option<&Lsa<A>>
-        ensures { MatchOption result (lsa_at self.now slot ≡ None) (λ lsa. slot_at self.now slot ≡ Some (Some lsa.now)) }
+        ensures { MatchOption result (lsa_at self.now slot ≡ None)
+            (λ lsa. slot_at self.now slot ≡ Some (Some lsa.now)) }
     {
         let section = self.sections.get(slot.section)?;
         let place = section.places.get(slot.index)?;
@@ -59,7 +60,8 @@ impl<A: Allocator + Copy> Database<A> {
         requires { IsSome (item_at self.old section) }
         ensures ok { OnOk result (self.new ≡ open_at self.old section) }
         ensures slot { IfOk result (λ s. slot_at self.new s ≡ Some None) }
-        ensures last { IfOk result (λ s. s ≡ record { section = section; index = length (places_in self.old section) }) }
+        ensures last { IfOk result
+            (λ s. s ≡ record { section = section; index = length (places_in self.old section) }) }
         ensures err { OnErr result (self.new ≡ self.old) }
     {
         let places = &mut self.sections[section].places;
@@ -71,7 +73,8 @@ impl<A: Allocator + Copy> Database<A> {
     /// Opens an empty place at the end of a section. The lists of LSAs stay as they are.
     pub fn open_slot(&mut self, section: Section) -> Result<SlotId, SlotFault>
         ensures ok { IfOk result (OpensPlace self.old self.new section) }
-        ensures no_area { (result ≡ Err NoArea) ↔ (find (is_section section) (lists_of self.old) ≡ None) }
+        ensures no_area { (result ≡ Err NoArea) ↔ (find (is_section section) (lists_of self.old)
+            ≡ None) }
         ensures err { OnErr result (self.new ≡ self.old) }
     {
         let Some(index) = self.index_of(section) else {

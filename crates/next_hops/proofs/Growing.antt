@@ -8,7 +8,7 @@ use Rattle.lsa_codec.specs.declared.address.Addr.{Addr}
 use Rattle.area_graph.specs.declared.edge.Edge.{Edge}
 use Rattle.area_graph.specs.Rising.{rising}
 use Rattle.area_graph.specs.Topology.{Topology}
-use Rattle.area_graph.proofs.Members.{In-from_Contains, Contains-from_In, In-map, map-In}
+use Rattle.area_graph.proofs.MemberLemmas.{In-from_Contains, Contains-from_In, In-map, map-In}
 use Rattle.spf.specs.Distances.{Distances}
 use Rattle.next_hops.specs.declared.hop.Hop.{Hop}
 use Rattle.next_hops.specs.Hop.{hop_cmp, IsSortedHops, extended}

@@ -15,8 +15,7 @@ use Rattle.area_graph.specs.Topology.{Topology, IsTopology, IsArc, IsEdge}
 use Rattle.area_graph.proofs.TopologyLemmas.{name, IsArc-from, IsDistance-down, path_up, path_down, path_cost-named}
 use Rattle.spf.specs.Candidates.{candidate_cmp, candidate_at}
 use Rattle.spf.specs.Distances.{Distances, IsTreeOf}
-use Rattle.spf.proofs.Keys.{arc_key, key_at, Less-from_key, not_both_Less}
-use Rattle.spf.proofs.Reached.{some_of, within_some}
+use Rattle.spf.proofs.TreeLemmas.{arc_key, key_at, Less-from_key, not_both_Less, some_of, within_some}
 use Rattle.next_hops.specs.declared.hop.Hop.{Hop}
 use Rattle.next_hops.specs.Hop.{IsSortedHops}
 use Rattle.next_hops.specs.FirstHops.{first_hop, IsHopTo, AreHopsOf, hops_at}

@@ -21,7 +21,7 @@ equal_parts Greater b h = absurd (cc)
 same_number : (x y : ℕ) → nat_cmp x y ≡ Equal → x ≡ y
 same_number x y h = ranked x y Equal (sym h)
 
-same_addr : (a b : Addr) → a.0 ≡ b.0 → a ≡ b
+pub same_addr : (a b : Addr) → a.0 ≡ b.0 → a ≡ b
 same_addr a b h = ap (λ (n : ℕ). let x : Addr = record { 0 = n } in x) h
 
 same_parts : (g h : Hop) → kind_of g ≡ kind_of h → interface_of g ≡ interface_of h → gateway_of g ≡ gateway_of h → g ≡ h

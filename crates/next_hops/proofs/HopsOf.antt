@@ -7,8 +7,8 @@ use Rattle.area_graph.specs.declared.vertex.Vertex.{Vertex}
 use Rattle.area_graph.specs.Paths.{DirectedEdge}
 use Rattle.area_graph.specs.AllPaths.{least_paths_of}
 use Rattle.area_graph.proofs.PathLemmas.{IsPath-weaker}
-use Rattle.area_graph.proofs.Members.{In, In-from_Contains, Contains-from_In, In-filter_map, filter_map-In, map-by_place}
-use Rattle.area_graph.proofs.Sorted.{Contains-rising, rising-is, rising-pairs}
+use Rattle.area_graph.proofs.MemberLemmas.{In, In-from_Contains, Contains-from_In, In-filter_map, filter_map-In, map-by_place}
+use Rattle.area_graph.proofs.RisingLemmas.{Contains-rising, rising-is, rising-pairs}
 use Rattle.area_graph.proofs.AllPathsLemmas.{least_paths_of-In, In-least_paths_of}
 use Rattle.area_graph.specs.Topology.{Topology, IsTopology, IsEdge, edges_of}
 use Rattle.area_graph.proofs.EdgeLemmas.{edges_of-has, edges_of-only, NothingFree-edges}

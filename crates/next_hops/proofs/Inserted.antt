@@ -10,7 +10,7 @@ use Rattle.std.specs.declared.cmp.Ordering.TheVariants.{Less, Equal, Greater}
 use Rattle.std.proofs.lemmas.Bool.{cases_eq}
 use Rattle.std.proofs.lemmas.List.Elements.{Contains-append_left, Contains-append_right, Contains-append_cases}
 use Rattle.area_graph.specs.Rising.{rising}
-use Rattle.area_graph.proofs.Sorted.{Contains-rising, rising-is, rising-pairs}
+use Rattle.area_graph.proofs.RisingLemmas.{Contains-rising, rising-is, rising-pairs}
 use Rattle.next_hops.specs.declared.hop.Hop.{Hop}
 use Rattle.next_hops.specs.Hop.{hop_cmp, IsSortedHops}
 use Rattle.next_hops.proofs.HopOrder.{hop_cmp_total, same_hop}

@@ -5,3 +5,5 @@ pub mod PathHops
 pub mod Handing
 pub mod HopsOf
 mod SmallHops
+pub mod Sharing
+pub mod HopLemmas

@@ -12,7 +12,7 @@ use std::fmt;
 /// Hops are ordered by their kinds, in the order of the variants, and then by their addresses as
 /// numbers. The `Display` is `connected`, `link:10.0.0.1`, `attached:10.5.0.1` or
 /// `gateway:10.5.0.1:10.5.0.3`.
-#[derive(Clone, Copy, Debug, PartialEq, Eq, PartialOrd, Ord, Default)]
+#[derive(Clone, Copy, Debug, PartialEq, Eq, PartialOrd, Ord, Hash, Default)]
 pub enum Hop {
     /// A stub network of the router itself.
     #[default]

@@ -1,7 +1,7 @@
 //! Laws: what holds of the definitions that the contracts of this crate cite. Each is a function
 //! that does nothing, and its contract is the law.
 
-ghost use Rattle.std.specs.Prelude.{◌≡◌, ◌↔◌, List, Contains};
+ghost use Rattle.std.specs.Prelude.{◌≡◌, ◌↔◌, List, Contains, true};
 ghost use Rattle.std.specs.Cmp.{IsTotalOrder};
 ghost use Rattle.std.specs.declared.cmp.Ordering.TheVariants.{Equal};
 ghost use Rattle.area_graph.specs.declared.vertex.Vertex.{Vertex};
@@ -18,6 +18,11 @@ pub fn hop_order()
     ensures order { (g h : HopValue) → ⟦<Hop as Ord>⟧.cmp g h ≡ hop_cmp g h }
     ensures total { IsTotalOrder hop_cmp }
     ensures exact { (g h : HopValue) → hop_cmp g h ≡ Equal → g ≡ h }
+{}
+
+/// Two hops are equal by `Hop`'s `PartialEq` only where they are the same.
+pub fn hop_equality()
+    ensures { (g h : HopValue) → ⟦<Hop as PartialEq>⟧.eq g h ≡ true → g ≡ h }
 {}
 
 /// The hops over a list of edges are in rising order, each once. Where no cycle costs nothing, they

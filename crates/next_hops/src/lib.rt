@@ -9,11 +9,12 @@ mod hops;
 mod laws;
 mod list;
 mod passing;
+mod shared;
 mod storage;
 
 pub use hop::Hop;
 pub use hops::Hops;
-pub use laws::{hop_order, hops_law};
+pub use laws::{hop_equality, hop_order, hops_law};
 pub use list::HopList;
 
 #[cfg(test)]

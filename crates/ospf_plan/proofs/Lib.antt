@@ -1,7 +1,8 @@
-pub mod OptionValues
+pub mod FileOptions
 pub mod FirstLine
-pub mod Steps
-pub mod Runs
-pub mod Naming
-pub mod Apart
-pub mod Answering
+pub mod ScriptLines
+pub mod KnownInputs
+pub mod BranchSessions
+pub mod BranchesApart
+pub mod AllTables
+pub mod RefusedCommands

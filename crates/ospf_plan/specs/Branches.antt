@@ -1,5 +1,5 @@
 -- The branches of a run: studies that begin at the loaded database, each with a session of its own.
-use Rattle.std.specs.Prelude.{◌≡◌, ℕ, ◌==◌, ◌||◌, if◌then◌else◌, Bool, is_some, IfSome, List, map, Option, None, Some}
+use Rattle.std.specs.Prelude.{◌≡◌, ℕ, ◌==◌, if◌then◌else◌, IfSome, List, map, Option, None, Some}
 use Rattle.std.specs.Map.{lookup}
 use Rattle.std.specs.Ordering.{nat_cmp, eq_by_cmp}
 use Rattle.lsdb.specs.Lists.{Lists}
@@ -15,10 +15,10 @@ abbrev pub all_begin : Lists → Sessions
 all_begin base = λ branch. start base
 
 -- one branch goes on, and the others stay
-abbrev pub in_branch : ℕ → Session → Sessions → Sessions
-in_branch branch s all = λ other. if branch == other then s else all other
+abbrev pub with_session : ℕ → Session → Sessions → Sessions
+with_session branch s all = λ other. if branch == other then s else all other
 
--- ---- the sessions of the branches that were named so far: branch 0, and others by their numbers
+-- ---- the sessions of the branches that have a planner: branch 0, and others by their numbers
 
 pub record Named : Type 0 where
   pub first : Session
@@ -31,10 +31,7 @@ sessions_by planners = map (λ p. (p.0, p.1.session)) planners
 abbrev pub named_by : PlannerValue → List (ℕ × PlannerValue) → Named
 named_by first others = record { first = first.session; others = sessions_by others }
 
-abbrev pub is_named : Named → ℕ → Bool
-is_named named branch = (branch == 0) || is_some (lookup (eq_by_cmp nat_cmp branch) named.others)
-
--- a branch that was not named yet is at its beginning
+-- a branch without a planner is at its beginning
 abbrev pub session_or_begin : Lists → Option Session → Session
 session_or_begin base None = start base
 session_or_begin base (Some s) = s

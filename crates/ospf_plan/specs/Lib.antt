@@ -4,8 +4,8 @@ pub mod OptionsFaults
 pub mod Replies
 pub mod Run
 pub mod Alone
-pub mod Lines
 pub mod Inputs
 pub mod Exit
 pub mod Streams
 pub mod WholeRun
+pub mod steps

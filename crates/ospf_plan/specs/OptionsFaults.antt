@@ -3,8 +3,8 @@ use Rattle.std.specs.Prelude.{◌≡◌, ◌≢◌}
 use Rattle.clap.specs.Words.{kind_of, IsAmong, Kinds}
 use Rattle.clap.specs.declared.error.Error.{Error}
 use Rattle.clap.specs.declared.error.kind.ErrorKind.TheVariants as kind
-use Rattle.ospf_plan.specs.declared.options_fault.OptionsFault.{OptionsFault}
-use Rattle.ospf_plan.specs.declared.options_fault.OptionsFault.TheVariants.{Refused, OutOfMemory}
+use Rattle.ospf_plan.specs.declared.command_line.OptionsFault.{OptionsFault}
+use Rattle.ospf_plan.specs.declared.command_line.OptionsFault.TheVariants.{Refused, OutOfMemory}
 
 -- an error of clap stays as it is, but for want of memory
 abbrev pub IsFaultOf : Error → OptionsFault → Type 0

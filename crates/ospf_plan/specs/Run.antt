@@ -10,7 +10,7 @@ use Rattle.edit_script.specs.declared.fault.ScriptFault.{ScriptFault}
 use Rattle.edit_script.specs.declared.fault.ScriptFault.TheVariants.{Empty}
 use Rattle.edit_script.specs.Line.{meaning}
 use Rattle.edit_history.specs.Session.{state}
-use Rattle.ospf_plan.specs.Branches.{Sessions, all_begin, in_branch}
+use Rattle.ospf_plan.specs.Branches.{Sessions, all_begin, with_session}
 use Rattle.ospf_plan.specs.Replies.{reply_to, after, is_refusal, reply_text, script_text}
 
 -- ---- lines
@@ -33,7 +33,7 @@ answer_to all (Ok (branch, command)) = record { text = reply_text branch (reply_
 -- the sessions after a line: its command is carried out in its branch, and the other branches stay
 abbrev pub after_line : Sessions → Result (ℕ × Command) ScriptFault → Sessions
 after_line all (Err fault) = all
-after_line all (Ok (branch, command)) = in_branch branch (after (all branch) command) all
+after_line all (Ok (branch, command)) = with_session branch (after (all branch) command) all
 
 -- what lines are answered, in order, each from the sessions that the lines before it left
 unfoldable pub answers : Sessions → List (List ℕ) → List Answer
@@ -74,5 +74,5 @@ dump_after (Err fault) lines = []
 
 -- the dump that a script leaves, which is that of branch 0: the text of its edits that are not undone, folded over
 -- the loaded database
-unfoldable pub run_dump : List ℕ → List ℕ → List ℕ
-run_dump dump script = dump_after (begun (loaded dump)) (lines_of script)
+unfoldable pub final_dump : List ℕ → List ℕ → List ℕ
+final_dump dump script = dump_after (begun (loaded dump)) (lines_of script)

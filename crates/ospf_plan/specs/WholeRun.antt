@@ -1,6 +1,5 @@
 -- A whole run, where the bytes of its inputs are known.
 use Rattle.std.specs.Prelude.{◌≡◌, ℕ, List, length, count_by, Option, None, Some, IfSome}
-use Rattle.std.specs.Io.KnownBytes.{Keeps}
 use Rattle.streams.specs.WholeText.{IsLonger}
 use Rattle.ospf_plan.specs.Run.{Answer}
 use Rattle.ospf_plan.specs.Inputs.{IsAccepted, IsRefusedDump}
@@ -37,7 +36,3 @@ IsBeforeReplies Read = Unit {0}
 IsBeforeReplies TooLarge = Unit {0}
 IsBeforeReplies Write = ⊥
 IsBeforeReplies OutOfMemory = ⊥
-
--- two writers hold what they held
-abbrev pub KeepsBoth : Option (List ℕ) → Option (List ℕ) → Option (List ℕ) → Option (List ℕ) → Type 0
-KeepsBoth old new out_old out_new = Keeps old new × Keeps out_old out_new

@@ -1,14 +1,56 @@
 //! The command line, read by clap.
 
-ghost use Rattle.std.specs.Prelude.{◌≡◌, false, [], map, option_map, string_bytes, IfOk, IfErr, OnOk};
-ghost use Rattle.clap.specs.Words.{app_of, fault_of, first_value, found_of, rule_of};
-ghost use Rattle.ospf_plan.specs.CommandLine.{file_rule, ospf_plan, IsGiven, IsRead};
-ghost use Rattle.ospf_plan.specs.OptionsFaults.{IsRefusal};
+ghost use Rattle.std.specs.Prelude.{◌≡◌, false, [], codes, map, option_map, string_bytes, IfOk, IfErr, OnOk};
+ghost use Rattle.clap.specs.Words.{app_of, fault_of, first_value, found_of, new_app, rule_of};
+ghost use Rattle.ospf_plan.specs.declared.command_line.OptionsFault.TheVariants.{OutOfMemory};
+ghost use Rattle.ospf_plan.specs.CommandLine.{file_rule, ospf_plan, with_version, IsGiven};
+ghost use Rattle.ospf_plan.specs.steps.FoundFiles.{IsRead};
+ghost use Rattle.ospf_plan.specs.OptionsFaults.{IsFaultOf, IsRefusal};
 
-use crate::given::Options;
-use crate::options_fault::OptionsFault;
-use clap::{Arg, ArgAction, ArgMatches, Command};
+use crate::help::{ABOUT, COMMANDS, VERSION};
+use clap::error::ErrorKind;
+use clap::{Arg, ArgAction, ArgMatches, Command, Error};
 use std::alloc::{AllocError, Global};
+
+/// The files that the command line names.
+#[derive(Debug, Drop)]
+pub struct Options {
+    /// The dump that is loaded. Without it the program takes a small sample of its own.
+    pub dump: Option<String>,
+    /// The script that is carried out. Without it the program reads standard input.
+    pub script: Option<String>,
+    /// Where the dump of the database after the script goes. Without it none is written.
+    pub out: Option<String>,
+}
+
+/// Why words give no options.
+#[derive(Debug, Drop)]
+pub enum OptionsFault {
+    /// The words are refused, or ask for help or for the version. Its text goes where `Error::print` puts it, and
+    /// its status is `Error::exit_code`. It is never for want of memory.
+    Refused(Error),
+    /// A growth was refused.
+    OutOfMemory,
+}
+
+impl From<AllocError> for OptionsFault {
+    ghost from_gives = { λ _ fault. fault ≡ OutOfMemory };
+
+    fn from(_error: AllocError) -> OptionsFault {
+        OptionsFault::OutOfMemory
+    }
+}
+
+impl From<Error> for OptionsFault {
+    ghost from_gives = { λ error fault. IsFaultOf error fault };
+
+    fn from(error: Error) -> OptionsFault {
+        match error.kind() {
+            ErrorKind::OutOfMemory => OptionsFault::OutOfMemory,
+            _ => OptionsFault::Refused(error),
+        }
+    }
+}
 
 /// The options that the words of a command line give. The first word is the program's name.
 ///
@@ -17,9 +59,9 @@ use std::alloc::{AllocError, Global};
 ///
 /// # Errors
 ///
-/// `Refused` for words that clap refuses, `--help` among them, with clap's own error.
+/// `Refused` for words that clap refuses, `--help` and `--version` among them, with clap's own error.
 /// `OutOfMemory` where a growth was refused.
-pub fn options(alloc: Global, words: &[String]) -> Result<Options, OptionsFault>
+pub fn parse_options(alloc: Global, words: &[String]) -> Result<Options, OptionsFault>
     ensures given { IfOk result (IsGiven (map string_bytes words.now)) }
     ensures accepted { OnOk result (fault_of ospf_plan (map string_bytes words.now) ≡ []) }
     ensures refused { IfErr result (IsRefusal (fault_of ospf_plan (map string_bytes words.now))) }
@@ -32,9 +74,7 @@ pub fn options(alloc: Global, words: &[String]) -> Result<Options, OptionsFault>
 fn command<'a>(alloc: Global) -> Result<Command<'a>, AllocError>
     ensures { IfOk result (λ command. app_of command ≡ ospf_plan) }
 {
-    Command::new(alloc, "ospf-plan")
-        .bin_name("ospf-plan")?
-        .about("A what-if planner for OSPF")
+    named_command(alloc)?
         .arg(file_option(
             alloc,
             "dump",
@@ -42,6 +82,19 @@ fn command<'a>(alloc: Global) -> Result<Command<'a>, AllocError>
         ))?
         .arg(file_option(alloc, "script", "The script, in place of standard input"))?
         .arg(file_option(alloc, "out", "Where to write the dump after the script"))
+}
+
+/// The command without its options: its name, and the texts of `--help` and `--version`.
+fn named_command<'a>(alloc: Global) -> Result<Command<'a>, AllocError>
+    ensures { IfOk result (λ command. app_of command ≡ with_version (new_app (codes "ospf-plan"))) }
+{
+    Ok(
+        Command::new(alloc, "ospf-plan")
+            .bin_name("ospf-plan")?
+            .about(ABOUT)
+            .version(VERSION)
+            .after_help(COMMANDS),
+    )
 }
 
 /// An option `--NAME FILE`.

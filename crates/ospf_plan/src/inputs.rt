@@ -7,17 +7,15 @@ ghost use Rattle.streams.specs.WholeText.{IsAll, IsLonger, ConsumesAtMost};
 ghost use Rattle.lsdb.specs.Loading.{loaded, IsFirst};
 ghost use Rattle.ospf_plan.specs.Branches.{sessions_of};
 ghost use Rattle.ospf_plan.specs.Run.{begun};
-ghost use Rattle.ospf_plan.specs.Inputs.{IsDumpEnd, IsScriptEnd, IsAccepted};
+ghost use Rattle.ospf_plan.specs.Inputs.{IsAccepted};
+ghost use Rattle.ospf_plan.specs.steps.Reading.{IsDumpEnd, IsScriptEnd};
 
 use crate::branches::Branches;
 use crate::fault::RunFault;
-use lsdb::{Database, DumpFault, DumpFaultKind};
+use lsdb::{Database, DumpFault, DumpFaultKind, LONGEST_DUMP};
 use std::alloc::Allocator;
 use std::io::Read;
 use streams::{ReadFault, Watched, read_whole};
-
-/// The greatest length of a dump, in octets.
-pub const DUMP_LIMIT: usize = 16_777_216;
 
 /// The greatest length of a script, in octets.
 pub const SCRIPT_LIMIT: usize = 1_048_576;
@@ -34,7 +32,7 @@ pub(crate) fn read_branches<A: Allocator + Copy, R: Read>(
     ensures failed { (result ≡ Err RunFault.Read) ↔ (has_failed dump.new ≡ true) }
     ensures bounded { ConsumesAtMost (R.remaining (inner_of dump.old)) (R.remaining (inner_of dump.new)) 16777217 }
 {
-    let bytes = match read_whole(alloc, dump, DUMP_LIMIT) {
+    let bytes = match read_whole(alloc, dump, LONGEST_DUMP) {
         Ok(bytes) => bytes,
         Err(ReadFault::Failed) => return Err(RunFault::Read),
         Err(ReadFault::TooLarge) => return Err(RunFault::Dump(TOO_LARGE)),

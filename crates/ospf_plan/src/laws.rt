@@ -1,9 +1,11 @@
-//! What holds of the branches of a run.
+//! What holds of the commands and of the branches of a run.
 
-ghost use Rattle.std.specs.Prelude.{◌≡◌, ℕ, List};
+ghost use Rattle.std.specs.Prelude.{◌≡◌, ℕ, List, true};
 ghost use Rattle.lsdb.specs.Lists.{Lists};
-ghost use Rattle.edit_history.specs.Session.{start};
+ghost use Rattle.edit_script.specs.declared.command.Command.{Command};
+ghost use Rattle.edit_history.specs.Session.{Session, start};
 ghost use Rattle.ospf_plan.specs.Branches.{Sessions, all_begin};
+ghost use Rattle.ospf_plan.specs.Replies.{reply_to, after, is_refusal};
 ghost use Rattle.ospf_plan.specs.Run.{answers, sessions_after};
 ghost use Rattle.ospf_plan.specs.Alone.{answers_in, lines_in, commands_in, after_all};
 
@@ -12,4 +14,9 @@ ghost use Rattle.ospf_plan.specs.Alone.{answers_in, lines_in, commands_in, after
 pub fn branches_are_apart()
     ensures answers { (all : Sessions) (lines : List (List ℕ)) (branch : ℕ) → answers_in branch all lines ≡ answers all (lines_in branch lines) }
     ensures session { (base : Lists) (lines : List (List ℕ)) (branch : ℕ) → sessions_after (all_begin base) lines branch ≡ after_all (start base) (commands_in branch lines) }
+{}
+
+/// A refused command leaves the session as it was: its database, and the edits done and undone.
+pub fn refused_commands_change_nothing()
+    ensures { (s : Session) (c : Command) → is_refusal (reply_to s c) ≡ true → after s c ≡ s }
 {}

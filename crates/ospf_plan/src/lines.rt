@@ -2,7 +2,7 @@
 
 ghost use Rattle.std.specs.Prelude.{◌≡◌, ◌∷◌, ◌<◌, length, IfSome};
 ghost use Rattle.ospf_plan.specs.Run.{lines_of};
-ghost use Rattle.ospf_plan.specs.Lines.{lines_left};
+ghost use Rattle.ospf_plan.specs.steps.Lines.{lines_left};
 
 /// The first line of a text, and the text behind its line feed, if it has one.
 pub(crate) fn first_line(text: &[u8]) -> (&[u8], Option<&[u8]>)

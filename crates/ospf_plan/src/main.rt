@@ -5,18 +5,17 @@
 //! the command line names.
 #![tactic(auto)]
 
-mod asking;
 mod branches;
 mod command_line;
+mod commands;
 mod exit;
 mod fault;
 mod files;
-mod finish;
-mod given;
+mod help;
 mod inputs;
 mod laws;
 mod lines;
-mod options_fault;
+mod output;
 mod reply;
 mod running;
 mod sample;
@@ -25,11 +24,9 @@ mod script;
 mod tests;
 
 use clap::Error;
-use command_line::options;
+use command_line::{Options, OptionsFault, parse_options};
 use exit::exit_line;
 use fault::{ExitFault, RunFault};
-use given::Options;
-use options_fault::OptionsFault;
 use std::io::{ErrorKind, Write};
 use std::process::ExitCode;
 use std::{env, io};
@@ -42,8 +39,8 @@ fn main(rt: HostRuntime) -> ExitCode {
         Ok(words) => words,
         Err(error) => return end_without_words(&rt, &error),
     };
-    match options(rt.alloc(), words.as_slice()) {
-        Ok(given) => carry_out(&rt, &given),
+    match parse_options(rt.alloc(), words.as_slice()) {
+        Ok(given) => plan(&rt, &given),
         Err(OptionsFault::Refused(error)) => refuse(&rt, &error),
         Err(OptionsFault::OutOfMemory) => end(&rt, &ExitFault::Run(RunFault::OutOfMemory)),
     }
@@ -54,7 +51,8 @@ fn words(rt: &HostRuntime) -> io::Result<Vec<String>> {
     Ok(env::args(rt)?.collect::<Vec<String>>(rt.alloc())?)
 }
 
-fn carry_out(rt: &HostRuntime, given: &Options) -> ExitCode {
+/// Runs the script on the dump.
+fn plan(rt: &HostRuntime, given: &Options) -> ExitCode {
     match files::run_files(rt, given) {
         Ok(_summary) => ExitCode::SUCCESS,
         Err(fault) => end(rt, &fault),
@@ -63,6 +61,7 @@ fn carry_out(rt: &HostRuntime, given: &Options) -> ExitCode {
 
 /// Shows the text of clap, and ends as it says.
 fn refuse(rt: &HostRuntime, error: &Error) -> ExitCode {
+    // Where the text can not be shown, the status alone tells.
     let _ = error.print(rt);
     if error.use_stderr() {
         ExitCode::from(2)
@@ -76,6 +75,7 @@ fn end_without_words(rt: &HostRuntime, error: &io::Error) -> ExitCode {
     match error.kind() {
         ErrorKind::OutOfMemory => end(rt, &ExitFault::Run(RunFault::OutOfMemory)),
         _ => {
+            // Where standard error takes no line, the status alone tells.
             let _ = rt.stderr().write_all(BAD_ARGUMENT);
             ExitCode::from(2)
         }
@@ -85,6 +85,7 @@ fn end_without_words(rt: &HostRuntime, error: &io::Error) -> ExitCode {
 /// Writes the line of a fault, and ends with its status.
 fn end(rt: &HostRuntime, fault: &ExitFault) -> ExitCode {
     let (status, line) = exit_line(rt.alloc(), fault);
+    // Where there is no memory for the line, or standard error takes none, the status alone tells.
     if let Ok(line) = line {
         let _ = rt.stderr().write_all(line.as_slice());
     }

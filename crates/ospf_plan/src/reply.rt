@@ -7,7 +7,7 @@ ghost use Rattle.ospf_plan.specs.Replies.{refusal_code, refusal_name, lsa_counts
 
 use edit_history::{EditFault, RedoFault, UndoFault};
 use edit_script::ScriptFault;
-use lsa_codec::RouterId;
+use lsa_codec::{Decimal, RouterId};
 use recalculate::{Info, Table, TableFault};
 use std::alloc::{AllocError, Allocator, Global};
 use table_report::{compare_text, table_text};
@@ -106,6 +106,7 @@ pub fn reply_text<A: Allocator + Copy>(
 fn mark<A: Allocator + Copy>(alloc: A, branch: u8) -> Result<Vec<u8, A>, AllocError>
     ensures { IfOk result (λ text. text.items ≡ mark_of branch) }
 {
+    let branch = Decimal(u64::from(branch));
     let text = format!(in alloc; "@{branch} ")?;
     Ok(text.into_bytes())
 }
@@ -145,7 +146,7 @@ fn tables_text<A: Allocator + Copy>(
 ) -> Result<Vec<u8, A>, AllocError>
     ensures { IfOk result (λ text. text.items ≡ codes "tables " ++ decimal (length tables.now.items) ++ codes "\n" ++ flat_map table_text tables.now.items) }
 {
-    let count = tables.len();
+    let count = Decimal(tables.len() as u64);
     let mut text = format!(in alloc; "tables {count}\n")?.into_bytes();
     for table in tables {
         text.append(&mut table_text(alloc, table)?)?;
@@ -167,12 +168,9 @@ fn info_text<A: Allocator + Copy>(alloc: A, info: &Info) -> Result<Vec<u8, A>, A
 fn lsa_counts<A: Allocator + Copy>(alloc: A, info: &Info) -> Result<String<A>, AllocError>
     ensures { IfOk result (λ text. string_bytes text ≡ lsa_counts info.now) }
 {
-    let Info {
-        areas,
-        lsas,
-        as_lsas,
-        ..
-    } = *info;
+    let areas = Decimal(info.areas as u64);
+    let lsas = Decimal(info.lsas as u64);
+    let as_lsas = Decimal(info.as_lsas as u64);
     let text = format!(in alloc; "info areas {areas} lsas {lsas} as {as_lsas}")?;
     Ok(text)
 }
@@ -181,7 +179,8 @@ fn lsa_counts<A: Allocator + Copy>(alloc: A, info: &Info) -> Result<String<A>, A
 fn link_counts<A: Allocator + Copy>(alloc: A, info: &Info) -> Result<String<A>, AllocError>
     ensures { IfOk result (λ text. string_bytes text ≡ link_counts info.now) }
 {
-    let Info { vbits, vlinks, .. } = *info;
+    let vbits = Decimal(info.vbits as u64);
+    let vlinks = Decimal(info.vlinks as u64);
     let text = format!(in alloc; " vbits {vbits} vlinks {vlinks}")?;
     Ok(text)
 }
@@ -190,7 +189,8 @@ fn link_counts<A: Allocator + Copy>(alloc: A, info: &Info) -> Result<String<A>, 
 fn edit_counts<A: Allocator + Copy>(alloc: A, info: &Info) -> Result<String<A>, AllocError>
     ensures { IfOk result (λ text. string_bytes text ≡ edit_counts info.now) }
 {
-    let Info { done, undone, .. } = *info;
+    let done = Decimal(info.done as u64);
+    let undone = Decimal(info.undone as u64);
     let text = format!(in alloc; " done {done} undone {undone}\n")?;
     Ok(text)
 }

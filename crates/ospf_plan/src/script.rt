@@ -44,7 +44,7 @@ impl<A: Allocator> Model for Answer<A> {
 }
 
 /// Carries out one line. A line without words, or a comment, has no answer.
-fn carry_out<A: Allocator + Copy>(
+fn execute_line<A: Allocator + Copy>(
     alloc: A,
     branches: &mut Branches<A>,
     line: &[u8],
@@ -88,7 +88,7 @@ fn answer_line<A: Allocator + Copy, W: Write>(
     ensures failed { (result ≡ Err RunFault.Write) ↔ (has_failed replies.new ≡ true) }
     ensures memory { has_failed replies.new ≡ false → IfErr result (λ fault. fault ≡ RunFault.OutOfMemory) }
 {
-    let Some(told) = carry_out(alloc, branches, line)? else {
+    let Some(told) = execute_line(alloc, branches, line)? else {
         return Ok(());
     };
     write_whole(replies, told.text.as_slice())?;

@@ -4,6 +4,7 @@ use Rattle.std.specs.Prelude.{◌&&◌, ◌||◌, IsSome}
 use Rattle.std.specs.List.{Contains, find, list_any}
 use Rattle.std.specs.Option.{option_map_or}
 use Rattle.std.proofs.lemmas.Bool.{and_parts, and_from, eqb-true}
+use Rattle.lsa_codec.specs.Key.{router_key}
 use Rattle.lsa_codec.specs.declared.address.AreaId.{AreaId}
 use Rattle.lsa_codec.specs.declared.address.RouterId.{RouterId}
 use Rattle.lsa_codec.specs.Fields.{kind_of, link_state_id_of, advertising_router_of}
@@ -13,8 +14,8 @@ use Rattle.area_graph.specs.declared.vertex.Vertex.{Vertex}
 use Rattle.area_graph.specs.declared.vertex.Vertex.TheVariants.{Router}
 use Rattle.area_graph.specs.Area.{is_live, is_router_lsa, is_network_lsa, is_vertex_lsa, vertex_lsas, is_outranked_by, outranks, used, vertex_of, vertices_of}
 use Rattle.area_graph.proofs.AreaLemmas.{vertex_of_router}
-use Rattle.area_graph.proofs.Members.{In, In-filter, In-map, Contains-from_In}
-use Rattle.external_routes.specs.Attached.{router_key, has_live_router_lsa, is_attached}
+use Rattle.area_graph.proofs.MemberLemmas.{In, In-filter, In-map, Contains-from_In}
+use Rattle.external_routes.specs.Attached.{has_live_router_lsa, is_attached}
 
 -- what a search finds is there, and passes
 pub found_In : {X : Type 0} (p : X → Bool) (xs : List X) (x : X) → find p xs ≡ Some x → In xs x × (p x ≡ true)

@@ -12,19 +12,19 @@ use Rattle.lsa_codec.specs.declared.address.RouterId.{RouterId}
 use Rattle.lsa_codec.specs.declared.key.Key.{Key}
 use Rattle.lsa_codec.specs.Accepted.{IsAccepted}
 use Rattle.lsa_codec.specs.Fields.{kind_of, link_state_id_of, advertising_router_of}
-use Rattle.lsa_codec.specs.Key.{key_of}
+use Rattle.lsa_codec.specs.Key.{key_of, router_key}
 use Rattle.lsdb.specs.Lists.{IsDatabase, Lists, areas_of, has_key}
-use Rattle.lsdb.proofs.Middle.{pairs_head, pairs_tail}
+use Rattle.lsdb.proofs.ListLemmas.{pairs_head, pairs_tail}
 use Rattle.area_graph.specs.Area.{is_live, is_router_lsa}
 use Rattle.area_graph.specs.Graphs.{AreOfArea}
 use Rattle.area_graph.specs.Rising.{rising}
 use Rattle.area_graph.proofs.GraphLemmas.{are_of_area}
-use Rattle.area_graph.proofs.Members.{Contains-from_In, In, In-filter, In-filter_map, In-flat_map, In-from_Contains, In-list_any, Some-same, filter-In, filter_map-In, flat_map-In}
+use Rattle.area_graph.proofs.MemberLemmas.{Contains-from_In, In, In-filter, In-filter_map, In-flat_map, In-from_Contains, In-list_any, Some-same, filter-In, filter_map-In, flat_map-In}
 use Rattle.area_routes.specs.Order.{router_cmp}
 use Rattle.area_routes.proofs.Orders.{router_exact, router_total}
 use Rattle.area_routes.proofs.Rising.{any_rising}
 use Rattle.edit_history.proofs.Keys.{other_key, same_key_true}
-use Rattle.external_routes.specs.Attached.{attached_areas, has_live_router_lsa, router_key}
+use Rattle.external_routes.specs.Attached.{attached_areas, has_live_router_lsa}
 use Rattle.recalculate.specs.Counts.{area_lsas, lsas_in}
 use Rattle.recalculate.specs.Routers.{attached_routers, live_router}
 use Rattle.recalculate.proofs.Attaching.{found_In}

@@ -5,7 +5,7 @@ use Rattle.lsa_codec.specs.declared.address.RouterId.{RouterId}
 use Rattle.lsdb.specs.Lists.{AreaHead, IsDatabase, Lists}
 use Rattle.area_graph.specs.Area.{used}
 use Rattle.area_graph.proofs.GraphLemmas.{are_of_area}
-use Rattle.area_graph.proofs.Members.{Some-same}
+use Rattle.area_graph.proofs.MemberLemmas.{Some-same}
 use Rattle.area_graph.proofs.UsedLemmas.{used_accepted}
 use Rattle.area_routes.specs.AreaResults.{area_result, given_by}
 use Rattle.area_routes.specs.OverAllPaths.{AreOverAllPaths}

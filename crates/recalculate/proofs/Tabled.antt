@@ -5,7 +5,7 @@ use Rattle.std.specs.List.Sorted.{IsStrictlySortedBy}
 use Rattle.area_routes.specs.Routes.{AreSortedRoutes}
 use Rattle.lsa_codec.specs.declared.address.RouterId.{RouterId}
 use Rattle.lsdb.specs.Lists.{AreaHead, Lists, areas_of}
-use Rattle.area_graph.proofs.Members.{In, In-filter}
+use Rattle.area_graph.proofs.MemberLemmas.{In, In-filter}
 use Rattle.area_routes.specs.Values.{AreaResultValue, EntryValue, InterValue, RouteValue, RoutesBelow, EntriesBelow}
 use Rattle.area_routes.specs.Intra.{intra_of}
 use Rattle.area_routes.specs.Inter.{inter_of}

@@ -6,7 +6,7 @@ use Rattle.std.proofs.lemmas.Option.{get_or_from_slice_get, slice_get_within}
 use Rattle.lsa_codec.specs.Accepted.{IsAccepted}
 use Rattle.lsa_codec.specs.Fields.{kind_of}
 use Rattle.lsa_codec.specs.Links.{link_count, link_length, links_from, links_of}
-use Rattle.lsa_codec.proofs.Relinked.{has_texts}
+use Rattle.lsa_codec.proofs.LsaLemmas.{has_texts}
 use Rattle.lsdb.specs.Lists.{AreaHead, IsDatabase, Lists, SectionLsas, areas_of}
 use Rattle.recalculate.specs.Counts.{area_lsas, lsas_in}
 

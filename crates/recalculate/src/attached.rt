@@ -10,13 +10,10 @@ ghost use Rattle.edit_history.specs.Session.{state};
 ghost use Rattle.recalculate.specs.Routers.{attached_routers, live_router};
 
 use crate::planner::Planner;
-use lsa_codec::{Lsa, RouterId};
+use lsa_codec::{Lsa, ROUTER_LSA, RouterId};
 use lsdb::{Database, Lsas, Section};
 use std::alloc::{AllocError, Allocator};
 use std::collections::BTreeSet;
-
-/// The LS type of router-LSAs (RFC 2328, A.4.1).
-const ROUTER_LSA: u8 = 1;
 
 impl<A: Allocator + Copy> Planner<A> {
     /// The routers that are attached to areas of the session's database, as [`routers`] gives

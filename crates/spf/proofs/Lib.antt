@@ -12,3 +12,4 @@ pub mod Stepping
 pub mod Trees
 pub mod Orders
 pub mod WholeTree
+pub mod TreeLemmas

@@ -11,8 +11,8 @@ use Rattle.std.proofs.lemmas.List.{get_or_past}
 use Rattle.std.proofs.lemmas.List.Elements.{Contains-get_or}
 use Rattle.std.proofs.lemmas.List.FromFn.{length-range_with_len, get_or-range_with_len}
 use Rattle.area_graph.specs.declared.vertex.Vertex.{Vertex}
-use Rattle.area_graph.proofs.Members.{In-from_Contains, Contains-from_In, In-filter, filter-In}
-use Rattle.area_graph.proofs.Sorted.{rising-is}
+use Rattle.area_graph.proofs.MemberLemmas.{In-from_Contains, Contains-from_In, In-filter, filter-In}
+use Rattle.area_graph.proofs.RisingLemmas.{rising-is}
 use Rattle.area_graph.specs.Topology.{Topology}
 use Rattle.spf.specs.declared.queue.Candidate.{Candidate}
 use Rattle.spf.specs.Candidates.{candidate_cmp, candidate_at, IsEarlier}

@@ -10,7 +10,7 @@ use Rattle.area_graph.specs.declared.vertex.Vertex.{Vertex}
 use Rattle.area_graph.specs.Paths.{IsDistance}
 use Rattle.area_graph.specs.AllPaths.{distance_of}
 use Rattle.area_graph.specs.Topology.{Topology, IsTopology, IsEdge, edges_of}
-use Rattle.area_graph.proofs.Members.{map-by_place}
+use Rattle.area_graph.proofs.MemberLemmas.{map-by_place}
 use Rattle.area_graph.proofs.EdgeLemmas.{distance-is, IsDistance-edges}
 use Rattle.area_graph.proofs.TopologyLemmas.{IsDistance-up}
 use Rattle.spf.specs.Relaxation.{Bounded, Sound, Closed}

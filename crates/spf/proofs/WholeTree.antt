@@ -3,7 +3,7 @@ use Rattle.std.proofs.Common.{◌≡◌, ℕ, zero, suc, ◌+◌, Bool, true, fa
 use Rattle.std.specs.List.{slice_get, position_or_len}
 use Rattle.area_graph.specs.declared.vertex.Vertex.{Vertex}
 use Rattle.area_graph.specs.Vertex.{is_same}
-use Rattle.area_graph.proofs.Members.{Some-same}
+use Rattle.area_graph.proofs.MemberLemmas.{Some-same}
 use Rattle.area_graph.proofs.AllPathsLemmas.{same_from_is_same, is_same-from}
 use Rattle.area_graph.specs.Topology.{Topology, IsTopology}
 use Rattle.area_graph.proofs.TopologyLemmas.{one_number}

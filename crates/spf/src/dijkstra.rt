@@ -5,19 +5,20 @@ ghost use Rattle.area_graph.specs.Topology.{IsTopology};
 ghost use Rattle.spf.specs.Candidates.{candidate_at};
 ghost use Rattle.spf.specs.Search.{PushesEdge, PushesNeighbours, SettlesOne, SettlesNew, IsSettled};
 
+use crate::distances::DistanceTable;
 use crate::queue::{Candidate, Queue};
 use area_graph::{Edge, Graph};
 use std::alloc::{AllocError, Allocator};
 
 /// A vertex at a distance, as a candidate.
-fn candidate<A: Allocator + Copy>(graph: &Graph<A>, distance: u64, index: usize) -> Candidate
+fn candidate<A: Allocator + Copy>(graph: &Graph<A>, distance: u32, index: usize) -> Candidate
     requires { index < length graph.now.vertices }
     ensures { result ≡ candidate_at graph.now distance index }
 {
     Candidate {
         distance,
         is_router: !graph.vertex(index).is_network(),
-        index,
+        index: index as u16,
     }
 }
 
@@ -25,17 +26,17 @@ fn candidate<A: Allocator + Copy>(graph: &Graph<A>, distance: u64, index: usize)
 fn push_edge<A: Allocator + Copy>(
     graph: &Graph<A>,
     edge: Edge,
-    distance: u64,
-    distances: &[Option<u64>],
+    distance: u32,
+    distances: &DistanceTable<A>,
     queue: &mut Queue<A>,
 ) -> Result<(), AllocError>
     requires sized { length distances.now ≡ length graph.now.vertices }
     requires target { edge.to < length graph.now.vertices }
-    requires small { distance < 2 ^ 63 }
+    requires small { distance < 2 ^ 31 }
     ensures { OnOk result (PushesEdge graph.now edge distance distances.now queue.old queue.new) }
 {
-    if distances[edge.to].is_none() {
-        queue.push(candidate(graph, distance + u64::from(edge.cost), edge.to))?;
+    if distances.get(edge.to).is_none() {
+        queue.push(candidate(graph, distance + u32::from(edge.cost), edge.to))?;
     }
     Ok(())
 }
@@ -44,13 +45,13 @@ fn push_edge<A: Allocator + Copy>(
 fn push_neighbours<A: Allocator + Copy>(
     graph: &Graph<A>,
     from: usize,
-    distance: u64,
-    distances: &[Option<u64>],
+    distance: u32,
+    distances: &DistanceTable<A>,
     queue: &mut Queue<A>,
 ) -> Result<(), AllocError>
     requires sized { length distances.now ≡ length graph.now.vertices }
     requires from { from < length graph.now.vertices }
-    requires small { distance < 2 ^ 63 }
+    requires small { distance < 2 ^ 31 }
     ensures pushes { OnOk result (PushesNeighbours graph.now from distance distances.now queue.old queue.new) }
     ensures count { OnOk result (length queue.new < length queue.old + 2 ^ 64) }
 {
@@ -64,34 +65,35 @@ fn push_neighbours<A: Allocator + Copy>(
 fn settle_one<A: Allocator + Copy>(
     graph: &Graph<A>,
     next: Candidate,
-    distances: &mut [Option<u64>],
-    order: &mut Vec<usize, A>,
+    distances: &mut DistanceTable<A>,
+    order: &mut Vec<u16, A>,
     queue: &mut Queue<A>,
 ) -> Result<(), AllocError>
     requires sized { length distances.old ≡ length graph.now.vertices }
     requires within { next.index < length graph.now.vertices }
-    requires small { next.distance < 2 ^ 63 }
+    requires small { next.distance < 2 ^ 31 }
     ensures { OnOk result (SettlesOne graph.now next distances.old order.old.items queue.old distances.new order.new.items queue.new) }
 {
-    distances[next.index] = Some(next.distance);
+    let index = usize::from(next.index);
+    distances.set(index, next.distance);
     order.push(next.index)?;
-    push_neighbours(graph, next.index, next.distance, distances, queue)
+    push_neighbours(graph, index, next.distance, distances, queue)
 }
 
 /// Settles the vertex of a candidate, unless it is settled.
 fn settle_new<A: Allocator + Copy>(
     graph: &Graph<A>,
     next: Candidate,
-    distances: &mut [Option<u64>],
-    order: &mut Vec<usize, A>,
+    distances: &mut DistanceTable<A>,
+    order: &mut Vec<u16, A>,
     queue: &mut Queue<A>,
 ) -> Result<(), AllocError>
     requires sized { length distances.old ≡ length graph.now.vertices }
     requires within { next.index < length graph.now.vertices }
-    requires small { next.distance < 2 ^ 63 }
+    requires small { next.distance < 2 ^ 31 }
     ensures { OnOk result (SettlesNew graph.now next distances.old order.old.items queue.old distances.new order.new.items queue.new) }
 {
-    if distances[next.index].is_none() {
+    if distances.get(usize::from(next.index)).is_none() {
         settle_one(graph, next, distances, order, queue)?;
     }
     Ok(())
@@ -102,8 +104,8 @@ pub(crate) fn settle_all<A: Allocator + Copy>(
     alloc: A,
     graph: &Graph<A>,
     root: usize,
-    distances: &mut [Option<u64>],
-    order: &mut Vec<usize, A>,
+    distances: &mut DistanceTable<A>,
+    order: &mut Vec<u16, A>,
 ) -> Result<(), AllocError>
     requires sized { length distances.old ≡ length graph.now.vertices }
     requires root { root < length graph.now.vertices }

@@ -6,15 +6,14 @@
 #![tactic(auto)]
 
 mod dijkstra;
+mod distances;
 mod fault;
-mod laws;
 mod meter;
 mod queue;
 mod rounds;
 mod tree;
 
 pub use fault::SpfFault;
-pub use laws::distance_law;
 pub use meter::Meter;
 pub use rounds::distances_by_rounds;
 pub use tree::Tree;

@@ -10,12 +10,13 @@ use std::collections::BinaryHeap;
 use std::marker::Model;
 
 /// A vertex, at the cost of some path to it. Its order is the order in which vertices are settled:
-/// less distance first, at equal distance a network before a router, then the lower number.
+/// less distance first, at equal distance a network before a router, then the lower number. It takes
+/// eight octets.
 #[derive(Clone, Copy, Debug, PartialEq, Eq, PartialOrd, Ord)]
 pub(crate) struct Candidate {
-    pub distance: u64,
+    pub distance: u32,
     pub is_router: bool,
-    pub index: usize,
+    pub index: u16,
 }
 
 /// The candidates, of which the first in their order is taken next. A vertex may be there several

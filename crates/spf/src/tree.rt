@@ -6,6 +6,7 @@ ghost use Rattle.spf.specs.Distances.{IsTreeOf, FaultMeans, meter_after, tree_of
 ghost use Rattle.spf.specs.Search.{IsSettled};
 
 use crate::dijkstra::settle_all;
+use crate::distances::DistanceTable;
 use crate::fault::SpfFault;
 use crate::meter::Meter;
 use area_graph::{Graph, Vertex};
@@ -18,12 +19,12 @@ use std::marker::Model;
 /// number.
 ///
 /// Each distance is below 2^32: a graph has at most 8,192 vertices, and an edge costs less than
-/// 2^16.
+/// 2^16. A tree takes six octets for each vertex.
 #[derive(Drop)]
 pub struct Tree<A: Allocator = Global> {
     root: usize,
-    distances: Vec<Option<u64>, A>,
-    order: Vec<usize, A>,
+    distances: DistanceTable<A>,
+    order: Vec<u16, A>,
 }
 
 impl<A: Allocator> Model for Tree<A> {
@@ -31,9 +32,9 @@ impl<A: Allocator> Model for Tree<A> {
 
     ghost Value = { Distances };
 
-    ghost view = { λ t. record { root = t.root; distances = t.distances.items; order = t.order.items } };
+    ghost view = { λ t. record { root = t.root; distances = t.distances; order = t.order.items } };
 
-    ghost invariant = { λ t. AreInRange (record { root = t.root; distances = t.distances.items; order = t.order.items }) };
+    ghost invariant = { λ t. AreInRange (record { root = t.root; distances = t.distances; order = t.order.items }) };
 }
 
 impl<A: Allocator + Copy> Tree<A> {
@@ -68,8 +69,8 @@ impl<A: Allocator + Copy> Tree<A> {
         ensures root { IfOk result (λ tree. tree.root ≡ root) }
         ensures settled { IfOk result (λ tree. IsSettled graph.now root tree.distances tree.order) }
     {
-        let mut distances = vec![in alloc; None; graph.len()]?;
-        let mut order = Vec::new(alloc);
+        let mut distances = DistanceTable::new(alloc, graph.len())?;
+        let mut order = Vec::with_capacity(alloc, graph.len())?;
         settle_all(alloc, graph, root, &mut distances, &mut order)?;
         Ok(Tree {
             root,
@@ -92,7 +93,7 @@ impl<A: Allocator + Copy> Tree<A> {
         ensures value { result ≡ slice_index_or self.now.distances index None }
         ensures small { IfSome result (λ d. d < 2 ^ 32) }
     {
-        self.distances[index]
+        self.distances.get(index).map(u64::from)
     }
 
     /// The vertices that are reached, in the order of their distances: at equal distance networks
@@ -102,11 +103,11 @@ impl<A: Allocator + Copy> Tree<A> {
         ensures vertex { result ≡ slice_get self.now.order index }
         ensures within { IfSome result (λ i. i < length self.now.distances) }
     {
-        self.order.get(index).copied()
+        self.order.get(index).copied().map(usize::from)
     }
 
     /// The vertices of [`settled`](Tree::settled) as a slice. It takes no memory.
-    pub fn order(&self) -> &[usize]
+    pub fn order(&self) -> &[u16]
         ensures order { result.now ≡ self.now.order }
         ensures within { All (λ i. i < length self.now.distances) result.now }
     {

@@ -89,11 +89,11 @@ fn fills(
     apply(&mut database, first)?;
     apply(&mut database, second)?;
     let before = database.size();
-    let mut entry = apply(&mut database, third)?;
+    let mut record = apply(&mut database, third)?;
     assert_eq!(rt; database.size(), 16_777_216, "after {third:?}");
     assert_eq!(rt; database.dump()?.len(), 16_777_216);
     database.known();
-    revert(&mut database, &mut entry);
+    revert(&mut database, &mut record);
     assert_eq!(rt; database.size(), before);
     Ok(())
 }

@@ -99,7 +99,7 @@ fn has_edited<A: Allocator + Copy>(database: &Database<A>) -> bool {
 }
 
 /// Carries an edit out, and keeps its record.
-fn carry_out<A: Allocator + Copy>(
+fn apply_and_push<A: Allocator + Copy>(
     database: &mut Database<A>,
     history: &mut History<A>,
     edit: &Edit,
@@ -108,8 +108,8 @@ fn carry_out<A: Allocator + Copy>(
     ensures { Links database.new history.new.lists }
 {
     history.reserve()?;
-    let entry = apply(database, edit)?;
-    history.push(entry);
+    let record = apply(database, edit)?;
+    history.push(record);
     database.known();
     Ok(())
 }
@@ -126,7 +126,7 @@ fn edited<A: Allocator + Copy>(
     let mut history = History::new(alloc);
     database.known();
     for edit in edits {
-        carry_out(&mut database, &mut history, edit)?;
+        apply_and_push(&mut database, &mut history, edit)?;
     }
     Ok((database, history))
 }
@@ -179,7 +179,7 @@ fn undo_and_redo_take_no_memory(rt: HostRuntime) -> Result<(), Fail> {
     assert_eq!(rt; history.redo(&mut database, 10), Ok(()));
     assert!(rt; has_edited(&database));
     assert_eq!(rt;
-        carry_out(&mut database, &mut history, &cost(1, 1)),
+        apply_and_push(&mut database, &mut history, &cost(1, 1)),
         Err(EditFault::OutOfMemory)
     );
     assert!(rt; has_edited(&database));
@@ -208,13 +208,13 @@ fn goes_and_comes(rt: &(impl AllocGlobal + Abort), edit: &Edit) -> Result<(), Fa
     apply(&mut ample, edit)?;
     let rationed = Rationed::new(rt.alloc(), u64::MAX - counted.left());
     let mut database = Database::load(&rationed, NETS)?;
-    let mut entry = apply(&mut database, edit)?;
+    let mut record = apply(&mut database, edit)?;
     assert_eq!(rt; rationed.left(), 0);
     database.known();
-    revert(&mut database, &mut entry);
+    revert(&mut database, &mut record);
     assert!(rt; has_all(&database), "{edit:?} is taken back");
     inverses();
-    replay(&mut database, &mut entry);
+    replay(&mut database, &mut record);
     for section in [BACKBONE, STUB_AREA, Section::AsWide] {
         assert!(rt; has_same(&database, &ample, section), "{edit:?} is done");
     }
@@ -242,9 +242,9 @@ fn a_removed_lsa_comes_back_to_its_place(rt: HostRuntime) -> Result<(), Fail> {
     });
     let (mut database, mut history) = edited(rt.alloc(), NETS, &[])?;
     assert_eq!(rt; database.find(Section::AsWide, key), place);
-    carry_out(&mut database, &mut history, &drop_external(0x0a5c0000))?;
+    apply_and_push(&mut database, &mut history, &drop_external(0x0a5c0000))?;
     assert_eq!(rt; database.find(Section::AsWide, key), None);
-    carry_out(&mut database, &mut history, &new_external(0x0a5c0000)?)?;
+    apply_and_push(&mut database, &mut history, &new_external(0x0a5c0000)?)?;
     let last = Some(SlotId {
         section: 2,
         index: 3,
@@ -300,7 +300,7 @@ fn a_cost_among_a_hundred_lsas_grows_little(rt: HostRuntime) -> Result<(), Fail>
     let (mut database, mut history) = edited(&counted, &dump, &[])?;
     assert_eq!(rt; database.count(BACKBONE), 100);
     let loaded = counted.left();
-    carry_out(&mut database, &mut history, &cost(1, 7))?;
+    apply_and_push(&mut database, &mut history, &cost(1, 7))?;
     let done = counted.left();
     assert!(rt; done < loaded && loaded - done <= 16, "{loaded} to {done}");
     let _copy = database.clone_of()?;

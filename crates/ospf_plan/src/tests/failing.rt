@@ -106,6 +106,32 @@ fn a_flush_fails(rt: HostRuntime) -> Result<(), Fail> {
 }
 
 #[test]
+fn a_flush_fails_before_the_dump_is_written(rt: HostRuntime) -> Result<(), Fail> {
+    let replies = Sink::new(rt.alloc(), 1, NEVER, Failing::FlushErrs);
+    let ended = run_whole(rt.alloc(), SAMPLE, SCRIPT, replies, Vec::new(rt.alloc()));
+    assert_eq!(rt; ended.result, Err(RunFault::Write));
+    assert!(rt; ended.replies.failed);
+    assert_eq!(rt; ended.replies.stream.taken.as_slice(), REPLIES);
+    assert!(rt; ended.out.stream.is_empty());
+    Ok(())
+}
+
+#[test]
+fn a_refused_dump_before_a_script_that_fails(rt: HostRuntime) -> Result<(), Fail> {
+    let script = Source::new(SCRIPT, 1, Some(0));
+    let dump = SAMPLE.get(..98).ok_or("a front")?;
+    let (replies, out) = (Vec::new(rt.alloc()), Vec::new(rt.alloc()));
+    let ended = run_whole(rt.alloc(), dump, script, replies, out);
+    let fault = DumpFault {
+        offset: 97,
+        kind: DumpFaultKind::Truncated,
+    };
+    assert_eq!(rt; ended.result, Err(RunFault::Dump(fault)));
+    assert!(rt; !ended.script.failed);
+    Ok(())
+}
+
+#[test]
 fn the_flush_of_the_written_dump_fails(rt: HostRuntime) -> Result<(), Fail> {
     let out = Sink::new(rt.alloc(), 1, NEVER, Failing::FlushErrs);
     let ended = run_whole(rt.alloc(), SAMPLE, SCRIPT, Vec::new(rt.alloc()), out);

@@ -1,11 +1,13 @@
 //! Each growth refused in turn, and growths counted.
 
 use super::outcome::run_whole;
+use crate::branches::Branches;
 use crate::fault::RunFault;
+use crate::reply::Reply;
 use crate::sample::SAMPLE;
 use crate::script::Summary;
 use edit_history::{EditFault, RedoFault, UndoFault};
-use edit_script::Edit;
+use edit_script::{Command, Edit};
 use lsa_codec::{Addr, AreaId, Lsa, Prefix, RouterId};
 use lsdb::{Database, Section};
 use rationed::Rationed;
@@ -107,6 +109,37 @@ fn undo_and_redo_while_each_growth_is_refused(rt: HostRuntime) -> Result<(), Fai
     assert_eq!(rt; first_lsa(&planner), edited);
     assert_eq!(rt; planner.undo(10), Ok(()));
     assert_eq!(rt; first_lsa(&planner), SAMPLE.get(13..49));
+    Ok(())
+}
+
+#[test]
+fn undo_redo_and_info_in_any_branch_while_each_growth_is_refused(
+    rt: HostRuntime,
+) -> Result<(), Fail> {
+    let counted = Rationed::new(rt.alloc(), u64::MAX);
+    let _ample = Database::load(&counted, SAMPLE)?;
+    let rationed = Rationed::new(rt.alloc(), u64::MAX - counted.left());
+    let database = Database::load(&rationed, SAMPLE)?;
+    assert_eq!(rt; rationed.left(), 0);
+    let mut branches = Branches::new(&rationed, database);
+    for branch in 0..8 {
+        for command in [Command::Undo(0), Command::Redo(0)] {
+            assert!(rt; matches!(branches.step(branch, &command)?, Reply::Done));
+        }
+        for command in [Command::Undo(1), Command::Redo(1)] {
+            assert!(rt; branches.step(branch, &command)?.is_refusal());
+        }
+        match branches.step(branch, &Command::Info)? {
+            Reply::Info(info) => {
+                assert_eq!(rt;
+                    (info.areas, info.lsas, info.done, info.undone),
+                    (1, 2, 0, 0)
+                );
+            }
+            _ => panic!(rt; "no counts"),
+        }
+    }
+    assert!(rt; branches.step(1, &Command::Edit(cost(7))).is_err());
     Ok(())
 }
 

@@ -1,8 +1,6 @@
 //! The options of the command line, and the texts of refused ones.
 
-use crate::command_line::options;
-use crate::given::Options;
-use crate::options_fault::OptionsFault;
+use crate::command_line::{Options, OptionsFault, parse_options};
 use clap::Error;
 use std::alloc::{AllocError, Global};
 use std::test::Fail;
@@ -10,7 +8,7 @@ use std::test::Fail;
 /// The options for the words of a line that are parted by single spaces.
 fn options_of(alloc: Global, line: &str) -> Result<Options, OptionsFault> {
     let words = words_of(alloc, line)?;
-    options(alloc, words.as_slice())
+    parse_options(alloc, words.as_slice())
 }
 
 fn words_of(alloc: Global, line: &str) -> Result<Vec<String>, AllocError> {
@@ -95,10 +93,19 @@ fn refuses_with_the_text_of_clap(rt: HostRuntime) -> Result<(), Fail> {
     Ok(())
 }
 
+/// What a line that asks for a text is told, on standard output and with status 0.
+fn told(alloc: Global, line: &str) -> Result<String, Fail> {
+    let error = refusal_of(alloc, line).ok_or("no text")?;
+    if error.use_stderr() || error.exit_code() != 0 {
+        return Err(Fail::from("told as a fault"));
+    }
+    Ok(error.to_string(alloc)?)
+}
+
 #[test]
 fn shows_help(rt: HostRuntime) -> Result<(), Fail> {
-    let error = refusal_of(rt.alloc(), "target/ospf_plan --help").ok_or("no help")?;
-    let text = "A what-if planner for OSPF
+    let help = told(rt.alloc(), "target/ospf_plan --help")?;
+    let options = "A what-if planner for OSPF
 
 Usage: ospf-plan [OPTIONS]
 
@@ -107,9 +114,21 @@ Options:
       --script <FILE>  The script, in place of standard input
       --out <FILE>     Where to write the dump after the script
   -h, --help           Print help
-";
-    assert_eq!(rt; error.to_string(rt.alloc())?.as_str(), text);
-    assert!(rt; !error.use_stderr());
-    assert_eq!(rt; error.exit_code(), 0);
+  -V, --version        Print version
+
+Commands, each on a line of the script:
+  cost AREA ROUTER LINK METRIC ";
+    assert!(rt; help.starts_with(options));
+    assert!(rt; help.ends_with("4 a file failed, 5 no memory.\n"));
+    Ok(())
+}
+
+#[test]
+fn shows_the_version(rt: HostRuntime) -> Result<(), Fail> {
+    for line in ["ospf-plan --version", "target/ospf_plan -V"] {
+        let version = told(rt.alloc(), line)?;
+        let text = "ospf-plan 0.9.0, proved with rattle-kit-13b logic dac8208d650f15bf\n";
+        assert_eq!(rt; version.as_str(), text);
+    }
     Ok(())
 }

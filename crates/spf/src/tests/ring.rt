@@ -54,8 +54,10 @@ fn ring(alloc: Global) -> Result<Vec<u8>, Fail> {
 /// Whether the distances by rounds are those of the tree: the same where the tree reaches, and none
 /// elsewhere.
 fn agree(tree: &Tree, by_rounds: &[Option<u64>]) -> bool {
-    let same = tree.order().iter().all(|&index| by_rounds.get(index).copied()
-        == Some(tree.distance(index)));
+    let same = tree.order().iter().all(|&number| {
+        let index = usize::from(number);
+        by_rounds.get(index).copied() == Some(tree.distance(index))
+    });
     let found = by_rounds
         .iter()
         .filter(|distance| distance.is_some())

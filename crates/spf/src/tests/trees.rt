@@ -22,7 +22,8 @@ pub fn reached<A: Allocator + Copy>(
 ) -> Result<Vec<(usize, Option<u64>), A>, Fail> {
     let mut reached = Vec::new(alloc);
     for index in tree.order() {
-        reached.push((*index, tree.distance(*index)))?;
+        let index = usize::from(*index);
+        reached.push((index, tree.distance(index)))?;
     }
     Ok(reached)
 }

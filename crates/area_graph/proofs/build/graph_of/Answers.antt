@@ -1,5 +1,7 @@
-use Rattle.std.proofs.Common.{◌≢◌, ◌∙◌, sym, subst, map, List, ℕ}
+use Rattle.std.proofs.Common.{◌≢◌, ◌∙◌, sym, subst, ap, map, List, ℕ}
 use Rattle.std.specs.List.{AllPairs}
+use Rattle.std.proofs.lemmas.Result.{IfOk-weaker}
+use Rattle.area_graph.specs.declared.vertex.Vertex.{Vertex}
 use Rattle.area_graph.specs.Topology.{Topology}
 use Rattle.area_graph.specs.Area.{vertex_of}
 use Rattle.area_graph.specs.Ties.{is_tied}
@@ -11,17 +13,30 @@ use Rattle.area_graph.proofs.build.graph_of.Goals as goal
 
 pub vertices-requires : goal.vertices-requires
 vertices-requires g c =
-    subst (λ (us : List (List ℕ)). AllPairs (λ v w. v ≢ w) (map vertex_of us)) (sym (c.deref.ensures.value ∙ c.in_ok-used.ensures)) (vertices_distinct c.args.lsas c.requires.accepted c.requires.distinct)
+    subst (λ (us : List (List ℕ)). AllPairs (λ v w. v ≢ w) (map vertex_of us)) (sym (c.deref.ensures.value ∙ c.in_ok-used.ensures))
+    (vertices_distinct c.args.lsas c.requires.accepted c.requires.distinct)
+
+pub new-requires : goal.new-requires
+new-requires g c =
+    subst (λ (vs : List Vertex). AllPairs (λ v w. v ≢ w) vs)
+    (sym (c.in_ok-vertices.ensures ∙ ap (map vertex_of) (c.deref.ensures.value ∙ c.in_ok-used.ensures)))
+    (vertices_distinct c.args.lsas c.requires.accepted c.requires.distinct)
 
 pub finish-requires : goal.finish-requires
 finish-requires g c =
-    (built c.args.lsas c.deref.result.now c.deref-2.result.now c.deref-3.result.now c.requires (c.deref.ensures.value ∙ c.in_ok-used.ensures) (c.deref-2.ensures.value ∙ c.in_ok-used.ensures) (c.deref-3.ensures.value ∙ c.in_ok-used.ensures)
-    c.in_ok-vertices.vertices.keys c.in_ok-vertices.ensures (is_tied c.in_ok-ties.ties) c.in_ok-ties.ensures c.in_ok-draft.draft c.add_edges.new.draft c.in_ok-draft.ensures.vertices c.in_ok-draft.ensures.empty
-    c.in_ok-add_edges.ensures.vertices (subst IsDraft c.draft.view_is c.draft.invariant) c.in_ok-add_edges.ensures.edges).shape
+    (built c.args.lsas c.deref.result.now c.deref-2.result.now c.deref-3.result.now c.requires
+    (c.deref.ensures.value ∙ c.in_ok-used.ensures) (c.deref-2.ensures.value ∙ c.in_ok-used.ensures) (c.deref-3.ensures.value ∙ c.in_ok-used.ensures)
+    c.in_ok-vertices.vertices.keys c.in_ok-vertices.ensures (is_tied c.in_ok-ties.ties) c.in_ok-ties.ensures
+    c.in_ok-draft.draft c.add_edges.new.draft c.in_ok-draft.ensures.vertices c.in_ok-draft.ensures.empty c.in_ok-add_edges.ensures.vertices
+    (subst IsDraft c.draft.view_is c.draft.invariant) c.in_ok-add_edges.ensures.edges).shape
 
 pub returns : goal.returns
 returns g c =
-    subst (λ (t : Topology). IsGraphOf c.args.lsas t) (sym c.finish.ensures)
-    (built c.args.lsas c.deref.result.now c.deref-2.result.now c.deref-3.result.now c.requires (c.deref.ensures.value ∙ c.in_ok-used.ensures) (c.deref-2.ensures.value ∙ c.in_ok-used.ensures) (c.deref-3.ensures.value ∙ c.in_ok-used.ensures)
-    c.in_ok-vertices.vertices.keys c.in_ok-vertices.ensures (is_tied c.in_ok-ties.ties) c.in_ok-ties.ensures c.in_ok-draft.draft c.add_edges.new.draft c.in_ok-draft.ensures.vertices c.in_ok-draft.ensures.empty
-    c.in_ok-add_edges.ensures.vertices (subst IsDraft c.draft.view_is c.draft.invariant) c.in_ok-add_edges.ensures.edges)
+    IfOk-weaker c.finish.result _ _
+    (λ graph is. subst (λ (t : Topology). IsGraphOf c.args.lsas t) (sym is)
+    (built c.args.lsas c.deref.result.now c.deref-2.result.now c.deref-3.result.now c.requires
+    (c.deref.ensures.value ∙ c.in_ok-used.ensures) (c.deref-2.ensures.value ∙ c.in_ok-used.ensures) (c.deref-3.ensures.value ∙ c.in_ok-used.ensures)
+    c.in_ok-vertices.vertices.keys c.in_ok-vertices.ensures (is_tied c.in_ok-ties.ties) c.in_ok-ties.ensures
+    c.in_ok-draft.draft c.add_edges.new.draft c.in_ok-draft.ensures.vertices c.in_ok-draft.ensures.empty c.in_ok-add_edges.ensures.vertices
+    (subst IsDraft c.draft.view_is c.draft.invariant) c.in_ok-add_edges.ensures.edges))
+    c.finish.ensures

@@ -1,9 +1,10 @@
 use Rattle.std.proofs.Common.{◌≡◌, ◌++◌, drop}
 use Rattle.lsdb.specs.Places.{places_in}
-use Rattle.edit_history.specs.Failing.{fate_by}
-use Rattle.edit_history.specs.Plans.{section_swaps}
+use Rattle.edit_history.specs.steps.Failing.{fate_by}
+use Rattle.edit_history.specs.steps.Plans.{section_swaps}
 use Rattle.edit_history.proofs.failures.add_swaps.Given as goal
 
 abbrev pub invariant-loop-index : goal.invariant-loop-index
-invariant-loop-index g l = l.swaps.items ++ section_swaps (fate_by l.failure) l.number l.section l.index (drop l.index (places_in l.database l.number))
+invariant-loop-index g l =
+    l.swaps.items ++ section_swaps (fate_by l.failure) l.number l.section l.index (drop l.index (places_in l.database l.number))
     ≡ l.fn.swaps.items ++ section_swaps (fate_by l.failure) l.number l.section 0 (places_in l.database l.number)

@@ -4,12 +4,12 @@ use Rattle.edit_script.specs.declared.edit.Edit.TheVariants.{FailRouter}
 use Rattle.edit_history.specs.declared.fault.EditFault.{EditFault}
 use Rattle.edit_history.specs.Rules.{by_fates}
 use Rattle.edit_history.specs.Effect.{router_fate}
-use Rattle.edit_history.specs.Plans.{swaps_from}
+use Rattle.edit_history.specs.steps.Plans.{swaps_from}
 use Rattle.edit_history.specs.Applied.{IsRefused}
-use Rattle.edit_history.proofs.Searched.{exists_at}
-use Rattle.edit_history.proofs.Follows.{planned_here, no_memory}
-use Rattle.edit_history.proofs.Failed.{router_follows, section_turn, section_end}
-use Rattle.edit_history.proofs.FailedRows.{router_none, router_ruled}
+use Rattle.edit_history.proofs.Searches.{exists_at}
+use Rattle.edit_history.proofs.RulesCarriedOut.{planned_here, no_memory}
+use Rattle.edit_history.proofs.FailureFates.{router_follows, section_turn, section_end}
+use Rattle.edit_history.proofs.FailureRules.{router_none, router_ruled}
 use Rattle.edit_history.proofs.failures.plan_fail_router.Goals as goal
 
 pub returns-then-not-has_router-clause-refused : goal.returns-then-not-has_router-clause-refused
@@ -25,16 +25,22 @@ add_swaps-requires g c = exists_at c.args.database.now c.loop-number.number (ome
 
 pub loop-number-preserved : goal.loop-number-preserved
 loop-number-preserved g c =
-    section_turn (router_fate c.args.router) c.args.database.now c.loop-number.number (c.loop-number.number + 1) c.section_name-section.result _ _ _ (omega arith) (omega arith) c.section_name-section.ensures c.in_ok-add_swaps.ensures.swaps c.loop-number.invariant
+    section_turn (router_fate c.args.router) c.args.database.now c.loop-number.number (c.loop-number.number + 1) c.section_name-section.result _ _ _
+    (omega arith) (omega arith) c.section_name-section.ensures c.in_ok-add_swaps.ensures.swaps c.loop-number.invariant
 
 pub returns-in_err-add_swaps-clause-refused : goal.returns-in_err-add_swaps-clause-refused
 returns-in_err-add_swaps-clause-refused g c =
     let gave = err_from_is_err_and c.from_residual.result c.from_residual.ensures.1 in
     let there : c.has_router.result ≡ true = search rules in
-    rw (gave.1, gave.2) (subst (λ (e : EditFault). IsRefused c.args.database.now (FailRouter c.args.router) e) (sym c.in_err-add_swaps.ensures.memory) (no_memory c.args.database.now (FailRouter c.args.router) _ (router_ruled c.args.database.now c.args.router (sym c.has_router.ensures ∙ there))))
+    rw (gave.1, gave.2) (subst (λ (e : EditFault). IsRefused c.args.database.now (FailRouter c.args.router) e) (sym c.in_err-add_swaps.ensures.memory)
+    (no_memory c.args.database.now (FailRouter c.args.router) _
+    (router_ruled c.args.database.now c.args.router (sym c.has_router.ensures ∙ there))))
 
 pub returns-clause-planned : goal.returns-clause-planned
 returns-clause-planned g c =
     let there : c.has_router.result ≡ true = search rules in
-    planned_here c.args.database.now (FailRouter c.args.router) (by_fates (λ head. router_fate c.args.router)) (swaps_from (λ head. router_fate c.args.router) 0 c.args.database.now) c.loop-number.swaps.items (router_ruled c.args.database.now c.args.router (sym c.has_router.ensures ∙ there))
-    (router_follows c.args.database.now c.args.router c.known.ensures) (section_end (router_fate c.args.router) c.args.database.now c.loop-number.number _ _ (omega arith) c.loop-number.invariant)
+    planned_here c.args.database.now (FailRouter c.args.router) (by_fates (λ head. router_fate c.args.router))
+    (swaps_from (λ head. router_fate c.args.router) 0 c.args.database.now) c.loop-number.swaps.items
+    (router_ruled c.args.database.now c.args.router (sym c.has_router.ensures ∙ there))
+    (router_follows c.args.database.now c.args.router c.known.ensures)
+    (section_end (router_fate c.args.router) c.args.database.now c.loop-number.number _ _ (omega arith) c.loop-number.invariant)

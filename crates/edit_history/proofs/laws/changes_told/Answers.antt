@@ -1,4 +1,4 @@
-use Rattle.edit_history.proofs.Telling.{applied_tells, done_tells, undone_tells}
+use Rattle.edit_history.proofs.RecordChanges.{applied_tells, done_tells, undone_tells}
 use Rattle.edit_history.proofs.laws.changes_told.Goals as goal
 
 pub returns : goal.returns

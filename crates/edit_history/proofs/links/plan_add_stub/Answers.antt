@@ -1,12 +1,12 @@
 use Rattle.std.proofs.Common.{◌+◌, ◌<◌, ◌≤◌, length, sym, ap, ◌∙◌, subst, arith}
 use Rattle.std.proofs.lemmas.Result.{err_from_is_err_and}
+use Rattle.lsa_codec.specs.Key.{router_key}
 use Rattle.lsdb.specs.declared.section.Section.TheVariants.{Area}
 use Rattle.edit_script.specs.declared.edit.Edit.TheVariants.{AddStub}
 use Rattle.edit_history.specs.declared.fault.EditFault.{EditFault}
-use Rattle.edit_history.specs.Effect.{router_key}
 use Rattle.edit_history.specs.Applied.{IsRefused}
-use Rattle.edit_history.proofs.Finding.{kind_is}
-use Rattle.edit_history.proofs.Stubs.{stub_no_router, stub_too_long, stub_full, stub_memory, stub_fault, stub_planned}
+use Rattle.edit_history.proofs.NamedLsas.{kind_is}
+use Rattle.edit_history.proofs.StubEdits.{stub_no_router, stub_too_long, stub_full, stub_memory, stub_fault, stub_planned}
 use Rattle.edit_history.proofs.links.plan_add_stub.Goals as goal
 
 pub returns-in_err-slot-clause-refused : goal.returns-in_err-slot-clause-refused
@@ -15,19 +15,28 @@ returns-in_err-slot-clause-refused g c =
     rw (gave.1, gave.2) (stub_no_router c.args.database.now c.args.area c.args.router c.args.prefix c.args.metric c.in_err-slot.field-0.0 c.in_err-slot.ensures.refused)
 
 pub returns-then-bytes-from-gt-LONGEST_LSA-clause-refused : goal.returns-then-bytes-from-gt-LONGEST_LSA-clause-refused
-returns-then-bytes-from-gt-LONGEST_LSA-clause-refused g c = stub_too_long c.args.database.now c.args.area c.args.router c.args.prefix c.args.metric c.in_ok-slot.slot c.in_ok-slot.lsa.now c.in_ok-slot.ensures.found (let long : 65535 < length c.in_ok-slot.lsa.now + 12 = omega (arith, ap length c.bytes.ensures.bytes, c.if-bytes-from-gt-LONGEST_LSA.true) in long)
+returns-then-bytes-from-gt-LONGEST_LSA-clause-refused g c =
+    stub_too_long c.args.database.now c.args.area c.args.router c.args.prefix c.args.metric c.in_ok-slot.slot c.in_ok-slot.lsa.now c.in_ok-slot.ensures.found (let long : 65535 < length c.in_ok-slot.lsa.now + 12 = omega (arith, ap length c.bytes.ensures.bytes, c.if-bytes-from-gt-LONGEST_LSA.true) in long)
 
 pub returns-then-is_dump_full-clause-refused : goal.returns-then-is_dump_full-clause-refused
-returns-then-is_dump_full-clause-refused g c = stub_full c.args.database.now c.args.area c.args.router c.args.prefix c.args.metric c.in_ok-slot.slot c.in_ok-slot.lsa.now c.in_ok-slot.ensures.found (let short : length c.in_ok-slot.lsa.now + 12 ≤ 65535 = omega (arith, ap length c.bytes.ensures.bytes, c.if-bytes-from-gt-LONGEST_LSA.false) in short) (sym c.is_dump_full.ensures ∙ c.if-is_dump_full.true)
+returns-then-is_dump_full-clause-refused g c =
+    stub_full c.args.database.now c.args.area c.args.router c.args.prefix c.args.metric c.in_ok-slot.slot c.in_ok-slot.lsa.now c.in_ok-slot.ensures.found (let short : length c.in_ok-slot.lsa.now + 12 ≤ 65535 = omega (arith, ap length c.bytes.ensures.bytes, c.if-bytes-from-gt-LONGEST_LSA.false) in short) (sym c.is_dump_full.ensures ∙ c.if-is_dump_full.true)
 
 pub with_stub-requires : goal.with_stub-requires
-with_stub-requires g c = record { router = kind_is c.args.database.now (Area c.args.area) (router_key c.args.router.0) c.in_ok-slot.slot c.in_ok-slot.lsa.now c.in_ok-slot.ensures.found }
+with_stub-requires g c =
+    record {
+      router = kind_is c.args.database.now (Area c.args.area)
+          (router_key c.args.router) c.in_ok-slot.slot c.in_ok-slot.lsa.now c.in_ok-slot.ensures.found;
+    }
 
 pub returns-in_err-new-clause-refused : goal.returns-in_err-new-clause-refused
 returns-in_err-new-clause-refused g c =
     let gave = err_from_is_err_and c.from_residual-in_err-new.result c.from_residual-in_err-new.ensures.1 in
-    let fault = stub_fault c.args.prefix c.args.metric c.in_ok-slot.lsa.now c.in_err-new.field-0.0 (let short : length c.in_ok-slot.lsa.now + 12 ≤ 65535 = omega (arith, ap length c.bytes.ensures.bytes, c.if-bytes-from-gt-LONGEST_LSA.false) in short) c.in_err-new.ensures.fault in
-    rw (gave.1, gave.2) (subst (λ (f : EditFault). IsRefused c.args.database.now (AddStub c.args.area c.args.router c.args.prefix c.args.metric) f) (sym fault) (stub_memory c.args.database.now c.args.area c.args.router c.args.prefix c.args.metric c.in_ok-slot.slot c.in_ok-slot.lsa.now c.in_ok-slot.ensures.found (let short : length c.in_ok-slot.lsa.now + 12 ≤ 65535 = omega (arith, ap length c.bytes.ensures.bytes, c.if-bytes-from-gt-LONGEST_LSA.false) in short) (sym c.is_dump_full.ensures ∙ c.if-is_dump_full.false)))
+    let fault = stub_fault c.args.prefix c.args.metric c.in_ok-slot.lsa.now c.in_err-new.field-0.0
+    (let short : length c.in_ok-slot.lsa.now + 12 ≤ 65535 = omega
+    (arith, ap length c.bytes.ensures.bytes, c.if-bytes-from-gt-LONGEST_LSA.false) in short) c.in_err-new.ensures.fault in
+    rw (gave.1, gave.2) (subst (λ (f : EditFault). IsRefused c.args.database.now (AddStub c.args.area c.args.router c.args.prefix c.args.metric) f)
+    (sym fault) (stub_memory c.args.database.now c.args.area c.args.router c.args.prefix c.args.metric c.in_ok-slot.slot c.in_ok-slot.lsa.now c.in_ok-slot.ensures.found (let short : length c.in_ok-slot.lsa.now + 12 ≤ 65535 = omega (arith, ap length c.bytes.ensures.bytes, c.if-bytes-from-gt-LONGEST_LSA.false) in short) (sym c.is_dump_full.ensures ∙ c.if-is_dump_full.false)))
 
 pub returns-in_err-one_swap-clause-refused : goal.returns-in_err-one_swap-clause-refused
 returns-in_err-one_swap-clause-refused g c =

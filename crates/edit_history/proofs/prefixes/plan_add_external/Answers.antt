@@ -4,13 +4,14 @@ use Rattle.edit_script.specs.declared.edit.Edit.TheVariants.{AddExternal}
 use Rattle.edit_history.specs.declared.fault.EditFault.{EditFault}
 use Rattle.edit_history.specs.Fault.{fault_of}
 use Rattle.edit_history.specs.Applied.{IsRefused}
-use Rattle.edit_history.proofs.AddedRows.{external_no_router, external_no_room, external_memory, external_planned}
+use Rattle.edit_history.proofs.AdditionRules.{external_no_router, external_no_room, external_memory, external_planned}
 use Rattle.edit_history.proofs.prefixes.plan_add_external.Goals as goal
 
 pub returns-then-not-has_router-clause-refused : goal.returns-then-not-has_router-clause-refused
 returns-then-not-has_router-clause-refused g c =
     let none : c.has_router.result ≡ false = search rules in
-    external_no_router c.args.database.now c.args.router c.args.prefix c.args.metric_type c.args.metric c.args.forward c.args.tag (sym c.has_router.ensures ∙ none)
+    external_no_router c.args.database.now c.args.router c.args.prefix c.args.metric_type c.args.metric c.args.forward c.args.tag
+    (sym c.has_router.ensures ∙ none)
 
 pub returns-in_err-check_room-clause-refused : goal.returns-in_err-check_room-clause-refused
 returns-in_err-check_room-clause-refused g c =
@@ -20,7 +21,10 @@ returns-in_err-check_room-clause-refused g c =
 pub returns-in_err-lsa-clause-refused : goal.returns-in_err-lsa-clause-refused
 returns-in_err-lsa-clause-refused g c =
     let gave = err_from_is_err_and c.from_residual-in_err-lsa.result c.from_residual-in_err-lsa.ensures.1 in
-    rw (gave.1, gave.2) (subst (λ (f : EditFault). IsRefused c.args.database.now (AddExternal c.args.router c.args.prefix c.args.metric_type c.args.metric c.args.forward c.args.tag) f) (sym (ap fault_of c.in_err-lsa.ensures.fault)) (external_memory c.args.database.now c.args.router c.args.prefix c.args.metric_type c.args.metric c.args.forward c.args.tag c.new_key-key.result (let there : c.has_router.result ≡ true = search rules in sym c.has_router.ensures ∙ there) (record { is_net = c.new_key-key.ensures.prefix; addr = c.new_key-key.ensures.addr; wide = c.new_key-key.ensures.router }) c.new_key-key.ensures.key c.in_ok-check_room.ensures.room))
+    rw (gave.1, gave.2) (subst (λ (f : EditFault). IsRefused c.args.database.now
+    (AddExternal c.args.router c.args.prefix c.args.metric_type c.args.metric c.args.forward c.args.tag) f)
+    (sym (ap fault_of c.in_err-lsa.ensures.fault))
+    (external_memory c.args.database.now c.args.router c.args.prefix c.args.metric_type c.args.metric c.args.forward c.args.tag c.new_key-key.result (let there : c.has_router.result ≡ true = search rules in sym c.has_router.ensures ∙ there) (record { is_net = c.new_key-key.ensures.prefix; addr = c.new_key-key.ensures.addr; wide = c.new_key-key.ensures.router }) c.new_key-key.ensures.key c.in_ok-check_room.ensures.room))
 
 pub returns-clause-planned : goal.returns-clause-planned
 returns-clause-planned g c =
@@ -31,4 +35,7 @@ returns-clause-planned g c =
 pub returns-clause-refused : goal.returns-clause-refused
 returns-clause-refused g c =
     let there : c.has_router.result ≡ true = search rules in
-    IfErr-weaker c.plan_new.result _ _ (λ f is. subst (λ (e : EditFault). IsRefused c.args.database.now (AddExternal c.args.router c.args.prefix c.args.metric_type c.args.metric c.args.forward c.args.tag) e) (sym is) (external_memory c.args.database.now c.args.router c.args.prefix c.args.metric_type c.args.metric c.args.forward c.args.tag c.new_key-key.result (sym c.has_router.ensures ∙ there) (record { is_net = c.new_key-key.ensures.prefix; addr = c.new_key-key.ensures.addr; wide = c.new_key-key.ensures.router }) c.new_key-key.ensures.key c.in_ok-check_room.ensures.room)) c.plan_new.ensures.memory
+    IfErr-weaker c.plan_new.result _ _ (λ f is. subst
+    (λ (e : EditFault). IsRefused c.args.database.now
+    (AddExternal c.args.router c.args.prefix c.args.metric_type c.args.metric c.args.forward c.args.tag) e) (sym is)
+    (external_memory c.args.database.now c.args.router c.args.prefix c.args.metric_type c.args.metric c.args.forward c.args.tag c.new_key-key.result (sym c.has_router.ensures ∙ there) (record { is_net = c.new_key-key.ensures.prefix; addr = c.new_key-key.ensures.addr; wide = c.new_key-key.ensures.router }) c.new_key-key.ensures.key c.in_ok-check_room.ensures.room)) c.plan_new.ensures.memory

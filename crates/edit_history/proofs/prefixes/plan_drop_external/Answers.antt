@@ -1,5 +1,5 @@
 use Rattle.std.proofs.lemmas.Result.{err_from_is_err_and}
-use Rattle.edit_history.proofs.Told.{external_none, external_memory, external_planned}
+use Rattle.edit_history.proofs.PrefixEdits.{external_none, external_memory, external_planned}
 use Rattle.edit_history.proofs.prefixes.plan_drop_external.Goals as goal
 
 pub returns-in_default-clause-refused : goal.returns-in_default-clause-refused
@@ -11,4 +11,5 @@ returns-in_err-one_swap-clause-refused g c =
     rw (gave.1, gave.2) (external_memory c.args.database.now c.args.router c.args.prefix c.in-Some.slot c.in-Some.field-0-1.now c.in-Some.ensures)
 
 pub returns-clause-planned : goal.returns-clause-planned
-returns-clause-planned g c = external_planned c.args.database.now c.args.router c.args.prefix c.in-Some.slot c.in-Some.field-0-1.now c.new-swap.result c.in_ok-one_swap.field-0.items c.known.ensures c.in-Some.ensures c.new-swap.ensures c.in_ok-one_swap.ensures
+returns-clause-planned g c =
+    external_planned c.args.database.now c.args.router c.args.prefix c.in-Some.slot c.in-Some.field-0-1.now c.new-swap.result c.in_ok-one_swap.field-0.items c.known.ensures c.in-Some.ensures c.new-swap.ensures c.in_ok-one_swap.ensures

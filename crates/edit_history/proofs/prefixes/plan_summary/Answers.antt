@@ -5,24 +5,30 @@ use Rattle.edit_script.specs.declared.edit.Edit.TheVariants.{Summary}
 use Rattle.edit_history.specs.declared.fault.EditFault.{EditFault}
 use Rattle.edit_history.specs.Fault.{fault_of}
 use Rattle.edit_history.specs.Applied.{IsRefused}
-use Rattle.edit_history.proofs.Told.{summary_no_area, summary_none, has_summary_metric, summary_memory, summary_planned}
+use Rattle.edit_history.proofs.PrefixEdits.{summary_no_area, summary_none, has_summary_metric, summary_memory, summary_planned}
 use Rattle.edit_history.proofs.prefixes.plan_summary.Goals as goal
 
 pub returns-in_err-area_section-clause-refused : goal.returns-in_err-area_section-clause-refused
 returns-in_err-area_section-clause-refused g c =
     let gave = err_from_is_err_and c.from_residual.result c.from_residual.ensures.1 in
-    rw (gave.1, gave.2) (subst (λ (f : EditFault). IsRefused c.args.database.now (Summary c.args.area c.args.router c.args.prefix c.args.metric) f) (sym c.in_err-area_section.ensures.refused.0) (summary_no_area c.args.database.now c.args.area c.args.router c.args.prefix c.args.metric c.in_err-area_section.ensures.refused.1))
+    rw (gave.1, gave.2) (subst (λ (f : EditFault). IsRefused c.args.database.now (Summary c.args.area c.args.router c.args.prefix c.args.metric) f)
+    (sym c.in_err-area_section.ensures.refused.0)
+    (summary_no_area c.args.database.now c.args.area c.args.router c.args.prefix c.args.metric c.in_err-area_section.ensures.refused.1))
 
 pub returns-in_default-clause-refused : goal.returns-in_default-clause-refused
-returns-in_default-clause-refused g c = summary_none c.args.database.now c.args.area c.args.router c.args.prefix c.args.metric c.in_ok-area_section.field-0 c.in_ok-area_section.ensures.found c.in_default.ensures
+returns-in_default-clause-refused g c =
+    summary_none c.args.database.now c.args.area c.args.router c.args.prefix c.args.metric c.in_ok-area_section.field-0 c.in_ok-area_section.ensures.found c.in_default.ensures
 
 pub with_metric-requires-clause-kind : goal.with_metric-requires-clause-kind
-with_metric-requires-clause-kind g c = has_summary_metric c.args.database.now c.args.area c.args.router c.args.prefix c.in-Some.slot c.in-Some.lsa.now c.in-Some.ensures
+with_metric-requires-clause-kind g c =
+    has_summary_metric c.args.database.now c.args.area c.args.router c.args.prefix c.in-Some.slot c.in-Some.lsa.now c.in-Some.ensures
 
 pub returns-in_err-new-clause-refused : goal.returns-in_err-new-clause-refused
 returns-in_err-new-clause-refused g c =
     let gave = err_from_is_err_and c.from_residual-in_err-new.result c.from_residual-in_err-new.ensures.1 in
-    rw (gave.1, gave.2) (subst (λ (f : EditFault). IsRefused c.args.database.now (Summary c.args.area c.args.router c.args.prefix c.args.metric) f) (sym (ap fault_of c.in_err-new.ensures.fault)) (summary_memory c.args.database.now c.args.area c.args.router c.args.prefix c.args.metric c.in-Some.slot c.in-Some.lsa.now c.in-Some.ensures))
+    rw (gave.1, gave.2) (subst (λ (f : EditFault). IsRefused c.args.database.now (Summary c.args.area c.args.router c.args.prefix c.args.metric) f)
+    (sym (ap fault_of c.in_err-new.ensures.fault))
+    (summary_memory c.args.database.now c.args.area c.args.router c.args.prefix c.args.metric c.in-Some.slot c.in-Some.lsa.now c.in-Some.ensures))
 
 pub returns-in_err-one_swap-clause-refused : goal.returns-in_err-one_swap-clause-refused
 returns-in_err-one_swap-clause-refused g c =

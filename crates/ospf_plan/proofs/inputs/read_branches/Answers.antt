@@ -1,7 +1,7 @@
 use Rattle.std.proofs.Common.{ap, Err}
 use Rattle.streams.specs.Watched.{inner_of}
 use Rattle.streams.specs.WholeText.{IsAll}
-use Rattle.ospf_plan.proofs.Runs.{too_large, known_first}
+use Rattle.ospf_plan.proofs.KnownInputs.{too_large, known_first}
 use Rattle.ospf_plan.proofs.inputs.read_branches.Goals as goal
 
 pub returns-in-Err-TooLarge-clause-refused : goal.returns-in-Err-TooLarge-clause-refused

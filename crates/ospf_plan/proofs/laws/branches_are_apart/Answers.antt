@@ -1,4 +1,4 @@
-use Rattle.ospf_plan.proofs.Apart.{answers_alone, session_alone}
+use Rattle.ospf_plan.proofs.BranchesApart.{answers_alone, session_alone}
 use Rattle.ospf_plan.proofs.laws.branches_are_apart.Goals as goal
 
 pub returns-clause-answers : goal.returns-clause-answers

@@ -1,6 +1,7 @@
 use Rattle.streams.specs.Watched.{inner_of}
 use Rattle.streams.specs.WholeText.{IsAll}
-use Rattle.ospf_plan.proofs.Runs.{if_written, if_prefix, if_counted, if_dump, if_nothing}
+use Rattle.ospf_plan.specs.Run.{run_text}
+use Rattle.ospf_plan.proofs.KnownInputs.{if_written, if_written_kept, if_prefix, if_prefix_kept, if_counted, if_dump, if_nothing}
 use Rattle.ospf_plan.proofs.running.answer_all.Goals as goal
 
 pub returns-in_err-text-clause-prefix : goal.returns-in_err-text-clause-prefix
@@ -11,10 +12,15 @@ returns-in_err-summary-clause-prefix g c =
     let all : IsAll (g.S.Read.remaining (inner_of c.args.script.now)) c.as_slice.result.now = rw c.as_slice.ensures.value c.in_ok-text.ensures.whole in
     if_prefix _ _ _ _ _ _ c.in_ok-branches.ensures.loads all c.answer_script.ensures.prefix
 
+pub returns-in_err-flush-clause-prefix : goal.returns-in_err-flush-clause-prefix
+returns-in_err-flush-clause-prefix g c =
+    let all : IsAll (g.S.Read.remaining (inner_of c.args.script.now)) c.as_slice.result.now = rw c.as_slice.ensures.value c.in_ok-text.ensures.whole in
+    if_prefix_kept _ _ _ _ _ run_text (if_prefix _ _ _ _ _ _ c.in_ok-branches.ensures.loads all c.answer_script.ensures.prefix) c.flush.ensures.bytes
+
 pub returns-clause-replies : goal.returns-clause-replies
 returns-clause-replies g c =
     let all : IsAll (g.S.Read.remaining (inner_of c.args.script.now)) c.as_slice.result.now = rw c.as_slice.ensures.value c.in_ok-text.ensures.whole in
-    if_written _ _ _ _ _ _ c.in_ok-branches.ensures.loads all c.in_ok-summary.ensures.whole
+    if_written_kept _ _ _ _ _ run_text (if_written _ _ _ _ _ _ c.in_ok-branches.ensures.loads all c.in_ok-summary.ensures.whole) c.flush.ensures.bytes
 
 pub returns-clause-dump : goal.returns-clause-dump
 returns-clause-dump g c =
@@ -29,4 +35,4 @@ returns-clause-summary g c =
 pub returns-clause-prefix : goal.returns-clause-prefix
 returns-clause-prefix g c =
     let all : IsAll (g.S.Read.remaining (inner_of c.args.script.now)) c.as_slice.result.now = rw c.as_slice.ensures.value c.in_ok-text.ensures.whole in
-    if_prefix _ _ _ _ _ _ c.in_ok-branches.ensures.loads all c.answer_script.ensures.prefix
+    if_prefix_kept _ _ _ _ _ run_text (if_prefix _ _ _ _ _ _ c.in_ok-branches.ensures.loads all c.answer_script.ensures.prefix) c.flush.ensures.bytes

@@ -2,9 +2,9 @@ use Rattle.std.proofs.Common.{◌≡◌, ◌+◌, false, length}
 use Rattle.streams.specs.Watched.{inner_of, has_failed}
 use Rattle.ospf_plan.specs.Branches.{sessions_of}
 use Rattle.ospf_plan.specs.Run.{lines_of, answers}
-use Rattle.ospf_plan.specs.Lines.{lines_left}
+use Rattle.ospf_plan.specs.steps.Lines.{lines_left}
 use Rattle.ospf_plan.specs.WholeRun.{refused_count}
-use Rattle.ospf_plan.proofs.Steps.{turns_left, Written}
+use Rattle.ospf_plan.proofs.ScriptLines.{turns_left, Written}
 use Rattle.ospf_plan.proofs.script.answer_script.Given as goal
 
 abbrev pub invariant-lines : goal.invariant-lines

@@ -2,7 +2,7 @@ use Rattle.std.proofs.Common.{List, ◌++◌, sym, ◌∙◌, ap}
 use Rattle.area_graph.specs.Rising.{rising}
 use Rattle.next_hops.specs.declared.hop.Hop.{Hop}
 use Rattle.next_hops.specs.Hop.{hop_cmp}
-use Rattle.next_hops.proofs.Inserted.{rising-sorted}
+use Rattle.next_hops.proofs.HopLemmas.{rising-sorted}
 use Rattle.area_routes.specs.Reached.{ReachedValue}
 use Rattle.area_routes.proofs.reached.Reached.hop_list.Goals as goal
 

@@ -8,7 +8,8 @@ loop-step-preserved g c =
     let kept = c.loop-step.invariant in
     record {
       linked = c.step_back.ensures.linked;
-      session = back_more (session_of c.args.database.now c.args.self.now.lists) _ _ c.loop-step._step (c.loop-step._step + 1) (add-one c.loop-step._step)
+      session = back_more (session_of c.args.database.now c.args.self.now.lists) _ _ c.loop-step._step (c.loop-step._step + 1)
+          (add-one c.loop-step._step)
           (omega (arith, done_len c.args.database.now c.args.self.now.lists, c.loop-step-test.true, c.requires.some)) kept.session c.step_back.ensures.session;
       left = omega (arith, c.step_back.ensures.count, kept.left);
     }

@@ -8,6 +8,7 @@ loop-step-preserved g c =
     let kept = c.loop-step.invariant in
     record {
       linked = c.step_on.ensures.linked;
-      session = on_more (session_of c.args.database.now c.args.self.now.lists) _ _ c.loop-step._step (c.loop-step._step + 1) (add-one c.loop-step._step) kept.session c.step_on.ensures.session;
+      session = on_more (session_of c.args.database.now c.args.self.now.lists) _ _ c.loop-step._step (c.loop-step._step + 1)
+          (add-one c.loop-step._step) kept.session c.step_on.ensures.session;
       left = omega (arith, c.step_on.ensures.count, kept.left);
     }

@@ -1,6 +1,7 @@
 use Rattle.std.proofs.Common.{◌≡◌, ◌∙◌, ℕ, List, ap, sym, arith, length, subst}
 use Rattle.lsa_codec.specs.Making.{link_text, recounted}
-use Rattle.lsa_codec.proofs.Relinked.{kept_few, accepted_links, has_texts, finished, length-body, body_of}
+use Rattle.lsa_codec.proofs.LinkTexts.{body_of}
+use Rattle.lsa_codec.proofs.Relinked.{kept_few, accepted_links, has_texts, finished, length-body}
 use Rattle.lsa_codec.specs.Accepted.{IsAccepted}
 use Rattle.lsa_codec.proofs.lsa.Lsa.with_links.Goals as goal
 

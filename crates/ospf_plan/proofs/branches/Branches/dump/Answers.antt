@@ -4,7 +4,7 @@ use Rattle.lsdb.specs.Lists.{Lists}
 use Rattle.lsdb.specs.Text.{text}
 use Rattle.edit_history.specs.Session.{Session, state}
 use Rattle.ospf_plan.specs.Branches.{Named, sessions_of}
-use Rattle.ospf_plan.proofs.Naming.{session_of_named, session_of_unnamed}
+use Rattle.ospf_plan.proofs.BranchSessions.{session_of_named, session_of_unnamed}
 use Rattle.ospf_plan.proofs.branches.Branches.dump.Goals as goal
 
 pub returns-in-Some-clause-dump : goal.returns-in-Some-clause-dump

@@ -1,0 +1,142 @@
+"""How the program ends: runs of every exit status, with files, pipes and command lines as they come."""
+import dataclasses
+import os
+import pathlib
+import resource
+import shutil
+import subprocess
+
+# The built-in sample: docs/FORMATS.md has its octets.
+SAMPLE = bytes.fromhex(
+    "4f535750 01 01 00000000 00 0002"
+    "00010201 01010101 01010101 80000001 d55a0024 00000001 02020202 0a000001 0100000a"
+    "00010201 02020202 02020202 80000001 62a70030 00000002 01010101 0a000002 0100000a"
+    "0a020000 ffff0000 03000005 0000"
+)
+
+COST = b"cost 0.0.0.0 1.1.1.1 1 65535\n"
+INFO = b"@0 info areas 1 lsas 2 as 0 vbits 0 vlinks 0 done 1 undone 0\n"
+USAGE = "\n\nUsage: ospf-plan [OPTIONS]\n\nFor more information, try '--help'.\n"
+
+
+@dataclasses.dataclass
+class End:
+    """One run: its words, where `FOLDER` stands for the folder of its files, and how it must end."""
+
+    name: str
+    words: str
+    status: int
+    error: str = ""
+    replies: bytes | None = b""
+    stdin: bytes = b""
+    stdout: str = "pipe"
+    # What must stand in the file `out` of the folder; `None` where there may be no such file.
+    out: bytes | None = None
+    memory: int | None = None
+
+
+def edited_sample() -> bytes:
+    """The sample after COST: the metric ffff, and the checksum 2119."""
+    dump = bytearray(SAMPLE)
+    dump[29:31], dump[47:49] = b"\x21\x19", b"\xff\xff"
+    return bytes(dump)
+
+
+ENDS = [
+    # ---- 0: done
+    End("no option, an empty script", "", 0),
+    End("standard input as script", "", 0, replies=b"@0 ok\n" + INFO, stdin=COST + b"info"),
+    End("a dump, a script and --out", "--dump FOLDER/dump --script FOLDER/script --out FOLDER/out", 0,
+        replies=b"@0 ok\n", out=edited_sample()),
+    End("the dump's own file as --out", "--dump FOLDER/out --out FOLDER/out", 0, replies=b"@0 ok\n", stdin=COST,
+        out=edited_sample()),
+    End("an empty script and /dev/full as standard output", "", 0, stdout="full"),
+    # ---- 2: the command line is refused
+    End("an option that is not there", "--frob", 2, f"error: unexpected argument '--frob' found{USAGE}"),
+    End("a word that is no option", "dump", 2, f"error: unexpected argument 'dump' found{USAGE}"),
+    End("an option twice", "--dump a --dump b", 2,
+        f"error: the argument '--dump <FILE>' cannot be used multiple times{USAGE}"),
+    End("an option without its file", "--script", 2,
+        "error: a value is required for '--script <FILE>' but none was supplied\n\n"
+        "For more information, try '--help'.\n"),
+    End("a word that is no text", "--dump \udcff", 2, "error: an argument is not UTF-8 text\n"),
+    # ---- 3: the dump is refused
+    End("an octet behind the dump", "--dump FOLDER/long --out FOLDER/out", 3, "dump: L4 TrailingBytes at 99\n"),
+    End("a refused dump before a script that can not be read", "--dump FOLDER/long --script FOLDER", 3,
+        "dump: L4 TrailingBytes at 99\n"),
+    End("an empty dump", "--dump /dev/null", 3, "dump: L3 Truncated at 0\n"),
+    End("an endless dump", "--dump /dev/zero", 3, "dump: L13 TooLarge at 0\n"),
+    # ---- 4: a file can not be opened, read or written
+    End("no such dump", "--dump FOLDER/none --out FOLDER/out", 4, "file: Open dump\n"),
+    End("no such dump and no such script", "--dump FOLDER/none --script FOLDER/none", 4, "file: Open dump\n"),
+    End("no such script", "--script FOLDER/none --out FOLDER/out", 4, "file: Open script\n"),
+    End("no such script for a refused dump", "--dump FOLDER/long --script FOLDER/none", 4, "file: Open script\n"),
+    End("no such folder for --out", "--out FOLDER/none/out", 4, "file: Open out\n", replies=b"@0 ok\n", stdin=COST),
+    End("a folder as --out", "--out FOLDER", 4, "file: Open out\n", replies=b"@0 ok\n", stdin=COST),
+    End("a folder as dump", "--dump FOLDER --out FOLDER/out", 4, "file: Read\n", stdin=COST),
+    End("a folder as script", "--script FOLDER --out FOLDER/out", 4, "file: Read\n"),
+    End("an endless script", "--script /dev/zero --out FOLDER/out", 4, "file: TooLarge\n"),
+    End("/dev/full as --out", "--out /dev/full", 4, "file: Write\n", replies=b"@0 ok\n", stdin=COST),
+    End("/dev/full as standard output", "--out FOLDER/out", 4, "file: Write\n", stdin=COST, stdout="full"),
+    End("standard output closed", "--out FOLDER/out", 4, "file: Write\n", stdin=COST, stdout="closed"),
+    End("a pipe that nobody reads", "--out FOLDER/out", 4, "file: Write\n", stdin=COST, stdout="unread"),
+    # ---- 5: want of memory
+    End("a large dump and little memory", "--dump FOLDER/large", 5, "memory: OutOfMemory\n", memory=16 << 20),
+]
+
+
+def make_files(folder: pathlib.Path, case: End) -> None:
+    (folder / "dump").write_bytes(SAMPLE)
+    (folder / "script").write_bytes(COST)
+    (folder / "long").write_bytes(SAMPLE + b"\0")
+    if case.memory is not None:
+        with (folder / "large").open("wb") as large:
+            large.truncate(16_777_216)
+    if "--dump FOLDER/out" in case.words:
+        (folder / "out").write_bytes(SAMPLE)
+
+
+def standard_output(kind: str) -> int:
+    """A file descriptor to write to, or that of a pipe to read from."""
+    if kind == "full":
+        return os.open("/dev/full", os.O_WRONLY)
+    if kind == "unread":
+        reader, writer = os.pipe()
+        os.close(reader)
+        return writer
+    return subprocess.PIPE
+
+
+def before_run(case: End):
+    """What the child does before the program starts."""
+
+    def prepare() -> None:
+        if case.stdout == "closed":
+            os.close(1)
+        if case.memory is not None:
+            resource.setrlimit(resource.RLIMIT_AS, (case.memory, case.memory))
+
+    return prepare
+
+
+def differences(case: End, program: str, folder: pathlib.Path) -> list[str]:
+    shutil.rmtree(folder, ignore_errors=True)
+    folder.mkdir()
+    make_files(folder, case)
+    words = [program] + [word.replace("FOLDER", str(folder)) for word in case.words.split()]
+    stdout = standard_output(case.stdout)
+    ended = subprocess.run(words, input=case.stdin, stdout=stdout, stderr=subprocess.PIPE, timeout=120,
+                           preexec_fn=before_run(case))
+    if stdout != subprocess.PIPE:
+        os.close(stdout)
+    found = []
+    if ended.returncode != case.status:
+        found.append(f"status {ended.returncode} for {case.status}")
+    if ended.stderr.decode() != case.error:
+        found.append(f"standard error {ended.stderr.decode()!r}")
+    if case.stdout == "pipe" and ended.stdout != case.replies:
+        found.append("replies")
+    out = folder / "out"
+    if (out.read_bytes() if out.exists() else None) != case.out:
+        found.append("the dump written")
+    return found

@@ -1,0 +1,209 @@
+-- Fates carried out place by place, from the first section to the last.
+use Rattle.std.proofs.Common.{◌≡◌, ℕ, zero, suc, List, [], ◌∷◌, ◌++◌, length, map, append_assoc, length-append, Option, Some, None, refl, sym, ap, ◌∙◌, subst, arith}
+use Rattle.std.specs.Prelude.{All, IsSome, unwrap_or}
+use Rattle.std.specs.List.{filter_map, cons_option}
+use Rattle.lsa_codec.specs.Accepted.{IsAccepted}
+use Rattle.lsa_codec.specs.Fields.{kind_of}
+use Rattle.lsa_codec.specs.Making.{IsRewriteOf}
+use Rattle.lsdb.specs.declared.section.Section.{Section}
+use Rattle.lsdb.specs.declared.slot.SlotId.{SlotId}
+use Rattle.lsdb.specs.Lists.{AreaHead, Lists, IsSection, IsDatabase}
+use Rattle.lsdb.specs.Places.{Place, Places, SectionPlaces, item_at, slot_at, put, put_place, full, section_of, lists_of, IsPutSafe}
+use Rattle.lsdb.proofs.ListLemmas.{all_at_mid}
+use Rattle.lsdb.proofs.PlaceLemmas.{put_safe, section_with, full-cons, between}
+use Rattle.edit_history.specs.Rules.{Fate, stays, removed, rewritten, Fates, by_fates, Change, outcome, change_of, section_name, lists_after, section_after, changes_by}
+use Rattle.edit_history.specs.Exchange.{SwapData, CanDo, done_places, done_swaps, taken}
+use Rattle.edit_history.specs.steps.Plans.{slot_of, swap_for, section_swaps, swaps_from}
+use Rattle.edit_history.specs.Applied.{told}
+use Rattle.edit_history.proofs.RuleOutcomes.{after, change}
+use Rattle.edit_history.proofs.RulesCarriedOut.{Follows}
+
+-- the swaps lead from d to e, each state on the way is a database, and they tell the changes
+pub record Walks (d e : Places) (ss : List SwapData) (cs : List Change) : Type 0 where
+  pub can : CanDo d ss
+  pub leads : done_places d ss ≡ e
+  pub tells : map (told e) (done_swaps d ss) ≡ cs
+
+-- every LSA that is rewritten may stand in the place of the old one
+abbrev pub IsSafeFate : List ℕ → Fate → Type 0
+IsSafeFate x stays = Unit {0}
+IsSafeFate x removed = Unit {0}
+IsSafeFate x (rewritten new) = IsRewriteOf x new
+
+abbrev pub IsSafe : Fates → Type 0
+IsSafe fates = (area : Option AreaHead) (x : List ℕ) → IsAccepted x → IsSafeFate x (fates area x)
+
+abbrev pub section_places : Option AreaHead → List Place → SectionPlaces
+section_places area places = record { area = area; places = places }
+
+abbrev pub place_after : Fates → Option AreaHead → Place → Place
+place_after fates area None = None
+place_after fates area (Some x) = outcome (fates area x) x
+
+abbrev pub places_after : Fates → Places → Places
+places_after fates d = map (λ s. section_places s.area (map (place_after fates s.area) s.places)) d
+
+-- ---- one place in the middle
+
+place_mid : (pre post : List Place) (p v : Place) (i : ℕ) → i ≡ length pre
+    → (put_place v (pre ++ p ∷ post) i ≡ pre ++ v ∷ post) × (item_at (pre ++ p ∷ post) i ≡ Some p)
+place_mid [] post p v zero e = (refl, refl)
+place_mid [] post p v (suc i) e = absurd (omega arith)
+place_mid (q ∷ pre) post p v zero e = absurd (omega arith)
+place_mid (q ∷ pre) post p v (suc i) e = let rest = place_mid pre post p v i (omega arith) in (ap (λ (qs : List Place). q ∷ qs) rest.0, rest.1)
+
+slot_mid : (low high : Places) (area : Option AreaHead) (pre post : List Place) (p v : Place) (section i : ℕ) → section ≡ length low → i ≡ length pre
+    → (put (low ++ section_places area (pre ++ p ∷ post) ∷ high) (slot_of section i) v ≡ low ++ section_places area (pre ++ v ∷ post) ∷ high)
+    × (slot_at (low ++ section_places area (pre ++ p ∷ post) ∷ high) (slot_of section i) ≡ Some p)
+slot_mid [] high area pre post p v zero i e f = let m = place_mid pre post p v i f in
+    (ap (λ (ps : List Place). section_places area ps ∷ high) m.0, m.1)
+slot_mid [] high area pre post p v (suc section) i e f = absurd (omega arith)
+slot_mid (l ∷ low) high area pre post p v zero i e f = absurd (omega arith)
+slot_mid (l ∷ low) high area pre post p v (suc section) i e f = let rest = slot_mid low high area pre post p v section i (omega arith) f in
+    (ap (λ (ls : Places). l ∷ ls) rest.0, rest.1)
+
+-- ---- one swap more
+
+pub walk_swap : (d m e : Places) (slot : SlotId) (name : Section) (x : List ℕ) (v : Place) (ss : List SwapData) (cs : List Change)
+    → IsDatabase (lists_of d) → slot_at d slot ≡ Some (Some x) → IsPutSafe (Some x) v → put d slot v ≡ m → slot_at e slot ≡ Some v
+    → (IsDatabase (lists_of m) → Walks m e ss cs)
+    → Walks d e ((record { slot = slot; section = name; kind = kind_of x; other = v }) ∷ ss)
+    ((record { section = name; kind = kind_of x; old = Some x; new = v }) ∷ cs)
+walk_swap d m e slot name x v ss cs sound at safe made now rest =
+    let next : IsDatabase (lists_of (put d slot v)) = put_safe d slot (Some x) v at safe sound in
+    let r = rest (subst (λ (w : Places). IsDatabase (lists_of w)) made next) in
+    let one : Change → List Change = λ c. c ∷ cs in
+    record {
+      can = (subst (λ (o : Option Place). IsSome o) (sym at) refl, next, subst (λ (w : Places). CanDo w ss) (sym made) r.can);
+      leads = ap (λ (w : Places). done_places w ss) made ∙ r.leads;
+      tells =
+          ap (λ (w : Places). told e (taken d (record { slot = slot; section = name; kind = kind_of x; other = v })) ∷ map (told e)
+          (done_swaps w ss)) made
+          ∙ ap (λ (xs : List Change). told e (taken d (record { slot = slot; section = name; kind = kind_of x; other = v })) ∷ xs) r.tells
+          ∙ ap (λ (o : Option Place). one (record {
+            section = name;
+            kind = kind_of x;
+            old = unwrap_or o None;
+            new = unwrap_or
+                (slot_at e slot) None;
+          })) at
+          ∙ ap (λ (o : Option Place). one (record { section = name; kind = kind_of x; old = Some x; new = unwrap_or o None })) now;
+    }
+
+-- ---- all places
+
+abbrev changed_in : Fates → Option AreaHead → List Place → List Change
+changed_in fates area ps = filter_map (change fates area) (full ps)
+
+pub walk_place : (fates : Fates) (low high : Places) (area : Option AreaHead) (pre post : List Place) (x : List ℕ) (f : Fate) (section i : ℕ)
+    → IsSafe fates → IsSafeFate x f → section ≡ length low → i ≡ length pre
+    → IsDatabase (lists_of (low ++ section_places area (pre ++ Some x ∷ post) ∷ high))
+    → ((v : Place) → IsDatabase (lists_of (low ++ section_places area (pre ++ v ∷ post) ∷ high))
+    → Walks (low ++ section_places area (pre ++ v ∷ post) ∷ high)
+    (low ++ section_places area (pre ++ v ∷ map (place_after fates area) post) ∷ places_after fates high)
+    (section_swaps (fates area) section (section_name area) (suc i) post ++ swaps_from fates (suc section) high)
+    (changed_in fates area post ++ changes_by (by_fates fates) (lists_of high)))
+    → Walks (low ++ section_places area (pre ++ Some x ∷ post) ∷ high)
+    (low ++ section_places area (pre ++ outcome f x ∷ map (place_after fates area) post) ∷ places_after fates high)
+    (cons_option (swap_for (slot_of section i) (section_name area) x f)
+    (section_swaps (fates area) section (section_name area) (suc i) post) ++ swaps_from fates (suc section) high)
+    (cons_option (change_of (section_name area) x f) (changed_in fates area post) ++ changes_by (by_fates fates) (lists_of high))
+walk_place fates low high area pre post x stays section i safe fits e g sound rest = rest (Some x) sound
+walk_place fates low high area pre post x removed section i safe fits e g sound rest =
+    let here = slot_mid low high area pre post (Some x) None section i e g in
+    let there = slot_mid low (places_after fates high) area pre (map (place_after fates area) post) None None section i e g in
+    walk_swap _ _ _ (slot_of section i) (section_name area) x None _ _ sound here.1 tt here.0 there.1 (rest None)
+walk_place fates low high area pre post x (rewritten new) section i safe fits e g sound rest =
+    let here = slot_mid low high area pre post (Some x) (Some new) section i e g in
+    let there = slot_mid low (places_after fates high) area pre (map (place_after fates area) post) (Some new) None section i e g in
+    walk_swap _ _ _ (slot_of section i) (section_name area) x (Some new) _ _ sound here.1 fits here.0 there.1 (rest (Some new))
+
+-- the place that was passed stands with those before it
+shifted : (low high high' : Places) (area : Option AreaHead) (pre post post' : List Place) (v : Place) (ss : List SwapData) (cs : List Change)
+    → (IsDatabase (lists_of (low ++ section_places area ((pre ++ v ∷ []) ++ post) ∷ high))
+    → Walks (low ++ section_places area ((pre ++ v ∷ []) ++ post) ∷ high) (low ++ section_places area ((pre ++ v ∷ []) ++ post') ∷ high') ss cs)
+    → IsDatabase (lists_of (low ++ section_places area (pre ++ v ∷ post) ∷ high))
+    → Walks (low ++ section_places area (pre ++ v ∷ post) ∷ high) (low ++ section_places area (pre ++ v ∷ post') ∷ high') ss cs
+shifted low high high' area pre post post' v ss cs walks sound =
+    let one : (pre ++ v ∷ []) ++ post ≡ pre ++ v ∷ post = append_assoc pre (v ∷ []) post in
+    let two : (pre ++ v ∷ []) ++ post' ≡ pre ++ v ∷ post' = append_assoc pre (v ∷ []) post' in
+    let w = walks (subst (λ (ps : List Place). IsDatabase (lists_of (low ++ section_places area ps ∷ high))) (sym one) sound) in
+    subst (λ (qs : List Place). Walks (low ++ section_places area (pre ++ v ∷ post) ∷ high) (low ++ section_places area qs ∷ high') ss cs) two
+    (subst (λ (ps : List Place). Walks (low ++ section_places area ps ∷ high)
+    (low ++ section_places area ((pre ++ v ∷ []) ++ post') ∷ high') ss cs) one w)
+
+-- the section that was passed stands with those before it
+passed : (low high high' : Places) (l s s' : SectionPlaces) (ss : List SwapData) (cs : List Change)
+    → (IsDatabase (lists_of ((low ++ l ∷ []) ++ s ∷ high)) → Walks ((low ++ l ∷ []) ++ s ∷ high) ((low ++ l ∷ []) ++ s' ∷ high') ss cs)
+    → IsDatabase (lists_of (low ++ l ∷ s ∷ high)) → Walks (low ++ l ∷ s ∷ high) (low ++ l ∷ s' ∷ high') ss cs
+passed low high high' l s s' ss cs walks sound =
+    let one : (low ++ l ∷ []) ++ s ∷ high ≡ low ++ l ∷ s ∷ high = append_assoc low (l ∷ []) (s ∷ high) in
+    let two : (low ++ l ∷ []) ++ s' ∷ high' ≡ low ++ l ∷ s' ∷ high' = append_assoc low (l ∷ []) (s' ∷ high') in
+    let w = walks (subst (λ (d : Places). IsDatabase (lists_of d)) (sym one) sound) in
+    subst (λ (e : Places). Walks (low ++ l ∷ s ∷ high) e ss cs) two (subst (λ (d : Places). Walks d ((low ++ l ∷ []) ++ s' ∷ high') ss cs) one w)
+
+pushed : {X : Type 0} (xs : List X) (x : X) (n : ℕ) → n ≡ length xs → suc n ≡ length (xs ++ x ∷ [])
+pushed xs x n e = omega (arith, e, length-append xs (x ∷ []))
+
+-- what stands at a place is accepted
+pub accepted_at : (d : Places) (slot : SlotId) (x : List ℕ) → slot_at d slot ≡ Some (Some x) → IsDatabase (lists_of d) → IsAccepted x
+accepted_at d slot x at sound =
+    let w = between d slot (Some x) None at in
+    let s = section_with w.area (w.front ++ x ∷ w.back) in
+    let section : IsSection s = all_at_mid IsSection w.low w.high s (subst (All IsSection) w.before sound.sections) in
+    all_at_mid IsAccepted w.front w.back x section.accepted
+
+-- the walk on from place i of a section
+pub walk : (fates : Fates) (low high : Places) (area : Option AreaHead) (pre post : List Place) (section i : ℕ) → IsSafe fates → section ≡ length low
+    → i ≡ length pre
+    → IsDatabase (lists_of (low ++ section_places area (pre ++ post) ∷ high))
+    → Walks (low ++ section_places area (pre ++ post) ∷ high)
+    (low ++ section_places area (pre ++ map (place_after fates area) post) ∷ places_after fates high)
+    (section_swaps (fates area) section (section_name area) i post ++ swaps_from fates (suc section) high)
+    (changed_in fates area post ++ changes_by (by_fates fates) (lists_of high))
+walk fates low [] area pre [] section i safe e g sound = record { can = tt; leads = refl; tells = refl }
+walk fates low (s ∷ high) area pre [] section i safe e g sound =
+    passed low high (places_after fates high) (section_places area (pre ++ [])) s
+    (section_places s.area (map (place_after fates s.area) s.places)) _ _
+    (walk fates (low ++ section_places area (pre ++ []) ∷ []) high s.area [] s.places (suc section) 0 safe
+    (pushed low (section_places area (pre ++ [])) section e) refl) sound
+walk fates low high area pre (None ∷ post) section i safe e g sound =
+    shifted low high (places_after fates high) area pre post (map (place_after fates area) post) None _ _
+    (walk fates low high area (pre ++ None ∷ []) post section (suc i) safe e (pushed pre None i g)) sound
+walk fates low high area pre (Some x ∷ post) section i safe e g sound =
+    let there = slot_mid low high area pre post (Some x) None section i e g in
+    let accepted : IsAccepted x = accepted_at (low ++ section_places area (pre ++ Some x ∷ post) ∷ high) (slot_of section i) x there.1 sound in
+    let w = walk_place fates low high area pre post x (fates area x) section i safe (safe area x accepted) e g sound
+    (λ v. shifted low high (places_after fates high) area pre post (map (place_after fates area) post) v _ _
+    (walk fates low high area (pre ++ v ∷ []) post section (suc i) safe e (pushed pre v i g))) in
+    w
+
+-- all fates, carried out at all places
+pub walked : (fates : Fates) (d : Places) → IsSafe fates → IsDatabase (lists_of d)
+    → Walks d (places_after fates d) (swaps_from fates 0 d) (changes_by (by_fates fates) (lists_of d))
+walked fates [] safe sound = record { can = tt; leads = refl; tells = refl }
+walked fates (s ∷ ss) safe sound = walk fates [] ss s.area [] s.places 0 0 safe refl refl sound
+
+full-after : (fates : Fates) (area : Option AreaHead) (ps : List Place)
+    → full (map (place_after fates area) ps) ≡ filter_map (after fates area) (full ps)
+full-after fates area [] = refl
+full-after fates area (None ∷ ps) = full-after fates area ps
+full-after fates area (Some x ∷ ps) =
+    full-cons (outcome (fates area x) x) (map (place_after fates area) ps) ∙ ap (cons_option (outcome (fates area x) x)) (full-after fates area ps)
+
+-- the places show what the fates leave of the lists
+pub lists-after : (fates : Fates) (d : Places) → lists_of (places_after fates d) ≡ lists_after (by_fates fates) (lists_of d)
+lists-after fates [] = refl
+lists-after fates (s ∷ ss) =
+    ap (λ (xs : List (List ℕ)). section_with s.area xs ∷ lists_of (places_after fates ss)) (full-after fates s.area s.places)
+    ∙ ap (λ (ts : Lists). section_after (by_fates fates) (section_of s) ∷ ts) (lists-after fates ss)
+
+-- the swaps of all places do what the fates say
+pub walks_follow : (fates : Fates) (d : Places) → IsSafe fates → IsDatabase (lists_of d) → Follows d (by_fates fates) (swaps_from fates 0 d)
+walks_follow fates d safe sound =
+    let w = walked fates d safe sound in
+    record {
+      can = w.can;
+      leads = sym (ap lists_of w.leads ∙ lists-after fates d);
+      tells = sym (ap (λ (e : Places). map (told e) (done_swaps d (swaps_from fates 0 d))) w.leads ∙ w.tells);
+    }

@@ -1,0 +1,103 @@
+-- The LSAs that an edit names.
+use Rattle.std.proofs.Common.{◌≡◌, ◌≢◌, ℕ, List, Option, Some, None, Result, Ok, Err, refl, sym, ap, ◌∙◌, subst, rules}
+use Rattle.std.specs.Prelude.{IsSome}
+use Rattle.std.specs.List.{find}
+use Rattle.lsa_codec.specs.declared.address.AreaId.{AreaId}
+use Rattle.lsa_codec.specs.declared.address.RouterId.{RouterId}
+use Rattle.lsa_codec.specs.declared.key.Key.{Key}
+use Rattle.lsa_codec.specs.Fields.{kind_of}
+use Rattle.lsa_codec.specs.Key.{key_of, router_key}
+use Rattle.lsdb.specs.declared.section.Section.{Section}
+use Rattle.lsdb.specs.declared.section.Section.TheVariants.{Area}
+use Rattle.lsdb.specs.declared.slot.SlotId.{SlotId}
+use Rattle.lsdb.specs.Lists.{SectionLsas, Lists, is_section, has_key, lsas_of}
+use Rattle.lsdb.specs.Places.{Place, Places, slot_at, lists_of, lsas_or_none, IsNamed, IsPlaceOf}
+use Rattle.edit_history.specs.declared.fault.EditFault.{EditFault}
+use Rattle.edit_history.specs.declared.fault.EditFault.TheVariants.{NoArea, NoRouter, OutOfMemory}
+use Rattle.edit_history.specs.Effect.{router_lsa_in, router_lsa_of, area_of, or_refused, ◌>>=◌}
+use Rattle.edit_history.specs.steps.Plans.{IsFirst}
+use Rattle.edit_history.proofs.Keys.{same_key_true, found_passes}
+
+-- ---- the area
+
+pub no_area : (db : Lists) (area : AreaId) → find (is_section (Area area)) db ≡ None → area_of db area ≡ Err NoArea
+no_area db area none = ap (λ (o : Option SectionLsas). or_refused NoArea o) none
+
+-- the area, where it is there
+pub record HasArea (db : Lists) (area : AreaId) : Type 0 where
+  pub section : SectionLsas
+  pub found : find (is_section (Area area)) db ≡ Some section
+  pub is : area_of db area ≡ Ok section
+  pub lsas : lsas_of (Area area) db ≡ section.lsas
+
+pub has_area : (db : Lists) (area : AreaId) → IsSome (find (is_section (Area area)) db) → HasArea db area
+has_area db area some = by_answer (find (is_section (Area area)) db) refl some where
+  by_answer : (o : Option SectionLsas) → find (is_section (Area area)) db ≡ o → IsSome o → HasArea db area
+  by_answer None is some = absurd (search rules)
+  by_answer (Some s) is some =
+      record { section = s; found = is; is = ap (λ (o : Option SectionLsas). or_refused NoArea o) is; lsas = ap lsas_or_none is }
+
+pub named_there : (d : Places) (name : Section) (i : ℕ) → IsNamed d name i → IsSome (find (is_section name) (lists_of d))
+named_there d name i named = subst (λ (o : Option SectionLsas). IsSome o) named.same named.exists
+
+-- ---- the router-LSA
+
+abbrev pub router_lsa_after : RouterId → Result SectionLsas EditFault → Result (List ℕ) EditFault
+router_lsa_after router s = s >>= λ section. router_lsa_in section router
+
+pub no_router_area : (db : Lists) (area : AreaId) (router : RouterId) → find (is_section (Area area)) db ≡ None
+    → router_lsa_of db area router ≡ Err NoArea
+no_router_area db area router none = ap (router_lsa_after router) (no_area db area none)
+
+pub no_router_in : (db : Lists) (area : AreaId) (router : RouterId) (h : HasArea db area)
+    → find (has_key (router_key router)) (lsas_of (Area area) db) ≡ None → router_lsa_in h.section router ≡ Err NoRouter
+no_router_in db area router h none = ap (or_refused NoRouter) (ap (find (has_key (router_key router))) (sym h.lsas) ∙ none)
+
+pub router_in : (db : Lists) (area : AreaId) (router : RouterId) (lsa : List ℕ) (h : HasArea db area)
+    → find (has_key (router_key router)) (lsas_of (Area area) db) ≡ Some lsa → router_lsa_in h.section router ≡ Ok lsa
+router_in db area router lsa h first = ap (or_refused NoRouter) (ap (find (has_key (router_key router))) (sym h.lsas) ∙ first)
+
+pub no_router : (db : Lists) (area : AreaId) (router : RouterId) → IsSome (find (is_section (Area area)) db)
+    → find (has_key (router_key router)) (lsas_of (Area area) db) ≡ None → router_lsa_of db area router ≡ Err NoRouter
+no_router db area router some none = let h = has_area db area some in ap (router_lsa_after router) h.is ∙ no_router_in db area router h none
+
+pub router_lsa_is : (d : Places) (area : AreaId) (router : RouterId) (slot : SlotId) (lsa : List ℕ)
+    → IsFirst d (Area area) (has_key (router_key router)) slot lsa → router_lsa_of (lists_of d) area router ≡ Ok lsa
+router_lsa_is d area router slot lsa at =
+    let h = has_area (lists_of d) area (named_there d (Area area) slot.section at.named) in
+    ap (router_lsa_after router) h.is ∙ router_in (lists_of d) area router lsa h at.first
+
+-- ---- what was found
+
+pub same_place : (o : Place) (lsa : List ℕ) (p : Option Place) → p ≡ Some o → p ≡ Some (Some lsa) → o ≡ Some lsa
+same_place o lsa p is held = let two : (let q : Option Place = Some o in q) ≡ Some (Some lsa) = sym is ∙ held in cc
+
+-- the LSA of a key that was found, and read at its place
+pub first_of_key : (d : Places) (name : Section) (key named_key : Key) (slot : SlotId) (lsa : List ℕ) → key ≡ named_key → IsPlaceOf d name key slot
+    → slot_at d slot ≡ Some (Some lsa) → IsFirst d name (has_key named_key) slot lsa
+first_of_key d name key named_key slot lsa is place held = record {
+  named = place.named;
+  first = ap (λ (k : Key). find (has_key k) (lsas_of name (lists_of d))) (sym is)
+      ∙ same_place (find (has_key key) (lsas_of name (lists_of d))) lsa (slot_at d slot) place.held held;
+  held = held;
+}
+
+pub key_is : (d : Places) (name : Section) (key : Key) (slot : SlotId) (lsa : List ℕ) → IsFirst d name (has_key key) slot lsa → key_of lsa ≡ key
+key_is d name key slot lsa at = same_key_true (key_of lsa) key (found_passes (has_key key) (lsas_of name (lists_of d)) lsa at.first)
+
+pub kind_is : (d : Places) (name : Section) (key : Key) (slot : SlotId) (lsa : List ℕ) → IsFirst d name (has_key key) slot lsa
+    → kind_of lsa ≡ key.kind
+kind_is d name key slot lsa at = ap (λ (k : Key). k.kind) (key_is d name key slot lsa at)
+
+-- no router-LSA is no want of memory
+not_memory_in : (o : Place) (fault : EditFault) → or_refused NoRouter o ≡ Err fault → fault ≢ OutOfMemory
+not_memory_in None fault is = λ memory. let e : (let r : Result (List ℕ) EditFault = Err NoRouter in r) ≡ Err OutOfMemory =
+    is ∙ ap (λ (f : EditFault). let r : Result (List ℕ) EditFault = Err f in r) memory in cc
+not_memory_in (Some lsa) fault is = absurd cc
+
+pub not_memory : (db : Lists) (area : AreaId) (router : RouterId) (fault : EditFault) → router_lsa_of db area router ≡ Err fault → fault ≢ OutOfMemory
+not_memory db area router fault is = by_section (find (is_section (Area area)) db) is where
+  by_section : (o : Option SectionLsas) → router_lsa_after router (or_refused NoArea o) ≡ Err fault → fault ≢ OutOfMemory
+  by_section None is = λ memory. let e : (let r : Result (List ℕ) EditFault = Err NoArea in r) ≡ Err OutOfMemory =
+      is ∙ ap (λ (f : EditFault). let r : Result (List ℕ) EditFault = Err f in r) memory in cc
+  by_section (Some s) is = not_memory_in (find (has_key (router_key router)) s.lsas) fault is

@@ -1,0 +1,188 @@
+-- Searches: for an LSA of a section, and for a router in any section.
+use Rattle.std.proofs.Common.{◌≡◌, ℕ, zero, suc, ◌<◌, ◌≤◌, Bool, true, false, ◌||◌, List, [], ◌∷◌, length, drop, Option, Some, None, refl, sym, ap, ◌∙◌, subst, arith, rules, cond}
+use Rattle.std.specs.Prelude.{IsSome, is_some, MatchOption}
+use Rattle.std.specs.List.{find, list_any}
+use Rattle.std.proofs.lemmas.List.{drop_all}
+use Rattle.lsa_codec.specs.Key.{router_key}
+use Rattle.lsa_codec.specs.declared.address.RouterId.{RouterId}
+use Rattle.lsa_codec.specs.declared.key.Key.{Key}
+use Rattle.lsdb.specs.declared.section.Section.{Section}
+use Rattle.lsdb.specs.declared.slot.SlotId.{SlotId}
+use Rattle.lsdb.specs.Lists.{SectionLsas, Lists, has_key, is_section, lsas_of}
+use Rattle.lsdb.specs.Places.{Place, Places, SectionPlaces, item_at, slot_at, place_in, full, lists_of, lsas_in, lsas_or_none, places_in, places_or_none, IsNamed, IsPlaceOf}
+use Rattle.edit_history.specs.Effect.{is_in_section}
+use Rattle.edit_history.specs.steps.Plans.{IsFirst, passes, slot_of}
+use Rattle.edit_history.proofs.NamedLsas.{same_place}
+
+-- ---- any and first
+
+pub any_none : {X : Type 0} (p : X → Bool) (xs : List X) → find p xs ≡ None → list_any p xs ≡ false
+any_none p [] e = refl
+any_none p (x ∷ xs) e = by_test (p x) (any_none p xs) e where
+  by_test : (b : Bool) → (find p xs ≡ None → list_any p xs ≡ false) → cond b (Some x) (find p xs) ≡ None → (b || list_any p xs) ≡ false
+  by_test true more e = absurd cc
+  by_test false more e = more e
+
+pub any_some : {X : Type 0} (p : X → Bool) (xs : List X) → IsSome (find p xs) → list_any p xs ≡ true
+any_some p [] e = absurd (search rules)
+any_some p (x ∷ xs) e = by_test (p x) (any_some p xs) e where
+  by_test : (b : Bool) → (IsSome (find p xs) → list_any p xs ≡ true) → IsSome (cond b (Some x) (find p xs)) → (b || list_any p xs) ≡ true
+  by_test true more e = refl
+  by_test false more e = more e
+
+pub none_found : {X : Type 0} (p : X → Bool) (xs : List X) → list_any p xs ≡ false → find p xs ≡ None
+none_found p [] e = refl
+none_found p (x ∷ xs) e = by_test (p x) (none_found p xs) e where
+  by_test : (b : Bool) → (list_any p xs ≡ false → find p xs ≡ None) → (b || list_any p xs) ≡ false → cond b (Some x) (find p xs) ≡ None
+  by_test true more e = absurd cc
+  by_test false more e = more e
+
+-- ---- the items of a list, one after another
+
+-- item i of a list, and what follows it
+pub record Here {X : Type 0} (xs : List X) (i j : ℕ) : Type 0 where
+  pub item : X
+  pub at : item_at xs i ≡ Some item
+  pub rest : drop i xs ≡ item ∷ drop j xs
+
+pub here : {X : Type 0} (xs : List X) (i j : ℕ) → i < length xs → j ≡ suc i → Here xs i j
+here [] i j lt e = absurd (omega arith)
+here (x ∷ xs) zero j lt e = record { item = x; at = refl; rest = ap (λ k. x ∷ drop k (x ∷ xs)) (sym e) }
+here (x ∷ xs) (suc i) j lt e =
+    let next = here xs i (suc i) (omega arith) refl in
+    record { item = next.item; at = next.at; rest = next.rest ∙ ap (λ k. next.item ∷ drop k (x ∷ xs)) (sym e) }
+
+pub exists_at : {X : Type 0} (xs : List X) (i : ℕ) → i < length xs → IsSome (item_at xs i)
+exists_at [] i lt = absurd (omega arith)
+exists_at (x ∷ xs) zero lt = refl
+exists_at (x ∷ xs) (suc i) lt = exists_at xs i (omega arith)
+
+pub lists_count : (d : Places) → length (lists_of d) ≡ length d
+lists_count [] = refl
+lists_count (s ∷ ss) = ap suc (lists_count ss)
+
+pub exists_in_lists : (d : Places) (i : ℕ) → i < length d → IsSome (item_at (lists_of d) i)
+exists_in_lists d i lt = exists_at (lists_of d) i (omega (arith, lists_count d))
+
+-- ---- the places of a section
+
+pub lsas_full : (d : Places) (section : ℕ) → lsas_in d section ≡ full (places_in d section)
+lsas_full [] section = refl
+lsas_full (s ∷ ss) zero = refl
+lsas_full (s ∷ ss) (suc section) = lsas_full ss section
+
+pub there_too : (d : Places) (section : ℕ) → IsSome (item_at (lists_of d) section) → IsSome (item_at d section)
+there_too [] section some = absurd (search rules)
+there_too (s ∷ ss) zero some = refl
+there_too (s ∷ ss) (suc section) some = there_too ss section some
+
+pub place_there : (d : Places) (section i : ℕ) (p : Place) → item_at (places_in d section) i ≡ Some p → slot_at d (slot_of section i) ≡ Some p
+place_there d section i p e = by_item (item_at d section) e where
+  by_item : (o : Option SectionPlaces) → item_at (places_or_none o) i ≡ Some p → place_in o i ≡ Some p
+  by_item None e = absurd cc
+  by_item (Some s) e = e
+
+place_hit : (test : List ℕ → Bool) (p : Place) (rest : List Place) → passes test (Some p) ≡ true → (p ≡ find test (full (p ∷ rest))) × IsSome p
+place_hit test None rest pass = absurd cc
+place_hit test (Some x) rest pass = (sym (ap (λ b. cond b (Some x) (find test (full rest))) pass), refl)
+
+place_miss : (test : List ℕ → Bool) (p : Place) (rest : List Place) → passes test (Some p) ≡ false
+    → find test (full (p ∷ rest)) ≡ find test (full rest)
+place_miss test None rest fail = refl
+place_miss test (Some x) rest fail = ap (λ b. cond b (Some x) (find test (full rest))) fail
+
+pub first_hit : (test : List ℕ → Bool) (d : Places) (section i : ℕ) (b : Bool) → i < length (places_in d section)
+    → b ≡ passes test (slot_at d (slot_of section i)) → b ≡ true
+    → find test (full (drop i (places_in d section))) ≡ find test (full (places_in d section))
+    → (slot_at d (slot_of section i) ≡ Some (find test (lsas_in d section))) × IsSome (find test (lsas_in d section))
+first_hit test d section i b lt is yes' same =
+    let ps = places_in d section in
+    let h = here ps i (suc i) lt refl in
+    let there = place_there d section i h.item h.at in
+    let hit = place_hit test h.item (drop (suc i) ps) (sym (is ∙ ap (passes test) there) ∙ yes') in
+    let found : h.item ≡ find test (lsas_in d section) = hit.0 ∙ ap (λ (qs : List Place). find test (full qs)) (sym h.rest) ∙ same
+    ∙ ap (find test) (sym (lsas_full d section)) in
+    (there ∙ ap Some found, subst IsSome found hit.1)
+
+pub first_miss : (test : List ℕ → Bool) (d : Places) (section i j : ℕ) (b : Bool) → i < length (places_in d section) → j ≡ suc i
+    → b ≡ passes test (slot_at d (slot_of section i)) → b ≡ false
+    → find test (full (drop i (places_in d section))) ≡ find test (full (places_in d section))
+    → find test (full (drop j (places_in d section))) ≡ find test (full (places_in d section))
+first_miss test d section i j b lt e is no' same =
+    let ps = places_in d section in
+    let h = here ps i j lt e in
+    let there = place_there d section i h.item h.at in
+    sym (ap (λ (qs : List Place). find test (full qs)) h.rest ∙ place_miss test h.item (drop j ps) (sym (is ∙ ap (passes test) there) ∙ no')) ∙ same
+
+pub first_none : (test : List ℕ → Bool) (d : Places) (section i : ℕ) → length (places_in d section) ≤ i
+    → find test (full (drop i (places_in d section))) ≡ find test (full (places_in d section)) → find test (lsas_in d section) ≡ None
+first_none test d section i end same =
+    ap (find test) (lsas_full d section) ∙ sym same ∙ ap (λ (qs : List Place). find test (full qs)) (drop_all i (places_in d section) end)
+
+-- ---- a section by its name
+
+pub lsas_named : (d : Places) (name : Section) (i : ℕ) → item_at (lists_of d) i ≡ find (is_section name) (lists_of d)
+    → lsas_in d i ≡ lsas_of name (lists_of d)
+lsas_named d name i same = ap lsas_or_none same
+
+pub first_named : (d : Places) (name : Section) (test : List ℕ → Bool) (i : ℕ) (slot : SlotId) (lsa : List ℕ)
+    → item_at (lists_of d) i ≡ find (is_section name) (lists_of d) → IsSome (item_at (lists_of d) i) → slot.section ≡ i
+    → slot_at d slot ≡ Some (find test (lsas_in d i)) → slot_at d slot ≡ Some (Some lsa) → IsFirst d name test slot lsa
+first_named d name test i slot lsa same some in_section place held = record {
+  named = subst (IsNamed d name) (sym in_section) (record { same = same; exists = some });
+  first = ap (find test) (sym (lsas_named d name i same)) ∙ same_place (find test (lsas_in d i)) lsa (slot_at d slot) place held;
+  held = held;
+}
+
+pub none_named : (d : Places) (name : Section) (test : List ℕ → Bool) (i : ℕ) → item_at (lists_of d) i ≡ find (is_section name) (lists_of d)
+    → find test (lsas_in d i) ≡ None → find test (lsas_of name (lists_of d)) ≡ None
+none_named d name test i same none = ap (find test) (sym (lsas_named d name i same)) ∙ none
+
+-- ---- a key
+
+pub key_in : (key named_key : Key) (xs : List (List ℕ)) (o : Option SlotId) (A B : SlotId → Type 0) → key ≡ named_key
+    → MatchOption o (find (has_key key) xs ≡ None) (λ slot. A slot × B slot × IsSome (find (has_key key) xs))
+    → is_some o ≡ list_any (has_key named_key) xs
+key_in key named_key xs None A B is m = sym (any_none (has_key named_key) xs (ap (λ (k : Key). find (has_key k) xs) (sym is) ∙ m))
+key_in key named_key xs (Some slot) A B is m = sym (any_some (has_key named_key) xs (subst (λ (k : Key). IsSome (find (has_key k) xs)) is m.2))
+
+pub key_placed : (d : Places) (name : Section) (key : Key) (o : Option SlotId)
+    → MatchOption o (find (has_key key) (lsas_of name (lists_of d)) ≡ None) (IsPlaceOf d name key)
+    → is_some o ≡ list_any (has_key key) (lsas_of name (lists_of d))
+key_placed d name key None m = sym (any_none (has_key key) (lsas_of name (lists_of d)) m)
+key_placed d name key (Some slot) m = sym (any_some (has_key key) (lsas_of name (lists_of d)) m.found)
+
+-- ---- a router in any section
+
+any_true : (router : RouterId) (s : SectionLsas) (rest : Lists) (b : Bool) → b ≡ is_in_section router s → b ≡ true
+    → list_any (is_in_section router) (s ∷ rest) ≡ true
+any_true router s rest b is yes' = ap (λ c. c || list_any (is_in_section router) rest) (sym is ∙ yes')
+
+any_false : (router : RouterId) (s : SectionLsas) (rest : Lists) (b : Bool) → b ≡ is_in_section router s → b ≡ false
+    → list_any (is_in_section router) (s ∷ rest) ≡ list_any (is_in_section router) rest
+any_false router s rest b is no' = ap (λ c. c || list_any (is_in_section router) rest) (sym is ∙ no')
+
+seen_in : (router : RouterId) (d : Places) (i j : ℕ) (b : Bool) (h : Here (lists_of d) i j) → b ≡ list_any (has_key (router_key router)) (lsas_in d i)
+    → b ≡ is_in_section router h.item
+seen_in router d i j b h is = is ∙ ap (λ (o : Option SectionLsas). list_any (has_key (router_key router)) (lsas_or_none o)) h.at
+
+pub router_here : (router : RouterId) (d : Places) (i : ℕ) (b : Bool) → i < length d → b ≡ list_any (has_key (router_key router)) (lsas_in d i)
+    → b ≡ true → list_any (is_in_section router) (drop i (lists_of d)) ≡ list_any (is_in_section router) (lists_of d)
+    → list_any (is_in_section router) (lists_of d) ≡ true
+router_here router d i b lt is pass same =
+    let h = here (lists_of d) i (suc i) (omega (arith, lists_count d)) refl in
+    sym same ∙ ap (list_any (is_in_section router)) h.rest
+    ∙ any_true router h.item (drop (suc i) (lists_of d)) b (seen_in router d i (suc i) b h is) pass
+
+pub router_not_here : (router : RouterId) (d : Places) (i j : ℕ) (b : Bool) → i < length d → j ≡ suc i
+    → b ≡ list_any (has_key (router_key router)) (lsas_in d i) → b ≡ false
+    → list_any (is_in_section router) (drop i (lists_of d)) ≡ list_any (is_in_section router) (lists_of d)
+    → list_any (is_in_section router) (drop j (lists_of d)) ≡ list_any (is_in_section router) (lists_of d)
+router_not_here router d i j b lt e is fail same =
+    let h = here (lists_of d) i j (omega (arith, lists_count d)) e in
+    sym (ap (list_any (is_in_section router)) h.rest ∙ any_false router h.item (drop j (lists_of d)) b (seen_in router d i j b h is) fail) ∙ same
+
+pub router_nowhere : (router : RouterId) (d : Places) (i : ℕ) → length d ≤ i
+    → list_any (is_in_section router) (drop i (lists_of d)) ≡ list_any (is_in_section router) (lists_of d)
+    → list_any (is_in_section router) (lists_of d) ≡ false
+router_nowhere router d i end same = sym same ∙ ap (list_any (is_in_section router)) (drop_all i (lists_of d) (omega (arith, lists_count d)))

@@ -1,0 +1,3 @@
+-- Steps of the code, which no public contract cites.
+pub mod Plans
+pub mod Failing

@@ -1,0 +1,28 @@
+-- What becomes of LSAs where something fails, by what fails.
+use Rattle.std.specs.Prelude.{List, ℕ, Option, Some, None, Result, Ok, Err}
+use Rattle.lsa_codec.specs.LsTypes.{router_lsa}
+use Rattle.lsa_codec.specs.declared.fault.MakeFault.{MakeFault}
+use Rattle.lsa_codec.specs.declared.fault.MakeFault.TheVariants as make
+use Rattle.lsdb.specs.declared.section.Section.{Section}
+use Rattle.lsdb.specs.declared.slot.SlotId.{SlotId}
+use Rattle.edit_history.specs.declared.failures.Failure.{Failure}
+use Rattle.edit_history.specs.declared.failures.Failure.TheVariants.{Links, Network, Router}
+use Rattle.edit_history.specs.declared.fault.EditFault.{EditFault}
+use Rattle.edit_history.specs.declared.fault.EditFault.TheVariants.{OutOfMemory}
+use Rattle.edit_history.specs.Rules.{Fate}
+use Rattle.edit_history.specs.Effect.{link_fate, net_fate, router_fate}
+use Rattle.edit_history.specs.Exchange.{SwapData}
+
+-- the fate of an LSA where this fails
+abbrev pub fate_by : Failure → List ℕ → Fate
+fate_by (Links router neighbor) lsa = link_fate router neighbor lsa
+fate_by (Network network) lsa = net_fate network lsa
+fate_by (Router router) lsa = router_fate router lsa
+
+-- the swap of a router-LSA for a shorter one; none where no link goes
+abbrev pub shortened : SlotId → Section → Result (List ℕ) MakeFault → Result (Option SwapData) EditFault
+shortened slot name (Ok new) = Ok (Some (record { slot = slot; section = name; kind = router_lsa; other = Some new }))
+shortened slot name (Err make.NoLink) = Ok None
+shortened slot name (Err make.ZeroCost) = Err OutOfMemory
+shortened slot name (Err make.TooLong) = Err OutOfMemory
+shortened slot name (Err make.OutOfMemory) = Err OutOfMemory

@@ -1,0 +1,189 @@
+-- Words that mean a command are that command's words, behind its branch, and its numbers are in range.
+use Rattle.std.proofs.Common.{◌≡◌, ℕ, ◌<◌, true, cond, eqb, List, [], ◌∷◌, get_or, Result, Ok, refl, sym, ap, ◌∙◌, subst, arith, inl, inr}
+use Rattle.std.specs.Prelude.{codes, bytes_eq}
+use Rattle.std.proofs.lemmas.Slice.Eq.{bytes_eq-Decides}
+use Rattle.std.proofs.lemmas.Bool.{cases_Bool, cond-true, cond-false, eqb-true}
+use Rattle.edit_script.specs.declared.edit.Edit.{Edit}
+use Rattle.edit_script.specs.declared.command.Command.{Command}
+use Rattle.edit_script.specs.declared.command.Command.TheVariants as command
+use Rattle.edit_script.specs.declared.fault.ScriptFault.{ScriptFault}
+use Rattle.edit_script.specs.declared.fault.ScriptFault.TheVariants.{BadBranch}
+use Rattle.edit_script.specs.Words.{Word}
+use Rattle.edit_script.specs.Arguments.{number_up_to}
+use Rattle.edit_script.specs.Reading.{◌>>=◌, one_of, number, address, edit_of, none_of, undo_of, redo_of, table_of, tables_of, compare_of, info_of, edit_command, command_of}
+use Rattle.edit_script.specs.Line.{branch_of, in_branch, behind_branch, meaning_of_words}
+use Rattle.edit_script.specs.Spelling.{command_words, branch_word, Says}
+use Rattle.edit_script.specs.Spelling.{IsInRange}
+use Rattle.edit_script.proofs.SpelledArguments.{then_ok, same_ok, of_ok, number_spelled, number_read, address_read, none_are, one_is}
+use Rattle.edit_script.proofs.SpelledEdits.{IsEdit, cost_read, drop_link_read, fail_link_read, fail_net_read, fail_router_read, add_stub_read, summary_read, add_summary_read, add_external_read, drop_external_read}
+
+-- ---- the commands
+
+-- words that are a command's, whose numbers are in range
+record IsCommand (line : List Word) (c : Command) : Type 0 where
+  words : line ≡ command_words c
+  range : IsInRange c
+
+undo_read : (arguments : List Word) (c : Command) → undo_of arguments ≡ Ok c → IsCommand (codes "undo" ∷ arguments) c
+unfolding undo_of
+undo_read arguments c h =
+    let word = then_ok (one_of arguments) _ c h in
+    let count = then_ok (number 4294967295 word.0) _ c word.1.1 in
+    let spelled = number_read 4294967295 word.0 count.0 (omega arith) count.1.0 in
+    let given : command.Undo count.0 ≡ c = same_ok _ c count.1.1 in
+    subst (IsCommand (codes "undo" ∷ arguments)) given (record {
+      words = ap (λ (ws : List Word). codes "undo" ∷ ws) (one_is arguments word.0 word.1.0 ∙ ap (λ (w : Word). w ∷ []) spelled.0);
+      range = omega (arith, spelled.1);
+    })
+
+redo_read : (arguments : List Word) (c : Command) → redo_of arguments ≡ Ok c → IsCommand (codes "redo" ∷ arguments) c
+unfolding redo_of
+redo_read arguments c h =
+    let word = then_ok (one_of arguments) _ c h in
+    let count = then_ok (number 4294967295 word.0) _ c word.1.1 in
+    let spelled = number_read 4294967295 word.0 count.0 (omega arith) count.1.0 in
+    let given : command.Redo count.0 ≡ c = same_ok _ c count.1.1 in
+    subst (IsCommand (codes "redo" ∷ arguments)) given (record {
+      words = ap (λ (ws : List Word). codes "redo" ∷ ws) (one_is arguments word.0 word.1.0 ∙ ap (λ (w : Word). w ∷ []) spelled.0);
+      range = omega (arith, spelled.1);
+    })
+
+table_read : (arguments : List Word) (c : Command) → table_of arguments ≡ Ok c → IsCommand (codes "table" ∷ arguments) c
+unfolding table_of
+table_read arguments c h =
+    let word = then_ok (one_of arguments) _ c h in
+    let router = then_ok (address word.0) _ c word.1.1 in
+    let spelled = address_read word.0 router.0 router.1.0 in
+    let given : command.Table (record { 0 = router.0 }) ≡ c = same_ok _ c router.1.1 in
+    subst (IsCommand (codes "table" ∷ arguments)) given (record {
+      words = ap (λ (ws : List Word). codes "table" ∷ ws) (one_is arguments word.0 word.1.0 ∙ ap (λ (w : Word). w ∷ []) spelled.0);
+      range = spelled.1;
+    })
+
+tables_read : (arguments : List Word) (c : Command) → tables_of arguments ≡ Ok c → IsCommand (codes "tables" ∷ arguments) c
+unfolding tables_of
+tables_read arguments c h =
+    let nothing = then_ok (none_of arguments) _ c h in
+    let given : command.Tables ≡ c = same_ok _ c nothing.1.1 in
+    subst (IsCommand (codes "tables" ∷ arguments)) given (record {
+      words = ap (λ (ws : List Word). codes "tables" ∷ ws) (none_are arguments nothing.0 nothing.1.0);
+      range = tt;
+    })
+
+compare_read : (arguments : List Word) (c : Command) → compare_of arguments ≡ Ok c → IsCommand (codes "compare" ∷ arguments) c
+unfolding compare_of
+compare_read arguments c h =
+    let word = then_ok (one_of arguments) _ c h in
+    let router = then_ok (address word.0) _ c word.1.1 in
+    let spelled = address_read word.0 router.0 router.1.0 in
+    let given : command.Compare (record { 0 = router.0 }) ≡ c = same_ok _ c router.1.1 in
+    subst (IsCommand (codes "compare" ∷ arguments)) given (record {
+      words = ap (λ (ws : List Word). codes "compare" ∷ ws) (one_is arguments word.0 word.1.0 ∙ ap (λ (w : Word). w ∷ []) spelled.0);
+      range = spelled.1;
+    })
+
+info_read : (arguments : List Word) (c : Command) → info_of arguments ≡ Ok c → IsCommand (codes "info" ∷ arguments) c
+unfolding info_of
+info_read arguments c h =
+    let nothing = then_ok (none_of arguments) _ c h in
+    let given : command.Info ≡ c = same_ok _ c nothing.1.1 in
+    subst (IsCommand (codes "info" ∷ arguments)) given (record {
+      words = ap (λ (ws : List Word). codes "info" ∷ ws) (none_are arguments nothing.0 nothing.1.0);
+      range = tt;
+    })
+
+edit_read : (words : List Word) (given : Result Edit ScriptFault) (c : Command) → ((edit : Edit) → given ≡ Ok edit → IsEdit words edit) → edit_command given ≡ Ok c → IsCommand words c
+edit_read words given c spelled h =
+    let found = then_ok given _ c h in
+    let same : command.Edit found.0 ≡ c = same_ok _ c found.1.1 in
+    let read = spelled found.0 found.1.0 in
+    subst (IsCommand words) same (record { words = read.words; range = read.range })
+
+-- where the command word is `name`, what it reads; else what the other names read
+by_name : {A : Type 0} (Is : List Word → A → Type 0) (name word : Word) (arguments : List Word) (this others : Result A ScriptFault) (x : A)
+    → (this ≡ Ok x → Is (name ∷ arguments) x) → (others ≡ Ok x → Is (word ∷ arguments) x) → cond (bytes_eq word name) this others ≡ Ok x → Is (word ∷ arguments) x
+by_name Is name word arguments this others x at_name at_other h =
+    elim (cases_Bool (bytes_eq word name)) [
+      | inl holds ↦
+          let same : word ≡ name = (bytes_eq-Decides word name).0 holds in
+          subst (λ (w : Word). Is (w ∷ arguments) x) (sym same) (at_name (sym (cond-true _ this others holds) ∙ h))
+      | inr fails ↦ at_other (sym (cond-false _ this others fails) ∙ h)
+    ]
+
+edit_word_read : (word : Word) (arguments : List Word) (edit : Edit) → edit_of word arguments ≡ Ok edit → IsEdit (word ∷ arguments) edit
+unfolding edit_of
+edit_word_read word arguments edit h =
+    by_name IsEdit (codes "cost") word arguments _ _ edit (cost_read arguments edit)
+    (by_name IsEdit (codes "drop-link") word arguments _ _ edit (drop_link_read arguments edit)
+    (by_name IsEdit (codes "fail-link") word arguments _ _ edit (fail_link_read arguments edit)
+    (by_name IsEdit (codes "fail-net") word arguments _ _ edit (fail_net_read arguments edit)
+    (by_name IsEdit (codes "fail-router") word arguments _ _ edit (fail_router_read arguments edit)
+    (by_name IsEdit (codes "add-stub") word arguments _ _ edit (add_stub_read arguments edit)
+    (by_name IsEdit (codes "summary") word arguments _ _ edit (summary_read arguments edit)
+    (by_name IsEdit (codes "add-summary") word arguments _ _ edit (add_summary_read arguments edit)
+    (by_name IsEdit (codes "add-external") word arguments _ _ edit (add_external_read arguments edit)
+    (by_name IsEdit (codes "drop-external") word arguments _ _ edit (drop_external_read arguments edit)
+    (λ e. absurd cc))))))))))
+    h
+
+command_read : (word : Word) (arguments : List Word) (c : Command) → command_of word arguments ≡ Ok c → IsCommand (word ∷ arguments) c
+unfolding command_of
+command_read word arguments c h =
+    by_name IsCommand (codes "undo") word arguments _ _ c (undo_read arguments c)
+    (by_name IsCommand (codes "redo") word arguments _ _ c (redo_read arguments c)
+    (by_name IsCommand (codes "table") word arguments _ _ c (table_read arguments c)
+    (by_name IsCommand (codes "tables") word arguments _ _ c (tables_read arguments c)
+    (by_name IsCommand (codes "compare") word arguments _ _ c (compare_read arguments c)
+    (by_name IsCommand (codes "info") word arguments _ _ c (info_read arguments c)
+    (edit_read (word ∷ arguments) (edit_of word arguments) c (edit_word_read word arguments)))))))
+    h
+
+-- ---- the line
+
+abbrev done : Command → Result Command ScriptFault
+done c = Ok c
+
+in_branch_read : (branch b : ℕ) (given : Result Command ScriptFault) (c : Command) → in_branch branch given ≡ Ok (b, c) → (given ≡ Ok c) × (branch ≡ b)
+in_branch_read branch b given c h =
+    let found = then_ok given _ (b, c) h in
+    let same : (branch, found.0) ≡ (b, c) = let e = found.1.1 in cc in
+    (found.1.0 ∙ ap (λ (x : ℕ × Command). done x.1) same, ap (λ (x : ℕ × Command). x.0) same)
+
+branch_is : (word : Word) (branch : ℕ) → eqb (get_or word 0 0) 64 ≡ true → branch_of word ≡ Ok branch → (word ≡ branch_word branch) × (branch < 8)
+branch_is [] branch at h = absurd cc
+branch_is (first ∷ digit) branch at h =
+    let number = number_spelled 7 digit branch (omega arith) (of_ok (number_up_to 7 digit) BadBranch branch h) in
+    let same : first ≡ 64 = eqb-true first 64 at in
+    (rw (same, number.0) refl, omega (arith, number.1))
+
+behind_branch_read : (branch b : ℕ) (words : List Word) (c : Command) → behind_branch branch words ≡ Ok (b, c) → IsCommand words c × (branch ≡ b)
+unfolding behind_branch
+behind_branch_read branch b [] c h = absurd cc
+behind_branch_read branch b (word ∷ arguments) c h =
+    let read = in_branch_read branch b (command_of word arguments) c h in
+    (command_read word arguments c read.0, read.1)
+
+said_by : (first : Word) (rest : List Word) (branch : ℕ) (c : Command) → cond (eqb (get_or first 0 0) 64) (branch_of first >>= (λ b. behind_branch b rest)) (in_branch 0 (command_of first rest)) ≡ Ok (branch, c) → IsInRange c × Says (first ∷ rest) branch c
+said_by first rest branch c h =
+    elim (cases_Bool (eqb (get_or first 0 0) 64)) [
+      | inl named ↦
+          let found = then_ok (branch_of first) _ (branch, c) (sym (cond-true _ _ _ named) ∙ h) in
+          let name = branch_is first found.0 named found.1.0 in
+          let read = behind_branch_read found.0 branch rest c found.1.1 in
+          let same : first ≡ branch_word branch = name.0 ∙ ap branch_word read.1 in
+          (read.0.range, (omega (arith, name.1, read.1), inl (rw (same, read.0.words) refl)))
+      | inr bare ↦
+          let found = in_branch_read 0 branch (command_of first rest) c (sym (cond-false _ _ _ bare) ∙ h) in
+          let read = command_read first rest c found.0 in
+          (read.range, (omega (arith, found.1), inr (sym found.1, read.words)))
+    ]
+
+-- words that mean a command say it, and its numbers are in range
+pub said : (words : List Word) (branch : ℕ) (c : Command) → meaning_of_words words ≡ Ok (branch, c) → IsInRange c × Says words branch c
+unfolding meaning_of_words
+said [] branch c h = absurd cc
+said (first ∷ rest) branch c h =
+    elim (cases_Bool (eqb (get_or first 0 0) 35)) [
+      | inl comment ↦ absurd (let e = sym (cond-true _ _ _ comment) ∙ h in cc)
+      | inr other ↦ said_by first rest branch c (sym (cond-false _ _ _ other) ∙ h)
+    ]

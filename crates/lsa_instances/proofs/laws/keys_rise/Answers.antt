@@ -1,0 +1,5 @@
+use Rattle.lsa_instances.proofs.Rising.{keys_rise}
+use Rattle.lsa_instances.proofs.laws.keys_rise.Goals as goal
+
+pub returns : goal.returns
+returns g c = λ told newest scope n. keys_rise scope told newest n

@@ -1,0 +1,4 @@
+pub mod Instance
+pub mod Order
+pub mod Newest
+pub mod Flushing

@@ -1,0 +1,62 @@
+-- Which sightings are of flushed LSAs, and which are the newest of the others.
+use Rattle.std.specs.Prelude.{◌≡◌, ℕ, ◌-◌, ◌*◌, Bool, false, not, ◌&&◌, nat_lt, List, map, All, AllPairs, Contains, Option, None, Some}
+use Rattle.std.specs.List.{Any, filter, list_any}
+use Rattle.std.specs.Ordering.{is_eq, is_gt}
+use Rattle.std.specs.declared.cmp.Ordering.TheVariants.{Less}
+use Rattle.lsa_codec.specs.Fields.{age_of}
+use Rattle.lsa_codec.specs.Key.{is_at_max_age}
+use Rattle.lsa_instances.specs.declared.place.Place.{Place}
+use Rattle.lsa_instances.specs.declared.place.Scope.{Scope}
+use Rattle.lsa_instances.specs.declared.sighting.Sighting.{Sighting}
+use Rattle.lsa_instances.specs.Instance.{instance_cmp}
+use Rattle.lsa_instances.specs.Order.{place_cmp, place_of, scope_cmp}
+
+-- in nanoseconds
+abbrev pub second : ℕ
+second = 1000000000
+
+-- whether a copy of this age, seen then, began after the moment: its time stamp less its LS age lies behind it. No,
+-- where moment or time stamp are not known
+abbrev pub is_after : Option ℕ → Option ℕ → ℕ → Bool
+is_after None seen age = false
+is_after (Some moment) None age = false
+is_after (Some moment) (Some seen) age = nat_lt moment (seen - age * second)
+
+abbrev pub began_after : {A : Type 0} → Option ℕ → Sighting A → Bool
+began_after moment x = is_after moment x.seen (age_of x.lsa)
+
+-- a sighting at MaxAge flushes another of the same LSA that is not newer, unless it began after that
+abbrev pub flushes : {A : Type 0} → Sighting A → Sighting A → Bool
+flushes f x =
+    is_at_max_age f.lsa && (is_eq (place_cmp (place_of f) (place_of x))
+    && (not (is_gt (instance_cmp x.lsa f.lsa)) && not (began_after f.seen x)))
+
+abbrev pub is_flushed : {A : Type 0} → List (Sighting A) → Sighting A → Bool
+is_flushed told x = list_any (λ f. flushes f x) told
+
+-- of the same LSA, not flushed, and not newer
+abbrev pub IsNoNewer : {A : Type 0} → List (Sighting A) → Sighting A → Sighting A → Type 0
+IsNoNewer told x y = place_of y ≡ place_of x → is_flushed told y ≡ false → is_gt (instance_cmp y.lsa x.lsa) ≡ false
+
+-- one of those told, that is not flushed, and than which none of the same LSA is newer
+pub record IsNewest {A : Type 0} (told : List (Sighting A)) (x : Sighting A) : Type 0 where
+  pub told_so : Contains told x
+  pub lasting : is_flushed told x ≡ false
+  pub unsurpassed : All (IsNoNewer told x) told
+
+-- the newest of all LSAs that are not flushed, in order of their places, each once
+pub record AreNewest {A : Type 0} (told newest : List (Sighting A)) : Type 0 where
+  pub each : All (IsNewest told) newest
+  pub whole : All (λ y. is_flushed told y ≡ false → Any (λ x. place_of x ≡ place_of y) newest) told
+  pub order : AllPairs (λ x y. place_cmp (place_of x) (place_of y) ≡ Less) newest
+
+-- what a database keeps of a sighting
+abbrev pub place_and_octets : {A : Type 0} → Sighting A → Place × List ℕ
+place_and_octets x = (place_of x, x.lsa)
+
+abbrev pub is_of_scope : {A : Type 0} → Scope → Sighting A → Bool
+is_of_scope scope x = is_eq (scope_cmp x.scope scope)
+
+-- the LSAs of one scope, in their order: what a section of a database has
+abbrev pub lsas_of_scope : {A : Type 0} → Scope → List (Sighting A) → List (List ℕ)
+lsas_of_scope scope newest = map (λ x. x.lsa) (filter (is_of_scope scope) newest)

@@ -1,0 +1,24 @@
+//! Instances of LSAs, and which of them is the newest (RFC 2328, 12.1 and 13.1).
+//!
+//! Files tell LSAs: a walk or a capture shows the same LSA many times, as older and newer
+//! instances, and as copies of one instance that differ in their LS age. A [`Sighting`] is one of
+//! them. [`newest`] answers, of any number of sightings, the newest instance of each LSA that was
+//! not flushed, each once. What it answers depends on which sightings there are, and not on their
+//! order.
+#![tactic(auto)]
+
+mod choice;
+mod flush;
+mod laws;
+mod order;
+mod place;
+mod sighting;
+
+pub use choice::newest;
+pub use laws::{instance_order, keys_rise, newest_in_any_order};
+pub use order::compare_instances;
+pub use place::{Place, Scope};
+pub use sighting::Sighting;
+
+#[cfg(test)]
+mod tests;

@@ -1,0 +1,61 @@
+//! The order of instances, and the order in which sightings are looked through.
+
+ghost use Rattle.std.specs.Prelude.{◌≡◌};
+ghost use Rattle.lsa_codec.specs.Fields.{age_of, checksum_of};
+ghost use Rattle.lsa_instances.specs.Instance.{instance_cmp, signed_sequence_of, seconds_of};
+ghost use Rattle.lsa_instances.specs.Order.{place_cmp, sighting_cmp};
+
+use crate::place::Place;
+use crate::sighting::Sighting;
+use byteorder::{BigEndian, ByteOrder};
+use lsa_codec::Lsa;
+use std::alloc::Allocator;
+use std::cmp::Ordering;
+
+/// The LS sequence number, counted from the least of the signed numbers (RFC 2328, 12.1.6).
+fn signed_sequence_of<A: Allocator + Copy>(lsa: &Lsa<A>) -> u32
+    ensures { result ≡ signed_sequence_of lsa.now }
+{
+    BigEndian::read_u32(&lsa.bytes()[12..]) ^ 0x8000_0000
+}
+
+/// The LS checksum.
+fn checksum_of<A: Allocator + Copy>(lsa: &Lsa<A>) -> u16
+    ensures { result ≡ checksum_of lsa.now }
+{
+    BigEndian::read_u16(&lsa.bytes()[16..])
+}
+
+/// The LS age, in seconds, without the bit DoNotAge.
+fn seconds_of<A: Allocator + Copy>(lsa: &Lsa<A>) -> u16
+    ensures { result ≡ seconds_of lsa.now }
+{
+    BigEndian::read_u16(lsa.bytes()) & 0x7fff
+}
+
+/// Compares two instances of one LSA: `Greater` where the first is newer (RFC 2328, 13.1). It is a
+/// total order: see the law [`instance_order`](crate::instance_order).
+pub fn compare_instances<A: Allocator + Copy>(a: &Lsa<A>, b: &Lsa<A>) -> Ordering
+    ensures { result ≡ instance_cmp a.now b.now }
+{
+    let sequence = signed_sequence_of(a).cmp(&signed_sequence_of(b));
+    let checksum = checksum_of(a).cmp(&checksum_of(b));
+    let max_age = a.at_max_age().cmp(&b.at_max_age());
+    let youth = seconds_of(b).cmp(&seconds_of(a));
+    let octets = a.bytes().cmp(b.bytes());
+    sequence.then(checksum.then(max_age.then(youth.then(octets))))
+}
+
+/// Compares two places: by scope, then by key.
+pub(crate) fn compare_places(a: Place, b: Place) -> Ordering
+    ensures { result ≡ place_cmp a b }
+{
+    a.cmp(&b)
+}
+
+/// Compares two sightings: by place, and of one LSA the newest first.
+pub(crate) fn compare_sightings<A: Allocator + Copy>(a: &Sighting<A>, b: &Sighting<A>) -> Ordering
+    ensures { result ≡ sighting_cmp a.now b.now }
+{
+    compare_places(a.place(), b.place()).then(compare_instances(&b.lsa, &a.lsa))
+}

@@ -1,0 +1,42 @@
+//! LSAs as a file tells them.
+
+ghost use Rattle.std.specs.Prelude.{◌≡◌, IfOk};
+ghost use Rattle.lsa_instances.specs.Order.{place_of};
+
+use crate::place::{Place, Scope};
+use lsa_codec::Lsa;
+use std::alloc::{AllocError, Allocator, Global};
+
+/// An LSA that a file tells: an instance of it, and one of the copies of this instance.
+#[derive(Debug, Drop)]
+pub struct Sighting<A: Allocator = Global> {
+    /// Where the LSA is flooded.
+    pub scope: Scope,
+    /// When it was seen, in nanoseconds since 1970; `None` where the file has no time stamps.
+    pub seen: Option<u64>,
+    /// The LSA, octet for octet.
+    pub lsa: Lsa<A>,
+}
+
+impl<A: Allocator + Copy> Sighting<A> {
+    /// Its scope and key.
+    pub fn place(&self) -> Place
+        ensures { result ≡ place_of self.now }
+    {
+        Place {
+            scope: self.scope,
+            key: self.lsa.key(),
+        }
+    }
+
+    /// The same sighting, its octets in memory of this allocator.
+    pub fn clone_of(&self, alloc: A) -> Result<Sighting<A>, AllocError>
+        ensures { IfOk result (λ copy. copy ≡ self.now) }
+    {
+        Ok(Sighting {
+            scope: self.scope,
+            seen: self.seen,
+            lsa: self.lsa.clone_of(alloc)?,
+        })
+    }
+}

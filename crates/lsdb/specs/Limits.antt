@@ -1,0 +1,18 @@
+-- How much a database holds.
+use Rattle.std.specs.Prelude.{ℕ}
+
+-- the most areas
+abbrev pub most_areas : ℕ
+most_areas = 64
+
+-- the most LSAs of an area
+abbrev pub most_lsas_of_area : ℕ
+most_lsas_of_area = 8192
+
+-- the most LSAs of AS scope
+abbrev pub most_lsas_of_as : ℕ
+most_lsas_of_as = 65535
+
+-- the most octets of a dump
+abbrev pub longest_dump : ℕ
+longest_dump = 16777216

@@ -1,0 +1,74 @@
+-- Lists that are kept once keep their numbers.
+use Rattle.std.proofs.Common.{◌≡◌, ℕ, ◌+◌, ◌<◌, Bool, true, false, ◌&&◌, Option, Some, List, [], ◌∷◌, ◌++◌, length, map, get_or, take, if◌then◌else◌, refl, sym, ap, ◌∙◌, subst, arith}
+use lib.Pointwise.{pointwise}
+use Rattle.std.specs.List.{All, slice_get}
+use Rattle.std.specs.Option.{option_map}
+use Rattle.std.proofs.lemmas.Bool.{false≢true}
+use Rattle.std.proofs.lemmas.Option.{get_or_from_slice_get, slice_get-map}
+use Rattle.std.proofs.lemmas.List.{get_or-map, length-append, length-map, map-append, take_more}
+use Rattle.std.proofs.lemmas.List.Elements.{All-head, All-tail}
+use Rattle.std.proofs.Math.ListN.{get_or-append}
+use Rattle.std.specs.declared.vec.Vec.{Vec}
+use Rattle.next_hops.specs.declared.hop.Hop.{Hop}
+use Rattle.next_hops.specs.steps.Shared.{Keeps, list_in, lists_in}
+
+module _ {A : Type 0} where
+  Keeps-same : (lists : List (Vec Hop A)) → Keeps lists lists
+  Keeps-same lists = record { same = λ n lt. refl; no_less = omega arith; one_more = omega arith }
+
+  Keeps-put : (lists : List (Vec Hop A)) (list : Vec Hop A) → Keeps lists (lists ++ list ∷ [])
+  Keeps-put lists list = record {
+    same = λ n lt.
+        ap (λ (xs : List (List Hop)). get_or xs n []) (map-append (λ x. x.items) lists (list ∷ []))
+        ∙ get_or-append (map (λ x. x.items) lists) (list.items ∷ []) [] n (within n lt);
+    no_less = (let e = length-append lists (list ∷ []) in omega arith);
+    one_more = (let e = length-append lists (list ∷ []) in omega arith);
+  }
+    where
+      within : (n : ℕ) → n < length lists → n < length (map (λ (x : Vec Hop A). x.items) lists)
+      within n lt = subst (λ (m : ℕ). n < m) (sym (length-map lists (λ x. x.items))) lt
+
+  -- a list that is put in unless it is there
+  pub Keeps-inserted : (is_there : Bool) (lists new : List (Vec Hop A)) (list : Vec Hop A) → new ≡ (if is_there then lists else lists ++ list ∷ []) → Keeps lists new
+  Keeps-inserted true lists new list is = subst (λ (xs : List (Vec Hop A)). Keeps lists xs) (sym is) (Keeps-same lists)
+  Keeps-inserted false lists new list is = subst (λ (xs : List (Vec Hop A)). Keeps lists xs) (sym is) (Keeps-put lists list)
+
+  lists_in-kept : (old new : List (Vec Hop A)) → Keeps old new → (numbers : List ℕ) → All (λ n. n < length old) numbers → lists_in new numbers ≡ lists_in old numbers
+  lists_in-kept old new keeps [] within = refl
+  lists_in-kept old new keeps (n ∷ ns) within =
+      ap (λ (hops : List Hop). hops ∷ lists_in new ns) (keeps.same n (All-head (λ m. m < length old) n ns within))
+      ∙ ap (λ (rest : List (List Hop)). list_in old n ∷ rest) (lists_in-kept old new keeps ns (All-tail (λ m. m < length old) n ns within))
+
+  -- one list more, by its number
+  pub lists_in-push : (old new : List (Vec Hop A)) (numbers : List ℕ) (n i : ℕ) (lists : List (List Hop)) → Keeps old new → All (λ m. m < length old) numbers → i < length lists
+      → lists_in old numbers ≡ take i lists → list_in new n ≡ get_or lists i [] → lists_in new (numbers ++ n ∷ []) ≡ take (i + 1) lists
+  lists_in-push old new numbers n i lists keeps within more before next =
+      map-append (λ m. list_in new m) numbers (n ∷ [])
+      ∙ ap (λ (xs : List (List Hop)). xs ++ list_in new n ∷ []) (lists_in-kept old new keeps numbers within ∙ before)
+      ∙ ap (λ (hops : List Hop). take i lists ++ hops ∷ []) next
+      ∙ sym (take_more lists i [] more)
+
+-- lists whose hops are equal one by one are the same
+pub pointwise-same : (eq : Hop → Hop → Bool) → ((g h : Hop) → eq g h ≡ true → g ≡ h) → (xs ys : List Hop) → pointwise eq xs ys ≡ true → xs ≡ ys
+pointwise-same eq exact [] [] h = refl
+pointwise-same eq exact [] (y ∷ ys) h = absurd (false≢true h)
+pointwise-same eq exact (x ∷ xs) [] h = absurd (false≢true h)
+pointwise-same eq exact (x ∷ xs) (y ∷ ys) h = by_test (eq x y) refl (λ rest. pointwise-same eq exact xs ys rest) h
+  where
+    by_test : (b : Bool) → eq x y ≡ b → (pointwise eq xs ys ≡ true → xs ≡ ys) → (b && pointwise eq xs ys) ≡ true → (x ∷ xs) ≡ (y ∷ ys)
+    by_test true is tails rest = ap (λ (g : Hop). g ∷ xs) (exact x y is) ∙ ap (λ (gs : List Hop). y ∷ gs) (tails rest)
+    by_test false is tails rest = absurd (false≢true rest)
+
+module _ {A : Type 0} where
+  -- the list at a number, by the list that stands there
+  pub list_in-at : (lists : List (Vec Hop A)) (n : ℕ) (list : Vec Hop A) → slice_get lists n ≡ Some list → list_in lists n ≡ list.items
+  list_in-at lists n list at =
+      get_or_from_slice_get (map (λ x. x.items) lists) n list.items [] (slice_get-map (λ (x : Vec Hop A). x.items) lists n ∙ ap (λ (o : Option (Vec Hop A)). option_map (λ x. x.items) o) at)
+
+  -- the list of a vertex, by its number
+  pub lists_in-at : (lists : List (Vec Hop A)) (numbers : List ℕ) (index n : ℕ) (list : Vec Hop A) → index < length (lists_in lists numbers) → n ≡ get_or numbers index n
+      → slice_get lists n ≡ Some list → get_or (lists_in lists numbers) index [] ≡ list.items
+  lists_in-at lists numbers index n list within number at =
+      get_or-map (λ m. list_in lists m) numbers index n [] (subst (λ k. index < k) (length-map numbers (λ m. list_in lists m)) within)
+      ∙ ap (λ (m : ℕ). list_in lists m) (sym number)
+      ∙ list_in-at lists n list at

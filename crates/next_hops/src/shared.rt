@@ -1,0 +1,28 @@
+//! Lists of hops that many vertices share: equal lists are kept once.
+
+ghost use Rattle.std.specs.Prelude.{◌≡◌, ◌<◌, length, IfOk, OnOk};
+ghost use Rattle.next_hops.specs.steps.Shared.{Keeps, list_in};
+
+use crate::hop::Hop;
+use crate::laws::hop_equality;
+use indexmap::IndexSet;
+use std::alloc::{AllocError, Allocator};
+use std::hash::{BuildHasherDefault, FoldHasher};
+
+/// Lists of hops, no two of them equal. The number of a list is its place.
+pub(crate) type DistinctLists<A> = IndexSet<Vec<Hop, A>, BuildHasherDefault<FoldHasher>, A>;
+
+/// The number of the list of these hops, which is put in unless it is there.
+pub(crate) fn number_of<A: Allocator + Copy>(
+    alloc: A,
+    hops: &[Hop],
+    lists: &mut DistinctLists<A>,
+) -> Result<usize, AllocError>
+    ensures within { IfOk result (λ n. n < length lists.new.keys) }
+    ensures list { IfOk result (λ n. list_in lists.new.keys n ≡ hops.now) }
+    ensures keeps { OnOk result (Keeps lists.old.keys lists.new.keys) }
+{
+    hop_equality();
+    let (number, _) = lists.insert_full(Vec::from_slice(alloc, hops)?)?;
+    Ok(number)
+}

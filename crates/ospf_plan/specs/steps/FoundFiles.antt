@@ -1,0 +1,11 @@
+-- The files in what clap found.
+use Rattle.std.specs.Prelude.{◌≡◌, codes, option_map, string_bytes}
+use Rattle.clap.specs.Words.{first_value}
+use Rattle.clap.specs.declared.parser.matches.Found.{Found}
+use Rattle.ospf_plan.specs.declared.command_line.Options.{Options}
+
+-- each field has the value of its option in what clap found
+pub record IsRead (found : Found) (o : Options) : Type 0 where
+  pub dump : option_map string_bytes o.dump ≡ first_value found (codes "dump")
+  pub script : option_map string_bytes o.script ≡ first_value found (codes "script")
+  pub out : option_map string_bytes o.out ≡ first_value found (codes "out")
