@@ -17,7 +17,7 @@ use Rattle.area_routes.specs.Reached.{ReachedValue}
 use Rattle.area_routes.specs.Networks.{networks, beats, network_offer}
 use Rattle.area_routes.specs.Standings.{standing_of, stands_before, is_behind, any_before, AreStandingsOf, unbeaten}
 use Rattle.area_graph.proofs.MemberLemmas.{Some-same}
-use Rattle.area_routes.proofs.Orders.{prefix_exact}
+use Rattle.area_routes.proofs.OrderLemmas.{prefix_exact}
 
 -- ---- the order of standings
 

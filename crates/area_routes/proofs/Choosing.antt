@@ -14,7 +14,7 @@ use Rattle.area_routes.specs.Order.{prefix_cmp}
 use Rattle.area_routes.specs.Reached.{ReachedValue}
 use Rattle.area_routes.specs.Networks.{precedes, beats, chosen}
 use Rattle.area_routes.specs.Choice.{IsAsGoodAs, IsBestOf}
-use Rattle.area_routes.proofs.Orders.{prefix_total}
+use Rattle.area_routes.proofs.OrderLemmas.{prefix_total}
 use Rattle.area_routes.proofs.Beaten.{before_trans, same_net}
 
 -- ---- numbers

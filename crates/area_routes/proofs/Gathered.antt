@@ -1,13 +1,11 @@
 -- The inter-area routes and all router entries, put together.
 use Rattle.std.proofs.Common.{◌≡◌, ◌<◌, ◌^◌, List, [], ◌++◌, Some, None, sym, ap, ◌∙◌, arith}
-use Rattle.std.specs.List.Sorted.{IsStrictlySortedBy}
 use Rattle.std.proofs.lemmas.List.{append-nil}
 use Rattle.std.proofs.lemmas.List.Elements.{All-append}
 use Rattle.lsa_codec.specs.declared.address.RouterId.{RouterId}
 use Rattle.lsdb.specs.declared.section.Section.TheVariants.{Area}
 use Rattle.lsdb.specs.Lists.{Lists, lsas_of}
 use Rattle.area_routes.specs.Inter.{entries_by, entries_of_all, examined, inter_entries, inter_of, inter_routes, routes_by}
-use Rattle.area_routes.specs.Routes.{AreSortedRoutes}
 use Rattle.area_routes.specs.Values.{AreaResultValue, EntriesBelow, EntryValue, RouteValue}
 
 module _ (lists : Lists) (router : RouterId) (results : List AreaResultValue) (intra : List RouteValue) (routes : List RouteValue) (routers : List EntryValue) where
@@ -27,10 +25,6 @@ module _ (lists : Lists) (router : RouterId) (results : List AreaResultValue) (i
     routes = (by_routes ∙ ap (routes_by lists router intra) found) i;
     routers = (all ∙ ap (λ o. entries_of_all results ++ entries_by lists router o) found) i;
   }
-
-pub no_routes_sorted : AreSortedRoutes []
-unfolding IsStrictlySortedBy
-no_routes_sorted = tt
 
 -- a greater bound
 pub wider : (entries : List EntryValue) → EntriesBelow (2 ^ 33) entries → EntriesBelow (2 ^ 34) entries

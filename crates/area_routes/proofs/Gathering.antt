@@ -3,7 +3,7 @@ use Rattle.std.proofs.Common.{◌≡◌, ℕ, ◌+◌, ◌<◌, List, [], ◌∷
 use Rattle.std.proofs.lemmas.List.{append-nil, take_more}
 use Rattle.area_routes.specs.Values.{AreaResultValue, EntryValue, OfferValue}
 use Rattle.area_routes.specs.Growing.{with_offers, with_entries}
-use Rattle.area_routes.proofs.Loops.{Adds}
+use Rattle.area_routes.proofs.AddsLemmas.{Adds}
 
 -- nothing more
 pub with_no_offers : (r : AreaResultValue) → with_offers r [] ≡ r

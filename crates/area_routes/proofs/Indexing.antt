@@ -14,7 +14,7 @@ use Rattle.area_routes.specs.EntryIndex.{IsIndexOf}
 use Rattle.area_routes.specs.Inter.{entry_of, same_kind, same_router}
 use Rattle.area_routes.specs.Order.{router_cmp}
 use Rattle.area_routes.specs.Values.{EntryValue}
-use Rattle.area_routes.proofs.Orders.{router_exact}
+use Rattle.area_routes.proofs.OrderLemmas.{router_exact}
 
 or_none : {X : Type 0} (o : Option X) → option_or o None ≡ o
 or_none None = refl

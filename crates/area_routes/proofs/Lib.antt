@@ -1,10 +1,10 @@
-pub mod Orders
-pub mod Rising
+pub mod OrderLemmas
+pub mod RisingLemmas
 pub mod Rises
-pub mod Least
-pub mod Entries
+pub mod LeastLemmas
+pub mod LookupLemmas
 pub mod Merging
-pub mod Loops
+pub mod AddsLemmas
 pub mod Words
 pub mod Gathering
 pub mod Reaching
@@ -17,4 +17,7 @@ pub mod Indexing
 pub mod Costs
 pub mod Gathered
 pub mod Choosing
-pub mod OverAllPaths
+pub mod OverAllPathsLemmas
+pub mod Vertices
+pub mod Pairs
+pub mod EntriesOnce

@@ -1,5 +1,5 @@
 -- One more candidate, and the list of ways.
-use Rattle.std.proofs.Common.{◌≡◌, Bool, true, false, cond, List, [], ◌∷◌, ◌++◌, map, Option, Some, None, Result, Ok, Err, IfOk, OnOk, refl, sym, ap, ◌∙◌}
+use Rattle.std.proofs.Common.{◌≡◌, Bool, true, false, cond, List, [], ◌∷◌, ◌++◌, map, Option, Some, None, Result, Ok, Err, IfOk, OnOk, refl, sym, ap, subst, ◌∙◌}
 use Rattle.std.specs.List.{AllByRecursion, list_any, filter, filter_map, flat_map, cons_option}
 use Rattle.std.specs.Option.{option_map}
 use Rattle.std.specs.Cmp.{IsTotalOrder}
@@ -25,10 +25,10 @@ use Rattle.area_routes.specs.Candidate.{Candidate}
 use Rattle.area_routes.specs.Values.{WayValue}
 use Rattle.lsa_codec.specs.declared.address.AreaId.{AreaId}
 use Rattle.area_routes.specs.declared.rank.Rank.{Rank}
-use Rattle.area_routes.proofs.Entries.{lookup_entries, same_entries, sorted_entries}
-use Rattle.area_routes.proofs.Least.{least_push, below_all}
-use Rattle.area_routes.proofs.Orders.{area_exact, area_total, hop_exact, hop_total, rank_total}
-use Rattle.area_routes.proofs.Rising.{rising_append, sorted_rising, any_rising}
+use Rattle.area_routes.proofs.LookupLemmas.{lookup_entries, same_entries, sorted_entries}
+use Rattle.area_routes.proofs.LeastLemmas.{least_push, below_all}
+use Rattle.area_routes.proofs.OrderLemmas.{area_exact, area_total, hop_exact, hop_total, rank_total}
+use Rattle.area_routes.proofs.RisingLemmas.{rising_append, sorted_rising, any_rising}
 
 module _ {K : Type 0} where
   ranks : List (Candidate K) → List Rank
@@ -143,3 +143,9 @@ module _ {K : Type 0} where
         → OnOk r (Updates R m n c.key (Some (merge (get R m c.key) c.rank c.area c.hops))) → OnOk r ((cs : List (Candidate K)) → Gathers R cs es → Gathers R (cs ++ c ∷ []) n.entries)
     gathers_from_updates (Ok v) m n es same c h = λ cs before. gathers_push m.entries n.entries cs c (λ q. ap (lookup (eq_by_cmp R q)) same ∙ before q) (λ q. h.0 q)
     gathers_from_updates (Err e) m n es same c h = tt
+
+-- the keys of the list that a map was made into stand in order
+pub keys_sorted : {X E K V : Type 0} (R : K → K → Ordering) (items : X → List (K × V)) (m : BTreeMap K V) (r : Result X E)
+    → IfOk r (λ v. items v ≡ m.entries) → OnOk r (IsOrdered R m) → IfOk r (λ v. IsStrictlySortedBy R (keys_of (items v)))
+keys_sorted R items m (Ok v) h up = subst (λ es. IsStrictlySortedBy R (keys_of es)) (sym h) up
+keys_sorted R items m (Err e) h up = tt

@@ -21,7 +21,7 @@ use Rattle.lsa_codec.specs.declared.address.AreaId.{AreaId}
 use Rattle.std.specs.List.{slice_get}
 use Rattle.area_routes.specs.Reached.{ReachedValue, reached_by}
 use Rattle.area_routes.specs.AreaResults.{AreOf, given_by, area_result}
-use Rattle.area_routes.proofs.Loops.{filter_map_adds}
+use Rattle.area_routes.proofs.AddsLemmas.{filter_map_adds}
 
 -- one more item of a list, with what there is of it
 pub found_more : {X Y : Type 0} (f : X → Option Y) (xs : List X) (i : ℕ) (x : X) → i < length xs → x ≡ get_or xs i x → (old new : List Y)

@@ -9,9 +9,9 @@ use Rattle.area_routes.specs.Order.{prefix_cmp}
 use Rattle.area_routes.specs.Routes.{AreSortedRoutes, nets, route_of, routes_of}
 use Rattle.area_routes.specs.Values.{WayValue}
 use Rattle.area_routes.proofs.Merging.{sorted_ways}
-use Rattle.area_routes.proofs.Orders.{prefix_exact, prefix_total}
+use Rattle.area_routes.proofs.OrderLemmas.{prefix_exact, prefix_total}
 
-nets_ways : (es : List (Net × WayValue)) → nets (map route_of es) ≡ keys_of es
+pub nets_ways : (es : List (Net × WayValue)) → nets (map route_of es) ≡ keys_of es
 nets_ways [] = refl
 nets_ways (e ∷ es) = ap (λ l. e.0 ∷ l) (nets_ways es)
 
@@ -19,3 +19,7 @@ pub sorted_routes : (cs : List (Candidate Net)) → AreSortedRoutes (routes_of c
 sorted_routes cs =
     let P : List Net → Type 0 = λ ks. IsStrictlySortedBy prefix_cmp ks in
     subst P (sym (nets_ways (ways_of prefix_cmp cs))) (sorted_ways prefix_total prefix_exact cs)
+
+pub no_routes_sorted : AreSortedRoutes []
+unfolding IsStrictlySortedBy
+no_routes_sorted = tt

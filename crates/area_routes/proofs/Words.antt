@@ -19,11 +19,11 @@ use Rattle.area_routes.specs.Order.{area_cmp, rank_cmp}
 use Rattle.next_hops.specs.Hop.{hop_cmp}
 use Rattle.area_routes.specs.Values.{WayValue}
 use Rattle.area_routes.specs.declared.rank.Rank.{Rank}
-use Rattle.area_routes.proofs.Entries.{same_entries}
-use Rattle.area_routes.proofs.Least.{not_below}
+use Rattle.area_routes.proofs.LookupLemmas.{same_entries}
+use Rattle.area_routes.proofs.LeastLemmas.{not_below}
 use Rattle.area_routes.proofs.Merging.{lookup_ways, sorted_ways}
-use Rattle.area_routes.proofs.Orders.{area_exact, area_total, hop_exact, hop_total, rank_exact, rank_total}
-use Rattle.area_routes.proofs.Rising.{any_rising, same_sorted, sorted_rising}
+use Rattle.area_routes.proofs.OrderLemmas.{area_exact, area_total, hop_exact, hop_total, rank_exact, rank_total}
+use Rattle.area_routes.proofs.RisingLemmas.{any_rising, same_sorted, sorted_rising}
 
 module _ {X : Type 0} where
   any_filter : (t p : X → Bool) (xs : List X) → list_any p (filter t xs) ≡ list_any (λ x. t x && p x) xs

@@ -17,3 +17,5 @@ pub mod Entries
 pub mod AreaResults
 pub mod Growing
 pub mod Standings
+pub mod Attached
+pub mod EntriesOnce

@@ -2,6 +2,8 @@
 
 ghost use Rattle.std.specs.Prelude.{◌≡◌, ◌++◌, ◌∷◌, [], List, OnOk, IfOk, Some};
 ghost use Rattle.std.specs.BTreeMap.{get, IsOrdered, Updates};
+ghost use Rattle.std.specs.List.Sorted.{IsStrictlySortedBy};
+ghost use Rattle.std.specs.Map.{keys_of};
 ghost use Rattle.std.proofs.lemmas.Map.Lookups.{CmpEqualImpliesEq};
 ghost use Rattle.area_routes.specs.Best.{ways_of, Gathers};
 ghost use Rattle.area_routes.specs.Candidate.{Candidate};
@@ -65,7 +67,9 @@ impl<K: Ord + Copy + Drop, A: Allocator + Copy> BestWays<K, A> {
     /// Each destination that a candidate has, in order, with the best ways to it.
     pub fn into_list(self, alloc: A) -> Result<Vec<(K, Way<A>), A>, AllocError>
         requires { CmpEqualImpliesEq K.cmp }
-        ensures { IfOk result (λ ways. (cs : List (Candidate K)) → Gathers K.cmp cs self → ways.items ≡ ways_of K.cmp cs) }
+        ensures ways { IfOk result (λ ways. (cs : List (Candidate K))
+            → Gathers K.cmp cs self → ways.items ≡ ways_of K.cmp cs) }
+        ensures sorted { IfOk result (λ ways. IsStrictlySortedBy K.cmp (keys_of ways.items)) }
     {
         entries(alloc, self.found)
     }

@@ -10,18 +10,18 @@ ghost use Rattle.area_routes.specs.Best.{Gathers};
 ghost use Rattle.area_routes.specs.Candidate.{Candidate};
 ghost use Rattle.area_routes.specs.Inter.{asbr_candidate, asbr_entry, candidate_to, inter_entries, inter_of, inter_routes, network_candidate};
 ghost use Rattle.area_routes.specs.Order.{prefix_cmp, router_cmp};
-ghost use Rattle.area_routes.specs.Routes.{AreSortedRoutes};
-ghost use Rattle.area_routes.specs.Values.{AreCheap, EntriesBelow, RoutesBelow};
+ghost use Rattle.area_routes.specs.Values.{AreCheap, EntriesBelow};
 
 use crate::all_entries::all_entries;
 use crate::area_result::AreaResult;
 use crate::best::BestWays;
 use crate::entry::{EntryKind, RouterEntry};
+use crate::entry_list::RouterEntries;
 use crate::examined::examined;
 use crate::indexed_area::IndexedArea;
+use crate::inside_routes::InsideRoutes;
 use crate::inter_result::InterResult;
 use crate::rank::{PathType, Rank};
-use crate::route::Route;
 use crate::summary::{asbr_told, network_told, usable_metric};
 use crate::way::Way;
 use lsa_codec::{AreaId, Lsa, Prefix, RouterId};
@@ -47,19 +47,16 @@ pub fn inter<A: Allocator + Copy>(
     database: &Database<A>,
     router: RouterId,
     results: &[AreaResult<A>],
-    intra: &[Route<A>],
+    intra: &InsideRoutes<A>,
 ) -> Result<InterResult<A>, AllocError>
-    requires { AreSortedRoutes intra.now }
-    ensures value { IfOk result (λ found. found ≡ inter_of (lists_of database.now) router results.now intra.now) }
-    ensures sorted { IfOk result (λ found. AreSortedRoutes found.routes) }
-    ensures small_routes { IfOk result (λ found. RoutesBelow (2 ^ 34) found.routes) }
-    ensures small_entries { IfOk result (λ found. EntriesBelow (2 ^ 34) found.routers) }
+    ensures { IfOk result (λ found. found
+        ≡ inter_of (lists_of database.now) router results.now intra.now) }
 {
     let mut routers = all_entries(alloc, results)?;
     let Some(area) = examined(results) else {
         return Ok(InterResult {
-            routes: Vec::new(alloc),
-            routers,
+            routes: InsideRoutes::new(alloc),
+            routers: RouterEntries::from_vec(routers),
         });
     };
     let section = Section::Area(area.area());
@@ -67,7 +64,10 @@ pub fn inter<A: Allocator + Copy>(
     let routes = inter_routes(alloc, database.lsas(section), router, &area, intra)?;
     let mut entries = inter_entries(alloc, database.lsas(section), router, &area)?;
     routers.append(&mut entries)?;
-    Ok(InterResult { routes, routers })
+    Ok(InterResult {
+        routes,
+        routers: RouterEntries::from_vec(routers),
+    })
 }
 
 /// The inter-area routes by the summary-LSAs of the examined area.
@@ -76,19 +76,17 @@ fn inter_routes<A: Allocator + Copy>(
     lsas: Lsas<'_, A>,
     router: RouterId,
     area: &IndexedArea<'_, A>,
-    intra: &[Route<A>],
-) -> Result<Vec<Route<A>, A>, AllocError>
-    requires cheap { AreCheap area.now }
-    requires sorted { AreSortedRoutes intra.now }
-    ensures routes { IfOk result (λ routes. routes.items ≡ inter_routes router area.now intra.now lsas.entry) }
-    ensures sorted { IfOk result (λ routes. AreSortedRoutes routes.items) }
-    ensures small { IfOk result (λ routes. RoutesBelow (2 ^ 34) routes.items) }
+    intra: &InsideRoutes<A>,
+) -> Result<InsideRoutes<A>, AllocError>
+    requires { AreCheap area.now }
+    ensures { IfOk result (λ routes. routes
+        ≡ inter_routes router area.now intra.now lsas.entry) }
 {
     let mut ways = BestWays::new(alloc);
     for lsa in lsas {
         admit_network(alloc, &mut ways, lsa, router, area, intra)?;
     }
-    ways.into_routes(alloc)
+    Ok(InsideRoutes::from_routes(ways.into_routes(alloc)?))
 }
 
 /// The entries of AS boundary routers of other areas, by router, by the summary-LSAs of the
@@ -117,9 +115,8 @@ fn admit_network<A: Allocator + Copy>(
     lsa: &Lsa<A>,
     router: RouterId,
     area: &IndexedArea<'_, A>,
-    intra: &[Route<A>],
+    intra: &InsideRoutes<A>,
 ) -> Result<(), AllocError>
-    requires { AreSortedRoutes intra.now }
     ensures { OnOk result ((cs : List (Candidate Net)) → Gathers prefix_cmp cs ways.old
         → Gathers prefix_cmp (cs ++ cons_option (network_candidate router area.now intra.now lsa.now) []) ways.new) }
 {

@@ -2,19 +2,19 @@
 
 ghost use Rattle.std.specs.Prelude.{◌≡◌};
 
-use crate::entry::RouterEntry;
-use crate::route::Route;
+use crate::entry_list::RouterEntries;
+use crate::inside_routes::InsideRoutes;
 use std::alloc::{Allocator, Global};
 use std::marker::Model;
 
 /// The inter-area routes of a router, and all its router entries (RFC 2328, 16.2).
 #[derive(Drop)]
 pub struct InterResult<A: Allocator = Global> {
-    /// The inter-area routes, in order of prefix.
-    pub routes: Vec<Route<A>, A>,
+    /// The inter-area routes.
+    pub routes: InsideRoutes<A>,
     /// The entries of all areas in rising order of the areas, and then those of AS boundary
     /// routers that summary-LSAs tell of, in order of the routers.
-    pub routers: Vec<RouterEntry<A>, A>,
+    pub routers: RouterEntries<A>,
 }
 
 impl<A: Allocator> Model for InterResult<A> {
@@ -22,5 +22,5 @@ impl<A: Allocator> Model for InterResult<A> {
 
     ghost Value = { InterValue };
 
-    ghost view = { λ r. record { routes = r.routes.items; routers = r.routers.items } };
+    ghost view = { λ r. record { routes = r.routes; routers = r.routers } };
 }

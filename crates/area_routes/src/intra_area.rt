@@ -6,14 +6,13 @@ ghost use Rattle.area_routes.specs.Best.{Gathers};
 ghost use Rattle.area_routes.specs.Candidate.{Candidate};
 ghost use Rattle.area_routes.specs.Intra.{intra_candidate, intra_candidates, intra_of};
 ghost use Rattle.area_routes.specs.Order.{prefix_cmp};
-ghost use Rattle.area_routes.specs.Routes.{AreSortedRoutes};
 ghost use Rattle.area_routes.specs.Values.{AreCheap, RoutesBelow};
 
 use crate::area_result::AreaResult;
 use crate::best::BestWays;
+use crate::inside_routes::InsideRoutes;
 use crate::offer::Offer;
 use crate::rank::{PathType, Rank};
-use crate::route::Route;
 use lsa_codec::{AreaId, Prefix};
 use std::alloc::{AllocError, Allocator};
 
@@ -29,16 +28,15 @@ use std::alloc::{AllocError, Allocator};
 pub fn intra<A: Allocator + Copy>(
     alloc: A,
     results: &[AreaResult<A>],
-) -> Result<Vec<Route<A>, A>, AllocError>
-    ensures routes { IfOk result (λ routes. routes.items ≡ intra_of results.now) }
-    ensures sorted { IfOk result (λ routes. AreSortedRoutes routes.items) }
-    ensures small { IfOk result (λ routes. RoutesBelow (2 ^ 33) routes.items) }
+) -> Result<InsideRoutes<A>, AllocError>
+    ensures routes { IfOk result (λ routes. routes ≡ intra_of results.now) }
+    ensures small { IfOk result (λ routes. RoutesBelow (2 ^ 33) routes) }
 {
     let mut ways = BestWays::new(alloc);
     for area in results {
         admit_area(alloc, &mut ways, area)?;
     }
-    ways.into_routes(alloc)
+    Ok(InsideRoutes::from_routes(ways.into_routes(alloc)?))
 }
 
 /// Takes all ways that an area offers into account.

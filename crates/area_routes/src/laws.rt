@@ -1,21 +1,29 @@
 //! Laws: what holds of the definitions that the contracts of this crate cite. Each is a function
 //! that does nothing, and its contract is the law.
 
-ghost use Rattle.std.specs.Prelude.{◌≡◌, ℕ, All, List};
+ghost use Rattle.std.specs.Prelude.{◌≡◌, ◌↔◌, ℕ, true, All, Contains, List};
 ghost use Rattle.std.specs.Cmp.{IsTotalOrder};
 ghost use Rattle.std.specs.declared.cmp.Ordering.TheVariants.{Equal};
 ghost use Rattle.area_routes.specs.declared.rank.Rank.{Rank as AnyRank};
 ghost use Rattle.lsa_codec.specs.Accepted.{IsAccepted};
 ghost use Rattle.lsa_codec.specs.Prefix.{Net};
+ghost use Rattle.lsa_codec.specs.declared.address.AreaId.{AreaId};
 ghost use Rattle.lsa_codec.specs.declared.address.RouterId.{RouterId};
+ghost use Rattle.lsdb.specs.declared.section.Section.TheVariants.{Area};
+ghost use Rattle.lsdb.specs.Lists.{IsDatabase, Lists, lsas_of};
+ghost use Rattle.area_graph.specs.Area.{vertices_of};
+ghost use Rattle.area_graph.specs.declared.vertex.Vertex.TheVariants.{Router};
 ghost use Rattle.std.proofs.lemmas.Map.Lookups.{CmpEqualImpliesEq};
+ghost use Rattle.area_routes.specs.Attached.{is_attached};
 ghost use Rattle.area_routes.specs.Best.{ways_of};
 ghost use Rattle.area_routes.specs.Candidate.{Candidate};
+ghost use Rattle.area_routes.specs.EntriesOnce.{StandOnce, results_of};
+ghost use Rattle.area_routes.specs.Inter.{inter_of};
 ghost use Rattle.area_routes.specs.InWords.{AreBestWays};
 ghost use Rattle.area_routes.specs.Order.{prefix_cmp, rank_cmp};
 ghost use Rattle.area_routes.specs.OverAllPaths.{AreOverAllPaths};
 ghost use Rattle.area_routes.specs.Reached.{reached_from};
-ghost use Rattle.area_routes.specs.Values.{WayValue};
+ghost use Rattle.area_routes.specs.Values.{RouteValue, WayValue};
 
 use crate::rank::Rank;
 use lsa_codec::Prefix;
@@ -45,4 +53,16 @@ pub fn ways_are_best<K: Ord + Copy + Drop>()
 /// this cost.
 pub fn reached_over_all_paths()
     ensures { (root : RouterId) (lsas : List (List ℕ)) → All IsAccepted lsas → AreOverAllPaths root lsas (reached_from root lsas) }
+{}
+
+/// A router is attached to an area exactly where it is a vertex of the area's graph.
+pub fn attached_routers_are_vertices()
+    ensures { (db : Lists) → IsDatabase db → (area : AreaId) (router : RouterId)
+        → (is_attached db area router ≡ true) ↔ Contains (vertices_of (lsas_of (Area area) db)) (Router router) }
+{}
+
+/// Of one router, area and kind a router has one entry (RFC 2328, 16.2).
+pub fn entries_stand_once()
+    ensures { (db : Lists) → IsDatabase db → (router : RouterId) (intra : List RouteValue)
+        → StandOnce (inter_of db router (results_of db router) intra).routers }
 {}

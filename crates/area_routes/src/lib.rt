@@ -9,16 +9,20 @@
 mod area_result;
 mod areas;
 mod entry;
+mod entry_list;
+mod inside_routes;
 mod inter_result;
 mod offer;
 mod rank;
 mod route;
+mod route_list;
 
 // The best of many candidates.
 mod best;
 mod way;
 
 // What an area gives.
+mod attached;
 mod building;
 mod choice;
 mod networks;
@@ -27,8 +31,8 @@ mod router_entries;
 mod stubs;
 
 // Routes within areas.
+mod best_routes;
 mod intra_area;
-mod routes;
 
 // Routes between areas.
 mod all_entries;
@@ -36,7 +40,6 @@ mod entry_index;
 mod examined;
 mod indexed_area;
 mod inter_area;
-mod lookup;
 mod summary;
 
 // What holds of the definitions.
@@ -44,20 +47,21 @@ mod laws;
 
 pub use area_result::AreaResult;
 pub use areas::AreaList;
+pub use attached::is_attached;
 pub use best::BestWays;
 pub use choice::network_choice;
 pub use entry::{EntryKind, RouterEntry};
+pub use entry_list::RouterEntries;
+pub use inside_routes::InsideRoutes;
 pub use inter_area::inter;
 pub use inter_result::InterResult;
 pub use intra_area::intra;
-pub use laws::{reached_over_all_paths, route_orders, ways_are_best};
-pub use lookup::{has_route, route_to};
+pub use laws::{attached_routers_are_vertices, entries_stand_once, reached_over_all_paths, route_orders, ways_are_best};
 pub use offer::Offer;
 pub use rank::{PathType, Rank};
 pub use route::Route;
+pub use route_list::Routes;
 pub use way::Way;
 
 #[cfg(test)]
-mod area_tests;
-#[cfg(test)]
-mod route_tests;
+mod tests;

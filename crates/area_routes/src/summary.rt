@@ -3,11 +3,9 @@
 ghost use Rattle.std.specs.Prelude.{◌≡◌, ◌<◌, IfSome};
 ghost use Rattle.lsa_codec.specs.Views.{ls_infinity};
 ghost use Rattle.area_routes.specs.Inter.{asbr_told, network_told, usable_metric};
-ghost use Rattle.area_routes.specs.Routes.{AreSortedRoutes};
 
 use crate::indexed_area::IndexedArea;
-use crate::lookup::has_route;
-use crate::route::Route;
+use crate::inside_routes::InsideRoutes;
 use lsa_codec::{ASBR_SUMMARY_LSA, LS_INFINITY, Lsa, Prefix, RouterId};
 use std::alloc::Allocator;
 
@@ -25,12 +23,14 @@ pub(crate) fn usable_metric<A: Allocator + Copy>(lsa: &Lsa<A>, router: RouterId)
 }
 
 /// The prefix that a summary-LSA of type 3 tells of, where it has no intra-area route.
-pub(crate) fn network_told<A: Allocator + Copy>(lsa: &Lsa<A>, intra: &[Route<A>]) -> Option<Prefix>
-    requires { AreSortedRoutes intra.now }
+pub(crate) fn network_told<A: Allocator + Copy>(
+    lsa: &Lsa<A>,
+    intra: &InsideRoutes<A>,
+) -> Option<Prefix>
     ensures { result ≡ network_told intra.now lsa.now }
 {
     let net = lsa.summary()?.net()?;
-    if has_route(intra, net) {
+    if intra.as_routes().has_route(net) {
         return None;
     }
     Some(net)

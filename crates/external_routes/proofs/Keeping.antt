@@ -12,7 +12,7 @@ use Rattle.area_graph.specs.Least.{later}
 use Rattle.area_routes.specs.Inter.{same_router}
 use Rattle.area_routes.specs.Order.{router_cmp}
 use Rattle.area_routes.specs.Values.{EntryValue}
-use Rattle.area_routes.proofs.Orders.{router_exact, router_total}
+use Rattle.area_routes.proofs.OrderLemmas.{router_exact, router_total}
 use Rattle.external_routes.specs.Choose.{is_asbr, is_asbr_kind, preference, preferred}
 use Rattle.external_routes.specs.Lookup.{comes_first, entry_at}
 use Rattle.external_routes.proofs.First.{first_more}

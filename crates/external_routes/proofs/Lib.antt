@@ -1,4 +1,4 @@
-pub mod Attaching
+pub mod OutsideStubs
 pub mod First
 pub mod Orders
 pub mod Marks
@@ -6,4 +6,3 @@ pub mod Longest
 pub mod Small
 pub mod Whole
 pub mod Keeping
-pub mod Vertices

@@ -16,7 +16,7 @@ use Rattle.area_graph.specs.Least.{least, lesser}
 use Rattle.area_routes.specs.Order.{prefix_cmp}
 use Rattle.area_routes.specs.Routes.{route_to}
 use Rattle.area_routes.specs.Values.{RouteValue}
-use Rattle.area_routes.proofs.Orders.{prefix_exact, prefix_total}
+use Rattle.area_routes.proofs.OrderLemmas.{prefix_exact, prefix_total}
 use Rattle.external_routes.specs.Choose.{covers, forward_match, longer}
 use Rattle.external_routes.specs.Lookup.{MarksLengths}
 use Rattle.external_routes.proofs.First.{least_all}

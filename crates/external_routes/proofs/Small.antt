@@ -21,12 +21,12 @@ use Rattle.external_routes.specs.External.{external_candidate, external_rank, fo
 use Rattle.external_routes.proofs.First.{first_all}
 
 abbrev IsSmall : Candidate Net → Type 0
-IsSmall c = c.rank.cost < 2 ^ 41
+IsSmall c = c.rank.cost < 2 ^ 35
 
-rank_small : (lsa : List ℕ) (class cost : ℕ) → metric_of lsa < 2 ^ 24 → cost < 2 ^ 40 → (external_rank lsa class cost).cost < 2 ^ 41
+rank_small : (lsa : List ℕ) (class cost : ℕ) → metric_of lsa < 2 ^ 24 → cost < 2 ^ 34 → (external_rank lsa class cost).cost < 2 ^ 35
 rank_small lsa class cost m c = by (is_type2_of lsa)
   where
-    by : (b : Bool) → (cond {A = Rank} b (record { path = Ext2; cost2 = metric_of lsa; class = class; cost = cost }) (record { path = Ext1; cost2 = 0; class = class; cost = cost + metric_of lsa })).cost < 2 ^ 41
+    by : (b : Bool) → (cond {A = Rank} b (record { path = Ext2; cost2 = metric_of lsa; class = class; cost = cost }) (record { path = Ext1; cost2 = 0; class = class; cost = cost + metric_of lsa })).cost < 2 ^ 35
     by true = omega arith
     by false = omega arith
 
@@ -38,13 +38,13 @@ metric_below router lsa h =
     let below : metric_of lsa < ls_infinity = ltb-true (metric_of lsa) ls_infinity metric.0 in
     omega arith
 
-module _ (router : RouterId) (routes : List RouteValue) (entries : List EntryValue) (cheap_routes : RoutesBelow (2 ^ 40) routes) (cheap_entries : EntriesBelow (2 ^ 40) entries) where
-  path_small : (lsa : List ℕ) (e : EntryValue) → metric_of lsa < 2 ^ 24 → e.cost < 2 ^ 40 → IfSome (path_over routes lsa e) IsSmall
+module _ (router : RouterId) (routes : List RouteValue) (entries : List EntryValue) (cheap_routes : RoutesBelow (2 ^ 34) routes) (cheap_entries : EntriesBelow (2 ^ 34) entries) where
+  path_small : (lsa : List ℕ) (e : EntryValue) → metric_of lsa < 2 ^ 24 → e.cost < 2 ^ 34 → IfSome (path_over routes lsa e) IsSmall
   path_small lsa e m cheap = by (eqb (forward_of lsa) 0)
     where
       over : (o : Option RouteValue) → o ≡ forward_match routes (forward_address lsa) → IfSome (option_map (path_by_route lsa) o) IsSmall
       over None is = tt
-      over (Some r) is = rank_small lsa (route_class r) r.cost m (first_all longer (λ r. r.cost < 2 ^ 40) (λ r. covers r.net (forward_address lsa)) routes r cheap_routes is)
+      over (Some r) is = rank_small lsa (route_class r) r.cost m (first_all longer (λ r. r.cost < 2 ^ 34) (λ r. covers r.net (forward_address lsa)) routes r cheap_routes is)
 
       by : (b : Bool) → IfSome (cond b (Some (path_by_entry lsa e)) (option_map (path_by_route lsa) (forward_match routes (forward_address lsa)))) IsSmall
       by true = rank_small lsa (entry_class e) e.cost m cheap
@@ -55,7 +55,7 @@ module _ (router : RouterId) (routes : List RouteValue) (entries : List EntryVal
     where
       entry_of : metric_of lsa < 2 ^ 24 → (o : Option EntryValue) → o ≡ preferred entries (originator_of lsa) → IfSome (option_and_then (path_over routes lsa) o) IsSmall
       entry_of m None is = tt
-      entry_of m (Some e) is = path_small lsa e m (first_all preference (λ e. e.cost < 2 ^ 40) (is_asbr (originator_of lsa)) entries e cheap_entries is)
+      entry_of m (Some e) is = path_small lsa e m (first_all preference (λ e. e.cost < 2 ^ 34) (is_asbr (originator_of lsa)) entries e cheap_entries is)
 
       reached : metric_of lsa < 2 ^ 24 → (b : Bool) → IfSome (cond b None (option_and_then (path_over routes lsa) (preferred entries (originator_of lsa)))) IsSmall
       reached m true = tt

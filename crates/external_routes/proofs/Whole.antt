@@ -8,10 +8,9 @@ use Rattle.lsa_codec.specs.Prefix.{Net}
 use Rattle.area_routes.specs.Best.{Gathers}
 use Rattle.area_routes.specs.Candidate.{Candidate}
 use Rattle.area_routes.specs.Order.{prefix_cmp}
-use Rattle.area_routes.specs.Routes.{AreSortedRoutes, routes_of}
+use Rattle.area_routes.specs.Routes.{routes_of}
 use Rattle.area_routes.specs.Values.{EntryValue, RouteValue, WayValue}
-use Rattle.area_routes.proofs.Sorted.{sorted_routes}
-use Rattle.external_routes.specs.Attached.{is_attached_outside_stubs}
+use Rattle.external_routes.specs.Flooding.{is_attached_outside_stubs}
 use Rattle.external_routes.specs.Lookup.{WaysInside}
 use Rattle.external_routes.specs.External.{external_candidate, externals_of}
 
@@ -34,7 +33,3 @@ module _ (db : Lists) (router : RouterId) (routes : List RouteValue) (entries : 
   gathered inside lsas ways same all before =
       subst (λ (i : WaysInside). Gathers prefix_cmp (filter_map (external_candidate router i.routes i.entries) (lsas_of AsWide db)) ways) same
       (subst (λ (xs : List (List ℕ)). Gathers prefix_cmp (filter_map (external_candidate router inside.routes inside.entries) xs) ways) all before)
-
--- no routes stand in order
-pub none_sorted : AreSortedRoutes []
-none_sorted = sorted_routes []

@@ -19,7 +19,7 @@ use Rattle.area_routes.specs.Values.{EntryValue, RouteValue}
 use Rattle.area_routes.specs.Candidate.{Candidate}
 use Rattle.area_routes.specs.Inter.{originator_of, same_router}
 use Rattle.area_routes.specs.Routes.{has_route, routes_of}
-use Rattle.external_routes.specs.Attached.{is_attached_outside_stubs}
+use Rattle.external_routes.specs.Flooding.{is_attached_outside_stubs}
 use Rattle.external_routes.specs.Choose.{entry_class, forward_match, preferred, route_class}
 
 -- the forwarding address; 0 stands for the originator itself (A.4.5)

@@ -1,4 +1,4 @@
-pub mod Attached
+pub mod Flooding
 pub mod Choose
 pub mod External
 pub mod Lookup

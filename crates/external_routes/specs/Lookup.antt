@@ -5,7 +5,6 @@ use Rattle.std.specs.Option.{option_and_then, option_map_or}
 use Rattle.std.specs.Ordering.{is_lt}
 use Rattle.lsa_codec.specs.declared.address.RouterId.{RouterId}
 use Rattle.area_routes.specs.Order.{router_cmp}
-use Rattle.area_routes.specs.Routes.{AreSortedRoutes}
 use Rattle.area_routes.specs.Values.{EntryValue, RouteValue, EntriesBelow, RoutesBelow}
 use Rattle.external_routes.specs.Choose.{preference, preferred}
 
@@ -35,11 +34,10 @@ pub record WaysInside : Type 0 where
   pub routes : List RouteValue
   pub entries : List EntryValue
 
--- the routes stand in order of prefix, and all costs are below 2^40
+-- all costs are below 2^34
 pub record AreWays (ways : WaysInside) : Type 0 where
-  pub sorted : AreSortedRoutes ways.routes
-  pub routes : RoutesBelow (2 ^ 40) ways.routes
-  pub entries : EntriesBelow (2 ^ 40) ways.entries
+  pub routes : RoutesBelow (2 ^ 34) ways.routes
+  pub entries : EntriesBelow (2 ^ 34) ways.entries
 
 -- the same, and what is kept beside them is right
 pub record IsKept (ways : WaysInside) (marks : List Bool) (kept : BTreeMap RouterId ℕ) : Type 0 where

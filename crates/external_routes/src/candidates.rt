@@ -30,7 +30,7 @@ fn examined<A: Allocator + Copy>(lsa: &Lsa<A>, router: RouterId) -> Option<Exter
 
 /// What the path of an LSA is compared by, over a way of this class and cost (RFC 2328, 16.4).
 fn rank(view: &ExternalView<'_>, class: u8, cost: u64) -> Rank
-    requires { cost < 2 ^ 40 }
+    requires { cost < 2 ^ 34 }
     ensures { result ≡ external_rank view.now class cost }
 {
     if view.is_type2() {
@@ -70,7 +70,7 @@ fn admit_path<A: Allocator + Copy>(
     cost: u64,
     hops: &[Hop],
 ) -> Result<(), AllocError>
-    requires { cost < 2 ^ 40 }
+    requires { cost < 2 ^ 34 }
     ensures { OnOk result ((cs : List (Candidate Net)) → Gathers prefix_cmp cs ways.old
         → Gathers prefix_cmp (cs ++ external_path view.now class cost hops.now ∷ []) ways.new) }
 {
@@ -85,7 +85,7 @@ fn admit_by_entry<A: Allocator + Copy>(
     view: &ExternalView<'_>,
     entry: &RouterEntry<A>,
 ) -> Result<(), AllocError>
-    requires { entry.now.cost < 2 ^ 40 }
+    requires { entry.now.cost < 2 ^ 34 }
     ensures { OnOk result ((cs : List (Candidate Net)) → Gathers prefix_cmp cs ways.old
         → Gathers prefix_cmp (cs ++ path_by_entry view.now entry.now ∷ []) ways.new) }
 {
@@ -100,7 +100,7 @@ fn admit_by_route<A: Allocator + Copy>(
     view: &ExternalView<'_>,
     route: &Route<A>,
 ) -> Result<(), AllocError>
-    requires { route.now.cost < 2 ^ 40 }
+    requires { route.now.cost < 2 ^ 34 }
     ensures { OnOk result ((cs : List (Candidate Net)) → Gathers prefix_cmp cs ways.old
         → Gathers prefix_cmp (cs ++ path_by_route view.now route.now ∷ []) ways.new) }
 {
@@ -118,7 +118,7 @@ fn admit_over<A: Allocator + Copy>(
     inside: &Inside<'_, A>,
     entry: &RouterEntry<A>,
 ) -> Result<(), AllocError>
-    requires { entry.now.cost < 2 ^ 40 }
+    requires { entry.now.cost < 2 ^ 34 }
     ensures { OnOk result ((cs : List (Candidate Net)) → Gathers prefix_cmp cs ways.old
         → Gathers prefix_cmp (cs ++ cons_option (path_over inside.now.routes view.now entry.now) []) ways.new) }
 {

@@ -3,11 +3,11 @@
 ghost use Rattle.std.specs.Prelude.{◌≡◌, ◌≤◌, length};
 ghost use Rattle.std.specs.Option.{option_copied};
 ghost use Rattle.lsa_codec.specs.Prefix.{masked};
-ghost use Rattle.area_routes.specs.Routes.{AreSortedRoutes, route_to};
+ghost use Rattle.area_routes.specs.Routes.{route_to};
 ghost use Rattle.external_routes.specs.Choose.{forward_match};
 ghost use Rattle.external_routes.specs.Lookup.{MarksLengths};
 
-use area_routes::{Route, route_to};
+use area_routes::{Route, Routes};
 use lsa_codec::{Addr, Prefix};
 use std::alloc::Allocator;
 
@@ -28,31 +28,29 @@ pub(crate) fn lengths<A: Allocator + Copy>(routes: &[Route<A>]) -> [bool; 33]
 /// The route to the prefix of a length that covers an address, where `marks` has the lengths of the
 /// routes' prefixes.
 fn covering<'a, A: Allocator + Copy>(
-    routes: &'a [Route<A>],
+    routes: &'a Routes<A>,
     marks: &[bool; 33],
     addr: Addr,
     len: u8,
 ) -> Option<&'a Route<A>>
     requires len { len ≤ 32 }
-    requires sorted { AreSortedRoutes routes.now }
     requires marked { MarksLengths routes.now marks.now }
     ensures { option_copied result ≡ route_to routes.now (masked addr len) }
 {
     if !marks[usize::from(len)] {
         return None;
     }
-    route_to(routes, Prefix::masked(addr, len))
+    routes.route_to(Prefix::masked(addr, len))
 }
 
 /// The route of the longest prefix that covers an address, where `marks` has the lengths of the
 /// routes' prefixes.
 pub(crate) fn forward_match<'a, A: Allocator + Copy>(
-    routes: &'a [Route<A>],
+    routes: &'a Routes<A>,
     marks: &[bool; 33],
     addr: Addr,
 ) -> Option<&'a Route<A>>
-    requires sorted { AreSortedRoutes routes.now }
-    requires marked { MarksLengths routes.now marks.now }
+    requires { MarksLengths routes.now marks.now }
     ensures { option_copied result ≡ forward_match routes.now addr }
 {
     for shorter in 0..33 {

@@ -2,23 +2,22 @@
 
 ghost use Rattle.std.specs.Prelude.{◌≡◌, ◌<◌, ◌^◌, IfSome, IfOk};
 ghost use Rattle.std.specs.Option.{option_copied};
-ghost use Rattle.area_routes.specs.Routes.{AreSortedRoutes, has_route};
-ghost use Rattle.area_routes.specs.Values.{EntriesBelow, RoutesBelow};
+ghost use Rattle.area_routes.specs.Routes.{has_route};
 ghost use Rattle.external_routes.specs.Choose.{forward_match, preferred};
 ghost use Rattle.external_routes.specs.Lookup.{AreWays};
 
 use crate::forward::{forward_match, lengths};
 use crate::kept::{Kept, kept_for, preferred_entries};
-use area_routes::{Route, RouterEntry, has_route};
+use area_routes::{InsideRoutes, Route, RouterEntries, RouterEntry, Routes};
 use lsa_codec::{Addr, Prefix, RouterId};
 use std::alloc::{AllocError, Allocator, Global};
 use std::marker::Model;
 
 /// The routes and the router entries of a router inside the AS, on which its external routes are
-/// built. Contracts see it as the record of the two lists. The routes stand in order of prefix.
+/// built. Contracts see it as the record of the two lists.
 #[derive(Drop)]
 pub(crate) struct Inside<'a, A: Allocator = Global> {
-    routes: &'a [Route<A>],
+    routes: &'a Routes<A>,
     entries: &'a [RouterEntry<A>],
     /// Which lengths the routes' prefixes have.
     lengths: [bool; 33],
@@ -40,20 +39,20 @@ impl<'a, A: Allocator + Copy> Inside<'a, A> {
     /// These routes and router entries.
     pub(crate) fn new(
         alloc: A,
-        routes: &'a [Route<A>],
-        entries: &'a [RouterEntry<A>],
+        routes: &'a InsideRoutes<A>,
+        entries: &'a RouterEntries<A>,
     ) -> Result<Inside<'a, A>, AllocError>
-        requires sorted { AreSortedRoutes routes.now }
-        requires routes { RoutesBelow (2 ^ 40) routes.now }
-        requires entries { EntriesBelow (2 ^ 40) entries.now }
-        ensures { IfOk result (λ inside. inside ≡ record { routes = routes.now; entries = entries.now }) }
+        ensures value { IfOk result (λ inside. inside
+            ≡ record { routes = routes.now; entries = entries.now }) }
+        ensures below { IfOk result AreWays }
     {
-        let preferred = preferred_entries(alloc, entries)?;
+        let routes = routes.as_routes();
+        let entries = entries.as_slice();
         Ok(Inside {
             routes,
             entries,
-            lengths: lengths(routes),
-            preferred,
+            lengths: lengths(routes.as_slice()),
+            preferred: preferred_entries(alloc, entries)?,
         })
     }
 
@@ -61,13 +60,13 @@ impl<'a, A: Allocator + Copy> Inside<'a, A> {
     pub(crate) fn has_route(&self, net: Prefix) -> bool
         ensures { result ≡ has_route self.now.routes net }
     {
-        has_route(self.routes, net)
+        self.routes.has_route(net)
     }
 
     /// The route of the longest prefix that covers an address.
     pub(crate) fn forward_match(&self, addr: Addr) -> Option<&'a Route<A>>
         ensures route { option_copied result ≡ forward_match self.now.routes addr }
-        ensures small { IfSome result (λ route. route.now.cost < 2 ^ 40) }
+        ensures small { IfSome result (λ route. route.now.cost < 2 ^ 34) }
     {
         forward_match(self.routes, &self.lengths, addr)
     }
@@ -75,7 +74,7 @@ impl<'a, A: Allocator + Copy> Inside<'a, A> {
     /// The preferred entry of a router as an AS boundary router.
     pub(crate) fn preferred(&self, asbr: RouterId) -> Option<&'a RouterEntry<A>>
         ensures entry { option_copied result ≡ preferred self.now.entries asbr }
-        ensures small { IfSome result (λ entry. entry.now.cost < 2 ^ 40) }
+        ensures small { IfSome result (λ entry. entry.now.cost < 2 ^ 34) }
     {
         kept_for(&self.preferred, self.entries, asbr)
     }

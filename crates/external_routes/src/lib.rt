@@ -4,8 +4,8 @@
 //! path over a way inside the AS, which the crate `area_routes` has found.
 #![tactic(auto)]
 
-// The areas that a router is attached to.
-mod attached;
+// Whether AS-external-LSAs are flooded to a router.
+mod flooding;
 
 // Ways inside the AS: which is preferred, and how they are looked up.
 mod choose;
@@ -17,12 +17,7 @@ mod kept;
 mod candidates;
 mod routes;
 
-// What holds of the definitions.
-mod laws;
-
-pub use attached::is_attached;
 pub use choose::preferred;
-pub use laws::attached_routers_are_vertices;
 pub use routes::externals;
 
 #[cfg(test)]

@@ -5,14 +5,13 @@ ghost use Rattle.std.specs.List.{filter_map};
 ghost use Rattle.lsdb.specs.Places.{lists_of};
 ghost use Rattle.area_routes.specs.Best.{Gathers};
 ghost use Rattle.area_routes.specs.Order.{prefix_cmp};
-ghost use Rattle.area_routes.specs.Routes.{AreSortedRoutes};
-ghost use Rattle.area_routes.specs.Values.{EntriesBelow, RoutesBelow};
+ghost use Rattle.area_routes.specs.Values.{RoutesBelow};
 ghost use Rattle.external_routes.specs.External.{external_candidate, externals_of};
 
-use crate::attached::is_attached_outside_stubs;
+use crate::flooding::is_attached_outside_stubs;
 use crate::candidates::admit_lsa;
 use crate::inside::Inside;
-use area_routes::{BestWays, Route, RouterEntry};
+use area_routes::{BestWays, InsideRoutes, RouterEntries, Routes};
 use lsa_codec::{Prefix, RouterId};
 use lsdb::{Database, Lsas, Section};
 use std::alloc::{AllocError, Allocator};
@@ -33,9 +32,8 @@ fn ways_of<A: Allocator + Copy>(
     Ok(ways)
 }
 
-/// The external routes of a router, in order of prefix (RFC 2328, 16.4). The routes are all its
-/// intra-area and inter-area routes, in order of prefix, and the entries are all its router
-/// entries; their costs are below 2^40.
+/// The external routes of a router (RFC 2328, 16.4). The routes are all its intra-area and
+/// inter-area routes, and the entries are all its router entries.
 ///
 /// A router that is attached to stub areas alone has none. For other routers each AS-external-LSA
 /// counts that is not at MaxAge, has a metric below LSInfinity, was made by another router that has
@@ -51,18 +49,15 @@ pub fn externals<A: Allocator + Copy>(
     alloc: A,
     database: &Database<A>,
     router: RouterId,
-    routes: &[Route<A>],
-    entries: &[RouterEntry<A>],
-) -> Result<Vec<Route<A>, A>, AllocError>
-    requires sorted { AreSortedRoutes routes.now }
-    requires routes { RoutesBelow (2 ^ 40) routes.now }
-    requires entries { EntriesBelow (2 ^ 40) entries.now }
-    ensures routes { IfOk result (λ found. found.items ≡ externals_of (lists_of database.now) router routes.now entries.now) }
-    ensures sorted { IfOk result (λ found. AreSortedRoutes found.items) }
-    ensures small { IfOk result (λ found. RoutesBelow (2 ^ 41) found.items) }
+    routes: &InsideRoutes<A>,
+    entries: &RouterEntries<A>,
+) -> Result<Routes<A>, AllocError>
+    ensures routes { IfOk result (λ found. found
+        ≡ externals_of (lists_of database.now) router routes.now entries.now) }
+    ensures small { IfOk result (RoutesBelow (2 ^ 35)) }
 {
     if !is_attached_outside_stubs(database, router) {
-        return Ok(Vec::new(alloc));
+        return Ok(Routes::new(alloc));
     }
     let inside = Inside::new(alloc, routes, entries)?;
     let ways = ways_of(alloc, database.lsas(Section::AsWide), router, &inside)?;

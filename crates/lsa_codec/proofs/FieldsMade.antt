@@ -31,18 +31,21 @@ use Rattle.lsa_codec.proofs.Rewritten.{guard}
 
 -- ---- another cost of a link
 
-cost_on : (k metric : ℕ) (link : Link) (lsa made : List ℕ) → Some link ≡ link_numbered k lsa → with_cost k metric lsa ≡ ok_of made → with_metric_of link metric lsa ≡ made
+cost_on : (k metric : ℕ) (link : Link) (lsa made : List ℕ) → Some link ≡ link_numbered k lsa
+    → with_cost k metric lsa ≡ ok_of made → with_metric_of link metric lsa ≡ made
 cost_on k metric link lsa made numbered e =
     let on : with_cost_on (Some link) metric lsa ≡ ok_of made = ap (λ (o : Option Link). with_cost_on o metric lsa) numbered ∙ e in
     (guard (has_cost link.kind && eqb metric 0) ZeroCost (with_metric_of link metric lsa) made on).1
 
-pub cost_links : (k metric : ℕ) (link : Link) (lsa made : List ℕ) → IsAccepted lsa → kind_of lsa ≡ 1 → metric < 65536 → link_numbered k lsa ≡ Some link
+pub cost_links : (k metric : ℕ) (link : Link) (lsa made : List ℕ) → IsAccepted lsa → kind_of lsa ≡ 1
+    → metric < 65536 → link_numbered k lsa ≡ Some link
     → with_cost k metric lsa ≡ Ok made → links_of made ≡ set (links_of lsa) (k - 1) (remetered link metric)
 cost_links k metric link lsa made old kind small numbered e =
     ap links_of (sym (cost_on k metric link lsa made (sym numbered) e))
     ∙ links_with_metric (k - 1) metric link lsa old kind (place_of_number k lsa link (sym numbered)) small
 
-cost_kept_on : (o : Option Link) (k metric : ℕ) (lsa made : List ℕ) → o ≡ link_numbered k lsa → IsAccepted lsa → kind_of lsa ≡ 1 → metric < 65536
+cost_kept_on : (o : Option Link) (k metric : ℕ) (lsa made : List ℕ) → o ≡ link_numbered k lsa
+    → IsAccepted lsa → kind_of lsa ≡ 1 → metric < 65536
     → with_cost k metric lsa ≡ ok_of made → KeepsAgeAndFlags lsa made
 cost_kept_on None k metric lsa made numbered old kind small e =
     let none : with_cost_on None metric lsa ≡ ok_of made = ap (λ (o : Option Link). with_cost_on o metric lsa) numbered ∙ e in
@@ -50,12 +53,14 @@ cost_kept_on None k metric lsa made numbered old kind small e =
 cost_kept_on (Some link) k metric lsa made numbered old kind small e =
     subst (KeepsAgeAndFlags lsa) (cost_on k metric link lsa made numbered e) (kept_with_metric (k - 1) metric link lsa old kind (place_of_number k lsa link numbered) small)
 
-pub cost_kept : (k metric : ℕ) (lsa made : List ℕ) → IsAccepted lsa → kind_of lsa ≡ 1 → metric < 65536 → with_cost k metric lsa ≡ Ok made → KeepsAgeAndFlags lsa made
+pub cost_kept : (k metric : ℕ) (lsa made : List ℕ) → IsAccepted lsa → kind_of lsa ≡ 1 → metric < 65536
+    → with_cost k metric lsa ≡ Ok made → KeepsAgeAndFlags lsa made
 cost_kept k metric lsa made old kind small e = cost_kept_on (link_numbered k lsa) k metric lsa made refl old kind small e
 
 -- ---- fewer links
 
-kept_links : (lsa : List ℕ) (kept : List Link) → IsAccepted lsa → kind_of lsa ≡ 1 → AreKept lsa kept → KeepsAgeAndFlags lsa (with_links kept lsa)
+kept_links : (lsa : List ℕ) (kept : List Link) → IsAccepted lsa → kind_of lsa ≡ 1 → AreKept lsa kept
+    → KeepsAgeAndFlags lsa (with_links kept lsa)
 kept_links lsa kept old kind are =
     let long = (has_texts lsa old kind).long in
     let texts : List ℕ = flat_map (link_text lsa) kept in
@@ -73,7 +78,8 @@ link_kept k lsa made old kind e =
     let is = made_is (is_some (link_numbered k lsa)) (with_links (remove (links_of lsa) (k - 1)) lsa) made NoLink e in
     subst (KeepsAgeAndFlags lsa) is (kept_links lsa (remove (links_of lsa) (k - 1)) old kind (kept_removed (k - 1) lsa old kind))
 
-pub links_kept : (test : Link → Bool) (lsa made : List ℕ) → IsAccepted lsa → kind_of lsa ≡ 1 → without_links test lsa ≡ Ok made → KeepsAgeAndFlags lsa made
+pub links_kept : (test : Link → Bool) (lsa made : List ℕ) → IsAccepted lsa → kind_of lsa ≡ 1
+    → without_links test lsa ≡ Ok made → KeepsAgeAndFlags lsa made
 links_kept test lsa made old kind e =
     let kept : List Link = filter (λ link. not (test link)) (links_of lsa) in
     let is = made_is (list_any test (links_of lsa)) (with_links kept lsa) made NoLink e in
@@ -86,7 +92,8 @@ record Extended (net : Net) (metric : ℕ) (lsa made : List ℕ) : Type 0 where
   pub is : recounted (link_count lsa + 1) (lsa ++ stub_text net metric) ≡ made
   pub new : Recounted (link_count lsa + 1) (lsa ++ stub_text net metric) (recounted (link_count lsa + 1) (lsa ++ stub_text net metric))
 
-extended : (net : Net) (metric : ℕ) (lsa made : List ℕ) → IsAccepted lsa → kind_of lsa ≡ 1 → with_stub net metric lsa ≡ ok_of made → Extended net metric lsa made
+extended : (net : Net) (metric : ℕ) (lsa made : List ℕ) → IsAccepted lsa → kind_of lsa ≡ 1
+    → with_stub net metric lsa ≡ ok_of made → Extended net metric lsa made
 extended net metric lsa made old kind e =
     let stub : List ℕ = stub_text net metric in
     let parts = guard (nat_lt 65535 (length lsa + 12)) TooLong (recounted (link_count lsa + 1) (lsa ++ stub)) made e in
@@ -95,7 +102,8 @@ extended net metric lsa made old kind e =
     let size = length-append lsa stub in
     record { is = parts.1; new = recounted_is (link_count lsa + 1) (lsa ++ stub) (omega (arith, has.long)) (omega arith) (omega (arith, has.few)) }
 
-pub stub_kept : (net : Net) (metric : ℕ) (lsa made : List ℕ) → IsAccepted lsa → kind_of lsa ≡ 1 → with_stub net metric lsa ≡ Ok made → KeepsAgeAndFlags lsa made
+pub stub_kept : (net : Net) (metric : ℕ) (lsa made : List ℕ) → IsAccepted lsa → kind_of lsa ≡ 1
+    → with_stub net metric lsa ≡ Ok made → KeepsAgeAndFlags lsa made
 stub_kept net metric lsa made old kind e =
     let stub : List ℕ = stub_text net metric in
     let one = extended net metric lsa made old kind e in
@@ -158,7 +166,8 @@ metric_written metric lsa long small =
     number_at-same 3 25 (with_metric metric lsa) inner (λ j lo hi. get_or-put_after 16 (big_bytes 2 (checksum_made inner)) inner j (omega arith) (omega arith))
     ∙ number_at-put_3 25 metric lsa (omega arith) small
 
-pub metric_fields : (metric : ℕ) (lsa : List ℕ) → IsAccepted lsa → has_metric (kind_of lsa) ≡ true → metric < 2 ^ 24 → HasOtherMetric metric lsa (with_metric metric lsa)
+pub metric_fields : (metric : ℕ) (lsa : List ℕ) → IsAccepted lsa → has_metric (kind_of lsa) ≡ true
+    → metric < 2 ^ 24 → HasOtherMetric metric lsa (with_metric metric lsa)
 metric_fields metric lsa old has small =
     let a : List ℕ = with_metric metric lsa in
     let long = metric_long lsa old has in
@@ -184,21 +193,24 @@ abbrev net_with : ℕ → ℕ → Net
 net_with addr len = record { addr = record { 0 = addr }; len = len }
 
 -- a Link State ID and a mask that are a prefix's give that prefix
-net_read : (net : Net) (lsa : List ℕ) → IsNet net → number_at 4 4 lsa ≡ net.addr.0 → mask_of lsa ≡ mask_of_len net.len → net_of_lsa lsa ≡ net
+net_read : (net : Net) (lsa : List ℕ) → IsNet net → number_at 4 4 lsa ≡ net.addr.0
+    → mask_of lsa ≡ mask_of_len net.len → net_of_lsa lsa ≡ net
 net_read net lsa is id mask =
     let len : len_of_mask (mask_of lsa) ≡ net.len = ap len_of_mask mask ∙ len_of_mask_of_len net.len is.short in
     ap (λ (n : ℕ). masked (record { 0 = n }) (len_of_mask (mask_of lsa))) id
     ∙ ap (λ (n : ℕ). masked net.addr n) len
     ∙ ap (λ (n : ℕ). net_with n net.len) (eqb-true _ _ is.masked)
 
-pub summary_fields : (options : ℕ) (adv : RouterId) (net : Net) (metric : ℕ) → IsNet net → net.addr.0 < 2 ^ 32 → metric < 2 ^ 24 → HasNewFields net metric (new_summary options adv net metric)
+pub summary_fields : (options : ℕ) (adv : RouterId) (net : Net) (metric : ℕ) → IsNet net
+    → net.addr.0 < 2 ^ 32 → metric < 2 ^ 24 → HasNewFields net metric (new_summary options adv net metric)
 summary_fields options adv net metric is addr_small small =
     let a : List ℕ = new_summary options adv net metric in
     let id : number_at 4 4 a ≡ net.addr.0 = omega arith in
     let mask : mask_of a ≡ mask_of_len net.len = omega (arith, pow_pos (32 - net.len)) in
     record { age = refl; live = refl; mask = mask; net = net_read net a is id mask; metric = omega arith }
 
-pub external_fields : (adv : RouterId) (net : Net) (type2 : Bool) (metric : ℕ) (forward : Addr) (tag : ℕ) → IsNet net → net.addr.0 < 2 ^ 32 → metric < 2 ^ 24
+pub external_fields : (adv : RouterId) (net : Net) (type2 : Bool) (metric : ℕ) (forward : Addr) (tag : ℕ)
+    → IsNet net → net.addr.0 < 2 ^ 32 → metric < 2 ^ 24
     → HasNewFields net metric (new_external adv net type2 metric forward tag)
 external_fields adv net type2 metric forward tag is addr_small small =
     let a : List ℕ = new_external adv net type2 metric forward tag in
@@ -210,7 +222,8 @@ type_read : (type2 : Bool) → nat_le 128 (if type2 then 128 else 0) ≡ type2
 type_read true = refl
 type_read false = refl
 
-pub external_further : (adv : RouterId) (net : Net) (type2 : Bool) (metric : ℕ) (forward : Addr) (tag : ℕ) → forward.0 < 2 ^ 32 → tag < 2 ^ 32
+pub external_further : (adv : RouterId) (net : Net) (type2 : Bool) (metric : ℕ) (forward : Addr) (tag : ℕ)
+    → forward.0 < 2 ^ 32 → tag < 2 ^ 32
     → HasExternalFields type2 forward tag (new_external adv net type2 metric forward tag)
 external_further adv net type2 metric forward tag forward_small tag_small =
     record { type2 = type_read type2; forward = omega arith; tag = omega arith }

@@ -20,18 +20,22 @@ use Rattle.lsa_codec.proofs.Made.{with_checksum-good, checksum_made}
 pub record StandsAt (offset : ℕ) (text bytes : List ℕ) : Type 0 where
   pub here : (j : ℕ) → j < length text → get_or bytes (offset + j) 0 ≡ get_or text j 0
 
-pub number_at-moved : (n i offset : ℕ) (text bytes : List ℕ) → StandsAt offset text bytes → i + n ≤ length text → number_at n (offset + i) bytes ≡ number_at n i text
+pub number_at-moved : (n i offset : ℕ) (text bytes : List ℕ) → StandsAt offset text bytes
+    → i + n ≤ length text → number_at n (offset + i) bytes ≡ number_at n i text
 number_at-moved zero i offset text bytes at fits = refl
 number_at-moved (suc n) i offset text bytes at fits =
     let here = at.here i (omega arith) in
     let next : suc (offset + i) ≡ offset + suc i = omega arith in
-    let rest : number_at n (suc (offset + i)) bytes ≡ number_at n (suc i) text = ap (λ k. number_at n k bytes) next ∙ number_at-moved n (suc i) offset text bytes at (omega arith) in
+    let rest : number_at n (suc (offset + i)) bytes ≡ number_at n (suc i) text =
+        ap (λ k. number_at n k bytes) next ∙ number_at-moved n (suc i) offset text bytes at (omega arith) in
     rw (here, rest) refl
 
-pub link_at-moved : (offset : ℕ) (text bytes : List ℕ) → StandsAt offset text bytes → 12 ≤ length text → unplaced (link_at offset bytes) ≡ link_at 0 text
+pub link_at-moved : (offset : ℕ) (text bytes : List ℕ) → StandsAt offset text bytes → 12 ≤ length text
+    → unplaced (link_at offset bytes) ≡ link_at 0 text
 link_at-moved offset text bytes at long =
     let start : offset + 0 ≡ offset = omega arith in
-    let id : number_at 4 offset bytes ≡ number_at 4 0 text = ap (λ k. number_at 4 k bytes) (sym start) ∙ number_at-moved 4 0 offset text bytes at (omega arith) in
+    let id : number_at 4 offset bytes ≡ number_at 4 0 text =
+        ap (λ k. number_at 4 k bytes) (sym start) ∙ number_at-moved 4 0 offset text bytes at (omega arith) in
     let data' = number_at-moved 4 4 offset text bytes at (omega arith) in
     let kind = at.here 8 (omega arith) in
     let metric = number_at-moved 2 10 offset text bytes at (omega arith) in
@@ -62,7 +66,8 @@ stands_rest offset a b bytes at =
           ∙ get_or-append_right a b (length a) (length a + j) 0 refl (omega arith) ∙ ap (λ k. get_or b k 0) back;
     }
 
-pub walks : {X : Type 0} (text : X → List ℕ) (xs : List X) (offset : ℕ) (bytes : List ℕ) → All (λ x. IsLinkText (text x)) xs → StandsAt offset (flat_map text xs) bytes
+pub walks : {X : Type 0} (text : X → List ℕ) (xs : List X) (offset : ℕ) (bytes : List ℕ)
+    → All (λ x. IsLinkText (text x)) xs → StandsAt offset (flat_map text xs) bytes
     → Walks (length xs) offset (map text xs) (length (flat_map text xs)) bytes
 unfolding after_links links_from
 walks text [] offset bytes good at = record { ends = omega arith; links = refl }
@@ -86,7 +91,8 @@ walks text (x ∷ xs) offset bytes good at =
     }
 
 -- octets outside of a number that is written
-pub octet_outside : (offset v i : ℕ) (bytes : List ℕ) → offset + 2 ≤ length bytes → (i < offset) ⊎ (offset + 2 ≤ i) → get_or (put_number 2 offset v bytes) i 0 ≡ get_or bytes i 0
+pub octet_outside : (offset v i : ℕ) (bytes : List ℕ) → offset + 2 ≤ length bytes
+    → (i < offset) ⊎ (offset + 2 ≤ i) → get_or (put_number 2 offset v bytes) i 0 ≡ get_or bytes i 0
 octet_outside offset v i bytes fits (inl before) = get_or-put_before offset (big_bytes 2 v) bytes i (omega arith) before
 octet_outside offset v i bytes fits (inr after) = get_or-put_after offset (big_bytes 2 v) bytes i (omega arith) after
 
@@ -100,7 +106,8 @@ pub record Recounted (count : ℕ) (bytes a : List ℕ) : Type 0 where
   pub length : length_of a ≡ length bytes
   pub checksum : is_checksum_good a ≡ true
 
-pub recounted_is : (count : ℕ) (bytes : List ℕ) → 24 ≤ length bytes → length bytes < 65536 → count < 65536 → Recounted count bytes (recounted count bytes)
+pub recounted_is : (count : ℕ) (bytes : List ℕ) → 24 ≤ length bytes → length bytes < 65536 → count < 65536
+    → Recounted count bytes (recounted count bytes)
 recounted_is count bytes header short small =
     let counted : List ℕ = put_number 2 22 count bytes in
     let sized : List ℕ = put_number 2 18 (length bytes) counted in
@@ -126,14 +133,16 @@ recounted_is count bytes header short small =
     }
 
 -- each link has at least 12 octets
-pub texts_long : {X : Type 0} (text : X → List ℕ) (xs : List X) → All (λ x. IsLinkText (text x)) xs → 12 * length xs ≤ length (flat_map text xs)
+pub texts_long : {X : Type 0} (text : X → List ℕ) (xs : List X) → All (λ x. IsLinkText (text x)) xs
+    → 12 * length xs ≤ length (flat_map text xs)
 texts_long text [] good = omega arith
 texts_long text (x ∷ xs) good =
     let one = All-head (λ x. IsLinkText (text x)) x xs good in
     let rest = texts_long text xs (All-tail (λ x. IsLinkText (text x)) x xs good) in
     omega (arith, rest, one.size, length-append (text x) (flat_map text xs))
 
-pub list_all-links : {X : Type 0} (p : Link → Bool) (text : X → List ℕ) (xs : List X) → All (λ x. p (link_at 0 (text x)) ≡ true) xs → list_all p (map (link_at 0) (map text xs)) ≡ true
+pub list_all-links : {X : Type 0} (p : Link → Bool) (text : X → List ℕ) (xs : List X)
+    → All (λ x. p (link_at 0 (text x)) ≡ true) xs → list_all p (map (link_at 0) (map text xs)) ≡ true
 list_all-links p text [] good = refl
 list_all-links p text (x ∷ xs) good =
     and_from _ _ (All-head (λ x. p (link_at 0 (text x)) ≡ true) x xs good) (list_all-links p text xs (All-tail (λ x. p (link_at 0 (text x)) ≡ true) x xs good))

@@ -34,7 +34,8 @@ same_key a b same =
     rw (type, id, adv) refl
 
 -- an LSA that keeps some of its links
-pub rewrite_links : (lsa : List ℕ) (kept : List Link) → IsAccepted lsa → kind_of lsa ≡ 1 → AreKept lsa kept → IsRewriteOf lsa (with_links kept lsa)
+pub rewrite_links : (lsa : List ℕ) (kept : List Link) → IsAccepted lsa → kind_of lsa ≡ 1 → AreKept lsa kept
+    → IsRewriteOf lsa (with_links kept lsa)
 rewrite_links lsa kept old kind are =
     let long = (has_texts lsa old kind).long in
     let texts : List ℕ = flat_map (link_text lsa) kept in
@@ -43,7 +44,8 @@ rewrite_links lsa kept old kind are =
     let new = recounted_is (length kept) (body_of (link_text lsa) kept lsa) (omega arith) (omega (arith, old.short, are.shorter)) (omega arith) in
     record {
       accepted = accepted_links lsa kept old kind are.links are.shorter;
-      key = same_key _ lsa (λ i lt. new.header i lt ∙ get_or_append_left (take 24 lsa) texts 0 i (omega (arith, length-take 24 lsa)) ∙ get_or-take 24 lsa i 0 (omega arith));
+      key =
+          same_key _ lsa (λ i lt. new.header i lt ∙ get_or_append_left (take 24 lsa) texts 0 i (omega (arith, length-take 24 lsa)) ∙ get_or-take 24 lsa i 0 (omega arith));
       size = omega (arith, new.size, are.shorter);
     }
 
@@ -52,7 +54,8 @@ link_rewritten k lsa made old kind e =
     let is = made_is (is_some (link_numbered k lsa)) (with_links (remove (links_of lsa) (k - 1)) lsa) made NoLink e in
     subst (IsRewriteOf lsa) is (rewrite_links lsa (remove (links_of lsa) (k - 1)) old kind (kept_removed (k - 1) lsa old kind))
 
-pub links_rewritten : (test : Link → Bool) (lsa made : List ℕ) → IsAccepted lsa → kind_of lsa ≡ 1 → without_links test lsa ≡ Ok made → IsRewriteOf lsa made
+pub links_rewritten : (test : Link → Bool) (lsa made : List ℕ) → IsAccepted lsa → kind_of lsa ≡ 1
+    → without_links test lsa ≡ Ok made → IsRewriteOf lsa made
 links_rewritten test lsa made old kind e =
     let kept : List Link = filter (λ link. not (test link)) (links_of lsa) in
     let is = made_is (list_any test (links_of lsa)) (with_links kept lsa) made NoLink e in
@@ -65,7 +68,8 @@ guard false fault x made e =
     let is : x ≡ made = cc in
     (refl, is)
 
-pub stub_extended : (net : Net) (metric : ℕ) (lsa made : List ℕ) → IsAccepted lsa → kind_of lsa ≡ 1 → net.len ≤ 32 → with_stub net metric lsa ≡ Ok made → IsExtensionOf lsa made
+pub stub_extended : (net : Net) (metric : ℕ) (lsa made : List ℕ) → IsAccepted lsa → kind_of lsa ≡ 1
+    → net.len ≤ 32 → with_stub net metric lsa ≡ Ok made → IsExtensionOf lsa made
 stub_extended net metric lsa made old kind le e =
     let stub : List ℕ = stub_text net metric in
     let parts = guard (nat_lt 65535 (length lsa + 12)) TooLong (recounted (link_count lsa + 1) (lsa ++ stub)) made e in
@@ -80,17 +84,20 @@ stub_extended net metric lsa made old kind le e =
     } in
     subst (IsExtensionOf lsa) parts.1 extension
 
-cost_rewritten_on : (o : Option Link) (k metric : ℕ) (lsa made : List ℕ) → o ≡ link_numbered k lsa → IsAccepted lsa → kind_of lsa ≡ 1 → metric < 65536
+cost_rewritten_on : (o : Option Link) (k metric : ℕ) (lsa made : List ℕ) → o ≡ link_numbered k lsa
+    → IsAccepted lsa → kind_of lsa ≡ 1 → metric < 65536
     → with_cost_on o metric lsa ≡ ok_of made → IsRewriteOf lsa made
 cost_rewritten_on None k metric lsa made numbered old kind small e = absurd cc
 cost_rewritten_on (Some link) k metric lsa made numbered old kind small e =
     let parts = guard (has_cost link.kind && eqb metric 0) ZeroCost (with_metric_of link metric lsa) made e in
     subst (IsRewriteOf lsa) parts.1 (rewrite_with_metric (k - 1) metric link lsa old kind (place_of_number k lsa link numbered) small parts.0)
 
-pub cost_rewritten : (k metric : ℕ) (lsa made : List ℕ) → IsAccepted lsa → kind_of lsa ≡ 1 → metric < 65536 → with_cost k metric lsa ≡ Ok made → IsRewriteOf lsa made
+pub cost_rewritten : (k metric : ℕ) (lsa made : List ℕ) → IsAccepted lsa → kind_of lsa ≡ 1 → metric < 65536
+    → with_cost k metric lsa ≡ Ok made → IsRewriteOf lsa made
 cost_rewritten k metric lsa made old kind small e = cost_rewritten_on (link_numbered k lsa) k metric lsa made refl old kind small e
 
-pub metric_rewritten : (metric : ℕ) (lsa : List ℕ) → IsAccepted lsa → has_metric (kind_of lsa) ≡ true → IsRewriteOf lsa (with_metric metric lsa)
+pub metric_rewritten : (metric : ℕ) (lsa : List ℕ) → IsAccepted lsa → has_metric (kind_of lsa) ≡ true
+    → IsRewriteOf lsa (with_metric metric lsa)
 metric_rewritten metric lsa old has =
     let long = metric_long lsa old has in
     let new = remetered_is metric lsa long in
@@ -104,7 +111,8 @@ metric_rewritten metric lsa old has =
 abbrev key_with : ℕ → ℕ × ℕ → Key
 key_with kind p = record { kind = kind; id = record { 0 = p.0 }; adv = record { 0 = p.1 } }
 
-pub summary_new : (options : ℕ) (adv : RouterId) (net : Net) (metric : ℕ) → IsNet net → net.addr.0 < 2 ^ 32 → adv.0 < 2 ^ 32 → IsNewLsa 3 net adv 28 (new_summary options adv net metric)
+pub summary_new : (options : ℕ) (adv : RouterId) (net : Net) (metric : ℕ) → IsNet net → net.addr.0 < 2 ^ 32
+    → adv.0 < 2 ^ 32 → IsNewLsa 3 net adv 28 (new_summary options adv net metric)
 summary_new options adv net metric is_net addr_small adv_small =
     let a : List ℕ = new_summary options adv net metric in
     let id : number_at 4 4 a ≡ net.addr.0 = omega arith in
@@ -115,7 +123,8 @@ summary_new options adv net metric is_net addr_small adv_small =
       size = refl;
     }
 
-pub external_new : (adv : RouterId) (net : Net) (type2 : Bool) (metric : ℕ) (forward : Addr) (tag : ℕ) → IsNet net → net.addr.0 < 2 ^ 32 → adv.0 < 2 ^ 32
+pub external_new : (adv : RouterId) (net : Net) (type2 : Bool) (metric : ℕ) (forward : Addr) (tag : ℕ)
+    → IsNet net → net.addr.0 < 2 ^ 32 → adv.0 < 2 ^ 32
     → IsNewLsa 5 net adv 36 (new_external adv net type2 metric forward tag)
 external_new adv net type2 metric forward tag is_net addr_small adv_small =
     let a : List ℕ = new_external adv net type2 metric forward tag in

@@ -45,7 +45,8 @@ no_key key (x ∷ xs) e = by_test (has_key key x) refl (no_key key xs) e where
   by_test false is more e = All-cons (λ k. k ≢ key) (key_of x) (map key_of xs) (apart is) (more e) where
     apart : has_key key x ≡ false → key_of x ≢ key
     apart is same =
-        let yes' : has_key key x ≡ true = and_from _ _ (eq-eqb _ _ (ap (λ (k : Key). k.kind) same)) (and_from _ _ (eq-eqb _ _ (ap (λ (k : Key). k.id.0) same)) (eq-eqb _ _ (ap (λ (k : Key). k.adv.0) same))) in
+        let yes' : has_key key x ≡ true =
+            and_from _ _ (eq-eqb _ _ (ap (λ (k : Key). k.kind) same)) (and_from _ _ (eq-eqb _ _ (ap (λ (k : Key). k.id.0) same)) (eq-eqb _ _ (ap (λ (k : Key). k.adv.0) same))) in
         absurd (let no' : true ≡ false = sym yes' ∙ is in cc)
 
 pairs_push : (ks : List Key) (k : Key) → AllPairs (λ a b. a ≢ b) ks → All (λ j. j ≢ k) ks → AllPairs (λ a b. a ≢ b) (ks ++ k ∷ [])
@@ -56,10 +57,12 @@ pairs_push (j ∷ ks) k pairs new =
     let last : All (λ b. j ≢ b) (k ∷ []) = All-cons (λ b. j ≢ b) k [] (All-head (λ j. j ≢ k) j ks new) (All-nil (λ b. j ≢ b)) in
     AllPairs-cons (λ a b. a ≢ b) j (ks ++ k ∷ []) (All-append (λ b. j ≢ b) ks (k ∷ []) head last) (pairs_push ks k tail (All-tail (λ j. j ≢ k) j ks new))
 
-keys_added : (area : Option AreaHead) (ks : List Key) (k : Key) → AreKeys area ks → length ks < limit_of area → is_in_scope area k ≡ true → All (λ j. j ≢ k) ks → AreKeys area (ks ++ k ∷ [])
+keys_added : (area : Option AreaHead) (ks : List Key) (k : Key) → AreKeys area ks → length ks < limit_of area
+    → is_in_scope area k ≡ true → All (λ j. j ≢ k) ks → AreKeys area (ks ++ k ∷ [])
 keys_added area ks k h room scope new = record {
   few = omega (arith, length-append ks (k ∷ []), room);
-  scope = All-append (λ j. is_in_scope area j ≡ true) ks (k ∷ []) h.scope (All-cons (λ j. is_in_scope area j ≡ true) k [] scope (All-nil (λ j. is_in_scope area j ≡ true)));
+  scope =
+      All-append (λ j. is_in_scope area j ≡ true) ks (k ∷ []) h.scope (All-cons (λ j. is_in_scope area j ≡ true) k [] scope (All-nil (λ j. is_in_scope area j ≡ true)));
   distinct = pairs_push ks k h.distinct new;
 }
 
@@ -88,7 +91,8 @@ pub record Split (db : Lists) (i : ℕ) (s : SectionLsas) (f : SectionLsas → S
 
 pub split : (db : Lists) (i : ℕ) (s : SectionLsas) (f : SectionLsas → SectionLsas) → item_at db i ≡ Some s → Split db i s f
 split [] i s f e = absurd cc
-split (t ∷ ts) zero s f e = let same : t ≡ s = cc in record { low = []; high = ts; before = ap (λ (x : SectionLsas). x ∷ ts) same; after = ap (λ (x : SectionLsas). f x ∷ ts) same }
+split (t ∷ ts) zero s f e =
+    let same : t ≡ s = cc in record { low = []; high = ts; before = ap (λ (x : SectionLsas). x ∷ ts) same; after = ap (λ (x : SectionLsas). f x ∷ ts) same }
 split (t ∷ ts) (suc i) s f e =
     let rest = split ts i s f e in
     record { low = t ∷ rest.low; high = rest.high; before = ap (λ (xs : Lists). t ∷ xs) rest.before; after = ap (λ (xs : Lists). t ∷ xs) rest.after }
@@ -99,14 +103,17 @@ one_size xs x = omega (arith, sum_by-append length xs (x ∷ []), sum_by-cons le
 abbrev head_in : SectionLsas → Option AreaHead
 head_in s = s.area
 
-pub added_safe : (db : Lists) (i : ℕ) (s : SectionLsas) (x : List ℕ) → item_at db i ≡ Some s → Fits db s x → IsDatabase db → IsDatabase (update_at (with_lsa x) db i)
+pub added_safe : (db : Lists) (i : ℕ) (s : SectionLsas) (x : List ℕ) → item_at db i ≡ Some s → Fits db s x
+    → IsDatabase db → IsDatabase (update_at (with_lsa x) db i)
 added_safe db i s x at fits h =
     let w = split db i s (with_lsa x) at in
-    let same_heads : heads_of (update_at (with_lsa x) db i) ≡ heads_of db = ap heads_of w.after ∙ map_mid head_in w.low w.high (with_lsa x s) ∙ sym (ap heads_of w.before ∙ map_mid head_in w.low w.high s) in
+    let same_heads : heads_of (update_at (with_lsa x) db i) ≡ heads_of db =
+        ap heads_of w.after ∙ map_mid head_in w.low w.high (with_lsa x s) ∙ sym (ap heads_of w.before ∙ map_mid head_in w.low w.high s) in
     let old_size = ap (sum_by section_size) w.before ∙ size_around w.low w.high s in
     let new_size = ap (sum_by section_size) w.after ∙ size_around w.low w.high (with_lsa x s) in
     record {
       heads = subst AreHeads (sym same_heads) h.heads;
-      sections = subst (All IsSection) (sym w.after) (all_mid IsSection w.low w.high s (with_lsa x s) (section_added db s x fits) (subst (All IsSection) w.before h.sections));
+      sections =
+          subst (All IsSection) (sym w.after) (all_mid IsSection w.low w.high s (with_lsa x s) (section_added db s x fits) (subst (All IsSection) w.before h.sections));
       small = omega (arith, old_size, new_size, one_size s.lsas x, fits.small);
     }

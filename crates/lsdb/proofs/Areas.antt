@@ -19,13 +19,16 @@ areas_seen (s ∷ db) = ap (cons_option s.area) (areas_seen db)
 last_head : (head : Option AreaHead) (heads : List (Option AreaHead)) → AllPairs IsBefore (None ∷ head ∷ heads) → ⊥
 last_head head heads pairs = pairs zero (suc zero) None (omega arith) (omega arith)
 
-heads_count : (heads : List (Option AreaHead)) → AllPairs IsBefore heads → list_any is_as_wide heads ≡ true → length heads ≡ suc (length (areas_in heads))
+heads_count : (heads : List (Option AreaHead)) → AllPairs IsBefore heads → list_any is_as_wide heads ≡ true
+    → length heads ≡ suc (length (areas_in heads))
 heads_count [] pairs wide = absurd cc
 heads_count (None ∷ []) pairs wide = refl
 heads_count (None ∷ head ∷ heads) pairs wide = absurd (last_head head heads pairs)
 heads_count (Some area ∷ heads) pairs wide = ap suc (heads_count heads (pairs_tail IsBefore (Some area) heads pairs) wide)
 
-heads_at : (heads : List (Option AreaHead)) (i : ℕ) (head : Option AreaHead) → AllPairs IsBefore heads → list_any is_as_wide heads ≡ true → slice_get heads i ≡ Some head → i < length (areas_in heads) → (slice_get (areas_in heads) i ≡ head) × IsSome head
+heads_at : (heads : List (Option AreaHead)) (i : ℕ) (head : Option AreaHead) → AllPairs IsBefore heads
+    → list_any is_as_wide heads ≡ true → slice_get heads i ≡ Some head → i < length (areas_in heads)
+    → (slice_get (areas_in heads) i ≡ head) × IsSome head
 heads_at [] i head pairs wide at within = absurd cc
 heads_at (None ∷ []) i head pairs wide at within = absurd (omega arith)
 heads_at (None ∷ other ∷ heads) i head pairs wide at within = absurd (last_head other heads pairs)
@@ -35,7 +38,9 @@ heads_at (Some area ∷ heads) (suc i) head pairs wide at within = heads_at head
 pub areas_count : (db : Lists) → AreHeads (heads_of db) → length (heads_of db) ≡ suc (length (areas_of db))
 areas_count db h = heads_count (heads_of db) h.order h.as_wide ∙ ap (λ (areas : List AreaHead). suc (length areas)) (sym (areas_seen db))
 
-area_at : (db : Lists) (i : ℕ) (head : Option AreaHead) → AreHeads (heads_of db) → slice_get (heads_of db) i ≡ Some head → i < length (areas_of db) → (slice_get (areas_of db) i ≡ head) × IsSome head
+area_at : (db : Lists) (i : ℕ) (head : Option AreaHead) → AreHeads (heads_of db)
+    → slice_get (heads_of db) i ≡ Some head → i < length (areas_of db)
+    → (slice_get (areas_of db) i ≡ head) × IsSome head
 area_at db i head h at within =
     let found = heads_at (heads_of db) i head h.order h.as_wide at (omega (arith, ap length (areas_seen db), within)) in
     (ap (λ (areas : List AreaHead). slice_get areas i) (areas_seen db) ∙ found.0, found.1)
@@ -46,12 +51,15 @@ pub heads_seen : {A : Type 0} → (ss : List (SectionOf A)) → length (heads_of
 heads_seen {A} [] = refl
 heads_seen {A} (s ∷ ss) = ap suc (heads_seen ss)
 
-head_seen : {A : Type 0} → (ss : List (SectionOf A)) (i : ℕ) (s : SectionOf A) → i < length ss → s ≡ get_or ss i s → slice_get (heads_of (lists_of (places_of ss))) i ≡ Some (option_map head_of s.area)
+head_seen : {A : Type 0} → (ss : List (SectionOf A)) (i : ℕ) (s : SectionOf A) → i < length ss
+    → s ≡ get_or ss i s → slice_get (heads_of (lists_of (places_of ss))) i ≡ Some (option_map head_of s.area)
 head_seen {A} [] i s within h = absurd (omega arith)
 head_seen {A} (t ∷ ss) zero s within h = ap (λ (x : SectionOf A). let head : Option (Option AreaHead) = Some (option_map head_of x.area) in head) (sym h)
 head_seen {A} (t ∷ ss) (suc i) s within h = head_seen ss i s (omega arith) h
 
-pub area_seen : {A : Type 0} → (ss : List (SectionOf A)) (i : ℕ) (s : SectionOf A) → AreHeads (heads_of (lists_of (places_of ss))) → i < length (areas_of (lists_of (places_of ss))) → s ≡ get_or ss i s
+pub area_seen : {A : Type 0} → (ss : List (SectionOf A)) (i : ℕ) (s : SectionOf A)
+    → AreHeads (heads_of (lists_of (places_of ss))) → i < length (areas_of (lists_of (places_of ss)))
+    → s ≡ get_or ss i s
     → (slice_get (areas_of (lists_of (places_of ss))) i ≡ option_map head_of s.area) × IsSome (option_map head_of s.area)
 area_seen {A} ss i s h within here =
     let db = lists_of (places_of ss) in

@@ -91,10 +91,13 @@ between d slot old new h = between_at d slot.section slot.index old new h
 
 -- ---- one section
 
-keys_rewritten : (front back : List (List ℕ)) (x y : List ℕ) → key_of y ≡ key_of x → map key_of (front ++ y ∷ back) ≡ map key_of (front ++ x ∷ back)
+keys_rewritten : (front back : List (List ℕ)) (x y : List ℕ) → key_of y ≡ key_of x
+    → map key_of (front ++ y ∷ back) ≡ map key_of (front ++ x ∷ back)
 keys_rewritten front back x y e = map_mid key_of front back y ∙ ap (λ (k : Key). map key_of front ++ k ∷ map key_of back) e ∙ sym (map_mid key_of front back x)
 
-section_rewritten : (area : Option AreaHead) (front back : List (List ℕ)) (x y : List ℕ) → IsAccepted y → key_of y ≡ key_of x → IsSection (section_with area (front ++ x ∷ back)) → IsSection (section_with area (front ++ y ∷ back))
+section_rewritten : (area : Option AreaHead) (front back : List (List ℕ)) (x y : List ℕ) → IsAccepted y
+    → key_of y ≡ key_of x → IsSection (section_with area (front ++ x ∷ back))
+    → IsSection (section_with area (front ++ y ∷ back))
 section_rewritten area front back x y accepted key s = record {
   accepted = all_mid IsAccepted front back x y (λ _. accepted) s.accepted;
   keys = subst (AreKeys area) (sym (keys_rewritten front back x y key)) s.keys;
@@ -107,13 +110,17 @@ keys_removed area front back k h = record {
   distinct = pairs_without (λ a b. a ≢ b) front back k h.distinct;
 }
 
-section_emptied : (area : Option AreaHead) (front back : List (List ℕ)) (x : List ℕ) → IsSection (section_with area (front ++ x ∷ back)) → IsSection (section_with area (front ++ back))
+section_emptied : (area : Option AreaHead) (front back : List (List ℕ)) (x : List ℕ)
+    → IsSection (section_with area (front ++ x ∷ back)) → IsSection (section_with area (front ++ back))
 section_emptied area front back x s = record {
   accepted = all_without IsAccepted front back x s.accepted;
-  keys = subst (AreKeys area) (sym (map_two key_of front back)) (keys_removed area (map key_of front) (map key_of back) (key_of x) (subst (AreKeys area) (map_mid key_of front back x) s.keys));
+  keys =
+      subst (AreKeys area) (sym (map_two key_of front back)) (keys_removed area (map key_of front) (map key_of back) (key_of x) (subst (AreKeys area) (map_mid key_of front back x) s.keys));
 }
 
-section_safe : (area : Option AreaHead) (front back : List (List ℕ)) (old new : Place) → IsPutSafe old new → IsSection (section_with area (front ++ cons_option old back)) → IsSection (section_with area (front ++ cons_option new back))
+section_safe : (area : Option AreaHead) (front back : List (List ℕ)) (old new : Place) → IsPutSafe old new
+    → IsSection (section_with area (front ++ cons_option old back))
+    → IsSection (section_with area (front ++ cons_option new back))
 section_safe area front back (Some x) (Some y) safe s = section_rewritten area front back x y safe.accepted safe.key s
 section_safe area front back (Some x) None safe s = section_emptied area front back x s
 section_safe area front back None None safe s = s
@@ -125,14 +132,17 @@ pub cons_size : (v : Place) (back : List (List ℕ)) → lsas_size (cons_option 
 cons_size None back = omega arith
 cons_size (Some x) back = sum_by-cons length x back
 
-pub lsas_around : (front back : List (List ℕ)) (v : Place) → lsas_size (front ++ cons_option v back) ≡ place_size v + (lsas_size front + lsas_size back)
+pub lsas_around : (front back : List (List ℕ)) (v : Place)
+    → lsas_size (front ++ cons_option v back) ≡ place_size v + (lsas_size front + lsas_size back)
 lsas_around front back v = omega (arith, sum_by-append length front (cons_option v back), cons_size v back)
 
-pub size_around : (low high : Lists) (s : SectionLsas) → sum_by section_size (low ++ s ∷ high) ≡ section_size s + (sum_by section_size low + sum_by section_size high)
+pub size_around : (low high : Lists) (s : SectionLsas)
+    → sum_by section_size (low ++ s ∷ high) ≡ section_size s + (sum_by section_size low + sum_by section_size high)
 size_around low high s = omega (arith, sum_by-append section_size low (s ∷ high), sum_by-cons section_size s high)
 
 -- a write to one place changes the size by what it takes and leaves
-pub size-put : (d : Places) (slot : SlotId) (old new : Place) → slot_at d slot ≡ Some old → size (lists_of (put d slot new)) + place_size old ≡ size (lists_of d) + place_size new
+pub size-put : (d : Places) (slot : SlotId) (old new : Place) → slot_at d slot ≡ Some old
+    → size (lists_of (put d slot new)) + place_size old ≡ size (lists_of d) + place_size new
 size-put d slot old new h =
     let w = between d slot old new h in
     let s = section_with w.area (w.front ++ cons_option new w.back) in
@@ -145,7 +155,8 @@ size-put d slot old new h =
 
 -- ---- the database
 
-pub heads-put : (d : Places) (slot : SlotId) (old new : Place) → slot_at d slot ≡ Some old → heads_of (lists_of (put d slot new)) ≡ heads_of (lists_of d)
+pub heads-put : (d : Places) (slot : SlotId) (old new : Place) → slot_at d slot ≡ Some old
+    → heads_of (lists_of (put d slot new)) ≡ heads_of (lists_of d)
 heads-put d slot old new h =
     let w = between d slot old new h in
     let head : SectionLsas → Option AreaHead = λ s. s.area in
@@ -159,7 +170,8 @@ smaller None None safe = omega arith
 smaller None (Some y) safe = absurd safe
 
 -- a place that is emptied, or takes an LSA that may stand for the one there, leaves a database
-pub put_safe : (d : Places) (slot : SlotId) (old new : Place) → slot_at d slot ≡ Some old → IsPutSafe old new → IsDatabase (lists_of d) → IsDatabase (lists_of (put d slot new))
+pub put_safe : (d : Places) (slot : SlotId) (old new : Place) → slot_at d slot ≡ Some old → IsPutSafe old new
+    → IsDatabase (lists_of d) → IsDatabase (lists_of (put d slot new))
 put_safe d slot old new h safe db =
     let w = between d slot old new h in
     let s = section_with w.area (w.front ++ cons_option old w.back) in
@@ -172,7 +184,9 @@ put_safe d slot old new h safe db =
     }
 
 -- a place takes an LSA of the same key that is longer, where the dump has room for it
-pub extended_safe : (d : Places) (slot : SlotId) (x y : List ℕ) → slot_at d slot ≡ Some (Some x) → IsAccepted y → key_of y ≡ key_of x → size (lists_of d) + length y ≤ longest_dump + length x → IsDatabase (lists_of d) → IsDatabase (lists_of (put d slot (Some y)))
+pub extended_safe : (d : Places) (slot : SlotId) (x y : List ℕ) → slot_at d slot ≡ Some (Some x)
+    → IsAccepted y → key_of y ≡ key_of x → size (lists_of d) + length y ≤ longest_dump + length x
+    → IsDatabase (lists_of d) → IsDatabase (lists_of (put d slot (Some y)))
 extended_safe d slot x y h accepted key room db =
     let w = between d slot (Some x) (Some y) h in
     let s = section_with w.area (w.front ++ x ∷ w.back) in

@@ -67,7 +67,8 @@ version_takes at after fits e =
     let taken : Takes at (to_be_bytes w8 version) a.0.1 = subst (λ (k : ℕ). Takes at (to_be_bytes w8 k) a.0.1) (eqb-true _ _ b.0) t.0 in
     subst (λ (p : At). Takes at (to_be_bytes w8 version) p) (ok_is a.0.1 after b.1) taken
 
-count_takes : (at : At) (n : ℕ) (after : At) → IsBytes at.rest → area_count_at at ≡ Ok (n, after) → Takes at (to_be_bytes w8 n) after × (n ≤ 64)
+count_takes : (at : At) (n : ℕ) (after : At) → IsBytes at.rest → area_count_at at ≡ Ok (n, after)
+    → Takes at (to_be_bytes w8 n) after × (n ≤ 64)
 unfolding area_count_at
 count_takes at n after fits e =
     let a = bind_ok (number_at w8 at) (λ n. cond (ltb 64 n.0) (Err (told at TooManyAreas)) (Ok n)) (n, after) e in
@@ -105,7 +106,8 @@ area_count-push : (areas : Lists) (s : SectionLsas) → area_count (areas ++ s �
 area_count-push areas s = omega (arith, length-append areas (s ∷ []))
 
 flat_map-push : (areas : Lists) (s : SectionLsas) → flat_map section_text (areas ++ s ∷ []) ≡ flat_map section_text areas ++ section_text s
-flat_map-push areas s = flat_map-append section_text areas (s ∷ []) ∙ ap (λ (t : List ℕ). flat_map section_text areas ++ t) (flat_map-cons section_text s [] ∙ append-nil (section_text s))
+flat_map-push areas s =
+    flat_map-append section_text areas (s ∷ []) ∙ ap (λ (t : List ℕ). flat_map section_text areas ++ t) (flat_map-cons section_text s [] ∙ append-nil (section_text s))
 
 wide_text : (s : SectionLsas) → None ≡ s.area → section_text s ≡ lsas_text s.lsas
 wide_text s e = section_text-split s ∙ ap (λ (h : Option AreaHead). head_text h ++ lsas_text s.lsas) (sym e)
@@ -138,10 +140,13 @@ sections_take at db after fits e =
     let size : length areas ≡ c.0.0 = ap length t2.all_is ∙ t2.count in
     let number : c.0.0 ≡ area_count (areas ++ wide ∷ []) = sym size ∙ sym (area_count-push areas wide) in
     let first : Takes at (to_be_bytes w8 (area_count (areas ++ wide ∷ []))) c.0.1 = subst (λ (n : ℕ). Takes at (to_be_bytes w8 n) c.0.1) number t1.0 in
-    let listed : Takes c.0.1 (flat_map section_text areas) d.0.1 = subst (λ (xs : Lists). Takes c.0.1 (flat_map section_text xs) d.0.1) (sym t2.all_is) t2.takes in
+    let listed : Takes c.0.1 (flat_map section_text areas) d.0.1 =
+        subst (λ (xs : Lists). Takes c.0.1 (flat_map section_text xs) d.0.1) (sym t2.all_is) t2.takes in
     let last : Takes d.0.1 (section_text wide) f.0.1 = subst (λ (t : List ℕ). Takes d.0.1 t f.0.1) (sym (wide_text wide t3.head)) t3.takes in
-    let all : Takes c.0.1 (flat_map section_text (areas ++ wide ∷ [])) f.0.1 = subst (λ (t : List ℕ). Takes c.0.1 t f.0.1) (sym (flat_map-push areas wide)) (Takes-then c.0.1 (flat_map section_text areas) d.0.1 (section_text wide) f.0.1 listed last) in
-    let heads : heads_of (areas ++ wide ∷ []) ≡ heads_of areas ++ None ∷ [] = map_push (λ (s : SectionLsas). s.area) areas wide ∙ ap (λ (h : Option AreaHead). heads_of areas ++ h ∷ []) (sym t3.head) in
+    let all : Takes c.0.1 (flat_map section_text (areas ++ wide ∷ [])) f.0.1 =
+        subst (λ (t : List ℕ). Takes c.0.1 t f.0.1) (sym (flat_map-push areas wide)) (Takes-then c.0.1 (flat_map section_text areas) d.0.1 (section_text wide) f.0.1 listed last) in
+    let heads : heads_of (areas ++ wide ∷ []) ≡ heads_of areas ++ None ∷ [] =
+        map_push (λ (s : SectionLsas). s.area) areas wide ∙ ap (λ (h : Option AreaHead). heads_of areas ++ h ∷ []) (sym t3.head) in
     subst (λ (p : Lists × At). TakesSections at p.0 p.1) (ok_is (areas ++ wide ∷ [], f.0.1) (db, after) f.2)
     (record {
       takes = Takes-then at (to_be_bytes w8 (area_count (areas ++ wide ∷ []))) c.0.1 (flat_map section_text (areas ++ wide ∷ [])) f.0.1 first all;
@@ -187,7 +192,8 @@ dump_takes bytes db fits e =
     let behind = Takes-then a.0 v b.0 (sections_text found) c.0.1 t1 t2.takes in
     let all = Takes-then start m a.0 (v ++ sections_text found) c.0.1 t0 behind in
     let nothing : c.0.1.rest ≡ [] = nil_from_length c.0.1.rest (eqb-true _ _ g.0) in
-    let whole : bytes ≡ text found = all.parts ∙ ap (λ (r : List ℕ). m ++ (v ++ sections_text found) ++ r) nothing ∙ append-nil (m ++ (v ++ sections_text found)) ∙ sym (text-split found) in
+    let whole : bytes ≡ text found =
+        all.parts ∙ ap (λ (r : List ℕ). m ++ (v ++ sections_text found) ++ r) nothing ∙ append-nil (m ++ (v ++ sections_text found)) ∙ sym (text-split found) in
     subst (λ (x : Lists). Spelled bytes x) (ok_is found db g.1) (record { heads = t2.heads; sections = t2.sections; text = whole })
 
 pub loaded_takes : (bytes : List ℕ) (db : Lists) → IsBytes bytes → loaded bytes ≡ Ok db → IsDatabase db × (bytes ≡ text db)
@@ -220,8 +226,10 @@ count_again n rest few =
     ap (λ (r : Result (ℕ × At) DumpFault). r >>= λ n. cond (ltb 64 n.0) (Err (told at TooManyAreas)) (Ok n)) (number_again w8 (2 ^ 8) wide8 n 5 rest (omega arith))
     ∙ rw within refl
 
-sections_again : (areas : Lists) (lsas : List (List ℕ)) (rest : List ℕ) → AreNext None areas → length areas ≤ 64 → IsSection (section_with None lsas)
-    → let db = areas ++ section_with None lsas ∷ [] in sections_at (here 5 (sections_text db ++ rest)) ≡ Ok (db, here (6 + length (flat_map section_text areas) + length (lsas_text lsas)) rest)
+sections_again : (areas : Lists) (lsas : List (List ℕ)) (rest : List ℕ) → AreNext None areas
+    → length areas ≤ 64 → IsSection (section_with None lsas)
+    → let db =
+        areas ++ section_with None lsas ∷ [] in sections_at (here 5 (sections_text db ++ rest)) ≡ Ok (db, here (6 + length (flat_map section_text areas) + length (lsas_text lsas)) rest)
 unfolding sections_at
 sections_again areas lsas rest next few good =
     let wide = section_with None lsas in
@@ -239,7 +247,8 @@ sections_again areas lsas rest next few good =
     ∙ ap (λ (r : Result (Lists × At) DumpFault). r >>= after_areas) (areas_again areas None [] 6 behind next)
     ∙ ap (λ (r : Result (SectionLsas × At) DumpFault). r >>= with_wide areas) (section_again None lsas (6 + length listed) rest good)
 
-dump_again : (areas : Lists) (lsas : List (List ℕ)) → AreNext None areas → length areas ≤ 64 → IsSection (section_with None lsas) → let db = areas ++ section_with None lsas ∷ [] in dump_at (beginning (text db)) ≡ Ok db
+dump_again : (areas : Lists) (lsas : List (List ℕ)) → AreNext None areas → length areas ≤ 64 → IsSection (section_with None lsas) → let db =
+    areas ++ section_with None lsas ∷ [] in dump_at (beginning (text db)) ≡ Ok db
 unfolding dump_at
 dump_again areas lsas next few good =
     let db = areas ++ section_with None lsas ∷ [] in
@@ -263,10 +272,12 @@ database_again db good =
       sections = all_front IsSection s.areas (wide ∷ []) sections;
       ids = all_front HasWideId (heads_of s.areas) (None ∷ []) (subst (All HasWideId) heads good.heads.ids);
       backbone = all_front IsOrdinaryBackbone (heads_of s.areas) (None ∷ []) (subst (All IsOrdinaryBackbone) heads good.heads.backbone);
-      order = subst (AllPairs IsBefore) (append-nil (heads_of s.areas)) (pairs_without IsBefore (heads_of s.areas) [] None (subst (AllPairs IsBefore) heads good.heads.order));
+      order =
+          subst (AllPairs IsBefore) (append-nil (heads_of s.areas)) (pairs_without IsBefore (heads_of s.areas) [] None (subst (AllPairs IsBefore) heads good.heads.order));
       after = s.after;
     } in
-    let few : length s.areas ≤ 64 = omega (arith, good.heads.few, ap length heads, length-append (heads_of s.areas) (None ∷ []), length-map s.areas (λ (x : SectionLsas). x.area)) in
+    let few : length s.areas ≤ 64 =
+        omega (arith, good.heads.few, ap length heads, length-append (heads_of s.areas) (None ∷ []), length-map s.areas (λ (x : SectionLsas). x.area)) in
     subst (λ (d : Lists). dump_at (beginning (text d)) ≡ Ok d) (sym is) (dump_again s.areas s.wide.lsas next few (all_at_mid IsSection s.areas [] wide sections))
 
 pub loaded_again : (db : Lists) → IsDatabase db → loaded (text db) ≡ Ok db

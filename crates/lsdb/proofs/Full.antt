@@ -22,13 +22,18 @@ concat-push [] y = append-nil y
 concat-push (x ∷ xs) y = ap (λ (t : List ℕ). x ++ t) (concat-push xs y) ∙ sym (append_assoc x (concat xs) y)
 
 -- the LSA of one place more is written behind the others
-pub written_full : (ps : List Place) (i : ℕ) (p : Place) (x start old new : List ℕ) → i < length ps → p ≡ get_or ps i p → p ≡ Some x → new ≡ old ++ x → old ≡ start ++ concat (full (take i ps)) → new ≡ start ++ concat (full (take (i + 1) ps))
+pub written_full : (ps : List Place) (i : ℕ) (p : Place) (x start old new : List ℕ) → i < length ps
+    → p ≡ get_or ps i p → p ≡ Some x → new ≡ old ++ x → old ≡ start ++ concat (full (take i ps))
+    → new ≡ start ++ concat (full (take (i + 1) ps))
 written_full ps i p x start old new lt here is pushed so_far =
     let more : take (i + 1) ps ≡ take i ps ++ Some x ∷ [] = take_more ps i p lt ∙ ap (λ (q : Place). take i ps ++ q ∷ []) (sym here ∙ is) in
-    let text : concat (full (take (i + 1) ps)) ≡ concat (full (take i ps)) ++ x = ap (λ (qs : List Place). concat (full qs)) more ∙ ap concat (full-push (take i ps) x) ∙ concat-push (full (take i ps)) x in
+    let text : concat (full (take (i + 1) ps)) ≡ concat (full (take i ps)) ++ x =
+        ap (λ (qs : List Place). concat (full qs)) more ∙ ap concat (full-push (take i ps) x) ∙ concat-push (full (take i ps)) x in
     pushed ∙ ap (λ (t : List ℕ). t ++ x) so_far ∙ append_assoc start (concat (full (take i ps))) x ∙ ap (λ (t : List ℕ). start ++ t) (sym text)
 
-pub written_empty : (ps : List Place) (i : ℕ) (p : Place) (start new : List ℕ) → i < length ps → p ≡ get_or ps i p → p ≡ None → new ≡ start ++ concat (full (take i ps)) → new ≡ start ++ concat (full (take (i + 1) ps))
+pub written_empty : (ps : List Place) (i : ℕ) (p : Place) (start new : List ℕ) → i < length ps
+    → p ≡ get_or ps i p → p ≡ None → new ≡ start ++ concat (full (take i ps))
+    → new ≡ start ++ concat (full (take (i + 1) ps))
 written_empty ps i p start new lt here is so_far =
     let more : take (i + 1) ps ≡ take i ps ++ None ∷ [] = take_more ps i p lt ∙ ap (λ (q : Place). take i ps ++ q ∷ []) (sym here ∙ is) in
     so_far ∙ ap (λ (xs : List (List ℕ)). start ++ concat xs) (sym (ap full more ∙ full-skip (take i ps)))
@@ -38,6 +43,7 @@ written_empty ps i p start new lt here is so_far =
 abbrev pub shown : {A : Type 0} → SectionOf A → SectionLsas
 shown s = section_of (section_places_of s)
 
-pub lists_of-push : {A : Type 0} → (ss : List (SectionOf A)) (s : SectionOf A) → lists_of (places_of (ss ++ s ∷ [])) ≡ lists_of (places_of ss) ++ shown s ∷ []
+pub lists_of-push : {A : Type 0} → (ss : List (SectionOf A)) (s : SectionOf A)
+    → lists_of (places_of (ss ++ s ∷ [])) ≡ lists_of (places_of ss) ++ shown s ∷ []
 lists_of-push {A} [] s = refl
 lists_of-push {A} (t ∷ ss) s = ap (λ (xs : Lists). shown t ∷ xs) (lists_of-push ss s)

@@ -49,7 +49,9 @@ pub no_keys : (keys : BTreeSet Key) → IsEmpty keys → HasKeys keys []
 no_keys keys e key = ap (λ (ks : List Key). list_any (is_at (key_cmp key)) ks) e
 
 -- the set tells whether the key of an LSA was seen
-pub inserted : (keys : BTreeSet Key) (seen : List (List ℕ)) (lsa : List ℕ) (key : Key) (added : Bool) → HasKeys keys seen → key ≡ key_of lsa → added ≡ not (contains key_cmp keys key) → added ≡ not (has_key_of seen lsa)
+pub inserted : (keys : BTreeSet Key) (seen : List (List ℕ)) (lsa : List ℕ) (key : Key) (added : Bool)
+    → HasKeys keys seen → key ≡ key_of lsa → added ≡ not (contains key_cmp keys key)
+    → added ≡ not (has_key_of seen lsa)
 inserted keys seen lsa key added has e is = is ∙ ap not (has key ∙ ap (λ (k : Key). list_any (has_key k) seen) e)
 
 added_or : (a b : Bool) → cond a true b ≡ (b || (a || false))
@@ -58,7 +60,9 @@ added_or true false = refl
 added_or false true = refl
 added_or false false = refl
 
-pub keys_push : (keys new : BTreeSet Key) (seen : List (List ℕ)) (lsa : List ℕ) (key : Key) → HasKeys keys seen → key ≡ key_of lsa → Updates key_cmp keys new key true → HasKeys new (seen ++ lsa ∷ [])
+pub keys_push : (keys new : BTreeSet Key) (seen : List (List ℕ)) (lsa : List ℕ) (key : Key)
+    → HasKeys keys seen → key ≡ key_of lsa → Updates key_cmp keys new key true
+    → HasKeys new (seen ++ lsa ∷ [])
 keys_push keys new seen lsa key has e updates q =
     updates.0 q ∙ ap (λ b. cond b true (contains key_cmp keys q)) (is_at_key key q ∙ ap (λ (k : Key). same_key k q) e)
     ∙ ap (λ b. cond (has_key q lsa) true b) (has q) ∙ added_or (has_key q lsa) (list_any (has_key q) seen)

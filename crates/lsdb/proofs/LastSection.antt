@@ -31,7 +31,9 @@ split_some s ss a is rest = record {
   after = All-cons (IsAfter None) s.area (heads_of rest.areas) (subst (IsAfter None) (sym is) tt) rest.after;
 }
 
-split_by : (h : Option AreaHead) (s : SectionLsas) (ss : Lists) → s.area ≡ h → AllPairs IsBefore (heads_of (s ∷ ss)) → (list_any is_as_wide (heads_of ss) ≡ true → Split ss) → list_any is_as_wide (h ∷ heads_of ss) ≡ true → Split (s ∷ ss)
+split_by : (h : Option AreaHead) (s : SectionLsas) (ss : Lists) → s.area ≡ h
+    → AllPairs IsBefore (heads_of (s ∷ ss)) → (list_any is_as_wide (heads_of ss) ≡ true → Split ss)
+    → list_any is_as_wide (h ∷ heads_of ss) ≡ true → Split (s ∷ ss)
 split_by None s ss is order rest e = split_none s ss is order
 split_by (Some a) s ss is order rest e = split_some s ss a is (rest e)
 

@@ -21,9 +21,11 @@ turn (y ∷ ys) (suc i) j x lt e h =
     let next = turn ys i (suc i) x (omega arith) refl h in
     record { here = next.here; rest = next.rest ∙ ap (λ k. x ∷ drop k (y ∷ ys)) (sym e) }
 
-pub turn_map : {X Y : Type 0} (f : X → Y) (xs : List X) (i j : ℕ) (x : X) → i < length xs → j ≡ suc i → x ≡ get_or xs i x → Turn (map f xs) i j (f x)
+pub turn_map : {X Y : Type 0} (f : X → Y) (xs : List X) (i j : ℕ) (x : X) → i < length xs → j ≡ suc i
+    → x ≡ get_or xs i x → Turn (map f xs) i j (f x)
 turn_map f [] i j x lt e h = absurd (omega arith)
-turn_map f (y ∷ ys) zero j x lt e h = record { here = ap (λ z. Some (f z)) (sym h); rest = ap (λ z. f z ∷ map f ys) (sym h) ∙ ap (λ k. f x ∷ drop k (map f (y ∷ ys))) (sym e) }
+turn_map f (y ∷ ys) zero j x lt e h =
+    record { here = ap (λ z. Some (f z)) (sym h); rest = ap (λ z. f z ∷ map f ys) (sym h) ∙ ap (λ k. f x ∷ drop k (map f (y ∷ ys))) (sym e) }
 turn_map f (y ∷ ys) (suc i) j x lt e h =
     let next = turn_map f ys i (suc i) x (omega arith) refl h in
     record { here = next.here; rest = next.rest ∙ ap (λ k. f x ∷ drop k (map f (y ∷ ys))) (sym e) }
@@ -34,12 +36,15 @@ some_found : {X : Type 0} (o : Option X) (x : X) → o ≡ Some x → IsSome o
 some_found None x e = absurd cc
 some_found (Some y) x e = refl
 
-pub find_hit : {X : Type 0} (p : X → Bool) (xs rest : List X) (i : ℕ) (x : X) → item_at xs i ≡ Some x → drop i xs ≡ x ∷ rest → p x ≡ true → find p (drop i xs) ≡ find p xs → (item_at xs i ≡ find p xs) × IsSome (item_at xs i)
+pub find_hit : {X : Type 0} (p : X → Bool) (xs rest : List X) (i : ℕ) (x : X) → item_at xs i ≡ Some x
+    → drop i xs ≡ x ∷ rest → p x ≡ true → find p (drop i xs) ≡ find p xs
+    → (item_at xs i ≡ find p xs) × IsSome (item_at xs i)
 find_hit p xs rest i x here front pass same =
     let found : find p xs ≡ Some x = sym same ∙ ap (find p) front ∙ ap (λ b. cond b (Some x) (find p rest)) pass in
     (here ∙ sym found, some_found (item_at xs i) x here)
 
-pub find_miss : {X : Type 0} (p : X → Bool) (xs rest : List X) (i : ℕ) (x : X) → drop i xs ≡ x ∷ rest → p x ≡ false → find p (drop i xs) ≡ find p xs → find p rest ≡ find p xs
+pub find_miss : {X : Type 0} (p : X → Bool) (xs rest : List X) (i : ℕ) (x : X) → drop i xs ≡ x ∷ rest
+    → p x ≡ false → find p (drop i xs) ≡ find p xs → find p rest ≡ find p xs
 find_miss p xs rest i x front fail same = sym (ap (find p) front ∙ ap (λ b. cond b (Some x) (find p rest)) fail) ∙ same
 
 pub find_none : {X : Type 0} (p : X → Bool) (xs : List X) (i : ℕ) → length xs ≤ i → find p (drop i xs) ≡ find p xs → find p xs ≡ None
@@ -51,11 +56,13 @@ full_hit : (key : Key) (p : Place) (rest : List Place) → place_has_key key p �
 full_hit key None rest pass = absurd cc
 full_hit key (Some x) rest pass = (sym (ap (λ b. cond b (Some x) (find (has_key key) (full rest))) pass), refl)
 
-full_miss : (key : Key) (p : Place) (rest : List Place) → place_has_key key p ≡ false → find (has_key key) (full (p ∷ rest)) ≡ find (has_key key) (full rest)
+full_miss : (key : Key) (p : Place) (rest : List Place) → place_has_key key p ≡ false
+    → find (has_key key) (full (p ∷ rest)) ≡ find (has_key key) (full rest)
 full_miss key None rest fail = refl
 full_miss key (Some x) rest fail = ap (λ b. cond b (Some x) (find (has_key key) (full rest))) fail
 
-pub place_hit : (key : Key) (ps : List Place) (i : ℕ) (p : Place) → i < length ps → p ≡ get_or ps i p → place_has_key key p ≡ true → find (has_key key) (full (drop i ps)) ≡ find (has_key key) (full ps)
+pub place_hit : (key : Key) (ps : List Place) (i : ℕ) (p : Place) → i < length ps → p ≡ get_or ps i p
+    → place_has_key key p ≡ true → find (has_key key) (full (drop i ps)) ≡ find (has_key key) (full ps)
     → (item_at ps i ≡ Some (find (has_key key) (full ps))) × IsSome (find (has_key key) (full ps))
 place_hit key ps i p lt h pass same =
     let t = turn ps i (suc i) p lt refl h in
@@ -63,13 +70,17 @@ place_hit key ps i p lt h pass same =
     let found : p ≡ find (has_key key) (full ps) = hit.0 ∙ ap (λ (qs : List Place). find (has_key key) (full qs)) (sym t.rest) ∙ same in
     (t.here ∙ ap Some found, subst IsSome found hit.1)
 
-pub place_miss : (key : Key) (ps : List Place) (i j : ℕ) (p : Place) → i < length ps → j ≡ suc i → p ≡ get_or ps i p → place_has_key key p ≡ false → find (has_key key) (full (drop i ps)) ≡ find (has_key key) (full ps)
+pub place_miss : (key : Key) (ps : List Place) (i j : ℕ) (p : Place) → i < length ps → j ≡ suc i
+    → p ≡ get_or ps i p → place_has_key key p ≡ false
+    → find (has_key key) (full (drop i ps)) ≡ find (has_key key) (full ps)
     → find (has_key key) (full (drop j ps)) ≡ find (has_key key) (full ps)
 place_miss key ps i j p lt e h fail same =
     let t = turn ps i j p lt e h in
     sym (ap (λ (qs : List Place). find (has_key key) (full qs)) t.rest ∙ full_miss key p (drop j ps) fail) ∙ same
 
-pub place_none : (key : Key) (ps : List Place) (i : ℕ) → length ps ≤ i → find (has_key key) (full (drop i ps)) ≡ find (has_key key) (full ps) → find (has_key key) (full ps) ≡ None
+pub place_none : (key : Key) (ps : List Place) (i : ℕ) → length ps ≤ i
+    → find (has_key key) (full (drop i ps)) ≡ find (has_key key) (full ps)
+    → find (has_key key) (full ps) ≡ None
 place_none key ps i end same = sym same ∙ ap (λ (qs : List Place). find (has_key key) (full qs)) (drop_all i ps end)
 
 -- ---- the sections in memory
@@ -81,14 +92,17 @@ shown_all : {A : Type 0} → (ss : List (SectionOf A)) → lists_of (places_of s
 shown_all {A} [] = refl
 shown_all {A} (s ∷ ss) = ap (λ (xs : Lists). shown s ∷ xs) (shown_all ss)
 
-pub section_turn : {A : Type 0} → (ss : List (SectionOf A)) (i j : ℕ) (s : SectionOf A) → i < length ss → j ≡ suc i → s ≡ get_or ss i s → Turn (lists_of (places_of ss)) i j (shown s)
+pub section_turn : {A : Type 0} → (ss : List (SectionOf A)) (i j : ℕ) (s : SectionOf A) → i < length ss
+    → j ≡ suc i → s ≡ get_or ss i s → Turn (lists_of (places_of ss)) i j (shown s)
 section_turn {A} ss i j s lt e h = subst (λ (xs : Lists). Turn xs i j (shown s)) (sym (shown_all ss)) (turn_map shown ss i j s lt e h)
 
 pub section_count : {A : Type 0} → (ss : List (SectionOf A)) → length (lists_of (places_of ss)) ≡ length ss
 section_count {A} ss = ap length (shown_all ss) ∙ length-map ss shown
 
 -- what is found in the places of a section is found in the database
-pub found_in : {A : Type 0} → (ss : List (SectionOf A)) (section index : ℕ) (s : SectionOf A) (places : List Place) (key : Key) → IsSome (item_at (lists_of (places_of ss)) section) → s ≡ get_or ss section s → places ≡ s.places.items
+pub found_in : {A : Type 0}
+    → (ss : List (SectionOf A)) (section index : ℕ) (s : SectionOf A) (places : List Place) (key : Key)
+    → IsSome (item_at (lists_of (places_of ss)) section) → s ≡ get_or ss section s → places ≡ s.places.items
     → (item_at places index ≡ Some (find (has_key key) (full places))) × IsSome (find (has_key key) (full places))
     → (place_in (item_at (places_of ss) section) index ≡ Some (find (has_key key) (lsas_in (places_of ss) section))) × IsSome (find (has_key key) (lsas_in (places_of ss) section))
 found_in {A} [] section index s places key some h e found = absurd (search rules)
@@ -97,7 +111,9 @@ found_in {A} (t ∷ ss) zero index s places key some h e found =
     subst (λ (ps : List Place). (item_at ps index ≡ Some (find (has_key key) (full ps))) × IsSome (find (has_key key) (full ps))) same found
 found_in {A} (t ∷ ss) (suc section) index s places key some h e found = found_in ss section index s places key some h e found
 
-pub none_in : {A : Type 0} → (ss : List (SectionOf A)) (section : ℕ) (s : SectionOf A) (places : List Place) (key : Key) → IsSome (item_at (lists_of (places_of ss)) section) → s ≡ get_or ss section s → places ≡ s.places.items
+pub none_in : {A : Type 0}
+    → (ss : List (SectionOf A)) (section : ℕ) (s : SectionOf A) (places : List Place) (key : Key)
+    → IsSome (item_at (lists_of (places_of ss)) section) → s ≡ get_or ss section s → places ≡ s.places.items
     → find (has_key key) (full places) ≡ None → find (has_key key) (lsas_in (places_of ss) section) ≡ None
 none_in {A} [] section s places key some h e found = absurd (search rules)
 none_in {A} (t ∷ ss) zero s places key some h e found =

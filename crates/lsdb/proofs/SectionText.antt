@@ -25,7 +25,8 @@ use Rattle.lsdb.proofs.Fields.{IsBytes, IsBytes-drop, bind_ok, guard_ok, passed_
 
 -- ---- keys
 
-key_from : (k l i j a b : ℕ) → k ≡ l → i ≡ j → a ≡ b → let p : Key = record { kind = k; id = record { 0 = i }; adv = record { 0 = a } } in let q : Key = record { kind = l; id = record { 0 = j }; adv = record { 0 = b } } in p ≡ q
+key_from : (k l i j a b : ℕ) → k ≡ l → i ≡ j → a ≡ b → let p : Key =
+    record { kind = k; id = record { 0 = i }; adv = record { 0 = a } } in let q : Key = record { kind = l; id = record { 0 = j }; adv = record { 0 = b } } in p ≡ q
 key_from k l i j a b e f g = rw (e, f, g) refl
 
 same_key_true : (a b : Key) → same_key a b ≡ true → a ≡ b
@@ -35,7 +36,8 @@ same_key_true a b e =
     key_from a.kind b.kind a.id.0 b.id.0 a.adv.0 b.adv.0 (eqb-true _ _ p.0) (eqb-true _ _ q.0) (eqb-true _ _ q.1)
 
 same_key_from : (a b : Key) → a ≡ b → same_key a b ≡ true
-same_key_from a b e = and_from _ _ (eq-eqb _ _ (ap (λ (k : Key). k.kind) e)) (and_from _ _ (eq-eqb _ _ (ap (λ (k : Key). k.id.0) e)) (eq-eqb _ _ (ap (λ (k : Key). k.adv.0) e)))
+same_key_from a b e =
+    and_from _ _ (eq-eqb _ _ (ap (λ (k : Key). k.kind) e)) (and_from _ _ (eq-eqb _ _ (ap (λ (k : Key). k.id.0) e)) (eq-eqb _ _ (ap (λ (k : Key). k.adv.0) e)))
 
 -- no LSA has the key
 key_apart : (key : Key) (xs : List (List ℕ)) → list_any (has_key key) xs ≡ false → All (λ k. k ≢ key) (map key_of xs)
@@ -60,13 +62,17 @@ pub record AreLsas (area : Option AreaHead) (lsas : List (List ℕ)) : Type 0 wh
 no_lsas : (area : Option AreaHead) → AreLsas area []
 no_lsas area = record { accepted = λ k d lt. absurd (omega arith); scope = λ k d lt. absurd (omega arith); distinct = λ i j d lt up. absurd (omega arith) }
 
-lsas_push : (area : Option AreaHead) (seen : List (List ℕ)) (lsa : List ℕ) → AreLsas area seen → IsAccepted lsa → is_in_scope area (key_of lsa) ≡ true → has_key_of seen lsa ≡ false → AreLsas area (seen ++ lsa ∷ [])
+lsas_push : (area : Option AreaHead) (seen : List (List ℕ)) (lsa : List ℕ) → AreLsas area seen
+    → IsAccepted lsa → is_in_scope area (key_of lsa) ≡ true → has_key_of seen lsa ≡ false
+    → AreLsas area (seen ++ lsa ∷ [])
 lsas_push area seen lsa old accepted scope new =
     let keys = map_push key_of seen lsa in
     record {
       accepted = All-push IsAccepted seen lsa old.accepted accepted;
-      scope = subst (All (λ key. is_in_scope area key ≡ true)) (sym keys) (All-push (λ key. is_in_scope area key ≡ true) (map key_of seen) (key_of lsa) old.scope scope);
-      distinct = subst (AllPairs (λ a b. a ≢ b)) (sym keys) (all_pairs_push (λ a b. a ≢ b) (map key_of seen) (key_of lsa) old.distinct (key_apart (key_of lsa) seen new));
+      scope =
+          subst (All (λ key. is_in_scope area key ≡ true)) (sym keys) (All-push (λ key. is_in_scope area key ≡ true) (map key_of seen) (key_of lsa) old.scope scope);
+      distinct =
+          subst (AllPairs (λ a b. a ≢ b)) (sym keys) (all_pairs_push (λ a b. a ≢ b) (map key_of seen) (key_of lsa) old.distinct (key_apart (key_of lsa) seen new));
     }
 
 -- an LSA behind others
@@ -75,13 +81,16 @@ record Middle (area : Option AreaHead) (seen : List (List ℕ)) (lsa : List ℕ)
   pub scope : is_in_scope area (key_of lsa) ≡ true
   pub new : has_key_of seen lsa ≡ false
 
-middle : (area : Option AreaHead) (seen : List (List ℕ)) (lsa : List ℕ) (rest : List (List ℕ)) → AreLsas area (seen ++ lsa ∷ rest) → Middle area seen lsa
+middle : (area : Option AreaHead) (seen : List (List ℕ)) (lsa : List ℕ) (rest : List (List ℕ))
+    → AreLsas area (seen ++ lsa ∷ rest) → Middle area seen lsa
 middle area seen lsa rest all =
     let keys = map_mid key_of seen rest lsa in
     record {
       accepted = all_at_mid IsAccepted seen rest lsa all.accepted;
-      scope = all_at_mid (λ key. is_in_scope area key ≡ true) (map key_of seen) (map key_of rest) (key_of lsa) (subst (All (λ key. is_in_scope area key ≡ true)) keys all.scope);
-      new = key_absent (key_of lsa) seen (pairs_before (λ a b. a ≢ b) (map key_of seen) (map key_of rest) (key_of lsa) (subst (AllPairs (λ a b. a ≢ b)) keys all.distinct));
+      scope =
+          all_at_mid (λ key. is_in_scope area key ≡ true) (map key_of seen) (map key_of rest) (key_of lsa) (subst (All (λ key. is_in_scope area key ≡ true)) keys all.scope);
+      new =
+          key_absent (key_of lsa) seen (pairs_before (λ a b. a ≢ b) (map key_of seen) (map key_of rest) (key_of lsa) (subst (AllPairs (λ a b. a ≢ b)) keys all.distinct));
     }
 
 -- ---- one LSA
@@ -91,7 +100,8 @@ record TakesLsa (area : Option AreaHead) (at : At) (lsa : List ℕ) (after : At)
   pub accepted : IsAccepted lsa
   pub scope : is_in_scope area (key_of lsa) ≡ true
 
-placed_takes : (area : Option AreaHead) (at : At) (r : Result (List ℕ) LsaFault) (lsa : List ℕ) (after : At) → IsBytes at.rest → decoded at.rest ≡ r → placed area at r ≡ Ok (lsa, after) → TakesLsa area at lsa after
+placed_takes : (area : Option AreaHead) (at : At) (r : Result (List ℕ) LsaFault) (lsa : List ℕ) (after : At)
+    → IsBytes at.rest → decoded at.rest ≡ r → placed area at r ≡ Ok (lsa, after) → TakesLsa area at lsa after
 placed_takes area at (Err f) lsa after fits is e = absurd cc
 placed_takes area at (Ok found) lsa after fits is e =
     let a = passed_ok (is_in_scope area (key_of found)) (told at WrongSection) (Ok (found, advanced (length found) at)) (lsa, after) e in
@@ -104,11 +114,14 @@ placed_takes area at (Ok found) lsa after fits is e =
       scope = a.0;
     })
 
-lsa_takes : (area : Option AreaHead) (at : At) (lsa : List ℕ) (after : At) → IsBytes at.rest → lsa_at area at ≡ Ok (lsa, after) → TakesLsa area at lsa after
+lsa_takes : (area : Option AreaHead) (at : At) (lsa : List ℕ) (after : At) → IsBytes at.rest
+    → lsa_at area at ≡ Ok (lsa, after) → TakesLsa area at lsa after
 unfolding lsa_at
 lsa_takes area at lsa after fits e = placed_takes area at (decoded at.rest) lsa after fits refl e
 
-lsa_again : (area : Option AreaHead) (lsa : List ℕ) (o : ℕ) (rest : List ℕ) → IsAccepted lsa → is_in_scope area (key_of lsa) ≡ true → lsa_at area (here o (lsa ++ rest)) ≡ Ok (lsa, here (o + length lsa) rest)
+lsa_again : (area : Option AreaHead) (lsa : List ℕ) (o : ℕ) (rest : List ℕ) → IsAccepted lsa
+    → is_in_scope area (key_of lsa) ≡ true
+    → lsa_at area (here o (lsa ++ rest)) ≡ Ok (lsa, here (o + length lsa) rest)
 unfolding lsa_at
 lsa_again area lsa o rest accepted scope = rw (decoded_again lsa rest accepted, scope, drop_at lsa rest (length lsa) refl) refl
 
@@ -125,7 +138,9 @@ record TakesLsas (area : Option AreaHead) (n : ℕ) (seen : List (List ℕ)) (at
   pub takes : Takes at (concat new) after
   pub good : AreLsas area all
 
-lsas_take : (area : Option AreaHead) (n : ℕ) (seen : List (List ℕ)) (at : At) (all : List (List ℕ)) (after : At) → IsBytes at.rest → AreLsas area seen → lsas_from area n seen at ≡ Ok (all, after) → TakesLsas area n seen at all after
+lsas_take : (area : Option AreaHead) (n : ℕ) (seen : List (List ℕ)) (at : At) (all : List (List ℕ)) (after : At)
+    → IsBytes at.rest → AreLsas area seen → lsas_from area n seen at ≡ Ok (all, after)
+    → TakesLsas area n seen at all after
 unfolding lsas_from
 lsas_take area zero seen at all after fits old e =
     subst (λ (p : List (List ℕ) × At). TakesLsas area 0 seen at p.0 p.1) (ok_is (seen, at) (all, after) e)
@@ -144,7 +159,9 @@ lsas_take area (suc n) seen at all after fits old e =
       good = more.good;
     }
 
-lsas_again : (area : Option AreaHead) (lsas seen : List (List ℕ)) (o : ℕ) (rest : List ℕ) → AreLsas area (seen ++ lsas) → lsas_from area (length lsas) seen (here o (concat lsas ++ rest)) ≡ Ok (seen ++ lsas, here (o + length (concat lsas)) rest)
+lsas_again : (area : Option AreaHead) (lsas seen : List (List ℕ)) (o : ℕ) (rest : List ℕ)
+    → AreLsas area (seen ++ lsas)
+    → lsas_from area (length lsas) seen (here o (concat lsas ++ rest)) ≡ Ok (seen ++ lsas, here (o + length (concat lsas)) rest)
 unfolding lsas_from
 lsas_again area [] seen o rest good =
     let same : seen ≡ seen ++ [] = sym (append-nil seen) in
@@ -180,7 +197,8 @@ pub record TakesSection (area : Option AreaHead) (at : At) (section : SectionLsa
 abbrev made : Option AreaHead → List (List ℕ) × At → Result (SectionLsas × At) DumpFault
 made area lsas = Ok (section_with area lsas.0, lsas.1)
 
-counted_takes : (area : Option AreaHead) (at : At) (count : ℕ × At) (lsas : List (List ℕ)) (after : At) → IsBytes count.1.rest → counted_at area at count ≡ Ok (lsas, after)
+counted_takes : (area : Option AreaHead) (at : At) (count : ℕ × At) (lsas : List (List ℕ)) (after : At)
+    → IsBytes count.1.rest → counted_at area at count ≡ Ok (lsas, after)
     → (length lsas ≡ count.0) × Takes count.1 (concat lsas) after × IsSection (section_with area lsas)
 counted_takes area at count lsas after fits e =
     let n : ℕ = count.0 in
@@ -197,7 +215,8 @@ counted_takes area at count lsas after fits e =
       },
     )
 
-pub section_takes : (area : Option AreaHead) (at : At) (section : SectionLsas) (after : At) → IsBytes at.rest → section_at area at ≡ Ok (section, after) → TakesSection area at section after
+pub section_takes : (area : Option AreaHead) (at : At) (section : SectionLsas) (after : At) → IsBytes at.rest
+    → section_at area at ≡ Ok (section, after) → TakesSection area at section after
 unfolding section_at
 section_takes area at section after fits e =
     let a = bind_ok (number_at w16 at) (λ count. counted_at area at count >>= made area) (section, after) e in
@@ -209,11 +228,14 @@ section_takes area at section after fits e =
     subst (λ (p : SectionLsas × At). TakesSection area at p.0 p.1) (ok_is (section_with area b.0.0, b.0.1) (section, after) b.2)
     (record { head = refl; takes = Takes-then at (to_be_bytes w16 (length b.0.0)) a.0.1 (concat b.0.0) b.0.1 front c.1; good = c.2 })
 
-pub section_again : (area : Option AreaHead) (lsas : List (List ℕ)) (o : ℕ) (rest : List ℕ) → IsSection (section_with area lsas) → section_at area (here o (lsas_text lsas ++ rest)) ≡ Ok (section_with area lsas, here (o + length (lsas_text lsas)) rest)
+pub section_again : (area : Option AreaHead) (lsas : List (List ℕ)) (o : ℕ) (rest : List ℕ)
+    → IsSection (section_with area lsas)
+    → section_at area (here o (lsas_text lsas ++ rest)) ≡ Ok (section_with area lsas, here (o + length (lsas_text lsas)) rest)
 unfolding section_at
 section_again area lsas o rest good =
     let at = here o (lsas_text lsas ++ rest) in
-    let regrouped : lsas_text lsas ++ rest ≡ to_be_bytes w16 (length lsas) ++ (concat lsas ++ rest) = append_assoc (to_be_bytes w16 (length lsas)) (concat lsas) rest in
+    let regrouped : lsas_text lsas ++ rest ≡ to_be_bytes w16 (length lsas) ++ (concat lsas ++ rest) =
+        append_assoc (to_be_bytes w16 (length lsas)) (concat lsas) rest in
     let few : length lsas ≤ limit_of area = omega (arith, good.keys.few, length-map lsas key_of) in
     let read : number_at w16 at ≡ Ok (length lsas, here (o + 2) (concat lsas ++ rest)) =
     ap (λ (bytes : List ℕ). number_at w16 (here o bytes)) regrouped ∙ number_again w16 (2 ^ 16) wide16 (length lsas) o (concat lsas ++ rest) (omega (arith, limit_fits area)) in

@@ -7,7 +7,11 @@ use Rattle.lsdb.specs.Places.{Place, Places, SectionPlaces, update_at, item_at, 
 use Rattle.lsdb.specs.declared.database.Head.{Head}
 use Rattle.lsdb.specs.View.{head_of, section_places_of, places_of}
 
-pub section_set : {A : Type 0} → (f : SectionPlaces → SectionPlaces) (ss : List (SectionOf A)) (i : ℕ) (old t : SectionOf A) → IsSome (item_at (places_of ss) i) → old ≡ get_or ss i old → section_places_of t ≡ f (section_places_of old) → places_of (slice_set ss i t) ≡ update_at f (places_of ss) i
+pub section_set : {A : Type 0}
+    → (f : SectionPlaces → SectionPlaces) (ss : List (SectionOf A)) (i : ℕ) (old t : SectionOf A)
+    → IsSome (item_at (places_of ss) i) → old ≡ get_or ss i old
+    → section_places_of t ≡ f (section_places_of old)
+    → places_of (slice_set ss i t) ≡ update_at f (places_of ss) i
 section_set {A} f [] i old t some h e = refl
 section_set {A} f (s ∷ ss) zero old t some h e = ap (λ (p : SectionPlaces). p ∷ places_of ss) (e ∙ ap (λ (o : SectionOf A). f (section_places_of o)) h)
 section_set {A} f (s ∷ ss) (suc i) old t some h e = ap (λ (ps : Places). section_places_of s ∷ ps) (section_set f ss i old t some h e)
@@ -26,15 +30,22 @@ place_read [] i w some h = absurd (search rules)
 place_read (p ∷ ps) zero w some h = ap (λ (q : Place). Some q) (sym h)
 place_read (p ∷ ps) (suc i) w some h = place_read ps i w some h
 
-slot_read : {A : Type 0} → (ss : List (SectionOf A)) (section i : ℕ) (old : SectionOf A) (w : Place) → IsSome (place_in (item_at (places_of ss) section) i) → old ≡ get_or ss section old → w ≡ get_or old.places.items i w → place_in (item_at (places_of ss) section) i ≡ Some w
+slot_read : {A : Type 0} → (ss : List (SectionOf A)) (section i : ℕ) (old : SectionOf A) (w : Place)
+    → IsSome (place_in (item_at (places_of ss) section) i) → old ≡ get_or ss section old
+    → w ≡ get_or old.places.items i w → place_in (item_at (places_of ss) section) i ≡ Some w
 slot_read {A} [] section i old w some h e = absurd (search rules)
 slot_read {A} (s ∷ ss) zero i old w some h e = place_read s.places.items i w some (e ∙ ap (λ (o : SectionOf A). get_or o.places.items i w) h)
 slot_read {A} (s ∷ ss) (suc section) i old w some h e = slot_read ss section i old w some h e
 
-pub swap_read : {A : Type 0} → (ss : List (SectionOf A)) (slot : SlotId) (old : SectionOf A) (w : Place) → IsSome (slot_at (places_of ss) slot) → old ≡ get_or ss slot.section old → w ≡ get_or old.places.items slot.index w → slot_at (places_of ss) slot ≡ Some w
+pub swap_read : {A : Type 0} → (ss : List (SectionOf A)) (slot : SlotId) (old : SectionOf A) (w : Place)
+    → IsSome (slot_at (places_of ss) slot) → old ≡ get_or ss slot.section old
+    → w ≡ get_or old.places.items slot.index w → slot_at (places_of ss) slot ≡ Some w
 swap_read {A} ss slot old w some h e = slot_read ss slot.section slot.index old w some h e
 
-pub swap_put : {A : Type 0} → (ss : List (SectionOf A)) (slot : SlotId) (old t : SectionOf A) (v : Place) → IsSome (slot_at (places_of ss) slot) → old ≡ get_or ss slot.section old → t.area ≡ old.area → t.places.items ≡ slice_set old.places.items slot.index v → places_of (slice_set ss slot.section t) ≡ put (places_of ss) slot v
+pub swap_put : {A : Type 0} → (ss : List (SectionOf A)) (slot : SlotId) (old t : SectionOf A) (v : Place)
+    → IsSome (slot_at (places_of ss) slot) → old ≡ get_or ss slot.section old → t.area ≡ old.area
+    → t.places.items ≡ slice_set old.places.items slot.index v
+    → places_of (slice_set ss slot.section t) ≡ put (places_of ss) slot v
 swap_put {A} ss slot old t v some h area items =
     let f : SectionPlaces → SectionPlaces = λ p. record { area = p.area; places = put_place v p.places slot.index } in
     let same_area = λ (a : Option Head). let p : SectionPlaces = record { area = option_map head_of a; places = t.places.items } in p in
@@ -42,7 +53,10 @@ swap_put {A} ss slot old t v some h area items =
     section_set f ss slot.section old t (section_exists (item_at (places_of ss) slot.section) slot.index some) h
     (ap same_area area ∙ ap same_items (items ∙ place_set v old.places.items slot.index))
 
-pub open_places : {A : Type 0} → (ss : List (SectionOf A)) (section : ℕ) (old t : SectionOf A) → IsSome (item_at (places_of ss) section) → old ≡ get_or ss section old → t.area ≡ old.area → t.places.items ≡ old.places.items ++ None ∷ [] → places_of (slice_set ss section t) ≡ open_at (places_of ss) section
+pub open_places : {A : Type 0} → (ss : List (SectionOf A)) (section : ℕ) (old t : SectionOf A)
+    → IsSome (item_at (places_of ss) section) → old ≡ get_or ss section old → t.area ≡ old.area
+    → t.places.items ≡ old.places.items ++ None ∷ []
+    → places_of (slice_set ss section t) ≡ open_at (places_of ss) section
 open_places {A} ss section old t some h area items =
     let f : SectionPlaces → SectionPlaces = λ p. record { area = p.area; places = p.places ++ None ∷ [] } in
     let same_area = λ (a : Option Head). let p : SectionPlaces = record { area = option_map head_of a; places = t.places.items } in p in
@@ -50,7 +64,9 @@ open_places {A} ss section old t some h area items =
     section_set f ss section old t some h (ap same_area area ∙ ap same_items items)
 
 -- nothing was pushed
-pub kept_places : {A : Type 0} → (ss : List (SectionOf A)) (section : ℕ) (old t : SectionOf A) → IsSome (item_at (places_of ss) section) → old ≡ get_or ss section old → t.area ≡ old.area → t.places.items ≡ old.places.items → places_of (slice_set ss section t) ≡ places_of ss
+pub kept_places : {A : Type 0} → (ss : List (SectionOf A)) (section : ℕ) (old t : SectionOf A)
+    → IsSome (item_at (places_of ss) section) → old ≡ get_or ss section old → t.area ≡ old.area
+    → t.places.items ≡ old.places.items → places_of (slice_set ss section t) ≡ places_of ss
 kept_places {A} ss section old t some h area items =
     let same_area = λ (a : Option Head). let p : SectionPlaces = record { area = option_map head_of a; places = t.places.items } in p in
     let same_items = λ (ps : List Place). let p : SectionPlaces = record { area = option_map head_of old.area; places = ps } in p in
@@ -64,7 +80,9 @@ place_opened : (ps : List Place) → item_at (ps ++ None ∷ []) (length ps) ≡
 place_opened [] = refl
 place_opened (p ∷ ps) = place_opened ps
 
-pub slot_opened : {A : Type 0} → (ss : List (SectionOf A)) (section : ℕ) (old : SectionOf A) → IsSome (item_at (places_of ss) section) → old ≡ get_or ss section old → place_in (item_at (open_at (places_of ss) section) section) (length old.places.items) ≡ Some None
+pub slot_opened : {A : Type 0} → (ss : List (SectionOf A)) (section : ℕ) (old : SectionOf A)
+    → IsSome (item_at (places_of ss) section) → old ≡ get_or ss section old
+    → place_in (item_at (open_at (places_of ss) section) section) (length old.places.items) ≡ Some None
 slot_opened {A} [] section old some h = absurd (search rules)
 slot_opened {A} (s ∷ ss) zero old some h = rw h (place_opened s.places.items)
 slot_opened {A} (s ∷ ss) (suc section) old some h = slot_opened ss section old some h

@@ -26,7 +26,8 @@ item_at-put_place v w (p ∷ ps) (suc i) h = item_at-put_place v w ps i h
 abbrev written : Place → ℕ → SectionPlaces → SectionPlaces
 written v i s = record { area = s.area; places = put_place v s.places i }
 
-twice_at : (v w : Place) (d : Places) (section i : ℕ) → update_at (written w i) (update_at (written v i) d section) section ≡ update_at (written w i) d section
+twice_at : (v w : Place) (d : Places) (section i : ℕ)
+    → update_at (written w i) (update_at (written v i) d section) section ≡ update_at (written w i) d section
 twice_at v w [] section i = refl
 twice_at v w (s ∷ ss) zero i = ap (λ (ps : List Place). record { area = s.area; places = ps } ∷ ss) (put_place-twice v w s.places i)
 twice_at v w (s ∷ ss) (suc section) i = ap (λ (ts : Places). s ∷ ts) (twice_at v w ss section i)
@@ -36,7 +37,8 @@ same_at v [] section i h = refl
 same_at v (s ∷ ss) zero i h = ap (λ (ps : List Place). record { area = s.area; places = ps } ∷ ss) (put_place-same v s.places i h)
 same_at v (s ∷ ss) (suc section) i h = ap (λ (ts : Places). s ∷ ts) (same_at v ss section i h)
 
-read_at : (v w : Place) (d : Places) (section i : ℕ) → place_in (item_at d section) i ≡ Some w → place_in (item_at (update_at (written v i) d section) section) i ≡ Some v
+read_at : (v w : Place) (d : Places) (section i : ℕ) → place_in (item_at d section) i ≡ Some w
+    → place_in (item_at (update_at (written v i) d section) section) i ≡ Some v
 read_at v w [] section i h = absurd cc
 read_at v w (s ∷ ss) zero i h = item_at-put_place v w s.places i h
 read_at v w (s ∷ ss) (suc section) i h = read_at v w ss section i h
@@ -60,7 +62,8 @@ item_at-grown v w [] i h = absurd cc
 item_at-grown v w (p ∷ ps) zero h = h
 item_at-grown v w (p ∷ ps) (suc i) h = item_at-grown v w ps i h
 
-put_place-grown : (v u w : Place) (ps : List Place) (i : ℕ) → item_at ps i ≡ Some w → put_place v (ps ++ u ∷ []) i ≡ put_place v ps i ++ u ∷ []
+put_place-grown : (v u w : Place) (ps : List Place) (i : ℕ) → item_at ps i ≡ Some w
+    → put_place v (ps ++ u ∷ []) i ≡ put_place v ps i ++ u ∷ []
 put_place-grown v u w [] i h = absurd cc
 put_place-grown v u w (p ∷ ps) zero h = refl
 put_place-grown v u w (p ∷ ps) (suc i) h = ap (λ (qs : List Place). p ∷ qs) (put_place-grown v u w ps i h)
@@ -68,14 +71,16 @@ put_place-grown v u w (p ∷ ps) (suc i) h = ap (λ (qs : List Place). p ∷ qs)
 abbrev opened : SectionPlaces → SectionPlaces
 opened s = record { area = s.area; places = s.places ++ None ∷ [] }
 
-grown_read : (w : Place) (d : Places) (section i opening : ℕ) → place_in (item_at d section) i ≡ Some w → place_in (item_at (update_at opened d opening) section) i ≡ Some w
+grown_read : (w : Place) (d : Places) (section i opening : ℕ) → place_in (item_at d section) i ≡ Some w
+    → place_in (item_at (update_at opened d opening) section) i ≡ Some w
 grown_read w [] section i opening h = absurd cc
 grown_read w (s ∷ ss) zero i zero h = item_at-grown None w s.places i h
 grown_read w (s ∷ ss) zero i (suc opening) h = h
 grown_read w (s ∷ ss) (suc section) i zero h = h
 grown_read w (s ∷ ss) (suc section) i (suc opening) h = grown_read w ss section i opening h
 
-grown_put : (v w : Place) (d : Places) (section i opening : ℕ) → place_in (item_at d section) i ≡ Some w → update_at (written v i) (update_at opened d opening) section ≡ update_at opened (update_at (written v i) d section) opening
+grown_put : (v w : Place) (d : Places) (section i opening : ℕ) → place_in (item_at d section) i ≡ Some w
+    → update_at (written v i) (update_at opened d opening) section ≡ update_at opened (update_at (written v i) d section) opening
 grown_put v w [] section i opening h = refl
 grown_put v w (s ∷ ss) zero i zero h = ap (λ (ps : List Place). record { area = s.area; places = ps } ∷ ss) (put_place-grown v None w s.places i h)
 grown_put v w (s ∷ ss) zero i (suc opening) h = refl
@@ -87,10 +92,12 @@ full-grown [] = refl
 full-grown (None ∷ ps) = full-grown ps
 full-grown (Some x ∷ ps) = ap (λ (xs : List (List ℕ)). x ∷ xs) (full-grown ps)
 
-pub slot_at-open_at : (d : Places) (section : ℕ) (slot : SlotId) (v : Place) → slot_at d slot ≡ Some v → slot_at (open_at d section) slot ≡ Some v
+pub slot_at-open_at : (d : Places) (section : ℕ) (slot : SlotId) (v : Place) → slot_at d slot ≡ Some v
+    → slot_at (open_at d section) slot ≡ Some v
 slot_at-open_at d section slot v h = grown_read v d slot.section slot.index section h
 
-pub put-open_at : (d : Places) (section : ℕ) (slot : SlotId) (v w : Place) → slot_at d slot ≡ Some w → put (open_at d section) slot v ≡ open_at (put d slot v) section
+pub put-open_at : (d : Places) (section : ℕ) (slot : SlotId) (v w : Place) → slot_at d slot ≡ Some w
+    → put (open_at d section) slot v ≡ open_at (put d slot v) section
 put-open_at d section slot v w h = grown_put v w d slot.section slot.index section h
 
 -- an empty place isn't seen

@@ -11,7 +11,9 @@ use Rattle.lsdb.specs.View.{places_of}
 use Rattle.lsdb.proofs.Searching.{turn}
 
 -- the first full place, and the places behind it
-pub first_full : (ps rest : List Place) (i j : ℕ) (lsa : List ℕ) (p : Place) → i < length ps → j ≡ suc i → p ≡ get_or ps i p → p ≡ Some lsa → rest ≡ take (length ps - j) (drop j ps) → full (drop i ps) ≡ full ps → full ps ≡ lsa ∷ full rest
+pub first_full : (ps rest : List Place) (i j : ℕ) (lsa : List ℕ) (p : Place) → i < length ps → j ≡ suc i
+    → p ≡ get_or ps i p → p ≡ Some lsa → rest ≡ take (length ps - j) (drop j ps) → full (drop i ps) ≡ full ps
+    → full ps ≡ lsa ∷ full rest
 first_full ps rest i j lsa p within next here some behind same =
     let t = turn ps i j p within next here in
     let all : rest ≡ drop j ps = behind ∙ take_all (length ps - j) (drop j ps) (omega (arith, length-drop j ps)) in
@@ -19,7 +21,10 @@ first_full ps rest i j lsa p within next here some behind same =
 
 -- ---- the LSAs of a section
 
-pub section_seen : {A : Type 0} → (ss : List (SectionOf A)) (section : ℕ) (s : SectionOf A) (places : List Place) → IsSome (item_at (lists_of (places_of ss)) section) → s ≡ get_or ss section s → places ≡ s.places.items → full places ≡ lsas_in (places_of ss) section
+pub section_seen : {A : Type 0}
+    → (ss : List (SectionOf A)) (section : ℕ) (s : SectionOf A) (places : List Place)
+    → IsSome (item_at (lists_of (places_of ss)) section) → s ≡ get_or ss section s → places ≡ s.places.items
+    → full places ≡ lsas_in (places_of ss) section
 section_seen {A} [] section s places some h e = absurd (search rules)
 section_seen {A} (t ∷ ss) zero s places some h e = ap (λ (ps : List Place). full ps) (e ∙ ap (λ (x : SectionOf A). x.places.items) h)
 section_seen {A} (t ∷ ss) (suc section) s places some h e = section_seen ss section s places some h e

@@ -34,14 +34,18 @@ limit_fits None = omega arith
 limit_fits (Some area) = omega arith
 
 -- the number of LSAs of a section has 16 bits
-pub section_few : {A : Type 0} → (ss : List (SectionOf A)) (i : ℕ) (s : SectionOf A) → IsDatabase (lists_of (places_of ss)) → i < length ss → s ≡ get_or ss i s → length ((shown s).lsas) < 2 ^ 16
+pub section_few : {A : Type 0} → (ss : List (SectionOf A)) (i : ℕ) (s : SectionOf A)
+    → IsDatabase (lists_of (places_of ss)) → i < length ss → s ≡ get_or ss i s
+    → length ((shown s).lsas) < 2 ^ 16
 section_few {A} ss i s db lt is =
     let t = section_turn ss i (suc i) s lt refl is in
     let one = all_at_item IsSection (lists_of (places_of ss)) i (shown s) t.here db.sections in
     omega (arith, one.keys.few, length-map (shown s).lsas key_of, limit_fits (shown s).area)
 
 -- one section more
-pub section_next : {A : Type 0} → (ss : List (SectionOf A)) (i j : ℕ) (s : SectionOf A) (start old new : List ℕ) → i < length ss → j ≡ suc i → s ≡ get_or ss i s → new ≡ old ++ section_text (shown s)
+pub section_next : {A : Type 0}
+    → (ss : List (SectionOf A)) (i j : ℕ) (s : SectionOf A) (start old new : List ℕ) → i < length ss
+    → j ≡ suc i → s ≡ get_or ss i s → new ≡ old ++ section_text (shown s)
     → old ≡ start ++ flat_map section_text (take i (lists_of (places_of ss))) → new ≡ start ++ flat_map section_text (take j (lists_of (places_of ss)))
 section_next {A} ss i j s start old new lt step is pushed so_far =
     let db = lists_of (places_of ss) in

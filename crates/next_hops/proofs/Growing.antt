@@ -13,7 +13,7 @@ use Rattle.spf.specs.Distances.{Distances}
 use Rattle.next_hops.specs.declared.hop.Hop.{Hop}
 use Rattle.next_hops.specs.Hop.{hop_cmp, IsSortedHops, extended}
 use Rattle.next_hops.specs.FirstHops.{hops_at}
-use Rattle.next_hops.specs.Passing.{Grows, IsExtended, IsPassed, arc_of}
+use Rattle.next_hops.specs.steps.Passing.{Grows, IsExtended, IsPassed, arc_of}
 use Rattle.next_hops.proofs.Inserted.{IsSortedHops-rising, Contains-rising_hops}
 
 pub Grows-none : (P : ℕ → Hop → Type 0) (a : List (List Hop)) → ((i : ℕ) (h : Hop) → P i h → ⊥) → Grows P a a

@@ -19,7 +19,7 @@ use Rattle.spf.proofs.TreeLemmas.{arc_key, key_at, Less-from_key, not_both_Less,
 use Rattle.next_hops.specs.declared.hop.Hop.{Hop}
 use Rattle.next_hops.specs.Hop.{IsSortedHops}
 use Rattle.next_hops.specs.FirstHops.{first_hop, IsHopTo, AreHopsOf, hops_at}
-use Rattle.next_hops.specs.Passing.{Grows, IsPassed, IsPassedFrom, IsTight, arc_of}
+use Rattle.next_hops.specs.steps.Passing.{Grows, IsPassed, IsPassedFrom, IsTight, arc_of}
 use Rattle.next_hops.proofs.PathHops.{names, IsFirst, IsMeasured, IsPassedOn, IsFirst-passed, Contains-first}
 
 -- the first n vertices of the order have handed on their hops

@@ -16,7 +16,7 @@ use Rattle.spf.specs.Distances.{Distances}
 use Rattle.next_hops.specs.declared.hop.Hop.{Hop}
 use Rattle.next_hops.specs.declared.hop.Hop.TheVariants.{Link, Attached}
 use Rattle.next_hops.specs.FirstHops.{hop_to, first_hop, hops_at}
-use Rattle.next_hops.specs.Passing.{IsTight, IsPassed, first_at}
+use Rattle.next_hops.specs.steps.Passing.{IsTight, IsPassed, first_at}
 use Rattle.next_hops.specs.Hop.{extended}
 
 -- the first hop of a path and one more edge

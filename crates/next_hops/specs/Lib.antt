@@ -1,5 +1,3 @@
-pub mod Hop
-pub mod Storage
 pub mod FirstHops
-pub mod Passing
+pub mod Hop
 pub mod steps

@@ -24,7 +24,7 @@ impl<A: Allocator> Model for HopList<A> {
     ghost use Rattle.std.specs.Prelude.{List};
     ghost use Rattle.next_hops.specs.declared.hop.Hop.{Hop};
     ghost use Rattle.next_hops.specs.Hop.{IsSortedHops};
-    ghost use Rattle.next_hops.specs.Storage.{stored};
+    ghost use Rattle.next_hops.specs.steps.Storage.{stored};
 
     ghost Value = { List Hop };
 

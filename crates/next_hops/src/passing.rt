@@ -3,7 +3,7 @@
 ghost use Rattle.std.specs.Prelude.{◌≡◌, ◌<◌, length, OnOk};
 ghost use Rattle.std.specs.Bool.{OnTrue, OnFalse};
 ghost use Rattle.next_hops.specs.FirstHops.{hops_at};
-ghost use Rattle.next_hops.specs.Passing.{Grows, IsExtended, IsPassed, IsPassedFrom, IsTight, arc_of, first_at};
+ghost use Rattle.next_hops.specs.steps.Passing.{Grows, IsExtended, IsPassed, IsPassedFrom, IsTight, arc_of, first_at};
 
 use crate::hop::Hop;
 use crate::list::HopList;

@@ -1,7 +1,7 @@
 //! Where the hops of a list are kept.
 
 ghost use Rattle.std.specs.Prelude.{◌≡◌, ◌≤◌, [], length, insert, IfOk, OnOk, OnErr};
-ghost use Rattle.next_hops.specs.Storage.{stored, has_room};
+ghost use Rattle.next_hops.specs.steps.Storage.{stored, has_room};
 
 use crate::hop::Hop;
 use arrayvec::ArrayVec;

@@ -15,7 +15,7 @@ use Rattle.area_graph.specs.declared.vertex.Vertex.TheVariants.{Router}
 use Rattle.area_graph.specs.Area.{is_live, is_router_lsa, is_network_lsa, is_vertex_lsa, vertex_lsas, is_outranked_by, outranks, used, vertex_of, vertices_of}
 use Rattle.area_graph.proofs.AreaLemmas.{vertex_of_router}
 use Rattle.area_graph.proofs.MemberLemmas.{In, In-filter, In-map, Contains-from_In}
-use Rattle.external_routes.specs.Attached.{has_live_router_lsa, is_attached}
+use Rattle.area_routes.specs.Attached.{has_live_router_lsa, is_attached}
 
 -- what a search finds is there, and passes
 pub found_In : {X : Type 0} (p : X → Bool) (xs : List X) (x : X) → find p xs ≡ Some x → In xs x × (p x ≡ true)

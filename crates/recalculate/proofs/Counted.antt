@@ -8,7 +8,7 @@ use Rattle.lsa_codec.specs.declared.address.RouterId.{RouterId}
 use Rattle.lsdb.specs.Lists.{AreaHead, Lists, areas_of}
 use Rattle.spf.specs.Distances.{counted}
 use Rattle.area_routes.specs.Values.{AreaResultValue}
-use Rattle.external_routes.specs.Attached.{attached_areas, is_attached}
+use Rattle.area_routes.specs.Attached.{attached_areas, is_attached}
 use Rattle.recalculate.specs.Counting.{counted_by, CountsAtMost}
 use Rattle.recalculate.specs.Tables.{result_in, results_in}
 

@@ -21,10 +21,10 @@ use Rattle.area_graph.specs.Rising.{rising}
 use Rattle.area_graph.proofs.GraphLemmas.{are_of_area}
 use Rattle.area_graph.proofs.MemberLemmas.{Contains-from_In, In, In-filter, In-filter_map, In-flat_map, In-from_Contains, In-list_any, Some-same, filter-In, filter_map-In, flat_map-In}
 use Rattle.area_routes.specs.Order.{router_cmp}
-use Rattle.area_routes.proofs.Orders.{router_exact, router_total}
-use Rattle.area_routes.proofs.Rising.{any_rising}
+use Rattle.area_routes.proofs.OrderLemmas.{router_exact, router_total}
+use Rattle.area_routes.proofs.RisingLemmas.{any_rising}
 use Rattle.edit_history.proofs.Keys.{other_key, same_key_true}
-use Rattle.external_routes.specs.Attached.{attached_areas, has_live_router_lsa}
+use Rattle.area_routes.specs.Attached.{attached_areas, has_live_router_lsa}
 use Rattle.recalculate.specs.Counts.{area_lsas, lsas_in}
 use Rattle.recalculate.specs.Routers.{attached_routers, live_router}
 use Rattle.recalculate.proofs.Attaching.{found_In}

@@ -1,5 +1,5 @@
 -- A map into which the second list of routes went, and then the first, has the preferred routes.
-use Rattle.std.proofs.Common.{◌≡◌, ◌<◌, ◌^◌, Bool, true, false, cond, List, [], ◌∷◌, ◌++◌, map, Option, Some, None, Result, Ok, Err, IfOk, IfSome, refl, sym, ap, ◌∙◌, subst}
+use Rattle.std.proofs.Common.{◌≡◌, ◌<◌, ◌^◌, Bool, true, false, cond, List, [], ◌∷◌, ◌++◌, map, Option, Some, None, IfSome, refl, sym, ap, ◌∙◌, subst}
 use Rattle.std.specs.Prelude.{◌||◌}
 use Rattle.std.specs.List.{All, list_any, filter_map, cons_option, IsDistinct}
 use Rattle.std.specs.List.Sorted.{IsStrictlySortedBy}
@@ -21,9 +21,9 @@ use Rattle.area_graph.specs.Rising.{rising}
 use Rattle.area_routes.specs.Order.{prefix_cmp}
 use Rattle.area_routes.specs.Routes.{AreSortedRoutes, nets, route_to}
 use Rattle.area_routes.specs.Values.{RouteValue, RoutesBelow}
-use Rattle.area_routes.proofs.Entries.{entries_at, lookup_entries, same_entries, sorted_entries, values_entries}
-use Rattle.area_routes.proofs.Orders.{prefix_exact, prefix_total}
-use Rattle.area_routes.proofs.Rising.{any_rising, sorted_rising}
+use Rattle.area_routes.proofs.LookupLemmas.{entries_at, lookup_entries, same_entries, sorted_entries, values_entries}
+use Rattle.area_routes.proofs.OrderLemmas.{prefix_exact, prefix_total}
+use Rattle.area_routes.proofs.RisingLemmas.{any_rising, sorted_rising}
 use Rattle.recalculate.specs.Preferring.{preferred_route, preferring}
 
 -- a route with its prefix
@@ -90,14 +90,6 @@ module _ (first second : List RouteValue) where
         ∙ sym (lookup_entries prefix_cmp prefix_exact f ks q ∙ ap (λ b. cond b (f q) None) (any_rising prefix_total q (nets (first ++ second))) ∙ only_nets q _ refl)))
         ∙ values_entries prefix_cmp f ks
 
--- the list that the map was made into
-pub if_values : {X E : Type 0} (items : X → List RouteValue) (m : BTreeMap Net RouteValue) (first second whole : List RouteValue) (r : Result X E)
-    → AreSortedRoutes first → AreSortedRoutes second → whole ≡ second ++ first → IsFromIterResult prefix_cmp (map (λ r. (r.net, r)) whole) m
-    → IfOk r (λ v. items v ≡ values m) → IfOk r (λ v. items v ≡ preferring first second)
-if_values items m first second whole (Ok v) up_first up_second is made h =
-    h ∙ values_are first second up_first up_second m (subst (λ l. IsFromIterResult prefix_cmp (map (λ r. (r.net, r)) l) m) is made)
-if_values items m first second whole (Err e) up_first up_second is made h = tt
-
 -- ---- the preferred routes stand in order, and what holds of all routes of both lists holds of them
 
 route_net : (q : Net) (rs : List RouteValue) (r : RouteValue) → route_to rs q ≡ Some r → r.net ≡ q
@@ -156,19 +148,14 @@ module _ (P : RouteValue → Type 0) where
       by None other h k = k
       by (Some r) other h k = h
 
--- what holds of the preferred routes holds of the list that the map was made into
-module _ {X E : Type 0} (items : X → List RouteValue) (m : BTreeMap Net RouteValue) (first second whole : List RouteValue) (r : Result X E)
-    (up_first : AreSortedRoutes first) (up_second : AreSortedRoutes second) (is : whole ≡ second ++ first) (made : IsFromIterResult prefix_cmp (map (λ r. (r.net, r)) whole) m)
-    (listed : IfOk r (λ v. items v ≡ values m)) where
-  holds_of : (P : List RouteValue → Type 0) → P (preferring first second) → IfOk r (λ v. P (items v))
-  holds_of P p = by r (if_values items m first second whole r up_first up_second is made listed)
-    where
-      by : (r : Result X E) → IfOk r (λ v. items v ≡ preferring first second) → IfOk r (λ v. P (items v))
-      by (Ok v) h = subst P (sym h) p
-      by (Err e) h = tt
+-- the list that the map was made into
+module _ (m : BTreeMap Net RouteValue) (first second whole listed : List RouteValue) (up_first : AreSortedRoutes first) (up_second : AreSortedRoutes second)
+    (is : whole ≡ second ++ first) (made : IsFromIterResult prefix_cmp (map (λ r. (r.net, r)) whole) m) (values_of : listed ≡ values m) where
+  pub listed_is : listed ≡ preferring first second
+  listed_is = values_of ∙ values_are first second up_first up_second m (subst (λ (l : List RouteValue). IsFromIterResult prefix_cmp (map (λ r. (r.net, r)) l) m) is made)
 
-  pub if_sorted : IfOk r (λ v. AreSortedRoutes (items v))
-  if_sorted = holds_of (λ l. AreSortedRoutes l) (preferring_sorted first second)
+  pub listed_sorted : AreSortedRoutes listed
+  listed_sorted = subst AreSortedRoutes (sym listed_is) (preferring_sorted first second)
 
-  pub if_small : RoutesBelow (2 ^ 34) first → RoutesBelow (2 ^ 34) second → IfOk r (λ v. RoutesBelow (2 ^ 34) (items v))
-  if_small a b = holds_of (λ l. RoutesBelow (2 ^ 34) l) (preferring_all (λ r. r.cost < 2 ^ 34) first second a b)
+  pub listed_small : RoutesBelow (2 ^ 34) first → RoutesBelow (2 ^ 34) second → RoutesBelow (2 ^ 34) listed
+  listed_small a b = subst (RoutesBelow (2 ^ 34)) (sym listed_is) (preferring_all (λ r. r.cost < 2 ^ 34) first second a b)

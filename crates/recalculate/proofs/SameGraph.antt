@@ -1,19 +1,21 @@
 -- What depends on the router-LSAs and network-LSAs of an area alone.
 use Rattle.std.proofs.Common.{◌≡◌, ℕ, Bool, true, false, not, cond, List, [], ◌∷◌, filter, map, Option, Some, None, IfSome, refl, sym, ap, ◌∙◌, subst, eqb}
 use Rattle.std.specs.Prelude.{◌↔◌, ◌&&◌, ◌||◌}
-use Rattle.std.specs.List.{Contains, find}
+use Rattle.std.specs.List.{Contains, filter_map, find}
 use Rattle.std.specs.Option.{option_map_or}
 use Rattle.std.proofs.lemmas.Bool.{and_parts}
 use Rattle.lsa_codec.specs.declared.address.AreaId.{AreaId}
 use Rattle.lsa_codec.specs.declared.address.RouterId.{RouterId}
+use Rattle.lsa_codec.specs.Key.{router_key}
 use Rattle.lsa_codec.specs.Fields.{kind_of, link_state_id_of, advertising_router_of}
 use Rattle.lsdb.specs.declared.section.Section.TheVariants.{Area}
 use Rattle.lsdb.specs.Lists.{Lists, has_key, lsas_of}
 use Rattle.area_graph.specs.Area.{highest, is_live, is_network_lsa, is_router_lsa, is_vertex_lsa, used, vertex_lsas, vertex_of}
 use Rattle.area_graph.specs.AreaEdges.{area_edges}
 use Rattle.area_graph.specs.Graphs.{IsGraphOf}
+use Rattle.area_graph.specs.Rows.{each_once, is_out_of, numbered, row_of, rows_of, same_edge}
 use Rattle.area_graph.specs.Topology.{Topology, IsEdge}
-use Rattle.external_routes.specs.Attached.{has_live_router_lsa, is_attached, router_key}
+use Rattle.area_routes.specs.Attached.{has_live_router_lsa}
 
 abbrev pub is_graph_lsa : List ℕ → Bool
 is_graph_lsa lsa = is_router_lsa lsa || is_network_lsa lsa
@@ -57,9 +59,15 @@ module _ (lsas others : List (List ℕ)) (same : filter is_graph_lsa lsas ≡ fi
       ap (λ (o : Option (List ℕ)). option_map_or is_live o false)
       (sym (find_filtered keyed is_graph_lsa (keyed_is_graph router) lsas) ∙ ap (find keyed) same ∙ find_filtered keyed is_graph_lsa (keyed_is_graph router) others)
 
+  same_rows : rows_of lsas ≡ rows_of others
+  unfolding row_of
+  same_rows =
+      ap (λ ls. map (λ v. each_once same_edge (filter_map (numbered (map vertex_of ls)) (filter (is_out_of v) (area_edges ls)))) (map vertex_of ls)) same_used
+
   pub same_graph : (graph : Topology) → IsGraphOf lsas graph → IsGraphOf others graph
   same_graph graph is = record {
     vertices = is.vertices ∙ ap (λ ls. map vertex_of ls) same_used;
+    rows = is.rows ∙ same_rows;
     edges = λ e. subst (λ ls. IsEdge graph e ↔ Contains (area_edges ls) e) same_used (is.edges e);
     once = is.once;
     shape = is.shape;

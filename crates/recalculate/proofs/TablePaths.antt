@@ -10,8 +10,8 @@ use Rattle.area_graph.proofs.UsedLemmas.{used_accepted}
 use Rattle.area_routes.specs.AreaResults.{area_result, given_by}
 use Rattle.area_routes.specs.OverAllPaths.{AreOverAllPaths}
 use Rattle.area_routes.specs.Reached.{reached_from}
-use Rattle.area_routes.proofs.OverAllPaths.{reached_over_all_paths}
-use Rattle.external_routes.specs.Attached.{attached_areas}
+use Rattle.area_routes.proofs.OverAllPathsLemmas.{reached_over_all_paths}
+use Rattle.area_routes.specs.Attached.{attached_areas}
 use Rattle.recalculate.specs.Counts.{lsas_in}
 use Rattle.recalculate.specs.Tables.{TableValue, result_in, results_in, routes_from, table_by, table_in}
 

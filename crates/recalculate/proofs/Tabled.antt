@@ -1,29 +1,19 @@
 -- The table from its parts.
 use Rattle.std.proofs.Common.{◌≡◌, ℕ, ◌≤◌, true, List, [], ◌∷◌, length, Option, Some, Result, Ok, Err, IfOk, IfErr, OnErr, OnOk, inl, inr, zero, suc, refl, sym, ap, ◌∙◌, subst, arith}
 use Rattle.std.specs.List.{slice_get}
-use Rattle.std.specs.List.Sorted.{IsStrictlySortedBy}
-use Rattle.area_routes.specs.Routes.{AreSortedRoutes}
 use Rattle.lsa_codec.specs.declared.address.RouterId.{RouterId}
 use Rattle.lsdb.specs.Lists.{AreaHead, Lists, areas_of}
 use Rattle.area_graph.proofs.MemberLemmas.{In, In-filter}
-use Rattle.area_routes.specs.Values.{AreaResultValue, EntryValue, InterValue, RouteValue, RoutesBelow, EntriesBelow}
+use Rattle.area_routes.specs.Values.{AreaResultValue, InterValue, RouteValue}
 use Rattle.area_routes.specs.Intra.{intra_of}
 use Rattle.area_routes.specs.Inter.{inter_of}
-use Rattle.external_routes.specs.Attached.{attached_areas}
+use Rattle.area_routes.specs.Attached.{attached_areas}
 use Rattle.external_routes.specs.External.{externals_of}
 use Rattle.recalculate.specs.declared.table.TableFault.{TableFault}
 use Rattle.recalculate.specs.declared.table.TableFault.TheVariants.{NoRouter, OutOfMemory}
 use Rattle.recalculate.specs.Preferring.{preferring}
 use Rattle.recalculate.specs.Tables.{TableValue, results_in, routes_from, table_by, table_in, FaultMeans}
 use Rattle.recalculate.proofs.Counted.{joins}
-
--- ---- costs below a bound are below a greater one
-
-pub routes_below : (a b : ℕ) (rs : List RouteValue) → a ≤ b → RoutesBelow a rs → RoutesBelow b rs
-routes_below a b rs le all = λ k d lt. omega (arith, all k d lt)
-
-pub entries_below : (a b : ℕ) (es : List EntryValue) → a ≤ b → EntriesBelow a es → EntriesBelow b es
-entries_below a b es le all = λ k d lt. omega (arith, all k d lt)
 
 -- ---- the routes
 
@@ -99,11 +89,6 @@ full_list xs some none = some (ap length none)
 pub on_err : {T E P : Type 0} (r : Result T E) → P → OnErr r P
 on_err (Ok v) p = tt
 on_err (Err e) p = p
-
--- no routes stand in order
-pub none_sorted : AreSortedRoutes []
-unfolding IsStrictlySortedBy
-none_sorted = tt
 
 -- ---- the table in the database that a session shows
 

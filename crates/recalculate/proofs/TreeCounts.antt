@@ -9,9 +9,9 @@ use Rattle.std.proofs.lemmas.Option.{get_or_from_slice_get, slice_get_within}
 use Rattle.lsa_codec.specs.declared.address.AreaId.{AreaId}
 use Rattle.lsa_codec.specs.declared.address.RouterId.{RouterId}
 use Rattle.lsdb.specs.Lists.{AreaHead, IsBefore, IsDatabase, Lists, SectionLsas, areas_of, heads_of}
-use Rattle.lsdb.proofs.Middle.{pairs_head, pairs_tail}
+use Rattle.lsdb.proofs.ListLemmas.{pairs_head, pairs_tail}
 use Rattle.spf.specs.Distances.{counted}
-use Rattle.external_routes.specs.Attached.{attached_areas}
+use Rattle.area_routes.specs.Attached.{attached_areas}
 use Rattle.recalculate.specs.AreaTrees.{missing}
 use Rattle.recalculate.specs.Counting.{counted_by, CountsAtMost}
 use Rattle.recalculate.specs.KeptTrees.{TreeSet, IsWithin, areas_without_tree}

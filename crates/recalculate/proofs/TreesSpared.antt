@@ -13,7 +13,7 @@ use Rattle.lsdb.specs.declared.section.Section.TheVariants.{Area}
 use Rattle.lsdb.specs.Lists.{Lists, lsas_of}
 use Rattle.area_graph.specs.Graphs.{IsGraphOf}
 use Rattle.area_routes.specs.Order.{area_cmp, router_cmp}
-use Rattle.area_routes.proofs.Orders.{area_exact}
+use Rattle.area_routes.proofs.OrderLemmas.{area_exact}
 use Rattle.edit_history.specs.Effect.{graph_lsas}
 use Rattle.recalculate.specs.AreaTrees.{AreaTreesValue, AreasTrees, AreOfDatabase, RouterTreeValue, has_tree, routers_of, trees_at, trees_in}
 use Rattle.recalculate.specs.KeptTrees.{KeptRouters, TreeSet, is_kept, less_touched}

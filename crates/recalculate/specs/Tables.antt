@@ -7,7 +7,7 @@ use Rattle.area_routes.specs.Values.{AreaResultValue, InterValue, RouteValue}
 use Rattle.area_routes.specs.AreaResults.{area_result}
 use Rattle.area_routes.specs.Intra.{intra_of}
 use Rattle.area_routes.specs.Inter.{inter_of}
-use Rattle.external_routes.specs.Attached.{attached_areas}
+use Rattle.area_routes.specs.Attached.{attached_areas}
 use Rattle.external_routes.specs.External.{externals_of}
 use Rattle.recalculate.specs.declared.table.TableFault.{TableFault}
 use Rattle.recalculate.specs.declared.table.TableFault.TheVariants.{NoRouter, OutOfMemory}

@@ -7,7 +7,7 @@ ghost use Rattle.area_graph.specs.Area.{used};
 ghost use Rattle.area_routes.specs.AreaResults.{given_by};
 ghost use Rattle.area_routes.specs.OverAllPaths.{AreOverAllPaths};
 ghost use Rattle.area_routes.specs.Reached.{reached_from};
-ghost use Rattle.external_routes.specs.Attached.{attached_areas};
+ghost use Rattle.area_routes.specs.Attached.{attached_areas};
 ghost use Rattle.recalculate.specs.Counts.{lsas_in};
 ghost use Rattle.recalculate.specs.Routers.{attached_routers};
 ghost use Rattle.recalculate.specs.Tables.{TableValue, result_in, results_in, routes_from, table_in};

@@ -40,7 +40,7 @@ impl<A: Allocator + Copy> Planner<A> {
     ghost use Rattle.std.specs.Prelude.{◌≡◌, ◌≢◌, ◌≤◌, ◌↔◌, [], Ok, Err, Some, length, IsOk, OnOk, OnErr, IfOk, IfErr, IsErrOf};
     ghost use Rattle.lsdb.specs.Places.{lists_of};
     ghost use Rattle.lsdb.specs.Text.{text};
-    ghost use Rattle.external_routes.specs.Attached.{attached_areas};
+    ghost use Rattle.area_routes.specs.Attached.{attached_areas};
     ghost use Rattle.edit_history.specs.declared.fault.EditFault.TheVariants.{HistoryFull, OutOfMemory};
     ghost use Rattle.edit_history.specs.Effect.{edit_touches};
     ghost use Rattle.recalculate.specs.Counting.{counted_by, CountsAtMost};

@@ -3,31 +3,41 @@
 ghost use Rattle.std.specs.Prelude.{◌≡◌, ◌^◌, IfOk, map};
 ghost use Rattle.std.specs.BTreeMap.{IsFromIterResult, values};
 ghost use Rattle.area_routes.specs.Order.{prefix_cmp};
-ghost use Rattle.area_routes.specs.Routes.{AreSortedRoutes};
 ghost use Rattle.area_routes.specs.Values.{RoutesBelow};
 ghost use Rattle.recalculate.specs.Preferring.{preferring};
 
-use area_routes::Route;
+use area_routes::{InsideRoutes, Route, Routes};
 use lsa_codec::Prefix;
 use std::alloc::{AllocError, Allocator};
 use std::collections::BTreeMap;
 
-/// To each prefix the route of the first list, else that of the second, in order of prefix. Each
-/// list is in order of prefix, with one route for each.
+/// To each prefix the route of the first list, else that of the second.
 pub(crate) fn prefer<A: Allocator + Copy>(
     alloc: A,
-    mut first: Vec<Route<A>, A>,
-    second: Vec<Route<A>, A>,
-) -> Result<Vec<Route<A>, A>, AllocError>
-    requires first { AreSortedRoutes first.items }
-    requires second { AreSortedRoutes second.items }
-    ensures routes { IfOk result (λ routes. routes.items ≡ preferring first.items second.items) }
-    ensures sorted { IfOk result (λ routes. AreSortedRoutes routes.items) }
-    ensures small { RoutesBelow (2 ^ 34) first.items → RoutesBelow (2 ^ 34) second.items → IfOk result (λ routes. RoutesBelow (2 ^ 34) routes.items) }
+    first: Routes<A>,
+    second: Routes<A>,
+) -> Result<Routes<A>, AllocError>
+    ensures routes { IfOk result (λ routes. routes ≡ preferring first second) }
+    ensures small { RoutesBelow (2 ^ 34) first → RoutesBelow (2 ^ 34) second
+        → IfOk result (RoutesBelow (2 ^ 34)) }
 {
-    let mut routes = second;
+    let mut first = first.into_vec();
+    let mut routes = second.into_vec();
     routes.append(&mut first)?;
-    in_order(alloc, by_prefix(alloc, routes)?)
+    let routes = in_order(alloc, by_prefix(alloc, routes)?)?;
+    Ok(Routes::from_sorted(routes))
+}
+
+/// To each prefix the intra-area route, else the inter-area route.
+pub(crate) fn prefer_intra<A: Allocator + Copy>(
+    alloc: A,
+    intra: InsideRoutes<A>,
+    inter: InsideRoutes<A>,
+) -> Result<InsideRoutes<A>, AllocError>
+    ensures { IfOk result (λ routes. routes ≡ preferring intra inter) }
+{
+    let routes = prefer(alloc, intra.into_routes(), inter.into_routes())?;
+    Ok(InsideRoutes::from_routes(routes))
 }
 
 /// The routes by prefix, the later ones in place of the earlier ones.

@@ -8,13 +8,12 @@ ghost use Rattle.area_graph.specs.declared.vertex.Vertex.TheVariants.{Router};
 ghost use Rattle.area_graph.specs.Graphs.{IsGraphOf};
 ghost use Rattle.spf.specs.Distances.{IsTreeOf, counted};
 ghost use Rattle.area_routes.specs.AreaResults.{area_result};
-ghost use Rattle.external_routes.specs.Attached.{attached_areas, is_attached};
+ghost use Rattle.area_routes.specs.Attached.{attached_areas, is_attached};
 ghost use Rattle.recalculate.specs.Tables.{results_in};
 ghost use Rattle.recalculate.specs.Counting.{counted_by, CountsAtMost};
 
 use area_graph::{Graph, GraphFault};
-use area_routes::AreaResult;
-use external_routes::is_attached;
+use area_routes::{AreaResult, is_attached};
 use lsa_codec::{AreaId, RouterId};
 use lsdb::Database;
 use next_hops::Hops;

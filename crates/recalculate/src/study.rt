@@ -35,7 +35,7 @@ impl<A: Allocator + Copy> Study<A> {
     ghost use Rattle.std.specs.Prelude.{◌≡◌, ◌≢◌, ◌≤◌, ◌↔◌, Ok, Err, Some, length, IsOk, OnOk, OnErr, IfOk, IfErr, IsErrOf};
     ghost use Rattle.lsdb.specs.Lists.{IsDatabase};
     ghost use Rattle.lsdb.specs.Places.{lists_of};
-    ghost use Rattle.external_routes.specs.Attached.{attached_areas};
+    ghost use Rattle.area_routes.specs.Attached.{attached_areas};
     ghost use Rattle.edit_history.specs.declared.fault.EditFault.TheVariants.{HistoryFull, OutOfMemory};
     ghost use Rattle.edit_history.specs.Session.{start, state, effects, most_edits, edited, moved_back, moved_on, redo_touches, undo_touches};
     ghost use Rattle.recalculate.specs.Counting.{counted_by, CountsAtMost};

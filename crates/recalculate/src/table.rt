@@ -2,16 +2,15 @@
 
 ghost use Rattle.std.specs.Prelude.{◌≡◌, [], IfOk, IfErr, IsErrOf, OnOk, Some, None, length};
 ghost use Rattle.lsdb.specs.Places.{lists_of};
-ghost use Rattle.area_routes.specs.Routes.{AreSortedRoutes};
-ghost use Rattle.external_routes.specs.Attached.{attached_areas};
+ghost use Rattle.area_routes.specs.Attached.{attached_areas};
 ghost use Rattle.recalculate.specs.declared.table.TableFault.TheVariants.{OutOfMemory};
 ghost use Rattle.recalculate.specs.Counting.{counted_by, CountsAtMost};
 ghost use Rattle.recalculate.specs.Tables.{results_in, table_in, routes_from, FaultMeans};
 ghost use Rattle.recalculate.specs.Fault.{code_of, name_of};
 
-use crate::prefer::prefer;
+use crate::prefer::{prefer, prefer_intra};
 use crate::results::results_of;
-use area_routes::{AreaResult, Route, inter, intra};
+use area_routes::{AreaResult, Routes, inter, intra};
 use external_routes::externals;
 use lsa_codec::RouterId;
 use lsdb::Database;
@@ -25,18 +24,15 @@ use thiserror::Error;
 #[derive(Drop)]
 pub struct Table<A: Allocator = Global> {
     router: RouterId,
-    routes: Vec<Route<A>, A>,
+    routes: Routes<A>,
 }
 
 impl<A: Allocator> Model for Table<A> {
-    ghost use Rattle.area_routes.specs.Routes.{AreSortedRoutes};
     ghost use Rattle.recalculate.specs.Tables.{TableValue};
 
     ghost Value = { TableValue };
 
-    ghost view = { λ t. record { router = t.router; routes = t.routes.items } };
-
-    ghost invariant = { λ t. AreSortedRoutes t.routes.items };
+    ghost view = { λ t. record { router = t.router; routes = t.routes } };
 }
 
 impl<A: Allocator + Copy> Table<A> {
@@ -46,7 +42,7 @@ impl<A: Allocator + Copy> Table<A> {
     {
         Table {
             router,
-            routes: Vec::new(alloc),
+            routes: Routes::new(alloc),
         }
     }
 
@@ -59,9 +55,8 @@ impl<A: Allocator + Copy> Table<A> {
 
     /// Its routes in order of prefix, one for each: the intra-area route, else the inter-area
     /// route, else the external route.
-    pub fn routes(&self) -> &[Route<A>]
-        ensures routes { result.now ≡ self.now.routes }
-        ensures sorted { AreSortedRoutes result.now }
+    pub fn routes(&self) -> &Routes<A>
+        ensures { result.now ≡ self.now.routes }
     {
         &self.routes
     }
@@ -160,13 +155,13 @@ fn routes_from<A: Allocator + Copy>(
     database: &Database<A>,
     router: RouterId,
     results: &[AreaResult<A>],
-) -> Result<Vec<Route<A>, A>, AllocError>
-    ensures routes { IfOk result (λ routes. routes.items ≡ routes_from (lists_of database.now) router results.now) }
-    ensures sorted { IfOk result (λ routes. AreSortedRoutes routes.items) }
+) -> Result<Routes<A>, AllocError>
+    ensures { IfOk result (λ routes. routes
+        ≡ routes_from (lists_of database.now) router results.now) }
 {
     let intra = intra(alloc, results)?;
     let inter = inter(alloc, database, router, results, &intra)?;
-    let inside = prefer(alloc, intra, inter.routes)?;
+    let inside = prefer_intra(alloc, intra, inter.routes)?;
     let external = externals(alloc, database, router, &inside, &inter.routers)?;
-    prefer(alloc, inside, external)
+    prefer(alloc, inside.into_routes(), external)
 }

@@ -5,7 +5,7 @@ use Rattle.std.proofs.lemmas.List.Elements.{All-contains, Contains-get_or}
 use Rattle.area_graph.specs.declared.edge.Edge.{Edge}
 use Rattle.area_graph.specs.Paths.{DirectedEdge, path_cost, IsPath, IsDistance}
 use Rattle.area_graph.specs.Topology.{Topology, IsArc, row_at}
-use Rattle.spf.specs.Relaxation.{IsAtMost, Sound, IsClosedAt, Closed}
+use Rattle.spf.specs.steps.Relaxation.{IsAtMost, Sound, IsClosedAt, Closed}
 
 -- an edge of a row, with its start
 abbrev pub arc_from : ℕ → Edge → DirectedEdge ℕ

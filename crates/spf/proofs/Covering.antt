@@ -6,7 +6,7 @@ use Rattle.std.proofs.lemmas.List.{get_or-set_other}
 use Rattle.area_graph.specs.Paths.{DirectedEdge}
 use Rattle.area_graph.specs.Topology.{Topology, IsArc}
 use Rattle.spf.specs.declared.queue.Candidate.{Candidate}
-use Rattle.spf.specs.Relaxation.{IsAtMost}
+use Rattle.spf.specs.steps.Relaxation.{IsAtMost}
 use Rattle.spf.specs.Candidates.{candidate_at}
 use Rattle.spf.proofs.Keys.{distance_from_key}
 use Rattle.spf.proofs.Searching.{IsQueued}

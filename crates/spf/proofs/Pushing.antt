@@ -8,7 +8,7 @@ use Rattle.area_graph.specs.declared.edge.Edge.{Edge}
 use Rattle.area_graph.specs.Topology.{Topology, row_at}
 use Rattle.spf.specs.declared.queue.Candidate.{Candidate}
 use Rattle.spf.specs.Candidates.{candidate_at}
-use Rattle.spf.specs.Search.{PushesEdge, PushesNeighbours}
+use Rattle.spf.specs.steps.Search.{PushesEdge, PushesNeighbours}
 use Rattle.std.specs.Prelude.{MatchOption}
 use Rattle.spf.proofs.Closing.{arc_from}
 

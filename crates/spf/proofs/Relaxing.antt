@@ -7,7 +7,7 @@ use Rattle.std.proofs.lemmas.List.Sums.{sum_by-set}
 use Rattle.area_graph.specs.Paths.{DirectedEdge, HasPathOfCost}
 use Rattle.area_graph.proofs.PathLemmas.{HasPathOfCost-push}
 use Rattle.area_graph.specs.Topology.{Topology, IsArc}
-use Rattle.spf.specs.Relaxation.{IsMoreThan, reached_count, potential, Bounded, Sound, Relaxed}
+use Rattle.spf.specs.steps.Relaxation.{IsMoreThan, reached_count, potential, Bounded, Sound, Relaxed}
 use Rattle.spf.proofs.Reached.{at_set, reached_count-set}
 
 module _ (t : Topology) where

@@ -5,9 +5,9 @@ use Rattle.std.specs.List.Sorted.{IsPermutation}
 use Rattle.area_graph.specs.Paths.{DirectedEdge, HasPathOfCost}
 use Rattle.area_graph.specs.Topology.{Topology, IsTopology, IsArc}
 use Rattle.spf.specs.declared.queue.Candidate.{Candidate}
-use Rattle.spf.specs.Relaxation.{IsAtMost, Bounded, reached_count, Sound, Closed}
+use Rattle.spf.specs.steps.Relaxation.{IsAtMost, Bounded, reached_count, Sound, Closed}
 use Rattle.spf.specs.Candidates.{candidate_at}
-use Rattle.spf.specs.Search.{IsSettled}
+use Rattle.spf.specs.steps.Search.{IsSettled}
 use Rattle.spf.proofs.Keys.{key, key_at, Less-from_key}
 use Rattle.spf.proofs.Pushing.{Contains-pushed_one, Contains-pushed_cases}
 use Rattle.spf.proofs.Reached.{some_of, within_some}

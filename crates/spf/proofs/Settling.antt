@@ -9,9 +9,9 @@ use Rattle.area_graph.specs.Paths.{DirectedEdge, HasPathOfCost}
 use Rattle.area_graph.specs.Topology.{Topology, IsTopology, IsArc}
 use Rattle.area_graph.proofs.PathLemmas.{HasPathOfCost-push}
 use Rattle.spf.specs.declared.queue.Candidate.{Candidate}
-use Rattle.spf.specs.Relaxation.{Bounded, reached_count}
+use Rattle.spf.specs.steps.Relaxation.{Bounded, reached_count}
 use Rattle.spf.specs.Candidates.{candidate_cmp, candidate_at}
-use Rattle.spf.specs.Search.{PushesNeighbours}
+use Rattle.spf.specs.steps.Search.{PushesNeighbours}
 use Rattle.spf.proofs.Keys.{key, key_at, key-le, arc_key}
 use Rattle.spf.proofs.Reached.{at_set, reached_count-set}
 use Rattle.spf.proofs.Searching.{IsCandidate, Searching}

@@ -8,7 +8,7 @@ use Rattle.std.proofs.lemmas.List.Sorted.{length_permutation}
 use Rattle.area_graph.specs.Topology.{Topology, IsTopology}
 use Rattle.spf.specs.declared.queue.Candidate.{Candidate}
 use Rattle.spf.specs.Candidates.{candidate_cmp}
-use Rattle.spf.specs.Search.{PushesNeighbours, SettlesOne, SettlesNew}
+use Rattle.spf.specs.steps.Search.{PushesNeighbours, SettlesOne, SettlesNew}
 use Rattle.spf.proofs.Searching.{Searching}
 use Rattle.spf.proofs.Settled.{Searching-settle}
 use Rattle.spf.proofs.Taking.{Searching-drop, next_candidate, work, work-settle}

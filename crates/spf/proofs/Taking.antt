@@ -6,7 +6,7 @@ use Rattle.std.proofs.lemmas.List.Sorted.{Contains-permutation, IsPermutation-sy
 use Rattle.std.proofs.lemmas.List.Sums.{sum_by-set}
 use Rattle.area_graph.specs.Topology.{Topology, IsTopology}
 use Rattle.spf.specs.declared.queue.Candidate.{Candidate}
-use Rattle.spf.specs.Relaxation.{IsAtMost}
+use Rattle.spf.specs.steps.Relaxation.{IsAtMost}
 use Rattle.spf.specs.Candidates.{is_router_at}
 use Rattle.spf.proofs.Keys.{distance_from_key}
 use Rattle.spf.proofs.Pushing.{Contains-cons_cases, Contains-head, Contains-tail}

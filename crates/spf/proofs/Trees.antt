@@ -13,8 +13,8 @@ use Rattle.area_graph.specs.Topology.{Topology, IsTopology, IsEdge, edges_of}
 use Rattle.area_graph.proofs.MemberLemmas.{map-by_place}
 use Rattle.area_graph.proofs.EdgeLemmas.{distance-is, IsDistance-edges}
 use Rattle.area_graph.proofs.TopologyLemmas.{IsDistance-up}
-use Rattle.spf.specs.Relaxation.{Bounded, Sound, Closed}
-use Rattle.spf.specs.Search.{IsSettled}
+use Rattle.spf.specs.steps.Relaxation.{Bounded, Sound, Closed}
+use Rattle.spf.specs.steps.Search.{IsSettled}
 use Rattle.spf.specs.Distances.{Distances, AreInRange, IsTreeOf, distances_of}
 use Rattle.spf.proofs.Closing.{IsDistance-closed}
 use Rattle.spf.proofs.Reached.{Bounded-small, some_of, within_some}

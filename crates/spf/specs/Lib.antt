@@ -1,5 +1,3 @@
 pub mod Candidates
 pub mod Distances
-pub mod Relaxation
-pub mod Search
 pub mod steps

@@ -3,7 +3,7 @@
 ghost use Rattle.std.specs.Prelude.{◌≡◌, ℕ, ◌<◌, ◌≤◌, ◌+◌, ◌^◌, [], ◌∷◌, ◌++◌, length, slice_set, slice_index_or, OnOk, None, Some};
 ghost use Rattle.area_graph.specs.Topology.{IsTopology};
 ghost use Rattle.spf.specs.Candidates.{candidate_at};
-ghost use Rattle.spf.specs.Search.{PushesEdge, PushesNeighbours, SettlesOne, SettlesNew, IsSettled};
+ghost use Rattle.spf.specs.steps.Search.{PushesEdge, PushesNeighbours, SettlesOne, SettlesNew, IsSettled};
 
 use crate::distances::DistanceTable;
 use crate::queue::{Candidate, Queue};

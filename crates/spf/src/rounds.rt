@@ -5,7 +5,7 @@ ghost use Rattle.std.specs.Bool.{OnTrue, OnFalse};
 ghost use Rattle.area_graph.specs.declared.vertex.Vertex.TheVariants.{Router};
 ghost use Rattle.area_graph.specs.Topology.{Topology};
 ghost use Rattle.spf.specs.Distances.{distances_of, FaultMeans};
-ghost use Rattle.spf.specs.Relaxation.{IsAtMost, IsMoreThan, Bounded, Sound, Relaxed, IsClosedAt, Closed};
+ghost use Rattle.spf.specs.steps.Relaxation.{IsAtMost, IsMoreThan, Bounded, Sound, Relaxed, IsClosedAt, Closed};
 
 use crate::fault::SpfFault;
 use area_graph::{Graph, Vertex};

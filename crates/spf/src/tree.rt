@@ -3,7 +3,7 @@
 ghost use Rattle.std.specs.Prelude.{◌≡◌, ◌<◌, ◌^◌, length, slice_index_or, slice_get, None, IfOk, IfErr, IfSome, All};
 ghost use Rattle.area_graph.specs.declared.vertex.Vertex.TheVariants.{Router};
 ghost use Rattle.spf.specs.Distances.{IsTreeOf, FaultMeans, meter_after, tree_of};
-ghost use Rattle.spf.specs.Search.{IsSettled};
+ghost use Rattle.spf.specs.steps.Search.{IsSettled};
 
 use crate::dijkstra::settle_all;
 use crate::distances::DistanceTable;

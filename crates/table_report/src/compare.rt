@@ -5,28 +5,29 @@ ghost use Rattle.std.specs.Option.{option_copied};
 ghost use Rattle.std.specs.String.{string_bytes};
 ghost use Rattle.area_graph.specs.Rising.{rising};
 ghost use Rattle.area_routes.specs.Order.{prefix_cmp};
-ghost use Rattle.area_routes.specs.Routes.{AreSortedRoutes, nets};
+ghost use Rattle.area_routes.specs.Routes.{nets};
 ghost use Rattle.table_report.specs.Comparing.{change, changes, compare_text};
 ghost use Rattle.table_report.specs.Texts.{line_of};
 
 use crate::line::{push_line, push_rest};
-use area_routes::{Route, route_to};
+use area_routes::{Route, Routes};
 use lsa_codec::{Prefix, RouterId};
 use recalculate::Table;
 use std::alloc::{AllocError, Allocator};
 
 /// The prefixes of routes.
-fn nets_of<A: Allocator + Copy>(alloc: A, routes: &[Route<A>]) -> Result<Vec<Prefix, A>, AllocError>
+fn nets_of<A: Allocator + Copy>(alloc: A, routes: &Routes<A>) -> Result<Vec<Prefix, A>, AllocError>
     ensures { IfOk result (λ found. found.items ≡ nets routes.now) }
 {
+    let routes = routes.as_slice();
     routes.iter().map(|route| route.net).collect(alloc)
 }
 
 /// The prefixes of both lists of routes, in order, each once.
 fn all_nets<A: Allocator + Copy>(
     alloc: A,
-    before: &[Route<A>],
-    now: &[Route<A>],
+    before: &Routes<A>,
+    now: &Routes<A>,
 ) -> Result<Vec<Prefix, A>, AllocError>
     ensures { IfOk result (λ found. found.items ≡ rising prefix_cmp (nets (before.now ++ now.now))) }
 {
@@ -95,17 +96,15 @@ fn change<A: Allocator + Copy>(
 /// The lines for the prefixes at which two lists of routes differ, in order of prefix.
 fn changes<A: Allocator + Copy>(
     alloc: A,
-    before: &[Route<A>],
-    now: &[Route<A>],
+    before: &Routes<A>,
+    now: &Routes<A>,
 ) -> Result<Vec<String<A>, A>, AllocError>
-    requires before { AreSortedRoutes before.now }
-    requires now { AreSortedRoutes now.now }
     ensures { IfOk result (λ lines. map string_bytes lines.items ≡ changes before.now now.now) }
 {
     let nets = all_nets(alloc, before, now)?;
     let mut lines = Vec::new(alloc);
     for net in nets.as_slice() {
-        if let Some(line) = change(alloc, route_to(before, *net), route_to(now, *net))? {
+        if let Some(line) = change(alloc, before.route_to(*net), now.route_to(*net))? {
             lines.push(line)?;
         }
     }

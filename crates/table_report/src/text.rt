@@ -19,7 +19,7 @@ pub fn table_text<A: Allocator + Copy>(alloc: A, table: &Table<A>) -> Result<Vec
     ensures { IfOk result (λ text. text.items ≡ table_text table.now) }
 {
     let router = table.router();
-    let routes = table.routes();
+    let routes = table.routes().as_slice();
     let count = routes.len();
     let mut text = format!(in alloc; "table {router} {count}\n")?;
     for route in routes {

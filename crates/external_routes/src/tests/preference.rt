@@ -13,7 +13,7 @@ fn preferred_of(
     ways: &[WayToRouter],
 ) -> Result<Option<(EntryKind, u32, u64)>, Fail> {
     let entries = entries(alloc, ways)?;
-    match preferred(&entries, R2) {
+    match preferred(entries.as_slice(), R2) {
         Some(entry) => Ok(Some((entry.kind, entry.area.0, entry.cost))),
         None => Ok(None),
     }

@@ -4,7 +4,7 @@ ghost use Rattle.std.specs.Prelude.{◌<◌, ◌^◌};
 
 use super::databases::{Area, R1, R2, R3, TWO_AREAS, database, external, prefix};
 use super::ways::{WayTo, asbr, entries, routes, text};
-use crate::{externals, is_attached};
+use crate::externals;
 use area_routes::PathType;
 use lsa_codec::{Addr, AreaId, RouterId};
 use next_hops::Hop;
@@ -166,20 +166,6 @@ fn a_prefix_with_a_route_inside_the_as_has_none(rt: HostRuntime) -> Result<(), F
     ] {
         let ways = [way(0x0a09_0000, len, path, 100)?];
         assert_eq!(rt; found_over(rt.alloc(), &ways, 0)?.as_str(), expected);
-    }
-    Ok(())
-}
-
-#[test]
-fn attached_where_the_router_lsa_is_live(rt: HostRuntime) -> Result<(), Fail> {
-    let database = database(rt.alloc(), &[STUB, LEFT], &[])?;
-    for (area, router, expected) in [
-        (1, R1, true),
-        (2, R1, false),
-        (3, R1, false),
-        (1, R2, false),
-    ] {
-        assert_eq!(rt; is_attached(&database, AreaId(area), router), expected);
     }
     Ok(())
 }

@@ -1,10 +1,8 @@
 //! Ways inside the AS, and the text of routes.
 
-ghost use Rattle.std.specs.Prelude.{◌<◌, ◌^◌, IfOk};
-ghost use Rattle.area_routes.specs.Routes.{AreSortedRoutes};
-ghost use Rattle.area_routes.specs.Values.{EntriesBelow, RoutesBelow};
+ghost use Rattle.std.specs.Prelude.{◌<◌, ◌^◌};
 
-use area_routes::{BestWays, EntryKind, PathType, Rank, Route, RouterEntry};
+use area_routes::{BestWays, EntryKind, InsideRoutes, PathType, Rank, RouterEntries, RouterEntry, Routes};
 use lsa_codec::{Addr, AreaId, Prefix, RouterId};
 use next_hops::{Hop, HopList};
 use std::alloc::{Allocator, Global};
@@ -21,15 +19,13 @@ pub struct WayTo {
 }
 
 fn wide(cost: u32) -> u64
-    ensures { result < 2 ^ 40 }
+    ensures { result < 2 ^ 34 }
 {
     u64::from(cost)
 }
 
 /// The routes over these ways, in order of prefix.
-pub fn routes<A: Allocator + Copy>(alloc: A, ways: &[WayTo]) -> Result<Vec<Route<A>, A>, Fail>
-    ensures sorted { IfOk result (λ routes. AreSortedRoutes routes.items) }
-    ensures small { IfOk result (λ routes. RoutesBelow (2 ^ 40) routes.items) }
+pub fn routes<A: Allocator + Copy>(alloc: A, ways: &[WayTo]) -> Result<InsideRoutes<A>, Fail>
 {
     let mut best = BestWays::new(alloc);
     for way in ways {
@@ -41,7 +37,7 @@ pub fn routes<A: Allocator + Copy>(alloc: A, ways: &[WayTo]) -> Result<Vec<Route
         };
         best.admit(alloc, way.net, rank, Some(AreaId(way.area)), &way.hops)?;
     }
-    Ok(best.into_routes(alloc)?)
+    Ok(InsideRoutes::from_routes(best.into_routes(alloc)?))
 }
 
 /// A way to a router.
@@ -58,10 +54,9 @@ pub struct WayToRouter {
 pub fn entries<A: Allocator + Copy>(
     alloc: A,
     ways: &[WayToRouter],
-) -> Result<Vec<RouterEntry<A>, A>, Fail>
-    ensures { IfOk result (λ entries. EntriesBelow (2 ^ 40) entries.items) }
+) -> Result<RouterEntries<A>, Fail>
 {
-    let mut entries = Vec::new(alloc);
+    let mut entries = RouterEntries::new(alloc);
     for way in ways {
         let mut hops = HopList::new(alloc);
         hops.add(way.hop)?;
@@ -97,9 +92,9 @@ fn word(kind: PathType) -> &'static str {
 }
 
 /// The routes, a line for each: prefix, type, cost, type 2 metric, areas or a dash, next hops.
-pub fn text(alloc: Global, routes: &[Route]) -> Result<String, Fail> {
+pub fn text(alloc: Global, routes: &Routes) -> Result<String, Fail> {
     let mut text = String::new(alloc);
-    for route in routes {
+    for route in routes.as_slice() {
         let (net, kind) = (route.net, word(route.kind));
         let (cost, cost2) = (route.cost, route.cost2);
         text.push_str(&format!(in alloc; "{net} {kind} {cost} {cost2}")?)?;

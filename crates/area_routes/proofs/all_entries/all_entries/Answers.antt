@@ -1,7 +1,7 @@
 use Rattle.std.proofs.Common.{◌≡◌, ◌++◌, ◌<◌, ◌^◌, take, sym, ap, subst, ◌∙◌}
 use Rattle.area_routes.specs.Values.{AreCheap, EntriesBelow, EntryValue}
 use Rattle.area_routes.proofs.Bounds.{All-flat_map, All-taken}
-use Rattle.area_routes.proofs.Loops.{adds_step, flat_map_adds}
+use Rattle.area_routes.proofs.AddsLemmas.{adds_step, flat_map_adds}
 use Rattle.area_routes.proofs.all_entries.all_entries.Goals as goal
 
 pub loop-area-preserved : goal.loop-area-preserved

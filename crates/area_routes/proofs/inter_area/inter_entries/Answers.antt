@@ -11,7 +11,7 @@ use Rattle.area_routes.specs.Inter.{asbr_candidate, asbr_entry}
 use Rattle.area_routes.specs.Order.{router_cmp}
 use Rattle.area_routes.specs.Values.{EntriesBelow}
 use Rattle.area_routes.proofs.Costs.{asbrs_below, entries_below}
-use Rattle.area_routes.proofs.Loops.{filter_map_adds}
+use Rattle.area_routes.proofs.AddsLemmas.{filter_map_adds}
 use Rattle.area_routes.proofs.inter_area.inter_entries.Goals as goal
 
 pub loop-lsa-preserved : goal.loop-lsa-preserved
@@ -29,7 +29,7 @@ returns-clause-entries g c =
     let all : map (λ lsa. lsa.now) c.loop-lsa.yielded ≡ c.args.lsas = seen.0 in
     let f = asbr_candidate c.args.router c.args.area.now in
     let P : List (List ℕ) → Type 0 = λ lsas. Gathers router_cmp (filter_map f lsas) c.loop-lsa.ways in
-    let ways = c.in_ok-into_list.ensures (filter_map f c.args.lsas) (subst P all c.loop-lsa.invariant) in
+    let ways = c.in_ok-into_list.ensures.ways (filter_map f c.args.lsas) (subst P all c.loop-lsa.invariant) in
     IfOk-weaker c.entries.result _ _
     (λ x h. h ∙ ap (λ (a : AreaId). map (asbr_entry a) c.in_ok-into_list.field-0.items) c.area.ensures ∙ ap (map (asbr_entry c.args.area.now.area)) ways)
     c.entries.ensures
@@ -38,7 +38,7 @@ pub returns-clause-small : goal.returns-clause-small
 returns-clause-small g c =
     let lsas = map (λ lsa. lsa.now) c.loop-lsa.yielded in
     let cs = filter_map (asbr_candidate c.args.router c.args.area.now) lsas in
-    let ways = c.in_ok-into_list.ensures cs c.loop-lsa.invariant in
+    let ways = c.in_ok-into_list.ensures.ways cs c.loop-lsa.invariant in
     IfOk-weaker c.entries.result _ _
     (λ x h. subst (EntriesBelow (2 ^ 34)) (sym (h ∙ ap (map (asbr_entry c.area.result)) ways))
     (entries_below (2 ^ 34) c.area.result cs (asbrs_below c.args.router c.args.area.now c.requires lsas)))

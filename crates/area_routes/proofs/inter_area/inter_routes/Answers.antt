@@ -2,14 +2,13 @@ use Rattle.std.proofs.Common.{◌≡◌, ℕ, ◌^◌, [], ◌∷◌, List, map,
 use Rattle.std.specs.List.{filter_map}
 use Rattle.std.proofs.lemmas.Iterator.Consumers.{YieldsList-end, YieldsList-from_first}
 use Rattle.std.proofs.lemmas.List.{map-append}
-use Rattle.std.proofs.lemmas.Result.{IfOk-weaker}
 use Rattle.lsa_codec.specs.Prefix.{Net}
 use Rattle.area_routes.specs.Best.{Gathers}
 use Rattle.area_routes.specs.Candidate.{Candidate}
 use Rattle.area_routes.specs.Inter.{network_candidate}
 use Rattle.area_routes.specs.Order.{prefix_cmp}
 use Rattle.area_routes.proofs.Costs.{networks_below}
-use Rattle.area_routes.proofs.Loops.{filter_map_adds}
+use Rattle.area_routes.proofs.AddsLemmas.{filter_map_adds}
 use Rattle.area_routes.proofs.inter_area.inter_routes.Goals as goal
 
 pub loop-lsa-preserved : goal.loop-lsa-preserved
@@ -20,22 +19,17 @@ loop-lsa-preserved g c =
     subst P (sym (ap (filter_map f) (map-append (λ lsa. lsa.now) c.loop-lsa.yielded (c.in-Some.lsa ∷ [])) ∙ (filter_map_adds f).push so_far c.in-Some.lsa.now))
     (c.in_ok-admit_network.ensures (filter_map f so_far) c.loop-lsa.invariant)
 
-pub returns-clause-routes : goal.returns-clause-routes
-returns-clause-routes g c =
-    let seen = YieldsList-end (YieldsList-from_first (λ lsa. lsa.now) (λ lsas. lsas) c.args.lsas c.into_iter-lsa-iterator.ensures.into_iter_gives)
-    c.loop-lsa.yielded _ c.loop-lsa.yielded_by _ _ c.in-None.is c.next.ensures.steps in
-    let all : map (λ lsa. lsa.now) c.loop-lsa.yielded ≡ c.args.lsas = seen.0 in
-    let P : List (List ℕ) → Type 0 = λ lsas. Gathers prefix_cmp (filter_map (network_candidate c.args.router c.args.area.now c.args.intra.now) lsas) c.loop-lsa.ways in
-    let at = subst P all c.loop-lsa.invariant in
-    IfOk-weaker c.into_routes.result _ _ (λ x h. h (filter_map (network_candidate c.args.router c.args.area.now c.args.intra.now) c.args.lsas) at) c.into_routes.ensures.routes
-
-pub returns-clause-sorted : goal.returns-clause-sorted
-returns-clause-sorted g c =
-    let cs = filter_map (network_candidate c.args.router c.args.area.now c.args.intra.now) (map (λ lsa. lsa.now) c.loop-lsa.yielded) in
-    IfOk-weaker c.into_routes.result _ _ (λ x h. h cs c.loop-lsa.invariant) c.into_routes.ensures.sorted
-
-pub returns-clause-small : goal.returns-clause-small
-returns-clause-small g c =
+pub from_routes-requires : goal.from_routes-requires
+from_routes-requires g c =
     let lsas = map (λ lsa. lsa.now) c.loop-lsa.yielded in
     let cs = filter_map (network_candidate c.args.router c.args.area.now c.args.intra.now) lsas in
-    IfOk-weaker c.into_routes.result _ _ (λ x h. h (2 ^ 34) cs c.loop-lsa.invariant (networks_below c.args.router c.args.area.now c.requires.cheap c.args.intra.now lsas)) c.into_routes.ensures.small
+    let below = networks_below c.args.router c.args.area.now c.requires c.args.intra.now lsas in
+    c.in_ok-into_routes.ensures.small (2 ^ 34) cs c.loop-lsa.invariant below
+
+pub returns : goal.returns
+returns g c =
+    let seen = YieldsList-end (YieldsList-from_first (λ lsa. lsa.now) (λ lsas. lsas) c.args.lsas c.into_iter-lsa-iterator.ensures.into_iter_gives)
+    c.loop-lsa.yielded _ c.loop-lsa.yielded_by _ _ c.in-None.is c.next.ensures.steps in
+    let f = network_candidate c.args.router c.args.area.now c.args.intra.now in
+    let P : List (List ℕ) → Type 0 = λ lsas. Gathers prefix_cmp (filter_map f lsas) c.loop-lsa.ways in
+    c.from_routes.ensures ∙ c.in_ok-into_routes.ensures.routes (filter_map f c.args.lsas) (subst P seen.0 c.loop-lsa.invariant)

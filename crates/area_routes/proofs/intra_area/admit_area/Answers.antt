@@ -4,7 +4,7 @@ use Rattle.area_routes.specs.Best.{Gathers}
 use Rattle.area_routes.specs.Intra.{intra_candidate}
 use Rattle.area_routes.specs.Order.{prefix_cmp}
 use Rattle.area_routes.specs.Values.{OfferValue}
-use Rattle.area_routes.proofs.Loops.{adds_all, adds_more, map_adds}
+use Rattle.area_routes.proofs.AddsLemmas.{adds_all, adds_more, map_adds}
 use Rattle.area_routes.proofs.intra_area.admit_area.Goals as goal
 
 pub loop-offer-preserved : goal.loop-offer-preserved

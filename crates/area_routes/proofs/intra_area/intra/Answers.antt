@@ -1,16 +1,16 @@
-use Rattle.std.proofs.Common.{◌≡◌, ◌<◌, ◌^◌, ℕ, List, take, subst}
+use Rattle.std.proofs.Common.{◌≡◌, ◌<◌, ◌^◌, ℕ, List, take, subst, sym, ◌∙◌}
 use Rattle.std.specs.List.{All, flat_map}
 use Rattle.std.proofs.lemmas.List.{take_all}
-use Rattle.std.proofs.lemmas.Result.{IfOk-weaker}
 use Rattle.std.proofs.lemmas.List.Elements.{All-map}
 use Rattle.lsa_codec.specs.Prefix.{Net}
 use Rattle.area_routes.specs.Best.{Gathers}
 use Rattle.area_routes.specs.Candidate.{Candidate}
 use Rattle.area_routes.specs.Intra.{intra_candidate, intra_candidates, intra_of}
 use Rattle.area_routes.specs.Order.{prefix_cmp}
-use Rattle.area_routes.specs.Values.{AreaResultValue, AreCheap}
+use Rattle.area_routes.specs.Values.{AreaResultValue, AreCheap, RoutesBelow}
 use Rattle.area_routes.proofs.Bounds.{All-flat_map, All-taken}
-use Rattle.area_routes.proofs.Loops.{adds_step, flat_map_adds}
+use Rattle.area_routes.proofs.Made.{wider_routes}
+use Rattle.area_routes.proofs.AddsLemmas.{adds_step, flat_map_adds}
 use Rattle.area_routes.proofs.intra_area.intra.Goals as goal
 
 pub loop-area-preserved : goal.loop-area-preserved
@@ -28,22 +28,23 @@ whole results i P all p = subst P all p
 cheap : (results : List AreaResultValue) → All AreCheap results → All (λ c. c.rank.cost < 2 ^ 33) (flat_map intra_candidates results)
 cheap results a = All-flat_map (λ (c : Candidate Net). c.rank.cost < 2 ^ 33) AreCheap intra_candidates (λ r h. All-map (λ (c : Candidate Net). c.rank.cost < 2 ^ 33) (intra_candidate r.area) r.offers h.offers) results a
 
+pub from_routes-requires : goal.from_routes-requires
+from_routes-requires g c =
+    let all = take_all c.loop-area.area-index c.args.results.now c.loop-area-test.false in
+    let at = whole c.args.results.now c.loop-area.area-index (λ rs. Gathers prefix_cmp (flat_map intra_candidates rs) c.loop-area.ways) all c.loop-area.invariant.0 in
+    let below = cheap c.args.results.now (whole c.args.results.now c.loop-area.area-index (λ rs. All AreCheap rs) all c.loop-area.invariant.1) in
+    wider_routes c.in_ok-into_routes.field-0 (c.in_ok-into_routes.ensures.small (2 ^ 33) (flat_map intra_candidates c.args.results.now) at below)
+
 pub returns-clause-routes : goal.returns-clause-routes
 unfolding intra_of
 returns-clause-routes g c =
     let all = take_all c.loop-area.area-index c.args.results.now c.loop-area-test.false in
     let at = whole c.args.results.now c.loop-area.area-index (λ rs. Gathers prefix_cmp (flat_map intra_candidates rs) c.loop-area.ways) all c.loop-area.invariant.0 in
-    IfOk-weaker c.into_routes.result _ _ (λ x h. h (flat_map intra_candidates c.args.results.now) at) c.into_routes.ensures.routes
-
-pub returns-clause-sorted : goal.returns-clause-sorted
-returns-clause-sorted g c =
-    let all = take_all c.loop-area.area-index c.args.results.now c.loop-area-test.false in
-    let at = whole c.args.results.now c.loop-area.area-index (λ rs. Gathers prefix_cmp (flat_map intra_candidates rs) c.loop-area.ways) all c.loop-area.invariant.0 in
-    IfOk-weaker c.into_routes.result _ _ (λ x h. h (flat_map intra_candidates c.args.results.now) at) c.into_routes.ensures.sorted
+    c.from_routes.ensures ∙ c.in_ok-into_routes.ensures.routes (flat_map intra_candidates c.args.results.now) at
 
 pub returns-clause-small : goal.returns-clause-small
 returns-clause-small g c =
     let all = take_all c.loop-area.area-index c.args.results.now c.loop-area-test.false in
     let at = whole c.args.results.now c.loop-area.area-index (λ rs. Gathers prefix_cmp (flat_map intra_candidates rs) c.loop-area.ways) all c.loop-area.invariant.0 in
     let below = cheap c.args.results.now (whole c.args.results.now c.loop-area.area-index (λ rs. All AreCheap rs) all c.loop-area.invariant.1) in
-    IfOk-weaker c.into_routes.result _ _ (λ x h. h (2 ^ 33) (flat_map intra_candidates c.args.results.now) at below) c.into_routes.ensures.small
+    subst (RoutesBelow (2 ^ 33)) (sym c.from_routes.ensures) (c.in_ok-into_routes.ensures.small (2 ^ 33) (flat_map intra_candidates c.args.results.now) at below)

@@ -1,4 +1,4 @@
-use Rattle.area_routes.proofs.Orders.{prefix_exact, prefix_total, rank_exact, rank_total}
+use Rattle.area_routes.proofs.OrderLemmas.{prefix_exact, prefix_total, rank_exact, rank_total}
 use Rattle.area_routes.proofs.laws.route_orders.Goals as goal
 
 pub returns-clause-total : goal.returns-clause-total

@@ -1,5 +1,5 @@
 use Rattle.area_routes.specs.Stubs.{stub_offer}
-use Rattle.area_routes.proofs.Loops.{filter_map_adds}
+use Rattle.area_routes.proofs.AddsLemmas.{filter_map_adds}
 use Rattle.area_routes.proofs.Gathering.{offers_push}
 use Rattle.area_routes.proofs.stubs.add_stubs_of.Goals as goal
 

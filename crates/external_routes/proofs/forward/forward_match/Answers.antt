@@ -4,7 +4,7 @@ use Rattle.external_routes.proofs.Longest.{LeftOut, left_out_all, left_out_found
 use Rattle.external_routes.proofs.forward.forward_match.Goals as goal
 
 pub loop-shorter-init : goal.loop-shorter-init
-loop-shorter-init g c = left_out_none c.args.addr c.args.routes.now c.args.marks.now c.requires.marked
+loop-shorter-init g c = left_out_none c.args.addr c.args.routes.now c.args.marks.now c.requires
 
 pub loop-shorter-preserved : goal.loop-shorter-preserved
 loop-shorter-preserved g c =

@@ -4,7 +4,7 @@ use Rattle.std.proofs.lemmas.Iterator.Consumers.{YieldsList-end, YieldsList-from
 use Rattle.std.proofs.lemmas.List.{map-append}
 use Rattle.area_routes.specs.Best.{Gathers}
 use Rattle.area_routes.specs.Order.{prefix_cmp}
-use Rattle.area_routes.proofs.Loops.{filter_map_adds}
+use Rattle.area_routes.proofs.AddsLemmas.{filter_map_adds}
 use Rattle.external_routes.specs.External.{external_candidate}
 use Rattle.external_routes.proofs.routes.ways_of.Goals as goal
 

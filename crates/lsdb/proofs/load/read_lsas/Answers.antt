@@ -27,11 +27,15 @@ loop-preserved g c =
     let seen = full c.loop.places.items in
     let told = inserted c.loop.keys seen c.in_ok-lsa.lsa c.key.result c.in_ok-insert.field-0 c.loop.invariant.keys c.key.ensures c.in_ok-insert.ensures.added in
     let new = not-true (has_key_of seen c.in_ok-lsa.lsa) (sym told ∙ c.if-not-branch.false) in
-    let pushed : full c.push.new.self.items ≡ seen ++ c.in_ok-lsa.lsa ∷ [] = ap full c.in_ok-push.ensures.items ∙ full-push c.loop.places.items c.in_ok-lsa.lsa in
+    let pushed : full c.push.new.self.items ≡ seen ++ c.in_ok-lsa.lsa ∷ [] =
+        ap full c.in_ok-push.ensures.items ∙ full-push c.loop.places.items c.in_ok-lsa.lsa in
     record {
-      reading = rw pushed (lsas_goes_on (option_map head_of c.args.area) c.args.count c.loop.counter seen (at_of c.loop.at) (at_of c.in_ok-lsa.after) c.in_ok-lsa.lsa _ c.loop-test.true c.in_ok-lsa.ensures new c.loop.invariant.reading);
-      keys = rw pushed (keys_push c.loop.keys c.insert.new.self seen c.in_ok-lsa.lsa c.key.result c.loop.invariant.keys c.key.ensures c.in_ok-insert.ensures.updates);
+      reading =
+          rw pushed (lsas_goes_on (option_map head_of c.args.area) c.args.count c.loop.counter seen (at_of c.loop.at) (at_of c.in_ok-lsa.after) c.in_ok-lsa.lsa _ c.loop-test.true c.in_ok-lsa.ensures new c.loop.invariant.reading);
+      keys =
+          rw pushed (keys_push c.loop.keys c.insert.new.self seen c.in_ok-lsa.lsa c.key.result c.loop.invariant.keys c.key.ensures c.in_ok-insert.ensures.updates);
     }
 
 pub returns : goal.returns
-returns g c = lsas_done (option_map head_of c.args.area) c.args.count c.loop.counter (full c.loop.places.items) (at_of c.loop.at) _ c.loop-test.false c.loop.invariant.reading
+returns g c =
+    lsas_done (option_map head_of c.args.area) c.args.count c.loop.counter (full c.loop.places.items) (at_of c.loop.at) _ c.loop-test.false c.loop.invariant.reading

@@ -2,7 +2,7 @@ use Rattle.std.proofs.Common.{◌≡◌, ℕ, ◌+◌, ◌<◌, ◌≤◌, List,
 use Rattle.std.proofs.lemmas.List.{with_items_is}
 use Rattle.next_hops.specs.declared.hop.Hop.{Hop}
 use Rattle.next_hops.specs.FirstHops.{hops_at}
-use Rattle.next_hops.specs.Passing.{Grows, IsPassedFrom}
+use Rattle.next_hops.specs.steps.Passing.{Grows, IsPassedFrom}
 use Rattle.next_hops.proofs.Handing.{HandedOn, HandedOn-next, AreHopsOf-handed}
 use Rattle.next_hops.proofs.HopsOf.{table-is}
 use Rattle.next_hops.proofs.hops.pass_all.Goals as goal

@@ -1,7 +1,7 @@
 use Rattle.std.proofs.Common.{◌≡◌, ℕ, inl, inr, ⊎_elim}
 use Rattle.std.proofs.lemmas.Result.{on_ok_weaker}
 use Rattle.next_hops.specs.declared.hop.Hop.{Hop}
-use Rattle.next_hops.specs.Passing.{IsTight, IsPassed, IsExtended, arc_of, first_at}
+use Rattle.next_hops.specs.steps.Passing.{IsTight, IsPassed, IsExtended, arc_of, first_at}
 use Rattle.next_hops.proofs.Growing.{Grows-then}
 use Rattle.next_hops.proofs.passing.pass_edge.Goals as goal
 

@@ -5,7 +5,7 @@ use Rattle.area_graph.specs.Rising.{rising}
 use Rattle.next_hops.specs.declared.hop.Hop.{Hop}
 use Rattle.next_hops.specs.Hop.{hop_cmp}
 use Rattle.next_hops.specs.FirstHops.{hops_at}
-use Rattle.next_hops.specs.Passing.{first_at}
+use Rattle.next_hops.specs.steps.Passing.{first_at}
 use Rattle.next_hops.proofs.Growing.{Grows-joined, Grows-same, Contains-one, one-Contains}
 use Rattle.next_hops.proofs.passing.pass_first.Goals as goal
 

@@ -5,7 +5,7 @@ use Rattle.area_graph.specs.Rising.{rising}
 use Rattle.next_hops.specs.declared.hop.Hop.{Hop}
 use Rattle.next_hops.specs.Hop.{hop_cmp, extended}
 use Rattle.next_hops.specs.FirstHops.{hops_at}
-use Rattle.next_hops.specs.Passing.{IsExtended}
+use Rattle.next_hops.specs.steps.Passing.{IsExtended}
 use Rattle.next_hops.proofs.Growing.{Grows-joined, Grows-same, IsExtended-map, map-IsExtended}
 use Rattle.next_hops.proofs.passing.pass_hops.Goals as goal
 

@@ -4,7 +4,7 @@ use Rattle.area_graph.specs.declared.edge.Edge.{Edge}
 use Rattle.area_graph.specs.Topology.{row_at}
 use Rattle.next_hops.specs.declared.hop.Hop.{Hop}
 use Rattle.next_hops.specs.FirstHops.{hops_at}
-use Rattle.next_hops.specs.Passing.{Grows, IsPassed, arc_of}
+use Rattle.next_hops.specs.steps.Passing.{Grows, IsPassed, arc_of}
 use Rattle.next_hops.proofs.Growing.{Grows-then, IsPassedOver, IsPassedOver-push, IsPassedOver-pushed}
 use Rattle.next_hops.proofs.passing.pass_on.Goals as goal
 

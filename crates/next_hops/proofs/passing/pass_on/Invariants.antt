@@ -1,7 +1,7 @@
 use Rattle.std.proofs.Common.{◌≡◌, take}
 use Rattle.std.specs.List.{Contains}
 use Rattle.area_graph.specs.declared.edge.Edge.{Edge}
-use Rattle.next_hops.specs.Passing.{Grows, IsPassed, arc_of}
+use Rattle.next_hops.specs.steps.Passing.{Grows, IsPassed, arc_of}
 use Rattle.next_hops.proofs.passing.pass_on.Given as goal
 
 abbrev pub invariant-loop-edge : goal.invariant-loop-edge

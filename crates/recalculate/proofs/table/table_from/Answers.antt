@@ -19,6 +19,6 @@ returns-in_err-routes-clause-fault g c =
 
 pub returns-clause-table : goal.returns-clause-table
 returns-clause-table g c =
-    table_is (lists_of c.args.database.now) c.args.router c.args.results.now c.in_ok-routes.routes.items c.requires
+    table_is (lists_of c.args.database.now) c.args.router c.args.results.now c.in_ok-routes.routes c.requires
     (full_list c.args.results.now (λ none. true≢false (sym (eq-eqb (length c.args.results.now) 0 none) ∙ (sym c.is_empty.ensures ∙ c.if-is_empty.false))))
-    c.in_ok-routes.ensures.routes
+    c.in_ok-routes.ensures

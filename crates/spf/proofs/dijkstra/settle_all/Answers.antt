@@ -1,7 +1,7 @@
 use Rattle.std.proofs.Common.{ℕ, ◌*◌, ◌≤◌, List, [], ◌∷◌, length, sym, subst, arith}
 use Rattle.std.specs.List.Sorted.{IsPermutation}
 use Rattle.spf.specs.declared.queue.Candidate.{Candidate}
-use Rattle.spf.specs.Relaxation.{reached_count}
+use Rattle.spf.specs.steps.Relaxation.{reached_count}
 use Rattle.spf.specs.Candidates.{candidate_at}
 use Rattle.spf.proofs.Reached.{reached_count-le}
 use Rattle.spf.proofs.Searching.{Searching, Searching-start, IsSettled-empty}

@@ -1,7 +1,7 @@
 use Rattle.std.proofs.Common.{◌≡◌, ◌∙◌, List, ℕ, Option, length, subst, sym, ap}
 use Rattle.std.proofs.lemmas.List.{with_items_is}
 use Rattle.area_graph.specs.declared.vertex.Vertex.TheVariants.{Router}
-use Rattle.spf.specs.Relaxation.{Sound}
+use Rattle.spf.specs.steps.Relaxation.{Sound}
 use Rattle.spf.proofs.Trees.{distances-from_closed}
 use Rattle.spf.proofs.rounds.distances_by_rounds.Goals as goal
 

@@ -1,5 +1,5 @@
 use Rattle.std.proofs.Common.{◌≡◌, ℕ, length}
-use Rattle.spf.specs.Relaxation.{Bounded, Sound, potential}
+use Rattle.spf.specs.steps.Relaxation.{Bounded, Sound, potential}
 use Rattle.spf.proofs.rounds.relax_all.Given as goal
 
 abbrev pub invariant-loop : goal.invariant-loop

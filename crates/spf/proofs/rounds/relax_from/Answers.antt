@@ -5,7 +5,7 @@ use Rattle.std.proofs.lemmas.List.Elements.{All-more}
 use Rattle.std.proofs.lemmas.List.{take_all}
 use Rattle.area_graph.specs.declared.edge.Edge.{Edge}
 use Rattle.area_graph.specs.Topology.{IsArc}
-use Rattle.spf.specs.Relaxation.{IsAtMost, IsMoreThan, Relaxed}
+use Rattle.spf.specs.steps.Relaxation.{IsAtMost, IsMoreThan, Relaxed}
 use Rattle.spf.proofs.Closing.{IsArc-row, arc_from, IsClosedAt-row}
 use Rattle.spf.proofs.Relaxing.{Relaxed-more, Relaxed-improve, at_stays, OnFalse-from}
 use Rattle.spf.proofs.rounds.relax_from.Goals as goal

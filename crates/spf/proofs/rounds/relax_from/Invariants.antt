@@ -1,7 +1,7 @@
 use Rattle.std.proofs.Common.{◌≡◌, ◌+◌, get_or, take, false, Some, None}
 use Rattle.std.specs.List.{All}
 use Rattle.area_graph.specs.declared.edge.Edge.{Edge}
-use Rattle.spf.specs.Relaxation.{IsAtMost, Relaxed}
+use Rattle.spf.specs.steps.Relaxation.{IsAtMost, Relaxed}
 use Rattle.spf.proofs.rounds.relax_from.Given as goal
 
 -- the edges so far led to no less distance, or something changed

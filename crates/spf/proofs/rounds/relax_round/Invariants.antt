@@ -1,5 +1,5 @@
 use Rattle.std.proofs.Common.{◌≡◌, ℕ, ◌<◌, false}
-use Rattle.spf.specs.Relaxation.{IsClosedAt, Relaxed}
+use Rattle.spf.specs.steps.Relaxation.{IsClosedAt, Relaxed}
 use Rattle.spf.proofs.rounds.relax_round.Given as goal
 
 -- the vertices so far led to no less distance, or something changed

@@ -3,8 +3,8 @@ use Rattle.std.specs.Cmp.{unsigned_ties}
 use Rattle.std.proofs.lemmas.List.Filters.{dedup_is}
 use Rattle.area_graph.specs.Rising.{rising}
 use Rattle.area_routes.specs.Order.{area_cmp, AreSortedAreas}
-use Rattle.area_routes.proofs.Orders.{area_exact, area_total}
-use Rattle.area_routes.proofs.Rising.{dedup_rising, sorted_rising}
+use Rattle.area_routes.proofs.OrderLemmas.{area_exact, area_total}
+use Rattle.area_routes.proofs.RisingLemmas.{dedup_rising, sorted_rising}
 use Rattle.area_routes.proofs.areas.AreaList.add.Goals as goal
 
 pub returns-clause-added : goal.returns-clause-added

@@ -5,15 +5,12 @@ use Rattle.area_routes.specs.Candidate.{Candidate}
 use Rattle.external_routes.proofs.tests.ways.routes.Goals as goal
 
 pub loop-way-init : goal.loop-way-init
-loop-way-init g c = ([], c.new-best.ensures, All-nil (λ (x : Candidate Net). x.rank.cost < 2 ^ 40))
+loop-way-init g c = ([], c.new-best.ensures, All-nil (λ (x : Candidate Net). x.rank.cost < 2 ^ 34))
 
 pub loop-way-preserved : goal.loop-way-preserved
 loop-way-preserved g c =
     let cs = c.loop-way.invariant.0 in
-    (_, c.in_ok-admit.ensures cs c.loop-way.invariant.1, All-push (λ (x : Candidate Net). x.rank.cost < 2 ^ 40) cs _ c.loop-way.invariant.2 c.wide.ensures)
+    (_, c.in_ok-admit.ensures cs c.loop-way.invariant.1, All-push (λ (x : Candidate Net). x.rank.cost < 2 ^ 34) cs _ c.loop-way.invariant.2 c.wide.ensures)
 
-pub returns-clause-sorted : goal.returns-clause-sorted
-returns-clause-sorted g c = c.in_ok-into_routes.ensures.sorted c.loop-way.invariant.0 c.loop-way.invariant.1
-
-pub returns-clause-small : goal.returns-clause-small
-returns-clause-small g c = c.in_ok-into_routes.ensures.small (2 ^ 40) c.loop-way.invariant.0 c.loop-way.invariant.1 c.loop-way.invariant.2
+pub from_routes-requires : goal.from_routes-requires
+from_routes-requires g c = c.in_ok-into_routes.ensures.small (2 ^ 34) c.loop-way.invariant.0 c.loop-way.invariant.1 c.loop-way.invariant.2

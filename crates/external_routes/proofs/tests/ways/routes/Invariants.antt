@@ -8,4 +8,4 @@ use Rattle.external_routes.proofs.tests.ways.routes.Given as goal
 
 -- the ways gather some candidates, which are cheap
 abbrev pub invariant-loop-way : goal.invariant-loop-way
-invariant-loop-way g l = (cs : List (Candidate Net)) × Gathers prefix_cmp cs l.best × All (λ c. c.rank.cost < 2 ^ 40) cs
+invariant-loop-way g l = (cs : List (Candidate Net)) × Gathers prefix_cmp cs l.best × All (λ c. c.rank.cost < 2 ^ 34) cs

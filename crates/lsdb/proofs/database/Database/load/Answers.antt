@@ -7,7 +7,8 @@ use Rattle.lsdb.proofs.DumpText.{loaded_takes, text_size}
 use Rattle.lsdb.proofs.database.Database.load.Goals as goal
 
 pub of_sections-requires-clause-sound : goal.of_sections-requires-clause-sound
-of_sections-requires-clause-sound g c = (loaded_takes c.args.bytes.now (lists_of (places_of c.in-Ok.sections.items)) (λ i. omega (arith, c.type_inv.bytes i)) c.in-Ok.ensures).0
+of_sections-requires-clause-sound g c =
+    (loaded_takes c.args.bytes.now (lists_of (places_of c.in-Ok.sections.items)) (λ i. omega (arith, c.type_inv.bytes i)) c.in-Ok.ensures).0
 
 pub of_sections-requires-clause-octets : goal.of_sections-requires-clause-octets
 of_sections-requires-clause-octets g c =

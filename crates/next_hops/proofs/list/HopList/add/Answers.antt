@@ -3,7 +3,7 @@ use Rattle.std.specs.List.{insert}
 use Rattle.area_graph.specs.Rising.{rising}
 use Rattle.next_hops.specs.declared.hop.Hop.{Hop}
 use Rattle.next_hops.specs.Hop.{hop_cmp, IsSortedHops}
-use Rattle.next_hops.specs.Storage.{stored}
+use Rattle.next_hops.specs.steps.Storage.{stored}
 use Rattle.next_hops.proofs.Inserted.{IsSortedHops-rising}
 use Rattle.next_hops.proofs.list.HopList.add.Goals as goal
 

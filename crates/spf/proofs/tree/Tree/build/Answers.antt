@@ -1,5 +1,5 @@
 use Rattle.area_graph.specs.declared.vertex.Vertex.TheVariants.{Router}
-use Rattle.spf.specs.Search.{IsSettled}
+use Rattle.spf.specs.steps.Search.{IsSettled}
 use Rattle.spf.proofs.Trees.{IsTreeOf-settled}
 use Rattle.spf.proofs.WholeTree.{tree-is}
 use Rattle.spf.proofs.tree.Tree.build.Goals as goal

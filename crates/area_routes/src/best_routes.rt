@@ -1,0 +1,59 @@
+//! Routes by the best ways.
+
+ghost use Rattle.std.specs.Prelude.{◌≡◌, ◌<◌, ℕ, List, IfOk, All, map};
+ghost use Rattle.lsa_codec.specs.Prefix.{Net};
+ghost use Rattle.area_routes.specs.Best.{Gathers};
+ghost use Rattle.area_routes.specs.Candidate.{Candidate};
+ghost use Rattle.area_routes.specs.Order.{prefix_cmp};
+ghost use Rattle.area_routes.specs.Routes.{route_of, routes_of};
+ghost use Rattle.area_routes.specs.Values.{RoutesBelow};
+
+use crate::best::BestWays;
+use crate::route::Route;
+use crate::route_list::Routes;
+use crate::way::Way;
+use lsa_codec::Prefix;
+use std::alloc::{AllocError, Allocator};
+
+impl<A: Allocator + Copy> BestWays<Prefix, A> {
+    /// The routes by these ways, one for each. No route costs more than each candidate.
+    ///
+    /// # Errors
+    ///
+    /// Memory ran out.
+    pub fn into_routes(self, alloc: A) -> Result<Routes<A>, AllocError>
+        ensures routes { IfOk result (λ routes. (cs : List (Candidate Net))
+            → Gathers prefix_cmp cs self → routes ≡ routes_of cs) }
+        ensures small { IfOk result (λ routes. (bound : ℕ) (cs : List (Candidate Net)) → Gathers prefix_cmp cs self
+            → All (λ c. c.rank.cost < bound) cs → RoutesBelow bound routes) }
+    {
+        let ways = self.into_list(alloc)?;
+        Ok(Routes::from_sorted(routes(alloc, ways)?))
+    }
+}
+
+/// The route to a prefix by the best way.
+fn route<A: Allocator + Copy>(net: Prefix, way: Way<A>) -> Route<A>
+    ensures { result ≡ route_of (net, way) }
+{
+    Route {
+        net,
+        kind: way.rank.path,
+        areas: way.areas,
+        cost: way.rank.cost,
+        cost2: way.rank.cost2,
+        hops: way.hops,
+    }
+}
+
+/// Such a route for each way.
+fn routes<A: Allocator + Copy>(
+    alloc: A,
+    ways: Vec<(Prefix, Way<A>), A>,
+) -> Result<Vec<Route<A>, A>, AllocError>
+    ensures { IfOk result (λ routes. routes.items ≡ map route_of ways.items) }
+{
+    ways.into_iter()
+        .map(|(net, way)| route(net, way))
+        .collect(alloc)
+}

@@ -1,5 +1,0 @@
-use Rattle.external_routes.proofs.Vertices.{attached_vertex}
-use Rattle.external_routes.proofs.laws.attached_routers_are_vertices.Goals as goal
-
-pub returns : goal.returns
-returns c = attached_vertex
