@@ -102,9 +102,9 @@ module _ (db : Lists) (router : RouterId) (i : ℕ) (area : AreaHead) (here : sl
       within = λ a r h. keeps a r (so_far.within a r h);
       ahead = λ j a le at. others (id_of a) (ids_apart db i j area a sound (omega (arith, le)) here at) router ∙ so_far.ahead j a (omega (arith, le)) at;
       grown = ap (areas_without_tree next router) more_areas
-        ∙ filter-append (λ a. not (next (id_of a) router)) (attached_among db router (take i (areas_of db))) (area ∷ [])
-        ∙ ap (λ xs. xs ++ cond (not (next (id_of area) router)) (area ∷ []) []) (none_lacks now next router keeps (attached_among db router (take i (areas_of db))) so_far.grown)
-        ∙ ap (λ b. cond (not b) (area ∷ []) []) has;
+          ∙ filter-append (λ a. not (next (id_of a) router)) (attached_among db router (take i (areas_of db))) (area ∷ [])
+          ∙ ap (λ xs. xs ++ cond (not (next (id_of area) router)) (area ∷ []) []) (none_lacks now next router keeps (attached_among db router (take i (areas_of db))) so_far.grown)
+          ∙ ap (λ b. cond (not b) (area ∷ []) []) has;
     }
 
     -- it lacked its tree from the first, or not

@@ -36,8 +36,10 @@ told_at (a ∷ areas) area router = by (eq_by_cmp area_cmp area a.0) (told_at ar
   where
     any_of : List RouterId → Bool
     any_of routers = list_any (eq_by_cmp router_cmp router) routers
+
     has : AreaTreesValue → Bool
     has kept = has_tree kept router
+
     by : (b : Bool) → is_kept (routers_of areas) area router ≡ trees_in areas area router
         → option_map_or any_of (cond b (Some (keys_of a.1.trees)) (lookup (eq_by_cmp area_cmp area) (routers_of areas))) false
         ≡ option_map_or has (cond b (Some a.1) (lookup (eq_by_cmp area_cmp area) areas)) false
@@ -75,6 +77,7 @@ module _ (db after : Lists) (is_touched : AreaId → Bool) (stay : (area : AreaI
       keeps b e =
           lookup-filter-keys (eq_by_cmp area_cmp area) (λ a. not (is_touched a)) (not b)
           (λ a same. ap (λ x. not (is_touched x)) (sym (area_exact area a ((Equal-is (area_cmp area a)).0 same))) ∙ ap not e) areas
+
       by : (b : Bool) → is_touched area ≡ b → IfSome (trees_at (untouched is_touched areas) area) (λ kept. IsGraphOf (lsas_of (Area area) after) kept.graph)
       by true e = subst (λ o. IfSome o (λ kept. IsGraphOf (lsas_of (Area area) after) kept.graph)) (sym (keeps true e)) tt
       by false e = subst (λ o. IfSome o (λ kept. IsGraphOf (lsas_of (Area area) after) kept.graph)) (sym (keeps false e)) (of_area area (trees_at areas area) e (all area))

@@ -189,7 +189,9 @@ impl<A: Allocator + Copy> Planner<A> {
     {
         let database = self.study.database();
         let alloc = database.alloc();
-        let results = self.trees.results_of(alloc, database, router, &mut self.meter)?;
+        let results = self
+            .trees
+            .results_of(alloc, database, router, &mut self.meter)?;
         table_from(alloc, database, router, &results)
     }
 
