@@ -14,7 +14,7 @@ use Rattle.area_graph.specs.Topology.{Topology, row_at}
 use Rattle.area_graph.specs.Area.{vertex_of}
 use Rattle.area_graph.specs.AreaEdges.{target_of, edge_over, edges_over, router_links, back}
 use Rattle.area_graph.specs.Rows.{numbered, is_out_of}
-use Rattle.area_graph.specs.Drafts.{Adds, both_ways, returned, over_links, over_lsas}
+use Rattle.area_graph.specs.steps.Drafts.{Adds, both_ways, returned, over_links, over_lsas}
 
 -- no edges
 pub adds_nothing : (t : Topology) → Adds [] t t

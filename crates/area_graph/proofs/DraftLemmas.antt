@@ -14,7 +14,7 @@ use Rattle.area_graph.specs.declared.edge.Edge.{Edge}
 use Rattle.area_graph.specs.Paths.{DirectedEdge}
 use Rattle.area_graph.specs.Topology.{Topology, row_at}
 use Rattle.area_graph.specs.Rows.{numbered, is_out_of}
-use Rattle.area_graph.specs.Drafts.{IsDraft, with_edge, Adds}
+use Rattle.area_graph.specs.steps.Drafts.{IsDraft, with_edge, Adds}
 use Rattle.area_graph.specs.Vertex.{is_same}
 use Rattle.area_graph.proofs.VertexLemmas.{found, missing, at_one_place}
 use Rattle.area_graph.proofs.AllPathsLemmas.{same_from_is_same, is_same-from}

@@ -9,7 +9,7 @@ use Rattle.area_graph.specs.contracts.edge.EdgePartialEq.TheImpl as edge_impl
 use Rattle.area_graph.specs.declared.edge.Edge.{Edge}
 use Rattle.area_graph.specs.Rows.{same_edge}
 use Rattle.area_graph.specs.Vertex.{is_same}
-use Rattle.area_graph.specs.Ties.{same_tie}
+use Rattle.area_graph.specs.steps.Ties.{same_tie}
 
 abbrev pub vertex_eq : Vertex → Vertex → Bool
 vertex_eq = (vertex_impl.ghosts).eq

@@ -28,7 +28,7 @@ use Rattle.area_graph.specs.AreaEdges.{area_edges, names}
 use Rattle.area_graph.specs.Joins.{IsLinkTo, HasLink, Joins}
 use Rattle.area_graph.specs.declared.edge.Edge.{Edge}
 use Rattle.area_graph.specs.Rows.{same_edge, each_once, numbered, is_out_of, row_of, rows_of}
-use Rattle.area_graph.specs.Drafts.{IsDraft, Adds, over_lsas, edges_once}
+use Rattle.area_graph.specs.steps.Drafts.{IsDraft, Adds, over_lsas, edges_once}
 use Rattle.area_graph.specs.Graphs.{IsGraphOf, AreOfArea}
 use Rattle.area_graph.proofs.MemberLemmas.{In, In-from_Contains, Contains-from_In, list_all-In, Some-same, In-filter, filter-In, In-filter_map, filter_map-In, map-by_place}
 use Rattle.area_graph.proofs.AllPathsLemmas.{same_from_is_same, is_same-from}

@@ -13,7 +13,7 @@ use Rattle.area_graph.specs.Paths.{DirectedEdge}
 use Rattle.area_graph.specs.Area.{is_router_lsa, vertex_of}
 use Rattle.area_graph.specs.AreaEdges.{names, named_by, edge_over, router_links, edges_over, is_returned, router_edges, back, area_edges}
 use Rattle.area_graph.specs.Rows.{is_out_of}
-use Rattle.area_graph.specs.Drafts.{both_ways, over_lsas}
+use Rattle.area_graph.specs.steps.Drafts.{both_ways, over_lsas}
 use Rattle.area_graph.proofs.MemberLemmas.{In, In-cases, In-map, map-In, flat_map-In, filter-In, filter_map-In, list_any-In}
 use Rattle.area_graph.proofs.AllPathsLemmas.{same_from_is_same}
 use Rattle.area_graph.proofs.AreaLemmas.{over_is, kind_of_vertex}

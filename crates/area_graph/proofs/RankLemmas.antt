@@ -12,7 +12,7 @@ use Rattle.lsa_codec.specs.declared.key.Key.{Key}
 use Rattle.lsa_codec.specs.Key.{key_of}
 use Rattle.lsa_codec.specs.Fields.{kind_of, link_state_id_of, advertising_router_of}
 use Rattle.area_graph.specs.Area.{is_network_lsa, outranks, is_outranked_by}
-use Rattle.area_graph.specs.Ranks.{AreRanksOf, same_address, rank_in, exceeds, ranked}
+use Rattle.area_graph.specs.steps.Ranks.{AreRanksOf, same_address, rank_in, exceeds, ranked}
 
 or_false : (b : Bool) → (b || false) ≡ b
 or_false true = refl

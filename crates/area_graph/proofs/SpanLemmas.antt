@@ -4,7 +4,7 @@ use Rattle.std.specs.List.{All, slice_range}
 use Rattle.std.proofs.Math.Seq.{drop-append_seam}
 use Rattle.std.proofs.lemmas.List.{drop-append-le, take-append-le, take_all, map_push, length-append, length-drop}
 use Rattle.area_graph.specs.declared.rows.Span.{Span}
-use Rattle.area_graph.specs.Spans.{IsWithin, rows_at}
+use Rattle.area_graph.specs.steps.Spans.{IsWithin, rows_at}
 
 module _ {X : Type 0} where
   slice-append : (xs ys : List X) (a b : ℕ) → a ≤ b → b ≤ length xs → slice_range (xs ++ ys) a b ≡ slice_range xs a b

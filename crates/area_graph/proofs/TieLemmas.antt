@@ -7,7 +7,7 @@ use Rattle.std.proofs.lemmas.List.Elements.{filter_map-append}
 use Rattle.area_graph.specs.declared.vertex.Vertex.{Vertex}
 use Rattle.area_graph.specs.declared.ties.Tie.{Tie}
 use Rattle.area_graph.specs.Vertex.{is_same}
-use Rattle.area_graph.specs.Ties.{same_tie, is_tied, AddsTies}
+use Rattle.area_graph.specs.steps.Ties.{same_tie, is_tied, AddsTies}
 
 one_more : (a b o : Bool) → cond (a && b) true o ≡ ((a && (b || false)) || o)
 one_more true true o = refl

@@ -9,7 +9,4 @@ pub mod AreaEdges
 pub mod Joins
 pub mod Rows
 pub mod Graphs
-pub mod Ranks
-pub mod Ties
-pub mod Spans
-pub mod Drafts
+pub mod steps

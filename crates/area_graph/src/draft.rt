@@ -3,7 +3,7 @@
 ghost use Rattle.std.specs.Prelude.{◌≡◌, ◌≢◌, ◌<◌, ◌^◌, ◌++◌, ◌∷◌, ℕ, [], length, map, slice_index_or, AllPairs, OnOk, OnErr, IfOk};
 ghost use Rattle.area_graph.specs.Topology.{IsTopology, row_at};
 ghost use Rattle.area_graph.specs.Rows.{same_edge, each_once};
-ghost use Rattle.area_graph.specs.Drafts.{with_edge, Adds, edges_once};
+ghost use Rattle.area_graph.specs.steps.Drafts.{with_edge, Adds, edges_once};
 
 use crate::edge::Edge;
 use crate::graph::Graph;
@@ -27,7 +27,7 @@ pub(crate) struct Draft<A: Allocator> {
 impl<A: Allocator> Model for Draft<A> {
     ghost use Rattle.std.specs.Prelude.{map};
     ghost use Rattle.area_graph.specs.Topology.{Topology};
-    ghost use Rattle.area_graph.specs.Drafts.{IsDraft};
+    ghost use Rattle.area_graph.specs.steps.Drafts.{IsDraft};
 
     ghost Value = { Topology };
 

@@ -3,8 +3,8 @@
 ghost use Rattle.std.specs.Prelude.{◌≡◌, ◌∷◌, [], OnOk};
 ghost use Rattle.area_graph.specs.Area.{vertex_of};
 ghost use Rattle.area_graph.specs.AreaEdges.{router_links};
-ghost use Rattle.area_graph.specs.Ties.{is_tied};
-ghost use Rattle.area_graph.specs.Drafts.{Adds, both_ways, over_links, over_lsas};
+ghost use Rattle.area_graph.specs.steps.Ties.{is_tied};
+ghost use Rattle.area_graph.specs.steps.Drafts.{Adds, both_ways, over_links, over_lsas};
 
 use crate::draft::Draft;
 use crate::ties::{Ties, is_tied, target_of};

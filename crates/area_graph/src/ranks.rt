@@ -3,7 +3,7 @@
 ghost use Rattle.std.specs.Prelude.{◌≡◌, ℕ, ◌&&◌, ◌∷◌, ◌++◌, [], List, OnOk, IfOk};
 ghost use Rattle.lsa_codec.specs.Fields.{link_state_id_of, advertising_router_of};
 ghost use Rattle.area_graph.specs.Area.{is_network_lsa};
-ghost use Rattle.area_graph.specs.Ranks.{AreRanksOf, rank_in, exceeds, ranked};
+ghost use Rattle.area_graph.specs.steps.Ranks.{AreRanksOf, rank_in, exceeds, ranked};
 
 use crate::used::VertexLsa;
 use lsa_codec::{Addr, Lsa, NETWORK_LSA, RouterId};

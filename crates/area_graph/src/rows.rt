@@ -26,7 +26,7 @@ pub(crate) struct Rows<A: Allocator> {
 impl<A: Allocator> Model for Rows<A> {
     ghost use Rattle.std.specs.Prelude.{List, All, length};
     ghost use Rattle.area_graph.specs.declared.edge.Edge.{Edge as AnyEdge};
-    ghost use Rattle.area_graph.specs.Spans.{IsWithin, rows_at};
+    ghost use Rattle.area_graph.specs.steps.Spans.{IsWithin, rows_at};
 
     ghost Value = { List (List AnyEdge) };
 

@@ -5,7 +5,7 @@ ghost use Rattle.area_graph.specs.declared.vertex.Vertex.TheVariants.{Router};
 ghost use Rattle.std.specs.HashSet.{Updates};
 ghost use Rattle.area_graph.specs.Area.{vertex_of};
 ghost use Rattle.area_graph.specs.AreaEdges.{target_of, named_by};
-ghost use Rattle.area_graph.specs.Ties.{same_tie, is_tied, AreTiesOf, AddsTies};
+ghost use Rattle.area_graph.specs.steps.Ties.{same_tie, is_tied, AreTiesOf, AddsTies};
 
 use crate::used::{VertexLsa, vertex_of};
 use crate::vertex::Vertex;

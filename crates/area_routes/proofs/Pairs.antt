@@ -13,9 +13,10 @@ Pairs R (x ∷ xs) = ((y : _) → In xs y → R x y) × Pairs R xs
 module _ {X : Type 0} (R : X → X → Type 0) where
   pub Pairs-from : (xs : List X) → AllPairs R xs → Pairs R xs
   Pairs-from [] pairs = tt
-  Pairs-from (x ∷ xs) pairs =
-      (λ y i. All-contains (R x) xs y (λ k d lt. pairs 0 (suc k) d (omega arith) (omega (arith, lt))) (Contains-from_In xs y i),
-      Pairs-from xs (λ i j d below lt. pairs (suc i) (suc j) d (omega (arith, below)) (omega (arith, lt))))
+  Pairs-from (x ∷ xs) pairs = (
+    λ y i. All-contains (R x) xs y (λ k d lt. pairs 0 (suc k) d (omega arith) (omega (arith, lt))) (Contains-from_In xs y i),
+    Pairs-from xs (λ i j d below lt. pairs (suc i) (suc j) d (omega (arith, below)) (omega (arith, lt))),
+  )
 
   pub AllPairs-from : (xs : List X) → Pairs R xs → AllPairs R xs
   AllPairs-from [] pairs = λ i j d below lt. absurd (omega (arith, lt))
@@ -24,9 +25,10 @@ module _ {X : Type 0} (R : X → X → Type 0) where
 
   pub Pairs-append : (xs ys : List X) → Pairs R xs → Pairs R ys → ((x y : X) → In xs x → In ys y → R x y) → Pairs R (xs ++ ys)
   Pairs-append [] ys p q across = q
-  Pairs-append (x ∷ xs) ys p q across =
-      (λ y i. ⊎_elim (λ j. p.0 y j) (λ j. across x y (inl refl) j) (In-cases xs ys y i),
-      Pairs-append xs ys p.1 q (λ a b i j. across a b (inr i) j))
+  Pairs-append (x ∷ xs) ys p q across = (
+    λ y i. ⊎_elim (λ j. p.0 y j) (λ j. across x y (inl refl) j) (In-cases xs ys y i),
+    Pairs-append xs ys p.1 q (λ a b i j. across a b (inr i) j),
+  )
 
   pub Pairs-filter : (p : X → Bool) (xs : List X) → Pairs R xs → Pairs R (filter p xs)
   Pairs-filter p [] pairs = tt

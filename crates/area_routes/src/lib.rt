@@ -56,7 +56,10 @@ pub use inside_routes::InsideRoutes;
 pub use inter_area::inter;
 pub use inter_result::InterResult;
 pub use intra_area::intra;
-pub use laws::{attached_routers_are_vertices, entries_stand_once, reached_over_all_paths, route_orders, ways_are_best};
+pub use laws::{
+    attached_routers_are_vertices, entries_stand_once, reached_over_all_paths, route_orders,
+    ways_are_best,
+};
 pub use offer::Offer;
 pub use rank::{PathType, Rank};
 pub use route::Route;

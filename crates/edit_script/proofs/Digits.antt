@@ -31,7 +31,8 @@ unfolding within
 within-nil max n h = cond-true (leb n max) (Some n) None (le-leb n max h)
 
 -- at an index
-pub within-digit : (max n i : ℕ) (ds : List ℕ) → i < length ds → is_ascii_digit (get_or ds i 0) ≡ true → within max n (drop i ds) ≡ within max (n * 10 + (get_or ds i 0 - 48)) (drop (i + 1) ds)
+pub within-digit : (max n i : ℕ) (ds : List ℕ) → i < length ds → is_ascii_digit (get_or ds i 0) ≡ true
+    → within max n (drop i ds) ≡ within max (n * 10 + (get_or ds i 0 - 48)) (drop (i + 1) ds)
 within-digit max n i ds lt h = rw (drop-cons ds i 0, ← add-one i) (within-cons max n (get_or ds i 0) (drop (i + 1) ds) h)
 
 pub within-nondigit : (max n i : ℕ) (ds : List ℕ) → i < length ds → is_ascii_digit (get_or ds i 0) ≡ false → within max n (drop i ds) ≡ None
@@ -66,7 +67,8 @@ number_plain max word more leads =
     let first : ltb 0 (length word) ≡ true = lt-ltb 0 (length word) more in
     let zero_alone : (not (eqb (get_or word 0 0) 48) || eqb (length word) 1) ≡ true =
     elim (cases_Bool (eqb (get_or word 0 0) 48)) [
-      | inl holds ↦ or_right (not (eqb (get_or word 0 0) 48)) (eqb (length word) 1) (eq-eqb (length word) 1 (leads (eqb-true (get_or word 0 0) 48 holds)))
+      | inl holds ↦ or_right (not (eqb (get_or word 0 0) 48)) (eqb (length word) 1)
+          (eq-eqb (length word) 1 (leads (eqb-true (get_or word 0 0) 48 holds)))
       | inr fails ↦ or_left (not (eqb (get_or word 0 0) 48)) (eqb (length word) 1) (not_from_false (eqb (get_or word 0 0) 48) fails)
     ] in
     let same : (is_number word && leb (digits_after 0 word) max) ≡ (all_ascii_digits word && leb (digits_after 0 word) max) =
@@ -86,4 +88,6 @@ number_empty max (d ∷ ds) h = absurd (omega arith)
 pub number_zero : (max : ℕ) (word : List ℕ) → get_or word 0 0 ≡ 48 → length word ≢ 1 → number_up_to max word ≡ None
 number_zero max word zero_first long =
     not_number max word
-    (and_right (ltb 0 (length word) && all_ascii_digits word) _ (or_from (not (eqb (get_or word 0 0) 48)) (eqb (length word) 1) (not_from_true _ (eq-eqb (get_or word 0 0) 48 zero_first)) (ne_eqb (length word) 1 long)))
+    (and_right (ltb 0 (length word) && all_ascii_digits word) _
+    (or_from (not (eqb (get_or word 0 0) 48)) (eqb (length word) 1) (not_from_true _ (eq-eqb (get_or word 0 0) 48 zero_first))
+    (ne_eqb (length word) 1 long)))

@@ -41,7 +41,8 @@ leads : (n : ℕ) → n < 2 ^ 64 → (not (eqb (get_or (decimal n) 0 0) 48) || e
 leads n h =
     elim (cases_lt 0 n) [
       | inl more ↦ let first : 48 < get_or (decimal n) 0 0 = first_decimal n more h in
-          or_left (not (eqb (get_or (decimal n) 0 0) 48)) (eqb (length (decimal n)) 1) (not_from_false (eqb (get_or (decimal n) 0 0) 48) (ne_eqb (get_or (decimal n) 0 0) 48 (λ e. omega arith)))
+          or_left (not (eqb (get_or (decimal n) 0 0) 48)) (eqb (length (decimal n)) 1)
+          (not_from_false (eqb (get_or (decimal n) 0 0) 48) (ne_eqb (get_or (decimal n) 0 0) 48 (λ e. omega arith)))
       | inr none ↦ let one : decimal n ≡ (48 + n) ∷ [] = decimal_digit n (omega arith) in
           or_right (not (eqb (get_or (decimal n) 0 0) 48)) (eqb (length (decimal n)) 1) (ap (λ (ds : List ℕ). eqb (length ds) 1) one)
     ]
@@ -49,7 +50,8 @@ leads n h =
 pub is_number-decimal : (n : ℕ) → n < 2 ^ 64 → is_number (decimal n) ≡ true
 is_number-decimal n h =
     and_from (ltb 0 (length (decimal n)) && all_ascii_digits (decimal n)) (not (eqb (get_or (decimal n) 0 0) 48) || eqb (length (decimal n)) 1)
-    (and_from (ltb 0 (length (decimal n))) (all_ascii_digits (decimal n)) (lt-ltb 0 (length (decimal n)) (decimal_nonempty n h)) (digits_decimal own n h))
+    (and_from (ltb 0 (length (decimal n))) (all_ascii_digits (decimal n)) (lt-ltb 0 (length (decimal n)) (decimal_nonempty n h))
+    (digits_decimal own n h))
     (leads n h)
 
 pub number_again : (max n : ℕ) → n ≤ max → max < 2 ^ 64 → number_up_to max (decimal n) ≡ Some n
@@ -70,26 +72,36 @@ pub record AreBytes (a b c d : ℕ) : Type 0 where
   pub third : c ≤ 255
   pub fourth : d ≤ 255
 
-pub parts_again : (a b c d : ℕ) → AreBytes a b c d → address_of_parts (decimal a ∷ decimal b ∷ decimal c ∷ decimal d ∷ []) ≡ Some (from_be_bytes w32 (a ∷ b ∷ c ∷ d ∷ []))
+pub parts_again : (a b c d : ℕ) → AreBytes a b c d → address_of_parts (decimal a ∷ decimal b ∷ decimal c ∷ decimal d ∷ []) ≡ Some
+    (from_be_bytes w32 (a ∷ b ∷ c ∷ d ∷ []))
 unfolding address_of_parts
 parts_again a b c d h =
-    simp (number_again 255 a h.first (omega arith), number_again 255 b h.second (omega arith), number_again 255 c h.third (omega arith), number_again 255 d h.fourth (omega arith))
+    simp (
+      number_again 255 a h.first (omega arith),
+      number_again 255 b h.second (omega arith),
+      number_again 255 c h.third
+          (omega arith),
+      number_again 255 d h.fourth (omega arith),
+    )
 
 dot_spares : SparesDigits (λ b. eqb b 46)
 dot_spares = record { spares = λ b low high. ne_eqb b 46 (λ e. omega arith) }
 
-pub split_dots : (a b c d : ℕ) → AreBytes a b c d → slice_split (λ b. eqb b 46) (join_with_byte 46 (decimal a ∷ decimal b ∷ decimal c ∷ decimal d ∷ [])) ≡ decimal a ∷ decimal b ∷ decimal c ∷ decimal d ∷ []
+pub split_dots : (a b c d : ℕ) → AreBytes a b c d → slice_split (λ b. eqb b 46)
+    (join_with_byte 46 (decimal a ∷ decimal b ∷ decimal c ∷ decimal d ∷ [])) ≡ decimal a ∷ decimal b ∷ decimal c ∷ decimal d ∷ []
 split_dots a b c d h =
     let has_none : (n : ℕ) → n ≤ 255 → Lacks (λ b. eqb b 46) (decimal n) = λ n le. Lacks-decimal (λ b. eqb b 46) dot_spares n (omega arith) in
     split_joined (λ b. eqb b 46) 46 refl (decimal a) (decimal b ∷ decimal c ∷ decimal d ∷ [])
     (has_none a h.first, (has_none b h.second, (has_none c h.third, (has_none d h.fourth, tt))))
 
-pub bytes_again : (a b c d : ℕ) → AreBytes a b c d → address_of (join_with_byte 46 (decimal a ∷ decimal b ∷ decimal c ∷ decimal d ∷ [])) ≡ Some (from_be_bytes w32 (a ∷ b ∷ c ∷ d ∷ []))
+pub bytes_again : (a b c d : ℕ) → AreBytes a b c d → address_of (join_with_byte 46 (decimal a ∷ decimal b ∷ decimal c ∷ decimal d ∷ [])) ≡ Some
+    (from_be_bytes w32 (a ∷ b ∷ c ∷ d ∷ []))
 bytes_again a b c d h = ap address_of_parts (split_dots a b c d h) ∙ parts_again a b c d h
 
 pub address_again : (n : ℕ) → n < 2 ^ 32 → address_of (address_text n) ≡ Some n
 address_again n h =
-    bytes_again (n / 16777216 % 256) (n / 65536 % 256) (n / 256 % 256) (n % 256) (record { first = omega arith; second = omega arith; third = omega arith; fourth = omega arith })
+    bytes_again (n / 16777216 % 256) (n / 65536 % 256) (n / 256 % 256) (n % 256)
+    (record { first = omega arith; second = omega arith; third = omega arith; fourth = omega arith })
     ∙ ap (λ (m : ℕ). Some m) (from_be_bytes-to_be_bytes_4 n h)
 
 -- a test that neither a digit nor the dot passes
@@ -97,7 +109,8 @@ pub Lacks-address : (p : ℕ → Bool) → SparesDigits p → p 46 ≡ false →
 Lacks-address p s dot n =
     let P : ℕ → Type 0 = λ b. p b ≡ false in
     let small : (m : ℕ) → Lacks p (decimal (m % 256)) = λ m. Lacks-decimal p s (m % 256) (omega arith) in
-    All-append P (decimal (n / 16777216 % 256)) (46 ∷ (decimal (n / 65536 % 256) ++ 46 ∷ (decimal (n / 256 % 256) ++ 46 ∷ decimal (n % 256)))) (small (n / 16777216))
+    All-append P (decimal (n / 16777216 % 256)) (46 ∷ (decimal (n / 65536 % 256) ++ 46 ∷ (decimal (n / 256 % 256) ++ 46 ∷ decimal (n % 256))))
+    (small (n / 16777216))
     (All-cons P 46 (decimal (n / 65536 % 256) ++ 46 ∷ (decimal (n / 256 % 256) ++ 46 ∷ decimal (n % 256))) dot
     (All-append P (decimal (n / 65536 % 256)) (46 ∷ (decimal (n / 256 % 256) ++ 46 ∷ decimal (n % 256))) (small (n / 65536))
     (All-cons P 46 (decimal (n / 256 % 256) ++ 46 ∷ decimal (n % 256)) dot
@@ -109,7 +122,8 @@ Lacks-address p s dot n =
 slash_spares : SparesDigits (λ b. eqb b 47)
 slash_spares = record { spares = λ b low high. ne_eqb b 47 (λ e. omega arith) }
 
-split_slash : (addr len : ℕ) → len ≤ 32 → slice_split (λ b. eqb b 47) (join_with_byte 47 (address_text addr ∷ decimal len ∷ [])) ≡ address_text addr ∷ decimal len ∷ []
+split_slash : (addr len : ℕ) → len ≤ 32 → slice_split (λ b. eqb b 47)
+    (join_with_byte 47 (address_text addr ∷ decimal len ∷ [])) ≡ address_text addr ∷ decimal len ∷ []
 split_slash addr len h =
     split_joined (λ b. eqb b 47) 47 refl (address_text addr) (decimal len ∷ [])
     (Lacks-address (λ b. eqb b 47) slash_spares refl addr, (Lacks-decimal (λ b. eqb b 47) slash_spares len (omega arith), tt))
@@ -130,7 +144,14 @@ prefix_again net h =
 -- ---- words
 
 blank_spares : SparesDigits is_blank
-blank_spares = record { spares = λ b low high. rw (ne_eqb b 32 (λ e. omega arith), ne_eqb b 9 (λ e. omega arith), ne_eqb b 13 (λ e. omega arith)) refl }
+blank_spares = record {
+  spares = λ b low high. rw (
+    ne_eqb b 32 (λ e. omega arith),
+    ne_eqb b 9 (λ e. omega arith),
+    ne_eqb b 13
+        (λ e. omega arith),
+  ) refl;
+}
 
 pub IsWord-decimal : (n : ℕ) → n < 2 ^ 64 → IsWord (decimal n)
 IsWord-decimal n h = record { lacks = Lacks-decimal is_blank blank_spares n h; some = decimal_nonempty n h }
@@ -138,7 +159,11 @@ IsWord-decimal n h = record { lacks = Lacks-decimal is_blank blank_spares n h; s
 pub IsWord-address : (n : ℕ) → IsWord (address_text n)
 IsWord-address n = record {
   lacks = Lacks-address is_blank blank_spares refl n;
-  some = omega (arith, length-append (decimal (n / 16777216 % 256)) (46 ∷ (decimal (n / 65536 % 256) ++ 46 ∷ (decimal (n / 256 % 256) ++ 46 ∷ decimal (n % 256)))));
+  some = omega (
+    arith,
+    length-append (decimal (n / 16777216 % 256))
+        (46 ∷ (decimal (n / 65536 % 256) ++ 46 ∷ (decimal (n / 256 % 256) ++ 46 ∷ decimal (n % 256)))),
+  );
 }
 
 pub IsWord-prefix : (net : Net) → IsPrefix net → IsWord (prefix_text net)
@@ -146,6 +171,7 @@ IsWord-prefix net h =
     let P : ℕ → Type 0 = λ b. is_blank b ≡ false in
     let short : net.len ≤ 32 = h.prefix.short in
     subst IsWord (sym (prefix_joined net)) (record {
-      lacks = All-append P (address_text net.addr.0) (47 ∷ decimal net.len) (Lacks-address is_blank blank_spares refl net.addr.0) (All-cons P 47 (decimal net.len) refl (Lacks-decimal is_blank blank_spares net.len (omega arith)));
+      lacks = All-append P (address_text net.addr.0) (47 ∷ decimal net.len) (Lacks-address is_blank blank_spares refl net.addr.0)
+          (All-cons P 47 (decimal net.len) refl (Lacks-decimal is_blank blank_spares net.len (omega arith)));
       some = omega (arith, length-append (address_text net.addr.0) (47 ∷ decimal net.len));
     })

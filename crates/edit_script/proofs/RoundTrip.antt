@@ -36,8 +36,13 @@ type_word Type1 = literal (codes "1") refl (omega arith)
 type_word Type2 = literal (codes "2") refl (omega arith)
 
 are_words : (edit : Edit) → IsEditInRange edit → AllByRecursion IsWord (edit_words edit)
-are_words (Cost area router link metric) h =
-    (literal (codes "cost") refl (omega arith), (IsWord-address area.0, (IsWord-address router.0, (IsWord-decimal link (omega arith), (IsWord-decimal metric (omega arith), tt)))))
+are_words (Cost area router link metric) h = (
+  literal (codes "cost") refl (omega arith),
+  (
+    IsWord-address area.0,
+    (IsWord-address router.0, (IsWord-decimal link (omega arith), (IsWord-decimal metric (omega arith), tt))),
+  ),
+)
 are_words (DropLink area router link) h =
     (literal (codes "drop-link") refl (omega arith), (IsWord-address area.0, (IsWord-address router.0, (IsWord-decimal link (omega arith), tt))))
 are_words (FailLink area router neighbor) h =
@@ -46,14 +51,34 @@ are_words (FailNet area network) h =
     (literal (codes "fail-net") refl (omega arith), (IsWord-address area.0, (IsWord-address network.0, tt)))
 are_words (FailRouter router) h =
     (literal (codes "fail-router") refl (omega arith), (IsWord-address router.0, tt))
-are_words (AddStub area router prefix metric) h =
-    (literal (codes "add-stub") refl (omega arith), (IsWord-address area.0, (IsWord-address router.0, (IsWord-prefix prefix h.2, (IsWord-decimal metric (omega arith), tt)))))
-are_words (Summary area router prefix metric) h =
-    (literal (codes "summary") refl (omega arith), (IsWord-address area.0, (IsWord-address router.0, (IsWord-prefix prefix h.2, (IsWord-decimal metric (omega arith), tt)))))
-are_words (AddSummary area router prefix metric) h =
-    (literal (codes "add-summary") refl (omega arith), (IsWord-address area.0, (IsWord-address router.0, (IsWord-prefix prefix h.2, (IsWord-decimal metric (omega arith), tt)))))
-are_words (AddExternal router prefix type metric forward tag) h =
-    (literal (codes "add-external") refl (omega arith), (IsWord-address router.0, (IsWord-prefix prefix h.1, (type_word type, (IsWord-decimal metric (omega arith), (IsWord-address forward.0, (IsWord-decimal tag (omega arith), tt)))))))
+are_words (AddStub area router prefix metric) h = (
+  literal (codes "add-stub") refl (omega arith),
+  (
+    IsWord-address area.0,
+    (IsWord-address router.0, (IsWord-prefix prefix h.2, (IsWord-decimal metric (omega arith), tt))),
+  ),
+)
+are_words (Summary area router prefix metric) h = (
+  literal (codes "summary") refl (omega arith),
+  (
+    IsWord-address area.0,
+    (IsWord-address router.0, (IsWord-prefix prefix h.2, (IsWord-decimal metric (omega arith), tt))),
+  ),
+)
+are_words (AddSummary area router prefix metric) h = (
+  literal (codes "add-summary") refl (omega arith),
+  (IsWord-address area.0, (IsWord-address router.0, (IsWord-prefix prefix h.2, (IsWord-decimal metric (omega arith), tt)))),
+)
+are_words (AddExternal router prefix type metric forward tag) h = (
+  literal (codes "add-external") refl (omega arith),
+  (
+    IsWord-address router.0,
+    (
+      IsWord-prefix prefix h.1,
+      (type_word type, (IsWord-decimal metric (omega arith), (IsWord-address forward.0, (IsWord-decimal tag (omega arith), tt)))),
+    ),
+  ),
+)
 are_words (DropExternal router prefix) h =
     (literal (codes "drop-external") refl (omega arith), (IsWord-address router.0, (IsWord-prefix prefix h.1, tt)))
 
@@ -77,7 +102,13 @@ type_again Type2 = refl
 edit_again : (edit : Edit) → IsEditInRange edit → (branch : ℕ) → behind_branch branch (edit_words edit) ≡ Ok (branch, command.Edit edit)
 unfolding behind_branch command_of edit_of cost_of drop_link_of fail_link_of fail_net_of fail_router_of add_stub_of summary_of add_summary_of add_external_of drop_external_of
 edit_again (Cost area router link metric) h branch =
-    simp (address_again area.0 h.0, address_again router.0 h.1, number_again 65535 link (omega arith) (omega arith), number_again 65535 metric (omega arith) (omega arith))
+    simp (
+      address_again area.0 h.0,
+      address_again router.0 h.1,
+      number_again 65535 link (omega arith) (omega arith),
+      number_again 65535 metric
+          (omega arith) (omega arith),
+    )
 edit_again (DropLink area router link) h branch =
     simp (address_again area.0 h.0, address_again router.0 h.1, number_again 65535 link (omega arith) (omega arith))
 edit_again (FailLink area router neighbor) h branch =
@@ -93,7 +124,15 @@ edit_again (Summary area router prefix metric) h branch =
 edit_again (AddSummary area router prefix metric) h branch =
     simp (address_again area.0 h.0, address_again router.0 h.1, prefix_again prefix h.2, number_again 16777215 metric (omega arith) (omega arith))
 edit_again (AddExternal router prefix type metric forward tag) h branch =
-    simp (address_again router.0 h.0, prefix_again prefix h.1, type_again type, number_again 16777215 metric (omega arith) (omega arith), address_again forward.0 h.3, number_again 4294967295 tag (omega arith) (omega arith))
+    simp (
+      address_again router.0 h.0,
+      prefix_again prefix h.1,
+      type_again type,
+      number_again 16777215 metric (omega arith)
+          (omega arith),
+      address_again forward.0 h.3,
+      number_again 4294967295 tag (omega arith) (omega arith),
+    )
 edit_again (DropExternal router prefix) h branch =
     simp (address_again router.0 h.0, prefix_again prefix h.1)
 
@@ -128,7 +167,8 @@ without_branch command.Tables = refl
 without_branch (command.Compare router) = refl
 without_branch command.Info = refl
 
-with_branch : (branch : ℕ) (c : Command) → branch < 8 → meaning_of_words (branch_word branch ∷ command_words c) ≡ behind_branch branch (command_words c)
+with_branch : (branch : ℕ) (c : Command) → branch < 8
+    → meaning_of_words (branch_word branch ∷ command_words c) ≡ behind_branch branch (command_words c)
 unfolding meaning_of_words
 with_branch branch c small = simp (number_again 7 branch (omega arith) (omega arith))
 

@@ -30,7 +30,8 @@ pub then_some : {A B : Type 0} (o : Option A) (f : A → Option B) (y : B) → a
 then_some (Some x) f y h = (x, (refl, h))
 then_some None f y h = absurd cc
 
-pub then_ok : {A B : Type 0} (r : Result A ScriptFault) (f : A → Result B ScriptFault) (y : B) → (r >>= f) ≡ Ok y → (x : A) × ((r ≡ Ok x) × (f x ≡ Ok y))
+pub then_ok : {A B : Type 0} (r : Result A ScriptFault) (f : A → Result B ScriptFault) (y : B) → (r >>= f) ≡ Ok y
+    → (x : A) × ((r ≡ Ok x) × (f x ≡ Ok y))
 then_ok (Ok x) f y h = (x, (refl, h))
 then_ok (Err fault) f y h = absurd cc
 
@@ -51,7 +52,8 @@ three_same a b c d e f first second third = rw (first, second, third) refl
 pub four_same : (a b c d e f g h : Word) → a ≡ e → b ≡ f → c ≡ g → d ≡ h → a ∷ b ∷ c ∷ d ∷ [] ≡ e ∷ f ∷ g ∷ h ∷ []
 four_same a b c d e f g h first second third fourth = rw (first, second, third, fourth) refl
 
-pub six_same : (a b c d e f g h i j k l : Word) → a ≡ g → b ≡ h → c ≡ i → d ≡ j → e ≡ k → f ≡ l → a ∷ b ∷ c ∷ d ∷ e ∷ f ∷ [] ≡ g ∷ h ∷ i ∷ j ∷ k ∷ l ∷ []
+pub six_same : (a b c d e f g h i j k l : Word) → a ≡ g → b ≡ h → c ≡ i → d ≡ j → e ≡ k → f ≡ l
+    → a ∷ b ∷ c ∷ d ∷ e ∷ f ∷ [] ≡ g ∷ h ∷ i ∷ j ∷ k ∷ l ∷ []
 six_same a b c d e f g h i j k l first second third fourth fifth sixth = rw (first, second, third, fourth, fifth, sixth) refl
 
 -- ---- numbers
@@ -77,7 +79,8 @@ number_spelled max word n small h =
           let same : digits_after 0 word ≡ n = cc in
           let parts = and_parts (ltb 0 (length word) && all_ascii_digits word) (not (eqb (get_or word 0 0) 48) || eqb (length word) 1) both.0 in
           let front = and_parts (ltb 0 (length word)) (all_ascii_digits word) parts.0 in
-          let lead : get_or word 0 0 ≡ 48 → length word ≡ 1 = λ e. eqb-true (length word) 1 (alone (eqb (get_or word 0 0) 48) (eqb (length word) 1) parts.1 (eq-eqb (get_or word 0 0) 48 e)) in
+          let lead : get_or word 0 0 ≡ 48 → length word ≡ 1 = λ e. eqb-true (length word) 1
+          (alone (eqb (get_or word 0 0) 48) (eqb (length word) 1) parts.1 (eq-eqb (get_or word 0 0) 48 e)) in
           (sym (decimal-digits_value own word front.1 (ltb-true 0 (length word) front.0) lead (omega arith)) ∙ ap decimal same, omega arith)
       | inr fails ↦ absurd (let found : none ≡ some n = sym (cond-false _ (some (digits_after 0 word)) none fails) ∙ h in cc)
     ]
@@ -99,7 +102,8 @@ are_octets a b c d h (suc (suc zero)) = omega (arith, h.third)
 are_octets a b c d h (suc (suc (suc zero))) = omega (arith, h.fourth)
 are_octets a b c d h (suc (suc (suc (suc i)))) = omega arith
 
-text_of_octets : (a b c d n : ℕ) → AreBytes a b c d → from_be_bytes w32 (a ∷ b ∷ c ∷ d ∷ []) ≡ n → join_with_byte 46 (decimal a ∷ decimal b ∷ decimal c ∷ decimal d ∷ []) ≡ address_text n
+text_of_octets : (a b c d n : ℕ) → AreBytes a b c d → from_be_bytes w32 (a ∷ b ∷ c ∷ d ∷ []) ≡ n
+    → join_with_byte 46 (decimal a ∷ decimal b ∷ decimal c ∷ decimal d ∷ []) ≡ address_text n
 text_of_octets a b c d n h e =
     ap (λ (octets : List ℕ). join_with_byte 46 (map decimal octets)) (sym (be_bytes_4 (a ∷ b ∷ c ∷ d ∷ []) n refl (are_octets a b c d h) (sym e)))
 
@@ -157,7 +161,8 @@ made_of addr len net h =
       | inr fails ↦ absurd (let found : no_net ≡ some_net net = sym (cond-false _ _ _ fails) ∙ h in cc)
     ]
 
-text_of_parts : (addr len : ℕ) (net : Net) → net_of (record { 0 = addr }) len ≡ Some net → join_with_byte 47 (address_text addr ∷ decimal len ∷ []) ≡ prefix_text net
+text_of_parts : (addr len : ℕ) (net : Net) → net_of (record { 0 = addr }) len ≡ Some net
+    → join_with_byte 47 (address_text addr ∷ decimal len ∷ []) ≡ prefix_text net
 text_of_parts addr len net h = sym (prefix_joined (record { addr = record { 0 = addr }; len = len })) ∙ ap prefix_text (made_of addr len net h).is
 
 pub prefix_spelled : (word : Word) (net : Net) → prefix_of word ≡ Some net → (word ≡ prefix_text net) × IsPrefix net
@@ -169,7 +174,8 @@ prefix_spelled word net h =
     let len = then_some (number_up_to 32 p.1) _ net addr.1.1 in
     let a = address_spelled p.0 addr.0 addr.1.0 in
     let l = number_spelled 32 p.1 len.0 (omega arith) len.1.0 in
-    let split : slice_split (λ b. eqb b 47) word ≡ address_text addr.0 ∷ decimal len.0 ∷ [] = two_parts_are _ p parts.1.0 ∙ two_same _ _ _ _ a.0 l.0 in
+    let split : slice_split (λ b. eqb b 47) word ≡ address_text addr.0 ∷ decimal len.0 ∷ [] = two_parts_are _ p parts.1.0
+    ∙ two_same _ _ _ _ a.0 l.0 in
     let made = made_of addr.0 len.0 net len.1.1 in
     let small : net.addr.0 < 2 ^ 32 = subst (λ (m : Net). m.addr.0 < 2 ^ 32) made.is a.1 in (
       sym (join_with_byte-slice_split 47 word) ∙ ap (join_with_byte 47) split ∙ text_of_parts addr.0 len.0 net len.1.1,
@@ -194,7 +200,8 @@ prefix_read word net h = prefix_spelled word net (of_ok (prefix_of word) BadPref
 abbrev found_type : MetricType → Result MetricType ScriptFault
 found_type type = Ok type
 
-type_named : (name word : Word) (this : MetricType) (others : Result MetricType ScriptFault) (type : MetricType) → name ≡ type_text this → (others ≡ Ok type → word ≡ type_text type) → cond (bytes_eq word name) (found_type this) others ≡ Ok type → word ≡ type_text type
+type_named : (name word : Word) (this : MetricType) (others : Result MetricType ScriptFault) (type : MetricType) → name ≡ type_text this
+    → (others ≡ Ok type → word ≡ type_text type) → cond (bytes_eq word name) (found_type this) others ≡ Ok type → word ≡ type_text type
 type_named name word this others type is_name at_other h =
     elim (cases_Bool (bytes_eq word name)) [
       | inl holds ↦
@@ -240,12 +247,14 @@ four_are (a ∷ b ∷ c ∷ []) w h = absurd cc
 four_are (a ∷ b ∷ c ∷ d ∷ []) w h = let same : (a, b, c, d) ≡ w = cc in ap (λ (q : Word × Word × Word × Word). q.0 ∷ q.1 ∷ q.2 ∷ q.3 ∷ []) same
 four_are (a ∷ b ∷ c ∷ d ∷ e ∷ arguments) w h = absurd cc
 
-pub six_are : (arguments : List Word) (w : Word × Word × Word × Word × Word × Word) → six_of arguments ≡ Ok w → arguments ≡ w.0 ∷ w.1 ∷ w.2 ∷ w.3 ∷ w.4 ∷ w.5 ∷ []
+pub six_are : (arguments : List Word) (w : Word × Word × Word × Word × Word × Word) → six_of arguments ≡ Ok w
+    → arguments ≡ w.0 ∷ w.1 ∷ w.2 ∷ w.3 ∷ w.4 ∷ w.5 ∷ []
 six_are [] w h = absurd cc
 six_are (a ∷ []) w h = absurd cc
 six_are (a ∷ b ∷ []) w h = absurd cc
 six_are (a ∷ b ∷ c ∷ []) w h = absurd cc
 six_are (a ∷ b ∷ c ∷ d ∷ []) w h = absurd cc
 six_are (a ∷ b ∷ c ∷ d ∷ e ∷ []) w h = absurd cc
-six_are (a ∷ b ∷ c ∷ d ∷ e ∷ f ∷ []) w h = let same : (a, b, c, d, e, f) ≡ w = cc in ap (λ (q : Word × Word × Word × Word × Word × Word). q.0 ∷ q.1 ∷ q.2 ∷ q.3 ∷ q.4 ∷ q.5 ∷ []) same
+six_are (a ∷ b ∷ c ∷ d ∷ e ∷ f ∷ []) w h = let same : (a, b, c, d, e, f) ≡ w = cc in
+    ap (λ (q : Word × Word × Word × Word × Word × Word). q.0 ∷ q.1 ∷ q.2 ∷ q.3 ∷ q.4 ∷ q.5 ∷ []) same
 six_are (a ∷ b ∷ c ∷ d ∷ e ∷ f ∷ g ∷ arguments) w h = absurd cc

@@ -31,7 +31,8 @@ cost_read arguments edit h =
     let third = number_read 65535 w.2 link.0 (omega arith) link.1.0 in
     let fourth = number_read 65535 w.3 metric.0 (omega arith) metric.1.0 in
     subst (IsEdit (codes "cost" ∷ arguments)) given (record {
-      words = ap (λ (ws : List Word). codes "cost" ∷ ws) (four_are arguments w word.1.0 ∙ four_same _ _ _ _ _ _ _ _ first.0 second.0 third.0 fourth.0);
+      words = ap (λ (ws : List Word). codes "cost" ∷ ws)
+          (four_are arguments w word.1.0 ∙ four_same _ _ _ _ _ _ _ _ first.0 second.0 third.0 fourth.0);
       range = (first.1, second.1, omega (arith, third.1), omega (arith, fourth.1));
     })
 
@@ -112,7 +113,8 @@ add_stub_read arguments edit h =
     let third = prefix_read w.2 net.0 net.1.0 in
     let fourth = number_read 65535 w.3 metric.0 (omega arith) metric.1.0 in
     subst (IsEdit (codes "add-stub" ∷ arguments)) given (record {
-      words = ap (λ (ws : List Word). codes "add-stub" ∷ ws) (four_are arguments w word.1.0 ∙ four_same _ _ _ _ _ _ _ _ first.0 second.0 third.0 fourth.0);
+      words = ap (λ (ws : List Word). codes "add-stub" ∷ ws)
+          (four_are arguments w word.1.0 ∙ four_same _ _ _ _ _ _ _ _ first.0 second.0 third.0 fourth.0);
       range = (first.1, second.1, third.1, omega (arith, fourth.1));
     })
 
@@ -131,7 +133,8 @@ summary_read arguments edit h =
     let third = prefix_read w.2 net.0 net.1.0 in
     let fourth = number_read 16777215 w.3 metric.0 (omega arith) metric.1.0 in
     subst (IsEdit (codes "summary" ∷ arguments)) given (record {
-      words = ap (λ (ws : List Word). codes "summary" ∷ ws) (four_are arguments w word.1.0 ∙ four_same _ _ _ _ _ _ _ _ first.0 second.0 third.0 fourth.0);
+      words = ap (λ (ws : List Word). codes "summary" ∷ ws)
+          (four_are arguments w word.1.0 ∙ four_same _ _ _ _ _ _ _ _ first.0 second.0 third.0 fourth.0);
       range = (first.1, second.1, third.1, omega (arith, fourth.1));
     })
 
@@ -150,7 +153,8 @@ add_summary_read arguments edit h =
     let third = prefix_read w.2 net.0 net.1.0 in
     let fourth = number_read 16777215 w.3 metric.0 (omega arith) metric.1.0 in
     subst (IsEdit (codes "add-summary" ∷ arguments)) given (record {
-      words = ap (λ (ws : List Word). codes "add-summary" ∷ ws) (four_are arguments w word.1.0 ∙ four_same _ _ _ _ _ _ _ _ first.0 second.0 third.0 fourth.0);
+      words = ap (λ (ws : List Word). codes "add-summary" ∷ ws)
+          (four_are arguments w word.1.0 ∙ four_same _ _ _ _ _ _ _ _ first.0 second.0 third.0 fourth.0);
       range = (first.1, second.1, third.1, omega (arith, fourth.1));
     })
 
@@ -173,11 +177,13 @@ add_external_read arguments edit h =
     let fifth = address_read w.4 forward.0 forward.1.0 in
     let sixth = number_read 4294967295 w.5 tag.0 (omega arith) tag.1.0 in
     subst (IsEdit (codes "add-external" ∷ arguments)) given (record {
-      words = ap (λ (ws : List Word). codes "add-external" ∷ ws) (six_are arguments w word.1.0 ∙ six_same _ _ _ _ _ _ _ _ _ _ _ _ first.0 second.0 third fourth.0 fifth.0 sixth.0);
+      words = ap (λ (ws : List Word). codes "add-external" ∷ ws)
+          (six_are arguments w word.1.0 ∙ six_same _ _ _ _ _ _ _ _ _ _ _ _ first.0 second.0 third fourth.0 fifth.0 sixth.0);
       range = (first.1, second.1, omega (arith, fourth.1), fifth.1, omega (arith, sixth.1));
     })
 
-pub drop_external_read : (arguments : List Word) (edit : Edit) → drop_external_of arguments ≡ Ok edit → IsEdit (codes "drop-external" ∷ arguments) edit
+pub drop_external_read : (arguments : List Word) (edit : Edit) → drop_external_of arguments ≡ Ok edit
+    → IsEdit (codes "drop-external" ∷ arguments) edit
 unfolding drop_external_of
 drop_external_read arguments edit h =
     let word = then_ok (two_of arguments) _ edit h in

@@ -92,7 +92,8 @@ info_read arguments c h =
       range = tt;
     })
 
-edit_read : (words : List Word) (given : Result Edit ScriptFault) (c : Command) → ((edit : Edit) → given ≡ Ok edit → IsEdit words edit) → edit_command given ≡ Ok c → IsCommand words c
+edit_read : (words : List Word) (given : Result Edit ScriptFault) (c : Command) → ((edit : Edit) → given ≡ Ok edit → IsEdit words edit)
+    → edit_command given ≡ Ok c → IsCommand words c
 edit_read words given c spelled h =
     let found = then_ok given _ c h in
     let same : command.Edit found.0 ≡ c = same_ok _ c found.1.1 in
@@ -101,7 +102,8 @@ edit_read words given c spelled h =
 
 -- where the command word is `name`, what it reads; else what the other names read
 by_name : {A : Type 0} (Is : List Word → A → Type 0) (name word : Word) (arguments : List Word) (this others : Result A ScriptFault) (x : A)
-    → (this ≡ Ok x → Is (name ∷ arguments) x) → (others ≡ Ok x → Is (word ∷ arguments) x) → cond (bytes_eq word name) this others ≡ Ok x → Is (word ∷ arguments) x
+    → (this ≡ Ok x → Is (name ∷ arguments) x) → (others ≡ Ok x → Is (word ∷ arguments) x) → cond (bytes_eq word name) this others ≡ Ok x
+    → Is (word ∷ arguments) x
 by_name Is name word arguments this others x at_name at_other h =
     elim (cases_Bool (bytes_eq word name)) [
       | inl holds ↦
@@ -143,7 +145,8 @@ command_read word arguments c h =
 abbrev done : Command → Result Command ScriptFault
 done c = Ok c
 
-in_branch_read : (branch b : ℕ) (given : Result Command ScriptFault) (c : Command) → in_branch branch given ≡ Ok (b, c) → (given ≡ Ok c) × (branch ≡ b)
+in_branch_read : (branch b : ℕ) (given : Result Command ScriptFault) (c : Command) → in_branch branch given ≡ Ok (b, c)
+    → (given ≡ Ok c) × (branch ≡ b)
 in_branch_read branch b given c h =
     let found = then_ok given _ (b, c) h in
     let same : (branch, found.0) ≡ (b, c) = let e = found.1.1 in cc in
@@ -163,7 +166,9 @@ behind_branch_read branch b (word ∷ arguments) c h =
     let read = in_branch_read branch b (command_of word arguments) c h in
     (command_read word arguments c read.0, read.1)
 
-said_by : (first : Word) (rest : List Word) (branch : ℕ) (c : Command) → cond (eqb (get_or first 0 0) 64) (branch_of first >>= (λ b. behind_branch b rest)) (in_branch 0 (command_of first rest)) ≡ Ok (branch, c) → IsInRange c × Says (first ∷ rest) branch c
+said_by : (first : Word) (rest : List Word) (branch : ℕ) (c : Command)
+    → cond (eqb (get_or first 0 0) 64) (branch_of first >>= (λ b. behind_branch b rest)) (in_branch 0 (command_of first rest)) ≡ Ok (branch, c)
+    → IsInRange c × Says (first ∷ rest) branch c
 said_by first rest branch c h =
     elim (cases_Bool (eqb (get_or first 0 0) 64)) [
       | inl named ↦

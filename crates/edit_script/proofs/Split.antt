@@ -13,7 +13,8 @@ use Rattle.edit_script.specs.Words.{is_blank, is_nonempty, words}
 abbrev pub Lacks : (ℕ → Bool) → List ℕ → Type 0
 Lacks p part = All (λ b. p b ≡ false) part
 
-pub split_joined : (p : ℕ → Bool) (c : ℕ) → p c ≡ true → (part : List ℕ) (parts : List (List ℕ)) → AllByRecursion (Lacks p) (part ∷ parts) → slice_split p (join_with_byte c (part ∷ parts)) ≡ part ∷ parts
+pub split_joined : (p : ℕ → Bool) (c : ℕ) → p c ≡ true → (part : List ℕ) (parts : List (List ℕ)) → AllByRecursion (Lacks p) (part ∷ parts)
+    → slice_split p (join_with_byte c (part ∷ parts)) ≡ part ∷ parts
 split_joined p c pass part [] h = slice_split_none p part h.0
 split_joined p c pass part (next ∷ parts) h =
     slice_split_at p part c (join_with_byte c (next ∷ parts)) h.0 pass
@@ -48,7 +49,8 @@ cut_none p xs h =
       | inr le ↦ slice_split_none p xs (λ k d lt. fails_before_first p xs k d (omega arith))
     ]
 
-pub cut_some : (p : ℕ → Bool) (xs : List ℕ) (i : ℕ) → position p xs ≡ Some i → (i < length xs) × (slice_split p xs ≡ take i xs ∷ slice_split p (drop (i + 1) xs))
+pub cut_some : (p : ℕ → Bool) (xs : List ℕ) (i : ℕ) → position p xs ≡ Some i
+    → (i < length xs) × (slice_split p xs ≡ take i xs ∷ slice_split p (drop (i + 1) xs))
 cut_some p xs i h =
     elim (cases_lt (position_or_len p xs) (length xs)) [
       | inl lt ↦

@@ -8,8 +8,8 @@ ghost use Rattle.area_routes.specs.Order.{prefix_cmp};
 ghost use Rattle.area_routes.specs.Values.{RoutesBelow};
 ghost use Rattle.external_routes.specs.External.{external_candidate, externals_of};
 
-use crate::flooding::is_attached_outside_stubs;
 use crate::candidates::admit_lsa;
+use crate::flooding::is_attached_outside_stubs;
 use crate::inside::Inside;
 use area_routes::{BestWays, InsideRoutes, RouterEntries, Routes};
 use lsa_codec::{Prefix, RouterId};

@@ -19,9 +19,16 @@ const DUMP: &[u8] = &[
 #[test]
 fn attached_where_the_router_lsa_is_live(rt: HostRuntime) -> Result<(), Fail> {
     let database = Database::load(rt.alloc(), DUMP)?;
-    for (area, router, expected) in [(1, R1, true), (2, R1, false), (3, R1, false), (1, R2, false)]
-    {
-        assert_eq!(rt; is_attached(&database, AreaId(area), RouterId(router)), expected);
+    for (area, router, expected) in [
+        (1, R1, true),
+        (2, R1, false),
+        (3, R1, false),
+        (1, R2, false),
+    ] {
+        assert_eq!(rt;
+            is_attached(&database, AreaId(area), RouterId(router)),
+            expected
+        );
     }
     Ok(())
 }

@@ -62,7 +62,10 @@ fn the_backbone_alone_is_examined(rt: HostRuntime) -> Result<(), Fail> {
 fn none_is_examined_without_the_backbone(rt: HostRuntime) -> Result<(), Fail> {
     let dump = sample(rt.alloc(), [1, 2])?;
     let found = inter_in(rt.alloc(), &dump, &[1, 2], R1)?;
-    assert_eq!(rt; routes_text(rt.alloc(), found.routes.as_routes())?.as_str(), "");
+    assert_eq!(rt;
+        routes_text(rt.alloc(), found.routes.as_routes())?.as_str(),
+        ""
+    );
     assert_eq!(rt; found.routers.as_slice().len(), 2);
     Ok(())
 }
@@ -139,6 +142,9 @@ fn equal_ways_are_joined(rt: HostRuntime) -> Result<(), Fail> {
     let found = inter_in(rt.alloc(), &dump, &[5], R1)?;
     let expected =
         "10.20.0.0/16 Inter 30 0.0.0.5 link:10.0.0.1 link:10.0.1.1\n10.21.0.0/16 Inter 16 0.0.0.5 link:10.0.1.1\n";
-    assert_eq!(rt; routes_text(rt.alloc(), found.routes.as_routes())?.as_str(), expected);
+    assert_eq!(rt;
+        routes_text(rt.alloc(), found.routes.as_routes())?.as_str(),
+        expected
+    );
     Ok(())
 }

@@ -167,7 +167,7 @@ fn route_to_a_network<A: Allocator + Copy>(
     let routes = routes(rationed, &ways_at_a_network()?)?;
     let left = rationed.left();
     match externals(rationed, &database, R1, &routes, &entries) {
-        Ok(found) => Ok((Ok(found.len()), left)),
+        Ok(found) => Ok((Ok(found.as_slice().len()), left)),
         Err(fault) => Ok((Err(fault), left)),
     }
 }

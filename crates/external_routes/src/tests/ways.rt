@@ -2,7 +2,9 @@
 
 ghost use Rattle.std.specs.Prelude.{◌<◌, ◌^◌};
 
-use area_routes::{BestWays, EntryKind, InsideRoutes, PathType, Rank, RouterEntries, RouterEntry, Routes};
+use area_routes::{
+    BestWays, EntryKind, InsideRoutes, PathType, Rank, RouterEntries, RouterEntry, Routes,
+};
 use lsa_codec::{Addr, AreaId, Prefix, RouterId};
 use next_hops::{Hop, HopList};
 use std::alloc::{Allocator, Global};
@@ -25,8 +27,7 @@ fn wide(cost: u32) -> u64
 }
 
 /// The routes over these ways, in order of prefix.
-pub fn routes<A: Allocator + Copy>(alloc: A, ways: &[WayTo]) -> Result<InsideRoutes<A>, Fail>
-{
+pub fn routes<A: Allocator + Copy>(alloc: A, ways: &[WayTo]) -> Result<InsideRoutes<A>, Fail> {
     let mut best = BestWays::new(alloc);
     for way in ways {
         let rank = Rank {
@@ -54,8 +55,7 @@ pub struct WayToRouter {
 pub fn entries<A: Allocator + Copy>(
     alloc: A,
     ways: &[WayToRouter],
-) -> Result<RouterEntries<A>, Fail>
-{
+) -> Result<RouterEntries<A>, Fail> {
     let mut entries = RouterEntries::new(alloc);
     for way in ways {
         let mut hops = HopList::new(alloc);

@@ -4,8 +4,8 @@ use Rattle.std.proofs.lemmas.Result.{IfOk-weaker}
 use Rattle.area_graph.specs.declared.vertex.Vertex.{Vertex}
 use Rattle.area_graph.specs.Topology.{Topology}
 use Rattle.area_graph.specs.Area.{vertex_of}
-use Rattle.area_graph.specs.Ties.{is_tied}
-use Rattle.area_graph.specs.Drafts.{IsDraft}
+use Rattle.area_graph.specs.steps.Ties.{is_tied}
+use Rattle.area_graph.specs.steps.Drafts.{IsDraft}
 use Rattle.area_graph.specs.Graphs.{IsGraphOf}
 use Rattle.area_graph.proofs.GraphLemmas.{built}
 use Rattle.area_graph.proofs.UsedLemmas.{vertices_distinct}

@@ -1,8 +1,8 @@
 use Rattle.std.proofs.Common.{◌∙◌, subst, List, ℕ}
 use Rattle.area_graph.specs.Area.{vertex_of}
 use Rattle.area_graph.specs.AreaEdges.{router_links}
-use Rattle.area_graph.specs.Ties.{is_tied}
-use Rattle.area_graph.specs.Drafts.{Adds, over_links}
+use Rattle.area_graph.specs.steps.Ties.{is_tied}
+use Rattle.area_graph.specs.steps.Drafts.{Adds, over_links}
 use Rattle.area_graph.proofs.AddsLemmas.{over_lsas-more}
 use Rattle.area_graph.proofs.links.add_edges.Goals as goal
 

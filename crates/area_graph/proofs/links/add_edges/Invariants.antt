@@ -1,6 +1,6 @@
 use Rattle.std.proofs.Common.{◌≡◌, take}
-use Rattle.area_graph.specs.Ties.{is_tied}
-use Rattle.area_graph.specs.Drafts.{Adds, over_lsas}
+use Rattle.area_graph.specs.steps.Ties.{is_tied}
+use Rattle.area_graph.specs.steps.Drafts.{Adds, over_lsas}
 use Rattle.area_graph.proofs.links.add_edges.Given as goal
 
 abbrev pub invariant-loop-lsa : goal.invariant-loop-lsa

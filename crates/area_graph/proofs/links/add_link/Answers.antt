@@ -1,6 +1,6 @@
 use Rattle.std.proofs.Common.{◌∙◌, sym}
 use Rattle.std.proofs.lemmas.Result.{on_ok_weaker}
-use Rattle.area_graph.specs.Ties.{is_tied}
+use Rattle.area_graph.specs.steps.Ties.{is_tied}
 use Rattle.area_graph.proofs.AddsLemmas.{adds_no_target, adds_not_tied, adds_tied}
 use Rattle.area_graph.proofs.links.add_link.Goals as goal
 

@@ -1,5 +1,5 @@
 use Rattle.std.proofs.Common.{◌∙◌}
-use Rattle.area_graph.specs.Ties.{is_tied}
+use Rattle.area_graph.specs.steps.Ties.{is_tied}
 use Rattle.area_graph.proofs.AddsLemmas.{over_links-more}
 use Rattle.area_graph.proofs.links.add_links.Goals as goal
 

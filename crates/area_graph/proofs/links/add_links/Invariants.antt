@@ -1,6 +1,6 @@
 use Rattle.std.proofs.Common.{◌≡◌}
-use Rattle.area_graph.specs.Ties.{is_tied}
-use Rattle.area_graph.specs.Drafts.{Adds, over_links}
+use Rattle.area_graph.specs.steps.Ties.{is_tied}
+use Rattle.area_graph.specs.steps.Drafts.{Adds, over_links}
 use Rattle.area_graph.proofs.links.add_links.Given as goal
 
 abbrev pub invariant-loop-link : goal.invariant-loop-link

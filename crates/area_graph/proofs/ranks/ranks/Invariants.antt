@@ -1,5 +1,5 @@
 use Rattle.std.proofs.Common.{take}
-use Rattle.area_graph.specs.Ranks.{AreRanksOf}
+use Rattle.area_graph.specs.steps.Ranks.{AreRanksOf}
 use Rattle.area_graph.proofs.ranks.ranks.Given as goal
 
 abbrev pub invariant-loop-lsa : goal.invariant-loop-lsa

@@ -1,6 +1,6 @@
 use Rattle.std.specs.Prelude.{map}
 use Rattle.area_graph.specs.declared.vertex.Vertex.TheVariants.{Router}
-use Rattle.area_graph.specs.Ties.{AddsTies}
+use Rattle.area_graph.specs.steps.Ties.{AddsTies}
 use Rattle.area_graph.proofs.ties.tie_routers.Given as goal
 
 abbrev pub invariant-loop-router : goal.invariant-loop-router

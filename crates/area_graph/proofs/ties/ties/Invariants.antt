@@ -1,5 +1,5 @@
 use Rattle.std.proofs.Common.{take}
-use Rattle.area_graph.specs.Ties.{AreTiesOf}
+use Rattle.area_graph.specs.steps.Ties.{AreTiesOf}
 use Rattle.area_graph.proofs.ties.ties.Given as goal
 
 abbrev pub invariant-loop-lsa : goal.invariant-loop-lsa

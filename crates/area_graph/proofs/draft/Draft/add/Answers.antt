@@ -5,7 +5,7 @@ use Rattle.area_graph.specs.declared.vertex.Vertex.{Vertex}
 use Rattle.area_graph.specs.Vertex.{is_same}
 use Rattle.area_graph.specs.Paths.{DirectedEdge}
 use Rattle.area_graph.specs.Topology.{Topology}
-use Rattle.area_graph.specs.Drafts.{IsDraft}
+use Rattle.area_graph.specs.steps.Drafts.{IsDraft}
 use Rattle.area_graph.proofs.DraftLemmas.{adds_one, adds_none-from, adds_none-to}
 use Rattle.area_graph.proofs.draft.Draft.add.Goals as goal
 
