@@ -31,7 +31,7 @@ filter_few p xs j =
     omega (arith, ap (λ l. length (filter p l)) (take-append-drop j xs), ap length (filter-append p (take j xs) (drop j xs)), length-append (filter p (take j xs)) (filter p (drop j xs)))
 
 module _ (db : Lists) (router : RouterId) (i : ℕ) (area : AreaHead) (here : slice_get (areas_of db) i ≡ Some area) where
-  among_more : attached_among db router (take (i + 1) (areas_of db)) ≡ attached_among db router (take i (areas_of db)) ++ cond (joins db router area) (area ∷ []) []
+  pub among_more : attached_among db router (take (i + 1) (areas_of db)) ≡ attached_among db router (take i (areas_of db)) ++ cond (joins db router area) (area ∷ []) []
   among_more =
       ap (attached_among db router)
       (take_more (areas_of db) i area (slice_get_within (areas_of db) i area here) ∙ ap (λ a. take i (areas_of db) ++ a ∷ []) (get_or_from_slice_get (areas_of db) i area area here))
@@ -87,7 +87,7 @@ none_counted old n none = ap (λ l. counted_by (length l) n) (sym none)
 pub one_counted : (old new : ℕ) → new ≡ counted old → CountsAtMost 1 old new
 one_counted old new is = record { trees = suc zero; few = omega arith; counts = is }
 
-counted_twice : (j k n : ℕ) → counted_by j (counted_by k n) ≡ counted_by (j + k) n
+pub counted_twice : (j k n : ℕ) → counted_by j (counted_by k n) ≡ counted_by (j + k) n
 counted_twice zero k n = let none : k ≡ zero + k = omega arith in ap (λ m. counted_by m n) none
 counted_twice (suc j) k n = let one : suc (j + k) ≡ suc j + k = omega arith in ap counted (counted_twice j k n) ∙ ap (λ m. counted_by m n) one
 

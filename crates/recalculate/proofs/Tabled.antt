@@ -1,5 +1,5 @@
 -- The table from its parts.
-use Rattle.std.proofs.Common.{◌≡◌, ℕ, ◌≤◌, true, List, [], ◌∷◌, length, Option, Some, Result, Ok, Err, IfOk, IfErr, OnErr, inl, inr, zero, suc, refl, sym, ap, ◌∙◌, subst, arith}
+use Rattle.std.proofs.Common.{◌≡◌, ℕ, ◌≤◌, true, List, [], ◌∷◌, length, Option, Some, Result, Ok, Err, IfOk, IfErr, OnErr, OnOk, inl, inr, zero, suc, refl, sym, ap, ◌∙◌, subst, arith}
 use Rattle.std.specs.List.{slice_get}
 use Rattle.lsa_codec.specs.declared.address.RouterId.{RouterId}
 use Rattle.lsdb.specs.Lists.{AreaHead, Lists, areas_of}
@@ -98,3 +98,8 @@ if_table table d s router (Err e) same h = tt
 
 pub if_fault : {X : Type 0} (d s : Lists) (router : RouterId) (r : Result X TableFault) → d ≡ s → IfErr r (FaultMeans (table_in d router)) → IfErr r (FaultMeans (table_in s router))
 if_fault d s router r same h = subst (λ db. IfErr r (FaultMeans (table_in db router))) same h
+
+-- what holds anyhow holds of an answer
+pub on_ok : {T E P : Type 0} (r : Result T E) → P → OnOk r P
+on_ok (Ok v) p = p
+on_ok (Err e) p = tt

@@ -5,3 +5,6 @@ pub mod Counting
 pub mod Planning
 pub mod Counts
 pub mod Routers
+pub mod KeptTrees
+pub mod AreaTrees
+pub mod Reached

@@ -1,8 +1,10 @@
--- What a planner shows: its session, and how often it calculated trees.
+-- What a planner shows: its session, how often it calculated trees, and which it keeps.
 use Rattle.std.specs.Prelude.{ℕ}
 use Rattle.edit_history.specs.Session.{Session}
+use Rattle.recalculate.specs.KeptTrees.{KeptRouters}
 
--- a session, and how many trees were calculated for its tables
+-- a session, how many trees were calculated for its tables, and of which routers of which areas they are kept
 pub record PlannerValue : Type 0 where
   pub session : Session
   pub runs : ℕ
+  pub kept : KeptRouters

@@ -1,12 +1,15 @@
 //! A planner: a link state database with the edits that are done on it, and those that were undone.
 #![tactic(auto)]
 
+mod area_trees;
 mod attached;
 mod counts;
+mod kept_trees;
 mod laws;
 mod planner;
 mod prefer;
 mod results;
+mod study;
 mod table;
 
 pub use attached::routers;

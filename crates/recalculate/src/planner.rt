@@ -1,7 +1,9 @@
 //! A session of edits.
 
-use crate::table::{Table, TableFault, table_of};
-use edit_history::{EditFault, History, RedoFault, UndoFault, apply};
+use crate::kept_trees::KeptTrees;
+use crate::study::Study;
+use crate::table::{Table, TableFault, table_from};
+use edit_history::{EditFault, RedoFault, UndoFault};
 use edit_script::Edit;
 use lsa_codec::RouterId;
 use lsdb::Database;
@@ -9,68 +11,65 @@ use spf::Meter;
 use std::alloc::{AllocError, Allocator, Global};
 use std::marker::Model;
 
-/// The edits that may be done at a time.
-const MOST_EDITS: usize = 10_000;
-
 /// A link state database, the edits that led to it from the one that was loaded, and those that
 /// were undone since.
 ///
-/// It is seen as its session, which is the loaded database, the edits done and the edits undone,
-/// and as how many trees it has calculated. After any calls its database is the effect of the done
-/// edits, in order, on the loaded one.
+/// It is seen as its session, which is the loaded database, the edits done and the edits undone, as
+/// how many trees it has calculated, and as which of them it keeps for further tables. After any
+/// calls its database is the effect of the done edits, in order, on the loaded one.
 #[derive(Drop)]
 pub struct Planner<A: Allocator = Global> {
-    database: Database<A>,
-    history: History<A>,
+    study: Study<A>,
+    trees: KeptTrees<A>,
     meter: Meter,
 }
 
 impl<A: Allocator> Model for Planner<A> {
-    ghost use Rattle.edit_history.specs.Journal.{Links};
-    ghost use Rattle.edit_history.specs.Session.{session_of};
+    ghost use Rattle.edit_history.specs.Session.{state};
+    ghost use Rattle.recalculate.specs.AreaTrees.{AreOfDatabase, routers_of};
     ghost use Rattle.recalculate.specs.Planning.{PlannerValue};
 
     ghost Value = { PlannerValue };
 
-    ghost view = { λ p. record { session = session_of p.database p.history.lists; runs = p.meter } };
+    ghost view = { λ p. record { session = p.study; runs = p.meter; kept = routers_of p.trees } };
 
-    ghost invariant = { λ p. Links p.database p.history.lists };
+    ghost invariant = { λ p. AreOfDatabase (state p.study) p.trees };
 }
 
 impl<A: Allocator + Copy> Planner<A> {
-    ghost use Rattle.std.specs.Prelude.{◌≡◌, ◌≢◌, ◌≤◌, ◌↔◌, Ok, Err, Some, length, IsOk, OnOk, OnErr, IfOk, IfErr, IsErrOf};
+    ghost use Rattle.std.specs.Prelude.{◌≡◌, ◌≢◌, ◌≤◌, ◌↔◌, [], Ok, Err, Some, length, IsOk, OnOk, OnErr, IfOk, IfErr, IsErrOf};
     ghost use Rattle.lsdb.specs.Places.{lists_of};
     ghost use Rattle.lsdb.specs.Text.{text};
     ghost use Rattle.area_routes.specs.Attached.{attached_areas};
     ghost use Rattle.edit_history.specs.declared.fault.EditFault.TheVariants.{HistoryFull, OutOfMemory};
+    ghost use Rattle.edit_history.specs.Effect.{edit_touches};
     ghost use Rattle.recalculate.specs.Counting.{counted_by, CountsAtMost};
+    ghost use Rattle.recalculate.specs.KeptTrees.{IsWithin, areas_without_tree, is_kept, less_touched};
     ghost use Rattle.recalculate.specs.Tables.{table_in, FaultMeans};
-    ghost use Rattle.edit_history.specs.Session.{start, state, effects, most_edits, edited, moved_back, moved_on};
+    ghost use Rattle.edit_history.specs.Session.{start, state, effects, most_edits, edited, moved_back, moved_on, redo_touches, undo_touches};
 
     /// The session that begins at a database: no edit is done, none is undone, and no tree is
     /// calculated. It takes no memory.
-    #[tactic(auto, using(crate::proofs::Steps::start_links))]
     pub fn new(alloc: A, database: Database<A>) -> Planner<A>
         ensures session { result.session ≡ start (lists_of database) }
         ensures runs { result.runs ≡ 0 }
+        ensures kept { result.kept ≡ [] }
     {
-        database.known();
         Planner {
-            database,
-            history: History::new(alloc),
+            study: Study::new(alloc, database),
+            trees: KeptTrees::new(alloc),
             meter: Meter::new(),
         }
     }
 
     /// The database: the effects of the done edits, in order, on the one that the session began at.
     /// None of them is refused on the way.
-    #[tactic(auto, using(edit_history::proofs::Growing::state_is, edit_history::proofs::Folding::done_accepted))]
     pub fn database(&self) -> &Database<A>
         ensures state { lists_of result.now ≡ state self.now.session }
         ensures accepted { effects self.now.session.base self.now.session.done
             ≡ Ok (lists_of result.now) }
     {
-        &self.database
+        self.study.database()
     }
 
     /// The dump of the database. An error is want of memory.
@@ -80,7 +79,8 @@ impl<A: Allocator + Copy> Planner<A> {
         self.database().dump()
     }
 
-    /// Carries an edit out. The undone edits go.
+    /// Carries an edit out. The undone edits go, and the trees of the areas that it touches: those of
+    /// which it rewrites, removes or adds a router-LSA or network-LSA.
     ///
     /// # Errors
     ///
@@ -94,18 +94,16 @@ impl<A: Allocator + Copy> Planner<A> {
             (λ f. f ≢ OutOfMemory → edited self.old.session edit.now ≡ Err f) }
         ensures err { OnErr result (self.new ≡ self.old) }
         ensures runs { self.new.runs ≡ self.old.runs }
+        ensures kept { OnOk result (self.new.kept ≡ less_touched
+            (λ area. edit_touches area (state self.old.session) edit.now) self.old.kept) }
     {
-        if self.history.done() >= MOST_EDITS {
-            return Err(EditFault::HistoryFull);
-        }
-        self.history.reserve()?;
-        let entry = apply(&mut self.database, edit)?;
-        self.history.push(entry);
-        self.database.known();
+        self.study.edit(edit)?;
+        self.trees.drop_done(&self.study, 1);
         Ok(())
     }
 
-    /// Takes the last `count` done edits back. It takes no memory.
+    /// Takes the last `count` done edits back. The trees of the areas that they touch go. It takes no
+    /// memory.
     ///
     /// # Errors
     ///
@@ -116,11 +114,16 @@ impl<A: Allocator + Copy> Planner<A> {
         ensures session { OnOk result (self.new.session ≡ moved_back count self.old.session) }
         ensures err { OnErr result (self.new ≡ self.old) }
         ensures runs { self.new.runs ≡ self.old.runs }
+        ensures kept { OnOk result (self.new.kept ≡ less_touched
+            (λ area. undo_touches count area self.old.session) self.old.kept) }
     {
-        self.history.undo(&mut self.database, count as usize)
+        self.study.undo(count as usize)?;
+        self.trees.drop_undone(&self.study, count as usize);
+        Ok(())
     }
 
-    /// Carries the first `count` undone edits out again. It takes no memory.
+    /// Carries the first `count` undone edits out again. The trees of the areas that they touch go.
+    /// It takes no memory.
     ///
     /// # Errors
     ///
@@ -131,24 +134,26 @@ impl<A: Allocator + Copy> Planner<A> {
         ensures session { OnOk result (self.new.session ≡ moved_on count self.old.session) }
         ensures err { OnErr result (self.new ≡ self.old) }
         ensures runs { self.new.runs ≡ self.old.runs }
+        ensures kept { OnOk result (self.new.kept ≡ less_touched
+            (λ area. redo_touches count area self.old.session) self.old.kept) }
     {
-        self.history.redo(&mut self.database, count as usize)
+        self.study.redo(count as usize)?;
+        self.trees.drop_done(&self.study, count as usize);
+        Ok(())
     }
 
     /// How many edits are done.
-    #[tactic(auto, using(edit_history::proofs::Linked::done_len))]
     pub fn done(&self) -> usize
         ensures { result ≡ length self.now.session.done }
     {
-        self.history.done()
+        self.study.done()
     }
 
     /// How many edits are undone.
-    #[tactic(auto, using(edit_history::proofs::Linked::undone_len))]
     pub fn undone(&self) -> usize
         ensures { result ≡ length self.now.session.undone }
     {
-        self.history.undone()
+        self.study.undone()
     }
 
     /// How many shortest-path trees the planner has calculated for tables. Only
@@ -160,30 +165,34 @@ impl<A: Allocator + Copy> Planner<A> {
         self.meter.count()
     }
 
-    /// The routing table of a router in the session's database (RFC 2328, 16). A tree is calculated
-    /// for each area that the router is attached to. The session stays as it is, also after an
-    /// error.
+    /// The routing table of a router in the session's database (RFC 2328, 16). In each area that the
+    /// router is attached to its tree is calculated, unless it is kept, and then it is kept. The
+    /// session stays as it is, also after an error, and so do the trees that are kept.
     ///
     /// # Errors
     ///
     /// [`NoRouter`](TableFault::NoRouter) exactly where the router is attached to no area, and
-    /// [`OutOfMemory`](TableFault::OutOfMemory); the trees begun before it count.
+    /// [`OutOfMemory`](TableFault::OutOfMemory); the trees begun before it count, and those that
+    /// were finished are kept.
     pub fn table(&mut self, router: RouterId) -> Result<Table<A>, TableFault>
         ensures table { IfOk result (λ table. table_in (state self.old.session) router ≡ Some table) }
         ensures fault { IfErr result (FaultMeans (table_in (state self.old.session) router)) }
         ensures session { self.new.session ≡ self.old.session }
-        ensures runs { OnOk result (self.new.runs
-            ≡ counted_by (length (attached_areas (state self.old.session) router)) self.old.runs) }
+        ensures runs { OnOk result (self.new.runs ≡ counted_by (length (areas_without_tree
+            (is_kept self.old.kept) router (attached_areas (state self.old.session) router))) self.old.runs) }
         ensures no_router { result ≡ Err TableFault.NoRouter → self.new.runs ≡ self.old.runs }
-        ensures at_most { CountsAtMost (length (attached_areas (state self.old.session) router))
-            self.old.runs self.new.runs }
+        ensures at_most { CountsAtMost (length (areas_without_tree (is_kept self.old.kept) router
+            (attached_areas (state self.old.session) router))) self.old.runs self.new.runs }
+        ensures kept { OnOk result (areas_without_tree (is_kept self.new.kept) router
+            (attached_areas (state self.old.session) router) ≡ []) }
+        ensures keeps { IsWithin (is_kept self.old.kept) (is_kept self.new.kept) }
     {
-        table_of(
-            self.database.alloc(),
-            &self.database,
-            router,
-            &mut self.meter,
-        )
+        let database = self.study.database();
+        let alloc = database.alloc();
+        let results = self
+            .trees
+            .results_of(alloc, database, router, &mut self.meter)?;
+        table_from(alloc, database, router, &results)
     }
 
     /// The routing table of a router in the database that the session began at. The session stays
@@ -196,16 +205,14 @@ impl<A: Allocator + Copy> Planner<A> {
         ensures table { IfOk result (λ table. table_in self.old.session.base router ≡ Some table) }
         ensures fault { IfErr result (FaultMeans (table_in self.old.session.base router)) }
         ensures session { self.new.session ≡ self.old.session }
+        ensures kept { self.new.kept ≡ self.old.kept }
         ensures runs { OnOk result (self.new.runs
             ≡ counted_by (length (attached_areas self.old.session.base router)) self.old.runs) }
         ensures no_router { result ≡ Err TableFault.NoRouter → self.new.runs ≡ self.old.runs }
         ensures at_most { CountsAtMost (length (attached_areas self.old.session.base router))
             self.old.runs self.new.runs }
     {
-        let done = self.undo_all();
-        let table = self.table(router);
-        self.redo_all(done);
-        table
+        self.study.base_table(router, &mut self.meter)
     }
 
     /// A copy of the database that the session began at. The session stays as it is, also where
@@ -214,30 +221,6 @@ impl<A: Allocator + Copy> Planner<A> {
         ensures base { IfOk result (λ database. lists_of database ≡ self.old.session.base) }
         ensures kept { self.new ≡ self.old }
     {
-        let done = self.undo_all();
-        let copy = self.database.clone_of();
-        self.redo_all(done);
-        copy
-    }
-
-    /// Takes all done edits back, and tells how many they were.
-    fn undo_all(&mut self) -> usize
-        ensures count { result ≡ length self.old.session.done }
-        ensures session { self.new.session
-            ≡ moved_back (length self.old.session.done) self.old.session }
-        ensures runs { self.new.runs ≡ self.old.runs }
-    {
-        let done = self.done();
-        let _ = self.history.undo(&mut self.database, done);
-        done
-    }
-
-    /// Carries the first `count` undone edits out again.
-    fn redo_all(&mut self, count: usize)
-        requires { count ≤ length self.old.session.undone }
-        ensures session { self.new.session ≡ moved_on count self.old.session }
-        ensures runs { self.new.runs ≡ self.old.runs }
-    {
-        let _ = self.history.redo(&mut self.database, count);
+        self.study.base()
     }
 }

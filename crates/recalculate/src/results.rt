@@ -21,7 +21,7 @@ use spf::{Meter, SpfFault, Tree};
 use std::alloc::{AllocError, Allocator};
 
 /// The graph of an area to which a router is attached.
-fn graph_of<A: Allocator + Copy>(
+pub(crate) fn graph_of<A: Allocator + Copy>(
     alloc: A,
     database: &Database<A>,
     area: AreaId,
@@ -39,7 +39,7 @@ fn graph_of<A: Allocator + Copy>(
 }
 
 /// The tree of a router that is in the graph. The meter counts it.
-fn tree_of<A: Allocator + Copy>(
+pub(crate) fn tree_of<A: Allocator + Copy>(
     alloc: A,
     graph: &Graph<A>,
     router: RouterId,

@@ -5,7 +5,7 @@ ghost use Rattle.lsdb.specs.Places.{lists_of};
 ghost use Rattle.area_routes.specs.Attached.{attached_areas};
 ghost use Rattle.recalculate.specs.declared.table.TableFault.TheVariants.{OutOfMemory};
 ghost use Rattle.recalculate.specs.Counting.{counted_by, CountsAtMost};
-ghost use Rattle.recalculate.specs.Tables.{table_in, routes_from, FaultMeans};
+ghost use Rattle.recalculate.specs.Tables.{results_in, table_in, routes_from, FaultMeans};
 ghost use Rattle.recalculate.specs.Fault.{code_of, name_of};
 
 use crate::prefer::{prefer, prefer_intra};
@@ -125,10 +125,27 @@ pub fn table_of<A: Allocator + Copy>(
         meter.old meter.new }
 {
     let results = results_of(alloc, database, router, meter)?;
+    table_from(alloc, database, router, &results)
+}
+
+/// The routing table of a router from what each area gives that it is attached to.
+pub(crate) fn table_from<A: Allocator + Copy>(
+    alloc: A,
+    database: &Database<A>,
+    router: RouterId,
+    results: &[AreaResult<A>],
+) -> Result<Table<A>, TableFault>
+    requires { results.now ≡ results_in (lists_of database.now) router
+        (attached_areas (lists_of database.now) router) }
+    ensures table { IfOk result (λ table. table_in (lists_of database.now) router ≡ Some table) }
+    ensures fault { IfErr result (FaultMeans (table_in (lists_of database.now) router)) }
+    ensures no_router { result ≡ Err TableFault.NoRouter
+        → attached_areas (lists_of database.now) router ≡ [] }
+{
     if results.is_empty() {
         return Err(TableFault::NoRouter);
     }
-    let routes = routes_from(alloc, database, router, &results)?;
+    let routes = routes_from(alloc, database, router, results)?;
     Ok(Table { router, routes })
 }
 

@@ -1,32 +1,19 @@
-use Rattle.std.proofs.Common.{sym, ap, ◌∙◌, subst, arith}
-use Rattle.std.proofs.lemmas.Result.{err_from_is_err_and}
-use Rattle.edit_history.specs.Journal.{HistoryData, Links}
-use Rattle.edit_history.specs.Session.{session_of, edited}
-use Rattle.edit_history.proofs.Growing.{recorded}
+use Rattle.std.proofs.Common.{◌∙◌, refl, ap}
+use Rattle.edit_history.specs.Effect.{edit_touches}
+use Rattle.edit_history.specs.Session.{state}
+use Rattle.recalculate.specs.KeptTrees.{less_touched}
 use Rattle.recalculate.specs.Planning.{PlannerValue}
-use Rattle.recalculate.proofs.Steps.{edited_full, edited_refused, edited_accepted, answer, pushed}
+use Rattle.recalculate.proofs.Touches.{edited_kept, one_done}
 use Rattle.recalculate.proofs.planner.Planner.edit.Goals as goal
 
-pub returns-then-done-ge-MOST_EDITS-clause-refused : goal.returns-then-done-ge-MOST_EDITS-clause-refused
-returns-then-done-ge-MOST_EDITS-clause-refused g c = λ _.
-    ap (λ (p : PlannerValue). edited p.session c.args.edit.now) (sym c.self.view_is)
-    ∙ edited_full c.self.inside.database c.self.inside.history.lists c.args.edit.now (omega (arith, c.done.ensures, c.if-done-ge-MOST_EDITS.true))
-
-pub returns-in_err-entry-clause-refused : goal.returns-in_err-entry-clause-refused
-returns-in_err-entry-clause-refused g c =
-    let gave = err_from_is_err_and c.from_residual-in_err-entry.result c.from_residual-in_err-entry.ensures.1 in
-    rw (gave.1, gave.2)
-    (λ known.
-    ap (λ (p : PlannerValue). edited p.session c.args.edit.now) (sym c.self.view_is)
-    ∙ edited_refused c.self.inside.database c.self.inside.history.lists c.args.edit.now c.in_err-entry.field-0.0 (omega (arith, c.done.ensures, c.if-done-ge-MOST_EDITS.false)) c.self.invariant (c.in_err-entry.ensures.refused.known known))
+pub drop_done-requires : goal.drop_done-requires
+drop_done-requires g c = one_done c.self.inside.study c.edit.new.self c.args.edit.now c.in_ok-edit.ensures.ok
 
 pub invariant_of-self-2 : goal.invariant_of-self-2
 invariant_of-self-2 g c =
-    subst (λ (h : HistoryData). Links c.apply.new.database h) (sym (c.push.ensures ∙ ap (pushed c.in_ok-entry.entry) c.reserve.ensures.lists))
-    (recorded c.self.inside.database c.apply.new.database c.self.inside.history.lists c.args.edit.now c.in_ok-entry.entry c.self.invariant c.known.ensures c.in_ok-entry.ensures.applied).links
+    (edited_kept c.self.inside.trees c.drop_done.new.self c.self.inside.study c.edit.new.self c.self.invariant c.args.edit.now c.in_ok-edit.ensures.reached c.in_ok-edit.ensures.ok c.drop_done.ensures).graphs
 
-pub returns-clause-ok : goal.returns-clause-ok
-returns-clause-ok g c =
-    ap (λ (p : PlannerValue). edited p.session c.args.edit.now) (sym c.self.view_is)
-    ∙ edited_accepted c.self.inside.database c.apply.new.database c.self.inside.history.lists c.args.edit.now c.in_ok-entry.entry (omega (arith, c.done.ensures, c.if-done-ge-MOST_EDITS.false)) c.self.invariant c.known.ensures c.in_ok-entry.ensures.applied
-    ∙ ap (λ (h : HistoryData). answer (session_of c.apply.new.database h)) (sym (c.push.ensures ∙ ap (pushed c.in_ok-entry.entry) c.reserve.ensures.lists))
+pub returns-clause-kept : goal.returns-clause-kept
+returns-clause-kept g c =
+    (edited_kept c.self.inside.trees c.drop_done.new.self c.self.inside.study c.edit.new.self c.self.invariant c.args.edit.now c.in_ok-edit.ensures.reached c.in_ok-edit.ensures.ok c.drop_done.ensures).shown
+    ∙ ap (λ (p : PlannerValue). less_touched (λ area. edit_touches area (state p.session) c.args.edit.now) p.kept) c.self.view_is

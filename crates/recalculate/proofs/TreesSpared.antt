@@ -1,0 +1,83 @@
+-- Which trees of areas are kept, and which stay those of the database after edits.
+use Rattle.std.proofs.Common.{◌≡◌, ℕ, Bool, true, false, not, cond, List, [], ◌∷◌, map, filter, Option, Some, None, IfSome, is_some, refl, sym, ap, ◌∙◌, subst}
+use Rattle.std.specs.Prelude.{◌||◌}
+use Rattle.std.specs.Cmp.{Equal-is}
+use Rattle.std.specs.List.{list_any}
+use Rattle.std.specs.Map.{keys_of, lookup}
+use Rattle.std.specs.Option.{option_map_or}
+use Rattle.std.specs.Ordering.{eq_by_cmp}
+use Rattle.std.proofs.lemmas.Map.Entries.{lookup-filter-keys}
+use Rattle.lsa_codec.specs.declared.address.AreaId.{AreaId}
+use Rattle.lsa_codec.specs.declared.address.RouterId.{RouterId}
+use Rattle.lsdb.specs.declared.section.Section.TheVariants.{Area}
+use Rattle.lsdb.specs.Lists.{Lists, lsas_of}
+use Rattle.area_graph.specs.Graphs.{IsGraphOf}
+use Rattle.area_routes.specs.Order.{area_cmp, router_cmp}
+use Rattle.area_routes.proofs.OrderLemmas.{area_exact}
+use Rattle.edit_history.specs.Effect.{graph_lsas}
+use Rattle.recalculate.specs.AreaTrees.{AreaTreesValue, AreasTrees, AreOfDatabase, RouterTreeValue, has_tree, routers_of, trees_at, trees_in}
+use Rattle.recalculate.specs.KeptTrees.{KeptRouters, TreeSet, is_kept, less_touched}
+use Rattle.recalculate.proofs.SameGraph.{same_graph}
+
+-- ---- what is shown of the trees
+
+any_key : (router : RouterId) (trees : List (RouterId × RouterTreeValue)) → list_any (eq_by_cmp router_cmp router) (keys_of trees) ≡ is_some (lookup (eq_by_cmp router_cmp router) trees)
+any_key router [] = refl
+any_key router (t ∷ trees) = by (eq_by_cmp router_cmp router t.0) (any_key router trees)
+  where
+    by : (b : Bool) → list_any (eq_by_cmp router_cmp router) (keys_of trees) ≡ is_some (lookup (eq_by_cmp router_cmp router) trees)
+        → (b || list_any (eq_by_cmp router_cmp router) (keys_of trees)) ≡ is_some (cond b (Some t.1) (lookup (eq_by_cmp router_cmp router) trees))
+    by true rest = refl
+    by false rest = rest
+
+told_at : (areas : AreasTrees) (area : AreaId) (router : RouterId) → is_kept (routers_of areas) area router ≡ trees_in areas area router
+told_at [] area router = refl
+told_at (a ∷ areas) area router = by (eq_by_cmp area_cmp area a.0) (told_at areas area router)
+  where
+    any_of : List RouterId → Bool
+    any_of routers = list_any (eq_by_cmp router_cmp router) routers
+
+    has : AreaTreesValue → Bool
+    has kept = has_tree kept router
+
+    by : (b : Bool) → is_kept (routers_of areas) area router ≡ trees_in areas area router
+        → option_map_or any_of (cond b (Some (keys_of a.1.trees)) (lookup (eq_by_cmp area_cmp area) (routers_of areas))) false
+        ≡ option_map_or has (cond b (Some a.1) (lookup (eq_by_cmp area_cmp area) areas)) false
+    by true rest = any_key router a.1.trees
+    by false rest = rest
+
+pub told : (areas : AreasTrees) → is_kept (routers_of areas) ≡ trees_in areas
+told areas = λ i area router. told_at areas area router i
+
+-- ---- the trees of touched areas go
+
+abbrev pub untouched : (AreaId → Bool) → AreasTrees → AreasTrees
+untouched is_touched areas = filter (λ a. not (is_touched a.0)) areas
+
+pub told_untouched : (is_touched : AreaId → Bool) (areas : AreasTrees) → routers_of (untouched is_touched areas) ≡ less_touched is_touched (routers_of areas)
+told_untouched is_touched [] = refl
+told_untouched is_touched (a ∷ areas) = by (is_touched a.0) (told_untouched is_touched areas)
+  where
+    by : (b : Bool) → routers_of (untouched is_touched areas) ≡ less_touched is_touched (routers_of areas)
+        → routers_of (cond (not b) (a ∷ untouched is_touched areas) (untouched is_touched areas))
+        ≡ cond (not b) ((a.0, keys_of a.1.trees) ∷ less_touched is_touched (routers_of areas)) (less_touched is_touched (routers_of areas))
+    by true rest = rest
+    by false rest = ap (λ (l : KeptRouters). (a.0, keys_of a.1.trees) ∷ l) rest
+
+module _ (db after : Lists) (is_touched : AreaId → Bool) (stay : (area : AreaId) → is_touched area ≡ false → graph_lsas area after ≡ graph_lsas area db) where
+  of_area : (area : AreaId) (o : Option AreaTreesValue) → is_touched area ≡ false → IfSome o (λ kept. IsGraphOf (lsas_of (Area area) db) kept.graph)
+      → IfSome o (λ kept. IsGraphOf (lsas_of (Area area) after) kept.graph)
+  of_area area None apart h = tt
+  of_area area (Some kept) apart h = same_graph (lsas_of (Area area) db) (lsas_of (Area area) after) (sym (stay area apart)) kept.graph h
+
+  pub untouched_stay : (areas : AreasTrees) → AreOfDatabase db areas → AreOfDatabase after (untouched is_touched areas)
+  untouched_stay areas all area = by (is_touched area) refl
+    where
+      keeps : (b : Bool) → is_touched area ≡ b → trees_at (untouched is_touched areas) area ≡ cond (not b) (trees_at areas area) None
+      keeps b e =
+          lookup-filter-keys (eq_by_cmp area_cmp area) (λ a. not (is_touched a)) (not b)
+          (λ a same. ap (λ x. not (is_touched x)) (sym (area_exact area a ((Equal-is (area_cmp area a)).0 same))) ∙ ap not e) areas
+
+      by : (b : Bool) → is_touched area ≡ b → IfSome (trees_at (untouched is_touched areas) area) (λ kept. IsGraphOf (lsas_of (Area area) after) kept.graph)
+      by true e = subst (λ o. IfSome o (λ kept. IsGraphOf (lsas_of (Area area) after) kept.graph)) (sym (keeps true e)) tt
+      by false e = subst (λ o. IfSome o (λ kept. IsGraphOf (lsas_of (Area area) after) kept.graph)) (sym (keeps false e)) (of_area area (trees_at areas area) e (all area))

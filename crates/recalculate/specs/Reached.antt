@@ -1,0 +1,13 @@
+-- Sessions that a planner can show.
+use Rattle.std.specs.Prelude.{◌≡◌}
+use Rattle.lsdb.specs.Places.{Places}
+use Rattle.edit_history.specs.Journal.{HistoryData, Links}
+use Rattle.edit_history.specs.Session.{Session, session_of}
+
+-- a history shows the session at the database that it led to; so each of its done edits was accepted, and so is each undone one
+-- in its turn
+pub record IsReached (s : Session) : Type 0 where
+  pub places : Places
+  pub history : HistoryData
+  pub links : Links places history
+  pub shows : session_of places history ≡ s

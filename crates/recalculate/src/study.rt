@@ -1,0 +1,193 @@
+//! A database under its edits.
+
+use crate::table::{Table, TableFault, table_of};
+use edit_history::{EditFault, History, RedoFault, UndoFault, apply};
+use edit_script::Edit;
+use lsa_codec::{AreaId, RouterId};
+use lsdb::Database;
+use spf::Meter;
+use std::alloc::{AllocError, Allocator};
+use std::marker::Model;
+
+/// The edits that may be done at a time.
+const MOST_EDITS: usize = 10_000;
+
+/// A link state database, the edits that led to it from the one that was loaded, and those that
+/// were undone since. Contracts see it as its session.
+#[derive(Drop)]
+pub(crate) struct Study<A: Allocator> {
+    database: Database<A>,
+    history: History<A>,
+}
+
+impl<A: Allocator> Model for Study<A> {
+    ghost use Rattle.edit_history.specs.Journal.{Links};
+    ghost use Rattle.edit_history.specs.Session.{Session, session_of};
+
+    ghost Value = { Session };
+
+    ghost view = { λ s. session_of s.database s.history.lists };
+
+    ghost invariant = { λ s. Links s.database s.history.lists };
+}
+
+impl<A: Allocator + Copy> Study<A> {
+    ghost use Rattle.std.specs.Prelude.{◌≡◌, ◌≢◌, ◌≤◌, ◌↔◌, Ok, Err, Some, length, IsOk, OnOk, OnErr, IfOk, IfErr, IsErrOf};
+    ghost use Rattle.lsdb.specs.Lists.{IsDatabase};
+    ghost use Rattle.lsdb.specs.Places.{lists_of};
+    ghost use Rattle.area_routes.specs.Attached.{attached_areas};
+    ghost use Rattle.edit_history.specs.declared.fault.EditFault.TheVariants.{HistoryFull, OutOfMemory};
+    ghost use Rattle.edit_history.specs.Session.{start, state, effects, most_edits, edited, moved_back, moved_on, redo_touches, undo_touches};
+    ghost use Rattle.recalculate.specs.Counting.{counted_by, CountsAtMost};
+    ghost use Rattle.recalculate.specs.Reached.{IsReached};
+    ghost use Rattle.recalculate.specs.Tables.{table_in, FaultMeans};
+
+    /// The study of a database, without edits. It takes no memory.
+    #[tactic(auto, using(crate::proofs::Steps::start_links))]
+    pub(crate) fn new(alloc: A, database: Database<A>) -> Study<A>
+        ensures { result ≡ start (lists_of database) }
+    {
+        // That it is a database is what the history's invariant asks for.
+        database.known();
+        Study {
+            database,
+            history: History::new(alloc),
+        }
+    }
+
+    /// The database: the effects of the done edits, in order, on the one that was loaded.
+    #[tactic(auto, using(edit_history::proofs::Growing::state_is, edit_history::proofs::Folding::done_accepted))]
+    pub(crate) fn database(&self) -> &Database<A>
+        ensures state { lists_of result.now ≡ state self.now }
+        ensures accepted { effects self.now.base self.now.done ≡ Ok (lists_of result.now) }
+    {
+        &self.database
+    }
+
+    /// Carries an edit out. The undone edits go.
+    pub(crate) fn edit(&mut self, edit: &Edit) -> Result<(), EditFault>
+        ensures ok { OnOk result (edited self.old edit.now ≡ Ok self.new) }
+        ensures full { most_edits ≤ length self.old.done → IsErrOf result HistoryFull }
+        ensures refused { IfErr result (λ f. f ≢ OutOfMemory → edited self.old edit.now ≡ Err f) }
+        ensures err { OnErr result (self.new ≡ self.old) }
+        ensures reached { OnOk result (IsReached self.new) }
+    {
+        if self.history.done() >= MOST_EDITS {
+            return Err(EditFault::HistoryFull);
+        }
+        self.history.reserve()?;
+        let record = apply(&mut self.database, edit)?;
+        self.history.push(record);
+        // That the edit left a database is what the history's invariant asks for.
+        self.database.known();
+        Ok(())
+    }
+
+    /// Takes the last `count` done edits back, if so many are done. It takes no memory.
+    pub(crate) fn undo(&mut self, count: usize) -> Result<(), UndoFault>
+        ensures ok { IsOk result ↔ (count ≤ length self.old.done) }
+        ensures session { OnOk result (self.new ≡ moved_back count self.old) }
+        ensures err { OnErr result (self.new ≡ self.old) }
+        ensures reached { IsReached self.old }
+    {
+        self.history.undo(&mut self.database, count)
+    }
+
+    /// Carries the first `count` undone edits out again, if so many are undone. It takes no memory.
+    pub(crate) fn redo(&mut self, count: usize) -> Result<(), RedoFault>
+        ensures ok { IsOk result ↔ (count ≤ length self.old.undone) }
+        ensures session { OnOk result (self.new ≡ moved_on count self.old) }
+        ensures err { OnErr result (self.new ≡ self.old) }
+        ensures reached { IsReached self.old }
+    {
+        self.history.redo(&mut self.database, count)
+    }
+
+    /// Whether one of the last `count` done edits touches an area, where so many are done: it
+    /// rewrote, removed or added a router-LSA or network-LSA of it. It takes no memory.
+    #[tactic(auto, using(edit_history::proofs::Linked::done_len))]
+    pub(crate) fn undo_touches(&self, count: usize, area: AreaId) -> bool
+        ensures { count ≤ length self.now.done → result ≡ undo_touches count area self.now }
+    {
+        count <= self.history.done() && self.history.undo_touches(count, area)
+    }
+
+    /// Whether one of the first `count` undone edits touches an area, where so many are undone. It
+    /// takes no memory.
+    #[tactic(auto, using(edit_history::proofs::Linked::undone_len))]
+    pub(crate) fn redo_touches(&self, count: usize, area: AreaId) -> bool
+        ensures { count ≤ length self.now.undone → result ≡ redo_touches count area self.now }
+    {
+        count <= self.history.undone() && self.history.redo_touches(count, area)
+    }
+
+    /// How many edits are done.
+    #[tactic(auto, using(edit_history::proofs::Linked::done_len))]
+    pub(crate) fn done(&self) -> usize
+        ensures { result ≡ length self.now.done }
+    {
+        self.history.done()
+    }
+
+    /// How many edits are undone.
+    #[tactic(auto, using(edit_history::proofs::Linked::undone_len))]
+    pub(crate) fn undone(&self) -> usize
+        ensures { result ≡ length self.now.undone }
+    {
+        self.history.undone()
+    }
+
+    /// The routing table of a router in the loaded database, whose trees the meter counts. All
+    /// edits are taken back for it, and carried out again.
+    pub(crate) fn base_table(
+        &mut self,
+        router: RouterId,
+        meter: &mut Meter,
+    ) -> Result<Table<A>, TableFault>
+        ensures table { IfOk result (λ table. table_in self.old.base router ≡ Some table) }
+        ensures fault { IfErr result (FaultMeans (table_in self.old.base router)) }
+        ensures session { self.new ≡ self.old }
+        ensures meter { OnOk result (meter.new
+            ≡ counted_by (length (attached_areas self.old.base router)) meter.old) }
+        ensures no_router { result ≡ Err TableFault.NoRouter → meter.new ≡ meter.old }
+        ensures at_most { CountsAtMost (length (attached_areas self.old.base router))
+            meter.old meter.new }
+    {
+        let done = self.undo_all();
+        let database = self.database();
+        let table = table_of(database.alloc(), database, router, meter);
+        self.redo_all(done);
+        table
+    }
+
+    /// A copy of the loaded database. All edits are taken back for it, and carried out again.
+    pub(crate) fn base(&mut self) -> Result<Database<A>, AllocError>
+        ensures base { IfOk result (λ database. lists_of database ≡ self.old.base) }
+        ensures kept { self.new ≡ self.old }
+    {
+        let done = self.undo_all();
+        let copy = self.database().clone_of();
+        self.redo_all(done);
+        copy
+    }
+
+    /// Takes all done edits back, and tells how many they were.
+    fn undo_all(&mut self) -> usize
+        ensures count { result ≡ length self.old.done }
+        ensures session { self.new ≡ moved_back (length self.old.done) self.old }
+    {
+        let done = self.done();
+        // It is not refused: so many are done.
+        let _ = self.undo(done);
+        done
+    }
+
+    /// Carries the first `count` undone edits out again.
+    fn redo_all(&mut self, count: usize)
+        requires { count ≤ length self.old.undone }
+        ensures { self.new ≡ moved_on count self.old }
+    {
+        // It is not refused: so many are undone.
+        let _ = self.redo(count);
+    }
+}
