@@ -25,6 +25,9 @@ returns-clause-at_most g c =
     one_missing (has_tree c.args.self.now c.args.router) c.args.meter.now c.tree_of.new.meter
     (ap (λ (a : AreaTreesValue). has_tree a c.args.router) (sym c.self.view_is) ∙ sym c.contains_key.ensures ∙ c.if-contains_key.false) c.tree_of.ensures.meter
 
+pub invariant_of-self : goal.invariant_of-self
+invariant_of-self g c = rw c.in_err-insert.ensures.err c.self.invariant
+
 pub invariant_of-self-2 : goal.invariant_of-self-2
 invariant_of-self-2 g c =
     trees_stay c.self.inside.trees.entries c.insert.new.self.entries c.args.router _ c.in_ok-insert.ensures.updates.0 c.self.inside.graph
