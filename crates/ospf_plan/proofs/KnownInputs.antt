@@ -1,6 +1,6 @@
 -- What a run is answered, from what was read of its inputs.
 use Rattle.std.proofs.Common.{◌≡◌, ◌∙◌, Bool, true, false, true≢false, ap, sym, subst, refl, ℕ, List, [], length, Option, None, Some, Ok, Err, inl, inr}
-use Rattle.std.specs.Prelude.{IfSome}
+use Rattle.std.specs.Prelude.{IfSome, IfErr, Result}
 use Rattle.std.specs.Io.KnownBytes.{Appends, Keeps}
 use Rattle.std.proofs.KnownBytes.{Appends-nil, Appends-kept}
 use Rattle.std.proofs.lemmas.Bool.{cond_below}
@@ -111,6 +111,7 @@ if_written_kept a b c None script whole text kept = tt
 if_written_kept a b c (Some bytes) None whole text kept = tt
 if_written_kept a b c (Some bytes) (Some known) whole text kept = Appends-kept a b c (whole bytes known) text kept
 
--- a writer that has failed can not be one that has not
-pub untouched_unless_failed : {failed : Bool} {P : Type 0} → failed ≡ true → failed ≡ false → P
-untouched_unless_failed failing open_still = absurd (true≢false (sym failing ∙ open_still))
+-- what holds anyhow holds after each error of some kind
+pub after_errors : {T F K : Type 0} (r : Result T F) (Q : F → Type 0) → K → IfErr r (λ fault. Q fault → K)
+after_errors (Ok _) Q kept = tt
+after_errors (Err fault) Q kept = λ _. kept

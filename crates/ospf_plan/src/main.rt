@@ -24,8 +24,8 @@ mod script;
 #[cfg(test)]
 mod tests;
 
-use clap::Error;
 use arguments::{Options, OptionsFault};
+use clap::Error;
 use command_line::options;
 use exit::exit_line;
 use fault::{ExitFault, RunFault};

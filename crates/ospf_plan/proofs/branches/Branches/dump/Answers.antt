@@ -14,6 +14,9 @@ returns-in-Some-clause-dump g c =
     ∙ ap (λ (n : Named). sessions_of n c.args.branch) c.self.view_is)
     c.dump-in-Some.ensures
 
+pub invariant_of-self-in-None : goal.invariant_of-self-in-None
+invariant_of-self-in-None g c = rw c.base.ensures.kept c.self.invariant
+
 pub returns-in_ok-base-in-None-clause-dump : goal.returns-in_ok-base-in-None-clause-dump
 returns-in_ok-base-in-None-clause-dump g c =
     let behind = ne_eqb c.args.branch 0 c.if-branch-eq0.false in
