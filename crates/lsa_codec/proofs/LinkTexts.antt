@@ -27,7 +27,7 @@ number_at-moved (suc n) i offset text bytes at fits =
     let here = at.here i (omega arith) in
     let next : suc (offset + i) ≡ offset + suc i = omega arith in
     let rest : number_at n (suc (offset + i)) bytes ≡ number_at n (suc i) text =
-        ap (λ k. number_at n k bytes) next ∙ number_at-moved n (suc i) offset text bytes at (omega arith) in
+    ap (λ k. number_at n k bytes) next ∙ number_at-moved n (suc i) offset text bytes at (omega arith) in
     rw (here, rest) refl
 
 pub link_at-moved : (offset : ℕ) (text bytes : List ℕ) → StandsAt offset text bytes → 12 ≤ length text
@@ -35,7 +35,7 @@ pub link_at-moved : (offset : ℕ) (text bytes : List ℕ) → StandsAt offset t
 link_at-moved offset text bytes at long =
     let start : offset + 0 ≡ offset = omega arith in
     let id : number_at 4 offset bytes ≡ number_at 4 0 text =
-        ap (λ k. number_at 4 k bytes) (sym start) ∙ number_at-moved 4 0 offset text bytes at (omega arith) in
+    ap (λ k. number_at 4 k bytes) (sym start) ∙ number_at-moved 4 0 offset text bytes at (omega arith) in
     let data' = number_at-moved 4 4 offset text bytes at (omega arith) in
     let kind = at.here 8 (omega arith) in
     let metric = number_at-moved 2 10 offset text bytes at (omega arith) in

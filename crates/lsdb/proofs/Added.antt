@@ -46,7 +46,7 @@ no_key key (x ∷ xs) e = by_test (has_key key x) refl (no_key key xs) e where
     apart : has_key key x ≡ false → key_of x ≢ key
     apart is same =
         let yes' : has_key key x ≡ true =
-            and_from _ _ (eq-eqb _ _ (ap (λ (k : Key). k.kind) same)) (and_from _ _ (eq-eqb _ _ (ap (λ (k : Key). k.id.0) same)) (eq-eqb _ _ (ap (λ (k : Key). k.adv.0) same))) in
+        and_from _ _ (eq-eqb _ _ (ap (λ (k : Key). k.kind) same)) (and_from _ _ (eq-eqb _ _ (ap (λ (k : Key). k.id.0) same)) (eq-eqb _ _ (ap (λ (k : Key). k.adv.0) same))) in
         absurd (let no' : true ≡ false = sym yes' ∙ is in cc)
 
 pairs_push : (ks : List Key) (k : Key) → AllPairs (λ a b. a ≢ b) ks → All (λ j. j ≢ k) ks → AllPairs (λ a b. a ≢ b) (ks ++ k ∷ [])
@@ -108,7 +108,7 @@ pub added_safe : (db : Lists) (i : ℕ) (s : SectionLsas) (x : List ℕ) → ite
 added_safe db i s x at fits h =
     let w = split db i s (with_lsa x) at in
     let same_heads : heads_of (update_at (with_lsa x) db i) ≡ heads_of db =
-        ap heads_of w.after ∙ map_mid head_in w.low w.high (with_lsa x s) ∙ sym (ap heads_of w.before ∙ map_mid head_in w.low w.high s) in
+    ap heads_of w.after ∙ map_mid head_in w.low w.high (with_lsa x s) ∙ sym (ap heads_of w.before ∙ map_mid head_in w.low w.high s) in
     let old_size = ap (sum_by section_size) w.before ∙ size_around w.low w.high s in
     let new_size = ap (sum_by section_size) w.after ∙ size_around w.low w.high (with_lsa x s) in
     record {

@@ -141,12 +141,12 @@ sections_take at db after fits e =
     let number : c.0.0 ≡ area_count (areas ++ wide ∷ []) = sym size ∙ sym (area_count-push areas wide) in
     let first : Takes at (to_be_bytes w8 (area_count (areas ++ wide ∷ []))) c.0.1 = subst (λ (n : ℕ). Takes at (to_be_bytes w8 n) c.0.1) number t1.0 in
     let listed : Takes c.0.1 (flat_map section_text areas) d.0.1 =
-        subst (λ (xs : Lists). Takes c.0.1 (flat_map section_text xs) d.0.1) (sym t2.all_is) t2.takes in
+    subst (λ (xs : Lists). Takes c.0.1 (flat_map section_text xs) d.0.1) (sym t2.all_is) t2.takes in
     let last : Takes d.0.1 (section_text wide) f.0.1 = subst (λ (t : List ℕ). Takes d.0.1 t f.0.1) (sym (wide_text wide t3.head)) t3.takes in
     let all : Takes c.0.1 (flat_map section_text (areas ++ wide ∷ [])) f.0.1 =
-        subst (λ (t : List ℕ). Takes c.0.1 t f.0.1) (sym (flat_map-push areas wide)) (Takes-then c.0.1 (flat_map section_text areas) d.0.1 (section_text wide) f.0.1 listed last) in
+    subst (λ (t : List ℕ). Takes c.0.1 t f.0.1) (sym (flat_map-push areas wide)) (Takes-then c.0.1 (flat_map section_text areas) d.0.1 (section_text wide) f.0.1 listed last) in
     let heads : heads_of (areas ++ wide ∷ []) ≡ heads_of areas ++ None ∷ [] =
-        map_push (λ (s : SectionLsas). s.area) areas wide ∙ ap (λ (h : Option AreaHead). heads_of areas ++ h ∷ []) (sym t3.head) in
+    map_push (λ (s : SectionLsas). s.area) areas wide ∙ ap (λ (h : Option AreaHead). heads_of areas ++ h ∷ []) (sym t3.head) in
     subst (λ (p : Lists × At). TakesSections at p.0 p.1) (ok_is (areas ++ wide ∷ [], f.0.1) (db, after) f.2)
     (record {
       takes = Takes-then at (to_be_bytes w8 (area_count (areas ++ wide ∷ []))) c.0.1 (flat_map section_text (areas ++ wide ∷ [])) f.0.1 first all;
@@ -193,7 +193,7 @@ dump_takes bytes db fits e =
     let all = Takes-then start m a.0 (v ++ sections_text found) c.0.1 t0 behind in
     let nothing : c.0.1.rest ≡ [] = nil_from_length c.0.1.rest (eqb-true _ _ g.0) in
     let whole : bytes ≡ text found =
-        all.parts ∙ ap (λ (r : List ℕ). m ++ (v ++ sections_text found) ++ r) nothing ∙ append-nil (m ++ (v ++ sections_text found)) ∙ sym (text-split found) in
+    all.parts ∙ ap (λ (r : List ℕ). m ++ (v ++ sections_text found) ++ r) nothing ∙ append-nil (m ++ (v ++ sections_text found)) ∙ sym (text-split found) in
     subst (λ (x : Lists). Spelled bytes x) (ok_is found db g.1) (record { heads = t2.heads; sections = t2.sections; text = whole })
 
 pub loaded_takes : (bytes : List ℕ) (db : Lists) → IsBytes bytes → loaded bytes ≡ Ok db → IsDatabase db × (bytes ≡ text db)
@@ -229,7 +229,7 @@ count_again n rest few =
 sections_again : (areas : Lists) (lsas : List (List ℕ)) (rest : List ℕ) → AreNext None areas
     → length areas ≤ 64 → IsSection (section_with None lsas)
     → let db =
-        areas ++ section_with None lsas ∷ [] in sections_at (here 5 (sections_text db ++ rest)) ≡ Ok (db, here (6 + length (flat_map section_text areas) + length (lsas_text lsas)) rest)
+    areas ++ section_with None lsas ∷ [] in sections_at (here 5 (sections_text db ++ rest)) ≡ Ok (db, here (6 + length (flat_map section_text areas) + length (lsas_text lsas)) rest)
 unfolding sections_at
 sections_again areas lsas rest next few good =
     let wide = section_with None lsas in
@@ -277,7 +277,7 @@ database_again db good =
       after = s.after;
     } in
     let few : length s.areas ≤ 64 =
-        omega (arith, good.heads.few, ap length heads, length-append (heads_of s.areas) (None ∷ []), length-map s.areas (λ (x : SectionLsas). x.area)) in
+    omega (arith, good.heads.few, ap length heads, length-append (heads_of s.areas) (None ∷ []), length-map s.areas (λ (x : SectionLsas). x.area)) in
     subst (λ (d : Lists). dump_at (beginning (text d)) ≡ Ok d) (sym is) (dump_again s.areas s.wide.lsas next few (all_at_mid IsSection s.areas [] wide sections))
 
 pub loaded_again : (db : Lists) → IsDatabase db → loaded (text db) ≡ Ok db

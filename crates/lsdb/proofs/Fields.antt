@@ -102,13 +102,13 @@ pub number_takes : (w : Width) (limit : ℕ) (wide : IsWide w limit) (at : At) (
 number_takes w limit wide at n after fits e =
     let bytes : List ℕ = at.rest in
     let g =
-        guard_ok (ltb (length bytes) (byte_len w)) (told at Truncated) (Ok (from_be_bytes w (take (byte_len w) bytes), advanced (byte_len w) at)) (n, after) e in
+    guard_ok (ltb (length bytes) (byte_len w)) (told at Truncated) (Ok (from_be_bytes w (take (byte_len w) bytes), advanced (byte_len w) at)) (n, after) e in
     let long : byte_len w ≤ length bytes = ltb-false _ _ g.0 in
     let both = ok_is (from_be_bytes w (take (byte_len w) bytes), advanced (byte_len w) at) (n, after) g.1 in
     let n-is : from_be_bytes w (take (byte_len w) bytes) ≡ n = ap (λ (p : ℕ × At). p.0) both in
     let rest-is : drop (byte_len w) bytes ≡ after.rest = ap (λ (p : ℕ × At). p.1.rest) both in
     let front : to_be_bytes w n ≡ take (byte_len w) bytes =
-        rw (← n-is) (wide.back (take (byte_len w) bytes) (omega (arith, length-take (byte_len w) bytes)) (IsBytes-take (byte_len w) bytes fits)) in
+    rw (← n-is) (wide.back (take (byte_len w) bytes) (omega (arith, length-take (byte_len w) bytes)) (IsBytes-take (byte_len w) bytes fits)) in
     (record { parts = rw (front, ← rest-is) (sym (take-append-drop (byte_len w) bytes)); rest_fits = rw (← rest-is) (IsBytes-drop (byte_len w) bytes fits) }, rw (← n-is) (wide.below (take (byte_len w) bytes) (IsBytes-take (byte_len w) bytes fits)))
 
 pub number_again : (w : Width) (limit : ℕ) (wide : IsWide w limit) (n o : ℕ) (rest : List ℕ) → n < limit

@@ -28,7 +28,7 @@ pub written_full : (ps : List Place) (i : ℕ) (p : Place) (x start old new : Li
 written_full ps i p x start old new lt here is pushed so_far =
     let more : take (i + 1) ps ≡ take i ps ++ Some x ∷ [] = take_more ps i p lt ∙ ap (λ (q : Place). take i ps ++ q ∷ []) (sym here ∙ is) in
     let text : concat (full (take (i + 1) ps)) ≡ concat (full (take i ps)) ++ x =
-        ap (λ (qs : List Place). concat (full qs)) more ∙ ap concat (full-push (take i ps) x) ∙ concat-push (full (take i ps)) x in
+    ap (λ (qs : List Place). concat (full qs)) more ∙ ap concat (full-push (take i ps) x) ∙ concat-push (full (take i ps)) x in
     pushed ∙ ap (λ (t : List ℕ). t ++ x) so_far ∙ append_assoc start (concat (full (take i ps))) x ∙ ap (λ (t : List ℕ). start ++ t) (sym text)
 
 pub written_empty : (ps : List Place) (i : ℕ) (p : Place) (start new : List ℕ) → i < length ps

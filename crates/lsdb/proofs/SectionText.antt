@@ -235,7 +235,7 @@ unfolding section_at
 section_again area lsas o rest good =
     let at = here o (lsas_text lsas ++ rest) in
     let regrouped : lsas_text lsas ++ rest ≡ to_be_bytes w16 (length lsas) ++ (concat lsas ++ rest) =
-        append_assoc (to_be_bytes w16 (length lsas)) (concat lsas) rest in
+    append_assoc (to_be_bytes w16 (length lsas)) (concat lsas) rest in
     let few : length lsas ≤ limit_of area = omega (arith, good.keys.few, length-map lsas key_of) in
     let read : number_at w16 at ≡ Ok (length lsas, here (o + 2) (concat lsas ++ rest)) =
     ap (λ (bytes : List ℕ). number_at w16 (here o bytes)) regrouped ∙ number_again w16 (2 ^ 16) wide16 (length lsas) o (concat lsas ++ rest) (omega (arith, limit_fits area)) in

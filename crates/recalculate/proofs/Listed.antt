@@ -23,7 +23,7 @@ use Rattle.area_graph.proofs.MemberLemmas.{Contains-from_In, In, In-filter, In-f
 use Rattle.area_routes.specs.Order.{router_cmp}
 use Rattle.area_routes.proofs.OrderLemmas.{router_exact, router_total}
 use Rattle.area_routes.proofs.RisingLemmas.{any_rising}
-use Rattle.edit_history.proofs.Keys.{other_key, same_key_true}
+use Rattle.edit_history.proofs.HistoryLemmas.{other_key, same_key_true}
 use Rattle.area_routes.specs.Attached.{attached_areas, has_live_router_lsa}
 use Rattle.recalculate.specs.Counts.{area_lsas, lsas_in}
 use Rattle.recalculate.specs.Routers.{attached_routers, live_router}

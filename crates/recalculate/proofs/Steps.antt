@@ -12,8 +12,8 @@ use Rattle.edit_history.specs.Applied.{Applied}
 use Rattle.edit_history.specs.Exchange.{RecordData}
 use Rattle.edit_history.specs.Journal.{HistoryData, Links, origin}
 use Rattle.edit_history.specs.Session.{Session, session_of, edits_of, edited, accepted, state, most_edits}
-use Rattle.edit_history.proofs.Linked.{done_len, reverse_cons}
-use Rattle.edit_history.proofs.Growing.{state_is, recorded}
+use Rattle.edit_history.proofs.HistoryLemmas.{done_len, reverse_cons}
+use Rattle.edit_history.proofs.HistoryLemmas.{state_is, recorded}
 
 pub start_links : (d : Places) (h : HistoryData) → IsDatabase (lists_of d) → h ≡ record { past = []; future = [] } → Links d h
 start_links d h sound e = subst (λ (k : HistoryData). Links d k) (sym e) (record { sound = sound; back = tt; on = tt })

@@ -11,8 +11,8 @@ use Rattle.edit_history.specs.declared.fault.EditFault.TheVariants.{HistoryFull}
 use Rattle.edit_history.specs.Effect.{◌>>=◌, edit_touches, effect, graph_lsas}
 use Rattle.edit_history.specs.Journal.{HistoryData, Links}
 use Rattle.edit_history.specs.Session.{Session, accepted, edited, edited_by, edits_touch, moved_back, moved_on, most_edits, redo_touches, session_of, state, undo_touches}
-use Rattle.edit_history.proofs.Returning.{edits_back, on_and_back, seam_drop, seam_take}
-use Rattle.edit_history.proofs.Touching.{redo_spares, undo_spares}
+use Rattle.edit_history.proofs.HistoryLemmas.{edits_back, on_and_back, seam_drop, seam_take}
+use Rattle.edit_history.proofs.HistoryLemmas.{redo_spares, undo_spares}
 use Rattle.recalculate.specs.AreaTrees.{AreasTrees, AreOfDatabase, routers_of}
 use Rattle.recalculate.specs.KeptTrees.{less_touched}
 use Rattle.recalculate.specs.Reached.{IsReached}

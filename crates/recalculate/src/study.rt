@@ -56,7 +56,7 @@ impl<A: Allocator + Copy> Study<A> {
     }
 
     /// The database: the effects of the done edits, in order, on the one that was loaded.
-    #[tactic(auto, using(edit_history::proofs::Growing::state_is, edit_history::proofs::Folding::done_accepted))]
+    #[tactic(auto, using(edit_history::proofs::HistoryLemmas::state_is, edit_history::proofs::HistoryLemmas::done_accepted))]
     pub(crate) fn database(&self) -> &Database<A>
         ensures state { lists_of result.now ≡ state self.now }
         ensures accepted { effects self.now.base self.now.done ≡ Ok (lists_of result.now) }
@@ -105,7 +105,7 @@ impl<A: Allocator + Copy> Study<A> {
 
     /// Whether one of the last `count` done edits touches an area, where so many are done: it
     /// rewrote, removed or added a router-LSA or network-LSA of it. It takes no memory.
-    #[tactic(auto, using(edit_history::proofs::Linked::done_len))]
+    #[tactic(auto, using(edit_history::proofs::HistoryLemmas::done_len))]
     pub(crate) fn undo_touches(&self, count: usize, area: AreaId) -> bool
         ensures { count ≤ length self.now.done → result ≡ undo_touches count area self.now }
     {
@@ -114,7 +114,7 @@ impl<A: Allocator + Copy> Study<A> {
 
     /// Whether one of the first `count` undone edits touches an area, where so many are undone. It
     /// takes no memory.
-    #[tactic(auto, using(edit_history::proofs::Linked::undone_len))]
+    #[tactic(auto, using(edit_history::proofs::HistoryLemmas::undone_len))]
     pub(crate) fn redo_touches(&self, count: usize, area: AreaId) -> bool
         ensures { count ≤ length self.now.undone → result ≡ redo_touches count area self.now }
     {
@@ -122,7 +122,7 @@ impl<A: Allocator + Copy> Study<A> {
     }
 
     /// How many edits are done.
-    #[tactic(auto, using(edit_history::proofs::Linked::done_len))]
+    #[tactic(auto, using(edit_history::proofs::HistoryLemmas::done_len))]
     pub(crate) fn done(&self) -> usize
         ensures { result ≡ length self.now.done }
     {
@@ -130,7 +130,7 @@ impl<A: Allocator + Copy> Study<A> {
     }
 
     /// How many edits are undone.
-    #[tactic(auto, using(edit_history::proofs::Linked::undone_len))]
+    #[tactic(auto, using(edit_history::proofs::HistoryLemmas::undone_len))]
     pub(crate) fn undone(&self) -> usize
         ensures { result ≡ length self.now.undone }
     {

@@ -17,7 +17,7 @@ loop-preserved g c =
     let seen = lists_of (places_of c.loop.areas.items) in
     let area = section_of (section_places_of c.in_ok-area.area) in
     let pushed : lists_of (places_of c.push.new.self.items) ≡ seen ++ area ∷ [] =
-        ap (λ xs. lists_of (places_of xs)) c.in_ok-push.ensures.items ∙ lists_of-push c.loop.areas.items c.in_ok-area.area in
+    ap (λ xs. lists_of (places_of xs)) c.in_ok-push.ensures.items ∙ lists_of-push c.loop.areas.items c.in_ok-area.area in
     rw pushed (areas_goes_on c.args.count c.loop.counter (option_map head_of c.loop.before) seen (at_of c.loop.at) (at_of c.in_ok-area.after) area _ c.loop-test.true c.in_ok-area.ensures c.loop.invariant)
 
 pub returns : goal.returns

@@ -28,7 +28,7 @@ loop-preserved g c =
     let told = inserted c.loop.keys seen c.in_ok-lsa.lsa c.key.result c.in_ok-insert.field-0 c.loop.invariant.keys c.key.ensures c.in_ok-insert.ensures.added in
     let new = not-true (has_key_of seen c.in_ok-lsa.lsa) (sym told ∙ c.if-not-branch.false) in
     let pushed : full c.push.new.self.items ≡ seen ++ c.in_ok-lsa.lsa ∷ [] =
-        ap full c.in_ok-push.ensures.items ∙ full-push c.loop.places.items c.in_ok-lsa.lsa in
+    ap full c.in_ok-push.ensures.items ∙ full-push c.loop.places.items c.in_ok-lsa.lsa in
     record {
       reading =
           rw pushed (lsas_goes_on (option_map head_of c.args.area) c.args.count c.loop.counter seen (at_of c.loop.at) (at_of c.in_ok-lsa.after) c.in_ok-lsa.lsa _ c.loop-test.true c.in_ok-lsa.ensures new c.loop.invariant.reading);

@@ -1,5 +1,5 @@
 use Rattle.std.proofs.Common.{rules}
-use Rattle.streams.proofs.Prefixes.{Appends-take}
+use Rattle.streams.proofs.PrefixLemmas.{Appends-take}
 use Rattle.streams.proofs.writing.write_whole.Goals as goal
 
 pub writes-preserved : goal.writes-preserved

@@ -7,7 +7,7 @@ pub returns-in_err-check-clause-fault : goal.returns-in_err-check-clause-fault
 returns-in_err-check-clause-fault g c =
     let p = err_from_is_err_and c.from_residual.result c.from_residual.ensures.1 in
     let went_on =
-        decoded_is c.args.bytes.now c.from-size.result c.if-bytes-lt20.false (c.from-size.ensures ∙ c.u16_at.ensures) c.if-size-lt20.false c.if-bytes-size.false in
+    decoded_is c.args.bytes.now c.from-size.result c.if-bytes-lt20.false (c.from-size.ensures ∙ c.u16_at.ensures) c.if-size-lt20.false c.if-bytes-size.false in
     rw (p.1, p.2) (fault_answered _ _ _ c.in_err-check.ensures.fault went_on)
 
 pub invariant_of-result : goal.invariant_of-result

@@ -21,7 +21,7 @@ accepted-requires g c =
     let lsa : List ℕ = c.args.self.now in
     let short : length lsa + 12 ≤ 65535 = omega (arith, ap length c.bytes.ensures.bytes, c.if-bytes-gt-LONGEST_LSA.false) in
     let made =
-        c.in_ok-bytes.ensures.made ∙ ap (λ (b : List ℕ). recounted (link_count b + 1) (b ++ stub_text c.args.net c.args.metric)) c.bytes-2.ensures.bytes in
+    c.in_ok-bytes.ensures.made ∙ ap (λ (b : List ℕ). recounted (link_count b + 1) (b ++ stub_text c.args.net c.args.metric)) c.bytes-2.ensures.bytes in
     subst IsAccepted (sym made) (accepted_stub c.args.net c.args.metric lsa c.bytes.ensures.accepted c.requires.router c.extended.ensures.prefix short)
 
 pub returns-clause-made : goal.returns-clause-made
@@ -29,7 +29,7 @@ returns-clause-made g c =
     let lsa : List ℕ = c.args.self.now in
     let short : length lsa + 12 ≤ 65535 = omega (arith, ap length c.bytes.ensures.bytes, c.if-bytes-gt-LONGEST_LSA.false) in
     let made =
-        c.in_ok-bytes.ensures.made ∙ ap (λ (b : List ℕ). recounted (link_count b + 1) (b ++ stub_text c.args.net c.args.metric)) c.bytes-2.ensures.bytes in
+    c.in_ok-bytes.ensures.made ∙ ap (λ (b : List ℕ). recounted (link_count b + 1) (b ++ stub_text c.args.net c.args.metric)) c.bytes-2.ensures.bytes in
     stub_made c.args.net c.args.metric lsa short ∙ ap Ok (sym (c.accepted.ensures ∙ made))
 
 pub returns-clause-keeps : goal.returns-clause-keeps

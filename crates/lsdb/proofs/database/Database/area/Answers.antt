@@ -20,7 +20,7 @@ index-requires g c =
 pub unreachable-requires : goal.unreachable-requires
 unreachable-requires g c =
     let some =
-        (area_seen c.self.inside.sections.items c.args.i c.index.result.now c.self.invariant.sound.heads (rw c.self.view_is c.requires) c.index.ensures).1 in
+    (area_seen c.self.inside.sections.items c.args.i c.index.result.now c.self.invariant.sound.heads (rw c.self.view_is c.requires) c.index.ensures).1 in
     let none : option_map head_of c.index.result.now.area ≡ None = ap (option_map head_of) c.in-None.is in
     absurd (none_is_none (option_map head_of c.index.result.now.area) none some)
 

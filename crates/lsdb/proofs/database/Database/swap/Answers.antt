@@ -17,14 +17,14 @@ pub overflow_sub-self : goal.overflow_sub-self
 overflow_sub-self g c =
     let ss = c.self.inside.sections.items in
     let at : slot_at (places_of ss) c.args.slot ≡ Some c.index.result.now =
-        swap_read ss c.args.slot c.index_mut-section.result.now c.index.result.now (rw c.self.view_is c.requires.exists) c.index_mut-section.ensures.value c.index.ensures in
+    swap_read ss c.args.slot c.index_mut-section.result.now c.index.result.now (rw c.self.view_is c.requires.exists) c.index_mut-section.ensures.value c.index.ensures in
     omega (arith, place_fits (places_of ss) c.args.slot c.index.result.now at, c.place_size-taken.ensures, c.self.invariant.octets)
 
 pub overflow_add-self : goal.overflow_add-self
 overflow_add-self g c =
     let ss = c.self.inside.sections.items in
     let at : slot_at (places_of ss) c.args.slot ≡ Some c.index.result.now =
-        swap_read ss c.args.slot c.index_mut-section.result.now c.index.result.now (rw c.self.view_is c.requires.exists) c.index_mut-section.ensures.value c.index.ensures in
+    swap_read ss c.args.slot c.index_mut-section.result.now c.index.result.now (rw c.self.view_is c.requires.exists) c.index_mut-section.ensures.value c.index.ensures in
     let sound : IsDatabase (lists_of (put (places_of ss) c.args.slot c.args.place.now)) = rw c.self.view_is c.requires.sound in
     omega (arith, size_moved (places_of ss) c.args.slot c.index.result.now c.args.place.now c.self.inside.octets at c.self.invariant.octets, c.place_size-taken.ensures, c.place_size-given.ensures, sound.small)
 

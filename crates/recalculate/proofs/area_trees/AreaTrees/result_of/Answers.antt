@@ -14,12 +14,14 @@ build-requires g c =
     let found : IsTreeIn c.self.inside.graph c.args.router c.in-Some.kept.now =
     tree_found c.self.inside.graph c.self.inside.trees.entries c.args.router c.in-Some.kept.now c.self.invariant (sym c.in-Some.ensures.value) in
     let here : IsTreeIn c.self.inside.graph c.args.router (record { tree = c.kept.inside.tree; hops = c.kept.inside.hops }) =
-    subst (λ (t : RouterTreeValue). IsTreeIn c.self.inside.graph c.args.router t) (sym c.kept.view_is) found in
-    (c.args.router, record {
-      of_area = subst (λ (a : AreaTreesValue). IsGraphOf (lsas_of (Area c.args.area) (lists_of c.args.database.now)) a.graph) (sym c.self.view_is) c.requires.graph;
-      of_graph = here.tree;
-      of_tree = here.hops;
-    })
+    subst (λ (t : RouterTreeValue). IsTreeIn c.self.inside.graph c.args.router t) (sym c.kept.view_is) found in (
+      c.args.router,
+      record {
+        of_area = subst (λ (a : AreaTreesValue). IsGraphOf (lsas_of (Area c.args.area) (lists_of c.args.database.now)) a.graph) (sym c.self.view_is) c.requires.graph;
+        of_graph = here.tree;
+        of_tree = here.hops;
+      },
+    )
 
 pub returns : goal.returns
 returns g c =

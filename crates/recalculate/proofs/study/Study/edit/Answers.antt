@@ -2,7 +2,7 @@ use Rattle.std.proofs.Common.{refl, sym, ap, ◌∙◌, subst, arith}
 use Rattle.std.proofs.lemmas.Result.{err_from_is_err_and}
 use Rattle.edit_history.specs.Journal.{HistoryData, Links}
 use Rattle.edit_history.specs.Session.{session_of, edited}
-use Rattle.edit_history.proofs.Growing.{recorded}
+use Rattle.edit_history.proofs.HistoryLemmas.{recorded}
 use Rattle.recalculate.proofs.Steps.{edited_full, edited_refused, edited_accepted, answer, pushed}
 use Rattle.recalculate.proofs.study.Study.edit.Goals as goal
 
