@@ -1,5 +1,6 @@
 -- `distance_of` is the distance, and `least_paths_of` are all paths of least cost.
-use Rattle.std.proofs.Common.{◌≡◌, ℕ, zero, suc, ◌+◌, ◌<◌, ◌≤◌, Bool, true, false, cond, List, [], ◌∷◌, ◌++◌, map, length, Option, None, Some, refl, sym, ap, subst, arith, inl, inr, ⊎_elim}
+use Rattle.std.proofs.Common.{◌≡◌, ℕ, zero, suc, ◌+◌, ◌<◌, ◌≤◌, Bool, true, false, cond, List, [], ◌∷◌, ◌++◌, map, length, Option, None, Some, refl}
+use Rattle.std.proofs.Common.{sym, ap, subst, arith, inl, inr, ⊎_elim}
 use Rattle.std.specs.Prelude.{nat_le, MatchOption}
 use Rattle.std.specs.List.{Contains, list_all}
 use Rattle.std.specs.Ordering.{nat_cmp, is_lt}
@@ -16,7 +17,8 @@ use Rattle.area_graph.specs.Least.{least, lesser}
 use Rattle.area_graph.specs.Paths.{DirectedEdge, path_cost, IsPath, NoPathBelow, IsDistance}
 use Rattle.area_graph.specs.AllPaths.{lists_within, leads, paths_of, least_paths_of, distance_of}
 use Rattle.area_graph.proofs.PathLemmas.{path_cost-append, IsPath-append, IsDistance-same, IsDistance-same_edges}
-use Rattle.area_graph.proofs.MemberLemmas.{In, In-from_Contains, Contains-from_In, In-filter, filter-In, list_all-In, In-list_all, Repeats, repeats_or_short, In-map, map-In, In-lists_within, lists_within-In}
+use Rattle.area_graph.proofs.MemberLemmas.{In, In-from_Contains, Contains-from_In, In-filter, filter-In, list_all-In, In-list_all, Repeats}
+use Rattle.area_graph.proofs.MemberLemmas.{repeats_or_short, In-map, map-In, In-lists_within, lists_within-In}
 
 -- ---- vertices
 

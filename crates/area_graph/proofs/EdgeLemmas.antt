@@ -8,7 +8,8 @@ use Rattle.area_graph.specs.declared.vertex.Vertex.{Vertex}
 use Rattle.area_graph.specs.Vertex.{is_network}
 use Rattle.area_graph.specs.Paths.{DirectedEdge, IsDistance}
 use Rattle.area_graph.specs.AllPaths.{distance_of}
-use Rattle.area_graph.proofs.MemberLemmas.{In, In-from_Contains, Contains-from_In, In-flat_map, flat_map-In, In-filter_map, filter_map-In, In-zip, zip-In, Some-same}
+use Rattle.area_graph.proofs.MemberLemmas.{In, In-from_Contains, Contains-from_In, In-flat_map, flat_map-In, In-filter_map, filter_map-In, In-zip}
+use Rattle.area_graph.proofs.MemberLemmas.{zip-In, Some-same}
 use Rattle.area_graph.proofs.AllPathsLemmas.{NothingFree, distance_of-is, IsDistance-distance_of}
 use Rattle.area_graph.proofs.PathLemmas.{IsDistance-same_edges}
 use Rattle.area_graph.specs.declared.edge.Edge.{Edge}

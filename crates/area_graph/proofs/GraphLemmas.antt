@@ -1,5 +1,6 @@
 -- The graph of an area, from its parts.
-use Rattle.std.proofs.Common.{◌≡◌, ◌≢◌, ℕ, ◌<◌, Bool, true, false, cond, not, eqb, List, [], ◌∷◌, map, length, get_or, Option, None, Some, refl, sym, subst, ap, ◌∙◌, inl, inr, ⊎_elim, arith, true≢false}
+use Rattle.std.proofs.Common.{◌≡◌, ◌≢◌, ℕ, ◌<◌, Bool, true, false, cond, not, eqb, List, [], ◌∷◌, map, length, get_or, Option, None, Some, refl, sym}
+use Rattle.std.proofs.Common.{subst, ap, ◌∙◌, inl, inr, ⊎_elim, arith, true≢false}
 use Rattle.std.specs.Prelude.{◌||◌, option_map, ◌++◌}
 use Rattle.std.specs.List.{Contains, AllPairs, All, list_any, list_all, find, slice_get, position, filter, filter_map}
 use Rattle.std.proofs.lemmas.List.{length-map, get_or-map}
@@ -30,7 +31,8 @@ use Rattle.area_graph.specs.declared.edge.Edge.{Edge}
 use Rattle.area_graph.specs.Rows.{same_edge, each_once, numbered, is_out_of, row_of, rows_of}
 use Rattle.area_graph.specs.steps.Drafts.{IsDraft, Adds, over_lsas, edges_once}
 use Rattle.area_graph.specs.Graphs.{IsGraphOf, AreOfArea}
-use Rattle.area_graph.proofs.MemberLemmas.{In, In-from_Contains, Contains-from_In, list_all-In, Some-same, In-filter, filter-In, In-filter_map, filter_map-In, map-by_place}
+use Rattle.area_graph.proofs.MemberLemmas.{In, In-from_Contains, Contains-from_In, list_all-In, Some-same, In-filter, filter-In, In-filter_map}
+use Rattle.area_graph.proofs.MemberLemmas.{filter_map-In, map-by_place}
 use Rattle.area_graph.proofs.AllPathsLemmas.{same_from_is_same, is_same-from}
 use Rattle.area_graph.proofs.VertexLemmas.{found, has_number}
 use Rattle.area_graph.proofs.OnceLemmas.{Contains-each_once, each_once-In, each_once-distinct}

@@ -15,9 +15,11 @@ use Rattle.area_graph.specs.Paths.{DirectedEdge}
 use Rattle.area_graph.specs.Area.{is_router_lsa, is_network_lsa, vertex_of}
 use Rattle.area_graph.specs.AreaEdges.{target_of, named_by, names, edge_over, router_links, edges_over, is_returned, router_edges, back, area_edges}
 use Rattle.area_graph.specs.Joins.{IsRouterLsaOf, HasLink, HasLinkTo, Lists, Joins}
-use Rattle.area_graph.proofs.MemberLemmas.{In, In-from_Contains, Contains-from_In, In-left, In-right, In-cases, In-map, map-In, In-flat_map, flat_map-In, In-filter, filter-In, In-filter_map, filter_map-In, list_any-In, In-list_any}
+use Rattle.area_graph.proofs.MemberLemmas.{In, In-from_Contains, Contains-from_In, In-left, In-right, In-cases, In-map, map-In, In-flat_map}
+use Rattle.area_graph.proofs.MemberLemmas.{flat_map-In, In-filter, filter-In, In-filter_map, filter_map-In, list_any-In, In-list_any}
 use Rattle.area_graph.proofs.AllPathsLemmas.{same_from_is_same, is_same-from}
-use Rattle.area_graph.proofs.AreaLemmas.{network_number, not_one, not_router_of, router_lsa_of, vertex_of_router, vertex_of_network, link_to, target_from, over_is, over_from}
+use Rattle.area_graph.proofs.AreaLemmas.{network_number, not_one, not_router_of, router_lsa_of, vertex_of_router, vertex_of_network, link_to}
+use Rattle.area_graph.proofs.AreaLemmas.{target_from, over_is, over_from}
 
 -- ---- naming a vertex
 

@@ -1,5 +1,6 @@
 -- The LSAs in use of an area.
-use Rattle.std.proofs.Common.{◌≡◌, ◌≢◌, ℕ, ◌<◌, ◌≤◌, Bool, true, false, not, eqb, ltb, List, [], map, length, get_or, refl, sym, subst, ap, ◌∙◌, ◌⊎◌, inl, inr, ⊎_elim, arith, true≢false}
+use Rattle.std.proofs.Common.{◌≡◌, ◌≢◌, ℕ, ◌<◌, ◌≤◌, Bool, true, false, not, eqb, ltb, List, [], map, length, get_or, refl, sym, subst, ap, ◌∙◌, ◌⊎◌}
+use Rattle.std.proofs.Common.{inl, inr, ⊎_elim, arith, true≢false}
 use Rattle.std.specs.Prelude.{◌&&◌, ◌||◌}
 use Rattle.std.specs.List.{AllPairs, All, list_any}
 use Rattle.std.proofs.lemmas.List.{length-map, get_or-map}
@@ -91,7 +92,8 @@ used_In lsas lsa i =
 
 pub used_accepted : (lsas : List (List ℕ)) → All IsAccepted lsas → All IsAccepted (used lsas)
 unfolding used
-used_accepted lsas accepted = All-filter (λ lsa. not (list_any (is_outranked_by lsa) (vertex_lsas lsas))) IsAccepted (vertex_lsas lsas) (All-filter is_vertex_lsa IsAccepted lsas accepted)
+used_accepted lsas accepted = All-filter (λ lsa. not (list_any (is_outranked_by lsa) (vertex_lsas lsas))) IsAccepted
+    (vertex_lsas lsas) (All-filter is_vertex_lsa IsAccepted lsas accepted)
 
 pub used_few : (lsas : List (List ℕ)) → length (used lsas) ≤ length lsas
 unfolding used
@@ -105,7 +107,8 @@ used_few lsas =
 
 used_pairs : (R : List ℕ → List ℕ → Type 0) (lsas : List (List ℕ)) → AllPairs R lsas → AllPairs R (used lsas)
 unfolding used
-used_pairs R lsas pairs = AllPairs-filter R (λ lsa. not (list_any (is_outranked_by lsa) (vertex_lsas lsas))) (vertex_lsas lsas) (AllPairs-filter R is_vertex_lsa lsas pairs)
+used_pairs R lsas pairs = AllPairs-filter R (λ lsa. not (list_any (is_outranked_by lsa) (vertex_lsas lsas)))
+    (vertex_lsas lsas) (AllPairs-filter R is_vertex_lsa lsas pairs)
 
 -- the vertices of an area are distinct
 pub vertices_distinct : (lsas : List (List ℕ)) → All IsAccepted lsas → AllPairs (λ a b. key_of a ≢ key_of b) lsas

@@ -1,5 +1,6 @@
 -- Vertices and their numbers.
-use Rattle.std.proofs.Common.{zero, suc, [], refl, ◌+◌, ◌∷◌, ◌++◌, map, take, Bool, true, false, cond, not, arith, ◌≡◌, ◌≢◌, ℕ, ◌<◌, List, length, get_or, Option, None, Some, sym, ap, ◌∙◌, ⊎_elim}
+use Rattle.std.proofs.Common.{zero, suc, [], refl, ◌+◌, ◌∷◌, ◌++◌, map, take, Bool, true, false, cond, not, arith, ◌≡◌, ◌≢◌, ℕ, ◌<◌, List, length}
+use Rattle.std.proofs.Common.{get_or, Option, None, Some, sym, ap, ◌∙◌, ⊎_elim}
 use Rattle.std.specs.List.{list_any, position_or_len}
 use Rattle.std.specs.Prelude.{Contains, AllPairs, IfSome, slice_get, position}
 use Rattle.std.proofs.lemmas.List.Quantifiers.{position-Some}

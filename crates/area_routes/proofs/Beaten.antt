@@ -1,5 +1,6 @@
 -- The best of the networks of each prefix, and the networks that none beats.
-use Rattle.std.proofs.Common.{◌≡◌, ℕ, Bool, true, false, cond, not, eqb, ltb, List, [], ◌∷◌, ◌++◌, map, Option, None, Some, refl, sym, ap, subst, ◌∙◌, arith, true≢false}
+use Rattle.std.proofs.Common.{◌≡◌, ℕ, Bool, true, false, cond, not, eqb, ltb, List, [], ◌∷◌, ◌++◌, map, Option, None, Some, refl, sym, ap, subst, ◌∙◌}
+use Rattle.std.proofs.Common.{arith, true≢false}
 use Rattle.std.specs.Prelude.{◌&&◌, ◌||◌}
 use Rattle.std.specs.List.{list_any, filter, flat_map}
 use Rattle.std.specs.BTreeMap.{BTreeMap, get, Updates}
@@ -21,7 +22,8 @@ use Rattle.area_routes.proofs.OrderLemmas.{prefix_exact}
 
 -- ---- the order of standings
 
-pub before_trans : (d e f i j k : ℕ) → (ltb d e || (eqb d e && ltb j i)) ≡ true → (ltb e f || (eqb e f && ltb k j)) ≡ true → (ltb d f || (eqb d f && ltb k i)) ≡ true
+pub before_trans : (d e f i j k : ℕ) → (ltb d e || (eqb d e && ltb j i)) ≡ true
+    → (ltb e f || (eqb e f && ltb k j)) ≡ true → (ltb d f || (eqb d f && ltb k i)) ≡ true
 before_trans d e f i j k p q = grind (arith, nat_tests)
 
 before_or : (d e f i j k : ℕ) → (ltb d f || (eqb d f && ltb k i)) ≡ true → (ltb d e || (eqb d e && ltb j i)) ≡ false → (ltb e f || (eqb e f && ltb k j)) ≡ true
@@ -67,10 +69,13 @@ module _ (ns : List ReachedValue) (r : ReachedValue) (old : BTreeMap Net Standin
   standings_stay behind = subst (λ (b : Bool). AreStandingsOf (ns ++ cond b (r ∷ []) []) old) (sym kind) more
     where
       more : AreStandingsOf (ns ++ r ∷ []) old
-      more net s = any_push ns r net s ∙ ap (λ b. b || (eq_by_cmp prefix_cmp (net_of_lsa r.lsa) net && stands_before (standing_of r) s)) (are net s) ∙ by (eq_by_cmp prefix_cmp (net_of_lsa r.lsa) net) refl
+      more net s = any_push ns r net s ∙ ap (λ b. b || (eq_by_cmp prefix_cmp (net_of_lsa r.lsa) net && stands_before (standing_of r) s))
+          (are net s) ∙ by (eq_by_cmp prefix_cmp (net_of_lsa r.lsa) net) refl
         where
-          by : (b : Bool) → eq_by_cmp prefix_cmp (net_of_lsa r.lsa) net ≡ b → (is_behind (get prefix_cmp old net) s || (b && stands_before (standing_of r) s)) ≡ is_behind (get prefix_cmp old net) s
-          by true e = behind_stays (get prefix_cmp old net) (standing_of r) s (subst (λ (n : Net). is_behind (get prefix_cmp old n) (standing_of r) ≡ true) (same_net (net_of_lsa r.lsa) net e) behind)
+          by : (b : Bool) → eq_by_cmp prefix_cmp (net_of_lsa r.lsa) net ≡ b
+              → (is_behind (get prefix_cmp old net) s || (b && stands_before (standing_of r) s)) ≡ is_behind (get prefix_cmp old net) s
+          by true e = behind_stays (get prefix_cmp old net) (standing_of r) s
+              (subst (λ (n : Net). is_behind (get prefix_cmp old n) (standing_of r) ≡ true) (same_net (net_of_lsa r.lsa) net e) behind)
           by false e = or_false (is_behind (get prefix_cmp old net) s)
 
   -- where it is not, this one is the best of its prefix
@@ -83,8 +88,11 @@ module _ (ns : List ReachedValue) (r : ReachedValue) (old : BTreeMap Net Standin
           any_push ns r net s ∙ ap (λ b. b || (eq_by_cmp prefix_cmp (net_of_lsa r.lsa) net && stands_before (standing_of r) s)) (are net s)
           ∙ by (eq_by_cmp prefix_cmp (net_of_lsa r.lsa) net) refl ∙ sym (ap (λ (o : Option Standing). is_behind o s) (updates.0 net))
         where
-          by : (b : Bool) → eq_by_cmp prefix_cmp (net_of_lsa r.lsa) net ≡ b → (is_behind (get prefix_cmp old net) s || (b && stands_before (standing_of r) s)) ≡ is_behind (cond b (Some (standing_of r)) (get prefix_cmp old net)) s
-          by true e = behind_rises (get prefix_cmp old net) (standing_of r) s (subst (λ (n : Net). is_behind (get prefix_cmp old n) (standing_of r) ≡ false) (same_net (net_of_lsa r.lsa) net e) ahead)
+          by : (b : Bool) → eq_by_cmp prefix_cmp (net_of_lsa r.lsa) net ≡ b
+              → (is_behind (get prefix_cmp old net) s || (b && stands_before (standing_of r) s)) ≡ is_behind
+              (cond b (Some (standing_of r)) (get prefix_cmp old net)) s
+          by true e = behind_rises (get prefix_cmp old net) (standing_of r) s
+              (subst (λ (n : Net). is_behind (get prefix_cmp old n) (standing_of r) ≡ false) (same_net (net_of_lsa r.lsa) net e) ahead)
           by false e = or_false (is_behind (get prefix_cmp old net) s)
 
 -- where the vertex of an LSA has a prefix, it is a network, of this prefix
@@ -95,16 +103,20 @@ prefix_of_network false net of_lsa h = cc
 -- ---- the offers
 
 -- of each vertex in turn what it offers, if none of these networks beats it
-pub unbeaten_offers : (ns rs : List ReachedValue) → flat_map (unbeaten ns) rs ≡ map network_offer (filter (λ n. not (list_any (λ m. beats m n) ns)) (networks rs))
+pub unbeaten_offers : (ns rs : List ReachedValue) → flat_map (unbeaten ns) rs ≡ map network_offer
+    (filter (λ n. not (list_any (λ m. beats m n) ns)) (networks rs))
 unbeaten_offers ns [] = refl
 unbeaten_offers ns (r ∷ rs) = by_kind (unbeaten_offers ns rs) (is_network_lsa r.lsa)
   where
-    by_test : flat_map (unbeaten ns) rs ≡ map network_offer (filter (λ n. not (list_any (λ m. beats m n) ns)) (networks rs)) → (k : Bool) → (cond k (network_offer r ∷ []) [] ++ flat_map (unbeaten ns) rs)
-        ≡ map network_offer (cond k (r ∷ filter (λ n. not (list_any (λ m. beats m n) ns)) (networks rs)) (filter (λ n. not (list_any (λ m. beats m n) ns)) (networks rs)))
+    by_test : flat_map (unbeaten ns) rs ≡ map network_offer (filter (λ n. not (list_any (λ m. beats m n) ns)) (networks rs))
+        → (k : Bool) → (cond k (network_offer r ∷ []) [] ++ flat_map (unbeaten ns) rs)
+        ≡ map network_offer
+        (cond k (r ∷ filter (λ n. not (list_any (λ m. beats m n) ns)) (networks rs)) (filter (λ n. not (list_any (λ m. beats m n) ns)) (networks rs)))
     by_test rest true = ap (λ (os : List OfferValue). network_offer r ∷ os) rest
     by_test rest false = rest
 
-    by_kind : flat_map (unbeaten ns) rs ≡ map network_offer (filter (λ n. not (list_any (λ m. beats m n) ns)) (networks rs)) → (b : Bool) → (cond (b && not (list_any (λ m. beats m r) ns)) (network_offer r ∷ []) [] ++ flat_map (unbeaten ns) rs)
+    by_kind : flat_map (unbeaten ns) rs ≡ map network_offer (filter (λ n. not (list_any (λ m. beats m n) ns)) (networks rs))
+        → (b : Bool) → (cond (b && not (list_any (λ m. beats m r) ns)) (network_offer r ∷ []) [] ++ flat_map (unbeaten ns) rs)
         ≡ map network_offer (filter (λ n. not (list_any (λ m. beats m n) ns)) (cond b (r ∷ networks rs) (networks rs)))
     by_kind rest true = by_test rest (not (list_any (λ m. beats m r) ns))
     by_kind rest false = rest

@@ -1,5 +1,6 @@
 -- What holds of the ranks of all candidates holds of those of all ways.
-use Rattle.std.proofs.Common.{◌≡◌, ℕ, ◌+◌, ◌<◌, Bool, true, false, cond, List, [], ◌∷◌, ◌++◌, map, take, get_or, length, Option, Some, None, IfSome, sym, ap, subst, ◌∙◌}
+use Rattle.std.proofs.Common.{◌≡◌, ℕ, ◌+◌, ◌<◌, Bool, true, false, cond, List, [], ◌∷◌, ◌++◌, map, take, get_or, length, Option, Some, None, IfSome}
+use Rattle.std.proofs.Common.{sym, ap, subst, ◌∙◌}
 use Rattle.std.proofs.lemmas.List.{take_more}
 use Rattle.std.specs.List.{All, filter, filter_map, find, flat_map, cons_option}
 use Rattle.std.specs.Option.{option_map}
@@ -40,7 +41,8 @@ module _ (P : Rank → Type 0) where
     abbrev with_ways : (K → Option WayValue) → List K → List (K × WayValue)
     with_ways f ks = filter_map (λ k. option_map (λ w. (k, w)) (f k)) ks
 
-    entries_have : (f : K → Option WayValue) → ((k : K) → IfSome (f k) (λ w. P w.rank)) → (ks : List K) → All (λ (e : K × WayValue). P e.1.rank) (with_ways f ks)
+    entries_have : (f : K → Option WayValue) → ((k : K) → IfSome (f k) (λ w. P w.rank))
+        → (ks : List K) → All (λ (e : K × WayValue). P e.1.rank) (with_ways f ks)
     entries_have f h [] = All-nil (λ (e : K × WayValue). P e.1.rank)
     entries_have f h (k ∷ ks) = by (f k) (h k) (entries_have f h ks)
       where
@@ -50,18 +52,21 @@ module _ (P : Rank → Type 0) where
         by (Some w) p rest = All-cons (λ (e : K × WayValue). P e.1.rank) (k, w) (with_ways f ks) p rest
 
     pub ways_have : (R : K → K → Ordering) (cs : List (Candidate K)) → All (λ c. P c.rank) cs → All (λ (e : K × WayValue). P e.1.rank) (ways_of R cs)
-    ways_have R cs a = entries_have (way_to R cs) (λ k. way_has (filter (λ c. eq_by_cmp R k c.key) cs) (All-filter (λ c. eq_by_cmp R k c.key) (λ c. P c.rank) cs a)) _
+    ways_have R cs a =
+        entries_have (way_to R cs) (λ k. way_has (filter (λ c. eq_by_cmp R k c.key) cs) (All-filter (λ c. eq_by_cmp R k c.key) (λ c. P c.rank) cs a)) _
 
 pub routes_below : (bound : ℕ) (cs : List (Candidate Net)) → All (λ c. c.rank.cost < bound) cs → RoutesBelow bound (routes_of cs)
 routes_below bound cs a = All-map (λ r. r.cost < bound) route_of (ways_of prefix_cmp cs) (ways_have (λ r. r.cost < bound) prefix_cmp cs a)
 
 -- what holds of each of several lists
-pub All-flat_map : {X Y : Type 0} (P : Y → Type 0) (Q : X → Type 0) (f : X → List Y) → ((x : X) → Q x → All P (f x)) → (xs : List X) → All Q xs → All P (flat_map f xs)
+pub All-flat_map : {X Y : Type 0} (P : Y → Type 0) (Q : X → Type 0) (f : X → List Y)
+    → ((x : X) → Q x → All P (f x)) → (xs : List X) → All Q xs → All P (flat_map f xs)
 All-flat_map P Q f h [] a = All-nil P
 All-flat_map P Q f h (x ∷ xs) a = All-append P (f x) (flat_map f xs) (h x (All-head Q x xs a)) (All-flat_map P Q f h xs (All-tail Q x xs a))
 
 -- what holds of those taken so far, and of the next
-pub All-taken : {X : Type 0} (P : X → Type 0) (xs : List X) (i : ℕ) (x : X) → i < length xs → x ≡ get_or xs i x → P x → All P (take i xs) → All P (take (i + 1) xs)
+pub All-taken : {X : Type 0} (P : X → Type 0) (xs : List X) (i : ℕ) (x : X) → i < length xs
+    → x ≡ get_or xs i x → P x → All P (take i xs) → All P (take (i + 1) xs)
 All-taken P xs i x l item p a =
     subst (λ ys. All P ys) (ap (λ y. take i xs ++ y ∷ []) item ∙ sym (take_more xs i x l)) (All-append P (take i xs) (x ∷ []) a (All-cons P x [] p (All-nil P)))
 

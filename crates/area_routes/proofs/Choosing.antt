@@ -1,5 +1,6 @@
 -- Which networks are chosen.
-use Rattle.std.proofs.Common.{◌≡◌, ℕ, ◌<◌, ◌≤◌, Bool, true, false, not, eqb, ltb, List, [], ◌∷◌, refl, sym, ap, subst, ◌∙◌, arith, true≢false, ◌⊎◌, inl, inr, ⊎_elim}
+use Rattle.std.proofs.Common.{◌≡◌, ℕ, ◌<◌, ◌≤◌, Bool, true, false, not, eqb, ltb, List, [], ◌∷◌, refl, sym, ap, subst, ◌∙◌, arith, true≢false, ◌⊎◌}
+use Rattle.std.proofs.Common.{inl, inr, ⊎_elim}
 use Rattle.std.specs.Prelude.{◌&&◌, ◌||◌, ◌↔◌}
 use Rattle.std.specs.List.{list_any, Contains}
 use Rattle.std.specs.Ordering.{eq_by_cmp, is_eq}
@@ -71,7 +72,8 @@ chosen_ahead ns n i =
     let kept = filter-In (λ k. not (list_any (λ m. beats m k) ns)) ns n i in (
       kept.0,
       λ m j same. ⊎_elim
-          (λ before. absurd (true≢false (sym (In-list_any (λ k. beats k n) ns m j (beats_from m n same before)) ∙ false_from_not (list_any (λ k. beats k n) ns) kept.1)))
+          (λ before. absurd
+          (true≢false (sym (In-list_any (λ k. beats k n) ns m j (beats_from m n same before)) ∙ false_from_not (list_any (λ k. beats k n) ns) kept.1)))
           (λ not_so. not_so)
           (decided (precedes m n)),
     )
@@ -96,7 +98,8 @@ chosen_best ns n = (
   λ best. Contains-from_In (chosen ns) n (ahead_chosen ns n (
     In-from_Contains ns n best.one,
     λ m i same. ⊎_elim
-        (λ before. absurd (as_good_not_before m.distance n.distance (link_state_id_of m.lsa) (link_state_id_of n.lsa) (best.best m (Contains-from_In ns m i) same) before))
+        (λ before. absurd
+        (as_good_not_before m.distance n.distance (link_state_id_of m.lsa) (link_state_id_of n.lsa) (best.best m (Contains-from_In ns m i) same) before))
         (λ not_so. not_so)
         (decided (precedes m n)),
   )),
@@ -121,7 +124,9 @@ itself x = by (precedes x x) refl
 still_ahead : (k x n : ReachedValue) → precedes x n ≡ true → precedes k n ≡ false → precedes k x ≡ false
 still_ahead k x n before not_k =
     ⊎_elim
-    (λ h. absurd (true≢false (sym (before_trans k.distance x.distance n.distance (link_state_id_of k.lsa) (link_state_id_of x.lsa) (link_state_id_of n.lsa) h before) ∙ not_k)))
+    (λ h. absurd
+    (true≢false
+    (sym (before_trans k.distance x.distance n.distance (link_state_id_of k.lsa) (link_state_id_of x.lsa) (link_state_id_of n.lsa) h before) ∙ not_k)))
     (λ not_so. not_so)
     (decided (precedes k x))
 
@@ -130,19 +135,33 @@ settled p [] = inl (λ m i e. i)
 settled p (x ∷ xs) = by (decided (eq_by_cmp prefix_cmp (net_of_lsa x.lsa) p)) (settled p xs)
   where
     other : eq_by_cmp prefix_cmp (net_of_lsa x.lsa) p ≡ false → (m : ReachedValue) → x ≡ m → net_of_lsa m.lsa ≡ p → ⊥
-    other differs m e same = true≢false (sym (ap is_eq (tied_itself prefix_total p)) ∙ ap (λ (q : Net). eq_by_cmp prefix_cmp q p) (sym (ap (λ (r : ReachedValue). net_of_lsa r.lsa) e ∙ same)) ∙ differs)
+    other differs m e same = true≢false (sym (ap is_eq (tied_itself prefix_total p))
+        ∙ ap (λ (q : Net). eq_by_cmp prefix_cmp q p) (sym (ap (λ (r : ReachedValue). net_of_lsa r.lsa) e ∙ same)) ∙ differs)
 
     by : (eq_by_cmp prefix_cmp (net_of_lsa x.lsa) p ≡ true) ⊎ (eq_by_cmp prefix_cmp (net_of_lsa x.lsa) p ≡ false) → IsSettled p xs → IsSettled p (x ∷ xs)
     by (inr differs) (inl none) = inl (λ m i same. ⊎_elim (λ e. other differs m e same) (λ j. none m j same) i)
     by (inr differs) (inr (n, i, e, ahead)) = inr (n, inr i, e, λ m j same. ⊎_elim (λ q. absurd (other differs m q same)) (λ k. ahead m k same) j)
-    by (inl agrees) (inl none) = inr (x, inl refl, same_net (net_of_lsa x.lsa) p agrees, λ m j same. ⊎_elim (λ q. subst (λ (r : ReachedValue). precedes r x ≡ false) q (itself x)) (λ k. absurd (none m k same)) j)
+    by (inl agrees) (inl none) = inr (
+      x,
+      inl refl,
+      same_net (net_of_lsa x.lsa) p agrees,
+      λ m j same. ⊎_elim
+          (λ q. subst (λ (r : ReachedValue). precedes r x ≡ false) q (itself x)) (λ k. absurd (none m k same)) j,
+    )
     by (inl agrees) (inr (n, i, e, ahead)) =
         ⊎_elim
-        (λ before. inr (x, inl refl, same_net (net_of_lsa x.lsa) p agrees, λ m j same. ⊎_elim (λ q. subst (λ (r : ReachedValue). precedes r x ≡ false) q (itself x)) (λ k. still_ahead m x n before (ahead m k same)) j))
+        (λ before. inr (
+          x,
+          inl refl,
+          same_net (net_of_lsa x.lsa) p agrees,
+          λ m j same. ⊎_elim
+              (λ q. subst (λ (r : ReachedValue). precedes r x ≡ false) q (itself x)) (λ k. still_ahead m x n before (ahead m k same)) j,
+        ))
         (λ not_so. inr (n, inr i, e, λ m j same. ⊎_elim (λ q. subst (λ (r : ReachedValue). precedes r n ≡ false) q not_so) (λ k. ahead m k same) j))
         (decided (precedes x n))
 
-pub chosen_each : (ns : List ReachedValue) (m : ReachedValue) → Contains ns m → (n : ReachedValue) × Contains (chosen ns) n × (net_of_lsa n.lsa ≡ net_of_lsa m.lsa)
+pub chosen_each : (ns : List ReachedValue) (m : ReachedValue) → Contains ns m
+    → (n : ReachedValue) × Contains (chosen ns) n × (net_of_lsa n.lsa ≡ net_of_lsa m.lsa)
 chosen_each ns m c = by (settled (net_of_lsa m.lsa) ns)
   where
     by : IsSettled (net_of_lsa m.lsa) ns → (n : ReachedValue) × Contains (chosen ns) n × (net_of_lsa n.lsa ≡ net_of_lsa m.lsa)
@@ -155,7 +174,8 @@ one_id d e i j (inl p) (inr q) = (let same = q.0 in absurd (omega arith))
 one_id d e i j (inr p) (inl q) = (let same = p.0 in absurd (omega arith))
 one_id d e i j (inr p) (inr q) = (let few = p.1 in let more = q.1 in omega arith)
 
-pub chosen_one : (ns : List ReachedValue) (m n : ReachedValue) → Contains (chosen ns) m → Contains (chosen ns) n → net_of_lsa m.lsa ≡ net_of_lsa n.lsa → link_state_id_of m.lsa ≡ link_state_id_of n.lsa
+pub chosen_one : (ns : List ReachedValue) (m n : ReachedValue) → Contains (chosen ns) m → Contains (chosen ns) n
+    → net_of_lsa m.lsa ≡ net_of_lsa n.lsa → link_state_id_of m.lsa ≡ link_state_id_of n.lsa
 chosen_one ns m n c d same =
     let a = chosen_ahead ns m (In-from_Contains (chosen ns) m c) in
     let b = chosen_ahead ns n (In-from_Contains (chosen ns) n d) in

@@ -13,7 +13,8 @@ use Rattle.area_graph.specs.Area.{is_live}
 use Rattle.area_routes.specs.declared.entry.EntryKind.TheVariants.{Border}
 use Rattle.area_routes.specs.Best.{ways_of}
 use Rattle.area_routes.specs.Candidate.{Candidate}
-use Rattle.area_routes.specs.Inter.{asbr_candidate, asbr_entry, asbr_told, border_of, by_border, candidate_to, is_summary, is_usable, network_candidate, network_told, originator_of, same_kind, same_router}
+use Rattle.area_routes.specs.Inter.{asbr_candidate, asbr_entry, asbr_told, border_of, by_border, candidate_to, is_summary, is_usable}
+use Rattle.area_routes.specs.Inter.{network_candidate, network_told, originator_of, same_kind, same_router}
 use Rattle.area_routes.specs.Order.{router_cmp}
 use Rattle.area_routes.specs.Values.{AreaResultValue, AreCheap, EntriesBelow, EntryValue, RouteValue}
 use Rattle.area_routes.proofs.Bounds.{All-filter_map, found_has, ways_have}
@@ -31,26 +32,33 @@ module _ (router : RouterId) (area : AreaResultValue) (cheap : AreCheap area) wh
   candidate_below : {K : Type 0} (lsa : List ℕ) (key : K) → IfSome (candidate_to router area lsa key) (λ c. c.rank.cost < 2 ^ 34)
   candidate_below {K} lsa key = by (is_usable router lsa) refl
     where
-      over : (metric : ℕ) → metric < ls_infinity → (o : Option EntryValue) → IfSome o (λ e. e.cost < 2 ^ 33) → IfSome (option_map (by_border key area.area metric) o) (λ (c : Candidate K). c.rank.cost < 2 ^ 34)
+      over : (metric : ℕ) → metric < ls_infinity → (o : Option EntryValue) → IfSome o (λ e. e.cost < 2 ^ 33)
+          → IfSome (option_map (by_border key area.area metric) o) (λ (c : Candidate K). c.rank.cost < 2 ^ 34)
       over metric small None h = tt
       over metric small (Some e) h = omega arith
 
       by : (b : Bool) → is_usable router lsa ≡ b
-          → IfSome (option_and_then (λ metric. option_map (by_border key area.area metric) (border_of area.entries (originator_of lsa))) (if b then Some (metric_of lsa) else None)) (λ (c : Candidate K). c.rank.cost < 2 ^ 34)
+          → IfSome (option_and_then (λ metric. option_map (by_border key area.area metric) (border_of area.entries (originator_of lsa)))
+          (if b then Some (metric_of lsa) else None)) (λ (c : Candidate K). c.rank.cost < 2 ^ 34)
       by true u =
           over (metric_of lsa) (usable_below router lsa u) (border_of area.entries (originator_of lsa))
-          (found_has (λ (e : EntryValue). e.cost < 2 ^ 33) (λ e. same_kind e.kind Border && same_router e.router (originator_of lsa)) area.entries cheap.entries)
+          (found_has (λ (e : EntryValue). e.cost < 2 ^ 33)
+          (λ e. same_kind e.kind Border && same_router e.router (originator_of lsa)) area.entries cheap.entries)
       by false u = tt
 
   told_below : {K : Type 0} (lsa : List ℕ) (told : Option K) → IfSome (option_and_then (candidate_to router area lsa) told) (λ c. c.rank.cost < 2 ^ 34)
   told_below lsa None = tt
   told_below lsa (Some key) = candidate_below lsa key
 
-  pub networks_below : (intra : List RouteValue) (lsas : List (List ℕ)) → All (λ c. c.rank.cost < 2 ^ 34) (filter_map (network_candidate router area intra) lsas)
-  networks_below intra lsas = All-filter_map (λ (c : Candidate Net). c.rank.cost < 2 ^ 34) (network_candidate router area intra) (λ lsa. told_below lsa (network_told intra lsa)) lsas
+  pub networks_below : (intra : List RouteValue) (lsas : List (List ℕ))
+      → All (λ c. c.rank.cost < 2 ^ 34) (filter_map (network_candidate router area intra) lsas)
+  networks_below intra lsas = All-filter_map (λ (c : Candidate Net). c.rank.cost < 2 ^ 34)
+      (network_candidate router area intra) (λ lsa. told_below lsa (network_told intra lsa)) lsas
 
   pub asbrs_below : (lsas : List (List ℕ)) → All (λ c. c.rank.cost < 2 ^ 34) (filter_map (asbr_candidate router area) lsas)
-  asbrs_below lsas = All-filter_map (λ (c : Candidate RouterId). c.rank.cost < 2 ^ 34) (asbr_candidate router area) (λ lsa. told_below lsa (asbr_told router area lsa)) lsas
+  asbrs_below lsas = All-filter_map (λ (c : Candidate RouterId). c.rank.cost < 2 ^ 34)
+      (asbr_candidate router area) (λ lsa. told_below lsa (asbr_told router area lsa)) lsas
 
-pub entries_below : (bound : ℕ) (area : AreaId) (cs : List (Candidate RouterId)) → All (λ c. c.rank.cost < bound) cs → EntriesBelow bound (map (asbr_entry area) (ways_of router_cmp cs))
+pub entries_below : (bound : ℕ) (area : AreaId) (cs : List (Candidate RouterId)) → All (λ c. c.rank.cost < bound) cs
+    → EntriesBelow bound (map (asbr_entry area) (ways_of router_cmp cs))
 entries_below bound area cs a = All-map (λ e. e.cost < bound) (asbr_entry area) (ways_of router_cmp cs) (ways_have (λ r. r.cost < bound) router_cmp cs a)

@@ -1,5 +1,6 @@
 -- Of one router, area and kind a router has one entry.
-use Rattle.std.proofs.Common.{◌≡◌, ◌≢◌, ℕ, ◌<◌, Bool, true, false, cond, eqb, not, List, [], ◌∷◌, ◌++◌, map, Option, None, Some, refl, sym, ap, subst, ◌∙◌, arith, ⊎_elim, inl, inr, true≢false}
+use Rattle.std.proofs.Common.{◌≡◌, ◌≢◌, ℕ, ◌<◌, Bool, true, false, cond, eqb, not, List, [], ◌∷◌, ◌++◌, map, Option, None, Some, refl, sym, ap, subst}
+use Rattle.std.proofs.Common.{◌∙◌, arith, ⊎_elim, inl, inr, true≢false}
 use Rattle.std.specs.Prelude.{◌&&◌}
 use Rattle.std.specs.Option.{option_map}
 use Rattle.std.specs.List.{AllByRecursion, filter_map, flat_map}
@@ -61,7 +62,8 @@ not_inter AsbrInter = false
 is_intra_kind : (k : EntryKind) → not_inter k ≡ true → k ≢ AsbrInter
 is_intra_kind k h e = true≢false (sym h ∙ ap not_inter e)
 
-by_bit : (area : AreaId) (r : ReachedValue) (b : Bool) (kind : EntryKind) (e : EntryValue) → In (cond b (entry_of area r kind ∷ []) []) e → e ≡ entry_of area r kind
+by_bit : (area : AreaId) (r : ReachedValue) (b : Bool) (kind : EntryKind) (e : EntryValue)
+    → In (cond b (entry_of area r kind ∷ []) []) e → e ≡ entry_of area r kind
 by_bit area r true kind e (inl same) = sym same
 by_bit area r true kind e (inr i) = absurd i
 by_bit area r false kind e i = absurd i
@@ -114,7 +116,8 @@ OtherVertex r s = vertex_of r.lsa ≢ vertex_of s.lsa
 router_vertex : (lsa : List ℕ) → is_router_lsa lsa ≡ true → vertex_of lsa ≡ Router (record { 0 = link_state_id_of lsa })
 router_vertex lsa h = ap (λ (b : Bool). cond b (Router (record { 0 = link_state_id_of lsa })) (Network (record { 0 = link_state_id_of lsa }))) h
 
-vertices_apart : (area : AreaId) (root : RouterId) (r s : ReachedValue) (e f : EntryValue) → OtherVertex r s → In (entries_of area root r) e → In (entries_of area root s) f → Differ e f
+vertices_apart : (area : AreaId) (root : RouterId) (r s : ReachedValue) (e f : EntryValue) → OtherVertex r s
+    → In (entries_of area root r) e → In (entries_of area root s) f → Differ e f
 vertices_apart area root r s e f apart i j same =
     let of_r = of_vertex area root r e i in
     let of_s = of_vertex area root s f j in
@@ -138,13 +141,15 @@ reached_apart distance hops lsas apart =
 area_once : (area : AreaId) (root : RouterId) (lsas : List (List ℕ)) → AreOfArea lsas → Pairs Differ (area_result area lsas root).entries
 unfolding area_result
 area_once area root lsas are =
-    let apart = Pairs-unmap (λ v w. v ≢ w) vertex_of (used lsas) (Pairs-from (λ v w. v ≢ w) (map vertex_of (used lsas)) (vertices_distinct lsas are.accepted are.distinct)) in
+    let apart = Pairs-unmap (λ v w. v ≢ w) vertex_of (used lsas)
+    (Pairs-from (λ v w. v ≢ w) (map vertex_of (used lsas)) (vertices_distinct lsas are.accepted are.distinct)) in
     let edges = area_edges (used lsas) in
     let reached = reached_apart (distance_of edges (Router root)) (hops_of edges (Router root)) (used lsas) apart in
     Pairs-flat_map OtherVertex Differ (entries_of area root) (reached_from root (used lsas)) (λ r i. vertex_once area root r) (vertices_apart area root) reached
 
 -- an entry of an area is one through it, and not one by a summary-LSA
-of_area : (area : AreaId) (root : RouterId) (lsas : List (List ℕ)) (e : EntryValue) → In (area_result area lsas root).entries e → (e.area ≡ area) × (e.kind ≢ AsbrInter)
+of_area : (area : AreaId) (root : RouterId) (lsas : List (List ℕ)) (e : EntryValue)
+    → In (area_result area lsas root).entries e → (e.area ≡ area) × (e.kind ≢ AsbrInter)
 unfolding area_result
 of_area area root lsas e i =
     let r = flat_map-In (entries_of area root) (reached_from root (used lsas)) e i in
@@ -165,7 +170,8 @@ module _ (db : Lists) (router : RouterId) where
   entries_in area = (area_result (id_of area) (lsas_of (Area (id_of area)) db) router).entries
 
   all_entries : entries_of_all (results_of db router) ≡ flat_map entries_in (attached_areas db router)
-  all_entries = flat_map_map (λ (r : AreaResultValue). r.entries) (λ (area : AreaHead). area_result (id_of area) (lsas_of (Area (id_of area)) db) router) (attached_areas db router)
+  all_entries = flat_map_map (λ (r : AreaResultValue). r.entries)
+      (λ (area : AreaHead). area_result (id_of area) (lsas_of (Area (id_of area)) db) router) (attached_areas db router)
 
   areas_rise : IsDatabase db → Pairs (λ (a b : AreaHead). a.id < b.id) (areas_of db)
   areas_rise is =
@@ -218,8 +224,10 @@ module _ (lists : Lists) (router : RouterId) where
   summaries_once None = tt
   summaries_once (Some area) =
       let ways = ways_of router_cmp (filter_map (asbr_candidate router area) (lsas_of (Area area.area) lists)) in
-      Pairs-map (λ (a b : RouterId × WayValue). router_cmp a.0 b.0 ≡ Less) Differ (asbr_entry area.area) ways (λ a b below same. below_apart a.0 b.0 below same.router)
-      (Pairs-unmap (λ a b. router_cmp a b ≡ Less) (λ (e : RouterId × WayValue). e.0) ways (sorted_pairs (keys_of ways) (sorted_ways router_total router_exact (filter_map (asbr_candidate router area) (lsas_of (Area area.area) lists)))))
+      Pairs-map (λ (a b : RouterId × WayValue). router_cmp a.0 b.0 ≡ Less) Differ (asbr_entry area.area) ways
+      (λ a b below same. below_apart a.0 b.0 below same.router)
+      (Pairs-unmap (λ a b. router_cmp a b ≡ Less) (λ (e : RouterId × WayValue). e.0) ways
+      (sorted_pairs (keys_of ways) (sorted_ways router_total router_exact (filter_map (asbr_candidate router area) (lsas_of (Area area.area) lists)))))
 
   by_summary : (o : Option AreaResultValue) (e : EntryValue) → In (entries_by lists router o) e → e.kind ≡ AsbrInter
   by_summary None e i = absurd i
@@ -227,10 +235,12 @@ module _ (lists : Lists) (router : RouterId) where
       let at = map-In (asbr_entry area.area) _ e i in
       sym (ap (λ (x : EntryValue). x.kind) at.2)
 
-pub entries_once : (db : Lists) → IsDatabase db → (router : RouterId) (intra : List RouteValue) → StandOnce (inter_of db router (results_of db router) intra).routers
+pub entries_once : (db : Lists) → IsDatabase db → (router : RouterId) (intra : List RouteValue)
+    → StandOnce (inter_of db router (results_of db router) intra).routers
 unfolding inter_of
 entries_once db is router intra =
     let results = results_of db router in
     AllPairs-from Differ (entries_of_all results ++ entries_by db router (examined results))
-    (Pairs-append Differ (entries_of_all results) (entries_by db router (examined results)) (areas_once db router is) (summaries_once db router (examined results))
+    (Pairs-append Differ (entries_of_all results) (entries_by db router (examined results))
+    (areas_once db router is) (summaries_once db router (examined results))
     (λ e f i j same. not_by_summary db router e i (same.kind ∙ by_summary db router (examined results) f j)))

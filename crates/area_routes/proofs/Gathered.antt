@@ -8,9 +8,11 @@ use Rattle.lsdb.specs.Lists.{Lists, lsas_of}
 use Rattle.area_routes.specs.Inter.{entries_by, entries_of_all, examined, inter_entries, inter_of, inter_routes, routes_by}
 use Rattle.area_routes.specs.Values.{AreaResultValue, EntriesBelow, EntryValue, RouteValue}
 
-module _ (lists : Lists) (router : RouterId) (results : List AreaResultValue) (intra : List RouteValue) (routes : List RouteValue) (routers : List EntryValue) where
+module _ (lists : Lists) (router : RouterId) (results : List AreaResultValue) (intra : List RouteValue)
+    (routes : List RouteValue) (routers : List EntryValue) where
   -- where no area is examined
-  pub inter_none : None ≡ examined results → routes ≡ [] → routers ≡ entries_of_all results → record { routes = routes; routers = routers } ≡ inter_of lists router results intra
+  pub inter_none : None ≡ examined results → routes ≡ [] → routers ≡ entries_of_all results
+      → record { routes = routes; routers = routers } ≡ inter_of lists router results intra
   unfolding inter_of
   inter_none none no_routes all i = record {
     routes = (no_routes ∙ ap (routes_by lists router intra) none) i;
@@ -19,7 +21,8 @@ module _ (lists : Lists) (router : RouterId) (results : List AreaResultValue) (i
 
   -- where an area is examined
   pub inter_some : (area : AreaResultValue) → Some area ≡ examined results → routes ≡ inter_routes router area intra (lsas_of (Area area.area) lists)
-      → routers ≡ entries_of_all results ++ inter_entries router area (lsas_of (Area area.area) lists) → record { routes = routes; routers = routers } ≡ inter_of lists router results intra
+      → routers ≡ entries_of_all results ++ inter_entries router area (lsas_of (Area area.area) lists)
+      → record { routes = routes; routers = routers } ≡ inter_of lists router results intra
   unfolding inter_of
   inter_some area found by_routes all i = record {
     routes = (by_routes ∙ ap (routes_by lists router intra) found) i;

@@ -23,16 +23,21 @@ entries_then r xs ys i = record { area = r.area; offers = r.offers; entries = ap
 pub offers_push : {X : Type 0} {g : List X → List OfferValue} {h : X → List OfferValue} → Adds g h → (xs : List X) (x : X) (old mid new : AreaResultValue)
     → mid ≡ with_offers old (g xs) → new ≡ with_offers mid (h x) → new ≡ with_offers old (g (xs ++ x ∷ []))
 offers_push {X} {g} {h} adds xs x old mid new before step =
-    step ∙ ap (λ (r : AreaResultValue). with_offers r (h x)) before ∙ offers_then old (g xs) (h x) ∙ ap (λ (os : List OfferValue). with_offers old os) (sym (adds.push xs x))
+    step ∙ ap (λ (r : AreaResultValue). with_offers r (h x)) before ∙ offers_then old (g xs) (h x)
+    ∙ ap (λ (os : List OfferValue). with_offers old os) (sym (adds.push xs x))
 
 -- the same at a place
-pub offers_more : {X : Type 0} {g : List X → List OfferValue} {h : X → List OfferValue} → Adds g h → (xs : List X) (i : ℕ) (x : X) → i < length xs → x ≡ get_or xs i x → (old mid new : AreaResultValue)
+pub offers_more : {X : Type 0} {g : List X → List OfferValue} {h : X → List OfferValue} → Adds g h
+    → (xs : List X) (i : ℕ) (x : X) → i < length xs → x ≡ get_or xs i x → (old mid new : AreaResultValue)
     → mid ≡ with_offers old (g (take i xs)) → new ≡ with_offers mid (h x) → new ≡ with_offers old (g (take (i + 1) xs))
 offers_more {X} {g} {h} adds xs i x lt at old mid new before step =
-    offers_push adds (take i xs) x old mid new before step ∙ ap (λ (ys : List X). with_offers old (g ys)) (ap (λ (y : X). take i xs ++ y ∷ []) at ∙ sym (take_more xs i x lt))
+    offers_push adds (take i xs) x old mid new before step
+    ∙ ap (λ (ys : List X). with_offers old (g ys)) (ap (λ (y : X). take i xs ++ y ∷ []) at ∙ sym (take_more xs i x lt))
 
-pub entries_more : {X : Type 0} {g : List X → List EntryValue} {h : X → List EntryValue} → Adds g h → (xs : List X) (i : ℕ) (x : X) → i < length xs → x ≡ get_or xs i x → (old mid new : AreaResultValue)
+pub entries_more : {X : Type 0} {g : List X → List EntryValue} {h : X → List EntryValue} → Adds g h
+    → (xs : List X) (i : ℕ) (x : X) → i < length xs → x ≡ get_or xs i x → (old mid new : AreaResultValue)
     → mid ≡ with_entries old (g (take i xs)) → new ≡ with_entries mid (h x) → new ≡ with_entries old (g (take (i + 1) xs))
 entries_more {X} {g} {h} adds xs i x lt at old mid new before step =
     step ∙ ap (λ (r : AreaResultValue). with_entries r (h x)) before ∙ entries_then old (g (take i xs)) (h x)
-    ∙ ap (λ (es : List EntryValue). with_entries old es) (sym (adds.push (take i xs) x) ∙ ap g (ap (λ (y : X). take i xs ++ y ∷ []) at ∙ sym (take_more xs i x lt)))
+    ∙ ap (λ (es : List EntryValue). with_entries old es)
+    (sym (adds.push (take i xs) x) ∙ ap g (ap (λ (y : X). take i xs ++ y ∷ []) at ∙ sym (take_more xs i x lt)))

@@ -35,14 +35,16 @@ equal Greater h = cc
 
 module _ (kind : EntryKind) (entries : List EntryValue) (e : EntryValue) where
   -- what there is with one entry more
-  one_more : (q : RouterId) → entry_of kind (entries ++ e ∷ []) q ≡ option_or (entry_of kind entries q) (cond (same_kind e.kind kind && same_router e.router q) (Some e) None)
+  one_more : (q : RouterId) → entry_of kind (entries ++ e ∷ []) q ≡ option_or (entry_of kind entries q)
+      (cond (same_kind e.kind kind && same_router e.router q) (Some e) None)
   one_more q = find-append (λ e. same_kind e.kind kind && same_router e.router q) entries (e ∷ [])
 
   module _ (old : List (RouterId × EntryValue)) (before : IsIndexOf kind entries old) where
     -- an entry of another kind
     pub other_kind : same_kind e.kind kind ≡ false → IsIndexOf kind (entries ++ e ∷ []) old
     other_kind h q =
-        before q ∙ sym (one_more q ∙ ap (λ b. option_or (entry_of kind entries q) (cond (b && same_router e.router q) (Some e) None)) h ∙ or_none (entry_of kind entries q))
+        before q ∙ sym (one_more q ∙ ap (λ b. option_or (entry_of kind entries q) (cond (b && same_router e.router q) (Some e) None)) h
+        ∙ or_none (entry_of kind entries q))
 
     tie : (q : RouterId) → same_router e.router q ≡ is_eq (router_cmp e.router q)
     tie q = unsigned_ties e.router.0 q.0
@@ -52,7 +54,8 @@ module _ (kind : EntryKind) (entries : List EntryValue) (e : EntryValue) where
     again h q = before q ∙ sym (one_more q ∙ by (same_kind e.kind kind) (same_router e.router q) refl)
       where
         there : same_router e.router q ≡ true → is_some (entry_of kind entries q) ≡ true
-        there t = ap is_some (sym (before q) ∙ ap (λ r. lookup (eq_by_cmp router_cmp r) old) (sym (router_exact e.router q (equal (router_cmp e.router q) (sym (tie q) ∙ t))))) ∙ h
+        there t = ap is_some (sym (before q) ∙ ap (λ r. lookup (eq_by_cmp router_cmp r) old)
+            (sym (router_exact e.router q (equal (router_cmp e.router q) (sym (tie q) ∙ t))))) ∙ h
 
         by : (k t : Bool) → same_router e.router q ≡ t → option_or (entry_of kind entries q) (cond (k && t) (Some e) None) ≡ entry_of kind entries q
         by false t s = or_none (entry_of kind entries q)
@@ -61,15 +64,18 @@ module _ (kind : EntryKind) (entries : List EntryValue) (e : EntryValue) where
 
     -- a new entry
     pub added : (new : List (RouterId × EntryValue)) → same_kind e.kind kind ≡ true → is_some (lookup (eq_by_cmp router_cmp e.router) old) ≡ false
-        → ((q : RouterId) → lookup (eq_by_cmp router_cmp q) new ≡ cond (is_eq (router_cmp e.router q)) (Some e) (lookup (eq_by_cmp router_cmp q) old)) → IsIndexOf kind (entries ++ e ∷ []) new
+        → ((q : RouterId) → lookup (eq_by_cmp router_cmp q) new ≡ cond (is_eq (router_cmp e.router q)) (Some e)
+        (lookup (eq_by_cmp router_cmp q) old)) → IsIndexOf kind (entries ++ e ∷ []) new
     added new k absent after q =
         after q ∙ by (same_router e.router q) refl
         ∙ sym (one_more q ∙ ap (λ b. option_or (entry_of kind entries q) (cond (b && same_router e.router q) (Some e) None)) k)
       where
-        by : (t : Bool) → same_router e.router q ≡ t → cond (is_eq (router_cmp e.router q)) (Some e) (lookup (eq_by_cmp router_cmp q) old) ≡ option_or (entry_of kind entries q) (cond (same_router e.router q) (Some e) None)
+        by : (t : Bool) → same_router e.router q ≡ t → cond (is_eq (router_cmp e.router q)) (Some e)
+            (lookup (eq_by_cmp router_cmp q) old) ≡ option_or (entry_of kind entries q) (cond (same_router e.router q) (Some e) None)
         by true s =
             let same = router_exact e.router q (equal (router_cmp e.router q) (sym (tie q) ∙ s)) in
-            let none = sym (before q) ∙ ap (λ r. lookup (eq_by_cmp router_cmp r) old) (sym same) ∙ not_found (lookup (eq_by_cmp router_cmp e.router) old) absent in
+            let none = sym (before q) ∙ ap (λ r. lookup (eq_by_cmp router_cmp r) old) (sym same)
+            ∙ not_found (lookup (eq_by_cmp router_cmp e.router) old) absent in
             ap (λ b. cond b (Some e) (lookup (eq_by_cmp router_cmp q) old)) (sym (tie q) ∙ s)
             ∙ sym (ap (λ o. option_or o (cond (same_router e.router q) (Some e) None)) none ∙ ap (λ b. option_or None (cond b (Some e) None)) s)
         by false s =

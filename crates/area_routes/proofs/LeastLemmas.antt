@@ -37,7 +37,8 @@ module _ {K : Type 0} {R : K → K → Ordering} (o : IsTotalOrder R) where
   lesser_later x k None = refl
   lesser_later x k (Some y) = by (is_lt (R k y)) (is_lt (R y x)) refl refl
     where
-      by : (p q : Bool) → is_lt (R k y) ≡ p → is_lt (R y x) ≡ q → cond (is_lt (R (cond p k y) x)) (cond p k y) x ≡ cond (is_lt (R k (cond q y x))) k (cond q y x)
+      by : (p q : Bool) → is_lt (R k y) ≡ p → is_lt (R y x) ≡ q
+          → cond (is_lt (R (cond p k y) x)) (cond p k y) x ≡ cond (is_lt (R k (cond q y x))) k (cond q y x)
       by true true ky yx = ap (λ b. cond b k x) (ap is_lt (o.trans k y x (lt_from _ ky) (lt_from _ yx))) ∙ sym (ap (λ b. cond b k y) ky)
       by true false ky yx = refl
       by false true ky yx = ap (λ b. cond b y x) yx ∙ sym (ap (λ b. cond b k y) ky)

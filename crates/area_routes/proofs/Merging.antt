@@ -1,5 +1,6 @@
 -- One more candidate, and the list of ways.
-use Rattle.std.proofs.Common.{◌≡◌, Bool, true, false, cond, List, [], ◌∷◌, ◌++◌, map, Option, Some, None, Result, Ok, Err, IfOk, OnOk, refl, sym, ap, subst, ◌∙◌}
+use Rattle.std.proofs.Common.{◌≡◌, Bool, true, false, cond, List, [], ◌∷◌, ◌++◌, map, Option, Some, None, Result, Ok, Err, IfOk, OnOk, refl, sym, ap}
+use Rattle.std.proofs.Common.{subst, ◌∙◌}
 use Rattle.std.specs.List.{AllByRecursion, list_any, filter, filter_map, flat_map, cons_option}
 use Rattle.std.specs.Option.{option_map}
 use Rattle.std.specs.Cmp.{IsTotalOrder}
@@ -39,17 +40,20 @@ module _ {K : Type 0} where
   none_of_rank r [] a = refl
   none_of_rank r (c ∷ cs) a = ap (λ o. cond (is_eq o) (c ∷ of_rank r cs) (of_rank r cs)) a.0 ∙ none_of_rank r cs a.1
 
-  of_rank_push : (r : Rank) (cs : List (Candidate K)) (c : Candidate K) → of_rank r (cs ++ c ∷ []) ≡ of_rank r cs ++ cond (eq_by_cmp rank_cmp r c.rank) (c ∷ []) []
+  of_rank_push : (r : Rank) (cs : List (Candidate K)) (c : Candidate K)
+      → of_rank r (cs ++ c ∷ []) ≡ of_rank r cs ++ cond (eq_by_cmp rank_cmp r c.rank) (c ∷ []) []
   of_rank_push r cs c = filter-append (λ c. eq_by_cmp rank_cmp r c.rank) cs (c ∷ [])
 
-  areas_push : (cs : List (Candidate K)) (c : Candidate K) → rising area_cmp (filter_map (λ c. c.area) (cs ++ c ∷ [])) ≡ add_area (rising area_cmp (filter_map (λ c. c.area) cs)) c.area
+  areas_push : (cs : List (Candidate K)) (c : Candidate K)
+      → rising area_cmp (filter_map (λ c. c.area) (cs ++ c ∷ [])) ≡ add_area (rising area_cmp (filter_map (λ c. c.area) cs)) c.area
   areas_push cs c = ap (rising area_cmp) (filter_map-append (λ c. c.area) cs (c ∷ [])) ∙ by c.area
     where
       by : (a : Option AreaId) → rising area_cmp (filter_map (λ c. c.area) cs ++ cons_option a []) ≡ add_area (rising area_cmp (filter_map (λ c. c.area) cs)) a
       by None = ap (rising area_cmp) (append-nil (filter_map (λ c. c.area) cs)) ∙ refl
       by (Some a) = sym (rising_append area_total area_exact (filter_map (λ c. c.area) cs) (a ∷ []))
 
-  hops_push : (cs : List (Candidate K)) (c : Candidate K) → rising hop_cmp (flat_map (λ c. c.hops) (cs ++ c ∷ [])) ≡ rising hop_cmp (rising hop_cmp (flat_map (λ c. c.hops) cs) ++ c.hops)
+  hops_push : (cs : List (Candidate K)) (c : Candidate K)
+      → rising hop_cmp (flat_map (λ c. c.hops) (cs ++ c ∷ [])) ≡ rising hop_cmp (rising hop_cmp (flat_map (λ c. c.hops) cs) ++ c.hops)
   hops_push cs c =
       ap (rising hop_cmp) (flat_map-append (λ c. c.hops) cs (c ∷ []) ∙ ap (λ l. flat_map (λ c. c.hops) cs ++ l) (append-nil c.hops))
       ∙ sym (rising_append hop_total hop_exact (flat_map (λ c. c.hops) cs) c.hops)
@@ -64,33 +68,43 @@ module _ {K : Type 0} where
   joined_alone c i = record { rank = c.rank; areas = areas_push [] c i; hops = ap (rising hop_cmp) (append-nil c.hops) i }
 
   -- one more candidate, where r is how its rank compares to the least so far
-  more_of_rank : (cs : List (Candidate K)) (c : Candidate K) (m : Rank) → (rank_cmp c.rank m ≡ Less → of_rank c.rank cs ≡ []) → (r : Ordering) → rank_cmp c.rank m ≡ r
-      → joined (cond (is_lt r) c.rank m) (of_rank (cond (is_lt r) c.rank m) (cs ++ c ∷ [])) ≡ match_ordering r (fresh c.rank c.area c.hops) (merged (joined m (of_rank m cs)) c.area c.hops) (joined m (of_rank m cs))
-  more_of_rank cs c m below Less e = ap (joined c.rank) (of_rank_push c.rank cs c ∙ ap (λ l. l ++ cond (eq_by_cmp rank_cmp c.rank c.rank) (c ∷ []) []) (below e) ∙ of_rank_itself c) ∙ joined_alone c
+  more_of_rank : (cs : List (Candidate K)) (c : Candidate K) (m : Rank)
+      → (rank_cmp c.rank m ≡ Less → of_rank c.rank cs ≡ []) → (r : Ordering) → rank_cmp c.rank m ≡ r
+      → joined (cond (is_lt r) c.rank m) (of_rank (cond (is_lt r) c.rank m) (cs ++ c ∷ [])) ≡ match_ordering r
+      (fresh c.rank c.area c.hops) (merged (joined m (of_rank m cs)) c.area c.hops) (joined m (of_rank m cs))
+  more_of_rank cs c m below Less e = ap (joined c.rank)
+      (of_rank_push c.rank cs c ∙ ap (λ l. l ++ cond (eq_by_cmp rank_cmp c.rank c.rank) (c ∷ []) []) (below e) ∙ of_rank_itself c) ∙ joined_alone c
   more_of_rank cs c m below Equal e =
       ap (joined m) (of_rank_push m cs c ∙ ap (λ o. of_rank m cs ++ cond (is_eq o) (c ∷ []) []) (tied_back rank_total c.rank m e))
       ∙ joined_push m (of_rank m cs) c
   more_of_rank cs c m below Greater e =
-      ap (joined m) (of_rank_push m cs c ∙ ap (λ o. of_rank m cs ++ cond (is_eq o) (c ∷ []) []) (rank_total.antisymm m c.rank ∙ ap ordering_reverse e) ∙ append-nil (of_rank m cs))
+      ap (joined m) (of_rank_push m cs c ∙ ap (λ o. of_rank m cs ++ cond (is_eq o) (c ∷ []) [])
+      (rank_total.antisymm m c.rank ∙ ap ordering_reverse e) ∙ append-nil (of_rank m cs))
 
   -- one more candidate for a key
   pub way_push : (cs : List (Candidate K)) (c : Candidate K) → way_of (cs ++ c ∷ []) ≡ Some (merge (way_of cs) c.rank c.area c.hops)
   way_push [] c = ap (λ l. Some (joined c.rank l)) (of_rank_itself c) ∙ ap Some (joined_alone c)
   way_push (x ∷ xs) c =
       let m = lesser rank_cmp x.rank (least rank_cmp (map (λ c. c.rank) xs)) in
-      ap (option_map (λ r. joined r (of_rank r ((x ∷ xs) ++ c ∷ [])))) (ap (least rank_cmp) (map-append (λ c. c.rank) (x ∷ xs) (c ∷ [])) ∙ least_push rank_total (map (λ c. c.rank) (x ∷ xs)) c.rank)
-      ∙ ap Some (more_of_rank (x ∷ xs) c m (λ e. let b = below_all rank_total c.rank x.rank (map (λ c. c.rank) xs) e in none_of_rank c.rank (x ∷ xs) (b.0, b.1)) (rank_cmp c.rank m) refl)
+      ap (option_map (λ r. joined r (of_rank r ((x ∷ xs) ++ c ∷ []))))
+      (ap (least rank_cmp) (map-append (λ c. c.rank) (x ∷ xs) (c ∷ [])) ∙ least_push rank_total (map (λ c. c.rank) (x ∷ xs)) c.rank)
+      ∙ ap Some
+      (more_of_rank (x ∷ xs) c m
+      (λ e. let b = below_all rank_total c.rank x.rank (map (λ c. c.rank) xs) e in none_of_rank c.rank (x ∷ xs) (b.0, b.1)) (rank_cmp c.rank m) refl)
 
   module _ {R : K → K → Ordering} (o : IsTotalOrder R) (exact : CmpEqualImpliesEq R) where
-    for_key_push : (cs : List (Candidate K)) (c : Candidate K) (q : K) → filter (λ c. eq_by_cmp R q c.key) (cs ++ c ∷ []) ≡ filter (λ c. eq_by_cmp R q c.key) cs ++ cond (eq_by_cmp R q c.key) (c ∷ []) []
+    for_key_push : (cs : List (Candidate K)) (c : Candidate K) (q : K)
+        → filter (λ c. eq_by_cmp R q c.key) (cs ++ c ∷ []) ≡ filter (λ c. eq_by_cmp R q c.key) cs ++ cond (eq_by_cmp R q c.key) (c ∷ []) []
     for_key_push cs c q = filter-append (λ c. eq_by_cmp R q c.key) cs (c ∷ [])
 
     other_key : (cs : List (Candidate K)) (c : Candidate K) (q : K) → eq_by_cmp R q c.key ≡ false → way_to R (cs ++ c ∷ []) q ≡ way_to R cs q
     other_key cs c q e =
-        ap way_of (for_key_push cs c q ∙ ap (λ b. filter (λ c. eq_by_cmp R q c.key) cs ++ cond b (c ∷ []) []) e ∙ append-nil (filter (λ c. eq_by_cmp R q c.key) cs))
+        ap way_of
+        (for_key_push cs c q ∙ ap (λ b. filter (λ c. eq_by_cmp R q c.key) cs ++ cond b (c ∷ []) []) e ∙ append-nil (filter (λ c. eq_by_cmp R q c.key) cs))
 
     -- one more candidate
-    pub way_to_push : (cs : List (Candidate K)) (c : Candidate K) (q : K) → way_to R (cs ++ c ∷ []) q ≡ cond (is_at (R c.key) q) (Some (merge (way_to R cs c.key) c.rank c.area c.hops)) (way_to R cs q)
+    pub way_to_push : (cs : List (Candidate K)) (c : Candidate K) (q : K)
+        → way_to R (cs ++ c ∷ []) q ≡ cond (is_at (R c.key) q) (Some (merge (way_to R cs c.key) c.rank c.area c.hops)) (way_to R cs q)
     way_to_push cs c q = by (R c.key q) refl
       where
         by : (r : Ordering) → R c.key q ≡ r → way_to R (cs ++ c ∷ []) q ≡ cond (is_eq r) (Some (merge (way_to R cs c.key) c.rank c.area c.hops)) (way_to R cs q)
@@ -122,7 +136,8 @@ module _ {K : Type 0} where
 
     -- a map after one more candidate
     pub gathers_push : (es fs : List (K × WayValue)) (cs : List (Candidate K)) (c : Candidate K) → Gathers R cs es
-        → ((q : K) → lookup (eq_by_cmp R q) fs ≡ cond (is_at (R c.key) q) (Some (merge (lookup (eq_by_cmp R c.key) es) c.rank c.area c.hops)) (lookup (eq_by_cmp R q) es)) → Gathers R (cs ++ c ∷ []) fs
+        → ((q : K) → lookup (eq_by_cmp R q) fs ≡ cond (is_at (R c.key) q)
+        (Some (merge (lookup (eq_by_cmp R c.key) es) c.rank c.area c.hops)) (lookup (eq_by_cmp R q) es)) → Gathers R (cs ++ c ∷ []) fs
     gathers_push es fs cs c before after q =
         after q ∙ ap (λ w. cond (is_at (R c.key) q) (Some (merge w c.rank c.area c.hops)) (lookup (eq_by_cmp R q) es)) (before c.key)
         ∙ ap (λ w. cond (is_at (R c.key) q) (Some (merge (way_to R cs c.key) c.rank c.area c.hops)) w) (before q)
@@ -133,15 +148,18 @@ module _ {K : Type 0} where
     ways_from_gathers es cs up h = same_entries o exact es (ways_of R cs) up (sorted_ways cs) (λ q. h q ∙ sym (lookup_ways cs q))
 
     -- the list that a map was made into
-    pub ways_from_entries : {X E : Type 0} (items : X → List (K × WayValue)) (m : BTreeMap K WayValue) (es : List (K × WayValue)) → m.entries ≡ es → (r : Result X E) → IfOk r (λ v. items v ≡ m.entries) → OnOk r (IsOrdered R m)
+    pub ways_from_entries : {X E : Type 0} (items : X → List (K × WayValue)) (m : BTreeMap K WayValue) (es : List (K × WayValue))
+        → m.entries ≡ es → (r : Result X E) → IfOk r (λ v. items v ≡ m.entries) → OnOk r (IsOrdered R m)
         → IfOk r (λ v. (cs : List (Candidate K)) → Gathers R cs es → items v ≡ ways_of R cs)
     ways_from_entries items m es same (Ok v) h up = λ cs at. h ∙ ways_from_gathers m.entries cs up (λ q. ap (lookup (eq_by_cmp R q)) same ∙ at q)
     ways_from_entries items m es same (Err e) h up = tt
 
     -- what `admit` left
     pub gathers_from_updates : {X E : Type 0} (r : Result X E) (m n : BTreeMap K WayValue) (es : List (K × WayValue)) → m.entries ≡ es → (c : Candidate K)
-        → OnOk r (Updates R m n c.key (Some (merge (get R m c.key) c.rank c.area c.hops))) → OnOk r ((cs : List (Candidate K)) → Gathers R cs es → Gathers R (cs ++ c ∷ []) n.entries)
-    gathers_from_updates (Ok v) m n es same c h = λ cs before. gathers_push m.entries n.entries cs c (λ q. ap (lookup (eq_by_cmp R q)) same ∙ before q) (λ q. h.0 q)
+        → OnOk r (Updates R m n c.key (Some (merge (get R m c.key) c.rank c.area c.hops)))
+        → OnOk r ((cs : List (Candidate K)) → Gathers R cs es → Gathers R (cs ++ c ∷ []) n.entries)
+    gathers_from_updates (Ok v) m n es same c h = λ cs before. gathers_push m.entries n.entries cs c
+        (λ q. ap (lookup (eq_by_cmp R q)) same ∙ before q) (λ q. h.0 q)
     gathers_from_updates (Err e) m n es same c h = tt
 
 -- the keys of the list that a map was made into stand in order

@@ -34,7 +34,8 @@ pub prefix_total : IsTotalOrder prefix_cmp
 prefix_total = then_total (on_total (λ p. p.addr.0) nat_cmp_total) (on_total (λ p. p.len) nat_cmp_total)
 
 pub prefix_exact : CmpEqualImpliesEq prefix_cmp
-prefix_exact a b h = ap (λ (p : ℕ × ℕ). record { addr = record { 0 = p.0 }; len = p.1 }) (exact_pairs nat_cmp nat_cmp exact_unsigned exact_unsigned (a.addr.0, a.len) (b.addr.0, b.len) h)
+prefix_exact a b h = ap (λ (p : ℕ × ℕ). record { addr = record { 0 = p.0 }; len = p.1 })
+    (exact_pairs nat_cmp nat_cmp exact_unsigned exact_unsigned (a.addr.0, a.len) (b.addr.0, b.len) h)
 
 then_both : (r s : Ordering) → ordering_then r s ≡ Equal → (r ≡ Equal) × (s ≡ Equal)
 then_both Less s h = cc
@@ -59,4 +60,10 @@ rank_exact a b h =
     let p = then_both (path_cmp a.path b.path) _ h in
     let q = then_both (nat_cmp a.cost2 b.cost2) _ p.1 in
     let r = then_both (nat_cmp a.class b.class) (nat_cmp a.cost b.cost) q.1 in
-    λ i. record { path = path_exact a.path b.path p.0 i; cost2 = exact_unsigned a.cost2 b.cost2 q.0 i; class = exact_unsigned a.class b.class r.0 i; cost = exact_unsigned a.cost b.cost r.1 i }
+    λ i. record {
+      path = path_exact a.path b.path p.0 i;
+      cost2 = exact_unsigned a.cost2 b.cost2 q.0 i;
+      class =
+          exact_unsigned a.class b.class r.0 i;
+      cost = exact_unsigned a.cost b.cost r.1 i;
+    }

@@ -36,7 +36,8 @@ link_has_cost link (Network n) h = ap has_cost h.0
 -- an accepted router-LSA has no link to a vertex that costs nothing
 link_costs : (lsa : List ℕ) (link : Link) (t : Vertex) → IsAccepted lsa → kind_of lsa ≡ 1 → Contains (links_of lsa) link → IsLinkTo t link → 0 < link.metric
 link_costs lsa link t accepted one c to =
-    let all : list_all is_link_cost_good (links_of lsa) ≡ true = subst (λ b. (not b || list_all is_link_cost_good (links_of lsa)) ≡ true) (eq-eqb (kind_of lsa) 1 one) accepted.costs in
+    let all : list_all is_link_cost_good (links_of lsa) ≡ true =
+    subst (λ b. (not b || list_all is_link_cost_good (links_of lsa)) ≡ true) (eq-eqb (kind_of lsa) 1 one) accepted.costs in
     let good : is_link_cost_good link ≡ true = list_all-In is_link_cost_good (links_of lsa) all link (In-from_Contains (links_of lsa) link c) in
     let costs : not (eqb link.metric 0) ≡ true = subst (λ b. (not b || not (eqb link.metric 0)) ≡ true) (link_has_cost link t to) good in
     ⊎_elim (λ positive. positive)
@@ -96,7 +97,8 @@ module _ (distance : Vertex → Option ℕ) (hops : Vertex → List Hop) where
 -- ---- the law
 
 -- a vertex to which a path leads has a distance
-has_distance : (IsEdge : DirectedEdge Vertex → Type 0) (v w : Vertex) (es : List (DirectedEdge Vertex)) → IsPath IsEdge v es w → (o : Option ℕ) → IsDistance IsEdge v w o → (d : ℕ) × (o ≡ Some d)
+has_distance : (IsEdge : DirectedEdge Vertex → Type 0) (v w : Vertex) (es : List (DirectedEdge Vertex))
+    → IsPath IsEdge v es w → (o : Option ℕ) → IsDistance IsEdge v w o → (d : ℕ) × (o ≡ Some d)
 has_distance IsEdge v w es path None none = absurd (none es path)
 has_distance IsEdge v w es path (Some d) least = (d, refl)
 
@@ -104,7 +106,8 @@ pub reached_over_all_paths : (root : RouterId) (lsas : List (List ℕ)) → All 
 reached_over_all_paths root lsas accepted = record {
   vertices = λ r c. Contains-from_In lsas r.lsa (parts r c).0;
   all = reached;
-  distances = λ r c. subst (λ (o : Option ℕ). IsDistance (IsAreaEdge lsas) (Router root) (vertex_of r.lsa) o) (parts r c).1 (IsDistance-distance_of edges (Router root) (vertex_of r.lsa));
+  distances = λ r c. subst (λ (o : Option ℕ). IsDistance (IsAreaEdge lsas) (Router root) (vertex_of r.lsa) o)
+      (parts r c).1 (IsDistance-distance_of edges (Router root) (vertex_of r.lsa));
   hops = λ r hop c. subst (λ (hs : List Hop). Contains hs hop ↔ IsHopTo (IsAreaEdge lsas) (Router root) (vertex_of r.lsa) hop) (parts r c).2
       (Contains-hops_of edges (NothingFree-area lsas accepted) (Router root) (vertex_of r.lsa) hop);
 }
@@ -118,12 +121,14 @@ reached_over_all_paths root lsas accepted = record {
     hops : Vertex → List Hop
     hops v = hops_of edges (Router root) v
 
-    parts : (r : ReachedValue) → Contains (reached_from root lsas) r → In lsas r.lsa × (distance (vertex_of r.lsa) ≡ Some r.distance) × (hops (vertex_of r.lsa) ≡ r.hops)
+    parts : (r : ReachedValue) → Contains (reached_from root lsas) r
+        → In lsas r.lsa × (distance (vertex_of r.lsa) ≡ Some r.distance) × (hops (vertex_of r.lsa) ≡ r.hops)
     parts r c = reached-In distance hops lsas r (In-from_Contains (reached_from root lsas) r c)
 
     reached : (lsa : List ℕ) (es : List (DirectedEdge Vertex)) → Contains lsas lsa → IsPath (IsAreaEdge lsas) (Router root) es (vertex_of lsa)
         → (r : ReachedValue) × Contains (reached_from root lsas) r × (r.lsa ≡ lsa)
     reached lsa es there path =
-        let at = has_distance (IsAreaEdge lsas) (Router root) (vertex_of lsa) es path (distance (vertex_of lsa)) (IsDistance-distance_of edges (Router root) (vertex_of lsa)) in
+        let at = has_distance (IsAreaEdge lsas) (Router root) (vertex_of lsa) es path (distance (vertex_of lsa))
+        (IsDistance-distance_of edges (Router root) (vertex_of lsa)) in
         let found = In-reached distance hops lsas lsa at.0 (In-from_Contains lsas lsa there) at.1 in
         (found.0, Contains-from_In (reached_from root lsas) found.0 found.1, found.2)

@@ -1,5 +1,6 @@
 -- Lists whose members are each related to all later ones.
-use Rattle.std.proofs.Common.{◌≡◌, ◌<◌, Bool, true, false, cond, List, [], ◌∷◌, ◌++◌, map, length, get_or, Option, None, Some, suc, refl, sym, ap, arith, ⊎_elim, inl, inr}
+use Rattle.std.proofs.Common.{◌≡◌, ◌<◌, Bool, true, false, cond, List, [], ◌∷◌, ◌++◌, map, length, get_or, Option, None, Some, suc, refl, sym, ap}
+use Rattle.std.proofs.Common.{arith, ⊎_elim, inl, inr}
 use Rattle.std.specs.List.{AllPairs, cons_option, filter, filter_map, flat_map}
 use Rattle.std.proofs.lemmas.List.Elements.{All-contains, Contains-get_or}
 use Rattle.std.proofs.lemmas.List.Kept.{AllPairs-cons}
@@ -48,7 +49,8 @@ module _ {X Y : Type 0} (S : X → X → Type 0) (R : Y → Y → Type 0) where
       all (z ∷ zs) h y (inl e) = rw (sym e) (h z (inl refl))
       all (z ∷ zs) h y (inr i) = all zs (λ w j. h w (inr j)) y i
 
-  pub Pairs-filter_map : (f : X → Option Y) (xs : List X) → ((x z : X) (y w : Y) → S x z → f x ≡ Some y → f z ≡ Some w → R y w) → Pairs S xs → Pairs R (filter_map f xs)
+  pub Pairs-filter_map : (f : X → Option Y) (xs : List X) → ((x z : X) (y w : Y) → S x z → f x ≡ Some y → f z ≡ Some w → R y w)
+      → Pairs S xs → Pairs R (filter_map f xs)
   Pairs-filter_map f [] each pairs = tt
   Pairs-filter_map f (x ∷ xs) each pairs = by (f x) refl (Pairs-filter_map f xs each pairs.1)
     where

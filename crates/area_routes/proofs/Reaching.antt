@@ -45,7 +45,9 @@ pub hops_by_lsa : (lsas : List (List ℕ)) (root : RouterId) (t : Topology) (tre
 hops_by_lsa lsas root t tree hops are =
     let h : Vertex → List Hop = λ v. hops_of (area_edges (used lsas)) (Router root) v in
     are.of_tree
-    ∙ ap (λ (f : Vertex → List Hop). map f t.vertices) (fun_ext (λ v. hops_of-edges t are.of_area.shape (area_edges (used lsas)) (λ e i. (are.of_area.edges e).0 i) (λ e i. (are.of_area.edges e).1 i) (Router root) v))
+    ∙ ap (λ (f : Vertex → List Hop). map f t.vertices)
+    (fun_ext (λ v. hops_of-edges t are.of_area.shape (area_edges (used lsas))
+    (λ e i. (are.of_area.edges e).0 i) (λ e i. (are.of_area.edges e).1 i) (Router root) v))
     ∙ ap (λ (vs : List Vertex). map h vs) are.of_area.vertices ∙ map-map h vertex_of (used lsas)
 
 -- the root of a tree is one vertex
@@ -53,9 +55,11 @@ pub one_root : (vs : List Vertex) (i j : ℕ) (a b : RouterId) → i ≡ j → s
 one_root vs i j a b e p q = cc
 
 -- what the vertices give that are found by distance and hops is what the area gives
-pub given_by-area : (area : AreaId) (lsas : List (List ℕ)) (root : RouterId) (t : Topology) (tree : Distances) (hops : List (List Hop)) → AreOf lsas root t tree hops
+pub given_by-area : (area : AreaId) (lsas : List (List ℕ)) (root : RouterId) (t : Topology)
+    (tree : Distances) (hops : List (List Hop)) → AreOf lsas root t tree hops
     → (us : List (List ℕ)) → us ≡ used lsas → (rs : List ReachedValue)
-    → ((distance : Vertex → Option ℕ) (first : Vertex → List Hop) → tree.distances ≡ map (λ l. distance (vertex_of l)) us → hops ≡ map (λ l. first (vertex_of l)) us → rs ≡ filter_map (reached_by distance first) us)
+    → ((distance : Vertex → Option ℕ) (first : Vertex → List Hop) → tree.distances ≡ map (λ l. distance (vertex_of l)) us
+    → hops ≡ map (λ l. first (vertex_of l)) us → rs ≡ filter_map (reached_by distance first) us)
     → given_by area root rs ≡ area_result area lsas root
 unfolding area_result
 given_by-area area lsas root t tree hops are us is rs found =

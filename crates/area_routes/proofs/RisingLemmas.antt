@@ -44,7 +44,8 @@ module _ {K : Type 0} {R : K → K → Ordering} (o : IsTotalOrder R) where
   sorted_insert [] k s = (tt, tt)
   sorted_insert (x ∷ xs) k s = by (R k x) refl (sorted_insert xs k s.1)
     where
-      by : (r : Ordering) → R k x ≡ r → IsStrictlySortedBy R (insert_key R xs k) → IsStrictlySortedBy R (match_ordering r (k ∷ x ∷ xs) (x ∷ xs) (x ∷ insert_key R xs k))
+      by : (r : Ordering) → R k x ≡ r → IsStrictlySortedBy R (insert_key R xs k)
+          → IsStrictlySortedBy R (match_ordering r (k ∷ x ∷ xs) (x ∷ xs) (x ∷ insert_key R xs k))
       by Less h rest = ((h, all_below k x xs h s.0), s)
       by Equal h rest = s
       by Greater h rest = (all_insert (λ y. R x y ≡ Less) xs k s.0 (o.antisymm x k ∙ ap ordering_reverse h), rest)
@@ -53,7 +54,9 @@ module _ {K : Type 0} {R : K → K → Ordering} (o : IsTotalOrder R) where
   any_insert q [] k = refl
   any_insert q (x ∷ xs) k = by (R k x) refl (any_insert q xs k)
     where
-      by : (r : Ordering) → R k x ≡ r → list_any (eq_by_cmp R q) (insert_key R xs k) ≡ (eq_by_cmp R q k || list_any (eq_by_cmp R q) xs) → list_any (eq_by_cmp R q) (match_ordering r (k ∷ x ∷ xs) (x ∷ xs) (x ∷ insert_key R xs k)) ≡ (eq_by_cmp R q k || (eq_by_cmp R q x || list_any (eq_by_cmp R q) xs))
+      by : (r : Ordering) → R k x ≡ r → list_any (eq_by_cmp R q) (insert_key R xs k) ≡ (eq_by_cmp R q k || list_any (eq_by_cmp R q) xs)
+          → list_any (eq_by_cmp R q) (match_ordering r (k ∷ x ∷ xs) (x ∷ xs) (x ∷ insert_key R xs k))
+          ≡ (eq_by_cmp R q k || (eq_by_cmp R q x || list_any (eq_by_cmp R q) xs))
       by Less h rest = refl
       by Equal h rest = or_twice (eq_by_cmp R q x) _ ∙ ap (λ r. is_eq r || (eq_by_cmp R q x || list_any (eq_by_cmp R q) xs)) (sym (alike_right o k x q h))
       by Greater h rest = ap (λ b. eq_by_cmp R q x || b) rest ∙ or_swap (eq_by_cmp R q x) (eq_by_cmp R q k) _
@@ -69,7 +72,8 @@ module _ {K : Type 0} {R : K → K → Ordering} (o : IsTotalOrder R) where
 
   module _ (exact : CmpEqualImpliesEq R) where
     -- two lists in strict order with the same members are one
-    pub same_sorted : (xs ys : List K) → IsStrictlySortedBy R xs → IsStrictlySortedBy R ys → ((q : K) → list_any (eq_by_cmp R q) xs ≡ list_any (eq_by_cmp R q) ys) → xs ≡ ys
+    pub same_sorted : (xs ys : List K) → IsStrictlySortedBy R xs → IsStrictlySortedBy R ys
+        → ((q : K) → list_any (eq_by_cmp R q) xs ≡ list_any (eq_by_cmp R q) ys) → xs ≡ ys
     same_sorted xs ys a b h = btree_set_from_contains o (record { keys = xs }) (record { keys = ys }) a b h exact
 
     -- a list in strict order with the members of ks is `rising R ks`
@@ -92,7 +96,8 @@ module _ {K : Type 0} {R : K → K → Ordering} (o : IsTotalOrder R) where
     rising_rising xs a = sym (rising_is xs xs a (λ q. refl))
 
   -- `dedup` keeps what a test finds, where the test can't tell apart what E can't
-  any_dedup_from : (E : K → K → Bool) (p : K → Bool) → ((x y : K) → E x y ≡ true → p x ≡ p y) → (k : K) (xs : List K) → list_any p (dedup_from E k xs) ≡ (p k || list_any p xs)
+  any_dedup_from : (E : K → K → Bool) (p : K → Bool) → ((x y : K) → E x y ≡ true → p x ≡ p y)
+      → (k : K) (xs : List K) → list_any p (dedup_from E k xs) ≡ (p k || list_any p xs)
   any_dedup_from E p alike k [] = refl
   any_dedup_from E p alike k (x ∷ xs) =
       cond_both (E x k) (dedup_from E k xs) (k ∷ dedup_from E x xs) (λ l. list_any p l ≡ (p k || (p x || list_any p xs)))
@@ -104,7 +109,8 @@ module _ {K : Type 0} {R : K → K → Ordering} (o : IsTotalOrder R) where
   any_dedup E p alike (x ∷ xs) = any_dedup_from E p alike x xs
 
   -- what a sort and a `dedup` leave of xs
-  pub dedup_rising : CmpEqualImpliesEq R → {E : K → K → Bool} → ((x y : K) → E x y ≡ eq_by_cmp R x y) → (xs ys : List K) → IsPermutation xs ys → IsSorted R ys → dedup E ys ≡ rising R xs
+  pub dedup_rising : CmpEqualImpliesEq R → {E : K → K → Bool} → ((x y : K) → E x y ≡ eq_by_cmp R x y)
+      → (xs ys : List K) → IsPermutation xs ys → IsSorted R ys → dedup E ys ≡ rising R xs
   dedup_rising exact {E} ties xs ys moved up =
       rising_is exact (dedup E ys) xs (IsStrictlySortedBy-dedup o ties ys up) (λ q.
       any_dedup E (eq_by_cmp R q) (λ x y h. ap is_eq (alike_right o x y q ((Equal-is (R x y)).0 (sym (ties x y) ∙ h)))) ys

@@ -1,5 +1,6 @@
 -- What a binary search finds among members with keys in strict order.
-use Rattle.std.proofs.Common.{◌≡◌, ℕ, zero, suc, ◌+◌, ◌<◌, ◌≤◌, false, cond, List, [], ◌∷◌, map, get_or, length, Some, None, Err, refl, sym, ap, subst, ◌∙◌, arith, ⊎_elim, ◌⊎◌, inl, inr}
+use Rattle.std.proofs.Common.{◌≡◌, ℕ, zero, suc, ◌+◌, ◌<◌, ◌≤◌, false, cond, List, [], ◌∷◌, map, get_or, length, Some, None, Err, refl, sym, ap, subst}
+use Rattle.std.proofs.Common.{◌∙◌, arith, ⊎_elim, ◌⊎◌, inl, inr}
 use Rattle.std.specs.List.{AllByRecursion, HoldsAt, find}
 use Rattle.std.specs.List.Sorted.{IsBinarySearchResult, IsSortedBy, IsStrictlySortedBy}
 use Rattle.std.specs.Cmp.{IsTotalOrder}
@@ -38,7 +39,8 @@ module _ {X K : Type 0} {R : K → K → Ordering} (o : IsTotalOrder R) (key : X
 
   module _ (q : K) where
     -- the member that ties with a key is the first one that does
-    pub found_at : (xs : List X) (i : ℕ) → IsStrictlySortedBy R (map key xs) → i < length xs → HoldsAt (λ y. R (key y) q ≡ Equal) xs i → (x : X) → x ≡ get_or xs i x
+    pub found_at : (xs : List X) (i : ℕ) → IsStrictlySortedBy R (map key xs) → i < length xs
+        → HoldsAt (λ y. R (key y) q ≡ Equal) xs i → (x : X) → x ≡ get_or xs i x
         → Some x ≡ find (λ y. eq_by_cmp R q (key y)) xs
     unfolding IsStrictlySortedBy
     found_at [] i s l h x is = absurd (omega arith)
@@ -55,10 +57,12 @@ module _ {X K : Type 0} {R : K → K → Ordering} (o : IsTotalOrder R) (key : X
     none_of [] h = refl
     none_of (y ∷ ys) h =
         none_of ys (λ i d l. h (suc i) d (omega arith))
-        ∙ sym (ap (λ b. cond b (Some y) (find (λ y. eq_by_cmp R q (key y)) ys)) (ap is_eq (o.antisymm q (key y)) ∙ is_eq_reverse (R (key y) q) ∙ h 0 y (omega arith)))
+        ∙ sym (ap (λ b. cond b (Some y) (find (λ y. eq_by_cmp R q (key y)) ys))
+        (ap is_eq (o.antisymm q (key y)) ∙ is_eq_reverse (R (key y) q) ∙ h 0 y (omega arith)))
 
     -- what a binary search doesn't find isn't there
-    pub not_found : (xs : List X) (i : ℕ) → IsStrictlySortedBy R (map key xs) → IsBinarySearchResult (λ y. R (key y) q) xs (Err i) → None ≡ find (λ y. eq_by_cmp R q (key y)) xs
+    pub not_found : (xs : List X) (i : ℕ) → IsStrictlySortedBy R (map key xs)
+        → IsBinarySearchResult (λ y. R (key y) q) xs (Err i) → None ≡ find (λ y. eq_by_cmp R q (key y)) xs
     not_found xs i s parted =
         let parts = parted (searchable_from_sorted o key xs q (sorted_by_key xs s)) in
         none_of xs (λ k d l. ⊎_elim (λ before. ap is_eq (parts.0 k d (omega arith) before)) (λ after. ap is_eq (parts.1 k d after l)) (below_or_not k i))

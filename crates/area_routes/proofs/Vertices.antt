@@ -1,5 +1,6 @@
 -- A router is attached to an area exactly where it is a vertex of the area's graph.
-use Rattle.std.proofs.Common.{◌≡◌, ◌≢◌, ℕ, Bool, true, false, not, cond, eqb, List, [], ◌∷◌, get_or, Option, None, Some, refl, sym, ap, subst, ◌∙◌, arith, inl, inr, ⊎_elim}
+use Rattle.std.proofs.Common.{◌≡◌, ◌≢◌, ℕ, Bool, true, false, not, cond, eqb, List, [], ◌∷◌, get_or, Option, None, Some, refl, sym, ap, subst, ◌∙◌}
+use Rattle.std.proofs.Common.{arith, inl, inr, ⊎_elim}
 use Rattle.std.specs.Prelude.{◌↔◌, ◌&&◌, ◌||◌}
 use Rattle.std.specs.List.{AllPairs, Contains, find, list_any}
 use Rattle.std.specs.Option.{option_map_or}
@@ -45,13 +46,15 @@ In-find {X} p (y ∷ ys) x i t = by (p y) refl i (In-find p ys x)
     by false is (inr j) rest = rest j t
 
 -- members with one key are one, where all keys differ
-one_of_key : (lsas : List (List ℕ)) → AllPairs (λ a b. key_of a ≢ key_of b) lsas → (a b : List ℕ) → Contains lsas a → Contains lsas b → key_of a ≡ key_of b → a ≡ b
+one_of_key : (lsas : List (List ℕ)) → AllPairs (λ a b. key_of a ≢ key_of b) lsas → (a b : List ℕ)
+    → Contains lsas a → Contains lsas b → key_of a ≡ key_of b → a ≡ b
 one_of_key lsas apart a b (i, low_i, at_i) (j, low_j, at_j) same =
     let at_j : get_or lsas j a ≡ b = get_or_default lsas j a b low_j ∙ at_j in
     let keys : key_of (get_or lsas i a) ≡ key_of (get_or lsas j a) = ap (λ (x : List ℕ). key_of x) at_i ∙ same ∙ sym (ap (λ (x : List ℕ). key_of x) at_j) in
     ⊎_elim
     (λ lt. absurd (apart i j a lt low_j keys))
-    (λ ge. ⊎_elim (λ lt. absurd (apart j i a lt low_i (sym keys))) (λ le. (let one : i ≡ j = omega arith in sym at_i ∙ ap (λ (k : ℕ). get_or lsas k a) one ∙ at_j)) (cases_lt j i))
+    (λ ge. ⊎_elim (λ lt. absurd (apart j i a lt low_i (sym keys)))
+    (λ le. (let one : i ≡ j = omega arith in sym at_i ∙ ap (λ (k : ℕ). get_or lsas k a) one ∙ at_j)) (cases_lt j i))
     (cases_lt i j)
 
 module _ (lsas : List (List ℕ)) (router : RouterId) where
@@ -70,20 +73,24 @@ module _ (lsas : List (List ℕ)) (router : RouterId) where
   unfolding used
   used_router lsa there one live =
       In-filter (λ x. not (list_any (is_outranked_by x) (vertex_lsas lsas))) (vertex_lsas lsas) lsa
-      (In-filter is_vertex_lsa lsas lsa there (and_from (is_live lsa) (is_router_lsa lsa || is_network_lsa lsa) live (ap (λ b. b || is_network_lsa lsa) (eq-eqb (kind_of lsa) 1 one))))
-      (ap not (list_any_none (is_outranked_by lsa) (vertex_lsas lsas) (λ k d lt. ap (λ b. b && outranks (link_state_id_of lsa) (advertising_router_of lsa) (get_or (vertex_lsas lsas) k d)) (ap (λ n. eqb n 2) one))))
+      (In-filter is_vertex_lsa lsas lsa there
+      (and_from (is_live lsa) (is_router_lsa lsa || is_network_lsa lsa) live (ap (λ b. b || is_network_lsa lsa) (eq-eqb (kind_of lsa) 1 one))))
+      (ap not (list_any_none (is_outranked_by lsa) (vertex_lsas lsas)
+      (λ k d lt. ap (λ b. b && outranks (link_state_id_of lsa) (advertising_router_of lsa) (get_or (vertex_lsas lsas) k d)) (ap (λ n. eqb n 2) one))))
 
   attached_is : has_live_router_lsa router lsas ≡ true → Contains (vertices_of lsas) (Router router)
   attached_is h = by (find (has_key (router_key router)) lsas) refl h
     where
-      by : (o : Option (List ℕ)) → find (has_key (router_key router)) lsas ≡ o → option_map_or is_live o false ≡ true → Contains (vertices_of lsas) (Router router)
+      by : (o : Option (List ℕ)) → find (has_key (router_key router)) lsas ≡ o
+          → option_map_or is_live o false ≡ true → Contains (vertices_of lsas) (Router router)
       by None is h = absurd (false≢true h)
       by (Some lsa) is live =
           let found = find-In (has_key (router_key router)) lsas lsa is in
           let key = key_is lsa found.1 in
           let one : kind_of lsa ≡ 1 = ap (λ (k : Key). k.kind) key in
           Contains-from_In (vertices_of lsas) (Router router)
-          (subst (λ (v : Vertex). In (vertices_of lsas) v) (vertex_of_router lsa router (one, ap (λ (k : Key). k.id.0) key)) (In-map vertex_of (used lsas) lsa (used_router lsa found.0 one live)))
+          (subst (λ (v : Vertex). In (vertices_of lsas) v) (vertex_of_router lsa router (one, ap (λ (k : Key). k.id.0) key))
+          (In-map vertex_of (used lsas) lsa (used_router lsa found.0 one live)))
 
   vertex_is : AreOfArea lsas → Contains (vertices_of lsas) (Router router) → has_live_router_lsa router lsas ≡ true
   vertex_is area h =
@@ -92,16 +99,21 @@ module _ (lsas : List (List ℕ)) (router : RouterId) where
       let there = used_In lsas lsa v.1 in
       let own = router_lsa_of lsa router v.2 in
       let live = (and_parts (is_live lsa) (is_router_lsa lsa || is_network_lsa lsa) there.1).0 in
-      let origin : eqb (link_state_id_of lsa) (advertising_router_of lsa) ≡ true = subst (λ b. (not b || eqb (link_state_id_of lsa) (advertising_router_of lsa)) ≡ true) (eq-eqb (kind_of lsa) 1 own.0) (All-contains IsAccepted lsas lsa area.accepted (Contains-from_In lsas lsa there.0)).origin in
+      let origin : eqb (link_state_id_of lsa) (advertising_router_of lsa) ≡ true =
+      subst (λ b. (not b || eqb (link_state_id_of lsa) (advertising_router_of lsa)) ≡ true) (eq-eqb (kind_of lsa) 1 own.0)
+      (All-contains IsAccepted lsas lsa area.accepted (Contains-from_In lsas lsa there.0)).origin in
       let adv : advertising_router_of lsa ≡ router.0 = sym (eqb-true (link_state_id_of lsa) (advertising_router_of lsa) origin) ∙ own.1 in
       let key : has_key (router_key router) lsa ≡ true =
       and_from (eqb (kind_of lsa) 1) (eqb (link_state_id_of lsa) router.0 && eqb (advertising_router_of lsa) router.0) (eq-eqb (kind_of lsa) 1 own.0)
-      (and_from (eqb (link_state_id_of lsa) router.0) (eqb (advertising_router_of lsa) router.0) (eq-eqb (link_state_id_of lsa) router.0 own.1) (eq-eqb (advertising_router_of lsa) router.0 adv)) in
+      (and_from (eqb (link_state_id_of lsa) router.0) (eqb (advertising_router_of lsa) router.0)
+      (eq-eqb (link_state_id_of lsa) router.0 own.1) (eq-eqb (advertising_router_of lsa) router.0 adv)) in
       let found = In-find (has_key (router_key router)) lsas lsa there.0 key in
       let first = find-In (has_key (router_key router)) lsas found.0 found.1 in
-      let same : lsa ≡ found.0 = one_of_key lsas area.distinct lsa found.0 (Contains-from_In lsas lsa there.0) (Contains-from_In lsas found.0 first.0) (key_is lsa key ∙ sym (key_is found.0 first.1)) in
+      let same : lsa ≡ found.0 = one_of_key lsas area.distinct lsa found.0 (Contains-from_In lsas lsa there.0)
+      (Contains-from_In lsas found.0 first.0) (key_is lsa key ∙ sym (key_is found.0 first.1)) in
       ap (λ o. option_map_or is_live o false) found.1 ∙ subst (λ (x : List ℕ). is_live x ≡ true) same live
 
-pub attached_vertex : (db : Lists) → IsDatabase db → (area : AreaId) (router : RouterId) → (is_attached db area router ≡ true) ↔ Contains (vertices_of (lsas_of (Area area) db)) (Router router)
+pub attached_vertex : (db : Lists) → IsDatabase db → (area : AreaId) (router : RouterId)
+    → (is_attached db area router ≡ true) ↔ Contains (vertices_of (lsas_of (Area area) db)) (Router router)
 attached_vertex db sound area router =
     (attached_is (lsas_of (Area area) db) router, vertex_is (lsas_of (Area area) db) router (are_of_area area db sound))

@@ -30,7 +30,8 @@ module _ {X : Type 0} where
   any_filter t p [] = refl
   any_filter t p (x ∷ xs) = by (t x) (any_filter t p xs)
     where
-      by : (b : Bool) → list_any p (filter t xs) ≡ list_any (λ x. t x && p x) xs → list_any p (cond b (x ∷ filter t xs) (filter t xs)) ≡ ((b && p x) || list_any (λ x. t x && p x) xs)
+      by : (b : Bool) → list_any p (filter t xs) ≡ list_any (λ x. t x && p x) xs
+          → list_any p (cond b (x ∷ filter t xs) (filter t xs)) ≡ ((b && p x) || list_any (λ x. t x && p x) xs)
       by true h = ap (λ r. p x || r) h
       by false h = h
 
@@ -46,7 +47,8 @@ module _ {X : Type 0} where
   any_filter_map f p [] = refl
   any_filter_map {Y} f p (x ∷ xs) = by (f x) (any_filter_map f p xs)
     where
-      by : (o : Option Y) → list_any p (filter_map f xs) ≡ list_any (λ x. is_some_and p (f x)) xs → list_any p (cons_option o (filter_map f xs)) ≡ (is_some_and p o || list_any (λ x. is_some_and p (f x)) xs)
+      by : (o : Option Y) → list_any p (filter_map f xs) ≡ list_any (λ x. is_some_and p (f x)) xs
+          → list_any p (cons_option o (filter_map f xs)) ≡ (is_some_and p o || list_any (λ x. is_some_and p (f x)) xs)
       by None h = h
       by (Some y) h = ap (λ r. p y || r) h
 
@@ -72,7 +74,8 @@ module _ {K : Type 0} {R : K → K → Ordering} (o : IsTotalOrder R) where
       or_true true = refl
       or_true false = refl
 
-      by : (b : Bool) → list_any (eq_by_cmp R (lesser R y (least R ys))) (y ∷ ys) ≡ true → list_any (eq_by_cmp R (cond b (lesser R y (least R ys)) x)) (x ∷ (y ∷ ys)) ≡ true
+      by : (b : Bool) → list_any (eq_by_cmp R (lesser R y (least R ys))) (y ∷ ys) ≡ true
+          → list_any (eq_by_cmp R (cond b (lesser R y (least R ys)) x)) (x ∷ (y ∷ ys)) ≡ true
       by true h = ap (λ r. eq_by_cmp R (lesser R y (least R ys)) x || r) h ∙ or_true (eq_by_cmp R (lesser R y (least R ys)) x)
       by false h = ap (λ r. is_eq r || list_any (eq_by_cmp R x) (y ∷ ys)) (tied_itself o x)
 
@@ -88,20 +91,24 @@ module _ {K : Type 0} {R : K → K → Ordering} (o : IsTotalOrder R) where
     where
       by : (b : Bool) → is_lt (R (lesser R y (least R ys)) x) ≡ b → list_any (λ k. is_lt (R k (lesser R y (least R ys)))) (y ∷ ys) ≡ false
           → list_any (λ k. is_lt (R k (cond b (lesser R y (least R ys)) x))) (x ∷ (y ∷ ys)) ≡ false
-      by true e h = or_from (is_lt (R x (lesser R y (least R ys)))) (list_any (λ k. is_lt (R k (lesser R y (least R ys)))) (y ∷ ys)) (ap is_lt (o.antisymm x (lesser R y (least R ys)) ∙ ap ordering_reverse (lt_less _ e))) h
+      by true e h = or_from (is_lt (R x (lesser R y (least R ys)))) (list_any (λ k. is_lt (R k (lesser R y (least R ys)))) (y ∷ ys))
+          (ap is_lt (o.antisymm x (lesser R y (least R ys)) ∙ ap ordering_reverse (lt_less _ e))) h
       by false e h =
           or_from (is_lt (R x x)) (list_any (λ k. is_lt (R k x)) (y ∷ ys)) (ap is_lt (tied_itself o x))
-          (any_weaker (λ k. is_lt (R k x)) (λ k. is_lt (R k (lesser R y (least R ys)))) (λ k no_lower. not_below o x (lesser R y (least R ys)) k no_lower e) (y ∷ ys) h)
+          (any_weaker (λ k. is_lt (R k x)) (λ k. is_lt (R k (lesser R y (least R ys))))
+          (λ k no_lower. not_below o x (lesser R y (least R ys)) k no_lower e) (y ∷ ys) h)
 
 module _ {K : Type 0} (t : Candidate K → Bool) where
   -- the members that pass, by a further test
   any_own : (p : Rank → Bool) (cs : List (Candidate K)) → list_any p (map (λ c. c.rank) (filter t cs)) ≡ list_any (λ c. t c && p c.rank) cs
   any_own p cs = any_map (λ c. c.rank) p (filter t cs) ∙ any_filter t (λ c. p c.rank) cs
 
-  any_of_rank : (m : Rank) (p : Candidate K → Bool) (cs : List (Candidate K)) → list_any p (of_rank m (filter t cs)) ≡ list_any (λ c. (t c && eq_by_cmp rank_cmp m c.rank) && p c) cs
+  any_of_rank : (m : Rank) (p : Candidate K → Bool) (cs : List (Candidate K))
+      → list_any p (of_rank m (filter t cs)) ≡ list_any (λ c. (t c && eq_by_cmp rank_cmp m c.rank) && p c) cs
   any_of_rank m p cs =
       any_filter (λ c. eq_by_cmp rank_cmp m c.rank) p (filter t cs) ∙ any_filter t (λ c. eq_by_cmp rank_cmp m c.rank && p c) cs
-      ∙ any_same (λ c. t c && (eq_by_cmp rank_cmp m c.rank && p c)) (λ c. (t c && eq_by_cmp rank_cmp m c.rank) && p c) (λ c. and_assoc (t c) (eq_by_cmp rank_cmp m c.rank) (p c)) cs
+      ∙ any_same (λ c. t c && (eq_by_cmp rank_cmp m c.rank && p c)) (λ c. (t c && eq_by_cmp rank_cmp m c.rank) && p c)
+      (λ c. and_assoc (t c) (eq_by_cmp rank_cmp m c.rank) (p c)) cs
 
 module _ {K : Type 0} {R : K → K → Ordering} (o : IsTotalOrder R) (exact : CmpEqualImpliesEq R) where
   best_way : (cs : List (Candidate K)) (key : K) (x : Rank) (xs : List Rank) → map (λ c. c.rank) (filter (is_for R key) cs) ≡ x ∷ xs
@@ -113,7 +120,8 @@ module _ {K : Type 0} {R : K → K → Ordering} (o : IsTotalOrder R) (exact : C
         attained = sym (any_own t (eq_by_cmp rank_cmp m) cs) ∙ ap (list_any (eq_by_cmp rank_cmp m)) e ∙ member rank_total x xs;
         least = sym (any_own t (λ r. is_lt (rank_cmp r m)) cs) ∙ ap (list_any (λ r. is_lt (rank_cmp r m))) e ∙ none_lower rank_total x xs;
         areas = λ area. any_rising area_total area (filter_map (λ c. c.area) (of_rank m (filter t cs)))
-            ∙ any_filter_map (λ c. c.area) (eq_by_cmp area_cmp area) (of_rank m (filter t cs)) ∙ any_of_rank t m (λ c. is_some_and (eq_by_cmp area_cmp area) c.area) cs;
+            ∙ any_filter_map (λ c. c.area) (eq_by_cmp area_cmp area) (of_rank m (filter t cs))
+            ∙ any_of_rank t m (λ c. is_some_and (eq_by_cmp area_cmp area) c.area) cs;
         areas_rise = sorted_rising area_total (filter_map (λ c. c.area) (of_rank m (filter t cs)));
         hops = λ hop. any_rising hop_total hop (flat_map (λ c. c.hops) (of_rank m (filter t cs)))
             ∙ any_flat_map (λ c. c.hops) (eq_by_cmp hop_cmp hop) (of_rank m (filter t cs)) ∙ any_of_rank t m (λ c. list_any (eq_by_cmp hop_cmp hop) c.hops) cs;
@@ -124,7 +132,8 @@ module _ {K : Type 0} {R : K → K → Ordering} (o : IsTotalOrder R) (exact : C
   any_none t [] h = refl
   any_none t (c ∷ cs) h = by (t c) h (any_none t cs)
     where
-      by : (b : Bool) → map (λ c. c.rank) (cond b (c ∷ filter t cs) (filter t cs)) ≡ [] → (map (λ c. c.rank) (filter t cs) ≡ [] → list_any t cs ≡ false) → (b || list_any t cs) ≡ false
+      by : (b : Bool) → map (λ c. c.rank) (cond b (c ∷ filter t cs) (filter t cs)) ≡ []
+          → (map (λ c. c.rank) (filter t cs) ≡ [] → list_any t cs ≡ false) → (b || list_any t cs) ≡ false
       by true h rest = cc
       by false h rest = rest h
 
@@ -132,18 +141,22 @@ module _ {K : Type 0} {R : K → K → Ordering} (o : IsTotalOrder R) (exact : C
   at_key cs key = by (map (λ c. c.rank) (filter (is_for R key) cs)) refl
     where
       by : (rs : List Rank) → map (λ c. c.rank) (filter (is_for R key) cs) ≡ rs
-          → MatchOption (option_map (λ r. joined r (of_rank r (filter (is_for R key) cs))) (least rank_cmp rs)) (list_any (is_for R key) cs ≡ false) (IsBestWay R cs key)
+          → MatchOption (option_map (λ r. joined r (of_rank r (filter (is_for R key) cs))) (least rank_cmp rs))
+          (list_any (is_for R key) cs ≡ false) (IsBestWay R cs key)
       by [] e = any_none (is_for R key) cs e
       by (x ∷ xs) e = best_way cs key x xs e
 
   pub ways_are_best : (cs : List (Candidate K)) → AreBestWays R cs (ways_of R cs)
   ways_are_best cs = record {
     keys_rise = sorted_ways o exact cs;
-    at_key = λ key. let P : Option WayValue → Type 0 = λ w. MatchOption w (list_any (is_for R key) cs ≡ false) (IsBestWay R cs key) in subst P (sym (lookup_ways o exact cs key)) (at_key cs key);
+    at_key = λ key.
+        let P : Option WayValue → Type 0 = λ w. MatchOption w (list_any (is_for R key) cs ≡ false)
+        (IsBestWay R cs key) in subst P (sym (lookup_ways o exact cs key)) (at_key cs key);
   }
 
   -- a rank that a candidate for the key attains isn't below one that none is below
-  not_lower : (cs : List (Candidate K)) (key : K) (a b : Rank) → list_any (attains R key a) cs ≡ true → list_any (λ c. is_for R key c && is_lt (rank_cmp c.rank b)) cs ≡ false → is_lt (rank_cmp a b) ≡ false
+  not_lower : (cs : List (Candidate K)) (key : K) (a b : Rank) → list_any (attains R key a) cs ≡ true
+      → list_any (λ c. is_for R key c && is_lt (rank_cmp c.rank b)) cs ≡ false → is_lt (rank_cmp a b) ≡ false
   not_lower cs key a b some none = by (rank_cmp a b) refl
     where
       below : rank_cmp a b ≡ Less → (c : Candidate K) → (is_for R key c && is_lt (rank_cmp c.rank b)) ≡ false → attains R key a c ≡ false
@@ -186,7 +199,8 @@ module _ {K : Type 0} {R : K → K → Ordering} (o : IsTotalOrder R) (exact : C
   has_candidate cs key a p none =
       sym p.attained ∙ any_weaker (attains R key a.rank) (is_for R key) (λ c h. ap (λ t. t && eq_by_cmp rank_cmp a.rank c.rank) h) cs none
 
-  same_at : (cs : List (Candidate K)) (key : K) (u v : Option WayValue) → MatchOption u (list_any (is_for R key) cs ≡ false) (IsBestWay R cs key) → MatchOption v (list_any (is_for R key) cs ≡ false) (IsBestWay R cs key) → u ≡ v
+  same_at : (cs : List (Candidate K)) (key : K) (u v : Option WayValue) → MatchOption u (list_any (is_for R key) cs ≡ false)
+      (IsBestWay R cs key) → MatchOption v (list_any (is_for R key) cs ≡ false) (IsBestWay R cs key) → u ≡ v
   same_at cs key None None p q = refl
   same_at cs key None (Some b) p q = let no = has_candidate cs key b q p in cc
   same_at cs key (Some a) None p q = let no = has_candidate cs key a p q in cc

@@ -1,5 +1,6 @@
 -- No edit of a session is refused on the way.
-use Rattle.std.proofs.Common.{◌≡◌, ℕ, ◌-◌, Bool, true, false, cond, List, [], ◌∷◌, ◌++◌, length, take, drop, append_assoc, append-nil, Result, Ok, Err, refl, sym, ap, ◌∙◌, subst, ltb}
+use Rattle.std.proofs.Common.{◌≡◌, ℕ, ◌-◌, Bool, true, false, cond, List, [], ◌∷◌, ◌++◌, length, take, drop, append_assoc, append-nil, Result, Ok, Err}
+use Rattle.std.proofs.Common.{refl, sym, ap, ◌∙◌, subst, ltb}
 use Rattle.std.specs.Prelude.{IsOk}
 use Rattle.std.proofs.lemmas.List.{take-append-drop}
 use Rattle.lsdb.specs.Lists.{Lists}
@@ -7,7 +8,8 @@ use Rattle.edit_script.specs.declared.edit.Edit.{Edit}
 use Rattle.edit_history.specs.declared.fault.EditFault.{EditFault}
 use Rattle.edit_history.specs.declared.fault.EditFault.TheVariants.{HistoryFull}
 use Rattle.edit_history.specs.Effect.{effect, ◌>>=◌}
-use Rattle.edit_history.specs.Session.{Session, Request, edit, undo, redo, start, state, after_edits, unless_refused, effects, accepted, edited, accepted_or, after_request, after_requests, moved_back, moved_on, NoneRefused}
+use Rattle.edit_history.specs.Session.{Session, Request, edit, undo, redo, start, state, after_edits, unless_refused, effects, accepted, edited}
+use Rattle.edit_history.specs.Session.{accepted_or, after_request, after_requests, moved_back, moved_on, NoneRefused}
 
 -- all edits of a session, the undone ones behind the done ones, are accepted in turn
 abbrev AllAccepted : Session → Type 0

@@ -1,5 +1,6 @@
 -- A new LSA at the end of a section.
-use Rattle.std.proofs.Common.{◌≡◌, ℕ, ◌+◌, Bool, true, false, ◌||◌, List, [], ◌∷◌, ◌++◌, length, Option, Some, None, Result, Ok, Err, refl, sym, ap, ◌∙◌, subst, arith, rules}
+use Rattle.std.proofs.Common.{◌≡◌, ℕ, ◌+◌, Bool, true, false, ◌||◌, List, [], ◌∷◌, ◌++◌, length, Option, Some, None, Result, Ok, Err, refl, sym, ap}
+use Rattle.std.proofs.Common.{◌∙◌, subst, arith, rules}
 use Rattle.std.specs.Prelude.{All, AllPairs, IsSome, unwrap_or, if◌then◌else◌}
 use Rattle.std.specs.List.{find}
 use Rattle.std.proofs.lemmas.Bool.{leb-false, ltb-false}
@@ -12,14 +13,16 @@ use Rattle.lsdb.specs.declared.section.Section.{Section}
 use Rattle.lsdb.specs.declared.section.Section.TheVariants.{Area, AsWide}
 use Rattle.lsdb.specs.declared.slot.SlotId.{SlotId}
 use Rattle.lsdb.specs.Limits.{longest_dump}
-use Rattle.lsdb.specs.Lists.{AreaHead, SectionLsas, Lists, IsBefore, IsDatabase, heads_of, is_head_of, is_section, is_in_scope, limit_of, has_key, lsas_of, size}
+use Rattle.lsdb.specs.Lists.{AreaHead, SectionLsas, Lists, IsBefore, IsDatabase, heads_of, is_head_of, is_section, is_in_scope, limit_of, has_key}
+use Rattle.lsdb.specs.Lists.{lsas_of, size}
 use Rattle.lsdb.specs.Places.{Place, Places, item_at, slot_at, put, update_at, open_at, lists_of, places_in, lsas_or_none, IsNamed}
 use Rattle.lsdb.proofs.ListLemmas.{map_mid}
 use Rattle.lsdb.proofs.PlaceLemmas.{slot_at-put, lists_of-open_at}
 use Rattle.lsdb.proofs.PlaceLemmas.{with_lsa, Fits, lists-new, added_safe, split}
 use Rattle.edit_script.specs.declared.edit.Edit.{Edit}
 use Rattle.edit_history.specs.declared.fault.EditFault.{EditFault}
-use Rattle.edit_history.specs.Rules.{stays, Rule, adding, kept_lsas, fated_changes, section_after, lists_after, Change, addition, section_name, section_changes, changes_by}
+use Rattle.edit_history.specs.Rules.{stays, Rule, adding, kept_lsas, fated_changes, section_after, lists_after, Change, addition, section_name}
+use Rattle.edit_history.specs.Rules.{section_changes, changes_by}
 use Rattle.edit_history.specs.Effect.{most_lsas, room_for, has_room, added, rule_of, ◌>>=◌}
 use Rattle.edit_history.specs.Exchange.{SwapData}
 use Rattle.edit_history.specs.Applied.{Planned}

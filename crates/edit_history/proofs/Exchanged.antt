@@ -23,7 +23,9 @@ there_after : (d : Places) (slot : SlotId) (v : Place) → IsSome (slot_at d slo
 there_after d slot v some = slot_at-put d slot v (there d slot) (some_is (slot_at d slot) some)
 
 taken_again : (d : Places) (s : SwapData) → IsSome (slot_at d s.slot) → taken (put d s.slot s.other) (taken d s) ≡ s
-taken_again d s some = ap (λ (o : Option Place). let t : SwapData = record { slot = s.slot; section = s.section; kind = s.kind; other = unwrap_or o None } in t) (there_after d s.slot s.other some)
+taken_again d s some =
+    ap (λ (o : Option Place).
+    let t : SwapData = record { slot = s.slot; section = s.section; kind = s.kind; other = unwrap_or o None } in t) (there_after d s.slot s.other some)
 
 exists_after : (d : Places) (slot : SlotId) (v : Place) → IsSome (slot_at d slot) → IsSome (slot_at (put d slot v) slot)
 exists_after d slot v some = subst (λ (o : Option Place). IsSome o) (sym (there_after d slot v some)) refl

@@ -1,5 +1,6 @@
 -- Fates carried out place by place, from the first section to the last.
-use Rattle.std.proofs.Common.{◌≡◌, ℕ, zero, suc, List, [], ◌∷◌, ◌++◌, length, map, append_assoc, length-append, Option, Some, None, refl, sym, ap, ◌∙◌, subst, arith}
+use Rattle.std.proofs.Common.{◌≡◌, ℕ, zero, suc, List, [], ◌∷◌, ◌++◌, length, map, append_assoc, length-append, Option, Some, None, refl, sym, ap, ◌∙◌}
+use Rattle.std.proofs.Common.{subst, arith}
 use Rattle.std.specs.Prelude.{All, IsSome, unwrap_or}
 use Rattle.std.specs.List.{filter_map, cons_option}
 use Rattle.lsa_codec.specs.Accepted.{IsAccepted}
@@ -11,7 +12,8 @@ use Rattle.lsdb.specs.Lists.{AreaHead, Lists, IsSection, IsDatabase}
 use Rattle.lsdb.specs.Places.{Place, Places, SectionPlaces, item_at, slot_at, put, put_place, full, section_of, lists_of, IsPutSafe}
 use Rattle.lsdb.proofs.ListLemmas.{all_at_mid}
 use Rattle.lsdb.proofs.PlaceLemmas.{put_safe, section_with, full-cons, between}
-use Rattle.edit_history.specs.Rules.{Fate, stays, removed, rewritten, Fates, by_fates, Change, outcome, change_of, section_name, lists_after, section_after, changes_by}
+use Rattle.edit_history.specs.Rules.{Fate, stays, removed, rewritten, Fates, by_fates, Change, outcome, change_of, section_name, lists_after}
+use Rattle.edit_history.specs.Rules.{section_after, changes_by}
 use Rattle.edit_history.specs.Exchange.{SwapData, CanDo, done_places, done_swaps, taken}
 use Rattle.edit_history.specs.steps.Plans.{slot_of, swap_for, section_swaps, swaps_from}
 use Rattle.edit_history.specs.Applied.{told}

@@ -7,7 +7,8 @@ use Rattle.lsa_codec.specs.Fields.{kind_of}
 use Rattle.lsdb.specs.Lists.{AreaHead, SectionLsas, Lists}
 use Rattle.lsdb.proofs.ListLemmas.{map_mid}
 use Rattle.lsdb.proofs.PlaceLemmas.{section_with}
-use Rattle.edit_history.specs.Rules.{Fate, stays, removed, rewritten, Rule, Fates, by_fates, outcome, section_after, lists_after, Change, change_of, section_name, section_changes, changes_by}
+use Rattle.edit_history.specs.Rules.{Fate, stays, removed, rewritten, Rule, Fates, by_fates, outcome, section_after, lists_after, Change, change_of}
+use Rattle.edit_history.specs.Rules.{section_name, section_changes, changes_by}
 use Rattle.lsdb.specs.declared.section.Section.{Section}
 use Rattle.lsdb.specs.Places.{Place}
 

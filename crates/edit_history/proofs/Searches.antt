@@ -1,5 +1,6 @@
 -- Searches: for an LSA of a section, and for a router in any section.
-use Rattle.std.proofs.Common.{◌≡◌, ℕ, zero, suc, ◌<◌, ◌≤◌, Bool, true, false, ◌||◌, List, [], ◌∷◌, length, drop, Option, Some, None, refl, sym, ap, ◌∙◌, subst, arith, rules, cond}
+use Rattle.std.proofs.Common.{◌≡◌, ℕ, zero, suc, ◌<◌, ◌≤◌, Bool, true, false, ◌||◌, List, [], ◌∷◌, length, drop, Option, Some, None, refl, sym, ap}
+use Rattle.std.proofs.Common.{◌∙◌, subst, arith, rules, cond}
 use Rattle.std.specs.Prelude.{IsSome, is_some, MatchOption}
 use Rattle.std.specs.List.{find, list_any}
 use Rattle.std.proofs.lemmas.List.{drop_all}
@@ -9,7 +10,8 @@ use Rattle.lsa_codec.specs.declared.key.Key.{Key}
 use Rattle.lsdb.specs.declared.section.Section.{Section}
 use Rattle.lsdb.specs.declared.slot.SlotId.{SlotId}
 use Rattle.lsdb.specs.Lists.{SectionLsas, Lists, has_key, is_section, lsas_of}
-use Rattle.lsdb.specs.Places.{Place, Places, SectionPlaces, item_at, slot_at, place_in, full, lists_of, lsas_in, lsas_or_none, places_in, places_or_none, IsNamed, IsPlaceOf}
+use Rattle.lsdb.specs.Places.{Place, Places, SectionPlaces, item_at, slot_at, place_in, full, lists_of, lsas_in, lsas_or_none, places_in}
+use Rattle.lsdb.specs.Places.{places_or_none, IsNamed, IsPlaceOf}
 use Rattle.edit_history.specs.Effect.{is_in_section}
 use Rattle.edit_history.specs.steps.Plans.{IsFirst, passes, slot_of}
 use Rattle.edit_history.proofs.NamedLsas.{same_place}

@@ -1,5 +1,6 @@
 -- Which areas the edits of a history touch, by its records; and what an undo or redo leaves of the other areas.
-use Rattle.std.proofs.Common.{◌≡◌, ℕ, ◌-◌, Bool, true, false, ◌||◌, List, [], ◌∷◌, ◌++◌, length, take, drop, Result, Ok, refl, sym, ap, ◌∙◌, subst, arith, length-append}
+use Rattle.std.proofs.Common.{◌≡◌, ℕ, ◌-◌, Bool, true, false, ◌||◌, List, [], ◌∷◌, ◌++◌, length, take, drop, Result, Ok, refl, sym, ap, ◌∙◌, subst}
+use Rattle.std.proofs.Common.{arith, length-append}
 use Rattle.std.specs.Prelude.{reverse, map}
 use Rattle.std.specs.List.{list_any}
 use Rattle.std.proofs.lemmas.Bool.{or_parts}
@@ -15,7 +16,8 @@ use Rattle.edit_history.specs.Effect.{effect, touched_by, edit_touches, graph_ls
 use Rattle.edit_history.specs.Exchange.{RecordData, touches, done_places, undone_places, done_swaps}
 use Rattle.edit_history.specs.Applied.{told, Applied, TakesBack, CarriesOut}
 use Rattle.edit_history.specs.Journal.{HistoryData, LinksBack, LinksOn, Links, origin}
-use Rattle.edit_history.specs.Session.{Session, session_of, edits_of, state, after_edits, unless_refused, moved_back, moved_on, edits_touch, undo_touches, redo_touches}
+use Rattle.edit_history.specs.Session.{Session, session_of, edits_of, state, after_edits, unless_refused, moved_back, moved_on, edits_touch}
+use Rattle.edit_history.specs.Session.{undo_touches, redo_touches}
 use Rattle.edit_history.proofs.Exchanged.{undone_sound, done_sound}
 use Rattle.edit_history.proofs.Growing.{state_back, state_is}
 use Rattle.edit_history.proofs.Linked.{reverse_cons}

@@ -1,9 +1,11 @@
 -- Reading digits from left to right.
-use Rattle.std.proofs.Common.{◌≡◌, ℕ, suc, ◌+◌, ◌*◌, ◌-◌, ◌<◌, ◌≤◌, Bool, true, false, cond, eqb, ltb, leb, List, [], ◌∷◌, length, get_or, drop, add-one, ◌≢◌, Option, Some, None, refl, sym, ap, ◌∙◌, subst, arith, inl, inr}
+use Rattle.std.proofs.Common.{◌≡◌, ℕ, suc, ◌+◌, ◌*◌, ◌-◌, ◌<◌, ◌≤◌, Bool, true, false, cond, eqb, ltb, leb, List, [], ◌∷◌, length, get_or, drop}
+use Rattle.std.proofs.Common.{add-one, ◌≢◌, Option, Some, None, refl, sym, ap, ◌∙◌, subst, arith, inl, inr}
 use Rattle.std.specs.Prelude.{not, ◌&&◌, ◌||◌}
 use Rattle.std.specs.Str.{all_ascii_digits}
 use Rattle.std.specs.Char.{is_ascii_digit}
-use Rattle.std.proofs.lemmas.Bool.{lt-leb, cond-false, cond-true, le-leb, and_right, and_parts, cases_Bool, leb-true, eqb-true, lt-ltb, or_left, or_right, or_from, eq-eqb, ne_eqb, not_from_false, not_from_true}
+use Rattle.std.proofs.lemmas.Bool.{lt-leb, cond-false, cond-true, le-leb, and_right, and_parts, cases_Bool, leb-true, eqb-true, lt-ltb, or_left}
+use Rattle.std.proofs.lemmas.Bool.{or_right, or_from, eq-eqb, ne_eqb, not_from_false, not_from_true}
 use Rattle.std.proofs.Math.Nat.{mul_comm}
 use Rattle.std.proofs.Math.Seq.{drop-cons}
 use Rattle.edit_script.specs.Arguments.{digits_after, is_number, number_up_to, within}

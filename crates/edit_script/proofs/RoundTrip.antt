@@ -5,13 +5,16 @@ use Rattle.std.proofs.lemmas.Bool.{and_parts, not-true}
 use Rattle.std.proofs.lemmas.List.Elements.{All-from_recursion}
 use Rattle.std.specs.List.{AllByRecursion}
 use Rattle.edit_script.specs.declared.edit.Edit.{Edit}
-use Rattle.edit_script.specs.declared.edit.Edit.TheVariants.{Cost, DropLink, FailLink, FailNet, FailRouter, AddStub, Summary, AddSummary, AddExternal, DropExternal}
+use Rattle.edit_script.specs.declared.edit.Edit.TheVariants.{Cost, DropLink, FailLink, FailNet, FailRouter, AddStub, Summary, AddSummary, AddExternal}
+use Rattle.edit_script.specs.declared.edit.Edit.TheVariants.{DropExternal}
 use Rattle.edit_script.specs.declared.edit.MetricType.{MetricType}
 use Rattle.edit_script.specs.declared.edit.MetricType.TheVariants.{Type1, Type2}
 use Rattle.edit_script.specs.declared.command.Command.{Command}
 use Rattle.edit_script.specs.declared.command.Command.TheVariants as command
 use Rattle.edit_script.specs.Words.{Word, is_blank, words}
-use Rattle.edit_script.specs.Reading.{metric_type, edit_of, cost_of, drop_link_of, fail_link_of, fail_net_of, fail_router_of, add_stub_of, summary_of, add_summary_of, add_external_of, drop_external_of, command_of, undo_of, redo_of, table_of, tables_of, compare_of, info_of}
+use Rattle.edit_script.specs.Reading.{metric_type, edit_of, cost_of, drop_link_of, fail_link_of, fail_net_of, fail_router_of, add_stub_of, summary_of}
+use Rattle.edit_script.specs.Reading.{add_summary_of, add_external_of, drop_external_of, command_of, undo_of, redo_of, table_of, tables_of, compare_of}
+use Rattle.edit_script.specs.Reading.{info_of}
 use Rattle.edit_script.specs.Line.{meaning, meaning_of_words, behind_branch}
 use Rattle.edit_script.specs.Spelling.{spelling, type_text, edit_words, command_words, branch_word, Says, IsEditInRange, IsInRange}
 use Rattle.edit_script.proofs.Split.{IsWord, words_joined}
@@ -100,7 +103,8 @@ type_again Type2 = refl
 
 -- the words of an edit are read again
 edit_again : (edit : Edit) → IsEditInRange edit → (branch : ℕ) → behind_branch branch (edit_words edit) ≡ Ok (branch, command.Edit edit)
-unfolding behind_branch command_of edit_of cost_of drop_link_of fail_link_of fail_net_of fail_router_of add_stub_of summary_of add_summary_of add_external_of drop_external_of
+unfolding behind_branch command_of edit_of cost_of drop_link_of fail_link_of fail_net_of fail_router_of
+    add_stub_of summary_of add_summary_of add_external_of drop_external_of
 edit_again (Cost area router link metric) h branch =
     simp (
       address_again area.0 h.0,

@@ -1,5 +1,6 @@
 -- Arguments of a command that were read: each is the text of its value, which is in range.
-use Rattle.std.proofs.Common.{◌≡◌, ℕ, suc, zero, ◌^◌, ◌<◌, ◌≤◌, Bool, true, false, cond, eqb, ltb, leb, List, [], ◌∷◌, length, get_or, Option, Some, None, Result, Ok, Err, refl, sym, ap, ◌∙◌, subst, arith, inl, inr}
+use Rattle.std.proofs.Common.{◌≡◌, ℕ, suc, zero, ◌^◌, ◌<◌, ◌≤◌, Bool, true, false, cond, eqb, ltb, leb, List, [], ◌∷◌, length, get_or, Option, Some}
+use Rattle.std.proofs.Common.{None, Result, Ok, Err, refl, sym, ap, ◌∙◌, subst, arith, inl, inr}
 use Rattle.std.specs.Prelude.{decimal, not, ◌&&◌, ◌||◌, codes, ok_or, bytes_eq, map}
 use Rattle.std.specs.List.{slice_split, join_with_byte}
 use Rattle.std.specs.Str.{all_ascii_digits}
@@ -123,7 +124,8 @@ address_spelled word n h =
     let b = number_spelled 255 p.1 second.0 (omega arith) second.1.0 in
     let c = number_spelled 255 p.2 third.0 (omega arith) third.1.0 in
     let d = number_spelled 255 p.3 fourth.0 (omega arith) fourth.1.0 in
-    let split : slice_split (λ b. eqb b 46) word ≡ decimal first.0 ∷ decimal second.0 ∷ decimal third.0 ∷ decimal fourth.0 ∷ [] = four_parts_are _ p parts.1.0 ∙ four_same _ _ _ _ _ _ _ _ a.0 b.0 c.0 d.0 in
+    let split : slice_split (λ b. eqb b 46) word ≡ decimal first.0 ∷ decimal second.0 ∷ decimal third.0 ∷ decimal fourth.0 ∷ [] =
+    four_parts_are _ p parts.1.0 ∙ four_same _ _ _ _ _ _ _ _ a.0 b.0 c.0 d.0 in
     let value : from_be_bytes w32 (first.0 ∷ second.0 ∷ third.0 ∷ fourth.0 ∷ []) ≡ n = let found = fourth.1.1 in cc in
     let octets : AreBytes first.0 second.0 third.0 fourth.0 = record { first = a.1; second = b.1; third = c.1; fourth = d.1 } in (
       sym (join_with_byte-slice_split 46 word) ∙ ap (join_with_byte 46) split ∙ text_of_octets first.0 second.0 third.0 fourth.0 n octets value,

@@ -2,12 +2,16 @@
 use Rattle.std.proofs.Common.{◌≡◌, List, [], ◌∷◌, Ok, ap, ◌∙◌, subst, arith}
 use Rattle.std.specs.Prelude.{codes}
 use Rattle.edit_script.specs.declared.edit.Edit.{Edit}
-use Rattle.edit_script.specs.declared.edit.Edit.TheVariants.{Cost, DropLink, FailLink, FailNet, FailRouter, AddStub, Summary, AddSummary, AddExternal, DropExternal}
+use Rattle.edit_script.specs.declared.edit.Edit.TheVariants.{Cost, DropLink, FailLink, FailNet, FailRouter, AddStub, Summary, AddSummary, AddExternal}
+use Rattle.edit_script.specs.declared.edit.Edit.TheVariants.{DropExternal}
 use Rattle.edit_script.specs.Words.{Word}
-use Rattle.edit_script.specs.Reading.{one_of, two_of, three_of, four_of, six_of, number, address, prefix, metric_type, cost_of, drop_link_of, fail_link_of, fail_net_of, fail_router_of, add_stub_of, summary_of, add_summary_of, add_external_of, drop_external_of}
+use Rattle.edit_script.specs.Reading.{one_of, two_of, three_of, four_of, six_of, number, address, prefix, metric_type, cost_of, drop_link_of}
+use Rattle.edit_script.specs.Reading.{fail_link_of, fail_net_of, fail_router_of, add_stub_of, summary_of, add_summary_of, add_external_of}
+use Rattle.edit_script.specs.Reading.{drop_external_of}
 use Rattle.edit_script.specs.Spelling.{edit_words}
 use Rattle.edit_script.specs.Spelling.{IsEditInRange}
-use Rattle.edit_script.proofs.SpelledArguments.{then_ok, same_ok, two_same, three_same, four_same, six_same, number_read, address_read, prefix_read, type_read, one_is, two_are, three_are, four_are, six_are}
+use Rattle.edit_script.proofs.SpelledArguments.{then_ok, same_ok, two_same, three_same, four_same, six_same, number_read, address_read, prefix_read}
+use Rattle.edit_script.proofs.SpelledArguments.{type_read, one_is, two_are, three_are, four_are, six_are}
 
 -- ---- the edits
 

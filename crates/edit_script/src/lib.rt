@@ -22,7 +22,7 @@ mod words;
 pub use command::Command;
 pub use edit::{Edit, MetricType};
 pub use fault::ScriptFault;
-pub use laws::{reads_back, reads_what_is_said};
+pub use laws::{edits_are_in_range, reads_back, reads_what_is_said};
 pub use line::parse;
 pub use printing::print;
 

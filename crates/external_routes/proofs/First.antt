@@ -1,5 +1,6 @@
 -- The first least element of those that pass a test, with one more element.
-use Rattle.std.proofs.Common.{Bor, IfSome, ◌≡◌, ℕ, ◌+◌, ◌<◌, Bool, true, false, cond, List, [], ◌∷◌, ◌++◌, take, get_or, length, Option, Some, None, refl, sym, ap, subst, ◌∙◌}
+use Rattle.std.proofs.Common.{Bor, IfSome, ◌≡◌, ℕ, ◌+◌, ◌<◌, Bool, true, false, cond, List, [], ◌∷◌, ◌++◌, take, get_or, length, Option, Some, None}
+use Rattle.std.proofs.Common.{refl, sym, ap, subst, ◌∙◌}
 use Rattle.std.specs.List.{All, filter}
 use Rattle.std.specs.Option.{option_copied}
 use Rattle.std.specs.Ordering.{is_lt}
@@ -36,17 +37,21 @@ module _ {K : Type 0} {R : K → K → Ordering} (o : IsTotalOrder R) (p : K →
       by false = ap (least R) (append-nil (filter p xs)) ∙ refl
 
   -- a loop's step at place i
-  pub first_more : (xs : List K) (i : ℕ) (x : K) → i < length xs → x ≡ get_or xs i x → least R (filter p (take (i + 1) xs)) ≡ cond (p x) (Some (later R (least R (filter p (take i xs))) x)) (least R (filter p (take i xs)))
+  pub first_more : (xs : List K) (i : ℕ) (x : K) → i < length xs → x ≡ get_or xs i x
+      → least R (filter p (take (i + 1) xs)) ≡ cond (p x) (Some (later R (least R (filter p (take i xs))) x)) (least R (filter p (take i xs)))
   first_more xs i x l item = ap (λ ys. least R (filter p ys)) (take_more xs i x l ∙ ap (λ y. take i xs ++ y ∷ []) (sym item)) ∙ first_push (take i xs) x
 
   module _ (xs : List K) (i : ℕ) (x : K) (l : i < length xs) (item : x ≡ get_or xs i x) (best : Option K) (before : best ≡ least R (filter p (take i xs))) where
     pub first_yes : p x ≡ true → Some (later R best x) ≡ least R (filter p (take (i + 1) xs))
-    first_yes e = ap (λ o. Some (later R o x)) before ∙ sym (first_more xs i x l item ∙ ap (λ b. cond b (Some (later R (least R (filter p (take i xs))) x)) (least R (filter p (take i xs)))) e)
+    first_yes e = ap (λ o. Some (later R o x)) before
+        ∙ sym (first_more xs i x l item ∙ ap (λ b. cond b (Some (later R (least R (filter p (take i xs))) x)) (least R (filter p (take i xs)))) e)
 
     pub first_no : p x ≡ false → best ≡ least R (filter p (take (i + 1) xs))
-    first_no e = before ∙ sym (first_more xs i x l item ∙ ap (λ b. cond b (Some (later R (least R (filter p (take i xs))) x)) (least R (filter p (take i xs)))) e)
+    first_no e = before
+        ∙ sym (first_more xs i x l item ∙ ap (λ b. cond b (Some (later R (least R (filter p (take i xs))) x)) (least R (filter p (take i xs)))) e)
 
 -- what all have, the first least one behind a reference has
-pub first_has : {K : Type 0} (R : K → K → Ordering) (P : K → Type 0) (p : K → Bool) (xs : List K) (r : Option (Bor K)) → All P xs → option_copied r ≡ least R (filter p xs) → IfSome r (λ x. P x.now)
+pub first_has : {K : Type 0} (R : K → K → Ordering) (P : K → Type 0) (p : K → Bool) (xs : List K) (r : Option (Bor K))
+    → All P xs → option_copied r ≡ least R (filter p xs) → IfSome r (λ x. P x.now)
 first_has R P p xs None a h = tt
 first_has R P p xs (Some x) a h = first_all R P p xs x.now a h

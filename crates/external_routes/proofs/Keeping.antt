@@ -25,19 +25,23 @@ module _ (entries : List EntryValue) (i : ℕ) (x : EntryValue) (here : slice_ge
   more asbr = cond (is_asbr asbr x) (Some (later preference (preferred (take i entries) asbr) x)) (preferred (take i entries) asbr)
 
   preferred_more : (asbr : RouterId) → preferred (take (i + 1) entries) asbr ≡ more asbr
-  preferred_more asbr = first_more preference_total (is_asbr asbr) entries i x (slice_get_within entries i x here) (sym (get_or_from_slice_get entries i x x here))
+  preferred_more asbr = first_more preference_total (is_asbr asbr) entries i x
+      (slice_get_within entries i x here) (sym (get_or_from_slice_get entries i x x here))
 
   -- the entry is none of the router's
   stays : (asbr : RouterId) → is_asbr asbr x ≡ false → entry_at entries (old asbr) ≡ preferred (take (i + 1) entries) asbr
-  stays asbr other = before asbr ∙ sym (preferred_more asbr ∙ ap (λ b. cond b (Some (later preference (preferred (take i entries) asbr) x)) (preferred (take i entries) asbr)) other)
+  stays asbr other = before asbr
+      ∙ sym (preferred_more asbr ∙ ap (λ b. cond b (Some (later preference (preferred (take i entries) asbr) x)) (preferred (take i entries) asbr)) other)
 
   -- the entry comes behind
-  behind : (asbr : RouterId) → is_asbr asbr x ≡ true → comes_first x (entry_at entries (old asbr)) ≡ false → entry_at entries (old asbr) ≡ preferred (take (i + 1) entries) asbr
+  behind : (asbr : RouterId) → is_asbr asbr x ≡ true → comes_first x (entry_at entries (old asbr)) ≡ false
+      → entry_at entries (old asbr) ≡ preferred (take (i + 1) entries) asbr
   behind asbr own late =
       by (entry_at entries (old asbr)) (before asbr) late
       ∙ sym (preferred_more asbr ∙ ap (λ b. cond b (Some (later preference (preferred (take i entries) asbr) x)) (preferred (take i entries) asbr)) own)
     where
-      by : (o : Option EntryValue) → o ≡ preferred (take i entries) asbr → comes_first x o ≡ false → o ≡ Some (later preference (preferred (take i entries) asbr) x)
+      by : (o : Option EntryValue) → o ≡ preferred (take i entries) asbr → comes_first x o ≡ false
+          → o ≡ Some (later preference (preferred (take i entries) asbr) x)
       by None is h = cc
       by (Some b) is h = sym (ap (λ o. Some (later preference o x)) (sym is) ∙ ap (λ c. Some (cond c x b)) h)
 
@@ -68,19 +72,27 @@ module _ (entries : List EntryValue) (i : ℕ) (x : EntryValue) (here : slice_ge
 
   -- nothing is kept anew
   pub left_is : is_asbr x.router x ≡ false → (asbr : RouterId) → entry_at entries (old asbr) ≡ preferred (take (i + 1) entries) asbr
-  left_is none = each (λ asbr. entry_at entries (old asbr) ≡ preferred (take (i + 1) entries) asbr) (stays x.router none) (λ asbr other. stays asbr (apart asbr other))
+  left_is none = each (λ asbr. entry_at entries (old asbr) ≡ preferred (take (i + 1) entries) asbr)
+      (stays x.router none) (λ asbr other. stays asbr (apart asbr other))
 
-  pub left_late : is_asbr x.router x ≡ true → comes_first x (entry_at entries (old x.router)) ≡ false → (asbr : RouterId) → entry_at entries (old asbr) ≡ preferred (take (i + 1) entries) asbr
-  left_late own late = each (λ asbr. entry_at entries (old asbr) ≡ preferred (take (i + 1) entries) asbr) (behind x.router own late) (λ asbr other. stays asbr (apart asbr other))
+  pub left_late : is_asbr x.router x ≡ true → comes_first x (entry_at entries (old x.router)) ≡ false
+      → (asbr : RouterId) → entry_at entries (old asbr) ≡ preferred (take (i + 1) entries) asbr
+  left_late own late = each (λ asbr. entry_at entries (old asbr) ≡ preferred (take (i + 1) entries) asbr)
+      (behind x.router own late) (λ asbr other. stays asbr (apart asbr other))
 
   -- the entry's index is kept
-  pub taken : is_asbr x.router x ≡ true → comes_first x (entry_at entries (old x.router)) ≡ true → (new : RouterId → Option ℕ) → ((asbr : RouterId) → new asbr ≡ cond (eq_by_cmp router_cmp x.router asbr) (Some i) (old asbr))
+  pub taken : is_asbr x.router x ≡ true → comes_first x (entry_at entries (old x.router)) ≡ true → (new : RouterId → Option ℕ)
+      → ((asbr : RouterId) → new asbr ≡ cond (eq_by_cmp router_cmp x.router asbr) (Some i) (old asbr))
       → (asbr : RouterId) → entry_at entries (new asbr) ≡ preferred (take (i + 1) entries) asbr
   taken own first new is =
       each (λ asbr. entry_at entries (new asbr) ≡ preferred (take (i + 1) entries) asbr)
-      (ap (λ o. entry_at entries o) (is x.router ∙ ap (λ b. cond b (Some i) (old x.router)) ((eq_by_cmp_equiv router_total).refl x.router)) ∙ here ∙ ahead x.router own first)
-      (λ asbr other. ap (λ o. entry_at entries o) (is asbr ∙ ap (λ b. cond b (Some i) (old asbr)) (differs asbr other (eq_by_cmp router_cmp x.router asbr) refl)) ∙ stays asbr (apart asbr other))
+      (ap (λ o. entry_at entries o) (is x.router ∙ ap (λ b. cond b (Some i) (old x.router)) ((eq_by_cmp_equiv router_total).refl x.router))
+      ∙ here ∙ ahead x.router own first)
+      (λ asbr other. ap (λ o. entry_at entries o)
+      (is asbr ∙ ap (λ b. cond b (Some i) (old asbr)) (differs asbr other (eq_by_cmp router_cmp x.router asbr) refl)) ∙ stays asbr (apart asbr other))
     where
       differs : (asbr : RouterId) → same_router x.router asbr ≡ false → (b : Bool) → eq_by_cmp router_cmp x.router asbr ≡ b → b ≡ false
-      differs asbr other true h = absurd (false≢true (sym other ∙ ap (λ (r : RouterId). same_router x.router r) (sym (tells_apart router_exact x.router asbr h)) ∙ eq-eqb x.router.0 x.router.0 refl))
+      differs asbr other true h =
+          absurd (false≢true
+          (sym other ∙ ap (λ (r : RouterId). same_router x.router r) (sym (tells_apart router_exact x.router asbr h)) ∙ eq-eqb x.router.0 x.router.0 refl))
       differs asbr other false h = refl

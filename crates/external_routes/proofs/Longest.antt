@@ -1,5 +1,6 @@
 -- The route of the longest prefix that covers an address, when shorter and shorter prefixes are looked up.
-use Rattle.std.proofs.Common.{◌≡◌, ℕ, ◌+◌, ◌-◌, ◌<◌, ◌≤◌, Bool, true, false, cond, List, [], ◌∷◌, length, get_or, Option, None, Some, refl, sym, ap, subst, ◌∙◌, arith, ⊎_elim}
+use Rattle.std.proofs.Common.{◌≡◌, ℕ, ◌+◌, ◌-◌, ◌<◌, ◌≤◌, Bool, true, false, cond, List, [], ◌∷◌, length, get_or, Option, None, Some, refl, sym, ap}
+use Rattle.std.proofs.Common.{subst, ◌∙◌, arith, ⊎_elim}
 use Rattle.std.specs.Prelude.{bit_and}
 use Rattle.std.specs.List.{All, filter, find}
 use Rattle.std.specs.Ordering.{eq_by_cmp, is_lt, nat_cmp}
@@ -32,7 +33,8 @@ All-filter_yes p P (x ∷ xs) all = by (p x) refl (All-filter_yes p P xs (All-ta
 
 filter_none : {X : Type 0} (p : X → Bool) (xs : List X) → All (λ x. p x ≡ false) xs → filter p xs ≡ []
 filter_none p [] all = refl
-filter_none p (x ∷ xs) all = ap (λ b. cond b (x ∷ filter p xs) (filter p xs)) (All-head (λ y. p y ≡ false) x xs all) ∙ filter_none p xs (All-tail (λ y. p y ≡ false) x xs all)
+filter_none p (x ∷ xs) all = ap (λ b. cond b (x ∷ filter p xs) (filter p xs)) (All-head (λ y. p y ≡ false) x xs all)
+    ∙ filter_none p xs (All-tail (λ y. p y ≡ false) x xs all)
 
 -- where none passes, none is found
 find_none : {X : Type 0} (p : X → Bool) (xs : List X) → All (λ x. p x ≡ false) xs → find p xs ≡ None
@@ -65,12 +67,16 @@ module _ (addr : Addr) where
 
   fits_covers : (n : ℕ) (r : RouteValue) → fits n r ≡ true → (covers r.net addr ≡ true) × (r.net.len ≡ n)
   fits_covers n r h =
-      let same = fits_net n r h in
-      (subst (λ (net : Net). covers net addr ≡ true) same (eq-eqb (bit_and addr.0 (mask_of_len n)) (bit_and addr.0 (mask_of_len n)) refl), sym (ap (λ (net : Net). net.len) same))
+      let same = fits_net n r h in (
+        subst (λ (net : Net). covers net addr ≡ true) same
+            (eq-eqb (bit_and addr.0 (mask_of_len n)) (bit_and addr.0 (mask_of_len n)) refl),
+        sym (ap (λ (net : Net). net.len) same),
+      )
 
   covers_fits : (r : RouteValue) → covers r.net addr ≡ true → fits r.net.len r ≡ true
   covers_fits r h =
-      let same : masked addr r.net.len ≡ r.net = ap (λ (a : ℕ). record { addr = record { 0 = a }; len = r.net.len }) (eqb-true (bit_and addr.0 (mask_of_len r.net.len)) r.net.addr.0 h) in
+      let same : masked addr r.net.len ≡ r.net = ap (λ (a : ℕ). record { addr = record { 0 = a }; len = r.net.len })
+      (eqb-true (bit_and addr.0 (mask_of_len r.net.len)) r.net.addr.0 h) in
       ap (λ (net : Net). eq_by_cmp prefix_cmp net r.net) same ∙ (eq_by_cmp_equiv prefix_total).refl r.net
 
   not_longer : (a b : ℕ) → b ≤ a → is_lt (nat_cmp a b) ≡ false
@@ -80,7 +86,8 @@ module _ (addr : Addr) where
   is_longer a b lt = sym (ap is_lt (nat_cmp_is a b Less lt))
 
   -- the first that fits is the longest that covers, where none is longer
-  longest : (n : ℕ) (routes : List RouteValue) (r : RouteValue) → NoneLonger n routes → find (fits n) routes ≡ Some r → least longer (filter covering routes) ≡ Some r
+  longest : (n : ℕ) (routes : List RouteValue) (r : RouteValue) → NoneLonger n routes
+      → find (fits n) routes ≡ Some r → least longer (filter covering routes) ≡ Some r
   longest n [] r none found = cc
   longest n (y ∷ ys) r none found = by (fits n y) refl found (longest n ys r (All-tail (λ q. covers q.net addr ≡ true → q.net.len ≤ n) y ys none))
     where
@@ -88,11 +95,13 @@ module _ (addr : Addr) where
       ahead : y.net.len ≡ n → (m : Option RouteValue) → least longer (filter covering ys) ≡ m → lesser longer y m ≡ y
       ahead len None is = refl
       ahead len (Some b) is =
-          let le : b.net.len ≤ n = least_all longer (λ q. q.net.len ≤ n) (filter covering ys) b (All-filter_yes covering (λ q. q.net.len ≤ n) ys (All-tail (λ q. covers q.net addr ≡ true → q.net.len ≤ n) y ys none)) (sym is) in
+          let le : b.net.len ≤ n = least_all longer (λ q. q.net.len ≤ n) (filter covering ys) b
+          (All-filter_yes covering (λ q. q.net.len ≤ n) ys (All-tail (λ q. covers q.net addr ≡ true → q.net.len ≤ n) y ys none)) (sym is) in
           ap (λ c. cond c b y) (not_longer y.net.len b.net.len (omega arith))
 
       -- y doesn't fit: it covers nothing, or is shorter
-      behind : fits n y ≡ false → r.net.len ≡ n → (b : Bool) → covering y ≡ b → least longer (filter covering ys) ≡ Some r → least longer (cond b (y ∷ filter covering ys) (filter covering ys)) ≡ Some r
+      behind : fits n y ≡ false → r.net.len ≡ n → (b : Bool) → covering y ≡ b → least longer (filter covering ys) ≡ Some r
+          → least longer (cond b (y ∷ filter covering ys) (filter covering ys)) ≡ Some r
       behind apart len false is rest = rest
       behind apart len true is rest =
           ap (λ m. Some (lesser longer y m)) rest
@@ -105,7 +114,8 @@ module _ (addr : Addr) where
               (λ other. (let le : y.net.len ≤ n = All-head (λ q. covers q.net addr ≡ true → q.net.len ≤ n) y ys none is in omega arith))
               (cases_eq y.net.len n)
 
-      by : (b : Bool) → fits n y ≡ b → cond b (Some y) (find (fits n) ys) ≡ Some r → (find (fits n) ys ≡ Some r → least longer (filter covering ys) ≡ Some r) → least longer (filter covering (y ∷ ys)) ≡ Some r
+      by : (b : Bool) → fits n y ≡ b → cond b (Some y) (find (fits n) ys) ≡ Some r
+          → (find (fits n) ys ≡ Some r → least longer (filter covering ys) ≡ Some r) → least longer (filter covering (y ∷ ys)) ≡ Some r
       by true is h rest =
           let own = fits_covers n y is in
           let same : y ≡ r = cc in
@@ -136,7 +146,8 @@ module _ (addr : Addr) where
     unmarked_none marks marked n unmarked = sym (find_none (fits n) routes (λ k d lt. by k d lt (fits n (get_or routes k d)) refl))
       where
         by : (k : ℕ) (d : RouteValue) → k < length routes → (b : Bool) → fits n (get_or routes k d) ≡ b → b ≡ false
-        by k d lt true is = absurd (false≢true (sym unmarked ∙ subst (λ (m : ℕ). get_or marks m false ≡ true) (fits_covers n (get_or routes k d) is).1 (marked k d lt).marked))
+        by k d lt true is = absurd
+            (false≢true (sym unmarked ∙ subst (λ (m : ℕ). get_or marks m false ≡ true) (fits_covers n (get_or routes k d) is).1 (marked k d lt).marked))
         by k d lt false is = refl
 
     module _ (shorter : ℕ) (le : shorter ≤ 32) (before : LeftOut shorter routes) where
@@ -146,7 +157,8 @@ module _ (addr : Addr) where
           let r = get_or routes k d in
           let low : r.net.len + shorter ≤ 32 = before k d lt cov in
           ⊎_elim
-          (λ same. absurd (false≢true (sym (missed (fits (32 - shorter)) routes (sym none) k d lt) ∙ subst (λ (n : ℕ). fits n r ≡ true) same (covers_fits r cov))))
+          (λ same. absurd
+          (false≢true (sym (missed (fits (32 - shorter)) routes (sym none) k d lt) ∙ subst (λ (n : ℕ). fits n r ≡ true) same (covers_fits r cov))))
           (λ other. omega arith)
           (cases_eq r.net.len (32 - shorter))
 

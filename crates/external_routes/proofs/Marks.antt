@@ -15,7 +15,8 @@ still marks n m within h =
     (cases_eq n m)
 
 -- one route more
-pub marks_more : (routes : List RouteValue) (marks : List Bool) (i : ℕ) (r : RouteValue) → length marks ≡ 33 → MarksLengths (take i routes) marks → i < length routes → r ≡ get_or routes i r → r.net.len ≤ 32
+pub marks_more : (routes : List RouteValue) (marks : List Bool) (i : ℕ) (r : RouteValue) → length marks ≡ 33
+    → MarksLengths (take i routes) marks → i < length routes → r ≡ get_or routes i r → r.net.len ≤ 32
     → (length (set marks r.net.len true) ≡ 33) × MarksLengths (take (i + 1) routes) (set marks r.net.len true)
 marks_more routes marks i r size before within item short =
     let low : r.net.len < length marks = omega arith in
@@ -25,7 +26,8 @@ marks_more routes marks i r size before within item short =
     record { short = m.short; marked = still marks r.net.len (get_or (take i routes) k d).net.len low m.marked }) in (
       length-set marks r.net.len true ∙ size,
       subst (λ (rs : List RouteValue). MarksLengths rs (set marks r.net.len true)) (sym (take_more routes i r within))
-          (All-push (IsMarked (set marks r.net.len true)) (take i routes) (get_or routes i r) others (subst (λ (x : RouteValue). IsMarked (set marks r.net.len true) x) item here)),
+          (All-push (IsMarked (set marks r.net.len true)) (take i routes) (get_or routes i r) others
+          (subst (λ (x : RouteValue). IsMarked (set marks r.net.len true) x) item here)),
     )
 
 pub marks_all : (routes : List RouteValue) (marks : List Bool) (i : ℕ) → length routes ≤ i → MarksLengths (take i routes) marks → MarksLengths routes marks

@@ -21,7 +21,8 @@ any-filter : {X : Type 0} (p q : X → Bool) (xs : List X) → list_any p (filte
 any-filter p q [] = refl
 any-filter p q (x ∷ xs) = by (q x) (any-filter p q xs)
   where
-    by : (b : Bool) → list_any p (filter q xs) ≡ list_any (λ y. q y && p y) xs → list_any p (cond b (x ∷ filter q xs) (filter q xs)) ≡ ((b && p x) || list_any (λ y. q y && p y) xs)
+    by : (b : Bool) → list_any p (filter q xs) ≡ list_any (λ y. q y && p y) xs
+        → list_any p (cond b (x ∷ filter q xs) (filter q xs)) ≡ ((b && p x) || list_any (λ y. q y && p y) xs)
     by true rest = ap (λ c. p x || c) rest
     by false rest = rest
 
@@ -42,11 +43,13 @@ module _ (db : Lists) (router : RouterId) where
     head = record { id = id; is_stub = is_stub }
 
     pub outside_found : is_stub ≡ false → is_attached db (record { 0 = id }) router ≡ true → is_attached_outside_stubs db router ≡ true
-    outside_found ordinary attached = any-filter (λ area. not area.is_stub) joins (areas_of db) ∙ any_at counts (areas_of db) i head here (ap (λ b. b && not is_stub) attached ∙ ap not ordinary)
+    outside_found ordinary attached = any-filter (λ area. not area.is_stub) joins (areas_of db)
+        ∙ any_at counts (areas_of db) i head here (ap (λ b. b && not is_stub) attached ∙ ap not ordinary)
 
     more : outside (take (i + 1) (areas_of db)) ≡ (outside (take i (areas_of db)) || counts head)
     more =
-        any-filter (λ area. not area.is_stub) joins (take (i + 1) (areas_of db)) ∙ list_any_more counts (areas_of db) i head (slice_get_within (areas_of db) i head here)
+        any-filter (λ area. not area.is_stub) joins (take (i + 1) (areas_of db))
+        ∙ list_any_more counts (areas_of db) i head (slice_get_within (areas_of db) i head here)
         ∙ ap (λ area. list_any counts (take i (areas_of db)) || counts area) (get_or_from_slice_get (areas_of db) i head head here)
         ∙ ap (λ b. b || counts head) (sym (any-filter (λ area. not area.is_stub) joins (take i (areas_of db))))
 
@@ -59,5 +62,6 @@ module _ (db : Lists) (router : RouterId) where
         by false = refl
 
     -- an area that the router isn't attached to
-    pub outside_other : outside (take i (areas_of db)) ≡ false → is_attached db (record { 0 = id }) router ≡ false → outside (take (i + 1) (areas_of db)) ≡ false
+    pub outside_other : outside (take i (areas_of db)) ≡ false → is_attached db (record { 0 = id }) router ≡ false
+        → outside (take (i + 1) (areas_of db)) ≡ false
     outside_other before apart = more ∙ ap (λ b. b || counts head) before ∙ ap (λ b. b && not is_stub) apart

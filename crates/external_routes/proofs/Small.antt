@@ -26,7 +26,8 @@ IsSmall c = c.rank.cost < 2 ^ 35
 rank_small : (lsa : List ℕ) (class cost : ℕ) → metric_of lsa < 2 ^ 24 → cost < 2 ^ 34 → (external_rank lsa class cost).cost < 2 ^ 35
 rank_small lsa class cost m c = by (is_type2_of lsa)
   where
-    by : (b : Bool) → (cond {A = Rank} b (record { path = Ext2; cost2 = metric_of lsa; class = class; cost = cost }) (record { path = Ext1; cost2 = 0; class = class; cost = cost + metric_of lsa })).cost < 2 ^ 35
+    by : (b : Bool) → (cond {A = Rank} b (record { path = Ext2; cost2 = metric_of lsa; class = class; cost = cost })
+        (record { path = Ext1; cost2 = 0; class = class; cost = cost + metric_of lsa })).cost < 2 ^ 35
     by true = omega arith
     by false = omega arith
 
@@ -38,13 +39,15 @@ metric_below router lsa h =
     let below : metric_of lsa < ls_infinity = ltb-true (metric_of lsa) ls_infinity metric.0 in
     omega arith
 
-module _ (router : RouterId) (routes : List RouteValue) (entries : List EntryValue) (cheap_routes : RoutesBelow (2 ^ 34) routes) (cheap_entries : EntriesBelow (2 ^ 34) entries) where
+module _ (router : RouterId) (routes : List RouteValue) (entries : List EntryValue)
+    (cheap_routes : RoutesBelow (2 ^ 34) routes) (cheap_entries : EntriesBelow (2 ^ 34) entries) where
   path_small : (lsa : List ℕ) (e : EntryValue) → metric_of lsa < 2 ^ 24 → e.cost < 2 ^ 34 → IfSome (path_over routes lsa e) IsSmall
   path_small lsa e m cheap = by (eqb (forward_of lsa) 0)
     where
       over : (o : Option RouteValue) → o ≡ forward_match routes (forward_address lsa) → IfSome (option_map (path_by_route lsa) o) IsSmall
       over None is = tt
-      over (Some r) is = rank_small lsa (route_class r) r.cost m (first_all longer (λ r. r.cost < 2 ^ 34) (λ r. covers r.net (forward_address lsa)) routes r cheap_routes is)
+      over (Some r) is = rank_small lsa (route_class r) r.cost m
+          (first_all longer (λ r. r.cost < 2 ^ 34) (λ r. covers r.net (forward_address lsa)) routes r cheap_routes is)
 
       by : (b : Bool) → IfSome (cond b (Some (path_by_entry lsa e)) (option_map (path_by_route lsa) (forward_match routes (forward_address lsa)))) IsSmall
       by true = rank_small lsa (entry_class e) e.cost m cheap
@@ -53,15 +56,19 @@ module _ (router : RouterId) (routes : List RouteValue) (entries : List EntryVal
   candidate_small : (lsa : List ℕ) → IfSome (external_candidate router routes entries lsa) IsSmall
   candidate_small lsa = by (is_examined router lsa) refl
     where
-      entry_of : metric_of lsa < 2 ^ 24 → (o : Option EntryValue) → o ≡ preferred entries (originator_of lsa) → IfSome (option_and_then (path_over routes lsa) o) IsSmall
+      entry_of : metric_of lsa < 2 ^ 24 → (o : Option EntryValue) → o ≡ preferred entries (originator_of lsa)
+          → IfSome (option_and_then (path_over routes lsa) o) IsSmall
       entry_of m None is = tt
       entry_of m (Some e) is = path_small lsa e m (first_all preference (λ e. e.cost < 2 ^ 34) (is_asbr (originator_of lsa)) entries e cheap_entries is)
 
-      reached : metric_of lsa < 2 ^ 24 → (b : Bool) → IfSome (cond b None (option_and_then (path_over routes lsa) (preferred entries (originator_of lsa)))) IsSmall
+      reached : metric_of lsa < 2 ^ 24 → (b : Bool)
+          → IfSome (cond b None (option_and_then (path_over routes lsa) (preferred entries (originator_of lsa)))) IsSmall
       reached m true = tt
       reached m false = entry_of m (preferred entries (originator_of lsa)) refl
 
-      by : (b : Bool) → is_examined router lsa ≡ b → IfSome (cond b (cond (has_route routes (net_of_lsa lsa)) None (option_and_then (path_over routes lsa) (preferred entries (originator_of lsa)))) None) IsSmall
+      by : (b : Bool) → is_examined router lsa ≡ b
+          → IfSome (cond b
+          (cond (has_route routes (net_of_lsa lsa)) None (option_and_then (path_over routes lsa) (preferred entries (originator_of lsa)))) None) IsSmall
       by true is = reached (metric_below router lsa is) (has_route routes (net_of_lsa lsa))
       by false is = tt
 
@@ -69,6 +76,7 @@ module _ (router : RouterId) (routes : List RouteValue) (entries : List EntryVal
   candidates_small [] = All-nil IsSmall
   candidates_small (lsa ∷ lsas) = by (external_candidate router routes entries lsa) (candidate_small lsa) (candidates_small lsas)
     where
-      by : (o : Option (Candidate Net)) → IfSome o IsSmall → All IsSmall (filter_map (external_candidate router routes entries) lsas) → All IsSmall (cons_option o (filter_map (external_candidate router routes entries) lsas))
+      by : (o : Option (Candidate Net)) → IfSome o IsSmall → All IsSmall (filter_map (external_candidate router routes entries) lsas)
+          → All IsSmall (cons_option o (filter_map (external_candidate router routes entries) lsas))
       by None h rest = rest
       by (Some c) h rest = All-cons IsSmall c (filter_map (external_candidate router routes entries) lsas) h rest

@@ -19,7 +19,8 @@ module _ (db : Lists) (router : RouterId) (routes : List RouteValue) (entries : 
   unfolding externals_of
   examines_none h = sym (ap (λ b. routes_of (cond b (filter_map (external_candidate router routes entries) (lsas_of AsWide db)) [])) h)
 
-  pub examines_all : is_attached_outside_stubs db router ≡ true → routes_of (filter_map (external_candidate router routes entries) (lsas_of AsWide db)) ≡ externals_of db router routes entries
+  pub examines_all : is_attached_outside_stubs db router ≡ true
+      → routes_of (filter_map (external_candidate router routes entries) (lsas_of AsWide db)) ≡ externals_of db router routes entries
   unfolding externals_of
   examines_all h = sym (ap (λ b. routes_of (cond b (filter_map (external_candidate router routes entries) (lsas_of AsWide db)) [])) h)
 
@@ -28,7 +29,8 @@ module _ (db : Lists) (router : RouterId) (routes : List RouteValue) (entries : 
   all_candidates = filter_map (external_candidate router routes entries) (lsas_of AsWide db)
 
   -- what was gathered of these LSAs with these ways inside the AS
-  pub gathered : (inside : WaysInside) (lsas : List (List ℕ)) (ways : List (Net × WayValue)) → inside ≡ record { routes = routes; entries = entries } → lsas ≡ lsas_of AsWide db
+  pub gathered : (inside : WaysInside) (lsas : List (List ℕ)) (ways : List (Net × WayValue))
+      → inside ≡ record { routes = routes; entries = entries } → lsas ≡ lsas_of AsWide db
       → Gathers prefix_cmp (filter_map (external_candidate router inside.routes inside.entries) lsas) ways → Gathers prefix_cmp all_candidates ways
   gathered inside lsas ways same all before =
       subst (λ (i : WaysInside). Gathers prefix_cmp (filter_map (external_candidate router i.routes i.entries) (lsas_of AsWide db)) ways) same

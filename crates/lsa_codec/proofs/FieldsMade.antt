@@ -1,5 +1,6 @@
 -- The fields of LSAs that are made: links, LS age and flags of router-LSAs, and the fields of the other types.
-use Rattle.std.proofs.Common.{◌≡◌, ℕ, suc, ◌+◌, ◌-◌, ◌≤◌, ◌<◌, ◌^◌, Bool, true, false, eqb, not, ◌&&◌, List, [], ◌∷◌, ◌++◌, take, length, get_or, set, Option, Some, Ok, refl, sym, ap, ◌∙◌, subst, arith, inl, inr}
+use Rattle.std.proofs.Common.{◌≡◌, ℕ, suc, ◌+◌, ◌-◌, ◌≤◌, ◌<◌, ◌^◌, Bool, true, false, eqb, not, ◌&&◌, List, [], ◌∷◌, ◌++◌, take, length, get_or, set}
+use Rattle.std.proofs.Common.{Option, Some, Ok, refl, sym, ap, ◌∙◌, subst, arith, inl, inr}
 use Rattle.std.specs.Prelude.{is_some, nat_lt, nat_le, None, if◌then◌else◌}
 use Rattle.std.specs.List.{remove, filter, list_any, flat_map}
 use Rattle.std.proofs.lemmas.Bool.{ltb-false, eqb-true}
@@ -16,7 +17,8 @@ use Rattle.lsa_codec.specs.Links.{after_links, links_from, link_at, links_of, li
 use Rattle.lsa_codec.specs.Prefix.{Net, IsNet, masked, mask_of_len, len_of_mask}
 use Rattle.lsa_codec.specs.Accepted.{IsAccepted}
 use Rattle.lsa_codec.specs.Views.{has_metric, net_of_lsa, metric_of}
-use Rattle.lsa_codec.specs.Making.{recounted, link_text, with_links, with_cost, with_cost_on, with_metric_of, without_link, without_links, with_stub, stub_text, stub_link, KeepsAgeAndFlags}
+use Rattle.lsa_codec.specs.Making.{recounted, link_text, with_links, with_cost, with_cost_on, with_metric_of, without_link, without_links, with_stub}
+use Rattle.lsa_codec.specs.Making.{stub_text, stub_link, KeepsAgeAndFlags}
 use Rattle.lsa_codec.specs.Originating.{with_metric, new_summary, new_external, HasOtherMetric, HasNewFields, HasExternalFields}
 use Rattle.lsa_codec.proofs.Bytes.{number_at-same, number_at-put_3, length-put_at, get_or-put_after}
 use Rattle.lsa_codec.proofs.Decoded.{has_links}
@@ -51,7 +53,8 @@ cost_kept_on None k metric lsa made numbered old kind small e =
     let none : with_cost_on None metric lsa ≡ ok_of made = ap (λ (o : Option Link). with_cost_on o metric lsa) numbered ∙ e in
     absurd cc
 cost_kept_on (Some link) k metric lsa made numbered old kind small e =
-    subst (KeepsAgeAndFlags lsa) (cost_on k metric link lsa made numbered e) (kept_with_metric (k - 1) metric link lsa old kind (place_of_number k lsa link numbered) small)
+    subst (KeepsAgeAndFlags lsa) (cost_on k metric link lsa made numbered e)
+    (kept_with_metric (k - 1) metric link lsa old kind (place_of_number k lsa link numbered) small)
 
 pub cost_kept : (k metric : ℕ) (lsa made : List ℕ) → IsAccepted lsa → kind_of lsa ≡ 1 → metric < 65536
     → with_cost k metric lsa ≡ Ok made → KeepsAgeAndFlags lsa made
@@ -145,7 +148,8 @@ stub_links net metric lsa made old kind addr_small small e =
     let at : StandsAt (length lsa) stub a = record {
       here = λ j lt.
           let back : length lsa + j - length lsa ≡ j = omega arith in
-          one.new.body (length lsa + j) (omega (arith, whole.header)) ∙ get_or-append_right lsa stub (length lsa) (length lsa + j) 0 refl (omega arith) ∙ ap (λ k. get_or stub k 0) back;
+          one.new.body (length lsa + j) (omega (arith, whole.header))
+          ∙ get_or-append_right lsa stub (length lsa) (length lsa + j) 0 refl (omega arith) ∙ ap (λ k. get_or stub k 0) back;
     } in
     let last : link_at (length lsa) a ≡ stub_link net metric (length lsa) =
     ap (placed (length lsa)) (link_at-moved (length lsa) stub a at (omega arith) ∙ stub_read net metric addr_small small) in

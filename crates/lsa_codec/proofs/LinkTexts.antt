@@ -1,5 +1,6 @@
 -- Octets that are links one behind another, and router-LSAs made of them.
-use Rattle.std.proofs.Common.{◌≡◌, ℕ, zero, suc, ◌+◌, ◌-◌, ◌*◌, ◌≤◌, ◌<◌, Bool, true, eqb, List, [], ◌∷◌, ◌++◌, take, length, get_or, map, refl, sym, ap, ◌∙◌, arith, inl, inr, ◌⊎◌}
+use Rattle.std.proofs.Common.{◌≡◌, ℕ, zero, suc, ◌+◌, ◌-◌, ◌*◌, ◌≤◌, ◌<◌, Bool, true, eqb, List, [], ◌∷◌, ◌++◌, take, length, get_or, map, refl, sym}
+use Rattle.std.proofs.Common.{ap, ◌∙◌, arith, inl, inr, ◌⊎◌}
 use Rattle.std.specs.List.{list_all, flat_map, All}
 use Rattle.std.proofs.lemmas.List.{length-append, length-take, get_or_append_left, get_or-append_right, get_or-take}
 use Rattle.std.proofs.lemmas.List.Elements.{All-head, All-tail, All-weaker}
@@ -86,7 +87,8 @@ walks text (x ∷ xs) offset bytes good at =
           after_links_next (suc (length xs)) (length xs) offset bytes refl ∙ ap (λ (k : ℕ). after_links (length xs) (offset + k) bytes) step ∙ rest.ends
           ∙ omega (arith, long);
       links =
-          ap (map unplaced) (links_from_next (suc (length xs)) (length xs) offset bytes refl ∙ ap (λ (k : ℕ). link_at offset bytes ∷ links_from (length xs) (offset + k) bytes) step)
+          ap (map unplaced) (links_from_next (suc (length xs)) (length xs) offset bytes refl
+          ∙ ap (λ (k : ℕ). link_at offset bytes ∷ links_from (length xs) (offset + k) bytes) step)
           ∙ ap (λ (l : Link). l ∷ map unplaced (links_from (length xs) (offset + length t) bytes)) link ∙ ap (λ (ls : List Link). link_at 0 t ∷ ls) rest.links;
     }
 
@@ -176,10 +178,12 @@ accepted_texts text xs lsa old kind long good short =
     let links : map unplaced (links_of a) ≡ map (link_at 0) (map text xs) = ap (λ n. map unplaced (links_from n 24 a)) new.links ∙ walk.links in
     let masks : list_all is_link_mask_good (links_of a) ≡ true =
     sym (list_all-map is_link_mask_good unplaced (links_of a)) ∙ ap (list_all is_link_mask_good) links
-    ∙ list_all-links is_link_mask_good text xs (All-weaker (λ x. IsLinkText (text x)) (λ x. is_link_mask_good (link_at 0 (text x)) ≡ true) (λ x g. g.mask) xs good) in
+    ∙ list_all-links is_link_mask_good text xs
+    (All-weaker (λ x. IsLinkText (text x)) (λ x. is_link_mask_good (link_at 0 (text x)) ≡ true) (λ x g. g.mask) xs good) in
     let costs : list_all is_link_cost_good (links_of a) ≡ true =
     sym (list_all-map is_link_cost_good unplaced (links_of a)) ∙ ap (list_all is_link_cost_good) links
-    ∙ list_all-links is_link_cost_good text xs (All-weaker (λ x. IsLinkText (text x)) (λ x. is_link_cost_good (link_at 0 (text x)) ≡ true) (λ x g. g.cost) xs good) in
+    ∙ list_all-links is_link_cost_good text xs
+    (All-weaker (λ x. IsLinkText (text x)) (λ x. is_link_cost_good (link_at 0 (text x)) ≡ true) (λ x g. g.cost) xs good) in
     let origin : eqb (number_at 4 4 lsa) (number_at 4 8 lsa) ≡ true = rw kind at old.origin in
     record {
       header = omega (arith, new.size);

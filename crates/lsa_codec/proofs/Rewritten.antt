@@ -1,5 +1,6 @@
 -- What is made of an LSA is accepted and has its key.
-use Rattle.std.proofs.Common.{◌≡◌, ℕ, ◌+◌, ◌-◌, ◌≤◌, ◌<◌, ◌^◌, Bool, true, false, cond, eqb, not, ◌&&◌, List, ◌++◌, length, take, get_or, Option, Some, None, Ok, Err, refl, ap, subst, ◌∙◌, arith, inl}
+use Rattle.std.proofs.Common.{◌≡◌, ℕ, ◌+◌, ◌-◌, ◌≤◌, ◌<◌, ◌^◌, Bool, true, false, cond, eqb, not, ◌&&◌, List, ◌++◌, length, take, get_or, Option, Some}
+use Rattle.std.proofs.Common.{None, Ok, Err, refl, ap, subst, ◌∙◌, arith, inl}
 use Rattle.std.specs.Prelude.{is_some, nat_lt}
 use Rattle.std.specs.List.{remove, filter, list_any, flat_map}
 use Rattle.std.proofs.lemmas.Bool.{ltb-false}
@@ -16,7 +17,8 @@ use Rattle.lsa_codec.specs.Prefix.{Net, IsNet}
 use Rattle.lsa_codec.specs.Accepted.{IsAccepted}
 use Rattle.lsa_codec.specs.Key.{key_of}
 use Rattle.lsa_codec.specs.Views.{has_metric}
-use Rattle.lsa_codec.specs.Making.{IsRewriteOf, IsExtensionOf, recounted, link_text, with_links, with_cost, with_cost_on, with_metric_of, without_link, without_links, with_stub, stub_text}
+use Rattle.lsa_codec.specs.Making.{IsRewriteOf, IsExtensionOf, recounted, link_text, with_links, with_cost, with_cost_on, with_metric_of, without_link}
+use Rattle.lsa_codec.specs.Making.{without_links, with_stub, stub_text}
 use Rattle.lsa_codec.specs.Originating.{with_metric, new_summary, new_external, IsNewLsa}
 use Rattle.lsa_codec.proofs.Bytes.{number_at-same}
 use Rattle.lsa_codec.proofs.Made.{pair_is}
@@ -45,7 +47,8 @@ rewrite_links lsa kept old kind are =
     record {
       accepted = accepted_links lsa kept old kind are.links are.shorter;
       key =
-          same_key _ lsa (λ i lt. new.header i lt ∙ get_or_append_left (take 24 lsa) texts 0 i (omega (arith, length-take 24 lsa)) ∙ get_or-take 24 lsa i 0 (omega arith));
+          same_key _ lsa (λ i lt. new.header i lt ∙ get_or_append_left (take 24 lsa) texts 0 i (omega (arith, length-take 24 lsa))
+          ∙ get_or-take 24 lsa i 0 (omega arith));
       size = omega (arith, new.size, are.shorter);
     }
 

@@ -1,5 +1,6 @@
 -- Looking through sorted sightings: of those that were looked at, the newest are known, and the flushes.
-use Rattle.std.proofs.Common.{◌≡◌, ℕ, ◌-◌, ◌*◌, ◌<◌, ◌⊎◌, refl, sym, ◌∙◌, ap, inl, inr, List, [], ◌∷◌, ◌++◌, length, get_or, Bool, true, false, not, ◌||◌, Option, Some, None, arith}
+use Rattle.std.proofs.Common.{◌≡◌, ℕ, ◌-◌, ◌*◌, ◌<◌, ◌⊎◌, refl, sym, ◌∙◌, ap, inl, inr, List, [], ◌∷◌, ◌++◌, length, get_or, Bool, true, false, not}
+use Rattle.std.proofs.Common.{◌||◌, Option, Some, None, arith}
 use Rattle.std.specs.Prelude.{Contains, slice_get}
 use Rattle.std.specs.List.{Any}
 use Rattle.std.specs.Ordering.{is_eq, is_gt, ordering_reverse, ordering_then}

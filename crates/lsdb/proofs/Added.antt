@@ -1,5 +1,6 @@
 -- An LSA is added at the end of a section.
-use Rattle.std.proofs.Common.{◌≡◌, ◌≢◌, ℕ, zero, suc, ◌+◌, ◌<◌, ◌≤◌, Bool, true, false, List, [], ◌∷◌, ◌++◌, length, map, Option, Some, None, refl, sym, ap, ◌∙◌, subst, arith, cond, length-append}
+use Rattle.std.proofs.Common.{◌≡◌, ◌≢◌, ℕ, zero, suc, ◌+◌, ◌<◌, ◌≤◌, Bool, true, false, List, [], ◌∷◌, ◌++◌, length, map, Option, Some, None, refl}
+use Rattle.std.proofs.Common.{sym, ap, ◌∙◌, subst, arith, cond, length-append}
 use Rattle.std.specs.Prelude.{All, AllPairs}
 use Rattle.std.specs.List.{find, sum_by}
 use Rattle.std.proofs.lemmas.Bool.{and_from, eq-eqb}
@@ -11,7 +12,8 @@ use Rattle.lsa_codec.specs.declared.key.Key.{Key}
 use Rattle.lsa_codec.specs.Key.{key_of}
 use Rattle.lsa_codec.specs.Accepted.{IsAccepted}
 use Rattle.lsdb.specs.Limits.{longest_dump}
-use Rattle.lsdb.specs.Lists.{AreaHead, SectionLsas, Lists, AreKeys, IsSection, AreHeads, IsDatabase, is_in_scope, limit_of, lsas_size, section_size, size, heads_of, has_key}
+use Rattle.lsdb.specs.Lists.{AreaHead, SectionLsas, Lists, AreKeys, IsSection, AreHeads, IsDatabase, is_in_scope, limit_of, lsas_size, section_size}
+use Rattle.lsdb.specs.Lists.{size, heads_of, has_key}
 use Rattle.lsdb.specs.Places.{Place, Places, update_at, item_at, put, put_place, open_at, full, section_of, lists_of, places_in}
 use Rattle.lsdb.proofs.Middle.{all_mid, map_mid, map_two}
 use Rattle.lsdb.proofs.Dominated.{size_around}
@@ -30,7 +32,8 @@ full-new x (None ∷ ps) (suc n) e = full-new x ps n (omega arith)
 full-new x (Some y ∷ ps) (suc n) e = ap (λ (ys : List (List ℕ)). y ∷ ys) (full-new x ps n (omega arith))
 
 -- a place that was opened at the end of a section, and then filled
-pub lists-new : (x : List ℕ) (d : Places) (section n : ℕ) → n ≡ length (places_in d section) → lists_of (put (open_at d section) (record { section = section; index = n }) (Some x)) ≡ update_at (with_lsa x) (lists_of d) section
+pub lists-new : (x : List ℕ) (d : Places) (section n : ℕ) → n ≡ length (places_in d section)
+    → lists_of (put (open_at d section) (record { section = section; index = n }) (Some x)) ≡ update_at (with_lsa x) (lists_of d) section
 lists-new x [] section n e = refl
 lists-new x (s ∷ ss) zero n e = ap (λ (ys : List (List ℕ)). record { area = s.area; lsas = ys } ∷ lists_of ss) (full-new x s.places n e)
 lists-new x (s ∷ ss) (suc section) n e = ap (λ (ts : Lists). section_of s ∷ ts) (lists-new x ss section n e)
@@ -40,13 +43,15 @@ lists-new x (s ∷ ss) (suc section) n e = ap (λ (ts : Lists). section_of s ∷
 no_key : (key : Key) (xs : List (List ℕ)) → find (has_key key) xs ≡ None → All (λ k. k ≢ key) (map key_of xs)
 no_key key [] e = All-nil (λ k. k ≢ key)
 no_key key (x ∷ xs) e = by_test (has_key key x) refl (no_key key xs) e where
-  by_test : (b : Bool) → has_key key x ≡ b → (find (has_key key) xs ≡ None → All (λ k. k ≢ key) (map key_of xs)) → cond b (Some x) (find (has_key key) xs) ≡ None → All (λ k. k ≢ key) (key_of x ∷ map key_of xs)
+  by_test : (b : Bool) → has_key key x ≡ b → (find (has_key key) xs ≡ None → All (λ k. k ≢ key) (map key_of xs))
+      → cond b (Some x) (find (has_key key) xs) ≡ None → All (λ k. k ≢ key) (key_of x ∷ map key_of xs)
   by_test true is more e = absurd cc
   by_test false is more e = All-cons (λ k. k ≢ key) (key_of x) (map key_of xs) (apart is) (more e) where
     apart : has_key key x ≡ false → key_of x ≢ key
     apart is same =
         let yes' : has_key key x ≡ true =
-        and_from _ _ (eq-eqb _ _ (ap (λ (k : Key). k.kind) same)) (and_from _ _ (eq-eqb _ _ (ap (λ (k : Key). k.id.0) same)) (eq-eqb _ _ (ap (λ (k : Key). k.adv.0) same))) in
+        and_from _ _ (eq-eqb _ _ (ap (λ (k : Key). k.kind) same))
+        (and_from _ _ (eq-eqb _ _ (ap (λ (k : Key). k.id.0) same)) (eq-eqb _ _ (ap (λ (k : Key). k.adv.0) same))) in
         absurd (let no' : true ≡ false = sym yes' ∙ is in cc)
 
 pairs_push : (ks : List Key) (k : Key) → AllPairs (λ a b. a ≢ b) ks → All (λ j. j ≢ k) ks → AllPairs (λ a b. a ≢ b) (ks ++ k ∷ [])
@@ -62,7 +67,8 @@ keys_added : (area : Option AreaHead) (ks : List Key) (k : Key) → AreKeys area
 keys_added area ks k h room scope new = record {
   few = omega (arith, length-append ks (k ∷ []), room);
   scope =
-      All-append (λ j. is_in_scope area j ≡ true) ks (k ∷ []) h.scope (All-cons (λ j. is_in_scope area j ≡ true) k [] scope (All-nil (λ j. is_in_scope area j ≡ true)));
+      All-append (λ j. is_in_scope area j ≡ true) ks (k ∷ []) h.scope
+      (All-cons (λ j. is_in_scope area j ≡ true) k [] scope (All-nil (λ j. is_in_scope area j ≡ true)));
   distinct = pairs_push ks k h.distinct new;
 }
 
@@ -78,7 +84,8 @@ section_added : (db : Lists) (s : SectionLsas) (x : List ℕ) → Fits db s x �
 section_added db s x fits h = record {
   accepted = All-append IsAccepted s.lsas (x ∷ []) h.accepted (All-cons IsAccepted x [] fits.accepted (All-nil IsAccepted));
   keys = subst (AreKeys s.area) (sym (map_two key_of s.lsas (x ∷ [])))
-      (keys_added s.area (map key_of s.lsas) (key_of x) h.keys (omega (arith, length-map s.lsas key_of, fits.room)) fits.scope (no_key (key_of x) s.lsas fits.new));
+      (keys_added s.area (map key_of s.lsas) (key_of x) h.keys
+      (omega (arith, length-map s.lsas key_of, fits.room)) fits.scope (no_key (key_of x) s.lsas fits.new));
 }
 
 -- ---- the database
@@ -114,6 +121,7 @@ added_safe db i s x at fits h =
     record {
       heads = subst AreHeads (sym same_heads) h.heads;
       sections =
-          subst (All IsSection) (sym w.after) (all_mid IsSection w.low w.high s (with_lsa x s) (section_added db s x fits) (subst (All IsSection) w.before h.sections));
+          subst (All IsSection) (sym w.after)
+          (all_mid IsSection w.low w.high s (with_lsa x s) (section_added db s x fits) (subst (All IsSection) w.before h.sections));
       small = omega (arith, old_size, new_size, one_size s.lsas x, fits.small);
     }

@@ -1,83 +1,23 @@
 -- The areas: what is read is spelled so, and what is spelled so is read.
-use Rattle.std.proofs.Common.{◌≡◌, ℕ, zero, suc, ◌+◌, ◌^◌, ◌<◌, ◌≤◌, Bool, true, false, cond, ltb, eqb, ◌&&◌, List, [], ◌∷◌, ◌++◌, length, get_or, Option, Some, None, Result, Ok, Err, refl, sym, ap, subst, ◌∙◌, append_assoc, arith, inl, inr}
+use Rattle.std.proofs.Common.{◌≡◌, ℕ, zero, suc, ◌+◌, ◌^◌, ◌<◌, ◌≤◌, Bool, true, false, List, [], ◌∷◌, ◌++◌, length, get_or}
+use Rattle.std.proofs.Common.{Option, Some, None, Result, Ok, refl, sym, ap, subst, ◌∙◌, append_assoc, arith}
 use Rattle.std.specs.Prelude.{All, AllPairs}
 use Rattle.std.specs.List.{flat_map}
 use Rattle.std.specs.Int.{w8, w16, w32, to_be_bytes}
-use Rattle.std.proofs.lemmas.Bool.{ltb-false, ltb-true, lt-ltb, eq-eqb, ne_eqb, cases_eq, false≢true}
+use Rattle.std.proofs.lemmas.Bool.{ltb-true, lt-ltb}
 use Rattle.std.proofs.lemmas.List.{append-nil, length-append, map_push}
 use Rattle.std.proofs.lemmas.List.Concat.{flat_map-cons}
 use Rattle.std.proofs.lemmas.List.Elements.{All-head, All-tail, All-push}
 use Rattle.std.proofs.lemmas.List.Quantifiers.{all_pairs_push}
 use Rattle.lsdb.specs.declared.fault.DumpFault.{DumpFault}
-use Rattle.lsdb.specs.declared.fault.DumpFaultKind.TheVariants.{AreaOrder, BadAreaKind, BackboneStub}
 use Rattle.lsdb.specs.Lists.{AreaHead, SectionLsas, Lists, IsSection, IsBefore, HasWideId, IsOrdinaryBackbone, heads_of}
 use Rattle.lsdb.specs.Text.{kind_number, head_text, section_text}
-use Rattle.lsdb.specs.Loading.{◌>>=◌, At, number_at, is_above, section_at, id_at, kind_at, area_at, areas_from}
+use Rattle.lsdb.specs.Loading.{◌>>=◌, At, is_above, section_at, id_at, kind_at, area_at, areas_from}
 use Rattle.lsdb.proofs.Middle.{pairs_head, pairs_tail}
 use Rattle.lsdb.proofs.Dominated.{section_with}
-use Rattle.lsdb.proofs.Fields.{IsBytes, bind_ok, guard_ok, passed_ok, ok_is, done, told, Takes, Takes-then, wide8, wide32, number_takes, number_again, here}
+use Rattle.lsdb.proofs.Fields.{IsBytes, bind_ok, ok_is, done, Takes, Takes-then, here}
+use Rattle.lsdb.proofs.HeadText.{id_takes, id_again, kind_takes, kind_again}
 use Rattle.lsdb.proofs.SectionText.{lsas_text, section_takes, section_again}
-
--- ---- the ID
-
-id_takes : (before : Option AreaHead) (at : At) (id : ℕ) (after : At) → IsBytes at.rest → id_at before at ≡ Ok (id, after) → Takes at (to_be_bytes w32 id) after × (id < 2 ^ 32) × (is_above id before ≡ true)
-unfolding id_at
-id_takes before at id after fits e =
-    let a = bind_ok (number_at w32 at) (λ n. cond (is_above n.0 before) (Ok n) (Err (told at AreaOrder))) (id, after) e in
-    let b = passed_ok (is_above a.0.0 before) (told at AreaOrder) (Ok a.0) (id, after) a.2 in
-    let t = number_takes w32 (2 ^ 32) wide32 at a.0.0 a.0.1 fits a.1 in
-    subst (λ (p : ℕ × At). Takes at (to_be_bytes w32 p.0) p.1 × (p.0 < 2 ^ 32) × (is_above p.0 before ≡ true)) (ok_is a.0 (id, after) b.1) (t.0, t.1, b.0)
-
-id_again : (before : Option AreaHead) (id o : ℕ) (rest : List ℕ) → id < 2 ^ 32 → is_above id before ≡ true → id_at before (here o (to_be_bytes w32 id ++ rest)) ≡ Ok (id, here (o + 4) rest)
-unfolding id_at
-id_again before id o rest small above = rw (number_again w32 (2 ^ 32) wide32 id o rest small, above) refl
-
--- ---- the kind
-
-kind_number_is : (n : ℕ) → n ≤ 1 → n ≡ kind_number (eqb n 1)
-kind_number_is n le = elim (cases_eq n 1) [ inl e ↦ rw e refl | inr ne ↦ let z : n ≡ 0 = omega arith in rw z refl ]
-
-not_both : (x y : Bool) → (x && y) ≡ false → x ≡ true → y ≡ false
-not_both true y e t = e
-not_both false y e t = absurd cc
-
--- what is made of the number of a kind
-abbrev kind_from : ℕ → At → ℕ × At → Result (Bool × At) DumpFault
-kind_from id at kind = cond (ltb 1 kind.0) (Err (told at BadAreaKind)) (cond (eqb id 0 && eqb kind.0 1) (Err (told at BackboneStub)) (Ok (eqb kind.0 1, kind.1)))
-
-kind_takes : (id : ℕ) (at : At) (is_stub : Bool) (after : At) → IsBytes at.rest → kind_at id at ≡ Ok (is_stub, after) → Takes at (to_be_bytes w8 (kind_number is_stub)) after × (id ≡ 0 → is_stub ≡ false)
-unfolding kind_at
-kind_takes id at is_stub after fits e =
-    let a = bind_ok (number_at w8 at) (kind_from id at) (is_stub, after) e in
-    let n : ℕ = a.0.0 in
-    let b = guard_ok (ltb 1 n) (told at BadAreaKind) _ (is_stub, after) a.2 in
-    let c = guard_ok (eqb id 0 && eqb n 1) (told at BackboneStub) (Ok (eqb n 1, a.0.1)) (is_stub, after) b.1 in
-    let t = number_takes w8 (2 ^ 8) wide8 at n a.0.1 fits a.1 in
-    let number : n ≡ kind_number (eqb n 1) = kind_number_is n (ltb-false _ _ b.0) in
-    let backbone : id ≡ 0 → eqb n 1 ≡ false = λ zero. not_both (eqb id 0) (eqb n 1) c.0 (eq-eqb _ _ zero) in
-    let taken : Takes at (to_be_bytes w8 (kind_number (eqb n 1))) a.0.1 = subst (λ (k : ℕ). Takes at (to_be_bytes w8 k) a.0.1) number t.0 in
-    subst (λ (p : Bool × At). Takes at (to_be_bytes w8 (kind_number p.0)) p.1 × (id ≡ 0 → p.0 ≡ false)) (ok_is (eqb n 1, a.0.1) (is_stub, after) c.1) (taken, backbone)
-
-kind_number_small : (b : Bool) → kind_number b < 2 ^ 8
-kind_number_small true = omega arith
-kind_number_small false = omega arith
-
-and_false : (x : Bool) → (x && false) ≡ false
-and_false true = refl
-and_false false = refl
-
-kind_from_is : (id : ℕ) (at after : At) (is_stub : Bool) → (id ≡ 0 → is_stub ≡ false) → kind_from id at (kind_number is_stub, after) ≡ Ok (is_stub, after)
-kind_from_is id at after true backbone =
-    let nonzero : eqb id 0 ≡ false = ne_eqb _ _ (λ zero. false≢true (sym (backbone zero))) in
-    rw nonzero refl
-kind_from_is id at after false backbone = rw (and_false (eqb id 0)) refl
-
-kind_again : (id : ℕ) (is_stub : Bool) (o : ℕ) (rest : List ℕ) → (id ≡ 0 → is_stub ≡ false) → kind_at id (here o (to_be_bytes w8 (kind_number is_stub) ++ rest)) ≡ Ok (is_stub, here (o + 1) rest)
-unfolding kind_at
-kind_again id is_stub o rest backbone =
-    let at : At = here o (to_be_bytes w8 (kind_number is_stub) ++ rest) in
-    ap (λ (r : Result (ℕ × At) DumpFault). r >>= kind_from id at) (number_again w8 (2 ^ 8) wide8 (kind_number is_stub) o rest (kind_number_small is_stub))
-    ∙ kind_from_is id at (here (o + 1) rest) is_stub backbone
 
 -- ---- an area
 
@@ -96,7 +36,8 @@ record TakesArea (before : Option AreaHead) (at : At) (area : SectionLsas) (afte
   pub backbone : head.id ≡ 0 → head.is_stub ≡ false
   pub above : is_above head.id before ≡ true
 
-area_takes : (before : Option AreaHead) (at : At) (area : SectionLsas) (after : At) → IsBytes at.rest → area_at before at ≡ Ok (area, after) → TakesArea before at area after
+area_takes : (before : Option AreaHead) (at : At) (area : SectionLsas) (after : At) → IsBytes at.rest
+    → area_at before at ≡ Ok (area, after) → TakesArea before at area after
 unfolding area_at
 area_takes before at area after fits e =
     let a = bind_ok (id_at before at) (λ id. kind_at id.0 id.1 >>= λ kind. section_at (Some (head_with id.0 kind.0)) kind.1) (area, after) e in
@@ -104,19 +45,22 @@ area_takes before at area after fits e =
     let id = id_takes before at a.0.0 a.0.1 fits a.1 in
     let kind = kind_takes a.0.0 a.0.1 b.0.0 b.0.1 id.0.rest_fits b.1 in
     let section = section_takes (Some (head_with a.0.0 b.0.0)) b.0.1 area after kind.0.rest_fits b.2 in
-    let front : Takes at (head_text (Some (head_with a.0.0 b.0.0))) b.0.1 = Takes-then at (to_be_bytes w32 a.0.0) a.0.1 (to_be_bytes w8 (kind_number b.0.0)) b.0.1 id.0 kind.0 in
+    let front : Takes at (head_text (Some (head_with a.0.0 b.0.0))) b.0.1 =
+    Takes-then at (to_be_bytes w32 a.0.0) a.0.1 (to_be_bytes w8 (kind_number b.0.0)) b.0.1 id.0 kind.0 in
     let named : Takes at (head_text area.area) b.0.1 = subst (λ (h : Option AreaHead). Takes at (head_text h) b.0.1) section.head front in
     record {
       head = head_with a.0.0 b.0.0;
       has = section.head;
-      takes = subst (λ (t : List ℕ). Takes at t after) (sym (section_text-split area)) (Takes-then at (head_text area.area) b.0.1 (lsas_text area.lsas) after named section.takes);
+      takes = subst (λ (t : List ℕ). Takes at t after) (sym (section_text-split area))
+          (Takes-then at (head_text area.area) b.0.1 (lsas_text area.lsas) after named section.takes);
       good = section.good;
       wide = id.1;
       backbone = kind.1;
       above = id.2;
     }
 
-area_again : (before : Option AreaHead) (head : AreaHead) (lsas : List (List ℕ)) (o : ℕ) (rest : List ℕ) → IsSection (section_with (Some head) lsas) → head.id < 2 ^ 32 → (head.id ≡ 0 → head.is_stub ≡ false) → is_above head.id before ≡ true
+area_again : (before : Option AreaHead) (head : AreaHead) (lsas : List (List ℕ)) (o : ℕ) (rest : List ℕ)
+    → IsSection (section_with (Some head) lsas) → head.id < 2 ^ 32 → (head.id ≡ 0 → head.is_stub ≡ false) → is_above head.id before ≡ true
     → let area = section_with (Some head) lsas in area_at before (here o (section_text area ++ rest)) ≡ Ok (area, here (o + length (section_text area)) rest)
 unfolding area_at
 area_again before head lsas o rest good wide backbone above =
@@ -126,10 +70,13 @@ area_again before head lsas o rest good wide backbone above =
     let whole = section_text-split area in
     let regrouped : section_text area ++ rest ≡ id ++ (kind ++ (lsas_text lsas ++ rest)) =
     ap (λ (t : List ℕ). t ++ rest) whole ∙ append_assoc (id ++ kind) (lsas_text lsas) rest ∙ append_assoc id kind (lsas_text lsas ++ rest) in
-    let place : o + 4 + 1 + length (lsas_text lsas) ≡ o + length (section_text area) = omega (arith, ap length whole, length-append (id ++ kind) (lsas_text lsas), length-append id kind) in
+    let place : o + 4 + 1 + length (lsas_text lsas) ≡ o + length (section_text area) =
+    omega (arith, ap length whole, length-append (id ++ kind) (lsas_text lsas), length-append id kind) in
     ap (λ (bytes : List ℕ). area_at before (here o bytes)) regrouped
-    ∙ ap (λ (r : Result (ℕ × At) DumpFault). r >>= λ id. kind_at id.0 id.1 >>= λ kind. section_at (Some (head_with id.0 kind.0)) kind.1) (id_again before head.id o (kind ++ (lsas_text lsas ++ rest)) wide above)
-    ∙ ap (λ (r : Result (Bool × At) DumpFault). r >>= λ kind. section_at (Some (head_with head.id kind.0)) kind.1) (kind_again head.id head.is_stub (o + 4) (lsas_text lsas ++ rest) backbone)
+    ∙ ap (λ (r : Result (ℕ × At) DumpFault). r >>= λ id. kind_at id.0 id.1 >>= λ kind. section_at (Some (head_with id.0 kind.0)) kind.1)
+    (id_again before head.id o (kind ++ (lsas_text lsas ++ rest)) wide above)
+    ∙ ap (λ (r : Result (Bool × At) DumpFault). r >>= λ kind. section_at (Some (head_with head.id kind.0)) kind.1)
+    (kind_again head.id head.is_stub (o + 4) (lsas_text lsas ++ rest) backbone)
     ∙ section_again (Some head) lsas (o + 4 + 1) rest good
     ∙ ap (λ (k : ℕ). done (area, here k rest)) place
 
@@ -150,7 +97,14 @@ pub record AreAreas (areas : Lists) (before : Option AreaHead) : Type 0 where
   pub below : All (λ h. IsUpTo h before) (heads_of areas)
 
 pub no_areas : AreAreas [] None
-no_areas = record { sections = λ k d lt. absurd (omega arith); ids = λ k d lt. absurd (omega arith); backbone = λ k d lt. absurd (omega arith); order = λ i j d lt up. absurd (omega arith); below = λ k d lt. absurd (omega arith) }
+no_areas = record {
+  sections = λ k d lt. absurd (omega arith);
+  ids = λ k d lt. absurd (omega arith);
+  backbone =
+      λ k d lt. absurd (omega arith);
+  order = λ i j d lt up. absurd (omega arith);
+  below = λ k d lt. absurd (omega arith);
+}
 
 -- an ID above the last one is above all
 passes : (h before : Option AreaHead) (a : AreaHead) → IsUpTo h before → is_above a.id before ≡ true → IsBefore h (Some a)
@@ -163,16 +117,21 @@ stays_below (Some x) (Some b) a le above = let lt : b.id < a.id = ltb-true _ _ a
 stays_below (Some x) None a le above = absurd le
 stays_below None before a le above = absurd le
 
-areas_push : (seen : Lists) (before : Option AreaHead) (area : SectionLsas) (head : AreaHead) → AreAreas seen before → Some head ≡ area.area → IsSection area → head.id < 2 ^ 32 → (head.id ≡ 0 → head.is_stub ≡ false) → is_above head.id before ≡ true → AreAreas (seen ++ area ∷ []) area.area
+areas_push : (seen : Lists) (before : Option AreaHead) (area : SectionLsas) (head : AreaHead) → AreAreas seen before
+    → Some head ≡ area.area → IsSection area → head.id < 2 ^ 32 → (head.id ≡ 0 → head.is_stub ≡ false)
+    → is_above head.id before ≡ true → AreAreas (seen ++ area ∷ []) area.area
 areas_push seen before area head old has good wide backbone above =
-    let heads : heads_of (seen ++ area ∷ []) ≡ heads_of seen ++ Some head ∷ [] = map_push (λ (s : SectionLsas). s.area) seen area ∙ ap (λ (h : Option AreaHead). heads_of seen ++ h ∷ []) (sym has) in
+    let heads : heads_of (seen ++ area ∷ []) ≡ heads_of seen ++ Some head ∷ [] = map_push (λ (s : SectionLsas). s.area) seen area
+    ∙ ap (λ (h : Option AreaHead). heads_of seen ++ h ∷ []) (sym has) in
     let up : All (λ h. IsUpTo h (Some head)) (heads_of seen) = λ k d lt. stays_below (get_or (heads_of seen) k d) before head (old.below k d lt) above in
-    let highest : All (λ h. IsUpTo h (Some head)) (heads_of (seen ++ area ∷ [])) = subst (All (λ h. IsUpTo h (Some head))) (sym heads) (All-push (λ h. IsUpTo h (Some head)) (heads_of seen) (Some head) up (omega arith)) in
+    let highest : All (λ h. IsUpTo h (Some head)) (heads_of (seen ++ area ∷ [])) = subst (All (λ h. IsUpTo h (Some head)))
+    (sym heads) (All-push (λ h. IsUpTo h (Some head)) (heads_of seen) (Some head) up (omega arith)) in
     record {
       sections = All-push IsSection seen area old.sections good;
       ids = subst (All HasWideId) (sym heads) (All-push HasWideId (heads_of seen) (Some head) old.ids wide);
       backbone = subst (All IsOrdinaryBackbone) (sym heads) (All-push IsOrdinaryBackbone (heads_of seen) (Some head) old.backbone backbone);
-      order = subst (AllPairs IsBefore) (sym heads) (all_pairs_push IsBefore (heads_of seen) (Some head) old.order (λ k d lt. passes (get_or (heads_of seen) k d) before head (old.below k d lt) above));
+      order = subst (AllPairs IsBefore) (sym heads)
+          (all_pairs_push IsBefore (heads_of seen) (Some head) old.order (λ k d lt. passes (get_or (heads_of seen) k d) before head (old.below k d lt) above));
       below = subst (λ (b : Option AreaHead). All (λ h. IsUpTo h b) (heads_of (seen ++ area ∷ []))) has highest;
     }
 
@@ -184,7 +143,8 @@ pub record TakesAreas (n : ℕ) (seen : Lists) (at : At) (all : Lists) (after : 
   pub last : Option AreaHead
   pub good : AreAreas all last
 
-pub areas_take : (n : ℕ) (before : Option AreaHead) (seen : Lists) (at : At) (all : Lists) (after : At) → IsBytes at.rest → AreAreas seen before → areas_from n before seen at ≡ Ok (all, after) → TakesAreas n seen at all after
+pub areas_take : (n : ℕ) (before : Option AreaHead) (seen : Lists) (at : At) (all : Lists) (after : At) → IsBytes at.rest
+    → AreAreas seen before → areas_from n before seen at ≡ Ok (all, after) → TakesAreas n seen at all after
 unfolding areas_from
 areas_take zero before seen at all after fits old e =
     subst (λ (p : Lists × At). TakesAreas 0 seen at p.0 p.1) (ok_is (seen, at) (all, after) e)
@@ -231,9 +191,11 @@ is_after before (Some b) a x y = y
 abbrev pub AfterAreas : Type 0
 AfterAreas = Result (Lists × At) DumpFault
 
-next_area : (before : Option AreaHead) (area : SectionLsas) (areas : Lists) (o : ℕ) (rest : List ℕ) → AreNext before (area ∷ areas) → area_at before (here o (section_text area ++ rest)) ≡ Ok (area, here (o + length (section_text area)) rest) × AreNext area.area areas
+next_area : (before : Option AreaHead) (area : SectionLsas) (areas : Lists) (o : ℕ) (rest : List ℕ) → AreNext before (area ∷ areas)
+    → area_at before (here o (section_text area ++ rest)) ≡ Ok (area, here (o + length (section_text area)) rest) × AreNext area.area areas
 next_area before area areas o rest good = by_head area.area refl where
-  by_head : (h : Option AreaHead) → area.area ≡ h → area_at before (here o (section_text area ++ rest)) ≡ Ok (area, here (o + length (section_text area)) rest) × AreNext area.area areas
+  by_head : (h : Option AreaHead) → area.area ≡ h → area_at before (here o (section_text area ++ rest)) ≡ Ok
+      (area, here (o + length (section_text area)) rest) × AreNext area.area areas
   by_head None is = absurd (subst (IsAfter before) is (All-head (IsAfter before) area.area (heads_of areas) good.after))
   by_head (Some a) is =
       let heads = heads_of areas in
@@ -244,17 +206,21 @@ next_area before area areas o rest good = by_head area.area refl where
       let backbone : a.id ≡ 0 → a.is_stub ≡ false = subst IsOrdinaryBackbone is (All-head IsOrdinaryBackbone area.area heads good.backbone) in
       let later : All (IsBefore (Some a)) heads = subst (λ (h : Option AreaHead). All (IsBefore h) heads) is (pairs_head IsBefore area.area heads good.order) in
       let follows : All (IsAfter before) heads = All-tail (IsAfter before) area.area heads good.after in (
-        subst (λ (s : SectionLsas). area_at before (here o (section_text s ++ rest)) ≡ Ok (s, here (o + length (section_text s)) rest)) same (area_again before a area.lsas o rest first wide backbone above),
+        subst (λ (s : SectionLsas). area_at before (here o (section_text s ++ rest)) ≡ Ok (s, here (o + length (section_text s)) rest)) same
+            (area_again before a area.lsas o rest first wide backbone above),
         record {
           sections = All-tail IsSection area areas good.sections;
           ids = All-tail HasWideId area.area heads good.ids;
           backbone = All-tail IsOrdinaryBackbone area.area heads good.backbone;
           order = pairs_tail IsBefore area.area heads good.order;
-          after = subst (λ (b : Option AreaHead). All (IsAfter b) heads) (sym is) (λ k d lt. is_after before (get_or heads k d) a (follows k d lt) (later k d lt));
+          after = subst (λ (b : Option AreaHead). All (IsAfter b) heads) (sym is)
+              (λ k d lt. is_after before (get_or heads k d) a (follows k d lt) (later k d lt));
         },
       )
 
-pub areas_again : (areas : Lists) (before : Option AreaHead) (seen : Lists) (o : ℕ) (rest : List ℕ) → AreNext before areas → areas_from (length areas) before seen (here o (flat_map section_text areas ++ rest)) ≡ Ok (seen ++ areas, here (o + length (flat_map section_text areas)) rest)
+pub areas_again : (areas : Lists) (before : Option AreaHead) (seen : Lists) (o : ℕ) (rest : List ℕ) → AreNext before areas
+    → areas_from (length areas) before seen (here o (flat_map section_text areas ++ rest)) ≡ Ok
+    (seen ++ areas, here (o + length (flat_map section_text areas)) rest)
 unfolding areas_from
 areas_again [] before seen o rest good =
     let same : seen ≡ seen ++ [] = sym (append-nil seen) in
@@ -263,11 +229,13 @@ areas_again [] before seen o rest good =
 areas_again (area ∷ areas) before seen o rest good =
     let others_text : List ℕ = flat_map section_text areas in
     let text : flat_map section_text (area ∷ areas) ≡ section_text area ++ others_text = flat_map-cons section_text area areas in
-    let regrouped : flat_map section_text (area ∷ areas) ++ rest ≡ section_text area ++ (others_text ++ rest) = ap (λ (x : List ℕ). x ++ rest) text ∙ append_assoc (section_text area) others_text rest in
+    let regrouped : flat_map section_text (area ∷ areas) ++ rest ≡ section_text area ++ (others_text ++ rest) =
+    ap (λ (x : List ℕ). x ++ rest) text ∙ append_assoc (section_text area) others_text rest in
     let moved : (seen ++ area ∷ []) ++ areas ≡ seen ++ area ∷ areas = append_assoc seen (area ∷ []) areas in
     let first = next_area before area areas o (others_text ++ rest) good in
     let others = areas_again areas area.area (seen ++ area ∷ []) (o + length (section_text area)) rest first.1 in
-    let place : o + length (section_text area) + length others_text ≡ o + length (flat_map section_text (area ∷ areas)) = omega (arith, ap length text, length-append (section_text area) others_text) in
+    let place : o + length (section_text area) + length others_text ≡ o + length (flat_map section_text (area ∷ areas)) =
+    omega (arith, ap length text, length-append (section_text area) others_text) in
     ap (λ (bytes : List ℕ). areas_from (suc (length areas)) before seen (here o bytes)) regrouped
     ∙ ap (λ (r : Result (SectionLsas × At) DumpFault). r >>= λ x. areas_from (length areas) x.0.area (seen ++ x.0 ∷ []) x.1) first.0
     ∙ others

@@ -34,7 +34,13 @@ around (None ∷ ps) (suc i) old new h =
     record { front = rest.front; back = rest.back; before = rest.before; after = rest.after }
 around (Some x ∷ ps) (suc i) old new h =
     let rest = around ps i old new h in
-    record { front = x ∷ rest.front; back = rest.back; before = ap (λ (xs : List (List ℕ)). x ∷ xs) rest.before; after = ap (λ (xs : List (List ℕ)). x ∷ xs) rest.after }
+    record {
+      front = x ∷ rest.front;
+      back = rest.back;
+      before = ap (λ (xs : List (List ℕ)). x ∷ xs) rest.before;
+      after =
+          ap (λ (xs : List (List ℕ)). x ∷ xs) rest.after;
+    }
 
 abbrev pub section_with : Option AreaHead → List (List ℕ) → SectionLsas
 section_with area lsas = record { area = area; lsas = lsas }
@@ -57,7 +63,8 @@ written v i s = record { area = s.area; places = put_place v s.places i }
 abbrev is_some : SectionLsas → Option SectionLsas
 is_some s = Some s
 
-between_at : (d : Places) (section i : ℕ) (old new : Place) → place_in (item_at d section) i ≡ Some old → Between d (record { section = section; index = i }) old new
+between_at : (d : Places) (section i : ℕ) (old new : Place) → place_in (item_at d section) i ≡ Some old
+    → Between d (record { section = section; index = i }) old new
 between_at [] section i old new h = absurd cc
 between_at (s ∷ ss) zero i old new h =
     let a = around s.places i old new h in
@@ -115,7 +122,8 @@ section_emptied : (area : Option AreaHead) (front back : List (List ℕ)) (x : L
 section_emptied area front back x s = record {
   accepted = all_without IsAccepted front back x s.accepted;
   keys =
-      subst (AreKeys area) (sym (map_two key_of front back)) (keys_removed area (map key_of front) (map key_of back) (key_of x) (subst (AreKeys area) (map_mid key_of front back x) s.keys));
+      subst (AreKeys area) (sym (map_two key_of front back))
+      (keys_removed area (map key_of front) (map key_of back) (key_of x) (subst (AreKeys area) (map_mid key_of front back x) s.keys));
 }
 
 section_safe : (area : Option AreaHead) (front back : List (List ℕ)) (old new : Place) → IsPutSafe old new

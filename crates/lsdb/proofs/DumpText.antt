@@ -1,51 +1,29 @@
 -- The whole dump: what is loaded is spelled so, and what is spelled so is loaded.
-use Rattle.std.proofs.Common.{◌≡◌, ℕ, ◌+◌, ◌^◌, ◌≤◌, Bool, true, false, cond, ltb, eqb, List, [], ◌∷◌, ◌++◌, length, Option, Some, None, Result, Ok, Err, refl, sym, ap, subst, ◌∙◌, append_assoc, arith}
+use Rattle.std.proofs.Common.{◌≡◌, ℕ, ◌+◌, ◌^◌, ◌≤◌, Bool, true, false, cond, ltb, eqb, List, [], ◌∷◌, ◌++◌, length, Option, Some, None, Result, Ok}
+use Rattle.std.proofs.Common.{Err, refl, sym, ap, subst, ◌∙◌, append_assoc, arith}
 use Rattle.std.specs.Prelude.{All, AllPairs}
-use Rattle.std.specs.List.{flat_map, concat, list_any, sum_by}
-use Rattle.std.specs.Int.{w8, w16, w32, to_be_bytes}
+use Rattle.std.specs.List.{flat_map, list_any}
+use Rattle.std.specs.Int.{w8, w32, to_be_bytes}
 use Rattle.std.proofs.lemmas.Bool.{ltb-false, le-ltb, eqb-true}
 use Rattle.std.proofs.lemmas.List.{append-nil, nil_from_length, length-append, length-map, map_push}
 use Rattle.std.proofs.lemmas.List.Concat.{flat_map-append, flat_map-cons}
-use Rattle.std.proofs.lemmas.List.Sums.{sum_by-cons}
 use Rattle.std.proofs.lemmas.List.Elements.{All-push}
 use Rattle.std.proofs.lemmas.List.Quantifiers.{all_pairs_push}
 use Rattle.lsdb.specs.declared.fault.DumpFault.{DumpFault}
 use Rattle.lsdb.specs.declared.fault.DumpFaultKind.TheVariants.{BadMagic, BadVersion, TrailingBytes, TooManyAreas, TooLarge}
 use Rattle.lsdb.specs.Limits.{longest_dump}
-use Rattle.lsdb.specs.Lists.{AreaHead, SectionLsas, Lists, IsSection, IsBefore, is_as_wide, HasWideId, IsOrdinaryBackbone, AreHeads, IsDatabase, heads_of, head_size, lsas_size, section_size, size}
+use Rattle.lsdb.specs.Lists.{AreaHead, SectionLsas, Lists, IsSection, IsBefore, is_as_wide, HasWideId, IsOrdinaryBackbone, AreHeads, IsDatabase}
+use Rattle.lsdb.specs.Lists.{heads_of, size}
 use Rattle.lsdb.specs.Text.{magic, version, head_text, section_text, area_count, text}
-use Rattle.lsdb.specs.Loading.{◌>>=◌, At, number_at, section_at, areas_from, magic_at, version_at, area_count_at, sections_at, ended, dump_at, loaded, beginning}
+use Rattle.lsdb.specs.Loading.{◌>>=◌, At, number_at, section_at, areas_from, magic_at, version_at, area_count_at, sections_at, ended, dump_at, loaded}
+use Rattle.lsdb.specs.Loading.{beginning}
 use Rattle.lsdb.proofs.Middle.{all_at_mid, all_front, pairs_without}
 use Rattle.lsdb.proofs.Dominated.{section_with}
-use Rattle.lsdb.proofs.Written.{opening}
 use Rattle.lsdb.proofs.Fields.{IsBytes, bind_ok, guard_ok, passed_ok, ok_is, done, told, Takes, Takes-then, wide8, wide32, number_takes, number_again, here}
 use Rattle.lsdb.proofs.SectionText.{lsas_text, section_takes, section_again}
 use Rattle.lsdb.proofs.AreaText.{section_text-split, IsUpTo, AreAreas, AreNext, no_areas, areas_take, areas_again}
 use Rattle.lsdb.proofs.LastSection.{split}
-
--- ---- how long the text is
-
-concat_size : (lsas : List (List ℕ)) → length (concat lsas) ≡ lsas_size lsas
-concat_size [] = refl
-concat_size (x ∷ xs) = omega (arith, length-append x (concat xs), sum_by-cons length x xs, concat_size xs)
-
-head_text_size : (area : Option AreaHead) → length (head_text area) + 2 ≡ head_size area
-head_text_size None = refl
-head_text_size (Some area) = refl
-
-section_text_size : (s : SectionLsas) → length (section_text s) ≡ section_size s
-section_text_size s =
-    let count : List ℕ = to_be_bytes w16 (length s.lsas) in
-    omega (arith, ap length (section_text-split s), length-append (head_text s.area) (lsas_text s.lsas), length-append count (concat s.lsas), head_text_size s.area, concat_size s.lsas)
-
-sections_size : (db : Lists) → length (flat_map section_text db) ≡ sum_by section_size db
-sections_size [] = refl
-sections_size (s ∷ ss) =
-    omega (arith, ap length (flat_map-cons section_text s ss), length-append (section_text s) (flat_map section_text ss), section_text_size s, sum_by-cons section_size s ss, sections_size ss)
-
-pub text_size : (db : Lists) → length (text db) ≡ size db
-unfolding text
-text_size db = omega (arith, length-append (opening (area_count db)) (flat_map section_text db), sections_size db)
+use Rattle.lsdb.proofs.TextSize.{text_size}
 
 -- ---- what is read
 
@@ -107,7 +85,8 @@ area_count-push areas s = omega (arith, length-append areas (s ∷ []))
 
 flat_map-push : (areas : Lists) (s : SectionLsas) → flat_map section_text (areas ++ s ∷ []) ≡ flat_map section_text areas ++ section_text s
 flat_map-push areas s =
-    flat_map-append section_text areas (s ∷ []) ∙ ap (λ (t : List ℕ). flat_map section_text areas ++ t) (flat_map-cons section_text s [] ∙ append-nil (section_text s))
+    flat_map-append section_text areas (s ∷ []) ∙ ap (λ (t : List ℕ). flat_map section_text areas ++ t)
+    (flat_map-cons section_text s [] ∙ append-nil (section_text s))
 
 wide_text : (s : SectionLsas) → None ≡ s.area → section_text s ≡ lsas_text s.lsas
 wide_text s e = section_text-split s ∙ ap (λ (h : Option AreaHead). head_text h ++ lsas_text s.lsas) (sym e)
@@ -144,7 +123,8 @@ sections_take at db after fits e =
     subst (λ (xs : Lists). Takes c.0.1 (flat_map section_text xs) d.0.1) (sym t2.all_is) t2.takes in
     let last : Takes d.0.1 (section_text wide) f.0.1 = subst (λ (t : List ℕ). Takes d.0.1 t f.0.1) (sym (wide_text wide t3.head)) t3.takes in
     let all : Takes c.0.1 (flat_map section_text (areas ++ wide ∷ [])) f.0.1 =
-    subst (λ (t : List ℕ). Takes c.0.1 t f.0.1) (sym (flat_map-push areas wide)) (Takes-then c.0.1 (flat_map section_text areas) d.0.1 (section_text wide) f.0.1 listed last) in
+    subst (λ (t : List ℕ). Takes c.0.1 t f.0.1) (sym (flat_map-push areas wide))
+    (Takes-then c.0.1 (flat_map section_text areas) d.0.1 (section_text wide) f.0.1 listed last) in
     let heads : heads_of (areas ++ wide ∷ []) ≡ heads_of areas ++ None ∷ [] =
     map_push (λ (s : SectionLsas). s.area) areas wide ∙ ap (λ (h : Option AreaHead). heads_of areas ++ h ∷ []) (sym t3.head) in
     subst (λ (p : Lists × At). TakesSections at p.0 p.1) (ok_is (areas ++ wide ∷ [], f.0.1) (db, after) f.2)
@@ -210,26 +190,30 @@ magic_again : (rest : List ℕ) → magic_at (here 0 (to_be_bytes w32 magic ++ r
 unfolding magic_at
 magic_again rest =
     let at : At = here 0 (to_be_bytes w32 magic ++ rest) in
-    ap (λ (r : Result (ℕ × At) DumpFault). r >>= λ n. cond (eqb n.0 magic) (Ok n.1) (Err (told at BadMagic))) (number_again w32 (2 ^ 32) wide32 magic 0 rest (omega arith))
+    ap (λ (r : Result (ℕ × At) DumpFault). r >>= λ n. cond (eqb n.0 magic) (Ok n.1) (Err (told at BadMagic)))
+    (number_again w32 (2 ^ 32) wide32 magic 0 rest (omega arith))
 
 version_again : (rest : List ℕ) → version_at (here 4 (to_be_bytes w8 version ++ rest)) ≡ Ok (here 5 rest)
 unfolding version_at
 version_again rest =
     let at : At = here 4 (to_be_bytes w8 version ++ rest) in
-    ap (λ (r : Result (ℕ × At) DumpFault). r >>= λ n. cond (eqb n.0 version) (Ok n.1) (Err (told at BadVersion))) (number_again w8 (2 ^ 8) wide8 version 4 rest (omega arith))
+    ap (λ (r : Result (ℕ × At) DumpFault). r >>= λ n. cond (eqb n.0 version) (Ok n.1) (Err (told at BadVersion)))
+    (number_again w8 (2 ^ 8) wide8 version 4 rest (omega arith))
 
 count_again : (n : ℕ) (rest : List ℕ) → n ≤ 64 → area_count_at (here 5 (to_be_bytes w8 n ++ rest)) ≡ Ok (n, here 6 rest)
 unfolding area_count_at
 count_again n rest few =
     let at : At = here 5 (to_be_bytes w8 n ++ rest) in
     let within : ltb 64 n ≡ false = le-ltb _ _ few in
-    ap (λ (r : Result (ℕ × At) DumpFault). r >>= λ n. cond (ltb 64 n.0) (Err (told at TooManyAreas)) (Ok n)) (number_again w8 (2 ^ 8) wide8 n 5 rest (omega arith))
+    ap (λ (r : Result (ℕ × At) DumpFault). r >>= λ n. cond (ltb 64 n.0) (Err (told at TooManyAreas)) (Ok n))
+    (number_again w8 (2 ^ 8) wide8 n 5 rest (omega arith))
     ∙ rw within refl
 
 sections_again : (areas : Lists) (lsas : List (List ℕ)) (rest : List ℕ) → AreNext None areas
     → length areas ≤ 64 → IsSection (section_with None lsas)
     → let db =
-    areas ++ section_with None lsas ∷ [] in sections_at (here 5 (sections_text db ++ rest)) ≡ Ok (db, here (6 + length (flat_map section_text areas) + length (lsas_text lsas)) rest)
+    areas ++ section_with None lsas ∷ [] in sections_at (here 5 (sections_text db ++ rest)) ≡ Ok
+    (db, here (6 + length (flat_map section_text areas) + length (lsas_text lsas)) rest)
 unfolding sections_at
 sections_again areas lsas rest next few good =
     let wide = section_with None lsas in
@@ -273,12 +257,14 @@ database_again db good =
       ids = all_front HasWideId (heads_of s.areas) (None ∷ []) (subst (All HasWideId) heads good.heads.ids);
       backbone = all_front IsOrdinaryBackbone (heads_of s.areas) (None ∷ []) (subst (All IsOrdinaryBackbone) heads good.heads.backbone);
       order =
-          subst (AllPairs IsBefore) (append-nil (heads_of s.areas)) (pairs_without IsBefore (heads_of s.areas) [] None (subst (AllPairs IsBefore) heads good.heads.order));
+          subst (AllPairs IsBefore) (append-nil (heads_of s.areas))
+          (pairs_without IsBefore (heads_of s.areas) [] None (subst (AllPairs IsBefore) heads good.heads.order));
       after = s.after;
     } in
     let few : length s.areas ≤ 64 =
     omega (arith, good.heads.few, ap length heads, length-append (heads_of s.areas) (None ∷ []), length-map s.areas (λ (x : SectionLsas). x.area)) in
-    subst (λ (d : Lists). dump_at (beginning (text d)) ≡ Ok d) (sym is) (dump_again s.areas s.wide.lsas next few (all_at_mid IsSection s.areas [] wide sections))
+    subst (λ (d : Lists). dump_at (beginning (text d)) ≡ Ok d) (sym is)
+    (dump_again s.areas s.wide.lsas next few (all_at_mid IsSection s.areas [] wide sections))
 
 pub loaded_again : (db : Lists) → IsDatabase db → loaded (text db) ≡ Ok db
 unfolding loaded

@@ -1,5 +1,6 @@
 -- The set of the keys that were read, beside the LSAs.
-use Rattle.std.proofs.Common.{◌≡◌, ℕ, Bool, true, false, List, [], ◌∷◌, ◌++◌, refl, sym, ap, ◌∙◌, arith, cond, not, ◌||◌, ◌&&◌, eqb, ltb, inl, inr, is_eq, Less, Greater}
+use Rattle.std.proofs.Common.{◌≡◌, ℕ, Bool, true, false, List, [], ◌∷◌, ◌++◌, refl, sym, ap, ◌∙◌, arith, cond, not, ◌||◌, ◌&&◌, eqb, ltb, inl, inr}
+use Rattle.std.proofs.Common.{is_eq, Less, Greater}
 use Rattle.std.proofs.lemmas.Bool.{cases_eq, eq-eqb, ne_eqb, le-ltb}
 use Rattle.std.specs.Ordering.{nat_cmp, ordering_then}
 use Rattle.std.specs.declared.cmp.Ordering.{Ordering}

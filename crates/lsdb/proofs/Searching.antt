@@ -1,5 +1,6 @@
 -- The first item that passes, looked for from the front.
-use Rattle.std.proofs.Common.{◌≡◌, ℕ, zero, suc, ◌<◌, ◌≤◌, Bool, true, false, List, [], ◌∷◌, length, drop, get_or, map, Option, Some, None, refl, sym, ap, ◌∙◌, subst, arith, rules, cond}
+use Rattle.std.proofs.Common.{◌≡◌, ℕ, zero, suc, ◌<◌, ◌≤◌, Bool, true, false, List, [], ◌∷◌, length, drop, get_or, map, Option, Some, None, refl, sym}
+use Rattle.std.proofs.Common.{ap, ◌∙◌, subst, arith, rules, cond}
 use Rattle.std.specs.Prelude.{IsSome}
 use Rattle.std.specs.List.{find}
 use Rattle.std.proofs.lemmas.List.{drop_all, length-map}
@@ -104,7 +105,8 @@ pub found_in : {A : Type 0}
     → (ss : List (SectionOf A)) (section index : ℕ) (s : SectionOf A) (places : List Place) (key : Key)
     → IsSome (item_at (lists_of (places_of ss)) section) → s ≡ get_or ss section s → places ≡ s.places.items
     → (item_at places index ≡ Some (find (has_key key) (full places))) × IsSome (find (has_key key) (full places))
-    → (place_in (item_at (places_of ss) section) index ≡ Some (find (has_key key) (lsas_in (places_of ss) section))) × IsSome (find (has_key key) (lsas_in (places_of ss) section))
+    → (place_in (item_at (places_of ss) section) index ≡ Some (find (has_key key) (lsas_in (places_of ss) section)))
+    × IsSome (find (has_key key) (lsas_in (places_of ss) section))
 found_in {A} [] section index s places key some h e found = absurd (search rules)
 found_in {A} (t ∷ ss) zero index s places key some h e found =
     let same : places ≡ t.places.items = e ∙ ap (λ (x : SectionOf A). x.places.items) h in

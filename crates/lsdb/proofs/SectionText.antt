@@ -1,5 +1,6 @@
 -- The LSAs of a section: what is read is spelled so, and what is spelled so is read.
-use Rattle.std.proofs.Common.{◌≡◌, ◌≢◌, ℕ, zero, suc, ◌+◌, ◌^◌, ◌<◌, ◌≤◌, Bool, true, false, cond, ltb, List, [], ◌∷◌, ◌++◌, length, map, Option, Result, Ok, Err, refl, sym, ap, subst, ◌∙◌, append_assoc, arith}
+use Rattle.std.proofs.Common.{◌≡◌, ◌≢◌, ℕ, zero, suc, ◌+◌, ◌^◌, ◌<◌, ◌≤◌, Bool, true, false, cond, ltb, List, [], ◌∷◌, ◌++◌, length, map, Option}
+use Rattle.std.proofs.Common.{Result, Ok, Err, refl, sym, ap, subst, ◌∙◌, append_assoc, arith}
 use Rattle.std.specs.Prelude.{All, AllPairs}
 use Rattle.std.specs.List.{concat, list_any}
 use Rattle.std.specs.Int.{w16, to_be_bytes}
@@ -21,12 +22,14 @@ use Rattle.lsdb.specs.Loading.{◌>>=◌, At, number_at, advanced, has_key_of, p
 use Rattle.lsdb.proofs.Middle.{all_at_mid, pairs_before, map_mid}
 use Rattle.lsdb.proofs.Dominated.{section_with}
 use Rattle.lsdb.proofs.Written.{limit_fits}
-use Rattle.lsdb.proofs.Fields.{IsBytes, IsBytes-drop, bind_ok, guard_ok, passed_ok, ok_is, done, told, Takes, Takes-then, wide16, number_takes, number_again, here}
+use Rattle.lsdb.proofs.Fields.{IsBytes, IsBytes-drop, bind_ok, guard_ok, passed_ok, ok_is, done, told, Takes, Takes-then, wide16, number_takes}
+use Rattle.lsdb.proofs.Fields.{number_again, here}
 
 -- ---- keys
 
 key_from : (k l i j a b : ℕ) → k ≡ l → i ≡ j → a ≡ b → let p : Key =
-    record { kind = k; id = record { 0 = i }; adv = record { 0 = a } } in let q : Key = record { kind = l; id = record { 0 = j }; adv = record { 0 = b } } in p ≡ q
+    record { kind = k; id = record { 0 = i }; adv = record { 0 = a } } in
+    let q : Key = record { kind = l; id = record { 0 = j }; adv = record { 0 = b } } in p ≡ q
 key_from k l i j a b e f g = rw (e, f, g) refl
 
 same_key_true : (a b : Key) → same_key a b ≡ true → a ≡ b
@@ -44,7 +47,8 @@ key_apart : (key : Key) (xs : List (List ℕ)) → list_any (has_key key) xs ≡
 key_apart key [] e = All-nil (λ k. k ≢ key)
 key_apart key (x ∷ xs) e =
     let p = or_parts _ _ e in
-    All-cons (λ k. k ≢ key) (key_of x) (map key_of xs) (λ same. let yes_it = same_key_from (key_of x) key same in let contrary : true ≡ false = sym yes_it ∙ p.0 in absurd cc) (key_apart key xs p.1)
+    All-cons (λ k. k ≢ key) (key_of x) (map key_of xs)
+    (λ same. let yes_it = same_key_from (key_of x) key same in let contrary : true ≡ false = sym yes_it ∙ p.0 in absurd cc) (key_apart key xs p.1)
 
 key_absent : (key : Key) (xs : List (List ℕ)) → All (λ k. k ≢ key) (map key_of xs) → list_any (has_key key) xs ≡ false
 key_absent key [] h = refl
@@ -70,9 +74,11 @@ lsas_push area seen lsa old accepted scope new =
     record {
       accepted = All-push IsAccepted seen lsa old.accepted accepted;
       scope =
-          subst (All (λ key. is_in_scope area key ≡ true)) (sym keys) (All-push (λ key. is_in_scope area key ≡ true) (map key_of seen) (key_of lsa) old.scope scope);
+          subst (All (λ key. is_in_scope area key ≡ true)) (sym keys)
+          (All-push (λ key. is_in_scope area key ≡ true) (map key_of seen) (key_of lsa) old.scope scope);
       distinct =
-          subst (AllPairs (λ a b. a ≢ b)) (sym keys) (all_pairs_push (λ a b. a ≢ b) (map key_of seen) (key_of lsa) old.distinct (key_apart (key_of lsa) seen new));
+          subst (AllPairs (λ a b. a ≢ b)) (sym keys)
+          (all_pairs_push (λ a b. a ≢ b) (map key_of seen) (key_of lsa) old.distinct (key_apart (key_of lsa) seen new));
     }
 
 -- an LSA behind others
@@ -88,9 +94,11 @@ middle area seen lsa rest all =
     record {
       accepted = all_at_mid IsAccepted seen rest lsa all.accepted;
       scope =
-          all_at_mid (λ key. is_in_scope area key ≡ true) (map key_of seen) (map key_of rest) (key_of lsa) (subst (All (λ key. is_in_scope area key ≡ true)) keys all.scope);
+          all_at_mid (λ key. is_in_scope area key ≡ true) (map key_of seen) (map key_of rest) (key_of lsa)
+          (subst (All (λ key. is_in_scope area key ≡ true)) keys all.scope);
       new =
-          key_absent (key_of lsa) seen (pairs_before (λ a b. a ≢ b) (map key_of seen) (map key_of rest) (key_of lsa) (subst (AllPairs (λ a b. a ≢ b)) keys all.distinct));
+          key_absent (key_of lsa) seen
+          (pairs_before (λ a b. a ≢ b) (map key_of seen) (map key_of rest) (key_of lsa) (subst (AllPairs (λ a b. a ≢ b)) keys all.distinct));
     }
 
 -- ---- one LSA
@@ -177,7 +185,8 @@ lsas_again area (lsa ∷ lsas) seen o rest good =
     let place : o + length lsa + length (concat lsas) ≡ o + length (concat (lsa ∷ lsas)) = omega (arith, length-append lsa (concat lsas)) in
     ap (λ (bytes : List ℕ). lsas_from area (suc (length lsas)) seen (here o bytes)) regrouped
     ∙ ap (λ (r : Result (List ℕ × At) DumpFault). r >>= next_lsas area (length lsas) seen at) first
-    ∙ ap (λ (b : Bool). cond b (Err (told at DuplicateLsa)) (lsas_from area (length lsas) (seen ++ lsa ∷ []) (here (o + length lsa) (concat lsas ++ rest)))) m.new
+    ∙ ap (λ (b : Bool). cond b (Err (told at DuplicateLsa))
+    (lsas_from area (length lsas) (seen ++ lsa ∷ []) (here (o + length lsa) (concat lsas ++ rest)))) m.new
     ∙ others
     ∙ ap (λ (x : List (List ℕ)). done (x, here (o + length lsa + length (concat lsas)) rest)) moved
     ∙ ap (λ (k : ℕ). done (seen ++ lsa ∷ lsas, here k rest)) place
@@ -238,7 +247,8 @@ section_again area lsas o rest good =
     append_assoc (to_be_bytes w16 (length lsas)) (concat lsas) rest in
     let few : length lsas ≤ limit_of area = omega (arith, good.keys.few, length-map lsas key_of) in
     let read : number_at w16 at ≡ Ok (length lsas, here (o + 2) (concat lsas ++ rest)) =
-    ap (λ (bytes : List ℕ). number_at w16 (here o bytes)) regrouped ∙ number_again w16 (2 ^ 16) wide16 (length lsas) o (concat lsas ++ rest) (omega (arith, limit_fits area)) in
+    ap (λ (bytes : List ℕ). number_at w16 (here o bytes)) regrouped
+    ∙ number_again w16 (2 ^ 16) wide16 (length lsas) o (concat lsas ++ rest) (omega (arith, limit_fits area)) in
     let within : ltb (limit_of area) (length lsas) ≡ false = le-ltb _ _ few in
     let others = lsas_again area lsas [] (o + 2) rest (record { accepted = good.accepted; scope = good.keys.scope; distinct = good.keys.distinct }) in
     let place : o + 2 + length (concat lsas) ≡ o + length (lsas_text lsas) = omega (arith, length-append (to_be_bytes w16 (length lsas)) (concat lsas)) in

@@ -1,5 +1,6 @@
 -- The text that is written section by section.
-use Rattle.std.proofs.Common.{◌≡◌, ℕ, zero, suc, ◌^◌, ◌<◌, ◌≤◌, List, [], ◌∷◌, ◌++◌, length, get_or, take, refl, sym, ap, ◌∙◌, append_assoc, arith, Option, Some, None}
+use Rattle.std.proofs.Common.{◌≡◌, ℕ, zero, suc, ◌^◌, ◌<◌, ◌≤◌, List, [], ◌∷◌, ◌++◌, length, get_or, take, refl, sym, ap, ◌∙◌, append_assoc, arith}
+use Rattle.std.proofs.Common.{Option, Some, None}
 use Rattle.std.specs.Prelude.{All}
 use Rattle.std.specs.Int.{w8, w32, to_be_bytes}
 use Rattle.std.specs.List.{flat_map}
@@ -53,7 +54,8 @@ section_next {A} ss i j s start old new lt step is pushed so_far =
     let piece = section_text (shown s) in
     let t = section_turn ss i (suc i) s lt refl is in
     let more : flat_map section_text (take j db) ≡ front ++ piece =
-    ap (λ k. flat_map section_text (take k db)) step ∙ ap (flat_map section_text) (take_next db i (shown s) t.here) ∙ flat_map-append section_text (take i db) (shown s ∷ [])
+    ap (λ k. flat_map section_text (take k db)) step ∙ ap (flat_map section_text) (take_next db i (shown s) t.here)
+    ∙ flat_map-append section_text (take i db) (shown s ∷ [])
     ∙ ap (λ (x : List ℕ). front ++ x) (flat_map-cons section_text (shown s) [] ∙ append-nil piece) in
     pushed ∙ ap (λ (x : List ℕ). x ++ piece) so_far ∙ append_assoc start front piece ∙ ap (λ (x : List ℕ). start ++ x) (sym more)
 

@@ -20,7 +20,8 @@ pub Grows-none : (P : ℕ → Hop → Type 0) (a : List (List Hop)) → ((i : �
 Grows-none P a none = record { sized = refl; kept = λ i h x. x; only = λ i h x. inl x; all = λ i h p. absurd (none i h p); sorted = λ s. s }
 
 -- one growth after another
-pub Grows-then : (P Q R : ℕ → Hop → Type 0) (a b c : List (List Hop)) → Grows P a b → Grows Q b c → ((i : ℕ) (h : Hop) → R i h → P i h ⊎ Q i h) → ((i : ℕ) (h : Hop) → P i h ⊎ Q i h → R i h) → Grows R a c
+pub Grows-then : (P Q R : ℕ → Hop → Type 0) (a b c : List (List Hop)) → Grows P a b → Grows Q b c
+    → ((i : ℕ) (h : Hop) → R i h → P i h ⊎ Q i h) → ((i : ℕ) (h : Hop) → P i h ⊎ Q i h → R i h) → Grows R a c
 Grows-then P Q R a b c one two parts whole = record {
   sized = two.sized ∙ one.sized;
   kept = λ i h x. two.kept i h (one.kept i h x);
@@ -30,7 +31,8 @@ Grows-then P Q R a b c one two parts whole = record {
 }
 
 -- the same growth, said in another way
-pub Grows-same : (P Q : ℕ → Hop → Type 0) (a b : List (List Hop)) → ((i : ℕ) (h : Hop) → P i h → Q i h) → ((i : ℕ) (h : Hop) → Q i h → P i h) → Grows P a b → Grows Q a b
+pub Grows-same : (P Q : ℕ → Hop → Type 0) (a b : List (List Hop)) → ((i : ℕ) (h : Hop) → P i h → Q i h)
+    → ((i : ℕ) (h : Hop) → Q i h → P i h) → Grows P a b → Grows Q a b
 Grows-same P Q a b there back g = record {
   sized = g.sized;
   kept = g.kept;
@@ -40,15 +42,19 @@ Grows-same P Q a b there back g = record {
 }
 
 -- hops joined to the list of one vertex
-module _ (table : List (List Hop)) (index : ℕ) (within : index < length table) (more new : List Hop) (is : new ≡ rising hop_cmp (hops_at table index ++ more)) where
+module _ (table : List (List Hop)) (index : ℕ) (within : index < length table) (more new : List Hop)
+    (is : new ≡ rising hop_cmp (hops_at table index ++ more)) where
   has : (h : Hop) → Contains new h → Contains (hops_at table index) h ⊎ Contains more h
-  has h there = Contains-append_cases (hops_at table index) more h ((Contains-rising_hops (hops_at table index ++ more) h).0 (subst (λ (xs : List Hop). Contains xs h) is there))
+  has h there = Contains-append_cases (hops_at table index) more h
+      ((Contains-rising_hops (hops_at table index ++ more) h).0 (subst (λ (xs : List Hop). Contains xs h) is there))
 
   from_old : (h : Hop) → Contains (hops_at table index) h → Contains new h
-  from_old h old = subst (λ (xs : List Hop). Contains xs h) (sym is) ((Contains-rising_hops (hops_at table index ++ more) h).1 (Contains-append_left (hops_at table index) more h old))
+  from_old h old = subst (λ (xs : List Hop). Contains xs h) (sym is)
+      ((Contains-rising_hops (hops_at table index ++ more) h).1 (Contains-append_left (hops_at table index) more h old))
 
   from_more : (h : Hop) → Contains more h → Contains new h
-  from_more h m = subst (λ (xs : List Hop). Contains xs h) (sym is) ((Contains-rising_hops (hops_at table index ++ more) h).1 (Contains-append_right (hops_at table index) more h m))
+  from_more h m = subst (λ (xs : List Hop). Contains xs h) (sym is)
+      ((Contains-rising_hops (hops_at table index ++ more) h).1 (Contains-append_right (hops_at table index) more h m))
 
   here : get_or (set table index new) index [] ≡ new
   here = get_or-set_same table index new [] within
@@ -66,7 +72,8 @@ module _ (table : List (List Hop)) (index : ℕ) (within : index < length table)
   all_sorted s k d lt =
       let size : length (set table index new) ≡ length table = length-set table index new in
       ⊎_elim
-      (λ same. subst (λ (xs : List Hop). IsSortedHops xs) (sym (ap (λ (n : ℕ). get_or (set table index new) n d) same ∙ get_or-set_same table index new d within)) new_sorted)
+      (λ same. subst (λ (xs : List Hop). IsSortedHops xs)
+      (sym (ap (λ (n : ℕ). get_or (set table index new) n d) same ∙ get_or-set_same table index new d within)) new_sorted)
       (λ other. subst (λ (xs : List Hop). IsSortedHops xs) (sym (get_or-set_other table index k new d other)) (s k d (omega arith)))
       (cases_eq k index)
 
@@ -109,12 +116,14 @@ abbrev pub IsPassedOver : Topology → Distances → List Hop → ℕ → List E
 IsPassedOver t tree hops from row i h = (o : Edge) × Contains row o × (i ≡ o.to) × IsPassed t tree hops (arc_of from o) h
 
 module _ (t : Topology) (tree : Distances) (hops : List Hop) (from : ℕ) (row : List Edge) (o : Edge) (i : ℕ) (h : Hop) where
-  pub IsPassedOver-push : IsPassedOver t tree hops from (row ++ o ∷ []) i h → IsPassedOver t tree hops from row i h ⊎ ((i ≡ o.to) × IsPassed t tree hops (arc_of from o) h)
+  pub IsPassedOver-push : IsPassedOver t tree hops from (row ++ o ∷ []) i h → IsPassedOver t tree hops from row i h
+      ⊎ ((i ≡ o.to) × IsPassed t tree hops (arc_of from o) h)
   IsPassedOver-push (x, there, at, passed) =
       ⊎_elim (λ old. inl (x, old, at, passed))
       (λ same. inr (subst (λ (y : Edge). (i ≡ y.to) × IsPassed t tree hops (arc_of from y) h) (sym same) (at, passed)))
       (Contains-push_cases row o x there)
 
-  pub IsPassedOver-pushed : IsPassedOver t tree hops from row i h ⊎ ((i ≡ o.to) × IsPassed t tree hops (arc_of from o) h) → IsPassedOver t tree hops from (row ++ o ∷ []) i h
+  pub IsPassedOver-pushed : IsPassedOver t tree hops from row i h ⊎ ((i ≡ o.to) × IsPassed t tree hops (arc_of from o) h)
+      → IsPassedOver t tree hops from (row ++ o ∷ []) i h
   IsPassedOver-pushed either =
       ⊎_elim (λ old. (old.0, Contains-append_left row (o ∷ []) old.0 old.1, old.2, old.3)) (λ new. (o, Contains-push row o, new.0, new.1)) either

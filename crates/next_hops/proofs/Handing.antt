@@ -1,5 +1,6 @@
 -- The invariant of the pass over the settled vertices.
-use Rattle.std.proofs.Common.{◌≡◌, ℕ, ◌+◌, ◌<◌, ◌≤◌, List, [], length, get_or, Option, None, Some, is_some, refl, sym, ap, ◌∙◌, subst, arith, ◌⊎◌, inl, inr, ⊎_elim}
+use Rattle.std.proofs.Common.{◌≡◌, ℕ, ◌+◌, ◌<◌, ◌≤◌, List, [], length, get_or, Option, None, Some, is_some, refl, sym, ap, ◌∙◌, subst, arith, ◌⊎◌, inl}
+use Rattle.std.proofs.Common.{inr, ⊎_elim}
 use Rattle.std.specs.List.{All, Contains, slice_get}
 use Rattle.std.specs.declared.cmp.Ordering.TheVariants.{Less}
 use Rattle.std.proofs.lemmas.Bool.{cases_eq, cases_lt}
@@ -26,7 +27,8 @@ use Rattle.next_hops.proofs.PathHops.{names, IsFirst, IsMeasured, IsPassedOn, Is
 pub record HandedOn (t : Topology) (tree : Distances) (n : ℕ) (table : List (List Hop)) : Type 0 where
   pub sized : length table ≡ length t.vertices
   pub sound : (w : ℕ) (h : Hop) → Contains (hops_at table w) h → IsFirst t tree w h
-  pub handed : (k : ℕ) → k < n → (e : DirectedEdge ℕ) (h : Hop) → IsArc t e → e.from ≡ get_or tree.order k 0 → IsPassed t tree (hops_at table e.from) e h → Contains (hops_at table e.to) h
+  pub handed : (k : ℕ) → k < n → (e : DirectedEdge ℕ) (h : Hop) → IsArc t e → e.from ≡ get_or tree.order k 0
+      → IsPassed t tree (hops_at table e.from) e h → Contains (hops_at table e.to) h
   pub sorted : All IsSortedHops table
 
 module _ (t : Topology) (shape : IsTopology t) (root : Vertex) (tree : Distances) (of : IsTreeOf t root tree) where
@@ -46,7 +48,8 @@ module _ (t : Topology) (shape : IsTopology t) (root : Vertex) (tree : Distances
       by_distance (Some d) least = ap (λ (n : ℕ). Some n) (let le : d ≤ 0 = least.1 [] refl in let k : d ≡ 0 = omega arith in k)
 
   -- the end of a tight edge doesn't stand before its start
-  later : (k p : ℕ) → p < length tree.order → k ≤ p → (e : DirectedEdge ℕ) → IsArc t e → IsTight tree.distances e → e.from ≡ get_or tree.order p 0 → e.to ≡ get_or tree.order k 0 → ⊥
+  later : (k p : ℕ) → p < length tree.order → k ≤ p → (e : DirectedEdge ℕ) → IsArc t e → IsTight tree.distances e
+      → e.from ≡ get_or tree.order p 0 → e.to ≡ get_or tree.order k 0 → ⊥
   later k p within le e arc tight from to =
       let d = tight.0 in
       let few : length t.vertices ≤ 8192 = shape.few in
@@ -56,7 +59,8 @@ module _ (t : Topology) (shape : IsTopology t) (root : Vertex) (tree : Distances
       ⊎_elim
       (λ same. itself (from ∙ ap (λ (n : ℕ). get_or tree.order n 0) (sym same) ∙ sym to) lt)
       (λ other. (let before : k < p = omega arith in
-      not_both_Less (candidate_at t d e.from) (candidate_at t (d + e.cost) e.to) (Less-from_key (candidate_at t d e.from) (candidate_at t (d + e.cost) e.to) (omega arith) (omega arith) lt)
+      not_both_Less (candidate_at t d e.from) (candidate_at t (d + e.cost) e.to)
+      (Less-from_key (candidate_at t d e.from) (candidate_at t (d + e.cost) e.to) (omega arith) (omega arith) lt)
       (subst (λ (n : ℕ). candidate_cmp (candidate_at t (d + e.cost) n) (candidate_at t d e.from) ≡ Less) (sym to)
       (subst (λ (n : ℕ). candidate_cmp (candidate_at t (d + e.cost) (get_or tree.order k 0)) (candidate_at t d n) ≡ Less) (sym from)
       (of.rising k p 0 before within (d + e.cost) d (subst (λ (n : ℕ). get_or tree.distances n None ≡ Some (d + e.cost)) to tight.2) (subst (λ (n : ℕ). get_or tree.distances n None ≡ Some d) from tight.1))))))
@@ -65,9 +69,11 @@ module _ (t : Topology) (shape : IsTopology t) (root : Vertex) (tree : Distances
       itself : e.from ≡ e.to → key_at t tight.0 e.from < key_at t (tight.0 + e.cost) e.to → ⊥
       itself same lt =
           let one : get_or tree.distances e.from None ≡ Some tight.0 = tight.1 in
-          let two : get_or tree.distances e.from None ≡ Some (tight.0 + e.cost) = subst (λ (n : ℕ). get_or tree.distances n None ≡ Some (tight.0 + e.cost)) (sym same) tight.2 in
+          let two : get_or tree.distances e.from None ≡ Some (tight.0 + e.cost) =
+          subst (λ (n : ℕ). get_or tree.distances n None ≡ Some (tight.0 + e.cost)) (sym same) tight.2 in
           let sum : tight.0 ≡ tight.0 + e.cost = cc in
-          let lt' : key_at t tight.0 e.from < key_at t tight.0 e.from = subst (λ (n : ℕ). key_at t tight.0 e.from < key_at t tight.0 n) (sym same) (subst (λ (n : ℕ). key_at t tight.0 e.from < key_at t n e.to) (sym sum) lt) in
+          let lt' : key_at t tight.0 e.from < key_at t tight.0 e.from = subst (λ (n : ℕ). key_at t tight.0 e.from < key_at t tight.0 n)
+          (sym same) (subst (λ (n : ℕ). key_at t tight.0 e.from < key_at t n e.to) (sym sum) lt) in
           omega arith
 
   module _ (p : ℕ) (old new : List (List Hop)) (within : p < length tree.order) (s : HandedOn t tree p old)
@@ -83,7 +89,8 @@ module _ (t : Topology) (shape : IsTopology t) (root : Vertex) (tree : Distances
     HandedOn-next = record {
       sized = grown.sized ∙ s.sized;
       sound = λ w h there. ⊎_elim (λ x. s.sound w h x)
-          (λ q. subst (λ (n : ℕ). IsFirst t tree n h) (sym q.2) (IsFirst-passed t shape tree measured old s.sound root_zero (arc_of (get_or tree.order p 0) q.0) h q.1 q.3))
+          (λ q. subst (λ (n : ℕ). IsFirst t tree n h) (sym q.2)
+          (IsFirst-passed t shape tree measured old s.sound root_zero (arc_of (get_or tree.order p 0) q.0) h q.1 q.3))
           (grown.only w h there);
       handed = λ k lt e h arc from passed.
           let le : k ≤ p = omega arith in
@@ -96,7 +103,8 @@ module _ (t : Topology) (shape : IsTopology t) (root : Vertex) (tree : Distances
       sorted = grown.sorted s.sorted;
     }
       where
-        now : (e : DirectedEdge ℕ) (h : Hop) → IsArc t e → e.from ≡ get_or tree.order p 0 → IsPassed t tree (hops_at old e.from) e h → Contains (hops_at new e.to) h
+        now : (e : DirectedEdge ℕ) (h : Hop) → IsArc t e → e.from ≡ get_or tree.order p 0
+            → IsPassed t tree (hops_at old e.from) e h → Contains (hops_at new e.to) h
         now e h arc from passed =
             let o : Edge = record { to = e.to; cost = e.cost; link_data = e.link_data } in
             grown.all e.to h (subst (λ (n : ℕ). IsPassedFrom t tree (hops_at old n) n e.to h) from (o, arc, refl, passed))
@@ -143,12 +151,19 @@ module _ (t : Topology) (shape : IsTopology t) (root : Vertex) (tree : Distances
     from_hop : (i : ℕ) (w : Vertex) → slice_get t.vertices i ≡ Some w → (h : Hop) → IsHopTo (IsEdge t) root w h → IsFirst t tree i h
     from_hop i w at h (es, path, low, first) =
         let down = path_down t shape tree.root i root w of.root_at at es path in
-        let cost : path_cost es ≡ path_cost down.0 = ap (λ (x : List (DirectedEdge Vertex)). path_cost x) down.2 ∙ path_cost-named t down.0 in
-        (down.0, down.1, by_distance (get_or tree.distances i None) refl (of.distance i w at) (path_cost down.0) cost, ap (λ (x : List (DirectedEdge Vertex)). first_hop x) (sym down.2) ∙ first)
+        let cost : path_cost es ≡ path_cost down.0 = ap (λ (x : List (DirectedEdge Vertex)). path_cost x) down.2 ∙ path_cost-named t down.0 in (
+          down.0,
+          down.1,
+          by_distance (get_or tree.distances i None) refl
+              (of.distance i w at) (path_cost down.0) cost,
+          ap (λ (x : List (DirectedEdge Vertex)). first_hop x) (sym down.2) ∙ first,
+        )
       where
-        by_distance : (o : Option ℕ) → get_or tree.distances i None ≡ o → IsDistance (IsEdge t) root w o → (c : ℕ) → path_cost es ≡ c → get_or tree.distances i None ≡ Some c
+        by_distance : (o : Option ℕ) → get_or tree.distances i None ≡ o → IsDistance (IsEdge t) root w o
+            → (c : ℕ) → path_cost es ≡ c → get_or tree.distances i None ≡ Some c
         by_distance None is none c cost = absurd (none es path)
-        by_distance (Some d) is dist c cost = is ∙ ap (λ (n : ℕ). Some n) (IsLeastCost-same (IsEdge t) root w d (path_cost es) dist ((es, path, refl), low) ∙ cost)
+        by_distance (Some d) is dist c cost = is ∙ ap (λ (n : ℕ). Some n)
+            (IsLeastCost-same (IsEdge t) root w d (path_cost es) dist ((es, path, refl), low) ∙ cost)
 
     -- the table has the hops of the definition
     pub AreHopsOf-handed : AreHopsOf t root table

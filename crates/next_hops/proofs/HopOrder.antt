@@ -34,6 +34,8 @@ same_parts _ _ k i a = absurd (omega arith)
 -- hops of which neither comes before the other are one
 pub same_hop : (g h : Hop) → hop_cmp g h ≡ Equal → g ≡ h
 same_hop g h e =
-    let kind = equal_parts (nat_cmp (kind_of g) (kind_of h)) (ordering_then (nat_cmp (interface_of g) (interface_of h)) (nat_cmp (gateway_of g) (gateway_of h))) e in
+    let kind = equal_parts (nat_cmp (kind_of g) (kind_of h))
+    (ordering_then (nat_cmp (interface_of g) (interface_of h)) (nat_cmp (gateway_of g) (gateway_of h))) e in
     let rest = equal_parts (nat_cmp (interface_of g) (interface_of h)) (nat_cmp (gateway_of g) (gateway_of h)) kind.1 in
-    same_parts g h (same_number (kind_of g) (kind_of h) kind.0) (same_number (interface_of g) (interface_of h) rest.0) (same_number (gateway_of g) (gateway_of h) rest.1)
+    same_parts g h (same_number (kind_of g) (kind_of h) kind.0) (same_number (interface_of g) (interface_of h) rest.0)
+    (same_number (gateway_of g) (gateway_of h) rest.1)

@@ -48,15 +48,18 @@ module _ (edges : List (DirectedEdge Vertex)) (costly : NothingFree edges) (v w 
       ))
 
 -- the same hops over the same edges
-IsHopTo-same_edges : (P Q : DirectedEdge Vertex → Type 0) → ((e : DirectedEdge Vertex) → P e → Q e) → ((e : DirectedEdge Vertex) → Q e → P e) → (v w : Vertex) (h : Hop) → IsHopTo P v w h → IsHopTo Q v w h
-IsHopTo-same_edges P Q there back v w h (es, path, low, first) = (es, IsPath-weaker P Q there v w es path, λ fs q. low fs (IsPath-weaker Q P back v w fs q), first)
+IsHopTo-same_edges : (P Q : DirectedEdge Vertex → Type 0) → ((e : DirectedEdge Vertex) → P e → Q e)
+    → ((e : DirectedEdge Vertex) → Q e → P e) → (v w : Vertex) (h : Hop) → IsHopTo P v w h → IsHopTo Q v w h
+IsHopTo-same_edges P Q there back v w h (es, path, low, first) =
+    (es, IsPath-weaker P Q there v w es path, λ fs q. low fs (IsPath-weaker Q P back v w fs q), first)
 
 pub IsSortedHops-hops_of : (edges : List (DirectedEdge Vertex)) (v w : Vertex) → IsSortedHops (hops_of edges v w)
 unfolding hops_of
 IsSortedHops-hops_of edges v w = rising-pairs hop_cmp_total same_hop (filter_map (λ es. first_hop es) (least_paths_of edges v w))
 
 -- two lists with the same members give the same hops
-pub hops_of-same_members : (edges others : List (DirectedEdge Vertex)) → NothingFree edges → ((e : DirectedEdge Vertex) → Contains edges e → Contains others e) → ((e : DirectedEdge Vertex) → Contains others e → Contains edges e)
+pub hops_of-same_members : (edges others : List (DirectedEdge Vertex)) → NothingFree edges
+    → ((e : DirectedEdge Vertex) → Contains edges e → Contains others e) → ((e : DirectedEdge Vertex) → Contains others e → Contains edges e)
     → (v w : Vertex) → hops_of edges v w ≡ hops_of others v w
 hops_of-same_members edges others costly there back v w =
     hops_of-is others (λ e f i j joined. costly e f (back e i) (back f j) joined) v w (hops_of edges v w) (IsSortedHops-hops_of edges v w)
@@ -66,16 +69,19 @@ hops_of-same_members edges others costly there back v w =
     ))
 
 -- where the graph has the edges of another list, such as those of an area's LSAs
-pub hops_of-edges : (t : Topology) → IsTopology t → (edges : List (DirectedEdge Vertex)) → ((e : DirectedEdge Vertex) → IsEdge t e → Contains edges e) → ((e : DirectedEdge Vertex) → Contains edges e → IsEdge t e)
+pub hops_of-edges : (t : Topology) → IsTopology t → (edges : List (DirectedEdge Vertex))
+    → ((e : DirectedEdge Vertex) → IsEdge t e → Contains edges e) → ((e : DirectedEdge Vertex) → Contains edges e → IsEdge t e)
     → (v w : Vertex) → hops_of (edges_of t) v w ≡ hops_of edges v w
 hops_of-edges t shape edges there back v w =
     hops_of-same_members (edges_of t) edges (NothingFree-edges t shape) (λ e i. there e (edges_of-only t e i)) (λ e i. edges_of-has t e (back e i)) v w
 
 -- sorted hops of all vertices are a function of the graph and the root
-pub table-is : (t : Topology) → IsTopology t → (root : Vertex) (table : List (List Hop)) → All (λ hops. IsSortedHops hops) table → AreHopsOf t root table → table ≡ table_of t root
+pub table-is : (t : Topology) → IsTopology t → (root : Vertex) (table : List (List Hop))
+    → All (λ hops. IsSortedHops hops) table → AreHopsOf t root table → table ≡ table_of t root
 table-is t shape root table sorted of =
     map-by_place (λ w. hops_of (edges_of t) root w) t.vertices table [] of.sized
-    (λ i w at. hops_of-is (edges_of t) (NothingFree-edges t shape) root w (hops_at table i) (sorted i [] (subst (λ (n : ℕ). i < n) (sym of.sized) (slice_get_within t.vertices i w at)))
+    (λ i w at. hops_of-is (edges_of t) (NothingFree-edges t shape) root w (hops_at table i)
+    (sorted i [] (subst (λ (n : ℕ). i < n) (sym of.sized) (slice_get_within t.vertices i w at)))
     (λ h. (
       λ there. IsHopTo-same_edges (IsEdge t) (λ e. Contains (edges_of t) e) (edges_of-has t) (edges_of-only t) root w h ((of.members i w at h).0 there),
       λ hop. (of.members i w at h).1 (IsHopTo-same_edges (λ e. Contains (edges_of t) e) (IsEdge t) (edges_of-only t) (edges_of-has t) root w h hop),

@@ -1,5 +1,6 @@
 -- Hops put at their places in a sorted list.
-use Rattle.std.proofs.Common.{◌≡◌, ℕ, zero, suc, ◌<◌, ◌≤◌, List, [], ◌∷◌, ◌++◌, length, get_or, refl, sym, ap, ◌∙◌, subst, arith, ⊎_elim, Result, Ok, Err, MatchResult}
+use Rattle.std.proofs.Common.{◌≡◌, ℕ, zero, suc, ◌<◌, ◌≤◌, List, [], ◌∷◌, ◌++◌, length, get_or, refl, sym, ap, ◌∙◌, subst, arith, ⊎_elim, Result, Ok}
+use Rattle.std.proofs.Common.{Err, MatchResult}
 use Rattle.std.specs.Prelude.{◌↔◌}
 use Rattle.std.specs.List.{AllWithin, Contains, insert}
 use Rattle.std.specs.List.Sorted.{IsNonDecreasingBy, IsBinarySearchResult, IsSearchInRange}
@@ -28,7 +29,8 @@ pub rising-sorted : (hops : List Hop) → IsSortedHops hops → hops ≡ rising 
 rising-sorted hops sorted = rising-is hop_cmp_total same_hop hops hops sorted (λ h. (λ i. i, λ i. i))
 
 -- the same hops in any order, repeated or not
-rising-same : (xs ys : List Hop) → ((h : Hop) → Contains xs h → Contains ys h) → ((h : Hop) → Contains ys h → Contains xs h) → rising hop_cmp xs ≡ rising hop_cmp ys
+rising-same : (xs ys : List Hop) → ((h : Hop) → Contains xs h → Contains ys h)
+    → ((h : Hop) → Contains ys h → Contains xs h) → rising hop_cmp xs ≡ rising hop_cmp ys
 rising-same xs ys there back =
     rising-is hop_cmp_total same_hop (rising hop_cmp xs) ys (IsSortedHops-rising xs)
     (λ h. (λ i. there h ((Contains-rising_hops xs h).0 i), λ i. (Contains-rising_hops xs h).1 (back h i)))
@@ -37,8 +39,10 @@ rising-same xs ys there back =
 pub rising-joined : (xs ys : List Hop) → rising hop_cmp (rising hop_cmp xs ++ ys) ≡ rising hop_cmp (xs ++ ys)
 rising-joined xs ys =
     rising-same (rising hop_cmp xs ++ ys) (xs ++ ys)
-    (λ h i. ⊎_elim (λ j. Contains-append_left xs ys h ((Contains-rising_hops xs h).0 j)) (λ j. Contains-append_right xs ys h j) (Contains-append_cases (rising hop_cmp xs) ys h i))
-    (λ h i. ⊎_elim (λ j. Contains-append_left (rising hop_cmp xs) ys h ((Contains-rising_hops xs h).1 j)) (λ j. Contains-append_right (rising hop_cmp xs) ys h j) (Contains-append_cases xs ys h i))
+    (λ h i. ⊎_elim (λ j. Contains-append_left xs ys h ((Contains-rising_hops xs h).0 j))
+    (λ j. Contains-append_right xs ys h j) (Contains-append_cases (rising hop_cmp xs) ys h i))
+    (λ h i. ⊎_elim (λ j. Contains-append_left (rising hop_cmp xs) ys h ((Contains-rising_hops xs h).1 j))
+    (λ j. Contains-append_right (rising hop_cmp xs) ys h j) (Contains-append_cases xs ys h i))
 
 -- one hop more, behind the others or before them
 rising-turned : (xs : List Hop) (hop : Hop) → rising hop_cmp (hop ∷ xs) ≡ rising hop_cmp (xs ++ hop ∷ [])
@@ -66,12 +70,15 @@ module _ (hops : List Hop) (sorted : IsSortedHops hops) (hop : Hop) where
       at_most Equal = omega arith
       at_most Greater = omega arith
 
-      by_later : (o p : Ordering) → hop_cmp (get_or hops i d) hop ≡ o → hop_cmp (get_or hops j d) hop ≡ p → hop_cmp (get_or hops i d) (get_or hops j d) ≡ Less → ordering_index o ≤ ordering_index p
+      by_later : (o p : Ordering) → hop_cmp (get_or hops i d) hop ≡ o → hop_cmp (get_or hops j d) hop ≡ p
+          → hop_cmp (get_or hops i d) (get_or hops j d) ≡ Less → ordering_index o ≤ ordering_index p
       by_later o Less is_i is_j before = first o (sym is_i ∙ hop_cmp_total.trans (get_or hops i d) (get_or hops j d) hop before is_j) 0
-      by_later o Equal is_i is_j before = first o (sym is_i ∙ subst (λ (h : Hop). hop_cmp (get_or hops i d) h ≡ Less) (same_hop (get_or hops j d) hop is_j) before) 1
+      by_later o Equal is_i is_j before =
+          first o (sym is_i ∙ subst (λ (h : Hop). hop_cmp (get_or hops i d) h ≡ Less) (same_hop (get_or hops j d) hop is_j) before) 1
       by_later o Greater is_i is_j before = at_most o
 
-insert_is : (hops : List Hop) (place : ℕ) (hop : Hop) → place ≤ length hops → AllWithin (λ y. hop_cmp y hop ≡ Less) hops 0 place → AllWithin (λ y. hop_cmp y hop ≡ Greater) hops place (length hops)
+insert_is : (hops : List Hop) (place : ℕ) (hop : Hop) → place ≤ length hops → AllWithin (λ y. hop_cmp y hop ≡ Less) hops 0 place
+    → AllWithin (λ y. hop_cmp y hop ≡ Greater) hops place (length hops)
     → insert hops place hop ≡ insert_key hop_cmp hops hop
 insert_is [] zero hop le below above = refl
 insert_is [] (suc place) hop le below above = absurd (omega arith)
@@ -80,16 +87,22 @@ insert_is (y ∷ ys) zero hop le below above =
     ap (λ (o : Ordering). match_ordering o (hop ∷ y ∷ ys) (y ∷ ys) (y ∷ insert_key hop_cmp ys hop)) (sym before)
 insert_is (y ∷ ys) (suc place) hop le below above =
     let after : hop_cmp hop y ≡ Greater = hop_cmp_total.antisymm hop y ∙ ap (λ (o : Ordering). ordering_reverse o) (below 0 hop (omega arith) (omega arith)) in
-    ap (λ (hs : List Hop). y ∷ hs) (insert_is ys place hop (omega arith) (λ k d low high. below (suc k) d (omega arith) (omega arith)) (λ k d low high. above (suc k) d (omega arith) (omega arith)))
+    ap (λ (hs : List Hop). y ∷ hs) (insert_is ys place hop (omega arith) (λ k d low high. below (suc k) d (omega arith) (omega arith))
+    (λ k d low high. above (suc k) d (omega arith) (omega arith)))
     ∙ ap (λ (o : Ordering). match_ordering o (hop ∷ y ∷ ys) (y ∷ ys) (y ∷ insert_key hop_cmp ys hop)) (sym after)
 
 -- what a search for a hop says of a sorted list: the hop is there, or it is to be put at the place
-searched : (hops : List Hop) (hop : Hop) (r : Result ℕ ℕ) → IsSortedHops hops → IsSearchInRange r (length hops) → IsBinarySearchResult (λ y. hop_cmp y hop) hops r
+searched : (hops : List Hop) (hop : Hop) (r : Result ℕ ℕ) → IsSortedHops hops
+    → IsSearchInRange r (length hops) → IsBinarySearchResult (λ y. hop_cmp y hop) hops r
     → MatchResult r (λ i. hops ≡ rising hop_cmp (hops ++ hop ∷ [])) (λ place. insert hops place hop ≡ rising hop_cmp (hops ++ hop ∷ []))
 searched hops hop (Ok i) sorted within found =
     let there : Contains hops hop = (i, within, same_hop (get_or hops i hop) hop (found hop)) in
     rising-is hop_cmp_total same_hop hops (hops ++ hop ∷ []) sorted
-    (λ h. (λ old. Contains-append_left hops (hop ∷ []) h old, λ either. ⊎_elim (λ old. old) (λ one. only h there one) (Contains-append_cases hops (hop ∷ []) h either)))
+    (λ h. (
+      λ old. Contains-append_left hops (hop ∷ []) h old,
+      λ either. ⊎_elim (λ old. old)
+          (λ one. only h there one) (Contains-append_cases hops (hop ∷ []) h either),
+    ))
   where
     only : (h : Hop) → Contains hops hop → Contains (hop ∷ []) h → Contains hops h
     only h there (zero, low, is) = subst (λ (x : Hop). Contains hops x) is there
@@ -101,7 +114,8 @@ searched hops hop (Err place) sorted within parted =
     ∙ rising-turned hops hop
 
 -- the same where the search compares by an order that is this one
-pub searched_by : (cmp : Hop → Hop → Ordering) → ((g h : Hop) → cmp g h ≡ hop_cmp g h) → (hops : List Hop) (hop : Hop) (r : Result ℕ ℕ) → IsSortedHops hops → IsSearchInRange r (length hops)
+pub searched_by : (cmp : Hop → Hop → Ordering) → ((g h : Hop) → cmp g h ≡ hop_cmp g h)
+    → (hops : List Hop) (hop : Hop) (r : Result ℕ ℕ) → IsSortedHops hops → IsSearchInRange r (length hops)
     → IsBinarySearchResult (λ y. cmp y hop) hops r
     → MatchResult r (λ i. hops ≡ rising hop_cmp (hops ++ hop ∷ [])) (λ place. insert hops place hop ≡ rising hop_cmp (hops ++ hop ∷ []))
 searched_by cmp same hops hop (Ok i) sorted within found = searched hops hop (Ok i) sorted within (λ d. sym (same (get_or hops i d) hop) ∙ found d)

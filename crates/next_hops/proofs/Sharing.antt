@@ -1,5 +1,6 @@
 -- Lists that are kept once keep their numbers.
-use Rattle.std.proofs.Common.{◌≡◌, ℕ, ◌+◌, ◌<◌, Bool, true, false, ◌&&◌, Option, Some, List, [], ◌∷◌, ◌++◌, length, map, get_or, take, if◌then◌else◌, refl, sym, ap, ◌∙◌, subst, arith}
+use Rattle.std.proofs.Common.{◌≡◌, ℕ, ◌+◌, ◌<◌, Bool, true, false, ◌&&◌, Option, Some, List, [], ◌∷◌, ◌++◌, length, map, get_or, take, if◌then◌else◌}
+use Rattle.std.proofs.Common.{refl, sym, ap, ◌∙◌, subst, arith}
 use lib.Pointwise.{pointwise}
 use Rattle.std.specs.List.{All, slice_get}
 use Rattle.std.specs.Option.{option_map}
@@ -29,18 +30,21 @@ module _ {A : Type 0} where
       within n lt = subst (λ (m : ℕ). n < m) (sym (length-map lists (λ x. x.items))) lt
 
   -- a list that is put in unless it is there
-  pub Keeps-inserted : (is_there : Bool) (lists new : List (Vec Hop A)) (list : Vec Hop A) → new ≡ (if is_there then lists else lists ++ list ∷ []) → Keeps lists new
+  pub Keeps-inserted : (is_there : Bool) (lists new : List (Vec Hop A)) (list : Vec Hop A)
+      → new ≡ (if is_there then lists else lists ++ list ∷ []) → Keeps lists new
   Keeps-inserted true lists new list is = subst (λ (xs : List (Vec Hop A)). Keeps lists xs) (sym is) (Keeps-same lists)
   Keeps-inserted false lists new list is = subst (λ (xs : List (Vec Hop A)). Keeps lists xs) (sym is) (Keeps-put lists list)
 
-  lists_in-kept : (old new : List (Vec Hop A)) → Keeps old new → (numbers : List ℕ) → All (λ n. n < length old) numbers → lists_in new numbers ≡ lists_in old numbers
+  lists_in-kept : (old new : List (Vec Hop A)) → Keeps old new → (numbers : List ℕ)
+      → All (λ n. n < length old) numbers → lists_in new numbers ≡ lists_in old numbers
   lists_in-kept old new keeps [] within = refl
   lists_in-kept old new keeps (n ∷ ns) within =
       ap (λ (hops : List Hop). hops ∷ lists_in new ns) (keeps.same n (All-head (λ m. m < length old) n ns within))
       ∙ ap (λ (rest : List (List Hop)). list_in old n ∷ rest) (lists_in-kept old new keeps ns (All-tail (λ m. m < length old) n ns within))
 
   -- one list more, by its number
-  pub lists_in-push : (old new : List (Vec Hop A)) (numbers : List ℕ) (n i : ℕ) (lists : List (List Hop)) → Keeps old new → All (λ m. m < length old) numbers → i < length lists
+  pub lists_in-push : (old new : List (Vec Hop A)) (numbers : List ℕ) (n i : ℕ) (lists : List (List Hop))
+      → Keeps old new → All (λ m. m < length old) numbers → i < length lists
       → lists_in old numbers ≡ take i lists → list_in new n ≡ get_or lists i [] → lists_in new (numbers ++ n ∷ []) ≡ take (i + 1) lists
   lists_in-push old new numbers n i lists keeps within more before next =
       map-append (λ m. list_in new m) numbers (n ∷ [])
@@ -63,10 +67,12 @@ module _ {A : Type 0} where
   -- the list at a number, by the list that stands there
   pub list_in-at : (lists : List (Vec Hop A)) (n : ℕ) (list : Vec Hop A) → slice_get lists n ≡ Some list → list_in lists n ≡ list.items
   list_in-at lists n list at =
-      get_or_from_slice_get (map (λ x. x.items) lists) n list.items [] (slice_get-map (λ (x : Vec Hop A). x.items) lists n ∙ ap (λ (o : Option (Vec Hop A)). option_map (λ x. x.items) o) at)
+      get_or_from_slice_get (map (λ x. x.items) lists) n list.items []
+      (slice_get-map (λ (x : Vec Hop A). x.items) lists n ∙ ap (λ (o : Option (Vec Hop A)). option_map (λ x. x.items) o) at)
 
   -- the list of a vertex, by its number
-  pub lists_in-at : (lists : List (Vec Hop A)) (numbers : List ℕ) (index n : ℕ) (list : Vec Hop A) → index < length (lists_in lists numbers) → n ≡ get_or numbers index n
+  pub lists_in-at : (lists : List (Vec Hop A)) (numbers : List ℕ) (index n : ℕ) (list : Vec Hop A)
+      → index < length (lists_in lists numbers) → n ≡ get_or numbers index n
       → slice_get lists n ≡ Some list → get_or (lists_in lists numbers) index [] ≡ list.items
   lists_in-at lists numbers index n list within number at =
       get_or-map (λ m. list_in lists m) numbers index n [] (subst (λ k. index < k) (length-map numbers (λ m. list_in lists m)) within)

@@ -9,7 +9,8 @@ as_list : {Y : Type 0} (o : Option Y) → option_to_list o ≡ cons_option o []
 as_list None = refl
 as_list (Some y) = refl
 
-pub one_more : {X Y : Type 0} (f : X → Option Y) (xs : List X) (i : ℕ) (d : X) (old new : List Y) (o : Option Y) → i < length xs → old ≡ filter_map f (take i xs)
+pub one_more : {X Y : Type 0} (f : X → Option Y) (xs : List X) (i : ℕ) (d : X) (old new : List Y) (o : Option Y)
+    → i < length xs → old ≡ filter_map f (take i xs)
     → o ≡ f (get_or xs i d) → new ≡ old ++ option_to_list o → new ≡ filter_map f (take (i + 1) xs)
 one_more f xs i d old new o lt before found is =
     is ∙ ap (λ l. l ++ option_to_list o) before ∙ ap (λ p. filter_map f (take i xs) ++ p) (as_list o ∙ ap (λ p. cons_option p []) found)

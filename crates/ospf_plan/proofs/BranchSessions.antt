@@ -1,5 +1,6 @@
 -- The sessions of branches when one of them goes on.
-use Rattle.std.proofs.Common.{◌≡◌, ℕ, List, [], ◌∷◌, Bool, true, false, eqb, cond, Option, None, Some, Result, Ok, Err, refl, sym, ap, subst, ◌∙◌, zero, suc, length, ltb, true≢false}
+use Rattle.std.proofs.Common.{◌≡◌, ℕ, List, [], ◌∷◌, Bool, true, false, eqb, cond, Option, None, Some, Result, Ok, Err, refl, sym, ap, subst, ◌∙◌}
+use Rattle.std.proofs.Common.{zero, suc, length, ltb, true≢false}
 use Rattle.std.specs.Prelude.{◌||◌, nat_le, is_some, IfSome, IsSome}
 use Rattle.std.specs.Map.{lookup, set_value}
 use Rattle.std.specs.BTreeMap.{BTreeMap, Updates, WritesThrough, is_at}
@@ -30,7 +31,8 @@ accepted_base : (s : Session) (e : Edit) (r : Result Lists EditFault) → (unles
 accepted_base s e (Ok db) = refl
 accepted_base s e (Err fault) = refl
 
-edited_base : (s : Session) (e : Edit) (r : Result Lists EditFault) (room : Bool) → (unless_refused s (cond room (accepted s e r) (Err HistoryFull))).base ≡ s.base
+edited_base : (s : Session) (e : Edit) (r : Result Lists EditFault) (room : Bool)
+    → (unless_refused s (cond room (accepted s e r) (Err HistoryFull))).base ≡ s.base
 edited_base s e r true = accepted_base s e r
 edited_base s e r false = refl
 
@@ -103,12 +105,14 @@ pub other_goes_on : (named : Named) (new : List (ℕ × Session)) (branch : ℕ)
     → sessions_of (record { first = named.first; others = new }) ≡ with_session branch t (sessions_of named)
 other_goes_on named new branch t behind went = λ i other. other_at named new branch t behind went other (eqb branch other) refl i
 
-base_at : (named : Named) (new : List (ℕ × Session)) (branch : ℕ) (t : Session) → t.base ≡ named.first.base → GoesOn named.others new branch t → HaveOneBase named
+base_at : (named : Named) (new : List (ℕ × Session)) (branch : ℕ) (t : Session)
+    → t.base ≡ named.first.base → GoesOn named.others new branch t → HaveOneBase named
     → (other : ℕ) (same : Bool) → eqb branch other ≡ same → IfSome (found new other) (λ s. s.base ≡ named.first.base)
 base_at named new branch t is went one other true e = rw (sym (eqb-true branch other e), went.at) is
 base_at named new branch t is went one other false e = rw (went.others other e) (one other)
 
-pub one_base : (named : Named) (new : List (ℕ × Session)) (branch : ℕ) (t : Session) → t.base ≡ named.first.base → GoesOn named.others new branch t → HaveOneBase named
+pub one_base : (named : Named) (new : List (ℕ × Session)) (branch : ℕ) (t : Session)
+    → t.base ≡ named.first.base → GoesOn named.others new branch t → HaveOneBase named
     → HaveOneBase (record { first = named.first; others = new })
 one_base named new branch t is went one other = base_at named new branch t is went one other (eqb branch other) refl
 
@@ -135,12 +139,14 @@ inserted old new branch p updates = record {
   others = λ other e. shown new.entries other ∙ ap (option_map its_session) (updates.2 other (unsigned_tied branch other ∙ e)) ∙ sym (shown old.entries other);
 }
 
-pub written : (old new : BTreeMap ℕ PlannerValue) (branch : ℕ) (p q : PlannerValue) → Some p ≡ planner_at old.entries branch → WritesThrough nat_cmp (nat_cmp branch) old q new
+pub written : (old new : BTreeMap ℕ PlannerValue) (branch : ℕ) (p q : PlannerValue)
+    → Some p ≡ planner_at old.entries branch → WritesThrough nat_cmp (nat_cmp branch) old q new
     → GoesOn (sessions_by old.entries) (sessions_by new.entries) branch q.session
 written old new branch p q was writes = inserted old new branch q (writes.3 (subst (λ o. IsSome o) was refl))
 
 -- the session of another branch than 0, where there is a planner for it and where there is none
-pub session_of_named : (first : PlannerValue) (ps : List (ℕ × PlannerValue)) (branch : ℕ) (p : PlannerValue) → eqb branch 0 ≡ false → Some p ≡ planner_at ps branch
+pub session_of_named : (first : PlannerValue) (ps : List (ℕ × PlannerValue)) (branch : ℕ) (p : PlannerValue)
+    → eqb branch 0 ≡ false → Some p ≡ planner_at ps branch
     → sessions_of (named_by first ps) branch ≡ p.session
 session_of_named first ps branch p behind was = rw (behind, shown ps branch, sym was) refl
 
@@ -148,7 +154,8 @@ pub session_of_unnamed : (first : PlannerValue) (ps : List (ℕ × PlannerValue)
     → sessions_of (named_by first ps) branch ≡ start first.session.base
 session_of_unnamed first ps branch behind none = rw (behind, shown ps branch, sym none) refl
 
-pub not_named : (first : PlannerValue) (ps : List (ℕ × PlannerValue)) (branch : ℕ) → eqb branch 0 ≡ false → None ≡ planner_at ps branch → has_planner (named_by first ps) branch ≡ false
+pub not_named : (first : PlannerValue) (ps : List (ℕ × PlannerValue)) (branch : ℕ) → eqb branch 0 ≡ false
+    → None ≡ planner_at ps branch → has_planner (named_by first ps) branch ≡ false
 not_named first ps branch behind none = rw (behind, shown ps branch, sym none) refl
 
 pub base_of : (named : Named) (branch : ℕ) (s : Session) → Some s ≡ found named.others branch → HaveOneBase named → s.base ≡ named.first.base
@@ -156,7 +163,8 @@ base_of named branch s was one = subst (λ o. IfSome o (λ (x : Session). x.base
 
 pub written_on : (first : PlannerValue) (old new : BTreeMap ℕ PlannerValue) (branch : ℕ) (p q : PlannerValue) (c : Command) → eqb branch 0 ≡ false
     → Some p ≡ planner_at old.entries branch → WritesThrough nat_cmp (nat_cmp branch) old q new → q.session ≡ after p.session c
-    → sessions_of (named_by first new.entries) ≡ with_session branch (after (sessions_of (named_by first old.entries) branch) c) (sessions_of (named_by first old.entries))
+    → sessions_of (named_by first new.entries) ≡ with_session branch
+    (after (sessions_of (named_by first old.entries) branch) c) (sessions_of (named_by first old.entries))
 written_on first old new branch p q c behind was writes is =
     let named : Named = named_by first old.entries in
     other_goes_on named (sessions_by new.entries) branch q.session behind (written old new branch p q was writes)
@@ -164,16 +172,20 @@ written_on first old new branch p q c behind was writes is =
     (is ∙ ap (λ (u : Session). after u c) (sym (session_of_named first old.entries branch p behind was)))
 
 -- a planner that was written back with its session
-set_at : (k : ℕ) (v q : PlannerValue) (ps : List (ℕ × PlannerValue)) (news : List (ℕ × PlannerValue)) (sets : List (ℕ × Session)) (here : Bool) → sessions_by news ≡ sets
+set_at : (k : ℕ) (v q : PlannerValue) (ps : List (ℕ × PlannerValue)) (news : List (ℕ × PlannerValue))
+    (sets : List (ℕ × Session)) (here : Bool) → sessions_by news ≡ sets
     → sessions_by (cond here ((k, q) ∷ ps) ((k, v) ∷ news)) ≡ cond here ((k, q.session) ∷ sessions_by ps) ((k, v.session) ∷ sets)
 set_at k v q ps news sets true rest = refl
 set_at k v q ps news sets false rest = ap (λ (l : List (ℕ × Session)). (k, v.session) ∷ l) rest
 
-sessions_by-set_value : (test : ℕ → Bool) (ps : List (ℕ × PlannerValue)) (q : PlannerValue) → sessions_by (set_value test ps q) ≡ set_value test (sessions_by ps) q.session
+sessions_by-set_value : (test : ℕ → Bool) (ps : List (ℕ × PlannerValue)) (q : PlannerValue)
+    → sessions_by (set_value test ps q) ≡ set_value test (sessions_by ps) q.session
 sessions_by-set_value test [] q = refl
-sessions_by-set_value test (p ∷ ps) q = set_at p.0 p.1 q ps (set_value test ps q) (set_value test (sessions_by ps) q.session) (test p.0) (sessions_by-set_value test ps q)
+sessions_by-set_value test (p ∷ ps) q = set_at p.0 p.1 q ps (set_value test ps q)
+    (set_value test (sessions_by ps) q.session) (test p.0) (sessions_by-set_value test ps q)
 
-pub written_same : (old new : BTreeMap ℕ PlannerValue) (branch : ℕ) (p q : PlannerValue) → Some p ≡ planner_at old.entries branch → WritesThrough nat_cmp (nat_cmp branch) old q new → q.session ≡ p.session
+pub written_same : (old new : BTreeMap ℕ PlannerValue) (branch : ℕ) (p q : PlannerValue) → Some p ≡ planner_at old.entries branch
+    → WritesThrough nat_cmp (nat_cmp branch) old q new → q.session ≡ p.session
     → sessions_by new.entries ≡ sessions_by old.entries
 written_same old new branch p q was writes same =
     ap sessions_by writes.0 ∙ sessions_by-set_value (is_at (nat_cmp branch)) old.entries q

@@ -39,7 +39,8 @@ own_session branch all (line ∷ lines) =
     ∙ ap (λ s. after_all s (commands_in branch lines)) (own_line branch all (meaning line))
     ∙ sym (after_all-append (all branch) (command_in branch (meaning line)) (commands_in branch lines))
 
-pub session_alone : (base : Lists) (lines : List (List ℕ)) (branch : ℕ) → sessions_after (all_begin base) lines branch ≡ after_all (start base) (commands_in branch lines)
+pub session_alone : (base : Lists) (lines : List (List ℕ)) (branch : ℕ)
+    → sessions_after (all_begin base) lines branch ≡ after_all (start base) (commands_in branch lines)
 session_alone base lines branch = own_session branch (all_begin base) lines
 
 -- ---- the answers to a branch

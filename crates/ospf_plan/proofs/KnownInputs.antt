@@ -69,7 +69,8 @@ if_dump_prefix old new (Some bytes) (Some known) items whole same is part = subs
 pub nothing_written : (old : Option (List ℕ)) (whole : List ℕ) → AppendsPrefix old old whole
 nothing_written old whole = ([], (refl, Appends-nil old))
 
-pub if_nothing : (old dump script : Option (List ℕ)) (whole : List ℕ → List ℕ → List ℕ) → IfBoth dump script (λ bytes text. AppendsPrefix old old (whole bytes text))
+pub if_nothing : (old dump script : Option (List ℕ)) (whole : List ℕ → List ℕ → List ℕ)
+    → IfBoth dump script (λ bytes text. AppendsPrefix old old (whole bytes text))
 if_nothing old None script whole = tt
 if_nothing old (Some bytes) None whole = tt
 if_nothing old (Some bytes) (Some known) whole = nothing_written old (whole bytes known)
@@ -88,7 +89,8 @@ first_fault (Some bytes) fault other (inl memory) = absurd (other (ap (λ (f : D
 first_fault (Some bytes) fault other (inr first) = first
 
 -- what was loaded, told of known bytes
-pub known_first : (known : Option (List ℕ)) (read : List ℕ) (fault : DumpFault) → IsAll known read → IsFirst fault (loaded read) → IfSome known (λ bytes. IsFirst fault (loaded bytes))
+pub known_first : (known : Option (List ℕ)) (read : List ℕ) (fault : DumpFault) → IsAll known read
+    → IsFirst fault (loaded read) → IfSome known (λ bytes. IsFirst fault (loaded bytes))
 known_first None read fault all first = tt
 known_first (Some bytes) read fault all first = subst (λ b. IsFirst fault (loaded b)) all first
 

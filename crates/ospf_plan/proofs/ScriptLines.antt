@@ -1,5 +1,6 @@
 -- The steps of a run over the lines of its script.
-use Rattle.std.proofs.Common.{◌≡◌, ℕ, ◌+◌, ◌<◌, ◌≤◌, ◌^◌, List, [], ◌∷◌, ◌++◌, Option, None, Some, eqb, cond, length, sym, ap, subst, ◌∙◌, append_assoc, append-nil, refl, arith, rules, Result, Ok, Err}
+use Rattle.std.proofs.Common.{◌≡◌, ℕ, ◌+◌, ◌<◌, ◌≤◌, ◌^◌, List, [], ◌∷◌, ◌++◌, Option, None, Some, eqb, cond, length, sym, ap, subst, ◌∙◌}
+use Rattle.std.proofs.Common.{append_assoc, append-nil, refl, arith, rules, Result, Ok, Err}
 use Rattle.std.specs.Borrow.{Bor}
 use Rattle.std.proofs.lemmas.List.{length-append}
 use Rattle.std.proofs.lemmas.List.Sums.{count_by-le-length, sum_by-append}
@@ -56,7 +57,8 @@ text_turn text now left line more e =
     ∙ sym (append_assoc text (text_of (told now line)) (text_of (answers (next now line) more)))
 
 -- the answer to the next line is written
-pub written_line : (a b c : Option (List ℕ)) (first : Sessions) (all : List (List ℕ)) (now : Sessions) (left : List (List ℕ)) (line : List ℕ) (more : List (List ℕ))
+pub written_line : (a b c : Option (List ℕ)) (first : Sessions) (all : List (List ℕ))
+    (now : Sessions) (left : List (List ℕ)) (line : List ℕ) (more : List (List ℕ))
     → Written a b first all now left → left ≡ line ∷ more → Appends b c (text_of (told now line)) → Written a c first all (next now line) more
 unfolding sessions_after
 written_line a b c first all now left line more w e reply = record {
@@ -67,7 +69,8 @@ written_line a b c first all now left line more w e reply = record {
 }
 
 -- a part of the next answer is written too
-pub written_part : (a b c : Option (List ℕ)) (first : Sessions) (all : List (List ℕ)) (now : Sessions) (left : List (List ℕ)) (line : List ℕ) (more : List (List ℕ))
+pub written_part : (a b c : Option (List ℕ)) (first : Sessions) (all : List (List ℕ))
+    (now : Sessions) (left : List (List ℕ)) (line : List ℕ) (more : List (List ℕ))
     → Written a b first all now left → left ≡ line ∷ more → AppendsPrefix b c (text_of (told now line)) → AppendsPrefix a c (text_of (answers first all))
 written_part a b c first all now left line more w e part =
     AppendsPrefix-after a b c _ w.text (text_of (told now line)) (text_of (answers (next now line) more))
@@ -102,7 +105,8 @@ one_answer s (Ok (branch, command)) = search rules
 few_answers : (s : Sessions) (lines : List (List ℕ)) → length (answers s lines) ≤ length lines
 unfolding answers
 few_answers s [] = search rules
-few_answers s (line ∷ lines) = omega (arith, length-append (told s line) (answers (next s line) lines), one_answer s (meaning line), few_answers (next s line) lines)
+few_answers s (line ∷ lines) =
+    omega (arith, length-append (told s line) (answers (next s line) lines), one_answer s (meaning line), few_answers (next s line) lines)
 
 -- there are at most as many lines as bytes, and one
 few_lines : (script : List ℕ) → length (lines_of script) ≤ length script + 1
@@ -124,14 +128,21 @@ refused_room s now script count left small e =
 
 -- one more line is counted
 pub commands_line : (now : Sessions) (count total new : ℕ) (left : List (List ℕ)) (line : List ℕ) (more : List (List ℕ))
-    → count + length (answers now left) ≡ total → left ≡ line ∷ more → new ≡ count + length (told now line) → new + length (answers (next now line) more) ≡ total
+    → count + length (answers now left) ≡ total → left ≡ line ∷ more → new ≡ count + length (told now line)
+    → new + length (answers (next now line) more) ≡ total
 commands_line now count total new left line more e turn one =
     omega (arith, ap length (answers_turn now left line more turn), length-append (told now line) (answers (next now line) more))
 
 pub refused_line : (now : Sessions) (count total new : ℕ) (left : List (List ℕ)) (line : List ℕ) (more : List (List ℕ))
-    → count + refused_count (answers now left) ≡ total → left ≡ line ∷ more → new ≡ count + refused_count (told now line) → new + refused_count (answers (next now line) more) ≡ total
+    → count + refused_count (answers now left) ≡ total → left ≡ line ∷ more → new ≡ count + refused_count (told now line)
+    → new + refused_count (answers (next now line) more) ≡ total
 refused_line now count total new left line more e turn one =
-    omega (arith, ap refused_count (answers_turn now left line more turn), sum_by-append (λ (a : Answer). cond a.refused 1 0) (told now line) (answers (next now line) more))
+    omega (
+      arith,
+      ap refused_count (answers_turn now left line more turn),
+      sum_by-append
+          (λ (a : Answer). cond a.refused 1 0) (told now line) (answers (next now line) more),
+    )
 
 -- all lines are counted
 pub commands_all : (now : Sessions) (count total : ℕ) (left : List (List ℕ))

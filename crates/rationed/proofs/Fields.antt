@@ -14,7 +14,8 @@ use prog.Memory.{Memory, size, align, up}
 use prog.Routine.{Routine}
 use types.Logic.{Logic, sem}
 use contract.Monad.{Fun, fact}
-use types.Kit.{‵, raw, ◌⊛◌, some, later, given, mean, ◌$◌, ◌∵◌, !, qed, done, move, keep, use1, split, join, fsplit, fjoin, feq_i, feq_l, pick, await, updating, show, check, now as at_once}
+use types.Kit.{‵, raw, ◌⊛◌, some, later, given, mean, ◌$◌, ◌∵◌, !, qed, done, move, keep, use1, split, join, fsplit, fjoin, feq_i, feq_l, pick, await}
+use types.Kit.{updating, show, check, now as at_once}
 use denote.Builtin.{bool, RefOf}
 use denote.Memory.{hidden_shr}
 use denote.Opens.{unhide}
@@ -46,7 +47,8 @@ module _ (Z : Al) where
 module _ (Z : Al) {M : Type 1} {𝓤 : Ura M} (𝓛 : Logic 𝓤) where
   pub fields : (κ₁ κ₂ : Lft) (r : Bor (rationed.the_row Z.row).Denot)
       → ent 𝓤 (sem 𝓛 ((type_at {n = 2} (lent Z) (κ₁, (κ₂, tt))).own_val r (shr_vals r)))
-      (sep 𝓤 (sem 𝓛 (seen Z κ₁ (inner_at Z r.ref_ptr) r.now.inner)) (sem 𝓛 (hidden_shr Ration κ₁ r.now.ration (ration_at Z r.ref_ptr).0 (ration_at Z r.ref_ptr).1)))
+      (sep 𝓤 (sem 𝓛 (seen Z κ₁ (inner_at Z r.ref_ptr) r.now.inner))
+      (sem 𝓛 (hidden_shr Ration κ₁ r.now.ration (ration_at Z r.ref_ptr).0 (ration_at Z r.ref_ptr).1)))
   fields κ₁ κ₂ r =
       qed 𝓛 (‵ ((type_at {n = 2} (lent Z) (κ₁, (κ₂, tt))).own_val r (shr_vals r)) ∷ []) ∵
       fsplit ! $ move ! (1 ∷ []) $ unhide ! $ fsplit ! $ fsplit ! $ move ! (1 ∷ []) $ fsplit ! $ keep ! (2 ∷ 0 ∷ []) $ done !
@@ -71,6 +73,8 @@ module _ {M : Type 1} {𝓤 : Ura M} (𝓛 : Logic 𝓤) (at_mem : Memory → SP
       → ent 𝓤 ((Spend 𝓛 at_mem run).post (spends 𝓛 at_mem run κ q c x) v) (H.⇛ (mean 𝓛 (some (λ (granted : Bool). given (v ≡ vbool granted) (‵ (flft κ q))))))
   spend_gives v =
       qed 𝓛 (raw ((Spend 𝓛 at_mem run).post (spends 𝓛 at_mem run κ q c x) v) ∷ []) ∵ updating ! $
-      use1 𝓛 (later (some (λ (granted : Bool). ((‵ (flft κ q) ⊛ ‵ ftrue) ⊛ ‵ (bool.own_val granted (v ∷ []))) ⊛ some (λ (ws : Unit {0} × Unit {0}). ‵ (fsep ftrue ftrue) ⊛ raw (fact 𝓤 (granted ≡ true → 0 < x.limit)))))) (id⊢ 𝓤 _) $
+      use1 𝓛 (later
+      (some (λ (granted : Bool). ((‵ (flft κ q) ⊛ ‵ ftrue) ⊛ ‵ (bool.own_val granted (v ∷ []))) ⊛ some
+      (λ (ws : Unit {0} × Unit {0}). ‵ (fsep ftrue ftrue) ⊛ raw (fact 𝓤 (granted ≡ true → 0 < x.limit)))))) (id⊢ 𝓤 _) $
       await ! tt $ pick ! (λ granted. split ! $ split ! $ split ! $ move ! (2 ∷ []) $ feq_l ! (λ e. keep ! (0 ∷ []) $ at_once ! $
       show ! (λ (b : Bool). mean 𝓛 (given (v ≡ vbool b) (‵ (flft κ q)))) granted $ check ! (ap only e) $ done !))

@@ -29,7 +29,8 @@ found_In p (y ∷ ys) x h = by (p y) refl h (found_In p ys x)
 -- a live router-LSA is in use
 none_above : (lsa : List ℕ) (lsas : List (List ℕ)) → is_network_lsa lsa ≡ false → list_any (is_outranked_by lsa) lsas ≡ false
 none_above lsa [] h = refl
-none_above lsa (other ∷ lsas) h = ap (λ b. (b && outranks (link_state_id_of lsa) (advertising_router_of lsa) other) || list_any (is_outranked_by lsa) lsas) h ∙ none_above lsa lsas h
+none_above lsa (other ∷ lsas) h =
+    ap (λ b. (b && outranks (link_state_id_of lsa) (advertising_router_of lsa) other) || list_any (is_outranked_by lsa) lsas) h ∙ none_above lsa lsas h
 
 network_is_no_router : (lsa : List ℕ) → is_router_lsa lsa ≡ true → is_network_lsa lsa ≡ false
 network_is_no_router lsa h = ap (λ k. eqb k 2) (eqb-true (kind_of lsa) 1 h)
@@ -52,7 +53,8 @@ vertex_of_key router lsa h =
 live_there : (router : RouterId) (lsas : List (List ℕ)) → has_live_router_lsa router lsas ≡ true → Contains (vertices_of lsas) (Router router)
 live_there router lsas h = by (find (has_key (router_key router)) lsas) refl h
   where
-    by : (o : Option (List ℕ)) → find (has_key (router_key router)) lsas ≡ o → option_map_or is_live o false ≡ true → Contains (vertices_of lsas) (Router router)
+    by : (o : Option (List ℕ)) → find (has_key (router_key router)) lsas ≡ o
+        → option_map_or is_live o false ≡ true → Contains (vertices_of lsas) (Router router)
     by None e k = absurd (true≢false (sym k))
     by (Some lsa) e k =
         let there = found_In (has_key (router_key router)) lsas lsa e in

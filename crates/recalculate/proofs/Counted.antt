@@ -28,17 +28,26 @@ one_more k n = ap (λ m. counted_by m n) (suc_is k)
 
 filter_few : {X : Type 0} (p : X → Bool) (xs : List X) (j : ℕ) → length (filter p (take j xs)) ≤ length (filter p xs)
 filter_few p xs j =
-    omega (arith, ap (λ l. length (filter p l)) (take-append-drop j xs), ap length (filter-append p (take j xs) (drop j xs)), length-append (filter p (take j xs)) (filter p (drop j xs)))
+    omega (
+      arith,
+      ap (λ l. length (filter p l)) (take-append-drop j xs),
+      ap length
+          (filter-append p (take j xs) (drop j xs)),
+      length-append (filter p (take j xs)) (filter p (drop j xs)),
+    )
 
 module _ (db : Lists) (router : RouterId) (i : ℕ) (area : AreaHead) (here : slice_get (areas_of db) i ≡ Some area) where
-  pub among_more : attached_among db router (take (i + 1) (areas_of db)) ≡ attached_among db router (take i (areas_of db)) ++ cond (joins db router area) (area ∷ []) []
+  pub among_more : attached_among db router (take (i + 1) (areas_of db)) ≡ attached_among db router
+      (take i (areas_of db)) ++ cond (joins db router area) (area ∷ []) []
   among_more =
       ap (attached_among db router)
-      (take_more (areas_of db) i area (slice_get_within (areas_of db) i area here) ∙ ap (λ a. take i (areas_of db) ++ a ∷ []) (get_or_from_slice_get (areas_of db) i area area here))
+      (take_more (areas_of db) i area (slice_get_within (areas_of db) i area here)
+      ∙ ap (λ a. take i (areas_of db) ++ a ∷ []) (get_or_from_slice_get (areas_of db) i area area here))
       ∙ filter-append (joins db router) (take i (areas_of db)) (area ∷ [])
 
   -- an area that the router is attached to
-  pub more_results : (old new : List AreaResultValue) (given : AreaResultValue) → old ≡ results_in db router (attached_among db router (take i (areas_of db))) → joins db router area ≡ true
+  pub more_results : (old new : List AreaResultValue) (given : AreaResultValue)
+      → old ≡ results_in db router (attached_among db router (take i (areas_of db))) → joins db router area ≡ true
       → given ≡ result_in db router area → new ≡ old ++ given ∷ [] → new ≡ results_in db router (attached_among db router (take (i + 1) (areas_of db)))
   more_results old new given before joined is pushed =
       pushed ∙ ap (λ l. l ++ given ∷ []) before ∙ ap (λ x. results_in db router (attached_among db router (take i (areas_of db))) ++ x ∷ []) is
@@ -69,7 +78,8 @@ module _ (db : Lists) (router : RouterId) (i : ℕ) (area : AreaHead) (here : sl
       ∙ ap (λ b. attached_among db router (take i (areas_of db)) ++ cond b (area ∷ []) []) (sym apart) ∙ sym among_more)
 
 -- a tree more was counted
-pub more_counted : (old new : List AreaResultValue) (given : AreaResultValue) (first before after : ℕ) → before ≡ counted_by (length old) first → after ≡ counted before
+pub more_counted : (old new : List AreaResultValue) (given : AreaResultValue) (first before after : ℕ)
+    → before ≡ counted_by (length old) first → after ≡ counted before
     → new ≡ old ++ given ∷ [] → after ≡ counted_by (length new) first
 more_counted old new given first before after counts one is =
     one ∙ ap counted counts ∙ one_more (length old) first ∙ ap (λ k. counted_by k first) (sym (length-append old (given ∷ [])) ∙ ap length (sym is))

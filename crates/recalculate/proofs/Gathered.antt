@@ -29,11 +29,14 @@ insert_last before router =
     any_insert router_total q (rising router_cmp before) router ∙ ap (λ b. same q router || b) (any_rising router_total q before)
     ∙ swapped (same q router) (list_any (same q) before) ∙ sym (list_any-append (same q) before (router ∷ [])))
 
-pub inserted : (before old new : List RouterId) (router : RouterId) (o : Option RouterId) → o ≡ Some router → new ≡ insert_key router_cmp old router → old ≡ rising router_cmp before
+pub inserted : (before old new : List RouterId) (router : RouterId) (o : Option RouterId) → o ≡ Some router
+    → new ≡ insert_key router_cmp old router → old ≡ rising router_cmp before
     → new ≡ rising router_cmp (before ++ cons_option o [])
 inserted before old new router o is made from =
-    made ∙ ap (λ l. insert_key router_cmp l router) from ∙ insert_last before router ∙ ap (λ (p : Option RouterId). rising router_cmp (before ++ cons_option p [])) (sym is)
+    made ∙ ap (λ l. insert_key router_cmp l router) from ∙ insert_last before router
+    ∙ ap (λ (p : Option RouterId). rising router_cmp (before ++ cons_option p [])) (sym is)
 
-pub left_out : (before old : List RouterId) (o : Option RouterId) → o ≡ None → old ≡ rising router_cmp before → old ≡ rising router_cmp (before ++ cons_option o [])
+pub left_out : (before old : List RouterId) (o : Option RouterId) → o ≡ None
+    → old ≡ rising router_cmp before → old ≡ rising router_cmp (before ++ cons_option o [])
 left_out before old o is from =
     from ∙ ap (rising router_cmp) (sym (append-nil before)) ∙ ap (λ (p : Option RouterId). rising router_cmp (before ++ cons_option p [])) (sym is)

@@ -1,5 +1,6 @@
 -- The routers of live router-LSAs are those that are attached to areas.
-use Rattle.std.proofs.Common.{◌≡◌, ◌≢◌, ◌↔◌, ℕ, Bool, true, false, not, cond, eqb, List, [], ◌∷◌, Option, Some, None, refl, sym, ap, ◌∙◌, subst, inl, inr, true≢false}
+use Rattle.std.proofs.Common.{◌≡◌, ◌≢◌, ◌↔◌, ℕ, Bool, true, false, not, cond, eqb, List, [], ◌∷◌, Option, Some, None, refl, sym, ap, ◌∙◌, subst, inl}
+use Rattle.std.proofs.Common.{inr, true≢false}
 use Rattle.std.specs.Prelude.{◌&&◌, ◌||◌}
 use Rattle.std.specs.Cmp.{Equal-is, unsigned_ties}
 use Rattle.std.specs.List.{AllPairs, Contains, filter_map, find}
@@ -19,7 +20,8 @@ use Rattle.area_graph.specs.Area.{is_live, is_router_lsa}
 use Rattle.area_graph.specs.Graphs.{AreOfArea}
 use Rattle.area_graph.specs.Rising.{rising}
 use Rattle.area_graph.proofs.GraphLemmas.{are_of_area}
-use Rattle.area_graph.proofs.MemberLemmas.{Contains-from_In, In, In-filter, In-filter_map, In-flat_map, In-from_Contains, In-list_any, Some-same, filter-In, filter_map-In, flat_map-In}
+use Rattle.area_graph.proofs.MemberLemmas.{Contains-from_In, In, In-filter, In-filter_map, In-flat_map, In-from_Contains, In-list_any, Some-same}
+use Rattle.area_graph.proofs.MemberLemmas.{filter-In, filter_map-In, flat_map-In}
 use Rattle.area_routes.specs.Order.{router_cmp}
 use Rattle.area_routes.proofs.OrderLemmas.{router_exact, router_total}
 use Rattle.area_routes.proofs.RisingLemmas.{any_rising}
@@ -43,18 +45,21 @@ same_self a = sym (unsigned_ties a.0 a.0) ∙ eq-eqb a.0 a.0 refl
 
 In-rising : (rs : List RouterId) (router : RouterId) → In rs router → Contains (rising router_cmp rs) router
 In-rising rs router there =
-    Contains-from_any same_exact router (rising router_cmp rs) (any_rising router_total router rs ∙ In-list_any (same router) rs router there (same_self router))
+    Contains-from_any same_exact router (rising router_cmp rs)
+    (any_rising router_total router rs ∙ In-list_any (same router) rs router there (same_self router))
 
 rising-In : (rs : List RouterId) (router : RouterId) → Contains (rising router_cmp rs) router → In rs router
 rising-In rs router there =
     In-from_Contains rs router
     (Contains-from_any same_exact router rs
-    (sym (any_rising router_total router rs) ∙ In-list_any (same router) (rising router_cmp rs) router (In-from_Contains (rising router_cmp rs) router there) (same_self router)))
+    (sym (any_rising router_total router rs) ∙ In-list_any (same router) (rising router_cmp rs) router
+    (In-from_Contains (rising router_cmp rs) router there) (same_self router)))
 
 -- ---- the router-LSA of a router
 
 -- the only LSA of a key is found
-find_only : (key : Key) (lsas : List (List ℕ)) (lsa : List ℕ) → AllPairs (λ a b. key_of a ≢ key_of b) lsas → In lsas lsa → has_key key lsa ≡ true → find (has_key key) lsas ≡ Some lsa
+find_only : (key : Key) (lsas : List (List ℕ)) (lsa : List ℕ) → AllPairs (λ a b. key_of a ≢ key_of b) lsas
+    → In lsas lsa → has_key key lsa ≡ true → find (has_key key) lsas ≡ Some lsa
 find_only key [] lsa distinct there h = absurd there
 find_only key (x ∷ xs) lsa distinct (inl p) h =
     ap (λ b. cond b (Some x) (find (has_key key) xs)) (ap (has_key key) p ∙ h) ∙ ap (λ (l : List ℕ). Some l) p
@@ -77,7 +82,8 @@ record IsLiveOf (router : RouterId) (lsa : List ℕ) : Type 0 where
 live_of : (router : RouterId) (lsa : List ℕ) → live_router lsa ≡ Some router → IsLiveOf router lsa
 live_of router lsa h = by (is_live lsa && is_router_lsa lsa) refl h
   where
-    by : (b : Bool) → (is_live lsa && is_router_lsa lsa) ≡ b → cond b (let r : RouterId = record { 0 = link_state_id_of lsa } in Some r) None ≡ Some router → IsLiveOf router lsa
+    by : (b : Bool) → (is_live lsa && is_router_lsa lsa) ≡ b
+        → cond b (let r : RouterId = record { 0 = link_state_id_of lsa } in Some r) None ≡ Some router → IsLiveOf router lsa
     by false is e = absurd cc
     by true is e =
         let parts = and_parts (is_live lsa) (is_router_lsa lsa) is in
@@ -88,7 +94,8 @@ of_live router lsa live h =
     let parts = and_parts (eqb (kind_of lsa) 1) (eqb (link_state_id_of lsa) router.0 && eqb (advertising_router_of lsa) router.0) h in
     let id = and_parts (eqb (link_state_id_of lsa) router.0) (eqb (advertising_router_of lsa) router.0) parts.1 in
     let told : ℕ → Option RouterId = λ n. Some (record { 0 = n }) in
-    ap (λ b. cond b (told (link_state_id_of lsa)) None) (and_from (is_live lsa) (is_router_lsa lsa) live parts.0) ∙ ap told (eqb-true (link_state_id_of lsa) router.0 id.0)
+    ap (λ b. cond b (told (link_state_id_of lsa)) None) (and_from (is_live lsa) (is_router_lsa lsa) live parts.0)
+    ∙ ap told (eqb-true (link_state_id_of lsa) router.0 id.0)
 
 key_of_live : (router : RouterId) (lsa : List ℕ) → IsAccepted lsa → IsLiveOf router lsa → has_key (router_key router) lsa ≡ true
 key_of_live router lsa sound h =
@@ -98,16 +105,20 @@ key_of_live router lsa sound h =
 
 -- ---- one area
 
-there_joined : (router : RouterId) (lsas : List (List ℕ)) (lsa : List ℕ) → AreOfArea lsas → In lsas lsa → live_router lsa ≡ Some router → has_live_router_lsa router lsas ≡ true
+there_joined : (router : RouterId) (lsas : List (List ℕ)) (lsa : List ℕ) → AreOfArea lsas → In lsas lsa
+    → live_router lsa ≡ Some router → has_live_router_lsa router lsas ≡ true
 there_joined router lsas lsa are there h =
     let of = live_of router lsa h in
     let sound : IsAccepted lsa = All-contains IsAccepted lsas lsa are.accepted (Contains-from_In lsas lsa there) in
-    ap (λ (o : Option (List ℕ)). option_map_or is_live o false) (find_only (router_key router) lsas lsa are.distinct there (key_of_live router lsa sound of)) ∙ of.live
+    ap (λ (o : Option (List ℕ)). option_map_or is_live o false)
+    (find_only (router_key router) lsas lsa are.distinct there (key_of_live router lsa sound of)) ∙ of.live
 
-joined_there : (router : RouterId) (lsas : List (List ℕ)) → has_live_router_lsa router lsas ≡ true → (lsa : List ℕ) × In lsas lsa × (live_router lsa ≡ Some router)
+joined_there : (router : RouterId) (lsas : List (List ℕ)) → has_live_router_lsa router lsas ≡ true
+    → (lsa : List ℕ) × In lsas lsa × (live_router lsa ≡ Some router)
 joined_there router lsas h = by (find (has_key (router_key router)) lsas) refl h
   where
-    by : (o : Option (List ℕ)) → find (has_key (router_key router)) lsas ≡ o → option_map_or is_live o false ≡ true → (lsa : List ℕ) × In lsas lsa × (live_router lsa ≡ Some router)
+    by : (o : Option (List ℕ)) → find (has_key (router_key router)) lsas ≡ o → option_map_or is_live o false ≡ true
+        → (lsa : List ℕ) × In lsas lsa × (live_router lsa ≡ Some router)
     by None is k = absurd (true≢false (sym k))
     by (Some lsa) is k = (let found = found_In (has_key (router_key router)) lsas lsa is in (lsa, found.0, of_live router lsa k found.1))
 

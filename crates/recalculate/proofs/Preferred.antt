@@ -42,13 +42,16 @@ keys_keyed [] = refl
 keys_keyed (r ∷ rs) = ap (λ l. r.net ∷ l) (keys_keyed rs)
 
 -- one list that goes into the map
-one_list : (f : Net → Option RouteValue) (rs : List RouteValue) (q : Net) → AreSortedRoutes rs → update_all same f (map keyed rs) q ≡ option_or (route_to rs q) (f q)
+one_list : (f : Net → Option RouteValue) (rs : List RouteValue) (q : Net) → AreSortedRoutes rs
+    → update_all same f (map keyed rs) q ≡ option_or (route_to rs q) (f q)
 one_list f rs q up =
     let P : List Net → Type 0 = λ ks. IsDistinct same ks in
-    update_all_distinct (eq_by_cmp_equiv prefix_total) same (λ x y. refl) f (map keyed rs) q (subst P (sym (keys_keyed rs)) (IsDistinct-from_sorted prefix_cmp (nets rs) up))
+    update_all_distinct (eq_by_cmp_equiv prefix_total) same (λ x y. refl) f (map keyed rs) q
+    (subst P (sym (keys_keyed rs)) (IsDistinct-from_sorted prefix_cmp (nets rs) up))
     ∙ ap (λ o. option_or o (f q)) (lookup_keyed q rs)
 
-two_lists : (f : Net → Option RouteValue) (xs ys : List RouteValue) (q : Net) → AreSortedRoutes ys → update_all same f (map keyed (xs ++ ys)) q ≡ option_or (route_to ys q) (update_all same f (map keyed xs) q)
+two_lists : (f : Net → Option RouteValue) (xs ys : List RouteValue) (q : Net) → AreSortedRoutes ys
+    → update_all same f (map keyed (xs ++ ys)) q ≡ option_or (route_to ys q) (update_all same f (map keyed xs) q)
 two_lists f xs ys q up =
     ap (λ l. update_all same f l q) (map-append keyed xs ys) ∙ ap (λ g. g q) (fold-append _ f (map keyed xs) (map keyed ys))
     ∙ one_list (update_all same f (map keyed xs)) ys q up
@@ -68,7 +71,8 @@ module _ (first second : List RouteValue) where
   any_nets q = ap (list_any (same q)) (map-append (λ r. r.net) first second) ∙ list_any-append (same q) (nets first) (nets second)
 
   -- there is a route only to a prefix of the lists
-  only_nets : (q : Net) (b : Bool) → list_any (same q) (nets (first ++ second)) ≡ b → cond b (preferred_route first second q) None ≡ preferred_route first second q
+  only_nets : (q : Net) (b : Bool) → list_any (same q) (nets (first ++ second)) ≡ b
+      → cond b (preferred_route first second q) None ≡ preferred_route first second q
   only_nets q true h = refl
   only_nets q false h =
       let parts = or_parts (list_any (same q) (nets first)) (list_any (same q) (nets second)) (sym (any_nets q) ∙ h) in
@@ -85,9 +89,11 @@ module _ (first second : List RouteValue) where
         let ks = rising prefix_cmp (nets (first ++ second)) in
         let f = preferred_route first second in
         ap (map (λ (e : Net × RouteValue). e.1))
-        (same_entries prefix_total prefix_exact m.entries (entries_at prefix_cmp f ks) made.1 (sorted_entries prefix_cmp f ks (sorted_rising prefix_total (nets (first ++ second))))
+        (same_entries prefix_total prefix_exact m.entries (entries_at prefix_cmp f ks) made.1
+        (sorted_entries prefix_cmp f ks (sorted_rising prefix_total (nets (first ++ second))))
         (λ q. made.0 q ∙ in_turn q
-        ∙ sym (lookup_entries prefix_cmp prefix_exact f ks q ∙ ap (λ b. cond b (f q) None) (any_rising prefix_total q (nets (first ++ second))) ∙ only_nets q _ refl)))
+        ∙ sym (lookup_entries prefix_cmp prefix_exact f ks q
+        ∙ ap (λ b. cond b (f q) None) (any_rising prefix_total q (nets (first ++ second))) ∙ only_nets q _ refl)))
         ∙ values_entries prefix_cmp f ks
 
 -- ---- the preferred routes stand in order, and what holds of all routes of both lists holds of them
@@ -109,7 +115,8 @@ preferred_net first second q r h = by (route_to first q) refl h
     by None e k = route_net q second r k
     by (Some x) e k = let is : Some x ≡ Some r = k in route_net q first r (e ∙ is)
 
-nets_at : (f : Net → Option RouteValue) (ks : List Net) → ((k : Net) (r : RouteValue) → f k ≡ Some r → r.net ≡ k) → nets (filter_map f ks) ≡ keys_of (entries_at prefix_cmp f ks)
+nets_at : (f : Net → Option RouteValue) (ks : List Net) → ((k : Net) (r : RouteValue) → f k ≡ Some r → r.net ≡ k)
+    → nets (filter_map f ks) ≡ keys_of (entries_at prefix_cmp f ks)
 nets_at f [] of_key = refl
 nets_at f (k ∷ ks) of_key = by (f k) refl (nets_at f ks of_key)
   where
@@ -142,7 +149,8 @@ module _ (P : RouteValue → Type 0) where
       by (Some r) h rest = All-cons P r (filter_map f ks) h rest
 
   pub preferring_all : (first second : List RouteValue) → All P first → All P second → All P (preferring first second)
-  preferring_all first second a b = some_all (preferred_route first second) (rising prefix_cmp (nets (first ++ second))) (λ q. by (route_to first q) (route_to second q) (route_all first q a) (route_all second q b))
+  preferring_all first second a b = some_all (preferred_route first second) (rising prefix_cmp (nets (first ++ second)))
+      (λ q. by (route_to first q) (route_to second q) (route_all first q a) (route_all second q b))
     where
       by : (o other : Option RouteValue) → IfSome o P → IfSome other P → IfSome (option_or o other) P
       by None other h k = k
@@ -152,7 +160,8 @@ module _ (P : RouteValue → Type 0) where
 module _ (m : BTreeMap Net RouteValue) (first second whole listed : List RouteValue) (up_first : AreSortedRoutes first) (up_second : AreSortedRoutes second)
     (is : whole ≡ second ++ first) (made : IsFromIterResult prefix_cmp (map (λ r. (r.net, r)) whole) m) (values_of : listed ≡ values m) where
   pub listed_is : listed ≡ preferring first second
-  listed_is = values_of ∙ values_are first second up_first up_second m (subst (λ (l : List RouteValue). IsFromIterResult prefix_cmp (map (λ r. (r.net, r)) l) m) is made)
+  listed_is = values_of ∙ values_are first second up_first up_second m
+      (subst (λ (l : List RouteValue). IsFromIterResult prefix_cmp (map (λ r. (r.net, r)) l) m) is made)
 
   pub listed_sorted : AreSortedRoutes listed
   listed_sorted = subst AreSortedRoutes (sym listed_is) (preferring_sorted first second)

@@ -25,7 +25,8 @@ module _ {X : Type 0} (p q : X → Bool) (implies : (x : X) → p x ≡ true →
   filter_twice [] = refl
   filter_twice (x ∷ xs) = by (p x) (q x) refl refl (filter_twice xs)
     where
-      by : (b d : Bool) → p x ≡ b → q x ≡ d → filter p (filter q xs) ≡ filter p xs → filter p (cond d (x ∷ filter q xs) (filter q xs)) ≡ cond b (x ∷ filter p xs) (filter p xs)
+      by : (b d : Bool) → p x ≡ b → q x ≡ d → filter p (filter q xs) ≡ filter p xs
+          → filter p (cond d (x ∷ filter q xs) (filter q xs)) ≡ cond b (x ∷ filter p xs) (filter p xs)
       by b true e f rest = ap (λ t. cond t (x ∷ filter p (filter q xs)) (filter p (filter q xs))) e ∙ ap (λ ys. cond b (x ∷ ys) ys) rest
       by true false e f rest = absurd (let no : true ≡ false = sym (implies x e) ∙ f in cc)
       by false false e f rest = rest
@@ -51,13 +52,15 @@ module _ (lsas others : List (List ℕ)) (same : filter is_graph_lsa lsas ≡ fi
   unfolding used
   same_used =
       ap highest
-      (sym (filter_twice is_vertex_lsa is_graph_lsa vertex_is_graph lsas) ∙ ap (filter is_vertex_lsa) same ∙ filter_twice is_vertex_lsa is_graph_lsa vertex_is_graph others)
+      (sym (filter_twice is_vertex_lsa is_graph_lsa vertex_is_graph lsas) ∙ ap (filter is_vertex_lsa) same
+      ∙ filter_twice is_vertex_lsa is_graph_lsa vertex_is_graph others)
 
   pub same_live : (router : RouterId) → has_live_router_lsa router lsas ≡ has_live_router_lsa router others
   same_live router =
       let keyed = has_key (router_key router) in
       ap (λ (o : Option (List ℕ)). option_map_or is_live o false)
-      (sym (find_filtered keyed is_graph_lsa (keyed_is_graph router) lsas) ∙ ap (find keyed) same ∙ find_filtered keyed is_graph_lsa (keyed_is_graph router) others)
+      (sym (find_filtered keyed is_graph_lsa (keyed_is_graph router) lsas) ∙ ap (find keyed) same
+      ∙ find_filtered keyed is_graph_lsa (keyed_is_graph router) others)
 
   same_rows : rows_of lsas ≡ rows_of others
   unfolding row_of

@@ -34,21 +34,26 @@ edited_full d h e full =
     cond-false (ltb (length (session_of d h).done) most_edits) (accepted (session_of d h) e (effect (state (session_of d h)) e)) (fault HistoryFull)
     (le-ltb (length (session_of d h).done) most_edits (omega (arith, done_len d h)))
 
-with_room : (d : Places) (h : HistoryData) (e : Edit) → length h.past < most_edits → Links d h → edited (session_of d h) e ≡ accepted (session_of d h) e (effect (lists_of d) e)
+with_room : (d : Places) (h : HistoryData) (e : Edit) → length h.past < most_edits → Links d h
+    → edited (session_of d h) e ≡ accepted (session_of d h) e (effect (lists_of d) e)
 unfolding edited
 with_room d h e room links =
     cond-true (ltb (length (session_of d h).done) most_edits) (accepted (session_of d h) e (effect (state (session_of d h)) e)) (fault HistoryFull)
     (lt-ltb (length (session_of d h).done) most_edits (omega (arith, done_len d h)))
     ∙ ap (λ (db : Lists). accepted (session_of d h) e (effect db e)) (state_is d h links)
 
-pub edited_refused : (d : Places) (h : HistoryData) (e : Edit) (f : EditFault) → length h.past < most_edits → Links d h → effect (lists_of d) e ≡ Err f → edited (session_of d h) e ≡ Err f
+pub edited_refused : (d : Places) (h : HistoryData) (e : Edit) (f : EditFault) → length h.past < most_edits
+    → Links d h → effect (lists_of d) e ≡ Err f → edited (session_of d h) e ≡ Err f
 edited_refused d h e f room links refused = with_room d h e room links ∙ ap (accepted (session_of d h) e) refused
 
-pub edited_accepted : (d d' : Places) (h : HistoryData) (e : Edit) (r : RecordData) → length h.past < most_edits → Links d h → IsDatabase (lists_of d') → Applied d d' e r → edited (session_of d h) e ≡ Ok (session_of d' (pushed r h))
+pub edited_accepted : (d d' : Places) (h : HistoryData) (e : Edit) (r : RecordData) → length h.past < most_edits → Links d h
+    → IsDatabase (lists_of d') → Applied d d' e r → edited (session_of d h) e ≡ Ok (session_of d' (pushed r h))
 edited_accepted d d' h e r room links sound applied =
     let kept = recorded d d' h e r links sound applied in
     with_room d h e room links
     ∙ ap (accepted (session_of d h) e) applied.leads
     ∙ ap (λ (db : Lists). answer (record { base = db; done = reverse (edits_of h.past) ++ e ∷ []; undone = [] })) (sym kept.base)
-    ∙ ap (λ (x : Edit). answer (record { base = lists_of (origin d' (r ∷ h.past)); done = reverse (edits_of h.past) ++ x ∷ []; undone = [] })) (sym applied.same)
-    ∙ ap (λ (es : List Edit). answer (record { base = lists_of (origin d' (r ∷ h.past)); done = es; undone = [] })) (sym (reverse_cons r.edit (edits_of h.past)))
+    ∙ ap (λ (x : Edit). answer
+    (record { base = lists_of (origin d' (r ∷ h.past)); done = reverse (edits_of h.past) ++ x ∷ []; undone = [] })) (sym applied.same)
+    ∙ ap (λ (es : List Edit). answer (record { base = lists_of (origin d' (r ∷ h.past)); done = es; undone = [] }))
+    (sym (reverse_cons r.edit (edits_of h.past)))

@@ -15,7 +15,8 @@ use Rattle.area_routes.specs.Attached.{attached_areas}
 use Rattle.recalculate.specs.Counts.{lsas_in}
 use Rattle.recalculate.specs.Tables.{TableValue, result_in, results_in, routes_from, table_by, table_in}
 
-pub routes_of_table : (db : Lists) (router : RouterId) (table : TableValue) → table_in db router ≡ Some table → table.routes ≡ routes_from db router (results_in db router (attached_areas db router))
+pub routes_of_table : (db : Lists) (router : RouterId) (table : TableValue) → table_in db router ≡ Some table
+    → table.routes ≡ routes_from db router (results_in db router (attached_areas db router))
 unfolding table_in
 routes_of_table db router table is = by_areas (attached_areas db router) is
   where
@@ -23,11 +24,13 @@ routes_of_table db router table is = by_areas (attached_areas db router) is
     by_areas [] none = absurd (cc)
     by_areas (area ∷ areas) same = sym (ap (λ (t : TableValue). t.routes) (Some-same same))
 
-pub given_by_reached : (db : Lists) (router : RouterId) (area : AreaHead) → result_in db router area ≡ given_by (record { 0 = area.id }) router (reached_from router (used (lsas_in db area)))
+pub given_by_reached : (db : Lists) (router : RouterId) (area : AreaHead)
+    → result_in db router area ≡ given_by (record { 0 = area.id }) router (reached_from router (used (lsas_in db area)))
 unfolding area_result
 given_by_reached db router area = refl
 
-pub over_all_paths : (db : Lists) (router : RouterId) (area : AreaHead) → IsDatabase db → AreOverAllPaths router (used (lsas_in db area)) (reached_from router (used (lsas_in db area)))
+pub over_all_paths : (db : Lists) (router : RouterId) (area : AreaHead) → IsDatabase db
+    → AreOverAllPaths router (used (lsas_in db area)) (reached_from router (used (lsas_in db area)))
 over_all_paths db router area is =
     let id : AreaId = record { 0 = area.id } in
     reached_over_all_paths router (used (lsas_in db area)) (used_accepted (lsas_in db area) (are_of_area id db is).accepted)

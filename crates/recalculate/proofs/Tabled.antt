@@ -1,5 +1,6 @@
 -- The table from its parts.
-use Rattle.std.proofs.Common.{◌≡◌, ℕ, ◌≤◌, true, List, [], ◌∷◌, length, Option, Some, Result, Ok, Err, IfOk, IfErr, OnErr, OnOk, inl, inr, zero, suc, refl, sym, ap, ◌∙◌, subst, arith}
+use Rattle.std.proofs.Common.{◌≡◌, ℕ, ◌≤◌, true, List, [], ◌∷◌, length, Option, Some, Result, Ok, Err, IfOk, IfErr, OnErr, OnOk, inl, inr, zero, suc}
+use Rattle.std.proofs.Common.{refl, sym, ap, ◌∙◌, subst, arith}
 use Rattle.std.specs.List.{slice_get}
 use Rattle.lsa_codec.specs.declared.address.RouterId.{RouterId}
 use Rattle.lsdb.specs.Lists.{AreaHead, Lists, areas_of}
@@ -22,7 +23,8 @@ module _ (db : Lists) (router : RouterId) (results : List AreaResultValue) where
   from_inter intra inter = preferring (preferring intra inter.routes) (externals_of db router (preferring intra inter.routes) inter.routers)
 
   pub if_routes : {X E : Type 0} (items : X → List RouteValue) (intra inside external : List RouteValue) (inter : InterValue) (r : Result X E)
-      → intra ≡ intra_of results → inter ≡ inter_of db router results intra → inside ≡ preferring intra inter.routes → external ≡ externals_of db router inside inter.routers
+      → intra ≡ intra_of results → inter ≡ inter_of db router results intra → inside ≡ preferring intra inter.routes
+      → external ≡ externals_of db router inside inter.routers
       → IfOk r (λ v. items v ≡ preferring inside external) → IfOk r (λ v. items v ≡ routes_from db router results)
   if_routes items intra inside external inter (Ok v) a b c d h =
       h ∙ ap (λ e. preferring inside e) d ∙ ap (λ s. preferring s (externals_of db router s inter.routers)) c ∙ ap (λ n. from_inter intra n) b
@@ -31,14 +33,16 @@ module _ (db : Lists) (router : RouterId) (results : List AreaResultValue) where
 
 -- ---- the table
 
-by_areas : (db : Lists) (router : RouterId) (areas : List AreaHead) (results : List AreaResultValue) (routes : List RouteValue) → results ≡ results_in db router areas → (results ≡ [] → ⊥)
+by_areas : (db : Lists) (router : RouterId) (areas : List AreaHead) (results : List AreaResultValue) (routes : List RouteValue)
+    → results ≡ results_in db router areas → (results ≡ [] → ⊥)
     → routes ≡ routes_from db router results → table_by db router areas ≡ Some (record { router = router; routes = routes })
 by_areas db router [] results routes is some from = absurd (some is)
 by_areas db router (area ∷ areas) results routes is some from =
     let table : List RouteValue → Option TableValue = λ l. Some (record { router = router; routes = l }) in
     ap table (sym (from ∙ ap (routes_from db router) is))
 
-pub table_is : (db : Lists) (router : RouterId) (results : List AreaResultValue) (routes : List RouteValue) → results ≡ results_in db router (attached_areas db router) → (results ≡ [] → ⊥)
+pub table_is : (db : Lists) (router : RouterId) (results : List AreaResultValue) (routes : List RouteValue)
+    → results ≡ results_in db router (attached_areas db router) → (results ≡ [] → ⊥)
     → routes ≡ routes_from db router results → table_in db router ≡ Some (record { router = router; routes = routes })
 unfolding table_in
 table_is db router results routes = by_areas db router (attached_areas db router) results routes
@@ -49,7 +53,8 @@ none_by : (db : Lists) (router : RouterId) (areas : List AreaHead) → results_i
 none_by db router [] is = refl
 none_by db router (area ∷ areas) is = cc
 
-pub no_table : (db : Lists) (router : RouterId) (results : List AreaResultValue) → results ≡ results_in db router (attached_areas db router) → results ≡ [] → FaultMeans (table_in db router) NoRouter
+pub no_table : (db : Lists) (router : RouterId) (results : List AreaResultValue)
+    → results ≡ results_in db router (attached_areas db router) → results ≡ [] → FaultMeans (table_in db router) NoRouter
 unfolding table_in
 no_table db router results is none = none_by db router (attached_areas db router) (sym is ∙ none)
 
@@ -61,7 +66,8 @@ pub no_memory : (db : Lists) (router : RouterId) → (attached_areas db router �
 unfolding table_in
 no_memory db router some = some_by db router (attached_areas db router) some
 
-pub some_results : (db : Lists) (router : RouterId) (results : List AreaResultValue) → results ≡ results_in db router (attached_areas db router) → (results ≡ [] → ⊥) → attached_areas db router ≡ [] → ⊥
+pub some_results : (db : Lists) (router : RouterId) (results : List AreaResultValue)
+    → results ≡ results_in db router (attached_areas db router) → (results ≡ [] → ⊥) → attached_areas db router ≡ [] → ⊥
 some_results db router results is some none = some (is ∙ ap (results_in db router) none)
 
 -- an area to which the router is attached
@@ -73,7 +79,8 @@ slice_In [] i x here = cc
 slice_In (y ∷ ys) zero x here = let is : y ≡ x = cc in inl is
 slice_In (y ∷ ys) (suc i) x here = inr (slice_In ys i x here)
 
-pub attached_somewhere : (db : Lists) (router : RouterId) (i : ℕ) (area : AreaHead) → slice_get (areas_of db) i ≡ Some area → joins db router area ≡ true → attached_areas db router ≡ [] → ⊥
+pub attached_somewhere : (db : Lists) (router : RouterId) (i : ℕ) (area : AreaHead) → slice_get (areas_of db) i ≡ Some area
+    → joins db router area ≡ true → attached_areas db router ≡ [] → ⊥
 attached_somewhere db router i area here joined =
     in_some (attached_areas db router) area (In-filter (joins db router) (areas_of db) area (slice_In (areas_of db) i area here) joined)
 
@@ -92,11 +99,13 @@ on_err (Err e) p = p
 
 -- ---- the table in the database that a session shows
 
-pub if_table : {X E : Type 0} (table : X → TableValue) (d s : Lists) (router : RouterId) (r : Result X E) → d ≡ s → IfOk r (λ v. table_in d router ≡ Some (table v)) → IfOk r (λ v. table_in s router ≡ Some (table v))
+pub if_table : {X E : Type 0} (table : X → TableValue) (d s : Lists) (router : RouterId) (r : Result X E) → d ≡ s
+    → IfOk r (λ v. table_in d router ≡ Some (table v)) → IfOk r (λ v. table_in s router ≡ Some (table v))
 if_table table d s router (Ok v) same h = subst (λ db. table_in db router ≡ Some (table v)) same h
 if_table table d s router (Err e) same h = tt
 
-pub if_fault : {X : Type 0} (d s : Lists) (router : RouterId) (r : Result X TableFault) → d ≡ s → IfErr r (FaultMeans (table_in d router)) → IfErr r (FaultMeans (table_in s router))
+pub if_fault : {X : Type 0} (d s : Lists) (router : RouterId) (r : Result X TableFault) → d ≡ s
+    → IfErr r (FaultMeans (table_in d router)) → IfErr r (FaultMeans (table_in s router))
 if_fault d s router r same h = subst (λ db. IfErr r (FaultMeans (table_in db router))) same h
 
 -- what holds anyhow holds of an answer

@@ -19,7 +19,8 @@ module _ (db : Lists) (i : ℕ) (area : AreaHead) (here : slice_get (areas_of db
   pub lsas_more : lsas_among db (take (i + 1) (areas_of db)) ≡ lsas_among db (take i (areas_of db)) ++ lsas_in db area
   lsas_more =
       ap (lsas_among db)
-      (take_more (areas_of db) i area (slice_get_within (areas_of db) i area here) ∙ ap (λ a. take i (areas_of db) ++ a ∷ []) (get_or_from_slice_get (areas_of db) i area area here))
+      (take_more (areas_of db) i area (slice_get_within (areas_of db) i area here)
+      ∙ ap (λ a. take i (areas_of db) ++ a ∷ []) (get_or_from_slice_get (areas_of db) i area area here))
       ∙ sym (flat_map_more (lsas_in db) [] (take i (areas_of db)) area)
 
   pub total_more : (total : List (List ℕ) → ℕ) → ((xs ys : List (List ℕ)) → total (xs ++ ys) ≡ total xs + total ys) → (old more : ℕ)

@@ -1,5 +1,6 @@
 -- Which areas the edits touch that were carried out, taken back, or carried out again, and what stays of the others.
-use Rattle.std.proofs.Common.{◌≡◌, ℕ, ◌+◌, ◌-◌, ◌<◌, ◌≤◌, Bool, true, false, not, filter, List, [], ◌∷◌, ◌++◌, take, drop, length, Result, Ok, Err, refl, sym, ap, ◌∙◌, subst, arith}
+use Rattle.std.proofs.Common.{◌≡◌, ℕ, ◌+◌, ◌-◌, ◌<◌, ◌≤◌, Bool, true, false, not, filter, List, [], ◌∷◌, ◌++◌, take, drop, length, Result, Ok, Err}
+use Rattle.std.proofs.Common.{refl, sym, ap, ◌∙◌, subst, arith}
 use Rattle.std.specs.Prelude.{◌||◌, cond, nat_lt}
 use Rattle.std.proofs.lemmas.List.{length-append, length-drop, length-take}
 use Rattle.lsa_codec.specs.declared.address.AreaId.{AreaId}
@@ -10,7 +11,8 @@ use Rattle.edit_history.specs.declared.fault.EditFault.{EditFault}
 use Rattle.edit_history.specs.declared.fault.EditFault.TheVariants.{HistoryFull}
 use Rattle.edit_history.specs.Effect.{◌>>=◌, edit_touches, effect, graph_lsas}
 use Rattle.edit_history.specs.Journal.{HistoryData, Links}
-use Rattle.edit_history.specs.Session.{Session, accepted, edited, edited_by, edits_touch, moved_back, moved_on, most_edits, redo_touches, session_of, state, undo_touches}
+use Rattle.edit_history.specs.Session.{Session, accepted, edited, edited_by, edits_touch, moved_back, moved_on, most_edits, redo_touches, session_of}
+use Rattle.edit_history.specs.Session.{state, undo_touches}
 use Rattle.edit_history.proofs.HistoryLemmas.{edits_back, on_and_back, seam_drop, seam_take}
 use Rattle.edit_history.proofs.HistoryLemmas.{redo_spares, undo_spares}
 use Rattle.recalculate.specs.AreaTrees.{AreasTrees, AreOfDatabase, routers_of}
@@ -22,12 +24,14 @@ use Rattle.recalculate.proofs.TreesSpared.{told_untouched, untouched, untouched_
 
 pub undone_touch : (k : ℕ) (area : AreaId) (s : Session) → k ≤ length s.done → redo_touches k area (moved_back k s) ≡ undo_touches k area s
 undone_touch k area s le =
-    ap (edits_touch area (state (moved_back k s))) (seam_take k (drop (length s.done - k) s.done) s.undone (omega (arith, length-drop (length s.done - k) s.done, le)))
+    ap (edits_touch area (state (moved_back k s)))
+    (seam_take k (drop (length s.done - k) s.done) s.undone (omega (arith, length-drop (length s.done - k) s.done, le)))
 
 pub redone_touch : (k : ℕ) (area : AreaId) (s : Session) → k ≤ length s.undone → undo_touches k area (moved_on k s) ≡ redo_touches k area s
 redone_touch k area s le =
     ap (λ (t : Session). edits_touch area (state t) (drop (length (s.done ++ take k s.undone) - k) (s.done ++ take k s.undone))) (on_and_back s k le)
-    ∙ ap (edits_touch area (state s)) (seam_drop (length (s.done ++ take k s.undone) - k) s.done (take k s.undone) (omega (arith, length-append s.done (take k s.undone), length-take k s.undone, le)))
+    ∙ ap (edits_touch area (state s)) (seam_drop (length (s.done ++ take k s.undone) - k) s.done (take k s.undone)
+    (omega (arith, length-append s.done (take k s.undone), length-take k s.undone, le)))
 
 -- an edit that was accepted is the last one that is done
 done_after : (s t : Session) (e : Edit) → edited s e ≡ Ok t → t.done ≡ s.done ++ e ∷ []
@@ -55,17 +59,20 @@ edited_touch area s t e h =
 
 -- ---- areas that are not touched keep their router-LSAs and network-LSAs
 
-pub undone_spares : (s : Session) (k : ℕ) (area : AreaId) → IsReached s → undo_touches k area s ≡ false → graph_lsas area (state (moved_back k s)) ≡ graph_lsas area (state s)
+pub undone_spares : (s : Session) (k : ℕ) (area : AreaId) → IsReached s → undo_touches k area s ≡ false
+    → graph_lsas area (state (moved_back k s)) ≡ graph_lsas area (state s)
 undone_spares s k area reached =
     subst (λ (t : Session). undo_touches k area t ≡ false → graph_lsas area (state (moved_back k t)) ≡ graph_lsas area (state t)) reached.shows
     (undo_spares reached.places reached.history k area reached.links)
 
-pub redone_spares : (s : Session) (k : ℕ) (area : AreaId) → IsReached s → redo_touches k area s ≡ false → graph_lsas area (state (moved_on k s)) ≡ graph_lsas area (state s)
+pub redone_spares : (s : Session) (k : ℕ) (area : AreaId) → IsReached s → redo_touches k area s ≡ false
+    → graph_lsas area (state (moved_on k s)) ≡ graph_lsas area (state s)
 redone_spares s k area reached =
     subst (λ (t : Session). redo_touches k area t ≡ false → graph_lsas area (state (moved_on k t)) ≡ graph_lsas area (state t)) reached.shows
     (redo_spares reached.places reached.history k area reached.links)
 
-pub edited_spares : (s t : Session) (e : Edit) (area : AreaId) → IsReached t → edited s e ≡ Ok t → edit_touches area (state s) e ≡ false → graph_lsas area (state t) ≡ graph_lsas area (state s)
+pub edited_spares : (s t : Session) (e : Edit) (area : AreaId) → IsReached t → edited s e ≡ Ok t
+    → edit_touches area (state s) e ≡ false → graph_lsas area (state t) ≡ graph_lsas area (state s)
 edited_spares s t e area reached h apart =
     sym (undone_spares t 1 area reached (edited_touch area s t e h ∙ apart)) ∙ ap (graph_lsas area) (state_before s t e h)
 
@@ -76,7 +83,8 @@ pub record IsKeptAs (db : Lists) (is_touched : AreaId → Bool) (areas new : Are
   pub graphs : AreOfDatabase db new
   pub shown : routers_of new ≡ less_touched is_touched (routers_of areas)
 
-kept_as : (db after : Lists) (is_touched : AreaId → Bool) (areas new : AreasTrees) → ((area : AreaId) → is_touched area ≡ false → graph_lsas area after ≡ graph_lsas area db)
+kept_as : (db after : Lists) (is_touched : AreaId → Bool) (areas new : AreasTrees)
+    → ((area : AreaId) → is_touched area ≡ false → graph_lsas area after ≡ graph_lsas area db)
     → new ≡ untouched is_touched areas → AreOfDatabase db areas → IsKeptAs after is_touched areas new
 kept_as db after is_touched areas new stay is all = record {
   graphs = subst (λ (l : AreasTrees). AreOfDatabase after l) (sym is) (untouched_stay db after is_touched stay areas all);

@@ -1,5 +1,6 @@
 -- The trees that the areas of a router lack, area after area.
-use Rattle.std.proofs.Common.{◌≡◌, ◌≢◌, ℕ, zero, suc, ◌+◌, ◌<◌, ◌≤◌, Bool, true, false, not, cond, List, [], ◌∷◌, ◌++◌, take, drop, filter, length, Option, Some, None, refl, sym, ap, ◌∙◌, subst, arith, true≢false}
+use Rattle.std.proofs.Common.{◌≡◌, ◌≢◌, ℕ, zero, suc, ◌+◌, ◌<◌, ◌≤◌, Bool, true, false, not, cond, List, [], ◌∷◌, ◌++◌, take, drop, filter, length}
+use Rattle.std.proofs.Common.{Option, Some, None, refl, sym, ap, ◌∙◌, subst, arith, true≢false}
 use Rattle.std.specs.Prelude.{All}
 use Rattle.std.specs.List.{AllPairs, cons_option, slice_get, slice_index_or}
 use Rattle.std.proofs.lemmas.List.{append-nil, length-append, take-append-drop, take_all}
@@ -38,15 +39,20 @@ lacks_one trees router area = by (trees (id_of area) router)
 
 lacks_both : (trees : TreeSet) (router : RouterId) (xs ys : List AreaHead) → lacking trees router (xs ++ ys) ≡ lacking trees router xs + lacking trees router ys
 lacks_both trees router xs ys =
-    ap length (filter-append (λ area. not (trees (id_of area) router)) xs ys) ∙ length-append (areas_without_tree trees router xs) (areas_without_tree trees router ys)
+    ap length (filter-append (λ area. not (trees (id_of area) router)) xs ys)
+    ∙ length-append (areas_without_tree trees router xs) (areas_without_tree trees router ys)
 
 -- where a larger set is asked, no area lacks its tree that did not before
-none_lacks : (some all : TreeSet) (router : RouterId) → IsWithin some all → (areas : List AreaHead) → areas_without_tree some router areas ≡ [] → areas_without_tree all router areas ≡ []
+none_lacks : (some all : TreeSet) (router : RouterId) → IsWithin some all → (areas : List AreaHead)
+    → areas_without_tree some router areas ≡ [] → areas_without_tree all router areas ≡ []
 none_lacks some all router within [] none = refl
 none_lacks some all router within (area ∷ areas) none = by (some (id_of area) router) refl (none_lacks some all router within areas) none
   where
-    by : (b : Bool) → some (id_of area) router ≡ b → (areas_without_tree some router areas ≡ [] → areas_without_tree all router areas ≡ []) → cond (not b) (area ∷ areas_without_tree some router areas) (areas_without_tree some router areas) ≡ [] → areas_without_tree all router (area ∷ areas) ≡ []
-    by true e rest h = ap (λ b. cond (not b) (area ∷ areas_without_tree all router areas) (areas_without_tree all router areas)) (within (id_of area) router e) ∙ rest h
+    by : (b : Bool) → some (id_of area) router ≡ b → (areas_without_tree some router areas ≡ [] → areas_without_tree all router areas ≡ [])
+        → cond (not b) (area ∷ areas_without_tree some router areas) (areas_without_tree some router areas) ≡ []
+        → areas_without_tree all router (area ∷ areas) ≡ []
+    by true e rest h = ap (λ b. cond (not b) (area ∷ areas_without_tree all router areas) (areas_without_tree all router areas))
+        (within (id_of area) router e) ∙ rest h
     by false e rest h = absurd cc
 
 -- ---- areas have different IDs
@@ -63,11 +69,13 @@ rising_ids : (db : Lists) → AllPairs IsBefore (heads_of db) → AllPairs (λ a
 rising_ids [] order = λ i j d lt within. absurd (omega (arith, within))
 rising_ids (s ∷ db) order = by s.area (pairs_head IsBefore s.area (heads_of db) order) (rising_ids db (pairs_tail IsBefore s.area (heads_of db) order))
   where
-    by : (o : Option AreaHead) → All (IsBefore o) (heads_of db) → AllPairs (λ a b. a.id < b.id) (areas_of db) → AllPairs (λ a b. a.id < b.id) (cons_option o (areas_of db))
+    by : (o : Option AreaHead) → All (IsBefore o) (heads_of db) → AllPairs (λ a b. a.id < b.id) (areas_of db)
+        → AllPairs (λ a b. a.id < b.id) (cons_option o (areas_of db))
     by None before rest = rest
     by (Some a) before rest = AllPairs-cons (λ a b. a.id < b.id) a (areas_of db) (above a db before) rest
 
-pub ids_apart : (db : Lists) (i j : ℕ) (a b : AreaHead) → IsDatabase db → i < j → slice_get (areas_of db) i ≡ Some a → slice_get (areas_of db) j ≡ Some b → id_of b ≢ id_of a
+pub ids_apart : (db : Lists) (i j : ℕ) (a b : AreaHead) → IsDatabase db → i < j
+    → slice_get (areas_of db) i ≡ Some a → slice_get (areas_of db) j ≡ Some b → id_of b ≢ id_of a
 ids_apart db i j a b sound lt here there same =
     let rises = rising_ids db sound.heads.order i j a lt (slice_get_within (areas_of db) j b there) in
     let first : slice_index_or (areas_of db) i a ≡ a = get_or_from_slice_get (areas_of db) i a a here in
@@ -90,7 +98,8 @@ lacked db router first i = lacking first router (attached_among db router (take 
 pub none_grown : (db : Lists) (router : RouterId) (first : TreeSet) → IsGrown db router 0 first first
 none_grown db router first = record { within = λ area r h. h; ahead = λ j a le here. refl; grown = refl }
 
-module _ (db : Lists) (router : RouterId) (i : ℕ) (area : AreaHead) (here : slice_get (areas_of db) i ≡ Some area) (sound : IsDatabase db) (first now : TreeSet) (so_far : IsGrown db router i first now) where
+module _ (db : Lists) (router : RouterId) (i : ℕ) (area : AreaHead) (here : slice_get (areas_of db) i ≡ Some area)
+    (sound : IsDatabase db) (first now : TreeSet) (so_far : IsGrown db router i first now) where
   -- an area to which the router is attached
   module _ (joined : joins db router area ≡ true) where
     more_areas : attached_among db router (take (i + 1) (areas_of db)) ≡ attached_among db router (take i (areas_of db)) ++ area ∷ []
@@ -103,7 +112,8 @@ module _ (db : Lists) (router : RouterId) (i : ℕ) (area : AreaHead) (here : sl
       ahead = λ j a le at. others (id_of a) (ids_apart db i j area a sound (omega (arith, le)) here at) router ∙ so_far.ahead j a (omega (arith, le)) at;
       grown = ap (areas_without_tree next router) more_areas
           ∙ filter-append (λ a. not (next (id_of a) router)) (attached_among db router (take i (areas_of db))) (area ∷ [])
-          ∙ ap (λ xs. xs ++ cond (not (next (id_of area) router)) (area ∷ []) []) (none_lacks now next router keeps (attached_among db router (take i (areas_of db))) so_far.grown)
+          ∙ ap (λ xs. xs ++ cond (not (next (id_of area) router)) (area ∷ []) [])
+          (none_lacks now next router keeps (attached_among db router (take i (areas_of db))) so_far.grown)
           ∙ ap (λ b. cond (not b) (area ∷ []) []) has;
     }
 
@@ -113,7 +123,8 @@ module _ (db : Lists) (router : RouterId) (i : ℕ) (area : AreaHead) (here : sl
         ap (lacking first router) more_areas ∙ lacks_both first router (attached_among db router (take i (areas_of db))) (area ∷ [])
         ∙ ap (λ n. lacked db router first i + n) (lacks_one first router area ∙ ap missing (sym (so_far.ahead i area (omega arith) here)))
 
-    pub one_counted_more : (old before after : ℕ) → before ≡ counted_by (lacked db router first i) old → after ≡ counted_by (missing (now (id_of area) router)) before
+    pub one_counted_more : (old before after : ℕ) → before ≡ counted_by (lacked db router first i) old
+        → after ≡ counted_by (missing (now (id_of area) router)) before
         → after ≡ counted_by (lacked db router first (i + 1)) old
     one_counted_more old before after so one =
         one ∙ ap (counted_by (missing (now (id_of area) router))) so
@@ -124,11 +135,13 @@ module _ (db : Lists) (router : RouterId) (i : ℕ) (area : AreaHead) (here : sl
     few_lacked =
         omega (
           arith,
-          ap (lacking first router) (sym (ap (attached_among db router) (take-append-drop (i + 1) (areas_of db))) ∙ filter-append (joins db router) (take (i + 1) (areas_of db)) (drop (i + 1) (areas_of db))),
+          ap (lacking first router) (sym (ap (attached_among db router) (take-append-drop (i + 1) (areas_of db)))
+              ∙ filter-append (joins db router) (take (i + 1) (areas_of db)) (drop (i + 1) (areas_of db))),
           lacks_both first router (attached_among db router (take (i + 1) (areas_of db))) (attached_among db router (drop (i + 1) (areas_of db))),
         )
 
-    pub at_most_one_more : (old before after : ℕ) → before ≡ counted_by (lacked db router first i) old → CountsAtMost (missing (now (id_of area) router)) before after
+    pub at_most_one_more : (old before after : ℕ) → before ≡ counted_by (lacked db router first i) old
+        → CountsAtMost (missing (now (id_of area) router)) before after
         → CountsAtMost (lacking first router (attached_areas db router)) old after
     at_most_one_more old before after so last = record {
       trees = last.trees + lacked db router first i;

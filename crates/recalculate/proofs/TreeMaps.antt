@@ -1,5 +1,6 @@
 -- Maps of trees after one entry was put into them.
-use Rattle.std.proofs.Common.{◌≡◌, ◌≢◌, Bool, true, false, cond, List, [], ◌∷◌, Option, Some, None, Result, Ok, Err, IfOk, refl, sym, ap, ◌∙◌, subst, true≢false}
+use Rattle.std.proofs.Common.{◌≡◌, ◌≢◌, Bool, true, false, cond, List, [], ◌∷◌, Option, Some, None, Result, Ok, Err, IfOk, refl, sym, ap, ◌∙◌, subst}
+use Rattle.std.proofs.Common.{true≢false}
 use Rattle.std.specs.Prelude.{is_some, IsSome, IsSomeAnd, IfSome}
 use Rattle.std.specs.Cmp.{Equal-is, IsTotalOrder, unsigned_ties}
 use Rattle.std.specs.List.{Contains}
@@ -37,7 +38,8 @@ module _ {K V : Type 0} (cmp : K → K → Ordering) (exact : CmpEqualImpliesEq 
   pub put_all : (P : K → V → Type 0) → P k v → ((q : K) → IfSome (lookup (eq_by_cmp cmp q) old) (P q)) → (q : K) → IfSome (lookup (eq_by_cmp cmp q) new) (P q)
   put_all P new_one all q = by (eq_by_cmp cmp k q) refl (puts q)
     where
-      by : (b : Bool) → eq_by_cmp cmp k q ≡ b → lookup (eq_by_cmp cmp q) new ≡ cond b (Some v) (lookup (eq_by_cmp cmp q) old) → IfSome (lookup (eq_by_cmp cmp q) new) (P q)
+      by : (b : Bool) → eq_by_cmp cmp k q ≡ b → lookup (eq_by_cmp cmp q) new ≡ cond b (Some v) (lookup (eq_by_cmp cmp q) old)
+          → IfSome (lookup (eq_by_cmp cmp q) new) (P q)
       by true e h = subst (λ o. IfSome o (P q)) (sym h) (subst (λ r. P r v) (same_key q e) new_one)
       by false e h = subst (λ o. IfSome o (P q)) (sym h) (all q)
 
@@ -47,23 +49,28 @@ module _ {K V : Type 0} (cmp : K → K → Ordering) (exact : CmpEqualImpliesEq 
   pub put_other : (q : K) → q ≢ k → lookup (eq_by_cmp cmp q) new ≡ lookup (eq_by_cmp cmp q) old
   put_other q apart = by (eq_by_cmp cmp k q) refl (puts q)
     where
-      by : (b : Bool) → eq_by_cmp cmp k q ≡ b → lookup (eq_by_cmp cmp q) new ≡ cond b (Some v) (lookup (eq_by_cmp cmp q) old) → lookup (eq_by_cmp cmp q) new ≡ lookup (eq_by_cmp cmp q) old
+      by : (b : Bool) → eq_by_cmp cmp k q ≡ b → lookup (eq_by_cmp cmp q) new ≡ cond b (Some v) (lookup (eq_by_cmp cmp q) old)
+          → lookup (eq_by_cmp cmp q) new ≡ lookup (eq_by_cmp cmp q) old
       by true e h = absurd (apart (sym (same_key q e)))
       by false e h = h
 
   -- what a look-up tells stays, where the new entry tells the same as the one that was there
-  pub put_tells : {X : Type 0} (tell : Option V → X) → tell (Some v) ≡ tell (lookup (eq_by_cmp cmp k) old) → (q : K) → tell (lookup (eq_by_cmp cmp q) new) ≡ tell (lookup (eq_by_cmp cmp q) old)
+  pub put_tells : {X : Type 0} (tell : Option V → X) → tell (Some v) ≡ tell (lookup (eq_by_cmp cmp k) old)
+      → (q : K) → tell (lookup (eq_by_cmp cmp q) new) ≡ tell (lookup (eq_by_cmp cmp q) old)
   put_tells tell same q = by (eq_by_cmp cmp k q) refl (puts q)
     where
-      by : (b : Bool) → eq_by_cmp cmp k q ≡ b → lookup (eq_by_cmp cmp q) new ≡ cond b (Some v) (lookup (eq_by_cmp cmp q) old) → tell (lookup (eq_by_cmp cmp q) new) ≡ tell (lookup (eq_by_cmp cmp q) old)
+      by : (b : Bool) → eq_by_cmp cmp k q ≡ b → lookup (eq_by_cmp cmp q) new ≡ cond b (Some v) (lookup (eq_by_cmp cmp q) old)
+          → tell (lookup (eq_by_cmp cmp q) new) ≡ tell (lookup (eq_by_cmp cmp q) old)
       by true e h = ap tell h ∙ same ∙ ap (λ r. tell (lookup (eq_by_cmp cmp r) old)) (same_key q e)
       by false e h = ap tell h
 
   -- a test that passed passes, where it passes at the new entry
-  pub put_passes : (test : Option V → Bool) → (test (lookup (eq_by_cmp cmp k) old) ≡ true → test (Some v) ≡ true) → (q : K) → test (lookup (eq_by_cmp cmp q) old) ≡ true → test (lookup (eq_by_cmp cmp q) new) ≡ true
+  pub put_passes : (test : Option V → Bool) → (test (lookup (eq_by_cmp cmp k) old) ≡ true → test (Some v) ≡ true) → (q : K)
+      → test (lookup (eq_by_cmp cmp q) old) ≡ true → test (lookup (eq_by_cmp cmp q) new) ≡ true
   put_passes test passes q had = by (eq_by_cmp cmp k q) refl (puts q)
     where
-      by : (b : Bool) → eq_by_cmp cmp k q ≡ b → lookup (eq_by_cmp cmp q) new ≡ cond b (Some v) (lookup (eq_by_cmp cmp q) old) → test (lookup (eq_by_cmp cmp q) new) ≡ true
+      by : (b : Bool) → eq_by_cmp cmp k q ≡ b → lookup (eq_by_cmp cmp q) new ≡ cond b (Some v) (lookup (eq_by_cmp cmp q) old)
+          → test (lookup (eq_by_cmp cmp q) new) ≡ true
       by true e h = ap test h ∙ passes (ap (λ r. test (lookup (eq_by_cmp cmp r) old)) (same_key q e) ∙ had)
       by false e h = ap test h ∙ had
 
@@ -131,7 +138,8 @@ if_graph P None p same h = tt
 if_graph P (Some x) None same h = absurd cc
 if_graph P (Some x) (Some y) same h = let is : x.graph ≡ y.graph = cc in subst P (sym is) h
 
-pub of_same_graphs : (db : Lists) (old new : AreasTrees) → ((area : AreaId) → graph_at (trees_at new area) ≡ graph_at (trees_at old area)) → AreOfDatabase db old → AreOfDatabase db new
+pub of_same_graphs : (db : Lists) (old new : AreasTrees) → ((area : AreaId) → graph_at (trees_at new area) ≡ graph_at (trees_at old area))
+    → AreOfDatabase db old → AreOfDatabase db new
 of_same_graphs db old new same all area = if_graph (λ g. IsGraphOf (lsas_of (Area area) db) g) (trees_at new area) (trees_at old area) (same area) (all area)
 
 -- the graph of an area has the routers that are attached to it
@@ -139,7 +147,8 @@ pub has_vertex : (db : Lists) (areas : AreasTrees) (area : AreaId) (router : Rou
     → IsSome (trees_at areas area) → IsSomeAnd (trees_at areas area) (λ trees. Contains trees.graph.vertices (Router router))
 has_vertex db areas area router all attached there = by (trees_at areas area) there (all area)
   where
-    by : (o : Option AreaTreesValue) → IsSome o → IfSome o (λ kept. IsGraphOf (lsas_of (Area area) db) kept.graph) → IsSomeAnd o (λ trees. Contains trees.graph.vertices (Router router))
+    by : (o : Option AreaTreesValue) → IsSome o → IfSome o (λ kept. IsGraphOf (lsas_of (Area area) db) kept.graph)
+        → IsSomeAnd o (λ trees. Contains trees.graph.vertices (Router router))
     by None some h = absurd (true≢false (sym some))
     by (Some kept) some h = attached_vertex db area router kept.graph.vertices attached h.vertices
 
@@ -155,14 +164,16 @@ none_found (Some x) h = absurd (true≢false h)
 if_found : {X : Type 0} (P : X → Type 0) (o : Option X) (x : X) → o ≡ Some x → IfSome o P → P x
 if_found P o x is h = subst (λ p. IfSome p P) is h
 
-pub tree_found : (graph : Topology) (trees : Trees) (router : RouterId) (t : RouterTreeValue) → AreTreesIn graph trees → lookup (eq_by_cmp router_cmp router) trees ≡ Some t → IsTreeIn graph router t
+pub tree_found : (graph : Topology) (trees : Trees) (router : RouterId) (t : RouterTreeValue) → AreTreesIn graph trees
+    → lookup (eq_by_cmp router_cmp router) trees ≡ Some t → IsTreeIn graph router t
 tree_found graph trees router t all is = if_found (IsTreeIn graph router) (lookup (eq_by_cmp router_cmp router) trees) t is (all router)
 
 module _ (areas : AreasTrees) (area : AreaId) (kept : AreaTreesValue) (is : trees_at areas area ≡ Some kept) where
   pub has_found : (router : RouterId) → trees_in areas area router ≡ true → has_tree kept router ≡ true
   has_found router has = ap (has_at router) (sym is) ∙ has
 
-pub graph_found : (db : Lists) (areas : AreasTrees) (area : AreaId) (kept : AreaTreesValue) → AreOfDatabase db areas → trees_at areas area ≡ Some kept → IsGraphOf (lsas_of (Area area) db) kept.graph
+pub graph_found : (db : Lists) (areas : AreasTrees) (area : AreaId) (kept : AreaTreesValue) → AreOfDatabase db areas
+    → trees_at areas area ≡ Some kept → IsGraphOf (lsas_of (Area area) db) kept.graph
 graph_found db areas area kept all is = if_found (λ k. IsGraphOf (lsas_of (Area area) db) k.graph) (trees_at areas area) kept is (all area)
 
 pub vertex_found : (areas : AreasTrees) (area : AreaId) (router : RouterId) (kept : AreaTreesValue) → trees_at areas area ≡ Some kept
@@ -170,6 +181,7 @@ pub vertex_found : (areas : AreasTrees) (area : AreaId) (router : RouterId) (kep
 vertex_found areas area router kept is h = subst (λ o. IsSomeAnd o (λ trees. Contains trees.graph.vertices (Router router))) is h
 
 -- what is answered for the root of a tree
-pub if_given : {X E R : Type 0} (result : R → X) (Of : R → Type 0) (r : Result X E) → IfOk r (λ v. (root : R) → Of root → v ≡ result root) → (root : R) → Of root → IfOk r (λ v. v ≡ result root)
+pub if_given : {X E R : Type 0} (result : R → X) (Of : R → Type 0) (r : Result X E)
+    → IfOk r (λ v. (root : R) → Of root → v ≡ result root) → (root : R) → Of root → IfOk r (λ v. v ≡ result root)
 if_given result Of (Ok v) h root of = h root of
 if_given result Of (Err e) h root of = tt

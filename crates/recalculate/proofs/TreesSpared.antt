@@ -21,7 +21,8 @@ use Rattle.recalculate.proofs.SameGraph.{same_graph}
 
 -- ---- what is shown of the trees
 
-any_key : (router : RouterId) (trees : List (RouterId × RouterTreeValue)) → list_any (eq_by_cmp router_cmp router) (keys_of trees) ≡ is_some (lookup (eq_by_cmp router_cmp router) trees)
+any_key : (router : RouterId) (trees : List (RouterId × RouterTreeValue))
+    → list_any (eq_by_cmp router_cmp router) (keys_of trees) ≡ is_some (lookup (eq_by_cmp router_cmp router) trees)
 any_key router [] = refl
 any_key router (t ∷ trees) = by (eq_by_cmp router_cmp router t.0) (any_key router trees)
   where
@@ -80,4 +81,5 @@ module _ (db after : Lists) (is_touched : AreaId → Bool) (stay : (area : AreaI
 
       by : (b : Bool) → is_touched area ≡ b → IfSome (trees_at (untouched is_touched areas) area) (λ kept. IsGraphOf (lsas_of (Area area) after) kept.graph)
       by true e = subst (λ o. IfSome o (λ kept. IsGraphOf (lsas_of (Area area) after) kept.graph)) (sym (keeps true e)) tt
-      by false e = subst (λ o. IfSome o (λ kept. IsGraphOf (lsas_of (Area area) after) kept.graph)) (sym (keeps false e)) (of_area area (trees_at areas area) e (all area))
+      by false e = subst (λ o. IfSome o (λ kept. IsGraphOf (lsas_of (Area area) after) kept.graph))
+          (sym (keeps false e)) (of_area area (trees_at areas area) e (all area))

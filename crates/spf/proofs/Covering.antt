@@ -13,7 +13,8 @@ use Rattle.spf.proofs.Searching.{IsQueued}
 use Rattle.spf.proofs.Taking.{queue_cases, settled_below}
 use Rattle.spf.proofs.Settling.{Settles, settled_at, stays, next_at, settled_cases, next_small, first_key}
 
-module _ (t : Topology) (root : ℕ) (ds : List (Option ℕ)) (order : List ℕ) (queue rest pushed : List Candidate) (next : Candidate) (s : Settles t root ds order queue rest pushed next) where
+module _ (t : Topology) (root : ℕ) (ds : List (Option ℕ)) (order : List ℕ) (queue rest pushed : List Candidate)
+    (next : Candidate) (s : Settles t root ds order queue rest pushed next) where
   -- a settled vertex is no farther than the next one
   below_next_distance : (i d : ℕ) → get_or ds i None ≡ Some d → d ≤ next.distance
   below_next_distance = settled_below t s.shape root ds order queue rest next s.before s.taken
@@ -31,7 +32,8 @@ module _ (t : Topology) (root : ℕ) (ds : List (Option ℕ)) (order : List ℕ)
         (settled_cases t root ds order queue rest pushed next s e.to x at)
 
     -- an edge out of the next vertex
-    from_next : IsArc t e → e.from ≡ next.index → d ≡ next.distance → IsAtMost (get_or (settled_at ds next) e.to None) (d + e.cost) ⊎ IsQueued pushed e.to (d + e.cost)
+    from_next : IsArc t e → e.from ≡ next.index → d ≡ next.distance
+        → IsAtMost (get_or (settled_at ds next) e.to None) (d + e.cost) ⊎ IsQueued pushed e.to (d + e.cost)
     from_next arc from same =
         ⊎_elim
         (λ some. inl (low_where_settled (get_or (settled_at ds next) e.to None) refl some same))
@@ -43,10 +45,12 @@ module _ (t : Topology) (root : ℕ) (ds : List (Option ℕ)) (order : List ℕ)
     low_still (Some x) at low = subst (λ (o : Option ℕ). IsAtMost o (d + e.cost)) (sym (stays t root ds order queue rest pushed next s e.to x at)) low
 
     low_now : next.index ≡ e.to → next.distance ≤ d + e.cost → IsAtMost (get_or (settled_at ds next) e.to None) (d + e.cost)
-    low_now same le = subst (λ (n : ℕ). IsAtMost (get_or (settled_at ds next) n None) (d + e.cost)) same (subst (λ (o : Option ℕ). IsAtMost o (d + e.cost)) (sym (next_at t root ds order queue rest pushed next s)) le)
+    low_now same le = subst (λ (n : ℕ). IsAtMost (get_or (settled_at ds next) n None) (d + e.cost)) same
+        (subst (λ (o : Option ℕ). IsAtMost o (d + e.cost)) (sym (next_at t root ds order queue rest pushed next s)) le)
 
     -- an edge out of a vertex that was settled before
-    from_settled : IsAtMost (get_or ds e.to None) (d + e.cost) ⊎ IsQueued queue e.to (d + e.cost) → IsAtMost (get_or (settled_at ds next) e.to None) (d + e.cost) ⊎ IsQueued pushed e.to (d + e.cost)
+    from_settled : IsAtMost (get_or ds e.to None) (d + e.cost) ⊎ IsQueued queue e.to (d + e.cost)
+        → IsAtMost (get_or (settled_at ds next) e.to None) (d + e.cost) ⊎ IsQueued pushed e.to (d + e.cost)
     from_settled old =
         ⊎_elim
         (λ low. inl (low_still (get_or ds e.to None) refl low))
@@ -56,7 +60,8 @@ module _ (t : Topology) (root : ℕ) (ds : List (Option ℕ)) (order : List ℕ)
         (cases q.0 q.1))
         old
 
-    pub covered_next : IsArc t e → get_or (settled_at ds next) e.from None ≡ Some d → IsAtMost (get_or (settled_at ds next) e.to None) (d + e.cost) ⊎ IsQueued pushed e.to (d + e.cost)
+    pub covered_next : IsArc t e → get_or (settled_at ds next) e.from None ≡ Some d
+        → IsAtMost (get_or (settled_at ds next) e.to None) (d + e.cost) ⊎ IsQueued pushed e.to (d + e.cost)
     covered_next arc at =
         ⊎_elim
         (λ p. from_next arc p.0 p.1)
@@ -71,13 +76,16 @@ module _ (t : Topology) (root : ℕ) (ds : List (Option ℕ)) (order : List ℕ)
       (λ there. (let few : length t.vertices ≤ 8192 = s.shape.few in
       let small = next_small t root ds order queue rest pushed next s in
       let within : q.0.index < length t.vertices = (s.before.candidates q.0 q.1).within in
-      let le : next.distance ≤ q.0.distance = distance_from_key next.distance q.0.distance next.index q.0.index next.is_router q.0.is_router small (omega arith) (first_key t root ds order queue rest pushed next s q.0 there) in
+      let le : next.distance ≤ q.0.distance = distance_from_key next.distance q.0.distance next.index q.0.index next.is_router
+      q.0.is_router small (omega arith) (first_key t root ds order queue rest pushed next s q.0 there) in
       let at_zero : q.0.distance ≤ 0 = q.3 in omega arith))
       (cases q.0 q.1) in
       let is_zero : next.distance ≡ 0 = omega arith in
-      subst (λ (n : ℕ). get_or (settled_at ds next) n None ≡ Some 0) (sym same) (next_at t root ds order queue rest pushed next s ∙ ap (λ (n : ℕ). Some n) is_zero)
+      subst (λ (n : ℕ). get_or (settled_at ds next) n None ≡ Some 0) (sym same)
+      (next_at t root ds order queue rest pushed next s ∙ ap (λ (n : ℕ). Some n) is_zero)
 
-  root_waits : (root ≡ next.index → ⊥) → get_or ds root None ≡ None → IsQueued queue root 0 → (get_or (settled_at ds next) root None ≡ None) × IsQueued pushed root 0
+  root_waits : (root ≡ next.index → ⊥) → get_or ds root None ≡ None → IsQueued queue root 0
+      → (get_or (settled_at ds next) root None ≡ None) × IsQueued pushed root 0
   root_waits other none q = (
     get_or-set_other ds next.index root (Some next.distance) None other ∙ none,
     (q.0, s.pushes.kept q.0 (⊎_elim (λ is. absurd (other (sym (ap (λ (c : Candidate). c.index) is ∙ q.2)))) (λ there. there) (cases q.0 q.1)), q.2, q.3),

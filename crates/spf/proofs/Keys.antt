@@ -42,9 +42,12 @@ key-le c o small small' h =
     further gt false false = omega arith
 
     by_index : is_lt (nat_cmp o.index c.index) ≡ false → c.index ≤ o.index
-    by_index h = ⊎_elim (λ lt. absurd (false≢true (sym (let k : true ≡ false = rw (sym (nat_cmp_is o.index c.index Less lt)) at h in k)))) (λ ge. ge) (cases_lt o.index c.index)
+    by_index h =
+        ⊎_elim (λ lt. absurd
+        (false≢true (sym (let k : true ≡ false = rw (sym (nat_cmp_is o.index c.index Less lt)) at h in k)))) (λ ge. ge) (cases_lt o.index c.index)
 
-    at_same : o.distance ≡ c.distance → (b b' : Bool) → is_lt (ordering_then (bool_cmp b' b) (nat_cmp o.index c.index)) ≡ false → (2 * c.distance + cond b 1 0) * 8192 + c.index ≤ (2 * o.distance + cond b' 1 0) * 8192 + o.index
+    at_same : o.distance ≡ c.distance → (b b' : Bool) → is_lt (ordering_then (bool_cmp b' b) (nat_cmp o.index c.index)) ≡ false
+        → (2 * c.distance + cond b 1 0) * 8192 + c.index ≤ (2 * o.distance + cond b' 1 0) * 8192 + o.index
     at_same same true true h = let le = by_index h in omega arith
     at_same same true false h = absurd (false≢true (sym h))
     at_same same false true h = omega arith
@@ -52,7 +55,8 @@ key-le c o small small' h =
 
 -- whether a vertex is a router
 pub is_router_named : (t : Topology) (i : ℕ) → i < length t.vertices → is_router_at t i ≡ not (is_network (name t i))
-is_router_named t i h = ap (λ (o : Option Vertex). option_map_or (λ (v : Vertex). not (is_network v)) o false) (slice_get-get_or t.vertices i (Router (record { 0 = 0 })) h)
+is_router_named t i h = ap (λ (o : Option Vertex). option_map_or (λ (v : Vertex). not (is_network v)) o false)
+    (slice_get-get_or t.vertices i (Router (record { 0 = 0 })) h)
 
 -- an edge leads to a greater key
 pub arc_key : (t : Topology) (shape : IsTopology t) (e : DirectedEdge ℕ) (d : ℕ) → IsArc t e → key_at t d e.from < key_at t (d + e.cost) e.to
@@ -78,7 +82,8 @@ arc_key t shape e d arc =
 -- of two candidates only one is before the other
 pub not_both_Less : (a b : Candidate) → candidate_cmp a b ≡ Less → candidate_cmp b a ≡ Less → ⊥
 not_both_Less a b one two =
-    let total : IsTotalOrder candidate_cmp = then_total (on_total (λ (c : Candidate). c.distance) nat_cmp_total) (then_total (on_total (λ (c : Candidate). c.is_router) bool_cmp_total) (on_total (λ (c : Candidate). c.index) nat_cmp_total)) in
+    let total : IsTotalOrder candidate_cmp = then_total (on_total (λ (c : Candidate). c.distance) nat_cmp_total)
+    (then_total (on_total (λ (c : Candidate). c.is_router) bool_cmp_total) (on_total (λ (c : Candidate). c.index) nat_cmp_total)) in
     let back : Less ≡ Greater = sym one ∙ total.antisymm a b ∙ ap (λ (o : Ordering). ordering_reverse o) two in
     cc
 
@@ -99,7 +104,8 @@ Less-from_key a b small small' h =
     further gt false true h = omega arith
     further gt false false h = omega arith
 
-    at_same : a.distance ≡ b.distance → (x y : Bool) → (2 * a.distance + cond x 1 0) * 8192 + a.index < (2 * b.distance + cond y 1 0) * 8192 + b.index → ordering_then (bool_cmp x y) (nat_cmp a.index b.index) ≡ Less
+    at_same : a.distance ≡ b.distance → (x y : Bool) → (2 * a.distance + cond x 1 0) * 8192 + a.index < (2 * b.distance + cond y 1 0)
+        * 8192 + b.index → ordering_then (bool_cmp x y) (nat_cmp a.index b.index) ≡ Less
     at_same same true true h = sym (nat_cmp_is a.index b.index Less (omega arith))
     at_same same true false h = absurd (omega arith)
     at_same same false true h = refl

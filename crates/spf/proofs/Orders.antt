@@ -19,7 +19,8 @@ use Rattle.spf.specs.Candidates.{candidate_cmp, candidate_at, IsEarlier}
 use Rattle.spf.specs.Distances.{Distances, IsTreeOf, settled_cmp, order_of}
 
 candidate_cmp_total : IsTotalOrder candidate_cmp
-candidate_cmp_total = then_total (on_total (λ (c : Candidate). c.distance) nat_cmp_total) (then_total (on_total (λ (c : Candidate). c.is_router) bool_cmp_total) (on_total (λ (c : Candidate). c.index) nat_cmp_total))
+candidate_cmp_total = then_total (on_total (λ (c : Candidate). c.distance) nat_cmp_total)
+    (then_total (on_total (λ (c : Candidate). c.is_router) bool_cmp_total) (on_total (λ (c : Candidate). c.index) nat_cmp_total))
 
 then_Equal : (a b : Ordering) → ordering_then a b ≡ Equal → b ≡ Equal
 then_Equal Less b h = absurd (cc)
@@ -34,9 +35,12 @@ module _ (t : Topology) (root : Vertex) (tree : Distances) (of : IsTreeOf t root
   exact i j h =
       let c = candidate_at t (unwrap_or (get_or tree.distances i None) 0) i in
       let d = candidate_at t (unwrap_or (get_or tree.distances j None) 0) j in
-      ranked i j Equal (sym (then_Equal (bool_cmp c.is_router d.is_router) (nat_cmp i j) (then_Equal (nat_cmp c.distance d.distance) (ordering_then (bool_cmp c.is_router d.is_router) (nat_cmp i j)) h)))
+      ranked i j Equal
+      (sym (then_Equal (bool_cmp c.is_router d.is_router) (nat_cmp i j)
+      (then_Equal (nat_cmp c.distance d.distance) (ordering_then (bool_cmp c.is_router d.is_router) (nat_cmp i j)) h)))
 
-  earlier : (i j : ℕ) (o p : Option ℕ) → get_or tree.distances i None ≡ o → get_or tree.distances j None ≡ p → is_some o ≡ true → is_some p ≡ true → IsEarlier t tree.distances i j
+  earlier : (i j : ℕ) (o p : Option ℕ) → get_or tree.distances i None ≡ o → get_or tree.distances j None ≡ p
+      → is_some o ≡ true → is_some p ≡ true → IsEarlier t tree.distances i j
       → candidate_cmp (candidate_at t (unwrap_or o 0) i) (candidate_at t (unwrap_or p 0) j) ≡ Less
   earlier i j None p at_i at_j a b h = absurd (false≢true a)
   earlier i j (Some d) None at_i at_j a b h = absurd (false≢true b)
@@ -51,7 +55,8 @@ module _ (t : Topology) (root : Vertex) (tree : Distances) (of : IsTreeOf t root
 
   within_distances : (i : ℕ) → is_some (get_or tree.distances i None) ≡ true → i < length tree.distances
   within_distances i h =
-      ⊎_elim (λ lt. lt) (λ past. absurd (false≢true (sym (ap (λ (o : Option ℕ). is_some o) (get_or_past tree.distances i None past)) ∙ h))) (cases_lt i (length tree.distances))
+      ⊎_elim (λ lt. lt) (λ past. absurd (false≢true (sym (ap (λ (o : Option ℕ). is_some o) (get_or_past tree.distances i None past)) ∙ h)))
+      (cases_lt i (length tree.distances))
 
   number_in : (n i : ℕ) → i < n → Contains (range_with_len 0 n) i
   number_in n i lt = (i, subst (λ (k : ℕ). i < k) (sym (length-range_with_len 0 n)) lt, (let is = get_or-range_with_len 0 n i i lt in omega arith))
@@ -62,6 +67,7 @@ module _ (t : Topology) (root : Vertex) (tree : Distances) (of : IsTreeOf t root
       let numbers = range_with_len 0 (length tree.distances) in
       rising-is total exact tree.order (filter (λ i. is_some (get_or tree.distances i None)) numbers) in_order (λ i. (
         λ there. (let some = of.settled i there in Contains-from_In (filter (λ i. is_some (get_or tree.distances i None)) numbers) i
-            (In-filter (λ i. is_some (get_or tree.distances i None)) numbers i (In-from_Contains numbers i (number_in (length tree.distances) i (within_distances i some))) some)),
+            (In-filter (λ i. is_some (get_or tree.distances i None)) numbers i
+            (In-from_Contains numbers i (number_in (length tree.distances) i (within_distances i some))) some)),
         λ there. of.listed i (filter-In (λ i. is_some (get_or tree.distances i None)) numbers i (In-from_Contains (filter (λ i. is_some (get_or tree.distances i None)) numbers) i there)).1,
       ))

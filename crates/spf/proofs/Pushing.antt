@@ -1,5 +1,6 @@
 -- What pushing candidates adds to the queue.
-use Rattle.std.proofs.Common.{◌≡◌, ℕ, zero, suc, ◌+◌, ◌<◌, ◌≤◌, List, [], ◌∷◌, ◌++◌, length, get_or, Option, None, Some, IsSome, is_some, refl, sym, ap, subst, arith, ◌⊎◌, inl, inr, ⊎_elim}
+use Rattle.std.proofs.Common.{◌≡◌, ℕ, zero, suc, ◌+◌, ◌<◌, ◌≤◌, List, [], ◌∷◌, ◌++◌, length, get_or, Option, None, Some, IsSome, is_some, refl, sym}
+use Rattle.std.proofs.Common.{ap, subst, arith, ◌⊎◌, inl, inr, ⊎_elim}
 use Rattle.std.specs.List.{All, Contains}
 use Rattle.std.specs.List.Sorted.{IsPermutation}
 use Rattle.std.proofs.lemmas.List.Elements.{All-contains, All-weaker, Contains-append_left, Contains-push, All-push}
@@ -64,10 +65,13 @@ module _ (t : Topology) (distance : ℕ) (ds : List (Option ℕ)) where
     PushesRow-push p = record {
       kept = λ c h. Contains-pushed (candidate_at t (distance + o.cost) o.to) mid new p c (before.kept c h);
       only = λ c h.
-          ⊎_elim (λ same. inr (o, Contains-push row o, sym same)) (λ there. only_wider c there) (Contains-pushed_cases (candidate_at t (distance + o.cost) o.to) mid new p c h);
+          ⊎_elim (λ same. inr (o, Contains-push row o, sym same)) (λ there. only_wider c there)
+          (Contains-pushed_cases (candidate_at t (distance + o.cost) o.to) mid new p c h);
       all = All-push (λ (x : Edge). IsSome (get_or ds x.to None) ⊎ Contains new (candidate_at t (distance + x.cost) x.to)) row o
-          (All-weaker (λ (x : Edge). IsSome (get_or ds x.to None) ⊎ Contains mid (candidate_at t (distance + x.cost) x.to)) (λ (x : Edge). IsSome (get_or ds x.to None) ⊎ Contains new (candidate_at t (distance + x.cost) x.to))
-          (λ x h. ⊎_elim (λ settled. inl settled) (λ there. inr (Contains-pushed (candidate_at t (distance + o.cost) o.to) mid new p (candidate_at t (distance + x.cost) x.to) there)) h) row before.all)
+          (All-weaker (λ (x : Edge). IsSome (get_or ds x.to None) ⊎ Contains mid (candidate_at t (distance + x.cost) x.to))
+          (λ (x : Edge). IsSome (get_or ds x.to None) ⊎ Contains new (candidate_at t (distance + x.cost) x.to))
+          (λ x h. ⊎_elim (λ settled. inl settled) (λ there. inr
+          (Contains-pushed (candidate_at t (distance + o.cost) o.to) mid new p (candidate_at t (distance + x.cost) x.to) there)) h) row before.all)
           (inr (Contains-pushed_one (candidate_at t (distance + o.cost) o.to) mid new p));
     }
 
@@ -75,22 +79,27 @@ module _ (t : Topology) (distance : ℕ) (ds : List (Option ℕ)) where
     pub PushesRow-edge : PushesEdge t o distance ds mid new → PushesRow t distance ds (row ++ o ∷ []) old new
     PushesRow-edge h = by_end (get_or ds o.to None) refl h
       where
-        by_end : (d : Option ℕ) → get_or ds o.to None ≡ d → MatchOption d (IsPermutation (candidate_at t (distance + o.cost) o.to ∷ mid) new) (λ _. new ≡ mid) → PushesRow t distance ds (row ++ o ∷ []) old new
+        by_end : (d : Option ℕ) → get_or ds o.to None ≡ d → MatchOption d
+            (IsPermutation (candidate_at t (distance + o.cost) o.to ∷ mid) new) (λ _. new ≡ mid) → PushesRow t distance ds (row ++ o ∷ []) old new
         by_end None is p = PushesRow-push p
-        by_end (Some d) is same = subst (λ (xs : List Candidate). PushesRow t distance ds (row ++ o ∷ []) old xs) (sym same) (PushesRow-skip (ap (λ (x : Option ℕ). is_some x) is))
+        by_end (Some d) is same = subst (λ (xs : List Candidate). PushesRow t distance ds (row ++ o ∷ []) old xs)
+            (sym same) (PushesRow-skip (ap (λ (x : Option ℕ). is_some x) is))
 
   -- the whole row of a vertex
-  pub PushesNeighbours-row : (from : ℕ) (old new : List Candidate) → PushesRow t distance ds (row_at t from) old new → PushesNeighbours t from distance ds old new
+  pub PushesNeighbours-row : (from : ℕ) (old new : List Candidate)
+      → PushesRow t distance ds (row_at t from) old new → PushesNeighbours t from distance ds old new
   PushesNeighbours-row from old new p = record {
     kept = p.kept;
     only = λ c h. ⊎_elim (λ there. inl there) (λ q. inr (arc_from from q.0, q.1, refl, q.2)) (p.only c h);
     all = λ e arc is.
         let o : Edge = record { to = e.to; cost = e.cost; link_data = e.link_data } in
-        All-contains (λ (x : Edge). IsSome (get_or ds x.to None) ⊎ Contains new (candidate_at t (distance + x.cost) x.to)) (row_at t from) o p.all (subst (λ (n : ℕ). Contains (row_at t n) o) is arc);
+        All-contains (λ (x : Edge). IsSome (get_or ds x.to None) ⊎ Contains new (candidate_at t (distance + x.cost) x.to))
+        (row_at t from) o p.all (subst (λ (n : ℕ). Contains (row_at t n) o) is arc);
   }
 
 -- an edge adds at most one candidate
-pub PushesEdge-count : (t : Topology) (o : Edge) (distance : ℕ) (ds : List (Option ℕ)) (old new : List Candidate) → PushesEdge t o distance ds old new → length new ≤ length old + 1
+pub PushesEdge-count : (t : Topology) (o : Edge) (distance : ℕ) (ds : List (Option ℕ)) (old new : List Candidate)
+    → PushesEdge t o distance ds old new → length new ≤ length old + 1
 PushesEdge-count t o distance ds old new h = by_end (get_or ds o.to None) h
   where
     by_end : (d : Option ℕ) → MatchOption d (IsPermutation (candidate_at t (distance + o.cost) o.to ∷ old) new) (λ _. new ≡ old) → length new ≤ length old + 1

@@ -1,5 +1,6 @@
 -- Rounds over edges: what a lowered distance keeps, and that it makes rounds end.
-use Rattle.std.proofs.Common.{◌≡◌, ℕ, ◌+◌, ◌*◌, ◌<◌, ◌≤◌, ◌^◌, Bool, true, false, List, length, get_or, set, Option, None, Some, is_some, cond, unwrap_or, refl, sym, ◌∙◌, subst, arith, ⊎_elim}
+use Rattle.std.proofs.Common.{◌≡◌, ℕ, ◌+◌, ◌*◌, ◌<◌, ◌≤◌, ◌^◌, Bool, true, false, List, length, get_or, set, Option, None, Some, is_some, cond}
+use Rattle.std.proofs.Common.{unwrap_or, refl, sym, ◌∙◌, subst, arith, ⊎_elim}
 use Rattle.std.specs.Bool.{OnFalse}
 use Rattle.std.proofs.lemmas.Bool.{false≢true}
 use Rattle.std.proofs.lemmas.List.{get_or-set_other, length-set}
@@ -30,16 +31,20 @@ module _ (t : Topology) where
   Relaxed-more a b c false p q = subst (λ (x : List (Option ℕ)). Relaxed t x c true) (p.same refl) q
 
 -- a distance that is lowered makes the sum of all less
-pub potential-set : (ds : List (Option ℕ)) (j d : ℕ) → j < length ds → d < 2 ^ 64 → IsMoreThan (get_or ds j None) d → potential (set ds j (Some d)) < potential ds
+pub potential-set : (ds : List (Option ℕ)) (j d : ℕ) → j < length ds → d < 2 ^ 64
+    → IsMoreThan (get_or ds j None) d → potential (set ds j (Some d)) < potential ds
 potential-set ds j d h fits more =
-    let e : potential (set ds j (Some d)) + unwrap_or (get_or ds j None) (2 ^ 64) ≡ potential ds + d = sum_by-set (λ (o : Option ℕ). unwrap_or o (2 ^ 64)) ds j (Some d) None h in
+    let e : potential (set ds j (Some d)) + unwrap_or (get_or ds j None) (2 ^ 64) ≡ potential ds + d =
+    sum_by-set (λ (o : Option ℕ). unwrap_or o (2 ^ 64)) ds j (Some d) None h in
     weigh (get_or ds j None) more e
   where
-    weigh : (o : Option ℕ) → IsMoreThan o d → potential (set ds j (Some d)) + unwrap_or o (2 ^ 64) ≡ potential ds + d → potential (set ds j (Some d)) < potential ds
+    weigh : (o : Option ℕ) → IsMoreThan o d → potential (set ds j (Some d)) + unwrap_or o (2 ^ 64) ≡ potential ds + d
+        → potential (set ds j (Some d)) < potential ds
     weigh None m e = omega arith
     weigh (Some x) m e = omega arith
 
-module _ (t : Topology) (ds : List (Option ℕ)) (e : DirectedEdge ℕ) (d : ℕ) (arc : IsArc t e) (at : get_or ds e.from None ≡ Some d) (within : e.to < length ds) (more : IsMoreThan (get_or ds e.to None) (d + e.cost)) where
+module _ (t : Topology) (ds : List (Option ℕ)) (e : DirectedEdge ℕ) (d : ℕ) (arc : IsArc t e) (at : get_or ds e.from None ≡ Some d)
+    (within : e.to < length ds) (more : IsMoreThan (get_or ds e.to None) (d + e.cost)) where
   Bounded-improve : e.cost < 2 ^ 16 → Bounded ds → Bounded (set ds e.to (Some (d + e.cost)))
   Bounded-improve small b i x h =
       let count = reached_count-set ds e.to (d + e.cost) within in
@@ -49,11 +54,14 @@ module _ (t : Topology) (ds : List (Option ℕ)) (e : DirectedEdge ℕ) (d : ℕ
       (λ p. let other : x + 65535 ≤ 65535 * reached_count ds = b i x p.1 in at_old (is_some (get_or ds e.to None)) count other)
       (at_set ds i e.to (d + e.cost) x within h)
     where
-      at_new : (o : Option ℕ) → get_or ds e.to None ≡ o → IsMoreThan o (d + e.cost) → reached_count (set ds e.to (Some (d + e.cost))) + cond (is_some o) 1 0 ≡ reached_count ds + 1 → d + 65535 ≤ 65535 * reached_count ds → x ≡ d + e.cost → x + 65535 ≤ 65535 * reached_count (set ds e.to (Some (d + e.cost)))
+      at_new : (o : Option ℕ) → get_or ds e.to None ≡ o → IsMoreThan o (d + e.cost) → reached_count (set ds e.to (Some (d + e.cost))) + cond
+          (is_some o) 1 0 ≡ reached_count ds + 1 → d + 65535 ≤ 65535 * reached_count ds → x ≡ d + e.cost
+          → x + 65535 ≤ 65535 * reached_count (set ds e.to (Some (d + e.cost)))
       at_new None is m count from same = omega arith
       at_new (Some y) is m count from same = let old : y + 65535 ≤ 65535 * reached_count ds = b e.to y is in omega arith
 
-      at_old : (has : Bool) → reached_count (set ds e.to (Some (d + e.cost))) + cond has 1 0 ≡ reached_count ds + 1 → x + 65535 ≤ 65535 * reached_count ds → x + 65535 ≤ 65535 * reached_count (set ds e.to (Some (d + e.cost)))
+      at_old : (has : Bool) → reached_count (set ds e.to (Some (d + e.cost))) + cond has 1 0 ≡ reached_count ds + 1
+          → x + 65535 ≤ 65535 * reached_count ds → x + 65535 ≤ 65535 * reached_count (set ds e.to (Some (d + e.cost)))
       at_old true count other = omega arith
       at_old false count other = omega arith
 
@@ -86,7 +94,8 @@ module _ (t : Topology) (ds : List (Option ℕ)) (e : DirectedEdge ℕ) (d : ℕ
   }
 
 -- the distance that is followed isn't lowered by an edge out of it
-pub at_stays : (ds : List (Option ℕ)) (from to cost d : ℕ) → get_or ds from None ≡ Some d → IsMoreThan (get_or ds to None) (d + cost) → get_or (set ds to (Some (d + cost))) from None ≡ Some d
+pub at_stays : (ds : List (Option ℕ)) (from to cost d : ℕ) → get_or ds from None ≡ Some d
+    → IsMoreThan (get_or ds to None) (d + cost) → get_or (set ds to (Some (d + cost))) from None ≡ Some d
 at_stays ds from to cost d at more = get_or-set_other ds to from (Some (d + cost)) None (λ same. lower same) ∙ at
   where
     lower : from ≡ to → ⊥

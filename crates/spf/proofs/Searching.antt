@@ -33,7 +33,8 @@ pub record Searching (t : Topology) (root : ℕ) (ds : List (Option ℕ)) (order
   pub paths : (i d : ℕ) → get_or ds i None ≡ Some d → HasPathOfCost (IsArc t) root i d
   pub bounded : Bounded ds
   pub candidates : (c : Candidate) → Contains queue c → IsCandidate t root ds c
-  pub covered : (e : DirectedEdge ℕ) (d : ℕ) → IsArc t e → get_or ds e.from None ≡ Some d → IsAtMost (get_or ds e.to None) (d + e.cost) ⊎ IsQueued queue e.to (d + e.cost)
+  pub covered : (e : DirectedEdge ℕ) (d : ℕ) → IsArc t e → get_or ds e.from None ≡ Some d
+      → IsAtMost (get_or ds e.to None) (d + e.cost) ⊎ IsQueued queue e.to (d + e.cost)
   pub root_covered : (get_or ds root None ≡ Some 0) ⊎ ((get_or ds root None ≡ None) × IsQueued queue root 0)
   pub below : (i d : ℕ) (c : Candidate) → get_or ds i None ≡ Some d → Contains queue c → key_at t d i ≤ key c
   pub settled : (i : ℕ) → Contains order i → IsSome (get_or ds i None)
@@ -41,14 +42,16 @@ pub record Searching (t : Topology) (root : ℕ) (ds : List (Option ℕ)) (order
   pub rising : AllPairs (λ i j. IsKeyBelow t ds i j) order
 
 -- the start of the search
-pub Searching-start : (t : Topology) (root : ℕ) (ds : List (Option ℕ)) (queue : List Candidate) → length ds ≡ length t.vertices → root < length t.vertices → ((i : ℕ) → get_or ds i None ≡ None) → IsPermutation (candidate_at t 0 root ∷ []) queue → Searching t root ds [] queue
+pub Searching-start : (t : Topology) (root : ℕ) (ds : List (Option ℕ)) (queue : List Candidate) → length ds ≡ length t.vertices
+    → root < length t.vertices → ((i : ℕ) → get_or ds i None ≡ None) → IsPermutation (candidate_at t 0 root ∷ []) queue → Searching t root ds [] queue
 Searching-start t root ds queue sized within none pushed = record {
   sized = sized;
   paths = λ i d at. absurd (clash i d at);
   bounded = λ i d at. absurd (clash i d at);
   candidates = λ c h. subst (λ (x : Candidate). IsCandidate t root ds x) (only c h) first;
   covered = λ e d arc at. absurd (clash e.from d at);
-  root_covered = inr (none root, (candidate_at t 0 root, Contains-pushed_one (candidate_at t 0 root) [] queue pushed, refl, (let le : 0 ≤ 0 = omega arith in le)));
+  root_covered =
+      inr (none root, (candidate_at t 0 root, Contains-pushed_one (candidate_at t 0 root) [] queue pushed, refl, (let le : 0 ≤ 0 = omega arith in le)));
   below = λ i d c at h. absurd (clash i d at);
   settled = λ i h. absurd (nothing i h);
   listed = λ i h. absurd (let x = some_of (get_or ds i None) h in clash i x.0 x.1);
@@ -88,7 +91,8 @@ Sound-empty t root ds order s = record {
     none c h = let below : h.0 < 0 = h.1 in omega arith
 
 -- the end of the search
-pub IsSettled-empty : (t : Topology) (root : ℕ) (ds : List (Option ℕ)) (order : List ℕ) → IsTopology t → Searching t root ds order [] → IsSettled t root ds order
+pub IsSettled-empty : (t : Topology) (root : ℕ) (ds : List (Option ℕ)) (order : List ℕ)
+    → IsTopology t → Searching t root ds order [] → IsSettled t root ds order
 IsSettled-empty t root ds order shape s = record {
   sized = s.sized;
   sound = Sound-empty t root ds order s;
@@ -101,5 +105,6 @@ IsSettled-empty t root ds order shape s = record {
       let few : length t.vertices ≤ 8192 = shape.few in
       let one : get_or order i d < length ds = within_some ds (get_or order i d) x at_i in
       let two : get_or order j d < length ds = within_some ds (get_or order j d) e at_j in
-      Less-from_key (candidate_at t x (get_or order i d)) (candidate_at t e (get_or order j d)) (omega arith) (omega arith) (s.rising i j d lt within x e at_i at_j);
+      Less-from_key (candidate_at t x (get_or order i d)) (candidate_at t e (get_or order j d))
+      (omega arith) (omega arith) (s.rising i j d lt within x e at_i at_j);
 }

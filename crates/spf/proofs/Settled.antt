@@ -1,5 +1,6 @@
 -- The invariant once the next candidate is settled.
-use Rattle.std.proofs.Common.{◌≡◌, ◌≢◌, ℕ, ◌<◌, ◌≤◌, List, [], ◌∷◌, ◌++◌, length, get_or, Option, None, Some, IsSome, is_some, sym, ap, ◌∙◌, subst, arith, ⊎_elim}
+use Rattle.std.proofs.Common.{◌≡◌, ◌≢◌, ℕ, ◌<◌, ◌≤◌, List, [], ◌∷◌, ◌++◌, length, get_or, Option, None, Some, IsSome, is_some, sym, ap, ◌∙◌, subst}
+use Rattle.std.proofs.Common.{arith, ⊎_elim}
 use Rattle.std.specs.List.{AllPairs, Contains}
 use Rattle.std.proofs.lemmas.List.{length-set}
 use Rattle.std.proofs.lemmas.List.Elements.{Contains-get_or, Contains-append_left, Contains-push, Contains-push_cases}
@@ -12,12 +13,14 @@ use Rattle.spf.proofs.Searching.{Searching, IsKeyBelow}
 use Rattle.spf.proofs.Settling.{Settles, settled_at, next_there, next_at, next_key, stays, settled_cases, paths_next, bounded_next, candidates_next, pushed_key}
 use Rattle.spf.proofs.Covering.{covered_next, root_next}
 
-module _ (t : Topology) (root : ℕ) (ds : List (Option ℕ)) (order : List ℕ) (queue rest pushed : List Candidate) (next : Candidate) (s : Settles t root ds order queue rest pushed next) where
+module _ (t : Topology) (root : ℕ) (ds : List (Option ℕ)) (order : List ℕ) (queue rest pushed : List Candidate)
+    (next : Candidate) (s : Settles t root ds order queue rest pushed next) where
   -- what is settled is no farther than the next vertex
   settled_key : (i d : ℕ) → get_or (settled_at ds next) i None ≡ Some d → key_at t d i ≤ key next
   settled_key i d at =
       ⊎_elim
-      (λ p. subst (λ (n : ℕ). key_at t n i ≤ key next) (sym p.1) (subst (λ (n : ℕ). key_at t next.distance n ≤ key next) (sym p.0) (let e = next_key t root ds order queue rest pushed next s in omega arith)))
+      (λ p. subst (λ (n : ℕ). key_at t n i ≤ key next) (sym p.1)
+      (subst (λ (n : ℕ). key_at t next.distance n ≤ key next) (sym p.0) (let e = next_key t root ds order queue rest pushed next s in omega arith)))
       (λ there. s.before.below i d next there (next_there t root ds order queue rest pushed next s))
       (settled_cases t root ds order queue rest pushed next s i d at)
 
@@ -31,7 +34,8 @@ module _ (t : Topology) (root : ℕ) (ds : List (Option ℕ)) (order : List ℕ)
   settled_more i h =
       ⊎_elim
       (λ old. (let x = some_of (get_or ds i None) (s.before.settled i old) in ap (λ (o : Option ℕ). is_some o) (stays t root ds order queue rest pushed next s i x.0 x.1)))
-      (λ same. subst (λ (n : ℕ). IsSome (get_or (settled_at ds next) n None)) same (ap (λ (o : Option ℕ). is_some o) (next_at t root ds order queue rest pushed next s)))
+      (λ same. subst (λ (n : ℕ). IsSome (get_or (settled_at ds next) n None)) same
+      (ap (λ (o : Option ℕ). is_some o) (next_at t root ds order queue rest pushed next s)))
       (Contains-push_cases order next.index i h)
 
   listed_more : (i : ℕ) → IsSome (get_or (settled_at ds next) i None) → Contains (order ++ next.index ∷ []) i
@@ -47,7 +51,8 @@ module _ (t : Topology) (root : ℕ) (ds : List (Option ℕ)) (order : List ℕ)
   as_before i d some at = let x = some_of (get_or ds i None) some in x.1 ∙ sym (stays t root ds order queue rest pushed next s i x.0 x.1) ∙ at
 
   -- a vertex that was settled stands before the next one
-  before_next : (i x e : ℕ) → IsSome (get_or ds i None) → get_or (settled_at ds next) i None ≡ Some x → get_or (settled_at ds next) next.index None ≡ Some e → key_at t x i < key_at t e next.index
+  before_next : (i x e : ℕ) → IsSome (get_or ds i None) → get_or (settled_at ds next) i None ≡ Some x
+      → get_or (settled_at ds next) next.index None ≡ Some e → key_at t x i < key_at t e next.index
   before_next i x e some at_i at_next =
       let there : get_or ds i None ≡ Some x = as_before i x some at_i in
       let le : key_at t x i ≤ key next = s.before.below i x next there (next_there t root ds order queue rest pushed next s) in

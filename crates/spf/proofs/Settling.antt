@@ -1,5 +1,6 @@
 -- What is known where the next candidate is settled, and what its distance keeps.
-use Rattle.std.proofs.Common.{◌≡◌, ℕ, ◌+◌, ◌*◌, ◌<◌, ◌≤◌, ◌^◌, List, ◌∷◌, length, get_or, set, Option, None, Some, is_some, cond, refl, sym, ap, ◌∙◌, subst, arith, ◌⊎◌, inl, inr, ⊎_elim, false}
+use Rattle.std.proofs.Common.{◌≡◌, ℕ, ◌+◌, ◌*◌, ◌<◌, ◌≤◌, ◌^◌, List, ◌∷◌, length, get_or, set, Option, None, Some, is_some, cond, refl, sym, ap, ◌∙◌}
+use Rattle.std.proofs.Common.{subst, arith, ◌⊎◌, inl, inr, ⊎_elim, false}
 use Rattle.std.specs.List.{All, Contains}
 use Rattle.std.specs.List.Sorted.{IsPermutation}
 use Rattle.std.specs.Ordering.{is_lt}
@@ -31,7 +32,8 @@ pub record Settles (t : Topology) (root : ℕ) (ds : List (Option ℕ)) (order :
 abbrev pub settled_at : List (Option ℕ) → Candidate → List (Option ℕ)
 settled_at ds next = set ds next.index (Some next.distance)
 
-module _ (t : Topology) (root : ℕ) (ds : List (Option ℕ)) (order : List ℕ) (queue rest pushed : List Candidate) (next : Candidate) (s : Settles t root ds order queue rest pushed next) where
+module _ (t : Topology) (root : ℕ) (ds : List (Option ℕ)) (order : List ℕ) (queue rest pushed : List Candidate)
+    (next : Candidate) (s : Settles t root ds order queue rest pushed next) where
   pub next_there : Contains queue next
   next_there = next_in_queue t s.shape root ds order queue rest next s.before s.taken
 
@@ -65,7 +67,8 @@ module _ (t : Topology) (root : ℕ) (ds : List (Option ℕ)) (order : List ℕ)
   pub count_up : reached_count (settled_at ds next) ≡ reached_count ds + 1
   count_up =
       let e = reached_count-set ds next.index next.distance next_within in
-      let e' : reached_count (settled_at ds next) + 0 ≡ reached_count ds + 1 = subst (λ (o : Option ℕ). reached_count (settled_at ds next) + cond (is_some o) 1 0 ≡ reached_count ds + 1) s.fresh e in
+      let e' : reached_count (settled_at ds next) + 0 ≡ reached_count ds + 1 =
+      subst (λ (o : Option ℕ). reached_count (settled_at ds next) + cond (is_some o) 1 0 ≡ reached_count ds + 1) s.fresh e in
       omega arith
 
   pub bounded_next : Bounded (settled_at ds next)
@@ -80,16 +83,24 @@ module _ (t : Topology) (root : ℕ) (ds : List (Option ℕ)) (order : List ℕ)
   pub paths_next : (i d : ℕ) → get_or (settled_at ds next) i None ≡ Some d → HasPathOfCost (IsArc t) root i d
   paths_next i d at =
       ⊎_elim
-      (λ p. subst (λ (n : ℕ). HasPathOfCost (IsArc t) root i n) (sym p.1) (subst (λ (n : ℕ). HasPathOfCost (IsArc t) root n next.distance) (sym p.0) next_is.path))
+      (λ p. subst (λ (n : ℕ). HasPathOfCost (IsArc t) root i n) (sym p.1)
+      (subst (λ (n : ℕ). HasPathOfCost (IsArc t) root n next.distance) (sym p.0) next_is.path))
       (λ there. s.before.paths i d there)
       (settled_cases i d at)
 
   -- a candidate that was there is one still
   candidate_stays : (c : Candidate) → IsCandidate t root ds c → IsCandidate t root (settled_at ds next) c
-  candidate_stays c k = record { path = k.path; within = k.within; kind = k.kind; small = (let up = count_up in let small : c.distance ≤ 65535 * reached_count ds = k.small in omega arith) }
+  candidate_stays c k = record {
+    path = k.path;
+    within = k.within;
+    kind = k.kind;
+    small =
+        (let up = count_up in let small : c.distance ≤ 65535 * reached_count ds = k.small in omega arith);
+  }
 
   -- and so is one over an edge out of the next vertex
-  candidate_new : (e : DirectedEdge ℕ) → IsArc t e → e.from ≡ next.index → IsCandidate t root (settled_at ds next) (candidate_at t (next.distance + e.cost) e.to)
+  candidate_new : (e : DirectedEdge ℕ) → IsArc t e → e.from ≡ next.index
+      → IsCandidate t root (settled_at ds next) (candidate_at t (next.distance + e.cost) e.to)
   candidate_new e arc from = record {
     path = HasPathOfCost-push (IsArc t) root e next.distance (subst (λ (n : ℕ). HasPathOfCost (IsArc t) root n next.distance) (sym from) next_is.path) arc;
     within = s.shape.in_range e arc;
@@ -118,7 +129,8 @@ module _ (t : Topology) (root : ℕ) (ds : List (Option ℕ)) (order : List ℕ)
   -- an edge out of the next vertex leads to a greater key
   neighbour_key : (e : DirectedEdge ℕ) → IsArc t e → e.from ≡ next.index → key next < key_at t (next.distance + e.cost) e.to
   neighbour_key e arc from =
-      subst (λ (k : ℕ). k < key_at t (next.distance + e.cost) e.to) (ap (λ (n : ℕ). key_at t next.distance n) from ∙ next_key) (arc_key t s.shape e next.distance arc)
+      subst (λ (k : ℕ). k < key_at t (next.distance + e.cost) e.to)
+      (ap (λ (n : ℕ). key_at t next.distance n) from ∙ next_key) (arc_key t s.shape e next.distance arc)
 
   -- no candidate that is then in the queue has a less key
   pub pushed_key : (c : Candidate) → Contains pushed c → key next ≤ key c

@@ -13,8 +13,11 @@ use Rattle.spf.proofs.Searching.{Searching}
 use Rattle.spf.proofs.Settled.{Searching-settle}
 use Rattle.spf.proofs.Taking.{Searching-drop, next_candidate, work, work-settle}
 
-module _ (t : Topology) (shape : IsTopology t) (root : ℕ) (ds : List (Option ℕ)) (order : List ℕ) (queue rest : List Candidate) (next : Candidate) (s : Searching t root ds order queue) (taken : IsPermutation queue (next ∷ rest)) (ds' : List (Option ℕ)) (order' : List ℕ) (queue' : List Candidate) where
-  Searching-new : All (λ (o : Candidate). is_lt (candidate_cmp o next) ≡ false) rest → get_or ds next.index None ≡ None → SettlesOne t next ds order rest ds' order' queue' → Searching t root ds' order' queue'
+module _ (t : Topology) (shape : IsTopology t) (root : ℕ) (ds : List (Option ℕ)) (order : List ℕ) (queue rest : List Candidate)
+    (next : Candidate) (s : Searching t root ds order queue) (taken : IsPermutation queue (next ∷ rest))
+    (ds' : List (Option ℕ)) (order' : List ℕ) (queue' : List Candidate) where
+  Searching-new : All (λ (o : Candidate). is_lt (candidate_cmp o next) ≡ false) rest → get_or ds next.index None ≡ None
+      → SettlesOne t next ds order rest ds' order' queue' → Searching t root ds' order' queue'
   Searching-new first fresh one =
       subst (λ (xs : List (Option ℕ)). Searching t root xs order' queue') (sym one.distances)
       (subst (λ (xs : List ℕ). Searching t root (set ds next.index (Some next.distance)) xs queue') (sym one.last)
@@ -28,10 +31,12 @@ module _ (t : Topology) (shape : IsTopology t) (root : ℕ) (ds : List (Option �
       })))
 
   -- the invariant
-  pub Searching-step : All (λ (o : Candidate). is_lt (candidate_cmp o next) ≡ false) rest → SettlesNew t next ds order rest ds' order' queue' → Searching t root ds' order' queue'
+  pub Searching-step : All (λ (o : Candidate). is_lt (candidate_cmp o next) ≡ false) rest
+      → SettlesNew t next ds order rest ds' order' queue' → Searching t root ds' order' queue'
   Searching-step first step = by_distance (get_or ds next.index None) refl step
     where
-      by_distance : (o : Option ℕ) → get_or ds next.index None ≡ o → MatchOption o (SettlesOne t next ds order rest ds' order' queue') (λ _. (ds' ≡ ds) × (order' ≡ order) × (queue' ≡ rest)) → Searching t root ds' order' queue'
+      by_distance : (o : Option ℕ) → get_or ds next.index None ≡ o → MatchOption o (SettlesOne t next ds order rest ds' order' queue')
+          (λ _. (ds' ≡ ds) × (order' ≡ order) × (queue' ≡ rest)) → Searching t root ds' order' queue'
       by_distance None is one = Searching-new first is one
       by_distance (Some d) is same =
           subst (λ (xs : List (Option ℕ)). Searching t root xs order' queue') (sym same.0)
@@ -45,10 +50,13 @@ module _ (t : Topology) (shape : IsTopology t) (root : ℕ) (ds : List (Option �
       within : next.index < length ds
       within = let size = s.sized in let there : next.index < length t.vertices = (next_candidate next rest s taken).within in omega arith
 
-      by_distance : (o : Option ℕ) → get_or ds next.index None ≡ o → MatchOption o (SettlesOne t next ds order rest ds' order' queue') (λ _. (ds' ≡ ds) × (order' ≡ order) × (queue' ≡ rest)) → work ds' queue' < work ds queue
+      by_distance : (o : Option ℕ) → get_or ds next.index None ≡ o → MatchOption o (SettlesOne t next ds order rest ds' order' queue')
+          (λ _. (ds' ≡ ds) × (order' ≡ order) × (queue' ≡ rest)) → work ds' queue' < work ds queue
       by_distance None is one =
-          subst (λ (xs : List (Option ℕ)). work xs queue' < work ds queue) (sym one.distances) (work-settle ds next.index next.distance queue rest queue' next within is taken one.count)
+          subst (λ (xs : List (Option ℕ)). work xs queue' < work ds queue) (sym one.distances)
+          (work-settle ds next.index next.distance queue rest queue' next within is taken one.count)
       by_distance (Some d) is same =
           let longer : length (next ∷ rest) ≡ length queue = length_permutation queue (next ∷ rest) taken in
           let less : work ds rest < work ds queue = omega arith in
-          subst (λ (xs : List (Option ℕ)). work xs queue' < work ds queue) (sym same.0) (subst (λ (xs : List Candidate). work ds xs < work ds queue) (sym same.2) less)
+          subst (λ (xs : List (Option ℕ)). work xs queue' < work ds queue) (sym same.0)
+          (subst (λ (xs : List Candidate). work ds xs < work ds queue) (sym same.2) less)

@@ -1,5 +1,6 @@
 -- A candidate is taken from the queue, and dropped where its vertex is settled.
-use Rattle.std.proofs.Common.{◌≡◌, ℕ, ◌+◌, ◌<◌, ◌≤◌, ◌^◌, List, ◌∷◌, length, get_or, set, Option, None, Some, is_some, cond, sym, ap, ◌∙◌, subst, arith, ◌⊎◌, inl, inr, ⊎_elim}
+use Rattle.std.proofs.Common.{◌≡◌, ℕ, ◌+◌, ◌<◌, ◌≤◌, ◌^◌, List, ◌∷◌, length, get_or, set, Option, None, Some, is_some, cond, sym, ap, ◌∙◌, subst}
+use Rattle.std.proofs.Common.{arith, ◌⊎◌, inl, inr, ⊎_elim}
 use Rattle.std.specs.List.{Contains, sum_by}
 use Rattle.std.specs.List.Sorted.{IsPermutation}
 use Rattle.std.proofs.lemmas.List.Sorted.{Contains-permutation, IsPermutation-sym, length_permutation}
@@ -17,18 +18,27 @@ use Rattle.spf.proofs.Searching.{IsCandidate, Searching}
 abbrev pub work : List (Option ℕ) → List Candidate → ℕ
 work ds queue = sum_by (λ (o : Option ℕ). cond (is_some o) 0 (2 ^ 64)) ds + length queue
 
-pub work-settle : (ds : List (Option ℕ)) (i d : ℕ) (queue rest queue' : List Candidate) (next : Candidate) → i < length ds → get_or ds i None ≡ None → IsPermutation queue (next ∷ rest) → length queue' < length rest + 2 ^ 64 → work (set ds i (Some d)) queue' < work ds queue
+pub work-settle : (ds : List (Option ℕ)) (i d : ℕ) (queue rest queue' : List Candidate) (next : Candidate) → i < length ds
+    → get_or ds i None ≡ None → IsPermutation queue (next ∷ rest) → length queue' < length rest + 2 ^ 64 → work (set ds i (Some d)) queue' < work ds queue
 work-settle ds i d queue rest queue' next within fresh taken more =
     let longer : length (next ∷ rest) ≡ length queue = length_permutation queue (next ∷ rest) taken in
-    let e : sum_by (λ (o : Option ℕ). cond (is_some o) 0 (2 ^ 64)) (set ds i (Some d)) + cond (is_some (get_or ds i None)) 0 (2 ^ 64) ≡ sum_by (λ (o : Option ℕ). cond (is_some o) 0 (2 ^ 64)) ds + 0 = sum_by-set (λ (o : Option ℕ). cond (is_some o) 0 (2 ^ 64)) ds i (Some d) None within in
-    let e' : sum_by (λ (o : Option ℕ). cond (is_some o) 0 (2 ^ 64)) (set ds i (Some d)) + 2 ^ 64 ≡ sum_by (λ (o : Option ℕ). cond (is_some o) 0 (2 ^ 64)) ds + 0 = subst (λ (o : Option ℕ). sum_by (λ (o : Option ℕ). cond (is_some o) 0 (2 ^ 64)) (set ds i (Some d)) + cond (is_some o) 0 (2 ^ 64) ≡ sum_by (λ (o : Option ℕ). cond (is_some o) 0 (2 ^ 64)) ds + 0) fresh e in
+    let e : sum_by (λ (o : Option ℕ). cond (is_some o) 0 (2 ^ 64)) (set ds i (Some d)) + cond (is_some (get_or ds i None)) 0
+    (2 ^ 64) ≡ sum_by (λ (o : Option ℕ). cond (is_some o) 0 (2 ^ 64)) ds + 0 =
+    sum_by-set (λ (o : Option ℕ). cond (is_some o) 0 (2 ^ 64)) ds i (Some d) None within in
+    let e' : sum_by (λ (o : Option ℕ). cond (is_some o) 0 (2 ^ 64)) (set ds i (Some d)) + 2 ^ 64 ≡ sum_by
+    (λ (o : Option ℕ). cond (is_some o) 0 (2 ^ 64)) ds + 0 =
+    subst (λ (o : Option ℕ). sum_by (λ (o : Option ℕ). cond (is_some o) 0 (2 ^ 64)) (set ds i (Some d)) + cond
+    (is_some o) 0 (2 ^ 64) ≡ sum_by (λ (o : Option ℕ). cond (is_some o) 0 (2 ^ 64)) ds + 0) fresh e in
     omega arith
 
 -- the candidate that is taken is one
-pub next_candidate : {t : Topology} {root : ℕ} {ds : List (Option ℕ)} {order : List ℕ} {queue : List Candidate} (next : Candidate) (rest : List Candidate) → Searching t root ds order queue → IsPermutation queue (next ∷ rest) → IsCandidate t root ds next
-next_candidate {t} {root} {ds} {order} {queue} next rest s taken = s.candidates next (Contains-permutation (next ∷ rest) queue next (IsPermutation-sym queue (next ∷ rest) taken) (Contains-head next rest))
+pub next_candidate : {t : Topology} {root : ℕ} {ds : List (Option ℕ)} {order : List ℕ} {queue : List Candidate}
+    (next : Candidate) (rest : List Candidate) → Searching t root ds order queue → IsPermutation queue (next ∷ rest) → IsCandidate t root ds next
+next_candidate {t} {root} {ds} {order} {queue} next rest s taken =
+    s.candidates next (Contains-permutation (next ∷ rest) queue next (IsPermutation-sym queue (next ∷ rest) taken) (Contains-head next rest))
 
-module _ (t : Topology) (shape : IsTopology t) (root : ℕ) (ds : List (Option ℕ)) (order : List ℕ) (queue rest : List Candidate) (next : Candidate) (s : Searching t root ds order queue) (taken : IsPermutation queue (next ∷ rest)) where
+module _ (t : Topology) (shape : IsTopology t) (root : ℕ) (ds : List (Option ℕ)) (order : List ℕ) (queue rest : List Candidate)
+    (next : Candidate) (s : Searching t root ds order queue) (taken : IsPermutation queue (next ∷ rest)) where
   -- a candidate that is left was there
   pub in_queue : (c : Candidate) → Contains rest c → Contains queue c
   in_queue c h = Contains-permutation (next ∷ rest) queue c (IsPermutation-sym queue (next ∷ rest) taken) (Contains-tail next rest c h)
@@ -57,7 +67,8 @@ module _ (t : Topology) (shape : IsTopology t) (root : ℕ) (ds : List (Option �
     candidates = λ c h. s.candidates c (in_queue c h);
     covered = λ e x arc from. ⊎_elim (λ done. inl done)
         (λ q. ⊎_elim
-        (λ same. inl (dropped e.to (x + e.cost) (ap (λ (c : Candidate). c.index) same ∙ q.2) (subst (λ (c : Candidate). c.distance ≤ x + e.cost) (sym same) q.3)))
+        (λ same. inl
+        (dropped e.to (x + e.cost) (ap (λ (c : Candidate). c.index) same ∙ q.2) (subst (λ (c : Candidate). c.distance ≤ x + e.cost) (sym same) q.3)))
         (λ there. inr (q.0, there, q.2, q.3))
         (queue_cases q.0 q.1))
         (s.covered e x arc from);

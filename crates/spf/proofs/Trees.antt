@@ -33,8 +33,10 @@ module _ (t : Topology) (shape : IsTopology t) (r : ℕ) (ds : List (Option ℕ)
       at_some None is = tt
       at_some (Some x) is = distance-below bounded k x is
 
-  distance-from_closed : (root v : Vertex) (i : ℕ) → Sound t r ds → Closed t ds → slice_get t.vertices r ≡ Some root → slice_get t.vertices i ≡ Some v → IsDistance (IsEdge t) root v (get_or ds i None)
-  distance-from_closed root v i sound closed at_root at = IsDistance-up t shape r i root v at_root at (get_or ds i None) (IsDistance-closed t r ds sound closed i)
+  distance-from_closed : (root v : Vertex) (i : ℕ) → Sound t r ds → Closed t ds → slice_get t.vertices r ≡ Some root
+      → slice_get t.vertices i ≡ Some v → IsDistance (IsEdge t) root v (get_or ds i None)
+  distance-from_closed root v i sound closed at_root at =
+      IsDistance-up t shape r i root v at_root at (get_or ds i None) (IsDistance-closed t r ds sound closed i)
 
   -- distances that no edge lowers are a function of the graph and the root
   pub distances-from_closed : (root : Vertex) → Sound t r ds → Closed t ds → slice_get t.vertices r ≡ Some root → ds ≡ distances_of t root
@@ -57,7 +59,8 @@ module _ (t : Topology) (shape : IsTopology t) (r : ℕ) (ds : List (Option ℕ)
   pub AreInRange-settled : AreInRange (record { root = r; distances = ds; order = order })
   AreInRange-settled = record {
     below = distances-below t shape r ds s.sized s.bounded;
-    within = λ k d lt. (let x = some_of (get_or ds (get_or order k d) None) (s.settled (get_or order k d) (Contains-get_or order k d lt)) in within_some ds (get_or order k d) x.0 x.1);
+    within = λ k d lt.
+        (let x = some_of (get_or ds (get_or order k d) None) (s.settled (get_or order k d) (Contains-get_or order k d lt)) in within_some ds (get_or order k d) x.0 x.1);
   }
 
 -- the distances of a tree are a function of the graph and the root
@@ -67,11 +70,14 @@ distances-are t root tree of =
     (λ i v at. distance-is t root v (get_or tree.distances i None) (of.distance i v at))
 
 -- and the other way: these are the distances over all paths
-pub IsDistance-from_equation : (t : Topology) (root : Vertex) (ds : List (Option ℕ)) → ds ≡ distances_of t root → (i : ℕ) (v : Vertex) → slice_get t.vertices i ≡ Some v → IsDistance (IsEdge t) root v (get_or ds i None)
+pub IsDistance-from_equation : (t : Topology) (root : Vertex) (ds : List (Option ℕ)) → ds ≡ distances_of t root
+    → (i : ℕ) (v : Vertex) → slice_get t.vertices i ≡ Some v → IsDistance (IsEdge t) root v (get_or ds i None)
 IsDistance-from_equation t root ds is i v at =
     subst (λ (o : Option ℕ). IsDistance (IsEdge t) root v o) (sym value) (IsDistance-edges t root v)
   where
     value : get_or ds i None ≡ distance_of (edges_of t) root v
     value = ap (λ (xs : List (Option ℕ)). get_or xs i None) is
         ∙ sym (unwrap_or-slice_get (distances_of t root) i None)
-        ∙ ap (λ (o : Option (Option ℕ)). unwrap_or o None) (slice_get-map (λ v. distance_of (edges_of t) root v) t.vertices i ∙ ap (λ (o : Option Vertex). option_map (λ v. distance_of (edges_of t) root v) o) at)
+        ∙ ap (λ (o : Option (Option ℕ)). unwrap_or o None)
+        (slice_get-map (λ v. distance_of (edges_of t) root v) t.vertices i
+        ∙ ap (λ (o : Option Vertex). option_map (λ v. distance_of (edges_of t) root v) o) at)

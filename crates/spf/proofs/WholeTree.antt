@@ -21,16 +21,19 @@ module _ (root : Vertex) where
   first_place : (vs : List Vertex) (r : ℕ) → slice_get vs r ≡ Some root → slice_get vs (position_or_len (λ v. is_same v root) vs) ≡ Some root
   first_place [] r h = h
   first_place (v ∷ vs) zero h =
-      subst (λ (b : Bool). slice_get (v ∷ vs) (cond (not b) (1 + position_or_len (λ v. is_same v root) vs) 0) ≡ Some root) (sym (is_same-from v root (Some-same h))) h
+      subst (λ (b : Bool). slice_get (v ∷ vs) (cond (not b) (1 + position_or_len (λ v. is_same v root) vs) 0) ≡ Some root)
+      (sym (is_same-from v root (Some-same h))) h
   first_place (v ∷ vs) (suc r) h = by_test (is_same v root) refl (first_place vs r h)
     where
-      by_test : (b : Bool) → is_same v root ≡ b → slice_get vs (position_or_len (λ v. is_same v root) vs) ≡ Some root → slice_get (v ∷ vs) (cond (not b) (1 + position_or_len (λ v. is_same v root) vs) 0) ≡ Some root
+      by_test : (b : Bool) → is_same v root ≡ b → slice_get vs (position_or_len (λ v. is_same v root) vs) ≡ Some root
+          → slice_get (v ∷ vs) (cond (not b) (1 + position_or_len (λ v. is_same v root) vs) 0) ≡ Some root
       by_test true is rest = ap (λ (x : Vertex). Some x) (same_from_is_same v root is)
       by_test false is rest = at_place v vs (position_or_len (λ v. is_same v root) vs) rest
 
 pub tree-is : (t : Topology) → IsTopology t → (root : Vertex) (tree : Distances) → IsTreeOf t root tree → tree ≡ tree_of t root
 tree-is t shape root tree of =
-    let number : tree.root ≡ number_of t root = one_number t shape tree.root (number_of t root) root of.root_at (first_place root t.vertices tree.root of.root_at) in
+    let number : tree.root ≡ number_of t root = one_number t shape tree.root
+    (number_of t root) root of.root_at (first_place root t.vertices tree.root of.root_at) in
     let distances = distances-are t root tree of in
     let order : tree.order ≡ order_of t (distances_of t root) = order-is t root tree of ∙ ap (λ (ds : List (Option ℕ)). order_of t ds) distances in
     ap (λ (r : ℕ). let x : Distances = record { root = r; distances = tree.distances; order = tree.order } in x) number

@@ -53,7 +53,8 @@ module _ {X : Type 0} (line : X → List ℕ) where
   all_ended (x ∷ xs) = ap (λ l. ended x ++ l) (all_ended xs)
 
   -- all lines
-  pub all_lines : (start : List ℕ) (xs : List X) (i : ℕ) (text : List ℕ) → length xs ≤ i → text ≡ start ++ flat_map ended (take i xs) → text ≡ start ++ lines_text (map line xs)
+  pub all_lines : (start : List ℕ) (xs : List X) (i : ℕ) (text : List ℕ) → length xs ≤ i
+      → text ≡ start ++ flat_map ended (take i xs) → text ≡ start ++ lines_text (map line xs)
   all_lines start xs i text done so_far = so_far ∙ ap (λ l. start ++ l) (ap (flat_map ended) (take_all i xs done) ∙ all_ended xs)
 
 -- ---- whole texts
@@ -78,6 +79,7 @@ pub table_text_is : (table : TableValue) → headed (codes "table") table.router
 unfolding table_text
 table_text_is table = refl
 
-pub compare_text_is : (router : RouterId) (before now : TableValue) → headed (codes "compare") router (changes before.routes now.routes) ≡ compare_text router before now
+pub compare_text_is : (router : RouterId) (before now : TableValue)
+    → headed (codes "compare") router (changes before.routes now.routes) ≡ compare_text router before now
 unfolding compare_text
 compare_text_is router before now = refl

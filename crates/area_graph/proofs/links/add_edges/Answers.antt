@@ -12,6 +12,7 @@ loop-lsa-preserved g c =
     let added = subst (λ (l : List ℕ). Adds (over_links tied (vertex_of l)
     (router_links l)) c.loop-lsa.draft c.add_lsa.new.draft) c.lsa.ensures c.in_ok-add_lsa.ensures.edges in (
       c.in_ok-add_lsa.ensures.vertices ∙ c.loop-lsa.invariant.0,
-      over_lsas-more tied c.args.lsas.now c.loop-lsa.lsa-index c.lsa-item.result c.args.draft.now c.loop-lsa.draft c.add_lsa.new.draft c.loop-lsa-test.true c.lsa-item.is
+      over_lsas-more tied c.args.lsas.now c.loop-lsa.lsa-index c.lsa-item.result c.args.draft.now
+          c.loop-lsa.draft c.add_lsa.new.draft c.loop-lsa-test.true c.lsa-item.is
           c.loop-lsa.invariant.0 c.loop-lsa.invariant.1 added,
     )

@@ -9,10 +9,12 @@ loop-area-preserved g c = (
   adds_step (flat_map_adds (λ r. r.entries)) (λ es. c.loop-area.all.items ≡ es) (λ es. c.add_entries.new.all.items ≡ es)
       c.args.results.now c.loop-area.area-index c.area-item.result c.loop-area-test.true c.area-item.is c.loop-area.invariant.0
       (λ es before. c.in_ok-add_entries.ensures.entries ∙ ap (λ l. l ++ c.area-item.result.entries) before),
-  All-taken AreCheap c.args.results.now c.loop-area.area-index c.area-item.result c.loop-area-test.true c.area-item.is c.add_entries.ensures.cheap c.loop-area.invariant.1,
+  All-taken AreCheap c.args.results.now c.loop-area.area-index c.area-item.result c.loop-area-test.true
+      c.area-item.is c.add_entries.ensures.cheap c.loop-area.invariant.1,
 )
 
 pub returns-clause-small : goal.returns-clause-small
 returns-clause-small g c =
     subst (EntriesBelow (2 ^ 33)) (sym c.loop-area.invariant.0)
-    (All-flat_map (λ (e : EntryValue). e.cost < 2 ^ 33) AreCheap (λ r. r.entries) (λ r h. h.entries) (take c.loop-area.area-index c.args.results.now) c.loop-area.invariant.1)
+    (All-flat_map (λ (e : EntryValue). e.cost < 2 ^ 33) AreCheap (λ r. r.entries) (λ r h. h.entries)
+    (take c.loop-area.area-index c.args.results.now) c.loop-area.invariant.1)

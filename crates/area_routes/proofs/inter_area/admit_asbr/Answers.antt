@@ -10,5 +10,6 @@ use Rattle.area_routes.proofs.inter_area.admit_asbr.Goals as goal
 pub returns-in_ok-admit_summary : goal.returns-in_ok-admit_summary
 returns-in_ok-admit_summary g c = λ cs before.
     let told : Some c.in-Some.asbr ≡ asbr_told c.args.router c.args.area.now c.args.lsa.now = sym c.in-Some.is ∙ c.asbr_told.ensures in
-    let P : Option RouterId → Type 0 = λ o. Gathers router_cmp (cs ++ cons_option (option_and_then (candidate_to c.args.router c.args.area.now c.args.lsa.now) o) []) c.admit_summary.new.ways in
+    let P : Option RouterId → Type 0 = λ o. Gathers router_cmp
+    (cs ++ cons_option (option_and_then (candidate_to c.args.router c.args.area.now c.args.lsa.now) o) []) c.admit_summary.new.ways in
     subst P told (c.in_ok-admit_summary.ensures cs before)

@@ -10,5 +10,6 @@ use Rattle.area_routes.proofs.inter_area.admit_network.Goals as goal
 pub returns-in_ok-admit_summary : goal.returns-in_ok-admit_summary
 returns-in_ok-admit_summary g c = λ cs before.
     let told : Some c.in-Some.net ≡ network_told c.args.intra.now c.args.lsa.now = sym c.in-Some.is ∙ c.network_told.ensures in
-    let P : Option Net → Type 0 = λ o. Gathers prefix_cmp (cs ++ cons_option (option_and_then (candidate_to c.args.router c.args.area.now c.args.lsa.now) o) []) c.admit_summary.new.ways in
+    let P : Option Net → Type 0 = λ o. Gathers prefix_cmp
+    (cs ++ cons_option (option_and_then (candidate_to c.args.router c.args.area.now c.args.lsa.now) o) []) c.admit_summary.new.ways in
     subst P told (c.in_ok-admit_summary.ensures cs before)

@@ -28,7 +28,8 @@ returns g c =
     let found : Some c.in-Some.area.now ≡ examined c.args.results.now = ap option_copied (sym c.in-Some.is) ∙ c.examined.ensures in
     let lists = lists_of c.args.database.now in
     let area : AreaResultValue = c.in-Some.area.now in
-    let section : (a : AreaId) → a ≡ area.area → lsas_of (Area a) lists ≡ lsas_of (Area area.area) lists = λ a e. ap (λ (x : AreaId). lsas_of (Area x) lists) e in
+    let section : (a : AreaId) → a ≡ area.area → lsas_of (Area a) lists ≡ lsas_of (Area area.area) lists =
+    λ a e. ap (λ (x : AreaId). lsas_of (Area x) lists) e in
     let routes =
     c.in_ok-routes.ensures
     ∙ ap (inter_routes c.args.router c.in_ok-area.area c.args.intra.now) (c.lsas.ensures.lsas ∙ section c.area.result c.area.ensures)

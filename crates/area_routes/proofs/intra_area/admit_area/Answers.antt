@@ -10,7 +10,8 @@ use Rattle.area_routes.proofs.intra_area.admit_area.Goals as goal
 pub loop-offer-preserved : goal.loop-offer-preserved
 loop-offer-preserved g c =
     let o = c.offer-item.result in
-    adds_more (map_adds (intra_candidate c.args.area.now.area)) (λ cs. Gathers prefix_cmp cs c.args.ways.now) (λ cs. Gathers prefix_cmp cs c.loop-offer.ways) (λ cs. Gathers prefix_cmp cs c.admit_offer.new.ways)
+    adds_more (map_adds (intra_candidate c.args.area.now.area)) (λ cs. Gathers prefix_cmp cs c.args.ways.now)
+    (λ cs. Gathers prefix_cmp cs c.loop-offer.ways) (λ cs. Gathers prefix_cmp cs c.admit_offer.new.ways)
     c.offers-offers.result.now c.loop-offer.offer-index o c.loop-offer-test.true c.offer-item.is c.loop-offer.invariant
     (λ cs before.
     let P : AreaId → Type 0 = λ area. Gathers prefix_cmp (cs ++ intra_candidate area o ∷ []) c.admit_offer.new.ways in

@@ -9,4 +9,5 @@ use Rattle.area_routes.proofs.intra_area.admit_area.Given as goal
 -- the ways have taken the offers so far into account
 abbrev pub invariant-loop-offer : goal.invariant-loop-offer
 invariant-loop-offer g l =
-    (cs : List (Candidate Net)) → Gathers prefix_cmp cs l.fn.ways → Gathers prefix_cmp (cs ++ map (intra_candidate l.area.area) (take l.offer-index l.offers)) l.ways
+    (cs : List (Candidate Net)) → Gathers prefix_cmp cs l.fn.ways
+    → Gathers prefix_cmp (cs ++ map (intra_candidate l.area.area) (take l.offer-index l.offers)) l.ways

@@ -10,6 +10,13 @@ use Rattle.area_routes.proofs.intra_area.admit_offer.Goals as goal
 
 pub returns : goal.returns
 returns g c =
-    let P : Candidate Net → Type 0 = λ x. OnOk c.admit.result ((cs : List (Candidate Net)) → Gathers prefix_cmp cs c.args.ways.now → Gathers prefix_cmp (cs ++ x ∷ []) c.admit.new.self) in
-    let with_hops : List Hop → Candidate Net = λ hops. record { key = c.offer.inside.net; rank = record { path = Intra; cost2 = 0; class = 0; cost = c.offer.inside.cost }; area = Some c.args.area; hops = hops } in
+    let P : Candidate Net → Type 0 = λ x. OnOk c.admit.result
+    ((cs : List (Candidate Net)) → Gathers prefix_cmp cs c.args.ways.now → Gathers prefix_cmp (cs ++ x ∷ []) c.admit.new.self) in
+    let with_hops : List Hop → Candidate Net = λ hops. record {
+      key = c.offer.inside.net;
+      rank = record { path = Intra; cost2 = 0; class = 0; cost = c.offer.inside.cost };
+      area =
+          Some c.args.area;
+      hops = hops;
+    } in
     subst P (ap with_hops c.as_slice.ensures.hops ∙ ap (intra_candidate c.args.area) c.offer.view_is) c.admit.ensures

@@ -16,8 +16,10 @@ use Rattle.area_routes.proofs.intra_area.intra.Goals as goal
 pub loop-area-preserved : goal.loop-area-preserved
 loop-area-preserved g c = (
   adds_step (flat_map_adds intra_candidates) (λ cs. Gathers prefix_cmp cs c.loop-area.ways) (λ cs. Gathers prefix_cmp cs c.admit_area.new.ways)
-      c.args.results.now c.loop-area.area-index c.area-item.result c.loop-area-test.true c.area-item.is c.loop-area.invariant.0 c.in_ok-admit_area.ensures.admitted,
-  All-taken AreCheap c.args.results.now c.loop-area.area-index c.area-item.result c.loop-area-test.true c.area-item.is c.admit_area.ensures.cheap c.loop-area.invariant.1,
+      c.args.results.now c.loop-area.area-index c.area-item.result c.loop-area-test.true
+      c.area-item.is c.loop-area.invariant.0 c.in_ok-admit_area.ensures.admitted,
+  All-taken AreCheap c.args.results.now c.loop-area.area-index c.area-item.result c.loop-area-test.true
+      c.area-item.is c.admit_area.ensures.cheap c.loop-area.invariant.1,
 )
 
 -- all areas are taken at the end
@@ -26,12 +28,14 @@ whole results i P all p = subst P all p
 
 -- what areas offer is cheap where the areas are
 cheap : (results : List AreaResultValue) → All AreCheap results → All (λ c. c.rank.cost < 2 ^ 33) (flat_map intra_candidates results)
-cheap results a = All-flat_map (λ (c : Candidate Net). c.rank.cost < 2 ^ 33) AreCheap intra_candidates (λ r h. All-map (λ (c : Candidate Net). c.rank.cost < 2 ^ 33) (intra_candidate r.area) r.offers h.offers) results a
+cheap results a = All-flat_map (λ (c : Candidate Net). c.rank.cost < 2 ^ 33) AreCheap intra_candidates
+    (λ r h. All-map (λ (c : Candidate Net). c.rank.cost < 2 ^ 33) (intra_candidate r.area) r.offers h.offers) results a
 
 pub from_routes-requires : goal.from_routes-requires
 from_routes-requires g c =
     let all = take_all c.loop-area.area-index c.args.results.now c.loop-area-test.false in
-    let at = whole c.args.results.now c.loop-area.area-index (λ rs. Gathers prefix_cmp (flat_map intra_candidates rs) c.loop-area.ways) all c.loop-area.invariant.0 in
+    let at = whole c.args.results.now c.loop-area.area-index
+    (λ rs. Gathers prefix_cmp (flat_map intra_candidates rs) c.loop-area.ways) all c.loop-area.invariant.0 in
     let below = cheap c.args.results.now (whole c.args.results.now c.loop-area.area-index (λ rs. All AreCheap rs) all c.loop-area.invariant.1) in
     wider_routes c.in_ok-into_routes.field-0 (c.in_ok-into_routes.ensures.small (2 ^ 33) (flat_map intra_candidates c.args.results.now) at below)
 
@@ -39,12 +43,15 @@ pub returns-clause-routes : goal.returns-clause-routes
 unfolding intra_of
 returns-clause-routes g c =
     let all = take_all c.loop-area.area-index c.args.results.now c.loop-area-test.false in
-    let at = whole c.args.results.now c.loop-area.area-index (λ rs. Gathers prefix_cmp (flat_map intra_candidates rs) c.loop-area.ways) all c.loop-area.invariant.0 in
+    let at = whole c.args.results.now c.loop-area.area-index
+    (λ rs. Gathers prefix_cmp (flat_map intra_candidates rs) c.loop-area.ways) all c.loop-area.invariant.0 in
     c.from_routes.ensures ∙ c.in_ok-into_routes.ensures.routes (flat_map intra_candidates c.args.results.now) at
 
 pub returns-clause-small : goal.returns-clause-small
 returns-clause-small g c =
     let all = take_all c.loop-area.area-index c.args.results.now c.loop-area-test.false in
-    let at = whole c.args.results.now c.loop-area.area-index (λ rs. Gathers prefix_cmp (flat_map intra_candidates rs) c.loop-area.ways) all c.loop-area.invariant.0 in
+    let at = whole c.args.results.now c.loop-area.area-index
+    (λ rs. Gathers prefix_cmp (flat_map intra_candidates rs) c.loop-area.ways) all c.loop-area.invariant.0 in
     let below = cheap c.args.results.now (whole c.args.results.now c.loop-area.area-index (λ rs. All AreCheap rs) all c.loop-area.invariant.1) in
-    subst (RoutesBelow (2 ^ 33)) (sym c.from_routes.ensures) (c.in_ok-into_routes.ensures.small (2 ^ 33) (flat_map intra_candidates c.args.results.now) at below)
+    subst (RoutesBelow (2 ^ 33)) (sym c.from_routes.ensures)
+    (c.in_ok-into_routes.ensures.small (2 ^ 33) (flat_map intra_candidates c.args.results.now) at below)

@@ -16,7 +16,8 @@ returns-then-is_behind g c =
     let old = c.args.standings.now in
     let is = prefix_of_network (is_network_lsa r.lsa) c.in-Some.net (net_of_lsa r.lsa) c.in-Some.ensures in
     λ ns are. standings_stay ns r old are is.0
-    (ap (λ (n : Net). is_behind (get prefix_cmp old n) (standing_of r)) (sym is.1) ∙ ap (λ (s : Standing). is_behind (get prefix_cmp old c.in-Some.net) s) (sym c.standing_of-standing.ensures)
+    (ap (λ (n : Net). is_behind (get prefix_cmp old n) (standing_of r)) (sym is.1)
+    ∙ ap (λ (s : Standing). is_behind (get prefix_cmp old c.in-Some.net) s) (sym c.standing_of-standing.ensures)
     ∙ sym c.is_behind.ensures ∙ c.if-is_behind.true)
 
 pub returns : goal.returns
@@ -27,7 +28,8 @@ returns g c =
     let is = prefix_of_network (is_network_lsa r.lsa) c.in-Some.net (net_of_lsa r.lsa) c.in-Some.ensures in
     on_ok_weaker c.set_standing.result
     (λ updates ns are. standings_rise ns r old are is.0 new
-    (ap (λ (n : Net). is_behind (get prefix_cmp old n) (standing_of r)) (sym is.1) ∙ ap (λ (s : Standing). is_behind (get prefix_cmp old c.in-Some.net) s) (sym c.standing_of-standing.ensures)
+    (ap (λ (n : Net). is_behind (get prefix_cmp old n) (standing_of r)) (sym is.1)
+    ∙ ap (λ (s : Standing). is_behind (get prefix_cmp old c.in-Some.net) s) (sym c.standing_of-standing.ensures)
     ∙ sym c.is_behind.ensures ∙ c.if-is_behind.false)
     (subst (λ (n : Net). Updates prefix_cmp old new n (Some (standing_of r))) is.1
     (subst (λ (s : Standing). Updates prefix_cmp old new c.in-Some.net (Some s)) c.standing_of-standing.ensures updates)))

@@ -41,7 +41,9 @@ returns-in_err-other-clause-refused g c =
     let gave = err_from_is_err_and c.from_residual-in_err-other.result c.from_residual-in_err-other.ensures.1 in
     rw (gave.1, gave.2) (subst (λ (f : EditFault). IsRefused c.args.database.now (FailLink c.args.area c.args.router c.args.neighbor) f)
     (sym c.in_err-other.ensures.refused.0)
-    (link_no_neighbor c.args.database.now c.args.area c.args.router c.args.neighbor c.in_ok-number.number c.in_ok-lsa.field-0-0 c.in_ok-lsa.lsa.now c.in_ok-number.ensures.found (let apart : (c.args.router.0 == c.args.neighbor.0) ≡ false = search rules in apart) c.in_ok-lsa.ensures.found c.in_err-other.ensures.refused.1))
+    (link_no_neighbor c.args.database.now c.args.area c.args.router c.args.neighbor c.in_ok-number.number c.in_ok-lsa.field-0-0
+    c.in_ok-lsa.lsa.now c.in_ok-number.ensures.found
+    (let apart : (c.args.router.0 == c.args.neighbor.0) ≡ false = search rules in apart) c.in_ok-lsa.ensures.found c.in_err-other.ensures.refused.1))
 
 pub are_linked-requires-clause-one : goal.are_linked-requires-clause-one
 are_linked-requires-clause-one g c =
@@ -54,7 +56,9 @@ are_linked-requires-clause-two g c =
 pub returns-then-not-are_linked-clause-refused : goal.returns-then-not-are_linked-clause-refused
 returns-then-not-are_linked-clause-refused g c =
     let there : c.are_linked.result ≡ false = search rules in
-    link_none c.args.database.now c.args.area c.args.router c.args.neighbor c.in_ok-number.number c.in_ok-lsa.field-0-0 c.in_ok-lsa.lsa.now c.in_ok-other.field-0-0 c.in_ok-other.other.now c.in_ok-number.ensures.found (let apart : (c.args.router.0 == c.args.neighbor.0) ≡ false = search rules in apart) c.in_ok-lsa.ensures.found c.in_ok-other.ensures.found (sym c.are_linked.ensures ∙ there)
+    link_none c.args.database.now c.args.area c.args.router c.args.neighbor c.in_ok-number.number c.in_ok-lsa.field-0-0
+    c.in_ok-lsa.lsa.now c.in_ok-other.field-0-0 c.in_ok-other.other.now c.in_ok-number.ensures.found
+    (let apart : (c.args.router.0 == c.args.neighbor.0) ≡ false = search rules in apart) c.in_ok-lsa.ensures.found c.in_ok-other.ensures.found (sym c.are_linked.ensures ∙ there)
 
 pub swaps_in-requires : goal.swaps_in-requires
 swaps_in-requires g c = there_too c.args.database.now c.in_ok-number.number c.in_ok-number.ensures.found.exists
@@ -62,7 +66,9 @@ swaps_in-requires g c = there_too c.args.database.now c.in_ok-number.number c.in
 pub returns-clause-planned : goal.returns-clause-planned
 returns-clause-planned g c =
     let there : c.are_linked.result ≡ true = search rules in
-    let ruled = link_ruled c.args.database.now c.args.area c.args.router c.args.neighbor c.in_ok-number.number c.in_ok-lsa.field-0-0 c.in_ok-lsa.lsa.now c.in_ok-other.field-0-0 c.in_ok-other.other.now c.in_ok-number.ensures.found (let apart : (c.args.router.0 == c.args.neighbor.0) ≡ false = search rules in apart) c.in_ok-lsa.ensures.found c.in_ok-other.ensures.found (sym c.are_linked.ensures ∙ there) in
+    let ruled = link_ruled c.args.database.now c.args.area c.args.router c.args.neighbor c.in_ok-number.number
+    c.in_ok-lsa.field-0-0 c.in_ok-lsa.lsa.now c.in_ok-other.field-0-0 c.in_ok-other.other.now c.in_ok-number.ensures.found
+    (let apart : (c.args.router.0 == c.args.neighbor.0) ≡ false = search rules in apart) c.in_ok-lsa.ensures.found c.in_ok-other.ensures.found (sym c.are_linked.ensures ∙ there) in
     let fate = link_fate c.args.router c.args.neighbor in
     let follows = section_follows c.args.database.now (Area c.args.area) fate c.in_ok-number.number c.known.ensures c.in_ok-number.ensures.found
     (there_too c.args.database.now c.in_ok-number.number c.in_ok-number.ensures.found.exists) (link_safe c.args.router c.args.neighbor) in
@@ -73,7 +79,9 @@ returns-clause-planned g c =
 pub returns-clause-refused : goal.returns-clause-refused
 returns-clause-refused g c =
     let there : c.are_linked.result ≡ true = search rules in
-    let ruled = link_ruled c.args.database.now c.args.area c.args.router c.args.neighbor c.in_ok-number.number c.in_ok-lsa.field-0-0 c.in_ok-lsa.lsa.now c.in_ok-other.field-0-0 c.in_ok-other.other.now c.in_ok-number.ensures.found (let apart : (c.args.router.0 == c.args.neighbor.0) ≡ false = search rules in apart) c.in_ok-lsa.ensures.found c.in_ok-other.ensures.found (sym c.are_linked.ensures ∙ there) in
+    let ruled = link_ruled c.args.database.now c.args.area c.args.router c.args.neighbor c.in_ok-number.number
+    c.in_ok-lsa.field-0-0 c.in_ok-lsa.lsa.now c.in_ok-other.field-0-0 c.in_ok-other.other.now c.in_ok-number.ensures.found
+    (let apart : (c.args.router.0 == c.args.neighbor.0) ≡ false = search rules in apart) c.in_ok-lsa.ensures.found c.in_ok-other.ensures.found (sym c.are_linked.ensures ∙ there) in
     IfErr-weaker c.swaps_in.result _ _ (λ f is. subst
     (λ (e : EditFault). IsRefused c.args.database.now (FailLink c.args.area c.args.router c.args.neighbor) e) (sym is)
     (no_memory c.args.database.now (FailLink c.args.area c.args.router c.args.neighbor) _ ruled)) c.swaps_in.ensures.memory

@@ -16,7 +16,9 @@ returns-then-not-has_router-clause-refused g c =
 pub returns-in_err-check_room-clause-refused : goal.returns-in_err-check_room-clause-refused
 returns-in_err-check_room-clause-refused g c =
     let gave = err_from_is_err_and c.from_residual.result c.from_residual.ensures.1 in
-    rw (gave.1, gave.2) (external_no_room c.args.database.now c.args.router c.args.prefix c.args.metric_type c.args.metric c.args.forward c.args.tag c.new_key-key.result c.in_err-check_room.field-0.0 (let there : c.has_router.result ≡ true = search rules in sym c.has_router.ensures ∙ there) (record { is_net = c.new_key-key.ensures.prefix; addr = c.new_key-key.ensures.addr; wide = c.new_key-key.ensures.router }) c.new_key-key.ensures.key c.in_err-check_room.ensures.refused)
+    rw (gave.1, gave.2) (external_no_room c.args.database.now c.args.router c.args.prefix c.args.metric_type c.args.metric
+    c.args.forward c.args.tag c.new_key-key.result c.in_err-check_room.field-0.0
+    (let there : c.has_router.result ≡ true = search rules in sym c.has_router.ensures ∙ there) (record { is_net = c.new_key-key.ensures.prefix; addr = c.new_key-key.ensures.addr; wide = c.new_key-key.ensures.router }) c.new_key-key.ensures.key c.in_err-check_room.ensures.refused)
 
 pub returns-in_err-lsa-clause-refused : goal.returns-in_err-lsa-clause-refused
 returns-in_err-lsa-clause-refused g c =
@@ -24,13 +26,20 @@ returns-in_err-lsa-clause-refused g c =
     rw (gave.1, gave.2) (subst (λ (f : EditFault). IsRefused c.args.database.now
     (AddExternal c.args.router c.args.prefix c.args.metric_type c.args.metric c.args.forward c.args.tag) f)
     (sym (ap fault_of c.in_err-lsa.ensures.fault))
-    (external_memory c.args.database.now c.args.router c.args.prefix c.args.metric_type c.args.metric c.args.forward c.args.tag c.new_key-key.result (let there : c.has_router.result ≡ true = search rules in sym c.has_router.ensures ∙ there) (record { is_net = c.new_key-key.ensures.prefix; addr = c.new_key-key.ensures.addr; wide = c.new_key-key.ensures.router }) c.new_key-key.ensures.key c.in_ok-check_room.ensures.room))
+    (external_memory c.args.database.now c.args.router c.args.prefix c.args.metric_type c.args.metric c.args.forward
+    c.args.tag c.new_key-key.result
+    (let there : c.has_router.result ≡ true = search rules in sym c.has_router.ensures ∙ there) (record { is_net = c.new_key-key.ensures.prefix; addr = c.new_key-key.ensures.addr; wide = c.new_key-key.ensures.router }) c.new_key-key.ensures.key c.in_ok-check_room.ensures.room))
 
 pub returns-clause-planned : goal.returns-clause-planned
 returns-clause-planned g c =
     let there : c.has_router.result ≡ true = search rules in
-    IfOk-weaker c.plan_new.result _ _ (λ v opens. external_planned c.args.database.now c.plan_new.new.database c.args.router c.args.prefix c.args.metric_type c.args.metric c.args.forward c.args.tag c.new_key-key.result c.is_type2.result c.value.result c.in_ok-lsa.lsa v.items c.known.ensures
-    (sym c.has_router.ensures ∙ there) (record { is_net = c.new_key-key.ensures.prefix; addr = c.new_key-key.ensures.addr; wide = c.new_key-key.ensures.router }) c.new_key-key.ensures.key c.in_ok-check_room.ensures.room c.is_type2.ensures c.value.ensures.value c.in_ok-lsa.ensures.made opens) c.plan_new.ensures.opened
+    IfOk-weaker c.plan_new.result _ _ (λ v opens. external_planned c.args.database.now c.plan_new.new.database c.args.router
+    c.args.prefix c.args.metric_type c.args.metric c.args.forward c.args.tag c.new_key-key.result
+    c.is_type2.result c.value.result c.in_ok-lsa.lsa v.items c.known.ensures
+    (sym c.has_router.ensures ∙ there)
+    (record { is_net = c.new_key-key.ensures.prefix; addr = c.new_key-key.ensures.addr; wide = c.new_key-key.ensures.router })
+    c.new_key-key.ensures.key c.in_ok-check_room.ensures.room c.is_type2.ensures c.value.ensures.value c.in_ok-lsa.ensures.made opens)
+    c.plan_new.ensures.opened
 
 pub returns-clause-refused : goal.returns-clause-refused
 returns-clause-refused g c =
@@ -38,4 +47,7 @@ returns-clause-refused g c =
     IfErr-weaker c.plan_new.result _ _ (λ f is. subst
     (λ (e : EditFault). IsRefused c.args.database.now
     (AddExternal c.args.router c.args.prefix c.args.metric_type c.args.metric c.args.forward c.args.tag) e) (sym is)
-    (external_memory c.args.database.now c.args.router c.args.prefix c.args.metric_type c.args.metric c.args.forward c.args.tag c.new_key-key.result (sym c.has_router.ensures ∙ there) (record { is_net = c.new_key-key.ensures.prefix; addr = c.new_key-key.ensures.addr; wide = c.new_key-key.ensures.router }) c.new_key-key.ensures.key c.in_ok-check_room.ensures.room)) c.plan_new.ensures.memory
+    (external_memory c.args.database.now c.args.router c.args.prefix c.args.metric_type c.args.metric c.args.forward
+    c.args.tag c.new_key-key.result (sym c.has_router.ensures ∙ there)
+    (record { is_net = c.new_key-key.ensures.prefix; addr = c.new_key-key.ensures.addr; wide = c.new_key-key.ensures.router })
+    c.new_key-key.ensures.key c.in_ok-check_room.ensures.room)) c.plan_new.ensures.memory

@@ -23,6 +23,7 @@ pub returns-clause-opened : goal.returns-clause-opened
 returns-clause-opened g c = record {
   slot = c.in-Ok.slot;
   opens = c.in-Ok.ensures.ok;
-  swap = pushed_alone c.push.result c.in_ok-swaps.swaps.items c.push.new.self.items c.new.result _ _ c.push.ensures.items c.push.ensures.full c.in_ok-swaps.ensures.len c.in_ok-swaps.ensures.exact c.in_ok-swaps.ensures.items
+  swap = pushed_alone c.push.result c.in_ok-swaps.swaps.items c.push.new.self.items c.new.result _ _ c.push.ensures.items
+      c.push.ensures.full c.in_ok-swaps.ensures.len c.in_ok-swaps.ensures.exact c.in_ok-swaps.ensures.items
       ∙ ap (λ (s : SwapData). s ∷ []) (filled c.new.result c.in-Ok.slot c.args.section c.key-kind.result c.args.lsa c.new.ensures c.key-kind.ensures);
 }

@@ -17,7 +17,8 @@ returns-in_err-area_section-clause-refused g c =
 
 pub returns-in_default-clause-refused : goal.returns-in_default-clause-refused
 returns-in_default-clause-refused g c =
-    summary_none c.args.database.now c.args.area c.args.router c.args.prefix c.args.metric c.in_ok-area_section.field-0 c.in_ok-area_section.ensures.found c.in_default.ensures
+    summary_none c.args.database.now c.args.area c.args.router c.args.prefix c.args.metric
+    c.in_ok-area_section.field-0 c.in_ok-area_section.ensures.found c.in_default.ensures
 
 pub with_metric-requires-clause-kind : goal.with_metric-requires-clause-kind
 with_metric-requires-clause-kind g c =
@@ -33,8 +34,12 @@ returns-in_err-new-clause-refused g c =
 pub returns-in_err-one_swap-clause-refused : goal.returns-in_err-one_swap-clause-refused
 returns-in_err-one_swap-clause-refused g c =
     let gave = err_from_is_err_and c.from_residual-in_err-one_swap.result c.from_residual-in_err-one_swap.ensures.1 in
-    rw (gave.1, gave.2) (summary_memory c.args.database.now c.args.area c.args.router c.args.prefix c.args.metric c.in-Some.slot c.in-Some.lsa.now c.in-Some.ensures)
+    rw (gave.1, gave.2)
+    (summary_memory c.args.database.now c.args.area c.args.router c.args.prefix c.args.metric c.in-Some.slot c.in-Some.lsa.now c.in-Some.ensures)
 
 pub returns-clause-planned : goal.returns-clause-planned
 returns-clause-planned g c =
-    summary_planned c.args.database.now c.args.area c.args.router c.args.prefix c.args.metric c.in-Some.slot c.in-Some.lsa.now c.in_ok-new.new c.new-swap.result c.in_ok-one_swap.field-0.items c.known.ensures c.in-Some.ensures (c.in_ok-new.ensures.made ∙ ap (λ m. with_metric m c.in-Some.lsa.now) c.value.ensures.value) c.in_ok-new.ensures.keeps c.new-swap.ensures c.in_ok-one_swap.ensures
+    summary_planned c.args.database.now c.args.area c.args.router c.args.prefix c.args.metric c.in-Some.slot c.in-Some.lsa.now
+    c.in_ok-new.new c.new-swap.result c.in_ok-one_swap.field-0.items c.known.ensures c.in-Some.ensures
+    (c.in_ok-new.ensures.made ∙ ap (λ m. with_metric m c.in-Some.lsa.now) c.value.ensures.value)
+    c.in_ok-new.ensures.keeps c.new-swap.ensures c.in_ok-one_swap.ensures

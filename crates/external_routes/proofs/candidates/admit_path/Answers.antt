@@ -8,6 +8,7 @@ use Rattle.external_routes.proofs.candidates.admit_path.Goals as goal
 
 pub returns : goal.returns
 returns g c =
-    let P : Candidate Net → Type 0 = λ x. OnOk c.admit.result ((cs : List (Candidate Net)) → Gathers prefix_cmp cs c.args.ways.now → Gathers prefix_cmp (cs ++ x ∷ []) c.admit.new.self) in
+    let P : Candidate Net → Type 0 = λ x. OnOk c.admit.result
+    ((cs : List (Candidate Net)) → Gathers prefix_cmp cs c.args.ways.now → Gathers prefix_cmp (cs ++ x ∷ []) c.admit.new.self) in
     let at : Net → Rank → Candidate Net = λ net rank. record { key = net; rank = rank; area = None; hops = c.args.hops.now } in
     subst P (ap (λ net. at net c.rank-rank.result) c.net.ensures ∙ ap (at _) c.rank-rank.ensures) c.admit.ensures

@@ -9,8 +9,10 @@ use Rattle.external_routes.proofs.choose.preferred.Goals.{then-is_asbr, else-is_
 pub loop-entry-preserved : goal.loop-entry-preserved
 loop-entry-preserved g c =
     let p = is_asbr c.args.asbr in
-    let yes = first_yes preference_total p c.args.entries.now c.loop-entry.entry-index c.entry-item.result c.loop-entry-test.true c.entry-item.is (option_copied c.loop-entry.best) c.loop-entry.invariant in
-    let no = first_no preference_total p c.args.entries.now c.loop-entry.entry-index c.entry-item.result c.loop-entry-test.true c.entry-item.is (option_copied c.loop-entry.best) c.loop-entry.invariant in
+    let yes = first_yes preference_total p c.args.entries.now c.loop-entry.entry-index c.entry-item.result
+    c.loop-entry-test.true c.entry-item.is (option_copied c.loop-entry.best) c.loop-entry.invariant in
+    let no = first_no preference_total p c.args.entries.now c.loop-entry.entry-index c.entry-item.result
+    c.loop-entry-test.true c.entry-item.is (option_copied c.loop-entry.best) c.loop-entry.invariant in
     elim c.if-is_asbr.branch [
       | then-is_asbr w ↦ ap option_copied w.best-is ∙ ap Some w.better.ensures ∙ yes (sym c.is_asbr.ensures ∙ w.if-is_asbr.true)
       | else-is_asbr w ↦ ap option_copied w.best-is ∙ no (sym c.is_asbr.ensures ∙ w.if-is_asbr.false)

@@ -2,7 +2,8 @@ use Rattle.std.proofs.Common.{sym, ◌∙◌}
 use Rattle.lsdb.specs.Places.{lists_of}
 use Rattle.external_routes.proofs.OutsideStubs.{outside_found, outside_other, outside_stub}
 use Rattle.external_routes.proofs.flooding.is_attached_outside_stubs.Goals as goal
-use Rattle.external_routes.proofs.flooding.is_attached_outside_stubs.Goals.{else-not-is_stub-via-then-not-is_stub+else-is_attached, else-not-is_stub-via-else-not-is_stub}
+use Rattle.external_routes.proofs.flooding.is_attached_outside_stubs.Goals.{else-not-is_stub-via-then-not-is_stub+else-is_attached}
+use Rattle.external_routes.proofs.flooding.is_attached_outside_stubs.Goals.{else-not-is_stub-via-else-not-is_stub}
 
 pub returns-then-is_attached : goal.returns-then-is_attached
 returns-then-is_attached g c =

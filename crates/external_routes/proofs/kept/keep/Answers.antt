@@ -19,7 +19,8 @@ returns-in_ok-insert g c = λ before.
     let router : c.entry.inside.router ≡ x.router = ap (λ (e : EntryValue). e.router) c.entry.view_is in
     taken entries c.args.index x (slice_get_read entries (length entries) c.args.index x refl c.requires c.index-entries-index.is) old before
     (ap (λ (r : RouterId). is_asbr r x) (sym router) ∙ sym c.is_asbr.ensures ∙ c.if-is_asbr.true)
-    (ap (λ (r : RouterId). comes_first x (entry_at entries (old r))) (sym router) ∙ ap (λ (o : Option EntryValue). comes_first x o) (sym c.kept_for.ensures) ∙ sym c.comes_first.ensures ∙ c.if-comes_first.true)
+    (ap (λ (r : RouterId). comes_first x (entry_at entries (old r))) (sym router)
+    ∙ ap (λ (o : Option EntryValue). comes_first x o) (sym c.kept_for.ensures) ∙ sym c.comes_first.ensures ∙ c.if-comes_first.true)
     (λ asbr. get router_cmp c.insert.new.self asbr)
     (λ asbr. c.in_ok-insert.ensures.updates.0 asbr ∙ ap (λ (r : RouterId). cond (eq_by_cmp router_cmp r asbr) (Some c.args.index) (old asbr)) router)
 
@@ -34,6 +35,8 @@ returns-else-is_asbr g c = λ before.
       | else-is_asbr-via-then-is_asbr+else-comes_first w ↦
           left_late entries c.args.index x here old before
           (ap (λ (r : RouterId). is_asbr r x) (sym router) ∙ sym c.is_asbr.ensures ∙ w.if-is_asbr.true)
-          (ap (λ (r : RouterId). comes_first x (entry_at entries (old r))) (sym router) ∙ ap (λ (o : Option EntryValue). comes_first x o) (sym w.kept_for.ensures) ∙ sym w.comes_first.ensures ∙ w.if-comes_first.false)
-      | else-is_asbr-via-else-is_asbr w ↦ left_is entries c.args.index x here old before (ap (λ (r : RouterId). is_asbr r x) (sym router) ∙ sym c.is_asbr.ensures ∙ w.if-is_asbr.false)
+          (ap (λ (r : RouterId). comes_first x (entry_at entries (old r))) (sym router)
+          ∙ ap (λ (o : Option EntryValue). comes_first x o) (sym w.kept_for.ensures) ∙ sym w.comes_first.ensures ∙ w.if-comes_first.false)
+      | else-is_asbr-via-else-is_asbr w ↦ left_is entries c.args.index x here old before
+          (ap (λ (r : RouterId). is_asbr r x) (sym router) ∙ sym c.is_asbr.ensures ∙ w.if-is_asbr.false)
     ]

@@ -12,12 +12,14 @@ pub loop-lsa-preserved : goal.loop-lsa-preserved
 loop-lsa-preserved g c =
     let f : List ℕ → _ = external_candidate c.args.router c.args.inside.now.routes c.args.inside.now.entries in
     let before = map (λ (lsa : Bor (List ℕ)). lsa.now) c.loop-lsa.yielded in
-    subst (λ (lsas : List (List ℕ)). Gathers prefix_cmp (filter_map f lsas) c.admit_lsa.new.ways) (sym (map-append (λ (lsa : Bor (List ℕ)). lsa.now) c.loop-lsa.yielded (c.in-Some.lsa ∷ [])))
+    subst (λ (lsas : List (List ℕ)). Gathers prefix_cmp (filter_map f lsas) c.admit_lsa.new.ways)
+    (sym (map-append (λ (lsa : Bor (List ℕ)). lsa.now) c.loop-lsa.yielded (c.in-Some.lsa ∷ [])))
     (subst (λ cs. Gathers prefix_cmp cs c.admit_lsa.new.ways) (sym ((filter_map_adds f).push before c.in-Some.lsa.now))
     (c.in_ok-admit_lsa.ensures (filter_map f before) c.loop-lsa.invariant))
 
 pub returns : goal.returns
 returns g c =
     let f : List ℕ → _ = external_candidate c.args.router c.args.inside.now.routes c.args.inside.now.entries in
-    let all = YieldsList-end (YieldsList-from_first (λ (lsa : Bor (List ℕ)). lsa.now) (λ s. s) c.args.lsas c.into_iter-lsa-iterator.ensures.into_iter_gives) c.loop-lsa.yielded _ c.loop-lsa.yielded_by _ _ c.in-None.is c.next.ensures.steps in
+    let all = YieldsList-end (YieldsList-from_first (λ (lsa : Bor (List ℕ)). lsa.now) (λ s. s) c.args.lsas
+    c.into_iter-lsa-iterator.ensures.into_iter_gives) c.loop-lsa.yielded _ c.loop-lsa.yielded_by _ _ c.in-None.is c.next.ensures.steps in
     subst (λ (lsas : List (List ℕ)). Gathers prefix_cmp (filter_map f lsas) c.loop-lsa.ways) all.0 c.loop-lsa.invariant

@@ -14,6 +14,7 @@ returns-clause-made g c =
     ∙ ap (λ (t : List ℕ). lsa ++ t) c.stub_text.ensures.text in
     let count : ℕ = c.u16_at.result + 1 in
     let long : 24 ≤ length c.deref_mut.result.now = omega (arith, ap length body, length-append lsa text, c.requires.header) in
-    finished count c.deref_mut.result.now c.recount.new.lsa c.extend_from_slice.new.self.items c.extend_from_slice.new.self.len long c.recount.ensures c.deref_mut.ensures.len
+    finished count c.deref_mut.result.now c.recount.new.lsa c.extend_from_slice.new.self.items
+    c.extend_from_slice.new.self.len long c.recount.ensures c.deref_mut.ensures.len
     ∙ ap (recounted count) body
     ∙ ap (λ (n : ℕ). recounted (n + 1) (lsa ++ text)) c.u16_at.ensures

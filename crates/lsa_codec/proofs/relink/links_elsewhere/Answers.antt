@@ -9,4 +9,5 @@ pub returns : goal.returns
 returns g c =
     items_from_collect c.collect.result c.collect.ensures.ran (
     YieldsList-from_filter _ (λ link. not (is_end_of c.args.target link))
-    (YieldsList-from_first (λ x. x) (λ s. s) (links_of c.args.router.now) (c.filter.ensures.source ∙ c.links.ensures)) c.filter.ensures.closure (λ x b q k. search (rules, tests)))
+    (YieldsList-from_first (λ x. x) (λ s. s) (links_of c.args.router.now) (c.filter.ensures.source ∙ c.links.ensures))
+    c.filter.ensures.closure (λ x b q k. search (rules, tests)))

@@ -8,7 +8,11 @@ use Rattle.lsa_instances.specs.Order.{sighting_cmp}
 use Rattle.lsa_instances.proofs.Looking.{Behind}
 use Rattle.lsa_instances.proofs.Steps.{Looked, behind, first, flushed, known, stopped}
 use Rattle.lsa_instances.proofs.choice.newest_of_sorted.Goals as goal
-use Rattle.lsa_instances.proofs.choice.newest_of_sorted.Goals.{then-at_max_age, else-at_max_age+then-not-is_stopped+then-not-is_last+in_ok-clone_of+in_ok-push, else-at_max_age+else-not-is_stopped, else-not-is_stopped-via-then-not-is_stopped+else-not-is_last, else-not-is_stopped-via-else-not-is_stopped}
+use Rattle.lsa_instances.proofs.choice.newest_of_sorted.Goals.{then-at_max_age}
+use Rattle.lsa_instances.proofs.choice.newest_of_sorted.Goals.{else-at_max_age+then-not-is_stopped+then-not-is_last+in_ok-clone_of+in_ok-push}
+use Rattle.lsa_instances.proofs.choice.newest_of_sorted.Goals.{else-at_max_age+else-not-is_stopped}
+use Rattle.lsa_instances.proofs.choice.newest_of_sorted.Goals.{else-not-is_stopped-via-then-not-is_stopped+else-not-is_last}
+use Rattle.lsa_instances.proofs.choice.newest_of_sorted.Goals.{else-not-is_stopped-via-else-not-is_stopped}
 
 pub loop-sighting-preserved : goal.loop-sighting-preserved
 loop-sighting-preserved g c =
@@ -19,7 +23,8 @@ loop-sighting-preserved g c =
     let p : List X = take i all in
     let l : i < length all = omega arith in
     let e : x ≡ get_or all i x = c.sighting-item.is in
-    let up : IsSorted sighting_cmp all = let P : List X → Type 0 = λ xs. IsSorted sighting_cmp xs in subst P (sym c.deref-sighting-items.ensures.value) c.requires in
+    let up : IsSorted sighting_cmp all =
+    let P : List X → Type 0 = λ xs. IsSorted sighting_cmp xs in subst P (sym c.deref-sighting-items.ensures.value) c.requires in
     let b : Behind p x = let P : X → Type 0 = λ z. Behind p z in subst P (sym e) (behind all i x up l) in
     let more : take (i + 1) all ≡ p ++ x ∷ [] = take_more all i x l ∙ ap (λ (z : X). p ++ z ∷ []) (sym e) in
     let f = c.loop-sighting.flush in

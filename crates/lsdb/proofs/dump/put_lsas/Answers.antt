@@ -10,8 +10,11 @@ loop-place-preserved g c =
     elim c.match-place.branch [
       | in-Some+in_ok-extend_from_slice w ↦
           let pushed =
-          ap (λ (v : Vec ℕ _). v.items) w.out-is ∙ w.in_ok-extend_from_slice.ensures.items ∙ ap (λ (t : List ℕ). c.loop-place.out.items ++ t) w.bytes.ensures.bytes in
-          written_full ps i c.place-item.result w.in-Some.lsa c.args.out.now.items c.loop-place.out.items c.match-place.out.items c.loop-place-test.true c.place-item.is w.in-Some.is pushed c.loop-place.invariant
+          ap (λ (v : Vec ℕ _). v.items) w.out-is ∙ w.in_ok-extend_from_slice.ensures.items
+          ∙ ap (λ (t : List ℕ). c.loop-place.out.items ++ t) w.bytes.ensures.bytes in
+          written_full ps i c.place-item.result w.in-Some.lsa c.args.out.now.items c.loop-place.out.items c.match-place.out.items
+          c.loop-place-test.true c.place-item.is w.in-Some.is pushed c.loop-place.invariant
       | in_default w ↦
-          written_empty ps i c.place-item.result c.args.out.now.items c.match-place.out.items c.loop-place-test.true c.place-item.is w.in_default.is (ap (λ (v : Vec ℕ _). v.items) w.out-is ∙ c.loop-place.invariant)
+          written_empty ps i c.place-item.result c.args.out.now.items c.match-place.out.items c.loop-place-test.true
+          c.place-item.is w.in_default.is (ap (λ (v : Vec ℕ _). v.items) w.out-is ∙ c.loop-place.invariant)
     ]

@@ -10,7 +10,8 @@ use Rattle.lsdb.proofs.load.read_areas.Goals as goal
 pub returns-in_err-area : goal.returns-in_err-area
 returns-in_err-area g c =
     let p = err_from_is_err_and c.from_residual.result c.from_residual.ensures.1 in
-    rw (p.1, p.2) (areas_end c.in_err-area.field-0.0 c.args.count c.loop.counter (option_map head_of c.loop.before) (lists_of (places_of c.loop.areas.items)) (at_of c.loop.at) _ c.loop-test.true c.in_err-area.ensures c.loop.invariant)
+    rw (p.1, p.2) (areas_end c.in_err-area.field-0.0 c.args.count c.loop.counter (option_map head_of c.loop.before)
+    (lists_of (places_of c.loop.areas.items)) (at_of c.loop.at) _ c.loop-test.true c.in_err-area.ensures c.loop.invariant)
 
 pub loop-preserved : goal.loop-preserved
 loop-preserved g c =
@@ -18,8 +19,10 @@ loop-preserved g c =
     let area = section_of (section_places_of c.in_ok-area.area) in
     let pushed : lists_of (places_of c.push.new.self.items) ≡ seen ++ area ∷ [] =
     ap (λ xs. lists_of (places_of xs)) c.in_ok-push.ensures.items ∙ lists_of-push c.loop.areas.items c.in_ok-area.area in
-    rw pushed (areas_goes_on c.args.count c.loop.counter (option_map head_of c.loop.before) seen (at_of c.loop.at) (at_of c.in_ok-area.after) area _ c.loop-test.true c.in_ok-area.ensures c.loop.invariant)
+    rw pushed (areas_goes_on c.args.count c.loop.counter (option_map head_of c.loop.before) seen (at_of c.loop.at)
+    (at_of c.in_ok-area.after) area _ c.loop-test.true c.in_ok-area.ensures c.loop.invariant)
 
 pub returns : goal.returns
 returns g c =
-    areas_done c.args.count c.loop.counter (option_map head_of c.loop.before) (lists_of (places_of c.loop.areas.items)) (at_of c.loop.at) _ c.loop-test.false c.loop.invariant
+    areas_done c.args.count c.loop.counter (option_map head_of c.loop.before)
+    (lists_of (places_of c.loop.areas.items)) (at_of c.loop.at) _ c.loop-test.false c.loop.invariant

@@ -7,4 +7,5 @@ use Rattle.lsdb.proofs.load.read_areas.Given as goal
 
 abbrev pub invariant-loop : goal.invariant-loop
 invariant-loop g l =
-    areas_from (l.count - l.counter) (option_map head_of l.before) (lists_of (places_of l.areas.items)) (at_of l.at) ≡ areas_from l.count None [] (at_of l.start)
+    areas_from (l.count - l.counter) (option_map head_of l.before) (lists_of (places_of l.areas.items))
+    (at_of l.at) ≡ areas_from l.count None [] (at_of l.start)

@@ -13,14 +13,16 @@ use Rattle.lsdb.proofs.load.read_lsas.Goals as goal
 pub returns-in_err-lsa : goal.returns-in_err-lsa
 returns-in_err-lsa g c =
     let p = err_from_is_err_and c.from_residual.result c.from_residual.ensures.1 in
-    rw (p.1, p.2) (lsas_end c.in_err-lsa.field-0.0 (option_map head_of c.args.area) c.args.count c.loop.counter (full c.loop.places.items) (at_of c.loop.at) _ c.loop-test.true c.in_err-lsa.ensures c.loop.invariant.reading)
+    rw (p.1, p.2) (lsas_end c.in_err-lsa.field-0.0 (option_map head_of c.args.area) c.args.count c.loop.counter
+    (full c.loop.places.items) (at_of c.loop.at) _ c.loop-test.true c.in_err-lsa.ensures c.loop.invariant.reading)
 
 pub returns-then-not-branch : goal.returns-then-not-branch
 returns-then-not-branch g c =
     let seen = full c.loop.places.items in
     let told = inserted c.loop.keys seen c.in_ok-lsa.lsa c.key.result c.in_ok-insert.field-0 c.loop.invariant.keys c.key.ensures c.in_ok-insert.ensures.added in
     let again = not-false (has_key_of seen c.in_ok-lsa.lsa) (sym told ∙ c.if-not-branch.true) in
-    rw c.fault.ensures (lsas_twice (option_map head_of c.args.area) c.args.count c.loop.counter seen (at_of c.loop.at) (at_of c.in_ok-lsa.after) c.in_ok-lsa.lsa _ c.loop-test.true c.in_ok-lsa.ensures again c.loop.invariant.reading)
+    rw c.fault.ensures (lsas_twice (option_map head_of c.args.area) c.args.count c.loop.counter seen (at_of c.loop.at)
+    (at_of c.in_ok-lsa.after) c.in_ok-lsa.lsa _ c.loop-test.true c.in_ok-lsa.ensures again c.loop.invariant.reading)
 
 pub loop-preserved : goal.loop-preserved
 loop-preserved g c =
@@ -31,11 +33,14 @@ loop-preserved g c =
     ap full c.in_ok-push.ensures.items ∙ full-push c.loop.places.items c.in_ok-lsa.lsa in
     record {
       reading =
-          rw pushed (lsas_goes_on (option_map head_of c.args.area) c.args.count c.loop.counter seen (at_of c.loop.at) (at_of c.in_ok-lsa.after) c.in_ok-lsa.lsa _ c.loop-test.true c.in_ok-lsa.ensures new c.loop.invariant.reading);
+          rw pushed (lsas_goes_on (option_map head_of c.args.area) c.args.count c.loop.counter seen (at_of c.loop.at)
+          (at_of c.in_ok-lsa.after) c.in_ok-lsa.lsa _ c.loop-test.true c.in_ok-lsa.ensures new c.loop.invariant.reading);
       keys =
-          rw pushed (keys_push c.loop.keys c.insert.new.self seen c.in_ok-lsa.lsa c.key.result c.loop.invariant.keys c.key.ensures c.in_ok-insert.ensures.updates);
+          rw pushed
+          (keys_push c.loop.keys c.insert.new.self seen c.in_ok-lsa.lsa c.key.result c.loop.invariant.keys c.key.ensures c.in_ok-insert.ensures.updates);
     }
 
 pub returns : goal.returns
 returns g c =
-    lsas_done (option_map head_of c.args.area) c.args.count c.loop.counter (full c.loop.places.items) (at_of c.loop.at) _ c.loop-test.false c.loop.invariant.reading
+    lsas_done (option_map head_of c.args.area) c.args.count c.loop.counter (full c.loop.places.items)
+    (at_of c.loop.at) _ c.loop-test.false c.loop.invariant.reading

@@ -8,6 +8,7 @@ use Rattle.lsdb.proofs.load.read_lsas.Given as goal
 
 abbrev pub invariant-loop : goal.invariant-loop
 invariant-loop g l = record {
-  reading : lsas_from (option_map head_of l.area) (l.count - l.counter) (full l.places.items) (at_of l.at) ≡ lsas_from (option_map head_of l.area) l.count [] (at_of l.start);
+  reading : lsas_from (option_map head_of l.area) (l.count - l.counter) (full l.places.items)
+      (at_of l.at) ≡ lsas_from (option_map head_of l.area) l.count [] (at_of l.start);
   keys : HasKeys l.keys (full l.places.items);
 }

@@ -1,4 +1,5 @@
-use Rattle.lsdb.proofs.DumpText.{loaded_again, one_text, text_size}
+use Rattle.lsdb.proofs.DumpText.{loaded_again, one_text}
+use Rattle.lsdb.proofs.TextSize.{text_size}
 use Rattle.lsdb.proofs.load.text_laws.Goals as goal
 
 pub returns : goal.returns

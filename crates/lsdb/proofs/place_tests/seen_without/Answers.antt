@@ -28,7 +28,8 @@ swap-requires-2-clause-exists c =
 pub swap-requires-2-clause-sound : goal.swap-requires-2-clause-sound
 swap-requires-2-clause-sound c =
     subst (λ (d : Places). IsDatabase (lists_of d))
-    (sym (ap (λ (d : Places). put d c.args.slot c.swap.new.place) c.swap.ensures.put ∙ put_back c.args.database.now c.args.slot c.swap.new.place c.swap.ensures.place))
+    (sym (ap (λ (d : Places). put d c.args.slot c.swap.new.place) c.swap.ensures.put
+    ∙ put_back c.args.database.now c.args.slot c.swap.new.place c.swap.ensures.place))
     c.known.ensures
 
 pub returns : goal.returns

@@ -16,16 +16,21 @@ loop-from-preserved g c =
     let new = c.pass_on.new.lists in
     let within : p < length tree.order = subst (λ (xs : List ℕ). p < length xs) c.order-from-items.ensures.order c.loop-from-test.true in
     let grown : Grows (λ (i : ℕ) (h : Hop). IsPassedFrom t tree (hops_at old (get_or tree.order p 0)) (get_or tree.order p 0) i h) old new =
-    subst (λ (xs : List ℕ). Grows (λ (i : ℕ) (h : Hop). IsPassedFrom t tree (hops_at old (get_or xs p 0)) (get_or xs p 0) i h) old new) c.order-from-items.ensures.order
-    (subst (λ (xs : List (List Hop)). Grows (λ (i : ℕ) (h : Hop). IsPassedFrom t tree (hops_at xs (get_or c.order-from-items.result.now p 0)) (get_or c.order-from-items.result.now p 0) i h) xs new) c.deref_mut.ensures.value (rw c.from.ensures at c.in_ok-pass_on.ensures)) in
+    subst (λ (xs : List ℕ). Grows (λ (i : ℕ) (h : Hop). IsPassedFrom t tree (hops_at old (get_or xs p 0)) (get_or xs p 0) i h) old new)
+    c.order-from-items.ensures.order
+    (subst (λ (xs : List (List Hop)). Grows
+    (λ (i : ℕ) (h : Hop). IsPassedFrom t tree (hops_at xs (get_or c.order-from-items.result.now p 0))
+    (get_or c.order-from-items.result.now p 0) i h) xs new) c.deref_mut.ensures.value (rw c.from.ensures at c.in_ok-pass_on.ensures)) in
     let as_many : length new ≡ c.loop-from.lists.len = omega (arith, grown.sized, c.deref_mut.ensures.len) in
     subst (λ (xs : List (List Hop)). HandedOn t tree (p + 1) xs) (sym (with_items_is c.loop-from.lists new as_many))
     (HandedOn-next t c.len.ensures.shape c.requires.tree.0 tree c.requires.tree.1 p old new within c.loop-from.invariant grown)
 
 pub returns-clause-paths : goal.returns-clause-paths
 returns-clause-paths g c = λ root of.
-    let past : length c.args.tree.now.order ≤ c.loop-from.from-index = subst (λ (xs : List ℕ). length xs ≤ c.loop-from.from-index) c.order-from-items.ensures.order c.loop-from-test.false in
+    let past : length c.args.tree.now.order ≤ c.loop-from.from-index =
+    subst (λ (xs : List ℕ). length xs ≤ c.loop-from.from-index) c.order-from-items.ensures.order c.loop-from-test.false in
     AreHopsOf-handed c.args.graph.now c.len.ensures.shape root c.args.tree.now of c.loop-from.lists.items c.loop-from.from-index past c.loop-from.invariant
 
 pub returns-clause-table : goal.returns-clause-table
-returns-clause-table g c = λ root of. table-is c.args.graph.now c.len.ensures.shape root c.loop-from.lists.items c.loop-from.invariant.sorted (returns-clause-paths g c root of)
+returns-clause-table g c =
+    λ root of. table-is c.args.graph.now c.len.ensures.shape root c.loop-from.lists.items c.loop-from.invariant.sorted (returns-clause-paths g c root of)

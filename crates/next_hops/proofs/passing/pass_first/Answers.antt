@@ -18,7 +18,8 @@ returns g c =
     let at_root : c.args.from ≡ c.args.tree.now.root = omega arith in
     let read : get_or lists to c.index-lists-edge.result ≡ hops_at lists to = get_or_default lists to c.index-lists-edge.result [] within in
     on_ok_weaker c.add.result
-    (λ added. Grows-same _ (λ (i : ℕ) (h : Hop). (i ≡ to) × (c.args.from ≡ c.args.tree.now.root) × (first_at c.args.graph.now to c.args.edge.now.link_data ≡ h)) lists _
+    (λ added. Grows-same _
+    (λ (i : ℕ) (h : Hop). (i ≡ to) × (c.args.from ≡ c.args.tree.now.root) × (first_at c.args.graph.now to c.args.edge.now.link_data ≡ h)) lists _
     (λ i h p. (p.0, at_root, sym c.first_hop.ensures ∙ Contains-one hop h p.1))
     (λ i h q. (q.0, one-Contains hop h (c.first_hop.ensures ∙ q.2)))
     (Grows-joined lists to within (hop ∷ []) c.add.new.self (added ∙ ap (λ (xs : List Hop). rising hop_cmp (xs ++ hop ∷ [])) read)))

@@ -21,9 +21,12 @@ loop-edge-preserved g c =
     let i = c.loop-edge.edge-index in
     let o = get_or row i no_edge in
     let more : take (i + 1) row ≡ take i row ++ o ∷ [] = take_more row i no_edge c.loop-edge-test.true in
-    let handed : Grows (λ (j : ℕ) (h : Hop). (j ≡ o.to) × IsPassed t tree hops (arc_of from o) h) c.loop-edge.lists c.pass_edge.new.lists = c.in_ok-pass_edge.ensures in
+    let handed : Grows (λ (j : ℕ) (h : Hop). (j ≡ o.to) × IsPassed t tree hops (arc_of from o) h) c.loop-edge.lists c.pass_edge.new.lists =
+    c.in_ok-pass_edge.ensures in
     subst (λ (xs : List Edge). Grows (λ (j : ℕ) (h : Hop). IsPassedOver t tree hops from xs j h) c.args.lists.now c.pass_edge.new.lists) (sym more)
-    (Grows-then (λ (j : ℕ) (h : Hop). IsPassedOver t tree hops from (take i row) j h) (λ (j : ℕ) (h : Hop). (j ≡ o.to) × IsPassed t tree hops (arc_of from o) h) (λ (j : ℕ) (h : Hop). IsPassedOver t tree hops from (take i row ++ o ∷ []) j h)
+    (Grows-then (λ (j : ℕ) (h : Hop). IsPassedOver t tree hops from (take i row) j h)
+    (λ (j : ℕ) (h : Hop). (j ≡ o.to) × IsPassed t tree hops (arc_of from o) h)
+    (λ (j : ℕ) (h : Hop). IsPassedOver t tree hops from (take i row ++ o ∷ []) j h)
     c.args.lists.now c.loop-edge.lists c.pass_edge.new.lists c.loop-edge.invariant handed
     (λ j h r. IsPassedOver-push t tree hops from (take i row) o j h r) (λ j h r. IsPassedOver-pushed t tree hops from (take i row) o j h r))
 
@@ -35,6 +38,8 @@ returns g c =
     let row = c.edges-edge-items.result.now in
     let past : length row ≤ c.loop-edge.edge-index = omega arith in
     let whole : take c.loop-edge.edge-index row ≡ row_at t from = take_all c.loop-edge.edge-index row past ∙ c.edges-edge-items.ensures.row in
-    let same : c.as_slice-hops.result.now ≡ hops_at c.args.lists.now from = c.as_slice-hops.ensures.hops ∙ c.in_ok-own.ensures ∙ get_or_default c.args.lists.now from c.index-lists-from.result [] (omega arith) in
+    let same : c.as_slice-hops.result.now ≡ hops_at c.args.lists.now from = c.as_slice-hops.ensures.hops ∙ c.in_ok-own.ensures
+    ∙ get_or_default c.args.lists.now from c.index-lists-from.result [] (omega arith) in
     subst (λ (hops : List Hop). Grows (λ (i : ℕ) (h : Hop). IsPassedOver t tree hops from (row_at t from) i h) c.args.lists.now c.loop-edge.lists) same
-    (subst (λ (xs : List Edge). Grows (λ (i : ℕ) (h : Hop). IsPassedOver t tree c.as_slice-hops.result.now from xs i h) c.args.lists.now c.loop-edge.lists) whole c.loop-edge.invariant)
+    (subst (λ (xs : List Edge). Grows (λ (i : ℕ) (h : Hop). IsPassedOver t tree c.as_slice-hops.result.now from xs i h)
+    c.args.lists.now c.loop-edge.lists) whole c.loop-edge.invariant)

@@ -1,6 +1,7 @@
 use Rattle.std.proofs.Common.{◌≡◌, ◌∷◌, refl, rules}
 use Rattle.ospf_plan.specs.steps.Lines.{lines_left}
-use Rattle.ospf_plan.proofs.ScriptLines.{written_line, written_part, written_all, written_end, commands_room, refused_room, commands_line, refused_line, commands_all, refused_all}
+use Rattle.ospf_plan.proofs.ScriptLines.{written_line, written_part, written_all, written_end, commands_room, refused_room, commands_line}
+use Rattle.ospf_plan.proofs.ScriptLines.{refused_line, commands_all, refused_all}
 use Rattle.ospf_plan.proofs.script.answer_script.Goals as goal
 
 pub answer_line-requires-clause-room : goal.answer_line-requires-clause-room

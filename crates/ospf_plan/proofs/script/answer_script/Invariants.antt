@@ -12,8 +12,10 @@ invariant-lines g l = record {
   still_open : has_failed l.replies ≡ false;
   written : Written (g.W.Write.contents (inner_of l.initial.replies)) (g.W.Write.contents (inner_of l.replies))
       (sessions_of l.initial.branches) (lines_of l.script) (sessions_of l.branches) (lines_left l.rest);
-  commands : l.summary.commands + length (answers (sessions_of l.branches) (lines_left l.rest)) ≡ length (answers (sessions_of l.initial.branches) (lines_of l.script));
-  refused : l.summary.refused + refused_count (answers (sessions_of l.branches) (lines_left l.rest)) ≡ refused_count (answers (sessions_of l.initial.branches) (lines_of l.script));
+  commands : l.summary.commands + length (answers (sessions_of l.branches) (lines_left l.rest)) ≡ length
+      (answers (sessions_of l.initial.branches) (lines_of l.script));
+  refused : l.summary.refused + refused_count (answers (sessions_of l.branches) (lines_left l.rest)) ≡ refused_count
+      (answers (sessions_of l.initial.branches) (lines_of l.script));
 }
 
 abbrev pub decreases-lines : goal.decreases-lines

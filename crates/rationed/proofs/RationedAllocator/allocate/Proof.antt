@@ -11,7 +11,8 @@ use contract.BorrowLft.{◌⊑◌, ⊑_trans}
 use contract.Monad.{fact}
 use contract.Running.{tables}
 use types.Logic.{sem}
-use types.Kit.{group, Item, ‵, raw, ◌⊛◌, some, later, given, prop, at_ret, Sq, ◌$◌, ◌∵◌, !, qed, done, move, keep, drop, use0, use1, use2, split, join, fjoin, learn, pick, await, suffices}
+use types.Kit.{group, Item, ‵, raw, ◌⊛◌, some, later, given, prop, at_ret, Sq, ◌$◌, ◌∵◌, !, qed, done, move, keep, drop, use0, use1, use2, split, join}
+use types.Kit.{fjoin, learn, pick, await, suffices}
 use types.Part.{agg}
 use types.Run.{enter, lit, un, addr, stop, fld, no_more, and_then, first, branches, skips, exec, returns, returns_within}
 use types.ByLocal.{alloc_all, pass_all, free_all, look_at, get, through, sets, lands_as, env}
@@ -70,20 +71,24 @@ allocate_spec 𝓤 𝓛 𝓜 𝓡 wired Y laws g d drops bound _ =
     let n_fits = are.1.0.1 in let m_fits = are.1.1.0.1 in
     let h = r.now.inner in let at_inner = inner_at Z r.ref_ptr in let at_ration = ration_at Z r.ref_ptr in
     let Tokens : List (Item 𝓤) = ‵ (flft κ₁ q₁) ∷ (‵ (flft κ₂ q₂) ⊛ ‵ ftrue) ∷ [] in
-    let out : (w : Answer.Denot) (v : Val) → ent 𝓤 (emp 𝓤) (sem 𝓛 (Answer.own_val w (v ∷ []))) → Sq 𝓛 (‵ (block_if_ok (g.dealloc_token h) τ w) ∷ Tokens) (prop (W.post y v)) = λ w v made.
+    let out : (w : Answer.Denot) (v : Val) → ent 𝓤 (emp 𝓤) (sem 𝓛 (Answer.own_val w (v ∷ [])))
+    → Sq 𝓛 (‵ (block_if_ok (g.dealloc_token h) τ w) ∷ Tokens) (prop (W.post y v)) = λ w v made.
     suffices ! _ (ends_at 𝓛 T hs c y v w (tt, (tt, (tt, tt))) (tt, (tt, (tt, tt)))) $ use0 𝓛 (‵ (Answer.own_val w (v ∷ []))) made $
     move ! (2 ∷ 3 ∷ []) $ join ! $ nothing ! $ nothing ! $ join ! $ nothing ! $ join ! $ nothing ! $ join ! $ move ! (1 ∷ 0 ∷ []) $ group ! 3 $ done ! in
-    qed 𝓛 (((‵ (flft κ₁ q₁) ⊛ ‵ (flft κ₂ q₂) ⊛ ‵ ftrue) ⊛ ‵ ((type_at (lent Z) κs).own_val r (shr_vals r)) ⊛ raw (sem 𝓛 (owns (usize ∷ usize ∷ []) a.1 y.0.4.1)))
+    qed 𝓛 (((‵ (flft κ₁ q₁) ⊛ ‵ (flft κ₂ q₂) ⊛ ‵ ftrue) ⊛ ‵ ((type_at (lent Z) κs).own_val r (shr_vals r)) ⊛ raw
+    (sem 𝓛 (owns (usize ∷ usize ∷ []) a.1 y.0.4.1)))
     ∷ (raw (fact 𝓤 (κ₂ ⊑ Y.lives)) ⊛ raw (fact 𝓤 Layout)) ∷ []) ∵
     move ! (1 ∷ []) $ split ! $ heard ! _ (λ lives. heard ! _ (λ layout. split ! $ split ! $ move ! (2 ∷ []) $ split ! $
-    use1 𝓛 (‵ (seen Z κ₁ at_inner h) ⊛ ‵ (hidden_shr Ration κ₁ r.now.ration at_ration.0 at_ration.1)) (fields Z 𝓛 κ₁ κ₂ r) $ split ! $ keep ! (3 ∷ 1 ∷ 0 ∷ 4 ∷ []) $
+    use1 𝓛 (‵ (seen Z κ₁ at_inner h) ⊛ ‵ (hidden_shr Ration κ₁ r.now.ration at_ration.0 at_ration.1))
+    (fields Z 𝓛 κ₁ κ₂ r) $ split ! $ keep ! (3 ∷ 1 ∷ 0 ∷ 4 ∷ []) $
     -- [the token of κ₁; the `&` to the ration; the `&` to the inner allocator; the token of κ₂; the locals]
     enter ! _ _ _ _ _ $ alloc_all ! (λ l. pass_all ! refl ((tt, tt), ((tt, record { fits = n_fits }), ((tt, record { fits = m_fits }), tt))) $
     sets ! (addr ! (through ! refl (fld ! refl (stop !)))) refl (tt, tt) $
     let S = Spend 𝓛 𝓜.mem 𝓡.returns in let z = spends 𝓛 𝓜.mem 𝓡.returns κ₁ q₁ at_ration r.now.ration in
     use2 𝓛 (raw (S.pre z)) (spend_goes 𝓛 𝓜.mem 𝓡.returns κ₁ q₁ at_ration r.now.ration) $
     calls_at ! fm S (spend_met 𝓤 𝓛 𝓜 𝓡 (code.calls-rationed::ration::Ration::spend 𝓡.env wired)) z (and_then ! (get ! refl) (no_more !)) (λ v.
-    use1 𝓛 (later (some (λ (granted : Bool). given (v ≡ vbool granted) (‵ (flft κ₁ q₁))))) (spend_gives 𝓛 𝓜.mem 𝓡.returns κ₁ q₁ at_ration r.now.ration v) $ await ! tt $
+    use1 𝓛 (later (some (λ (granted : Bool). given (v ≡ vbool granted) (‵ (flft κ₁ q₁)))))
+    (spend_gives 𝓛 𝓜.mem 𝓡.returns κ₁ q₁ at_ration r.now.ration v) $ await ! tt $
     pick ! (λ granted. learn ! (λ e. lands_as ! e refl (tt, tt) $
     sets ! (un ! (get ! refl) tt) refl (tt, tt) $
     first ! $ branches ! (get ! refl)
@@ -93,9 +98,13 @@ allocate_spec 𝓤 𝓛 𝓜 𝓡 wired Y laws g d drops bound _ =
     (λ _. skips ! $ exec ! 𝓣.C 𝓣.Λ (env (here Z).locals l) (after 4 (here Z).body) (at_ret _ (W.post y)) $
     sets ! (addr ! (through ! refl (fld ! refl (stop !)))) refl (tt, tt) $
     let G = Takes Z 𝓛 𝓜.mem 𝓡.returns in let z' = at_takes Z 𝓛 𝓜.mem 𝓡.returns κ₁ q₁ at_inner h n m τ in
-    move ! (1 ∷ 0 ∷ []) $ use2 𝓛 (raw (G.pre z')) (Takes-goes Z 𝓛 𝓜.mem 𝓡.returns κ₁ q₁ at_inner h (⊑_trans κ₁ κ₂ Y.lives bounds.0 lives) n m τ layout.0 layout.1 n_fits m_fits) $
+    move ! (1 ∷ 0 ∷ []) $ use2 𝓛 (raw (G.pre z'))
+    (Takes-goes Z 𝓛 𝓜.mem 𝓡.returns κ₁ q₁ at_inner h (⊑_trans κ₁ κ₂ Y.lives bounds.0 lives) n m τ layout.0 layout.1 n_fits m_fits) $
     calls_at ! fm G (bound.allocate drops) z' (and_then ! (get ! refl) (and_then ! (get ! refl) (and_then ! (get ! refl) (no_more !)))) (λ u.
-    use1 𝓛 (later (raw (Answered Z 𝓛 𝓜.mem 𝓡.returns h τ u) ⊛ ‵ (flft κ₁ q₁))) (Takes-gives Z 𝓛 𝓜.mem 𝓡.returns κ₁ q₁ at_inner h n m τ u) $ await ! tt $ split ! $
+    use1 𝓛 (later (raw (Answered Z 𝓛 𝓜.mem 𝓡.returns h τ u) ⊛ ‵ (flft κ₁ q₁)))
+    (Takes-gives Z 𝓛 𝓜.mem 𝓡.returns κ₁ q₁ at_inner h n m τ u) $ await ! tt $ split ! $
     answers Z ! 𝓜.mem 𝓡.returns h τ u
-    (λ b o is. fjoin ! $ lands_as ! is refl (Answer-typed true b o) $ returns ! (look_at ! 0 refl) $ free_all ! refl $ out (Ok (block_ptr b o)) _ (Answer-Ok 𝓛 b o))
-    (λ is. nothing ! $ lands_as ! is refl (Answer-typed false 0 0) $ returns ! (look_at ! 0 refl) $ free_all ! refl $ out (Err (record {})) _ (Answer-err 𝓛)))))))))))
+    (λ b o is. fjoin ! $ lands_as ! is refl (Answer-typed true b o) $ returns !
+    (look_at ! 0 refl) $ free_all ! refl $ out (Ok (block_ptr b o)) _ (Answer-Ok 𝓛 b o))
+    (λ is. nothing ! $ lands_as ! is refl (Answer-typed false 0 0) $ returns !
+    (look_at ! 0 refl) $ free_all ! refl $ out (Err (record {})) _ (Answer-err 𝓛)))))))))))

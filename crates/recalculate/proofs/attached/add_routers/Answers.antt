@@ -16,7 +16,8 @@ loop-lsa-preserved g c = λ before from.
     c.in_ok-add_router.ensures (before ++ routers) (c.loop-lsa.invariant before from)
     ∙ ap (rising router_cmp) (append_assoc before routers (cons_option (live_router c.in-Some.lsa.now) []))
     ∙ ap (λ (l : List RouterId). rising router_cmp (before ++ l))
-    (sym (ap (filter_map live_router) (map-append (λ lsa. lsa.now) c.loop-lsa.yielded (c.in-Some.lsa ∷ [])) ∙ (filter_map_adds live_router).push so_far c.in-Some.lsa.now))
+    (sym (ap (filter_map live_router) (map-append (λ lsa. lsa.now) c.loop-lsa.yielded (c.in-Some.lsa ∷ []))
+    ∙ (filter_map_adds live_router).push so_far c.in-Some.lsa.now))
 
 pub returns : goal.returns
 returns g c = λ before from.

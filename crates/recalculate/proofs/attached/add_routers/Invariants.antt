@@ -8,4 +8,5 @@ use Rattle.recalculate.proofs.attached.add_routers.Given as goal
 
 -- the routers of the LSAs so far were added
 abbrev pub invariant-loop-lsa : goal.invariant-loop-lsa
-invariant-loop-lsa g l = (before : List RouterId) → l.initial.found.keys ≡ rising router_cmp before → l.found.keys ≡ rising router_cmp (before ++ filter_map live_router (map (λ lsa. lsa.now) l.yielded))
+invariant-loop-lsa g l = (before : List RouterId) → l.initial.found.keys ≡ rising router_cmp before
+    → l.found.keys ≡ rising router_cmp (before ++ filter_map live_router (map (λ lsa. lsa.now) l.yielded))

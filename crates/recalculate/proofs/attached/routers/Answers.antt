@@ -20,12 +20,14 @@ loop-i-preserved g c =
     let so_far : List (List ℕ) = lsas_among db (take c.loop-i.i (areas_of db)) in
     c.in_ok-add_routers.ensures (filter_map live_router so_far) c.loop-i.invariant
     ∙ ap (λ (lsas : List (List ℕ)). rising router_cmp (filter_map live_router so_far ++ filter_map live_router lsas)) c.lsas.ensures.lsas
-    ∙ ap (rising router_cmp) (sym (ap (filter_map live_router) (lsas_more db c.loop-i.i head c.area-is_stub.ensures) ∙ filter_map-append live_router so_far (lsas_in db head)))
+    ∙ ap (rising router_cmp)
+    (sym (ap (filter_map live_router) (lsas_more db c.loop-i.i head c.area-is_stub.ensures) ∙ filter_map-append live_router so_far (lsas_in db head)))
 
 pub returns : goal.returns
 returns g c =
     let db = lists_of c.args.database.now in
     IfOk-weaker c.collect.result _ _
     (λ v h. h ∙ c.loop-i.invariant
-    ∙ ap (λ (lsas : List (List ℕ)). rising router_cmp (filter_map live_router lsas)) (lsas_all db c.loop-i.i (omega (arith, c.area_count-i-end.ensures, c.loop-i-test.false))))
+    ∙ ap (λ (lsas : List (List ℕ)). rising router_cmp (filter_map live_router lsas))
+    (lsas_all db c.loop-i.i (omega (arith, c.area_count-i-end.ensures, c.loop-i-test.false))))
     (items_from_collect c.collect.result c.collect.ensures.ran (YieldsList-from_rest c.loop-i.found.keys c.into_iter.ensures.into_iter_gives.0))

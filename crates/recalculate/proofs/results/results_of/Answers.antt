@@ -21,14 +21,17 @@ loop-i-preserved g c =
       | then-is_attached+in_ok-result_in+in_ok-push w ↦
           (let is = ap (λ v. v.items) w.results-is ∙ w.in_ok-push.ensures.items in
           record {
-            results = more_results db c.args.router c.loop-i.i head c.area-is_stub.ensures c.loop-i.results.items c.if-is_attached.results.items _ c.loop-i.invariant.results
+            results = more_results db c.args.router c.loop-i.i head c.area-is_stub.ensures c.loop-i.results.items
+                c.if-is_attached.results.items _ c.loop-i.invariant.results
                 (sym c.is_attached.ensures ∙ w.if-is_attached.true) w.in_ok-result_in.ensures.result is;
-            meter = more_counted c.loop-i.results.items c.if-is_attached.results.items _ c.args.meter.now c.loop-i.meter c.if-is_attached.meter c.loop-i.invariant.meter
+            meter = more_counted c.loop-i.results.items c.if-is_attached.results.items _ c.args.meter.now
+                c.loop-i.meter c.if-is_attached.meter c.loop-i.invariant.meter
                 (w.meter-is ∙ w.in_ok-result_in.ensures.meter) is;
           })
       | else-is_attached w ↦
           record {
-            results = ap (λ v. v.items) w.results-is ∙ same_results db c.args.router c.loop-i.i head c.area-is_stub.ensures c.loop-i.results.items c.loop-i.invariant.results
+            results = ap (λ v. v.items) w.results-is
+                ∙ same_results db c.args.router c.loop-i.i head c.area-is_stub.ensures c.loop-i.results.items c.loop-i.invariant.results
                 (sym c.is_attached.ensures ∙ w.if-is_attached.false);
             meter = w.meter-is ∙ c.loop-i.invariant.meter ∙ ap (λ v. counted_by (length v.items) c.args.meter.now) (sym w.results-is);
           }
@@ -36,7 +39,8 @@ loop-i-preserved g c =
 
 pub returns-clause-results : goal.returns-clause-results
 returns-clause-results g c =
-    all_results (lists_of c.args.database.now) c.args.router c.loop-i.i c.loop-i.results.items (omega (arith, c.area_count-i-end.ensures, c.loop-i-test.false)) c.loop-i.invariant.results
+    all_results (lists_of c.args.database.now) c.args.router c.loop-i.i c.loop-i.results.items
+    (omega (arith, c.area_count-i-end.ensures, c.loop-i-test.false)) c.loop-i.invariant.results
 
 pub returns-clause-meter : goal.returns-clause-meter
 returns-clause-meter g c = c.loop-i.invariant.meter
@@ -64,12 +68,14 @@ pub returns-in_err-result_in-clause-at_most : goal.returns-in_err-result_in-clau
 returns-in_err-result_in-clause-at_most g c =
     let head : AreaHead = record { id = c.area-is_stub.result.0.0; is_stub = c.area-is_stub.result.1 } in
     at_most_more _ _ _ _ (length c.loop-i.results.items)
-    (room_for_more (lists_of c.args.database.now) c.args.router c.loop-i.i head c.area-is_stub.ensures c.loop-i.results.items c.loop-i.invariant.results (sym c.is_attached.ensures ∙ c.if-is_attached.true))
+    (room_for_more (lists_of c.args.database.now) c.args.router c.loop-i.i head c.area-is_stub.ensures c.loop-i.results.items
+    c.loop-i.invariant.results (sym c.is_attached.ensures ∙ c.if-is_attached.true))
     c.loop-i.invariant.meter c.result_in.ensures.at_most
 
 pub returns-in_err-push-clause-at_most : goal.returns-in_err-push-clause-at_most
 returns-in_err-push-clause-at_most g c =
     let head : AreaHead = record { id = c.area-is_stub.result.0.0; is_stub = c.area-is_stub.result.1 } in
     at_most_more _ _ _ _ (length c.loop-i.results.items)
-    (room_for_more (lists_of c.args.database.now) c.args.router c.loop-i.i head c.area-is_stub.ensures c.loop-i.results.items c.loop-i.invariant.results (sym c.is_attached.ensures ∙ c.if-is_attached.true))
+    (room_for_more (lists_of c.args.database.now) c.args.router c.loop-i.i head c.area-is_stub.ensures c.loop-i.results.items
+    c.loop-i.invariant.results (sym c.is_attached.ensures ∙ c.if-is_attached.true))
     c.loop-i.invariant.meter c.result_in.ensures.at_most

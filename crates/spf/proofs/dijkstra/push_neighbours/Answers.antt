@@ -30,4 +30,5 @@ returns-clause-pushes g c =
     let past : length row ≤ c.loop-edge.edge-index = omega arith in
     let whole : take c.loop-edge.edge-index row ≡ row = take_all c.loop-edge.edge-index row past in
     PushesNeighbours-row t c.args.distance c.args.distances.now c.args.from c.args.queue.now c.loop-edge.queue
-    (subst (λ (xs : List Edge). PushesRow t c.args.distance c.args.distances.now xs c.args.queue.now c.loop-edge.queue) (whole ∙ c.edges-edge-items.ensures.row) c.loop-edge.invariant.pushes)
+    (subst (λ (xs : List Edge). PushesRow t c.args.distance c.args.distances.now xs c.args.queue.now c.loop-edge.queue)
+    (whole ∙ c.edges-edge-items.ensures.row) c.loop-edge.invariant.pushes)

@@ -17,4 +17,5 @@ returns-clause-distances g c =
     let started : Sound t c.in-Some.root c.deref_mut.result.now =
     subst (λ (xs : List (Option ℕ)). Sound t c.in-Some.root xs) (sym c.deref_mut.ensures.value) (c.in_ok-distances.ensures.sound t) in
     with_items_is old ds as_many
-    ∙ distances-from_closed t c.len.ensures.shape c.in-Some.root ds as_vertices (Router c.args.root) (c.relax_all.ensures.sound c.in-Some.root started) c.relax_all.ensures.closed c.in-Some.ensures.number
+    ∙ distances-from_closed t c.len.ensures.shape c.in-Some.root ds as_vertices (Router c.args.root)
+    (c.relax_all.ensures.sound c.in-Some.root started) c.relax_all.ensures.closed c.in-Some.ensures.number

@@ -18,7 +18,8 @@ pub improve-requires : goal.improve-requires
 improve-requires g c =
     let row = c.edges-edge-items.result.now in
     let o = get_or row c.loop-edge.edge-index no_edge in
-    let arc : IsArc c.args.graph.now (arc_from c.args.from o) = IsArc-row c.args.graph.now c.args.from c.loop-edge.edge-index row no_edge c.edges-edge-items.ensures.row c.loop-edge-test.true in
+    let arc : IsArc c.args.graph.now (arc_from c.args.from o) =
+    IsArc-row c.args.graph.now c.args.from c.loop-edge.edge-index row no_edge c.edges-edge-items.ensures.row c.loop-edge-test.true in
     let within : o.to < length c.args.graph.now.vertices = c.edges-edge-items.ensures.shape.in_range (arc_from c.args.from o) arc in
     omega arith
 
@@ -41,7 +42,8 @@ loop-edge-preserved g c =
       | then-improve w ↦
           let more : IsMoreThan (get_or ds o.to None) (d + o.cost) = rw c.from.ensures at (rw w.if-improve.true at c.improve.ensures.less) in
           let lowered : c.improve.new.distances ≡ set ds o.to (Some (d + o.cost)) = rw c.from.ensures at (rw w.if-improve.true at c.improve.ensures.lowered) in
-          let step : Relaxed t ds c.improve.new.distances true = subst (λ (x : List (Option ℕ)). Relaxed t ds x true) (sym lowered) (Relaxed-improve t ds (arc_from from o) d arc c.loop-edge.invariant.at within more small fits) in
+          let step : Relaxed t ds c.improve.new.distances true = subst (λ (x : List (Option ℕ)). Relaxed t ds x true)
+          (sym lowered) (Relaxed-improve t ds (arc_from from o) d arc c.loop-edge.invariant.at within more small fits) in
           record {
             relaxed = rw w.changed-is (Relaxed-more t c.args.distances.now ds c.improve.new.distances c.loop-edge.changed c.loop-edge.invariant.relaxed step);
             at = rw lowered (at_stays ds from o.to o.cost d c.loop-edge.invariant.at more);
@@ -53,7 +55,8 @@ loop-edge-preserved g c =
           rw same (record {
             relaxed = rw w.changed-is c.loop-edge.invariant.relaxed;
             at = c.loop-edge.invariant.at;
-            done = λ h. All-more (λ (e : Edge). IsAtMost (get_or ds e.to None) (d + e.cost)) row i no_edge c.loop-edge-test.true (c.loop-edge.invariant.done (sym w.changed-is ∙ h)) at_most;
+            done = λ h. All-more (λ (e : Edge). IsAtMost (get_or ds e.to None) (d + e.cost)) row i no_edge c.loop-edge-test.true
+                (c.loop-edge.invariant.done (sym w.changed-is ∙ h)) at_most;
           })
     ]
 
@@ -66,4 +69,5 @@ returns-clause-closed g c = OnFalse-from c.loop-edge.changed _ (λ h.
     let past : length row ≤ c.loop-edge.edge-index = omega arith in
     let whole : take c.loop-edge.edge-index row ≡ row = take_all c.loop-edge.edge-index row past in
     let all : All (λ (e : Edge). IsAtMost (get_or ds e.to None) (d + e.cost)) (take c.loop-edge.edge-index row) = c.loop-edge.invariant.done h in
-    IsClosedAt-row t ds c.args.from d c.loop-edge.invariant.at (subst (λ (xs : List Edge). All (λ (e : Edge). IsAtMost (get_or ds e.to None) (d + e.cost)) xs) (whole ∙ c.edges-edge-items.ensures.row) all))
+    IsClosedAt-row t ds c.args.from d c.loop-edge.invariant.at
+    (subst (λ (xs : List Edge). All (λ (e : Edge). IsAtMost (get_or ds e.to None) (d + e.cost)) xs) (whole ∙ c.edges-edge-items.ensures.row) all))

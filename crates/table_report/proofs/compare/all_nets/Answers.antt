@@ -14,5 +14,6 @@ returns g c =
     dedup_is _ _ _ c.dedup.ensures.filtered
     ∙ dedup_rising prefix_total prefix_exact same_prefix _ _ c.sort_unstable.ensures.permutation c.sort_unstable.ensures.sorted
     ∙ ap (rising prefix_cmp)
-    (c.in_ok-append.ensures.items ∙ ap (λ l. l ++ c.in_ok-nets_of.field-0.items) c.in_ok-nets.ensures ∙ ap (λ l. nets c.args.before.now ++ l) c.in_ok-nets_of.ensures
+    (c.in_ok-append.ensures.items ∙ ap (λ l. l ++ c.in_ok-nets_of.field-0.items) c.in_ok-nets.ensures
+    ∙ ap (λ l. nets c.args.before.now ++ l) c.in_ok-nets_of.ensures
     ∙ sym (map-append (λ r. r.net) c.args.before.now c.args.now.now))

@@ -17,5 +17,6 @@ returns g c =
     ap (map string_bytes) c.deref-line-items.ensures.value ∙ c.in_ok-lines.ensures ∙ ap (λ l. changes l c.routes-2.result.now) c.routes.ensures
     ∙ ap (changes before.routes) c.routes-2.ensures in
     ap (λ v. v.items) c.into_bytes.ensures.value
-    ∙ headed_is (codes "compare") c.args.router (changes before.routes now.routes) (map string_bytes shown) _ start text c.in_ok-text.ensures.ok (c.len-count.ensures ∙ sym c.deref-line-items.ensures.len ∙ sym (length-map shown string_bytes)) all are
+    ∙ headed_is (codes "compare") c.args.router (changes before.routes now.routes) (map string_bytes shown) _ start text
+    c.in_ok-text.ensures.ok (c.len-count.ensures ∙ sym c.deref-line-items.ensures.len ∙ sym (length-map shown string_bytes)) all are
     ∙ compare_text_is c.args.router before now

@@ -16,6 +16,8 @@ returns g c =
     let start = string_bytes c.in_ok-text.text in
     let text = string_bytes c.loop-route.text in
     let all = all_lines line_of start routes c.loop-route.route-index text c.loop-route-test.false c.loop-route.invariant in
-    let whole = headed_is (codes "table") c.router-router.result (map line_of routes) (map line_of routes) _ start text c.in_ok-text.ensures.ok (sym (length-map routes line_of)) all refl in
+    let whole = headed_is (codes "table") c.router-router.result (map line_of routes)
+    (map line_of routes) _ start text c.in_ok-text.ensures.ok (sym (length-map routes line_of)) all refl in
     ap (λ v. v.items) c.into_bytes.ensures.value ∙ whole ∙ ap (λ r. headed (codes "table") r (map line_of routes)) c.router-router.ensures
-    ∙ ap (λ l. headed (codes "table") c.args.table.now.router (map line_of l)) (c.as_slice-routes.ensures.routes ∙ c.routes.ensures) ∙ table_text_is c.args.table.now
+    ∙ ap (λ l. headed (codes "table") c.args.table.now.router (map line_of l)) (c.as_slice-routes.ensures.routes ∙ c.routes.ensures)
+    ∙ table_text_is c.args.table.now

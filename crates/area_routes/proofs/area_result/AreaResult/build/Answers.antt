@@ -16,6 +16,8 @@ returns g c =
     let tree = c.args.tree.now in
     let us : c.deref.result.now ≡ used lsas = c.deref.ensures.value ∙ c.in_ok-lsas.ensures ∙ ap (λ (ls : List (List ℕ)). used ls) c.lsas.ensures.lsas in
     IfOk-weaker c.given_by.result _ _
-    (λ given is root are. is ∙ ap (λ (r : RouterId). given_by c.args.area r c.deref-2.result.now) (one_root t.vertices c.root.result tree.root c.in-Router.root root c.root.ensures c.in-Router.ensures.vertex are.of_graph.root_at)
-    ∙ given_by-area c.args.area lsas root t tree c.args.hops.now are c.deref.result.now us c.deref-2.result.now (λ distance first ds hs. c.deref-2.ensures.value ∙ c.in_ok-reached.ensures distance first ds hs))
+    (λ given is root are. is ∙ ap (λ (r : RouterId). given_by c.args.area r c.deref-2.result.now)
+    (one_root t.vertices c.root.result tree.root c.in-Router.root root c.root.ensures c.in-Router.ensures.vertex are.of_graph.root_at)
+    ∙ given_by-area c.args.area lsas root t tree c.args.hops.now are c.deref.result.now us c.deref-2.result.now
+    (λ distance first ds hs. c.deref-2.ensures.value ∙ c.in_ok-reached.ensures distance first ds hs))
     c.given_by.ensures

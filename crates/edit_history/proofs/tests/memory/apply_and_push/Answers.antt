@@ -11,4 +11,5 @@ pushed r h = record { past = r ∷ h.past; future = [] }
 pub returns : goal.returns
 returns g c =
     subst (λ (h : HistoryData). Links c.apply.new.database h) (sym (c.push.ensures ∙ ap (pushed c.in_ok-record.«record») c.reserve.ensures.lists))
-    (recorded c.args.database.now c.apply.new.database c.args.history.now.lists c.args.edit.now c.in_ok-record.«record» c.requires c.known.ensures c.in_ok-record.ensures.applied).links
+    (recorded c.args.database.now c.apply.new.database c.args.history.now.lists c.args.edit.now
+    c.in_ok-record.«record» c.requires c.known.ensures c.in_ok-record.ensures.applied).links

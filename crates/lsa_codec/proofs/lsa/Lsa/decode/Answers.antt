@@ -13,7 +13,8 @@ returns-in_err-check-clause-fault g c =
 pub invariant_of-result : goal.invariant_of-result
 invariant_of-result g c =
     let short = c.u16_at.type_inv in
-    rw c.in_ok-bytes.ensures.items (accepted_front c.from-size.result c.args.bytes.now _ c.if-size-lt20.false (omega arith) (c.from-size.ensures ∙ c.u16_at.ensures) c.if-bytes-size.false c.in_ok-check.ensures.ok)
+    rw c.in_ok-bytes.ensures.items (accepted_front c.from-size.result c.args.bytes.now _ c.if-size-lt20.false (omega arith)
+    (c.from-size.ensures ∙ c.u16_at.ensures) c.if-bytes-size.false c.in_ok-check.ensures.ok)
 
 pub returns-clause-accepted : goal.returns-clause-accepted
 returns-clause-accepted g c = invariant_of-result g c

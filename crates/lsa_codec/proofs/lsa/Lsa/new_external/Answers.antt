@@ -10,7 +10,8 @@ pub accepted-requires : goal.accepted-requires
 accepted-requires g c =
     let header = c.new_header-header.ensures ∙ ap (λ (id : Addr). new_header 2 5 id c.args.adv 36) c.addr.ensures.addr in
     let made =
-    c.in_ok-bytes.ensures ∙ ap (λ (h : List ℕ). with_checksum (h ++ c.external_body.result)) header ∙ ap (λ (b : List ℕ). with_checksum (new_header 2 5 c.args.net.addr c.args.adv 36 ++ b)) c.external_body.ensures.text in
+    c.in_ok-bytes.ensures ∙ ap (λ (h : List ℕ). with_checksum (h ++ c.external_body.result)) header
+    ∙ ap (λ (b : List ℕ). with_checksum (new_header 2 5 c.args.net.addr c.args.adv 36 ++ b)) c.external_body.ensures.text in
     subst IsAccepted (sym made) (accepted_external c.args.adv c.args.net c.args.type2 c.args.metric c.args.forward c.args.tag c.external_body.ensures.prefix)
 
 pub returns-clause-made : goal.returns-clause-made

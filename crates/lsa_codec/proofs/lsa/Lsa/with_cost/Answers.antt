@@ -17,7 +17,9 @@ accepted-requires g c =
     let numbered = sym c.in-Some-link_numbered.is ∙ c.link_numbered.ensures ∙ ap (link_numbered c.args.k) c.in-Some.ensures.0 in
     let found = place_of_number c.args.k c.args.self.now c.in-Some-link_numbered.link numbered in
     let costly = not_costly c.in-Some-link_numbered.link.kind c.args.metric c.has_cost.result c.has_cost.ensures c.else-has_cost.either in
-    rw (c.in_ok-bytes.ensures, c.bytes.ensures.bytes) (accepted_with_metric _ c.args.metric c.in-Some-link_numbered.link c.args.self.now c.bytes.ensures.accepted c.requires.router found (omega arith) costly)
+    rw (c.in_ok-bytes.ensures, c.bytes.ensures.bytes)
+    (accepted_with_metric _ c.args.metric c.in-Some-link_numbered.link c.args.self.now
+    c.bytes.ensures.accepted c.requires.router found (omega arith) costly)
 
 pub returns-clause-made : goal.returns-clause-made
 returns-clause-made g c =
@@ -32,4 +34,5 @@ returns-clause-keeps g c =
     let numbered = sym c.in-Some-link_numbered.is ∙ c.link_numbered.ensures ∙ ap (link_numbered c.args.k) c.in-Some.ensures.0 in
     let found = place_of_number c.args.k c.args.self.now c.in-Some-link_numbered.link numbered in
     let costly = not_costly c.in-Some-link_numbered.link.kind c.args.metric c.has_cost.result c.has_cost.ensures c.else-has_cost.either in
-    rw (c.accepted.ensures, c.in_ok-bytes.ensures, c.bytes.ensures.bytes) (rewrite_with_metric _ c.args.metric c.in-Some-link_numbered.link c.args.self.now c.bytes.ensures.accepted c.requires.router found (omega arith) costly)
+    rw (c.accepted.ensures, c.in_ok-bytes.ensures, c.bytes.ensures.bytes)
+    (rewrite_with_metric _ c.args.metric c.in-Some-link_numbered.link c.args.self.now c.bytes.ensures.accepted c.requires.router found (omega arith) costly)

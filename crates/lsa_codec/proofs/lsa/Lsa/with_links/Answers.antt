@@ -29,5 +29,6 @@ accepted-requires g c =
     c.deref_mut.ensures.value ∙ c.in_ok-bytes.ensures ∙ ap (λ (b : List ℕ). body_of (link_text b) kept b) c.bytes.ensures.bytes in
     let size = length-body (link_text lsa) kept lsa (has_texts lsa old c.requires.router).long in
     let whole =
-    finished (length kept) c.deref_mut.result.now c.recount.new.lsa c.in_ok-bytes.bytes.items c.in_ok-bytes.bytes.len (omega (arith, ap length body)) c.recount.ensures c.deref_mut.ensures.len in
+    finished (length kept) c.deref_mut.result.now c.recount.new.lsa c.in_ok-bytes.bytes.items c.in_ok-bytes.bytes.len
+    (omega (arith, ap length body)) c.recount.ensures c.deref_mut.ensures.len in
     subst IsAccepted (sym (whole ∙ ap (recounted (length kept)) body)) (accepted_links lsa kept old c.requires.router c.requires.links c.requires.shorter)

@@ -34,4 +34,5 @@ returns-clause-made g c =
 
 pub returns-clause-keeps : goal.returns-clause-keeps
 returns-clause-keeps g c =
-    stub_extended c.args.net c.args.metric c.args.self.now c.accepted.result c.bytes.ensures.accepted c.requires.router c.extended.ensures.prefix (returns-clause-made g c)
+    stub_extended c.args.net c.args.metric c.args.self.now c.accepted.result c.bytes.ensures.accepted
+    c.requires.router c.extended.ensures.prefix (returns-clause-made g c)

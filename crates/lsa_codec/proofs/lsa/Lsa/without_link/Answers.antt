@@ -23,8 +23,10 @@ returns-clause-made g c =
     let kept = c.deref.ensures.value ∙ c.in_ok-kept.ensures ∙ ap (λ (b : List ℕ). remove (links_of b) (c.args.k - 1)) c.in-Some.ensures.0 in
     let numbered : is_some (link_numbered c.args.k lsa) ≡ true =
     ap (λ (b : List ℕ). is_some (link_numbered c.args.k b)) (sym c.in-Some.ensures.0) ∙ ap is_some (sym c.link_numbered.ensures) ∙ c.if-is_none.ensures in
-    IfOk-weaker c.with_links.result _ _ (λ new made. cond-true _ _ _ numbered ∙ ap Ok (sym (made ∙ ap (λ (ls : List Link). with_links ls lsa) kept))) c.with_links.ensures.made
+    IfOk-weaker c.with_links.result _ _
+    (λ new made. cond-true _ _ _ numbered ∙ ap Ok (sym (made ∙ ap (λ (ls : List Link). with_links ls lsa) kept))) c.with_links.ensures.made
 
 pub returns-clause-keeps : goal.returns-clause-keeps
 returns-clause-keeps g c =
-    IfOk-weaker c.with_links.result _ _ (λ new made. link_rewritten c.args.k c.args.self.now new c.in-Some.ensures.2 c.requires.router made) (returns-clause-made g c)
+    IfOk-weaker c.with_links.result _ _ (λ new made. link_rewritten c.args.k c.args.self.now new c.in-Some.ensures.2 c.requires.router made)
+    (returns-clause-made g c)

@@ -24,8 +24,10 @@ returns-clause-made g c =
     c.deref.ensures.value ∙ c.in_ok-kept.ensures ∙ ap (λ (b : List ℕ). filter (λ link. not (is_end_of c.args.target link)) (links_of b)) c.in-Some.ensures.0 in
     let there : list_any (is_end_of c.args.target) (links_of lsa) ≡ true =
     ap (λ (b : List ℕ). list_any (is_end_of c.args.target) (links_of b)) (sym c.in-Some.ensures.0) ∙ sym c.has_link_to.ensures ∙ c.if-not-has_link_to.false in
-    IfOk-weaker c.with_links.result _ _ (λ new made. cond-true _ _ _ there ∙ ap Ok (sym (made ∙ ap (λ (ls : List Link). with_links ls lsa) kept))) c.with_links.ensures.made
+    IfOk-weaker c.with_links.result _ _
+    (λ new made. cond-true _ _ _ there ∙ ap Ok (sym (made ∙ ap (λ (ls : List Link). with_links ls lsa) kept))) c.with_links.ensures.made
 
 pub returns-clause-keeps : goal.returns-clause-keeps
 returns-clause-keeps g c =
-    IfOk-weaker c.with_links.result _ _ (λ new made. links_rewritten (is_end_of c.args.target) c.args.self.now new c.in-Some.ensures.2 c.requires.router made) (returns-clause-made g c)
+    IfOk-weaker c.with_links.result _ _
+    (λ new made. links_rewritten (is_end_of c.args.target) c.args.self.now new c.in-Some.ensures.2 c.requires.router made) (returns-clause-made g c)

@@ -14,8 +14,10 @@ returns-then-is_head_of g c =
     let i = c.loop-index.index in
     let t = section_turn ss i (suc i) c.index.result.now (omega arith) (omega arith) c.index.ensures in
     subst (λ (d : Places). (item_at (lists_of d) i ≡ find (is_section c.args.section) (lists_of d)) × IsSome (item_at (lists_of d) i)) c.self.view_is
-    (find_hit (is_section c.args.section) (lists_of (places_of ss)) (drop (suc i) (lists_of (places_of ss))) i _ t.here t.rest (sym c.is_head_of.ensures ∙ c.if-is_head_of.true)
-    (subst (λ (d : Places). find (is_section c.args.section) (drop i (lists_of d)) ≡ find (is_section c.args.section) (lists_of d)) (sym c.self.view_is) c.loop-index.invariant))
+    (find_hit (is_section c.args.section) (lists_of (places_of ss)) (drop (suc i) (lists_of (places_of ss))) i _ t.here t.rest
+    (sym c.is_head_of.ensures ∙ c.if-is_head_of.true)
+    (subst (λ (d : Places). find (is_section c.args.section) (drop i (lists_of d)) ≡ find (is_section c.args.section) (lists_of d))
+    (sym c.self.view_is) c.loop-index.invariant))
 
 pub loop-index-preserved : goal.loop-index-preserved
 loop-index-preserved g c =
@@ -25,5 +27,7 @@ loop-index-preserved g c =
     let j : ℕ = i + 1 in
     let t = section_turn ss i j c.index.result.now (omega arith) (omega arith) c.index.ensures in
     subst (λ (d : Places). find (is_section c.args.section) (drop j (lists_of d)) ≡ find (is_section c.args.section) (lists_of d)) c.self.view_is
-    (find_miss (is_section c.args.section) (lists_of (places_of ss)) (drop j (lists_of (places_of ss))) i _ t.rest (sym c.is_head_of.ensures ∙ c.if-is_head_of.false)
-    (subst (λ (d : Places). find (is_section c.args.section) (drop i (lists_of d)) ≡ find (is_section c.args.section) (lists_of d)) (sym c.self.view_is) c.loop-index.invariant))
+    (find_miss (is_section c.args.section) (lists_of (places_of ss)) (drop j (lists_of (places_of ss))) i _ t.rest
+    (sym c.is_head_of.ensures ∙ c.if-is_head_of.false)
+    (subst (λ (d : Places). find (is_section c.args.section) (drop i (lists_of d)) ≡ find (is_section c.args.section) (lists_of d))
+    (sym c.self.view_is) c.loop-index.invariant))

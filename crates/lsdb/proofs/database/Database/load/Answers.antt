@@ -3,7 +3,8 @@ use Rattle.lsdb.specs.Lists.{Lists}
 use Rattle.lsdb.specs.Places.{Places, lists_of}
 use Rattle.lsdb.specs.View.{places_of}
 use Rattle.lsdb.specs.Text.{text}
-use Rattle.lsdb.proofs.DumpText.{loaded_takes, text_size}
+use Rattle.lsdb.proofs.DumpText.{loaded_takes}
+use Rattle.lsdb.proofs.TextSize.{text_size}
 use Rattle.lsdb.proofs.database.Database.load.Goals as goal
 
 pub of_sections-requires-clause-sound : goal.of_sections-requires-clause-sound

@@ -11,4 +11,9 @@ returns-clause-lsas g c =
 
 pub returns-clause-few : goal.returns-clause-few
 returns-clause-few g c =
-    omega (arith, few_at (lists_of (places_of c.self.inside.sections.items)) c.args.section c.self.invariant.sound.sections, ap length (c.of.ensures ∙ section_seen c.self.inside.sections.items c.args.section c.index.result.now c.deref.result.now (rw c.self.view_is c.requires) c.index.ensures c.deref.ensures.value))
+    omega (
+      arith,
+      few_at (lists_of (places_of c.self.inside.sections.items)) c.args.section c.self.invariant.sound.sections,
+      ap length
+          (c.of.ensures ∙ section_seen c.self.inside.sections.items c.args.section c.index.result.now c.deref.result.now (rw c.self.view_is c.requires) c.index.ensures c.deref.ensures.value),
+    )

@@ -14,29 +14,35 @@ on_err_from (Err e) p = p
 pub invariant_of-self : goal.invariant_of-self
 invariant_of-self g c =
     kept_lists c.self.inside.sections.items _ c.self.inside.octets
-    (ap (λ (d : Places). lists_of d) (kept_places c.self.inside.sections.items c.args.section c.index_mut.result.now _ (rw c.self.view_is c.requires) c.index_mut.ensures.value refl c.in_err-push.ensures.items))
+    (ap (λ (d : Places). lists_of d) (kept_places c.self.inside.sections.items c.args.section c.index_mut.result.now _
+    (rw c.self.view_is c.requires) c.index_mut.ensures.value refl c.in_err-push.ensures.items))
     c.self.invariant
 
 pub returns-in_err-push-clause-err : goal.returns-in_err-push-clause-err
 returns-in_err-push-clause-err g c =
     on_err_from c.from_residual.result
-    (kept_places c.self.inside.sections.items c.args.section c.index_mut.result.now _ (rw c.self.view_is c.requires) c.index_mut.ensures.value refl c.in_err-push.ensures.items ∙ c.self.view_is)
+    (kept_places c.self.inside.sections.items c.args.section c.index_mut.result.now _
+    (rw c.self.view_is c.requires) c.index_mut.ensures.value refl c.in_err-push.ensures.items ∙ c.self.view_is)
 
 pub invariant_of-self-2 : goal.invariant_of-self-2
 invariant_of-self-2 g c =
     kept_lists c.self.inside.sections.items _ c.self.inside.octets
-    (ap (λ (d : Places). lists_of d) (open_places c.self.inside.sections.items c.args.section c.index_mut.result.now _ (rw c.self.view_is c.requires) c.index_mut.ensures.value refl c.in_ok-push.ensures.items) ∙ lists_of-open_at (places_of c.self.inside.sections.items) c.args.section)
+    (ap (λ (d : Places). lists_of d) (open_places c.self.inside.sections.items c.args.section c.index_mut.result.now _
+    (rw c.self.view_is c.requires) c.index_mut.ensures.value refl c.in_ok-push.ensures.items)
+    ∙ lists_of-open_at (places_of c.self.inside.sections.items) c.args.section)
     c.self.invariant
 
 pub returns-clause-ok : goal.returns-clause-ok
 returns-clause-ok g c =
-    open_places c.self.inside.sections.items c.args.section c.index_mut.result.now _ (rw c.self.view_is c.requires) c.index_mut.ensures.value refl c.in_ok-push.ensures.items
+    open_places c.self.inside.sections.items c.args.section c.index_mut.result.now _
+    (rw c.self.view_is c.requires) c.index_mut.ensures.value refl c.in_ok-push.ensures.items
     ∙ ap (λ (d : Places). open_at d c.args.section) c.self.view_is
 
 pub returns-clause-slot : goal.returns-clause-slot
 returns-clause-slot g c =
     let sized : vec_len c.index_mut.result.now.places ≡ length c.index_mut.result.now.places.items = search rules in
     ap (λ (d : Places). place_in (item_at d c.args.section) c.len-index.result)
-    (open_places c.self.inside.sections.items c.args.section c.index_mut.result.now _ (rw c.self.view_is c.requires) c.index_mut.ensures.value refl c.in_ok-push.ensures.items)
+    (open_places c.self.inside.sections.items c.args.section c.index_mut.result.now _
+    (rw c.self.view_is c.requires) c.index_mut.ensures.value refl c.in_ok-push.ensures.items)
     ∙ ap (λ (i : ℕ). place_in (item_at (open_at (places_of c.self.inside.sections.items) c.args.section) c.args.section) i) (c.len-index.ensures ∙ sized)
     ∙ slot_opened c.self.inside.sections.items c.args.section c.index_mut.result.now (rw c.self.view_is c.requires) c.index_mut.ensures.value

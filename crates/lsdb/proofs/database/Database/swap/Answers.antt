@@ -9,7 +9,8 @@ use Rattle.lsdb.proofs.database.Database.swap.Goals as goal
 
 pub returns-clause-put : goal.returns-clause-put
 returns-clause-put g c =
-    swap_put c.self.inside.sections.items c.args.slot c.index_mut-section.result.now _ c.swap.new.x (rw c.self.view_is c.requires.exists) c.index_mut-section.ensures.value refl refl
+    swap_put c.self.inside.sections.items c.args.slot c.index_mut-section.result.now _ c.swap.new.x
+    (rw c.self.view_is c.requires.exists) c.index_mut-section.ensures.value refl refl
     ∙ ap (λ (d : Places). put d c.args.slot c.swap.new.x) c.self.view_is
     ∙ ap (λ (v : Place). put c.args.self.now c.args.slot v) c.swap.ensures.x_after
 
@@ -17,16 +18,25 @@ pub overflow_sub-self : goal.overflow_sub-self
 overflow_sub-self g c =
     let ss = c.self.inside.sections.items in
     let at : slot_at (places_of ss) c.args.slot ≡ Some c.index.result.now =
-    swap_read ss c.args.slot c.index_mut-section.result.now c.index.result.now (rw c.self.view_is c.requires.exists) c.index_mut-section.ensures.value c.index.ensures in
+    swap_read ss c.args.slot c.index_mut-section.result.now c.index.result.now
+    (rw c.self.view_is c.requires.exists) c.index_mut-section.ensures.value c.index.ensures in
     omega (arith, place_fits (places_of ss) c.args.slot c.index.result.now at, c.place_size-taken.ensures, c.self.invariant.octets)
 
 pub overflow_add-self : goal.overflow_add-self
 overflow_add-self g c =
     let ss = c.self.inside.sections.items in
     let at : slot_at (places_of ss) c.args.slot ≡ Some c.index.result.now =
-    swap_read ss c.args.slot c.index_mut-section.result.now c.index.result.now (rw c.self.view_is c.requires.exists) c.index_mut-section.ensures.value c.index.ensures in
+    swap_read ss c.args.slot c.index_mut-section.result.now c.index.result.now
+    (rw c.self.view_is c.requires.exists) c.index_mut-section.ensures.value c.index.ensures in
     let sound : IsDatabase (lists_of (put (places_of ss) c.args.slot c.args.place.now)) = rw c.self.view_is c.requires.sound in
-    omega (arith, size_moved (places_of ss) c.args.slot c.index.result.now c.args.place.now c.self.inside.octets at c.self.invariant.octets, c.place_size-taken.ensures, c.place_size-given.ensures, sound.small)
+    omega (
+      arith,
+      size_moved (places_of ss) c.args.slot c.index.result.now c.args.place.now c.self.inside.octets at
+          c.self.invariant.octets,
+      c.place_size-taken.ensures,
+      c.place_size-given.ensures,
+      sound.small,
+    )
 
 pub invariant_of-self : goal.invariant_of-self
 invariant_of-self g c =
@@ -44,5 +54,6 @@ invariant_of-self g c =
 pub returns-clause-place : goal.returns-clause-place
 returns-clause-place g c =
     ap (λ (d : Places). slot_at d c.args.slot) (sym c.self.view_is)
-    ∙ swap_read c.self.inside.sections.items c.args.slot c.index_mut-section.result.now c.swap.new.y (rw c.self.view_is c.requires.exists) c.index_mut-section.ensures.value
+    ∙ swap_read c.self.inside.sections.items c.args.slot c.index_mut-section.result.now c.swap.new.y
+    (rw c.self.view_is c.requires.exists) c.index_mut-section.ensures.value
     (let e : c.swap.new.y ≡ c.index_mut.result.now = c.swap.ensures.y_after in rw e c.index_mut.ensures.value)

@@ -8,6 +8,8 @@ use Rattle.next_hops.proofs.hops.Hops.build.Goals as goal
 
 pub returns-clause-paths : goal.returns-clause-paths
 returns-clause-paths g c =
-    IfOk-weaker c.sharing.result (λ (hops : List (List Hop)). hops ≡ c.deref.result.now) (λ (hops : List (List Hop)). (root : Vertex) → IsTreeOf c.args.graph.now root c.args.tree.now → AreHopsOf c.args.graph.now root hops)
-    (λ hops is root of. subst (λ (table : List (List Hop)). AreHopsOf c.args.graph.now root table) (sym (is ∙ c.deref.ensures.value)) (c.in_ok-lists.ensures.paths root of))
+    IfOk-weaker c.sharing.result (λ (hops : List (List Hop)). hops ≡ c.deref.result.now)
+    (λ (hops : List (List Hop)). (root : Vertex) → IsTreeOf c.args.graph.now root c.args.tree.now → AreHopsOf c.args.graph.now root hops)
+    (λ hops is root
+    of. subst (λ (table : List (List Hop)). AreHopsOf c.args.graph.now root table) (sym (is ∙ c.deref.ensures.value)) (c.in_ok-lists.ensures.paths root of))
     c.sharing.ensures

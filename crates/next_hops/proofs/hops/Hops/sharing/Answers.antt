@@ -14,8 +14,10 @@ loop-list-preserved g c =
     let n = c.in_ok-number.number in
     let keeps = c.in_ok-number.ensures.keeps in
     let here : All (λ m. m < length old) numbers = c.loop-list.invariant.within in
-    let still : All (λ m. m < length new) numbers = All-weaker (λ m. m < length old) (λ m. m < length new) (λ m lt. let more = keeps.no_less in omega arith) numbers here in
-    let next : list_in new n ≡ get_or c.args.lists.now c.loop-list.list-index [] = c.in_ok-number.ensures.list ∙ c.as_slice.ensures.hops ∙ c.list-item.is ∙ get_or_default c.args.lists.now c.loop-list.list-index c.list-item.result [] c.loop-list-test.true in
+    let still : All (λ m. m < length new) numbers = All-weaker (λ m. m < length old) (λ m. m < length new)
+    (λ m lt. let more = keeps.no_less in omega arith) numbers here in
+    let next : list_in new n ≡ get_or c.args.lists.now c.loop-list.list-index [] = c.in_ok-number.ensures.list
+    ∙ c.as_slice.ensures.hops ∙ c.list-item.is ∙ get_or_default c.args.lists.now c.loop-list.list-index c.list-item.result [] c.loop-list-test.true in
     record {
       within = subst (λ (xs : List ℕ). All (λ m. m < length new) xs) (sym c.in_ok-push.ensures.items)
           (All-push (λ m. m < length new) numbers n still c.in_ok-number.ensures.within);

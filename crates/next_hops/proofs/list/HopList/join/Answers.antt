@@ -22,4 +22,5 @@ loop-hop-preserved g c =
     c.in_ok-add.ensures.added
     ∙ ap (λ (xs : List Hop). rising hop_cmp (xs ++ hop ∷ [])) c.loop-hop.invariant
     ∙ rising-joined (hops ++ take i more) (hop ∷ [])
-    ∙ ap (λ (xs : List Hop). rising hop_cmp xs) (append_assoc hops (take i more) (hop ∷ []) ∙ ap (λ (xs : List Hop). hops ++ xs) (sym (take_more more i Connected c.loop-hop-test.true)))
+    ∙ ap (λ (xs : List Hop). rising hop_cmp xs)
+    (append_assoc hops (take i more) (hop ∷ []) ∙ ap (λ (xs : List Hop). hops ++ xs) (sym (take_more more i Connected c.loop-hop-test.true)))

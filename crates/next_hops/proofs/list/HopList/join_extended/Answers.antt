@@ -26,4 +26,5 @@ loop-hop-preserved g c =
     ∙ rising-joined (hops ++ map over (take i more)) (over hop ∷ [])
     ∙ ap (λ (xs : List Hop). rising hop_cmp xs)
     (append_assoc hops (map over (take i more)) (over hop ∷ [])
-    ∙ ap (λ (xs : List Hop). hops ++ xs) (sym (map-append over (take i more) (hop ∷ [])) ∙ ap (λ (xs : List Hop). map over xs) (sym (take_more more i Connected c.loop-hop-test.true))))
+    ∙ ap (λ (xs : List Hop). hops ++ xs)
+    (sym (map-append over (take i more) (hop ∷ [])) ∙ ap (λ (xs : List Hop). map over xs) (sym (take_more more i Connected c.loop-hop-test.true))))

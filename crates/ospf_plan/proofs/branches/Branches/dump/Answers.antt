@@ -10,7 +10,8 @@ use Rattle.ospf_plan.proofs.branches.Branches.dump.Goals as goal
 pub returns-in-Some-clause-dump : goal.returns-in-Some-clause-dump
 returns-in-Some-clause-dump g c =
     subst (λ (s : Session). IfOk c.dump-in-Some.result (λ dump. dump.items ≡ text (state s)))
-    (sym (session_of_named c.self.inside.first c.self.inside.others.entries c.args.branch c.in-Some.planner.now (ne_eqb c.args.branch 0 c.if-branch-eq0.false) c.in-Some.ensures.value)
+    (sym (session_of_named c.self.inside.first c.self.inside.others.entries c.args.branch c.in-Some.planner.now
+    (ne_eqb c.args.branch 0 c.if-branch-eq0.false) c.in-Some.ensures.value)
     ∙ ap (λ (n : Named). sessions_of n c.args.branch) c.self.view_is)
     c.dump-in-Some.ensures
 
@@ -22,5 +23,6 @@ returns-in_ok-base-in-None-clause-dump g c =
     let behind = ne_eqb c.args.branch 0 c.if-branch-eq0.false in
     subst (λ (db : Lists). IfOk c.dump-in-None-2.result (λ dump. dump.items ≡ text db))
     (c.in_ok-base-in-None.ensures.base
-    ∙ ap state (sym (session_of_unnamed c.self.inside.first c.self.inside.others.entries c.args.branch behind c.in-None.ensures.value) ∙ ap (λ (n : Named). sessions_of n c.args.branch) c.self.view_is))
+    ∙ ap state (sym (session_of_unnamed c.self.inside.first c.self.inside.others.entries c.args.branch behind c.in-None.ensures.value)
+    ∙ ap (λ (n : Named). sessions_of n c.args.branch) c.self.view_is))
     c.dump-in-None-2.ensures

@@ -9,7 +9,8 @@ use Rattle.recalculate.specs.Planning.{PlannerValue}
 use Rattle.ospf_plan.specs.Branches.{Named, named_by, sessions_by, sessions_of, with_session}
 use Rattle.ospf_plan.specs.steps.Planners.{has_planner}
 use Rattle.ospf_plan.specs.Replies.{after, reply_to, said_by}
-use Rattle.ospf_plan.proofs.BranchSessions.{the_named, first_goes_on, first_base, not_named, one_base, session_of_named, shown_some, written, written_on, written_same, base_of, on_ok, on_err}
+use Rattle.ospf_plan.proofs.BranchSessions.{the_named, first_goes_on, first_base, not_named, one_base, session_of_named, shown_some, written}
+use Rattle.ospf_plan.proofs.BranchSessions.{written_on, written_same, base_of, on_ok, on_err}
 use Rattle.ospf_plan.proofs.branches.Branches.step.Goals as goal
 
 pub invariant_of-self : goal.invariant_of-self
@@ -50,7 +51,8 @@ returns-in-Some-clause-sessions g c =
     let new : Named = named_by c.self.inside.first (c.get_mut.follows.lender w).entries in
     subst (λ (n : Named). OnOk c.execute-in-Some.result (sessions_of new ≡ with_session b (after (sessions_of n b) cmd) (sessions_of n))) c.self.view_is
     (on_ok c.execute-in-Some.result
-    (written_on c.self.inside.first old (c.get_mut.follows.lender w) b c.in-Some.planner.now w cmd (ne_eqb b 0 c.if-branch-eq0.false) c.in-Some.ensures.value (c.get_mut.follows.holds w))
+    (written_on c.self.inside.first old (c.get_mut.follows.lender w) b c.in-Some.planner.now w cmd
+    (ne_eqb b 0 c.if-branch-eq0.false) c.in-Some.ensures.value (c.get_mut.follows.holds w))
     c.execute-in-Some.ensures.session)
 
 pub returns-in-Some-clause-kept : goal.returns-in-Some-clause-kept
@@ -58,13 +60,16 @@ returns-in-Some-clause-kept g c =
     let w = c.execute-in-Some.new.planner in
     let old = c.self.inside.others in
     on_err c.execute-in-Some.result
-    (λ same. ap (λ es. the_named c.self.inside.first.session es) (written_same old (c.get_mut.follows.lender w) c.args.branch c.in-Some.planner.now w c.in-Some.ensures.value (c.get_mut.follows.holds w) same) ∙ c.self.view_is)
+    (λ same. ap (λ es. the_named c.self.inside.first.session es)
+    (written_same old (c.get_mut.follows.lender w) c.args.branch c.in-Some.planner.now w c.in-Some.ensures.value
+    (c.get_mut.follows.holds w) same) ∙ c.self.view_is)
     c.execute-in-Some.ensures.kept
 
 pub returns-in-Some-clause-reply : goal.returns-in-Some-clause-reply
 returns-in-Some-clause-reply g c =
     subst (λ (s : Session). IfOk c.execute-in-Some.result (λ reply. said_by reply ≡ reply_to s c.args.command.now))
-    (sym (session_of_named c.self.inside.first c.self.inside.others.entries c.args.branch c.in-Some.planner.now (ne_eqb c.args.branch 0 c.if-branch-eq0.false) c.in-Some.ensures.value)
+    (sym (session_of_named c.self.inside.first c.self.inside.others.entries c.args.branch c.in-Some.planner.now
+    (ne_eqb c.args.branch 0 c.if-branch-eq0.false) c.in-Some.ensures.value)
     ∙ ap (λ (n : Named). sessions_of n c.args.branch) c.self.view_is)
     c.execute-in-Some.ensures.reply
 

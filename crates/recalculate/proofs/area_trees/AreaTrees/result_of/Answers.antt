@@ -17,7 +17,8 @@ build-requires g c =
     subst (λ (t : RouterTreeValue). IsTreeIn c.self.inside.graph c.args.router t) (sym c.kept.view_is) found in (
       c.args.router,
       record {
-        of_area = subst (λ (a : AreaTreesValue). IsGraphOf (lsas_of (Area c.args.area) (lists_of c.args.database.now)) a.graph) (sym c.self.view_is) c.requires.graph;
+        of_area = subst (λ (a : AreaTreesValue). IsGraphOf (lsas_of (Area c.args.area) (lists_of c.args.database.now)) a.graph)
+            (sym c.self.view_is) c.requires.graph;
         of_graph = here.tree;
         of_tree = here.hops;
       },
@@ -31,7 +32,8 @@ returns g c =
     subst (λ (t : RouterTreeValue). IsTreeIn c.self.inside.graph c.args.router t) (sym c.kept.view_is) found in
     if_given (area_result c.args.area (lsas_of (Area c.args.area) (lists_of c.args.database.now))) _ c.build.result c.build.ensures c.args.router
     (record {
-      of_area = subst (λ (a : AreaTreesValue). IsGraphOf (lsas_of (Area c.args.area) (lists_of c.args.database.now)) a.graph) (sym c.self.view_is) c.requires.graph;
+      of_area = subst (λ (a : AreaTreesValue). IsGraphOf (lsas_of (Area c.args.area) (lists_of c.args.database.now)) a.graph)
+          (sym c.self.view_is) c.requires.graph;
       of_graph = here.tree;
       of_tree = here.hops;
     })

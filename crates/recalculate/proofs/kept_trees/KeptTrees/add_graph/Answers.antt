@@ -14,7 +14,8 @@ returns-in_err-insert-clause-graphs g c =
 pub returns-clause-graphs : goal.returns-clause-graphs
 returns-clause-graphs g c =
     graphs_stay c.self.inside.areas.entries c.insert.new.self.entries c.args.area _ c.in_ok-insert.ensures.updates.0 (lists_of c.args.database.now)
-    (subst (λ (a : AreaTreesValue). IsGraphOf (lsas_of (Area c.args.area) (lists_of c.args.database.now)) a.graph) (sym c.new.ensures) c.in_ok-graph.ensures.graph)
+    (subst (λ (a : AreaTreesValue). IsGraphOf (lsas_of (Area c.args.area) (lists_of c.args.database.now)) a.graph)
+    (sym c.new.ensures) c.in_ok-graph.ensures.graph)
     (subst (λ (areas : AreasTrees). AreOfDatabase (lists_of c.args.database.now) areas) (sym c.self.view_is) c.requires.graphs)
 
 pub returns-clause-trees : goal.returns-clause-trees

@@ -15,17 +15,20 @@ grow-requires g c =
 
 pub returns-clause-graphs : goal.returns-clause-graphs
 returns-clause-graphs g c = λ other.
-    same_graphs c.self.inside.areas.entries _ c.args.area c.grow.new.self ((c.get_mut.follows.holds c.grow.new.self).3 (some_found (sym c.in-Some.ensures.value))).0
+    same_graphs c.self.inside.areas.entries _ c.args.area c.grow.new.self
+    ((c.get_mut.follows.holds c.grow.new.self).3 (some_found (sym c.in-Some.ensures.value))).0
     c.in-Some.trees.now (sym c.in-Some.ensures.value) c.grow.ensures.graph other
     ∙ ap (λ (areas : AreasTrees). graph_at (trees_at areas other)) c.self.view_is
 
 pub returns-clause-keeps : goal.returns-clause-keeps
 returns-clause-keeps g c = λ other root had.
-    still_within c.self.inside.areas.entries _ c.args.area c.grow.new.self ((c.get_mut.follows.holds c.grow.new.self).3 (some_found (sym c.in-Some.ensures.value))).0
+    still_within c.self.inside.areas.entries _ c.args.area c.grow.new.self
+    ((c.get_mut.follows.holds c.grow.new.self).3 (some_found (sym c.in-Some.ensures.value))).0
     c.in-Some.trees.now (sym c.in-Some.ensures.value) c.grow.ensures.keeps other root
     (ap (λ (areas : AreasTrees). trees_in areas other root) c.self.view_is ∙ had)
 
 pub returns-clause-others : goal.returns-clause-others
 returns-clause-others g c = λ other apart root.
-    other_areas c.self.inside.areas.entries _ c.args.area c.grow.new.self ((c.get_mut.follows.holds c.grow.new.self).3 (some_found (sym c.in-Some.ensures.value))).0 other apart root
+    other_areas c.self.inside.areas.entries _ c.args.area c.grow.new.self
+    ((c.get_mut.follows.holds c.grow.new.self).3 (some_found (sym c.in-Some.ensures.value))).0 other apart root
     ∙ ap (λ (areas : AreasTrees). trees_in areas other root) c.self.view_is

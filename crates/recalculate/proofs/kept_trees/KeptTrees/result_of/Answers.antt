@@ -13,4 +13,5 @@ result_of-requires-clause-graph g c =
 
 pub result_of-requires-clause-tree : goal.result_of-requires-clause-tree
 result_of-requires-clause-tree g c =
-    has_found c.args.self.now c.args.area c.in-Some.trees.now (ap (λ (areas : AreasTrees). trees_at areas c.args.area) (sym c.self.view_is) ∙ sym c.in-Some.ensures.value) c.args.router c.requires.tree
+    has_found c.args.self.now c.args.area c.in-Some.trees.now
+    (ap (λ (areas : AreasTrees). trees_at areas c.args.area) (sym c.self.view_is) ∙ sym c.in-Some.ensures.value) c.args.router c.requires.tree

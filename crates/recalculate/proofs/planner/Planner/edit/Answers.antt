@@ -11,9 +11,11 @@ drop_done-requires g c = one_done c.self.inside.study c.edit.new.self c.args.edi
 
 pub invariant_of-self-2 : goal.invariant_of-self-2
 invariant_of-self-2 g c =
-    (edited_kept c.self.inside.trees c.drop_done.new.self c.self.inside.study c.edit.new.self c.self.invariant c.args.edit.now c.in_ok-edit.ensures.reached c.in_ok-edit.ensures.ok c.drop_done.ensures).graphs
+    (edited_kept c.self.inside.trees c.drop_done.new.self c.self.inside.study c.edit.new.self c.self.invariant
+    c.args.edit.now c.in_ok-edit.ensures.reached c.in_ok-edit.ensures.ok c.drop_done.ensures).graphs
 
 pub returns-clause-kept : goal.returns-clause-kept
 returns-clause-kept g c =
-    (edited_kept c.self.inside.trees c.drop_done.new.self c.self.inside.study c.edit.new.self c.self.invariant c.args.edit.now c.in_ok-edit.ensures.reached c.in_ok-edit.ensures.ok c.drop_done.ensures).shown
+    (edited_kept c.self.inside.trees c.drop_done.new.self c.self.inside.study c.edit.new.self c.self.invariant
+    c.args.edit.now c.in_ok-edit.ensures.reached c.in_ok-edit.ensures.ok c.drop_done.ensures).shown
     ∙ ap (λ (p : PlannerValue). less_touched (λ area. edit_touches area (state p.session) c.args.edit.now) p.kept) c.self.view_is

@@ -7,9 +7,11 @@ use Rattle.recalculate.proofs.planner.Planner.redo.Goals as goal
 
 pub invariant_of-self-2 : goal.invariant_of-self-2
 invariant_of-self-2 g c =
-    (redone_kept c.self.inside.trees c.drop_done.new.self c.self.inside.study c.redo.new.self c.self.invariant c.args.count c.redo.ensures.reached (c.in_ok-redo.ensures.ok.0 refl) c.in_ok-redo.ensures.session c.drop_done.ensures).graphs
+    (redone_kept c.self.inside.trees c.drop_done.new.self c.self.inside.study c.redo.new.self c.self.invariant c.args.count
+    c.redo.ensures.reached (c.in_ok-redo.ensures.ok.0 refl) c.in_ok-redo.ensures.session c.drop_done.ensures).graphs
 
 pub returns-clause-kept : goal.returns-clause-kept
 returns-clause-kept g c =
-    (redone_kept c.self.inside.trees c.drop_done.new.self c.self.inside.study c.redo.new.self c.self.invariant c.args.count c.redo.ensures.reached (c.in_ok-redo.ensures.ok.0 refl) c.in_ok-redo.ensures.session c.drop_done.ensures).shown
+    (redone_kept c.self.inside.trees c.drop_done.new.self c.self.inside.study c.redo.new.self c.self.invariant c.args.count
+    c.redo.ensures.reached (c.in_ok-redo.ensures.ok.0 refl) c.in_ok-redo.ensures.session c.drop_done.ensures).shown
     ∙ ap (λ (p : PlannerValue). less_touched (λ area. redo_touches c.args.count area p.session) p.kept) c.self.view_is

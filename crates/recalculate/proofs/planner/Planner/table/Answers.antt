@@ -17,22 +17,29 @@ returns-in_err-results-clause-fault g c =
     let gave = err_from_is_err_and c.from_residual.result c.from_residual.ensures.1 in
     rw (gave.1, gave.2)
     (no_memory (state c.args.self.now.session) c.args.router
-    (subst (λ (db : Lists). attached_areas db c.args.router ≡ [] → ⊥) (c.database-database.ensures.state ∙ ap (λ (p : PlannerValue). state p.session) c.self.view_is) c.in_err-results.ensures.memory))
+    (subst (λ (db : Lists). attached_areas db c.args.router ≡ [] → ⊥)
+    (c.database-database.ensures.state ∙ ap (λ (p : PlannerValue). state p.session) c.self.view_is) c.in_err-results.ensures.memory))
 
 pub returns-in_err-results-clause-at_most : goal.returns-in_err-results-clause-at_most
 returns-in_err-results-clause-at_most g c =
-    subst (λ (p : PlannerValue). CountsAtMost (length (areas_without_tree (is_kept p.kept) c.args.router (attached_areas (state p.session) c.args.router))) p.runs c.results_of.new.meter) c.self.view_is
-    (subst (λ (t : TreeSet). CountsAtMost (length (areas_without_tree t c.args.router (attached_areas (state c.self.inside.study) c.args.router))) c.self.inside.meter c.results_of.new.meter)
+    subst (λ (p : PlannerValue). CountsAtMost (length
+    (areas_without_tree (is_kept p.kept) c.args.router (attached_areas (state p.session) c.args.router))) p.runs c.results_of.new.meter) c.self.view_is
+    (subst (λ (t : TreeSet). CountsAtMost
+    (length (areas_without_tree t c.args.router (attached_areas (state c.self.inside.study) c.args.router))) c.self.inside.meter c.results_of.new.meter)
     (sym (told c.self.inside.trees))
-    (subst (λ (db : Lists). CountsAtMost (length (areas_without_tree (trees_in c.self.inside.trees) c.args.router (attached_areas db c.args.router))) c.self.inside.meter c.results_of.new.meter)
+    (subst (λ (db : Lists). CountsAtMost
+    (length (areas_without_tree (trees_in c.self.inside.trees) c.args.router (attached_areas db c.args.router))) c.self.inside.meter c.results_of.new.meter)
     c.database-database.ensures.state c.results_of.ensures.at_most))
 
 pub returns-clause-at_most : goal.returns-clause-at_most
 returns-clause-at_most g c =
-    subst (λ (p : PlannerValue). CountsAtMost (length (areas_without_tree (is_kept p.kept) c.args.router (attached_areas (state p.session) c.args.router))) p.runs c.results_of.new.meter) c.self.view_is
-    (subst (λ (t : TreeSet). CountsAtMost (length (areas_without_tree t c.args.router (attached_areas (state c.self.inside.study) c.args.router))) c.self.inside.meter c.results_of.new.meter)
+    subst (λ (p : PlannerValue). CountsAtMost (length
+    (areas_without_tree (is_kept p.kept) c.args.router (attached_areas (state p.session) c.args.router))) p.runs c.results_of.new.meter) c.self.view_is
+    (subst (λ (t : TreeSet). CountsAtMost
+    (length (areas_without_tree t c.args.router (attached_areas (state c.self.inside.study) c.args.router))) c.self.inside.meter c.results_of.new.meter)
     (sym (told c.self.inside.trees))
-    (subst (λ (db : Lists). CountsAtMost (length (areas_without_tree (trees_in c.self.inside.trees) c.args.router (attached_areas db c.args.router))) c.self.inside.meter c.results_of.new.meter)
+    (subst (λ (db : Lists). CountsAtMost
+    (length (areas_without_tree (trees_in c.self.inside.trees) c.args.router (attached_areas db c.args.router))) c.self.inside.meter c.results_of.new.meter)
     c.database-database.ensures.state c.results_of.ensures.at_most))
 
 pub returns-in_err-results-clause-keeps : goal.returns-in_err-results-clause-keeps
@@ -50,15 +57,19 @@ returns-clause-keeps g c =
 pub returns-clause-runs : goal.returns-clause-runs
 returns-clause-runs g c =
     on_ok c.table_from.result
-    (subst (λ (p : PlannerValue). c.results_of.new.meter ≡ counted_by (length (areas_without_tree (is_kept p.kept) c.args.router (attached_areas (state p.session) c.args.router))) p.runs) c.self.view_is
-    (subst (λ (t : TreeSet). c.results_of.new.meter ≡ counted_by (length (areas_without_tree t c.args.router (attached_areas (state c.self.inside.study) c.args.router))) c.self.inside.meter)
+    (subst (λ (p : PlannerValue). c.results_of.new.meter ≡ counted_by
+    (length (areas_without_tree (is_kept p.kept) c.args.router (attached_areas (state p.session) c.args.router))) p.runs) c.self.view_is
+    (subst (λ (t : TreeSet). c.results_of.new.meter ≡ counted_by
+    (length (areas_without_tree t c.args.router (attached_areas (state c.self.inside.study) c.args.router))) c.self.inside.meter)
     (sym (told c.self.inside.trees))
-    (subst (λ (db : Lists). c.results_of.new.meter ≡ counted_by (length (areas_without_tree (trees_in c.self.inside.trees) c.args.router (attached_areas db c.args.router))) c.self.inside.meter)
+    (subst (λ (db : Lists). c.results_of.new.meter ≡ counted_by
+    (length (areas_without_tree (trees_in c.self.inside.trees) c.args.router (attached_areas db c.args.router))) c.self.inside.meter)
     c.database-database.ensures.state c.in_ok-results.ensures.meter)))
 
 pub returns-clause-kept : goal.returns-clause-kept
 returns-clause-kept g c =
     on_ok c.table_from.result
-    (subst (λ (t : TreeSet). areas_without_tree t c.args.router (attached_areas (state c.args.self.now.session) c.args.router) ≡ []) (sym (told c.results_of.new.self))
+    (subst (λ (t : TreeSet). areas_without_tree t c.args.router (attached_areas (state c.args.self.now.session) c.args.router) ≡ [])
+    (sym (told c.results_of.new.self))
     (subst (λ (db : Lists). areas_without_tree (trees_in c.results_of.new.self) c.args.router (attached_areas db c.args.router) ≡ [])
     (c.database-database.ensures.state ∙ ap (λ (p : PlannerValue). state p.session) c.self.view_is) c.in_ok-results.ensures.grown))

@@ -7,9 +7,11 @@ use Rattle.recalculate.proofs.planner.Planner.undo.Goals as goal
 
 pub invariant_of-self-2 : goal.invariant_of-self-2
 invariant_of-self-2 g c =
-    (undone_kept c.self.inside.trees c.drop_undone.new.self c.self.inside.study c.undo.new.self c.self.invariant c.args.count c.undo.ensures.reached (c.in_ok-undo.ensures.ok.0 refl) c.in_ok-undo.ensures.session c.drop_undone.ensures).graphs
+    (undone_kept c.self.inside.trees c.drop_undone.new.self c.self.inside.study c.undo.new.self c.self.invariant c.args.count
+    c.undo.ensures.reached (c.in_ok-undo.ensures.ok.0 refl) c.in_ok-undo.ensures.session c.drop_undone.ensures).graphs
 
 pub returns-clause-kept : goal.returns-clause-kept
 returns-clause-kept g c =
-    (undone_kept c.self.inside.trees c.drop_undone.new.self c.self.inside.study c.undo.new.self c.self.invariant c.args.count c.undo.ensures.reached (c.in_ok-undo.ensures.ok.0 refl) c.in_ok-undo.ensures.session c.drop_undone.ensures).shown
+    (undone_kept c.self.inside.trees c.drop_undone.new.self c.self.inside.study c.undo.new.self c.self.invariant c.args.count
+    c.undo.ensures.reached (c.in_ok-undo.ensures.ok.0 refl) c.in_ok-undo.ensures.session c.drop_undone.ensures).shown
     ∙ ap (λ (p : PlannerValue). less_touched (λ area. undo_touches c.args.count area p.session) p.kept) c.self.view_is

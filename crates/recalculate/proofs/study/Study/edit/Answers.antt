@@ -17,17 +17,20 @@ returns-in_err-record-clause-refused g c =
     rw (gave.1, gave.2)
     (λ known.
     ap (λ s. edited s c.args.edit.now) (sym c.self.view_is)
-    ∙ edited_refused c.self.inside.database c.self.inside.history.lists c.args.edit.now c.in_err-record.field-0.0 (omega (arith, c.done.ensures, c.if-done-ge-MOST_EDITS.false)) c.self.invariant (c.in_err-record.ensures.refused.known known))
+    ∙ edited_refused c.self.inside.database c.self.inside.history.lists c.args.edit.now c.in_err-record.field-0.0
+    (omega (arith, c.done.ensures, c.if-done-ge-MOST_EDITS.false)) c.self.invariant (c.in_err-record.ensures.refused.known known))
 
 pub invariant_of-self-2 : goal.invariant_of-self-2
 invariant_of-self-2 g c =
     subst (λ (h : HistoryData). Links c.apply.new.database h) (sym (c.push.ensures ∙ ap (pushed c.in_ok-record.record) c.reserve.ensures.lists))
-    (recorded c.self.inside.database c.apply.new.database c.self.inside.history.lists c.args.edit.now c.in_ok-record.record c.self.invariant c.known.ensures c.in_ok-record.ensures.applied).links
+    (recorded c.self.inside.database c.apply.new.database c.self.inside.history.lists c.args.edit.now
+    c.in_ok-record.record c.self.invariant c.known.ensures c.in_ok-record.ensures.applied).links
 
 pub returns-clause-ok : goal.returns-clause-ok
 returns-clause-ok g c =
     ap (λ s. edited s c.args.edit.now) (sym c.self.view_is)
-    ∙ edited_accepted c.self.inside.database c.apply.new.database c.self.inside.history.lists c.args.edit.now c.in_ok-record.record (omega (arith, c.done.ensures, c.if-done-ge-MOST_EDITS.false)) c.self.invariant c.known.ensures c.in_ok-record.ensures.applied
+    ∙ edited_accepted c.self.inside.database c.apply.new.database c.self.inside.history.lists c.args.edit.now c.in_ok-record.record
+    (omega (arith, c.done.ensures, c.if-done-ge-MOST_EDITS.false)) c.self.invariant c.known.ensures c.in_ok-record.ensures.applied
     ∙ ap (λ (h : HistoryData). answer (session_of c.apply.new.database h)) (sym (c.push.ensures ∙ ap (pushed c.in_ok-record.record) c.reserve.ensures.lists))
 
 pub returns-clause-reached : goal.returns-clause-reached
@@ -35,6 +38,7 @@ returns-clause-reached g c = record {
   places = c.apply.new.database;
   history = c.push.new.self.lists;
   links = subst (λ (h : HistoryData). Links c.apply.new.database h) (sym (c.push.ensures ∙ ap (pushed c.in_ok-record.record) c.reserve.ensures.lists))
-      (recorded c.self.inside.database c.apply.new.database c.self.inside.history.lists c.args.edit.now c.in_ok-record.record c.self.invariant c.known.ensures c.in_ok-record.ensures.applied).links;
+      (recorded c.self.inside.database c.apply.new.database c.self.inside.history.lists c.args.edit.now
+      c.in_ok-record.record c.self.invariant c.known.ensures c.in_ok-record.ensures.applied).links;
   shows = refl;
 }

@@ -8,5 +8,8 @@ use Rattle.spf.proofs.queue.Queue.push.Goals as goal
 
 pub returns : goal.returns
 returns g c =
-    let moved : IsPermutation (c.args.candidate ∷ map (λ (x : Reverse Candidate). x.0) (heap_items c.self.inside.heap)) (map (λ (x : Reverse Candidate). x.0) (heap_items c.push.new.self)) = IsPermutation-map (λ (x : Reverse Candidate). x.0) _ _ c.in_ok-push.ensures.permutation in
-    subst (λ (xs : List Candidate). IsPermutation (c.args.candidate ∷ xs) (map (λ (x : Reverse Candidate). x.0) (heap_items c.push.new.self))) c.self.view_is moved
+    let moved : IsPermutation (c.args.candidate ∷ map (λ (x : Reverse Candidate). x.0) (heap_items c.self.inside.heap))
+    (map (λ (x : Reverse Candidate). x.0) (heap_items c.push.new.self)) =
+    IsPermutation-map (λ (x : Reverse Candidate). x.0) _ _ c.in_ok-push.ensures.permutation in
+    subst (λ (xs : List Candidate). IsPermutation (c.args.candidate ∷ xs)
+    (map (λ (x : Reverse Candidate). x.0) (heap_items c.push.new.self))) c.self.view_is moved
