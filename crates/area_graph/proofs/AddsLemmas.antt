@@ -55,61 +55,63 @@ pub Adds-both_ways : (e : DirectedEdge Vertex) (old mid new : Topology) → is_n
 Adds-both_ways e old mid new network same a b =
     subst (λ (t : Bool). Adds (cond t (e ∷ back e ∷ []) (e ∷ [])) old new) (sym network) (Adds-then (e ∷ []) (back e ∷ []) old mid new same a b)
 
-module _ (is_tied : Vertex → Vertex → Bool) where
-  returned-append : (xs ys : List (DirectedEdge Vertex)) → returned is_tied (xs ++ ys) ≡ returned is_tied xs ++ returned is_tied ys
+module _ (links_back : Vertex → Vertex → Bool) where
+  returned-append : (xs ys : List (DirectedEdge Vertex)) → returned links_back (xs ++ ys) ≡ returned links_back xs ++ returned links_back ys
   returned-append xs ys =
-      let tied : DirectedEdge Vertex → Bool = λ e. is_tied e.to e.from in
-      ap (flat_map both_ways) (filter-append tied xs ys) ∙ flat_map-append both_ways (filter tied xs) (filter tied ys)
+      let linked_back : DirectedEdge Vertex → Bool = λ e. links_back e.to e.from in
+      ap (flat_map both_ways) (filter-append linked_back xs ys) ∙ flat_map-append both_ways (filter linked_back xs) (filter linked_back ys)
 
-  over_links-append : (v : Vertex) (xs ys : List Link) → over_links is_tied v (xs ++ ys) ≡ over_links is_tied v xs ++ over_links is_tied v ys
+  over_links-append : (v : Vertex) (xs ys : List Link) → over_links links_back v (xs ++ ys) ≡ over_links links_back v xs ++ over_links links_back v ys
   over_links-append v xs ys =
-      ap (returned is_tied) (filter_map-append (edge_over v) xs ys) ∙ returned-append (filter_map (edge_over v) xs) (filter_map (edge_over v) ys)
+      ap (returned links_back) (filter_map-append (edge_over v) xs ys) ∙ returned-append (filter_map (edge_over v) xs) (filter_map (edge_over v) ys)
 
   -- the edges over one more link
   pub over_links-more : (v : Vertex) (links : List Link) (link : Link) (old mid new : Topology) → mid.vertices ≡ old.vertices
-      → Adds (over_links is_tied v links) old mid → Adds (over_links is_tied v (link ∷ [])) mid new → Adds (over_links is_tied v (links ++ link ∷ [])) old new
+      → Adds (over_links links_back v links) old mid → Adds (over_links links_back v (link ∷ [])) mid new
+      → Adds (over_links links_back v (links ++ link ∷ [])) old new
   over_links-more v links link old mid new same a b =
       subst (λ (es : List (DirectedEdge Vertex)). Adds es old new) (sym (over_links-append v links (link ∷ [])))
-      (Adds-then (over_links is_tied v links) (over_links is_tied v (link ∷ [])) old mid new same a b)
+      (Adds-then (over_links links_back v links) (over_links links_back v (link ∷ [])) old mid new same a b)
 
   -- the edges over the links of one more LSA
   pub over_lsas-more : (lsas : List (List ℕ)) (i : ℕ) (lsa : List ℕ) (old mid new : Topology) → i < length lsas → lsa ≡ get_or lsas i lsa
       → mid.vertices ≡ old.vertices
-      → Adds (over_lsas is_tied (take i lsas)) old mid → Adds (over_links is_tied (vertex_of lsa) (router_links lsa)) mid new
-      → Adds (over_lsas is_tied (take (i + 1) lsas)) old new
+      → Adds (over_lsas links_back (take i lsas)) old mid → Adds (over_links links_back (vertex_of lsa) (router_links lsa)) mid new
+      → Adds (over_lsas links_back (take (i + 1) lsas)) old new
   over_lsas-more lsas i lsa old mid new lt at same a b =
-      subst (λ (ls : List (List ℕ)). Adds (over_lsas is_tied ls) old new) (sym (take_more lsas i lsa lt ∙ ap (λ (l : List ℕ). take i lsas ++ l ∷ []) (sym at)))
+      subst (λ (ls : List (List ℕ)). Adds (over_lsas links_back ls) old new)
+      (sym (take_more lsas i lsa lt ∙ ap (λ (l : List ℕ). take i lsas ++ l ∷ []) (sym at)))
       (subst (λ (es : List (DirectedEdge Vertex)). Adds es old new) (sym split)
-      (Adds-then (over_lsas is_tied (take i lsas)) (over_links is_tied (vertex_of lsa) (router_links lsa)) old mid new same a b))
+      (Adds-then (over_lsas links_back (take i lsas)) (over_links links_back (vertex_of lsa) (router_links lsa)) old mid new same a b))
     where
-      split : over_lsas is_tied (take i lsas ++ lsa ∷ []) ≡ over_lsas is_tied (take i lsas) ++ over_links is_tied (vertex_of lsa) (router_links lsa)
+      split : over_lsas links_back (take i lsas ++ lsa ∷ []) ≡ over_lsas links_back (take i lsas) ++ over_links links_back (vertex_of lsa) (router_links lsa)
       split =
-          ap (returned is_tied) (flat_map-append edges_over (take i lsas) (lsa ∷ [])
+          ap (returned links_back) (flat_map-append edges_over (take i lsas) (lsa ∷ [])
           ∙ ap (λ (es : List (DirectedEdge Vertex)). flat_map edges_over (take i lsas) ++ es) (append-nil (edges_over lsa)))
           ∙ returned-append (flat_map edges_over (take i lsas)) (edges_over lsa)
 
   -- one link: it leads to a vertex that names the first, or not
   module _ (v : Vertex) (link : Link) where
     over_one : Option Vertex → List (DirectedEdge Vertex)
-    over_one o = returned is_tied (filter_map (λ l. option_map
+    over_one o = returned links_back (filter_map (λ l. option_map
         (λ w. let e : DirectedEdge Vertex = record { from = v; to = w; cost = link.metric; link_data = link.link_data } in e) o) (link ∷ []))
 
-    pub adds_no_target : (t : Topology) → target_of link ≡ None → Adds (over_links is_tied v (link ∷ [])) t t
+    pub adds_no_target : (t : Topology) → target_of link ≡ None → Adds (over_links links_back v (link ∷ [])) t t
     unfolding over_one
     adds_no_target t none = subst (λ (es : List (DirectedEdge Vertex)). Adds es t t) (sym (ap over_one none)) (adds_nothing t)
 
-    pub adds_not_tied : (t : Topology) (w : Vertex) → target_of link ≡ Some w → is_tied w v ≡ false → Adds (over_links is_tied v (link ∷ [])) t t
+    pub adds_not_linked_back : (t : Topology) (w : Vertex) → target_of link ≡ Some w → links_back w v ≡ false → Adds (over_links links_back v (link ∷ [])) t t
     unfolding over_one
-    adds_not_tied t w some free =
+    adds_not_linked_back t w some free =
         let e : DirectedEdge Vertex = record { from = v; to = w; cost = link.metric; link_data = link.link_data } in
         subst (λ (es : List (DirectedEdge Vertex)). Adds es t t)
         (sym (ap over_one some ∙ ap (λ (b : Bool). flat_map both_ways (cond b (e ∷ []) [])) free)) (adds_nothing t)
 
-    pub adds_tied : (old new : Topology) (w : Vertex) → target_of link ≡ Some w → is_tied w v ≡ true
+    pub adds_linked_back : (old new : Topology) (w : Vertex) → target_of link ≡ Some w → links_back w v ≡ true
         → Adds (both_ways (record { from = v; to = w; cost = link.metric; link_data = link.link_data })) old new
-        → Adds (over_links is_tied v (link ∷ [])) old new
+        → Adds (over_links links_back v (link ∷ [])) old new
     unfolding over_one
-    adds_tied old new w some tied a =
+    adds_linked_back old new w some linked_back a =
         let e : DirectedEdge Vertex = record { from = v; to = w; cost = link.metric; link_data = link.link_data } in
         subst (λ (es : List (DirectedEdge Vertex)). Adds es old new)
-        (sym (ap over_one some ∙ ap (λ (b : Bool). flat_map both_ways (cond b (e ∷ []) [])) tied ∙ append-nil (both_ways e))) a
+        (sym (ap over_one some ∙ ap (λ (b : Bool). flat_map both_ways (cond b (e ∷ []) [])) linked_back ∙ append-nil (both_ways e))) a

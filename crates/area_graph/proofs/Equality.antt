@@ -2,20 +2,20 @@
 use Rattle.std.proofs.Common.{◌≡◌, Bool, ◌&&◌, refl, ap, ◌∙◌}
 use Rattle.area_graph.specs.declared.vertex.Vertex.{Vertex}
 use Rattle.area_graph.specs.declared.vertex.Vertex.TheVariants.{Router, Network}
-use Rattle.area_graph.specs.declared.ties.Tie.{Tie}
+use Rattle.area_graph.specs.declared.back_links.BackLink.{BackLink}
 use Rattle.area_graph.specs.contracts.vertex.VertexPartialEq.TheImpl as vertex_impl
-use Rattle.area_graph.specs.contracts.ties.TiePartialEq.TheImpl as tie_impl
+use Rattle.area_graph.specs.contracts.back_links.BackLinkPartialEq.TheImpl as back_link_impl
 use Rattle.area_graph.specs.contracts.edge.EdgePartialEq.TheImpl as edge_impl
 use Rattle.area_graph.specs.declared.edge.Edge.{Edge}
 use Rattle.area_graph.specs.Rows.{same_edge}
 use Rattle.area_graph.specs.Vertex.{is_same}
-use Rattle.area_graph.specs.steps.Ties.{same_tie}
+use Rattle.area_graph.specs.steps.BackLinks.{same_back_link}
 
 abbrev pub vertex_eq : Vertex → Vertex → Bool
 vertex_eq = (vertex_impl.ghosts).eq
 
-abbrev pub tie_eq : Tie → Tie → Bool
-tie_eq = (tie_impl.ghosts).eq
+abbrev pub back_link_eq : BackLink → BackLink → Bool
+back_link_eq = (back_link_impl.ghosts).eq
 
 pub vertex_eq-is : (v w : Vertex) → vertex_eq v w ≡ is_same v w
 vertex_eq-is (Router v) (Router w) = refl
@@ -23,11 +23,11 @@ vertex_eq-is (Router v) (Network n) = refl
 vertex_eq-is (Network n) (Router v) = refl
 vertex_eq-is (Network n) (Network m) = refl
 
-tie_by : (a b : Tie) → tie_eq a b ≡ same_tie a b
-tie_by a b = ap (λ t. t && vertex_eq a.named b.named) (vertex_eq-is a.of b.of) ∙ ap (λ t. is_same a.of b.of && t) (vertex_eq-is a.named b.named)
+back_link_by : (a b : BackLink) → back_link_eq a b ≡ same_back_link a b
+back_link_by a b = ap (λ t. t && vertex_eq a.named b.named) (vertex_eq-is a.of b.of) ∙ ap (λ t. is_same a.of b.of && t) (vertex_eq-is a.named b.named)
 
-pub tie_eq-is : tie_eq ≡ same_tie
-tie_eq-is = λ i a b. tie_by a b i
+pub back_link_eq-is : back_link_eq ≡ same_back_link
+back_link_eq-is = λ i a b. back_link_by a b i
 
 abbrev pub edge_eq : Edge → Edge → Bool
 edge_eq = (edge_impl.ghosts).eq

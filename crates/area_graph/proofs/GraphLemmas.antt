@@ -189,22 +189,23 @@ module _ (lsas : List (List ℕ)) (are : AreOfArea lsas) (t : Topology) (draft :
   }
 
 -- the same, for the steps in which it is built
-pub built : (lsas vertex_lsas tie_lsas edge_lsas : List (List ℕ)) → AreOfArea lsas → vertex_lsas ≡ used lsas → tie_lsas ≡ used lsas → edge_lsas ≡ used lsas
-    → (keys : List Vertex) → keys ≡ map vertex_of vertex_lsas → (is_tied : Vertex → Vertex → Bool)
-    → ((v w : Vertex) → is_tied v w ≡ list_any (names v w) tie_lsas)
+pub built : (lsas vertex_lsas back_link_lsas edge_lsas : List (List ℕ)) → AreOfArea lsas → vertex_lsas ≡ used lsas → back_link_lsas ≡ used lsas
+    → edge_lsas ≡ used lsas
+    → (keys : List Vertex) → keys ≡ map vertex_of vertex_lsas → (links_back : Vertex → Vertex → Bool)
+    → ((v w : Vertex) → links_back v w ≡ list_any (names v w) back_link_lsas)
     → (old t : Topology) → old.vertices ≡ keys → ((i : ℕ) → row_at old i ≡ []) → t.vertices ≡ old.vertices → IsDraft t
-    → Adds (over_lsas is_tied edge_lsas) old t
+    → Adds (over_lsas links_back edge_lsas) old t
     → IsGraphOf lsas (edges_once t)
-built lsas vertex_lsas tie_lsas edge_lsas are uv ut ue keys k is_tied ties old t ok none tv draft adds =
+built lsas vertex_lsas back_link_lsas edge_lsas are uv ut ue keys k links_back back_links old t ok none tv draft adds =
     is_graph lsas are t draft (tv ∙ ok ∙ k ∙ ap (map vertex_of) uv) row
   where
     row : (i : ℕ) (v : Vertex) → slice_get t.vertices i ≡ Some v → row_at t i ≡ filter_map (numbered t.vertices) (filter (is_out_of v) (area_edges (used lsas)))
     row i v at =
         adds.rows i v (subst (λ (vs : List Vertex). slice_get vs i ≡ Some v) tv at)
-        ∙ ap (λ (r : List Edge). r ++ filter_map (numbered old.vertices) (filter (is_out_of v) (over_lsas is_tied edge_lsas))) (none i)
-        ∙ ap (λ (vs : List Vertex). filter_map (numbered vs) (filter (is_out_of v) (over_lsas is_tied edge_lsas))) (sym tv)
-        ∙ ap (λ (us : List (List ℕ)). filter_map (numbered t.vertices) (filter (is_out_of v) (over_lsas is_tied us))) ue
-        ∙ ap (filter_map (numbered t.vertices)) (over_lsas-outs (used lsas) is_tied (λ v w. ties v w ∙ ap (list_any (names v w)) ut) v)
+        ∙ ap (λ (r : List Edge). r ++ filter_map (numbered old.vertices) (filter (is_out_of v) (over_lsas links_back edge_lsas))) (none i)
+        ∙ ap (λ (vs : List Vertex). filter_map (numbered vs) (filter (is_out_of v) (over_lsas links_back edge_lsas))) (sym tv)
+        ∙ ap (λ (us : List (List ℕ)). filter_map (numbered t.vertices) (filter (is_out_of v) (over_lsas links_back us))) ue
+        ∙ ap (filter_map (numbered t.vertices)) (over_lsas-outs (used lsas) links_back (λ v w. back_links v w ∙ ap (list_any (names v w)) ut) v)
 
 -- the distances in the graph are those over the edges of the area
 pub distance_of-area : (lsas : List (List ℕ)) (t : Topology) → IsGraphOf lsas t → (v w : Vertex)

@@ -7,7 +7,7 @@ pub mod VertexLemmas
 pub mod TopologyLemmas
 pub mod EdgeLemmas
 pub mod RankLemmas
-pub mod TieLemmas
+pub mod BackLinkLemmas
 pub mod OnceLemmas
 pub mod SpanLemmas
 pub mod Equality

@@ -145,9 +145,9 @@ module _ (v : Vertex) where
       (sym (fronts-network network es from)) ∙ sym (filter-append (is_out_of v) es (map back (to_networks es)))
 
 -- what was added over the links of all LSAs are the edges of the area, vertex by vertex
-pub over_lsas-outs : (lsas : List (List ℕ)) (is_tied : Vertex → Vertex → Bool) → ((v w : Vertex) → is_tied v w ≡ list_any (names v w) lsas)
-    → (v : Vertex) → filter (is_out_of v) (over_lsas is_tied lsas) ≡ filter (is_out_of v) (area_edges lsas)
+pub over_lsas-outs : (lsas : List (List ℕ)) (links_back : Vertex → Vertex → Bool) → ((v w : Vertex) → links_back v w ≡ list_any (names v w) lsas)
+    → (v : Vertex) → filter (is_out_of v) (over_lsas links_back lsas) ≡ filter (is_out_of v) (area_edges lsas)
 unfolding area_edges
-over_lsas-outs lsas is_tied ties v =
-    ap (λ (p : DirectedEdge Vertex → Bool). filter (is_out_of v) (flat_map both_ways (filter p (flat_map edges_over lsas)))) (λ i e. ties e.to e.from i)
+over_lsas-outs lsas links_back back_links v =
+    ap (λ (p : DirectedEdge Vertex → Bool). filter (is_out_of v) (flat_map both_ways (filter p (flat_map edges_over lsas)))) (λ i e. back_links e.to e.from i)
     ∙ same_outs v (router_edges lsas) (λ e i. (out lsas e i).router) (is_network v) refl

@@ -1,5 +1,5 @@
 -- What only the contracts of private functions cite: the steps in which a graph is built.
 pub mod Ranks
-pub mod Ties
+pub mod BackLinks
 pub mod Spans
 pub mod Drafts

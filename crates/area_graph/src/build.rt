@@ -7,12 +7,12 @@ ghost use Rattle.lsdb.specs.Lists.{is_section, lsas_of};
 ghost use Rattle.lsdb.specs.Places.{lists_of};
 ghost use Rattle.area_graph.specs.Graphs.{IsGraphOf, FaultMeans, AreOfArea};
 
+use crate::back_links::back_links;
 use crate::draft::Draft;
 use crate::fault::GraphFault;
 use crate::graph::Graph;
 use crate::links::add_edges;
 use crate::numbers::vertices;
-use crate::ties::ties;
 use crate::used::used_lsas;
 use lsa_codec::AreaId;
 use lsdb::{Database, Lsas, Section};
@@ -25,10 +25,10 @@ fn graph_of<A: Allocator + Copy>(alloc: A, lsas: Lsas<'_, A>) -> Result<Graph<A>
 {
     let used = used_lsas(alloc, lsas)?;
     let vertices = vertices(alloc, &used)?;
-    let ties = ties(alloc, &used)?;
+    let back_links = back_links(alloc, &used)?;
     let mut draft = Draft::new(alloc, vertices)?;
-    add_edges(&mut draft, &ties, &used)?;
-    draft.finish(alloc)
+    add_edges(&mut draft, &back_links, &used)?;
+    draft.into_graph(alloc)
 }
 
 impl<A: Allocator + Copy> Graph<A> {
@@ -48,9 +48,12 @@ impl<A: Allocator + Copy> Graph<A> {
     /// [`OutOfMemory`](GraphFault::OutOfMemory) where a growth was refused.
     pub fn build(alloc: A, database: &Database<A>, area: AreaId) -> Result<Graph<A>, GraphFault>
         ensures graph { IfOk result (IsGraphOf (lsas_of (Area area) (lists_of database.now))) }
-        ensures found { IfOk result (λ _. IsSome (find (is_section (Area area)) (lists_of database.now))) }
-        ensures fault { IfErr result (FaultMeans (find (is_section (Area area)) (lists_of database.now))) }
+        ensures found { IfOk result
+            (λ _. IsSome (find (is_section (Area area)) (lists_of database.now))) }
+        ensures fault { IfErr result
+            (FaultMeans (find (is_section (Area area)) (lists_of database.now))) }
     {
+        // For its LSAs: they are accepted, and their keys are distinct.
         database.known();
         let section = Section::Area(area);
         let Some(_) = database.index_of(section) else {

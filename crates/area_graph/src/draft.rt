@@ -31,15 +31,18 @@ impl<A: Allocator> Model for Draft<A> {
 
     ghost Value = { Topology };
 
-    ghost view = { λ d. record { vertices = d.vertices.keys; rows = map (λ row. row.items) d.rows.items } };
+    ghost view = { λ d.
+        record { vertices = d.vertices.keys; rows = map (λ row. row.items) d.rows.items } };
 
-    ghost invariant = { λ d. IsDraft (record { vertices = d.vertices.keys; rows = map (λ row. row.items) d.rows.items }) };
+    ghost invariant = { λ d. IsDraft
+        (record { vertices = d.vertices.keys; rows = map (λ row. row.items) d.rows.items }) };
 }
 
 /// So many rows without edges.
 fn empty_rows<A: Allocator + Copy>(alloc: A, count: usize) -> Result<Vec<Row<A>, A>, AllocError>
     ensures count { IfOk result (λ rows. length rows.items ≡ count) }
-    ensures empty { IfOk result (λ rows. (i : ℕ) → slice_index_or (map (λ row. row.items) rows.items) i [] ≡ []) }
+    ensures empty { IfOk result
+        (λ rows. (i : ℕ) → slice_index_or (map (λ row. row.items) rows.items) i [] ≡ []) }
 {
     let mut rows = Vec::with_capacity(alloc, count)?;
     for _ in 0..count {
@@ -58,7 +61,8 @@ fn add_to_row<A: Allocator + Copy>(row: &mut Row<A>, edge: Edge) -> Result<(), A
 
 /// The rows with each edge once.
 fn rows_once<A: Allocator + Copy>(alloc: A, rows: &[Row<A>]) -> Result<Rows<A>, AllocError>
-    ensures { IfOk result (λ once. once ≡ map (each_once same_edge) (map (λ row. row.items) rows.now)) }
+    ensures { IfOk result
+        (λ once. once ≡ map (each_once same_edge) (map (λ row. row.items) rows.now)) }
 {
     let mut once = Rows::new(alloc);
     for row in rows {
@@ -97,7 +101,9 @@ impl<A: Allocator + Copy> Draft<A> {
         link_data: Addr,
     ) -> Result<(), AllocError>
         ensures vertices { self.new.vertices ≡ self.old.vertices }
-        ensures edges { OnOk result (Adds (record { from = from; to = to; cost = cost; link_data = link_data } ∷ []) self.old self.new) }
+        ensures edges { OnOk result
+            (Adds (record { from = from; to = to; cost = cost; link_data = link_data } ∷ [])
+            self.old self.new) }
     {
         let Some(row) = number_of(&self.vertices, from) else {
             return Ok(());
@@ -116,7 +122,7 @@ impl<A: Allocator + Copy> Draft<A> {
     }
 
     /// The graph with each edge once in its row.
-    pub(crate) fn finish(self, alloc: A) -> Result<Graph<A>, AllocError>
+    pub(crate) fn into_graph(self, alloc: A) -> Result<Graph<A>, AllocError>
         requires { IsTopology (edges_once self) }
         ensures { IfOk result (λ graph. graph ≡ edges_once self) }
     {

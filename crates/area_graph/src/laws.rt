@@ -9,11 +9,13 @@ ghost use Rattle.area_graph.specs.Joins.{Joins};
 
 /// The list of the edges of an area has exactly the edges that `Joins` tells, case by case.
 pub fn edges_join_both_ways()
-    ensures { (lsas : List (List ℕ)) (e : DirectedEdge Vertex) → Contains (area_edges lsas) e ↔ Joins lsas e.from e.to e.cost e.link_data }
+    ensures { (lsas : List (List ℕ)) (e : DirectedEdge Vertex)
+        → Contains (area_edges lsas) e ↔ Joins lsas e.from e.to e.cost e.link_data }
 {}
 
 /// `distance_of` looks at paths with no more edges than there are. It is the least cost of all
 /// paths, however long they are, and none exactly where there is no path.
 pub fn distances_are_over_all_paths()
-    ensures { (edges : List (DirectedEdge Vertex)) (v w : Vertex) → IsDistance (λ e. Contains edges e) v w (distance_of edges v w) }
+    ensures { (edges : List (DirectedEdge Vertex)) (v w : Vertex)
+        → IsDistance (λ e. Contains edges e) v w (distance_of edges v w) }
 {}

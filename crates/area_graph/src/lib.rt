@@ -11,9 +11,9 @@ mod graph;
 mod vertex;
 
 // The LSAs that make it.
+mod back_links;
 mod numbers;
 mod ranks;
-mod ties;
 mod used;
 
 // How it is built.

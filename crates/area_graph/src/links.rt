@@ -3,11 +3,11 @@
 ghost use Rattle.std.specs.Prelude.{◌≡◌, ◌∷◌, [], OnOk};
 ghost use Rattle.area_graph.specs.Area.{vertex_of};
 ghost use Rattle.area_graph.specs.AreaEdges.{router_links};
-ghost use Rattle.area_graph.specs.steps.Ties.{is_tied};
+ghost use Rattle.area_graph.specs.steps.BackLinks.{links_back};
 ghost use Rattle.area_graph.specs.steps.Drafts.{Adds, both_ways, over_links, over_lsas};
 
+use crate::back_links::{BackLinks, links_back, target_of};
 use crate::draft::Draft;
-use crate::ties::{Ties, is_tied, target_of};
 use crate::used::{VertexLsa, vertex_of};
 use crate::vertex::Vertex;
 use lsa_codec::{Link, Links, Lsa};
@@ -21,7 +21,9 @@ fn add_both<A: Allocator + Copy>(
     link: Link,
 ) -> Result<(), AllocError>
     ensures vertices { draft.new.vertices ≡ draft.old.vertices }
-    ensures edges { OnOk result (Adds (both_ways (record { from = from; to = to; cost = link.metric; link_data = link.link_data })) draft.old draft.new) }
+    ensures edges { OnOk result (Adds (both_ways
+        (record { from = from; to = to; cost = link.metric; link_data = link.link_data }))
+        draft.old draft.new) }
 {
     draft.add(from, to, link.metric, link.link_data)?;
     if !to.is_network() {
@@ -33,17 +35,18 @@ fn add_both<A: Allocator + Copy>(
 /// Adds the edges over a link of a vertex, where the other end names the vertex.
 fn add_link<A: Allocator + Copy>(
     draft: &mut Draft<A>,
-    ties: &Ties<A>,
+    back_links: &BackLinks<A>,
     from: Vertex,
     link: Link,
 ) -> Result<(), AllocError>
     ensures vertices { draft.new.vertices ≡ draft.old.vertices }
-    ensures edges { OnOk result (Adds (over_links (is_tied ties.now) from (link ∷ [])) draft.old draft.new) }
+    ensures edges { OnOk result
+        (Adds (over_links (links_back back_links.now) from (link ∷ [])) draft.old draft.new) }
 {
     let Some(to) = target_of(link) else {
         return Ok(());
     };
-    if !is_tied(ties, to, from) {
+    if !links_back(back_links, to, from) {
         return Ok(());
     }
     add_both(draft, from, to, link)
@@ -51,15 +54,16 @@ fn add_link<A: Allocator + Copy>(
 
 fn add_links<A: Allocator + Copy>(
     draft: &mut Draft<A>,
-    ties: &Ties<A>,
+    back_links: &BackLinks<A>,
     from: Vertex,
     links: Links<'_>,
 ) -> Result<(), AllocError>
     ensures vertices { draft.new.vertices ≡ draft.old.vertices }
-    ensures edges { OnOk result (Adds (over_links (is_tied ties.now) from links.entry) draft.old draft.new) }
+    ensures edges { OnOk result
+        (Adds (over_links (links_back back_links.now) from links.entry) draft.old draft.new) }
 {
     for link in links {
-        add_link(draft, ties, from, link)?;
+        add_link(draft, back_links, from, link)?;
     }
     Ok(())
 }
@@ -67,29 +71,32 @@ fn add_links<A: Allocator + Copy>(
 /// Adds the edges over the links of an LSA, which only router-LSAs have.
 fn add_lsa<A: Allocator + Copy>(
     draft: &mut Draft<A>,
-    ties: &Ties<A>,
+    back_links: &BackLinks<A>,
     lsa: &Lsa<A>,
 ) -> Result<(), AllocError>
     ensures vertices { draft.new.vertices ≡ draft.old.vertices }
-    ensures edges { OnOk result (Adds (over_links (is_tied ties.now) (vertex_of lsa.now) (router_links lsa.now)) draft.old draft.new) }
+    ensures edges { OnOk result
+        (Adds (over_links (links_back back_links.now) (vertex_of lsa.now) (router_links lsa.now))
+        draft.old draft.new) }
 {
     let Some(router) = lsa.router() else {
         return Ok(());
     };
-    add_links(draft, ties, vertex_of(lsa), router.links())
+    add_links(draft, back_links, vertex_of(lsa), router.links())
 }
 
 /// Adds the edges over the links of all these LSAs.
 pub(crate) fn add_edges<A: Allocator + Copy>(
     draft: &mut Draft<A>,
-    ties: &Ties<A>,
+    back_links: &BackLinks<A>,
     lsas: &[VertexLsa<'_, A>],
 ) -> Result<(), AllocError>
     ensures vertices { draft.new.vertices ≡ draft.old.vertices }
-    ensures edges { OnOk result (Adds (over_lsas (is_tied ties.now) lsas.now) draft.old draft.new) }
+    ensures edges { OnOk result
+        (Adds (over_lsas (links_back back_links.now) lsas.now) draft.old draft.new) }
 {
     for lsa in lsas {
-        add_lsa(draft, ties, lsa.lsa())?;
+        add_lsa(draft, back_links, lsa.lsa())?;
     }
     Ok(())
 }

@@ -35,7 +35,8 @@ fn set_rank<A: Allocator + Copy>(
     network: Addr,
     router: RouterId,
 ) -> Result<(), AllocError>
-    ensures { OnOk result ((id : ℕ) → rank_in ranks.new id ≡ ranked network.0 router id (rank_in ranks.old id)) }
+    ensures { OnOk result
+        ((id : ℕ) → rank_in ranks.new id ≡ ranked network.0 router id (rank_in ranks.old id)) }
 {
     ranks.insert(network, router)?;
     Ok(())
@@ -43,7 +44,9 @@ fn set_rank<A: Allocator + Copy>(
 
 /// Sees to it that the rank of a network is no less than the Advertising Router of its LSA.
 fn rank<A: Allocator + Copy>(ranks: &mut Ranks<A>, lsa: &Lsa<A>) -> Result<(), AllocError>
-    ensures { OnOk result ((lsas : List (List ℕ)) → AreRanksOf lsas ranks.old → AreRanksOf (lsas ++ lsa.now ∷ []) ranks.new) }
+    ensures { OnOk result
+        ((lsas : List (List ℕ)) → AreRanksOf lsas ranks.old
+        → AreRanksOf (lsas ++ lsa.now ∷ []) ranks.new) }
 {
     let key = lsa.key();
     if key.kind != 2 || exceeds(ranks, key.id, key.adv) {
@@ -68,7 +71,8 @@ pub(crate) fn ranks<A: Allocator + Copy>(
 
 /// Whether a network-LSA has a lower Advertising Router than another of its Link State ID.
 pub(crate) fn is_outranked<A: Allocator + Copy>(ranks: &Ranks<A>, lsa: &Lsa<A>) -> bool
-    ensures { result ≡ (is_network_lsa lsa.now && exceeds (advertising_router_of lsa.now) (rank_in ranks.now (link_state_id_of lsa.now))) }
+    ensures { result ≡ (is_network_lsa lsa.now
+        && exceeds (advertising_router_of lsa.now) (rank_in ranks.now (link_state_id_of lsa.now))) }
 {
     let key = lsa.key();
     key.kind == NETWORK_LSA && exceeds(ranks, key.id, key.adv)

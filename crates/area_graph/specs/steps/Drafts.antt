@@ -22,23 +22,24 @@ with_edge t i e = record { vertices = t.vertices; rows = slice_set t.rows i (row
 
 -- each row has got those of these edges that are out of its vertex, in their order
 pub record Adds (es : List (DirectedEdge Vertex)) (old new : Topology) : Type 0 where
-  pub rows : (i : ℕ) (v : Vertex) → slice_get old.vertices i ≡ Some v → row_at new i ≡ row_at old i ++ filter_map (numbered old.vertices) (filter (is_out_of v) es)
+  pub rows : (i : ℕ) (v : Vertex) → slice_get old.vertices i ≡ Some v
+      → row_at new i ≡ row_at old i ++ filter_map (numbered old.vertices) (filter (is_out_of v) es)
 
 -- an edge and, where it leads to a network, the edge back
 abbrev pub both_ways : DirectedEdge Vertex → List (DirectedEdge Vertex)
 both_ways e = if is_network e.to then e ∷ back e ∷ [] else e ∷ []
 
--- of these edges those whose other end names their first, and their ways back
+-- of these edges those whose other end links back, and their ways back
 abbrev pub returned : (Vertex → Vertex → Bool) → List (DirectedEdge Vertex) → List (DirectedEdge Vertex)
-returned is_tied es = flat_map both_ways (filter (λ e. is_tied e.to e.from) es)
+returned links_back es = flat_map both_ways (filter (λ e. links_back e.to e.from) es)
 
 -- the edges over links of a vertex
 abbrev pub over_links : (Vertex → Vertex → Bool) → Vertex → List Link → List (DirectedEdge Vertex)
-over_links is_tied v links = returned is_tied (filter_map (edge_over v) links)
+over_links links_back v links = returned links_back (filter_map (edge_over v) links)
 
 -- the edges over the links of LSAs
 abbrev pub over_lsas : (Vertex → Vertex → Bool) → List (List ℕ) → List (DirectedEdge Vertex)
-over_lsas is_tied lsas = returned is_tied (flat_map edges_over lsas)
+over_lsas links_back lsas = returned links_back (flat_map edges_over lsas)
 
 -- the graph where each edge stands once in its row
 abbrev pub edges_once : Topology → Topology

@@ -4,7 +4,7 @@ use Rattle.std.proofs.lemmas.Result.{IfOk-weaker}
 use Rattle.area_graph.specs.declared.vertex.Vertex.{Vertex}
 use Rattle.area_graph.specs.Topology.{Topology}
 use Rattle.area_graph.specs.Area.{vertex_of}
-use Rattle.area_graph.specs.steps.Ties.{is_tied}
+use Rattle.area_graph.specs.steps.BackLinks.{links_back}
 use Rattle.area_graph.specs.steps.Drafts.{IsDraft}
 use Rattle.area_graph.specs.Graphs.{IsGraphOf}
 use Rattle.area_graph.proofs.GraphLemmas.{built}
@@ -22,21 +22,21 @@ new-requires g c =
     (sym (c.in_ok-vertices.ensures ∙ ap (map vertex_of) (c.deref.ensures.value ∙ c.in_ok-used.ensures)))
     (vertices_distinct c.args.lsas c.requires.accepted c.requires.distinct)
 
-pub finish-requires : goal.finish-requires
-finish-requires g c =
+pub into_graph-requires : goal.into_graph-requires
+into_graph-requires g c =
     (built c.args.lsas c.deref.result.now c.deref-2.result.now c.deref-3.result.now c.requires
     (c.deref.ensures.value ∙ c.in_ok-used.ensures) (c.deref-2.ensures.value ∙ c.in_ok-used.ensures) (c.deref-3.ensures.value ∙ c.in_ok-used.ensures)
-    c.in_ok-vertices.vertices.keys c.in_ok-vertices.ensures (is_tied c.in_ok-ties.ties) c.in_ok-ties.ensures
+    c.in_ok-vertices.vertices.keys c.in_ok-vertices.ensures (links_back c.in_ok-back_links.back_links) c.in_ok-back_links.ensures
     c.in_ok-draft.draft c.add_edges.new.draft c.in_ok-draft.ensures.vertices c.in_ok-draft.ensures.empty c.in_ok-add_edges.ensures.vertices
     (subst IsDraft c.draft.view_is c.draft.invariant) c.in_ok-add_edges.ensures.edges).shape
 
 pub returns : goal.returns
 returns g c =
-    IfOk-weaker c.finish.result _ _
+    IfOk-weaker c.into_graph.result _ _
     (λ graph is. subst (λ (t : Topology). IsGraphOf c.args.lsas t) (sym is)
     (built c.args.lsas c.deref.result.now c.deref-2.result.now c.deref-3.result.now c.requires
     (c.deref.ensures.value ∙ c.in_ok-used.ensures) (c.deref-2.ensures.value ∙ c.in_ok-used.ensures) (c.deref-3.ensures.value ∙ c.in_ok-used.ensures)
-    c.in_ok-vertices.vertices.keys c.in_ok-vertices.ensures (is_tied c.in_ok-ties.ties) c.in_ok-ties.ensures
+    c.in_ok-vertices.vertices.keys c.in_ok-vertices.ensures (links_back c.in_ok-back_links.back_links) c.in_ok-back_links.ensures
     c.in_ok-draft.draft c.add_edges.new.draft c.in_ok-draft.ensures.vertices c.in_ok-draft.ensures.empty c.in_ok-add_edges.ensures.vertices
     (subst IsDraft c.draft.view_is c.draft.invariant) c.in_ok-add_edges.ensures.edges))
-    c.finish.ensures
+    c.into_graph.ensures
