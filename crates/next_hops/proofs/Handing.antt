@@ -21,12 +21,12 @@ use Rattle.next_hops.specs.declared.hop.Hop.{Hop}
 use Rattle.next_hops.specs.Hop.{IsSortedHops}
 use Rattle.next_hops.specs.FirstHops.{first_hop, IsHopTo, AreHopsOf, hops_at}
 use Rattle.next_hops.specs.steps.Passing.{Grows, IsPassed, IsPassedFrom, IsTight, arc_of}
-use Rattle.next_hops.proofs.PathHops.{names, IsFirst, IsMeasured, IsPassedOn, IsFirst-passed, Contains-first}
+use Rattle.next_hops.proofs.PathHops.{names, IsFirstHop, IsMeasured, IsPassedOn, IsFirstHop-passed, Contains-first}
 
 -- the first n vertices of the order have handed on their hops
 pub record HandedOn (t : Topology) (tree : Distances) (n : ℕ) (table : List (List Hop)) : Type 0 where
   pub sized : length table ≡ length t.vertices
-  pub sound : (w : ℕ) (h : Hop) → Contains (hops_at table w) h → IsFirst t tree w h
+  pub sound : (w : ℕ) (h : Hop) → Contains (hops_at table w) h → IsFirstHop t tree w h
   pub handed : (k : ℕ) → k < n → (e : DirectedEdge ℕ) (h : Hop) → IsArc t e → e.from ≡ get_or tree.order k 0
       → IsPassed t tree (hops_at table e.from) e h → Contains (hops_at table e.to) h
   pub sorted : All IsSortedHops table
@@ -89,8 +89,8 @@ module _ (t : Topology) (shape : IsTopology t) (root : Vertex) (tree : Distances
     HandedOn-next = record {
       sized = grown.sized ∙ s.sized;
       sound = λ w h there. ⊎_elim (λ x. s.sound w h x)
-          (λ q. subst (λ (n : ℕ). IsFirst t tree n h) (sym q.2)
-          (IsFirst-passed t shape tree measured old s.sound root_zero (arc_of (get_or tree.order p 0) q.0) h q.1 q.3))
+          (λ q. subst (λ (n : ℕ). IsFirstHop t tree n h) (sym q.2)
+          (IsFirstHop-passed t shape tree measured old s.sound root_zero (arc_of (get_or tree.order p 0) q.0) h q.1 q.3))
           (grown.only w h there);
       handed = λ k lt e h arc from passed.
           let le : k ≤ p = omega arith in
@@ -139,7 +139,7 @@ module _ (t : Topology) (shape : IsTopology t) (root : Vertex) (tree : Distances
         let listed = of.listed e.from (ap (λ (o : Option ℕ). is_some o) passed.0.1) in
         s.handed listed.0 (omega arith) e h arc (sym listed.2 ∙ get_or_default tree.order listed.0 e.from 0 listed.1) passed
 
-    to_hop : (i : ℕ) (w : Vertex) → slice_get t.vertices i ≡ Some w → (h : Hop) → IsFirst t tree i h → IsHopTo (IsEdge t) root w h
+    to_hop : (i : ℕ) (w : Vertex) → slice_get t.vertices i ≡ Some w → (h : Hop) → IsFirstHop t tree i h → IsHopTo (IsEdge t) root w h
     to_hop i w at h (es, path, least, first) =
         let dist : IsDistance (IsEdge t) root w (Some (path_cost es)) = subst (λ (o : Option ℕ). IsDistance (IsEdge t) root w o) least (of.distance i w at) in (
           names t es,
@@ -148,7 +148,7 @@ module _ (t : Topology) (shape : IsTopology t) (root : Vertex) (tree : Distances
           first,
         )
 
-    from_hop : (i : ℕ) (w : Vertex) → slice_get t.vertices i ≡ Some w → (h : Hop) → IsHopTo (IsEdge t) root w h → IsFirst t tree i h
+    from_hop : (i : ℕ) (w : Vertex) → slice_get t.vertices i ≡ Some w → (h : Hop) → IsHopTo (IsEdge t) root w h → IsFirstHop t tree i h
     from_hop i w at h (es, path, low, first) =
         let down = path_down t shape tree.root i root w of.root_at at es path in
         let cost : path_cost es ≡ path_cost down.0 = ap (λ (x : List (DirectedEdge Vertex)). path_cost x) down.2 ∙ path_cost-named t down.0 in (

@@ -65,8 +65,8 @@ abbrev pub names : Topology → List (DirectedEdge ℕ) → List (DirectedEdge V
 names t es = map (λ (e : DirectedEdge ℕ). named t e) es
 
 -- a hop is the first of some path of least cost, over the vertices' numbers
-abbrev pub IsFirst : Topology → Distances → ℕ → Hop → Type 0
-IsFirst t tree w h = (es : List (DirectedEdge ℕ)) × IsPath (IsArc t) tree.root es w
+abbrev pub IsFirstHop : Topology → Distances → ℕ → Hop → Type 0
+IsFirstHop t tree w h = (es : List (DirectedEdge ℕ)) × IsPath (IsArc t) tree.root es w
     × (get_or tree.distances w None ≡ Some (path_cost es)) × (first_hop (names t es) ≡ Some h)
 
 -- the distances are those of the definition
@@ -79,10 +79,10 @@ IsPassedOn t tree table = (e : DirectedEdge ℕ) (h : Hop) → IsArc t e → IsP
 
 module _ (t : Topology) (shape : IsTopology t) (tree : Distances) (measured : IsMeasured t tree) where
   -- what is passed along an edge is a first hop
-  pub IsFirst-passed : (table : List (List Hop)) → ((w : ℕ) (h : Hop) → Contains (hops_at table w) h → IsFirst t tree w h)
+  pub IsFirstHop-passed : (table : List (List Hop)) → ((w : ℕ) (h : Hop) → Contains (hops_at table w) h → IsFirstHop t tree w h)
       → get_or tree.distances tree.root None ≡ Some 0
-      → (e : DirectedEdge ℕ) (h : Hop) → IsArc t e → IsPassed t tree (hops_at table e.from) e h → IsFirst t tree e.to h
-  IsFirst-passed table sound root_at e h arc (tight, from_root) =
+      → (e : DirectedEdge ℕ) (h : Hop) → IsArc t e → IsPassed t tree (hops_at table e.from) e h → IsFirstHop t tree e.to h
+  IsFirstHop-passed table sound root_at e h arc (tight, from_root) =
       ⊎_elim
       (λ p. (
         e ∷ [],
@@ -96,7 +96,7 @@ module _ (t : Topology) (shape : IsTopology t) (tree : Distances) (measured : Is
       (λ q. longer q.0 (sound e.from q.0 q.1) q.2)
       from_root
     where
-      longer : (g : Hop) → IsFirst t tree e.from g → extended g e.link_data ≡ h → IsFirst t tree e.to h
+      longer : (g : Hop) → IsFirstHop t tree e.from g → extended g e.link_data ≡ h → IsFirstHop t tree e.to h
       longer g (es, path, least, first) is = (
         es ++ e ∷ [],
         IsPath-push (IsArc t) tree.root e es path arc,
@@ -183,7 +183,7 @@ module _ (t : Topology) (shape : IsTopology t) (tree : Distances) (measured : Is
 
   -- where all hops are passed on, each first hop of a path of least cost is in the table
   pub Contains-first : (table : List (List Hop)) → IsPassedOn t tree table → get_or tree.distances tree.root None ≡ Some 0
-      → tree.root < length t.vertices → (w : ℕ) (h : Hop) → w < length t.vertices → IsFirst t tree w h → Contains (hops_at table w) h
+      → tree.root < length t.vertices → (w : ℕ) (h : Hop) → w < length t.vertices → IsFirstHop t tree w h → Contains (hops_at table w) h
   Contains-first table passed_on root_at in_root w h in_w (es, path, least, first) =
       along table passed_on es tree.root w 0 None path root_at
       (least ∙ ap (λ (n : ℕ). Some n)
