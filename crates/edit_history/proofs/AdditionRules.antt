@@ -23,7 +23,7 @@ use Rattle.edit_history.specs.Rules.{Rule, adding}
 use Rattle.edit_history.specs.Effect.{area_of, router_lsa_in, has_router, options_in, is_type2, room_for, has_room, added, rule_of, ◌>>=◌}
 use Rattle.edit_history.specs.Exchange.{SwapData}
 use Rattle.edit_history.specs.Applied.{Planned, IsRefused}
-use Rattle.edit_history.specs.steps.Plans.{IsFirst, Opens}
+use Rattle.edit_history.specs.steps.Plans.{IsFirstLsa, Opens}
 use Rattle.edit_history.proofs.NamedLsas.{no_area, has_area, named_there}
 use Rattle.edit_history.proofs.FailureFates.{list_item}
 use Rattle.edit_history.proofs.FailureRules.{no_lsa_in, lsa_in}
@@ -100,7 +100,7 @@ add_no_router d area router prefix metric number named none =
 
 -- the router is there
 add_row : (d : Places) (area : AreaId) (router : RouterId) (prefix : Net) (metric number : ℕ) (slot : SlotId) (lsa : List ℕ)
-    → IsNamed d (Area area) number → IsFirst d (Area area) (has_key (router_key router)) slot lsa
+    → IsNamed d (Area area) number → IsFirstLsa d (Area area) (has_key (router_key router)) slot lsa
     → rule_of (lists_of d) (AddSummary area router prefix metric) ≡ added (lists_of d) (Area area)
     (summary_for (head_or_none (item_at d number)) router prefix metric)
 add_row d area router prefix metric number slot lsa named at =
@@ -116,7 +116,7 @@ new_one : (head : Option AreaHead) (router : RouterId) (prefix : Net) (metric : 
 new_one head router prefix metric wide = summary_new (options_in head) router prefix metric wide.is_net wide.addr wide.wide
 
 pub add_no_room : (d : Places) (area : AreaId) (router : RouterId) (prefix : Net) (metric number : ℕ) (slot : SlotId) (lsa : List ℕ) (key : Key)
-    (fault : EditFault) → IsNamed d (Area area) number → IsFirst d (Area area) (has_key (router_key router)) slot lsa
+    (fault : EditFault) → IsNamed d (Area area) number → IsFirstLsa d (Area area) (has_key (router_key router)) slot lsa
     → AreWide router prefix → key ≡ prefix_key 3 router prefix → room_for (lists_of d) (Area area) key 28 ≡ Err fault
     → IsRefused d (AddSummary area router prefix metric) fault
 add_no_room d area router prefix metric number slot lsa key fault named at wide is no_room =
@@ -128,7 +128,7 @@ add_no_room d area router prefix metric number slot lsa key fault named at wide 
     (subst (λ (k : Key). room_for (lists_of d) (Area area) k 28 ≡ Err fault) is no_room))
 
 add_ruled : (d : Places) (area : AreaId) (router : RouterId) (prefix : Net) (metric number : ℕ) (slot : SlotId) (lsa : List ℕ) (key : Key)
-    → IsNamed d (Area area) number → IsFirst d (Area area) (has_key (router_key router)) slot lsa
+    → IsNamed d (Area area) number → IsFirstLsa d (Area area) (has_key (router_key router)) slot lsa
     → AreWide router prefix → key ≡ prefix_key 3 router prefix → room_for (lists_of d) (Area area) key 28 ≡ has_room
     → rule_of (lists_of d) (AddSummary area router prefix metric) ≡ Ok
     (adding (Area area) (summary_for (head_or_none (item_at d number)) router prefix metric))
@@ -140,7 +140,7 @@ add_ruled d area router prefix metric number slot lsa key named at wide is room 
     (subst (λ (k : Key). room_for (lists_of d) (Area area) k 28 ≡ has_room) is room)
 
 pub add_memory : (d : Places) (area : AreaId) (router : RouterId) (prefix : Net) (metric number : ℕ) (slot : SlotId) (lsa : List ℕ) (key : Key)
-    → IsNamed d (Area area) number → IsFirst d (Area area) (has_key (router_key router)) slot lsa
+    → IsNamed d (Area area) number → IsFirstLsa d (Area area) (has_key (router_key router)) slot lsa
     → AreWide router prefix → key ≡ prefix_key 3 router prefix → room_for (lists_of d) (Area area) key 28 ≡ has_room
     → IsRefused d (AddSummary area router prefix metric) OutOfMemory
 add_memory d area router prefix metric number slot lsa key named at wide is room =
@@ -153,7 +153,7 @@ area_scope area router prefix x is (Some head) named = ap (is_in_scope (Some hea
 
 pub add_planned : (d e : Places) (area : AreaId) (router : RouterId) (prefix : Net) (metric number : ℕ) (slot : SlotId) (lsa : List ℕ) (key : Key)
     (options cost : ℕ) (x : List ℕ) (items : List SwapData) → IsDatabase (lists_of d) → IsNamed d (Area area) number
-    → IsFirst d (Area area) (has_key (router_key router)) slot lsa → AreWide router prefix → key ≡ prefix_key 3 router prefix
+    → IsFirstLsa d (Area area) (has_key (router_key router)) slot lsa → AreWide router prefix → key ≡ prefix_key 3 router prefix
     → room_for (lists_of d) (Area area) key 28 ≡ has_room
     → options ≡ options_in (head_or_none (item_at d number)) → cost ≡ metric → x ≡ new_summary options router prefix cost
     → Opens d e (Area area) x items → Planned d e (AddSummary area router prefix metric) items

@@ -31,7 +31,7 @@ use Rattle.edit_history.proofs.Keys.{found_passes, only_section, name_is}
 use Rattle.edit_history.proofs.RuleOutcomes.{Stays, all_stay, none_change, changes_mid}
 use Rattle.edit_history.proofs.RoomForLsas.{IsRoom, is_room}
 use Rattle.edit_history.proofs.Searches.{none_found}
-use Rattle.edit_history.proofs.RulesCarriedOut.{Follows, carries}
+use Rattle.edit_history.proofs.RulesCarriedOut.{CarriesOutRule, carries}
 
 -- ---- what the rule leaves
 
@@ -172,10 +172,10 @@ new_at name kind old now = record { section = name; kind = kind; old = unwrap_or
 abbrev fills : SlotId → Section → List ℕ → SwapData
 fills slot name x = record { slot = slot; section = name; kind = kind_of x; other = Some x }
 
-follows : (d : Places) (name : Section) (slot : SlotId) (x : List ℕ) → IsDatabase (lists_of d) → IsNamed d name slot.section
+carried : (d : Places) (name : Section) (slot : SlotId) (x : List ℕ) → IsDatabase (lists_of d) → IsNamed d name slot.section
     → slot.index ≡ length (places_in d slot.section) → slot_at (open_at d slot.section) slot ≡ Some None → IsNew (lists_of d) name x
-    → Follows (open_at d slot.section) (adding name x) (fills slot name x ∷ [])
-follows d name slot x sound named last empty new =
+    → CarriesOutRule (open_at d slot.section) (adding name x) (fills slot name x ∷ [])
+carried d name slot x sound named last empty new =
     let e = open_at d slot.section in
     let g = gets d name slot.section x sound named in
     let filled : lists_of (put e slot (Some x)) ≡ update_at (with_lsa x) (lists_of d) slot.section = lists-new x d slot.section slot.index last in
@@ -208,7 +208,7 @@ planned_new d e edit name x items sound ruled new o =
         opens = (o.slot.section ∷ [], refl);
         carries = carries (open_at d o.slot.section) edit (adding name x) (fills o.slot name x ∷ [])
             (ap (λ (db : Lists). rule_of db edit) (lists_of-open_at d o.slot.section) ∙ ruled)
-            (follows d name o.slot x sound o.opens.named o.opens.last empty new);
+            (carried d name o.slot x sound o.opens.named o.opens.last empty new);
       }
 
 -- ---- the refusals

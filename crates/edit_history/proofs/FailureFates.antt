@@ -27,8 +27,8 @@ use Rattle.edit_history.specs.Exchange.{SwapData}
 use Rattle.edit_history.specs.steps.Plans.{slot_of, swap_for, section_swaps, swaps_from, place_swap}
 use Rattle.edit_history.proofs.Keys.{same_key_true, found_passes, head_before, head_after, name_is}
 use Rattle.edit_history.proofs.Searches.{here, place_there}
-use Rattle.edit_history.proofs.RulesCarriedOut.{Follows}
-use Rattle.edit_history.proofs.FatesByPlace.{IsSafeFate, IsSafe, walks_follow}
+use Rattle.edit_history.proofs.RulesCarriedOut.{CarriesOutRule}
+use Rattle.edit_history.proofs.FatesByPlace.{IsSafeFate, IsSafe, fates_carried_out}
 
 -- ---- the fates are safe
 
@@ -149,18 +149,18 @@ within_safe : (name : Section) (fate : List ℕ → Fate) → ((x : List ℕ) �
 within_safe name fate safe head x accepted = safe_if x (is_head_of name head) (fate x) stays (λ _. safe x accepted) (λ _. tt)
 
 -- the swaps of one section do what its rule says
-pub section_follows : (d : Places) (name : Section) (fate : List ℕ → Fate) (i : ℕ) → IsDatabase (lists_of d) → IsNamed d name i → IsSome (item_at d i)
+pub section_carried_out : (d : Places) (name : Section) (fate : List ℕ → Fate) (i : ℕ) → IsDatabase (lists_of d) → IsNamed d name i → IsSome (item_at d i)
     → ((x : List ℕ) → IsAccepted x → IsSafeFate x (fate x))
-    → Follows d (within name fate) (section_swaps fate i name 0 (places_in d i))
-section_follows d name fate i sound named some safe =
+    → CarriesOutRule d (within name fate) (section_swaps fate i name 0 (places_in d i))
+section_carried_out d name fate i sound named some safe =
     let h = has_section d name i named some in
-    subst (Follows d (within name fate)) (one_from name fate d 0 i i h.section (omega arith) sound.heads.order h.at h.named)
-    (walks_follow (within name fate).fates d (within_safe name fate safe) sound)
+    subst (CarriesOutRule d (within name fate)) (one_from name fate d 0 i i h.section (omega arith) sound.heads.order h.at h.named)
+    (fates_carried_out (within name fate).fates d (within_safe name fate safe) sound)
 
 -- the swaps of all sections do what the rule of a router says
-pub router_follows : (d : Places) (router : RouterId) → IsDatabase (lists_of d)
-    → Follows d (by_fates (λ head. router_fate router)) (swaps_from (λ head. router_fate router) 0 d)
-router_follows d router sound = walks_follow (λ head. router_fate router) d (λ head x accepted. router_safe router x accepted) sound
+pub router_carried_out : (d : Places) (router : RouterId) → IsDatabase (lists_of d)
+    → CarriesOutRule d (by_fates (λ head. router_fate router)) (swaps_from (λ head. router_fate router) 0 d)
+router_carried_out d router sound = fates_carried_out (λ head. router_fate router) d (λ head x accepted. router_safe router x accepted) sound
 
 -- ---- one place more, one section more
 

@@ -16,7 +16,7 @@ use Rattle.edit_history.specs.declared.fault.EditFault.TheVariants.{NoArea, NoRo
 use Rattle.edit_history.specs.Rules.{Rule, by_fates, within}
 use Rattle.edit_history.specs.Effect.{area_of, router_lsa_in, or_refused, has_router, is_network, are_linked, link_fate, net_fate, router_fate, rule_of, ◌>>=◌}
 use Rattle.edit_history.specs.Applied.{IsRefused}
-use Rattle.edit_history.specs.steps.Plans.{IsFirst}
+use Rattle.edit_history.specs.steps.Plans.{IsFirstLsa}
 use Rattle.edit_history.proofs.NamedLsas.{no_area, has_area, named_there}
 use Rattle.edit_history.proofs.RulesCarriedOut.{refused_as, on_ok, on_err}
 
@@ -83,7 +83,7 @@ link_no_router d area router neighbor number named is none =
     (no_lsa_in (lists_of d) area router section lsas none)))
 
 pub link_no_neighbor : (d : Places) (area : AreaId) (router neighbor : RouterId) (number : ℕ) (slot : SlotId) (lsa : List ℕ)
-    → IsNamed d (Area area) number → (router.0 == neighbor.0) ≡ false → IsFirst d (Area area) (has_key (router_key router)) slot lsa
+    → IsNamed d (Area area) number → (router.0 == neighbor.0) ≡ false → IsFirstLsa d (Area area) (has_key (router_key router)) slot lsa
     → find (has_key (router_key neighbor)) (lsas_of (Area area) (lists_of d)) ≡ None → IsRefused d (FailLink area router neighbor) NoRouter
 link_no_neighbor d area router neighbor number slot lsa named is at none =
     refused_as d (FailLink area router neighbor) NoRouter (λ e. cc)
@@ -95,7 +95,7 @@ link_no_neighbor d area router neighbor number slot lsa named is at none =
 
 both_there : (d : Places) (area : AreaId) (router neighbor : RouterId) (number : ℕ) (slot : SlotId) (lsa : List ℕ) (place : SlotId) (other : List ℕ)
     (linked : Bool) → IsNamed d (Area area) number → (router.0 == neighbor.0) ≡ false
-    → IsFirst d (Area area) (has_key (router_key router)) slot lsa → IsFirst d (Area area) (has_key (router_key neighbor)) place other
+    → IsFirstLsa d (Area area) (has_key (router_key router)) slot lsa → IsFirstLsa d (Area area) (has_key (router_key neighbor)) place other
     → are_linked router neighbor lsa other ≡ linked
     → rule_of (lists_of d) (FailLink area router neighbor) ≡ linked_rule area router neighbor linked
 both_there d area router neighbor number slot lsa place other linked named is at there links =
@@ -108,7 +108,7 @@ both_there d area router neighbor number slot lsa place other linked named is at
 
 pub link_none : (d : Places) (area : AreaId) (router neighbor : RouterId) (number : ℕ) (slot : SlotId) (lsa : List ℕ) (place : SlotId)
     (other : List ℕ) → IsNamed d (Area area) number → (router.0 == neighbor.0) ≡ false
-    → IsFirst d (Area area) (has_key (router_key router)) slot lsa → IsFirst d (Area area) (has_key (router_key neighbor)) place other
+    → IsFirstLsa d (Area area) (has_key (router_key router)) slot lsa → IsFirstLsa d (Area area) (has_key (router_key neighbor)) place other
     → are_linked router neighbor lsa other ≡ false → IsRefused d (FailLink area router neighbor) NoLink
 link_none d area router neighbor number slot lsa place other named is at there links =
     refused_as d (FailLink area router neighbor) NoLink (λ e. cc)
@@ -116,7 +116,7 @@ link_none d area router neighbor number slot lsa place other named is at there l
 
 pub link_ruled : (d : Places) (area : AreaId) (router neighbor : RouterId) (number : ℕ) (slot : SlotId) (lsa : List ℕ) (place : SlotId)
     (other : List ℕ) → IsNamed d (Area area) number → (router.0 == neighbor.0) ≡ false
-    → IsFirst d (Area area) (has_key (router_key router)) slot lsa → IsFirst d (Area area) (has_key (router_key neighbor)) place other
+    → IsFirstLsa d (Area area) (has_key (router_key router)) slot lsa → IsFirstLsa d (Area area) (has_key (router_key neighbor)) place other
     → are_linked router neighbor lsa other ≡ true
     → rule_of (lists_of d) (FailLink area router neighbor) ≡ Ok (within (Area area) (link_fate router neighbor))
 link_ruled d area router neighbor number slot lsa place other named is at there links =

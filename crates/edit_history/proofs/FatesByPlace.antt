@@ -9,7 +9,8 @@ use Rattle.lsa_codec.specs.Making.{IsRewriteOf}
 use Rattle.lsdb.specs.declared.section.Section.{Section}
 use Rattle.lsdb.specs.declared.slot.SlotId.{SlotId}
 use Rattle.lsdb.specs.Lists.{AreaHead, Lists, IsSection, IsDatabase}
-use Rattle.lsdb.specs.Places.{Place, Places, SectionPlaces, item_at, slot_at, put, put_place, full, section_of, lists_of, IsPutSafe}
+use Rattle.lsdb.specs.Places.{Place, Places, SectionPlaces, item_at, slot_at, put, put_place, full, section_of, lists_of}
+use Rattle.lsdb.specs.steps.OnePlace.{IsPutSafe}
 use Rattle.lsdb.proofs.ListLemmas.{all_at_mid}
 use Rattle.lsdb.proofs.PlaceLemmas.{put_safe, section_with, full-cons, between}
 use Rattle.edit_history.specs.Rules.{Fate, stays, removed, rewritten, Fates, by_fates, Change, outcome, change_of, section_name, lists_after}
@@ -18,10 +19,10 @@ use Rattle.edit_history.specs.Exchange.{SwapData, CanDo, done_places, done_swaps
 use Rattle.edit_history.specs.steps.Plans.{slot_of, swap_for, section_swaps, swaps_from}
 use Rattle.edit_history.specs.Applied.{told}
 use Rattle.edit_history.proofs.RuleOutcomes.{after, change}
-use Rattle.edit_history.proofs.RulesCarriedOut.{Follows}
+use Rattle.edit_history.proofs.RulesCarriedOut.{CarriesOutRule}
 
 -- the swaps lead from d to e, each state on the way is a database, and they tell the changes
-pub record Walks (d e : Places) (ss : List SwapData) (cs : List Change) : Type 0 where
+pub record Leads (d e : Places) (ss : List SwapData) (cs : List Change) : Type 0 where
   pub can : CanDo d ss
   pub leads : done_places d ss ≡ e
   pub tells : map (told e) (done_swaps d ss) ≡ cs
@@ -68,8 +69,8 @@ slot_mid (l ∷ low) high area pre post p v (suc section) i e f = let rest = slo
 
 pub walk_swap : (d m e : Places) (slot : SlotId) (name : Section) (x : List ℕ) (v : Place) (ss : List SwapData) (cs : List Change)
     → IsDatabase (lists_of d) → slot_at d slot ≡ Some (Some x) → IsPutSafe (Some x) v → put d slot v ≡ m → slot_at e slot ≡ Some v
-    → (IsDatabase (lists_of m) → Walks m e ss cs)
-    → Walks d e ((record { slot = slot; section = name; kind = kind_of x; other = v }) ∷ ss)
+    → (IsDatabase (lists_of m) → Leads m e ss cs)
+    → Leads d e ((record { slot = slot; section = name; kind = kind_of x; other = v }) ∷ ss)
     ((record { section = name; kind = kind_of x; old = Some x; new = v }) ∷ cs)
 walk_swap d m e slot name x v ss cs sound at safe made now rest =
     let next : IsDatabase (lists_of (put d slot v)) = put_safe d slot (Some x) v at safe sound in
@@ -101,11 +102,11 @@ pub walk_place : (fates : Fates) (low high : Places) (area : Option AreaHead) (p
     → IsSafe fates → IsSafeFate x f → section ≡ length low → i ≡ length pre
     → IsDatabase (lists_of (low ++ section_places area (pre ++ Some x ∷ post) ∷ high))
     → ((v : Place) → IsDatabase (lists_of (low ++ section_places area (pre ++ v ∷ post) ∷ high))
-    → Walks (low ++ section_places area (pre ++ v ∷ post) ∷ high)
+    → Leads (low ++ section_places area (pre ++ v ∷ post) ∷ high)
     (low ++ section_places area (pre ++ v ∷ map (place_after fates area) post) ∷ places_after fates high)
     (section_swaps (fates area) section (section_name area) (suc i) post ++ swaps_from fates (suc section) high)
     (changed_in fates area post ++ changes_by (by_fates fates) (lists_of high)))
-    → Walks (low ++ section_places area (pre ++ Some x ∷ post) ∷ high)
+    → Leads (low ++ section_places area (pre ++ Some x ∷ post) ∷ high)
     (low ++ section_places area (pre ++ outcome f x ∷ map (place_after fates area) post) ∷ places_after fates high)
     (cons_option (swap_for (slot_of section i) (section_name area) x f)
     (section_swaps (fates area) section (section_name area) (suc i) post) ++ swaps_from fates (suc section) high)
@@ -123,26 +124,26 @@ walk_place fates low high area pre post x (rewritten new) section i safe fits e 
 -- the place that was passed stands with those before it
 shifted : (low high high' : Places) (area : Option AreaHead) (pre post post' : List Place) (v : Place) (ss : List SwapData) (cs : List Change)
     → (IsDatabase (lists_of (low ++ section_places area ((pre ++ v ∷ []) ++ post) ∷ high))
-    → Walks (low ++ section_places area ((pre ++ v ∷ []) ++ post) ∷ high) (low ++ section_places area ((pre ++ v ∷ []) ++ post') ∷ high') ss cs)
+    → Leads (low ++ section_places area ((pre ++ v ∷ []) ++ post) ∷ high) (low ++ section_places area ((pre ++ v ∷ []) ++ post') ∷ high') ss cs)
     → IsDatabase (lists_of (low ++ section_places area (pre ++ v ∷ post) ∷ high))
-    → Walks (low ++ section_places area (pre ++ v ∷ post) ∷ high) (low ++ section_places area (pre ++ v ∷ post') ∷ high') ss cs
+    → Leads (low ++ section_places area (pre ++ v ∷ post) ∷ high) (low ++ section_places area (pre ++ v ∷ post') ∷ high') ss cs
 shifted low high high' area pre post post' v ss cs walks sound =
     let one : (pre ++ v ∷ []) ++ post ≡ pre ++ v ∷ post = append_assoc pre (v ∷ []) post in
     let two : (pre ++ v ∷ []) ++ post' ≡ pre ++ v ∷ post' = append_assoc pre (v ∷ []) post' in
     let w = walks (subst (λ (ps : List Place). IsDatabase (lists_of (low ++ section_places area ps ∷ high))) (sym one) sound) in
-    subst (λ (qs : List Place). Walks (low ++ section_places area (pre ++ v ∷ post) ∷ high) (low ++ section_places area qs ∷ high') ss cs) two
-    (subst (λ (ps : List Place). Walks (low ++ section_places area ps ∷ high)
+    subst (λ (qs : List Place). Leads (low ++ section_places area (pre ++ v ∷ post) ∷ high) (low ++ section_places area qs ∷ high') ss cs) two
+    (subst (λ (ps : List Place). Leads (low ++ section_places area ps ∷ high)
     (low ++ section_places area ((pre ++ v ∷ []) ++ post') ∷ high') ss cs) one w)
 
 -- the section that was passed stands with those before it
 passed : (low high high' : Places) (l s s' : SectionPlaces) (ss : List SwapData) (cs : List Change)
-    → (IsDatabase (lists_of ((low ++ l ∷ []) ++ s ∷ high)) → Walks ((low ++ l ∷ []) ++ s ∷ high) ((low ++ l ∷ []) ++ s' ∷ high') ss cs)
-    → IsDatabase (lists_of (low ++ l ∷ s ∷ high)) → Walks (low ++ l ∷ s ∷ high) (low ++ l ∷ s' ∷ high') ss cs
+    → (IsDatabase (lists_of ((low ++ l ∷ []) ++ s ∷ high)) → Leads ((low ++ l ∷ []) ++ s ∷ high) ((low ++ l ∷ []) ++ s' ∷ high') ss cs)
+    → IsDatabase (lists_of (low ++ l ∷ s ∷ high)) → Leads (low ++ l ∷ s ∷ high) (low ++ l ∷ s' ∷ high') ss cs
 passed low high high' l s s' ss cs walks sound =
     let one : (low ++ l ∷ []) ++ s ∷ high ≡ low ++ l ∷ s ∷ high = append_assoc low (l ∷ []) (s ∷ high) in
     let two : (low ++ l ∷ []) ++ s' ∷ high' ≡ low ++ l ∷ s' ∷ high' = append_assoc low (l ∷ []) (s' ∷ high') in
     let w = walks (subst (λ (d : Places). IsDatabase (lists_of d)) (sym one) sound) in
-    subst (λ (e : Places). Walks (low ++ l ∷ s ∷ high) e ss cs) two (subst (λ (d : Places). Walks d ((low ++ l ∷ []) ++ s' ∷ high') ss cs) one w)
+    subst (λ (e : Places). Leads (low ++ l ∷ s ∷ high) e ss cs) two (subst (λ (d : Places). Leads d ((low ++ l ∷ []) ++ s' ∷ high') ss cs) one w)
 
 pushed : {X : Type 0} (xs : List X) (x : X) (n : ℕ) → n ≡ length xs → suc n ≡ length (xs ++ x ∷ [])
 pushed xs x n e = omega (arith, e, length-append xs (x ∷ []))
@@ -159,7 +160,7 @@ accepted_at d slot x at sound =
 pub walk : (fates : Fates) (low high : Places) (area : Option AreaHead) (pre post : List Place) (section i : ℕ) → IsSafe fates → section ≡ length low
     → i ≡ length pre
     → IsDatabase (lists_of (low ++ section_places area (pre ++ post) ∷ high))
-    → Walks (low ++ section_places area (pre ++ post) ∷ high)
+    → Leads (low ++ section_places area (pre ++ post) ∷ high)
     (low ++ section_places area (pre ++ map (place_after fates area) post) ∷ places_after fates high)
     (section_swaps (fates area) section (section_name area) i post ++ swaps_from fates (suc section) high)
     (changed_in fates area post ++ changes_by (by_fates fates) (lists_of high))
@@ -182,7 +183,7 @@ walk fates low high area pre (Some x ∷ post) section i safe e g sound =
 
 -- all fates, carried out at all places
 pub walked : (fates : Fates) (d : Places) → IsSafe fates → IsDatabase (lists_of d)
-    → Walks d (places_after fates d) (swaps_from fates 0 d) (changes_by (by_fates fates) (lists_of d))
+    → Leads d (places_after fates d) (swaps_from fates 0 d) (changes_by (by_fates fates) (lists_of d))
 walked fates [] safe sound = record { can = tt; leads = refl; tells = refl }
 walked fates (s ∷ ss) safe sound = walk fates [] ss s.area [] s.places 0 0 safe refl refl sound
 
@@ -201,8 +202,8 @@ lists-after fates (s ∷ ss) =
     ∙ ap (λ (ts : Lists). section_after (by_fates fates) (section_of s) ∷ ts) (lists-after fates ss)
 
 -- the swaps of all places do what the fates say
-pub walks_follow : (fates : Fates) (d : Places) → IsSafe fates → IsDatabase (lists_of d) → Follows d (by_fates fates) (swaps_from fates 0 d)
-walks_follow fates d safe sound =
+pub fates_carried_out : (fates : Fates) (d : Places) → IsSafe fates → IsDatabase (lists_of d) → CarriesOutRule d (by_fates fates) (swaps_from fates 0 d)
+fates_carried_out fates d safe sound =
     let w = walked fates d safe sound in
     record {
       can = w.can;

@@ -21,7 +21,7 @@ use Rattle.edit_history.specs.Rules.{Rule, rewritten, one_lsa}
 use Rattle.edit_history.specs.Effect.{router_lsa_of, remaking, rule_of, made, ◌>>=◌}
 use Rattle.edit_history.specs.Exchange.{SwapData}
 use Rattle.edit_history.specs.Applied.{Planned, IsRefused}
-use Rattle.edit_history.specs.steps.Plans.{IsFirst}
+use Rattle.edit_history.specs.steps.Plans.{IsFirstLsa}
 use Rattle.edit_history.proofs.NamedLsas.{router_lsa_is, key_is, not_memory}
 use Rattle.edit_history.proofs.OneLsa.{one_swap, planned_one}
 use Rattle.edit_history.proofs.RulesCarriedOut.{refused_as, no_memory, no_memory_ruled}
@@ -54,7 +54,7 @@ no_router_lsa d edit area router make fault remakes is =
     (remakes.row (lists_of d) ∙ ap (λ (r : Result (List ℕ) EditFault). r >>= λ lsa. rule_from area router (made (make lsa))) is)
 
 rule_found : (d : Places) (edit : Edit) (area : AreaId) (router : RouterId) (make : Maker) (slot : SlotId) (lsa : List ℕ)
-    → Remakes edit area router make → IsFirst d (Area area) (has_key (router_key router)) slot lsa
+    → Remakes edit area router make → IsFirstLsa d (Area area) (has_key (router_key router)) slot lsa
     → rule_of (lists_of d) edit ≡ rule_from area router (made (make lsa))
 rule_found d edit area router make slot lsa remakes at =
     remakes.row (lists_of d) ∙ ap (λ (r : Result (List ℕ) EditFault). r >>= λ lsa. rule_from area router (made (make lsa)))
@@ -67,7 +67,7 @@ made_has_rule area router (Err fault) ok = absurd (search rules)
 
 pub not_made : (d : Places) (edit : Edit) (area : AreaId) (router : RouterId) (make : Maker) (slot : SlotId) (lsa : List ℕ) (fault : MakeFault)
     → Remakes edit area router make
-    → IsFirst d (Area area) (has_key (router_key router)) slot lsa → IsMakeFaultOf fault (make lsa) → IsRefused d edit (fault_of fault)
+    → IsFirstLsa d (Area area) (has_key (router_key router)) slot lsa → IsMakeFaultOf fault (make lsa) → IsRefused d edit (fault_of fault)
 not_made d edit area router make slot lsa fault remakes at is = by_fault fault is where
   rule : rule_of (lists_of d) edit ≡ rule_from area router (made (make lsa))
   rule = rule_found d edit area router make slot lsa remakes at
@@ -84,14 +84,14 @@ not_made d edit area router make slot lsa fault remakes at is = by_fault fault i
       no_memory_ruled d edit (subst (λ (r : Result Rule EditFault). IsOk r) (sym rule) (made_has_rule area router (make lsa) is))
 
 ruled : (d : Places) (edit : Edit) (area : AreaId) (router : RouterId) (make : Maker) (slot : SlotId) (lsa new : List ℕ)
-    → Remakes edit area router make → IsFirst d (Area area) (has_key (router_key router)) slot lsa
+    → Remakes edit area router make → IsFirstLsa d (Area area) (has_key (router_key router)) slot lsa
     → make lsa ≡ Ok new → rule_of (lists_of d) edit ≡ Ok (one_lsa (Area area) (router_key router) (rewritten new))
 ruled d edit area router make slot lsa new remakes at made_new =
     rule_found d edit area router make slot lsa remakes at ∙ ap (λ (a : Result (List ℕ) MakeFault). rule_from area router (made a)) made_new
 
 -- memory ran out behind the new LSA
 pub no_swap : (d : Places) (edit : Edit) (area : AreaId) (router : RouterId) (make : Maker) (slot : SlotId) (lsa new : List ℕ)
-    → Remakes edit area router make → IsFirst d (Area area) (has_key (router_key router)) slot lsa
+    → Remakes edit area router make → IsFirstLsa d (Area area) (has_key (router_key router)) slot lsa
     → make lsa ≡ Ok new → IsRefused d edit OutOfMemory
 no_swap d edit area router make slot lsa new remakes at made_new = no_memory d edit _ (ruled d edit area router make slot lsa new remakes at made_new)
 
@@ -99,7 +99,7 @@ no_swap d edit area router make slot lsa new remakes at made_new = no_memory d e
 
 pub planned : (d : Places) (edit : Edit) (area : AreaId) (router : RouterId) (make : Maker) (slot : SlotId) (lsa new : List ℕ) (swap : SwapData)
     (items : List SwapData) → IsDatabase (lists_of d) → Remakes edit area router make
-    → IsFirst d (Area area) (has_key (router_key router)) slot lsa → make lsa ≡ Ok new → IsRewriteOf lsa new
+    → IsFirstLsa d (Area area) (has_key (router_key router)) slot lsa → make lsa ≡ Ok new → IsRewriteOf lsa new
     → swap ≡ one_swap slot (Area area) 1 (Some new) → items ≡ swap ∷ [] → Planned d d edit items
 planned d edit area router make slot lsa new swap items sound remakes at made_new rewrite swap_is items_is =
     planned_one d edit (Area area) (router_key router) slot lsa (Some new) 1 swap items sound at.named at.held

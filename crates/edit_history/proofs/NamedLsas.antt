@@ -15,7 +15,7 @@ use Rattle.lsdb.specs.Places.{Place, Places, slot_at, lists_of, lsas_or_none, Is
 use Rattle.edit_history.specs.declared.fault.EditFault.{EditFault}
 use Rattle.edit_history.specs.declared.fault.EditFault.TheVariants.{NoArea, NoRouter, OutOfMemory}
 use Rattle.edit_history.specs.Effect.{router_lsa_in, router_lsa_of, area_of, or_refused, ◌>>=◌}
-use Rattle.edit_history.specs.steps.Plans.{IsFirst}
+use Rattle.edit_history.specs.steps.Plans.{IsFirstLsa}
 use Rattle.edit_history.proofs.Keys.{same_key_true, found_passes}
 
 -- ---- the area
@@ -62,7 +62,7 @@ pub no_router : (db : Lists) (area : AreaId) (router : RouterId) → IsSome (fin
 no_router db area router some none = let h = has_area db area some in ap (router_lsa_after router) h.is ∙ no_router_in db area router h none
 
 pub router_lsa_is : (d : Places) (area : AreaId) (router : RouterId) (slot : SlotId) (lsa : List ℕ)
-    → IsFirst d (Area area) (has_key (router_key router)) slot lsa → router_lsa_of (lists_of d) area router ≡ Ok lsa
+    → IsFirstLsa d (Area area) (has_key (router_key router)) slot lsa → router_lsa_of (lists_of d) area router ≡ Ok lsa
 router_lsa_is d area router slot lsa at =
     let h = has_area (lists_of d) area (named_there d (Area area) slot.section at.named) in
     ap (router_lsa_after router) h.is ∙ router_in (lists_of d) area router lsa h at.first
@@ -74,7 +74,7 @@ same_place o lsa p is held = let two : (let q : Option Place = Some o in q) ≡ 
 
 -- the LSA of a key that was found, and read at its place
 pub first_of_key : (d : Places) (name : Section) (key named_key : Key) (slot : SlotId) (lsa : List ℕ) → key ≡ named_key → IsPlaceOf d name key slot
-    → slot_at d slot ≡ Some (Some lsa) → IsFirst d name (has_key named_key) slot lsa
+    → slot_at d slot ≡ Some (Some lsa) → IsFirstLsa d name (has_key named_key) slot lsa
 first_of_key d name key named_key slot lsa is place held = record {
   named = place.named;
   first = ap (λ (k : Key). find (has_key k) (lsas_of name (lists_of d))) (sym is)
@@ -82,10 +82,10 @@ first_of_key d name key named_key slot lsa is place held = record {
   held = held;
 }
 
-pub key_is : (d : Places) (name : Section) (key : Key) (slot : SlotId) (lsa : List ℕ) → IsFirst d name (has_key key) slot lsa → key_of lsa ≡ key
+pub key_is : (d : Places) (name : Section) (key : Key) (slot : SlotId) (lsa : List ℕ) → IsFirstLsa d name (has_key key) slot lsa → key_of lsa ≡ key
 key_is d name key slot lsa at = same_key_true (key_of lsa) key (found_passes (has_key key) (lsas_of name (lists_of d)) lsa at.first)
 
-pub kind_is : (d : Places) (name : Section) (key : Key) (slot : SlotId) (lsa : List ℕ) → IsFirst d name (has_key key) slot lsa
+pub kind_is : (d : Places) (name : Section) (key : Key) (slot : SlotId) (lsa : List ℕ) → IsFirstLsa d name (has_key key) slot lsa
     → kind_of lsa ≡ key.kind
 kind_is d name key slot lsa at = ap (λ (k : Key). k.kind) (key_is d name key slot lsa at)
 

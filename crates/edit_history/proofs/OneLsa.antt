@@ -18,7 +18,7 @@ use Rattle.edit_history.specs.Exchange.{SwapData}
 use Rattle.edit_history.specs.Applied.{Planned}
 use Rattle.edit_history.proofs.Keys.{own_key, found_passes, only_key, only_section, name_is}
 use Rattle.edit_history.proofs.RuleOutcomes.{TouchesOne, fate_of, one_after, one_change}
-use Rattle.edit_history.proofs.RulesCarriedOut.{Follows, planned_here}
+use Rattle.edit_history.proofs.RulesCarriedOut.{CarriesOutRule, planned_here}
 
 -- ---- the rule touches this LSA alone
 
@@ -74,7 +74,7 @@ one_swap slot name kind other = record { slot = slot; section = name; kind = kin
 -- an LSA of a section gives its place to another, or leaves it
 pub exchanged : (d : Places) (name : Section) (key : Key) (slot : SlotId) (lsa : List ℕ) (other : Place) → IsDatabase (lists_of d)
     → IsNamed d name slot.section → slot_at d slot ≡ Some (Some lsa) → key_of lsa ≡ key
-    → IsDatabase (lists_of (put d slot other)) → Follows d (one_lsa name key (fate_of other)) (one_swap slot name key.kind other ∷ [])
+    → IsDatabase (lists_of (put d slot other)) → CarriesOutRule d (one_lsa name key (fate_of other)) (one_swap slot name key.kind other ∷ [])
 exchanged d name key slot lsa other sound named held is next =
     let w = between d slot (Some lsa) other held in
     let rule = one_lsa name key (fate_of other) in

@@ -13,7 +13,7 @@ use Rattle.edit_history.specs.Applied.{told, CarriesOut, Planned, IsRefused}
 use Rattle.edit_history.proofs.CarriedPlans.{grown_same}
 
 -- the swaps do what the rule says
-pub record Follows (d : Places) (rule : Rule) (swaps : List SwapData) : Type 0 where
+pub record CarriesOutRule (d : Places) (rule : Rule) (swaps : List SwapData) : Type 0 where
   pub can : CanDo d swaps
   pub leads : lists_after rule (lists_of d) ≡ lists_of (done_places d swaps)
   pub tells : changes_by rule (lists_of d) ≡ map (told (done_places d swaps)) (done_swaps d swaps)
@@ -24,7 +24,7 @@ after_rule db r = r >>= λ rule. Ok (lists_after rule db)
 abbrev changes_of_rule : Lists → Result Rule EditFault → Result (List Change) EditFault
 changes_of_rule db r = r >>= λ rule. Ok (changes_by rule db)
 
-pub carries : (d : Places) (edit : Edit) (rule : Rule) (swaps : List SwapData) → rule_of (lists_of d) edit ≡ Ok rule → Follows d rule swaps
+pub carries : (d : Places) (edit : Edit) (rule : Rule) (swaps : List SwapData) → rule_of (lists_of d) edit ≡ Ok rule → CarriesOutRule d rule swaps
     → CarriesOut d edit swaps
 carries d edit rule swaps ruled f = record {
   can = f.can;
@@ -33,7 +33,7 @@ carries d edit rule swaps ruled f = record {
 }
 
 -- no place has to be opened
-pub planned_here : (d : Places) (edit : Edit) (rule : Rule) (swaps items : List SwapData) → rule_of (lists_of d) edit ≡ Ok rule → Follows d rule swaps
+pub planned_here : (d : Places) (edit : Edit) (rule : Rule) (swaps items : List SwapData) → rule_of (lists_of d) edit ≡ Ok rule → CarriesOutRule d rule swaps
     → items ≡ swaps → Planned d d edit items
 planned_here d edit rule swaps items ruled f is =
     subst (λ (ss : List SwapData). Planned d d edit ss) (sym is) (record { opens = grown_same d d refl; carries = carries d edit rule swaps ruled f })

@@ -11,9 +11,9 @@ use Rattle.lsdb.specs.declared.section.Section.{Section}
 use Rattle.lsdb.specs.declared.slot.SlotId.{SlotId}
 use Rattle.lsdb.specs.Lists.{SectionLsas, Lists, has_key, is_section, lsas_of}
 use Rattle.lsdb.specs.Places.{Place, Places, SectionPlaces, item_at, slot_at, place_in, full, lists_of, lsas_in, lsas_or_none, places_in}
-use Rattle.lsdb.specs.Places.{places_or_none, IsNamed, IsPlaceOf}
+use Rattle.lsdb.specs.Places.{places_or_none, IsFirstPlace, IsNamed, IsPlaceOf}
 use Rattle.edit_history.specs.Effect.{is_in_section}
-use Rattle.edit_history.specs.steps.Plans.{IsFirst, passes, slot_of}
+use Rattle.edit_history.specs.steps.Plans.{IsFirstLsa, passes, slot_of}
 use Rattle.edit_history.proofs.NamedLsas.{same_place}
 
 -- ---- any and first
@@ -96,7 +96,7 @@ place_miss test (Some x) rest fail = ap (λ b. cond b (Some x) (find test (full 
 pub first_hit : (test : List ℕ → Bool) (d : Places) (section i : ℕ) (b : Bool) → i < length (places_in d section)
     → b ≡ passes test (slot_at d (slot_of section i)) → b ≡ true
     → find test (full (drop i (places_in d section))) ≡ find test (full (places_in d section))
-    → (slot_at d (slot_of section i) ≡ Some (find test (lsas_in d section))) × IsSome (find test (lsas_in d section))
+    → IsFirstPlace d section test (slot_of section i)
 first_hit test d section i b lt is yes' same =
     let ps = places_in d section in
     let h = here ps i (suc i) lt refl in
@@ -104,7 +104,7 @@ first_hit test d section i b lt is yes' same =
     let hit = place_hit test h.item (drop (suc i) ps) (sym (is ∙ ap (passes test) there) ∙ yes') in
     let found : h.item ≡ find test (lsas_in d section) = hit.0 ∙ ap (λ (qs : List Place). find test (full qs)) (sym h.rest) ∙ same
     ∙ ap (find test) (sym (lsas_full d section)) in
-    (there ∙ ap Some found, subst IsSome found hit.1)
+    record { same = refl; held = there ∙ ap Some found; found = subst IsSome found hit.1 }
 
 pub first_miss : (test : List ℕ → Bool) (d : Places) (section i j : ℕ) (b : Bool) → i < length (places_in d section) → j ≡ suc i
     → b ≡ passes test (slot_at d (slot_of section i)) → b ≡ false
@@ -129,7 +129,7 @@ lsas_named d name i same = ap lsas_or_none same
 
 pub first_named : (d : Places) (name : Section) (test : List ℕ → Bool) (i : ℕ) (slot : SlotId) (lsa : List ℕ)
     → item_at (lists_of d) i ≡ find (is_section name) (lists_of d) → IsSome (item_at (lists_of d) i) → slot.section ≡ i
-    → slot_at d slot ≡ Some (find test (lsas_in d i)) → slot_at d slot ≡ Some (Some lsa) → IsFirst d name test slot lsa
+    → slot_at d slot ≡ Some (find test (lsas_in d i)) → slot_at d slot ≡ Some (Some lsa) → IsFirstLsa d name test slot lsa
 first_named d name test i slot lsa same some in_section place held = record {
   named = subst (IsNamed d name) (sym in_section) (record { same = same; exists = some });
   first = ap (find test) (sym (lsas_named d name i same)) ∙ same_place (find test (lsas_in d i)) lsa (slot_at d slot) place held;
@@ -142,11 +142,15 @@ none_named d name test i same none = ap (find test) (sym (lsas_named d name i sa
 
 -- ---- a key
 
-pub key_in : (key named_key : Key) (xs : List (List ℕ)) (o : Option SlotId) (A B : SlotId → Type 0) → key ≡ named_key
-    → MatchOption o (find (has_key key) xs ≡ None) (λ slot. A slot × B slot × IsSome (find (has_key key) xs))
-    → is_some o ≡ list_any (has_key named_key) xs
-key_in key named_key xs None A B is m = sym (any_none (has_key named_key) xs (ap (λ (k : Key). find (has_key k) xs) (sym is) ∙ m))
-key_in key named_key xs (Some slot) A B is m = sym (any_some (has_key named_key) xs (subst (λ (k : Key). IsSome (find (has_key k) xs)) is m.2))
+pub key_in : (d : Places) (section : ℕ) (key named_key : Key) (o : Option SlotId) → key ≡ named_key
+    → MatchOption o (find (has_key key) (lsas_in d section) ≡ None) (IsFirstPlace d section (has_key key))
+    → is_some o ≡ list_any (has_key named_key) (lsas_in d section)
+key_in d section key named_key None is m =
+    let xs = lsas_in d section in
+    sym (any_none (has_key named_key) xs (ap (λ (k : Key). find (has_key k) xs) (sym is) ∙ m))
+key_in d section key named_key (Some slot) is m =
+    let xs = lsas_in d section in
+    sym (any_some (has_key named_key) xs (subst (λ (k : Key). IsSome (find (has_key k) xs)) is m.found))
 
 pub key_placed : (d : Places) (name : Section) (key : Key) (o : Option SlotId)
     → MatchOption o (find (has_key key) (lsas_of name (lists_of d)) ≡ None) (IsPlaceOf d name key)

@@ -1,8 +1,8 @@
 -- An edit that touches no router-LSA or network-LSA of an area leaves those of the area as they are.
-use Rattle.std.proofs.Common.{◌≡◌, ℕ, Bool, true, false, cond, ◌&&◌, ◌||◌, List, [], ◌∷◌, ◌++◌, length, Option, Some, None, Result, Ok, Err, refl, sym}
+use Rattle.std.proofs.Common.{◌≡◌, ℕ, Bool, true, false, cond, ◌&&◌, List, [], ◌∷◌, ◌++◌, length, Option, Some, None, Result, Ok, Err, refl, sym}
 use Rattle.std.proofs.Common.{ap, ◌∙◌, subst, append-nil}
-use Rattle.std.specs.Prelude.{All, IfOk, filter, map, if◌then◌else◌, ◌==◌}
-use Rattle.std.specs.List.{list_any, find, filter_map, cons_option}
+use Rattle.std.specs.Prelude.{All, IfOk, filter, if◌then◌else◌, ◌==◌}
+use Rattle.std.specs.List.{find, filter_map, cons_option}
 use Rattle.std.proofs.lemmas.Bool.{or_parts, and_parts, eqb-true}
 use Rattle.std.proofs.lemmas.List.Folds.{list_any-append}
 use Rattle.std.proofs.lemmas.List.Elements.{filter-append, All-head, All-tail}
@@ -27,11 +27,11 @@ use Rattle.edit_script.specs.declared.edit.Edit.TheVariants.{Cost, DropLink, Fai
 use Rattle.edit_script.specs.declared.edit.Edit.TheVariants.{DropExternal}
 use Rattle.edit_history.specs.declared.fault.EditFault.{EditFault}
 use Rattle.edit_history.specs.declared.fault.EditFault.TheVariants.{NoArea, NoRouter, NoLink, SameRouter, NoNetwork, NoSummary, NoExternal, Full}
-use Rattle.edit_history.specs.Rules.{Fate, stays, removed, rewritten, Fates, Rule, NewLsa, Change, by_fates, one_lsa, within, adding, outcome}
+use Rattle.edit_history.specs.Rules.{Fate, stays, removed, rewritten, Rule, NewLsa, Change, by_fates, one_lsa, within, adding, outcome}
 use Rattle.edit_history.specs.Rules.{change_of, addition, with_added, section_name, section_after, section_changes, lists_after, changes_by}
 use Rattle.edit_history.specs.Effect.{◌>>=◌, or_refused, made, area_of, router_lsa_in, router_lsa_of, has_router, stub_octets, is_dump_full, remaking}
-use Rattle.edit_history.specs.Effect.{is_for, is_network, are_linked, options_in, is_type2, room_for, added, cut, link_fate, net_fate, router_fate}
-use Rattle.edit_history.specs.Effect.{rule_of, effect, changes, is_graph_kind, touched, touched_by, edit_touches, graph_lsas}
+use Rattle.edit_history.specs.Effect.{is_originated_for, is_network, are_linked, options_in, is_type2, room_for, added, link_fate, net_fate, router_fate}
+use Rattle.edit_history.specs.Effect.{rule_of, effect, is_graph_kind, touched, touched_by, edit_touches, graph_lsas}
 use Rattle.edit_history.proofs.Keys.{same_key_true, found_passes}
 
 abbrev is_graph_lsa : List ℕ → Bool
@@ -119,10 +119,10 @@ holds_of_found {X} P test (y ∷ ys) x all is = by_test (test y) is (λ more. ho
 
 -- a summary-LSA with another metric is not of the graph
 summary_spared : (section : SectionLsas) (router : RouterId) (prefix : Net) (metric : ℕ) (lsa : List ℕ) → IsSection section
-    → find (is_for 3 router prefix) section.lsas ≡ Some lsa → is_graph_lsa (with_metric metric lsa) ≡ false
+    → find (is_originated_for 3 router prefix) section.lsas ≡ Some lsa → is_graph_lsa (with_metric metric lsa) ≡ false
 summary_spared section router prefix metric lsa sound found =
-    let kind : kind_of lsa ≡ 3 = eqb-true _ _ (and_parts _ _ (found_passes (is_for 3 router prefix) section.lsas lsa found)).0 in
-    let made = metric_rewritten metric lsa (holds_of_found IsAccepted (is_for 3 router prefix) section.lsas lsa sound.accepted found)
+    let kind : kind_of lsa ≡ 3 = eqb-true _ _ (and_parts _ _ (found_passes (is_originated_for 3 router prefix) section.lsas lsa found)).0 in
+    let made = metric_rewritten metric lsa (holds_of_found IsAccepted (is_originated_for 3 router prefix) section.lsas lsa sound.accepted found)
     (ap has_metric kind) in
     ap (λ (k : Key). is_graph_kind k.kind) made.key ∙ ap is_graph_kind kind
 
@@ -171,12 +171,12 @@ rule_spares db (AddStub area router prefix metric) sound =
     if_either (is_dump_full db stub_octets) (Err Full) (remade area router new) (refused Full) (remade_spares area router new)))
 rule_spares db (Summary area router prefix metric) sound =
     let other : List ℕ → Result Rule EditFault = λ lsa. Ok (one_lsa (Area area) (key_of lsa) (rewritten (with_metric metric lsa))) in
-    if_bound (area_of db area) (λ section. or_refused NoSummary (find (is_for 3 router prefix) section.lsas) >>= other) (λ section is.
-    if_bound (or_refused NoSummary (find (is_for 3 router prefix) section.lsas)) other (λ lsa found.
+    if_bound (area_of db area) (λ section. or_refused NoSummary (find (is_originated_for 3 router prefix) section.lsas) >>= other) (λ section is.
+    if_bound (or_refused NoSummary (find (is_originated_for 3 router prefix) section.lsas)) other (λ lsa found.
     ruled _ (one_spares (Area area) (key_of lsa) (rewritten (with_metric metric lsa))
     (summary_spared section router prefix metric lsa
     (holds_of_found IsSection (is_section (Area area)) db section sound.sections (was_found NoArea (find (is_section (Area area)) db) section is))
-    (was_found NoSummary (find (is_for 3 router prefix) section.lsas) lsa found)))))
+    (was_found NoSummary (find (is_originated_for 3 router prefix) section.lsas) lsa found)))))
 rule_spares db (AddSummary area router prefix metric) sound =
     let new : SectionLsas → Result Rule EditFault = λ section. added db (Area area) (new_summary (options_in section.area) router prefix metric) in
     if_bound (area_of db area) (λ section. router_lsa_in section router >>= λ lsa. new section) (λ section _.
@@ -187,7 +187,7 @@ rule_spares db (AddExternal router prefix metric_type metric forward tag) sound 
     if_either (has_router router db) (added db AsWide new) (Err NoRouter) (added_spares db AsWide new) (refused NoRouter)
 rule_spares db (DropExternal router prefix) sound =
     let gone : List ℕ → Result Rule EditFault = λ lsa. Ok (one_lsa AsWide (key_of lsa) removed) in
-    if_bound (or_refused NoExternal (find (is_for 5 router prefix) (lsas_of AsWide db))) gone
+    if_bound (or_refused NoExternal (find (is_originated_for 5 router prefix) (lsas_of AsWide db))) gone
     (λ lsa _. ruled _ (one_spares AsWide (key_of lsa) removed tt))
 
 -- ---- a section of the area

@@ -24,7 +24,7 @@ use Rattle.edit_history.specs.Rules.{Rule, rewritten, one_lsa}
 use Rattle.edit_history.specs.Effect.{router_lsa_of, is_dump_full, stub_octets, rule_of, made, ◌>>=◌}
 use Rattle.edit_history.specs.Exchange.{SwapData}
 use Rattle.edit_history.specs.Applied.{Planned, IsRefused}
-use Rattle.edit_history.specs.steps.Plans.{IsFirst}
+use Rattle.edit_history.specs.steps.Plans.{IsFirstLsa}
 use Rattle.edit_history.proofs.NamedLsas.{router_lsa_is, key_is, not_memory}
 use Rattle.edit_history.proofs.OneLsa.{one_swap, planned_one}
 use Rattle.edit_history.proofs.RulesCarriedOut.{refused_as, no_memory, on_ok, on_err}
@@ -49,7 +49,7 @@ stub_no_router d area router prefix metric fault is =
     (λ lsa. made_rule (lists_of d) area router (made (with_stub prefix metric lsa))) is)
 
 stub_found : (d : Places) (area : AreaId) (router : RouterId) (prefix : Net) (metric : ℕ) (slot : SlotId) (lsa : List ℕ)
-    → IsFirst d (Area area) (has_key (router_key router)) slot lsa
+    → IsFirstLsa d (Area area) (has_key (router_key router)) slot lsa
     → rule_of (lists_of d) (AddStub area router prefix metric) ≡ made_rule (lists_of d) area router (made (with_stub prefix metric lsa))
 stub_found d area router prefix metric slot lsa at =
     stub_row (lists_of d) area router prefix metric ∙ on_ok (router_lsa_of (lists_of d) area router) lsa
@@ -70,7 +70,7 @@ not_too_long : (prefix : Net) (metric : ℕ) (lsa : List ℕ) → length lsa + 1
 not_too_long prefix metric lsa short = ap (stub_by (extended prefix metric lsa)) (le-ltb 65535 (length lsa + 12) short)
 
 pub stub_too_long : (d : Places) (area : AreaId) (router : RouterId) (prefix : Net) (metric : ℕ) (slot : SlotId) (lsa : List ℕ)
-    → IsFirst d (Area area) (has_key (router_key router)) slot lsa → 65535 < length lsa + 12
+    → IsFirstLsa d (Area area) (has_key (router_key router)) slot lsa → 65535 < length lsa + 12
     → IsRefused d (AddStub area router prefix metric) TooLong
 stub_too_long d area router prefix metric slot lsa at long =
     refused_as d (AddStub area router prefix metric) TooLong (λ e. cc)
@@ -78,7 +78,7 @@ stub_too_long d area router prefix metric slot lsa at long =
     ∙ ap (λ (r : Result (List ℕ) MakeFault). made_rule (lists_of d) area router (made r)) (too_long prefix metric lsa long))
 
 stub_made : (d : Places) (area : AreaId) (router : RouterId) (prefix : Net) (metric : ℕ) (slot : SlotId) (lsa : List ℕ) (full : Bool)
-    → IsFirst d (Area area) (has_key (router_key router)) slot lsa → length lsa + 12 ≤ 65535 → is_dump_full (lists_of d) 12 ≡ full
+    → IsFirstLsa d (Area area) (has_key (router_key router)) slot lsa → length lsa + 12 ≤ 65535 → is_dump_full (lists_of d) 12 ≡ full
     → rule_of (lists_of d) (AddStub area router prefix metric) ≡ full_rule area router (extended prefix metric lsa) full
 stub_made d area router prefix metric slot lsa full at short is =
     stub_found d area router prefix metric slot lsa at
@@ -86,14 +86,14 @@ stub_made d area router prefix metric slot lsa full at short is =
     ∙ ap (full_rule area router (extended prefix metric lsa)) is
 
 pub stub_full : (d : Places) (area : AreaId) (router : RouterId) (prefix : Net) (metric : ℕ) (slot : SlotId) (lsa : List ℕ)
-    → IsFirst d (Area area) (has_key (router_key router)) slot lsa → length lsa + 12 ≤ 65535 → is_dump_full (lists_of d) 12 ≡ true
+    → IsFirstLsa d (Area area) (has_key (router_key router)) slot lsa → length lsa + 12 ≤ 65535 → is_dump_full (lists_of d) 12 ≡ true
     → IsRefused d (AddStub area router prefix metric) Full
 stub_full d area router prefix metric slot lsa at short is =
     refused_as d (AddStub area router prefix metric) Full (λ e. cc) (stub_made d area router prefix metric slot lsa true at short is)
 
 -- memory ran out
 pub stub_memory : (d : Places) (area : AreaId) (router : RouterId) (prefix : Net) (metric : ℕ) (slot : SlotId) (lsa : List ℕ)
-    → IsFirst d (Area area) (has_key (router_key router)) slot lsa → length lsa + 12 ≤ 65535 → is_dump_full (lists_of d) 12 ≡ false
+    → IsFirstLsa d (Area area) (has_key (router_key router)) slot lsa → length lsa + 12 ≤ 65535 → is_dump_full (lists_of d) 12 ≡ false
     → IsRefused d (AddStub area router prefix metric) OutOfMemory
 stub_memory d area router prefix metric slot lsa at short is =
     no_memory d (AddStub area router prefix metric) _ (stub_made d area router prefix metric slot lsa false at short is)
@@ -118,7 +118,7 @@ made_same prefix metric lsa new short is = let e : (let r : Result (List ℕ) Ma
     sym (not_too_long prefix metric lsa short) ∙ is in cc
 
 pub stub_planned : (d : Places) (area : AreaId) (router : RouterId) (prefix : Net) (metric : ℕ) (slot : SlotId) (lsa new : List ℕ) (swap : SwapData)
-    (items : List SwapData) → IsDatabase (lists_of d) → IsFirst d (Area area) (has_key (router_key router)) slot lsa
+    (items : List SwapData) → IsDatabase (lists_of d) → IsFirstLsa d (Area area) (has_key (router_key router)) slot lsa
     → length lsa + 12 ≤ 65535 → is_dump_full (lists_of d) 12 ≡ false → with_stub prefix metric lsa ≡ Ok new → IsExtensionOf lsa new
     → swap ≡ one_swap slot (Area area) 1 (Some new) → items ≡ swap ∷ [] → Planned d d (AddStub area router prefix metric) items
 stub_planned d area router prefix metric slot lsa new swap items sound at short is made_new extension swap_is items_is =

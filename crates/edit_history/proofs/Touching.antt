@@ -1,7 +1,7 @@
 -- Which areas the edits of a history touch, by its records; and what an undo or redo leaves of the other areas.
-use Rattle.std.proofs.Common.{◌≡◌, ℕ, ◌-◌, Bool, true, false, ◌||◌, List, [], ◌∷◌, ◌++◌, length, take, drop, Result, Ok, refl, sym, ap, ◌∙◌, subst}
-use Rattle.std.proofs.Common.{arith, length-append}
-use Rattle.std.specs.Prelude.{reverse, map}
+use Rattle.std.proofs.Common.{◌≡◌, ℕ, ◌-◌, Bool, true, false, ◌||◌, List, [], ◌∷◌, ◌++◌, length, take, drop, Result, refl, sym, ap, ◌∙◌, subst}
+use Rattle.std.proofs.Common.{arith}
+use Rattle.std.specs.Prelude.{reverse}
 use Rattle.std.specs.List.{list_any}
 use Rattle.std.proofs.lemmas.Bool.{or_parts}
 use Rattle.std.proofs.Math.Bool.{or-false}
@@ -11,10 +11,9 @@ use Rattle.lsdb.specs.Lists.{Lists, IsDatabase}
 use Rattle.lsdb.specs.Places.{Places, lists_of}
 use Rattle.edit_script.specs.declared.edit.Edit.{Edit}
 use Rattle.edit_history.specs.declared.fault.EditFault.{EditFault}
-use Rattle.edit_history.specs.Rules.{Change}
 use Rattle.edit_history.specs.Effect.{effect, touched_by, edit_touches, graph_lsas}
 use Rattle.edit_history.specs.Exchange.{RecordData, touches, done_places, undone_places, done_swaps}
-use Rattle.edit_history.specs.Applied.{told, Applied, TakesBack, CarriesOut}
+use Rattle.edit_history.specs.Applied.{Applied, TakesBack, CarriesOut}
 use Rattle.edit_history.specs.Journal.{HistoryData, LinksBack, LinksOn, Links, origin}
 use Rattle.edit_history.specs.Session.{Session, session_of, edits_of, state, after_edits, unless_refused, moved_back, moved_on, edits_touch}
 use Rattle.edit_history.specs.Session.{undo_touches, redo_touches}

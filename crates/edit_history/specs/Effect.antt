@@ -101,8 +101,8 @@ is_prefix net None = false
 is_prefix net (Some other) = (other.addr.0 == net.addr.0) && (other.len == net.len)
 
 -- an LSA of this type that a router originated for a prefix
-abbrev pub is_for : ℕ → RouterId → Net → List ℕ → Bool
-is_for kind router net lsa = (kind_of lsa == kind) && ((advertising_router_of lsa == router.0) && is_prefix net (prefix_of lsa))
+abbrev pub is_originated_for : ℕ → RouterId → Net → List ℕ → Bool
+is_originated_for kind router net lsa = (kind_of lsa == kind) && ((advertising_router_of lsa == router.0) && is_prefix net (prefix_of lsa))
 
 -- ---- failures
 
@@ -187,7 +187,7 @@ rule_of db (AddStub area router prefix metric) = do
   if is_dump_full db stub_octets then Err Full else Ok (one_lsa (Area area) (router_key router) (rewritten new))
 rule_of db (Summary area router prefix metric) = do
   section ← area_of db area
-  lsa ← or_refused NoSummary (find (is_for 3 router prefix) section.lsas)
+  lsa ← or_refused NoSummary (find (is_originated_for 3 router prefix) section.lsas)
   Ok (one_lsa (Area area) (key_of lsa) (rewritten (with_metric metric lsa)))
 rule_of db (AddSummary area router prefix metric) = do
   section ← area_of db area
@@ -196,7 +196,7 @@ rule_of db (AddSummary area router prefix metric) = do
 rule_of db (AddExternal router prefix metric_type metric forward tag) =
     if has_router router db then added db AsWide (new_external router prefix (is_type2 metric_type) metric forward tag) else Err NoRouter
 rule_of db (DropExternal router prefix) = do
-  lsa ← or_refused NoExternal (find (is_for 5 router prefix) (lsas_of AsWide db))
+  lsa ← or_refused NoExternal (find (is_originated_for 5 router prefix) (lsas_of AsWide db))
   Ok (one_lsa AsWide (key_of lsa) removed)
 
 -- the database after an edit, or its refusal

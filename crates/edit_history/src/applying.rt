@@ -35,6 +35,7 @@ pub fn apply<A: Allocator + Copy>(
     ensures kept { OnErr result (database.new ≡ database.old) }
 {
     let swaps = plan(database, edit)?;
+    // What is true of it holds along the swaps, and so once they are done.
     database.known();
     Ok(Record::commit(database, *edit, swaps))
 }

@@ -60,7 +60,8 @@ fn swap_for_links<A: Allocator + Copy>(
     router: RouterId,
     neighbor: RouterId,
 ) -> Result<Option<Swap<A>>, EditFault>
-    ensures swap { IfOk result (λ swap. swap ≡ swap_for slot section lsa.now (link_fate router neighbor lsa.now)) }
+    ensures swap { IfOk result
+        (λ swap. swap ≡ swap_for slot section lsa.now (link_fate router neighbor lsa.now)) }
     ensures memory { IfErr result (λ fault. fault ≡ OutOfMemory) }
 {
     let key = lsa.key();
@@ -81,7 +82,8 @@ fn swap_for_network<A: Allocator + Copy>(
     lsa: &Lsa<A>,
     network: Addr,
 ) -> Result<Option<Swap<A>>, EditFault>
-    ensures swap { IfOk result (λ swap. swap ≡ swap_for slot section lsa.now (net_fate network lsa.now)) }
+    ensures swap { IfOk result
+        (λ swap. swap ≡ swap_for slot section lsa.now (net_fate network lsa.now)) }
     ensures memory { IfErr result (λ fault. fault ≡ OutOfMemory) }
 {
     let key = lsa.key();
@@ -120,7 +122,8 @@ impl Failure {
         section: Section,
         lsa: &Lsa<A>,
     ) -> Result<Option<Swap<A>>, EditFault>
-        ensures swap { IfOk result (λ swap. swap ≡ swap_for slot section lsa.now (fate_by self lsa.now)) }
+        ensures swap { IfOk result
+            (λ swap. swap ≡ swap_for slot section lsa.now (fate_by self lsa.now)) }
         ensures memory { IfErr result (λ fault. fault ≡ OutOfMemory) }
     {
         match self {
@@ -141,7 +144,9 @@ fn add_swap<A: Allocator + Copy>(
     failure: Failure,
     swaps: &mut Vec<Swap<A>, A>,
 ) -> Result<(), EditFault>
-    ensures swaps { OnOk result (swaps.new.items ≡ swaps.old.items ++ option_to_list (place_swap (fate_by failure) slot section (slot_at database.now slot))) }
+    ensures swaps { OnOk result
+        (swaps.new.items ≡ swaps.old.items
+        ++ option_to_list (place_swap (fate_by failure) slot section (slot_at database.now slot))) }
     ensures memory { IfErr result (λ fault. fault ≡ OutOfMemory) }
 {
     let Some(lsa) = database.get(slot) else {
@@ -166,7 +171,9 @@ fn add_swaps<A: Allocator + Copy>(
     swaps: &mut Vec<Swap<A>, A>,
 ) -> Result<(), EditFault>
     requires { IsSome (item_at database.now number) }
-    ensures swaps { OnOk result (swaps.new.items ≡ swaps.old.items ++ section_swaps (fate_by failure) number section 0 (places_in database.now number)) }
+    ensures swaps { OnOk result
+        (swaps.new.items ≡ swaps.old.items
+        ++ section_swaps (fate_by failure) number section 0 (places_in database.now number)) }
     ensures memory { IfErr result (λ fault. fault ≡ OutOfMemory) }
 {
     for index in 0..database.place_count(number) {
@@ -187,7 +194,9 @@ fn swaps_in<A: Allocator + Copy>(
     failure: Failure,
 ) -> Result<Vec<Swap<A>, A>, EditFault>
     requires { IsSome (item_at database.now number) }
-    ensures swaps { IfOk result (λ v. v.items ≡ section_swaps (fate_by failure) number (Area area) 0 (places_in database.now number)) }
+    ensures swaps { IfOk result
+        (λ v. v.items
+        ≡ section_swaps (fate_by failure) number (Area area) 0 (places_in database.now number)) }
     ensures memory { IfErr result (λ fault. fault ≡ OutOfMemory) }
 {
     let mut swaps = Vec::new(database.alloc());
@@ -235,9 +244,11 @@ pub fn plan_fail_link<A: Allocator + Copy>(
     router: RouterId,
     neighbor: RouterId,
 ) -> Result<Vec<Swap<A>, A>, EditFault>
-    ensures planned { IfOk result (λ v. Planned database.now database.now (FailLink area router neighbor) v.items) }
+    ensures planned { IfOk result
+        (λ v. Planned database.now database.now (FailLink area router neighbor) v.items) }
     ensures refused { IfErr result (λ f. IsRefused database.now (FailLink area router neighbor) f) }
 {
+    // What is true of it has to hold after each swap too.
     database.known();
     let number = area_section(database, area)?;
     if router == neighbor {
@@ -257,9 +268,11 @@ pub fn plan_fail_net<A: Allocator + Copy>(
     area: AreaId,
     network: Addr,
 ) -> Result<Vec<Swap<A>, A>, EditFault>
-    ensures planned { IfOk result (λ v. Planned database.now database.now (FailNet area network) v.items) }
+    ensures planned { IfOk result
+        (λ v. Planned database.now database.now (FailNet area network) v.items) }
     ensures refused { IfErr result (λ f. IsRefused database.now (FailNet area network) f) }
 {
+    // What is true of it has to hold after each swap too.
     database.known();
     let number = area_section(database, area)?;
     let Some(_) = first(database, Section::Area(area), &Wanted::Network(network)) else {
@@ -284,9 +297,11 @@ pub fn plan_fail_router<A: Allocator + Copy>(
     database: &Database<A>,
     router: RouterId,
 ) -> Result<Vec<Swap<A>, A>, EditFault>
-    ensures planned { IfOk result (λ v. Planned database.now database.now (FailRouter router) v.items) }
+    ensures planned { IfOk result
+        (λ v. Planned database.now database.now (FailRouter router) v.items) }
     ensures refused { IfErr result (λ f. IsRefused database.now (FailRouter router) f) }
 {
+    // What is true of it has to hold after each swap too.
     database.known();
     if !has_router(database, router) {
         return Err(EditFault::NoRouter);

@@ -35,7 +35,8 @@ pub enum EditFault {
     /// E8: there is no AS-external-LSA of the router for the prefix.
     #[error("NoExternal")]
     NoExternal,
-    /// E9: an LSA with the new one's LS type, Link State ID and Advertising Router is there already.
+    /// E9: an LSA with the new one's LS type, Link State ID and Advertising Router is there
+    /// already.
     #[error("KeyTaken")]
     KeyTaken,
     /// E10: the LSA would be longer than 65,535 octets.

@@ -31,7 +31,13 @@ impl<A: Allocator> Model for History<A> {
 
     ghost Value = { HistoryRoom };
 
-    ghost view = { λ h. record { lists = record { past = reverse (take h.cursor h.records.items); future = drop h.cursor h.records.items }; room = vec_capacity h.records - h.cursor } };
+    ghost view = { λ h. record {
+      lists = record {
+        past = reverse (take h.cursor h.records.items);
+        future = drop h.cursor h.records.items;
+      };
+      room = vec_capacity h.records - h.cursor;
+    } };
 
     ghost invariant = { λ h. h.cursor ≤ vec_len h.records };
 }
@@ -71,7 +77,8 @@ impl<A: Allocator + Copy> History<A> {
         requires linked { Links database.old self.old.lists }
         requires some { 0 < length self.old.lists.past }
         ensures linked { Links database.new self.new.lists }
-        ensures session { StepsBack (session_of database.old self.old.lists) (session_of database.new self.new.lists) }
+        ensures session { StepsBack (session_of database.old self.old.lists)
+            (session_of database.new self.new.lists) }
         ensures count { length self.old.lists.past ≡ length self.new.lists.past + 1 }
     {
         self.cursor -= 1;
@@ -84,7 +91,8 @@ impl<A: Allocator + Copy> History<A> {
         requires linked { Links database.old self.old.lists }
         requires some { 0 < length self.old.lists.future }
         ensures linked { Links database.new self.new.lists }
-        ensures session { StepsOn (session_of database.old self.old.lists) (session_of database.new self.new.lists) }
+        ensures session { StepsOn (session_of database.old self.old.lists)
+            (session_of database.new self.new.lists) }
         ensures count { length self.old.lists.future ≡ length self.new.lists.future + 1 }
     {
         let record = &mut self.records[self.cursor];
@@ -98,7 +106,8 @@ impl<A: Allocator + Copy> History<A> {
         requires linked { Links database.old self.old.lists }
         requires some { count ≤ length self.old.lists.past }
         ensures linked { Links database.new self.new.lists }
-        ensures session { session_of database.new self.new.lists ≡ moved_back count (session_of database.old self.old.lists) }
+        ensures session { session_of database.new self.new.lists
+            ≡ moved_back count (session_of database.old self.old.lists) }
     {
         for _step in 0..count {
             self.step_back(database);
@@ -111,7 +120,8 @@ impl<A: Allocator + Copy> History<A> {
         requires linked { Links database.old self.old.lists }
         requires some { count ≤ length self.old.lists.future }
         ensures linked { Links database.new self.new.lists }
-        ensures session { session_of database.new self.new.lists ≡ moved_on count (session_of database.old self.old.lists) }
+        ensures session { session_of database.new self.new.lists
+            ≡ moved_on count (session_of database.old self.old.lists) }
     {
         for _step in 0..count {
             self.step_on(database);
@@ -127,8 +137,11 @@ impl<A: Allocator + Copy> History<A> {
         requires { Links database.old self.old.lists }
         ensures linked { Links database.new self.new.lists }
         ensures ok { IsOk result ↔ (count ≤ length self.old.lists.past) }
-        ensures session { OnOk result (session_of database.new self.new.lists ≡ moved_back count (session_of database.old self.old.lists)) }
-        ensures err { OnErr result ((self.new.lists ≡ self.old.lists) × (database.new ≡ database.old)) }
+        ensures session { OnOk result
+            (session_of database.new self.new.lists
+            ≡ moved_back count (session_of database.old self.old.lists)) }
+        ensures err { OnErr result
+            ((self.new.lists ≡ self.old.lists) × (database.new ≡ database.old)) }
     {
         if count > self.done() {
             return Err(UndoFault::NothingToUndo);
@@ -146,8 +159,11 @@ impl<A: Allocator + Copy> History<A> {
         requires { Links database.old self.old.lists }
         ensures linked { Links database.new self.new.lists }
         ensures ok { IsOk result ↔ (count ≤ length self.old.lists.future) }
-        ensures session { OnOk result (session_of database.new self.new.lists ≡ moved_on count (session_of database.old self.old.lists)) }
-        ensures err { OnErr result ((self.new.lists ≡ self.old.lists) × (database.new ≡ database.old)) }
+        ensures session { OnOk result
+            (session_of database.new self.new.lists
+            ≡ moved_on count (session_of database.old self.old.lists)) }
+        ensures err { OnErr result
+            ((self.new.lists ≡ self.old.lists) × (database.new ≡ database.old)) }
     {
         if count > self.undone() {
             return Err(RedoFault::NothingToRedo);
@@ -158,7 +174,8 @@ impl<A: Allocator + Copy> History<A> {
 
     /// Whether one of the last `count` done edits touches an area: rewrote, removed or added a
     /// router-LSA or network-LSA of it. These make up the area's graph (RFC 2328, 16.1); where none
-    /// of the edits touches them, taking the edits back leaves them as they are. It takes no memory.
+    /// of the edits touches them, taking the edits back leaves them as they are. It takes no
+    /// memory.
     pub fn undo_touches(&self, count: usize, area: AreaId) -> bool
         requires { count ≤ length self.now.lists.past }
         ensures { (d : Places) → Links d self.now.lists

@@ -17,16 +17,21 @@ ghost use Rattle.edit_history.specs.Session.{Session, Request, NoneRefused, sess
 
 /// What is done is undone again, to the same places and swaps, and the other way round.
 pub fn inverses()
-    ensures undo { (d : Places) (ss : List SwapData) → IsDatabase (lists_of d) → CanDo d ss → UndoesAgain d ss }
-    ensures redo { (d : Places) (ss : List SwapData) → IsDatabase (lists_of d) → CanUndo d ss → DoesAgain d ss }
+    ensures undo { (d : Places) (ss : List SwapData)
+        → IsDatabase (lists_of d) → CanDo d ss → UndoesAgain d ss }
+    ensures redo { (d : Places) (ss : List SwapData)
+        → IsDatabase (lists_of d) → CanUndo d ss → DoesAgain d ss }
 {}
 
 /// The database that a history led to is its session's: the effects of the done edits, in order,
 /// from the base on. None of them is refused on the way, and neither are the undone ones after it.
 pub fn folded()
-    ensures state { (d : Places) (h : HistoryData) → Links d h → state (session_of d h) ≡ lists_of d }
-    ensures done { (d : Places) (h : HistoryData) → Links d h → effects (session_of d h).base (session_of d h).done ≡ Ok (lists_of d) }
-    ensures undone { (d : Places) (h : HistoryData) → Links d h → IsOk (effects (lists_of d) (session_of d h).undone) }
+    ensures state { (d : Places) (h : HistoryData) → Links d h
+        → state (session_of d h) ≡ lists_of d }
+    ensures done { (d : Places) (h : HistoryData) → Links d h
+        → effects (session_of d h).base (session_of d h).done ≡ Ok (lists_of d) }
+    ensures undone { (d : Places) (h : HistoryData) → Links d h
+        → IsOk (effects (lists_of d) (session_of d h).undone) }
 {}
 
 /// No edit of a session is refused on the way: each done edit is accepted after those before it,
@@ -79,9 +84,13 @@ pub fn histories_show_sessions()
 /// A record counts the changes of its edit, and touches the areas that these touch: when the edit
 /// was carried out, while it is done, and while it is undone.
 pub fn changes_told()
-    ensures applied { (d e : Places) (edit : Edit) (r : RecordData) (cs : List Change) → Applied d e edit r → changes (lists_of d) edit ≡ Ok cs → Tells r cs }
-    ensures done { (e : Places) (r : RecordData) (cs : List Change) → TakesBack e r.edit r.swaps → changes (lists_of (undone_places e r.swaps)) r.edit ≡ Ok cs → Tells r cs }
-    ensures undone { (d : Places) (r : RecordData) (cs : List Change) → CarriesOut d r.edit r.swaps → changes (lists_of d) r.edit ≡ Ok cs → Tells r cs }
+    ensures applied { (d e : Places) (edit : Edit) (r : RecordData) (cs : List Change)
+        → Applied d e edit r → changes (lists_of d) edit ≡ Ok cs → Tells r cs }
+    ensures done { (e : Places) (r : RecordData) (cs : List Change)
+        → TakesBack e r.edit r.swaps
+        → changes (lists_of (undone_places e r.swaps)) r.edit ≡ Ok cs → Tells r cs }
+    ensures undone { (d : Places) (r : RecordData) (cs : List Change)
+        → CarriesOut d r.edit r.swaps → changes (lists_of d) r.edit ≡ Ok cs → Tells r cs }
 {}
 
 /// Edits that are undone and redone, or redone and undone, are as they were; and where edits were
@@ -90,7 +99,8 @@ pub fn changes_told()
 pub fn moves()
     ensures redone { (s : Session) (k : ℕ) → k ≤ length s.done → moved_on k (moved_back k s) ≡ s }
     ensures undone { (s : Session) (k : ℕ) → k ≤ length s.undone → moved_back k (moved_on k s) ≡ s }
-    ensures back { (s t : Session) (es : List Edit) → edited_by s es ≡ Ok t → state (moved_back (length es) t) ≡ state s }
+    ensures back { (s t : Session) (es : List Edit) → edited_by s es ≡ Ok t
+        → state (moved_back (length es) t) ≡ state s }
 {}
 
 /// An edit that touches no router-LSA or network-LSA of an area leaves those of the area as they

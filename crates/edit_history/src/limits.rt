@@ -15,7 +15,6 @@ use std::alloc::Allocator;
 pub fn is_dump_full<A: Allocator + Copy>(database: &Database<A>, octets: u16) -> bool
     ensures { result ≡ is_dump_full (lists_of database.now) octets }
 {
-    database.known();
     database.size() + usize::from(octets) > LONGEST_DUMP
 }
 
@@ -44,7 +43,8 @@ pub fn check_room<A: Allocator + Copy>(
     octets: u16,
 ) -> Result<(), EditFault>
     ensures room { OnOk result (room_for (lists_of database.now) section key octets ≡ has_room) }
-    ensures refused { IfErr result (λ fault. room_for (lists_of database.now) section key octets ≡ Err fault) }
+    ensures refused { IfErr result
+        (λ fault. room_for (lists_of database.now) section key octets ≡ Err fault) }
 {
     if database.find(section, key).is_some() {
         return Err(EditFault::KeyTaken);

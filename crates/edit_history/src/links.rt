@@ -24,9 +24,11 @@ pub fn plan_cost<A: Allocator + Copy>(
     link: u16,
     metric: u16,
 ) -> Result<Vec<Swap<A>, A>, EditFault>
-    ensures planned { IfOk result (λ v. Planned database.now database.now (Cost area router link metric) v.items) }
+    ensures planned { IfOk result
+        (λ v. Planned database.now database.now (Cost area router link metric) v.items) }
     ensures refused { IfErr result (λ f. IsRefused database.now (Cost area router link metric) f) }
 {
+    // What is true of it has to hold after each swap too.
     database.known();
     let (slot, lsa) = router_lsa(database, area, router)?;
     let new = lsa.with_cost(database.alloc(), link, metric)?;
@@ -41,9 +43,11 @@ pub fn plan_drop_link<A: Allocator + Copy>(
     router: RouterId,
     link: u16,
 ) -> Result<Vec<Swap<A>, A>, EditFault>
-    ensures planned { IfOk result (λ v. Planned database.now database.now (DropLink area router link) v.items) }
+    ensures planned { IfOk result
+        (λ v. Planned database.now database.now (DropLink area router link) v.items) }
     ensures refused { IfErr result (λ f. IsRefused database.now (DropLink area router link) f) }
 {
+    // What is true of it has to hold after each swap too.
     database.known();
     let (slot, lsa) = router_lsa(database, area, router)?;
     let new = lsa.without_link(database.alloc(), link)?;
@@ -59,9 +63,12 @@ pub fn plan_add_stub<A: Allocator + Copy>(
     prefix: Prefix,
     metric: u16,
 ) -> Result<Vec<Swap<A>, A>, EditFault>
-    ensures planned { IfOk result (λ v. Planned database.now database.now (AddStub area router prefix metric) v.items) }
-    ensures refused { IfErr result (λ f. IsRefused database.now (AddStub area router prefix metric) f) }
+    ensures planned { IfOk result
+        (λ v. Planned database.now database.now (AddStub area router prefix metric) v.items) }
+    ensures refused { IfErr result
+        (λ f. IsRefused database.now (AddStub area router prefix metric) f) }
 {
+    // What is true of it has to hold after each swap too.
     database.known();
     let (slot, lsa) = router_lsa(database, area, router)?;
     if lsa.bytes().len() + usize::from(STUB_OCTETS) > LONGEST_LSA {

@@ -5,10 +5,10 @@ ghost use Rattle.std.specs.List.{find, list_any};
 ghost use Rattle.lsa_codec.specs.Key.{router_key};
 ghost use Rattle.lsdb.specs.declared.section.Section.TheVariants.{Area};
 ghost use Rattle.lsdb.specs.Lists.{is_section, has_key, lsas_of};
-ghost use Rattle.lsdb.specs.Places.{item_at, slot_at, lists_of, lsas_in, IsNamed};
+ghost use Rattle.lsdb.specs.Places.{item_at, slot_at, lists_of, lsas_in, IsFirstPlace, IsNamed};
 ghost use Rattle.edit_history.specs.declared.fault.EditFault.TheVariants.{NoArea, NoRouter};
-ghost use Rattle.edit_history.specs.Effect.{router_lsa_of, has_router, prefix_of, is_prefix, is_for};
-ghost use Rattle.edit_history.specs.steps.Plans.{IsFirst, is_wanted, passes};
+ghost use Rattle.edit_history.specs.Effect.{router_lsa_of, has_router, prefix_of, is_prefix, is_originated_for};
+ghost use Rattle.edit_history.specs.steps.Plans.{IsFirstLsa, is_wanted, passes};
 
 use crate::fault::EditFault;
 use lsa_codec::{Addr, AreaId, EXTERNAL_LSA, Key, Lsa, NETWORK_LSA, Prefix, RouterId, SUMMARY_LSA};
@@ -36,8 +36,13 @@ impl Wanted {
                 let key = lsa.key();
                 key.kind == NETWORK_LSA && key.id == network
             }
-            Wanted::Summary(router, prefix) => is_for(lsa, SUMMARY_LSA, router, prefix),
-            Wanted::External(router, prefix) => is_for(lsa, EXTERNAL_LSA, router, prefix),
+            Wanted::Summary(router, prefix) => is_originated_for(lsa, SUMMARY_LSA, router, prefix),
+            Wanted::External(router, prefix) => is_originated_for(
+                lsa,
+                EXTERNAL_LSA,
+                router,
+                prefix,
+            ),
         }
     }
 }
@@ -65,9 +70,15 @@ fn is_prefix<A: Allocator + Copy>(lsa: &Lsa<A>, prefix: Prefix) -> bool
     other.addr() == prefix.addr() && other.len() == prefix.len()
 }
 
-/// Whether an LSA is of this type, and a router originated it for a prefix.
-fn is_for<A: Allocator + Copy>(lsa: &Lsa<A>, kind: u8, router: RouterId, prefix: Prefix) -> bool
-    ensures { result ≡ is_for kind router prefix lsa.now }
+/// Whether an LSA is of this type, and a router originated it for a prefix (RFC 2328, 12.4.3,
+/// 12.4.4).
+fn is_originated_for<A: Allocator + Copy>(
+    lsa: &Lsa<A>,
+    kind: u8,
+    router: RouterId,
+    prefix: Prefix,
+) -> bool
+    ensures { result ≡ is_originated_for kind router prefix lsa.now }
 {
     let key = lsa.key();
     key.kind == kind && key.adv == router && is_prefix(lsa, prefix)
@@ -79,7 +90,9 @@ pub fn area_section<A: Allocator + Copy>(
     area: AreaId,
 ) -> Result<usize, EditFault>
     ensures found { IfOk result (λ section. IsNamed database.now (Area area) section) }
-    ensures refused { IfErr result (λ fault. (fault ≡ NoArea) × (find (is_section (Area area)) (lists_of database.now) ≡ None)) }
+    ensures refused { IfErr result (λ fault. fault ≡ NoArea) }
+    ensures absent { IfErr result
+        (λ _. find (is_section (Area area)) (lists_of database.now) ≡ None) }
 {
     let Some(section) = database.index_of(Section::Area(area)) else {
         return Err(EditFault::NoArea);
@@ -94,8 +107,13 @@ pub fn router_lsa_in<A: Allocator + Copy>(
     area: AreaId,
     router: RouterId,
 ) -> Result<(SlotId, &Lsa<A>), EditFault>
-    ensures found { IfOk result (λ found. IsFirst database.now (Area area) (has_key (router_key router)) found.0 found.1.now) }
-    ensures refused { IfErr result (λ fault. (fault ≡ NoRouter) × (find (has_key (router_key router)) (lsas_of (Area area) (lists_of database.now)) ≡ None)) }
+    ensures found { IfOk result
+        (λ found. IsFirstLsa database.now (Area area) (has_key (router_key router))
+        found.0 found.1.now) }
+    ensures refused { IfErr result (λ fault. fault ≡ NoRouter) }
+    ensures absent { IfErr result
+        (λ _. find (has_key (router_key router)) (lsas_of (Area area) (lists_of database.now))
+        ≡ None) }
 {
     let Some(slot) = database.find(Section::Area(area), Key::of_router(router)) else {
         return Err(EditFault::NoRouter);
@@ -112,8 +130,11 @@ pub fn router_lsa<A: Allocator + Copy>(
     area: AreaId,
     router: RouterId,
 ) -> Result<(SlotId, &Lsa<A>), EditFault>
-    ensures found { IfOk result (λ found. IsFirst database.now (Area area) (has_key (router_key router)) found.0 found.1.now) }
-    ensures refused { IfErr result (λ fault. router_lsa_of (lists_of database.now) area router ≡ Err fault) }
+    ensures found { IfOk result
+        (λ found. IsFirstLsa database.now (Area area) (has_key (router_key router))
+        found.0 found.1.now) }
+    ensures refused { IfErr result
+        (λ fault. router_lsa_of (lists_of database.now) area router ≡ Err fault) }
 {
     area_section(database, area)?;
     router_lsa_in(database, area, router)
@@ -160,7 +181,8 @@ fn first_in<A: Allocator + Copy>(
     wanted: &Wanted,
 ) -> Option<SlotId>
     requires { IsSome (item_at database.now section) }
-    ensures { MatchOption result (find (is_wanted wanted.now) (lsas_in database.now section) ≡ None) (λ slot. (slot.section ≡ section) × (slot_at database.now slot ≡ Some (find (is_wanted wanted.now) (lsas_in database.now section))) × IsSome (find (is_wanted wanted.now) (lsas_in database.now section))) }
+    ensures { MatchOption result (find (is_wanted wanted.now) (lsas_in database.now section) ≡ None)
+        (IsFirstPlace database.now section (is_wanted wanted.now)) }
 {
     for index in 0..database.place_count(section) {
         let slot = SlotId { section, index };
@@ -177,7 +199,9 @@ pub fn first<'a, A: Allocator + Copy>(
     section: Section,
     wanted: &Wanted,
 ) -> Option<(SlotId, &'a Lsa<A>)>
-    ensures { MatchOption result (find (is_wanted wanted.now) (lsas_of section (lists_of database.now)) ≡ None) (λ found. IsFirst database.now section (is_wanted wanted.now) found.0 found.1.now) }
+    ensures { MatchOption result
+        (find (is_wanted wanted.now) (lsas_of section (lists_of database.now)) ≡ None)
+        (λ found. IsFirstLsa database.now section (is_wanted wanted.now) found.0 found.1.now) }
 {
     let Some(index) = database.index_of(section) else {
         return None;

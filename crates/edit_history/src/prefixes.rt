@@ -32,9 +32,12 @@ pub fn plan_summary<A: Allocator + Copy>(
     prefix: Prefix,
     metric: Metric,
 ) -> Result<Vec<Swap<A>, A>, EditFault>
-    ensures planned { IfOk result (λ v. Planned database.now database.now (Summary area router prefix metric) v.items) }
-    ensures refused { IfErr result (λ f. IsRefused database.now (Summary area router prefix metric) f) }
+    ensures planned { IfOk result
+        (λ v. Planned database.now database.now (Summary area router prefix metric) v.items) }
+    ensures refused { IfErr result
+        (λ f. IsRefused database.now (Summary area router prefix metric) f) }
 {
+    // What is true of it has to hold after each swap too.
     database.known();
     area_section(database, area)?;
     let section = Section::Area(area);
@@ -52,9 +55,11 @@ pub fn plan_drop_external<A: Allocator + Copy>(
     router: RouterId,
     prefix: Prefix,
 ) -> Result<Vec<Swap<A>, A>, EditFault>
-    ensures planned { IfOk result (λ v. Planned database.now database.now (DropExternal router prefix) v.items) }
+    ensures planned { IfOk result
+        (λ v. Planned database.now database.now (DropExternal router prefix) v.items) }
     ensures refused { IfErr result (λ f. IsRefused database.now (DropExternal router prefix) f) }
 {
+    // What is true of it has to hold after each swap too.
     database.known();
     let wanted = Wanted::External(router, prefix);
     let Some((slot, _)) = first(database, Section::AsWide, &wanted) else {
@@ -118,10 +123,13 @@ pub fn plan_add_summary<A: Allocator + Copy>(
     prefix: Prefix,
     metric: Metric,
 ) -> Result<Vec<Swap<A>, A>, EditFault>
-    ensures planned { IfOk result (λ v. Planned database.old database.new (AddSummary area router prefix metric) v.items) }
-    ensures refused { IfErr result (λ f. IsRefused database.old (AddSummary area router prefix metric) f) }
+    ensures planned { IfOk result
+        (λ v. Planned database.old database.new (AddSummary area router prefix metric) v.items) }
+    ensures refused { IfErr result
+        (λ f. IsRefused database.old (AddSummary area router prefix metric) f) }
     ensures kept { OnErr result (database.new ≡ database.old) }
 {
+    // What is true of it has to hold after each swap too.
     database.known();
     let number = area_section(database, area)?;
     router_lsa_in(database, area, router)?;
@@ -150,10 +158,14 @@ pub fn plan_add_external<A: Allocator + Copy>(
     forward: Addr,
     tag: u32,
 ) -> Result<Vec<Swap<A>, A>, EditFault>
-    ensures planned { IfOk result (λ v. Planned database.old database.new (AddExternal router prefix metric_type metric forward tag) v.items) }
-    ensures refused { IfErr result (λ f. IsRefused database.old (AddExternal router prefix metric_type metric forward tag) f) }
+    ensures planned { IfOk result
+        (λ v. Planned database.old database.new
+        (AddExternal router prefix metric_type metric forward tag) v.items) }
+    ensures refused { IfErr result
+        (λ f. IsRefused database.old (AddExternal router prefix metric_type metric forward tag) f) }
     ensures kept { OnErr result (database.new ≡ database.old) }
 {
+    // What is true of it has to hold after each swap too.
     database.known();
     if !has_router(database, router) {
         return Err(EditFault::NoRouter);

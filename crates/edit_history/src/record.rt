@@ -35,7 +35,8 @@ impl<A: Allocator + Copy> Record<A> {
     ) -> Record<A>
         requires { CanDo database.old swaps.items }
         ensures database { database.new ≡ done_places database.old swaps.items }
-        ensures result { result ≡ record { edit = edit; swaps = done_swaps database.old swaps.items } }
+        ensures result { result
+            ≡ record { edit = edit; swaps = done_swaps database.old swaps.items } }
     {
         let mut swaps = swaps;
         do_swaps(database, &mut swaps);
@@ -65,7 +66,8 @@ impl<A: Allocator + Copy> Record<A> {
     }
 }
 
-/// Takes an edit back: the database is again the one before it, octet for octet. It takes no memory.
+/// Takes an edit back: the database is again the one before it, octet for octet. It takes no
+/// memory.
 ///
 /// The database is the one after the edit. Empty places that were opened since at the ends of
 /// sections are no bar.

@@ -26,7 +26,8 @@ impl<A: Allocator> Model for Swap<A> {
 
     ghost Value = { SwapData };
 
-    ghost view = { λ s. record { slot = s.slot; section = s.section; kind = s.kind; other = s.other } };
+    ghost view = { λ s.
+        record { slot = s.slot; section = s.section; kind = s.kind; other = s.other } };
 }
 
 impl<A: Allocator + Copy> Swap<A> {

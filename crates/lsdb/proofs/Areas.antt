@@ -5,7 +5,7 @@ use Rattle.std.specs.List.{list_any, filter_map, cons_option}
 use Rattle.lsdb.specs.declared.database.SectionOf.{SectionOf}
 use Rattle.lsdb.specs.Lists.{AreaHead, Lists, IsBefore, is_as_wide, AreHeads, heads_of, areas_of}
 use Rattle.lsdb.specs.Places.{lists_of}
-use Rattle.lsdb.specs.View.{head_of, places_of}
+use Rattle.lsdb.specs.steps.View.{head_of, places_of}
 use Rattle.lsdb.proofs.Middle.{pairs_tail}
 
 abbrev areas_in : List (Option AreaHead) → List AreaHead

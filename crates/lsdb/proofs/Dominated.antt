@@ -9,7 +9,8 @@ use Rattle.lsa_codec.specs.Accepted.{IsAccepted}
 use Rattle.lsdb.specs.declared.slot.SlotId.{SlotId}
 use Rattle.lsdb.specs.Limits.{longest_dump}
 use Rattle.lsdb.specs.Lists.{AreaHead, SectionLsas, Lists, AreKeys, IsSection, AreHeads, is_in_scope, IsDatabase, lsas_size, section_size, size, heads_of}
-use Rattle.lsdb.specs.Places.{Place, Places, SectionPlaces, item_at, put_place, put, place_in, slot_at, full, section_of, lists_of, IsPutSafe, place_size}
+use Rattle.lsdb.specs.Places.{Place, Places, SectionPlaces, item_at, put_place, put, place_in, slot_at, full, section_of, lists_of}
+use Rattle.lsdb.specs.steps.OnePlace.{IsPutSafe, place_size}
 use Rattle.lsdb.proofs.Middle.{all_mid, all_without, pairs_without, map_mid, map_two, length_mid}
 
 -- ---- the lists around one place

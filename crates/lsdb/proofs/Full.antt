@@ -5,7 +5,7 @@ use Rattle.std.proofs.lemmas.List.{append-nil, take_more}
 use Rattle.lsdb.specs.declared.database.SectionOf.{SectionOf}
 use Rattle.lsdb.specs.Lists.{SectionLsas, Lists}
 use Rattle.lsdb.specs.Places.{Place, full, section_of, lists_of}
-use Rattle.lsdb.specs.View.{section_places_of, places_of}
+use Rattle.lsdb.specs.steps.View.{section_places_of, places_of}
 
 pub full-push : (ps : List Place) (x : List ℕ) → full (ps ++ Some x ∷ []) ≡ full ps ++ x ∷ []
 full-push [] x = refl

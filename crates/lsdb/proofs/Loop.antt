@@ -5,7 +5,8 @@ use Rattle.lsdb.specs.declared.fault.DumpFaultKind.TheVariants.{DuplicateLsa}
 use Rattle.lsdb.specs.declared.fault.ReadError.{ReadError}
 use Rattle.lsdb.specs.declared.fault.ReadError.TheVariants as errors
 use Rattle.lsdb.specs.Lists.{AreaHead, SectionLsas, Lists}
-use Rattle.lsdb.specs.Loading.{At, Fails, lsa_at, lsas_from, area_at, areas_from, has_key_of, fault}
+use Rattle.lsdb.specs.Loading.{At, lsa_at, lsas_from, area_at, areas_from, has_key_of, fault}
+use Rattle.lsdb.specs.steps.Reading.{Fails}
 
 abbrev pub AfterLsas : Type 0
 AfterLsas = Result (List (List ℕ) × At) DumpFault

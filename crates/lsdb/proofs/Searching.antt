@@ -7,8 +7,9 @@ use Rattle.std.proofs.lemmas.List.{drop_all, length-map}
 use Rattle.lsa_codec.specs.declared.key.Key.{Key}
 use Rattle.lsdb.specs.declared.database.SectionOf.{SectionOf}
 use Rattle.lsdb.specs.Lists.{SectionLsas, Lists, has_key}
-use Rattle.lsdb.specs.Places.{Place, item_at, full, section_of, lists_of, place_in, lsas_in, place_has_key}
-use Rattle.lsdb.specs.View.{section_places_of, places_of}
+use Rattle.lsdb.specs.Places.{Place, item_at, full, section_of, lists_of, lsas_in, IsFirstPlace}
+use Rattle.lsdb.specs.steps.OnePlace.{place_has_key, IsFirstIndex}
+use Rattle.lsdb.specs.steps.View.{section_places_of, places_of}
 
 -- item i of a list, and what follows it
 pub record Turn {X : Type 0} (xs : List X) (i j : ℕ) (x : X) : Type 0 where
@@ -64,12 +65,12 @@ full_miss key (Some x) rest fail = ap (λ b. cond b (Some x) (find (has_key key)
 
 pub place_hit : (key : Key) (ps : List Place) (i : ℕ) (p : Place) → i < length ps → p ≡ get_or ps i p
     → place_has_key key p ≡ true → find (has_key key) (full (drop i ps)) ≡ find (has_key key) (full ps)
-    → (item_at ps i ≡ Some (find (has_key key) (full ps))) × IsSome (find (has_key key) (full ps))
+    → IsFirstIndex ps (has_key key) i
 place_hit key ps i p lt h pass same =
     let t = turn ps i (suc i) p lt refl h in
     let hit = full_hit key p (drop (suc i) ps) pass in
     let found : p ≡ find (has_key key) (full ps) = hit.0 ∙ ap (λ (qs : List Place). find (has_key key) (full qs)) (sym t.rest) ∙ same in
-    (t.here ∙ ap Some found, subst IsSome found hit.1)
+    record { held = t.here ∙ ap Some found; found = subst IsSome found hit.1 }
 
 pub place_miss : (key : Key) (ps : List Place) (i j : ℕ) (p : Place) → i < length ps → j ≡ suc i
     → p ≡ get_or ps i p → place_has_key key p ≡ false
@@ -104,14 +105,16 @@ section_count {A} ss = ap length (shown_all ss) ∙ length-map ss shown
 pub found_in : {A : Type 0}
     → (ss : List (SectionOf A)) (section index : ℕ) (s : SectionOf A) (places : List Place) (key : Key)
     → IsSome (item_at (lists_of (places_of ss)) section) → s ≡ get_or ss section s → places ≡ s.places.items
-    → (item_at places index ≡ Some (find (has_key key) (full places))) × IsSome (find (has_key key) (full places))
-    → (place_in (item_at (places_of ss) section) index ≡ Some (find (has_key key) (lsas_in (places_of ss) section)))
-    × IsSome (find (has_key key) (lsas_in (places_of ss) section))
+    → IsFirstIndex places (has_key key) index
+    → IsFirstPlace (places_of ss) section (has_key key) (record { section = section; index = index })
 found_in {A} [] section index s places key some h e found = absurd (search rules)
 found_in {A} (t ∷ ss) zero index s places key some h e found =
     let same : places ≡ t.places.items = e ∙ ap (λ (x : SectionOf A). x.places.items) h in
-    subst (λ (ps : List Place). (item_at ps index ≡ Some (find (has_key key) (full ps))) × IsSome (find (has_key key) (full ps))) same found
-found_in {A} (t ∷ ss) (suc section) index s places key some h e found = found_in ss section index s places key some h e found
+    let at : IsFirstIndex t.places.items (has_key key) index = subst (λ (ps : List Place). IsFirstIndex ps (has_key key) index) same found in
+    record { same = refl; held = at.held; found = at.found }
+found_in {A} (t ∷ ss) (suc section) index s places key some h e found =
+    let at = found_in ss section index s places key some h e found in
+    record { same = refl; held = at.held; found = at.found }
 
 pub none_in : {A : Type 0}
     → (ss : List (SectionOf A)) (section : ℕ) (s : SectionOf A) (places : List Place) (key : Key)

@@ -5,7 +5,7 @@ use Rattle.lsdb.specs.declared.slot.SlotId.{SlotId}
 use Rattle.lsdb.specs.declared.database.SectionOf.{SectionOf}
 use Rattle.lsdb.specs.Places.{Place, Places, SectionPlaces, update_at, item_at, put_place, put, place_in, slot_at, open_at}
 use Rattle.lsdb.specs.declared.database.Head.{Head}
-use Rattle.lsdb.specs.View.{head_of, section_places_of, places_of}
+use Rattle.lsdb.specs.steps.View.{head_of, section_places_of, places_of}
 
 pub section_set : {A : Type 0}
     → (f : SectionPlaces → SectionPlaces) (ss : List (SectionOf A)) (i : ℕ) (old t : SectionOf A)

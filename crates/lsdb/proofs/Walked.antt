@@ -8,7 +8,7 @@ use Rattle.lsa_codec.specs.Key.{key_of}
 use Rattle.lsdb.specs.declared.database.SectionOf.{SectionOf}
 use Rattle.lsdb.specs.Lists.{AreaHead, SectionLsas, Lists, IsSection, limit_of, lsas_or_none}
 use Rattle.lsdb.specs.Places.{Place, item_at, full, lists_of, lsas_in}
-use Rattle.lsdb.specs.View.{places_of}
+use Rattle.lsdb.specs.steps.View.{places_of}
 use Rattle.lsdb.proofs.Searching.{turn}
 
 -- the first full place, and the places behind it

@@ -11,7 +11,7 @@ use Rattle.lsa_codec.specs.Key.{key_of}
 use Rattle.lsdb.specs.declared.database.SectionOf.{SectionOf}
 use Rattle.lsdb.specs.Lists.{AreaHead, Lists, IsSection, IsDatabase, limit_of}
 use Rattle.lsdb.specs.Places.{item_at, lists_of}
-use Rattle.lsdb.specs.View.{places_of}
+use Rattle.lsdb.specs.steps.View.{places_of}
 use Rattle.lsdb.specs.Text.{magic, version, section_text, area_count, text}
 use Rattle.lsdb.proofs.Full.{shown}
 use Rattle.lsdb.proofs.Searching.{section_turn, section_count}

@@ -9,8 +9,6 @@ use Rattle.lsa_codec.specs.Decoding.{decoded}
 use Rattle.lsdb.specs.declared.fault.DumpFault.{DumpFault}
 use Rattle.lsdb.specs.declared.fault.DumpFaultKind.{DumpFaultKind}
 use Rattle.lsdb.specs.declared.fault.DumpFaultKind.TheVariants.{BadMagic, BadVersion, Truncated, TrailingBytes, TooManyAreas, AreaOrder, BadAreaKind, TooManyLsas, Lsa, WrongSection, DuplicateLsa, BackboneStub, TooLarge, OutOfMemory}
-use Rattle.lsdb.specs.declared.fault.ReadError.{ReadError}
-use Rattle.lsdb.specs.declared.fault.ReadError.TheVariants as errors
 use Rattle.lsdb.specs.Lists.{AreaHead, SectionLsas, Lists, is_in_scope, limit_of, has_key}
 use Rattle.lsdb.specs.Limits.{most_areas, longest_dump}
 use Rattle.lsdb.specs.Text.{magic, version}
@@ -24,16 +22,6 @@ infixl 10 ◌>>=◌
 abbrev pub ◌>>=◌ : {A B : Type 0} → Result A DumpFault → (A → Result B DumpFault) → Result B DumpFault
 (Ok x) >>= f = f x
 (Err e) >>= f = Err e
-
--- reading ended for want of memory, or with the fault that is told
-abbrev pub Fails : {Y : Type 0} → ReadError → Result Y DumpFault → Type 0
-Fails errors.Memory read = Unit {0}
-Fails (errors.Fault f) read = read ≡ Err f
-
--- what a function returned, seen by view, is what reading gives, unless memory ran out
-abbrev pub Gives : {X Y : Type 0} → (X → Y) → Result X ReadError → Result Y DumpFault → Type 0
-Gives view (Ok x) read = read ≡ Ok (view x)
-Gives view (Err e) read = Fails e read
 
 abbrev pub fault : {A : Type 0} → At → DumpFaultKind → Result A DumpFault
 fault at kind = Err (record { offset = at.offset; kind = kind })
@@ -156,5 +144,5 @@ abbrev pub no_memory : DumpFault
 no_memory = record { offset = 0; kind = OutOfMemory }
 
 -- the fault is want of memory, or the first fault of the bytes
-abbrev pub IsFirst : DumpFault → Result Lists DumpFault → Type 0
-IsFirst fault answer = (fault ≡ no_memory) ⊎ (answer ≡ Err fault)
+abbrev pub IsFirstFault : DumpFault → Result Lists DumpFault → Type 0
+IsFirstFault fault answer = (fault ≡ no_memory) ⊎ (answer ≡ Err fault)

@@ -1,8 +1,7 @@
 -- Places, some of them empty, and the database that the full ones make.
-use Rattle.std.specs.Prelude.{◌≡◌, Bool, false, length, ℕ, zero, suc, List, [], ◌∷◌, ◌++◌, map, Option, Some, None, IsSome}
+use Rattle.std.specs.Prelude.{◌≡◌, Bool, length, ℕ, zero, suc, List, [], ◌∷◌, ◌++◌, map, Option, Some, None, IsSome}
 use Rattle.std.specs.List.{find, slice_get}
 use Rattle.lsa_codec.specs.declared.key.Key.{Key}
-use Rattle.lsa_codec.specs.Making.{IsRewriteOf}
 use Rattle.lsdb.specs.Lists.{AreaHead, SectionLsas, Lists, has_key, is_section, lsas_of}
 pub use Rattle.lsdb.specs.Lists.{lsas_or_none}
 use Rattle.lsdb.specs.declared.section.Section.{Section}
@@ -69,17 +68,6 @@ put_place v ps i = update_at (λ _. v) ps i
 abbrev pub put : Places → SlotId → Place → Places
 put d slot v = update_at (λ s. record { area = s.area; places = put_place v s.places slot.index }) d slot.section
 
--- the octets that a place takes in the dump
-abbrev pub place_size : Place → ℕ
-place_size None = 0
-place_size (Some lsa) = length lsa
-
--- a place is emptied, or takes an LSA that may stand for the one there
-abbrev pub IsPutSafe : Place → Place → Type 0
-IsPutSafe old None = Unit {0}
-IsPutSafe None (Some new) = ⊥
-IsPutSafe (Some old) (Some new) = IsRewriteOf old new
-
 -- ---- one section, by its number
 
 abbrev pub places_or_none : Option SectionPlaces → List Place
@@ -98,13 +86,15 @@ places_in d section = places_or_none (item_at d section)
 abbrev pub lsas_in : Places → ℕ → List (List ℕ)
 lsas_in d section = lsas_or_none (item_at (lists_of d) section)
 
-abbrev pub place_has_key : Key → Place → Bool
-place_has_key key None = false
-place_has_key key (Some lsa) = has_key key lsa
-
 -- an empty place at the end of a section
 abbrev pub open_at : Places → ℕ → Places
 open_at d section = update_at (λ s. record { area = s.area; places = s.places ++ None ∷ [] }) d section
+
+-- the place of the first LSA of a section that passes a test
+pub record IsFirstPlace (d : Places) (section : ℕ) (test : List ℕ → Bool) (slot : SlotId) : Type 0 where
+  pub same : slot.section ≡ section
+  pub held : slot_at d slot ≡ Some (find test (lsas_in d section))
+  pub found : IsSome (find test (lsas_in d section))
 
 -- ---- one section, by its name
 

@@ -1,7 +1,7 @@
 //! A copy of a database.
 
 ghost use Rattle.std.specs.Prelude.{◌≡◌, IfOk};
-ghost use Rattle.lsdb.specs.View.{places_of};
+ghost use Rattle.lsdb.specs.steps.View.{places_of};
 
 use crate::database::{Database, SectionOf};
 use lsa_codec::Lsa;

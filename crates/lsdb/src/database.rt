@@ -1,9 +1,10 @@
 //! A database in memory, and what is always true of it.
 
-ghost use Rattle.std.specs.Prelude.{◌≡◌};
+ghost use Rattle.std.specs.Prelude.{◌≡◌, ◌≤◌};
+ghost use Rattle.lsdb.specs.Limits.{longest_dump};
 ghost use Rattle.lsdb.specs.Lists.{IsDatabase, size};
 ghost use Rattle.lsdb.specs.Places.{lists_of};
-ghost use Rattle.lsdb.specs.View.{places_of};
+ghost use Rattle.lsdb.specs.steps.View.{places_of};
 
 use lsa_codec::{AreaId, Lsa};
 use std::alloc::{Allocator, Global};
@@ -42,7 +43,7 @@ impl<A: Allocator> Model for Database<A> {
 
     ghost Value = { Places };
 
-    ghost use Rattle.lsdb.specs.View.{places_of, IsKept};
+    ghost use Rattle.lsdb.specs.steps.View.{places_of, IsKept};
 
     ghost view = { λ a. places_of a.sections.items };
 
@@ -74,15 +75,20 @@ impl<A: Allocator + Copy> Database<A> {
 
     /// The length of its dump, in octets.
     pub fn size(&self) -> usize
-        ensures { result ≡ size (lists_of self.now) }
+        ensures size { result ≡ size (lists_of self.now) }
+        ensures limit { result ≤ longest_dump }
     {
         self.octets
     }
 
     /// What is true of every database: order of the areas, scopes, distinct keys and limits.
+    ///
+    /// It does nothing when it runs. Contracts see a database as its places alone, so a function
+    /// whose proof rests on these facts calls it to have them.
     pub fn known(&self)
         ensures { IsDatabase (lists_of self.now) }
     {
+        // Opens the value, so that its invariant is known.
         let _ = &self.sections;
     }
 }

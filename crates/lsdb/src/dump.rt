@@ -3,7 +3,7 @@
 ghost use Rattle.std.specs.Prelude.{◌≡◌, ◌<◌, ◌^◌, ◌++◌, length, OnOk, IfOk, option_map};
 ghost use Rattle.std.specs.List.{concat};
 ghost use Rattle.lsdb.specs.Places.{full, section_of, lists_of};
-ghost use Rattle.lsdb.specs.View.{head_of, section_places_of};
+ghost use Rattle.lsdb.specs.steps.View.{head_of, section_places_of};
 ghost use Rattle.lsdb.specs.Text.{text, head_text, section_text};
 
 use crate::database::{Database, Head, SectionOf};

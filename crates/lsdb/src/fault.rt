@@ -16,7 +16,8 @@ pub enum DumpFaultKind {
     BadMagic,
     /// The version is not 1.
     BadVersion,
-    /// The dump ends inside a field of the container: magic, version, a count, an area's ID or kind.
+    /// The dump ends inside a field of the container: magic, version, a count, an area's ID or
+    /// kind.
     Truncated,
     /// Octets stand behind the last LSA.
     TrailingBytes,
@@ -65,7 +66,8 @@ impl DumpFaultKind {
         }
     }
 
-    /// The name of the kind, as `TrailingBytes`, and `Lsa ZeroCost` where the octets are no accepted LSA.
+    /// The name of the kind, as `TrailingBytes`, and `Lsa ZeroCost` where the octets are no
+    /// accepted LSA.
     pub fn name(&self) -> &'static str
         ensures { result.now ≡ fault_name self.now }
     {

@@ -36,6 +36,4 @@ pub use section::Section;
 pub use slot::{SlotFault, SlotId};
 
 #[cfg(test)]
-mod dump_tests;
-#[cfg(test)]
-mod place_tests;
+mod tests;

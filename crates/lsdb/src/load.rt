@@ -4,10 +4,10 @@ ghost use Rattle.std.specs.Prelude.{◌≡◌, ◌≤◌, length, [], Ok, Some, 
 ghost use Rattle.std.specs.Int.{w8, w16, w32};
 ghost use Rattle.lsdb.specs.Lists.{is_in_scope, limit_of, Lists, IsDatabase, size};
 ghost use Rattle.lsdb.specs.Places.{full, section_of, lists_of};
-ghost use Rattle.lsdb.specs.View.{head_of, section_places_of, places_of};
+ghost use Rattle.lsdb.specs.steps.View.{head_of, section_places_of, places_of};
 ghost use Rattle.lsdb.specs.Text.{text};
-ghost use Rattle.lsdb.specs.Cursors.{at_of};
-ghost use Rattle.lsdb.specs.Loading.{Gives, lsa_at, lsas_from, section_at, id_at, kind_at, area_at, areas_from, is_above, magic_at, version_at, area_count_at, sections_at, loaded, Fails, IsFirst};
+ghost use Rattle.lsdb.specs.steps.Reading.{at_of, Gives, Fails};
+ghost use Rattle.lsdb.specs.Loading.{lsa_at, lsas_from, section_at, id_at, kind_at, area_at, areas_from, is_above, magic_at, version_at, area_count_at, sections_at, loaded, IsFirstFault};
 
 use crate::cursor::Cursor;
 use crate::database::{Database, Head, SectionOf};
@@ -247,7 +247,7 @@ fn read_dump<A: Allocator + Copy>(alloc: A, bytes: &[u8]) -> Result<Vec<SectionO
 
 /// The fault that is told of a failed reading.
 fn dump_fault(error: ReadError) -> DumpFault
-    ensures { (answer : Result Lists DumpFault) → Fails error answer → IsFirst result answer }
+    ensures { (answer : Result Lists DumpFault) → Fails error answer → IsFirstFault result answer }
 {
     match error {
         ReadError::Fault(fault) => fault,
@@ -261,8 +261,8 @@ fn dump_fault(error: ReadError) -> DumpFault
 impl<A: Allocator + Copy> Database<A> {
     /// The database whose dump the octets are.
     ///
-    /// Of several faults the first from front to back is told; `TooLarge` comes before all others, and
-    /// `OutOfMemory` may stand in place of any.
+    /// Of several faults the first from front to back is told; `TooLarge` comes before all others,
+    /// and `OutOfMemory` may stand in place of any.
     pub fn load(alloc: A, bytes: &[u8]) -> Result<Database<A>, DumpFault>
         // What is loaded is spelled so.
         ensures database { IfOk result (λ db. IsDatabase (lists_of db)) }
@@ -270,7 +270,7 @@ impl<A: Allocator + Copy> Database<A> {
 
         // What is spelled so is loaded, unless memory runs out; else the first fault is told.
         ensures found { IfOk result (λ db. loaded bytes.now ≡ Ok (lists_of db)) }
-        ensures fault { IfErr result (λ fault. IsFirst fault (loaded bytes.now)) }
+        ensures fault { IfErr result (λ fault. IsFirstFault fault (loaded bytes.now)) }
     {
         match read_dump(alloc, bytes) {
             Ok(sections) => Ok(Database::of_sections(alloc, sections, bytes.len())),

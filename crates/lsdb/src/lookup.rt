@@ -1,10 +1,11 @@
 //! Sections by their names, and LSAs by their keys (RFC 2328, 12.1).
 
-ghost use Rattle.std.specs.Prelude.{◌≡◌, Some, None, IsSome, MatchOption, option_map};
+ghost use Rattle.std.specs.Prelude.{◌≡◌, None, IsSome, MatchOption, option_map};
 ghost use Rattle.std.specs.List.{find};
 ghost use Rattle.lsdb.specs.Lists.{is_head_of, is_section, has_key, lsas_of};
-ghost use Rattle.lsdb.specs.Places.{slot_at, item_at, lists_of, lsas_in, full, place_has_key, IsPlaceOf};
-ghost use Rattle.lsdb.specs.View.{head_of};
+ghost use Rattle.lsdb.specs.Places.{item_at, lists_of, lsas_in, full, IsFirstPlace, IsNamed, IsPlaceOf};
+ghost use Rattle.lsdb.specs.steps.OnePlace.{place_has_key, IsFirstIndex};
+ghost use Rattle.lsdb.specs.steps.View.{head_of};
 
 use crate::database::{Database, Head};
 use crate::section::Section;
@@ -17,9 +18,7 @@ impl<A: Allocator + Copy> Database<A> {
     /// `None` where the database has no such area.
     pub fn index_of(&self, section: Section) -> Option<usize>
         ensures { MatchOption result (find (is_section section) (lists_of self.now) ≡ None)
-            (λ index. (item_at (lists_of self.now) index
-            ≡ find (is_section section) (lists_of self.now))
-            × IsSome (item_at (lists_of self.now) index)) }
+            (IsNamed self.now section) }
     {
         for index in 0..self.sections.len() {
             if is_head_of(section, self.sections[index].area) {
@@ -33,9 +32,7 @@ impl<A: Allocator + Copy> Database<A> {
     pub fn find_in(&self, section: usize, key: Key) -> Option<SlotId>
         requires { IsSome (item_at (lists_of self.now) section) }
         ensures { MatchOption result (find (has_key key) (lsas_in self.now section) ≡ None)
-            (λ slot. (slot.section ≡ section)
-            × (slot_at self.now slot ≡ Some (find (has_key key) (lsas_in self.now section)))
-            × IsSome (find (has_key key) (lsas_in self.now section))) }
+            (IsFirstPlace self.now section (has_key key)) }
     {
         let Some(index) = find_place(&self.sections[section].places, key) else {
             return None;
@@ -67,11 +64,10 @@ fn is_head_of(section: Section, head: Option<Head>) -> bool
     }
 }
 
-/// The index of the place with the LSA of a key.
+/// The index of the place with the LSA of a key; `None` where no place has it.
 fn find_place<A: Allocator + Copy>(places: &[Option<Lsa<A>>], key: Key) -> Option<usize>
     ensures { MatchOption result (find (has_key key) (full places.now) ≡ None)
-        (λ index. (item_at places.now index ≡ Some (find (has_key key) (full places.now)))
-        × IsSome (find (has_key key) (full places.now))) }
+        (IsFirstIndex places.now (has_key key)) }
 {
     for index in 0..places.len() {
         if has_key(&places[index], key) {
@@ -81,6 +77,7 @@ fn find_place<A: Allocator + Copy>(places: &[Option<Lsa<A>>], key: Key) -> Optio
     None
 }
 
+/// Whether an LSA with this key stands at a place.
 fn has_key<A: Allocator + Copy>(place: &Option<Lsa<A>>, key: Key) -> bool
     ensures { result ≡ place_has_key key place.now }
 {

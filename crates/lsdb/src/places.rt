@@ -3,7 +3,8 @@
 ghost use Rattle.std.specs.Prelude.{◌≡◌, ◌↔◌, Some, None, Err, IsSome, OnOk, OnErr, IfOk, MatchOption, length};
 ghost use Rattle.std.specs.List.{find};
 ghost use Rattle.lsdb.specs.Lists.{IsDatabase, is_section};
-ghost use Rattle.lsdb.specs.Places.{put, slot_at, lsa_at, item_at, open_at, lists_of, places_in, place_size, OpensPlace};
+ghost use Rattle.lsdb.specs.Places.{put, slot_at, lsa_at, item_at, open_at, lists_of, places_in, OpensPlace};
+ghost use Rattle.lsdb.specs.steps.OnePlace.{place_size};
 ghost use Rattle.lsdb.specs.declared.slot.SlotFault.TheVariants.{NoArea};
 
 use crate::database::Database;

@@ -2,8 +2,8 @@
 
 ghost use Rattle.std.specs.Prelude.{◌≡◌, ◌≤◌, length};
 ghost use Rattle.std.specs.Int.{w8, w16, w32};
-ghost use Rattle.lsdb.specs.Cursors.{at_of};
-ghost use Rattle.lsdb.specs.Loading.{Gives, number_at, advanced};
+ghost use Rattle.lsdb.specs.steps.Reading.{at_of, Gives};
+ghost use Rattle.lsdb.specs.Loading.{number_at, advanced};
 
 use crate::cursor::Cursor;
 use crate::fault::{DumpFault, DumpFaultKind, ReadError};

@@ -7,7 +7,7 @@ use Rattle.std.proofs.lemmas.Bool.{cond_below}
 use Rattle.lsdb.specs.declared.fault.DumpFault.{DumpFault}
 use Rattle.lsdb.specs.declared.fault.DumpFaultKind.TheVariants as kind
 use Rattle.lsdb.specs.Text.{text}
-use Rattle.lsdb.specs.Loading.{loaded, IsFirst}
+use Rattle.lsdb.specs.Loading.{loaded, IsFirstFault}
 use Rattle.edit_history.specs.Session.{state}
 use Rattle.ospf_plan.specs.Branches.{Sessions}
 use Rattle.ospf_plan.specs.Run.{Answer, answers, answers_from, sessions_after, dump_after, lines_of, begun, text_of, run_answers, run_text, final_dump}
@@ -83,16 +83,16 @@ too_large (Some bytes) longer = sym (cond_below 16777216 (length bytes) _ _ long
 
 -- a fault that is not want of memory is the first fault of the bytes
 pub first_fault : (known : Option (List ℕ)) (fault : DumpFault) → (fault.kind ≡ kind.OutOfMemory → ⊥)
-    → IfSome known (λ bytes. IsFirst fault (loaded bytes)) → IfSome known (λ bytes. loaded bytes ≡ Err fault)
+    → IfSome known (λ bytes. IsFirstFault fault (loaded bytes)) → IfSome known (λ bytes. loaded bytes ≡ Err fault)
 first_fault None fault other first = tt
 first_fault (Some bytes) fault other (inl memory) = absurd (other (ap (λ (f : DumpFault). f.kind) memory))
 first_fault (Some bytes) fault other (inr first) = first
 
 -- what was loaded, told of known bytes
 pub known_first : (known : Option (List ℕ)) (read : List ℕ) (fault : DumpFault) → IsAll known read
-    → IsFirst fault (loaded read) → IfSome known (λ bytes. IsFirst fault (loaded bytes))
+    → IsFirstFault fault (loaded read) → IfSome known (λ bytes. IsFirstFault fault (loaded bytes))
 known_first None read fault all first = tt
-known_first (Some bytes) read fault all first = subst (λ b. IsFirst fault (loaded b)) all first
+known_first (Some bytes) read fault all first = subst (λ b. IsFirstFault fault (loaded b)) all first
 
 -- a prefix that was written, and then nothing more
 pub prefix_kept : (a b c : Option (List ℕ)) (whole : List ℕ) → AppendsPrefix a b whole → Keeps b c → AppendsPrefix a c whole

@@ -4,7 +4,7 @@ ghost use Rattle.std.specs.Prelude.{◌≡◌, ◌≢◌, ◌↔◌, ◌≤◌, 
 ghost use Rattle.std.specs.Io.KnownBytes.{IsAtEnd};
 ghost use Rattle.streams.specs.Watched.{inner_of, has_failed};
 ghost use Rattle.streams.specs.WholeText.{IsAll, IsLonger, ConsumesAtMost};
-ghost use Rattle.lsdb.specs.Loading.{loaded, IsFirst};
+ghost use Rattle.lsdb.specs.Loading.{loaded, IsFirstFault};
 ghost use Rattle.ospf_plan.specs.Branches.{sessions_of};
 ghost use Rattle.ospf_plan.specs.Run.{begun};
 ghost use Rattle.ospf_plan.specs.Inputs.{IsAccepted};
@@ -52,7 +52,7 @@ const TOO_LARGE: DumpFault = DumpFault {
 
 /// How a run ends on a dump that is not loaded.
 fn load_fault(fault: DumpFault) -> RunFault
-    ensures end { (known : Option (List ℕ)) → IfSome known (λ bytes. IsFirst fault (loaded bytes)) → IsDumpEnd known result }
+    ensures end { (known : Option (List ℕ)) → IfSome known (λ bytes. IsFirstFault fault (loaded bytes)) → IsDumpEnd known result }
     ensures read { result ≢ RunFault.Read }
 {
     match fault.kind {

@@ -9,11 +9,11 @@ use Rattle.lsdb.specs.Places.{Place, Places, slot_at, lists_of, IsNamed, OpensPl
 use Rattle.edit_history.specs.declared.lookup.Wanted.{Wanted}
 use Rattle.edit_history.specs.declared.lookup.Wanted.TheVariants as wanted
 use Rattle.edit_history.specs.Rules.{Fate, stays, removed, rewritten, Fates, section_name}
-use Rattle.edit_history.specs.Effect.{is_network, is_for}
+use Rattle.edit_history.specs.Effect.{is_network, is_originated_for}
 use Rattle.edit_history.specs.Exchange.{SwapData}
 
 -- the first LSA of a section that passes a test, and its place
-pub record IsFirst (d : Places) (name : Section) (test : List ℕ → Bool) (slot : SlotId) (lsa : List ℕ) : Type 0 where
+pub record IsFirstLsa (d : Places) (name : Section) (test : List ℕ → Bool) (slot : SlotId) (lsa : List ℕ) : Type 0 where
   pub named : IsNamed d name slot.section
   pub first : find test (lsas_of name (lists_of d)) ≡ Some lsa
   pub held : slot_at d slot ≡ Some (Some lsa)
@@ -21,8 +21,8 @@ pub record IsFirst (d : Places) (name : Section) (test : List ℕ → Bool) (slo
 -- the test that an LSA passes that is looked for by more than its key
 abbrev pub is_wanted : Wanted → List ℕ → Bool
 is_wanted (wanted.Network network) lsa = is_network network lsa
-is_wanted (wanted.Summary router prefix) lsa = is_for 3 router prefix lsa
-is_wanted (wanted.External router prefix) lsa = is_for 5 router prefix lsa
+is_wanted (wanted.Summary router prefix) lsa = is_originated_for 3 router prefix lsa
+is_wanted (wanted.External router prefix) lsa = is_originated_for 5 router prefix lsa
 
 -- whether an LSA stands at a place and passes a test
 abbrev pub passes : (List ℕ → Bool) → Option Place → Bool

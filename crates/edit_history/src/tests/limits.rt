@@ -1,9 +1,15 @@
 //! The limits: LSAs of an area, LSAs of AS scope, octets of an LSA and of the dump.
 
+use super::fixtures::*;
 use super::opaque::{area_of, as_list_of, balanced};
-use super::*;
+use crate::*;
+use edit_script::Edit;
+use lsa_codec::{AreaId, RouterId};
+use lsdb::{Database, Section};
 use rationed::Rationed;
-use std::alloc::Global;
+use std::alloc::{Allocator, Global};
+use std::process::Abort;
+use std::test::*;
 
 /// The router whose router-LSA has as many links as fit in an LSA.
 const THIRD: RouterId = RouterId(0x03030303);

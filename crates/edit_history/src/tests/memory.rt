@@ -3,11 +3,16 @@
 ghost use Rattle.std.specs.Prelude.{IfOk};
 ghost use Rattle.edit_history.specs.Journal.{Links};
 
+use super::fixtures::*;
 use super::opaque::area_of;
-use super::*;
-use lsa_codec::Key;
-use lsdb::SlotId;
+use crate::*;
+use edit_script::Edit;
+use lsa_codec::{Addr, AreaId, Key, RouterId};
+use lsdb::{Database, Section, SlotId};
 use rationed::Rationed;
+use std::alloc::Allocator;
+use std::process::Abort;
+use std::test::*;
 
 /// The router-LSA of 1.1.1.1 in `NETS` after the ten edits: its stub link of cost 7, and the new
 /// one.

@@ -1,6 +1,6 @@
 //! Opaque LSAs (RFC 5250): they fill a database, and no edit reads what they say.
 
-use super::SAMPLE;
+use super::fixtures::SAMPLE;
 use std::alloc::Global;
 use std::test::Fail;
 

@@ -1,8 +1,14 @@
 //! Refused edits: which refusal comes first, that nothing changes, and that want of memory comes
 //! last.
 
-use super::*;
+use super::fixtures::*;
+use crate::*;
+use edit_script::Edit;
+use lsa_codec::{Addr, AreaId, RouterId};
+use lsdb::Database;
 use rationed::Rationed;
+use std::process::Abort;
+use std::test::*;
 
 const AREA: AreaId = AreaId(0);
 

@@ -13,7 +13,7 @@ use Rattle.edit_history.specs.Applied.{IsRefused}
 use Rattle.edit_history.proofs.NamedLsas.{kind_is}
 use Rattle.edit_history.proofs.Searches.{there_too}
 use Rattle.edit_history.proofs.RulesCarriedOut.{planned_here, no_memory}
-use Rattle.edit_history.proofs.FailureFates.{link_safe, section_follows}
+use Rattle.edit_history.proofs.FailureFates.{link_safe, section_carried_out}
 use Rattle.edit_history.proofs.FailureRules.{link_no_area, link_same, link_no_router, link_no_neighbor, link_none, link_ruled}
 use Rattle.edit_history.proofs.failures.plan_fail_link.Goals as goal
 
@@ -21,8 +21,8 @@ pub returns-in_err-number-clause-refused : goal.returns-in_err-number-clause-ref
 returns-in_err-number-clause-refused g c =
     let gave = err_from_is_err_and c.from_residual.result c.from_residual.ensures.1 in
     rw (gave.1, gave.2) (subst (λ (f : EditFault). IsRefused c.args.database.now (FailLink c.args.area c.args.router c.args.neighbor) f)
-    (sym c.in_err-number.ensures.refused.0)
-    (link_no_area c.args.database.now c.args.area c.args.router c.args.neighbor c.in_err-number.ensures.refused.1))
+    (sym c.in_err-number.ensures.refused)
+    (link_no_area c.args.database.now c.args.area c.args.router c.args.neighbor c.in_err-number.ensures.absent))
 
 pub returns-then-eq-clause-refused : goal.returns-then-eq-clause-refused
 returns-then-eq-clause-refused g c = let same : (c.args.router.0 == c.args.neighbor.0) ≡ true = search rules in
@@ -32,18 +32,20 @@ pub returns-in_err-lsa-clause-refused : goal.returns-in_err-lsa-clause-refused
 returns-in_err-lsa-clause-refused g c =
     let gave = err_from_is_err_and c.from_residual-in_err-lsa.result c.from_residual-in_err-lsa.ensures.1 in
     rw (gave.1, gave.2) (subst (λ (f : EditFault). IsRefused c.args.database.now (FailLink c.args.area c.args.router c.args.neighbor) f)
-    (sym c.in_err-lsa.ensures.refused.0)
+    (sym c.in_err-lsa.ensures.refused)
     (link_no_router c.args.database.now c.args.area c.args.router c.args.neighbor c.in_ok-number.number c.in_ok-number.ensures.found
-    (let apart : (c.args.router.0 == c.args.neighbor.0) ≡ false = search rules in apart) c.in_err-lsa.ensures.refused.1))
+    (let apart : (c.args.router.0 == c.args.neighbor.0) ≡ false = search rules in apart)
+    c.in_err-lsa.ensures.absent))
 
 pub returns-in_err-other-clause-refused : goal.returns-in_err-other-clause-refused
 returns-in_err-other-clause-refused g c =
     let gave = err_from_is_err_and c.from_residual-in_err-other.result c.from_residual-in_err-other.ensures.1 in
     rw (gave.1, gave.2) (subst (λ (f : EditFault). IsRefused c.args.database.now (FailLink c.args.area c.args.router c.args.neighbor) f)
-    (sym c.in_err-other.ensures.refused.0)
+    (sym c.in_err-other.ensures.refused)
     (link_no_neighbor c.args.database.now c.args.area c.args.router c.args.neighbor c.in_ok-number.number c.in_ok-lsa.field-0-0
     c.in_ok-lsa.lsa.now c.in_ok-number.ensures.found
-    (let apart : (c.args.router.0 == c.args.neighbor.0) ≡ false = search rules in apart) c.in_ok-lsa.ensures.found c.in_err-other.ensures.refused.1))
+    (let apart : (c.args.router.0 == c.args.neighbor.0) ≡ false = search rules in apart)
+    c.in_ok-lsa.ensures.found c.in_err-other.ensures.absent))
 
 pub are_linked-requires-clause-one : goal.are_linked-requires-clause-one
 are_linked-requires-clause-one g c =
@@ -58,7 +60,8 @@ returns-then-not-are_linked-clause-refused g c =
     let there : c.are_linked.result ≡ false = search rules in
     link_none c.args.database.now c.args.area c.args.router c.args.neighbor c.in_ok-number.number c.in_ok-lsa.field-0-0
     c.in_ok-lsa.lsa.now c.in_ok-other.field-0-0 c.in_ok-other.other.now c.in_ok-number.ensures.found
-    (let apart : (c.args.router.0 == c.args.neighbor.0) ≡ false = search rules in apart) c.in_ok-lsa.ensures.found c.in_ok-other.ensures.found (sym c.are_linked.ensures ∙ there)
+    (let apart : (c.args.router.0 == c.args.neighbor.0) ≡ false = search rules in apart)
+    c.in_ok-lsa.ensures.found c.in_ok-other.ensures.found (sym c.are_linked.ensures ∙ there)
 
 pub swaps_in-requires : goal.swaps_in-requires
 swaps_in-requires g c = there_too c.args.database.now c.in_ok-number.number c.in_ok-number.ensures.found.exists
@@ -68,20 +71,22 @@ returns-clause-planned g c =
     let there : c.are_linked.result ≡ true = search rules in
     let ruled = link_ruled c.args.database.now c.args.area c.args.router c.args.neighbor c.in_ok-number.number
     c.in_ok-lsa.field-0-0 c.in_ok-lsa.lsa.now c.in_ok-other.field-0-0 c.in_ok-other.other.now c.in_ok-number.ensures.found
-    (let apart : (c.args.router.0 == c.args.neighbor.0) ≡ false = search rules in apart) c.in_ok-lsa.ensures.found c.in_ok-other.ensures.found (sym c.are_linked.ensures ∙ there) in
+    (let apart : (c.args.router.0 == c.args.neighbor.0) ≡ false = search rules in apart)
+    c.in_ok-lsa.ensures.found c.in_ok-other.ensures.found (sym c.are_linked.ensures ∙ there) in
     let fate = link_fate c.args.router c.args.neighbor in
-    let follows = section_follows c.args.database.now (Area c.args.area) fate c.in_ok-number.number c.known.ensures c.in_ok-number.ensures.found
+    let carried = section_carried_out c.args.database.now (Area c.args.area) fate c.in_ok-number.number c.known.ensures c.in_ok-number.ensures.found
     (there_too c.args.database.now c.in_ok-number.number c.in_ok-number.ensures.found.exists) (link_safe c.args.router c.args.neighbor) in
     IfOk-weaker c.swaps_in.result _ _ (λ v is. planned_here c.args.database.now (FailLink c.args.area c.args.router c.args.neighbor)
     (within (Area c.args.area) fate) (section_swaps fate c.in_ok-number.number (Area c.args.area) 0
-    (places_in c.args.database.now c.in_ok-number.number)) v.items ruled follows is) c.swaps_in.ensures.swaps
+    (places_in c.args.database.now c.in_ok-number.number)) v.items ruled carried is) c.swaps_in.ensures.swaps
 
 pub returns-clause-refused : goal.returns-clause-refused
 returns-clause-refused g c =
     let there : c.are_linked.result ≡ true = search rules in
     let ruled = link_ruled c.args.database.now c.args.area c.args.router c.args.neighbor c.in_ok-number.number
     c.in_ok-lsa.field-0-0 c.in_ok-lsa.lsa.now c.in_ok-other.field-0-0 c.in_ok-other.other.now c.in_ok-number.ensures.found
-    (let apart : (c.args.router.0 == c.args.neighbor.0) ≡ false = search rules in apart) c.in_ok-lsa.ensures.found c.in_ok-other.ensures.found (sym c.are_linked.ensures ∙ there) in
+    (let apart : (c.args.router.0 == c.args.neighbor.0) ≡ false = search rules in apart)
+    c.in_ok-lsa.ensures.found c.in_ok-other.ensures.found (sym c.are_linked.ensures ∙ there) in
     IfErr-weaker c.swaps_in.result _ _ (λ f is. subst
     (λ (e : EditFault). IsRefused c.args.database.now (FailLink c.args.area c.args.router c.args.neighbor) e) (sym is)
     (no_memory c.args.database.now (FailLink c.args.area c.args.router c.args.neighbor) _ ruled)) c.swaps_in.ensures.memory

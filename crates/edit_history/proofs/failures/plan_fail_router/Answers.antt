@@ -8,7 +8,7 @@ use Rattle.edit_history.specs.steps.Plans.{swaps_from}
 use Rattle.edit_history.specs.Applied.{IsRefused}
 use Rattle.edit_history.proofs.Searches.{exists_at}
 use Rattle.edit_history.proofs.RulesCarriedOut.{planned_here, no_memory}
-use Rattle.edit_history.proofs.FailureFates.{router_follows, section_turn, section_end}
+use Rattle.edit_history.proofs.FailureFates.{router_carried_out, section_turn, section_end}
 use Rattle.edit_history.proofs.FailureRules.{router_none, router_ruled}
 use Rattle.edit_history.proofs.failures.plan_fail_router.Goals as goal
 
@@ -42,5 +42,5 @@ returns-clause-planned g c =
     planned_here c.args.database.now (FailRouter c.args.router) (by_fates (λ head. router_fate c.args.router))
     (swaps_from (λ head. router_fate c.args.router) 0 c.args.database.now) c.loop-number.swaps.items
     (router_ruled c.args.database.now c.args.router (sym c.has_router.ensures ∙ there))
-    (router_follows c.args.database.now c.args.router c.known.ensures)
+    (router_carried_out c.args.database.now c.args.router c.known.ensures)
     (section_end (router_fate c.args.router) c.args.database.now c.loop-number.number _ _ (omega arith) c.loop-number.invariant)

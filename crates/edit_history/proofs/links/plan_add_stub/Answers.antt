@@ -25,7 +25,8 @@ pub returns-then-is_dump_full-clause-refused : goal.returns-then-is_dump_full-cl
 returns-then-is_dump_full-clause-refused g c =
     stub_full c.args.database.now c.args.area c.args.router c.args.prefix c.args.metric c.in_ok-slot.slot c.in_ok-slot.lsa.now
     c.in_ok-slot.ensures.found
-    (let short : length c.in_ok-slot.lsa.now + 12 ≤ 65535 = omega (arith, ap length c.bytes.ensures.bytes, c.if-bytes-from-gt-LONGEST_LSA.false) in short) (sym c.is_dump_full.ensures ∙ c.if-is_dump_full.true)
+    (let short : length c.in_ok-slot.lsa.now + 12 ≤ 65535 = omega (arith, ap length c.bytes.ensures.bytes, c.if-bytes-from-gt-LONGEST_LSA.false) in short)
+    (sym c.is_dump_full.ensures ∙ c.if-is_dump_full.true)
 
 pub with_stub-requires : goal.with_stub-requires
 with_stub-requires g c =
@@ -39,21 +40,25 @@ returns-in_err-new-clause-refused g c =
     let gave = err_from_is_err_and c.from_residual-in_err-new.result c.from_residual-in_err-new.ensures.1 in
     let fault = stub_fault c.args.prefix c.args.metric c.in_ok-slot.lsa.now c.in_err-new.field-0.0
     (let short : length c.in_ok-slot.lsa.now + 12 ≤ 65535 = omega
-    (arith, ap length c.bytes.ensures.bytes, c.if-bytes-from-gt-LONGEST_LSA.false) in short) c.in_err-new.ensures.fault in
+    (arith, ap length c.bytes.ensures.bytes, c.if-bytes-from-gt-LONGEST_LSA.false) in short)
+    c.in_err-new.ensures.fault in
     rw (gave.1, gave.2) (subst (λ (f : EditFault). IsRefused c.args.database.now (AddStub c.args.area c.args.router c.args.prefix c.args.metric) f)
     (sym fault) (stub_memory c.args.database.now c.args.area c.args.router c.args.prefix c.args.metric c.in_ok-slot.slot
     c.in_ok-slot.lsa.now c.in_ok-slot.ensures.found
-    (let short : length c.in_ok-slot.lsa.now + 12 ≤ 65535 = omega (arith, ap length c.bytes.ensures.bytes, c.if-bytes-from-gt-LONGEST_LSA.false) in short) (sym c.is_dump_full.ensures ∙ c.if-is_dump_full.false)))
+    (let short : length c.in_ok-slot.lsa.now + 12 ≤ 65535 = omega (arith, ap length c.bytes.ensures.bytes, c.if-bytes-from-gt-LONGEST_LSA.false) in short)
+    (sym c.is_dump_full.ensures ∙ c.if-is_dump_full.false)))
 
 pub returns-in_err-one_swap-clause-refused : goal.returns-in_err-one_swap-clause-refused
 returns-in_err-one_swap-clause-refused g c =
     let gave = err_from_is_err_and c.from_residual-in_err-one_swap.result c.from_residual-in_err-one_swap.ensures.1 in
     rw (gave.1, gave.2) (stub_memory c.args.database.now c.args.area c.args.router c.args.prefix c.args.metric c.in_ok-slot.slot
     c.in_ok-slot.lsa.now c.in_ok-slot.ensures.found
-    (let short : length c.in_ok-slot.lsa.now + 12 ≤ 65535 = omega (arith, ap length c.bytes.ensures.bytes, c.if-bytes-from-gt-LONGEST_LSA.false) in short) (sym c.is_dump_full.ensures ∙ c.if-is_dump_full.false))
+    (let short : length c.in_ok-slot.lsa.now + 12 ≤ 65535 = omega (arith, ap length c.bytes.ensures.bytes, c.if-bytes-from-gt-LONGEST_LSA.false) in short)
+    (sym c.is_dump_full.ensures ∙ c.if-is_dump_full.false))
 
 pub returns-clause-planned : goal.returns-clause-planned
 returns-clause-planned g c =
     stub_planned c.args.database.now c.args.area c.args.router c.args.prefix c.args.metric c.in_ok-slot.slot c.in_ok-slot.lsa.now
     c.in_ok-new.new c.new-swap.result c.in_ok-one_swap.field-0.items c.known.ensures c.in_ok-slot.ensures.found
-    (let short : length c.in_ok-slot.lsa.now + 12 ≤ 65535 = omega (arith, ap length c.bytes.ensures.bytes, c.if-bytes-from-gt-LONGEST_LSA.false) in short) (sym c.is_dump_full.ensures ∙ c.if-is_dump_full.false) c.in_ok-new.ensures.made c.in_ok-new.ensures.keeps c.new-swap.ensures c.in_ok-one_swap.ensures
+    (let short : length c.in_ok-slot.lsa.now + 12 ≤ 65535 = omega (arith, ap length c.bytes.ensures.bytes, c.if-bytes-from-gt-LONGEST_LSA.false) in short)
+    (sym c.is_dump_full.ensures ∙ c.if-is_dump_full.false) c.in_ok-new.ensures.made c.in_ok-new.ensures.keeps c.new-swap.ensures c.in_ok-one_swap.ensures

@@ -18,7 +18,9 @@ returns-in_err-check_room-clause-refused g c =
     let gave = err_from_is_err_and c.from_residual.result c.from_residual.ensures.1 in
     rw (gave.1, gave.2) (external_no_room c.args.database.now c.args.router c.args.prefix c.args.metric_type c.args.metric
     c.args.forward c.args.tag c.new_key-key.result c.in_err-check_room.field-0.0
-    (let there : c.has_router.result ≡ true = search rules in sym c.has_router.ensures ∙ there) (record { is_net = c.new_key-key.ensures.prefix; addr = c.new_key-key.ensures.addr; wide = c.new_key-key.ensures.router }) c.new_key-key.ensures.key c.in_err-check_room.ensures.refused)
+    (let there : c.has_router.result ≡ true = search rules in sym c.has_router.ensures ∙ there)
+    (record { is_net = c.new_key-key.ensures.prefix; addr = c.new_key-key.ensures.addr; wide = c.new_key-key.ensures.router })
+    c.new_key-key.ensures.key c.in_err-check_room.ensures.refused)
 
 pub returns-in_err-lsa-clause-refused : goal.returns-in_err-lsa-clause-refused
 returns-in_err-lsa-clause-refused g c =
@@ -28,7 +30,9 @@ returns-in_err-lsa-clause-refused g c =
     (sym (ap fault_of c.in_err-lsa.ensures.fault))
     (external_memory c.args.database.now c.args.router c.args.prefix c.args.metric_type c.args.metric c.args.forward
     c.args.tag c.new_key-key.result
-    (let there : c.has_router.result ≡ true = search rules in sym c.has_router.ensures ∙ there) (record { is_net = c.new_key-key.ensures.prefix; addr = c.new_key-key.ensures.addr; wide = c.new_key-key.ensures.router }) c.new_key-key.ensures.key c.in_ok-check_room.ensures.room))
+    (let there : c.has_router.result ≡ true = search rules in sym c.has_router.ensures ∙ there)
+    (record { is_net = c.new_key-key.ensures.prefix; addr = c.new_key-key.ensures.addr; wide = c.new_key-key.ensures.router })
+    c.new_key-key.ensures.key c.in_ok-check_room.ensures.room))
 
 pub returns-clause-planned : goal.returns-clause-planned
 returns-clause-planned g c =

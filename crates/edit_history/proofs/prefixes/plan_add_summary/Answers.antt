@@ -12,16 +12,16 @@ pub returns-in_err-number-clause-refused : goal.returns-in_err-number-clause-ref
 returns-in_err-number-clause-refused g c =
     let gave = err_from_is_err_and c.from_residual.result c.from_residual.ensures.1 in
     rw (gave.1, gave.2) (subst (λ (f : EditFault). IsRefused c.args.database.now (AddSummary c.args.area c.args.router c.args.prefix c.args.metric) f)
-    (sym c.in_err-number.ensures.refused.0)
-    (add_no_area c.args.database.now c.args.area c.args.router c.args.prefix c.args.metric c.in_err-number.ensures.refused.1))
+    (sym c.in_err-number.ensures.refused)
+    (add_no_area c.args.database.now c.args.area c.args.router c.args.prefix c.args.metric c.in_err-number.ensures.absent))
 
 pub returns-in_err-router_lsa_in-clause-refused : goal.returns-in_err-router_lsa_in-clause-refused
 returns-in_err-router_lsa_in-clause-refused g c =
     let gave = err_from_is_err_and c.from_residual-in_err-router_lsa_in.result c.from_residual-in_err-router_lsa_in.ensures.1 in
     rw (gave.1, gave.2) (subst (λ (f : EditFault). IsRefused c.args.database.now (AddSummary c.args.area c.args.router c.args.prefix c.args.metric) f)
-    (sym c.in_err-router_lsa_in.ensures.refused.0)
+    (sym c.in_err-router_lsa_in.ensures.refused)
     (add_no_router c.args.database.now c.args.area c.args.router c.args.prefix c.args.metric c.in_ok-number.number
-    c.in_ok-number.ensures.found c.in_err-router_lsa_in.ensures.refused.1))
+    c.in_ok-number.ensures.found c.in_err-router_lsa_in.ensures.absent))
 
 pub returns-in_err-check_room-clause-refused : goal.returns-in_err-check_room-clause-refused
 returns-in_err-check_room-clause-refused g c =

@@ -12,8 +12,8 @@ pub returns-in_err-area_section-clause-refused : goal.returns-in_err-area_sectio
 returns-in_err-area_section-clause-refused g c =
     let gave = err_from_is_err_and c.from_residual.result c.from_residual.ensures.1 in
     rw (gave.1, gave.2) (subst (λ (f : EditFault). IsRefused c.args.database.now (Summary c.args.area c.args.router c.args.prefix c.args.metric) f)
-    (sym c.in_err-area_section.ensures.refused.0)
-    (summary_no_area c.args.database.now c.args.area c.args.router c.args.prefix c.args.metric c.in_err-area_section.ensures.refused.1))
+    (sym c.in_err-area_section.ensures.refused)
+    (summary_no_area c.args.database.now c.args.area c.args.router c.args.prefix c.args.metric c.in_err-area_section.ensures.absent))
 
 pub returns-in_default-clause-refused : goal.returns-in_default-clause-refused
 returns-in_default-clause-refused g c =

@@ -1,5 +1,5 @@
 use Rattle.std.proofs.Common.{◌≡◌, take}
-use Rattle.lsdb.specs.View.{places_of}
+use Rattle.lsdb.specs.steps.View.{places_of}
 use Rattle.lsdb.proofs.copy.copy_of_sections.Given as goal
 
 abbrev pub invariant-loop-section : goal.invariant-loop-section

@@ -1,8 +1,8 @@
 use Rattle.std.proofs.Common.{[], ◌∷◌, ◌++◌, ◌∙◌, ap, ◌≡◌, option_map}
 use Rattle.std.proofs.lemmas.Result.{err_from_is_err_and}
 use Rattle.lsdb.specs.Places.{section_of, lists_of}
-use Rattle.lsdb.specs.View.{head_of, section_places_of, places_of}
-use Rattle.lsdb.specs.Cursors.{at_of}
+use Rattle.lsdb.specs.steps.View.{head_of, section_places_of, places_of}
+use Rattle.lsdb.specs.steps.Reading.{at_of}
 use Rattle.lsdb.proofs.Full.{lists_of-push}
 use Rattle.lsdb.proofs.Loop.{areas_goes_on, areas_end, areas_done}
 use Rattle.lsdb.proofs.load.read_areas.Goals as goal

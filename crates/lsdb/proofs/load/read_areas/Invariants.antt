@@ -1,7 +1,7 @@
 use Rattle.std.proofs.Common.{◌≡◌, ◌-◌, [], None, option_map}
 use Rattle.lsdb.specs.Places.{lists_of}
-use Rattle.lsdb.specs.View.{head_of, places_of}
-use Rattle.lsdb.specs.Cursors.{at_of}
+use Rattle.lsdb.specs.steps.View.{head_of, places_of}
+use Rattle.lsdb.specs.steps.Reading.{at_of}
 use Rattle.lsdb.specs.Loading.{areas_from}
 use Rattle.lsdb.proofs.load.read_areas.Given as goal
 

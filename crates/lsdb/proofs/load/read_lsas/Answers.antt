@@ -2,8 +2,8 @@ use Rattle.std.proofs.Common.{[], ◌∷◌, ◌++◌, ◌∙◌, ap, sym, ◌�
 use Rattle.std.proofs.lemmas.Bool.{not-false, not-true}
 use Rattle.std.proofs.lemmas.Result.{err_from_is_err_and}
 use Rattle.lsdb.specs.Places.{full}
-use Rattle.lsdb.specs.View.{head_of}
-use Rattle.lsdb.specs.Cursors.{at_of}
+use Rattle.lsdb.specs.steps.View.{head_of}
+use Rattle.lsdb.specs.steps.Reading.{at_of}
 use Rattle.lsdb.specs.Loading.{has_key_of}
 use Rattle.lsdb.proofs.Full.{full-push}
 use Rattle.lsdb.proofs.Keys.{inserted, keys_push}

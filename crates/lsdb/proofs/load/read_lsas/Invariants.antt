@@ -1,7 +1,7 @@
 use Rattle.std.proofs.Common.{◌≡◌, ◌-◌, [], option_map}
 use Rattle.lsdb.specs.Places.{full}
-use Rattle.lsdb.specs.View.{head_of}
-use Rattle.lsdb.specs.Cursors.{at_of}
+use Rattle.lsdb.specs.steps.View.{head_of}
+use Rattle.lsdb.specs.steps.Reading.{at_of}
 use Rattle.lsdb.specs.Loading.{lsas_from}
 use Rattle.lsdb.proofs.Keys.{HasKeys}
 use Rattle.lsdb.proofs.load.read_lsas.Given as goal

@@ -2,7 +2,7 @@ use Rattle.std.proofs.Common.{◌≡◌, ◌<◌, length, arith, subst, ap, ◌�
 use Rattle.std.specs.Prelude.{IsSome, slice_get, option_map}
 use Rattle.lsdb.specs.Lists.{AreaHead, areas_of}
 use Rattle.lsdb.specs.Places.{Places, lists_of}
-use Rattle.lsdb.specs.View.{head_of, places_of}
+use Rattle.lsdb.specs.steps.View.{head_of, places_of}
 use Rattle.lsdb.proofs.Areas.{areas_count, heads_seen, area_seen}
 use Rattle.lsdb.proofs.database.Database.area.Goals as goal
 

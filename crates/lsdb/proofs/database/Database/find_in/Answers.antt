@@ -1,8 +1,7 @@
-use Rattle.std.proofs.Common.{◌≡◌, subst, refl, Some, None, None}
-use Rattle.std.specs.Prelude.{IsSome}
+use Rattle.std.proofs.Common.{◌≡◌, subst, None}
 use Rattle.std.specs.List.{find}
 use Rattle.lsdb.specs.Lists.{has_key}
-use Rattle.lsdb.specs.Places.{Places, lsas_in, place_in, item_at}
+use Rattle.lsdb.specs.Places.{Places, IsFirstPlace, lsas_in}
 use Rattle.lsdb.proofs.Searching.{found_in, none_in}
 use Rattle.lsdb.proofs.database.Database.find_in.Goals as goal
 
@@ -14,9 +13,7 @@ returns-in_default g c =
 
 pub returns : goal.returns
 returns g c =
-    let found =
-    subst (λ (d : Places). (place_in (item_at d c.args.section) c.in-Some.index ≡ Some
-    (find (has_key c.args.key) (lsas_in d c.args.section))) × IsSome (find (has_key c.args.key) (lsas_in d c.args.section))) c.self.view_is
+    subst
+    (λ (d : Places). IsFirstPlace d c.args.section (has_key c.args.key) (record { section = c.args.section; index = c.in-Some.index })) c.self.view_is
     (found_in c.self.inside.sections.items c.args.section c.in-Some.index c.index.result.now c.deref.result.now c.args.key
-    (rw c.self.view_is c.requires) c.index.ensures c.deref.ensures.value c.in-Some.ensures) in
-    (refl, found.0, found.1)
+    (rw c.self.view_is c.requires) c.index.ensures c.deref.ensures.value c.in-Some.ensures)

@@ -1,7 +1,7 @@
 use Rattle.std.proofs.Common.{◌≡◌, ◌∙◌, arith, ap, length, subst, sym}
 use Rattle.lsdb.specs.Lists.{Lists}
 use Rattle.lsdb.specs.Places.{Places, lists_of}
-use Rattle.lsdb.specs.View.{places_of}
+use Rattle.lsdb.specs.steps.View.{places_of}
 use Rattle.lsdb.specs.Text.{text}
 use Rattle.lsdb.proofs.DumpText.{loaded_takes}
 use Rattle.lsdb.proofs.TextSize.{text_size}

@@ -1,13 +1,14 @@
 use Rattle.std.proofs.Common.{◌≡◌, ◌∙◌, subst, arith, length, ap}
 use Rattle.lsdb.specs.Places.{Places, lists_of, lsas_in}
-use Rattle.lsdb.specs.View.{places_of}
+use Rattle.lsdb.specs.steps.View.{places_of}
 use Rattle.lsdb.proofs.Walked.{section_seen, few_at}
 use Rattle.lsdb.proofs.database.Database.lsas_in.Goals as goal
 
 pub returns-clause-lsas : goal.returns-clause-lsas
 returns-clause-lsas g c =
     subst (λ (d : Places). c.of.result ≡ lsas_in d c.args.section) c.self.view_is
-    (c.of.ensures ∙ section_seen c.self.inside.sections.items c.args.section c.index.result.now c.deref.result.now (rw c.self.view_is c.requires) c.index.ensures c.deref.ensures.value)
+    (c.of.ensures ∙ section_seen c.self.inside.sections.items c.args.section c.index.result.now c.deref.result.now
+    (rw c.self.view_is c.requires) c.index.ensures c.deref.ensures.value)
 
 pub returns-clause-few : goal.returns-clause-few
 returns-clause-few g c =
@@ -15,5 +16,6 @@ returns-clause-few g c =
       arith,
       few_at (lists_of (places_of c.self.inside.sections.items)) c.args.section c.self.invariant.sound.sections,
       ap length
-          (c.of.ensures ∙ section_seen c.self.inside.sections.items c.args.section c.index.result.now c.deref.result.now (rw c.self.view_is c.requires) c.index.ensures c.deref.ensures.value),
+          (c.of.ensures ∙ section_seen c.self.inside.sections.items c.args.section c.index.result.now c.deref.result.now
+          (rw c.self.view_is c.requires) c.index.ensures c.deref.ensures.value),
     )

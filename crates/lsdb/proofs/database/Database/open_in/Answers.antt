@@ -1,10 +1,10 @@
 use Rattle.std.proofs.Common.{refl, ap, ◌∙◌, ◌≡◌, ℕ, length, vec_len, rules}
 use Rattle.std.specs.Prelude.{OnErr, Result, Ok, Err}
 use Rattle.lsdb.specs.Places.{Places, open_at, place_in, item_at, lists_of}
-use Rattle.lsdb.specs.View.{places_of}
+use Rattle.lsdb.specs.steps.View.{places_of}
 use Rattle.lsdb.proofs.Seen.{open_places, kept_places, slot_opened}
 use Rattle.lsdb.proofs.Slots.{lists_of-open_at}
-use Rattle.lsdb.proofs.Kept.{kept_lists}
+use Rattle.lsdb.proofs.DumpLength.{kept_lists}
 use Rattle.lsdb.proofs.database.Database.open_in.Goals as goal
 
 on_err_from : {T E : Type 0} {P : Type 0} (r : Result T E) → P → OnErr r P

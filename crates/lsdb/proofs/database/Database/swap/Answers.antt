@@ -2,9 +2,9 @@ use Rattle.std.proofs.Common.{refl, sym, ap, ◌∙◌, ◌≡◌, arith, Some}
 use Rattle.std.specs.Prelude.{IsSome}
 use Rattle.lsdb.specs.Places.{Place, Places, put, slot_at, lists_of}
 use Rattle.lsdb.specs.Lists.{IsDatabase}
-use Rattle.lsdb.specs.View.{places_of}
+use Rattle.lsdb.specs.steps.View.{places_of}
 use Rattle.lsdb.proofs.Seen.{swap_put, swap_read}
-use Rattle.lsdb.proofs.Kept.{kept_put, size_moved, place_fits}
+use Rattle.lsdb.proofs.DumpLength.{kept_put, size_moved, place_fits}
 use Rattle.lsdb.proofs.database.Database.swap.Goals as goal
 
 pub returns-clause-put : goal.returns-clause-put

@@ -1,4 +1,6 @@
-use super::*;
+//! Dumps: what they hold, what is written, and how each fault is told.
+
+use crate::*;
 use lsa_codec::LsaFault;
 use std::test::*;
 

@@ -5,7 +5,7 @@ use Rattle.lsdb.specs.Lists.{IsDatabase}
 use Rattle.lsdb.specs.Places.{Place, Places, put, slot_at, lists_of}
 use Rattle.lsdb.proofs.Slots.{put-put, put-slot_at, slot_at-put}
 use Rattle.lsdb.proofs.Dominated.{put_safe}
-use Rattle.lsdb.proofs.place_tests.seen_without.Goals as goal
+use Rattle.lsdb.proofs.tests.places.seen_without.Goals as goal
 
 emptied : (d : Places) (slot : SlotId) → IsSome (slot_at d slot) → IsDatabase (lists_of d) → IsDatabase (lists_of (put d slot None))
 emptied d slot some db = by_place (slot_at d slot) refl some where

@@ -3,7 +3,7 @@
 ghost use Rattle.std.specs.Prelude.{◌≡◌, IsSome};
 ghost use Rattle.lsdb.specs.Places.{slot_at};
 
-use super::*;
+use crate::*;
 use lsa_codec::{Addr, AreaId, Key, Lsa, RouterId};
 use std::alloc::Global;
 use std::test::*;

@@ -3,8 +3,9 @@ use Rattle.std.proofs.Common.{◌≡◌, ℕ, ◌+◌, ◌-◌, ◌≤◌, List,
 use Rattle.lsdb.specs.declared.slot.SlotId.{SlotId}
 use Rattle.lsdb.specs.declared.database.SectionOf.{SectionOf}
 use Rattle.lsdb.specs.Lists.{IsDatabase, size}
-use Rattle.lsdb.specs.Places.{Place, Places, put, slot_at, lists_of, place_size}
-use Rattle.lsdb.specs.View.{places_of, IsKept}
+use Rattle.lsdb.specs.Places.{Place, Places, put, slot_at, lists_of}
+use Rattle.lsdb.specs.steps.OnePlace.{place_size}
+use Rattle.lsdb.specs.steps.View.{places_of, IsKept}
 use Rattle.lsdb.proofs.Dominated.{size-put}
 
 -- the same lists

@@ -1,0 +1,21 @@
+-- What a function that reads a part of a dump tells of it.
+use Rattle.std.specs.Prelude.{◌≡◌, Result, Ok, Err}
+use Rattle.lsdb.specs.declared.cursor.Cursor.{Cursor}
+use Rattle.lsdb.specs.declared.fault.DumpFault.{DumpFault}
+use Rattle.lsdb.specs.declared.fault.ReadError.{ReadError}
+use Rattle.lsdb.specs.declared.fault.ReadError.TheVariants as errors
+use Rattle.lsdb.specs.Loading.{At}
+
+-- a place in a dump, without where its bytes lie in memory
+abbrev pub at_of : Cursor → At
+at_of at = record { offset = at.offset; rest = at.rest.now }
+
+-- reading ended for want of memory, or with the fault that is told
+abbrev pub Fails : {Y : Type 0} → ReadError → Result Y DumpFault → Type 0
+Fails errors.Memory read = Unit {0}
+Fails (errors.Fault f) read = read ≡ Err f
+
+-- what a function returned, seen by view, is what reading gives, unless memory ran out
+abbrev pub Gives : {X Y : Type 0} → (X → Y) → Result X ReadError → Result Y DumpFault → Type 0
+Gives view (Ok x) read = read ≡ Ok (view x)
+Gives view (Err e) read = Fails e read

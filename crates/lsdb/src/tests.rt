@@ -1,0 +1,4 @@
+//! Dumps that are loaded and refused, and places.
+
+mod dumps;
+mod places;
