@@ -12,13 +12,13 @@ use Rattle.lsa_codec.specs.Prefix.{Net}
 use Rattle.lsa_codec.specs.Views.{net_of_lsa}
 use Rattle.area_graph.specs.Area.{is_network_lsa}
 use Rattle.area_routes.specs.declared.networks.Standing.{Standing}
-use Rattle.area_routes.specs.Order.{prefix_cmp}
+use Rattle.lsa_codec.specs.Order.{prefix_cmp}
 use Rattle.area_routes.specs.Values.{OfferValue}
 use Rattle.area_routes.specs.Reached.{ReachedValue}
 use Rattle.area_routes.specs.Networks.{networks, beats, network_offer}
-use Rattle.area_routes.specs.Standings.{standing_of, stands_before, is_behind, any_before, AreStandingsOf, unbeaten}
+use Rattle.area_routes.specs.steps.Standings.{standing_of, stands_before, is_behind, any_before, AreStandingsOf, unbeaten}
 use Rattle.area_graph.proofs.MemberLemmas.{Some-same}
-use Rattle.area_routes.proofs.OrderLemmas.{prefix_exact}
+use Rattle.lsa_codec.proofs.OrderLemmas.{prefix_exact}
 
 -- ---- the order of standings
 

@@ -10,7 +10,8 @@ use Rattle.std.proofs.lemmas.List.Elements.{All-append, All-cons, All-filter, Al
 use Rattle.area_graph.specs.Least.{least, lesser}
 use Rattle.area_routes.specs.Best.{joined, of_rank, way_of, way_to, ways_of}
 use Rattle.area_routes.specs.Candidate.{Candidate}
-use Rattle.area_routes.specs.Order.{prefix_cmp, rank_cmp}
+use Rattle.lsa_codec.specs.Order.{prefix_cmp}
+use Rattle.area_routes.specs.Order.{rank_cmp}
 use Rattle.area_routes.specs.Routes.{route_of, routes_of}
 use Rattle.area_routes.specs.Values.{RoutesBelow, WayValue}
 use Rattle.area_routes.specs.declared.rank.Rank.{Rank}

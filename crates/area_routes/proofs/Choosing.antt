@@ -11,11 +11,11 @@ use Rattle.lsa_codec.specs.Fields.{link_state_id_of}
 use Rattle.lsa_codec.specs.Prefix.{Net}
 use Rattle.lsa_codec.specs.Views.{net_of_lsa}
 use Rattle.area_graph.proofs.MemberLemmas.{In, In-from_Contains, Contains-from_In, In-filter, filter-In, In-list_any, list_any-In}
-use Rattle.area_routes.specs.Order.{prefix_cmp}
+use Rattle.lsa_codec.specs.Order.{prefix_cmp}
 use Rattle.area_routes.specs.Reached.{ReachedValue}
 use Rattle.area_routes.specs.Networks.{precedes, beats, chosen}
 use Rattle.area_routes.specs.Choice.{IsAsGoodAs, IsBestOf}
-use Rattle.area_routes.proofs.OrderLemmas.{prefix_total}
+use Rattle.lsa_codec.proofs.OrderLemmas.{prefix_total}
 use Rattle.area_routes.proofs.Beaten.{before_trans, same_net}
 
 -- ---- numbers
@@ -94,7 +94,9 @@ as_good n m h = not_before m.distance n.distance (link_state_id_of m.lsa) (link_
 -- those chosen are the best
 pub chosen_best : (ns : List ReachedValue) (n : ReachedValue) → Contains (chosen ns) n ↔ IsBestOf ns n
 chosen_best ns n = (
-  λ c. (let ahead = chosen_ahead ns n (In-from_Contains (chosen ns) n c) in record { one = Contains-from_In ns n ahead.0; best = λ m d same. as_good n m (ahead.1 m (In-from_Contains ns m d) same) }),
+  λ c.
+      (let ahead = chosen_ahead ns n (In-from_Contains (chosen ns) n c) in
+      record { one = Contains-from_In ns n ahead.0; best = λ m d same. as_good n m (ahead.1 m (In-from_Contains ns m d) same) }),
   λ best. Contains-from_In (chosen ns) n (ahead_chosen ns n (
     In-from_Contains ns n best.one,
     λ m i same. ⊎_elim

@@ -15,8 +15,8 @@ use Rattle.area_routes.specs.Best.{ways_of}
 use Rattle.area_routes.specs.Candidate.{Candidate}
 use Rattle.area_routes.specs.Inter.{asbr_candidate, asbr_entry, asbr_told, border_of, by_border, candidate_to, is_summary, is_usable}
 use Rattle.area_routes.specs.Inter.{network_candidate, network_told, originator_of, same_kind, same_router}
-use Rattle.area_routes.specs.Order.{router_cmp}
-use Rattle.area_routes.specs.Values.{AreaResultValue, AreCheap, EntriesBelow, EntryValue, RouteValue}
+use Rattle.lsa_codec.specs.Order.{router_cmp}
+use Rattle.area_routes.specs.Values.{AreaResultValue, ResultBelow, EntriesBelow, EntryValue, RouteValue}
 use Rattle.area_routes.proofs.Bounds.{All-filter_map, found_has, ways_have}
 
 -- a usable summary's metric is below LSInfinity
@@ -28,7 +28,7 @@ usable_below router lsa u =
     let live = and_parts (is_live lsa) (below && other) summary.1 in
     ltb-true (metric_of lsa) ls_infinity (and_parts below other live.1).0
 
-module _ (router : RouterId) (area : AreaResultValue) (cheap : AreCheap area) where
+module _ (router : RouterId) (area : AreaResultValue) (below : ResultBelow (2 ^ 33) area) where
   candidate_below : {K : Type 0} (lsa : List ℕ) (key : K) → IfSome (candidate_to router area lsa key) (λ c. c.rank.cost < 2 ^ 34)
   candidate_below {K} lsa key = by (is_usable router lsa) refl
     where
@@ -43,7 +43,7 @@ module _ (router : RouterId) (area : AreaResultValue) (cheap : AreCheap area) wh
       by true u =
           over (metric_of lsa) (usable_below router lsa u) (border_of area.entries (originator_of lsa))
           (found_has (λ (e : EntryValue). e.cost < 2 ^ 33)
-          (λ e. same_kind e.kind Border && same_router e.router (originator_of lsa)) area.entries cheap.entries)
+          (λ e. same_kind e.kind Border && same_router e.router (originator_of lsa)) area.entries below.entries)
       by false u = tt
 
   told_below : {K : Type 0} (lsa : List ℕ) (told : Option K) → IfSome (option_and_then (candidate_to router area lsa) told) (λ c. c.rank.cost < 2 ^ 34)

@@ -31,15 +31,15 @@ use Rattle.area_routes.specs.declared.entry.EntryKind.TheVariants.{Border, AsbrI
 use Rattle.area_routes.specs.AreaResults.{area_result}
 use Rattle.area_routes.specs.Attached.{attached_areas, is_attached}
 use Rattle.area_routes.specs.Best.{ways_of}
-use Rattle.area_routes.specs.Entries.{area_entries, bit_b, bit_e, entries_of, entry_by, entry_of, flags_of, has_bit}
+use Rattle.area_routes.specs.Entries.{area_entries, bit_b, bit_e, entries_of, entry_by, reached_entry, flags_of, has_bit}
 use Rattle.area_routes.specs.EntriesOnce.{IsSameWay, StandOnce, results_of}
 use Rattle.area_routes.specs.Inter.{asbr_candidate, asbr_entry, entries_by, entries_of_all, examined, inter_entries, inter_of}
-use Rattle.area_routes.specs.Order.{router_cmp}
+use Rattle.lsa_codec.specs.Order.{router_cmp}
 use Rattle.area_routes.specs.Reached.{ReachedValue, reached_by, reached_from}
 use Rattle.area_routes.specs.Stubs.{is_lsa_of}
 use Rattle.area_routes.specs.Values.{AreaResultValue, EntryValue, RouteValue, WayValue}
 use Rattle.area_routes.proofs.Merging.{sorted_ways}
-use Rattle.area_routes.proofs.OrderLemmas.{router_exact, router_total}
+use Rattle.lsa_codec.proofs.OrderLemmas.{router_exact, router_total}
 use Rattle.area_routes.proofs.Pairs.{AllPairs-from, Pairs, Pairs-append, Pairs-filter, Pairs-filter_map, Pairs-flat_map, Pairs-from, Pairs-map, Pairs-unmap}
 
 abbrev Differ : EntryValue → EntryValue → Type 0
@@ -63,7 +63,7 @@ is_intra_kind : (k : EntryKind) → not_inter k ≡ true → k ≢ AsbrInter
 is_intra_kind k h e = true≢false (sym h ∙ ap not_inter e)
 
 by_bit : (area : AreaId) (r : ReachedValue) (b : Bool) (kind : EntryKind) (e : EntryValue)
-    → In (cond b (entry_of area r kind ∷ []) []) e → e ≡ entry_of area r kind
+    → In (cond b (reached_entry area r kind ∷ []) []) e → e ≡ reached_entry area r kind
 by_bit area r true kind e (inl same) = sym same
 by_bit area r true kind e (inr i) = absurd i
 by_bit area r false kind e i = absurd i
@@ -71,7 +71,7 @@ by_bit area r false kind e i = absurd i
 of_vertex : (area : AreaId) (root : RouterId) (r : ReachedValue) (e : EntryValue) → In (entries_of area root r) e → IsEntryOf area r e
 of_vertex area root r e = by (is_router_lsa r.lsa) (not (is_lsa_of root r.lsa)) refl
   where
-    made : (kind : EntryKind) → not_inter kind ≡ true → is_router_lsa r.lsa ≡ true → e ≡ entry_of area r kind → IsEntryOf area r e
+    made : (kind : EntryKind) → not_inter kind ≡ true → is_router_lsa r.lsa ≡ true → e ≡ reached_entry area r kind → IsEntryOf area r e
     made kind intra router is = record {
       of_router = router;
       id = ap (λ (x : EntryValue). x.router.0) is;
@@ -92,17 +92,17 @@ is_border Border = true
 is_border AsbrIntra = false
 is_border AsbrInter = false
 
-two_kinds : (area : AreaId) (r : ReachedValue) → Differ (entry_of area r Border) (entry_of area r AsbrIntra)
+two_kinds : (area : AreaId) (r : ReachedValue) → Differ (reached_entry area r Border) (reached_entry area r AsbrIntra)
 two_kinds area r same = true≢false (ap is_border same.kind)
 
 vertex_once : (area : AreaId) (root : RouterId) (r : ReachedValue) → Pairs Differ (entries_of area root r)
 vertex_once area root r = by (is_router_lsa r.lsa && not (is_lsa_of root r.lsa)) (has_bit bit_b (flags_of r.lsa)) (has_bit bit_e (flags_of r.lsa))
   where
-    by : (b c d : Bool) → Pairs Differ (cond b (cond c (entry_of area r Border ∷ []) [] ++ cond d (entry_of area r AsbrIntra ∷ []) []) [])
+    by : (b c d : Bool) → Pairs Differ (cond b (cond c (reached_entry area r Border ∷ []) [] ++ cond d (reached_entry area r AsbrIntra ∷ []) []) [])
     by true true true = (differs, (λ y i. absurd i, tt))
       where
-        differs : (y : EntryValue) → In (entry_of area r AsbrIntra ∷ []) y → Differ (entry_of area r Border) y
-        differs y (inl e) = subst (λ (x : EntryValue). Differ (entry_of area r Border) x) e (two_kinds area r)
+        differs : (y : EntryValue) → In (reached_entry area r AsbrIntra ∷ []) y → Differ (reached_entry area r Border) y
+        differs y (inl e) = subst (λ (x : EntryValue). Differ (reached_entry area r Border) x) e (two_kinds area r)
         differs y (inr i) = absurd i
     by true true false = (λ y i. absurd i, tt)
     by true false true = (λ y i. absurd i, tt)

@@ -2,7 +2,7 @@
 use Rattle.std.proofs.Common.{◌≡◌, ℕ, ◌+◌, ◌<◌, List, [], ◌∷◌, ◌++◌, take, get_or, length, sym, ap, ◌∙◌, append_assoc}
 use Rattle.std.proofs.lemmas.List.{append-nil, take_more}
 use Rattle.area_routes.specs.Values.{AreaResultValue, EntryValue, OfferValue}
-use Rattle.area_routes.specs.Growing.{with_offers, with_entries}
+use Rattle.area_routes.specs.steps.Growing.{with_offers, with_entries}
 use Rattle.area_routes.proofs.AddsLemmas.{Adds}
 
 -- nothing more

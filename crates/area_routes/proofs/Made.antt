@@ -6,7 +6,7 @@ use Rattle.std.specs.Map.{keys_of}
 use Rattle.lsa_codec.specs.Prefix.{Net}
 use Rattle.area_routes.specs.Best.{ways_of, Gathers}
 use Rattle.area_routes.specs.Candidate.{Candidate}
-use Rattle.area_routes.specs.Order.{prefix_cmp}
+use Rattle.lsa_codec.specs.Order.{prefix_cmp}
 use Rattle.area_routes.specs.Routes.{AreSortedRoutes, route_of, routes_of}
 use Rattle.area_routes.specs.Values.{RouteValue, RoutesBelow, WayValue}
 use Rattle.area_routes.proofs.Bounds.{routes_below}

@@ -18,8 +18,9 @@ use Rattle.std.proofs.lemmas.Grind.{flat_map-append}
 use Rattle.std.proofs.lemmas.Map.Lookups.{CmpEqualImpliesEq}
 use Rattle.area_routes.specs.Best.{of_rank, joined, way_of, way_to, ways_of, Gathers}
 use Rattle.area_graph.specs.Least.{least, lesser}
-use Rattle.area_routes.specs.Merge.{add_area, fresh, merged, merge}
-use Rattle.area_routes.specs.Order.{area_cmp, rank_cmp}
+use Rattle.area_routes.specs.steps.Merge.{add_area, fresh, merged, merge}
+use Rattle.lsa_codec.specs.Order.{area_cmp}
+use Rattle.area_routes.specs.Order.{rank_cmp}
 use Rattle.next_hops.specs.Hop.{hop_cmp}
 use Rattle.area_graph.specs.Rising.{rising}
 use Rattle.area_routes.specs.Candidate.{Candidate}
@@ -28,7 +29,8 @@ use Rattle.lsa_codec.specs.declared.address.AreaId.{AreaId}
 use Rattle.area_routes.specs.declared.rank.Rank.{Rank}
 use Rattle.area_routes.proofs.LookupLemmas.{lookup_entries, same_entries, sorted_entries}
 use Rattle.area_routes.proofs.LeastLemmas.{least_push, below_all}
-use Rattle.area_routes.proofs.OrderLemmas.{area_exact, area_total, hop_exact, hop_total, rank_total}
+use Rattle.lsa_codec.proofs.OrderLemmas.{area_exact, area_total}
+use Rattle.area_routes.proofs.OrderLemmas.{hop_exact, hop_total, rank_total}
 use Rattle.area_routes.proofs.RisingLemmas.{rising_append, sorted_rising, any_rising}
 
 module _ {K : Type 0} where
@@ -154,7 +156,7 @@ module _ {K : Type 0} where
     ways_from_entries items m es same (Ok v) h up = λ cs at. h ∙ ways_from_gathers m.entries cs up (λ q. ap (lookup (eq_by_cmp R q)) same ∙ at q)
     ways_from_entries items m es same (Err e) h up = tt
 
-    -- what `admit` left
+    -- what `add_candidate` left
     pub gathers_from_updates : {X E : Type 0} (r : Result X E) (m n : BTreeMap K WayValue) (es : List (K × WayValue)) → m.entries ≡ es → (c : Candidate K)
         → OnOk r (Updates R m n c.key (Some (merge (get R m c.key) c.rank c.area c.hops)))
         → OnOk r ((cs : List (Candidate K)) → Gathers R cs es → Gathers R (cs ++ c ∷ []) n.entries)

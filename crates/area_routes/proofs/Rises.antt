@@ -1,7 +1,7 @@
 -- Lists of areas in rising order.
 use Rattle.std.proofs.Common.{[]}
 use Rattle.std.specs.List.Sorted.{IsStrictlySortedBy}
-use Rattle.area_routes.specs.Order.{area_cmp}
+use Rattle.lsa_codec.specs.Order.{area_cmp}
 
 pub none_rise : IsStrictlySortedBy area_cmp []
 unfolding IsStrictlySortedBy

@@ -5,11 +5,11 @@ use Rattle.std.specs.Map.{keys_of}
 use Rattle.lsa_codec.specs.Prefix.{Net}
 use Rattle.area_routes.specs.Best.{ways_of}
 use Rattle.area_routes.specs.Candidate.{Candidate}
-use Rattle.area_routes.specs.Order.{prefix_cmp}
+use Rattle.lsa_codec.specs.Order.{prefix_cmp}
 use Rattle.area_routes.specs.Routes.{AreSortedRoutes, nets, route_of, routes_of}
 use Rattle.area_routes.specs.Values.{WayValue}
 use Rattle.area_routes.proofs.Merging.{sorted_ways}
-use Rattle.area_routes.proofs.OrderLemmas.{prefix_exact, prefix_total}
+use Rattle.lsa_codec.proofs.OrderLemmas.{prefix_exact, prefix_total}
 
 pub nets_ways : (es : List (Net × WayValue)) → nets (map route_of es) ≡ keys_of es
 nets_ways [] = refl

@@ -13,16 +13,18 @@ use Rattle.std.proofs.lemmas.List.Folds.{list_any-append}
 use Rattle.std.proofs.lemmas.Map.Lookups.{CmpEqualImpliesEq}
 use Rattle.area_routes.specs.Best.{joined, of_rank, way_to, ways_of}
 use Rattle.area_routes.specs.Candidate.{Candidate}
-use Rattle.area_routes.specs.InWords.{attains, is_for, is_some_and, AreBestWays, IsBestWay}
+use Rattle.area_routes.specs.InWords.{attains, is_candidate_to, is_some_and, AreBestWays, IsBestWay}
 use Rattle.area_graph.specs.Least.{least, lesser}
-use Rattle.area_routes.specs.Order.{area_cmp, rank_cmp}
+use Rattle.lsa_codec.specs.Order.{area_cmp}
+use Rattle.area_routes.specs.Order.{rank_cmp}
 use Rattle.next_hops.specs.Hop.{hop_cmp}
 use Rattle.area_routes.specs.Values.{WayValue}
 use Rattle.area_routes.specs.declared.rank.Rank.{Rank}
 use Rattle.area_routes.proofs.LookupLemmas.{same_entries}
 use Rattle.area_routes.proofs.LeastLemmas.{not_below}
 use Rattle.area_routes.proofs.Merging.{lookup_ways, sorted_ways}
-use Rattle.area_routes.proofs.OrderLemmas.{area_exact, area_total, hop_exact, hop_total, rank_exact, rank_total}
+use Rattle.lsa_codec.proofs.OrderLemmas.{area_exact, area_total}
+use Rattle.area_routes.proofs.OrderLemmas.{hop_exact, hop_total, rank_exact, rank_total}
 use Rattle.area_routes.proofs.RisingLemmas.{any_rising, same_sorted, sorted_rising}
 
 module _ {X : Type 0} where
@@ -111,11 +113,12 @@ module _ {K : Type 0} (t : Candidate K → Bool) where
       (λ c. and_assoc (t c) (eq_by_cmp rank_cmp m c.rank) (p c)) cs
 
 module _ {K : Type 0} {R : K → K → Ordering} (o : IsTotalOrder R) (exact : CmpEqualImpliesEq R) where
-  best_way : (cs : List (Candidate K)) (key : K) (x : Rank) (xs : List Rank) → map (λ c. c.rank) (filter (is_for R key) cs) ≡ x ∷ xs
-      → IsBestWay R cs key (joined (lesser rank_cmp x (least rank_cmp xs)) (of_rank (lesser rank_cmp x (least rank_cmp xs)) (filter (is_for R key) cs)))
+  best_way : (cs : List (Candidate K)) (key : K) (x : Rank) (xs : List Rank) → map (λ c. c.rank) (filter (is_candidate_to R key) cs) ≡ x ∷ xs
+      → IsBestWay R cs key
+      (joined (lesser rank_cmp x (least rank_cmp xs)) (of_rank (lesser rank_cmp x (least rank_cmp xs)) (filter (is_candidate_to R key) cs)))
   best_way cs key x xs e =
       let m = lesser rank_cmp x (least rank_cmp xs) in
-      let t = is_for R key in
+      let t = is_candidate_to R key in
       record {
         attained = sym (any_own t (eq_by_cmp rank_cmp m) cs) ∙ ap (list_any (eq_by_cmp rank_cmp m)) e ∙ member rank_total x xs;
         least = sym (any_own t (λ r. is_lt (rank_cmp r m)) cs) ∙ ap (list_any (λ r. is_lt (rank_cmp r m))) e ∙ none_lower rank_total x xs;
@@ -137,30 +140,30 @@ module _ {K : Type 0} {R : K → K → Ordering} (o : IsTotalOrder R) (exact : C
       by true h rest = cc
       by false h rest = rest h
 
-  at_key : (cs : List (Candidate K)) (key : K) → MatchOption (way_to R cs key) (list_any (is_for R key) cs ≡ false) (IsBestWay R cs key)
-  at_key cs key = by (map (λ c. c.rank) (filter (is_for R key) cs)) refl
+  at_key : (cs : List (Candidate K)) (key : K) → MatchOption (way_to R cs key) (list_any (is_candidate_to R key) cs ≡ false) (IsBestWay R cs key)
+  at_key cs key = by (map (λ c. c.rank) (filter (is_candidate_to R key) cs)) refl
     where
-      by : (rs : List Rank) → map (λ c. c.rank) (filter (is_for R key) cs) ≡ rs
-          → MatchOption (option_map (λ r. joined r (of_rank r (filter (is_for R key) cs))) (least rank_cmp rs))
-          (list_any (is_for R key) cs ≡ false) (IsBestWay R cs key)
-      by [] e = any_none (is_for R key) cs e
+      by : (rs : List Rank) → map (λ c. c.rank) (filter (is_candidate_to R key) cs) ≡ rs
+          → MatchOption (option_map (λ r. joined r (of_rank r (filter (is_candidate_to R key) cs))) (least rank_cmp rs))
+          (list_any (is_candidate_to R key) cs ≡ false) (IsBestWay R cs key)
+      by [] e = any_none (is_candidate_to R key) cs e
       by (x ∷ xs) e = best_way cs key x xs e
 
   pub ways_are_best : (cs : List (Candidate K)) → AreBestWays R cs (ways_of R cs)
   ways_are_best cs = record {
     keys_rise = sorted_ways o exact cs;
     at_key = λ key.
-        let P : Option WayValue → Type 0 = λ w. MatchOption w (list_any (is_for R key) cs ≡ false)
+        let P : Option WayValue → Type 0 = λ w. MatchOption w (list_any (is_candidate_to R key) cs ≡ false)
         (IsBestWay R cs key) in subst P (sym (lookup_ways o exact cs key)) (at_key cs key);
   }
 
   -- a rank that a candidate for the key attains isn't below one that none is below
   not_lower : (cs : List (Candidate K)) (key : K) (a b : Rank) → list_any (attains R key a) cs ≡ true
-      → list_any (λ c. is_for R key c && is_lt (rank_cmp c.rank b)) cs ≡ false → is_lt (rank_cmp a b) ≡ false
+      → list_any (λ c. is_candidate_to R key c && is_lt (rank_cmp c.rank b)) cs ≡ false → is_lt (rank_cmp a b) ≡ false
   not_lower cs key a b some none = by (rank_cmp a b) refl
     where
-      below : rank_cmp a b ≡ Less → (c : Candidate K) → (is_for R key c && is_lt (rank_cmp c.rank b)) ≡ false → attains R key a c ≡ false
-      below e c h = elim (is_for R key c) as (λ t. (t && is_lt (rank_cmp c.rank b)) ≡ false → (t && eq_by_cmp rank_cmp a c.rank) ≡ false) [
+      below : rank_cmp a b ≡ Less → (c : Candidate K) → (is_candidate_to R key c && is_lt (rank_cmp c.rank b)) ≡ false → attains R key a c ≡ false
+      below e c h = elim (is_candidate_to R key c) as (λ t. (t && is_lt (rank_cmp c.rank b)) ≡ false → (t && eq_by_cmp rank_cmp a c.rank) ≡ false) [
         | true ↦ λ n. tied (rank_cmp a c.rank) refl n
         | false ↦ λ n. refl
       ] h
@@ -171,7 +174,9 @@ module _ {K : Type 0} {R : K → K → Ordering} (o : IsTotalOrder R) (exact : C
           tied Greater t n = refl
 
       by : (r : Ordering) → rank_cmp a b ≡ r → is_lt r ≡ false
-      by Less e = let all = any_weaker (attains R key a) (λ c. is_for R key c && is_lt (rank_cmp c.rank b)) (below e) cs none in let no = sym all ∙ some in cc
+      by Less e =
+          let all = any_weaker (attains R key a) (λ c. is_candidate_to R key c && is_lt (rank_cmp c.rank b)) (below e) cs none in
+          let no = sym all ∙ some in cc
       by Equal e = refl
       by Greater e = refl
 
@@ -195,12 +200,12 @@ module _ {K : Type 0} {R : K → K → Ordering} (o : IsTotalOrder R) (exact : C
       tied Greater e x y = cc
 
   -- a key with a way has a candidate
-  has_candidate : (cs : List (Candidate K)) (key : K) (a : WayValue) → IsBestWay R cs key a → list_any (is_for R key) cs ≡ false → true ≡ false
+  has_candidate : (cs : List (Candidate K)) (key : K) (a : WayValue) → IsBestWay R cs key a → list_any (is_candidate_to R key) cs ≡ false → true ≡ false
   has_candidate cs key a p none =
-      sym p.attained ∙ any_weaker (attains R key a.rank) (is_for R key) (λ c h. ap (λ t. t && eq_by_cmp rank_cmp a.rank c.rank) h) cs none
+      sym p.attained ∙ any_weaker (attains R key a.rank) (is_candidate_to R key) (λ c h. ap (λ t. t && eq_by_cmp rank_cmp a.rank c.rank) h) cs none
 
-  same_at : (cs : List (Candidate K)) (key : K) (u v : Option WayValue) → MatchOption u (list_any (is_for R key) cs ≡ false)
-      (IsBestWay R cs key) → MatchOption v (list_any (is_for R key) cs ≡ false) (IsBestWay R cs key) → u ≡ v
+  same_at : (cs : List (Candidate K)) (key : K) (u v : Option WayValue) → MatchOption u (list_any (is_candidate_to R key) cs ≡ false)
+      (IsBestWay R cs key) → MatchOption v (list_any (is_candidate_to R key) cs ≡ false) (IsBestWay R cs key) → u ≡ v
   same_at cs key None None p q = refl
   same_at cs key None (Some b) p q = let no = has_candidate cs key b q p in cc
   same_at cs key (Some a) None p q = let no = has_candidate cs key a p q in cc

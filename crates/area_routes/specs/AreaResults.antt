@@ -16,12 +16,12 @@ use Rattle.area_routes.specs.Stubs.{stub_offers}
 use Rattle.area_routes.specs.Entries.{area_entries}
 
 -- what the vertices that are reached give
-abbrev pub given_by : AreaId → RouterId → List ReachedValue → AreaResultValue
-given_by area root rs = record { area = area; offers = network_offers rs ++ stub_offers root rs; entries = area_entries area root rs }
+abbrev pub result_of_reached : AreaId → RouterId → List ReachedValue → AreaResultValue
+result_of_reached area root rs = record { area = area; offers = network_offers rs ++ stub_offers root rs; entries = area_entries area root rs }
 
 -- what an area with these LSAs gives to a router
 unfoldable pub area_result : AreaId → List (List ℕ) → RouterId → AreaResultValue
-area_result area lsas root = given_by area root (reached_from root (used lsas))
+area_result area lsas root = result_of_reached area root (reached_from root (used lsas))
 
 -- graph, tree and hops are those of these LSAs and this router
 pub record AreOf (lsas : List (List ℕ)) (root : RouterId) (graph : Topology) (tree : Distances) (hops : List (List Hop)) : Type 0 where

@@ -6,7 +6,8 @@ use Rattle.std.specs.Option.{option_map}
 use Rattle.std.specs.Ordering.{eq_by_cmp}
 use Rattle.std.specs.declared.cmp.Ordering.{Ordering}
 use Rattle.area_graph.specs.Least.{least}
-use Rattle.area_routes.specs.Order.{area_cmp, rank_cmp}
+use Rattle.lsa_codec.specs.Order.{area_cmp}
+use Rattle.area_routes.specs.Order.{rank_cmp}
 use Rattle.next_hops.specs.Hop.{hop_cmp}
 use Rattle.area_graph.specs.Rising.{rising}
 use Rattle.area_routes.specs.Candidate.{Candidate}

@@ -26,12 +26,12 @@ abbrev pub bit_e : ℕ
 bit_e = 2
 
 -- the entry of a router that is reached
-abbrev pub entry_of : AreaId → ReachedValue → EntryKind → EntryValue
-entry_of area r kind = record { router = record { 0 = link_state_id_of r.lsa }; area = area; kind = kind; cost = r.distance; hops = r.hops }
+abbrev pub reached_entry : AreaId → ReachedValue → EntryKind → EntryValue
+reached_entry area r kind = record { router = record { 0 = link_state_id_of r.lsa }; area = area; kind = kind; cost = r.distance; hops = r.hops }
 
 -- the entry by a bit
 abbrev pub entry_by : AreaId → ReachedValue → ℕ → EntryKind → List EntryValue
-entry_by area r bit kind = if has_bit bit (flags_of r.lsa) then entry_of area r kind ∷ [] else []
+entry_by area r bit kind = if has_bit bit (flags_of r.lsa) then reached_entry area r kind ∷ [] else []
 
 -- the entries of a router: none of the calculating router itself
 abbrev pub entries_of : AreaId → RouterId → ReachedValue → List EntryValue

@@ -7,7 +7,8 @@ use Rattle.std.specs.Option.{MatchOption}
 use Rattle.std.specs.Ordering.{eq_by_cmp, is_lt}
 use Rattle.std.specs.declared.cmp.Ordering.{Ordering}
 use Rattle.area_routes.specs.Candidate.{Candidate}
-use Rattle.area_routes.specs.Order.{area_cmp, rank_cmp}
+use Rattle.lsa_codec.specs.Order.{area_cmp}
+use Rattle.area_routes.specs.Order.{rank_cmp}
 use Rattle.next_hops.specs.Hop.{hop_cmp}
 use Rattle.area_routes.specs.Values.{WayValue}
 use Rattle.lsa_codec.specs.declared.address.AreaId.{AreaId}
@@ -21,17 +22,17 @@ is_some_and p (Some a) = p a
 
 module _ {K : Type 0} (R : K → K → Ordering) where
   -- whether the candidate is one for the key
-  abbrev pub is_for : K → Candidate K → Bool
-  is_for key c = eq_by_cmp R key c.key
+  abbrev pub is_candidate_to : K → Candidate K → Bool
+  is_candidate_to key c = eq_by_cmp R key c.key
 
   -- whether it is one of the rank, too
   abbrev pub attains : K → Rank → Candidate K → Bool
-  attains key rank c = is_for key c && eq_by_cmp rank_cmp rank c.rank
+  attains key rank c = is_candidate_to key c && eq_by_cmp rank_cmp rank c.rank
 
   -- what is said of the way to a key
   pub record IsBestWay (cs : List (Candidate K)) (key : K) (way : WayValue) : Type 0 where
     pub attained : list_any (attains key way.rank) cs ≡ true
-    pub least : list_any (λ c. is_for key c && is_lt (rank_cmp c.rank way.rank)) cs ≡ false
+    pub least : list_any (λ c. is_candidate_to key c && is_lt (rank_cmp c.rank way.rank)) cs ≡ false
     pub hops : (hop : Hop) → list_any (eq_by_cmp hop_cmp hop) way.hops ≡ list_any (λ c. attains key way.rank c && list_any (eq_by_cmp hop_cmp hop) c.hops) cs
     pub areas : (area : AreaId) → list_any (eq_by_cmp area_cmp area) way.areas ≡ list_any (λ c. attains key way.rank c && is_some_and (eq_by_cmp area_cmp area) c.area) cs
     pub areas_rise : IsStrictlySortedBy area_cmp way.areas
@@ -40,4 +41,4 @@ module _ {K : Type 0} (R : K → K → Ordering) where
   -- what is said of the whole list: keys in order, each with a candidate, each candidate's key there, each way the best
   pub record AreBestWays (cs : List (Candidate K)) (ways : List (K × WayValue)) : Type 0 where
     pub keys_rise : IsStrictlySortedBy R (keys_of ways)
-    pub at_key : (key : K) → MatchOption (lookup (eq_by_cmp R key) ways) (list_any (is_for key) cs ≡ false) (IsBestWay cs key)
+    pub at_key : (key : K) → MatchOption (lookup (eq_by_cmp R key) ways) (list_any (is_candidate_to key) cs ≡ false) (IsBestWay cs key)

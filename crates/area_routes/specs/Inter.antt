@@ -18,7 +18,7 @@ use Rattle.area_routes.specs.declared.entry.EntryKind.TheVariants.{Border, AsbrI
 use Rattle.area_routes.specs.Values.{AreaResultValue, EntryValue, InterValue, RouteValue, WayValue}
 use Rattle.area_routes.specs.Best.{ways_of}
 use Rattle.area_routes.specs.Candidate.{Candidate}
-use Rattle.area_routes.specs.Order.{router_cmp}
+use Rattle.lsa_codec.specs.Order.{router_cmp}
 use Rattle.area_routes.specs.Routes.{has_route, routes_of}
 
 -- ---- the area whose summary-LSAs are examined
@@ -47,16 +47,16 @@ abbrev pub same_kind : EntryKind → EntryKind → Bool
 same_kind a b = kind_number a == kind_number b
 
 -- the entry of a router of some kind
-abbrev pub entry_of : EntryKind → List EntryValue → RouterId → Option EntryValue
-entry_of kind entries router = find (λ e. same_kind e.kind kind && same_router e.router router) entries
+abbrev pub find_entry : EntryKind → List EntryValue → RouterId → Option EntryValue
+find_entry kind entries router = find (λ e. same_kind e.kind kind && same_router e.router router) entries
 
 -- the entry of a router as an area border router
 abbrev pub border_of : List EntryValue → RouterId → Option EntryValue
-border_of entries router = entry_of Border entries router
+border_of entries router = find_entry Border entries router
 
 -- whether a router is an AS boundary router of the area
 abbrev pub has_asbr : List EntryValue → RouterId → Bool
-has_asbr entries router = is_some (entry_of AsbrIntra entries router)
+has_asbr entries router = is_some (find_entry AsbrIntra entries router)
 
 -- ---- summary-LSAs
 

@@ -3,11 +3,9 @@ pub mod Values
 pub mod Candidate
 pub mod Best
 pub mod InWords
-pub mod Merge
 pub mod Routes
 pub mod Intra
 pub mod Inter
-pub mod EntryIndex
 pub mod Reached
 pub mod OverAllPaths
 pub mod Networks
@@ -15,7 +13,6 @@ pub mod Choice
 pub mod Stubs
 pub mod Entries
 pub mod AreaResults
-pub mod Growing
-pub mod Standings
 pub mod Attached
 pub mod EntriesOnce
+pub mod steps

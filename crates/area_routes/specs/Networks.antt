@@ -5,7 +5,7 @@ use Rattle.std.specs.Ordering.{eq_by_cmp}
 use Rattle.lsa_codec.specs.Fields.{link_state_id_of}
 use Rattle.lsa_codec.specs.Views.{net_of_lsa}
 use Rattle.area_graph.specs.Area.{is_network_lsa}
-use Rattle.area_routes.specs.Order.{prefix_cmp}
+use Rattle.lsa_codec.specs.Order.{prefix_cmp}
 use Rattle.area_routes.specs.Values.{OfferValue}
 use Rattle.area_routes.specs.Reached.{ReachedValue}
 

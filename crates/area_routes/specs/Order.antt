@@ -1,24 +1,13 @@
--- The orders of areas, routers, prefixes and ranks.
+-- The orders of path types and ranks.
 use Rattle.std.specs.Prelude.{ℕ, List}
 use Rattle.std.specs.List.Sorted.{IsStrictlySortedBy}
 use Rattle.std.specs.Ordering.{nat_cmp, ordering_then}
 use Rattle.std.specs.declared.cmp.Ordering.{Ordering}
 use Rattle.lsa_codec.specs.declared.address.AreaId.{AreaId}
-use Rattle.lsa_codec.specs.declared.address.RouterId.{RouterId}
-use Rattle.lsa_codec.specs.Prefix.{Net}
+use Rattle.lsa_codec.specs.Order.{area_cmp}
 use Rattle.area_routes.specs.declared.rank.PathType.{PathType}
 use Rattle.area_routes.specs.declared.rank.PathType.TheVariants.{Intra, Inter, Ext1, Ext2}
 use Rattle.area_routes.specs.declared.rank.Rank.{Rank}
-
-abbrev pub area_cmp : AreaId → AreaId → Ordering
-area_cmp a b = nat_cmp a.0 b.0
-
-abbrev pub router_cmp : RouterId → RouterId → Ordering
-router_cmp a b = nat_cmp a.0 b.0
-
--- by address, then by length
-abbrev pub prefix_cmp : Net → Net → Ordering
-prefix_cmp a b = ordering_then (nat_cmp a.addr.0 b.addr.0) (nat_cmp a.len b.len)
 
 -- intra-area before inter-area before external of type 1 before external of type 2 (RFC 2328, 11)
 abbrev pub path_number : PathType → ℕ

@@ -1,5 +1,5 @@
 -- The vertices of an area that are reached from the calculating router, by their LSAs (RFC 2328, 16.1).
-use Rattle.std.specs.Prelude.{ℕ, ◌<◌, ◌^◌, List, filter_map, Option}
+use Rattle.std.specs.Prelude.{ℕ, List, filter_map, Option}
 use Rattle.std.specs.Option.{option_map}
 use Rattle.lsa_codec.specs.declared.address.RouterId.{RouterId}
 use Rattle.area_graph.specs.declared.vertex.Vertex.{Vertex}
@@ -8,7 +8,6 @@ use Rattle.area_graph.specs.Area.{vertex_of}
 use Rattle.area_graph.specs.AreaEdges.{area_edges}
 use Rattle.area_graph.specs.AllPaths.{distance_of}
 use Rattle.next_hops.specs.declared.hop.Hop.{Hop}
-use Rattle.next_hops.specs.Hop.{IsSortedHops}
 use Rattle.next_hops.specs.FirstHops.{hops_of}
 
 -- the LSA of a vertex that is reached, the vertex's distance and its next hops
@@ -16,11 +15,6 @@ pub record ReachedValue : Type 0 where
   pub lsa : List ℕ
   pub distance : ℕ
   pub hops : List Hop
-
--- distances are below 2^32, and hops stand in order
-pub record IsReached (r : ReachedValue) : Type 0 where
-  pub near : r.distance < 2 ^ 32
-  pub sorted : IsSortedHops r.hops
 
 -- the vertex of an LSA, if it has a distance
 abbrev pub reached_by : (Vertex → Option ℕ) → (Vertex → List Hop) → List ℕ → Option ReachedValue

@@ -7,7 +7,7 @@ use Rattle.lsa_codec.specs.Prefix.{Net}
 use Rattle.area_routes.specs.Values.{RouteValue, WayValue}
 use Rattle.area_routes.specs.Best.{ways_of}
 use Rattle.area_routes.specs.Candidate.{Candidate}
-use Rattle.area_routes.specs.Order.{prefix_cmp}
+use Rattle.lsa_codec.specs.Order.{prefix_cmp}
 
 -- the route to a prefix by the best way
 abbrev pub route_of : Net × WayValue → RouteValue

@@ -58,7 +58,6 @@ EntriesBelow bound entries = All (λ e. e.cost < bound) entries
 abbrev pub OffersBelow : ℕ → List OfferValue → Type 0
 OffersBelow bound offers = All (λ o. o.cost < bound) offers
 
--- each cost in an area is below 2^33: a distance is below 2^32, and the metric of a link below 2^16
-pub record AreCheap (result : AreaResultValue) : Type 0 where
-  pub offers : OffersBelow (2 ^ 33) result.offers
-  pub entries : EntriesBelow (2 ^ 33) result.entries
+pub record ResultBelow (bound : ℕ) (result : AreaResultValue) : Type 0 where
+  pub offers : OffersBelow bound result.offers
+  pub entries : EntriesBelow bound result.entries

@@ -2,7 +2,7 @@
 
 ghost use Rattle.std.specs.Prelude.{◌≡◌, ◌++◌, ◌^◌, IfOk, OnOk};
 ghost use Rattle.area_routes.specs.Inter.{entries_of_all};
-ghost use Rattle.area_routes.specs.Values.{AreCheap, EntriesBelow};
+ghost use Rattle.area_routes.specs.Values.{ResultBelow, EntriesBelow};
 
 use crate::area_result::AreaResult;
 use crate::entry::RouterEntry;
@@ -34,7 +34,7 @@ fn add_entries<A: Allocator + Copy>(
     area: &AreaResult<A>,
 ) -> Result<(), AllocError>
     ensures entries { OnOk result (all.new.items ≡ all.old.items ++ area.now.entries) }
-    ensures cheap { AreCheap area.now }
+    ensures below { ResultBelow (2 ^ 33) area.now }
 {
     let entries = area.entries();
     for entry in entries {

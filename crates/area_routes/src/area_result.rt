@@ -1,7 +1,7 @@
 //! What one area gives.
 
-ghost use Rattle.std.specs.Prelude.{◌≡◌};
-ghost use Rattle.area_routes.specs.Values.{AreCheap};
+ghost use Rattle.std.specs.Prelude.{◌≡◌, ◌^◌};
+ghost use Rattle.area_routes.specs.Values.{ResultBelow};
 
 use crate::entry::RouterEntry;
 use crate::offer::Offer;
@@ -13,7 +13,7 @@ use std::marker::Model;
 /// and the other routers that are area border routers or AS boundary routers. Contracts see it as
 /// the record of these.
 ///
-/// Each cost is below 2^33.
+/// Each cost is below 2^33: a distance is below 2^32, and the metric of a link below 2^16.
 #[derive(Drop)]
 pub struct AreaResult<A: Allocator = Global> {
     pub(crate) area: AreaId,
@@ -22,13 +22,16 @@ pub struct AreaResult<A: Allocator = Global> {
 }
 
 impl<A: Allocator> Model for AreaResult<A> {
-    ghost use Rattle.area_routes.specs.Values.{AreaResultValue, AreCheap};
+    ghost use Rattle.std.specs.Prelude.{◌^◌};
+    ghost use Rattle.area_routes.specs.Values.{AreaResultValue, ResultBelow};
 
     ghost Value = { AreaResultValue };
 
-    ghost view = { λ r. record { area = r.area; offers = r.offers.items; entries = r.entries.items } };
+    ghost view = { λ r.
+        record { area = r.area; offers = r.offers.items; entries = r.entries.items } };
 
-    ghost invariant = { λ r. AreCheap (record { area = r.area; offers = r.offers.items; entries = r.entries.items }) };
+    ghost invariant = { λ r. ResultBelow (2 ^ 33)
+        (record { area = r.area; offers = r.offers.items; entries = r.entries.items }) };
 }
 
 impl<A: Allocator + Copy> AreaResult<A> {
@@ -42,7 +45,7 @@ impl<A: Allocator + Copy> AreaResult<A> {
     /// The ways to prefixes, several for one prefix included.
     pub fn offers(&self) -> &[Offer<A>]
         ensures offers { result.now ≡ self.now.offers }
-        ensures cheap { AreCheap self.now }
+        ensures below { ResultBelow (2 ^ 33) self.now }
     {
         self.offers.as_slice()
     }
@@ -51,7 +54,7 @@ impl<A: Allocator + Copy> AreaResult<A> {
     /// [`AsbrIntra`](crate::EntryKind::AsbrIntra).
     pub fn entries(&self) -> &[RouterEntry<A>]
         ensures entries { result.now ≡ self.now.entries }
-        ensures cheap { AreCheap self.now }
+        ensures below { ResultBelow (2 ^ 33) self.now }
     {
         self.entries.as_slice()
     }

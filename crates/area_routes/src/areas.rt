@@ -2,7 +2,8 @@
 
 ghost use Rattle.std.specs.Prelude.{◌≡◌, [], ◌∷◌, ◌++◌, OnOk, OnErr};
 ghost use Rattle.area_graph.specs.Rising.{rising};
-ghost use Rattle.area_routes.specs.Order.{area_cmp, AreSortedAreas};
+ghost use Rattle.lsa_codec.specs.Order.{area_cmp};
+ghost use Rattle.area_routes.specs.Order.{AreSortedAreas};
 
 use lsa_codec::AreaId;
 use std::alloc::{AllocError, Allocator, Global};

@@ -7,7 +7,7 @@ ghost use Rattle.std.specs.Map.{keys_of};
 ghost use Rattle.std.proofs.lemmas.Map.Lookups.{CmpEqualImpliesEq};
 ghost use Rattle.area_routes.specs.Best.{ways_of, Gathers};
 ghost use Rattle.area_routes.specs.Candidate.{Candidate};
-ghost use Rattle.area_routes.specs.Merge.{merge};
+ghost use Rattle.area_routes.specs.steps.Merge.{merge};
 
 use crate::rank::Rank;
 use crate::way::Way;
@@ -17,7 +17,7 @@ use std::alloc::{AllocError, Allocator, Global};
 use std::collections::BTreeMap;
 use std::marker::Model;
 
-/// The ways to the destinations of the candidates that were admitted. Contracts see it as the list
+/// The ways to the destinations of the candidates that were added. Contracts see it as the list
 /// of its entries, in order of the destinations.
 #[derive(Drop)]
 pub struct BestWays<K: Ord, A: Allocator = Global> {
@@ -49,7 +49,7 @@ impl<K: Ord + Copy + Drop, A: Allocator + Copy> BestWays<K, A> {
     /// # Errors
     ///
     /// Memory ran out; what was gathered so far is then of no use.
-    pub fn admit(
+    pub fn add_candidate(
         &mut self,
         alloc: A,
         key: K,
@@ -59,9 +59,10 @@ impl<K: Ord + Copy + Drop, A: Allocator + Copy> BestWays<K, A> {
     ) -> Result<(), AllocError>
         requires { CmpEqualImpliesEq K.cmp }
         ensures { OnOk result ((cs : List (Candidate K)) → Gathers K.cmp cs self.old
-            → Gathers K.cmp (cs ++ record { key = key; rank = rank; area = area; hops = hops.now } ∷ []) self.new) }
+            → Gathers K.cmp
+            (cs ++ record { key = key; rank = rank; area = area; hops = hops.now } ∷ []) self.new) }
     {
-        admit(alloc, &mut self.found, key, rank, area, hops)
+        add_candidate(alloc, &mut self.found, key, rank, area, hops)
     }
 
     /// Each destination that a candidate has, in order, with the best ways to it.
@@ -76,7 +77,7 @@ impl<K: Ord + Copy + Drop, A: Allocator + Copy> BestWays<K, A> {
 }
 
 /// Takes a further candidate into account.
-fn admit<K: Ord + Copy + Drop, A: Allocator + Copy>(
+fn add_candidate<K: Ord + Copy + Drop, A: Allocator + Copy>(
     alloc: A,
     found: &mut BTreeMap<K, Way<A>, A>,
     key: K,
@@ -84,7 +85,8 @@ fn admit<K: Ord + Copy + Drop, A: Allocator + Copy>(
     area: Option<AreaId>,
     hops: &[Hop],
 ) -> Result<(), AllocError>
-    ensures { OnOk result (Updates K.cmp found.old found.new key (Some (merge (get K.cmp found.old key) rank area hops.now))) }
+    ensures { OnOk result (Updates K.cmp found.old found.new key
+        (Some (merge (get K.cmp found.old key) rank area hops.now))) }
 {
     match found.get_mut(&key) {
         Some(way) => way.merge(alloc, rank, area, hops)?,

@@ -4,7 +4,7 @@ ghost use Rattle.std.specs.Prelude.{◌≡◌, ◌<◌, ℕ, List, IfOk, All, ma
 ghost use Rattle.lsa_codec.specs.Prefix.{Net};
 ghost use Rattle.area_routes.specs.Best.{Gathers};
 ghost use Rattle.area_routes.specs.Candidate.{Candidate};
-ghost use Rattle.area_routes.specs.Order.{prefix_cmp};
+ghost use Rattle.lsa_codec.specs.Order.{prefix_cmp};
 ghost use Rattle.area_routes.specs.Routes.{route_of, routes_of};
 ghost use Rattle.area_routes.specs.Values.{RoutesBelow};
 
@@ -24,7 +24,8 @@ impl<A: Allocator + Copy> BestWays<Prefix, A> {
     pub fn into_routes(self, alloc: A) -> Result<Routes<A>, AllocError>
         ensures routes { IfOk result (λ routes. (cs : List (Candidate Net))
             → Gathers prefix_cmp cs self → routes ≡ routes_of cs) }
-        ensures small { IfOk result (λ routes. (bound : ℕ) (cs : List (Candidate Net)) → Gathers prefix_cmp cs self
+        ensures small { IfOk result (λ routes. (bound : ℕ) (cs : List (Candidate Net))
+            → Gathers prefix_cmp cs self
             → All (λ c. c.rank.cost < bound) cs → RoutesBelow bound routes) }
     {
         let ways = self.into_list(alloc)?;

@@ -5,8 +5,8 @@ ghost use Rattle.lsa_codec.specs.declared.address.RouterId.{RouterId as AnyRoute
 ghost use Rattle.lsdb.specs.declared.section.Section.TheVariants.{Area};
 ghost use Rattle.lsdb.specs.Lists.{lsas_of};
 ghost use Rattle.lsdb.specs.Places.{lists_of};
-ghost use Rattle.area_routes.specs.AreaResults.{AreOf, area_result, given_by};
-ghost use Rattle.area_routes.specs.Growing.{nothing_of, with_offers, with_entries};
+ghost use Rattle.area_routes.specs.AreaResults.{AreOf, area_result, result_of_reached};
+ghost use Rattle.area_routes.specs.steps.Growing.{nothing_of, with_offers, with_entries};
 
 use crate::area_result::AreaResult;
 use crate::entry::{EntryKind, RouterEntry};
@@ -42,7 +42,8 @@ impl<A: Allocator + Copy> AreaResult<A> {
         hops: HopList<A>,
     ) -> Result<(), AllocError>
         requires { cost < 2 ^ 33 }
-        ensures { OnOk result (self.new ≡ with_offers self.old (record { net = net; cost = cost; hops = hops } ∷ [])) }
+        ensures { OnOk result (self.new
+            ≡ with_offers self.old (record { net = net; cost = cost; hops = hops } ∷ [])) }
     {
         self.offers.push(Offer { net, cost, hops })?;
         Ok(())
@@ -57,7 +58,14 @@ impl<A: Allocator + Copy> AreaResult<A> {
         hops: HopList<A>,
     ) -> Result<(), AllocError>
         requires { cost < 2 ^ 33 }
-        ensures { OnOk result (self.new ≡ with_entries self.old (record { router = router; area = self.old.area; kind = kind; cost = cost; hops = hops } ∷ [])) }
+        ensures { OnOk result (self.new ≡ with_entries self.old
+            (record {
+              router = router;
+              area = self.old.area;
+              kind = kind;
+              cost = cost;
+              hops = hops;
+            } ∷ [])) }
     {
         self.entries.push(RouterEntry {
             router,
@@ -70,19 +78,19 @@ impl<A: Allocator + Copy> AreaResult<A> {
     }
 
     /// What the vertices that are reached give.
-    fn given_by(
+    fn of_reached(
         alloc: A,
         area: AreaId,
         root: RouterId,
         reached: &[Reached<'_, A>],
     ) -> Result<AreaResult<A>, AllocError>
-        ensures { IfOk result (λ given. given ≡ given_by area root reached.now) }
+        ensures { IfOk result (λ built. built ≡ result_of_reached area root reached.now) }
     {
-        let mut given = AreaResult::nothing_of(alloc, area);
-        add_networks(alloc, &mut given, reached)?;
-        add_stubs(alloc, &mut given, root, reached)?;
-        add_entries(alloc, &mut given, root, reached)?;
-        Ok(given)
+        let mut built = AreaResult::nothing_of(alloc, area);
+        add_networks(alloc, &mut built, reached)?;
+        add_stubs(alloc, &mut built, root, reached)?;
+        add_entries(alloc, &mut built, root, reached)?;
+        Ok(built)
     }
 
     /// What an area gives to the root of a tree (RFC 2328, 16.1). The graph must be that of the
@@ -107,15 +115,17 @@ impl<A: Allocator + Copy> AreaResult<A> {
         tree: &Tree<A>,
         hops: &Hops<A>,
     ) -> Result<AreaResult<A>, AllocError>
-        requires { (root : AnyRouter) × AreOf (lsas_of (Area area) (lists_of database.now)) root graph.now tree.now hops.now }
-        ensures { IfOk result (λ given. (root : AnyRouter) → AreOf (lsas_of (Area area) (lists_of database.now)) root graph.now tree.now hops.now
-            → given ≡ area_result area (lsas_of (Area area) (lists_of database.now)) root) }
+        requires { (root : AnyRouter)
+            × AreOf (lsas_of (Area area) (lists_of database.now)) root graph.now tree.now hops.now }
+        ensures { IfOk result (λ built. (root : AnyRouter)
+            → AreOf (lsas_of (Area area) (lists_of database.now)) root graph.now tree.now hops.now
+            → built ≡ area_result area (lsas_of (Area area) (lists_of database.now)) root) }
     {
         let Vertex::Router(root) = graph.vertex(tree.root()) else {
             unreachable!()
         };
         let lsas = used_lsas(alloc, database.lsas(Section::Area(area)))?;
         let reached = reached_vertices(alloc, &lsas, tree, hops)?;
-        AreaResult::given_by(alloc, area, root, &reached)
+        AreaResult::of_reached(alloc, area, root, &reached)
     }
 }

@@ -10,8 +10,11 @@ ghost use Rattle.area_routes.specs.Choice.{IsBestOf};
 /// Of the networks of each prefix one is chosen: the nearest, and of those as near the one of the
 /// greatest Link State ID. The networks of an area have different Link State IDs.
 pub fn network_choice()
-    ensures best { (ns : List ReachedValue) (n : ReachedValue) → Contains (chosen ns) n ↔ IsBestOf ns n }
-    ensures each { (ns : List ReachedValue) (m : ReachedValue) → Contains ns m → (n : ReachedValue) × Contains (chosen ns) n × (net_of_lsa n.lsa ≡ net_of_lsa m.lsa) }
-    ensures one { (ns : List ReachedValue) (m n : ReachedValue) → Contains (chosen ns) m → Contains (chosen ns) n → net_of_lsa m.lsa ≡ net_of_lsa n.lsa
-        → link_state_id_of m.lsa ≡ link_state_id_of n.lsa }
+    ensures best { (ns : List ReachedValue) (n : ReachedValue)
+        → Contains (chosen ns) n ↔ IsBestOf ns n }
+    ensures each { (ns : List ReachedValue) (m : ReachedValue) → Contains ns m
+        → (n : ReachedValue) × Contains (chosen ns) n × (net_of_lsa n.lsa ≡ net_of_lsa m.lsa) }
+    ensures one { (ns : List ReachedValue) (m n : ReachedValue)
+        → Contains (chosen ns) m → Contains (chosen ns) n
+        → net_of_lsa m.lsa ≡ net_of_lsa n.lsa → link_state_id_of m.lsa ≡ link_state_id_of n.lsa }
 {}

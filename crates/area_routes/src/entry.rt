@@ -36,5 +36,6 @@ impl<A: Allocator> Model for RouterEntry<A> {
 
     ghost Value = { EntryValue };
 
-    ghost view = { λ e. record { router = e.router; area = e.area; kind = e.kind; cost = e.cost; hops = e.hops } };
+    ghost view = { λ e.
+        record { router = e.router; area = e.area; kind = e.kind; cost = e.cost; hops = e.hops } };
 }

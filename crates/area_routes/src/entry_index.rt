@@ -4,9 +4,9 @@ ghost use Rattle.std.specs.Prelude.{◌≡◌, ◌++◌, ◌∷◌, [], List, If
 ghost use Rattle.std.specs.Map.{lookup};
 ghost use Rattle.std.specs.Option.{option_copied};
 ghost use Rattle.std.specs.Ordering.{eq_by_cmp};
-ghost use Rattle.area_routes.specs.EntryIndex.{IsIndexOf};
+ghost use Rattle.area_routes.specs.steps.EntryIndex.{IsIndexOf};
 ghost use Rattle.area_routes.specs.Inter.{same_kind};
-ghost use Rattle.area_routes.specs.Order.{router_cmp};
+ghost use Rattle.lsa_codec.specs.Order.{router_cmp};
 ghost use Rattle.area_routes.specs.Values.{EntryValue};
 
 use crate::entry::{EntryKind, RouterEntry};
@@ -17,11 +17,11 @@ use std::marker::Model;
 
 /// An entry by reference. Contracts see it as the entry's value.
 #[derive(Drop)]
-struct Mark<'a, A: Allocator> {
+struct EntryRef<'a, A: Allocator> {
     entry: &'a RouterEntry<A>,
 }
 
-impl<'a, A: Allocator> Model for Mark<'a, A> {
+impl<'a, A: Allocator> Model for EntryRef<'a, A> {
     ghost use Rattle.area_routes.specs.Values.{EntryValue};
 
     ghost Value = { EntryValue };
@@ -33,7 +33,7 @@ impl<'a, A: Allocator> Model for Mark<'a, A> {
 /// routers.
 #[derive(Drop)]
 pub(crate) struct EntryIndex<'a, A: Allocator> {
-    marks: BTreeMap<RouterId, Mark<'a, A>, A>,
+    by_router: BTreeMap<RouterId, EntryRef<'a, A>, A>,
 }
 
 impl<'a, A: Allocator> Model for EntryIndex<'a, A> {
@@ -43,7 +43,7 @@ impl<'a, A: Allocator> Model for EntryIndex<'a, A> {
 
     ghost Value = { List (RouterId × EntryValue) };
 
-    ghost view = { λ i. i.marks.entries };
+    ghost view = { λ i. i.by_router.entries };
 }
 
 impl<'a, A: Allocator + Copy> EntryIndex<'a, A> {
@@ -55,36 +55,38 @@ impl<'a, A: Allocator + Copy> EntryIndex<'a, A> {
     ) -> Result<EntryIndex<'a, A>, AllocError>
         ensures { IfOk result (IsIndexOf kind entries.now) }
     {
-        let mut marks = BTreeMap::new(alloc);
+        let mut by_router = BTreeMap::new(alloc);
         for entry in entries {
-            add_mark(&mut marks, entry, kind)?;
+            insert_entry(&mut by_router, entry, kind)?;
         }
-        Ok(EntryIndex { marks })
+        Ok(EntryIndex { by_router })
     }
 
     /// The entry of a router.
     pub(crate) fn get(&self, router: RouterId) -> Option<&'a RouterEntry<A>>
         ensures { option_copied result ≡ lookup (eq_by_cmp router_cmp router) self.now }
     {
-        match self.marks.get(&router) {
-            Some(mark) => Some(mark.entry),
+        match self.by_router.get(&router) {
+            Some(found) => Some(found.entry),
             None => None,
         }
     }
 }
 
 /// Adds an entry of the kind, unless its router has one.
-fn add_mark<'a, A: Allocator + Copy>(
-    marks: &mut BTreeMap<RouterId, Mark<'a, A>, A>,
+fn insert_entry<'a, A: Allocator + Copy>(
+    by_router: &mut BTreeMap<RouterId, EntryRef<'a, A>, A>,
     entry: &'a RouterEntry<A>,
     kind: EntryKind,
 ) -> Result<(), AllocError>
-    ensures { OnOk result ((entries : List EntryValue) → IsIndexOf kind entries marks.old.entries → IsIndexOf kind (entries ++ entry.now ∷ []) marks.new.entries) }
+    ensures { OnOk result ((entries : List EntryValue)
+        → IsIndexOf kind entries by_router.old.entries
+        → IsIndexOf kind (entries ++ entry.now ∷ []) by_router.new.entries) }
 {
-    if !is_of(entry, kind) || marks.contains_key(&entry.router) {
+    if !is_of(entry, kind) || by_router.contains_key(&entry.router) {
         return Ok(());
     }
-    marks.insert(entry.router, Mark { entry })?;
+    by_router.insert(entry.router, EntryRef { entry })?;
     Ok(())
 }
 

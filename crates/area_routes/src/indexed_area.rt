@@ -3,7 +3,7 @@
 ghost use Rattle.std.specs.Prelude.{◌≡◌, ◌<◌, ◌^◌, IfOk, IfSome};
 ghost use Rattle.std.specs.Option.{option_copied};
 ghost use Rattle.area_routes.specs.Inter.{border_of, has_asbr};
-ghost use Rattle.area_routes.specs.Values.{AreCheap};
+ghost use Rattle.area_routes.specs.Values.{ResultBelow};
 
 use crate::area_result::AreaResult;
 use crate::entry::{EntryKind, RouterEntry};
@@ -22,7 +22,7 @@ pub(crate) struct IndexedArea<'a, A: Allocator> {
 
 impl<'a, A: Allocator> Model for IndexedArea<'a, A> {
     ghost use Rattle.area_routes.specs.Values.{AreaResultValue};
-    ghost use Rattle.area_routes.specs.EntryIndex.{IsIndexed};
+    ghost use Rattle.area_routes.specs.steps.EntryIndex.{IsIndexed};
 
     ghost Value = { AreaResultValue };
 
@@ -35,7 +35,7 @@ impl<'a, A: Allocator + Copy> IndexedArea<'a, A> {
     /// The result of an area, its entries found by router.
     pub(crate) fn new(alloc: A, area: &'a AreaResult<A>) -> Result<IndexedArea<'a, A>, AllocError>
         ensures value { IfOk result (λ indexed. indexed ≡ area.now) }
-        ensures cheap { AreCheap area.now }
+        ensures below { ResultBelow (2 ^ 33) area.now }
     {
         let entries = area.entries();
         Ok(IndexedArea {
@@ -55,7 +55,7 @@ impl<'a, A: Allocator + Copy> IndexedArea<'a, A> {
     /// The entry of a router as an area border router.
     pub(crate) fn border(&self, router: RouterId) -> Option<&'a RouterEntry<A>>
         ensures entry { option_copied result ≡ border_of self.now.entries router }
-        ensures cheap { IfSome result (λ e. e.now.cost < 2 ^ 33) }
+        ensures below { IfSome result (λ e. e.now.cost < 2 ^ 33) }
     {
         self.borders.get(router)
     }

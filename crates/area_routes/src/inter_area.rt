@@ -9,8 +9,8 @@ ghost use Rattle.lsdb.specs.Places.{lists_of};
 ghost use Rattle.area_routes.specs.Best.{Gathers};
 ghost use Rattle.area_routes.specs.Candidate.{Candidate};
 ghost use Rattle.area_routes.specs.Inter.{asbr_candidate, asbr_entry, candidate_to, inter_entries, inter_of, inter_routes, network_candidate};
-ghost use Rattle.area_routes.specs.Order.{prefix_cmp, router_cmp};
-ghost use Rattle.area_routes.specs.Values.{AreCheap, EntriesBelow};
+ghost use Rattle.lsa_codec.specs.Order.{prefix_cmp, router_cmp};
+ghost use Rattle.area_routes.specs.Values.{ResultBelow, EntriesBelow};
 
 use crate::all_entries::all_entries;
 use crate::area_result::AreaResult;
@@ -78,13 +78,13 @@ fn inter_routes<A: Allocator + Copy>(
     area: &IndexedArea<'_, A>,
     intra: &InsideRoutes<A>,
 ) -> Result<InsideRoutes<A>, AllocError>
-    requires { AreCheap area.now }
+    requires { ResultBelow (2 ^ 33) area.now }
     ensures { IfOk result (λ routes. routes
         ≡ inter_routes router area.now intra.now lsas.entry) }
 {
     let mut ways = BestWays::new(alloc);
     for lsa in lsas {
-        admit_network(alloc, &mut ways, lsa, router, area, intra)?;
+        add_network_candidate(alloc, &mut ways, lsa, router, area, intra)?;
     }
     Ok(InsideRoutes::from_routes(ways.into_routes(alloc)?))
 }
@@ -97,19 +97,20 @@ fn inter_entries<A: Allocator + Copy>(
     router: RouterId,
     area: &IndexedArea<'_, A>,
 ) -> Result<Vec<RouterEntry<A>, A>, AllocError>
-    requires { AreCheap area.now }
-    ensures entries { IfOk result (λ entries. entries.items ≡ inter_entries router area.now lsas.entry) }
+    requires { ResultBelow (2 ^ 33) area.now }
+    ensures entries { IfOk result (λ entries. entries.items
+        ≡ inter_entries router area.now lsas.entry) }
     ensures small { IfOk result (λ entries. EntriesBelow (2 ^ 34) entries.items) }
 {
     let mut ways = BestWays::new(alloc);
     for lsa in lsas {
-        admit_asbr(alloc, &mut ways, lsa, router, area)?;
+        add_asbr_candidate(alloc, &mut ways, lsa, router, area)?;
     }
     entries(alloc, ways.into_list(alloc)?, area.area())
 }
 
 /// Takes the way to a prefix of another area that an LSA gives, if it does, into account.
-fn admit_network<A: Allocator + Copy>(
+fn add_network_candidate<A: Allocator + Copy>(
     alloc: A,
     ways: &mut BestWays<Prefix, A>,
     lsa: &Lsa<A>,
@@ -118,17 +119,18 @@ fn admit_network<A: Allocator + Copy>(
     intra: &InsideRoutes<A>,
 ) -> Result<(), AllocError>
     ensures { OnOk result ((cs : List (Candidate Net)) → Gathers prefix_cmp cs ways.old
-        → Gathers prefix_cmp (cs ++ cons_option (network_candidate router area.now intra.now lsa.now) []) ways.new) }
+        → Gathers prefix_cmp
+        (cs ++ cons_option (network_candidate router area.now intra.now lsa.now) []) ways.new) }
 {
     if let Some(net) = network_told(lsa, intra) {
-        admit_summary(alloc, ways, net, lsa, router, area)?;
+        add_summary_candidate(alloc, ways, net, lsa, router, area)?;
     }
     Ok(())
 }
 
 /// Takes the way to an AS boundary router of another area that an LSA gives, if it does, into
 /// account.
-fn admit_asbr<A: Allocator + Copy>(
+fn add_asbr_candidate<A: Allocator + Copy>(
     alloc: A,
     ways: &mut BestWays<RouterId, A>,
     lsa: &Lsa<A>,
@@ -136,17 +138,18 @@ fn admit_asbr<A: Allocator + Copy>(
     area: &IndexedArea<'_, A>,
 ) -> Result<(), AllocError>
     ensures { OnOk result ((cs : List (Candidate AnyRouter)) → Gathers router_cmp cs ways.old
-        → Gathers router_cmp (cs ++ cons_option (asbr_candidate router area.now lsa.now) []) ways.new) }
+        → Gathers router_cmp
+        (cs ++ cons_option (asbr_candidate router area.now lsa.now) []) ways.new) }
 {
     if let Some(asbr) = asbr_told(lsa, router, area) {
-        admit_summary(alloc, ways, asbr, lsa, router, area)?;
+        add_summary_candidate(alloc, ways, asbr, lsa, router, area)?;
     }
     Ok(())
 }
 
 /// Takes the way by a summary-LSA to what it tells of into account, where the LSA is usable and its
 /// originator has an entry.
-fn admit_summary<K: Ord + Copy + Drop, A: Allocator + Copy>(
+fn add_summary_candidate<K: Ord + Copy + Drop, A: Allocator + Copy>(
     alloc: A,
     ways: &mut BestWays<K, A>,
     key: K,
@@ -156,7 +159,8 @@ fn admit_summary<K: Ord + Copy + Drop, A: Allocator + Copy>(
 ) -> Result<(), AllocError>
     requires { CmpEqualImpliesEq K.cmp }
     ensures { OnOk result ((cs : List (Candidate K)) → Gathers K.cmp cs ways.old
-        → Gathers K.cmp (cs ++ cons_option (candidate_to router area.now lsa.now key) []) ways.new) }
+        → Gathers K.cmp
+        (cs ++ cons_option (candidate_to router area.now lsa.now key) []) ways.new) }
 {
     let (Some(metric), Some(border)) = (usable_metric(lsa, router), area.border(lsa.key().adv))
     else {
@@ -168,7 +172,7 @@ fn admit_summary<K: Ord + Copy + Drop, A: Allocator + Copy>(
         class: 0,
         cost: border.cost + u64::from(metric),
     };
-    ways.admit(alloc, key, rank, Some(area.area()), border.hops.as_slice())
+    ways.add_candidate(alloc, key, rank, Some(area.area()), border.hops.as_slice())
 }
 
 /// The entry of an AS boundary router of another area.

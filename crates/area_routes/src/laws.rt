@@ -6,7 +6,6 @@ ghost use Rattle.std.specs.Cmp.{IsTotalOrder};
 ghost use Rattle.std.specs.declared.cmp.Ordering.TheVariants.{Equal};
 ghost use Rattle.area_routes.specs.declared.rank.Rank.{Rank as AnyRank};
 ghost use Rattle.lsa_codec.specs.Accepted.{IsAccepted};
-ghost use Rattle.lsa_codec.specs.Prefix.{Net};
 ghost use Rattle.lsa_codec.specs.declared.address.AreaId.{AreaId};
 ghost use Rattle.lsa_codec.specs.declared.address.RouterId.{RouterId};
 ghost use Rattle.lsdb.specs.declared.section.Section.TheVariants.{Area};
@@ -20,22 +19,19 @@ ghost use Rattle.area_routes.specs.Candidate.{Candidate};
 ghost use Rattle.area_routes.specs.EntriesOnce.{StandOnce, results_of};
 ghost use Rattle.area_routes.specs.Inter.{inter_of};
 ghost use Rattle.area_routes.specs.InWords.{AreBestWays};
-ghost use Rattle.area_routes.specs.Order.{prefix_cmp, rank_cmp};
+ghost use Rattle.area_routes.specs.Order.{rank_cmp};
 ghost use Rattle.area_routes.specs.OverAllPaths.{AreOverAllPaths};
 ghost use Rattle.area_routes.specs.Reached.{reached_from};
 ghost use Rattle.area_routes.specs.Values.{RouteValue, WayValue};
 
 use crate::rank::Rank;
-use lsa_codec::Prefix;
 
-/// The orders of prefixes and ranks are the `Ord` of [`Prefix`] and [`Rank`]. They are total, and
-/// two values compare as equal only where they are the same.
-pub fn route_orders()
-    ensures prefixes { (a b : Net) → ⟦<Prefix as Ord>⟧.cmp a b ≡ prefix_cmp a b }
+/// The order of ranks is the `Ord` of [`Rank`]. It is total, and two ranks compare as equal only
+/// where they are the same.
+pub fn rank_order()
     ensures ranks { (a b : AnyRank) → ⟦<Rank as Ord>⟧.cmp a b ≡ rank_cmp a b }
-    ensures total { IsTotalOrder prefix_cmp × IsTotalOrder rank_cmp }
-    ensures exact_prefixes { (a b : Net) → prefix_cmp a b ≡ Equal → a ≡ b }
-    ensures exact_ranks { (a b : AnyRank) → rank_cmp a b ≡ Equal → a ≡ b }
+    ensures total { IsTotalOrder rank_cmp }
+    ensures exact { (a b : AnyRank) → rank_cmp a b ≡ Equal → a ≡ b }
 {}
 
 /// The ways that are computed are the best ways in words, and no other list is: destinations in
@@ -44,7 +40,8 @@ pub fn route_orders()
 pub fn ways_are_best<K: Ord + Copy + Drop>()
     requires { CmpEqualImpliesEq K.cmp }
     ensures best { (cs : List (Candidate K)) → AreBestWays K.cmp cs (ways_of K.cmp cs) }
-    ensures only { (cs : List (Candidate K)) (ways : List (K × WayValue)) → AreBestWays K.cmp cs ways → ways ≡ ways_of K.cmp cs }
+    ensures only { (cs : List (Candidate K)) (ways : List (K × WayValue))
+        → AreBestWays K.cmp cs ways → ways ≡ ways_of K.cmp cs }
 {}
 
 /// The vertices that are reached from a router over accepted LSAs, their distances and their next
@@ -52,13 +49,15 @@ pub fn ways_are_best<K: Ord + Copy + Drop>()
 /// and no others, each at the least cost of all paths, with exactly the first hops of all paths of
 /// this cost.
 pub fn reached_over_all_paths()
-    ensures { (root : RouterId) (lsas : List (List ℕ)) → All IsAccepted lsas → AreOverAllPaths root lsas (reached_from root lsas) }
+    ensures { (root : RouterId) (lsas : List (List ℕ)) → All IsAccepted lsas
+        → AreOverAllPaths root lsas (reached_from root lsas) }
 {}
 
 /// A router is attached to an area exactly where it is a vertex of the area's graph.
 pub fn attached_routers_are_vertices()
     ensures { (db : Lists) → IsDatabase db → (area : AreaId) (router : RouterId)
-        → (is_attached db area router ≡ true) ↔ Contains (vertices_of (lsas_of (Area area) db)) (Router router) }
+        → (is_attached db area router ≡ true)
+        ↔ Contains (vertices_of (lsas_of (Area area) db)) (Router router) }
 {}
 
 /// Of one router, area and kind a router has one entry (RFC 2328, 16.2).

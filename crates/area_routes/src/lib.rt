@@ -57,7 +57,7 @@ pub use inter_area::inter;
 pub use inter_result::InterResult;
 pub use intra_area::intra;
 pub use laws::{
-    attached_routers_are_vertices, entries_stand_once, reached_over_all_paths, route_orders,
+    attached_routers_are_vertices, entries_stand_once, rank_order, reached_over_all_paths,
     ways_are_best,
 };
 pub use offer::Offer;

@@ -2,11 +2,11 @@
 
 ghost use Rattle.std.specs.Prelude.{◌≡◌, List, [], ◌∷◌, ◌++◌, Some, OnOk, IfOk};
 ghost use Rattle.std.specs.BTreeMap.{get, Updates};
-ghost use Rattle.area_routes.specs.Order.{prefix_cmp};
+ghost use Rattle.lsa_codec.specs.Order.{prefix_cmp};
 ghost use Rattle.area_routes.specs.Reached.{ReachedValue};
 ghost use Rattle.area_routes.specs.Networks.{networks, network_offers};
-ghost use Rattle.area_routes.specs.Standings.{AreStandingsOf, is_behind, stands_before, standing_of, unbeaten};
-ghost use Rattle.area_routes.specs.Growing.{with_offers};
+ghost use Rattle.area_routes.specs.steps.Standings.{AreStandingsOf, is_behind, stands_before, standing_of, unbeaten};
+ghost use Rattle.area_routes.specs.steps.Growing.{with_offers};
 
 use crate::area_result::AreaResult;
 use crate::reached::Reached;
@@ -66,7 +66,8 @@ fn compare<A: Allocator + Copy>(
     standings: &mut Standings<A>,
     reached: &Reached<'_, A>,
 ) -> Result<(), AllocError>
-    ensures { OnOk result ((ns : List ReachedValue) → AreStandingsOf ns standings.old → AreStandingsOf (ns ++ networks (reached.now ∷ [])) standings.new) }
+    ensures { OnOk result ((ns : List ReachedValue) → AreStandingsOf ns standings.old
+        → AreStandingsOf (ns ++ networks (reached.now ∷ [])) standings.new) }
 {
     let Some(net) = reached.net() else {
         return Ok(());
@@ -99,7 +100,8 @@ fn add_network<A: Allocator + Copy>(
     standings: &Standings<A>,
     reached: &Reached<'_, A>,
 ) -> Result<(), AllocError>
-    ensures { OnOk result ((ns : List ReachedValue) → AreStandingsOf ns standings.now → area.new ≡ with_offers area.old (unbeaten ns reached.now)) }
+    ensures { OnOk result ((ns : List ReachedValue) → AreStandingsOf ns standings.now
+        → area.new ≡ with_offers area.old (unbeaten ns reached.now)) }
 {
     let Some(net) = reached.net() else {
         return Ok(());

@@ -23,13 +23,15 @@ pub(crate) struct Reached<'a, A: Allocator> {
 }
 
 impl<'a, A: Allocator> Model for Reached<'a, A> {
-    ghost use Rattle.area_routes.specs.Reached.{ReachedValue, IsReached};
+    ghost use Rattle.area_routes.specs.Reached.{ReachedValue};
+    ghost use Rattle.area_routes.specs.steps.ReachedVertices.{IsReached};
 
     ghost Value = { ReachedValue };
 
     ghost view = { λ r. record { lsa = r.lsa.now; distance = r.distance; hops = r.hops.now } };
 
-    ghost invariant = { λ r. IsReached (record { lsa = r.lsa.now; distance = r.distance; hops = r.hops.now }) };
+    ghost invariant = { λ r. IsReached
+        (record { lsa = r.lsa.now; distance = r.distance; hops = r.hops.now }) };
 }
 
 impl<'a, A: Allocator + Copy> Reached<'a, A> {
@@ -61,7 +63,8 @@ impl<'a, A: Allocator + Copy> Reached<'a, A> {
 
     /// The prefix of a network; None for a router.
     pub(crate) fn net(&self) -> Option<Prefix>
-        ensures { result ≡ (if is_network_lsa self.now.lsa then Some (net_of_lsa self.now.lsa) else None) }
+        ensures { result ≡
+            (if is_network_lsa self.now.lsa then Some (net_of_lsa self.now.lsa) else None) }
     {
         match self.lsa.network() {
             Some(network) => Some(network.net()),
@@ -80,7 +83,9 @@ fn reached_at<'a, A: Allocator + Copy>(
     requires tree { index < length tree.now.distances }
     requires hops { index < length hops.now }
     ensures { (distance : Vertex → Option ℕ) (first : Vertex → List AnyHop) (lsas : List (List ℕ))
-        → tree.now.distances ≡ map (λ l. distance (vertex_of l)) lsas → hops.now ≡ map (λ l. first (vertex_of l)) lsas → slice_get lsas index ≡ Some lsa.now
+        → tree.now.distances ≡ map (λ l. distance (vertex_of l)) lsas
+        → hops.now ≡ map (λ l. first (vertex_of l)) lsas
+        → slice_get lsas index ≡ Some lsa.now
         → result ≡ reached_by distance first lsa.now }
 {
     match tree.distance(index) {
@@ -104,7 +109,8 @@ pub(crate) fn reached_vertices<'a, A: Allocator + Copy>(
     requires tree { length tree.now.distances ≡ length lsas.now }
     requires hops { length hops.now ≡ length lsas.now }
     ensures { IfOk result (λ reached. (distance : Vertex → Option ℕ) (first : Vertex → List AnyHop)
-        → tree.now.distances ≡ map (λ l. distance (vertex_of l)) lsas.now → hops.now ≡ map (λ l. first (vertex_of l)) lsas.now
+        → tree.now.distances ≡ map (λ l. distance (vertex_of l)) lsas.now
+        → hops.now ≡ map (λ l. first (vertex_of l)) lsas.now
         → reached.items ≡ filter_map (reached_by distance first) lsas.now) }
 {
     let mut reached = Vec::new(alloc);

@@ -29,5 +29,13 @@ impl<A: Allocator> Model for Route<A> {
 
     ghost Value = { RouteValue };
 
-    ghost view = { λ r. record { net = r.net; kind = r.kind; areas = r.areas; cost = r.cost; cost2 = r.cost2; hops = r.hops } };
+    ghost view = { λ r.
+        record {
+          net = r.net;
+          kind = r.kind;
+          areas = r.areas;
+          cost = r.cost;
+          cost2 = r.cost2;
+          hops = r.hops;
+        } };
 }

@@ -2,7 +2,7 @@
 
 ghost use Rattle.std.specs.Prelude.{◌≡◌, OnOk};
 ghost use Rattle.area_routes.specs.Entries.{entry_by, flags_of, entries_of, area_entries};
-ghost use Rattle.area_routes.specs.Growing.{with_entries};
+ghost use Rattle.area_routes.specs.steps.Growing.{with_entries};
 
 use crate::area_result::AreaResult;
 use crate::entry::EntryKind;
@@ -27,7 +27,8 @@ fn add_entry<A: Allocator + Copy>(
     kind: EntryKind,
 ) -> Result<(), AllocError>
     requires { flags ≡ flags_of reached.now.lsa }
-    ensures { OnOk result (area.new ≡ with_entries area.old (entry_by area.old.area reached.now bit kind)) }
+    ensures { OnOk result (area.new
+        ≡ with_entries area.old (entry_by area.old.area reached.now bit kind)) }
 {
     if flags & bit == 0 {
         return Ok(());
@@ -43,7 +44,8 @@ fn add_entries_of<A: Allocator + Copy>(
     root: RouterId,
     reached: &Reached<'_, A>,
 ) -> Result<(), AllocError>
-    ensures { OnOk result (area.new ≡ with_entries area.old (entries_of area.old.area root reached.now)) }
+    ensures { OnOk result (area.new
+        ≡ with_entries area.old (entries_of area.old.area root reached.now)) }
 {
     let Some(router) = reached.lsa().router() else {
         return Ok(());
@@ -63,7 +65,8 @@ pub(crate) fn add_entries<A: Allocator + Copy>(
     root: RouterId,
     reached: &[Reached<'_, A>],
 ) -> Result<(), AllocError>
-    ensures { OnOk result (area.new ≡ with_entries area.old (area_entries area.old.area root reached.now)) }
+    ensures { OnOk result (area.new
+        ≡ with_entries area.old (area_entries area.old.area root reached.now)) }
 {
     for vertex in reached {
         add_entries_of(alloc, area, root, vertex)?;

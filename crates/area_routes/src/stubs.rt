@@ -3,7 +3,7 @@
 ghost use Rattle.std.specs.Prelude.{◌≡◌, ◌∷◌, [], IfOk, OnOk};
 ghost use Rattle.std.specs.List.{cons_option};
 ghost use Rattle.area_routes.specs.Stubs.{is_lsa_of, stub_hops, stub_offer, stubs_of, stub_offers};
-ghost use Rattle.area_routes.specs.Growing.{with_offers};
+ghost use Rattle.area_routes.specs.steps.Growing.{with_offers};
 
 use crate::area_result::AreaResult;
 use crate::reached::Reached;
@@ -43,7 +43,8 @@ fn add_stub<A: Allocator + Copy>(
     reached: &Reached<'_, A>,
     link: Link,
 ) -> Result<(), AllocError>
-    ensures { OnOk result (area.new ≡ with_offers area.old (cons_option (stub_offer root reached.now link) [])) }
+    ensures { OnOk result (area.new
+        ≡ with_offers area.old (cons_option (stub_offer root reached.now link) [])) }
 {
     let Some(net) = link.net() else {
         return Ok(());

@@ -1,7 +1,7 @@
 //! The best ways to one destination.
 
 ghost use Rattle.std.specs.Prelude.{◌≡◌, OnOk, IfOk, Some};
-ghost use Rattle.area_routes.specs.Merge.{fresh, merged, merge};
+ghost use Rattle.area_routes.specs.steps.Merge.{fresh, merged, merge};
 
 use crate::areas::AreaList;
 use crate::rank::Rank;

@@ -5,4 +5,4 @@ pub mod Marks
 pub mod Longest
 pub mod Small
 pub mod Whole
-pub mod Keeping
+pub mod AsbrMaps

@@ -14,12 +14,12 @@ use Rattle.std.proofs.lemmas.Map.Views.{tells_apart}
 use Rattle.lsa_codec.specs.declared.address.Addr.{Addr}
 use Rattle.lsa_codec.specs.Prefix.{Net, mask_of_len, masked}
 use Rattle.area_graph.specs.Least.{least, lesser}
-use Rattle.area_routes.specs.Order.{prefix_cmp}
+use Rattle.lsa_codec.specs.Order.{prefix_cmp}
 use Rattle.area_routes.specs.Routes.{route_to}
 use Rattle.area_routes.specs.Values.{RouteValue}
-use Rattle.area_routes.proofs.OrderLemmas.{prefix_exact, prefix_total}
+use Rattle.lsa_codec.proofs.OrderLemmas.{prefix_exact, prefix_total}
 use Rattle.external_routes.specs.Choose.{covers, forward_match, longer}
-use Rattle.external_routes.specs.Lookup.{MarksLengths}
+use Rattle.external_routes.specs.steps.Lookup.{MarksLengths}
 use Rattle.external_routes.proofs.First.{least_all}
 
 -- what is known of those that pass a test holds of what the test keeps

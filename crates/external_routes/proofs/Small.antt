@@ -40,31 +40,31 @@ metric_below router lsa h =
     omega arith
 
 module _ (router : RouterId) (routes : List RouteValue) (entries : List EntryValue)
-    (cheap_routes : RoutesBelow (2 ^ 34) routes) (cheap_entries : EntriesBelow (2 ^ 34) entries) where
+    (routes_below : RoutesBelow (2 ^ 34) routes) (entries_below : EntriesBelow (2 ^ 34) entries) where
   path_small : (lsa : List ℕ) (e : EntryValue) → metric_of lsa < 2 ^ 24 → e.cost < 2 ^ 34 → IfSome (path_over routes lsa e) IsSmall
-  path_small lsa e m cheap = by (eqb (forward_of lsa) 0)
+  path_small lsa e m below = by (eqb (forward_of lsa) 0)
     where
       over : (o : Option RouteValue) → o ≡ forward_match routes (forward_address lsa) → IfSome (option_map (path_by_route lsa) o) IsSmall
       over None is = tt
       over (Some r) is = rank_small lsa (route_class r) r.cost m
-          (first_all longer (λ r. r.cost < 2 ^ 34) (λ r. covers r.net (forward_address lsa)) routes r cheap_routes is)
+          (first_all longer (λ r. r.cost < 2 ^ 34) (λ r. covers r.net (forward_address lsa)) routes r routes_below is)
 
       by : (b : Bool) → IfSome (cond b (Some (path_by_entry lsa e)) (option_map (path_by_route lsa) (forward_match routes (forward_address lsa)))) IsSmall
-      by true = rank_small lsa (entry_class e) e.cost m cheap
+      by true = rank_small lsa (entry_class e) e.cost m below
       by false = over (forward_match routes (forward_address lsa)) refl
 
   candidate_small : (lsa : List ℕ) → IfSome (external_candidate router routes entries lsa) IsSmall
   candidate_small lsa = by (is_examined router lsa) refl
     where
-      entry_of : metric_of lsa < 2 ^ 24 → (o : Option EntryValue) → o ≡ preferred entries (originator_of lsa)
+      over_entry : metric_of lsa < 2 ^ 24 → (o : Option EntryValue) → o ≡ preferred entries (originator_of lsa)
           → IfSome (option_and_then (path_over routes lsa) o) IsSmall
-      entry_of m None is = tt
-      entry_of m (Some e) is = path_small lsa e m (first_all preference (λ e. e.cost < 2 ^ 34) (is_asbr (originator_of lsa)) entries e cheap_entries is)
+      over_entry m None is = tt
+      over_entry m (Some e) is = path_small lsa e m (first_all preference (λ e. e.cost < 2 ^ 34) (is_asbr (originator_of lsa)) entries e entries_below is)
 
       reached : metric_of lsa < 2 ^ 24 → (b : Bool)
           → IfSome (cond b None (option_and_then (path_over routes lsa) (preferred entries (originator_of lsa)))) IsSmall
       reached m true = tt
-      reached m false = entry_of m (preferred entries (originator_of lsa)) refl
+      reached m false = over_entry m (preferred entries (originator_of lsa)) refl
 
       by : (b : Bool) → is_examined router lsa ≡ b
           → IfSome (cond b

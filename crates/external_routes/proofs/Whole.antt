@@ -7,11 +7,11 @@ use Rattle.lsdb.specs.Lists.{Lists, lsas_of}
 use Rattle.lsa_codec.specs.Prefix.{Net}
 use Rattle.area_routes.specs.Best.{Gathers}
 use Rattle.area_routes.specs.Candidate.{Candidate}
-use Rattle.area_routes.specs.Order.{prefix_cmp}
+use Rattle.lsa_codec.specs.Order.{prefix_cmp}
 use Rattle.area_routes.specs.Routes.{routes_of}
 use Rattle.area_routes.specs.Values.{EntryValue, RouteValue, WayValue}
 use Rattle.external_routes.specs.Flooding.{is_attached_outside_stubs}
-use Rattle.external_routes.specs.Lookup.{WaysInside}
+use Rattle.external_routes.specs.steps.Lookup.{WaysInside}
 use Rattle.external_routes.specs.External.{external_candidate, externals_of}
 
 module _ (db : Lists) (router : RouterId) (routes : List RouteValue) (entries : List EntryValue) where

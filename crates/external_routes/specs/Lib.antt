@@ -1,4 +1,4 @@
 pub mod Flooding
 pub mod Choose
 pub mod External
-pub mod Lookup
+pub mod steps

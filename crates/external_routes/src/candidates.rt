@@ -6,7 +6,7 @@ ghost use Rattle.lsa_codec.specs.Prefix.{Net};
 ghost use Rattle.next_hops.specs.Hop.{extended};
 ghost use Rattle.area_routes.specs.Best.{Gathers};
 ghost use Rattle.area_routes.specs.Candidate.{Candidate};
-ghost use Rattle.area_routes.specs.Order.{prefix_cmp};
+ghost use Rattle.lsa_codec.specs.Order.{prefix_cmp};
 ghost use Rattle.external_routes.specs.External.{external_candidate, external_path, external_rank, is_examined, path_by_entry, path_by_route, path_over};
 
 use crate::choose::{entry_class, route_class};
@@ -19,7 +19,8 @@ use std::alloc::{AllocError, Allocator};
 /// The LSA as an AS-external-LSA, where the router examines it: it is live, its metric is below
 /// LSInfinity, and it was made by another router.
 fn examined<A: Allocator + Copy>(lsa: &Lsa<A>, router: RouterId) -> Option<ExternalView<'_>>
-    ensures { MatchOption result (is_examined router lsa.now ≡ false) (λ view. (view ≡ lsa.now) × (is_examined router lsa.now ≡ true)) }
+    ensures { MatchOption result (is_examined router lsa.now ≡ false)
+        (λ view. (view ≡ lsa.now) × (is_examined router lsa.now ≡ true)) }
 {
     let view = lsa.external()?;
     if lsa.at_max_age() || view.metric() >= LS_INFINITY || lsa.key().adv == router {
@@ -62,7 +63,7 @@ fn through<A: Allocator + Copy>(
 }
 
 /// Takes the path of an LSA over a way of this class, cost and hops into account.
-fn admit_path<A: Allocator + Copy>(
+fn add_path<A: Allocator + Copy>(
     alloc: A,
     ways: &mut BestWays<Prefix, A>,
     view: &ExternalView<'_>,
@@ -75,11 +76,11 @@ fn admit_path<A: Allocator + Copy>(
         → Gathers prefix_cmp (cs ++ external_path view.now class cost hops.now ∷ []) ways.new) }
 {
     let rank = rank(view, class, cost);
-    ways.admit(alloc, view.net(), rank, None, hops)
+    ways.add_candidate(alloc, view.net(), rank, None, hops)
 }
 
 /// Takes the path over an entry of the originator into account.
-fn admit_by_entry<A: Allocator + Copy>(
+fn add_path_by_entry<A: Allocator + Copy>(
     alloc: A,
     ways: &mut BestWays<Prefix, A>,
     view: &ExternalView<'_>,
@@ -90,11 +91,11 @@ fn admit_by_entry<A: Allocator + Copy>(
         → Gathers prefix_cmp (cs ++ path_by_entry view.now entry.now ∷ []) ways.new) }
 {
     let class = entry_class(entry);
-    admit_path(alloc, ways, view, class, entry.cost, entry.hops.as_slice())
+    add_path(alloc, ways, view, class, entry.cost, entry.hops.as_slice())
 }
 
 /// Takes the path over a route to the forwarding address into account.
-fn admit_by_route<A: Allocator + Copy>(
+fn add_path_by_route<A: Allocator + Copy>(
     alloc: A,
     ways: &mut BestWays<Prefix, A>,
     view: &ExternalView<'_>,
@@ -106,12 +107,12 @@ fn admit_by_route<A: Allocator + Copy>(
 {
     let hops = through(alloc, route.hops.as_slice(), view.forward())?;
     let class = route_class(route);
-    admit_path(alloc, ways, view, class, route.cost, hops.as_slice())
+    add_path(alloc, ways, view, class, route.cost, hops.as_slice())
 }
 
 /// Takes the path over the originator's preferred entry, or over the route to the forwarding
 /// address, into account.
-fn admit_over<A: Allocator + Copy>(
+fn add_path_over<A: Allocator + Copy>(
     alloc: A,
     ways: &mut BestWays<Prefix, A>,
     view: &ExternalView<'_>,
@@ -120,19 +121,20 @@ fn admit_over<A: Allocator + Copy>(
 ) -> Result<(), AllocError>
     requires { entry.now.cost < 2 ^ 34 }
     ensures { OnOk result ((cs : List (Candidate Net)) → Gathers prefix_cmp cs ways.old
-        → Gathers prefix_cmp (cs ++ cons_option (path_over inside.now.routes view.now entry.now) []) ways.new) }
+        → Gathers prefix_cmp
+        (cs ++ cons_option (path_over inside.now.routes view.now entry.now) []) ways.new) }
 {
     if view.forward() == Addr(0) {
-        return admit_by_entry(alloc, ways, view, entry);
+        return add_path_by_entry(alloc, ways, view, entry);
     }
     if let Some(route) = inside.forward_match(view.forward()) {
-        admit_by_route(alloc, ways, view, route)?;
+        add_path_by_route(alloc, ways, view, route)?;
     }
     Ok(())
 }
 
 /// Takes what an LSA offers into account.
-pub(crate) fn admit_lsa<A: Allocator + Copy>(
+pub(crate) fn add_external_candidate<A: Allocator + Copy>(
     alloc: A,
     ways: &mut BestWays<Prefix, A>,
     inside: &Inside<'_, A>,
@@ -140,13 +142,15 @@ pub(crate) fn admit_lsa<A: Allocator + Copy>(
     lsa: &Lsa<A>,
 ) -> Result<(), AllocError>
     ensures { OnOk result ((cs : List (Candidate Net)) → Gathers prefix_cmp cs ways.old
-        → Gathers prefix_cmp (cs ++ cons_option (external_candidate router inside.now.routes inside.now.entries lsa.now) []) ways.new) }
+        → Gathers prefix_cmp
+        (cs ++ cons_option
+        (external_candidate router inside.now.routes inside.now.entries lsa.now) []) ways.new) }
 {
     if let Some(view) = examined(lsa, router)
         && !inside.has_route(view.net())
         && let Some(entry) = inside.preferred(lsa.key().adv)
     {
-        admit_over(alloc, ways, &view, inside, entry)?;
+        add_path_over(alloc, ways, &view, inside, entry)?;
     }
     Ok(())
 }

@@ -5,7 +5,7 @@ ghost use Rattle.std.specs.Option.{option_copied};
 ghost use Rattle.lsa_codec.specs.Prefix.{masked};
 ghost use Rattle.area_routes.specs.Routes.{route_to};
 ghost use Rattle.external_routes.specs.Choose.{forward_match};
-ghost use Rattle.external_routes.specs.Lookup.{MarksLengths};
+ghost use Rattle.external_routes.specs.steps.Lookup.{MarksLengths};
 
 use area_routes::{Route, Routes};
 use lsa_codec::{Addr, Prefix};

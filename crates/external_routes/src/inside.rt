@@ -4,10 +4,10 @@ ghost use Rattle.std.specs.Prelude.{◌≡◌, ◌<◌, ◌^◌, IfSome, IfOk};
 ghost use Rattle.std.specs.Option.{option_copied};
 ghost use Rattle.area_routes.specs.Routes.{has_route};
 ghost use Rattle.external_routes.specs.Choose.{forward_match, preferred};
-ghost use Rattle.external_routes.specs.Lookup.{AreWays};
+ghost use Rattle.external_routes.specs.steps.Lookup.{WaysBelow};
 
+use crate::asbr_map::{AsbrMap, entry_for, map_asbrs};
 use crate::forward::{forward_match, lengths};
-use crate::kept::{Kept, kept_for, preferred_entries};
 use area_routes::{InsideRoutes, Route, RouterEntries, RouterEntry, Routes};
 use lsa_codec::{Addr, Prefix, RouterId};
 use std::alloc::{AllocError, Allocator, Global};
@@ -21,18 +21,19 @@ pub(crate) struct Inside<'a, A: Allocator = Global> {
     entries: &'a [RouterEntry<A>],
     /// Which lengths the routes' prefixes have.
     lengths: [bool; 33],
-    /// The preferred entry of each AS boundary router.
-    preferred: Kept<A>,
+    /// Which entry of each AS boundary router is preferred.
+    asbrs: AsbrMap<A>,
 }
 
 impl<'a, A: Allocator> Model for Inside<'a, A> {
-    ghost use Rattle.external_routes.specs.Lookup.{WaysInside, IsKept};
+    ghost use Rattle.external_routes.specs.steps.Lookup.{WaysInside, IsInside};
 
     ghost Value = { WaysInside };
 
     ghost view = { λ i. record { routes = i.routes.now; entries = i.entries.now } };
 
-    ghost invariant = { λ i. IsKept (record { routes = i.routes.now; entries = i.entries.now }) i.lengths i.preferred };
+    ghost invariant = { λ i. IsInside
+        (record { routes = i.routes.now; entries = i.entries.now }) i.lengths i.asbrs };
 }
 
 impl<'a, A: Allocator + Copy> Inside<'a, A> {
@@ -44,7 +45,7 @@ impl<'a, A: Allocator + Copy> Inside<'a, A> {
     ) -> Result<Inside<'a, A>, AllocError>
         ensures value { IfOk result (λ inside. inside
             ≡ record { routes = routes.now; entries = entries.now }) }
-        ensures below { IfOk result AreWays }
+        ensures below { IfOk result (WaysBelow (2 ^ 34)) }
     {
         let routes = routes.as_routes();
         let entries = entries.as_slice();
@@ -52,7 +53,7 @@ impl<'a, A: Allocator + Copy> Inside<'a, A> {
             routes,
             entries,
             lengths: lengths(routes.as_slice()),
-            preferred: preferred_entries(alloc, entries)?,
+            asbrs: map_asbrs(alloc, entries)?,
         })
     }
 
@@ -76,6 +77,6 @@ impl<'a, A: Allocator + Copy> Inside<'a, A> {
         ensures entry { option_copied result ≡ preferred self.now.entries asbr }
         ensures small { IfSome result (λ entry. entry.now.cost < 2 ^ 34) }
     {
-        kept_for(&self.preferred, self.entries, asbr)
+        entry_for(&self.asbrs, self.entries, asbr)
     }
 }

@@ -8,10 +8,10 @@
 mod flooding;
 
 // Ways inside the AS: which is preferred, and how they are looked up.
+mod asbr_map;
 mod choose;
 mod forward;
 mod inside;
-mod kept;
 
 // The paths of AS-external-LSAs, and the routes that they make.
 mod candidates;

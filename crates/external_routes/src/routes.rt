@@ -4,11 +4,11 @@ ghost use Rattle.std.specs.Prelude.{◌≡◌, ◌<◌, ◌^◌, IfOk, List};
 ghost use Rattle.std.specs.List.{filter_map};
 ghost use Rattle.lsdb.specs.Places.{lists_of};
 ghost use Rattle.area_routes.specs.Best.{Gathers};
-ghost use Rattle.area_routes.specs.Order.{prefix_cmp};
+ghost use Rattle.lsa_codec.specs.Order.{prefix_cmp};
 ghost use Rattle.area_routes.specs.Values.{RoutesBelow};
 ghost use Rattle.external_routes.specs.External.{external_candidate, externals_of};
 
-use crate::candidates::admit_lsa;
+use crate::candidates::add_external_candidate;
 use crate::flooding::is_attached_outside_stubs;
 use crate::inside::Inside;
 use area_routes::{BestWays, InsideRoutes, RouterEntries, Routes};
@@ -23,11 +23,12 @@ fn ways_of<A: Allocator + Copy>(
     router: RouterId,
     inside: &Inside<'_, A>,
 ) -> Result<BestWays<Prefix, A>, AllocError>
-    ensures { IfOk result (λ ways. Gathers prefix_cmp (filter_map (external_candidate router inside.now.routes inside.now.entries) lsas.entry) ways) }
+    ensures { IfOk result (λ ways. Gathers prefix_cmp
+        (filter_map (external_candidate router inside.now.routes inside.now.entries) lsas.entry) ways) }
 {
     let mut ways = BestWays::new(alloc);
     for lsa in lsas {
-        admit_lsa(alloc, &mut ways, inside, router, lsa)?;
+        add_external_candidate(alloc, &mut ways, inside, router, lsa)?;
     }
     Ok(ways)
 }

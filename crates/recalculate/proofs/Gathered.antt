@@ -8,8 +8,8 @@ use Rattle.std.proofs.lemmas.List.{append-nil}
 use Rattle.std.proofs.lemmas.List.Folds.{list_any-append}
 use Rattle.lsa_codec.specs.declared.address.RouterId.{RouterId}
 use Rattle.area_graph.specs.Rising.{rising}
-use Rattle.area_routes.specs.Order.{router_cmp}
-use Rattle.area_routes.proofs.OrderLemmas.{router_exact, router_total}
+use Rattle.lsa_codec.specs.Order.{router_cmp}
+use Rattle.lsa_codec.proofs.OrderLemmas.{router_exact, router_total}
 use Rattle.area_routes.proofs.RisingLemmas.{any_insert, any_rising, rising_is, sorted_insert, sorted_rising}
 
 abbrev same : RouterId → RouterId → Bool

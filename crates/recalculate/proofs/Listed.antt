@@ -22,8 +22,8 @@ use Rattle.area_graph.specs.Rising.{rising}
 use Rattle.area_graph.proofs.GraphLemmas.{are_of_area}
 use Rattle.area_graph.proofs.MemberLemmas.{Contains-from_In, In, In-filter, In-filter_map, In-flat_map, In-from_Contains, In-list_any, Some-same}
 use Rattle.area_graph.proofs.MemberLemmas.{filter-In, filter_map-In, flat_map-In}
-use Rattle.area_routes.specs.Order.{router_cmp}
-use Rattle.area_routes.proofs.OrderLemmas.{router_exact, router_total}
+use Rattle.lsa_codec.specs.Order.{router_cmp}
+use Rattle.lsa_codec.proofs.OrderLemmas.{router_exact, router_total}
 use Rattle.area_routes.proofs.RisingLemmas.{any_rising}
 use Rattle.edit_history.proofs.HistoryLemmas.{other_key, same_key_true}
 use Rattle.area_routes.specs.Attached.{attached_areas, has_live_router_lsa}

@@ -18,11 +18,11 @@ use Rattle.std.proofs.lemmas.Map.Keys.{IsDistinct-from_sorted}
 use Rattle.std.proofs.lemmas.Map.Made.{update_all_distinct}
 use Rattle.lsa_codec.specs.Prefix.{Net}
 use Rattle.area_graph.specs.Rising.{rising}
-use Rattle.area_routes.specs.Order.{prefix_cmp}
+use Rattle.lsa_codec.specs.Order.{prefix_cmp}
 use Rattle.area_routes.specs.Routes.{AreSortedRoutes, nets, route_to}
 use Rattle.area_routes.specs.Values.{RouteValue, RoutesBelow}
 use Rattle.area_routes.proofs.LookupLemmas.{entries_at, lookup_entries, same_entries, sorted_entries, values_entries}
-use Rattle.area_routes.proofs.OrderLemmas.{prefix_exact, prefix_total}
+use Rattle.lsa_codec.proofs.OrderLemmas.{prefix_exact, prefix_total}
 use Rattle.area_routes.proofs.RisingLemmas.{any_rising, sorted_rising}
 use Rattle.recalculate.specs.Preferring.{preferred_route, preferring}
 

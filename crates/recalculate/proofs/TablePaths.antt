@@ -7,7 +7,7 @@ use Rattle.area_graph.specs.Area.{used}
 use Rattle.area_graph.proofs.GraphLemmas.{are_of_area}
 use Rattle.area_graph.proofs.MemberLemmas.{Some-same}
 use Rattle.area_graph.proofs.UsedLemmas.{used_accepted}
-use Rattle.area_routes.specs.AreaResults.{area_result, given_by}
+use Rattle.area_routes.specs.AreaResults.{area_result, result_of_reached}
 use Rattle.area_routes.specs.OverAllPaths.{AreOverAllPaths}
 use Rattle.area_routes.specs.Reached.{reached_from}
 use Rattle.area_routes.proofs.OverAllPathsLemmas.{reached_over_all_paths}
@@ -24,10 +24,10 @@ routes_of_table db router table is = by_areas (attached_areas db router) is
     by_areas [] none = absurd (cc)
     by_areas (area ∷ areas) same = sym (ap (λ (t : TableValue). t.routes) (Some-same same))
 
-pub given_by_reached : (db : Lists) (router : RouterId) (area : AreaHead)
-    → result_in db router area ≡ given_by (record { 0 = area.id }) router (reached_from router (used (lsas_in db area)))
+pub result_of_reached_vertices : (db : Lists) (router : RouterId) (area : AreaHead)
+    → result_in db router area ≡ result_of_reached (record { 0 = area.id }) router (reached_from router (used (lsas_in db area)))
 unfolding area_result
-given_by_reached db router area = refl
+result_of_reached_vertices db router area = refl
 
 pub over_all_paths : (db : Lists) (router : RouterId) (area : AreaHead) → IsDatabase db
     → AreOverAllPaths router (used (lsas_in db area)) (reached_from router (used (lsas_in db area)))

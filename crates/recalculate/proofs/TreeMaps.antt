@@ -17,8 +17,8 @@ use Rattle.lsdb.specs.Lists.{Lists, lsas_of}
 use Rattle.area_graph.specs.declared.vertex.Vertex.TheVariants.{Router}
 use Rattle.area_graph.specs.Graphs.{IsGraphOf}
 use Rattle.area_graph.specs.Topology.{Topology}
-use Rattle.area_routes.specs.Order.{area_cmp, router_cmp}
-use Rattle.area_routes.proofs.OrderLemmas.{area_exact, router_exact}
+use Rattle.lsa_codec.specs.Order.{area_cmp, router_cmp}
+use Rattle.lsa_codec.proofs.OrderLemmas.{area_exact, router_exact}
 use Rattle.area_routes.specs.Attached.{is_attached}
 use Rattle.recalculate.specs.AreaTrees.{AreaTreesValue, AreasTrees, AreOfDatabase, AreTreesIn, IsTreeIn, RouterTreeValue, has_tree, trees_at, trees_in}
 use Rattle.recalculate.specs.KeptTrees.{IsWithin}

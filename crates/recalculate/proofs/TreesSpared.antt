@@ -12,8 +12,8 @@ use Rattle.lsa_codec.specs.declared.address.RouterId.{RouterId}
 use Rattle.lsdb.specs.declared.section.Section.TheVariants.{Area}
 use Rattle.lsdb.specs.Lists.{Lists, lsas_of}
 use Rattle.area_graph.specs.Graphs.{IsGraphOf}
-use Rattle.area_routes.specs.Order.{area_cmp, router_cmp}
-use Rattle.area_routes.proofs.OrderLemmas.{area_exact}
+use Rattle.lsa_codec.specs.Order.{area_cmp, router_cmp}
+use Rattle.lsa_codec.proofs.OrderLemmas.{area_exact}
 use Rattle.edit_history.specs.Effect.{graph_lsas}
 use Rattle.recalculate.specs.AreaTrees.{AreaTreesValue, AreasTrees, AreOfDatabase, RouterTreeValue, has_tree, routers_of, trees_at, trees_in}
 use Rattle.recalculate.specs.KeptTrees.{KeptRouters, TreeSet, is_kept, less_touched}

@@ -13,7 +13,7 @@ use Rattle.area_graph.specs.Topology.{Topology}
 use Rattle.spf.specs.Distances.{Distances, IsTreeOf}
 use Rattle.next_hops.specs.declared.hop.Hop.{Hop}
 use Rattle.next_hops.specs.FirstHops.{table_of}
-use Rattle.area_routes.specs.Order.{area_cmp, router_cmp}
+use Rattle.lsa_codec.specs.Order.{area_cmp, router_cmp}
 use Rattle.recalculate.specs.KeptTrees.{KeptRouters, TreeSet}
 
 -- the tree of a router, and the next hops of its vertices

@@ -7,7 +7,7 @@ use Rattle.std.specs.Ordering.{eq_by_cmp}
 use Rattle.lsa_codec.specs.declared.address.AreaId.{AreaId}
 use Rattle.lsa_codec.specs.declared.address.RouterId.{RouterId}
 use Rattle.lsdb.specs.Lists.{AreaHead}
-use Rattle.area_routes.specs.Order.{area_cmp, router_cmp}
+use Rattle.lsa_codec.specs.Order.{area_cmp, router_cmp}
 
 -- of areas the routers whose trees in the area are kept
 abbrev pub KeptRouters : Type 0

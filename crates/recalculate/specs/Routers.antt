@@ -6,7 +6,7 @@ use Rattle.lsa_codec.specs.Fields.{link_state_id_of}
 use Rattle.lsdb.specs.Lists.{Lists}
 use Rattle.area_graph.specs.Area.{is_live, is_router_lsa}
 use Rattle.area_graph.specs.Rising.{rising}
-use Rattle.area_routes.specs.Order.{router_cmp}
+use Rattle.lsa_codec.specs.Order.{router_cmp}
 use Rattle.recalculate.specs.Counts.{area_lsas}
 
 -- the router of a router-LSA that is not at MaxAge

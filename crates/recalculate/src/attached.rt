@@ -5,7 +5,7 @@ ghost use Rattle.std.specs.List.{cons_option, filter_map};
 ghost use Rattle.lsa_codec.specs.declared.address.RouterId.{RouterId as AnyRouter};
 ghost use Rattle.lsdb.specs.Places.{lists_of};
 ghost use Rattle.area_graph.specs.Rising.{rising};
-ghost use Rattle.area_routes.specs.Order.{router_cmp};
+ghost use Rattle.lsa_codec.specs.Order.{router_cmp};
 ghost use Rattle.edit_history.specs.Session.{state};
 ghost use Rattle.recalculate.specs.Routers.{attached_routers, live_router};
 

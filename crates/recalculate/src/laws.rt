@@ -4,7 +4,7 @@ ghost use Rattle.std.specs.Prelude.{◌≡◌, ◌↔◌, ◌≢◌, [], Contain
 ghost use Rattle.lsa_codec.specs.declared.address.RouterId.{RouterId};
 ghost use Rattle.lsdb.specs.Lists.{AreaHead, IsDatabase, Lists};
 ghost use Rattle.area_graph.specs.Area.{used};
-ghost use Rattle.area_routes.specs.AreaResults.{given_by};
+ghost use Rattle.area_routes.specs.AreaResults.{result_of_reached};
 ghost use Rattle.area_routes.specs.OverAllPaths.{AreOverAllPaths};
 ghost use Rattle.area_routes.specs.Reached.{reached_from};
 ghost use Rattle.area_routes.specs.Attached.{attached_areas};
@@ -25,7 +25,7 @@ pub fn tables_are_over_all_paths()
     ensures routes { (db : Lists) (router : RouterId) (table : TableValue) → table_in db router ≡ Some table
         → table.routes ≡ routes_from db router (results_in db router (attached_areas db router)) }
     ensures areas { (db : Lists) (router : RouterId) (area : AreaHead)
-        → result_in db router area ≡ given_by (record { 0 = area.id }) router (reached_from router (used (lsas_in db area))) }
+        → result_in db router area ≡ result_of_reached (record { 0 = area.id }) router (reached_from router (used (lsas_in db area))) }
     ensures paths { (db : Lists) (router : RouterId) (area : AreaHead) → IsDatabase db
         → AreOverAllPaths router (used (lsas_in db area)) (reached_from router (used (lsas_in db area))) }
 {}

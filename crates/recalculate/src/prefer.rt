@@ -2,7 +2,7 @@
 
 ghost use Rattle.std.specs.Prelude.{◌≡◌, ◌^◌, IfOk, map};
 ghost use Rattle.std.specs.BTreeMap.{IsFromIterResult, values};
-ghost use Rattle.area_routes.specs.Order.{prefix_cmp};
+ghost use Rattle.lsa_codec.specs.Order.{prefix_cmp};
 ghost use Rattle.area_routes.specs.Values.{RoutesBelow};
 ghost use Rattle.recalculate.specs.Preferring.{preferring};
 

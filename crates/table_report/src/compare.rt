@@ -4,7 +4,7 @@ ghost use Rattle.std.specs.Prelude.{◌≡◌, ◌++◌, IfOk, Some, codes, map,
 ghost use Rattle.std.specs.Option.{option_copied};
 ghost use Rattle.std.specs.String.{string_bytes};
 ghost use Rattle.area_graph.specs.Rising.{rising};
-ghost use Rattle.area_routes.specs.Order.{prefix_cmp};
+ghost use Rattle.lsa_codec.specs.Order.{prefix_cmp};
 ghost use Rattle.area_routes.specs.Routes.{nets};
 ghost use Rattle.table_report.specs.Comparing.{change, changes, compare_text};
 ghost use Rattle.table_report.specs.Texts.{line_of};

@@ -1,6 +1,6 @@
 //! The best of many candidates, their order, and their law.
 
-use crate::{BestWays, PathType, Rank, route_orders, ways_are_best};
+use crate::{BestWays, PathType, Rank, rank_order, ways_are_best};
 use lsa_codec::{Addr, AreaId};
 use next_hops::Hop;
 use std::test::*;
@@ -18,7 +18,7 @@ fn rank(path: PathType, cost2: u32, class: u8, cost: u64) -> Rank {
 /// cost (RFC 2328, 16.4).
 #[test]
 fn ranks_in_order(rt: HostRuntime) -> Result<(), Fail> {
-    route_orders();
+    rank_order();
     let ranks = [
         rank(PathType::Intra, 0, 0, 900),
         rank(PathType::Inter, 0, 0, 800),
@@ -42,11 +42,11 @@ fn least_ways_are_joined(rt: HostRuntime) -> Result<(), Fail> {
     let near = rank(PathType::Inter, 0, 0, 20);
     let (left, right) = (Hop::Link(Addr(1)), Hop::Link(Addr(2)));
     let mut ways = BestWays::new(rt.alloc());
-    ways.admit(rt.alloc(), 7u8, far, Some(AreaId(9)), &[Hop::Connected])?;
-    ways.admit(rt.alloc(), 7u8, near, Some(AreaId(2)), &[right])?;
-    ways.admit(rt.alloc(), 3u8, far, None, &[left])?;
-    ways.admit(rt.alloc(), 7u8, near, Some(AreaId(1)), &[left, right])?;
-    ways.admit(rt.alloc(), 7u8, far, Some(AreaId(3)), &[Hop::Connected])?;
+    ways.add_candidate(rt.alloc(), 7u8, far, Some(AreaId(9)), &[Hop::Connected])?;
+    ways.add_candidate(rt.alloc(), 7u8, near, Some(AreaId(2)), &[right])?;
+    ways.add_candidate(rt.alloc(), 3u8, far, None, &[left])?;
+    ways.add_candidate(rt.alloc(), 7u8, near, Some(AreaId(1)), &[left, right])?;
+    ways.add_candidate(rt.alloc(), 7u8, far, Some(AreaId(3)), &[Hop::Connected])?;
     let list = ways.into_list(rt.alloc())?;
     assert_eq!(rt; list.len(), 2);
     let (first, only) = list.first().ok_or("two ways")?;

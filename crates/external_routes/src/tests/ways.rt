@@ -36,7 +36,7 @@ pub fn routes<A: Allocator + Copy>(alloc: A, ways: &[WayTo]) -> Result<InsideRou
             class: 0,
             cost: wide(way.cost),
         };
-        best.admit(alloc, way.net, rank, Some(AreaId(way.area)), &way.hops)?;
+        best.add_candidate(alloc, way.net, rank, Some(AreaId(way.area)), &way.hops)?;
     }
     Ok(InsideRoutes::from_routes(best.into_routes(alloc)?))
 }

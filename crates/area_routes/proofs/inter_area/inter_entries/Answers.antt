@@ -8,7 +8,7 @@ use Rattle.lsa_codec.specs.declared.address.RouterId.{RouterId}
 use Rattle.area_routes.specs.Best.{Gathers}
 use Rattle.area_routes.specs.Candidate.{Candidate}
 use Rattle.area_routes.specs.Inter.{asbr_candidate, asbr_entry}
-use Rattle.area_routes.specs.Order.{router_cmp}
+use Rattle.lsa_codec.specs.Order.{router_cmp}
 use Rattle.area_routes.specs.Values.{EntriesBelow}
 use Rattle.area_routes.proofs.Costs.{asbrs_below, entries_below}
 use Rattle.area_routes.proofs.AddsLemmas.{filter_map_adds}
@@ -18,9 +18,9 @@ pub loop-lsa-preserved : goal.loop-lsa-preserved
 loop-lsa-preserved g c =
     let f = asbr_candidate c.args.router c.args.area.now in
     let so_far = map (λ lsa. lsa.now) c.loop-lsa.yielded in
-    let P : List (Candidate RouterId) → Type 0 = λ cs. Gathers router_cmp cs c.admit_asbr.new.ways in
+    let P : List (Candidate RouterId) → Type 0 = λ cs. Gathers router_cmp cs c.add_asbr_candidate.new.ways in
     subst P (sym (ap (filter_map f) (map-append (λ lsa. lsa.now) c.loop-lsa.yielded (c.in-Some.lsa ∷ [])) ∙ (filter_map_adds f).push so_far c.in-Some.lsa.now))
-    (c.in_ok-admit_asbr.ensures (filter_map f so_far) c.loop-lsa.invariant)
+    (c.in_ok-add_asbr_candidate.ensures (filter_map f so_far) c.loop-lsa.invariant)
 
 pub returns-clause-entries : goal.returns-clause-entries
 returns-clause-entries g c =

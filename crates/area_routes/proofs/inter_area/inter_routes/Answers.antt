@@ -6,7 +6,7 @@ use Rattle.lsa_codec.specs.Prefix.{Net}
 use Rattle.area_routes.specs.Best.{Gathers}
 use Rattle.area_routes.specs.Candidate.{Candidate}
 use Rattle.area_routes.specs.Inter.{network_candidate}
-use Rattle.area_routes.specs.Order.{prefix_cmp}
+use Rattle.lsa_codec.specs.Order.{prefix_cmp}
 use Rattle.area_routes.proofs.Costs.{networks_below}
 use Rattle.area_routes.proofs.AddsLemmas.{filter_map_adds}
 use Rattle.area_routes.proofs.inter_area.inter_routes.Goals as goal
@@ -15,9 +15,9 @@ pub loop-lsa-preserved : goal.loop-lsa-preserved
 loop-lsa-preserved g c =
     let f = network_candidate c.args.router c.args.area.now c.args.intra.now in
     let so_far = map (λ lsa. lsa.now) c.loop-lsa.yielded in
-    let P : List (Candidate Net) → Type 0 = λ cs. Gathers prefix_cmp cs c.admit_network.new.ways in
+    let P : List (Candidate Net) → Type 0 = λ cs. Gathers prefix_cmp cs c.add_network_candidate.new.ways in
     subst P (sym (ap (filter_map f) (map-append (λ lsa. lsa.now) c.loop-lsa.yielded (c.in-Some.lsa ∷ [])) ∙ (filter_map_adds f).push so_far c.in-Some.lsa.now))
-    (c.in_ok-admit_network.ensures (filter_map f so_far) c.loop-lsa.invariant)
+    (c.in_ok-add_network_candidate.ensures (filter_map f so_far) c.loop-lsa.invariant)
 
 pub from_routes-requires : goal.from_routes-requires
 from_routes-requires g c =

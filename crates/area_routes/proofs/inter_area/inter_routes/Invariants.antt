@@ -2,7 +2,7 @@ use Rattle.std.proofs.Common.{map}
 use Rattle.std.specs.List.{filter_map}
 use Rattle.area_routes.specs.Best.{Gathers}
 use Rattle.area_routes.specs.Inter.{network_candidate}
-use Rattle.area_routes.specs.Order.{prefix_cmp}
+use Rattle.lsa_codec.specs.Order.{prefix_cmp}
 use Rattle.area_routes.proofs.inter_area.inter_routes.Given as goal
 
 -- the ways have taken the LSAs so far into account

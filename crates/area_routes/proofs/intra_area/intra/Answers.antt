@@ -6,8 +6,8 @@ use Rattle.lsa_codec.specs.Prefix.{Net}
 use Rattle.area_routes.specs.Best.{Gathers}
 use Rattle.area_routes.specs.Candidate.{Candidate}
 use Rattle.area_routes.specs.Intra.{intra_candidate, intra_candidates, intra_of}
-use Rattle.area_routes.specs.Order.{prefix_cmp}
-use Rattle.area_routes.specs.Values.{AreaResultValue, AreCheap, RoutesBelow}
+use Rattle.lsa_codec.specs.Order.{prefix_cmp}
+use Rattle.area_routes.specs.Values.{AreaResultValue, ResultBelow, RoutesBelow}
 use Rattle.area_routes.proofs.Bounds.{All-flat_map, All-taken}
 use Rattle.area_routes.proofs.Made.{wider_routes}
 use Rattle.area_routes.proofs.AddsLemmas.{adds_step, flat_map_adds}
@@ -15,20 +15,20 @@ use Rattle.area_routes.proofs.intra_area.intra.Goals as goal
 
 pub loop-area-preserved : goal.loop-area-preserved
 loop-area-preserved g c = (
-  adds_step (flat_map_adds intra_candidates) (λ cs. Gathers prefix_cmp cs c.loop-area.ways) (λ cs. Gathers prefix_cmp cs c.admit_area.new.ways)
+  adds_step (flat_map_adds intra_candidates) (λ cs. Gathers prefix_cmp cs c.loop-area.ways) (λ cs. Gathers prefix_cmp cs c.add_intra_candidates.new.ways)
       c.args.results.now c.loop-area.area-index c.area-item.result c.loop-area-test.true
-      c.area-item.is c.loop-area.invariant.0 c.in_ok-admit_area.ensures.admitted,
-  All-taken AreCheap c.args.results.now c.loop-area.area-index c.area-item.result c.loop-area-test.true
-      c.area-item.is c.admit_area.ensures.cheap c.loop-area.invariant.1,
+      c.area-item.is c.loop-area.invariant.0 c.in_ok-add_intra_candidates.ensures.added,
+  All-taken (ResultBelow (2 ^ 33)) c.args.results.now c.loop-area.area-index c.area-item.result c.loop-area-test.true
+      c.area-item.is c.add_intra_candidates.ensures.below c.loop-area.invariant.1,
 )
 
 -- all areas are taken at the end
 whole : (results : List AreaResultValue) (i : ℕ) (P : List AreaResultValue → Type 0) → take i results ≡ results → P (take i results) → P results
 whole results i P all p = subst P all p
 
--- what areas offer is cheap where the areas are
-cheap : (results : List AreaResultValue) → All AreCheap results → All (λ c. c.rank.cost < 2 ^ 33) (flat_map intra_candidates results)
-cheap results a = All-flat_map (λ (c : Candidate Net). c.rank.cost < 2 ^ 33) AreCheap intra_candidates
+-- no candidate costs more than what the areas give
+candidates_below : (results : List AreaResultValue) → All (ResultBelow (2 ^ 33)) results → All (λ c. c.rank.cost < 2 ^ 33) (flat_map intra_candidates results)
+candidates_below results a = All-flat_map (λ (c : Candidate Net). c.rank.cost < 2 ^ 33) (ResultBelow (2 ^ 33)) intra_candidates
     (λ r h. All-map (λ (c : Candidate Net). c.rank.cost < 2 ^ 33) (intra_candidate r.area) r.offers h.offers) results a
 
 pub from_routes-requires : goal.from_routes-requires
@@ -36,7 +36,8 @@ from_routes-requires g c =
     let all = take_all c.loop-area.area-index c.args.results.now c.loop-area-test.false in
     let at = whole c.args.results.now c.loop-area.area-index
     (λ rs. Gathers prefix_cmp (flat_map intra_candidates rs) c.loop-area.ways) all c.loop-area.invariant.0 in
-    let below = cheap c.args.results.now (whole c.args.results.now c.loop-area.area-index (λ rs. All AreCheap rs) all c.loop-area.invariant.1) in
+    let areas = whole c.args.results.now c.loop-area.area-index (λ rs. All (ResultBelow (2 ^ 33)) rs) all c.loop-area.invariant.1 in
+    let below = candidates_below c.args.results.now areas in
     wider_routes c.in_ok-into_routes.field-0 (c.in_ok-into_routes.ensures.small (2 ^ 33) (flat_map intra_candidates c.args.results.now) at below)
 
 pub returns-clause-routes : goal.returns-clause-routes
@@ -52,6 +53,7 @@ returns-clause-small g c =
     let all = take_all c.loop-area.area-index c.args.results.now c.loop-area-test.false in
     let at = whole c.args.results.now c.loop-area.area-index
     (λ rs. Gathers prefix_cmp (flat_map intra_candidates rs) c.loop-area.ways) all c.loop-area.invariant.0 in
-    let below = cheap c.args.results.now (whole c.args.results.now c.loop-area.area-index (λ rs. All AreCheap rs) all c.loop-area.invariant.1) in
+    let areas = whole c.args.results.now c.loop-area.area-index (λ rs. All (ResultBelow (2 ^ 33)) rs) all c.loop-area.invariant.1 in
+    let below = candidates_below c.args.results.now areas in
     subst (RoutesBelow (2 ^ 33)) (sym c.from_routes.ensures)
     (c.in_ok-into_routes.ensures.small (2 ^ 33) (flat_map intra_candidates c.args.results.now) at below)

@@ -3,9 +3,9 @@ use Rattle.std.specs.List.{flat_map}
 use Rattle.std.proofs.lemmas.List.{take_all}
 use Rattle.area_routes.specs.Values.{OfferValue}
 use Rattle.area_routes.specs.Reached.{ReachedValue}
-use Rattle.area_routes.specs.Growing.{with_offers}
+use Rattle.area_routes.specs.steps.Growing.{with_offers}
 use Rattle.area_routes.specs.Networks.{networks}
-use Rattle.area_routes.specs.Standings.{unbeaten}
+use Rattle.area_routes.specs.steps.Standings.{unbeaten}
 use Rattle.area_routes.proofs.Beaten.{unbeaten_offers}
 use Rattle.area_routes.proofs.networks.add_networks.Goals as goal
 

@@ -1,8 +1,8 @@
 use Rattle.std.proofs.Common.{◌≡◌, take}
 use Rattle.std.specs.List.{flat_map}
 use Rattle.area_routes.specs.Networks.{networks}
-use Rattle.area_routes.specs.Standings.{unbeaten}
-use Rattle.area_routes.specs.Growing.{with_offers}
+use Rattle.area_routes.specs.steps.Standings.{unbeaten}
+use Rattle.area_routes.specs.steps.Growing.{with_offers}
 use Rattle.area_routes.proofs.networks.add_networks.Given as goal
 
 abbrev pub invariant-loop-vertex : goal.invariant-loop-vertex

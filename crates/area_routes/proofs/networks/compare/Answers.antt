@@ -5,8 +5,8 @@ use Rattle.lsa_codec.specs.Prefix.{Net}
 use Rattle.lsa_codec.specs.Views.{net_of_lsa}
 use Rattle.area_graph.specs.Area.{is_network_lsa}
 use Rattle.area_routes.specs.declared.networks.Standing.{Standing}
-use Rattle.area_routes.specs.Order.{prefix_cmp}
-use Rattle.area_routes.specs.Standings.{is_behind, standing_of}
+use Rattle.lsa_codec.specs.Order.{prefix_cmp}
+use Rattle.area_routes.specs.steps.Standings.{is_behind, standing_of}
 use Rattle.area_routes.proofs.Beaten.{standings_stay, standings_rise, prefix_of_network}
 use Rattle.area_routes.proofs.networks.compare.Goals as goal
 

@@ -1,6 +1,6 @@
 use Rattle.std.proofs.Common.{◌≡◌, take}
 use Rattle.area_routes.specs.Entries.{area_entries}
-use Rattle.area_routes.specs.Growing.{with_entries}
+use Rattle.area_routes.specs.steps.Growing.{with_entries}
 use Rattle.area_routes.proofs.router_entries.add_entries.Given as goal
 
 abbrev pub invariant-loop-vertex : goal.invariant-loop-vertex

@@ -1,6 +1,6 @@
 use Rattle.std.proofs.Common.{◌≡◌, take}
 use Rattle.area_routes.specs.Stubs.{stub_offers}
-use Rattle.area_routes.specs.Growing.{with_offers}
+use Rattle.area_routes.specs.steps.Growing.{with_offers}
 use Rattle.area_routes.proofs.stubs.add_stubs.Given as goal
 
 abbrev pub invariant-loop-vertex : goal.invariant-loop-vertex

@@ -1,5 +1,5 @@
 use Rattle.std.proofs.Common.{◌≡◌, length, take}
-use Rattle.external_routes.specs.Lookup.{MarksLengths}
+use Rattle.external_routes.specs.steps.Lookup.{MarksLengths}
 use Rattle.external_routes.proofs.forward.lengths.Given as goal
 
 -- the lengths so far are marked

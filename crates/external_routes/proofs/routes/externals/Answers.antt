@@ -5,7 +5,7 @@ use Rattle.lsdb.specs.declared.section.Section.TheVariants.{AsWide}
 use Rattle.lsdb.specs.Lists.{lsas_of}
 use Rattle.lsdb.specs.Places.{lists_of}
 use Rattle.area_routes.specs.Values.{RouteValue, RoutesBelow}
-use Rattle.external_routes.specs.Lookup.{AreWays, WaysInside}
+use Rattle.external_routes.specs.steps.Lookup.{WaysBelow, WaysInside}
 use Rattle.external_routes.proofs.Small.{candidates_small}
 use Rattle.external_routes.proofs.Whole.{all_candidates, examines_all, examines_none, gathered}
 use Rattle.external_routes.proofs.routes.externals.Goals as goal
@@ -32,7 +32,7 @@ returns-clause-small g c =
     let db = lists_of c.args.database.now in
     let at = gathered db c.args.router c.args.routes.now c.args.entries.now c.in_ok-inside.inside c.lsas.result
     c.in_ok-ways.ways c.in_ok-inside.ensures.value c.lsas.ensures.lsas c.in_ok-ways.ensures in
-    let are = subst (λ (ways : WaysInside). AreWays ways) c.in_ok-inside.ensures.value c.in_ok-inside.ensures.below in
-    let below = candidates_small c.args.router c.args.routes.now c.args.entries.now are.routes are.entries (lsas_of AsWide db) in
+    let small = subst (WaysBelow (2 ^ 34)) c.in_ok-inside.ensures.value c.in_ok-inside.ensures.below in
+    let below = candidates_small c.args.router c.args.routes.now c.args.entries.now small.routes small.entries (lsas_of AsWide db) in
     IfOk-weaker c.into_routes.result _ _ (λ x h. h (2 ^ 35) (all_candidates db c.args.router c.args.routes.now c.args.entries.now) at below)
     c.into_routes.ensures.small

@@ -1,7 +1,7 @@
 use Rattle.std.proofs.Common.{map}
 use Rattle.std.specs.List.{filter_map}
 use Rattle.area_routes.specs.Best.{Gathers}
-use Rattle.area_routes.specs.Order.{prefix_cmp}
+use Rattle.lsa_codec.specs.Order.{prefix_cmp}
 use Rattle.external_routes.specs.External.{external_candidate}
 use Rattle.external_routes.proofs.routes.ways_of.Given as goal
 

@@ -7,7 +7,7 @@ use Rattle.std.proofs.lemmas.Result.{IfOk-weaker}
 use Rattle.lsdb.specs.Lists.{AreaHead, areas_of}
 use Rattle.lsdb.specs.Places.{lists_of}
 use Rattle.area_graph.specs.Rising.{rising}
-use Rattle.area_routes.specs.Order.{router_cmp}
+use Rattle.lsa_codec.specs.Order.{router_cmp}
 use Rattle.recalculate.specs.Counts.{lsas_in}
 use Rattle.recalculate.specs.Routers.{live_router}
 use Rattle.recalculate.proofs.Totals.{lsas_all, lsas_among, lsas_more}

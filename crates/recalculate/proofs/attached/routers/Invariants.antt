@@ -3,7 +3,7 @@ use Rattle.std.specs.List.{filter_map}
 use Rattle.lsdb.specs.Lists.{areas_of}
 use Rattle.lsdb.specs.Places.{lists_of}
 use Rattle.area_graph.specs.Rising.{rising}
-use Rattle.area_routes.specs.Order.{router_cmp}
+use Rattle.lsa_codec.specs.Order.{router_cmp}
 use Rattle.recalculate.specs.Routers.{live_router}
 use Rattle.recalculate.proofs.Totals.{lsas_among}
 use Rattle.recalculate.proofs.attached.routers.Given as goal

@@ -5,8 +5,8 @@ use Rattle.lsdb.specs.declared.section.Section.TheVariants.{Area}
 use Rattle.lsdb.specs.Lists.{lsas_of}
 use Rattle.lsdb.specs.Places.{lists_of}
 use Rattle.area_graph.specs.Area.{used}
-use Rattle.area_routes.specs.AreaResults.{given_by}
-use Rattle.area_routes.proofs.Reaching.{one_root, given_by-area}
+use Rattle.area_routes.specs.AreaResults.{result_of_reached}
+use Rattle.area_routes.proofs.Reaching.{one_root, result_of_reached-area}
 use Rattle.area_routes.proofs.area_result.AreaResult.build.Goals as goal
 
 pub returns : goal.returns
@@ -15,9 +15,9 @@ returns g c =
     let t = c.args.graph.now in
     let tree = c.args.tree.now in
     let us : c.deref.result.now ≡ used lsas = c.deref.ensures.value ∙ c.in_ok-lsas.ensures ∙ ap (λ (ls : List (List ℕ)). used ls) c.lsas.ensures.lsas in
-    IfOk-weaker c.given_by.result _ _
-    (λ given is root are. is ∙ ap (λ (r : RouterId). given_by c.args.area r c.deref-2.result.now)
+    IfOk-weaker c.of_reached.result _ _
+    (λ built is root are. is ∙ ap (λ (r : RouterId). result_of_reached c.args.area r c.deref-2.result.now)
     (one_root t.vertices c.root.result tree.root c.in-Router.root root c.root.ensures c.in-Router.ensures.vertex are.of_graph.root_at)
-    ∙ given_by-area c.args.area lsas root t tree c.args.hops.now are c.deref.result.now us c.deref-2.result.now
+    ∙ result_of_reached-area c.args.area lsas root t tree c.args.hops.now are c.deref.result.now us c.deref-2.result.now
     (λ distance first ds hs. c.deref-2.ensures.value ∙ c.in_ok-reached.ensures distance first ds hs))
-    c.given_by.ensures
+    c.of_reached.ensures

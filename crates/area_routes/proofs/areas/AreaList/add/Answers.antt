@@ -2,8 +2,9 @@ use Rattle.std.proofs.Common.{◌∷◌, [], ◌++◌, ◌∙◌, sym, ap, subst
 use Rattle.std.specs.Cmp.{unsigned_ties}
 use Rattle.std.proofs.lemmas.List.Filters.{dedup_is}
 use Rattle.area_graph.specs.Rising.{rising}
-use Rattle.area_routes.specs.Order.{area_cmp, AreSortedAreas}
-use Rattle.area_routes.proofs.OrderLemmas.{area_exact, area_total}
+use Rattle.lsa_codec.specs.Order.{area_cmp}
+use Rattle.area_routes.specs.Order.{AreSortedAreas}
+use Rattle.lsa_codec.proofs.OrderLemmas.{area_exact, area_total}
 use Rattle.area_routes.proofs.RisingLemmas.{dedup_rising, sorted_rising}
 use Rattle.area_routes.proofs.areas.AreaList.add.Goals as goal
 

@@ -12,9 +12,9 @@ behind : (P : EntryValue → Type 0) (r : Option (Bor EntryValue)) → IfSome (o
 behind P None h = tt
 behind P (Some e) h = h
 
-pub returns-clause-cheap : goal.returns-clause-cheap
-returns-clause-cheap g c =
-    let cheap : EntryValue → Type 0 = λ e. e.cost < 2 ^ 33 in
-    behind cheap c.get.result
-    (subst (λ (o : Option EntryValue). IfSome o cheap) (sym (c.get.ensures ∙ c.self.invariant.borders_of c.args.router))
-    (found_has cheap (λ e. same_kind e.kind Border && same_router e.router c.args.router) c.self.inside.result.now.entries c.self.invariant.cheap.entries))
+pub returns-clause-below : goal.returns-clause-below
+returns-clause-below g c =
+    let below : EntryValue → Type 0 = λ e. e.cost < 2 ^ 33 in
+    behind below c.get.result
+    (subst (λ (o : Option EntryValue). IfSome o below) (sym (c.get.ensures ∙ c.self.invariant.borders_of c.args.router))
+    (found_has below (λ e. same_kind e.kind Border && same_router e.router c.args.router) c.self.inside.result.now.entries c.self.invariant.below.entries))

@@ -7,6 +7,6 @@ use Rattle.external_routes.proofs.inside.Inside.preferred.Goals as goal
 pub returns-clause-small : goal.returns-clause-small
 returns-clause-small g c =
     let entries = c.self.inside.entries.now in
-    let found = c.kept_for.ensures ∙ c.self.invariant.preferred c.args.asbr
+    let found = c.entry_for.ensures ∙ c.self.invariant.mapped c.args.asbr
     ∙ ap (λ es. preferred es c.args.asbr) (take_all (length entries) entries (omega arith)) in
-    first_has preference (λ e. e.cost < 2 ^ 34) (is_asbr c.args.asbr) entries c.kept_for.result c.self.invariant.are.entries found
+    first_has preference (λ e. e.cost < 2 ^ 34) (is_asbr c.args.asbr) entries c.entry_for.result c.self.invariant.below.entries found

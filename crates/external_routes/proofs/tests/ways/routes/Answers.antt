@@ -10,7 +10,8 @@ loop-way-init g c = ([], c.new-best.ensures, All-nil (λ (x : Candidate Net). x.
 pub loop-way-preserved : goal.loop-way-preserved
 loop-way-preserved g c =
     let cs = c.loop-way.invariant.0 in
-    (_, c.in_ok-admit.ensures cs c.loop-way.invariant.1, All-push (λ (x : Candidate Net). x.rank.cost < 2 ^ 34) cs _ c.loop-way.invariant.2 c.wide.ensures)
+    let costs = All-push (λ (x : Candidate Net). x.rank.cost < 2 ^ 34) cs _ c.loop-way.invariant.2 c.wide.ensures in
+    (_, c.in_ok-add_candidate.ensures cs c.loop-way.invariant.1, costs)
 
 pub from_routes-requires : goal.from_routes-requires
 from_routes-requires g c = c.in_ok-into_routes.ensures.small (2 ^ 34) c.loop-way.invariant.0 c.loop-way.invariant.1 c.loop-way.invariant.2

@@ -3,8 +3,8 @@ use Rattle.lsa_codec.specs.Prefix.{Net}
 use Rattle.area_routes.specs.Best.{Gathers}
 use Rattle.area_routes.specs.Candidate.{Candidate}
 use Rattle.area_routes.specs.Intra.{intra_candidate}
-use Rattle.area_routes.specs.Order.{prefix_cmp}
-use Rattle.area_routes.proofs.intra_area.admit_area.Given as goal
+use Rattle.lsa_codec.specs.Order.{prefix_cmp}
+use Rattle.area_routes.proofs.intra_area.add_intra_candidates.Given as goal
 
 -- the ways have taken the offers so far into account
 abbrev pub invariant-loop-offer : goal.invariant-loop-offer

@@ -1,10 +1,10 @@
--- What is kept to look up routes and router entries quickly.
+-- What routes and router entries are looked up in.
 use Rattle.std.specs.Prelude.{◌≡◌, ℕ, ◌≤◌, ◌^◌, Bool, true, false, List, All, Option, length, slice_get, slice_index_or, take}
 use Rattle.std.specs.BTreeMap.{BTreeMap, get}
 use Rattle.std.specs.Option.{option_and_then, option_map_or}
 use Rattle.std.specs.Ordering.{is_lt}
 use Rattle.lsa_codec.specs.declared.address.RouterId.{RouterId}
-use Rattle.area_routes.specs.Order.{router_cmp}
+use Rattle.lsa_codec.specs.Order.{router_cmp}
 use Rattle.area_routes.specs.Values.{EntryValue, RouteValue, EntriesBelow, RoutesBelow}
 use Rattle.external_routes.specs.Choose.{preference, preferred}
 
@@ -25,22 +25,22 @@ entry_at entries index = option_and_then (λ i. slice_get entries i) index
 abbrev pub comes_first : EntryValue → Option EntryValue → Bool
 comes_first entry other = option_map_or (λ e. is_lt (preference entry e)) other true
 
--- of each router the index of its preferred entry among the first n is kept
-abbrev pub KeepsPreferred : List EntryValue → ℕ → BTreeMap RouterId ℕ → Type 0
-KeepsPreferred entries n kept = (asbr : RouterId) → entry_at entries (get router_cmp kept asbr) ≡ preferred (take n entries) asbr
+-- the map has for each router the index of its preferred entry among the first n
+abbrev pub MapsPreferred : List EntryValue → ℕ → BTreeMap RouterId ℕ → Type 0
+MapsPreferred entries n asbrs = (asbr : RouterId) → entry_at entries (get router_cmp asbrs asbr) ≡ preferred (take n entries) asbr
 
 -- the routes and the router entries of a router inside the AS
 pub record WaysInside : Type 0 where
   pub routes : List RouteValue
   pub entries : List EntryValue
 
--- all costs are below 2^34
-pub record AreWays (ways : WaysInside) : Type 0 where
-  pub routes : RoutesBelow (2 ^ 34) ways.routes
-  pub entries : EntriesBelow (2 ^ 34) ways.entries
+-- all costs are below a bound
+pub record WaysBelow (bound : ℕ) (ways : WaysInside) : Type 0 where
+  pub routes : RoutesBelow bound ways.routes
+  pub entries : EntriesBelow bound ways.entries
 
--- the same, and what is kept beside them is right
-pub record IsKept (ways : WaysInside) (marks : List Bool) (kept : BTreeMap RouterId ℕ) : Type 0 where
-  pub are : AreWays ways
+-- all costs are below 2^34, the marks are those of the routes, and the map is that of the entries
+pub record IsInside (ways : WaysInside) (marks : List Bool) (asbrs : BTreeMap RouterId ℕ) : Type 0 where
+  pub below : WaysBelow (2 ^ 34) ways
   pub marked : MarksLengths ways.routes marks
-  pub preferred : KeepsPreferred ways.entries (length ways.entries) kept
+  pub mapped : MapsPreferred ways.entries (length ways.entries) asbrs

@@ -1,4 +1,4 @@
--- The preferred entry of each router, kept one entry after another.
+-- The map of preferred entries, with one entry more.
 use Rattle.std.proofs.Common.{◌≡◌, ℕ, ◌+◌, Bool, true, false, cond, List, take, Option, None, Some, refl, sym, ap, subst, ◌∙◌}
 use Rattle.std.specs.Prelude.{◌&&◌}
 use Rattle.std.specs.List.{slice_get}
@@ -10,11 +10,11 @@ use Rattle.std.proofs.lemmas.Option.{get_or_from_slice_get, slice_get_within}
 use Rattle.lsa_codec.specs.declared.address.RouterId.{RouterId}
 use Rattle.area_graph.specs.Least.{later}
 use Rattle.area_routes.specs.Inter.{same_router}
-use Rattle.area_routes.specs.Order.{router_cmp}
+use Rattle.lsa_codec.specs.Order.{router_cmp}
 use Rattle.area_routes.specs.Values.{EntryValue}
-use Rattle.area_routes.proofs.OrderLemmas.{router_exact, router_total}
+use Rattle.lsa_codec.proofs.OrderLemmas.{router_exact, router_total}
 use Rattle.external_routes.specs.Choose.{is_asbr, is_asbr_kind, preference, preferred}
-use Rattle.external_routes.specs.Lookup.{comes_first, entry_at}
+use Rattle.external_routes.specs.steps.Lookup.{comes_first, entry_at}
 use Rattle.external_routes.proofs.First.{first_more}
 use Rattle.external_routes.proofs.Orders.{preference_total}
 
@@ -70,7 +70,7 @@ module _ (entries : List EntryValue) (i : ℕ) (x : EntryValue) (here : slice_ge
       by true = refl
       by false = refl
 
-  -- nothing is kept anew
+  -- the map stays
   pub left_is : is_asbr x.router x ≡ false → (asbr : RouterId) → entry_at entries (old asbr) ≡ preferred (take (i + 1) entries) asbr
   left_is none = each (λ asbr. entry_at entries (old asbr) ≡ preferred (take (i + 1) entries) asbr)
       (stays x.router none) (λ asbr other. stays asbr (apart asbr other))
@@ -80,7 +80,7 @@ module _ (entries : List EntryValue) (i : ℕ) (x : EntryValue) (here : slice_ge
   left_late own late = each (λ asbr. entry_at entries (old asbr) ≡ preferred (take (i + 1) entries) asbr)
       (behind x.router own late) (λ asbr other. stays asbr (apart asbr other))
 
-  -- the entry's index is kept
+  -- the entry's index is inserted
   pub taken : is_asbr x.router x ≡ true → comes_first x (entry_at entries (old x.router)) ≡ true → (new : RouterId → Option ℕ)
       → ((asbr : RouterId) → new asbr ≡ cond (eq_by_cmp router_cmp x.router asbr) (Some i) (old asbr))
       → (asbr : RouterId) → entry_at entries (new asbr) ≡ preferred (take (i + 1) entries) asbr

@@ -1,7 +1,8 @@
--- One more candidate: what the private steps of the merge do. No public contract cites this file.
+-- The best way to a destination, with one candidate more.
 use Rattle.std.specs.Prelude.{List, [], ◌∷◌, ◌++◌, Option, None, Some}
 use Rattle.std.specs.Ordering.{match_ordering}
-use Rattle.area_routes.specs.Order.{area_cmp, rank_cmp}
+use Rattle.lsa_codec.specs.Order.{area_cmp}
+use Rattle.area_routes.specs.Order.{rank_cmp}
 use Rattle.next_hops.specs.Hop.{hop_cmp}
 use Rattle.area_graph.specs.Rising.{rising}
 use Rattle.area_routes.specs.Values.{WayValue}

@@ -1,4 +1,4 @@
--- What an area gives, with more added. No public contract cites this file.
+-- What an area gives, with more added.
 use Rattle.std.specs.Prelude.{List, [], ◌++◌}
 use Rattle.lsa_codec.specs.declared.address.AreaId.{AreaId}
 use Rattle.area_routes.specs.Values.{AreaResultValue, EntryValue, OfferValue}

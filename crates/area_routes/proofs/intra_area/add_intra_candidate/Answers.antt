@@ -5,13 +5,13 @@ use Rattle.area_routes.specs.declared.rank.PathType.TheVariants.{Intra}
 use Rattle.area_routes.specs.Best.{Gathers}
 use Rattle.area_routes.specs.Candidate.{Candidate}
 use Rattle.area_routes.specs.Intra.{intra_candidate}
-use Rattle.area_routes.specs.Order.{prefix_cmp}
-use Rattle.area_routes.proofs.intra_area.admit_offer.Goals as goal
+use Rattle.lsa_codec.specs.Order.{prefix_cmp}
+use Rattle.area_routes.proofs.intra_area.add_intra_candidate.Goals as goal
 
 pub returns : goal.returns
 returns g c =
-    let P : Candidate Net → Type 0 = λ x. OnOk c.admit.result
-    ((cs : List (Candidate Net)) → Gathers prefix_cmp cs c.args.ways.now → Gathers prefix_cmp (cs ++ x ∷ []) c.admit.new.self) in
+    let P : Candidate Net → Type 0 = λ x. OnOk c.add_candidate.result
+    ((cs : List (Candidate Net)) → Gathers prefix_cmp cs c.args.ways.now → Gathers prefix_cmp (cs ++ x ∷ []) c.add_candidate.new.self) in
     let with_hops : List Hop → Candidate Net = λ hops. record {
       key = c.offer.inside.net;
       rank = record { path = Intra; cost2 = 0; class = 0; cost = c.offer.inside.cost };
@@ -19,4 +19,4 @@ returns g c =
           Some c.args.area;
       hops = hops;
     } in
-    subst P (ap with_hops c.as_slice.ensures.hops ∙ ap (intra_candidate c.args.area) c.offer.view_is) c.admit.ensures
+    subst P (ap with_hops c.as_slice.ensures.hops ∙ ap (intra_candidate c.args.area) c.offer.view_is) c.add_candidate.ensures
