@@ -56,7 +56,7 @@ impl<'a, A: Allocator + Copy> Reached<'a, A> {
     pub(crate) fn hop_list(&self, alloc: A) -> Result<HopList<A>, AllocError>
         ensures { IfOk result (λ hops. hops ≡ self.now.hops) }
     {
-        let mut hops = HopList::new(alloc);
+        let mut hops = HopList::new(alloc)?;
         hops.join(self.hops)?;
         Ok(hops)
     }

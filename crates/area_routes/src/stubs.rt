@@ -30,7 +30,7 @@ fn stub_hops<A: Allocator + Copy>(
     if !is_lsa_of(root, reached.lsa()) {
         return reached.hop_list(alloc);
     }
-    let mut hops = HopList::new(alloc);
+    let mut hops = HopList::new(alloc)?;
     hops.add(Hop::Connected)?;
     Ok(hops)
 }

@@ -50,7 +50,7 @@ impl<A: Allocator + Copy> Way<A> {
         let mut way = Way {
             rank,
             areas: AreaList::new(alloc),
-            hops: HopList::new(alloc),
+            hops: HopList::new(alloc)?,
         };
         way.join(area, hops)?;
         Ok(way)

@@ -120,7 +120,7 @@ fn empty_lists<A: Allocator + Copy>(
 {
     let mut lists = Vec::with_capacity(alloc, count)?;
     for _ in 0..count {
-        lists.push(HopList::new(alloc))?;
+        lists.push(HopList::new(alloc)?)?;
     }
     Ok(lists)
 }

@@ -1,79 +1,100 @@
 //! Where the hops of a list are kept.
 
-ghost use Rattle.std.specs.Prelude.{◌≡◌, ◌≤◌, [], length, insert, IfOk, OnOk, OnErr};
-ghost use Rattle.next_hops.specs.steps.Storage.{stored, has_room};
+ghost use Rattle.std.specs.Prelude.{◌≡◌, ◌<◌, ◌≤◌, ◌^◌, [], length, insert, IfOk, OnOk, OnErr};
+ghost use Rattle.std.specs.Bool.{OnTrue};
+ghost use Rattle.std.specs.Prelude.{refl};
+ghost use Rattle.next_hops.specs.steps.Storage.{octets_of};
 
 use crate::hop::Hop;
-use arrayvec::ArrayVec;
+use smallvec::SmallVec;
 use std::alloc::{AllocError, Allocator};
+use std::marker::Model;
+use std::mem;
 
-/// How many hops are kept in place.
-const IN_PLACE: usize = 4;
+/// An allocator, as a part of a list of hops.
+pub trait HoldsHops: Allocator {
+    ghost use Rattle.std.specs.Prelude.{ℕ};
+    ghost use Rattle.next_hops.specs.steps.Storage.{octets_of};
 
-/// Hops that are kept in place while they are few, and else in memory.
-///
-/// A `SmallVec` would keep the allocator with the hops in place, and ask that the whole takes less
-/// than half of the address space; where the allocator is a type parameter, its size is not known.
+    /// How many octets four hops and the allocator take.
+    ghost octets: { ℕ };
+
+    /// Whether they are less than half of the address space. So they always are; of a type that is
+    /// not known a proof knows it from this test alone.
+    fn fits() -> bool
+        ensures { OnTrue result (octets < 2 ^ 63) };
+
+    ghost measured: { octets ≡ octets_of Self.row Self.Allocator };
+}
+
+impl<A: Allocator + Drop> HoldsHops for A {
+    ghost octets = { octets_of A.row A.Allocator };
+
+    fn fits() -> bool {
+        let none: Option<SmallVec<Hop, 4, A>> = None;
+        mem::size_of_val(&none) <= isize::MAX as usize
+    }
+
+    ghost measured = { refl };
+}
+
+/// Hops, up to four of them in place and more in memory. Contracts see it as their list.
 #[derive(Drop)]
-pub(crate) enum Storage<A: Allocator> {
-    InPlace(ArrayVec<Hop, 4>),
-    InMemory(Vec<Hop, A>),
+pub(crate) struct Storage<A: Allocator + HoldsHops> {
+    hops: SmallVec<Hop, 4, A>,
+}
+
+impl<A: Allocator + HoldsHops> Model for Storage<A> {
+    ghost use Rattle.std.specs.Prelude.{List, ◌<◌, ◌^◌};
+    ghost use Rattle.next_hops.specs.declared.hop.Hop.{Hop as AnyHop};
+
+    ghost Value = { List AnyHop };
+
+    ghost view = { λ s. s.hops.items };
+
+    ghost invariant = { λ s. A.octets < 2 ^ 63 };
 }
 
 impl<A: Allocator + Copy> Storage<A> {
     /// No hops.
-    pub(crate) fn new() -> Storage<A>
-        ensures { stored result ≡ [] }
+    ///
+    /// # Errors
+    ///
+    /// A value would take half of the address space.
+    pub(crate) fn new(alloc: A) -> Result<Storage<A>, AllocError>
+        ensures { IfOk result (λ storage. storage ≡ []) }
     {
-        Storage::InPlace(ArrayVec::new())
+        if !<A as HoldsHops>::fits() {
+            return Err(AllocError);
+        }
+        Ok(Storage {
+            hops: SmallVec::new(alloc),
+        })
     }
 
     /// The hops.
     pub(crate) fn as_slice(&self) -> &[Hop]
-        ensures { result.now ≡ stored self.now }
+        ensures { result.now ≡ self.now }
     {
-        match self {
-            Storage::InPlace(hops) => hops,
-            Storage::InMemory(hops) => hops,
-        }
-    }
-
-    /// Moves the hops into memory, where all places are taken.
-    fn make_room(&mut self, alloc: A) -> Result<(), AllocError>
-        ensures same { stored self.new ≡ stored self.old }
-        ensures room { OnOk result (has_room self.new) }
-    {
-        if let Storage::InPlace(hops) = self {
-            if hops.is_full() {
-                let mut moved = Vec::with_capacity(alloc, 2 * IN_PLACE)?;
-                moved.extend_from_slice(hops)?;
-                *self = Storage::InMemory(moved);
-            }
-        }
-        Ok(())
+        self.hops.as_slice()
     }
 
     /// Inserts a hop at a place.
-    pub(crate) fn insert(&mut self, alloc: A, place: usize, hop: Hop) -> Result<(), AllocError>
-        requires { place ≤ length (stored self.old) }
-        ensures ok { OnOk result (stored self.new ≡ insert (stored self.old) place hop) }
-        ensures err { OnErr result (stored self.new ≡ stored self.old) }
+    pub(crate) fn insert(&mut self, place: usize, hop: Hop) -> Result<(), AllocError>
+        requires { place ≤ length self.old }
+        ensures ok { OnOk result (self.new ≡ insert self.old place hop) }
+        ensures err { OnErr result (self.new ≡ self.old) }
     {
-        self.make_room(alloc)?;
-        match self {
-            Storage::InPlace(hops) => hops.insert(place, hop),
-            Storage::InMemory(hops) => hops.insert(place, hop)?,
-        }
+        self.hops.insert(place, hop)?;
         Ok(())
     }
 
     /// The same hops, kept anew.
     pub(crate) fn clone_of(&self, alloc: A) -> Result<Storage<A>, AllocError>
-        ensures { IfOk result (λ storage. stored storage ≡ stored self.now) }
+        ensures { IfOk result (λ storage. storage ≡ self.now) }
     {
-        match self {
-            Storage::InPlace(hops) => Ok(Storage::InPlace(hops.clone()?)),
-            Storage::InMemory(hops) => Ok(Storage::InMemory(Vec::from_slice(alloc, hops)?)),
-        }
+        Ok(Storage {
+            hops: SmallVec::from_slice(alloc, self.hops.as_slice())?,
+        })
     }
 }

@@ -58,7 +58,7 @@ pub fn entries<A: Allocator + Copy>(
 ) -> Result<RouterEntries<A>, Fail> {
     let mut entries = RouterEntries::new(alloc);
     for way in ways {
-        let mut hops = HopList::new(alloc);
+        let mut hops = HopList::new(alloc)?;
         hops.add(way.hop)?;
         entries.push(RouterEntry {
             router: way.router,

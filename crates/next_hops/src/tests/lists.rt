@@ -28,7 +28,7 @@ fn prints_hops(rt: HostRuntime) -> Result<(), Fail> {
 fn keeps_hops_in_order(rt: HostRuntime) -> Result<(), Fail> {
     let far = Hop::Link(Addr(0xc000_0201));
     let near = Hop::Link(Addr(0x0a00_0000));
-    let mut list = HopList::new(rt.alloc());
+    let mut list = HopList::new(rt.alloc())?;
     for hop in [
         GATEWAY,
         far,
@@ -48,7 +48,7 @@ fn keeps_hops_in_order(rt: HostRuntime) -> Result<(), Fail> {
 
 #[test]
 fn joins_and_clones(rt: HostRuntime) -> Result<(), Fail> {
-    let mut list = HopList::new(rt.alloc());
+    let mut list = HopList::new(rt.alloc())?;
     list.join(&[LINK, GATEWAY])?;
     list.join(&[GATEWAY, ATTACHED, Hop::Connected])?;
     let clone = list.clone_of(rt.alloc())?;

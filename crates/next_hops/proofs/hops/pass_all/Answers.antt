@@ -1,11 +1,41 @@
-use Rattle.std.proofs.Common.{◌≡◌, ℕ, ◌+◌, ◌<◌, ◌≤◌, List, length, get_or, sym, subst, arith}
+use Rattle.std.proofs.Common.{◌≡◌, ℕ, ◌+◌, ◌<◌, ◌≤◌, List, [], length, get_or, replicate, sym, subst, arith, ◌∙◌, ⊎_elim}
+use Rattle.std.proofs.lemmas.Bool.{cases_lt}
+use Rattle.std.proofs.lemmas.List.{length-replicate, get_or-replicate, get_or_past}
+use Rattle.std.proofs.lemmas.List.Elements.{All-replicate, All-get_or}
+use Rattle.std.specs.List.{Contains}
 use Rattle.std.proofs.lemmas.List.{with_items_is}
 use Rattle.next_hops.specs.declared.hop.Hop.{Hop}
+use Rattle.next_hops.specs.Hop.{IsSortedHops}
 use Rattle.next_hops.specs.FirstHops.{hops_at}
 use Rattle.next_hops.specs.steps.Passing.{Grows, IsPassedFrom}
 use Rattle.next_hops.proofs.Handing.{HandedOn, HandedOn-next, AreHopsOf-handed}
 use Rattle.next_hops.proofs.HopsOf.{table-is}
 use Rattle.next_hops.proofs.hops.pass_all.Goals as goal
+
+empty_at : (n w : ℕ) → hops_at (replicate n []) w ≡ []
+empty_at n w = ⊎_elim (λ lt. get_or-replicate n w [] [] lt)
+    (λ le. get_or_past (replicate n []) w [] (subst (λ (m : ℕ). m ≤ w) (sym (length-replicate n [])) le)) (cases_lt w n)
+
+none_at : (n w : ℕ) (h : Hop) → Contains (hops_at (replicate n []) w) h → ⊥
+none_at n w h there =
+    let q : Contains [] h = subst (λ (xs : List Hop). Contains xs h) (empty_at n w) there in
+    let low : q.0 < 0 = q.1 in
+    omega arith
+
+pub loop-from-init : goal.loop-from-init
+loop-from-init g c =
+    subst (λ (xs : List (List Hop)). HandedOn c.args.graph.now c.args.tree.now 0 xs) (sym c.in_ok-lists.ensures) (record {
+      sized = length-replicate c.len.result [] ∙ c.len.ensures.count;
+      sound = λ w h there. absurd (none_at c.len.result w h there);
+      handed = λ k lt e h arc from passed. absurd (let low : k < 0 = lt in omega arith);
+      sorted = All-replicate IsSortedHops c.len.result [] (λ i j d lt low. absurd (let l : j < 0 = low in omega arith));
+    })
+
+pub pass_on-requires-clause-from : goal.pass_on-requires-clause-from
+pass_on-requires-clause-from g c =
+    let at = All-get_or (λ (i : ℕ). i < length c.args.tree.now.distances) c.order-from-items.result.now c.loop-from.from-index 0
+    c.loop-from-test.true c.order-from-items.ensures.within in
+    subst (λ (n : ℕ). c.from.result < n) c.requires.tree.1.sized (rw c.from.ensures at)
 
 pub loop-from-preserved : goal.loop-from-preserved
 loop-from-preserved g c =
