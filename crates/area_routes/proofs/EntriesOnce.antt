@@ -1,5 +1,5 @@
 -- Of one router, area and kind a router has one entry.
-use Rattle.std.proofs.Common.{◌≡◌, ◌≢◌, ℕ, ◌<◌, Bool, true, false, cond, eqb, not, List, [], ◌∷◌, ◌++◌, map, Option, None, Some, refl, sym, ap, subst}
+use Rattle.std.proofs.Common.{◌≡◌, ◌≢◌, ℕ, ◌<◌, Bool, true, false, cond, not, List, [], ◌∷◌, ◌++◌, map, Option, None, Some, refl, sym, ap, subst}
 use Rattle.std.proofs.Common.{◌∙◌, arith, ⊎_elim, inl, inr, true≢false}
 use Rattle.std.specs.Prelude.{◌&&◌}
 use Rattle.std.specs.Option.{option_map}
@@ -8,7 +8,6 @@ use Rattle.std.specs.List.Sorted.{IsStrictlySortedBy}
 use Rattle.std.specs.Map.{keys_of}
 use Rattle.std.specs.Ordering.{is_lt}
 use Rattle.std.specs.declared.cmp.Ordering.TheVariants.{Less}
-use Rattle.std.proofs.lemmas.Bool.{and_parts}
 use Rattle.std.proofs.lemmas.Cmp.{tied_itself}
 use Rattle.lsa_codec.specs.declared.address.AreaId.{AreaId}
 use Rattle.lsa_codec.specs.declared.address.RouterId.{RouterId}
@@ -31,9 +30,9 @@ use Rattle.area_routes.specs.declared.entry.EntryKind.TheVariants.{Border, AsbrI
 use Rattle.area_routes.specs.AreaResults.{area_result}
 use Rattle.area_routes.specs.Attached.{attached_areas, is_attached}
 use Rattle.area_routes.specs.Best.{ways_of}
-use Rattle.area_routes.specs.Entries.{area_entries, bit_b, bit_e, entries_of, entry_by, reached_entry, flags_of, has_bit}
+use Rattle.area_routes.specs.Entries.{bit_b, bit_e, entries_of, entry_by, reached_entry, flags_of, has_bit}
 use Rattle.area_routes.specs.EntriesOnce.{IsSameWay, StandOnce, results_of}
-use Rattle.area_routes.specs.Inter.{asbr_candidate, asbr_entry, entries_by, entries_of_all, examined, inter_entries, inter_of}
+use Rattle.area_routes.specs.Inter.{asbr_candidate, asbr_entry, entries_by, entries_of_all, examined, inter_of}
 use Rattle.lsa_codec.specs.Order.{router_cmp}
 use Rattle.area_routes.specs.Reached.{ReachedValue, reached_by, reached_from}
 use Rattle.area_routes.specs.Stubs.{is_lsa_of}

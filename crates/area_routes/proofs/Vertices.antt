@@ -92,26 +92,42 @@ module _ (lsas : List (List ℕ)) (router : RouterId) where
           (subst (λ (v : Vertex). In (vertices_of lsas) v) (vertex_of_router lsa router (one, ap (λ (k : Key). k.id.0) key))
           (In-map vertex_of (used lsas) lsa (used_router lsa found.0 one live)))
 
-  vertex_is : AreOfArea lsas → Contains (vertices_of lsas) (Router router) → has_live_router_lsa router lsas ≡ true
-  vertex_is area h =
-      let v = map-In vertex_of (used lsas) (Router router) (In-from_Contains (vertices_of lsas) (Router router) h) in
-      let lsa : List ℕ = v.0 in
-      let there = used_In lsas lsa v.1 in
-      let own = router_lsa_of lsa router v.2 in
-      let live = (and_parts (is_live lsa) (is_router_lsa lsa || is_network_lsa lsa) there.1).0 in
-      let origin : eqb (link_state_id_of lsa) (advertising_router_of lsa) ≡ true =
-      subst (λ b. (not b || eqb (link_state_id_of lsa) (advertising_router_of lsa)) ≡ true) (eq-eqb (kind_of lsa) 1 own.0)
-      (All-contains IsAccepted lsas lsa area.accepted (Contains-from_In lsas lsa there.0)).origin in
-      let adv : advertising_router_of lsa ≡ router.0 = sym (eqb-true (link_state_id_of lsa) (advertising_router_of lsa) origin) ∙ own.1 in
-      let key : has_key (router_key router) lsa ≡ true =
-      and_from (eqb (kind_of lsa) 1) (eqb (link_state_id_of lsa) router.0 && eqb (advertising_router_of lsa) router.0) (eq-eqb (kind_of lsa) 1 own.0)
-      (and_from (eqb (link_state_id_of lsa) router.0) (eqb (advertising_router_of lsa) router.0)
-      (eq-eqb (link_state_id_of lsa) router.0 own.1) (eq-eqb (advertising_router_of lsa) router.0 adv)) in
-      let found = In-find (has_key (router_key router)) lsas lsa there.0 key in
-      let first = find-In (has_key (router_key router)) lsas found.0 found.1 in
-      let same : lsa ≡ found.0 = one_of_key lsas area.distinct lsa found.0 (Contains-from_In lsas lsa there.0)
-      (Contains-from_In lsas found.0 first.0) (key_is lsa key ∙ sym (key_is found.0 first.1)) in
-      ap (λ o. option_map_or is_live o false) found.1 ∙ subst (λ (x : List ℕ). is_live x ≡ true) same live
+  module _ (area : AreOfArea lsas) where
+    -- an LSA of the area that is a router-LSA of the router has its key
+    has_its_key : (lsa : List ℕ) → In lsas lsa → kind_of lsa ≡ 1 → link_state_id_of lsa ≡ router.0 → has_key (router_key router) lsa ≡ true
+    has_its_key lsa there one id =
+        let origin : eqb (link_state_id_of lsa) (advertising_router_of lsa) ≡ true =
+        subst (λ b. (not b || eqb (link_state_id_of lsa) (advertising_router_of lsa)) ≡ true) (eq-eqb (kind_of lsa) 1 one)
+        (All-contains IsAccepted lsas lsa area.accepted (Contains-from_In lsas lsa there)).origin in
+        let adv : advertising_router_of lsa ≡ router.0 = sym (eqb-true (link_state_id_of lsa) (advertising_router_of lsa) origin) ∙ id in
+        and_from (eqb (kind_of lsa) 1) (eqb (link_state_id_of lsa) router.0 && eqb (advertising_router_of lsa) router.0) (eq-eqb (kind_of lsa) 1 one)
+        (and_from (eqb (link_state_id_of lsa) router.0) (eqb (advertising_router_of lsa) router.0)
+        (eq-eqb (link_state_id_of lsa) router.0 id) (eq-eqb (advertising_router_of lsa) router.0 adv))
+
+    -- the LSA that is found by the key is the only one that has it
+    is_only_one : (lsa found : List ℕ) → In lsas lsa → has_key (router_key router) lsa ≡ true
+        → find (has_key (router_key router)) lsas ≡ Some found → lsa ≡ found
+    is_only_one lsa found there key is =
+        let first = find-In (has_key (router_key router)) lsas found is in
+        one_of_key lsas area.distinct lsa found (Contains-from_In lsas lsa there) (Contains-from_In lsas found first.0)
+        (key_is lsa key ∙ sym (key_is found first.1))
+
+    found_live : (lsa : List ℕ) → In lsas lsa → has_key (router_key router) lsa ≡ true → is_live lsa ≡ true → has_live_router_lsa router lsas ≡ true
+    found_live lsa there key live = by (In-find (has_key (router_key router)) lsas lsa there key)
+      where
+        by : ((found : List ℕ) × (find (has_key (router_key router)) lsas ≡ Some found)) → has_live_router_lsa router lsas ≡ true
+        by (found, is) =
+            ap (λ o. option_map_or is_live o false) is ∙ subst (λ (x : List ℕ). is_live x ≡ true) (is_only_one lsa found there key is) live
+
+    vertex_is : Contains (vertices_of lsas) (Router router) → has_live_router_lsa router lsas ≡ true
+    vertex_is h = by (map-In vertex_of (used lsas) (Router router) (In-from_Contains (vertices_of lsas) (Router router) h))
+      where
+        by : ((lsa : List ℕ) × In (used lsas) lsa × (vertex_of lsa ≡ Router router)) → has_live_router_lsa router lsas ≡ true
+        by (lsa, used, is) =
+            let there = used_In lsas lsa used in
+            let own = router_lsa_of lsa router is in
+            found_live lsa there.0 (has_its_key lsa there.0 own.0 own.1)
+            (and_parts (is_live lsa) (is_router_lsa lsa || is_network_lsa lsa) there.1).0
 
 pub attached_vertex : (db : Lists) → IsDatabase db → (area : AreaId) (router : RouterId)
     → (is_attached db area router ≡ true) ↔ Contains (vertices_of (lsas_of (Area area) db)) (Router router)

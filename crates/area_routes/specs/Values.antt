@@ -1,5 +1,5 @@
 -- Routes, router entries and what an area gives, as contracts see them (RFC 2328, 11 and 16.1).
-use Rattle.std.specs.Prelude.{ℕ, ◌<◌, ◌^◌, List, All}
+use Rattle.std.specs.Prelude.{ℕ, ◌<◌, List, All}
 use Rattle.lsa_codec.specs.declared.address.AreaId.{AreaId}
 use Rattle.lsa_codec.specs.declared.address.RouterId.{RouterId}
 use Rattle.lsa_codec.specs.Prefix.{Net}

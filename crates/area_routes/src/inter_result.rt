@@ -1,7 +1,5 @@
 //! What the summary-LSAs give.
 
-ghost use Rattle.std.specs.Prelude.{◌≡◌};
-
 use crate::entry_list::RouterEntries;
 use crate::inside_routes::InsideRoutes;
 use std::alloc::{Allocator, Global};

@@ -1,6 +1,6 @@
 //! The stub networks that an area offers (RFC 2328, 16.1).
 
-ghost use Rattle.std.specs.Prelude.{◌≡◌, ◌∷◌, [], IfOk, OnOk};
+ghost use Rattle.std.specs.Prelude.{◌≡◌, [], IfOk, OnOk};
 ghost use Rattle.std.specs.List.{cons_option};
 ghost use Rattle.area_routes.specs.Stubs.{is_lsa_of, stub_hops, stub_offer, stubs_of, stub_offers};
 ghost use Rattle.area_routes.specs.steps.Growing.{with_offers};

@@ -5,7 +5,6 @@ use Rattle.std.specs.Ordering.{nat_cmp, ordering_then}
 use Rattle.std.specs.declared.cmp.Ordering.{Ordering}
 use Rattle.lsa_codec.specs.Areas.{is_backbone}
 use Rattle.lsa_codec.specs.declared.address.Addr.{Addr}
-use Rattle.lsa_codec.specs.declared.address.AreaId.{AreaId}
 use Rattle.lsa_codec.specs.declared.address.RouterId.{RouterId}
 use Rattle.lsa_codec.specs.Prefix.{Net, mask_of_len}
 use Rattle.area_graph.specs.Least.{least}

@@ -1,6 +1,6 @@
 //! The paths that AS-external-LSAs offer.
 
-ghost use Rattle.std.specs.Prelude.{◌≡◌, ◌≢◌, ◌<◌, ◌^◌, ◌++◌, ◌∷◌, [], true, false, List, IfOk, OnOk, MatchOption, map};
+ghost use Rattle.std.specs.Prelude.{◌≡◌, ◌<◌, ◌^◌, ◌++◌, ◌∷◌, [], true, false, List, IfOk, OnOk, MatchOption, map};
 ghost use Rattle.std.specs.List.{cons_option};
 ghost use Rattle.lsa_codec.specs.Prefix.{Net};
 ghost use Rattle.next_hops.specs.Hop.{extended};

@@ -1,6 +1,6 @@
 //! External routes.
 
-ghost use Rattle.std.specs.Prelude.{◌≡◌, ◌<◌, ◌^◌, IfOk, List};
+ghost use Rattle.std.specs.Prelude.{◌≡◌, ◌^◌, IfOk};
 ghost use Rattle.std.specs.List.{filter_map};
 ghost use Rattle.lsdb.specs.Places.{lists_of};
 ghost use Rattle.area_routes.specs.Best.{Gathers};

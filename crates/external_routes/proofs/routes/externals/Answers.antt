@@ -1,11 +1,11 @@
-use Rattle.std.proofs.Common.{◌≡◌, ◌<◌, ◌^◌, List, ◌∙◌, subst, sym}
+use Rattle.std.proofs.Common.{◌<◌, ◌^◌, ◌∙◌, subst, sym}
 use Rattle.std.proofs.lemmas.List.Elements.{All-nil}
 use Rattle.std.proofs.lemmas.Result.{IfOk-weaker}
 use Rattle.lsdb.specs.declared.section.Section.TheVariants.{AsWide}
 use Rattle.lsdb.specs.Lists.{lsas_of}
 use Rattle.lsdb.specs.Places.{lists_of}
 use Rattle.area_routes.specs.Values.{RouteValue, RoutesBelow}
-use Rattle.external_routes.specs.steps.Lookup.{WaysBelow, WaysInside}
+use Rattle.external_routes.specs.steps.Lookup.{WaysBelow}
 use Rattle.external_routes.proofs.Small.{candidates_small}
 use Rattle.external_routes.proofs.Whole.{all_candidates, examines_all, examines_none, gathered}
 use Rattle.external_routes.proofs.routes.externals.Goals as goal
