@@ -1,0 +1,38 @@
+use Rattle.std.proofs.Common.{◌≡◌, ℕ, ◌&&◌, false, not, cond, List, [], ◌∷◌, sym, ap, ◌∙◌}
+use Rattle.std.specs.List.{list_any}
+use Rattle.std.specs.BTreeMap.{get}
+use Rattle.std.proofs.lemmas.Result.{on_ok_weaker}
+use Rattle.lsa_codec.specs.Prefix.{Net}
+use Rattle.lsa_codec.specs.Views.{net_of_lsa}
+use Rattle.area_graph.specs.Area.{is_network_lsa}
+use Rattle.next_hops.specs.declared.hop.Hop.{Hop}
+use Rattle.area_routes.specs.Order.{prefix_cmp}
+use Rattle.area_routes.specs.Networks.{beats, network_offer}
+use Rattle.area_routes.specs.Standings.{is_behind, standing_of, unbeaten}
+use Rattle.area_routes.specs.declared.networks.Standing.{Standing}
+use Rattle.area_routes.specs.Growing.{with_offers}
+use Rattle.area_routes.specs.Reached.{ReachedValue}
+use Rattle.area_routes.specs.Values.{OfferValue}
+use Rattle.area_routes.proofs.Beaten.{prefix_of_network}
+use Rattle.area_routes.proofs.networks.add_network.Goals as goal
+
+pub returns : goal.returns
+returns g c =
+    let r : ReachedValue = c.args.reached.now in
+    let is = prefix_of_network (is_network_lsa r.lsa) c.in-Some.net (net_of_lsa r.lsa) c.in-Some.ensures in
+    let ahead : is_behind (get prefix_cmp c.args.standings.now (net_of_lsa r.lsa)) (standing_of r) ≡ false =
+    ap (λ (n : Net). is_behind (get prefix_cmp c.args.standings.now n) (standing_of r)) (sym is.1)
+    ∙ ap (λ (s : Standing). is_behind (get prefix_cmp c.args.standings.now c.in-Some.net) s) (sym c.standing_of.ensures)
+    ∙ sym c.is_behind.ensures ∙ c.if-is_behind.false in
+    let offered : record { net = c.in-Some.net; cost = c.distance.result; hops = c.in_ok-hop_list.field-0 } ≡ network_offer r =
+    ap (λ (n : Net). record { net = n; cost = c.distance.result; hops = c.in_ok-hop_list.field-0 }) is.1
+    ∙ ap (λ (d : ℕ). record { net = net_of_lsa r.lsa; cost = d; hops = c.in_ok-hop_list.field-0 }) c.distance.ensures.distance
+    ∙ ap (λ (hops : List Hop). record { net = net_of_lsa r.lsa; cost = r.distance; hops = hops }) c.in_ok-hop_list.ensures in
+    on_ok_weaker c.offer.result
+    (λ new ns are.
+    let all : unbeaten ns r ≡ network_offer r ∷ [] =
+    ap (λ b. cond (b && not (list_any (λ m. beats m r) ns)) (network_offer r ∷ []) []) is.0
+    ∙ ap (λ b. cond (not b) (network_offer r ∷ []) []) (are (net_of_lsa r.lsa) (standing_of r) ∙ ahead) in
+    new ∙ ap (λ (o : OfferValue). with_offers c.args.area.now (o ∷ [])) offered
+    ∙ sym (ap (λ (os : List OfferValue). with_offers c.args.area.now os) all))
+    c.offer.ensures
