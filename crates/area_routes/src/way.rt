@@ -4,7 +4,7 @@ ghost use Rattle.std.specs.Prelude.{◌≡◌, OnOk, IfOk, Some};
 ghost use Rattle.area_routes.specs.steps.Merge.{fresh, merged, merge};
 
 use crate::areas::AreaList;
-use crate::laws::route_orders;
+use crate::laws::rank_order;
 use crate::rank::Rank;
 use lsa_codec::AreaId;
 use next_hops::{Hop, HopList};
@@ -77,7 +77,7 @@ impl<A: Allocator + Copy> Way<A> {
     ) -> Result<(), AllocError>
         ensures { OnOk result (self.new ≡ merge (Some self.old) rank area hops.now) }
     {
-        route_orders();
+        rank_order();
         match rank.cmp(&self.rank()) {
             Ordering::Less => *self = Way::of(alloc, rank, area, hops)?,
             Ordering::Equal => self.join(area, hops)?,

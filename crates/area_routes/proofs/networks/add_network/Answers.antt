@@ -6,11 +6,11 @@ use Rattle.lsa_codec.specs.Prefix.{Net}
 use Rattle.lsa_codec.specs.Views.{net_of_lsa}
 use Rattle.area_graph.specs.Area.{is_network_lsa}
 use Rattle.next_hops.specs.declared.hop.Hop.{Hop}
-use Rattle.area_routes.specs.Order.{prefix_cmp}
+use Rattle.lsa_codec.specs.Order.{prefix_cmp}
 use Rattle.area_routes.specs.Networks.{beats, network_offer}
-use Rattle.area_routes.specs.Standings.{is_behind, standing_of, unbeaten}
+use Rattle.area_routes.specs.steps.Standings.{is_behind, standing_of, unbeaten}
 use Rattle.area_routes.specs.declared.networks.Standing.{Standing}
-use Rattle.area_routes.specs.Growing.{with_offers}
+use Rattle.area_routes.specs.steps.Growing.{with_offers}
 use Rattle.area_routes.specs.Reached.{ReachedValue}
 use Rattle.area_routes.specs.Values.{OfferValue}
 use Rattle.area_routes.proofs.Beaten.{prefix_of_network}

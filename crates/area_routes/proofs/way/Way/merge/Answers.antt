@@ -4,13 +4,13 @@ use Rattle.std.specs.declared.cmp.Ordering.{Ordering}
 use Rattle.std.specs.declared.cmp.Ordering.TheVariants.{Less}
 use Rattle.area_routes.specs.declared.rank.Rank.{Rank}
 use Rattle.area_routes.specs.Order.{rank_cmp}
-use Rattle.area_routes.specs.Merge.{fresh, merged}
+use Rattle.area_routes.specs.steps.Merge.{fresh, merged}
 use Rattle.area_routes.proofs.way.Way.merge.Goals as goal
 
 pub returns-in_ok-self-in-Less : goal.returns-in_ok-self-in-Less
 returns-in_ok-self-in-Less g c =
     let lower : c.cmp.result ≡ Less = c.in-Less.is in
-    let order : c.cmp.result ≡ rank_cmp c.args.rank c.rank.result = c.cmp.ensures ∙ c.route_orders.ensures.ranks c.args.rank c.rank.result in
+    let order : c.cmp.result ≡ rank_cmp c.args.rank c.rank.result = c.cmp.ensures ∙ c.rank_order.ensures.ranks c.args.rank c.rank.result in
     let before : Less ≡ rank_cmp c.args.rank c.args.self.now.rank =
     sym lower ∙ order ∙ ap (λ (r : Rank). rank_cmp c.args.rank r) c.rank.ensures in
     c.in_ok-self-in-Less.ensures
