@@ -1,8 +1,6 @@
 //! How much a database holds: whether there is room for more.
 
-ghost use Rattle.std.specs.Prelude.{◌≡◌, ◌<◌, ◌^◌, Err, IfErr, OnOk};
-ghost use Rattle.std.specs.List.{list_any};
-ghost use Rattle.lsdb.specs.Lists.{has_key, lsas_of};
+ghost use Rattle.std.specs.Prelude.{◌≡◌, Err, IfErr, OnOk};
 ghost use Rattle.lsdb.specs.Places.{lists_of};
 ghost use Rattle.edit_history.specs.Effect.{is_dump_full, most_lsas, is_full, room_for, has_room};
 

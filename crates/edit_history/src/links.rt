@@ -1,6 +1,6 @@
 //! Edits of the links of one router-LSA.
 
-ghost use Rattle.std.specs.Prelude.{◌≡◌, IfOk, IfErr};
+ghost use Rattle.std.specs.Prelude.{IfOk, IfErr};
 ghost use Rattle.edit_script.specs.declared.edit.Edit.TheVariants.{Cost, DropLink, AddStub};
 ghost use Rattle.edit_history.specs.Applied.{Planned, IsRefused};
 

@@ -1,7 +1,6 @@
 //! Reading a dump.
 
-ghost use Rattle.std.specs.Prelude.{◌≡◌, ◌≤◌, length, [], Ok, Some, None, IfOk, IfErr, Result, option_map};
-ghost use Rattle.std.specs.Int.{w8, w16, w32};
+ghost use Rattle.std.specs.Prelude.{◌≡◌, length, [], Ok, Some, None, IfOk, IfErr, Result, option_map};
 ghost use Rattle.lsdb.specs.Lists.{is_in_scope, limit_of, Lists, IsDatabase, size};
 ghost use Rattle.lsdb.specs.Places.{full, section_of, lists_of};
 ghost use Rattle.lsdb.specs.steps.View.{head_of, section_places_of, places_of};
