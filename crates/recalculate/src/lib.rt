@@ -14,7 +14,7 @@ mod table;
 
 pub use attached::routers;
 pub use counts::Info;
-pub use laws::{routers_are_attached, tables_are_over_all_paths};
+pub use laws::{routers_are_attached, tables_are_over_all_paths, untouched_trees_stay};
 pub use planner::Planner;
 pub use table::{Table, TableFault, table_of};
 
