@@ -19,6 +19,4 @@ pub use planner::Planner;
 pub use table::{Table, TableFault, table_of};
 
 #[cfg(test)]
-mod info_tests;
-#[cfg(test)]
-mod runs_tests;
+mod tests;
