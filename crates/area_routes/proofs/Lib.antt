@@ -18,6 +18,6 @@ pub mod Costs
 pub mod Gathered
 pub mod Choosing
 pub mod OverAllPathsLemmas
-pub mod Vertices
+pub mod VertexLemmas
 pub mod Pairs
 pub mod EntriesOnce

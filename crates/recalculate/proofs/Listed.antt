@@ -29,8 +29,16 @@ use Rattle.edit_history.proofs.HistoryLemmas.{other_key, same_key_true}
 use Rattle.area_routes.specs.Attached.{attached_areas, has_live_router_lsa}
 use Rattle.recalculate.specs.Counts.{area_lsas, lsas_in}
 use Rattle.recalculate.specs.Routers.{attached_routers, live_router}
-use Rattle.recalculate.proofs.Attaching.{found_In}
 use Rattle.recalculate.proofs.Counted.{joins}
+
+-- what a search finds is there, and passes
+found_In : {X : Type 0} (p : X → Bool) (xs : List X) (x : X) → find p xs ≡ Some x → In xs x × (p x ≡ true)
+found_In p [] x h = cc
+found_In p (y ∷ ys) x h = by (p y) refl h (found_In p ys x)
+  where
+    by : (b : Bool) → p y ≡ b → cond b (Some y) (find p ys) ≡ Some x → (find p ys ≡ Some x → In ys x × (p x ≡ true)) → In (y ∷ ys) x × (p x ≡ true)
+    by true e k rest = let is : y ≡ x = cc in (inl is, ap p (sym is) ∙ e)
+    by false e k rest = let r = rest k in (inr r.0, r.1)
 
 -- ---- members of a rising list
 

@@ -1,16 +1,14 @@
 -- What depends on the router-LSAs and network-LSAs of an area alone.
-use Rattle.std.proofs.Common.{◌≡◌, ℕ, Bool, true, false, not, cond, List, [], ◌∷◌, filter, map, Option, Some, None, IfSome, refl, sym, ap, ◌∙◌, subst, eqb}
+use Rattle.std.proofs.Common.{◌≡◌, ℕ, Bool, true, false, cond, List, [], ◌∷◌, filter, map, Option, Some, refl, sym, ap, ◌∙◌, subst, eqb}
 use Rattle.std.specs.Prelude.{◌↔◌, ◌&&◌, ◌||◌}
 use Rattle.std.specs.List.{Contains, filter_map, find}
 use Rattle.std.specs.Option.{option_map_or}
 use Rattle.std.proofs.lemmas.Bool.{and_parts}
-use Rattle.lsa_codec.specs.declared.address.AreaId.{AreaId}
 use Rattle.lsa_codec.specs.declared.address.RouterId.{RouterId}
 use Rattle.lsa_codec.specs.Key.{router_key}
 use Rattle.lsa_codec.specs.Fields.{kind_of, link_state_id_of, advertising_router_of}
-use Rattle.lsdb.specs.declared.section.Section.TheVariants.{Area}
-use Rattle.lsdb.specs.Lists.{Lists, has_key, lsas_of}
-use Rattle.area_graph.specs.Area.{highest, is_live, is_network_lsa, is_router_lsa, is_vertex_lsa, used, vertex_lsas, vertex_of}
+use Rattle.lsdb.specs.Lists.{has_key}
+use Rattle.area_graph.specs.Area.{highest, is_live, is_network_lsa, is_router_lsa, is_vertex_lsa, used, vertex_of}
 use Rattle.area_graph.specs.AreaEdges.{area_edges}
 use Rattle.area_graph.specs.Graphs.{IsGraphOf}
 use Rattle.area_graph.specs.Rows.{each_once, is_out_of, numbered, row_of, rows_of, same_edge}

@@ -1,5 +1,5 @@
 -- The table from its parts.
-use Rattle.std.proofs.Common.{◌≡◌, ℕ, ◌≤◌, true, List, [], ◌∷◌, length, Option, Some, Result, Ok, Err, IfOk, IfErr, OnErr, OnOk, inl, inr, zero, suc}
+use Rattle.std.proofs.Common.{◌≡◌, ℕ, true, List, [], ◌∷◌, length, Option, Some, Result, Ok, Err, IfOk, IfErr, OnErr, OnOk, inl, inr, zero, suc}
 use Rattle.std.proofs.Common.{refl, sym, ap, ◌∙◌, subst, arith}
 use Rattle.std.specs.List.{slice_get}
 use Rattle.lsa_codec.specs.declared.address.RouterId.{RouterId}

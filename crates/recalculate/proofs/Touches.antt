@@ -1,17 +1,15 @@
 -- Which areas the edits touch that were carried out, taken back, or carried out again, and what stays of the others.
-use Rattle.std.proofs.Common.{◌≡◌, ℕ, ◌+◌, ◌-◌, ◌<◌, ◌≤◌, Bool, true, false, not, filter, List, [], ◌∷◌, ◌++◌, take, drop, length, Result, Ok, Err}
+use Rattle.std.proofs.Common.{◌≡◌, ℕ, ◌-◌, ◌≤◌, Bool, true, false, not, filter, List, [], ◌∷◌, ◌++◌, take, drop, length, Result, Ok, Err}
 use Rattle.std.proofs.Common.{refl, sym, ap, ◌∙◌, subst, arith}
 use Rattle.std.specs.Prelude.{◌||◌, cond, nat_lt}
 use Rattle.std.proofs.lemmas.List.{length-append, length-drop, length-take}
 use Rattle.lsa_codec.specs.declared.address.AreaId.{AreaId}
 use Rattle.lsdb.specs.Lists.{Lists}
-use Rattle.lsdb.specs.Places.{Places}
 use Rattle.edit_script.specs.declared.edit.Edit.{Edit}
 use Rattle.edit_history.specs.declared.fault.EditFault.{EditFault}
 use Rattle.edit_history.specs.declared.fault.EditFault.TheVariants.{HistoryFull}
 use Rattle.edit_history.specs.Effect.{◌>>=◌, edit_touches, effect, graph_lsas}
-use Rattle.edit_history.specs.Journal.{HistoryData, Links}
-use Rattle.edit_history.specs.Session.{Session, accepted, edited, edited_by, edits_touch, moved_back, moved_on, most_edits, redo_touches, session_of}
+use Rattle.edit_history.specs.Session.{Session, accepted, edited, edited_by, edits_touch, moved_back, moved_on, most_edits, redo_touches}
 use Rattle.edit_history.specs.Session.{state, undo_touches}
 use Rattle.edit_history.proofs.HistoryLemmas.{edits_back, on_and_back, seam_drop, seam_take}
 use Rattle.edit_history.proofs.HistoryLemmas.{redo_spares, undo_spares}

@@ -1,6 +1,6 @@
 -- The trees that the areas of a router lack, area after area.
-use Rattle.std.proofs.Common.{◌≡◌, ◌≢◌, ℕ, zero, suc, ◌+◌, ◌<◌, ◌≤◌, Bool, true, false, not, cond, List, [], ◌∷◌, ◌++◌, take, drop, filter, length}
-use Rattle.std.proofs.Common.{Option, Some, None, refl, sym, ap, ◌∙◌, subst, arith, true≢false}
+use Rattle.std.proofs.Common.{◌≡◌, ◌≢◌, ℕ, ◌+◌, ◌<◌, ◌≤◌, Bool, true, false, not, cond, List, [], ◌∷◌, ◌++◌, take, drop, length}
+use Rattle.std.proofs.Common.{Option, Some, None, refl, sym, ap, ◌∙◌, arith, true≢false}
 use Rattle.std.specs.Prelude.{All}
 use Rattle.std.specs.List.{AllPairs, cons_option, slice_get, slice_index_or}
 use Rattle.std.proofs.lemmas.List.{append-nil, length-append, take-append-drop, take_all}
@@ -9,7 +9,7 @@ use Rattle.std.proofs.lemmas.List.Kept.{AllPairs-cons}
 use Rattle.std.proofs.lemmas.Option.{get_or_from_slice_get, slice_get_within}
 use Rattle.lsa_codec.specs.declared.address.AreaId.{AreaId}
 use Rattle.lsa_codec.specs.declared.address.RouterId.{RouterId}
-use Rattle.lsdb.specs.Lists.{AreaHead, IsBefore, IsDatabase, Lists, SectionLsas, areas_of, heads_of}
+use Rattle.lsdb.specs.Lists.{AreaHead, IsBefore, IsDatabase, Lists, areas_of, heads_of}
 use Rattle.lsdb.proofs.ListLemmas.{pairs_head, pairs_tail}
 use Rattle.spf.specs.Distances.{counted}
 use Rattle.area_routes.specs.Attached.{attached_areas}
@@ -129,7 +129,8 @@ module _ (db : Lists) (router : RouterId) (i : ℕ) (area : AreaHead) (here : sl
     one_counted_more old before after so one =
         one ∙ ap (counted_by (missing (now (id_of area) router))) so
         ∙ counted_twice (missing (now (id_of area) router)) (lacked db router first i) old
-        ∙ (let total : missing (now (id_of area) router) + lacked db router first i ≡ lacked db router first (i + 1) = omega (arith, one_lacked) in ap (λ k. counted_by k old) total)
+        ∙ (let total : missing (now (id_of area) router) + lacked db router first i ≡ lacked db router first (i + 1) = omega (arith, one_lacked) in
+        ap (λ k. counted_by k old) total)
 
     few_lacked : lacked db router first (i + 1) ≤ lacking first router (attached_areas db router)
     few_lacked =

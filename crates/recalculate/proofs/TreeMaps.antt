@@ -1,8 +1,8 @@
 -- Maps of trees after one entry was put into them.
-use Rattle.std.proofs.Common.{◌≡◌, ◌≢◌, Bool, true, false, cond, List, [], ◌∷◌, Option, Some, None, Result, Ok, Err, IfOk, refl, sym, ap, ◌∙◌, subst}
+use Rattle.std.proofs.Common.{◌≡◌, ◌≢◌, Bool, true, false, cond, List, [], Option, Some, None, Result, Ok, Err, IfOk, refl, sym, ap, ◌∙◌, subst}
 use Rattle.std.proofs.Common.{true≢false}
 use Rattle.std.specs.Prelude.{is_some, IsSome, IsSomeAnd, IfSome}
-use Rattle.std.specs.Cmp.{Equal-is, IsTotalOrder, unsigned_ties}
+use Rattle.std.specs.Cmp.{Equal-is, unsigned_ties}
 use Rattle.std.specs.List.{Contains}
 use Rattle.std.specs.Map.{lookup}
 use Rattle.std.specs.Option.{option_map, option_map_or}
@@ -13,16 +13,17 @@ use Rattle.std.proofs.lemmas.Map.Lookups.{CmpEqualImpliesEq}
 use Rattle.lsa_codec.specs.declared.address.AreaId.{AreaId}
 use Rattle.lsa_codec.specs.declared.address.RouterId.{RouterId}
 use Rattle.lsdb.specs.declared.section.Section.TheVariants.{Area}
-use Rattle.lsdb.specs.Lists.{Lists, lsas_of}
+use Rattle.lsdb.specs.Lists.{IsDatabase, Lists, lsas_of}
+use Rattle.area_graph.specs.declared.vertex.Vertex.{Vertex}
 use Rattle.area_graph.specs.declared.vertex.Vertex.TheVariants.{Router}
 use Rattle.area_graph.specs.Graphs.{IsGraphOf}
 use Rattle.area_graph.specs.Topology.{Topology}
 use Rattle.lsa_codec.specs.Order.{area_cmp, router_cmp}
 use Rattle.lsa_codec.proofs.OrderLemmas.{area_exact, router_exact}
+use Rattle.area_routes.proofs.VertexLemmas.{attached_vertex}
 use Rattle.area_routes.specs.Attached.{is_attached}
 use Rattle.recalculate.specs.AreaTrees.{AreaTreesValue, AreasTrees, AreOfDatabase, AreTreesIn, IsTreeIn, RouterTreeValue, has_tree, trees_at, trees_in}
 use Rattle.recalculate.specs.KeptTrees.{IsWithin}
-use Rattle.recalculate.proofs.Attaching.{attached_vertex}
 
 -- ---- any map
 
@@ -143,14 +144,16 @@ pub of_same_graphs : (db : Lists) (old new : AreasTrees) → ((area : AreaId) �
 of_same_graphs db old new same all area = if_graph (λ g. IsGraphOf (lsas_of (Area area) db) g) (trees_at new area) (trees_at old area) (same area) (all area)
 
 -- the graph of an area has the routers that are attached to it
-pub has_vertex : (db : Lists) (areas : AreasTrees) (area : AreaId) (router : RouterId) → AreOfDatabase db areas → is_attached db area router ≡ true
+pub has_vertex : (db : Lists) (areas : AreasTrees) (area : AreaId) (router : RouterId) → IsDatabase db → AreOfDatabase db areas
+    → is_attached db area router ≡ true
     → IsSome (trees_at areas area) → IsSomeAnd (trees_at areas area) (λ trees. Contains trees.graph.vertices (Router router))
-has_vertex db areas area router all attached there = by (trees_at areas area) there (all area)
+has_vertex db areas area router sound all attached there = by (trees_at areas area) there (all area)
   where
     by : (o : Option AreaTreesValue) → IsSome o → IfSome o (λ kept. IsGraphOf (lsas_of (Area area) db) kept.graph)
         → IsSomeAnd o (λ trees. Contains trees.graph.vertices (Router router))
     by None some h = absurd (true≢false (sym some))
-    by (Some kept) some h = attached_vertex db area router kept.graph.vertices attached h.vertices
+    by (Some kept) some h =
+        subst (λ (vs : List Vertex). Contains vs (Router router)) (sym h.vertices) ((attached_vertex db sound area router).0 attached)
 
 -- ---- what a look-up found
 

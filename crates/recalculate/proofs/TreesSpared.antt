@@ -1,5 +1,5 @@
 -- Which trees of areas are kept, and which stay those of the database after edits.
-use Rattle.std.proofs.Common.{◌≡◌, ℕ, Bool, true, false, not, cond, List, [], ◌∷◌, map, filter, Option, Some, None, IfSome, is_some, refl, sym, ap, ◌∙◌, subst}
+use Rattle.std.proofs.Common.{◌≡◌, Bool, true, false, not, cond, List, [], ◌∷◌, filter, Option, Some, None, IfSome, is_some, refl, sym, ap, ◌∙◌, subst}
 use Rattle.std.specs.Prelude.{◌||◌}
 use Rattle.std.specs.Cmp.{Equal-is}
 use Rattle.std.specs.List.{list_any}
@@ -16,7 +16,7 @@ use Rattle.lsa_codec.specs.Order.{area_cmp, router_cmp}
 use Rattle.lsa_codec.proofs.OrderLemmas.{area_exact}
 use Rattle.edit_history.specs.Effect.{graph_lsas}
 use Rattle.recalculate.specs.AreaTrees.{AreaTreesValue, AreasTrees, AreOfDatabase, RouterTreeValue, has_tree, routers_of, trees_at, trees_in}
-use Rattle.recalculate.specs.KeptTrees.{KeptRouters, TreeSet, is_kept, less_touched}
+use Rattle.recalculate.specs.KeptTrees.{KeptRouters, is_kept, less_touched}
 use Rattle.recalculate.proofs.SameGraph.{same_graph}
 
 -- ---- what is shown of the trees

@@ -1,5 +1,5 @@
 -- Sets of shortest-path trees, as those that a planner keeps.
-use Rattle.std.specs.Prelude.{◌≡◌, Bool, true, false, not, List, [], filter}
+use Rattle.std.specs.Prelude.{◌≡◌, Bool, true, false, not, List, filter}
 use Rattle.std.specs.List.{list_any}
 use Rattle.std.specs.Map.{lookup}
 use Rattle.std.specs.Option.{option_map_or}

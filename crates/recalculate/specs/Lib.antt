@@ -8,3 +8,4 @@ pub mod Routers
 pub mod KeptTrees
 pub mod AreaTrees
 pub mod Reached
+pub mod Calls

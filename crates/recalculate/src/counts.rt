@@ -57,6 +57,7 @@ impl<A: Allocator + Copy> Planner<A> {
 fn lsas<A: Allocator + Copy>(database: &Database<A>) -> usize
     ensures { result ≡ length (area_lsas (lists_of database.now)) }
 {
+    // For its limits: the count fits.
     database.known();
     let mut count = 0;
     for i in 0..database.area_count() {
@@ -70,6 +71,7 @@ fn lsas<A: Allocator + Copy>(database: &Database<A>) -> usize
 fn vbits<A: Allocator + Copy>(database: &Database<A>) -> usize
     ensures { result ≡ count_by has_bit_v (area_lsas (lists_of database.now)) }
 {
+    // For its limits: the count fits.
     database.known();
     let mut count = 0;
     for i in 0..database.area_count() {
@@ -83,6 +85,7 @@ fn vbits<A: Allocator + Copy>(database: &Database<A>) -> usize
 fn vlinks<A: Allocator + Copy>(database: &Database<A>) -> usize
     ensures { result ≡ sum_by virtual_links (area_lsas (lists_of database.now)) }
 {
+    // For its limits: the count fits.
     database.known();
     let mut count = 0;
     for i in 0..database.area_count() {

@@ -144,6 +144,8 @@ impl<A: Allocator + Copy> KeptTrees<A> {
         ensures at_most { CountsAtMost (missing (trees_in self.old area router))
             meter.old meter.new }
     {
+        // For the order of its areas and its keys: an attached router is a vertex of the graph.
+        database.known();
         self.add_graph(alloc, database, area, router)?;
         self.grow_in(alloc, area, router, meter)
     }
@@ -189,7 +191,7 @@ impl<A: Allocator + Copy> KeptTrees<A> {
         ensures at_most { CountsAtMost (length (areas_without_tree (trees_in self.old) router
             (attached_areas (lists_of database.now) router))) meter.old meter.new }
     {
-        // The IDs of its areas differ, so that a tree in one of them is in no other.
+        // For the order of its areas: their IDs differ, so a tree in one of them is in no other.
         database.known();
         let mut results = Vec::new(alloc);
         for i in 0..database.area_count() {

@@ -14,11 +14,9 @@ mod table;
 
 pub use attached::routers;
 pub use counts::Info;
-pub use laws::{routers_are_attached, tables_are_over_all_paths};
+pub use laws::{routers_are_attached, tables_are_over_all_paths, untouched_trees_stay};
 pub use planner::Planner;
 pub use table::{Table, TableFault, table_of};
 
 #[cfg(test)]
-mod info_tests;
-#[cfg(test)]
-mod runs_tests;
+mod tests;

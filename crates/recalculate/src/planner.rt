@@ -43,9 +43,12 @@ impl<A: Allocator + Copy> Planner<A> {
     ghost use Rattle.area_routes.specs.Attached.{attached_areas};
     ghost use Rattle.edit_history.specs.declared.fault.EditFault.TheVariants.{HistoryFull, OutOfMemory};
     ghost use Rattle.edit_history.specs.Effect.{edit_touches};
+    ghost use Rattle.recalculate.specs.Calls.{CarriedOut, Stayed};
     ghost use Rattle.recalculate.specs.Counting.{counted_by, CountsAtMost};
     ghost use Rattle.recalculate.specs.KeptTrees.{IsWithin, areas_without_tree, is_kept, less_touched};
+    ghost use Rattle.recalculate.specs.Reached.{IsReached};
     ghost use Rattle.recalculate.specs.Tables.{table_in, FaultMeans};
+    ghost use Rattle.edit_history.specs.Session.{edit as edit_request, undo as undo_request, redo as redo_request};
     ghost use Rattle.edit_history.specs.Session.{start, state, effects, most_edits, edited, moved_back, moved_on, redo_touches, undo_touches};
 
     /// The session that begins at a database: no edit is done, none is undone, and no tree is
@@ -68,6 +71,7 @@ impl<A: Allocator + Copy> Planner<A> {
         ensures state { lists_of result.now ≡ state self.now.session }
         ensures accepted { effects self.now.session.base self.now.session.done
             ≡ Ok (lists_of result.now) }
+        ensures reached { IsReached self.now.session }
     {
         self.study.database()
     }
@@ -96,6 +100,7 @@ impl<A: Allocator + Copy> Planner<A> {
         ensures runs { self.new.runs ≡ self.old.runs }
         ensures kept { OnOk result (self.new.kept ≡ less_touched
             (λ area. edit_touches area (state self.old.session) edit.now) self.old.kept) }
+        ensures step { OnOk result (CarriedOut (edit_request edit.now) self.old self.new) }
     {
         self.study.edit(edit)?;
         self.trees.drop_done(&self.study, 1);
@@ -116,6 +121,7 @@ impl<A: Allocator + Copy> Planner<A> {
         ensures runs { self.new.runs ≡ self.old.runs }
         ensures kept { OnOk result (self.new.kept ≡ less_touched
             (λ area. undo_touches count area self.old.session) self.old.kept) }
+        ensures step { OnOk result (CarriedOut (undo_request count) self.old self.new) }
     {
         self.study.undo(count as usize)?;
         self.trees.drop_undone(&self.study, count as usize);
@@ -136,6 +142,7 @@ impl<A: Allocator + Copy> Planner<A> {
         ensures runs { self.new.runs ≡ self.old.runs }
         ensures kept { OnOk result (self.new.kept ≡ less_touched
             (λ area. redo_touches count area self.old.session) self.old.kept) }
+        ensures step { OnOk result (CarriedOut (redo_request count) self.old self.new) }
     {
         self.study.redo(count as usize)?;
         self.trees.drop_done(&self.study, count as usize);
@@ -186,6 +193,7 @@ impl<A: Allocator + Copy> Planner<A> {
         ensures kept { OnOk result (areas_without_tree (is_kept self.new.kept) router
             (attached_areas (state self.old.session) router) ≡ []) }
         ensures keeps { IsWithin (is_kept self.old.kept) (is_kept self.new.kept) }
+        ensures step { Stayed self.old self.new }
     {
         let database = self.study.database();
         let alloc = database.alloc();
@@ -211,6 +219,7 @@ impl<A: Allocator + Copy> Planner<A> {
         ensures no_router { result ≡ Err TableFault.NoRouter → self.new.runs ≡ self.old.runs }
         ensures at_most { CountsAtMost (length (attached_areas self.old.session.base router))
             self.old.runs self.new.runs }
+        ensures step { Stayed self.old self.new }
     {
         self.study.base_table(router, &mut self.meter)
     }

@@ -31,6 +31,8 @@ pub(crate) fn graph_of<A: Allocator + Copy>(
     ensures graph { IfOk result (IsGraphOf (lsas_of (Area area) (lists_of database.now))) }
     ensures router { IfOk result (λ graph. Contains graph.vertices (Router router)) }
 {
+    // For the order of its areas and its keys: an attached router is a vertex of the graph.
+    database.known();
     match Graph::build(alloc, database, area) {
         Ok(graph) => Ok(graph),
         Err(GraphFault::OutOfMemory) => Err(AllocError),

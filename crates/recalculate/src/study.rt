@@ -60,6 +60,7 @@ impl<A: Allocator + Copy> Study<A> {
     pub(crate) fn database(&self) -> &Database<A>
         ensures state { lists_of result.now ≡ state self.now }
         ensures accepted { effects self.now.base self.now.done ≡ Ok (lists_of result.now) }
+        ensures reached { IsReached self.now }
     {
         &self.database
     }
@@ -89,6 +90,7 @@ impl<A: Allocator + Copy> Study<A> {
         ensures session { OnOk result (self.new ≡ moved_back count self.old) }
         ensures err { OnErr result (self.new ≡ self.old) }
         ensures reached { IsReached self.old }
+        ensures leads { IsReached self.new }
     {
         self.history.undo(&mut self.database, count)
     }
@@ -99,6 +101,7 @@ impl<A: Allocator + Copy> Study<A> {
         ensures session { OnOk result (self.new ≡ moved_on count self.old) }
         ensures err { OnErr result (self.new ≡ self.old) }
         ensures reached { IsReached self.old }
+        ensures leads { IsReached self.new }
     {
         self.history.redo(&mut self.database, count)
     }

@@ -1,4 +1,4 @@
-use Rattle.std.proofs.Common.{◌≡◌, ◌++◌, ◌^◌, List, ◌∙◌, ap, subst, sym}
+use Rattle.std.proofs.Common.{◌^◌, List, ◌∙◌, ap, subst, sym}
 use Rattle.area_routes.specs.Values.{RouteValue, RoutesBelow}
 use Rattle.recalculate.specs.Preferring.{preferring}
 use Rattle.recalculate.proofs.Preferred.{listed_is, listed_small, listed_sorted}

@@ -1,4 +1,3 @@
-use Rattle.std.proofs.Common.{◌∙◌, sym, ap}
 use Rattle.std.proofs.lemmas.Result.{err_from_is_err_and}
 use Rattle.lsdb.specs.Places.{lists_of}
 use Rattle.recalculate.proofs.Tabled.{no_memory}

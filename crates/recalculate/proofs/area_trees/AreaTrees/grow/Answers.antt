@@ -1,11 +1,6 @@
-use Rattle.std.proofs.Common.{◌≡◌, ◌∙◌, not, Bool, true, false, is_some, sym, ap, subst}
-use Rattle.std.specs.Map.{lookup}
-use Rattle.std.specs.Ordering.{eq_by_cmp}
-use Rattle.lsa_codec.specs.Order.{router_cmp}
-use Rattle.spf.specs.Distances.{Distances, IsTreeOf}
+use Rattle.std.proofs.Common.{◌∙◌, sym, ap}
 use Rattle.area_graph.specs.declared.vertex.Vertex.TheVariants.{Router}
-use Rattle.recalculate.specs.AreaTrees.{AreaTreesValue, has_tree, missing}
-use Rattle.recalculate.specs.Counting.{CountsAtMost}
+use Rattle.recalculate.specs.AreaTrees.{AreaTreesValue, has_tree}
 use Rattle.recalculate.proofs.TreeMaps.{tree_keeps, trees_stay}
 use Rattle.recalculate.proofs.TreeCounts.{one_missing}
 use Rattle.recalculate.proofs.area_trees.AreaTrees.grow.Goals as goal

@@ -1,5 +1,4 @@
-use Rattle.std.proofs.Common.{◌∙◌, sym, ap, subst}
-use Rattle.area_graph.specs.Topology.{Topology}
+use Rattle.std.proofs.Common.{sym, subst}
 use Rattle.area_graph.specs.Graphs.{IsGraphOf}
 use Rattle.lsdb.specs.declared.section.Section.TheVariants.{Area}
 use Rattle.lsdb.specs.Lists.{lsas_of}

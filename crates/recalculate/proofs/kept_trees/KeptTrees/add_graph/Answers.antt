@@ -1,9 +1,9 @@
-use Rattle.std.proofs.Common.{◌≡◌, ◌∙◌, [], None, false, sym, ap, subst}
+use Rattle.std.proofs.Common.{◌∙◌, sym, ap, subst}
 use Rattle.lsdb.specs.declared.section.Section.TheVariants.{Area}
 use Rattle.lsdb.specs.Lists.{lsas_of}
 use Rattle.lsdb.specs.Places.{lists_of}
 use Rattle.area_graph.specs.Graphs.{IsGraphOf}
-use Rattle.recalculate.specs.AreaTrees.{AreasTrees, AreaTreesValue, AreOfDatabase, RouterTreeValue, trees_in}
+use Rattle.recalculate.specs.AreaTrees.{AreasTrees, AreaTreesValue, AreOfDatabase, trees_in}
 use Rattle.recalculate.proofs.TreeMaps.{graphs_stay, no_tree_more, none_found}
 use Rattle.recalculate.proofs.kept_trees.KeptTrees.add_graph.Goals as goal
 

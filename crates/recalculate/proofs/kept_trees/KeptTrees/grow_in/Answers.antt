@@ -1,10 +1,5 @@
-use Rattle.std.proofs.Common.{◌≡◌, ◌≢◌, ◌∙◌, Some, refl, sym, ap, subst}
-use Rattle.std.specs.Prelude.{IsSomeAnd}
-use Rattle.std.specs.List.{Contains}
-use Rattle.area_graph.specs.declared.vertex.Vertex.TheVariants.{Router}
-use Rattle.lsa_codec.specs.declared.address.AreaId.{AreaId}
-use Rattle.lsa_codec.specs.declared.address.RouterId.{RouterId}
-use Rattle.recalculate.specs.AreaTrees.{AreasTrees, AreaTreesValue, trees_at, trees_in}
+use Rattle.std.proofs.Common.{◌∙◌, sym, ap}
+use Rattle.recalculate.specs.AreaTrees.{AreasTrees, trees_at, trees_in}
 use Rattle.recalculate.proofs.TreeMaps.{graph_at, other_areas, same_graphs, some_found, still_within, vertex_found}
 use Rattle.recalculate.proofs.kept_trees.KeptTrees.grow_in.Goals as goal
 

@@ -1,6 +1,4 @@
-use Rattle.std.proofs.Common.{◌∙◌, sym, ap, subst}
-use Rattle.lsdb.specs.declared.section.Section.TheVariants.{Area}
-use Rattle.lsdb.specs.Lists.{lsas_of}
+use Rattle.std.proofs.Common.{◌∙◌, sym, ap}
 use Rattle.lsdb.specs.Places.{lists_of}
 use Rattle.recalculate.specs.AreaTrees.{AreasTrees, trees_at}
 use Rattle.recalculate.proofs.TreeMaps.{graph_found, has_found}

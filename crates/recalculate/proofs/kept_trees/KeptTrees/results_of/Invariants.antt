@@ -1,5 +1,5 @@
 use Rattle.std.proofs.Common.{◌≡◌, take}
-use Rattle.lsdb.specs.Lists.{IsDatabase, areas_of}
+use Rattle.lsdb.specs.Lists.{areas_of}
 use Rattle.lsdb.specs.Places.{lists_of}
 use Rattle.recalculate.specs.AreaTrees.{AreOfDatabase, trees_in}
 use Rattle.recalculate.specs.Counting.{counted_by}

@@ -1,7 +1,6 @@
 use Rattle.std.proofs.Common.{◌≡◌, ◌∙◌, [], length, sym, ap, subst}
 use Rattle.std.proofs.lemmas.Result.{err_from_is_err_and}
 use Rattle.lsdb.specs.Lists.{Lists}
-use Rattle.lsdb.specs.Places.{lists_of}
 use Rattle.edit_history.specs.Session.{state}
 use Rattle.area_routes.specs.Attached.{attached_areas}
 use Rattle.recalculate.specs.AreaTrees.{routers_of, trees_in}
@@ -73,3 +72,15 @@ returns-clause-kept g c =
     (sym (told c.results_of.new.self))
     (subst (λ (db : Lists). areas_without_tree (trees_in c.results_of.new.self) c.args.router (attached_areas db c.args.router) ≡ [])
     (c.database-database.ensures.state ∙ ap (λ (p : PlannerValue). state p.session) c.self.view_is) c.in_ok-results.ensures.grown))
+
+pub returns-in_err-results-clause-step : goal.returns-in_err-results-clause-step
+returns-in_err-results-clause-step g c = record {
+  session = ap (λ (p : PlannerValue). p.session) c.self.view_is;
+  keeps = returns-in_err-results-clause-keeps g c;
+}
+
+pub returns-clause-step : goal.returns-clause-step
+returns-clause-step g c = record {
+  session = ap (λ (p : PlannerValue). p.session) c.self.view_is;
+  keeps = returns-clause-keeps g c;
+}

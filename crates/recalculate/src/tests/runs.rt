@@ -1,15 +1,14 @@
-use super::info_tests::{DUMP, ROUTER_1, TWO_AREAS, session};
+//! How many trees are calculated for tables.
+
 use super::*;
 use edit_script::Edit;
-use lsa_codec::RouterId;
-use std::test::*;
 
 /// A router that is attached to no area.
 const STRANGER: RouterId = RouterId(0x0909_0909);
 
 #[test]
 fn counts_the_trees_of_tables(rt: HostRuntime) -> Result<(), Fail> {
-    let mut planner = session(&rt, DUMP)?;
+    let mut planner = planner_of(rt.alloc(), DUMP)?;
     assert_eq!(rt; planner.runs(), 0);
     let _table = planner.table(ROUTER_1)?;
     assert_eq!(rt; planner.runs(), 1);
@@ -26,7 +25,7 @@ fn counts_the_trees_of_tables(rt: HostRuntime) -> Result<(), Fail> {
 
 #[test]
 fn counts_a_tree_for_each_area(rt: HostRuntime) -> Result<(), Fail> {
-    let mut planner = session(&rt, TWO_AREAS)?;
+    let mut planner = planner_of(rt.alloc(), TWO_AREAS)?;
     let _table = planner.table(ROUTER_1)?;
     assert_eq!(rt; planner.runs(), 2);
     Ok(())
@@ -34,7 +33,7 @@ fn counts_a_tree_for_each_area(rt: HostRuntime) -> Result<(), Fail> {
 
 #[test]
 fn counts_no_trees_of_other_calls(rt: HostRuntime) -> Result<(), Fail> {
-    let mut planner = session(&rt, DUMP)?;
+    let mut planner = planner_of(rt.alloc(), DUMP)?;
     let _table = planner.table(ROUTER_1)?;
     let fails = Edit::FailRouter { router: ROUTER_1 };
     planner.edit(&fails)?;
@@ -49,7 +48,7 @@ fn counts_no_trees_of_other_calls(rt: HostRuntime) -> Result<(), Fail> {
 
 #[test]
 fn counts_the_trees_of_the_beginning(rt: HostRuntime) -> Result<(), Fail> {
-    let mut planner = session(&rt, DUMP)?;
+    let mut planner = planner_of(rt.alloc(), DUMP)?;
     let fails = Edit::FailRouter { router: ROUTER_1 };
     planner.edit(&fails)?;
     assert_eq!(rt; planner.table(ROUTER_1).err(), Some(TableFault::NoRouter));

@@ -1,36 +1,13 @@
+//! What a session counts, and its routers.
+
 use super::*;
 use edit_script::Edit;
-use lsa_codec::RouterId;
-use lsdb::Database;
-use std::test::*;
-
-pub(crate) const ROUTER_1: RouterId = RouterId(0x0101_0101);
-
-const ROUTER_2: RouterId = RouterId(0x0202_0202);
-
-/// One ordinary area 0.0.0.0 with the router-LSAs of 1.1.1.1 and 2.2.2.2, and no LSAs of AS scope.
-pub(crate) const DUMP: &[u8] = &[
-    0x4f, 0x53, 0x57, 0x50, 1, 1, 0, 0, 0, 0, 0, 0, 2, 0x00, 0x01, 0x02, 0x01, 1, 1, 1, 1, 1, 1, 1,
-    1, 0x80, 0, 0, 1, 0xd5, 0x5a, 0, 0x24, 0, 0, 0, 1, 2, 2, 2, 2, 0x0a, 0, 0, 1, 1, 0, 0, 0x0a,
-    0x00, 0x01, 0x02, 0x01, 2, 2, 2, 2, 2, 2, 2, 2, 0x80, 0, 0, 1, 0x62, 0xa7, 0, 0x30, 0, 0, 0, 2,
-    1, 1, 1, 1, 0x0a, 0, 0, 2, 1, 0, 0, 0x0a, 0x0a, 2, 0, 0, 0xff, 0xff, 0, 0, 3, 0, 0, 5, 0, 0,
-];
 
 /// The router-LSA of 2.2.2.2 alone, with bit V, and its first link of type 4.
 const VIRTUAL: &[u8] = &[
     0x4f, 0x53, 0x57, 0x50, 1, 1, 0, 0, 0, 0, 0, 0, 1, 0x00, 0x01, 0x02, 0x01, 2, 2, 2, 2, 2, 2, 2,
     2, 0x80, 0, 0, 1, 0x9b, 0x67, 0, 0x30, 4, 0, 0, 2, 1, 1, 1, 1, 0x0a, 0, 0, 2, 4, 0, 0, 0x0a,
     0x0a, 2, 0, 0, 0xff, 0xff, 0, 0, 3, 0, 0, 5, 0, 0,
-];
-
-/// The router-LSA of 1.1.1.1 in the areas 0.0.0.0 and 0.0.0.1, and an AS-external-LSA.
-pub(crate) const TWO_AREAS: &[u8] = &[
-    0x4f, 0x53, 0x57, 0x50, 1, 2, 0, 0, 0, 0, 0, 0, 1, 0x00, 0x01, 0x02, 0x01, 1, 1, 1, 1, 1, 1, 1,
-    1, 0x80, 0, 0, 1, 0xd5, 0x5a, 0, 0x24, 0, 0, 0, 1, 2, 2, 2, 2, 0x0a, 0, 0, 1, 1, 0, 0, 0x0a, 0,
-    0, 0, 1, 0, 0, 1, 0x00, 0x01, 0x02, 0x01, 1, 1, 1, 1, 1, 1, 1, 1, 0x80, 0, 0, 1, 0xd5, 0x5a, 0,
-    0x24, 0, 0, 0, 1, 2, 2, 2, 2, 0x0a, 0, 0, 1, 1, 0, 0, 0x0a, 0, 1, 0x00, 0x01, 0x02, 0x05, 0x0a,
-    9, 0, 0, 2, 2, 2, 2, 0x80, 0, 0, 1, 0x80, 0x23, 0, 0x24, 0xff, 0xff, 0, 0, 0x80, 0, 0, 0x14, 0,
-    0, 0, 0, 0, 0, 0, 0,
 ];
 
 /// No area, and no LSA.
@@ -47,11 +24,6 @@ const NOTHING: Info = Info {
     undone: 0,
 };
 
-pub(crate) fn session(rt: &impl AllocGlobal, dump: &[u8]) -> Result<Planner, Fail> {
-    let database = Database::load(rt.alloc(), dump).ok().ok_or("a dump")?;
-    Ok(Planner::new(rt.alloc(), database))
-}
-
 #[test]
 fn counts_areas_and_lsas(rt: HostRuntime) -> Result<(), Fail> {
     let loaded = Info {
@@ -59,9 +31,9 @@ fn counts_areas_and_lsas(rt: HostRuntime) -> Result<(), Fail> {
         lsas: 2,
         ..NOTHING
     };
-    assert_eq!(rt; session(&rt, EMPTY)?.info(), NOTHING);
-    assert_eq!(rt; session(&rt, DUMP)?.info(), loaded);
-    let found = session(&rt, TWO_AREAS)?.info();
+    assert_eq!(rt; planner_of(rt.alloc(), EMPTY)?.info(), NOTHING);
+    assert_eq!(rt; planner_of(rt.alloc(), DUMP)?.info(), loaded);
+    let found = planner_of(rt.alloc(), TWO_AREAS)?.info();
     assert_eq!(rt;
         found,
         Info {
@@ -75,9 +47,9 @@ fn counts_areas_and_lsas(rt: HostRuntime) -> Result<(), Fail> {
 
 #[test]
 fn counts_what_virtual_links_leave(rt: HostRuntime) -> Result<(), Fail> {
-    let mut found = session(&rt, VIRTUAL)?.info();
+    let mut found = planner_of(rt.alloc(), VIRTUAL)?.info();
     assert_eq!(rt; (found.vbits, found.vlinks), (1, 1));
-    found = session(&rt, DUMP)?.info();
+    found = planner_of(rt.alloc(), DUMP)?.info();
     assert_eq!(rt; (found.vbits, found.vlinks), (0, 0));
     Ok(())
 }
@@ -93,14 +65,14 @@ fn with_first_at_max_age(rt: &impl AllocGlobal, dump: &[u8]) -> Result<Vec<u8>, 
 #[test]
 fn counts_lsas_at_max_age(rt: HostRuntime) -> Result<(), Fail> {
     let dump = with_first_at_max_age(&rt, VIRTUAL)?;
-    let found = session(&rt, &dump)?.info();
+    let found = planner_of(rt.alloc(), &dump)?.info();
     assert_eq!(rt; (found.lsas, found.vbits, found.vlinks), (1, 1, 1));
     Ok(())
 }
 
 #[test]
 fn counts_edits(rt: HostRuntime) -> Result<(), Fail> {
-    let mut session = session(&rt, DUMP)?;
+    let mut session = planner_of(rt.alloc(), DUMP)?;
     let fails = Edit::FailRouter { router: ROUTER_1 };
     session.edit(&fails).ok().ok_or("an edit")?;
     let found = session.info();
@@ -113,9 +85,9 @@ fn counts_edits(rt: HostRuntime) -> Result<(), Fail> {
 
 #[test]
 fn lists_routers_in_rising_order(rt: HostRuntime) -> Result<(), Fail> {
-    let found = session(&rt, DUMP)?.routers()?;
+    let found = planner_of(rt.alloc(), DUMP)?.routers()?;
     assert_eq!(rt; found.as_slice(), [ROUTER_1, ROUTER_2].as_slice());
-    let found = session(&rt, EMPTY)?.routers()?;
+    let found = planner_of(rt.alloc(), EMPTY)?.routers()?;
     assert_eq!(rt; found.len(), 0);
     Ok(())
 }
@@ -123,14 +95,14 @@ fn lists_routers_in_rising_order(rt: HostRuntime) -> Result<(), Fail> {
 #[test]
 fn leaves_out_routers_at_max_age(rt: HostRuntime) -> Result<(), Fail> {
     let dump = with_first_at_max_age(&rt, DUMP)?;
-    let found = session(&rt, &dump)?.routers()?;
+    let found = planner_of(rt.alloc(), &dump)?.routers()?;
     assert_eq!(rt; found.as_slice(), [ROUTER_2].as_slice());
     Ok(())
 }
 
 #[test]
 fn lists_a_router_of_two_areas_once(rt: HostRuntime) -> Result<(), Fail> {
-    let found = session(&rt, TWO_AREAS)?.routers()?;
+    let found = planner_of(rt.alloc(), TWO_AREAS)?.routers()?;
     assert_eq!(rt; found.as_slice(), [ROUTER_1].as_slice());
     Ok(())
 }

@@ -1,0 +1,11 @@
+use Rattle.std.proofs.Common.{List, subst}
+use Rattle.area_routes.specs.Values.{RouteValue}
+use Rattle.external_routes.specs.steps.Lookup.{MarksLengths}
+use Rattle.external_routes.proofs.inside.Inside.new.Goals as goal
+
+pub invariant_of-result : goal.invariant_of-result
+invariant_of-result g c = record {
+  below = record { routes = c.as_routes-routes.ensures.small; entries = c.as_slice-entries.ensures.small };
+  marked = subst (λ (routes : List RouteValue). MarksLengths routes c.lengths.result) c.as_slice.ensures.routes c.lengths.ensures;
+  mapped = c.in_ok-map_asbrs.ensures;
+}
