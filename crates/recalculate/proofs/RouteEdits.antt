@@ -24,7 +24,7 @@ use Rattle.edit_history.specs.Rules.{section_name, section_changes, fated_change
 use Rattle.edit_history.specs.Effect.{◌>>=◌, or_refused, area_of, router_lsa_in, has_router, is_for, options_in, is_type2, room_for, added, rule_of}
 use Rattle.edit_history.specs.Effect.{is_of_graph, touched, touched_by, edit_touches}
 use Rattle.recalculate.specs.Calls.{is_of_route}
-use Rattle.edit_history.proofs.Keys.{found_passes}
+use Rattle.edit_history.proofs.HistoryLemmas.{found_passes}
 
 module _ (area : AreaId) where
   abbrev counts : Change → Bool
