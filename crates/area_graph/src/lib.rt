@@ -31,6 +31,3 @@ pub use graph::Graph;
 pub use laws::{distances_are_over_all_paths, edges_join_both_ways};
 pub use used::{VertexLsa, used_lsas};
 pub use vertex::Vertex;
-
-#[cfg(test)]
-mod tests;

@@ -65,6 +65,3 @@ pub use rank::{PathType, Rank};
 pub use route::Route;
 pub use route_list::Routes;
 pub use way::Way;
-
-#[cfg(test)]
-mod tests;

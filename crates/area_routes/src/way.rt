@@ -18,9 +18,9 @@ pub struct Way<A: Allocator = Global> {
     /// What they are compared by, the same for all of them.
     pub(crate) rank: Rank,
     /// The areas that they lead through, in rising order.
-    pub(crate) areas: AreaList<A>,
+    pub areas: AreaList<A>,
     /// Their next hops.
-    pub(crate) hops: HopList<A>,
+    pub hops: HopList<A>,
 }
 
 impl<A: Allocator> Model for Way<A> {

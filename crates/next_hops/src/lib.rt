@@ -16,6 +16,3 @@ pub use hop::Hop;
 pub use hops::Hops;
 pub use laws::{hop_equality, hop_order, hops_law};
 pub use list::HopList;
-
-#[cfg(test)]
-mod tests;

@@ -17,6 +17,3 @@ pub use fault::SpfFault;
 pub use meter::Meter;
 pub use rounds::distances_by_rounds;
 pub use tree::Tree;
-
-#[cfg(test)]
-mod tests;

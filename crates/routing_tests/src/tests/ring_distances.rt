@@ -1,14 +1,15 @@
-//! Both programs on a ring.
+//! The distances on a ring by two programs.
 
 ghost use Rattle.std.specs.Prelude.{◌<◌};
 
-use super::trees::{graph_of, reached};
-use crate::{Meter, Tree, distances_by_rounds};
+use super::layers::graph_of;
+use super::trees::reached;
 use lsa_codec::RouterId;
 use samples::{
     LsaList, RING_ROUTERS, RouterLink, add_ring_networks, ring_network, ring_router, to_network,
     to_router,
 };
+use spf::{Meter, Tree, distances_by_rounds};
 use std::alloc::Global;
 use std::test::*;
 

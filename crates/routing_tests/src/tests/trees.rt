@@ -1,19 +1,13 @@
 //! Trees of the two small areas.
 
-use crate::{Meter, SpfFault, Tree, distances_by_rounds};
+use super::layers::graph_of;
 use area_graph::Graph;
-use lsa_codec::{AreaId, RouterId};
-use lsdb::Database;
+use lsa_codec::RouterId;
 use rationed::Rationed;
 use samples::{R1, R3, R4, SAMPLE, network_of_three};
-use std::alloc::Allocator;
+use spf::{Meter, SpfFault, Tree, distances_by_rounds};
+use std::alloc::{Allocator, Global};
 use std::test::*;
-
-/// The graph of area 0.0.0.0.
-pub fn graph_of<A: Allocator + Copy>(alloc: A, dump: &[u8]) -> Result<Graph<A>, Fail> {
-    let database = Database::load(alloc, dump)?;
-    Ok(Graph::build(alloc, &database, AreaId(0))?)
-}
 
 /// The vertices that a tree reaches, in their order, each with its distance.
 pub fn reached<A: Allocator + Copy>(
@@ -55,21 +49,45 @@ fn misses_a_router(rt: HostRuntime) -> Result<(), Fail> {
     Ok(())
 }
 
+/// The vertices that a tree of a root reaches, in their order, one a line: number and distance.
+fn reached_text(
+    alloc: Global,
+    graph: &Graph,
+    root: u32,
+    meter: &mut Meter,
+) -> Result<String, Fail> {
+    let tree = Tree::build(alloc, graph, RouterId(root), meter)?;
+    let mut text = String::new(alloc);
+    for (index, distance) in reached(alloc, &tree)? {
+        text.push_str(&format!(in alloc; "{index} {distance:?}\n")?)?;
+    }
+    Ok(text)
+}
+
+/// The distances in the network of three routers, counted by one meter.
+fn network_distances(alloc: Global, root: u32, meter: &mut Meter) -> Result<String, Fail> {
+    let graph = graph_of(alloc, &network_of_three(alloc)?)?;
+    reached_text(alloc, &graph, root, meter)
+}
+
 #[test]
 fn reaches_a_network_before_a_router(rt: HostRuntime) -> Result<(), Fail> {
-    let graph = graph_of(rt.alloc(), &network_of_three(rt.alloc())?)?;
     let mut meter = Meter::new();
-    for (root, order, distances) in [
-        (R1, [0, 2, 3, 1], [0, 5, 10, 10]),
-        (R3, [1, 3, 0, 2], [0, 10, 10, 10]),
-        (R4, [2, 3, 0, 1], [0, 5, 5, 5]),
-    ] {
-        let tree = Tree::build(rt.alloc(), &graph, RouterId(root), &mut meter)?;
-        assert_eq!(rt; tree.order(), order.as_slice());
-        for ((_, distance), expected) in reached(rt.alloc(), &tree)?.iter().zip(distances) {
-            assert_eq!(rt; *distance, Some(expected));
-        }
-    }
+    let first = network_distances(rt.alloc(), R1, &mut meter)?;
+    assert_eq!(rt;
+        first.as_str(),
+        "0 Some(0)\n2 Some(5)\n3 Some(10)\n1 Some(10)\n"
+    );
+    let third = network_distances(rt.alloc(), R3, &mut meter)?;
+    assert_eq!(rt;
+        third.as_str(),
+        "1 Some(0)\n3 Some(10)\n0 Some(10)\n2 Some(10)\n"
+    );
+    let fourth = network_distances(rt.alloc(), R4, &mut meter)?;
+    assert_eq!(rt;
+        fourth.as_str(),
+        "2 Some(0)\n3 Some(5)\n0 Some(5)\n1 Some(5)\n"
+    );
     assert_eq!(rt; meter.count(), 3);
     Ok(())
 }

@@ -3,8 +3,8 @@
 
 ghost use Rattle.std.specs.Prelude.{◌<◌, length};
 
-use crate::Hop;
 use area_graph::{Edge, Graph};
+use next_hops::Hop;
 use std::alloc::Global;
 use std::test::*;
 

@@ -1,3 +1,0 @@
-//! Graphs of small areas.
-
-mod graphs;

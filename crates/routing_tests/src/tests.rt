@@ -1,0 +1,28 @@
+//! What small networks give: a network is a text, and so is what it has to give.
+
+// What networks give, as text.
+mod expected;
+mod layers;
+mod texts;
+
+// Graphs, trees and hops.
+mod graphs;
+mod hop_lists;
+mod hops;
+mod plain_hops;
+mod ring_distances;
+mod ring_hops;
+mod trees;
+
+// What an area gives.
+mod attached;
+mod networks;
+mod router_entries;
+mod stubs;
+
+// Routes.
+mod asbr_entries;
+mod best_ways;
+mod growths;
+mod inter_area;
+mod intra_area;

@@ -1,0 +1,66 @@
+//! What is built on databases, layer by layer.
+
+ghost use Rattle.std.specs.Prelude.{◌≡◌, length, IfOk};
+
+use area_graph::Graph;
+use area_routes::{AreaResult, InterResult, inter, intra};
+use lsa_codec::{AreaId, RouterId};
+use lsdb::Database;
+use next_hops::Hops;
+use spf::{Meter, Tree};
+use std::alloc::{Allocator, Global};
+use std::test::*;
+
+/// The graph of area 0.0.0.0.
+pub fn graph_of<A: Allocator + Copy>(alloc: A, dump: &[u8]) -> Result<Graph<A>, Fail> {
+    let database = Database::load(alloc, dump)?;
+    Ok(Graph::build(alloc, &database, AreaId(0))?)
+}
+
+/// The hops of each vertex from a router.
+pub fn hops_from<A: Allocator + Copy>(
+    alloc: A,
+    graph: &Graph<A>,
+    root: u32,
+) -> Result<Hops<A>, Fail>
+    ensures { IfOk result (λ hops. length hops ≡ length graph.now.vertices) }
+{
+    let tree = Tree::build(alloc, graph, RouterId(root), &mut Meter::new())?;
+    Ok(Hops::build(alloc, graph, &tree)?)
+}
+
+/// What an area gives to a router.
+pub fn result_of<A: Allocator + Copy>(
+    alloc: A,
+    database: &Database<A>,
+    area: u32,
+    root: u32,
+) -> Result<AreaResult<A>, Fail> {
+    let area = AreaId(area);
+    let graph = Graph::build(alloc, database, area)?;
+    let tree = Tree::build(alloc, &graph, RouterId(root), &mut Meter::new())?;
+    let hops = Hops::build(alloc, &graph, &tree)?;
+    Ok(AreaResult::build(alloc, database, area, &graph, &tree, &hops)?)
+}
+
+/// What areas give to a router.
+pub fn results_of<A: Allocator + Copy>(
+    alloc: A,
+    database: &Database<A>,
+    areas: &[u32],
+    root: u32,
+) -> Result<Vec<AreaResult<A>, A>, Fail> {
+    let mut results = Vec::new(alloc);
+    for area in areas {
+        results.push(result_of(alloc, database, *area, root)?)?;
+    }
+    Ok(results)
+}
+
+/// The inter-area routes and the entries of a router that is attached to these areas.
+pub fn inter_in(alloc: Global, dump: &[u8], areas: &[u32], root: u32) -> Result<InterResult, Fail> {
+    let database = Database::load(alloc, dump)?;
+    let results = results_of(alloc, &database, areas, root)?;
+    let routes = intra(alloc, &results)?;
+    Ok(inter(alloc, &database, RouterId(root), &results, &routes)?)
+}

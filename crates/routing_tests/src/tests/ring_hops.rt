@@ -1,0 +1,119 @@
+//! The hops on a ring by two programs.
+
+ghost use Rattle.std.specs.Prelude.{◌<◌, ◌≡◌, length};
+
+use super::layers::{graph_of, hops_from};
+use super::plain_hops::plain_hops;
+use super::texts::hops_text;
+use area_graph::{Graph, Vertex};
+use lsa_codec::RouterId;
+use next_hops::{Hop, Hops};
+use samples::{
+    LsaList, RING_ROUTERS, RouterLink, add_ring_networks, ring_network, ring_router, to_network,
+    to_router,
+};
+use spf::distances_by_rounds;
+use std::alloc::Global;
+use std::test::*;
+
+/// The address of a router's interface.
+fn interface(place: u32, number: u32) -> u32 {
+    0x0a00_0000 | place % RING_ROUTERS << 8 | number
+}
+
+/// A router's links to both neighbours, to its network unless it is the last of the four, at each
+/// tenth place two more to the next, and at each eighth place one to a router that has no link back.
+/// All cost as much as the way over the network, but back from each fifth place, which is dearer.
+fn links(alloc: Global, place: u32) -> Result<Vec<RouterLink>, Fail>
+    requires { place < 40 }
+{
+    let mut links = Vec::new(alloc);
+    links.push(to_router(ring_router(place + 1), interface(place, 1), 1))?;
+    let back = if place % 5 == 0 { 2 } else { 1 };
+    links.push(to_router(ring_router(place + 39), interface(place, 2), back))?;
+    if place % 4 != 3 {
+        links.push(to_network(ring_network(place), 0x0a06_0000 | place, 2))?;
+    }
+    if place % 8 == 0 {
+        links.push(to_router(ring_router(place + 20), interface(place, 3), 1))?;
+    }
+    if place % 10 == 0 {
+        links.push(to_router(ring_router(place + 1), interface(place, 5), 1))?;
+        links.push(to_router(ring_router(place + 1), interface(place, 4), 1))?;
+    }
+    Ok(links)
+}
+
+/// The ring: 40 routers, and 10 networks of four places each.
+fn ring(alloc: Global) -> Result<Vec<u8>, Fail> {
+    let mut area = LsaList::new(alloc);
+    for place in 0..RING_ROUTERS {
+        area.router(ring_router(place), &links(alloc, place)?)?;
+    }
+    add_ring_networks(&mut area)?;
+    Ok(area.dump()?)
+}
+
+/// How many hops there are of all vertices, if both lists have the same ones of each.
+fn count_of_both(graph: &Graph, hops: &Hops, plain: &[Vec<Hop>]) -> Option<usize>
+    requires { length hops.now ≡ length graph.now.vertices }
+{
+    let mut count: usize = 0;
+    for index in 0..graph.len() {
+        let list = plain.get(index)?;
+        if hops.of(index) != list.as_slice() {
+            return None;
+        }
+        count = count.wrapping_add(list.len());
+    }
+    Some(count)
+}
+
+/// How many hops there are of all vertices from the router of a place, if both programs find the same
+/// ones of each.
+fn count_from(alloc: Global, graph: &Graph, place: u32) -> Result<Option<usize>, Fail> {
+    let root = RouterId(ring_router(place));
+    let number = graph.index_of(Vertex::Router(root)).ok_or("a router")?;
+    let distances = distances_by_rounds(alloc, graph, root)?;
+    let plain = plain_hops(alloc, graph, &distances, number)?;
+    let hops = hops_from(alloc, graph, root.0)?;
+    Ok(count_of_both(graph, &hops, &plain))
+}
+
+#[test]
+fn both_programs_agree(rt: HostRuntime) -> Result<(), Fail> {
+    let graph = graph_of(rt.alloc(), &ring(rt.alloc())?)?;
+    assert_eq!(rt; graph.len(), 50);
+    let mut found: usize = 0;
+    for place in 0..RING_ROUTERS {
+        let count = count_from(rt.alloc(), &graph, place)?;
+        assert!(rt; count.is_some(), "from {place}");
+        found = found.wrapping_add(count.unwrap_or(0));
+    }
+    assert_eq!(rt; found, 2638);
+    Ok(())
+}
+
+/// The hops of a vertex from the first router.
+fn hops_at(alloc: Global, index: usize) -> Result<String, Fail> {
+    let graph = graph_of(alloc, &ring(alloc)?)?;
+    let hops = hops_from(alloc, &graph, ring_router(0))?;
+    if graph.len() <= index {
+        return Ok(String::new(alloc));
+    }
+    hops_text(alloc, hops.of(index))
+}
+
+/// All hops to the other side of the ring.
+const ALL: &str =
+    " link:10.0.0.1 link:10.0.0.2 link:10.0.0.4 link:10.0.0.5 gateway:10.6.0.0:10.6.0.2";
+
+#[test]
+fn hops_to_the_other_side(rt: HostRuntime) -> Result<(), Fail> {
+    assert_eq!(rt; hops_at(rt.alloc(), 0)?.as_str(), "");
+    assert_eq!(rt; hops_at(rt.alloc(), 21)?.as_str(), ALL);
+    assert_eq!(rt; hops_at(rt.alloc(), 22)?.as_str(), " link:10.0.0.2");
+    assert_eq!(rt; hops_at(rt.alloc(), 40)?.as_str(), " attached:10.6.0.0");
+    assert_eq!(rt; hops_at(rt.alloc(), 45)?.as_str(), ALL);
+    Ok(())
+}

@@ -1,0 +1,204 @@
+//! Databases as text: an area or an LSA a line.
+//!
+//! A line is a word, an ID, perhaps with a prefix length, and values with names. Behind a colon stand
+//! the links of a router-LSA or the attached routers of a network-LSA, with commas between them:
+//!
+//! ```text
+//! area 0.0.0.0
+//! router 1.1.1.1 flags=3 age=3600: point-to-point 2.2.2.2 data=10.0.0.1 cost=10, stub 10.9.0.0/16 cost=5
+//! network 10.5.0.3/16 by=3.3.3.3: 1.1.1.1, 3.3.3.3
+//! summary 10.20.0.0/16 by=2.2.2.2 cost=20
+//! asbr-summary 9.9.9.9 by=2.2.2.2 cost=5
+//! ```
+
+use crate::link::RouterLink;
+use crate::list::{LsaList, dump_of};
+use crate::lsa::Header;
+use std::alloc::{AllocError, AllocFailed, Global};
+
+/// Why a text is no database.
+#[derive(Clone, Copy, Debug, PartialEq, Eq)]
+pub enum TextFault {
+    /// A line that is none of those above.
+    Line,
+    /// There is no memory for it.
+    OutOfMemory,
+}
+
+impl From<AllocError> for TextFault {
+    fn from(_: AllocError) -> TextFault {
+        TextFault::OutOfMemory
+    }
+}
+
+impl<T: Drop> From<AllocFailed<T>> for TextFault {
+    fn from(_: AllocFailed<T>) -> TextFault {
+        TextFault::OutOfMemory
+    }
+}
+
+/// What a line says before its colon, or a link. What it does not say has the usual value.
+#[derive(Clone, Copy)]
+struct Item<'a> {
+    word: &'a str,
+    id: u32,
+    mask: u32,
+    /// The Advertising Router; of a router-LSA its own ID.
+    by: u32,
+    age: u16,
+    flags: u8,
+    /// The Link Data; of a stub link the mask.
+    data: u32,
+    cost: u32,
+}
+
+impl Item<'_> {
+    /// Sets the value of this name, unless there is none or it is too large.
+    fn set(&mut self, name: &str, value: u32) -> Option<()> {
+        match name {
+            "by" => self.by = value,
+            "age" => self.age = u16::try_from(value).ok()?,
+            "flags" => self.flags = u8::try_from(value).ok()?,
+            "data" => self.data = value,
+            "cost" => self.cost = value,
+            _ => return None,
+        }
+        Some(())
+    }
+}
+
+/// A number of 32 bits, or four of 8 bits with dots between them.
+fn number(text: &str) -> Option<u32> {
+    let mut value: u32 = 0;
+    for part in text.trim().split('.') {
+        value = value << 8 | part.parse::<u32>().ok()?;
+    }
+    Some(value)
+}
+
+/// The ID and the mask of a word like `10.9.0.0/16`; without a length the mask is none.
+fn id_and_mask(text: &str) -> Option<(u32, u32)> {
+    let Some((id, length)) = text.split_once('/') else {
+        return Some((number(text)?, 0));
+    };
+    let host_bits = 32u32.checked_sub(number(length)?)?;
+    let mask = u32::MAX.checked_shl(host_bits).unwrap_or(0);
+    Some((number(id)?, mask))
+}
+
+/// An item: its word, its ID, and its values.
+fn read_item(text: &str) -> Option<Item<'_>> {
+    let mut words = text.split_whitespace();
+    let word = words.next()?;
+    let (id, mask) = id_and_mask(words.next()?)?;
+    let mut item = Item {
+        word,
+        id,
+        mask,
+        by: id,
+        age: 1,
+        flags: 0,
+        data: mask,
+        cost: 0,
+    };
+    for value in words {
+        let (name, value) = value.split_once('=')?;
+        item.set(name, number(value)?)?;
+    }
+    Some(item)
+}
+
+/// A link of a router-LSA.
+fn link(text: &str) -> Option<RouterLink> {
+    let item = read_item(text)?;
+    let kind = match item.word {
+        "point-to-point" => 1,
+        "transit" => 2,
+        "stub" => 3,
+        "virtual" => 4,
+        _ => return None,
+    };
+    Some(RouterLink {
+        kind,
+        id: item.id,
+        data: item.data,
+        metric: u16::try_from(item.cost).ok()?,
+    })
+}
+
+/// Adds a router-LSA with these links.
+fn add_router(
+    alloc: Global,
+    lsas: &mut LsaList,
+    item: Item,
+    links: Option<&str>,
+) -> Result<(), TextFault> {
+    let mut list = Vec::new(alloc);
+    if let Some(links) = links {
+        for text in links.split(',') {
+            list.push(link(text).ok_or(TextFault::Line)?)?;
+        }
+    }
+    Ok(lsas.router_of(item.age, item.id, item.flags, &list)?)
+}
+
+/// Adds a network-LSA with these attached routers.
+fn add_network(
+    alloc: Global,
+    lsas: &mut LsaList,
+    item: Item,
+    attached: Option<&str>,
+) -> Result<(), TextFault> {
+    let mut list = Vec::new(alloc);
+    if let Some(attached) = attached {
+        for text in attached.split(',') {
+            list.push(number(text).ok_or(TextFault::Line)?)?;
+        }
+    }
+    Ok(lsas.network_of(item.age, (item.id, item.mask), item.by, &list)?)
+}
+
+/// Adds a summary-LSA of this LS type (RFC 2328, A.4.4).
+fn add_summary(lsas: &mut LsaList, kind: u8, item: Item) -> Result<(), TextFault> {
+    let header = Header {
+        age: item.age,
+        kind,
+        id: item.id,
+        router: item.by,
+    };
+    let [m0, m1, m2, m3] = item.mask.to_be_bytes();
+    let [_, high, middle, low] = item.cost.to_be_bytes();
+    Ok(lsas.lsa(header, &[m0, m1, m2, m3, 0, high, middle, low])?)
+}
+
+/// Adds the LSA of a line.
+fn add_line(alloc: Global, lsas: &mut LsaList, line: &str) -> Result<(), TextFault> {
+    let (head, rest) = match line.split_once(':') {
+        Some((head, rest)) => (head, Some(rest)),
+        None => (line, None),
+    };
+    let item = read_item(head).ok_or(TextFault::Line)?;
+    match item.word {
+        "router" => add_router(alloc, lsas, item, rest),
+        "network" => add_network(alloc, lsas, item, rest),
+        "summary" => add_summary(lsas, 3, item),
+        "asbr-summary" => add_summary(lsas, 4, item),
+        _ => Err(TextFault::Line),
+    }
+}
+
+/// The dump of a database that a text describes. Its areas are not stub areas and stand in rising
+/// order of their IDs, and it has no LSAs of AS scope.
+pub fn dump_of_text(alloc: Global, text: &str) -> Result<Vec<u8>, TextFault> {
+    let mut areas = Vec::new(alloc);
+    for line in text.lines() {
+        if let Some(id) = line.strip_prefix("area ") {
+            let id = number(id).ok_or(TextFault::Line)?;
+            areas.push((id, LsaList::new(alloc)))?;
+        } else {
+            let (_, lsas) = areas.last_mut().ok_or(TextFault::Line)?;
+            add_line(alloc, lsas, line)?;
+        }
+    }
+    Ok(dump_of(alloc, &areas, &LsaList::new(alloc))?)
+}
