@@ -21,7 +21,7 @@ use Rattle.edit_history.specs.declared.fault.EditFault.{EditFault}
 use Rattle.edit_history.specs.declared.fault.EditFault.TheVariants.{NoRouter, NoSummary, NoExternal}
 use Rattle.edit_history.specs.Rules.{Fate, stays, removed, rewritten, Rule, Change, one_lsa, adding, change_of, addition, with_added}
 use Rattle.edit_history.specs.Rules.{section_name, section_changes, fated_changes, changes_by}
-use Rattle.edit_history.specs.Effect.{◌>>=◌, or_refused, area_of, router_lsa_in, has_router, is_for, options_in, is_type2, room_for, added, rule_of}
+use Rattle.edit_history.specs.Effect.{◌>>=◌, or_refused, area_of, router_lsa_in, has_router, is_originated_for, options_in, is_type2, room_for, added, rule_of}
 use Rattle.edit_history.specs.Effect.{is_of_graph, touched, touched_by, edit_touches}
 use Rattle.recalculate.specs.Calls.{is_of_route}
 use Rattle.edit_history.proofs.HistoryLemmas.{found_passes}
@@ -147,9 +147,9 @@ module _ (area : AreaId) where
   unfolding rule_of
   route_leaves db (Summary of router prefix metric) h =
       if_bound db (area_of db of) _ (λ section _.
-      (let lsa_in = or_refused NoSummary (find (is_for 3 router prefix) section.lsas) in
+      (let lsa_in = or_refused NoSummary (find (is_originated_for 3 router prefix) section.lsas) in
       if_bound db lsa_in _ (λ lsa found.
-      (let passes = found_passes (is_for 3 router prefix) section.lsas lsa (was_found NoSummary (find (is_for 3 router prefix) section.lsas) lsa found) in
+      (let passes = found_passes (is_originated_for 3 router prefix) section.lsas lsa (was_found NoSummary (find (is_originated_for 3 router prefix) section.lsas) lsa found) in
       leaves db _ (one_spares (Area of) (key_of lsa) (rewritten (with_metric metric lsa))
       (λ head other _ same. summary_apart (section_name head) (kind_of other)
       (of_kind (key_of lsa) other same ∙ eqb-true (kind_of lsa) 3 (and_parts (kind_of lsa == 3) _ passes).0)))))))
@@ -162,7 +162,7 @@ module _ (area : AreaId) where
       if_either db (has_router router db) (added db AsWide new) (Err NoRouter)
       (added_leaves db AsWide new (new_spares AsWide new (as_wide_apart (kind_of new)))) (refused db NoRouter)
   route_leaves db (DropExternal router prefix) h =
-      if_bound db (or_refused NoExternal (find (is_for 5 router prefix) (lsas_of AsWide db))) _
+      if_bound db (or_refused NoExternal (find (is_originated_for 5 router prefix) (lsas_of AsWide db))) _
       (λ lsa _. leaves db _ (one_spares AsWide (key_of lsa) removed (λ head other wide _. as_wide_apart (kind_of other) head wide)))
   route_leaves db (Cost of router link metric) h = absurd (true≢false (sym h))
   route_leaves db (DropLink of router link) h = absurd (true≢false (sym h))
