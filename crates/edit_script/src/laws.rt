@@ -29,7 +29,8 @@ pub fn reads_back()
         → meaning (spelling edit) ≡ Ok (0, command.Edit edit) }
 {}
 
-/// Each number of an edit is in the range of its type: what [`reads_back`] asks holds of every edit.
+/// Each number of an edit is in the range of its type: what [`reads_back`] asks holds of every
+/// edit.
 ///
 /// The function does nothing: its contract is the law.
 pub fn edits_are_in_range(edit: &Edit)

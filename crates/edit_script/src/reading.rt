@@ -124,7 +124,8 @@ pub(crate) fn three(arguments: &[u8]) -> Result<(&[u8], &[u8], &[u8]), ScriptFau
 
 /// The four words of `arguments`; else S3 or S4.
 pub(crate) fn four(arguments: &[u8]) -> Result<(&[u8], &[u8], &[u8], &[u8]), ScriptFault>
-    ensures { Gives (λ x. (x.0.now, x.1.now, x.2.now, x.3.now)) result (four_of (words arguments.now)) }
+    ensures { Gives (λ x. (x.0.now, x.1.now, x.2.now, x.3.now)) result
+        (four_of (words arguments.now)) }
 {
     let (first, rest) = word(arguments)?;
     let (second, rest) = word(rest)?;
@@ -140,7 +141,8 @@ pub(crate) fn four(arguments: &[u8]) -> Result<(&[u8], &[u8], &[u8], &[u8]), Scr
 pub(crate) fn six(
     arguments: &[u8],
 ) -> Result<(&[u8], &[u8], &[u8], &[u8], &[u8], &[u8]), ScriptFault>
-    ensures { Gives (λ x. (x.0.now, x.1.now, x.2.now, x.3.now, x.4.now, x.5.now)) result (six_of (words arguments.now)) }
+    ensures { Gives (λ x. (x.0.now, x.1.now, x.2.now, x.3.now, x.4.now, x.5.now)) result
+        (six_of (words arguments.now)) }
 {
     let (first, rest) = word(arguments)?;
     let (second, rest) = word(rest)?;

@@ -29,7 +29,8 @@ fn first_of(word: &[u8], stop: u8) -> Option<usize>
 #[tactic(auto, using(crate::proofs::Split::cut_none, crate::proofs::Split::cut_some, crate::proofs::Split::drop_one))]
 fn cut_at_blank(line: &[u8]) -> Option<(&[u8], &[u8])>
     ensures { MatchOption result (slice_split is_blank line.now ≡ line.now ∷ [])
-        (λ x. (slice_split is_blank line.now ≡ x.0.now ∷ slice_split is_blank x.1.now) × (length x.1.now < length line.now)) }
+        (λ x. (slice_split is_blank line.now ≡ x.0.now ∷ slice_split is_blank x.1.now)
+        × (length x.1.now < length line.now)) }
 {
     let Some(end) = first_blank(line) else {
         return None;
@@ -42,7 +43,8 @@ fn cut_at_blank(line: &[u8]) -> Option<(&[u8], &[u8])>
 #[tactic(auto, using(crate::proofs::Split::cut_none, crate::proofs::Split::cut_some, crate::proofs::Split::drop_one))]
 pub(crate) fn cut_at_byte(word: &[u8], stop: u8) -> Option<(&[u8], &[u8])>
     ensures { MatchOption result (slice_split (λ b. b == stop) word.now ≡ word.now ∷ [])
-        (λ x. slice_split (λ b. b == stop) word.now ≡ x.0.now ∷ slice_split (λ b. b == stop) x.1.now) }
+        (λ x. slice_split (λ b. b == stop) word.now
+        ≡ x.0.now ∷ slice_split (λ b. b == stop) x.1.now) }
 {
     let Some(end) = first_of(word, stop) else {
         return None;

@@ -24,7 +24,8 @@ fn ways_of<A: Allocator + Copy>(
     inside: &Inside<'_, A>,
 ) -> Result<BestWays<Prefix, A>, AllocError>
     ensures { IfOk result (λ ways. Gathers prefix_cmp
-        (filter_map (external_candidate router inside.now.routes inside.now.entries) lsas.entry) ways) }
+        (filter_map (external_candidate router inside.now.routes inside.now.entries) lsas.entry)
+        ways) }
 {
     let mut ways = BestWays::new(alloc);
     for lsa in lsas {

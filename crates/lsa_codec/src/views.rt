@@ -226,8 +226,8 @@ impl<'a> SummaryView<'a> {
         mask_at(self.lsa)
     }
 
-    /// The cost of the route for TOS 0, a number of 24 bits. [`LS_INFINITY`](crate::LS_INFINITY) says
-    /// that there is no route (RFC 2328, appendix B).
+    /// The cost of the route for TOS 0, a number of 24 bits. [`LS_INFINITY`](crate::LS_INFINITY)
+    /// says that there is no route (RFC 2328, appendix B).
     pub fn metric(&self) -> u32
         ensures { result ≡ metric_of self.now }
     {
@@ -257,8 +257,8 @@ impl<'a> ExternalView<'a> {
         self.lsa[24] >= 128
     }
 
-    /// The cost of the route for TOS 0, a number of 24 bits. [`LS_INFINITY`](crate::LS_INFINITY) says
-    /// that there is no route (RFC 2328, appendix B).
+    /// The cost of the route for TOS 0, a number of 24 bits. [`LS_INFINITY`](crate::LS_INFINITY)
+    /// says that there is no route (RFC 2328, appendix B).
     pub fn metric(&self) -> u32
         ensures { result ≡ metric_of self.now }
     {

@@ -51,8 +51,12 @@ impl<A: Allocator + Copy> Hops<A> {
     pub fn build(alloc: A, graph: &Graph<A>, tree: &Tree<A>) -> Result<Hops<A>, AllocError>
         requires tree { (root : Vertex) × IsTreeOf graph.now root tree.now }
         ensures sized { IfOk result (λ hops. length hops ≡ length graph.now.vertices) }
-        ensures table { IfOk result (λ hops. (root : Vertex) → IsTreeOf graph.now root tree.now → hops ≡ table_of graph.now root) }
-        ensures paths { IfOk result (λ hops. (root : Vertex) → IsTreeOf graph.now root tree.now → AreHopsOf graph.now root hops) }
+        ensures table { IfOk result
+            (λ hops. (root : Vertex) → IsTreeOf graph.now root tree.now
+            → hops ≡ table_of graph.now root) }
+        ensures paths { IfOk result
+            (λ hops. (root : Vertex) → IsTreeOf graph.now root tree.now
+            → AreHopsOf graph.now root hops) }
     {
         let lists = pass_all(alloc, graph, tree)?;
         Hops::sharing(alloc, &lists)
@@ -101,8 +105,12 @@ fn pass_all<A: Allocator + Copy>(
     ensures sized { IfOk result (λ lists. length lists.items ≡ length graph.now.vertices) }
     ensures few { IfOk result (λ lists. length lists.items ≤ 8192) }
     ensures sorted { IfOk result (λ lists. All (λ list. IsSortedHops list) lists.items) }
-    ensures table { IfOk result (λ lists. (root : Vertex) → IsTreeOf graph.now root tree.now → lists.items ≡ table_of graph.now root) }
-    ensures paths { IfOk result (λ lists. (root : Vertex) → IsTreeOf graph.now root tree.now → AreHopsOf graph.now root lists.items) }
+    ensures table { IfOk result
+        (λ lists. (root : Vertex) → IsTreeOf graph.now root tree.now
+        → lists.items ≡ table_of graph.now root) }
+    ensures paths { IfOk result
+        (λ lists. (root : Vertex) → IsTreeOf graph.now root tree.now
+        → AreHopsOf graph.now root lists.items) }
 {
     let mut lists = empty_lists(alloc, graph.len())?;
     for from in tree.order() {

@@ -28,7 +28,9 @@ pub fn hop_equality()
 /// The hops over a list of edges are in rising order, each once. Where no cycle costs nothing, they
 /// are exactly the first hops of all paths of least cost over these edges, of any length.
 pub fn hops_law()
-    ensures sorted { (edges : List (DirectedEdge Vertex)) (root w : Vertex) → IsSortedHops (hops_of edges root w) }
-    ensures paths { (edges : List (DirectedEdge Vertex)) (root w : Vertex) (hop : HopValue) → NothingFree edges
+    ensures sorted { (edges : List (DirectedEdge Vertex)) (root w : Vertex)
+        → IsSortedHops (hops_of edges root w) }
+    ensures paths { (edges : List (DirectedEdge Vertex)) (root w : Vertex) (hop : HopValue)
+        → NothingFree edges
         → Contains (hops_of edges root w) hop ↔ IsHopTo (λ e. Contains edges e) root w hop }
 {}

@@ -47,7 +47,9 @@ fn pass_first<A: Allocator + Copy>(
 ) -> Result<(), AllocError>
     requires sized { length lists.old ≡ length graph.now.vertices }
     requires to { edge.now.to < length graph.now.vertices }
-    ensures { OnOk result (Grows (λ i h. (i ≡ edge.now.to) × (from ≡ tree.now.root) × (first_at graph.now edge.now.to edge.now.link_data ≡ h)) lists.old lists.new) }
+    ensures { OnOk result
+        (Grows (λ i h. (i ≡ edge.now.to) × (from ≡ tree.now.root)
+        × (first_at graph.now edge.now.to edge.now.link_data ≡ h)) lists.old lists.new) }
 {
     if from != tree.root() {
         return Ok(());
@@ -62,7 +64,9 @@ fn pass_hops<A: Allocator + Copy>(
     lists: &mut [HopList<A>],
 ) -> Result<(), AllocError>
     requires { edge.now.to < length lists.old }
-    ensures { OnOk result (Grows (λ i h. (i ≡ edge.now.to) × IsExtended hops.now edge.now.link_data h) lists.old lists.new) }
+    ensures { OnOk result
+        (Grows (λ i h. (i ≡ edge.now.to) × IsExtended hops.now edge.now.link_data h)
+        lists.old lists.new) }
 {
     lists[edge.to].join_extended(hops, edge.link_data)
 }
@@ -80,7 +84,9 @@ fn pass_edge<A: Allocator + Copy>(
     requires measured { length tree.now.distances ≡ length graph.now.vertices }
     requires from { from < length graph.now.vertices }
     requires to { edge.now.to < length graph.now.vertices }
-    ensures { OnOk result (Grows (λ i h. (i ≡ edge.now.to) × IsPassed graph.now tree.now hops.now (arc_of from edge.now) h) lists.old lists.new) }
+    ensures { OnOk result
+        (Grows (λ i h. (i ≡ edge.now.to) × IsPassed graph.now tree.now hops.now
+        (arc_of from edge.now) h) lists.old lists.new) }
 {
     if !is_tight(tree, from, edge) {
         return Ok(());
@@ -100,7 +106,9 @@ pub(crate) fn pass_on<A: Allocator + Copy>(
     requires sized { length lists.old ≡ length graph.now.vertices }
     requires measured { length tree.now.distances ≡ length graph.now.vertices }
     requires from { from < length graph.now.vertices }
-    ensures { OnOk result (Grows (λ i h. IsPassedFrom graph.now tree.now (hops_at lists.old from) from i h) lists.old lists.new) }
+    ensures { OnOk result
+        (Grows (λ i h. IsPassedFrom graph.now tree.now (hops_at lists.old from) from i h)
+        lists.old lists.new) }
 {
     let own = lists[from].clone_of(alloc)?;
     let hops = own.as_slice();

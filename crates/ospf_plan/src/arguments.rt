@@ -22,8 +22,9 @@ pub struct Options {
 /// Why words give no options.
 #[derive(Debug, Drop)]
 pub enum OptionsFault {
-    /// The words are refused, or ask for help or for the version. Its text goes where `Error::print` puts it, and
-    /// its status is `Error::exit_code`. It is never for want of memory.
+    /// The words are refused, or ask for help or for the version. Its text goes where
+    /// `Error::print` puts it, and its status is `Error::exit_code`. It is never for want of
+    /// memory.
     Refused(Error),
     /// A growth was refused.
     OutOfMemory,

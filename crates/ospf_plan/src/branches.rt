@@ -18,9 +18,9 @@ use std::alloc::{AllocError, Allocator, Global};
 use std::collections::BTreeMap;
 use std::marker::Model;
 
-/// The branches of a run, by the numbers 0 to 7: each is a study of its own that begins at the loaded database. A
-/// branch gets a planner at its first command that may take memory; until then it is at its beginning. Branch 0 has
-/// one from the start.
+/// The branches of a run, by the numbers 0 to 7: each is a study of its own that begins at the
+/// loaded database. A branch gets a planner at its first command that may take memory; until then
+/// it is at its beginning. Branch 0 has one from the start.
 ///
 /// They are seen as the sessions of the branches that have a planner.
 #[derive(Drop)]
@@ -60,16 +60,19 @@ impl<A: Allocator + Copy> Branches<A> {
         }
     }
 
-    /// Carries one command out in a branch, 0 to 7. `undo`, `redo` and `info` take no memory, whatever the branch.
+    /// Carries one command out in a branch, 0 to 7. `undo`, `redo` and `info` take no memory,
+    /// whatever the branch.
     ///
     /// # Errors
     ///
     /// Memory ran out. Then no branch has changed.
     pub fn step(&mut self, branch: u8, command: &Command) -> Result<Reply<A>, AllocError>
         requires { branch < 8 }
-        ensures reply { IfOk result (λ reply. said_by reply ≡ reply_to (sessions_of self.old branch) command.now) }
+        ensures reply { IfOk result
+            (λ reply. said_by reply ≡ reply_to (sessions_of self.old branch) command.now) }
         ensures sessions { OnOk result (sessions_of self.new
-            ≡ with_session branch (after (sessions_of self.old branch) command.now) (sessions_of self.old)) }
+            ≡ with_session branch (after (sessions_of self.old branch) command.now)
+            (sessions_of self.old)) }
         ensures kept { OnErr result (self.new ≡ self.old) }
         ensures memory { takes_memory command.now ≡ false → IsOk result }
     {
@@ -82,13 +85,16 @@ impl<A: Allocator + Copy> Branches<A> {
         }
     }
 
-    /// Carries a command out in a branch that is at its beginning, and gives it a planner if it may take memory.
+    /// Carries a command out in a branch that is at its beginning, and gives it a planner if it may
+    /// take memory.
     fn step_first(&mut self, branch: u8, command: &Command) -> Result<Reply<A>, AllocError>
         requires behind { (branch == 0) ≡ false }
         requires new { has_planner self.old branch ≡ false }
-        ensures reply { IfOk result (λ reply. said_by reply ≡ reply_to (sessions_of self.old branch) command.now) }
+        ensures reply { IfOk result
+            (λ reply. said_by reply ≡ reply_to (sessions_of self.old branch) command.now) }
         ensures sessions { OnOk result (sessions_of self.new
-            ≡ with_session branch (after (sessions_of self.old branch) command.now) (sessions_of self.old)) }
+            ≡ with_session branch (after (sessions_of self.old branch) command.now)
+            (sessions_of self.old)) }
         ensures kept { OnErr result (self.new ≡ self.old) }
         ensures memory { takes_memory command.now ≡ false → IsOk result }
     {
@@ -105,9 +111,11 @@ impl<A: Allocator + Copy> Branches<A> {
     fn begin(&mut self, branch: u8, command: &Command) -> Result<Reply<A>, AllocError>
         requires behind { (branch == 0) ≡ false }
         requires new { has_planner self.old branch ≡ false }
-        ensures reply { IfOk result (λ reply. said_by reply ≡ reply_to (sessions_of self.old branch) command.now) }
+        ensures reply { IfOk result
+            (λ reply. said_by reply ≡ reply_to (sessions_of self.old branch) command.now) }
         ensures sessions { OnOk result (sessions_of self.new
-            ≡ with_session branch (after (sessions_of self.old branch) command.now) (sessions_of self.old)) }
+            ≡ with_session branch (after (sessions_of self.old branch) command.now)
+            (sessions_of self.old)) }
         ensures kept { OnErr result (self.new ≡ self.old) }
     {
         let mut planner = self.begun()?;
@@ -137,7 +145,8 @@ impl<A: Allocator + Copy> Branches<A> {
         Ok(())
     }
 
-    /// The dump of the database of a branch, 0 to 7. A branch that was not named has the loaded database.
+    /// The dump of the database of a branch, 0 to 7. A branch that was not named has the loaded
+    /// database.
     ///
     /// # Errors
     ///

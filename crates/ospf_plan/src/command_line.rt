@@ -18,8 +18,8 @@ use std::alloc::{AllocError, Global};
 ///
 /// # Errors
 ///
-/// `Refused` for words that clap refuses, `--help` and `--version` among them, with clap's own error.
-/// `OutOfMemory` where a growth was refused.
+/// `Refused` for words that clap refuses, `--help` and `--version` among them, with clap's own
+/// error. `OutOfMemory` where a growth was refused.
 pub fn options(alloc: Global, words: &[String]) -> Result<Options, OptionsFault>
     ensures given { IfOk result (IsGiven (map string_bytes words.now)) }
     ensures accepted { OnOk result (fault_of ospf_plan (map string_bytes words.now) ≡ []) }

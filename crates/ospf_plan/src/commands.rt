@@ -13,8 +13,8 @@ use lsa_codec::RouterId;
 use recalculate::{Planner, Table, TableFault};
 use std::alloc::{AllocError, Allocator};
 
-/// Executes one command on a planner. An error is want of memory, and then the session is as it was. `undo`, `redo`
-/// and `info` take no memory.
+/// Executes one command on a planner. An error is want of memory, and then the session is as it
+/// was. `undo`, `redo` and `info` take no memory.
 #[tactic(auto, using(crate::proofs::BranchSessions::after_base))]
 pub(crate) fn execute<A: Allocator + Copy>(
     alloc: A,
@@ -50,7 +50,9 @@ fn execute_edit<A: Allocator + Copy>(
     edit: &Edit,
 ) -> Result<Reply<A>, AllocError>
     ensures reply { IfOk result (λ reply. said_by reply ≡ edit_reply (edited planner.old.session edit.now)) }
-    ensures session { OnOk result (planner.new.session ≡ unless_refused planner.old.session (edited planner.old.session edit.now)) }
+    ensures session { OnOk result
+        (planner.new.session ≡ unless_refused planner.old.session
+        (edited planner.old.session edit.now)) }
     ensures base { planner.new.session.base ≡ planner.old.session.base }
     ensures kept { OnErr result (planner.new.session ≡ planner.old.session) }
 {
@@ -99,7 +101,8 @@ fn table<A: Allocator + Copy>(
     planner: &mut Planner<A>,
     router: RouterId,
 ) -> Result<Reply<A>, AllocError>
-    ensures reply { IfOk result (λ reply. said_by reply ≡ table_reply (table_in (state planner.old.session) router)) }
+    ensures reply { IfOk result
+        (λ reply. said_by reply ≡ table_reply (table_in (state planner.old.session) router)) }
     ensures kept { planner.new.session ≡ planner.old.session }
 {
     Ok(match table_now(planner, router)? {
@@ -110,7 +113,10 @@ fn table<A: Allocator + Copy>(
 
 /// The reply to `tables`.
 fn tables<A: Allocator + Copy>(alloc: A, planner: &mut Planner<A>) -> Result<Reply<A>, AllocError>
-    ensures reply { IfOk result (λ reply. said_by reply ≡ tables (filter_map (table_in (state planner.old.session)) (attached_routers (state planner.old.session)))) }
+    ensures reply { IfOk result
+        (λ reply. said_by reply ≡ tables
+        (filter_map (table_in (state planner.old.session))
+        (attached_routers (state planner.old.session)))) }
     ensures kept { planner.new.session ≡ planner.old.session }
 {
     let routers = planner.routers()?;
@@ -124,7 +130,8 @@ fn tables_of<A: Allocator + Copy>(
     planner: &mut Planner<A>,
     routers: &[RouterId],
 ) -> Result<Vec<Table<A>, A>, AllocError>
-    ensures tables { IfOk result (λ tables. tables.items ≡ filter_map (table_in (state planner.old.session)) routers.now) }
+    ensures tables { IfOk result
+        (λ tables. tables.items ≡ filter_map (table_in (state planner.old.session)) routers.now) }
     ensures kept { planner.new.session ≡ planner.old.session }
 {
     let mut tables = Vec::new(alloc);
@@ -153,7 +160,9 @@ fn compare<A: Allocator + Copy>(
     planner: &mut Planner<A>,
     router: RouterId,
 ) -> Result<Reply<A>, AllocError>
-    ensures reply { IfOk result (λ reply. said_by reply ≡ compare_reply router (table_in planner.old.session.base router) (table_in (state planner.old.session) router)) }
+    ensures reply { IfOk result
+        (λ reply. said_by reply ≡ compare_reply router (table_in planner.old.session.base router)
+        (table_in (state planner.old.session) router)) }
     ensures kept { planner.new.session ≡ planner.old.session }
 {
     let Some(before) = table_before(planner, router)? else {

@@ -57,8 +57,9 @@ fn line_of<A: Allocator + Copy>(alloc: A, fault: &ExitFault) -> Result<Vec<u8, A
     Vec::from_slice(alloc, line.as_bytes())
 }
 
-/// The exit status and the line for standard error, its line feed included: 3 where the dump is refused, 4 where a
-/// file can not be opened, read or written or the script is too long, 5 for want of memory.
+/// The exit status and the line for standard error, its line feed included: 3 where the dump is
+/// refused, 4 where a file can not be opened, read or written or the script is too long, 5 for want
+/// of memory.
 ///
 /// An error is want of memory for the line; the status stands all the same.
 pub fn exit_line<A: Allocator + Copy>(

@@ -40,8 +40,8 @@ fn run_on_dump<R: Read + Drop>(
     }
 }
 
-/// Runs a script on a dump. The replies go to standard output, and the dump to its file, which is opened only when
-/// the whole run went well.
+/// Runs a script on a dump. The replies go to standard output, and the dump to its file, which is
+/// opened only when the whole run went well.
 fn run_script<R: Read + Drop, S: Read + Drop>(
     rt: &HostRuntime,
     options: &Options,
@@ -80,7 +80,8 @@ fn save(rt: &HostRuntime, path: &str, dump: &[u8]) -> Result<(), ExitFault> {
 /// Writes the dump that a script leaves, and flushes it.
 fn write_saved<W: Write>(file: &mut Watched<W>, dump: &[u8]) -> Result<(), ExitFault>
     requires { has_failed file.old ≡ false }
-    ensures whole { OnOk result (Appends (W.contents (inner_of file.old)) (W.contents (inner_of file.new)) dump.now) }
+    ensures whole { OnOk result
+        (Appends (W.contents (inner_of file.old)) (W.contents (inner_of file.new)) dump.now) }
     ensures failed { IsErr result ↔ (has_failed file.new ≡ true) }
     ensures fault { IfErr result (λ fault. fault ≡ ExitFault.Run RunFault.Write) }
 {

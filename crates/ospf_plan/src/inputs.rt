@@ -26,11 +26,14 @@ pub(crate) fn read_branches<A: Allocator + Copy, R: Read>(
     dump: &mut Watched<R>,
 ) -> Result<Branches<A>, RunFault>
     requires { has_failed dump.old ≡ false }
-    ensures loads { IfOk result (λ branches. IfSome (R.remaining (inner_of dump.old)) (λ bytes. begun (loaded bytes) ≡ Ok (sessions_of branches))) }
+    ensures loads { IfOk result
+        (λ branches. IfSome (R.remaining (inner_of dump.old))
+        (λ bytes. begun (loaded bytes) ≡ Ok (sessions_of branches))) }
     ensures accepted { OnOk result (IfSome (R.remaining (inner_of dump.old)) IsAccepted) }
     ensures refused { IfErr result (IsDumpEnd (R.remaining (inner_of dump.old))) }
     ensures failed { (result ≡ Err RunFault.Read) ↔ (has_failed dump.new ≡ true) }
-    ensures bounded { ConsumesAtMost (R.remaining (inner_of dump.old)) (R.remaining (inner_of dump.new)) 16777217 }
+    ensures bounded { ConsumesAtMost (R.remaining (inner_of dump.old))
+        (R.remaining (inner_of dump.new)) 16777217 }
 {
     let bytes = match read_whole(alloc, dump, LONGEST_DUMP) {
         Ok(bytes) => bytes,
@@ -52,7 +55,8 @@ const TOO_LARGE: DumpFault = DumpFault {
 
 /// How a run ends on a dump that is not loaded.
 fn load_fault(fault: DumpFault) -> RunFault
-    ensures end { (known : Option (List ℕ)) → IfSome known (λ bytes. IsFirstFault fault (loaded bytes)) → IsDumpEnd known result }
+    ensures end { (known : Option (List ℕ)) → IfSome known (λ bytes. IsFirstFault fault (loaded bytes))
+        → IsDumpEnd known result }
     ensures read { result ≢ RunFault.Read }
 {
     match fault.kind {
@@ -72,7 +76,8 @@ pub(crate) fn read_script<A: Allocator + Copy, S: Read>(
     ensures at_end { OnOk result (IsAtEnd (S.remaining (inner_of script.new))) }
     ensures fault { IfErr result (IsScriptEnd (IsLonger (S.remaining (inner_of script.old)) SCRIPT_LIMIT)) }
     ensures failed { (result ≡ Err RunFault.Read) ↔ (has_failed script.new ≡ true) }
-    ensures bounded { ConsumesAtMost (S.remaining (inner_of script.old)) (S.remaining (inner_of script.new)) 1048577 }
+    ensures bounded { ConsumesAtMost (S.remaining (inner_of script.old))
+        (S.remaining (inner_of script.new)) 1048577 }
 {
     match read_whole(alloc, script, SCRIPT_LIMIT) {
         Ok(text) => Ok(text),

@@ -9,11 +9,15 @@ ghost use Rattle.ospf_plan.specs.Replies.{reply_to, after, is_refusal};
 ghost use Rattle.ospf_plan.specs.Run.{answers, sessions_after};
 ghost use Rattle.ospf_plan.specs.Alone.{answers_in, lines_in, commands_in, after_all};
 
-/// However the lines of branches are interleaved, the lines of one branch are answered as they are without the
-/// others, and its session is the one that its own commands lead to from the loaded database.
+/// However the lines of branches are interleaved, the lines of one branch are answered as they are
+/// without the others, and its session is the one that its own commands lead to from the loaded
+/// database.
 pub fn branches_are_apart()
-    ensures answers { (all : Sessions) (lines : List (List ℕ)) (branch : ℕ) → answers_in branch all lines ≡ answers all (lines_in branch lines) }
-    ensures session { (base : Lists) (lines : List (List ℕ)) (branch : ℕ) → sessions_after (all_begin base) lines branch ≡ after_all (start base) (commands_in branch lines) }
+    ensures answers { (all : Sessions) (lines : List (List ℕ)) (branch : ℕ)
+        → answers_in branch all lines ≡ answers all (lines_in branch lines) }
+    ensures session { (base : Lists) (lines : List (List ℕ)) (branch : ℕ)
+        → sessions_after (all_begin base) lines branch ≡ after_all
+        (start base) (commands_in branch lines) }
 {}
 
 /// A refused command leaves the session as it was: its database, and the edits done and undone.

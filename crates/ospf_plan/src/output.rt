@@ -14,8 +14,10 @@ pub(crate) fn write_and_flush<W: Write>(
     text: &[u8],
 ) -> Result<(), WriteFault>
     requires { has_failed writer.old ≡ false }
-    ensures whole { OnOk result (Appends (W.contents (inner_of writer.old)) (W.contents (inner_of writer.new)) text.now) }
-    ensures prefix { AppendsPrefix (W.contents (inner_of writer.old)) (W.contents (inner_of writer.new)) text.now }
+    ensures whole { OnOk result
+        (Appends (W.contents (inner_of writer.old)) (W.contents (inner_of writer.new)) text.now) }
+    ensures prefix { AppendsPrefix (W.contents (inner_of writer.old))
+        (W.contents (inner_of writer.new)) text.now }
     ensures failed { IsErr result ↔ (has_failed writer.new ≡ true) }
 {
     write_whole(writer, text)?;
@@ -31,7 +33,8 @@ pub(crate) fn write_end<W: Write, D: Write>(
     requires replies_open { has_failed replies.old ≡ false }
     requires out_open { has_failed out.old ≡ false }
     ensures replies { Keeps (W.contents (inner_of replies.old)) (W.contents (inner_of replies.new)) }
-    ensures whole { OnOk result (Appends (D.contents (inner_of out.old)) (D.contents (inner_of out.new)) dump.now) }
+    ensures whole { OnOk result
+        (Appends (D.contents (inner_of out.old)) (D.contents (inner_of out.new)) dump.now) }
     ensures prefix { AppendsPrefix (D.contents (inner_of out.old)) (D.contents (inner_of out.new)) dump.now }
     ensures failed { IsErr result ↔ ((has_failed replies.new || has_failed out.new) ≡ true) }
 {

@@ -34,7 +34,8 @@ pub enum Reply<A: Allocator = Global> {
     Refused(Refusal),
     /// The routing table of a router.
     Table(Table<A>),
-    /// The routing tables of all routers that are attached to an area, in rising order of their IDs.
+    /// The routing tables of all routers that are attached to an area, in rising order of their
+    /// IDs.
     Tables(Vec<Table<A>, A>),
     /// What to compare: the routing tables of a router in the loaded database, and now.
     Compare {
@@ -84,8 +85,9 @@ impl<A: Allocator> Reply<A> {
     }
 }
 
-/// The text of a reply in a branch: `@0 ok`, `@0 refused E4 ZeroCost`, the text of a table or of a comparison behind
-/// `@0 `, `@0 tables 2` and the texts of the tables, or `@0 info areas 1 ..`; each line ends in a line feed.
+/// The text of a reply in a branch: `@0 ok`, `@0 refused E4 ZeroCost`, the text of a table or of a
+/// comparison behind `@0 `, `@0 tables 2` and the texts of the tables, or `@0 info areas 1 ..`;
+/// each line ends in a line feed.
 ///
 /// # Errors
 ///
@@ -131,7 +133,9 @@ fn said_text<A: Allocator + Copy>(alloc: A, reply: &Reply<A>) -> Result<Vec<u8, 
 
 /// `refused CODE NAME`.
 fn refusal_text<A: Allocator + Copy>(alloc: A, why: Refusal) -> Result<Vec<u8, A>, AllocError>
-    ensures { IfOk result (λ text. text.items ≡ codes "refused " ++ refusal_code why ++ codes " " ++ refusal_name why ++ codes "\n") }
+    ensures { IfOk result
+        (λ text. text.items ≡ codes "refused " ++ refusal_code why ++ codes
+        " " ++ refusal_name why ++ codes "\n") }
 {
     let code = why.code();
     let name = why.name();
@@ -144,7 +148,9 @@ fn tables_text<A: Allocator + Copy>(
     alloc: A,
     tables: &Vec<Table<A>, A>,
 ) -> Result<Vec<u8, A>, AllocError>
-    ensures { IfOk result (λ text. text.items ≡ codes "tables " ++ decimal (length tables.now.items) ++ codes "\n" ++ flat_map table_text tables.now.items) }
+    ensures { IfOk result
+        (λ text. text.items ≡ codes "tables " ++ decimal
+        (length tables.now.items) ++ codes "\n" ++ flat_map table_text tables.now.items) }
 {
     let count = Decimal(tables.len() as u64);
     let mut text = format!(in alloc; "tables {count}\n")?.into_bytes();

@@ -19,7 +19,8 @@ use std::io::Write;
 use std::marker::Model;
 use streams::{Watched, write_whole};
 
-/// How many lines of a script had a reply, and how many of these were refused, by `refused` or `script`.
+/// How many lines of a script had a reply, and how many of these were refused, by `refused` or
+/// `script`.
 #[derive(Clone, Copy, Debug, PartialEq, Eq)]
 pub struct Summary {
     /// The lines with a reply.
@@ -49,8 +50,10 @@ fn execute_line<A: Allocator + Copy>(
     branches: &mut Branches<A>,
     line: &[u8],
 ) -> Result<Option<Answer<A>>, AllocError>
-    ensures answer { IfOk result (λ told. option_to_list told ≡ answer_to (sessions_of branches.old) (meaning line.now)) }
-    ensures sessions { OnOk result (sessions_of branches.new ≡ after_line (sessions_of branches.old) (meaning line.now)) }
+    ensures answer { IfOk result
+        (λ told. option_to_list told ≡ answer_to (sessions_of branches.old) (meaning line.now)) }
+    ensures sessions { OnOk result
+        (sessions_of branches.new ≡ after_line (sessions_of branches.old) (meaning line.now)) }
 {
     match parse(line) {
         Err(ScriptFault::Empty) => Ok(None),
@@ -78,11 +81,17 @@ fn answer_line<A: Allocator + Copy, W: Write>(
 ) -> Result<(), RunFault>
     requires open { has_failed replies.old ≡ false }
     requires room { (summary.old.commands + 1 < 2 ^ 64) × (summary.old.refused + 1 < 2 ^ 64) }
-    ensures whole { OnOk result (Appends (W.contents (inner_of replies.old)) (W.contents (inner_of replies.new))
+    ensures whole { OnOk result
+        (Appends (W.contents (inner_of replies.old)) (W.contents (inner_of replies.new))
         (text_of (answer_to (sessions_of branches.old) (meaning line.now)))) }
-    ensures sessions { OnOk result (sessions_of branches.new ≡ after_line (sessions_of branches.old) (meaning line.now)) }
-    ensures commands { OnOk result (summary.new.commands ≡ summary.old.commands + length (answer_to (sessions_of branches.old) (meaning line.now))) }
-    ensures refused { OnOk result (summary.new.refused ≡ summary.old.refused + refused_count (answer_to (sessions_of branches.old) (meaning line.now))) }
+    ensures sessions { OnOk result
+        (sessions_of branches.new ≡ after_line (sessions_of branches.old) (meaning line.now)) }
+    ensures commands { OnOk result
+        (summary.new.commands ≡ summary.old.commands + length
+        (answer_to (sessions_of branches.old) (meaning line.now))) }
+    ensures refused { OnOk result
+        (summary.new.refused ≡ summary.old.refused + refused_count
+        (answer_to (sessions_of branches.old) (meaning line.now))) }
     ensures prefix { AppendsPrefix (W.contents (inner_of replies.old)) (W.contents (inner_of replies.new))
         (text_of (answer_to (sessions_of branches.old) (meaning line.now))) }
     ensures failed { (result ≡ Err RunFault.Write) ↔ (has_failed replies.new ≡ true) }
@@ -108,11 +117,18 @@ pub(crate) fn answer_script<A: Allocator + Copy, W: Write>(
 ) -> Result<Summary, RunFault>
     requires open { has_failed replies.old ≡ false }
     requires size { length script.now ≤ 1048576 }
-    ensures whole { OnOk result (Appends (W.contents (inner_of replies.old)) (W.contents (inner_of replies.new))
+    ensures whole { OnOk result
+        (Appends (W.contents (inner_of replies.old)) (W.contents (inner_of replies.new))
         (text_of (answers (sessions_of branches.old) (lines_of script.now)))) }
-    ensures sessions { OnOk result (sessions_of branches.new ≡ sessions_after (sessions_of branches.old) (lines_of script.now)) }
-    ensures commands { IfOk result (λ summary. summary.commands ≡ length (answers (sessions_of branches.old) (lines_of script.now))) }
-    ensures refused { IfOk result (λ summary. summary.refused ≡ refused_count (answers (sessions_of branches.old) (lines_of script.now))) }
+    ensures sessions { OnOk result
+        (sessions_of branches.new ≡ sessions_after (sessions_of branches.old)
+        (lines_of script.now)) }
+    ensures commands { IfOk result
+        (λ summary. summary.commands ≡ length
+        (answers (sessions_of branches.old) (lines_of script.now))) }
+    ensures refused { IfOk result
+        (λ summary. summary.refused ≡ refused_count
+        (answers (sessions_of branches.old) (lines_of script.now))) }
     ensures prefix { AppendsPrefix (W.contents (inner_of replies.old)) (W.contents (inner_of replies.new))
         (text_of (answers (sessions_of branches.old) (lines_of script.now))) }
     ensures failed { (result ≡ Err RunFault.Write) ↔ (has_failed replies.new ≡ true) }

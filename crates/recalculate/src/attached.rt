@@ -19,7 +19,8 @@ impl<A: Allocator + Copy> Planner<A> {
     /// The routers that are attached to areas of the session's database, as [`routers`] gives
     /// them. An error is want of memory.
     pub fn routers(&self) -> Result<Vec<RouterId, A>, AllocError>
-        ensures { IfOk result (λ routers. routers.items ≡ attached_routers (state self.now.session)) }
+        ensures { IfOk result
+            (λ routers. routers.items ≡ attached_routers (state self.now.session)) }
     {
         let database = self.database();
         routers(database.alloc(), database)

@@ -180,14 +180,16 @@ impl<A: Allocator + Copy> KeptTrees<A> {
     ) -> Result<Vec<AreaResult<A>, A>, AllocError>
         requires { AreOfDatabase (lists_of database.now) self.old }
         ensures results { IfOk result (λ results. results.items
-            ≡ results_in (lists_of database.now) router (attached_areas (lists_of database.now) router)) }
+            ≡ results_in (lists_of database.now) router
+            (attached_areas (lists_of database.now) router)) }
         ensures memory { OnErr result (attached_areas (lists_of database.now) router ≢ []) }
         ensures graphs { AreOfDatabase (lists_of database.now) self.new }
         ensures keeps { IsWithin (trees_in self.old) (trees_in self.new) }
         ensures grown { OnOk result (areas_without_tree (trees_in self.new) router
             (attached_areas (lists_of database.now) router) ≡ []) }
         ensures meter { OnOk result (meter.new ≡ counted_by (length (areas_without_tree
-            (trees_in self.old) router (attached_areas (lists_of database.now) router))) meter.old) }
+            (trees_in self.old) router (attached_areas (lists_of database.now) router)))
+            meter.old) }
         ensures at_most { CountsAtMost (length (areas_without_tree (trees_in self.old) router
             (attached_areas (lists_of database.now) router))) meter.old meter.new }
     {

@@ -22,7 +22,8 @@ ghost use Rattle.recalculate.specs.Tables.{TableValue, result_in, results_in, ro
 /// The routers that [`routers`](crate::routers) gives are exactly those that are attached to an
 /// area.
 pub fn routers_are_attached()
-    ensures { (db : Lists) (router : RouterId) → IsDatabase db → Contains (attached_routers db) router ↔ (attached_areas db router ≢ []) }
+    ensures { (db : Lists) (router : RouterId) → IsDatabase db
+        → Contains (attached_routers db) router ↔ (attached_areas db router ≢ []) }
 {}
 
 /// The distances and next hops in the routing table of any database are those over all paths of
@@ -32,9 +33,11 @@ pub fn tables_are_over_all_paths()
     ensures routes { (db : Lists) (router : RouterId) (table : TableValue) → table_in db router ≡ Some table
         → table.routes ≡ routes_from db router (results_in db router (attached_areas db router)) }
     ensures areas { (db : Lists) (router : RouterId) (area : AreaHead)
-        → result_in db router area ≡ result_of_reached (record { 0 = area.id }) router (reached_from router (used (lsas_in db area))) }
+        → result_in db router area ≡ result_of_reached (record { 0 = area.id }) router
+        (reached_from router (used (lsas_in db area))) }
     ensures paths { (db : Lists) (router : RouterId) (area : AreaHead) → IsDatabase db
-        → AreOverAllPaths router (used (lsas_in db area)) (reached_from router (used (lsas_in db area))) }
+        → AreOverAllPaths router (used (lsas_in db area))
+        (reached_from router (used (lsas_in db area))) }
 {}
 
 /// A table that follows other calls calculates trees of touched areas alone.

@@ -83,8 +83,8 @@ impl<A: Allocator + Copy> Planner<A> {
         self.database().dump()
     }
 
-    /// Carries an edit out. The undone edits go, and the trees of the areas that it touches: those of
-    /// which it rewrites, removes or adds a router-LSA or network-LSA.
+    /// Carries an edit out. The undone edits go, and the trees of the areas that it touches: those
+    /// of which it rewrites, removes or adds a router-LSA or network-LSA.
     ///
     /// # Errors
     ///
@@ -107,8 +107,8 @@ impl<A: Allocator + Copy> Planner<A> {
         Ok(())
     }
 
-    /// Takes the last `count` done edits back. The trees of the areas that they touch go. It takes no
-    /// memory.
+    /// Takes the last `count` done edits back. The trees of the areas that they touch go. It takes
+    /// no memory.
     ///
     /// # Errors
     ///
@@ -172,9 +172,9 @@ impl<A: Allocator + Copy> Planner<A> {
         self.meter.count()
     }
 
-    /// The routing table of a router in the session's database (RFC 2328, 16). In each area that the
-    /// router is attached to its tree is calculated, unless it is kept, and then it is kept. The
-    /// session stays as it is, also after an error, and so do the trees that are kept.
+    /// The routing table of a router in the session's database (RFC 2328, 16). In each area that
+    /// the router is attached to its tree is calculated, unless it is kept, and then it is kept.
+    /// The session stays as it is, also after an error, and so do the trees that are kept.
     ///
     /// # Errors
     ///
@@ -186,7 +186,8 @@ impl<A: Allocator + Copy> Planner<A> {
         ensures fault { IfErr result (FaultMeans (table_in (state self.old.session) router)) }
         ensures session { self.new.session ≡ self.old.session }
         ensures runs { OnOk result (self.new.runs ≡ counted_by (length (areas_without_tree
-            (is_kept self.old.kept) router (attached_areas (state self.old.session) router))) self.old.runs) }
+            (is_kept self.old.kept) router (attached_areas (state self.old.session) router)))
+            self.old.runs) }
         ensures no_router { result ≡ Err TableFault.NoRouter → self.new.runs ≡ self.old.runs }
         ensures at_most { CountsAtMost (length (areas_without_tree (is_kept self.old.kept) router
             (attached_areas (state self.old.session) router))) self.old.runs self.new.runs }

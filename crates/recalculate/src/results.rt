@@ -67,7 +67,8 @@ fn result_in<A: Allocator + Copy>(
     meter: &mut Meter,
 ) -> Result<AreaResult<A>, AllocError>
     requires { is_attached (lists_of database.now) area router ≡ true }
-    ensures result { IfOk result (λ given. given ≡ area_result area (lsas_of (Area area) (lists_of database.now)) router) }
+    ensures result { IfOk result
+        (λ given. given ≡ area_result area (lsas_of (Area area) (lists_of database.now)) router) }
     ensures meter { OnOk result (meter.new ≡ counted meter.old) }
     ensures at_most { CountsAtMost 1 meter.old meter.new }
 {
@@ -85,7 +86,9 @@ pub(crate) fn results_of<A: Allocator + Copy>(
     router: RouterId,
     meter: &mut Meter,
 ) -> Result<Vec<AreaResult<A>, A>, AllocError>
-    ensures results { IfOk result (λ results. results.items ≡ results_in (lists_of database.now) router (attached_areas (lists_of database.now) router)) }
+    ensures results { IfOk result
+        (λ results. results.items ≡ results_in (lists_of database.now) router
+        (attached_areas (lists_of database.now) router)) }
     ensures memory { OnErr result (attached_areas (lists_of database.now) router ≢ []) }
     ensures meter { IfOk result (λ results. meter.new ≡ counted_by (length results.items) meter.old) }
     ensures at_most { CountsAtMost (length (attached_areas (lists_of database.now) router))

@@ -1,8 +1,8 @@
 //! For tests: link state databases, octet by octet, and readers and writers that fail when told to.
 //!
-//! A plain program makes LSAs from their fields, with good checksums, and dumps from LSAs. It shares
-//! nothing with the crates that are tested with it. No contract says what it makes: each test
-//! loads it, and looks at what comes of it.
+//! A plain program makes LSAs from their fields, with good checksums, and dumps from LSAs. It
+//! shares nothing with the crates that are tested with it. No contract says what it makes: each
+//! test loads it, and looks at what comes of it.
 #![tactic(auto)]
 
 mod doubles;

@@ -36,7 +36,8 @@ impl LsaList {
         self.push(&octets)
     }
 
-    /// Adds a router-LSA of some age and with these flags, of at most 5,459 links (RFC 2328, A.4.2).
+    /// Adds a router-LSA of some age and with these flags, of at most 5,459 links (RFC 2328,
+    /// A.4.2).
     pub fn router_of(
         &mut self,
         age: u16,
@@ -114,8 +115,8 @@ impl LsaList {
     }
 }
 
-/// The dump of areas that are not stub areas, in rising order of their IDs, and of LSAs of AS scope.
-/// An error is want of memory.
+/// The dump of areas that are not stub areas, in rising order of their IDs, and of LSAs of AS
+/// scope. An error is want of memory.
 pub fn dump_of(
     alloc: Global,
     areas: &[(u32, LsaList)],

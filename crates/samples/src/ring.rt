@@ -1,4 +1,5 @@
-//! A ring of 40 routers with ten networks of four neighbouring routers each: its names, and its networks.
+//! A ring of 40 routers with ten networks of four neighbouring routers each: its names, and its
+//! networks.
 
 use crate::list::LsaList;
 use std::alloc::AllocError;

@@ -72,7 +72,9 @@ fn settle_one<A: Allocator + Copy>(
     requires sized { length distances.old ≡ length graph.now.vertices }
     requires within { next.index < length graph.now.vertices }
     requires small { next.distance < 2 ^ 31 }
-    ensures { OnOk result (SettlesOne graph.now next distances.old order.old.items queue.old distances.new order.new.items queue.new) }
+    ensures { OnOk result
+        (SettlesOne graph.now next distances.old order.old.items queue.old
+        distances.new order.new.items queue.new) }
 {
     let index = usize::from(next.index);
     distances.set(index, next.distance);
@@ -91,7 +93,9 @@ fn settle_new<A: Allocator + Copy>(
     requires sized { length distances.old ≡ length graph.now.vertices }
     requires within { next.index < length graph.now.vertices }
     requires small { next.distance < 2 ^ 31 }
-    ensures { OnOk result (SettlesNew graph.now next distances.old order.old.items queue.old distances.new order.new.items queue.new) }
+    ensures { OnOk result
+        (SettlesNew graph.now next distances.old order.old.items queue.old
+        distances.new order.new.items queue.new) }
 {
     if distances.get(usize::from(next.index)).is_none() {
         settle_one(graph, next, distances, order, queue)?;

@@ -10,8 +10,8 @@ use std::collections::BinaryHeap;
 use std::marker::Model;
 
 /// A vertex, at the cost of some path to it. Its order is the order in which vertices are settled:
-/// less distance first, at equal distance a network before a router, then the lower number. It takes
-/// eight octets.
+/// less distance first, at equal distance a network before a router, then the lower number. It
+/// takes eight octets.
 #[derive(Clone, Copy, Debug, PartialEq, Eq, PartialOrd, Ord)]
 pub(crate) struct Candidate {
     pub distance: u32,

@@ -34,7 +34,8 @@ impl<A: Allocator> Model for Tree<A> {
 
     ghost view = { λ t. record { root = t.root; distances = t.distances; order = t.order.items } };
 
-    ghost invariant = { λ t. AreInRange (record { root = t.root; distances = t.distances; order = t.order.items }) };
+    ghost invariant = { λ t. AreInRange
+        (record { root = t.root; distances = t.distances; order = t.order.items }) };
 }
 
 impl<A: Allocator + Copy> Tree<A> {

@@ -1,5 +1,5 @@
-//! Readers and writers that remember whether they have failed, and whole texts read and written over
-//! them.
+//! Readers and writers that remember whether they have failed, and whole texts read and written
+//! over them.
 //!
 //! A reader or a writer may tell its octets, as std's in-memory ones do; the clauses then say which
 //! octets a call moved. Of one that tells nothing, a file, they say only how it failed.

@@ -29,7 +29,8 @@ fn all_nets<A: Allocator + Copy>(
     before: &Routes<A>,
     now: &Routes<A>,
 ) -> Result<Vec<Prefix, A>, AllocError>
-    ensures { IfOk result (λ found. found.items ≡ rising prefix_cmp (nets (before.now ++ now.now))) }
+    ensures { IfOk result
+        (λ found. found.items ≡ rising prefix_cmp (nets (before.now ++ now.now))) }
 {
     let mut nets = nets_of(alloc, before)?;
     nets.append(&mut nets_of(alloc, now)?)?;
@@ -66,7 +67,8 @@ fn changed<A: Allocator + Copy>(
     before: &Route<A>,
     now: &Route<A>,
 ) -> Result<Option<String<A>>, AllocError>
-    ensures { IfOk result (λ line. option_map string_bytes line ≡ change (Some before.now) (Some now.now)) }
+    ensures { IfOk result
+        (λ line. option_map string_bytes line ≡ change (Some before.now) (Some now.now)) }
 {
     if line_of(alloc, before)? == line_of(alloc, now)? {
         return Ok(None);
@@ -83,7 +85,9 @@ fn change<A: Allocator + Copy>(
     before: Option<&Route<A>>,
     now: Option<&Route<A>>,
 ) -> Result<Option<String<A>>, AllocError>
-    ensures { IfOk result (λ line. option_map string_bytes line ≡ change (option_copied before.entry) (option_copied now.entry)) }
+    ensures { IfOk result
+        (λ line. option_map string_bytes line ≡ change (option_copied before.entry)
+        (option_copied now.entry)) }
 {
     match (before, now) {
         (None, None) => Ok(None),

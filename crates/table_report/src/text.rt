@@ -7,8 +7,8 @@ use crate::line::push_line;
 use recalculate::Table;
 use std::alloc::{AllocError, Allocator};
 
-/// The text of a routing table: `table 1.1.1.1 2`, and a line for each route, in order of prefix, as
-/// `10.2.0.0/16 intra 15 0 0.0.0.0 link:10.0.0.1`. A line has the prefix, the type of the paths,
+/// The text of a routing table: `table 1.1.1.1 2`, and a line for each route, in order of prefix,
+/// as `10.2.0.0/16 intra 15 0 0.0.0.0 link:10.0.0.1`. A line has the prefix, the type of the paths,
 /// their cost, their type 2 metric, the lowest of their areas, which is `-` for an external route,
 /// and the next hops, joined by commas.
 ///

@@ -130,8 +130,8 @@ fn lines_that_are_no_commands(rt: HostRuntime) -> Result<(), Fail> {
     Ok(())
 }
 
-/// Ten thousand edits, one more, one that would be refused in any case, and an undo of all that are done. Each line
-/// begins with `branch`.
+/// Ten thousand edits, one more, one that would be refused in any case, and an undo of all that are
+/// done. Each line begins with `branch`.
 fn full_history(alloc: Global, branch: &str) -> Result<String, Fail> {
     let mut script = String::new(alloc);
     for _ in 0..10_001 {

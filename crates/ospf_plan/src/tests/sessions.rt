@@ -274,7 +274,8 @@ fn in_two_branches(alloc: Global, script: &str) -> Result<String, Fail> {
     Ok(both)
 }
 
-/// Whether a run over so many growths ends for want of memory, with a prefix of these replies and no dump.
+/// Whether a run over so many growths ends for want of memory, with a prefix of these replies and
+/// no dump.
 fn ends_early(
     alloc: Global,
     n: u64,

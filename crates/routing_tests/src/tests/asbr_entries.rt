@@ -23,8 +23,8 @@ fn with_summaries(alloc: Global, summaries: &str) -> Result<String, AllocError> 
     )
 }
 
-/// Asserts the entries that come of summary-LSAs of the backbone, behind those of the areas, and that
-/// there are no inter-area routes.
+/// Asserts the entries that come of summary-LSAs of the backbone, behind those of the areas, and
+/// that there are no inter-area routes.
 fn expect_entries(
     rt: &(impl AllocGlobal + Abort),
     summaries: &str,

@@ -53,8 +53,8 @@ fn ways_text(alloc: Global, ways: &[(u8, Way)]) -> Result<String, Fail> {
     Ok(text)
 }
 
-/// The best ways of candidates: each has a key, the cost of an inter-area path, perhaps an area, and
-/// hops.
+/// The best ways of candidates: each has a key, the cost of an inter-area path, perhaps an area,
+/// and hops.
 fn best_of(
     alloc: Global,
     candidates: &[(u8, u64, Option<AreaId>, &[Hop])],

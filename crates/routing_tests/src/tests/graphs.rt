@@ -58,8 +58,8 @@ fn keeps_equal_links_once(rt: HostRuntime) -> Result<(), Fail> {
     expect_graph(&rt, network, expected)
 }
 
-/// A network whose LSA, of some age, lists three routers, one of them twice. Each has a link to it, and
-/// two have links to each other.
+/// A network whose LSA, of some age, lists three routers, one of them twice. Each has a link to it,
+/// and two have links to each other.
 fn network_of_age(alloc: Global, age: u16) -> Result<String, AllocError> {
     format!(in alloc;
         "area 0.0.0.0\n\
@@ -122,8 +122,8 @@ fn tells_networks(rt: HostRuntime) -> Result<(), Fail> {
     Ok(())
 }
 
-/// Two network-LSAs of 10.5.0.3, of which the one by 4.4.4.4 has some age. Each lists 1.1.1.1 and its
-/// own originator, and all three routers have links to the network.
+/// Two network-LSAs of 10.5.0.3, of which the one by 4.4.4.4 has some age. Each lists 1.1.1.1 and
+/// its own originator, and all three routers have links to the network.
 fn rivals(alloc: Global, age: u16) -> Result<String, AllocError> {
     format!(in alloc;
         "area 0.0.0.0\n\

@@ -1,5 +1,5 @@
-//! The plain program for hops: each hop is found by the first two edges of a path, and given to each
-//! vertex that paths of least cost lead to from there. No list is handed along.
+//! The plain program for hops: each hop is found by the first two edges of a path, and given to
+//! each vertex that paths of least cost lead to from there. No list is handed along.
 
 ghost use Rattle.std.specs.Prelude.{◌<◌, length};
 

@@ -22,8 +22,9 @@ fn interface(place: u32, number: u32) -> u32 {
 }
 
 /// A router's links to both neighbours, to its network unless it is the last of the four, at each
-/// tenth place two more to the next, and at each eighth place one to a router that has no link back.
-/// All cost as much as the way over the network, but back from each fifth place, which is dearer.
+/// tenth place two more to the next, and at each eighth place one to a router that has no link
+/// back. All cost as much as the way over the network, but back from each fifth place, which is
+/// dearer.
 fn links(alloc: Global, place: u32) -> Result<Vec<RouterLink>, Fail>
     requires { place < 40 }
 {
@@ -69,8 +70,8 @@ fn count_of_both(graph: &Graph, hops: &Hops, plain: &[Vec<Hop>]) -> Option<usize
     Some(count)
 }
 
-/// How many hops there are of all vertices from the router of a place, if both programs find the same
-/// ones of each.
+/// How many hops there are of all vertices from the router of a place, if both programs find the
+/// same ones of each.
 fn count_from(alloc: Global, graph: &Graph, place: u32) -> Result<Option<usize>, Fail> {
     let root = RouterId(ring_router(place));
     let number = graph.index_of(Vertex::Router(root)).ok_or("a router")?;
