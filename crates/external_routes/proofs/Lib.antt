@@ -1,4 +1,4 @@
-pub mod OutsideStubs
+pub mod AttachedAreas
 pub mod First
 pub mod Orders
 pub mod Marks

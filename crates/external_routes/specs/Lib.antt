@@ -1,4 +1,5 @@
 pub mod Flooding
 pub mod Choose
 pub mod External
+pub mod Summaries
 pub mod steps

@@ -1,4 +1,5 @@
-//! The external routes of a router (RFC 2328, 16.4 and 16.4.1).
+//! The external routes of a router (RFC 2328, 16.4 and 16.4.1), and the metrics that area border
+//! routers announce (12.4.3).
 //!
 //! [`externals`] is a function of the database: it examines the AS-external-LSAs, and leads each
 //! path over a way inside the AS, which the crate `area_routes` has found.
@@ -13,11 +14,17 @@ mod choose;
 mod forward;
 mod inside;
 
+// The metrics of summary-LSAs.
+mod coverage;
+mod due_metric;
+
 // The paths of AS-external-LSAs, and the routes that they make.
 mod candidates;
 mod routes;
 
 pub use choose::preferred;
+pub use coverage::covered;
+pub use due_metric::due;
 pub use routes::externals;
 
 #[cfg(test)]

@@ -1,0 +1,84 @@
+//! The summary-LSAs whose metrics follow from the database.
+
+ghost use Rattle.std.specs.Prelude.{◌≡◌};
+ghost use Rattle.lsdb.specs.Places.{lists_of};
+ghost use Rattle.external_routes.specs.Summaries.{borders, is_attached_elsewhere, is_covered};
+ghost use Rattle.external_routes.specs.Summaries.{is_default, is_stub_area, is_stub_default};
+
+use area_routes::is_attached;
+use lsa_codec::{AreaId, Lsa, Prefix, RouterId};
+use lsdb::Database;
+use std::alloc::Allocator;
+
+/// Whether an area of the database is a stub area (RFC 2328, 3.6).
+pub(crate) fn is_stub_area<A: Allocator + Copy>(database: &Database<A>, area: AreaId) -> bool
+    ensures { result ≡ is_stub_area (lists_of database.now) area }
+{
+    for i in 0..database.area_count() {
+        let (other, is_stub) = database.area(i);
+        if is_stub && other == area {
+            return true;
+        }
+    }
+    false
+}
+
+/// Whether a router is attached to an area other than this one.
+fn is_attached_elsewhere<A: Allocator + Copy>(
+    database: &Database<A>,
+    area: AreaId,
+    router: RouterId,
+) -> bool
+    ensures { result ≡ is_attached_elsewhere (lists_of database.now) area router }
+{
+    for i in 0..database.area_count() {
+        let (other, _is_stub) = database.area(i);
+        if other != area && is_attached(database, other, router) {
+            return true;
+        }
+    }
+    false
+}
+
+/// Whether a router belongs to this area and to another one, as an area border router does.
+fn borders<A: Allocator + Copy>(database: &Database<A>, area: AreaId, router: RouterId) -> bool
+    ensures { result ≡ borders (lists_of database.now) area router }
+{
+    is_attached(database, area, router) && is_attached_elsewhere(database, area, router)
+}
+
+/// Whether this is the prefix of the default destination.
+fn is_default(net: Prefix) -> bool
+    ensures { result ≡ is_default net }
+{
+    net.len() == 0
+}
+
+/// Whether an LSA of an area tells of the default destination in a stub area.
+fn is_stub_default<A: Allocator + Copy>(
+    database: &Database<A>,
+    area: AreaId,
+    net: Option<Prefix>,
+) -> bool
+    ensures { result ≡ is_stub_default (lists_of database.now) area net }
+{
+    match net {
+        Some(net) => is_default(net) && is_stub_area(database, area),
+        None => false,
+    }
+}
+
+/// Whether an LSA of an area is a live summary-LSA whose metric follows from the database, as that
+/// of an area border router does (RFC 2328, 12.4.3): its originator is attached to the area and to
+/// another one, and it does not tell of the default destination in a stub area, whose metric is
+/// configured. It takes no memory.
+pub fn covered<A: Allocator + Copy>(database: &Database<A>, area: AreaId, lsa: &Lsa<A>) -> bool
+    ensures { result ≡ is_covered (lists_of database.now) area lsa.now }
+{
+    let Some(summary) = lsa.summary() else {
+        return false;
+    };
+    !lsa.at_max_age()
+        && borders(database, area, lsa.key().adv)
+        && !is_stub_default(database, area, summary.net())
+}
