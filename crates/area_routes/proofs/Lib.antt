@@ -21,3 +21,5 @@ pub mod OverAllPathsLemmas
 pub mod VertexLemmas
 pub mod Pairs
 pub mod EntriesOnce
+pub mod SameGraphLemmas
+pub mod WayLemmas
