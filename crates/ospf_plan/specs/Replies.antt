@@ -10,12 +10,12 @@ use Rattle.edit_history.specs.declared.fault.UndoFault.TheVariants.{NothingToUnd
 use Rattle.edit_history.specs.declared.fault.RedoFault.TheVariants.{NothingToRedo}
 use Rattle.edit_history.specs.Fault.{code_of as edit_code, name_of as edit_name}
 use Rattle.edit_history.specs.Session.{Session, state, edited, moved_back, moved_on}
-use Rattle.recalculate.specs.declared.table.TableFault.TheVariants.{NoRouter}
+use Rattle.routing_table.specs.declared.table.TableFault.TheVariants.{NoRouter}
 use Rattle.recalculate.specs.declared.counts.Info.{Info}
-use Rattle.recalculate.specs.Fault.{code_of as table_code, name_of as table_name}
-use Rattle.recalculate.specs.Tables.{TableValue, table_in}
+use Rattle.routing_table.specs.Fault.{code_of as table_code, name_of as table_name}
+use Rattle.routing_table.specs.Tables.{TableValue, table_in}
 use Rattle.recalculate.specs.Counts.{info_of}
-use Rattle.recalculate.specs.Routers.{attached_routers}
+use Rattle.routing_table.specs.Routers.{attached_routers}
 use Rattle.table_report.specs.Texts.{table_text}
 use Rattle.table_report.specs.Comparing.{compare_text}
 use Rattle.ospf_plan.specs.declared.reply.Reply.{Reply}

@@ -2,8 +2,8 @@
 
 ghost use Rattle.std.specs.Prelude.{◌≡◌, ◌++◌, IfOk, OnOk, OnErr, IsOk, false, filter_map, option_to_list};
 ghost use Rattle.edit_history.specs.Session.{state, edited};
-ghost use Rattle.recalculate.specs.Routers.{attached_routers};
-ghost use Rattle.recalculate.specs.Tables.{table_in};
+ghost use Rattle.routing_table.specs.Routers.{attached_routers};
+ghost use Rattle.routing_table.specs.Tables.{table_in};
 ghost use Rattle.ospf_plan.specs.Replies.{reply_to, after, takes_memory, said_by, compare_reply, edit_reply, or_empty, table_reply, tables, unless_refused};
 
 use crate::reply::{Refusal, Reply};

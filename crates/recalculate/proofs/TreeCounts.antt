@@ -1,6 +1,6 @@
 -- The trees that the areas of a router lack, area after area.
 use Rattle.std.proofs.Common.{◌≡◌, ◌≢◌, ℕ, ◌+◌, ◌<◌, ◌≤◌, Bool, true, false, not, cond, List, [], ◌∷◌, ◌++◌, take, drop, length}
-use Rattle.std.proofs.Common.{Option, Some, None, refl, sym, ap, ◌∙◌, arith, true≢false}
+use Rattle.std.proofs.Common.{Option, Some, None, refl, sym, ap, ◌∙◌, arith}
 use Rattle.std.specs.Prelude.{All}
 use Rattle.std.specs.List.{AllPairs, cons_option, slice_get, slice_index_or}
 use Rattle.std.proofs.lemmas.List.{append-nil, length-append, take-append-drop, take_all}
@@ -11,12 +11,11 @@ use Rattle.lsa_codec.specs.declared.address.AreaId.{AreaId}
 use Rattle.lsa_codec.specs.declared.address.RouterId.{RouterId}
 use Rattle.lsdb.specs.Lists.{AreaHead, IsBefore, IsDatabase, Lists, areas_of, heads_of}
 use Rattle.lsdb.proofs.ListLemmas.{pairs_head, pairs_tail}
-use Rattle.spf.specs.Distances.{counted}
 use Rattle.area_routes.specs.Attached.{attached_areas}
-use Rattle.recalculate.specs.AreaTrees.{missing}
-use Rattle.recalculate.specs.Counting.{counted_by, CountsAtMost}
+use Rattle.routing_table.specs.AreaTrees.{missing}
+use Rattle.routing_table.specs.Counting.{counted_by, CountsAtMost}
 use Rattle.recalculate.specs.KeptTrees.{TreeSet, IsWithin, areas_without_tree}
-use Rattle.recalculate.proofs.Counted.{among_more, attached_among, counted_twice, joins}
+use Rattle.routing_table.proofs.TableLemmas.{among_more, attached_among, counted_twice, joins}
 
 abbrev pub id_of : AreaHead → AreaId
 id_of area = record { 0 = area.id }
@@ -24,11 +23,6 @@ id_of area = record { 0 = area.id }
 -- how many trees of a router some areas lack
 abbrev pub lacking : TreeSet → RouterId → List AreaHead → ℕ
 lacking trees router areas = length (areas_without_tree trees router areas)
-
--- a tree that was not there was calculated
-pub one_missing : (is_there : Bool) (old new : ℕ) → is_there ≡ false → new ≡ counted old → CountsAtMost (missing is_there) old new
-one_missing true old new absent one = absurd (true≢false absent)
-one_missing false old new absent one = record { trees = 1; few = omega arith; counts = one }
 
 lacks_one : (trees : TreeSet) (router : RouterId) (area : AreaHead) → lacking trees router (area ∷ []) ≡ missing (trees (id_of area) router)
 lacks_one trees router area = by (trees (id_of area) router)

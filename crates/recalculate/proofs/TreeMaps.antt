@@ -1,15 +1,12 @@
--- Maps of trees after one entry was put into them.
-use Rattle.std.proofs.Common.{◌≡◌, ◌≢◌, Bool, true, false, cond, List, [], Option, Some, None, Result, Ok, Err, IfOk, refl, sym, ap, ◌∙◌, subst}
-use Rattle.std.proofs.Common.{true≢false}
+-- Maps of the trees of all areas after one entry was put into them.
+use Rattle.std.proofs.Common.{◌≡◌, ◌≢◌, Bool, true, false, List, [], Option, Some, None, refl, sym, ap, ◌∙◌, subst, true≢false}
 use Rattle.std.specs.Prelude.{is_some, IsSome, IsSomeAnd, IfSome}
-use Rattle.std.specs.Cmp.{Equal-is, unsigned_ties}
+use Rattle.std.specs.Cmp.{unsigned_ties}
 use Rattle.std.specs.List.{Contains}
 use Rattle.std.specs.Map.{lookup}
 use Rattle.std.specs.Option.{option_map, option_map_or}
 use Rattle.std.specs.Ordering.{eq_by_cmp}
-use Rattle.std.specs.declared.cmp.Ordering.{Ordering}
 use Rattle.std.proofs.lemmas.Bool.{eq-eqb}
-use Rattle.std.proofs.lemmas.Map.Lookups.{CmpEqualImpliesEq}
 use Rattle.lsa_codec.specs.declared.address.AreaId.{AreaId}
 use Rattle.lsa_codec.specs.declared.address.RouterId.{RouterId}
 use Rattle.lsdb.specs.declared.section.Section.TheVariants.{Area}
@@ -19,84 +16,16 @@ use Rattle.area_graph.specs.declared.vertex.Vertex.TheVariants.{Router}
 use Rattle.area_graph.specs.Graphs.{IsGraphOf}
 use Rattle.area_graph.specs.Topology.{Topology}
 use Rattle.lsa_codec.specs.Order.{area_cmp, router_cmp}
-use Rattle.lsa_codec.proofs.OrderLemmas.{area_exact, router_exact}
+use Rattle.lsa_codec.proofs.OrderLemmas.{area_exact}
 use Rattle.area_routes.proofs.VertexLemmas.{attached_vertex}
 use Rattle.area_routes.specs.Attached.{is_attached}
-use Rattle.recalculate.specs.AreaTrees.{AreaTreesValue, AreasTrees, AreOfDatabase, AreTreesIn, IsTreeIn, RouterTreeValue, has_tree, trees_at, trees_in}
+use Rattle.routing_table.specs.AreaTrees.{AreaTreesValue, has_tree}
+use Rattle.routing_table.proofs.MapLemmas.{Puts, if_found, put_all, put_here, put_other, put_passes, put_tells}
+use Rattle.recalculate.specs.AreasTrees.{AreasTrees, AreOfDatabase, trees_at, trees_in}
 use Rattle.recalculate.specs.KeptTrees.{IsWithin}
-
--- ---- any map
-
--- the second list of entries is the first with a value put at a key
-abbrev pub Puts : {K V : Type 0} → (K → K → Ordering) → List (K × V) → List (K × V) → K → V → Type 0
-Puts {K} cmp old new k v = (q : K) → lookup (eq_by_cmp cmp q) new ≡ cond (eq_by_cmp cmp k q) (Some v) (lookup (eq_by_cmp cmp q) old)
-
-module _ {K V : Type 0} (cmp : K → K → Ordering) (exact : CmpEqualImpliesEq cmp) (old new : List (K × V)) (k : K) (v : V) (puts : Puts cmp old new k v) where
-  same_key : (q : K) → eq_by_cmp cmp k q ≡ true → k ≡ q
-  same_key q e = exact k q ((Equal-is (cmp k q)).0 e)
-
-  -- what holds of all entries and of the new one
-  pub put_all : (P : K → V → Type 0) → P k v → ((q : K) → IfSome (lookup (eq_by_cmp cmp q) old) (P q)) → (q : K) → IfSome (lookup (eq_by_cmp cmp q) new) (P q)
-  put_all P new_one all q = by (eq_by_cmp cmp k q) refl (puts q)
-    where
-      by : (b : Bool) → eq_by_cmp cmp k q ≡ b → lookup (eq_by_cmp cmp q) new ≡ cond b (Some v) (lookup (eq_by_cmp cmp q) old)
-          → IfSome (lookup (eq_by_cmp cmp q) new) (P q)
-      by true e h = subst (λ o. IfSome o (P q)) (sym h) (subst (λ r. P r v) (same_key q e) new_one)
-      by false e h = subst (λ o. IfSome o (P q)) (sym h) (all q)
-
-  pub put_here : eq_by_cmp cmp k k ≡ true → lookup (eq_by_cmp cmp k) new ≡ Some v
-  put_here self = puts k ∙ ap (λ b. cond b (Some v) (lookup (eq_by_cmp cmp k) old)) self
-
-  pub put_other : (q : K) → q ≢ k → lookup (eq_by_cmp cmp q) new ≡ lookup (eq_by_cmp cmp q) old
-  put_other q apart = by (eq_by_cmp cmp k q) refl (puts q)
-    where
-      by : (b : Bool) → eq_by_cmp cmp k q ≡ b → lookup (eq_by_cmp cmp q) new ≡ cond b (Some v) (lookup (eq_by_cmp cmp q) old)
-          → lookup (eq_by_cmp cmp q) new ≡ lookup (eq_by_cmp cmp q) old
-      by true e h = absurd (apart (sym (same_key q e)))
-      by false e h = h
-
-  -- what a look-up tells stays, where the new entry tells the same as the one that was there
-  pub put_tells : {X : Type 0} (tell : Option V → X) → tell (Some v) ≡ tell (lookup (eq_by_cmp cmp k) old)
-      → (q : K) → tell (lookup (eq_by_cmp cmp q) new) ≡ tell (lookup (eq_by_cmp cmp q) old)
-  put_tells tell same q = by (eq_by_cmp cmp k q) refl (puts q)
-    where
-      by : (b : Bool) → eq_by_cmp cmp k q ≡ b → lookup (eq_by_cmp cmp q) new ≡ cond b (Some v) (lookup (eq_by_cmp cmp q) old)
-          → tell (lookup (eq_by_cmp cmp q) new) ≡ tell (lookup (eq_by_cmp cmp q) old)
-      by true e h = ap tell h ∙ same ∙ ap (λ r. tell (lookup (eq_by_cmp cmp r) old)) (same_key q e)
-      by false e h = ap tell h
-
-  -- a test that passed passes, where it passes at the new entry
-  pub put_passes : (test : Option V → Bool) → (test (lookup (eq_by_cmp cmp k) old) ≡ true → test (Some v) ≡ true) → (q : K)
-      → test (lookup (eq_by_cmp cmp q) old) ≡ true → test (lookup (eq_by_cmp cmp q) new) ≡ true
-  put_passes test passes q had = by (eq_by_cmp cmp k q) refl (puts q)
-    where
-      by : (b : Bool) → eq_by_cmp cmp k q ≡ b → lookup (eq_by_cmp cmp q) new ≡ cond b (Some v) (lookup (eq_by_cmp cmp q) old)
-          → test (lookup (eq_by_cmp cmp q) new) ≡ true
-      by true e h = ap test h ∙ passes (ap (λ r. test (lookup (eq_by_cmp cmp r) old)) (same_key q e) ∙ had)
-      by false e h = ap test h ∙ had
-
-router_self : (router : RouterId) → eq_by_cmp router_cmp router router ≡ true
-router_self router = sym (unsigned_ties router.0 router.0) ∙ eq-eqb router.0 router.0 refl
 
 area_self : (area : AreaId) → eq_by_cmp area_cmp area area ≡ true
 area_self area = sym (unsigned_ties area.0 area.0) ∙ eq-eqb area.0 area.0 refl
-
--- ---- the trees of an area
-
-abbrev Trees : Type 0
-Trees = List (RouterId × RouterTreeValue)
-
-module _ (old new : Trees) (router : RouterId) (t : RouterTreeValue) (puts : Puts router_cmp old new router t) where
-  pub trees_stay : (graph : Topology) → IsTreeIn graph router t → AreTreesIn graph old → AreTreesIn graph new
-  trees_stay graph is all = put_all router_cmp router_exact old new router t puts (IsTreeIn graph) is all
-
-  pub tree_here : is_some (lookup (eq_by_cmp router_cmp router) new) ≡ true
-  tree_here = ap is_some (put_here router_cmp router_exact old new router t puts (router_self router))
-
-  pub tree_keeps : (other : RouterId) → is_some (lookup (eq_by_cmp router_cmp other) old) ≡ true → is_some (lookup (eq_by_cmp router_cmp other) new) ≡ true
-  tree_keeps other had = put_passes router_cmp router_exact old new router t puts is_some (λ _. refl) other had
-
--- ---- the trees of all areas
 
 abbrev pub graph_at : Option AreaTreesValue → Option Topology
 graph_at o = option_map (λ trees. trees.graph) o
@@ -157,20 +86,6 @@ has_vertex db areas area router sound all attached there = by (trees_at areas ar
 
 -- ---- what a look-up found
 
-pub some_found : {X : Type 0} {o : Option X} {x : X} → o ≡ Some x → IsSome o
-some_found h = ap is_some h
-
-pub none_found : {X : Type 0} (o : Option X) → is_some o ≡ false → o ≡ None
-none_found None h = refl
-none_found (Some x) h = absurd (true≢false h)
-
-if_found : {X : Type 0} (P : X → Type 0) (o : Option X) (x : X) → o ≡ Some x → IfSome o P → P x
-if_found P o x is h = subst (λ p. IfSome p P) is h
-
-pub tree_found : (graph : Topology) (trees : Trees) (router : RouterId) (t : RouterTreeValue) → AreTreesIn graph trees
-    → lookup (eq_by_cmp router_cmp router) trees ≡ Some t → IsTreeIn graph router t
-tree_found graph trees router t all is = if_found (IsTreeIn graph router) (lookup (eq_by_cmp router_cmp router) trees) t is (all router)
-
 module _ (areas : AreasTrees) (area : AreaId) (kept : AreaTreesValue) (is : trees_at areas area ≡ Some kept) where
   pub has_found : (router : RouterId) → trees_in areas area router ≡ true → has_tree kept router ≡ true
   has_found router has = ap (has_at router) (sym is) ∙ has
@@ -182,9 +97,3 @@ graph_found db areas area kept all is = if_found (λ k. IsGraphOf (lsas_of (Area
 pub vertex_found : (areas : AreasTrees) (area : AreaId) (router : RouterId) (kept : AreaTreesValue) → trees_at areas area ≡ Some kept
     → IsSomeAnd (trees_at areas area) (λ trees. Contains trees.graph.vertices (Router router)) → Contains kept.graph.vertices (Router router)
 vertex_found areas area router kept is h = subst (λ o. IsSomeAnd o (λ trees. Contains trees.graph.vertices (Router router))) is h
-
--- what is answered for the root of a tree
-pub if_given : {X E R : Type 0} (result : R → X) (Of : R → Type 0) (r : Result X E)
-    → IfOk r (λ v. (root : R) → Of root → v ≡ result root) → (root : R) → Of root → IfOk r (λ v. v ≡ result root)
-if_given result Of (Ok v) h root of = h root of
-if_given result Of (Err e) h root of = tt

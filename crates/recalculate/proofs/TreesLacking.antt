@@ -13,12 +13,12 @@ use Rattle.area_graph.proofs.MemberLemmas.{In, In-filter, filter-In}
 use Rattle.area_routes.specs.Attached.{has_live_router_lsa, is_attached}
 use Rattle.edit_history.specs.Session.{state}
 use Rattle.recalculate.specs.Calls.{AreMade, Call, after_calls, areas_lacking, areas_of_router, areas_touched, head_touched}
-use Rattle.recalculate.specs.Counting.{CountsAtMost}
+use Rattle.routing_table.specs.Counting.{CountsAtMost}
 use Rattle.recalculate.specs.KeptTrees.{is_kept}
 use Rattle.recalculate.specs.Planning.{PlannerValue}
 use Rattle.recalculate.specs.Reached.{IsReached}
 use Rattle.recalculate.proofs.CallsSpare.{calls_spare}
-use Rattle.recalculate.proofs.SameGraph.{same_live}
+use Rattle.area_routes.proofs.SameGraphLemmas.{same_live}
 
 -- ---- lists
 

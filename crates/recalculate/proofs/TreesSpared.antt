@@ -15,9 +15,10 @@ use Rattle.area_graph.specs.Graphs.{IsGraphOf}
 use Rattle.lsa_codec.specs.Order.{area_cmp, router_cmp}
 use Rattle.lsa_codec.proofs.OrderLemmas.{area_exact}
 use Rattle.edit_history.specs.Effect.{graph_lsas}
-use Rattle.recalculate.specs.AreaTrees.{AreaTreesValue, AreasTrees, AreOfDatabase, RouterTreeValue, has_tree, routers_of, trees_at, trees_in}
+use Rattle.routing_table.specs.AreaTrees.{AreaTreesValue, RouterTreeValue, has_tree}
+use Rattle.recalculate.specs.AreasTrees.{AreasTrees, AreOfDatabase, routers_of, trees_at, trees_in}
 use Rattle.recalculate.specs.KeptTrees.{KeptRouters, is_kept, less_touched}
-use Rattle.recalculate.proofs.SameGraph.{same_graph}
+use Rattle.area_routes.proofs.SameGraphLemmas.{same_graph}
 
 -- ---- what is shown of the trees
 

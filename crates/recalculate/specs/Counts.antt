@@ -1,23 +1,16 @@
 -- What a session counts: areas, LSAs and what virtual links leave in them (RFC 2328, 12.2 and A.4.2), and edits.
 use Rattle.std.specs.Prelude.{ℕ, Bool, true, false, ◌&&◌, if◌then◌else◌, List, length}
-use Rattle.std.specs.List.{count_by, flat_map, sum_by}
+use Rattle.std.specs.List.{count_by, sum_by}
 use Rattle.lsa_codec.specs.declared.link.LinkKind.{LinkKind}
 use Rattle.lsa_codec.specs.declared.link.LinkKind.TheVariants.{PointToPoint, Transit, Stub, Virtual, Other}
 use Rattle.lsa_codec.specs.Links.{links_of}
-use Rattle.lsdb.specs.declared.section.Section.TheVariants.{Area, AsWide}
-use Rattle.lsdb.specs.Lists.{AreaHead, Lists, areas_of, lsas_of}
+use Rattle.lsdb.specs.declared.section.Section.TheVariants.{AsWide}
+use Rattle.lsdb.specs.Lists.{areas_of, lsas_of}
 use Rattle.area_graph.specs.Area.{is_router_lsa}
 use Rattle.area_routes.specs.Entries.{flags_of, has_bit}
 use Rattle.edit_history.specs.Session.{Session, state}
+use Rattle.routing_table.specs.AreaLsas.{area_lsas}
 use Rattle.recalculate.specs.declared.counts.Info.{Info}
-
--- the LSAs of an area
-abbrev pub lsas_in : Lists → AreaHead → List (List ℕ)
-lsas_in db area = lsas_of (Area (record { 0 = area.id })) db
-
--- the LSAs of all areas
-abbrev pub area_lsas : Lists → List (List ℕ)
-area_lsas db = flat_map (lsas_in db) (areas_of db)
 
 -- bit V, of an endpoint of virtual links
 abbrev pub bit_v : ℕ

@@ -1,11 +1,6 @@
-pub mod Preferring
-pub mod Tables
-pub mod Fault
-pub mod Counting
 pub mod Planning
 pub mod Counts
-pub mod Routers
 pub mod KeptTrees
-pub mod AreaTrees
+pub mod AreasTrees
 pub mod Reached
 pub mod Calls

@@ -4,7 +4,8 @@ ghost use Rattle.std.specs.Prelude.{◌≡◌, ◌≤◌, ◌*◌, length};
 ghost use Rattle.std.specs.List.{count_by, sum_by};
 ghost use Rattle.lsdb.specs.Lists.{areas_of};
 ghost use Rattle.lsdb.specs.Places.{lists_of};
-ghost use Rattle.recalculate.specs.Counts.{area_lsas, has_bit_v, info_of, is_virtual, virtual_links};
+ghost use Rattle.routing_table.specs.AreaLsas.{area_lsas};
+ghost use Rattle.recalculate.specs.Counts.{has_bit_v, info_of, is_virtual, virtual_links};
 
 use crate::planner::Planner;
 use lsa_codec::{Link, LinkKind, Lsa};

@@ -10,17 +10,17 @@ ghost use Rattle.area_graph.specs.declared.vertex.Vertex.TheVariants.{Router};
 ghost use Rattle.area_routes.specs.AreaResults.{area_result};
 ghost use Rattle.edit_history.specs.Session.{redo_touches, undo_touches};
 ghost use Rattle.area_routes.specs.Attached.{attached_areas, is_attached};
-ghost use Rattle.recalculate.specs.AreaTrees.{AreOfDatabase, missing, trees_at, trees_in};
-ghost use Rattle.recalculate.specs.Counting.{counted_by, CountsAtMost};
+ghost use Rattle.routing_table.specs.AreaTrees.{missing};
+ghost use Rattle.recalculate.specs.AreasTrees.{AreOfDatabase, trees_at, trees_in};
+ghost use Rattle.routing_table.specs.Counting.{counted_by, CountsAtMost};
 ghost use Rattle.recalculate.specs.KeptTrees.{areas_without_tree, IsWithin};
-ghost use Rattle.recalculate.specs.Tables.{results_in};
+ghost use Rattle.routing_table.specs.Tables.{results_in};
 
-use crate::area_trees::AreaTrees;
-use crate::results::graph_of;
 use crate::study::Study;
 use area_routes::{AreaResult, is_attached};
 use lsa_codec::{AreaId, RouterId};
 use lsdb::Database;
+use routing_table::{AreaTrees, graph_of};
 use spf::Meter;
 use std::alloc::{AllocError, Allocator};
 use std::collections::BTreeMap;
@@ -34,7 +34,7 @@ pub(crate) struct KeptTrees<A: Allocator> {
 }
 
 impl<A: Allocator> Model for KeptTrees<A> {
-    ghost use Rattle.recalculate.specs.AreaTrees.{AreasTrees};
+    ghost use Rattle.recalculate.specs.AreasTrees.{AreasTrees};
 
     ghost Value = { AreasTrees };
 

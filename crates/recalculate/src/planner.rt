@@ -2,11 +2,11 @@
 
 use crate::kept_trees::KeptTrees;
 use crate::study::Study;
-use crate::table::{Table, TableFault, table_from};
 use edit_history::{EditFault, RedoFault, UndoFault};
 use edit_script::Edit;
 use lsa_codec::RouterId;
 use lsdb::Database;
+use routing_table::{Table, TableFault, routers, table_from};
 use spf::Meter;
 use std::alloc::{AllocError, Allocator, Global};
 use std::marker::Model;
@@ -26,7 +26,7 @@ pub struct Planner<A: Allocator = Global> {
 
 impl<A: Allocator> Model for Planner<A> {
     ghost use Rattle.edit_history.specs.Session.{state};
-    ghost use Rattle.recalculate.specs.AreaTrees.{AreOfDatabase, routers_of};
+    ghost use Rattle.recalculate.specs.AreasTrees.{AreOfDatabase, routers_of};
     ghost use Rattle.recalculate.specs.Planning.{PlannerValue};
 
     ghost Value = { PlannerValue };
@@ -44,10 +44,11 @@ impl<A: Allocator + Copy> Planner<A> {
     ghost use Rattle.edit_history.specs.declared.fault.EditFault.TheVariants.{HistoryFull, OutOfMemory};
     ghost use Rattle.edit_history.specs.Effect.{edit_touches};
     ghost use Rattle.recalculate.specs.Calls.{CarriedOut, Stayed};
-    ghost use Rattle.recalculate.specs.Counting.{counted_by, CountsAtMost};
+    ghost use Rattle.routing_table.specs.Counting.{counted_by, CountsAtMost};
     ghost use Rattle.recalculate.specs.KeptTrees.{IsWithin, areas_without_tree, is_kept, less_touched};
     ghost use Rattle.recalculate.specs.Reached.{IsReached};
-    ghost use Rattle.recalculate.specs.Tables.{table_in, FaultMeans};
+    ghost use Rattle.routing_table.specs.Routers.{attached_routers};
+    ghost use Rattle.routing_table.specs.Tables.{table_in, FaultMeans};
     ghost use Rattle.edit_history.specs.Session.{edit as edit_request, undo as undo_request, redo as redo_request};
     ghost use Rattle.edit_history.specs.Session.{start, state, effects, most_edits, edited, moved_back, moved_on, redo_touches, undo_touches};
 
@@ -147,6 +148,16 @@ impl<A: Allocator + Copy> Planner<A> {
         self.study.redo(count as usize)?;
         self.trees.drop_done(&self.study, count as usize);
         Ok(())
+    }
+
+    /// The routers that are attached to areas of the session's database, as [`routers`] gives
+    /// them. An error is want of memory.
+    pub fn routers(&self) -> Result<Vec<RouterId, A>, AllocError>
+        ensures { IfOk result
+            (λ routers. routers.items ≡ attached_routers (state self.now.session)) }
+    {
+        let database = self.database();
+        routers(database.alloc(), database)
     }
 
     /// How many edits are done.

@@ -1,10 +1,10 @@
 //! A database under its edits.
 
-use crate::table::{Table, TableFault, table_of};
 use edit_history::{EditFault, History, RedoFault, UndoFault, apply};
 use edit_script::Edit;
 use lsa_codec::{AreaId, RouterId};
 use lsdb::Database;
+use routing_table::{Table, TableFault, table_of};
 use spf::Meter;
 use std::alloc::{AllocError, Allocator};
 use std::marker::Model;
@@ -38,9 +38,9 @@ impl<A: Allocator + Copy> Study<A> {
     ghost use Rattle.area_routes.specs.Attached.{attached_areas};
     ghost use Rattle.edit_history.specs.declared.fault.EditFault.TheVariants.{HistoryFull, OutOfMemory};
     ghost use Rattle.edit_history.specs.Session.{start, state, effects, most_edits, edited, moved_back, moved_on, redo_touches, undo_touches};
-    ghost use Rattle.recalculate.specs.Counting.{counted_by, CountsAtMost};
+    ghost use Rattle.routing_table.specs.Counting.{counted_by, CountsAtMost};
     ghost use Rattle.recalculate.specs.Reached.{IsReached};
-    ghost use Rattle.recalculate.specs.Tables.{table_in, FaultMeans};
+    ghost use Rattle.routing_table.specs.Tables.{table_in, FaultMeans};
 
     /// The study of a database, without edits. It takes no memory.
     #[tactic(auto, using(crate::proofs::Steps::start_links))]

@@ -28,7 +28,7 @@ use Rattle.area_routes.specs.Routes.{route_of, route_to}
 use Rattle.area_routes.specs.Values.{AreaResultValue, EntryValue, RouteValue, WayValue}
 use Rattle.area_routes.proofs.WayLemmas.{All-filter_map, ways_have}
 use Rattle.external_routes.specs.Choose.{is_asbr, is_asbr_intra, is_intra, preference}
-use Rattle.external_routes.specs.Summaries.{announced_cost, asbr_of_summary, cost_of_asbr, cost_of_net, is_announced_entry, is_announced_route, is_stub_area, metric_for}
+use Rattle.external_routes.specs.Summaries.{asbr_of_summary, cost_of_asbr, cost_of_net, is_announced_entry, is_announced_route, metric_for}
 use Rattle.routing_table.specs.Preferring.{preferring}
 use Rattle.routing_table.proofs.PreferenceLemmas.{route_all, route_preferring}
 use Rattle.summary_metrics.specs.Refreshed.{due_in, results_of}

@@ -1,5 +1,5 @@
 -- An LSA with another metric tells of the same as before.
-use Rattle.std.proofs.Common.{◌≡◌, ℕ, ◌<◌, ◌^◌, Bool, true, false, cond, List, Option, Some, None, refl, ap}
+use Rattle.std.proofs.Common.{◌≡◌, ℕ, ◌<◌, ◌^◌, Bool, true, false, cond, List, Some, None, refl, ap}
 use Rattle.std.specs.Prelude.{◌==◌, ◌&&◌, ◌||◌, not, nat_le, bit_and}
 use Rattle.std.specs.Option.{option_and_then, option_map_or, option_or}
 use Rattle.lsa_codec.specs.declared.address.AreaId.{AreaId}
@@ -14,8 +14,7 @@ use Rattle.lsa_codec.proofs.LsaLemmas.{metric_fields, metric_rewritten}
 use Rattle.lsdb.specs.Lists.{Lists}
 use Rattle.area_graph.specs.Area.{is_live}
 use Rattle.area_routes.specs.Inter.{is_summary, named_router, originator_of}
-use Rattle.area_routes.specs.Values.{EntryValue, RouteValue}
-use Rattle.external_routes.specs.Summaries.{borders, cost_of_asbr, cost_of_net, due, is_covered, is_stub_area, is_stub_default, metric_for}
+use Rattle.external_routes.specs.Summaries.{borders, cost_of_asbr, cost_of_net, is_covered, is_stub_area, is_stub_default, metric_for}
 use Rattle.summary_metrics.specs.Refreshed.{due_in, entries_inside, routes_inside}
 
 -- the two differ in their metrics and checksums at most

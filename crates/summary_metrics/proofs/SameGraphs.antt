@@ -1,5 +1,5 @@
 -- What two databases have in common whose areas have the same router-LSAs and network-LSAs.
-use Rattle.std.proofs.Common.{◌≡◌, ℕ, Bool, false, List, map, filter, refl, ap}
+use Rattle.std.proofs.Common.{◌≡◌, ℕ, false, List, map, filter, ap}
 use Rattle.std.specs.Prelude.{◌&&◌, not}
 use Rattle.std.specs.List.{list_any}
 use Rattle.std.specs.Option.{option_map_or}
@@ -8,15 +8,14 @@ use Rattle.lsa_codec.specs.declared.address.RouterId.{RouterId}
 use Rattle.lsa_codec.specs.Views.{net_of_summary}
 use Rattle.lsdb.specs.declared.section.Section.TheVariants.{Area}
 use Rattle.lsdb.specs.Lists.{AreaHead, Lists, areas_of, lsas_of}
-use Rattle.area_graph.specs.Area.{is_live, used}
+use Rattle.area_graph.specs.Area.{is_live}
 use Rattle.area_routes.specs.AreaResults.{area_result, result_of_reached}
 use Rattle.area_routes.specs.Attached.{attached_areas, is_attached}
 use Rattle.area_routes.specs.Inter.{is_summary, originator_of}
 use Rattle.area_routes.specs.Reached.{reached_from}
-use Rattle.area_routes.specs.Values.{AreaResultValue}
 use Rattle.area_routes.proofs.SameGraphLemmas.{is_graph_lsa, same_live, same_used}
 use Rattle.external_routes.specs.Summaries.{is_covered, is_default, is_head_of_area, is_stub_area}
-use Rattle.routing_table.specs.Tables.{result_in, results_in}
+use Rattle.routing_table.specs.Tables.{result_in}
 use Rattle.summary_metrics.specs.Refreshed.{id_of, results_of}
 
 -- the areas are the same, and in each the router-LSAs and network-LSAs

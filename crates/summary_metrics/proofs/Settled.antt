@@ -17,14 +17,14 @@ use Rattle.lsdb.specs.declared.section.Section.TheVariants.{Area}
 use Rattle.lsdb.specs.Lists.{AreaHead, IsDatabase, IsSection, Lists, SectionLsas, lsas_of}
 use Rattle.area_routes.specs.Inter.{inter_of, is_summary, named_router, originator_of}
 use Rattle.area_routes.specs.Intra.{intra_of}
-use Rattle.area_routes.specs.Values.{AreaResultValue, InterValue}
+use Rattle.area_routes.specs.Values.{AreaResultValue}
 use Rattle.area_graph.specs.Area.{is_live}
 use Rattle.external_routes.specs.Summaries.{borders, cost_of_asbr, cost_of_net, is_covered, is_stub_default, metric_for}
 use Rattle.routing_table.specs.Preferring.{preferring}
 use Rattle.summary_metrics.specs.Refreshed.{AreSettled, IsSettled, due_in, id_of, is_not_backbone, is_stale, refreshed, refreshed_areas}
 use Rattle.summary_metrics.specs.Refreshed.{refreshed_lsa, refreshed_lsas, refreshed_section, results_of}
 use Rattle.summary_metrics.proofs.IntoBackbone.{due_of_backbone}
-use Rattle.summary_metrics.proofs.Passes.{AreAccepted, areas_kept, graph_kept, lsa_accepted, lsa_metric, lsa_retold, others_kept, still_accepted}
+use Rattle.summary_metrics.proofs.Passes.{AreAccepted, areas_kept, graph_kept, lsa_metric, lsa_retold, others_kept, still_accepted}
 use Rattle.summary_metrics.proofs.Retold.{covered_retold, due_retold}
 use Rattle.summary_metrics.proofs.SameGraphs.{HaveSameGraphs, covered_alike, results_alike, stub_alike}
 use Rattle.summary_metrics.proofs.Several.{examines_backbone, inter_alike}

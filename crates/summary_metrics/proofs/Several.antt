@@ -1,16 +1,16 @@
 -- A router that is attached to several areas examines the summary-LSAs of the backbone alone.
-use Rattle.std.proofs.Common.{◌≡◌, ℕ, Bool, true, false, cond, List, [], ◌∷◌, ◌++◌, filter, map, Option, Some, None, refl, sym, ap, ◌∙◌, true≢false, ◌⊎◌, inl, inr, ⊎_elim}
-use Rattle.std.specs.Prelude.{◌==◌, ◌&&◌, ◌||◌, not}
+use Rattle.std.proofs.Common.{◌≡◌, ℕ, Bool, true, false, cond, List, [], ◌∷◌, ◌++◌, filter, Option, Some, None, refl, sym, ap, ◌∙◌, true≢false, ◌⊎◌, inl, inr, ⊎_elim}
+use Rattle.std.specs.Prelude.{◌||◌, not}
 use Rattle.std.specs.List.{list_any, find, cons_option}
 use Rattle.std.proofs.lemmas.Bool.{and_parts, eqb-true}
 use Rattle.lsa_codec.specs.Areas.{is_backbone}
 use Rattle.lsa_codec.specs.declared.address.AreaId.{AreaId}
 use Rattle.lsa_codec.specs.declared.address.RouterId.{RouterId}
 use Rattle.lsdb.specs.declared.section.Section.TheVariants.{Area}
-use Rattle.lsdb.specs.Lists.{AreaHead, Lists, SectionLsas, areas_of, is_section, lsas_of, lsas_or_none}
+use Rattle.lsdb.specs.Lists.{AreaHead, Lists, areas_of, is_section, lsas_of, lsas_or_none}
 use Rattle.area_routes.specs.Attached.{attached_areas, has_live_router_lsa, is_attached}
 use Rattle.area_routes.specs.Inter.{backbone, entries_by, entries_of_all, examined, inter_entries, inter_of, inter_routes, routes_by}
-use Rattle.area_routes.specs.Values.{AreaResultValue, InterValue, RouteValue}
+use Rattle.area_routes.specs.Values.{AreaResultValue, RouteValue}
 use Rattle.external_routes.specs.Summaries.{borders, is_attached_elsewhere, is_head_of_area}
 use Rattle.routing_table.specs.Tables.{results_in}
 use Rattle.summary_metrics.specs.Refreshed.{id_of, results_of}

@@ -7,7 +7,7 @@ use Rattle.lsa_codec.specs.declared.address.RouterId.{RouterId}
 use Rattle.lsa_codec.specs.Spelling.{address_text}
 use Rattle.next_hops.specs.declared.hop.Hop.{Hop}
 use Rattle.next_hops.specs.Hop.{hop_text}
-use Rattle.recalculate.specs.Tables.{TableValue}
+use Rattle.routing_table.specs.Tables.{TableValue}
 use Rattle.table_report.specs.Texts.{headed, hops_text, line_of, lines_text, table_text}
 use Rattle.table_report.specs.Comparing.{changes, compare_text}
 

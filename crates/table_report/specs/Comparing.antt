@@ -7,7 +7,7 @@ use Rattle.area_graph.specs.Rising.{rising}
 use Rattle.lsa_codec.specs.Order.{prefix_cmp}
 use Rattle.area_routes.specs.Routes.{nets, route_to}
 use Rattle.area_routes.specs.Values.{RouteValue}
-use Rattle.recalculate.specs.Tables.{TableValue}
+use Rattle.routing_table.specs.Tables.{TableValue}
 use Rattle.table_report.specs.Texts.{headed, line_of, rest_of}
 
 -- the line for a prefix, by its route in the earlier table and in the present one: `+` where only the present table has it, `-`

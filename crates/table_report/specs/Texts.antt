@@ -9,7 +9,7 @@ use Rattle.next_hops.specs.Hop.{hop_text}
 use Rattle.area_routes.specs.declared.rank.PathType.{PathType}
 use Rattle.area_routes.specs.declared.rank.PathType.TheVariants.{Intra, Inter, Ext1, Ext2}
 use Rattle.area_routes.specs.Values.{RouteValue}
-use Rattle.recalculate.specs.Tables.{TableValue}
+use Rattle.routing_table.specs.Tables.{TableValue}
 
 -- ---- a route
 

@@ -12,7 +12,7 @@ ghost use Rattle.table_report.specs.Texts.{line_of};
 use crate::line::{push_line, push_rest};
 use area_routes::{Route, Routes};
 use lsa_codec::{Prefix, RouterId};
-use recalculate::Table;
+use routing_table::Table;
 use std::alloc::{AllocError, Allocator};
 
 /// The prefixes of routes.

@@ -4,7 +4,7 @@ ghost use Rattle.std.specs.Prelude.{◌≡◌, IfOk};
 ghost use Rattle.table_report.specs.Texts.{table_text};
 
 use crate::line::push_line;
-use recalculate::Table;
+use routing_table::Table;
 use std::alloc::{AllocError, Allocator};
 
 /// The text of a routing table: `table 1.1.1.1 2`, and a line for each route, in order of prefix,

@@ -4,7 +4,7 @@ use super::dumps::table;
 use crate::{compare_text, table_text};
 use lsa_codec::RouterId;
 use rationed::Rationed;
-use recalculate::Table;
+use routing_table::Table;
 use samples::{LsaList, MASK_16, R1, R2, to_router, to_stub};
 use std::alloc::{AllocError, Allocator, Global};
 use std::test::*;

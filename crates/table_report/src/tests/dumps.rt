@@ -4,7 +4,7 @@ ghost use Rattle.std.specs.Prelude.{◌<◌, ◌^◌};
 
 use lsa_codec::{Addr, Lsa, Prefix, RouterId};
 use lsdb::Database;
-use recalculate::{Table, table_of};
+use routing_table::{Table, table_of};
 use samples::{Header, LsaList, dump_of};
 use spf::Meter;
 use std::alloc::{AllocError, Allocator, Global};

@@ -3,7 +3,7 @@
 use super::dumps::{BORDER, BOUNDARY, push_external, push_summary, table};
 use crate::table_text;
 use lsa_codec::RouterId;
-use recalculate::Table;
+use routing_table::Table;
 use samples::{LsaList, MASK_16, R1, R2, R3, R4, to_network, to_router, to_stub};
 use std::alloc::Global;
 use std::test::*;

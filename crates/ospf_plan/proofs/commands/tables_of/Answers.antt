@@ -1,7 +1,7 @@
 use Rattle.std.proofs.Common.{◌∙◌, ap, get_or}
 use Rattle.lsa_codec.specs.declared.address.RouterId.{RouterId}
 use Rattle.edit_history.specs.Session.{Session, state}
-use Rattle.recalculate.specs.Tables.{table_in}
+use Rattle.routing_table.specs.Tables.{table_in}
 use Rattle.ospf_plan.proofs.AllTables.{one_more, all_taken}
 use Rattle.ospf_plan.proofs.commands.tables_of.Goals as goal
 

@@ -1,7 +1,7 @@
 use Rattle.std.proofs.Common.{◌≡◌, take}
 use Rattle.std.specs.List.{filter_map}
 use Rattle.edit_history.specs.Session.{state}
-use Rattle.recalculate.specs.Tables.{table_in}
+use Rattle.routing_table.specs.Tables.{table_in}
 use Rattle.ospf_plan.proofs.commands.tables_of.Given as goal
 
 -- the tables are those of the routers so far, and the session is as it was

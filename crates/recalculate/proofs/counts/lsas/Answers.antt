@@ -3,7 +3,8 @@ use Rattle.std.proofs.lemmas.Iterator.Consumers.{YieldsList-from_first, count_fr
 use Rattle.std.proofs.lemmas.List.{length-append}
 use Rattle.lsdb.specs.Lists.{AreaHead}
 use Rattle.lsdb.specs.Places.{lists_of}
-use Rattle.recalculate.proofs.Totals.{areas_few, total_more}
+use Rattle.routing_table.proofs.AreaLsaLemmas.{total_more}
+use Rattle.recalculate.proofs.Totals.{areas_few}
 use Rattle.recalculate.proofs.counts.lsas.Goals as goal
 
 pub overflow_add-count : goal.overflow_add-count

@@ -1,7 +1,7 @@
 use Rattle.std.proofs.Common.{◌≡◌, ◌≤◌, ◌*◌, take, length}
 use Rattle.lsdb.specs.Lists.{areas_of}
 use Rattle.lsdb.specs.Places.{lists_of}
-use Rattle.recalculate.proofs.Totals.{lsas_among}
+use Rattle.routing_table.proofs.AreaLsaLemmas.{lsas_among}
 use Rattle.recalculate.proofs.counts.lsas.Given as goal
 
 -- the count of the areas so far

@@ -4,7 +4,8 @@ use Rattle.std.proofs.lemmas.List.Sums.{sum_by-append}
 use Rattle.lsdb.specs.Lists.{AreaHead}
 use Rattle.lsdb.specs.Places.{lists_of}
 use Rattle.recalculate.specs.Counts.{has_bit_v}
-use Rattle.recalculate.proofs.Totals.{areas_few, total_more}
+use Rattle.routing_table.proofs.AreaLsaLemmas.{total_more}
+use Rattle.recalculate.proofs.Totals.{areas_few}
 use Rattle.recalculate.proofs.counts.vbits.Goals as goal
 
 pub overflow_add-count : goal.overflow_add-count

@@ -3,7 +3,7 @@ use Rattle.std.specs.List.{count_by}
 use Rattle.lsdb.specs.Lists.{areas_of}
 use Rattle.lsdb.specs.Places.{lists_of}
 use Rattle.recalculate.specs.Counts.{has_bit_v}
-use Rattle.recalculate.proofs.Totals.{lsas_among}
+use Rattle.routing_table.proofs.AreaLsaLemmas.{lsas_among}
 use Rattle.recalculate.proofs.counts.vbits.Given as goal
 
 -- the count of the areas so far

@@ -3,7 +3,7 @@ use Rattle.std.specs.List.{sum_by}
 use Rattle.lsdb.specs.Lists.{areas_of}
 use Rattle.lsdb.specs.Places.{lists_of}
 use Rattle.recalculate.specs.Counts.{virtual_links}
-use Rattle.recalculate.proofs.Totals.{lsas_among}
+use Rattle.routing_table.proofs.AreaLsaLemmas.{lsas_among}
 use Rattle.recalculate.proofs.counts.vlinks.Given as goal
 
 -- the count of the areas so far

@@ -3,8 +3,10 @@ use Rattle.lsdb.specs.declared.section.Section.TheVariants.{Area}
 use Rattle.lsdb.specs.Lists.{lsas_of}
 use Rattle.lsdb.specs.Places.{lists_of}
 use Rattle.area_graph.specs.Graphs.{IsGraphOf}
-use Rattle.recalculate.specs.AreaTrees.{AreasTrees, AreaTreesValue, AreOfDatabase, trees_in}
-use Rattle.recalculate.proofs.TreeMaps.{graphs_stay, no_tree_more, none_found}
+use Rattle.routing_table.specs.AreaTrees.{AreaTreesValue}
+use Rattle.recalculate.specs.AreasTrees.{AreasTrees, AreOfDatabase, trees_in}
+use Rattle.routing_table.proofs.MapLemmas.{none_found}
+use Rattle.recalculate.proofs.TreeMaps.{graphs_stay, no_tree_more}
 use Rattle.recalculate.proofs.kept_trees.KeptTrees.add_graph.Goals as goal
 
 pub returns-in_err-insert-clause-graphs : goal.returns-in_err-insert-clause-graphs

@@ -1,7 +1,7 @@
 use Rattle.std.proofs.Common.{◌∙◌, filter, not, ap, rules}
 use Rattle.std.proofs.lemmas.Map.Made.{filter_same_pairs}
 use Rattle.edit_history.specs.Session.{redo_touches}
-use Rattle.recalculate.specs.AreaTrees.{AreasTrees}
+use Rattle.recalculate.specs.AreasTrees.{AreasTrees}
 use Rattle.recalculate.proofs.kept_trees.KeptTrees.drop_undone.Goals as goal
 
 pub returns : goal.returns

@@ -1,6 +1,7 @@
 use Rattle.std.proofs.Common.{◌∙◌, sym, ap}
-use Rattle.recalculate.specs.AreaTrees.{AreasTrees, trees_at, trees_in}
-use Rattle.recalculate.proofs.TreeMaps.{graph_at, other_areas, same_graphs, some_found, still_within, vertex_found}
+use Rattle.recalculate.specs.AreasTrees.{AreasTrees, trees_at, trees_in}
+use Rattle.routing_table.proofs.MapLemmas.{some_found}
+use Rattle.recalculate.proofs.TreeMaps.{graph_at, other_areas, same_graphs, still_within, vertex_found}
 use Rattle.recalculate.proofs.kept_trees.KeptTrees.grow_in.Goals as goal
 
 pub grow-requires : goal.grow-requires

@@ -1,6 +1,6 @@
 use Rattle.std.proofs.Common.{◌∙◌, sym, ap}
 use Rattle.lsdb.specs.Places.{lists_of}
-use Rattle.recalculate.specs.AreaTrees.{AreasTrees, trees_at}
+use Rattle.recalculate.specs.AreasTrees.{AreasTrees, trees_at}
 use Rattle.recalculate.proofs.TreeMaps.{graph_found, has_found}
 use Rattle.recalculate.proofs.kept_trees.KeptTrees.result_of.Goals as goal
 

@@ -1,9 +1,9 @@
 use Rattle.std.proofs.Common.{◌∙◌, ◌+◌, refl, sym, ap, subst, arith}
 use Rattle.lsdb.specs.Lists.{AreaHead}
 use Rattle.lsdb.specs.Places.{lists_of}
-use Rattle.recalculate.specs.AreaTrees.{AreasTrees, AreOfDatabase, trees_in}
-use Rattle.recalculate.proofs.Counted.{more_results, same_results, all_results}
-use Rattle.recalculate.proofs.Tabled.{attached_somewhere, on_err}
+use Rattle.recalculate.specs.AreasTrees.{AreasTrees, AreOfDatabase, trees_in}
+use Rattle.routing_table.proofs.TableLemmas.{more_results, same_results, all_results}
+use Rattle.routing_table.proofs.TableLemmas.{attached_somewhere, on_err}
 use Rattle.recalculate.proofs.TreeCounts.{IsGrown, all_counted, all_grown, at_most_one_more, counts_all, none_counted_more, none_grown}
 use Rattle.recalculate.proofs.TreeCounts.{none_more_grown, one_counted_more, one_grown, within_all}
 use Rattle.recalculate.proofs.kept_trees.KeptTrees.results_of.Goals as goal

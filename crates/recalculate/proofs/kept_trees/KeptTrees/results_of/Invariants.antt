@@ -1,10 +1,10 @@
 use Rattle.std.proofs.Common.{◌≡◌, take}
 use Rattle.lsdb.specs.Lists.{areas_of}
 use Rattle.lsdb.specs.Places.{lists_of}
-use Rattle.recalculate.specs.AreaTrees.{AreOfDatabase, trees_in}
-use Rattle.recalculate.specs.Counting.{counted_by}
-use Rattle.recalculate.specs.Tables.{results_in}
-use Rattle.recalculate.proofs.Counted.{attached_among}
+use Rattle.recalculate.specs.AreasTrees.{AreOfDatabase, trees_in}
+use Rattle.routing_table.specs.Counting.{counted_by}
+use Rattle.routing_table.specs.Tables.{results_in}
+use Rattle.routing_table.proofs.TableLemmas.{attached_among}
 use Rattle.recalculate.proofs.TreeCounts.{IsGrown, lacked}
 use Rattle.recalculate.proofs.kept_trees.KeptTrees.results_of.Given as goal
 

@@ -1,0 +1,11 @@
+pub mod Preferred
+pub mod Counted
+pub mod Tabled
+pub mod TableLemmas
+pub mod AreaLsaLemmas
+pub mod Gathered
+pub mod Listed
+pub mod TablePaths
+pub mod MapLemmas
+pub mod TreeMaps
+pub mod PreferenceLemmas

@@ -1,0 +1,24 @@
+use Rattle.std.proofs.Common.{◌∙◌, length, sym, true≢false}
+use Rattle.std.proofs.lemmas.Bool.{eqb-true, eq-eqb}
+use Rattle.std.proofs.lemmas.Result.{err_from_is_err_and}
+use Rattle.lsdb.specs.Places.{lists_of}
+use Rattle.routing_table.proofs.Tabled.{table_is, no_table, no_memory, some_results, empty_list, full_list}
+use Rattle.routing_table.proofs.table.table_from.Goals as goal
+
+pub returns-then-is_empty-clause-fault : goal.returns-then-is_empty-clause-fault
+returns-then-is_empty-clause-fault g c =
+    no_table (lists_of c.args.database.now) c.args.router c.args.results.now c.requires
+    (empty_list c.args.results.now (eqb-true (length c.args.results.now) 0 (sym c.is_empty.ensures ∙ c.if-is_empty.true)))
+
+pub returns-in_err-routes-clause-fault : goal.returns-in_err-routes-clause-fault
+returns-in_err-routes-clause-fault g c =
+    let gave = err_from_is_err_and c.from_residual.result c.from_residual.ensures.1 in
+    rw (gave.1, gave.2) (no_memory (lists_of c.args.database.now) c.args.router
+    (some_results (lists_of c.args.database.now) c.args.router c.args.results.now c.requires
+    (full_list c.args.results.now (λ none. true≢false (sym (eq-eqb (length c.args.results.now) 0 none) ∙ (sym c.is_empty.ensures ∙ c.if-is_empty.false))))))
+
+pub returns-clause-table : goal.returns-clause-table
+returns-clause-table g c =
+    table_is (lists_of c.args.database.now) c.args.router c.args.results.now c.in_ok-routes.routes c.requires
+    (full_list c.args.results.now (λ none. true≢false (sym (eq-eqb (length c.args.results.now) 0 none) ∙ (sym c.is_empty.ensures ∙ c.if-is_empty.false))))
+    c.in_ok-routes.ensures

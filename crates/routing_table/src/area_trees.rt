@@ -1,0 +1,107 @@
+//! The trees of one area.
+
+ghost use Rattle.std.specs.Prelude.{◌≡◌, true, [], Contains, IfOk, OnOk};
+ghost use Rattle.lsa_codec.specs.declared.address.RouterId.{RouterId as AnyRouter};
+ghost use Rattle.lsdb.specs.declared.section.Section.TheVariants.{Area};
+ghost use Rattle.lsdb.specs.Lists.{lsas_of};
+ghost use Rattle.lsdb.specs.Places.{lists_of};
+ghost use Rattle.area_graph.specs.declared.vertex.Vertex.TheVariants.{Router};
+ghost use Rattle.area_graph.specs.Graphs.{IsGraphOf};
+ghost use Rattle.area_routes.specs.AreaResults.{area_result};
+ghost use Rattle.routing_table.specs.AreaTrees.{has_tree, missing};
+ghost use Rattle.routing_table.specs.Counting.{counted_by, CountsAtMost};
+
+use crate::results::tree_of;
+use area_graph::Graph;
+use area_routes::AreaResult;
+use lsa_codec::{AreaId, RouterId};
+use lsdb::Database;
+use next_hops::Hops;
+use spf::{Meter, Tree};
+use std::alloc::{AllocError, Allocator};
+use std::collections::BTreeMap;
+use std::marker::Model;
+
+/// The shortest-path tree of a router, and the next hops of its vertices.
+#[derive(Drop)]
+struct RouterTree<A: Allocator> {
+    tree: Tree<A>,
+    hops: Hops<A>,
+}
+
+impl<A: Allocator> Model for RouterTree<A> {
+    ghost use Rattle.routing_table.specs.AreaTrees.{RouterTreeValue};
+
+    ghost Value = { RouterTreeValue };
+
+    ghost view = { λ t. record { tree = t.tree; hops = t.hops } };
+}
+
+/// The graph of an area, and the trees in it that were calculated, by their routers.
+#[derive(Drop)]
+pub struct AreaTrees<A: Allocator> {
+    graph: Graph<A>,
+    trees: BTreeMap<RouterId, RouterTree<A>, A>,
+}
+
+impl<A: Allocator> Model for AreaTrees<A> {
+    ghost use Rattle.routing_table.specs.AreaTrees.{AreaTreesValue, AreTreesIn};
+
+    ghost Value = { AreaTreesValue };
+
+    ghost view = { λ a. record { graph = a.graph; trees = a.trees.entries } };
+
+    ghost invariant = { λ a. AreTreesIn a.graph a.trees.entries };
+}
+
+impl<A: Allocator + Copy> AreaTrees<A> {
+    /// A graph without trees. It takes no memory.
+    pub fn new(alloc: A, graph: Graph<A>) -> AreaTrees<A>
+        ensures { result ≡ record { graph = graph; trees = [] } }
+    {
+        AreaTrees {
+            graph,
+            trees: BTreeMap::new(alloc),
+        }
+    }
+
+    /// Calculates the tree of a router that is in the graph, and its next hops, unless they are
+    /// there. The meter counts a tree that is calculated.
+    pub fn grow(&mut self, alloc: A, router: RouterId, meter: &mut Meter) -> Result<(), AllocError>
+        requires { Contains self.old.graph.vertices (Router router) }
+        ensures graph { self.new.graph ≡ self.old.graph }
+        ensures keeps { (other : AnyRouter) → has_tree self.old other ≡ true
+            → has_tree self.new other ≡ true }
+        ensures grown { OnOk result (has_tree self.new router ≡ true) }
+        ensures meter { OnOk result (meter.new
+            ≡ counted_by (missing (has_tree self.old router)) meter.old) }
+        ensures at_most { CountsAtMost (missing (has_tree self.old router)) meter.old meter.new }
+    {
+        if self.trees.contains_key(&router) {
+            return Ok(());
+        }
+        let tree = tree_of(alloc, &self.graph, router, meter)?;
+        let hops = Hops::build(alloc, &self.graph, &tree)?;
+        self.trees.insert(router, RouterTree { tree, hops })?;
+        Ok(())
+    }
+
+    /// What the area gives to a router whose tree is there.
+    pub fn result_of(
+        &self,
+        alloc: A,
+        database: &Database<A>,
+        area: AreaId,
+        router: RouterId,
+    ) -> Result<AreaResult<A>, AllocError>
+        requires graph { IsGraphOf (lsas_of (Area area) (lists_of database.now)) self.now.graph }
+        requires tree { has_tree self.now router ≡ true }
+        ensures { IfOk result (λ given. given
+            ≡ area_result area (lsas_of (Area area) (lists_of database.now)) router) }
+    {
+        let Some(kept) = self.trees.get(&router) else {
+            unreachable!()
+        };
+        AreaResult::build(alloc, database, area, &self.graph, &kept.tree, &kept.hops)
+    }
+}
