@@ -1,4 +1,5 @@
-"""How the program ends: runs of every exit status, with files, pipes and command lines as they come."""
+"""How the program ends: runs of every exit status, with files, pipes and command lines as they come, and with scripts
+that are too long for case files."""
 import dataclasses
 import os
 import pathlib
@@ -35,11 +36,31 @@ class End:
     memory: int | None = None
 
 
-def edited_sample() -> bytes:
-    """The sample after COST: the metric ffff, and the checksum 2119."""
+def with_metric(metric: bytes, checksum: bytes) -> bytes:
+    """The sample with another metric of the first link of 1.1.1.1, and the checksum of that LSA."""
     dump = bytearray(SAMPLE)
-    dump[29:31], dump[47:49] = b"\x21\x19", b"\xff\xff"
+    dump[29:31], dump[47:49] = checksum, metric
     return bytes(dump)
+
+
+# The sample after COST.
+EDITED = with_metric(b"\xff\xff", b"\x21\x19")
+TABLE = b"table 1.1.1.1\n"
+EDITED_TABLE = b"@0 table 1.1.1.1 1\n10.2.0.0/16 intra 65540 0 0.0.0.0 link:10.0.0.1\n"
+
+# Lines of the longest script, which has 1,048,576 octets.
+COMMENTS = b"# sixteen bytes\n" * 65_536
+
+
+def full_history(branch: bytes) -> bytes:
+    """Ten thousand edits, one more, one that would be refused in any case, and an undo of all that are done."""
+    more = [b"cost 0.0.0.0 1.1.1.1 1 0\n", b"undo 10000\n"]
+    return b"".join(branch + line for line in [b"cost 0.0.0.0 1.1.1.1 1 7\n"] * 10_001 + more)
+
+
+def full_history_replies(branch: bytes) -> bytes:
+    """What these are answered."""
+    return b"".join(branch + line for line in [b"ok\n"] * 10_000 + [b"refused E12 HistoryFull\n"] * 2 + [b"ok\n"])
 
 
 ENDS = [
@@ -47,10 +68,23 @@ ENDS = [
     End("no option, an empty script", "", 0),
     End("standard input as script", "", 0, replies=b"@0 ok\n" + INFO, stdin=COST + b"info"),
     End("a dump, a script and --out", "--dump FOLDER/dump --script FOLDER/script --out FOLDER/out", 0,
-        replies=b"@0 ok\n", out=edited_sample()),
+        replies=b"@0 ok\n", out=EDITED),
     End("the dump's own file as --out", "--dump FOLDER/out --out FOLDER/out", 0, replies=b"@0 ok\n", stdin=COST,
-        out=edited_sample()),
+        out=EDITED),
     End("an empty script and /dev/full as standard output", "", 0, stdout="full"),
+    End("--dump alone", "--dump FOLDER/edited", 0, replies=EDITED_TABLE, stdin=TABLE),
+    End("--script alone", "--script FOLDER/script", 0, replies=b"@0 ok\n"),
+    End("--out alone", "--out FOLDER/out", 0, replies=b"@0 ok\n", stdin=COST, out=EDITED),
+    End("options with an equals sign", "--out=FOLDER/out --dump=FOLDER/edited", 0, replies=EDITED_TABLE, stdin=TABLE,
+        out=EDITED),
+    End("options in another order", "--out FOLDER/out --script FOLDER/script --dump FOLDER/edited", 0,
+        replies=b"@0 ok\n", out=EDITED),
+    End("a full history", "--out FOLDER/out", 0, replies=full_history_replies(b"@0 "), stdin=full_history(b""),
+        out=SAMPLE),
+    End("a full history of one branch", "--out FOLDER/out", 0, stdin=full_history(b"@1 ")
+        + b"cost 0.0.0.0 1.1.1.1 1 13\n@1 undo 1\n", replies=full_history_replies(b"@1 ")
+        + b"@0 ok\n@1 refused U1 NothingToUndo\n", out=with_metric(b"\x00\x0d", bytes.fromhex("0c21"))),
+    End("a script of 1,048,576 octets", "--out FOLDER/out", 0, stdin=COMMENTS, out=SAMPLE),
     # ---- 2: the command line is refused
     End("an option that is not there", "--frob", 2, f"error: unexpected argument '--frob' found{USAGE}"),
     End("a word that is no option", "dump", 2, f"error: unexpected argument 'dump' found{USAGE}"),
@@ -59,11 +93,16 @@ ENDS = [
     End("an option without its file", "--script", 2,
         "error: a value is required for '--script <FILE>' but none was supplied\n\n"
         "For more information, try '--help'.\n"),
+    End("--out without its file", "--out", 2,
+        "error: a value is required for '--out <FILE>' but none was supplied\n\n"
+        "For more information, try '--help'.\n"),
     End("a word that is no text", "--dump \udcff", 2, "error: an argument is not UTF-8 text\n"),
     # ---- 3: the dump is refused
     End("an octet behind the dump", "--dump FOLDER/long --out FOLDER/out", 3, "dump: L4 TrailingBytes at 99\n"),
     End("a refused dump before a script that can not be read", "--dump FOLDER/long --script FOLDER", 3,
         "dump: L4 TrailingBytes at 99\n"),
+    End("a truncated dump before a script that can not be read", "--dump FOLDER/short --script FOLDER", 3,
+        "dump: L3 Truncated at 97\n"),
     End("an empty dump", "--dump /dev/null", 3, "dump: L3 Truncated at 0\n"),
     End("an endless dump", "--dump /dev/zero", 3, "dump: L13 TooLarge at 0\n"),
     # ---- 4: a file can not be opened, read or written
@@ -76,6 +115,7 @@ ENDS = [
     End("a folder as dump", "--dump FOLDER --out FOLDER/out", 4, "file: Read\n", stdin=COST),
     End("a folder as script", "--script FOLDER --out FOLDER/out", 4, "file: Read\n"),
     End("an endless script", "--script /dev/zero --out FOLDER/out", 4, "file: TooLarge\n"),
+    End("a script of 1,048,577 octets", "--out FOLDER/out", 4, "file: TooLarge\n", stdin=COMMENTS + b"#"),
     End("/dev/full as --out", "--out /dev/full", 4, "file: Write\n", replies=b"@0 ok\n", stdin=COST),
     End("/dev/full as standard output", "--out FOLDER/out", 4, "file: Write\n", stdin=COST, stdout="full"),
     End("standard output closed", "--out FOLDER/out", 4, "file: Write\n", stdin=COST, stdout="closed"),
@@ -88,7 +128,9 @@ ENDS = [
 def make_files(folder: pathlib.Path, case: End) -> None:
     (folder / "dump").write_bytes(SAMPLE)
     (folder / "script").write_bytes(COST)
+    (folder / "edited").write_bytes(EDITED)
     (folder / "long").write_bytes(SAMPLE + b"\0")
+    (folder / "short").write_bytes(SAMPLE[:98])
     if case.memory is not None:
         with (folder / "large").open("wb") as large:
             large.truncate(16_777_216)

@@ -26,6 +26,3 @@ pub use choose::preferred;
 pub use coverage::covered;
 pub use due_metric::due;
 pub use routes::externals;
-
-#[cfg(test)]
-mod tests;

@@ -1,11 +1,9 @@
-//! Whole runs and their parts, with expected values from outside the program.
+//! What no run of the program shows: readers and writers that fail, want of memory, and calls below a run.
 
 mod dumps;
 mod exits;
 mod failing;
+mod growths;
 mod memory;
-mod options;
 mod outcome;
 mod records;
-mod runs;
-mod sessions;

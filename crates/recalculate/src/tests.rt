@@ -1,6 +1,5 @@
 //! Sessions on small databases.
 
-mod info;
 mod kept;
 mod runs;
 

@@ -26,3 +26,6 @@ mod best_ways;
 mod growths;
 mod inter_area;
 mod intra_area;
+
+// Which entry of an AS boundary router counts.
+mod preferred;

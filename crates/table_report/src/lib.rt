@@ -7,6 +7,3 @@ mod text;
 
 pub use compare::compare_text;
 pub use text::table_text;
-
-#[cfg(test)]
-mod tests;

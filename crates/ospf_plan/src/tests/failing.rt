@@ -8,16 +8,20 @@ use lsdb::{DumpFault, DumpFaultKind};
 use samples::{Failing, Sink, Source, Zeros};
 use std::test::*;
 
-const SCRIPT: &[u8] = b"cost 0.0.0.0 1.1.1.1 1 65535\n# note\n\nfrob\nundo 1";
+/// An edit, lines without reply, a line that is no command, a refused edit and a refused undo, and an
+/// undo.
+const SCRIPT: &[u8] =
+    b"cost 0.0.0.0 1.1.1.1 1 65535\n# note\n\nfrob\ncost 0.0.0.0 1.1.1.1 1 0\nundo 2\nundo 1";
 
-const REPLIES: &[u8] = b"@0 ok\nscript S2 UnknownWord\n@0 ok\n";
+const REPLIES: &[u8] =
+    b"@0 ok\nscript S2 UnknownWord\n@0 refused E4 ZeroCost\n@0 refused U1 NothingToUndo\n@0 ok\n";
 
 /// A place past the end of every text of these tests.
 const NEVER: usize = 1_000_000;
 
 const SUMMARY: Summary = Summary {
-    commands: 3,
-    refused: 1,
+    commands: 5,
+    refused: 3,
 };
 
 #[test]
@@ -113,21 +117,6 @@ fn a_flush_fails_after_the_dump_is_written(rt: HostRuntime) -> Result<(), Fail> 
     assert!(rt; ended.replies.failed);
     assert_eq!(rt; ended.replies.stream.taken.as_slice(), REPLIES);
     assert_eq!(rt; ended.out.stream.as_slice(), SAMPLE);
-    Ok(())
-}
-
-#[test]
-fn a_refused_dump_before_a_script_that_fails(rt: HostRuntime) -> Result<(), Fail> {
-    let script = Source::new(SCRIPT, 1, Some(0));
-    let dump = SAMPLE.get(..98).ok_or("a front")?;
-    let (replies, out) = (Vec::new(rt.alloc()), Vec::new(rt.alloc()));
-    let ended = run_whole(rt.alloc(), dump, script, replies, out);
-    let fault = DumpFault {
-        offset: 97,
-        kind: DumpFaultKind::Truncated,
-    };
-    assert_eq!(rt; ended.result, Err(RunFault::Dump(fault)));
-    assert!(rt; !ended.script.failed);
     Ok(())
 }
 

@@ -1,11 +1,10 @@
-//! Each growth refused in turn, and growths counted.
+//! Planners and branches while each growth is refused, and growths counted.
 
-use super::outcome::run_whole;
+ghost use Rattle.std.specs.Prelude.{◌<◌};
+
 use crate::branches::Branches;
-use crate::fault::RunFault;
 use crate::reply::Reply;
 use crate::sample::SAMPLE;
-use crate::script::Summary;
 use edit_history::{EditFault, RedoFault, UndoFault};
 use edit_script::{Command, Edit};
 use lsa_codec::{Addr, AreaId, Lsa, Prefix, RouterId};
@@ -16,45 +15,17 @@ use std::alloc::{Allocator, Global};
 use std::ops::Range;
 use std::test::*;
 
-const SCRIPT: &[u8] =
-    b"cost 0.0.0.0 1.1.1.1 1 65535\n# note\nfrob\ncost 0.0.0.0 1.1.1.1 1 0\nundo 2\nundo 1\n";
+/// The router-LSA of 1.1.1.1 in the sample.
+const LOADED: &[u8] = &[
+    0x00, 0x01, 0x02, 0x01, 1, 1, 1, 1, 1, 1, 1, 1, 0x80, 0, 0, 1, 0xd5, 0x5a, 0, 0x24, 0, 0, 0, 1,
+    2, 2, 2, 2, 0x0a, 0, 0, 1, 1, 0, 0, 10,
+];
 
-const REPLIES: &[u8] =
-    b"@0 ok\nscript S2 UnknownWord\n@0 refused E4 ZeroCost\n@0 refused U1 NothingToUndo\n@0 ok\n";
-
-/// A run over memory that writes into room of its own: its result, the replies and the dump.
-fn answer<A: Allocator + Copy>(
-    alloc: A,
-    room: Global,
-) -> Result<(Result<Summary, RunFault>, Vec<u8>, Vec<u8>), Fail> {
-    let replies = Vec::with_capacity(room, 1000)?;
-    let out = Vec::with_capacity(room, 1000)?;
-    let ended = run_whole(alloc, SAMPLE, SCRIPT, replies, out);
-    Ok((ended.result, ended.replies.stream, ended.out.stream))
-}
-
-#[test]
-fn each_growth_refused(rt: HostRuntime) -> Result<(), Fail> {
-    let ample = Rationed::new(rt.alloc(), u64::MAX);
-    let (result, replies, dump) = answer(&ample, rt.alloc())?;
-    assert!(rt; result.is_ok());
-    assert_eq!(rt; replies.as_slice(), REPLIES);
-    assert_eq!(rt; dump.as_slice(), SAMPLE);
-    let growths = u64::MAX - ample.left();
-    assert!(rt; growths > 0);
-    for n in 0..growths {
-        let rationed = Rationed::new(rt.alloc(), n);
-        let (result, replies, dump) = answer(&rationed, rt.alloc())?;
-        assert_eq!(rt; result, Err(RunFault::OutOfMemory), "with {n} growths");
-        assert!(rt; REPLIES.starts_with(replies.as_slice()), "with {n} growths");
-        assert!(rt; dump.is_empty(), "with {n} growths");
-    }
-    let enough = Rationed::new(rt.alloc(), growths);
-    let (result, replies, _) = answer(&enough, rt.alloc())?;
-    assert!(rt; result.is_ok());
-    assert_eq!(rt; replies.as_slice(), REPLIES);
-    Ok(())
-}
+/// The same with a link of cost 20.
+const EDITED: &[u8] = &[
+    0x00, 0x01, 0x02, 0x01, 1, 1, 1, 1, 1, 1, 1, 1, 0x80, 0, 0, 1, 0x8a, 0x9b, 0, 0x24, 0, 0, 0, 1,
+    2, 2, 2, 2, 0x0a, 0, 0, 1, 1, 0, 0, 20,
+];
 
 fn cost(metric: u16) -> Edit {
     Edit::Cost {
@@ -65,11 +36,10 @@ fn cost(metric: u16) -> Edit {
     }
 }
 
-/// The octets of the first LSA of the backbone.
-fn first_lsa<A: Allocator + Copy>(planner: &Planner<A>) -> Option<&[u8]> {
-    let backbone = Section::Area(AreaId(0));
-    let mut lsas = planner.database().lsas(backbone);
-    lsas.next().map(|lsa| lsa.bytes())
+/// Whether the first LSA of the backbone has these octets.
+fn has_first<A: Allocator + Copy>(planner: &Planner<A>, octets: &[u8]) -> bool {
+    let mut lsas = planner.database().lsas(Section::Area(AreaId(0)));
+    lsas.next().is_some_and(|lsa| lsa.bytes() == octets)
 }
 
 /// A planner on a dump, and costs of the first link of 1.1.1.1.
@@ -86,58 +56,84 @@ fn with_costs<A: Allocator + Copy>(
     Ok(planner)
 }
 
+/// For how many growths a planner on the sample with ten costs asks.
+fn growths_of_costs(alloc: Global) -> Result<u64, Fail> {
+    let counted = Rationed::new(alloc, u64::MAX);
+    let _planner = with_costs(&counted, SAMPLE, 11..21)?;
+    Ok(u64::MAX - counted.left())
+}
+
 #[test]
 fn undo_and_redo_while_each_growth_is_refused(rt: HostRuntime) -> Result<(), Fail> {
-    let counted = Rationed::new(rt.alloc(), u64::MAX);
-    let ample = with_costs(&counted, SAMPLE, 1..11)?;
-    let edited = first_lsa(&ample);
-    let growths = u64::MAX - counted.left();
-    let rationed = Rationed::new(rt.alloc(), growths);
-    let mut planner = with_costs(&rationed, SAMPLE, 1..11)?;
+    let rationed = Rationed::new(rt.alloc(), growths_of_costs(rt.alloc())?);
+    let mut planner = with_costs(&rationed, SAMPLE, 11..21)?;
     assert_eq!(rt; rationed.left(), 0);
-    assert_eq!(rt; planner.edit(&cost(11)), Err(EditFault::OutOfMemory));
+    assert_eq!(rt; planner.edit(&cost(21)), Err(EditFault::OutOfMemory));
     assert!(rt; planner.dump().is_err());
+    assert!(rt; has_first(&planner, EDITED));
     for _ in 0..10 {
         assert_eq!(rt; planner.undo(1), Ok(()));
     }
     assert_eq!(rt; planner.undo(1), Err(UndoFault::NothingToUndo));
-    assert_eq!(rt; first_lsa(&planner), SAMPLE.get(13..49));
+    assert!(rt; has_first(&planner, LOADED));
     for _ in 0..10 {
         assert_eq!(rt; planner.redo(1), Ok(()));
     }
     assert_eq!(rt; planner.redo(1), Err(RedoFault::NothingToRedo));
-    assert_eq!(rt; first_lsa(&planner), edited);
+    assert!(rt; has_first(&planner, EDITED));
     assert_eq!(rt; planner.undo(10), Ok(()));
-    assert_eq!(rt; first_lsa(&planner), SAMPLE.get(13..49));
+    assert!(rt; has_first(&planner, LOADED));
     Ok(())
+}
+
+/// For how many growths the database of the sample asks.
+fn growths_of_load(alloc: Global) -> Result<u64, Fail> {
+    let counted = Rationed::new(alloc, u64::MAX);
+    let _database = Database::load(&counted, SAMPLE)?;
+    Ok(u64::MAX - counted.left())
+}
+
+/// Whether the counts of a branch are those of the sample without edits.
+fn counts_no_edits<A: Allocator + Copy>(branches: &mut Branches<A>, branch: u8) -> bool
+    requires { branch < 8 }
+{
+    match branches.step(branch, &Command::Info) {
+        Ok(Reply::Info(info)) => (info.areas, info.lsas, info.done, info.undone) == (1, 2, 0, 0),
+        _ => false,
+    }
+}
+
+/// Whether a command of a branch is carried out, and no memory is wanted.
+fn is_done<A: Allocator + Copy>(branches: &mut Branches<A>, branch: u8, command: Command) -> bool
+    requires { branch < 8 }
+{
+    matches!(branches.step(branch, &command), Ok(Reply::Done))
+}
+
+/// Whether a command of a branch is refused, and no memory is wanted.
+fn is_refused<A: Allocator + Copy>(branches: &mut Branches<A>, branch: u8, command: Command) -> bool
+    requires { branch < 8 }
+{
+    match branches.step(branch, &command) {
+        Ok(reply) => reply.is_refusal(),
+        Err(_) => false,
+    }
 }
 
 #[test]
 fn undo_redo_and_info_in_any_branch_while_each_growth_is_refused(
     rt: HostRuntime,
 ) -> Result<(), Fail> {
-    let counted = Rationed::new(rt.alloc(), u64::MAX);
-    let _ample = Database::load(&counted, SAMPLE)?;
-    let rationed = Rationed::new(rt.alloc(), u64::MAX - counted.left());
+    let rationed = Rationed::new(rt.alloc(), growths_of_load(rt.alloc())?);
     let database = Database::load(&rationed, SAMPLE)?;
     assert_eq!(rt; rationed.left(), 0);
     let mut branches = Branches::new(&rationed, database);
     for branch in 0..8 {
-        for command in [Command::Undo(0), Command::Redo(0)] {
-            assert!(rt; matches!(branches.step(branch, &command)?, Reply::Done));
-        }
-        for command in [Command::Undo(1), Command::Redo(1)] {
-            assert!(rt; branches.step(branch, &command)?.is_refusal());
-        }
-        match branches.step(branch, &Command::Info)? {
-            Reply::Info(info) => {
-                assert_eq!(rt;
-                    (info.areas, info.lsas, info.done, info.undone),
-                    (1, 2, 0, 0)
-                );
-            }
-            _ => panic!(rt; "no counts"),
-        }
+        assert!(rt; is_done(&mut branches, branch, Command::Undo(0)));
+        assert!(rt; is_done(&mut branches, branch, Command::Redo(0)));
+        assert!(rt; is_refused(&mut branches, branch, Command::Undo(1)));
+        assert!(rt; is_refused(&mut branches, branch, Command::Redo(1)));
+        assert!(rt; counts_no_edits(&mut branches, branch));
     }
     assert!(rt; branches.step(1, &Command::Edit(cost(7))).is_err());
     Ok(())
@@ -156,14 +152,19 @@ fn hundred_lsas(alloc: Global) -> Result<Vec<u8>, Fail> {
     Ok(dump)
 }
 
+/// For how many growths a cost asks on this dump.
+fn growths_of_a_cost(alloc: Global, dump: &[u8]) -> Result<u64, Fail> {
+    let counted = Rationed::new(alloc, u64::MAX);
+    let mut planner = with_costs(&counted, dump, 0..0)?;
+    let loaded = counted.left();
+    planner.edit(&cost(7))?;
+    Ok(loaded.saturating_sub(counted.left()))
+}
+
 #[test]
 fn a_cost_grows_little(rt: HostRuntime) -> Result<(), Fail> {
     let dump = hundred_lsas(rt.alloc())?;
-    let counted = Rationed::new(rt.alloc(), u64::MAX);
-    let mut planner = with_costs(&counted, &dump, 0..0)?;
-    let loaded = counted.left();
-    planner.edit(&cost(7))?;
-    let growths = loaded.saturating_sub(counted.left());
+    let growths = growths_of_a_cost(rt.alloc(), &dump)?;
     assert!(rt; 0 < growths && growths <= 16, "{growths} growths");
     Ok(())
 }

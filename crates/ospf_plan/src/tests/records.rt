@@ -1,11 +1,10 @@
-//! Edits carried out one by one: records, histories and planners on the sample.
+//! Records and histories, and the texts of faults.
 
 use crate::sample::SAMPLE;
 use edit_history::{EditFault, History, RedoFault, UndoFault, apply, inverses, replay, revert};
 use edit_script::Edit;
 use lsa_codec::{AreaId, RouterId};
 use lsdb::Database;
-use recalculate::Planner;
 use std::alloc::Global;
 use std::test::*;
 
@@ -43,88 +42,11 @@ fn a_record_takes_its_edit_back(rt: HostRuntime) -> Result<(), Fail> {
 }
 
 #[test]
-fn an_edit_to_equal_octets_is_an_edit(rt: HostRuntime) -> Result<(), Fail> {
-    let mut database = Database::load(rt.alloc(), SAMPLE)?;
-    let entry = apply(&mut database, &cost(1, 10))?;
-    assert_eq!(rt; entry.len(), 1);
-    assert_eq!(rt; database.dump()?.as_slice(), SAMPLE);
-    Ok(())
-}
-
-#[test]
-fn refused_edits_change_nothing(rt: HostRuntime) -> Result<(), Fail> {
-    let elsewhere = Edit::Cost {
-        area: AreaId(1),
-        router: RouterId(0x0101_0101),
-        link: 1,
-        metric: 5,
-    };
-    let of_nobody = Edit::Cost {
-        area: AreaId(0),
-        router: RouterId(0x0909_0909),
-        link: 1,
-        metric: 5,
-    };
-    let cases = [
-        (elsewhere, EditFault::NoArea),
-        (of_nobody, EditFault::NoRouter),
-        (cost(0, 5), EditFault::NoLink),
-        (cost(2, 5), EditFault::NoLink),
-        (cost(1, 0), EditFault::ZeroCost),
-    ];
-    let mut database = Database::load(rt.alloc(), SAMPLE)?;
-    for (edit, fault) in cases {
-        match apply(&mut database, &edit) {
-            Err(found) => assert_eq!(rt; found, fault),
-            Ok(_) => panic!(rt; "taken"),
-        }
-        assert_eq!(rt; database.dump()?.as_slice(), SAMPLE);
-    }
-    Ok(())
-}
-
-#[test]
-fn a_planner_moves_both_ways(rt: HostRuntime) -> Result<(), Fail> {
-    let database = Database::load(rt.alloc(), SAMPLE)?;
-    let mut planner = Planner::new(rt.alloc(), database);
-    for metric in 11..13 {
-        planner.edit(&cost(1, metric))?;
-    }
-    assert_eq!(rt; (planner.done(), planner.undone()), (2, 0));
-    assert_eq!(rt; planner.undo(3), Err(UndoFault::NothingToUndo));
-    assert_eq!(rt; planner.undo(0), Ok(()));
-    assert_eq!(rt; planner.undo(2), Ok(()));
-    assert_eq!(rt; (planner.done(), planner.undone()), (0, 2));
-    assert_eq!(rt; planner.dump()?.as_slice(), SAMPLE);
-    assert_eq!(rt; planner.redo(3), Err(RedoFault::NothingToRedo));
-    assert_eq!(rt; planner.redo(1), Ok(()));
-    assert_eq!(rt; (planner.done(), planner.undone()), (1, 1));
-    assert_eq!(rt; planner.dump()?.get(47..49), Some([0, 11].as_slice()));
-    Ok(())
-}
-
-#[test]
 fn a_new_history_is_empty(rt: HostRuntime) -> Result<(), Fail> {
     let mut history = History::<Global>::new(rt.alloc());
     assert_eq!(rt; (history.done(), history.undone()), (0, 0));
     history.reserve()?;
     assert_eq!(rt; (history.done(), history.undone()), (0, 0));
-    Ok(())
-}
-
-#[test]
-fn a_new_edit_drops_the_undone_ones(rt: HostRuntime) -> Result<(), Fail> {
-    let database = Database::load(rt.alloc(), SAMPLE)?;
-    let mut planner = Planner::new(rt.alloc(), database);
-    planner.edit(&cost(1, 11))?;
-    planner.edit(&cost(1, 12))?;
-    assert_eq!(rt; planner.undo(3), Err(UndoFault::NothingToUndo));
-    planner.undo(2)?;
-    planner.redo(1)?;
-    planner.edit(&cost(1, 13))?;
-    assert_eq!(rt; planner.redo(1), Err(RedoFault::NothingToRedo));
-    assert_eq!(rt; (planner.done(), planner.undone()), (2, 0));
-    assert_eq!(rt; planner.dump()?.get(47..49), Some([0, 13].as_slice()));
     Ok(())
 }
 
