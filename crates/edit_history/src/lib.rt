@@ -27,6 +27,3 @@ pub use laws::{
     no_edit_is_refused, untouched_areas_stay,
 };
 pub use record::{Record, replay, revert};
-
-#[cfg(test)]
-mod tests;

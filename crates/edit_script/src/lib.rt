@@ -25,6 +25,3 @@ pub use fault::ScriptFault;
 pub use laws::{edits_are_in_range, reads_back, reads_what_is_said};
 pub use line::parse;
 pub use printing::print;
-
-#[cfg(test)]
-mod tests;

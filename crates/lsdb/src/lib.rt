@@ -34,6 +34,3 @@ pub use load::text_laws;
 pub use lsas::Lsas;
 pub use section::Section;
 pub use slot::{SlotFault, SlotId};
-
-#[cfg(test)]
-mod tests;

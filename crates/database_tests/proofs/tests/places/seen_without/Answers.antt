@@ -1,0 +1,38 @@
+use Rattle.std.proofs.Common.{◌≡◌, refl, sym, ap, ◌∙◌, subst, Some, None, Option, rules}
+use Rattle.std.specs.Prelude.{IsSome}
+use Rattle.lsdb.specs.declared.slot.SlotId.{SlotId}
+use Rattle.lsdb.specs.Lists.{IsDatabase}
+use Rattle.lsdb.specs.Places.{Place, Places, put, slot_at, lists_of}
+use Rattle.lsdb.proofs.PlaceLemmas.{put-put, put-slot_at, slot_at-put, put_safe}
+use Rattle.database_tests.proofs.tests.places.seen_without.Goals as goal
+
+emptied : (d : Places) (slot : SlotId) → IsSome (slot_at d slot) → IsDatabase (lists_of d) → IsDatabase (lists_of (put d slot None))
+emptied d slot some db = by_place (slot_at d slot) refl some where
+  by_place : (o : Option Place) → slot_at d slot ≡ o → IsSome o → IsDatabase (lists_of (put d slot None))
+  by_place None e some = absurd (search rules)
+  by_place (Some v) e some = put_safe d slot v None e tt db
+
+-- what was taken goes back to its place
+put_back : (d : Places) (slot : SlotId) (v : Place) → slot_at d slot ≡ Some v → put (put d slot None) slot v ≡ d
+put_back d slot v at = put-put d slot None v ∙ put-slot_at d slot v at
+
+pub swap-requires-clause-sound : goal.swap-requires-clause-sound
+swap-requires-clause-sound c = emptied c.args.database.now c.args.slot c.requires c.known.ensures
+
+pub swap-requires-2-clause-exists : goal.swap-requires-2-clause-exists
+swap-requires-2-clause-exists c =
+    subst (λ (d : Places). IsSome (slot_at d c.args.slot)) (sym c.swap.ensures.put)
+    (subst IsSome (sym (slot_at-put c.args.database.now c.args.slot None c.swap.new.place c.swap.ensures.place)) refl)
+
+pub swap-requires-2-clause-sound : goal.swap-requires-2-clause-sound
+swap-requires-2-clause-sound c =
+    subst (λ (d : Places). IsDatabase (lists_of d))
+    (sym (ap (λ (d : Places). put d c.args.slot c.swap.new.place) c.swap.ensures.put
+    ∙ put_back c.args.database.now c.args.slot c.swap.new.place c.swap.ensures.place))
+    c.known.ensures
+
+pub returns : goal.returns
+returns c =
+    c.swap-2.ensures.put
+    ∙ ap (λ (d : Places). put d c.args.slot c.swap.new.place) c.swap.ensures.put
+    ∙ put_back c.args.database.now c.args.slot c.swap.new.place c.swap.ensures.place

@@ -1,0 +1,23 @@
+//! Views, places, records and texts, and what is answered where memory runs out.
+
+// LSAs, and what they speak of.
+mod metrics;
+mod prefixes;
+mod texts;
+mod views;
+
+// Databases.
+mod places;
+
+// Scripts.
+mod lines;
+
+// Edits.
+mod edited;
+mod growths;
+mod limits;
+mod nets;
+mod opaque;
+mod records;
+mod refusals;
+mod sessions;

@@ -1,4 +1,0 @@
-//! Dumps that are loaded and refused, and places.
-
-mod dumps;
-mod places;
