@@ -18,3 +18,6 @@ pub use laws::{routers_are_attached, tables_are_over_all_paths};
 pub use preference::{prefer, prefer_intra};
 pub use results::{graph_of, result_in, results_of, tree_of};
 pub use table::{Table, TableFault, routes_from, table_from, table_of};
+
+#[cfg(test)]
+mod tests;
