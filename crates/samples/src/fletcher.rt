@@ -1,7 +1,26 @@
 //! Fletcher's checksum.
 
+ghost use Rattle.std.specs.Prelude.{◌≡◌, [], ◌∷◌};
+ghost use Rattle.samples.specs.Fletcher.{first_sum, second_sum, nonzero_octet, checksum_of};
+
+/// Both sums over the octets, each modulo 255: the sum of the octets, and the sum of the first sums.
+fn sums(octets: &[u8]) -> (u64, u64)
+    ensures first { result.0 ≡ first_sum octets.now }
+    ensures second { result.1 ≡ second_sum octets.now }
+{
+    let mut first: u64 = 0;
+    let mut second: u64 = 0;
+    for octet in octets {
+        first = (first + u64::from(*octet)) % 255;
+        second = (second + first) % 255;
+    }
+    (first, second)
+}
+
 /// An octet of a checksum, where 0 is written as 255.
-fn nonzero(sum: u64) -> u8 {
+fn nonzero_octet(sum: u64) -> u8
+    ensures { result ≡ nonzero_octet sum }
+{
     match sum % 255 {
         0 => 255,
         octet => octet as u8,
@@ -10,20 +29,13 @@ fn nonzero(sum: u64) -> u8 {
 
 /// Fletcher's checksum of an LSA without its LS age, whose own field, in the octets 14 and 15, is 0
 /// (RFC 905, annex B). Modulo 255, 240 stands for -15, 241 for -14 and 254 for -1.
-pub fn checksum(octets: &[u8]) -> [u8; 2] {
-    let mut first: u64 = 0;
-    let mut second: u64 = 0;
-    for octet in octets {
-        first = first.wrapping_add(u64::from(*octet)) % 255;
-        second = second.wrapping_add(first) % 255;
-    }
+#[tactic(auto, unfolding(crate::specs::Fletcher::checksum_of))]
+pub(crate) fn checksum(octets: &[u8]) -> [u8; 2]
+    ensures { result ≡ checksum_of octets.now }
+{
+    let (first, second) = sums(octets);
     let length = octets.len() as u64 % 255;
-    let high = (length + 240)
-        .wrapping_mul(first)
-        .wrapping_add(second.wrapping_mul(254));
-    let low = (length + 241)
-        .wrapping_mul(first)
-        .wrapping_mul(254)
-        .wrapping_add(second);
-    [nonzero(high), nonzero(low)]
+    let high = (length + 240) * first + 254 * second;
+    let low = 254 * ((length + 241) * first) + second;
+    [nonzero_octet(high), nonzero_octet(low)]
 }

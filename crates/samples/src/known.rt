@@ -1,5 +1,8 @@
 //! Routers and databases that several crates are tested with.
 
+ghost use Rattle.std.specs.Prelude.{◌≡◌, IfOk};
+ghost use Rattle.samples.specs.Known.{network_of_three};
+
 use crate::link::{to_network, to_router};
 use crate::list::LsaList;
 use std::alloc::{AllocError, Global};
@@ -31,7 +34,10 @@ pub const SAMPLE: &[u8] = &[
 /// A dump in which the network 10.5.0.3 joins 1.1.1.1 and 3.3.3.3 at cost 10 and 4.4.4.4 at cost 5.
 /// A link of cost 5 joins 1.1.1.1 and 4.4.4.4. The vertices are numbered 1.1.1.1, 3.3.3.3, 4.4.4.4,
 /// the network. An error is want of memory.
-pub fn network_of_three(alloc: Global) -> Result<Vec<u8>, AllocError> {
+#[tactic(auto, unfolding(crate::specs::Known::network_of_three))]
+pub fn network_of_three(alloc: Global) -> Result<Vec<u8>, AllocError>
+    ensures { IfOk result (λ dump. dump.items ≡ network_of_three) }
+{
     let network = 0x0a05_0003;
     let first = [
         to_network(network, 0x0a05_0001, 10),

@@ -1,8 +1,9 @@
 //! For tests: link state databases, octet by octet, and readers and writers that fail when told to.
 //!
 //! A plain program makes LSAs from their fields, with good checksums, and dumps from LSAs. It
-//! shares nothing with the crates that are tested with it. No contract says what it makes: each
-//! test loads it, and looks at what comes of it.
+//! shares nothing with the crates that are tested with it. Contracts say which octets it makes, by
+//! definitions of its own, and how many octets the readers and writers move. What the text of a
+//! database stands for, [`dump_of_text`], is only tested.
 #![tactic(auto)]
 
 mod doubles;

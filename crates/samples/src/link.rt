@@ -1,5 +1,8 @@
 //! The links of router-LSAs.
 
+ghost use Rattle.std.specs.Prelude.{◌≡◌};
+ghost use Rattle.samples.specs.Links.{link_of, link_octets};
+
 /// A link of a router-LSA, without TOS metrics (RFC 2328, A.4.2).
 #[derive(Clone, Copy, Debug)]
 pub struct RouterLink {
@@ -15,7 +18,9 @@ pub struct RouterLink {
 
 impl RouterLink {
     /// The octets of the link.
-    pub(crate) fn octets(&self) -> [u8; 12] {
+    pub(crate) fn octets(&self) -> [u8; 12]
+        ensures { result ≡ link_octets self.now }
+    {
         let [i0, i1, i2, i3] = self.id.to_be_bytes();
         let [d0, d1, d2, d3] = self.data.to_be_bytes();
         let [high, low] = self.metric.to_be_bytes();
@@ -24,7 +29,9 @@ impl RouterLink {
 }
 
 /// A point-to-point link to a router, with the address of the interface.
-pub fn to_router(router: u32, data: u32, metric: u16) -> RouterLink {
+pub fn to_router(router: u32, data: u32, metric: u16) -> RouterLink
+    ensures { result ≡ link_of 1 router «data» metric }
+{
     RouterLink {
         kind: 1,
         id: router,
@@ -34,7 +41,9 @@ pub fn to_router(router: u32, data: u32, metric: u16) -> RouterLink {
 }
 
 /// A link to the transit network with this Designated Router's address, with that of the interface.
-pub fn to_network(address: u32, data: u32, metric: u16) -> RouterLink {
+pub fn to_network(address: u32, data: u32, metric: u16) -> RouterLink
+    ensures { result ≡ link_of 2 address «data» metric }
+{
     RouterLink {
         kind: 2,
         id: address,
@@ -44,7 +53,9 @@ pub fn to_network(address: u32, data: u32, metric: u16) -> RouterLink {
 }
 
 /// A link to a stub network.
-pub fn to_stub(number: u32, mask: u32, metric: u16) -> RouterLink {
+pub fn to_stub(number: u32, mask: u32, metric: u16) -> RouterLink
+    ensures { result ≡ link_of 3 number mask metric }
+{
     RouterLink {
         kind: 3,
         id: number,

@@ -1,9 +1,14 @@
 //! Lists of LSAs, one behind another, and the dumps of areas with such lists.
 
+ghost use Rattle.std.specs.Prelude.{◌≡◌, is_ok, if◌then◌else◌, IfOk, ◌∷◌, []};
+ghost use Rattle.samples.specs.Lsas.{no_lsas, with_octets, with_lsa, with_router, with_network, router_body, network_body};
+ghost use Rattle.samples.specs.Dumps.{counted_octets, dump_of_area, dump_octets};
+
 use crate::known::MASK_16;
 use crate::link::RouterLink;
 use crate::lsa::{Header, lsa_octets};
 use std::alloc::{AllocError, Global};
+use std::marker::Model;
 
 /// LSAs one behind another: those of an area, or those of AS scope.
 #[derive(Drop)]
@@ -13,9 +18,20 @@ pub struct LsaList {
     count: u16,
 }
 
+/// Clauses see the octets, and how many LSAs they are.
+impl Model for LsaList {
+    ghost use Rattle.samples.specs.Lsas.{Lsas};
+
+    ghost Value = { Lsas };
+
+    ghost view = { λ list. record { octets = list.octets.items; count = list.count } };
+}
+
 impl LsaList {
     /// No LSAs.
-    pub fn new(alloc: Global) -> LsaList {
+    pub fn new(alloc: Global) -> LsaList
+        ensures { result ≡ no_lsas }
+    {
         LsaList {
             alloc,
             octets: Vec::new(alloc),
@@ -23,15 +39,21 @@ impl LsaList {
         }
     }
 
-    /// Adds an LSA of these octets. An error is want of memory, here and below.
-    pub fn push(&mut self, lsa: &[u8]) -> Result<(), AllocError> {
+    /// Adds an LSA of these octets. An error is want of memory, here and below; the list is then as
+    /// it was.
+    fn push(&mut self, lsa: &[u8]) -> Result<(), AllocError>
+        ensures { self.new ≡ (if is_ok result then with_octets lsa.now self.old else self.old) }
+    {
         self.octets.extend_from_slice(lsa)?;
         self.count = self.count.wrapping_add(1);
         Ok(())
     }
 
     /// Adds an LSA with a body of at most 65,515 octets (RFC 2328, A.4.1).
-    pub fn lsa(&mut self, header: Header, body: &[u8]) -> Result<(), AllocError> {
+    pub fn lsa(&mut self, header: Header, body: &[u8]) -> Result<(), AllocError>
+        ensures { self.new ≡
+            (if is_ok result then with_lsa header body.now self.old else self.old) }
+    {
         let octets = lsa_octets(self.alloc, header, body)?;
         self.push(&octets)
     }
@@ -44,14 +66,11 @@ impl LsaList {
         router: u32,
         flags: u8,
         links: &[RouterLink],
-    ) -> Result<(), AllocError> {
-        let count = u16::try_from(links.len()).unwrap_or(u16::MAX);
-        let mut body = Vec::new(self.alloc);
-        body.extend_from_slice(&[flags, 0])?;
-        body.extend_from_slice(&count.to_be_bytes())?;
-        for link in links {
-            body.extend_from_slice(&link.octets())?;
-        }
+    ) -> Result<(), AllocError>
+        ensures { self.new ≡
+            (if is_ok result then with_router age router flags links.now self.old else self.old) }
+    {
+        let body = router_body(self.alloc, flags, links)?;
         let header = Header {
             age,
             kind: 1,
@@ -62,24 +81,27 @@ impl LsaList {
     }
 
     /// Adds a router-LSA of age 1 without flags.
-    pub fn router(&mut self, router: u32, links: &[RouterLink]) -> Result<(), AllocError> {
+    pub fn router(&mut self, router: u32, links: &[RouterLink]) -> Result<(), AllocError>
+        ensures { self.new ≡
+            (if is_ok result then with_router 1 router 0 links.now self.old else self.old) }
+    {
         self.router_of(1, router, 0, links)
     }
 
     /// Adds a network-LSA of some age, of a transit network with the Designated Router's address
     /// and a mask (RFC 2328, A.4.3).
-    pub fn network_of(
+    pub(crate) fn network_of(
         &mut self,
         age: u16,
-        (address, mask): (u32, u32),
+        network: (u32, u32),
         router: u32,
         attached: &[u32],
-    ) -> Result<(), AllocError> {
-        let mut body = Vec::new(self.alloc);
-        body.extend_from_slice(&mask.to_be_bytes())?;
-        for router in attached {
-            body.extend_from_slice(&router.to_be_bytes())?;
-        }
+    ) -> Result<(), AllocError>
+        ensures { self.new ≡ (if is_ok result
+            then with_network age network.0 network.1 router attached.now self.old else self.old) }
+    {
+        let (address, mask) = network;
+        let body = network_body(self.alloc, mask, attached)?;
         let header = Header {
             age,
             kind: 2,
@@ -90,46 +112,82 @@ impl LsaList {
     }
 
     /// Adds a network-LSA of age 1, of a transit network of mask 255.255.0.0.
-    pub fn network(
-        &mut self,
-        address: u32,
-        router: u32,
-        attached: &[u32],
-    ) -> Result<(), AllocError> {
+    pub fn network(&mut self, address: u32, router: u32, attached: &[u32]) -> Result<(), AllocError>
+        ensures { self.new ≡ (if is_ok result
+            then with_network 1 address MASK_16 router attached.now self.old else self.old) }
+    {
         self.network_of(1, (address, MASK_16), router, attached)
     }
 
-    /// Adds to a dump how many LSAs there are, and the LSAs.
-    fn add_to(&self, dump: &mut Vec<u8>) -> Result<(), AllocError> {
-        dump.extend_from_slice(&self.count.to_be_bytes())?;
-        dump.extend_from_slice(&self.octets)
+    /// How many LSAs there are, and the LSAs.
+    fn counted(&self) -> Result<Vec<u8>, AllocError>
+        ensures { IfOk result (λ text. text.items ≡ counted_octets self.now) }
+    {
+        let mut text = Vec::new(self.alloc);
+        text.extend_from_slice(&self.count.to_be_bytes())?;
+        text.extend_from_slice(&self.octets)?;
+        Ok(text)
     }
 
     /// The dump of area 0.0.0.0 with these LSAs, and of no LSAs of AS scope.
-    pub fn dump(&self) -> Result<Vec<u8>, AllocError> {
+    #[tactic(auto, unfolding(crate::specs::Dumps::dump_octets))]
+    pub fn dump(&self) -> Result<Vec<u8>, AllocError>
+        ensures { IfOk result (λ dump. dump.items ≡ dump_of_area self.now) }
+    {
         let mut dump = Vec::new(self.alloc);
         dump.extend_from_slice(&[0x4f, 0x53, 0x57, 0x50, 1, 1, 0, 0, 0, 0, 0])?;
-        self.add_to(&mut dump)?;
+        dump.extend_from_slice(&self.counted()?)?;
         dump.extend_from_slice(&[0, 0])?;
         Ok(dump)
     }
 }
 
+/// The body of a router-LSA: flags, number of links, links.
+#[tactic(auto, unfolding(crate::specs::Lsas::router_body))]
+fn router_body(alloc: Global, flags: u8, links: &[RouterLink]) -> Result<Vec<u8>, AllocError>
+    ensures { IfOk result (λ body. body.items ≡ router_body flags links.now) }
+{
+    let count = links.len().min(usize::from(u16::MAX)) as u16;
+    let mut body = Vec::new(alloc);
+    body.extend_from_slice(&[flags, 0])?;
+    body.extend_from_slice(&count.to_be_bytes())?;
+    for link in links {
+        body.extend_from_slice(&link.octets())?;
+    }
+    Ok(body)
+}
+
+/// The body of a network-LSA: mask, attached routers.
+#[tactic(auto, unfolding(crate::specs::Lsas::network_body))]
+fn network_body(alloc: Global, mask: u32, attached: &[u32]) -> Result<Vec<u8>, AllocError>
+    ensures { IfOk result (λ body. body.items ≡ network_body mask attached.now) }
+{
+    let mut body = Vec::new(alloc);
+    body.extend_from_slice(&mask.to_be_bytes())?;
+    for router in attached {
+        body.extend_from_slice(&router.to_be_bytes())?;
+    }
+    Ok(body)
+}
+
 /// The dump of areas that are not stub areas, in rising order of their IDs, and of LSAs of AS
 /// scope. An error is want of memory.
+#[tactic(auto, unfolding(crate::specs::Dumps::dump_octets))]
 pub fn dump_of(
     alloc: Global,
     areas: &[(u32, LsaList)],
     as_lsas: &LsaList,
-) -> Result<Vec<u8>, AllocError> {
-    let count = u8::try_from(areas.len()).unwrap_or(u8::MAX);
+) -> Result<Vec<u8>, AllocError>
+    ensures { IfOk result (λ dump. dump.items ≡ dump_octets areas.now as_lsas.now) }
+{
+    let count = areas.len().min(usize::from(u8::MAX)) as u8;
     let mut dump = Vec::new(alloc);
     dump.extend_from_slice(&[0x4f, 0x53, 0x57, 0x50, 1, count])?;
     for (id, lsas) in areas {
         dump.extend_from_slice(&id.to_be_bytes())?;
         dump.push(0)?;
-        lsas.add_to(&mut dump)?;
+        dump.extend_from_slice(&lsas.counted()?)?;
     }
-    as_lsas.add_to(&mut dump)?;
+    dump.extend_from_slice(&as_lsas.counted()?)?;
     Ok(dump)
 }

@@ -1,5 +1,8 @@
 //! LSAs, with good checksums.
 
+ghost use Rattle.std.specs.Prelude.{◌≡◌, IfOk};
+ghost use Rattle.samples.specs.Lsas.{lsa_with_sums, lsa_octets};
+
 use crate::fletcher::checksum;
 use std::alloc::{AllocError, Global};
 
@@ -17,14 +20,20 @@ pub struct Header {
     pub router: u32,
 }
 
+/// How many octets of a body an LSA has room for.
+const LONGEST_BODY: usize = 65_515;
+
 /// The octets of an LSA with this checksum.
+#[tactic(auto, unfolding(crate::specs::Lsas::lsa_with_sums))]
 fn with_checksum(
     alloc: Global,
     header: Header,
     checksum: [u8; 2],
     body: &[u8],
-) -> Result<Vec<u8>, AllocError> {
-    let length = u16::try_from(body.len().saturating_add(20)).unwrap_or(u16::MAX);
+) -> Result<Vec<u8>, AllocError>
+    ensures { IfOk result (λ lsa. lsa.items ≡ lsa_with_sums header checksum body.now) }
+{
+    let length = body.len().min(LONGEST_BODY) as u16 + 20;
     let mut lsa = Vec::new(alloc);
     lsa.extend_from_slice(&header.age.to_be_bytes())?;
     lsa.extend_from_slice(&[2, header.kind])?;
@@ -38,11 +47,10 @@ fn with_checksum(
 }
 
 /// The octets of an LSA with a good checksum.
-pub(crate) fn lsa_octets(
-    alloc: Global,
-    header: Header,
-    body: &[u8],
-) -> Result<Vec<u8>, AllocError> {
+#[tactic(auto, unfolding(crate::specs::Lsas::lsa_octets))]
+pub(crate) fn lsa_octets(alloc: Global, header: Header, body: &[u8]) -> Result<Vec<u8>, AllocError>
+    ensures { IfOk result (λ lsa. lsa.items ≡ lsa_octets header body.now) }
+{
     let unsigned = with_checksum(alloc, header, [0, 0], body)?;
     let sums = checksum(unsigned.get(2..).unwrap_or(&[]));
     with_checksum(alloc, header, sums, body)

@@ -19,8 +19,8 @@ use std::alloc::{AllocError, AllocFailed, Global};
 /// Why a text is no database.
 #[derive(Clone, Copy, Debug, PartialEq, Eq)]
 pub enum TextFault {
-    /// A line that is none of those above.
-    Line,
+    /// The line of this number, counted from 1, is none of those above.
+    Line(usize),
     /// There is no memory for it.
     OutOfMemory,
 }
@@ -126,33 +126,36 @@ fn link(text: &str) -> Option<RouterLink> {
     })
 }
 
-/// Adds a router-LSA with these links.
+/// Adds a router-LSA with these links. `unread` is the fault where one of them cannot be read.
 fn add_router(
     alloc: Global,
     lsas: &mut LsaList,
     item: Item,
     links: Option<&str>,
+    unread: TextFault,
 ) -> Result<(), TextFault> {
     let mut list = Vec::new(alloc);
     if let Some(links) = links {
         for text in links.split(',') {
-            list.push(link(text).ok_or(TextFault::Line)?)?;
+            list.push(link(text).ok_or(unread)?)?;
         }
     }
     Ok(lsas.router_of(item.age, item.id, item.flags, &list)?)
 }
 
-/// Adds a network-LSA with these attached routers.
+/// Adds a network-LSA with these attached routers. `unread` is the fault where one of them cannot be
+/// read.
 fn add_network(
     alloc: Global,
     lsas: &mut LsaList,
     item: Item,
     attached: Option<&str>,
+    unread: TextFault,
 ) -> Result<(), TextFault> {
     let mut list = Vec::new(alloc);
     if let Some(attached) = attached {
         for text in attached.split(',') {
-            list.push(number(text).ok_or(TextFault::Line)?)?;
+            list.push(number(text).ok_or(unread)?)?;
         }
     }
     Ok(lsas.network_of(item.age, (item.id, item.mask), item.by, &list)?)
@@ -171,19 +174,24 @@ fn add_summary(lsas: &mut LsaList, kind: u8, item: Item) -> Result<(), TextFault
     Ok(lsas.lsa(header, &[m0, m1, m2, m3, 0, high, middle, low])?)
 }
 
-/// Adds the LSA of a line.
-fn add_line(alloc: Global, lsas: &mut LsaList, line: &str) -> Result<(), TextFault> {
+/// Adds the LSA of a line. `unread` is the fault where it cannot be read.
+fn add_line(
+    alloc: Global,
+    lsas: &mut LsaList,
+    line: &str,
+    unread: TextFault,
+) -> Result<(), TextFault> {
     let (head, rest) = match line.split_once(':') {
         Some((head, rest)) => (head, Some(rest)),
         None => (line, None),
     };
-    let item = read_item(head).ok_or(TextFault::Line)?;
+    let item = read_item(head).ok_or(unread)?;
     match item.word {
-        "router" => add_router(alloc, lsas, item, rest),
-        "network" => add_network(alloc, lsas, item, rest),
+        "router" => add_router(alloc, lsas, item, rest, unread),
+        "network" => add_network(alloc, lsas, item, rest, unread),
         "summary" => add_summary(lsas, 3, item),
         "asbr-summary" => add_summary(lsas, 4, item),
-        _ => Err(TextFault::Line),
+        _ => Err(unread),
     }
 }
 
@@ -191,13 +199,16 @@ fn add_line(alloc: Global, lsas: &mut LsaList, line: &str) -> Result<(), TextFau
 /// order of their IDs, and it has no LSAs of AS scope.
 pub fn dump_of_text(alloc: Global, text: &str) -> Result<Vec<u8>, TextFault> {
     let mut areas = Vec::new(alloc);
+    let mut count: usize = 0;
     for line in text.lines() {
+        count = count.wrapping_add(1);
+        let unread = TextFault::Line(count);
         if let Some(id) = line.strip_prefix("area ") {
-            let id = number(id).ok_or(TextFault::Line)?;
+            let id = number(id).ok_or(unread)?;
             areas.push((id, LsaList::new(alloc)))?;
         } else {
-            let (_, lsas) = areas.last_mut().ok_or(TextFault::Line)?;
-            add_line(alloc, lsas, line)?;
+            let (_, lsas) = areas.last_mut().ok_or(unread)?;
+            add_line(alloc, lsas, line, unread)?;
         }
     }
     Ok(dump_of(alloc, &areas, &LsaList::new(alloc))?)

@@ -1,0 +1,22 @@
+-- Dumps of link state databases.
+use Rattle.std.specs.Prelude.{ℕ, min, List, [], ◌∷◌, ◌++◌, length}
+use Rattle.std.specs.Int.{w16, w32, to_be_bytes}
+use Rattle.std.specs.List.{flat_map}
+use Rattle.samples.specs.Lsas.{Lsas, no_lsas}
+
+-- how many LSAs, and the LSAs
+abbrev pub counted_octets : Lsas → List ℕ
+counted_octets lsas = to_be_bytes w16 lsas.count ++ lsas.octets
+
+-- Area ID, no stub area, LSAs
+abbrev pub area_octets : ℕ × Lsas → List ℕ
+area_octets area = to_be_bytes w32 area.0 ++ (0 ∷ []) ++ counted_octets area.1
+
+-- "OSWP", version 1, number of areas, areas, LSAs of AS scope
+unfoldable pub dump_octets : List (ℕ × Lsas) → Lsas → List ℕ
+dump_octets areas as_lsas =
+    (0x4f ∷ 0x53 ∷ 0x57 ∷ 0x50 ∷ 1 ∷ min (length areas) 255 ∷ []) ++ flat_map area_octets areas ++ counted_octets as_lsas
+
+-- the dump of area 0.0.0.0 alone
+abbrev pub dump_of_area : Lsas → List ℕ
+dump_of_area lsas = dump_octets ((0, lsas) ∷ []) no_lsas
