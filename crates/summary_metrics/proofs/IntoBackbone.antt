@@ -63,7 +63,8 @@ module _ (router : RouterId) (area : AreaResultValue) where
 
 all_asbr_inter : (area : AreaId) (ways : List (RouterId × WayValue)) → All (λ e. e.kind ≡ AsbrInter) (map (asbr_entry area) ways)
 all_asbr_inter area [] = All-nil (λ (e : EntryValue). e.kind ≡ AsbrInter)
-all_asbr_inter area (way ∷ ways) = All-cons (λ (e : EntryValue). e.kind ≡ AsbrInter) (asbr_entry area way) (map (asbr_entry area) ways) refl (all_asbr_inter area ways)
+all_asbr_inter area (way ∷ ways) =
+    All-cons (λ (e : EntryValue). e.kind ≡ AsbrInter) (asbr_entry area way) (map (asbr_entry area) ways) refl (all_asbr_inter area ways)
 
 module _ (db : Lists) (router : RouterId) where
   routes_inter : (intra : List RouteValue) (o : Option AreaResultValue) → All (λ r. r.kind ≡ Inter) (routes_by db router intra o)
@@ -184,9 +185,12 @@ module _ (area : AreaId) (is : is_backbone area ≡ true) where
       let results : List AreaResultValue = results_of db router in
       λ i. option_map_or metric_for
       (option_or
-      (option_and_then (λ net. net_cost (intra_of results) (routes_by db router (intra_of results) (examined results)) (routes_inter db router (intra_of results) (examined results)) net i)
+      (option_and_then
+      (λ net. net_cost (intra_of results) (routes_by db router (intra_of results) (examined results))
+      (routes_inter db router (intra_of results) (examined results)) net i)
       (net_of_summary lsa))
-      (option_and_then (λ asbr. asbr_cost (entries_of_all results) (entries_by db router (examined results)) (entries_inter db router (examined results)) asbr i)
+      (option_and_then
+      (λ asbr. asbr_cost (entries_of_all results) (entries_by db router (examined results)) (entries_inter db router (examined results)) asbr i)
       (asbr_of_summary db area lsa))) ls_infinity
 
   pub due_of_backbone : (db new : Lists) → HaveSameGraphs db new → (lsa : List ℕ) → due_in new area lsa ≡ due_in db area lsa

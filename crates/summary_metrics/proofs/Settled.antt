@@ -81,7 +81,8 @@ module _ (base new : Lists) (area : AreaId) (same_covered : (lsa : List ℕ) →
       by true h =
           let has : metric_of (made lsa) ≡ due_in new area (made lsa) =
           lsa_metric base area lsa old h ∙ sym (due_retold lsa (made lsa) (lsa_retold base area lsa old) new area ∙ same_due lsa h) in
-          ap (λ b. is_covered new area (made lsa) && not b) (eq-eqb (metric_of (made lsa)) (due_in new area (made lsa)) has) ∙ and_false (is_covered new area (made lsa))
+          ap (λ b. is_covered new area (made lsa) && not b) (eq-eqb (metric_of (made lsa)) (due_in new area (made lsa)) has)
+          ∙ and_false (is_covered new area (made lsa))
 
   fresh_lsas : (lsas : List (List ℕ)) → All IsAccepted lsas → All (λ lsa. is_stale new area lsa ≡ false) (map (refreshed_lsa base area) lsas)
   fresh_lsas [] all = All-nil (λ (lsa : List ℕ). is_stale new area lsa ≡ false)
@@ -113,6 +114,13 @@ module _ (db : Lists) (accepted : AreAccepted db) where
   both_same : HaveSameGraphs db (refreshed db)
   both_same = chained db first (refreshed db) first_same second_same
 
+  -- the LSAs of an area after the first pass and after both, by whether it is the backbone
+  abbrev after_first : Bool → AreaId → List (List ℕ) → List (List ℕ)
+  after_first b area lsas = cond b (map (refreshed_lsa db area) lsas) lsas
+
+  abbrev after_both : Bool → AreaId → List (List ℕ) → List (List ℕ)
+  after_both b area lsas = cond (not b) (map (refreshed_lsa first area) (after_first b area lsas)) (after_first b area lsas)
+
   settled_section : (head : Option AreaHead) (lsas : List (List ℕ)) → All IsAccepted lsas
       → AreSettled (refreshed db) head (refreshed_lsas first is_not_backbone head (refreshed_lsas db is_backbone head lsas))
   settled_section None lsas all = tt
@@ -120,18 +128,13 @@ module _ (db : Lists) (accepted : AreAccepted db) where
     where
       by : (b : Bool) → is_backbone (id_of head) ≡ b
           → All (λ lsa. is_stale (refreshed db) (id_of head) lsa ≡ false)
-          (cond (not (is_backbone (id_of head))) (map (refreshed_lsa first (id_of head)) (cond (is_backbone (id_of head)) (map (refreshed_lsa db (id_of head)) lsas) lsas))
-          (cond (is_backbone (id_of head)) (map (refreshed_lsa db (id_of head)) lsas) lsas))
+          (after_both (is_backbone (id_of head)) (id_of head) lsas)
       by true h =
-          subst (λ b. All (λ lsa. is_stale (refreshed db) (id_of head) lsa ≡ false)
-          (cond (not b) (map (refreshed_lsa first (id_of head)) (cond b (map (refreshed_lsa db (id_of head)) lsas) lsas)) (cond b (map (refreshed_lsa db (id_of head)) lsas) lsas)))
-          (sym h)
+          subst (λ b. All (λ lsa. is_stale (refreshed db) (id_of head) lsa ≡ false) (after_both b (id_of head) lsas)) (sym h)
           (fresh_lsas db (refreshed db) (id_of head) (covered_alike db (refreshed db) both_same (id_of head))
           (λ lsa covered. due_of_backbone (id_of head) h db (refreshed db) both_same lsa) lsas all)
       by false h =
-          subst (λ b. All (λ lsa. is_stale (refreshed db) (id_of head) lsa ≡ false)
-          (cond (not b) (map (refreshed_lsa first (id_of head)) (cond b (map (refreshed_lsa db (id_of head)) lsas) lsas)) (cond b (map (refreshed_lsa db (id_of head)) lsas) lsas)))
-          (sym h)
+          subst (λ b. All (λ lsa. is_stale (refreshed db) (id_of head) lsa ≡ false) (after_both b (id_of head) lsas)) (sym h)
           (fresh_lsas first (refreshed db) (id_of head) (covered_alike first (refreshed db) second_same (id_of head))
           (due_elsewhere first (refreshed db) second_same (others_kept is_not_backbone first (record { 0 = 0 }) refl) (id_of head)) lsas all)
 

@@ -38,7 +38,8 @@ any_filtered : {X : Type 0} (p q : X → Bool) (xs : List X) → ((x : X) → p 
 any_filtered p q [] implies = refl
 any_filtered p q (x ∷ xs) implies = by (p x) (q x) refl refl (any_filtered p q xs implies)
   where
-    by : (b c : Bool) → p x ≡ b → q x ≡ c → list_any p (filter q xs) ≡ list_any p xs → list_any p (cond c (x ∷ filter q xs) (filter q xs)) ≡ (p x || list_any p xs)
+    by : (b c : Bool) → p x ≡ b → q x ≡ c → list_any p (filter q xs) ≡ list_any p xs
+        → list_any p (cond c (x ∷ filter q xs) (filter q xs)) ≡ (p x || list_any p xs)
     by b true e f rest = ap (λ a. p x || a) rest
     by true false e f rest = absurd (true≢false (sym (implies x e) ∙ f))
     by false false e f rest = rest ∙ sym (ap (λ a. a || list_any p xs) e)
