@@ -2,7 +2,6 @@
 
 // What networks give, as text.
 mod expected;
-mod layers;
 mod texts;
 
 // Graphs, trees and hops.
@@ -10,6 +9,7 @@ mod graphs;
 mod hop_lists;
 mod hops;
 mod plain_hops;
+mod ring;
 mod ring_distances;
 mod ring_hops;
 mod trees;

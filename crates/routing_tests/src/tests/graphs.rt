@@ -1,7 +1,7 @@
 //! Graphs of small areas.
 
 use super::expected::expect_graph;
-use super::layers::graph_of;
+use crate::layers::graph_of;
 use area_graph::{Graph, GraphFault, Vertex};
 use lsa_codec::{Addr, AreaId, RouterId};
 use lsdb::Database;
@@ -97,8 +97,9 @@ fn leaves_out_what_is_at_max_age(rt: HostRuntime) -> Result<(), Fail> {
     Ok(())
 }
 
-/// The indices of the transit networks of a graph.
-fn network_indices(alloc: Global, graph: &Graph) -> Result<Vec<usize>, AllocError> {
+/// The indices of the transit networks of area 0.0.0.0 of a network.
+fn network_indices(alloc: Global, network: &str) -> Result<Vec<usize>, Fail> {
+    let graph = graph_of(alloc, &dump_of_text(alloc, network)?)?;
     let mut indices = Vec::new(alloc);
     for index in 0..graph.len() {
         if graph.is_network(index) {
@@ -108,16 +109,9 @@ fn network_indices(alloc: Global, graph: &Graph) -> Result<Vec<usize>, AllocErro
     Ok(indices)
 }
 
-/// The indices of the transit networks of area 0.0.0.0 of a network.
-fn network_indices_in(alloc: Global, network: &str) -> Result<Vec<usize>, Fail> {
-    let dump = dump_of_text(alloc, network)?;
-    Ok(network_indices(alloc, &graph_of(alloc, &dump)?)?)
-}
-
 #[test]
 fn tells_networks(rt: HostRuntime) -> Result<(), Fail> {
-    let network = network_of_age(rt.alloc(), 1)?;
-    let indices = network_indices_in(rt.alloc(), &network)?;
+    let indices = network_indices(rt.alloc(), &network_of_age(rt.alloc(), 1)?)?;
     assert_eq!(rt; indices.as_slice(), [1].as_slice());
     Ok(())
 }

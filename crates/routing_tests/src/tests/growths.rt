@@ -1,6 +1,6 @@
 //! What areas give, and the routes, where memory runs out.
 
-use super::layers::results_of;
+use crate::layers::results_of;
 use area_graph::Graph;
 use area_routes::{AreaResult, inter, intra};
 use lsa_codec::{AreaId, RouterId};

@@ -82,7 +82,7 @@ fn give_through(
 }
 
 /// The hops of each vertex from the root, by the distances from it.
-pub fn plain_hops(
+pub(super) fn plain_hops(
     alloc: Global,
     graph: &Graph,
     distances: &[Option<u64>],

@@ -1,59 +1,18 @@
 //! The hops on a ring by two programs.
 
-ghost use Rattle.std.specs.Prelude.{◌<◌, ◌≡◌, length};
+ghost use Rattle.std.specs.Prelude.{◌≡◌, length};
 
-use super::layers::{graph_of, hops_from};
 use super::plain_hops::plain_hops;
+use super::ring::Ring;
 use super::texts::hops_text;
+use crate::layers::{graph_of, hops_from};
 use area_graph::{Graph, Vertex};
 use lsa_codec::RouterId;
 use next_hops::{Hop, Hops};
-use samples::{
-    LsaList, RING_ROUTERS, RouterLink, add_ring_networks, ring_network, ring_router, to_network,
-    to_router,
-};
+use samples::{RING_ROUTERS, ring_router};
 use spf::distances_by_rounds;
 use std::alloc::Global;
 use std::test::*;
-
-/// The address of a router's interface.
-fn interface(place: u32, number: u32) -> u32 {
-    0x0a00_0000 | place % RING_ROUTERS << 8 | number
-}
-
-/// A router's links to both neighbours, to its network unless it is the last of the four, at each
-/// tenth place two more to the next, and at each eighth place one to a router that has no link
-/// back. All cost as much as the way over the network, but back from each fifth place, which is
-/// dearer.
-fn links(alloc: Global, place: u32) -> Result<Vec<RouterLink>, Fail>
-    requires { place < 40 }
-{
-    let mut links = Vec::new(alloc);
-    links.push(to_router(ring_router(place + 1), interface(place, 1), 1))?;
-    let back = if place % 5 == 0 { 2 } else { 1 };
-    links.push(to_router(ring_router(place + 39), interface(place, 2), back))?;
-    if place % 4 != 3 {
-        links.push(to_network(ring_network(place), 0x0a06_0000 | place, 2))?;
-    }
-    if place % 8 == 0 {
-        links.push(to_router(ring_router(place + 20), interface(place, 3), 1))?;
-    }
-    if place % 10 == 0 {
-        links.push(to_router(ring_router(place + 1), interface(place, 5), 1))?;
-        links.push(to_router(ring_router(place + 1), interface(place, 4), 1))?;
-    }
-    Ok(links)
-}
-
-/// The ring: 40 routers, and 10 networks of four places each.
-fn ring(alloc: Global) -> Result<Vec<u8>, Fail> {
-    let mut area = LsaList::new(alloc);
-    for place in 0..RING_ROUTERS {
-        area.router(ring_router(place), &links(alloc, place)?)?;
-    }
-    add_ring_networks(&mut area)?;
-    Ok(area.dump()?)
-}
 
 /// How many hops there are of all vertices, if both lists have the same ones of each.
 fn count_of_both(graph: &Graph, hops: &Hops, plain: &[Vec<Hop>]) -> Option<usize>
@@ -83,7 +42,7 @@ fn count_from(alloc: Global, graph: &Graph, place: u32) -> Result<Option<usize>,
 
 #[test]
 fn both_programs_agree(rt: HostRuntime) -> Result<(), Fail> {
-    let graph = graph_of(rt.alloc(), &ring(rt.alloc())?)?;
+    let graph = graph_of(rt.alloc(), &Ring::EqualWays.area(rt.alloc())?.dump()?)?;
     assert_eq!(rt; graph.len(), 50);
     let mut found: usize = 0;
     for place in 0..RING_ROUTERS {
@@ -97,7 +56,7 @@ fn both_programs_agree(rt: HostRuntime) -> Result<(), Fail> {
 
 /// The hops of a vertex from the first router.
 fn hops_at(alloc: Global, index: usize) -> Result<String, Fail> {
-    let graph = graph_of(alloc, &ring(alloc)?)?;
+    let graph = graph_of(alloc, &Ring::EqualWays.area(alloc)?.dump()?)?;
     let hops = hops_from(alloc, &graph, ring_router(0))?;
     if graph.len() <= index {
         return Ok(String::new(alloc));

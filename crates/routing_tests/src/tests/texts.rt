@@ -18,7 +18,7 @@ fn vertex_text(alloc: Global, vertex: Vertex) -> Result<String, Fail> {
 
 /// The vertices of a graph, one a line: its name, and of each edge the end, the cost and the Link
 /// Data.
-pub fn graph_text(alloc: Global, graph: &Graph) -> Result<String, Fail> {
+pub(super) fn graph_text(alloc: Global, graph: &Graph) -> Result<String, Fail> {
     let mut text = String::new(alloc);
     for index in 0..graph.len() {
         text.push_str(&vertex_text(alloc, graph.vertex(index))?)?;
@@ -33,7 +33,7 @@ pub fn graph_text(alloc: Global, graph: &Graph) -> Result<String, Fail> {
 }
 
 /// Hops, each after a space.
-pub fn hops_text(alloc: Global, hops: &[Hop]) -> Result<String, Fail> {
+pub(super) fn hops_text(alloc: Global, hops: &[Hop]) -> Result<String, Fail> {
     let mut text = String::new(alloc);
     for hop in hops {
         text.push_str(&format!(in alloc; " {hop}")?)?;
@@ -42,7 +42,7 @@ pub fn hops_text(alloc: Global, hops: &[Hop]) -> Result<String, Fail> {
 }
 
 /// The offers of an area, one a line: prefix, cost and hops.
-pub fn offers_text(alloc: Global, offers: &[Offer]) -> Result<String, Fail> {
+pub(super) fn offers_text(alloc: Global, offers: &[Offer]) -> Result<String, Fail> {
     let mut text = String::new(alloc);
     for offer in offers {
         let (net, cost) = (offer.net, offer.cost);
@@ -62,7 +62,7 @@ fn kind_text(kind: EntryKind) -> &'static str {
 }
 
 /// Entries, one a line: kind, router, area, cost and hops.
-pub fn entries_text(alloc: Global, entries: &[RouterEntry]) -> Result<String, Fail> {
+pub(super) fn entries_text(alloc: Global, entries: &[RouterEntry]) -> Result<String, Fail> {
     let mut text = String::new(alloc);
     for entry in entries {
         let (router, area, cost) = (entry.router, entry.area, entry.cost);
@@ -74,7 +74,7 @@ pub fn entries_text(alloc: Global, entries: &[RouterEntry]) -> Result<String, Fa
 }
 
 /// Routes, one a line: prefix, type, cost, areas and hops.
-pub fn routes_text(alloc: Global, routes: &Routes) -> Result<String, Fail> {
+pub(super) fn routes_text(alloc: Global, routes: &Routes) -> Result<String, Fail> {
     let mut text = String::new(alloc);
     for route in routes.as_slice() {
         let (net, kind, cost) = (route.net, route.kind, route.cost);
@@ -89,7 +89,7 @@ pub fn routes_text(alloc: Global, routes: &Routes) -> Result<String, Fail> {
 }
 
 /// The vertices of a graph, one a line: its name and its hops.
-pub fn vertex_hops_text(alloc: Global, graph: &Graph, hops: &Hops) -> Result<String, Fail>
+pub(super) fn vertex_hops_text(alloc: Global, graph: &Graph, hops: &Hops) -> Result<String, Fail>
     requires { length hops.now ≡ length graph.now.vertices }
 {
     let mut text = String::new(alloc);

@@ -1,7 +1,6 @@
 //! Trees of the two small areas.
 
-use super::layers::graph_of;
-use area_graph::Graph;
+use crate::layers::graph_of;
 use lsa_codec::RouterId;
 use rationed::Rationed;
 use samples::{R1, R3, R4, SAMPLE, network_of_three};
@@ -10,7 +9,7 @@ use std::alloc::{Allocator, Global};
 use std::test::*;
 
 /// The vertices that a tree reaches, in their order, each with its distance.
-pub fn reached<A: Allocator + Copy>(
+pub(super) fn reached<A: Allocator + Copy>(
     alloc: A,
     tree: &Tree<A>,
 ) -> Result<Vec<(usize, Option<u64>), A>, Fail> {
@@ -49,14 +48,11 @@ fn misses_a_router(rt: HostRuntime) -> Result<(), Fail> {
     Ok(())
 }
 
-/// The vertices that a tree of a root reaches, in their order, one a line: number and distance.
-fn reached_text(
-    alloc: Global,
-    graph: &Graph,
-    root: u32,
-    meter: &mut Meter,
-) -> Result<String, Fail> {
-    let tree = Tree::build(alloc, graph, RouterId(root), meter)?;
+/// The vertices of the network of three routers that a tree of a root reaches, in their order, one a
+/// line: number and distance.
+fn reached_text(alloc: Global, root: u32, meter: &mut Meter) -> Result<String, Fail> {
+    let graph = graph_of(alloc, &network_of_three(alloc)?)?;
+    let tree = Tree::build(alloc, &graph, RouterId(root), meter)?;
     let mut text = String::new(alloc);
     for (index, distance) in reached(alloc, &tree)? {
         text.push_str(&format!(in alloc; "{index} {distance:?}\n")?)?;
@@ -64,30 +60,17 @@ fn reached_text(
     Ok(text)
 }
 
-/// The distances in the network of three routers, counted by one meter.
-fn network_distances(alloc: Global, root: u32, meter: &mut Meter) -> Result<String, Fail> {
-    let graph = graph_of(alloc, &network_of_three(alloc)?)?;
-    reached_text(alloc, &graph, root, meter)
-}
-
 #[test]
 fn reaches_a_network_before_a_router(rt: HostRuntime) -> Result<(), Fail> {
     let mut meter = Meter::new();
-    let first = network_distances(rt.alloc(), R1, &mut meter)?;
-    assert_eq!(rt;
-        first.as_str(),
-        "0 Some(0)\n2 Some(5)\n3 Some(10)\n1 Some(10)\n"
-    );
-    let third = network_distances(rt.alloc(), R3, &mut meter)?;
-    assert_eq!(rt;
-        third.as_str(),
-        "1 Some(0)\n3 Some(10)\n0 Some(10)\n2 Some(10)\n"
-    );
-    let fourth = network_distances(rt.alloc(), R4, &mut meter)?;
-    assert_eq!(rt;
-        fourth.as_str(),
-        "2 Some(0)\n3 Some(5)\n0 Some(5)\n1 Some(5)\n"
-    );
+    for (root, expected) in [
+        (R1, "0 Some(0)\n2 Some(5)\n3 Some(10)\n1 Some(10)\n"),
+        (R3, "1 Some(0)\n3 Some(10)\n0 Some(10)\n2 Some(10)\n"),
+        (R4, "2 Some(0)\n3 Some(5)\n0 Some(5)\n1 Some(5)\n"),
+    ] {
+        let found = reached_text(rt.alloc(), root, &mut meter)?;
+        assert_eq!(rt; found.as_str(), expected);
+    }
     assert_eq!(rt; meter.count(), 3);
     Ok(())
 }

@@ -1,6 +1,10 @@
-//! What is built on databases, layer by layer.
+//! What is built on databases, layer by layer, for areas and routers that are named by numbers.
 
 ghost use Rattle.std.specs.Prelude.{◌≡◌, length, IfOk};
+ghost use Rattle.lsdb.specs.Places.{lists_of};
+ghost use Rattle.area_graph.specs.declared.vertex.Vertex.TheVariants.{Router};
+ghost use Rattle.next_hops.specs.FirstHops.{table_of};
+ghost use Rattle.routing_tests.specs.Layers.{result_in, results_in, IsBackboneOf, IsInterOf};
 
 use area_graph::Graph;
 use area_routes::{AreaResult, InterResult, inter, intra};
@@ -9,10 +13,12 @@ use lsdb::Database;
 use next_hops::Hops;
 use spf::{Meter, Tree};
 use std::alloc::{Allocator, Global};
-use std::test::*;
+use std::test::Fail;
 
 /// The graph of area 0.0.0.0.
-pub fn graph_of<A: Allocator + Copy>(alloc: A, dump: &[u8]) -> Result<Graph<A>, Fail> {
+pub fn graph_of<A: Allocator + Copy>(alloc: A, dump: &[u8]) -> Result<Graph<A>, Fail>
+    ensures { IfOk result (IsBackboneOf dump.now) }
+{
     let database = Database::load(alloc, dump)?;
     Ok(Graph::build(alloc, &database, AreaId(0))?)
 }
@@ -23,7 +29,9 @@ pub fn hops_from<A: Allocator + Copy>(
     graph: &Graph<A>,
     root: u32,
 ) -> Result<Hops<A>, Fail>
-    ensures { IfOk result (λ hops. length hops ≡ length graph.now.vertices) }
+    ensures table { IfOk result
+        (λ hops. hops ≡ table_of graph.now (Router (record { 0 = root }))) }
+    ensures sized { IfOk result (λ hops. length hops ≡ length graph.now.vertices) }
 {
     let tree = Tree::build(alloc, graph, RouterId(root), &mut Meter::new())?;
     Ok(Hops::build(alloc, graph, &tree)?)
@@ -35,7 +43,9 @@ pub fn result_of<A: Allocator + Copy>(
     database: &Database<A>,
     area: u32,
     root: u32,
-) -> Result<AreaResult<A>, Fail> {
+) -> Result<AreaResult<A>, Fail>
+    ensures { IfOk result (λ given. given ≡ result_in (lists_of database.now) root area) }
+{
     let area = AreaId(area);
     let graph = Graph::build(alloc, database, area)?;
     let tree = Tree::build(alloc, &graph, RouterId(root), &mut Meter::new())?;
@@ -49,7 +59,10 @@ pub fn results_of<A: Allocator + Copy>(
     database: &Database<A>,
     areas: &[u32],
     root: u32,
-) -> Result<Vec<AreaResult<A>, A>, Fail> {
+) -> Result<Vec<AreaResult<A>, A>, Fail>
+    ensures { IfOk result
+        (λ results. results.items ≡ results_in (lists_of database.now) root areas.now) }
+{
     let mut results = Vec::new(alloc);
     for area in areas {
         results.push(result_of(alloc, database, *area, root)?)?;
@@ -58,7 +71,9 @@ pub fn results_of<A: Allocator + Copy>(
 }
 
 /// The inter-area routes and the entries of a router that is attached to these areas.
-pub fn inter_in(alloc: Global, dump: &[u8], areas: &[u32], root: u32) -> Result<InterResult, Fail> {
+pub fn inter_in(alloc: Global, dump: &[u8], areas: &[u32], root: u32) -> Result<InterResult, Fail>
+    ensures { IfOk result (IsInterOf dump.now root areas.now) }
+{
     let database = Database::load(alloc, dump)?;
     let results = results_of(alloc, &database, areas, root)?;
     let routes = intra(alloc, &results)?;
