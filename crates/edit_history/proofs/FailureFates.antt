@@ -21,7 +21,7 @@ use Rattle.lsdb.specs.declared.slot.SlotId.{SlotId}
 use Rattle.lsdb.specs.Lists.{AreaHead, SectionLsas, IsBefore, IsDatabase, heads_of, has_key, is_head_of, is_section}
 use Rattle.lsdb.specs.Places.{Place, Places, SectionPlaces, item_at, slot_at, section_of, lists_of, places_in, places_or_none, head_or_none, IsNamed}
 use Rattle.lsdb.proofs.ListLemmas.{pairs_head, pairs_tail}
-use Rattle.edit_history.specs.Rules.{Fate, stays, by_fates, within, section_name}
+use Rattle.edit_history.specs.Rules.{Fate, Fates, stays, by_fates, within, section_name}
 use Rattle.edit_history.specs.Effect.{is_network, cut, link_fate, net_fate, router_fate}
 use Rattle.edit_history.specs.Exchange.{SwapData}
 use Rattle.edit_history.specs.steps.Plans.{slot_of, swap_for, section_swaps, swaps_from, place_swap}
@@ -60,7 +60,7 @@ router_safe router x accepted = safe_if x (advertising_router_of x == router.0) 
 
 -- ---- fates of one section
 
-same_swaps : (f g : List ℕ → Fate) (section : ℕ) (name : Section) (i : ℕ) (ps : List Place) → ((x : List ℕ) → f x ≡ g x)
+pub same_swaps : (f g : List ℕ → Fate) (section : ℕ) (name : Section) (i : ℕ) (ps : List Place) → ((x : List ℕ) → f x ≡ g x)
     → section_swaps f section name i ps ≡ section_swaps g section name i ps
 same_swaps f g section name i [] same = refl
 same_swaps f g section name i (None ∷ ps) same = same_swaps f g section name (suc i) ps same
@@ -68,7 +68,7 @@ same_swaps f g section name i (Some x ∷ ps) same =
     ap (λ (t : Fate). cons_option (swap_for (slot_of section i) name x t) (section_swaps f section name (suc i) ps)) (same x)
     ∙ ap (cons_option (swap_for (slot_of section i) name x (g x))) (same_swaps f g section name (suc i) ps same)
 
-no_swaps : (section : ℕ) (name : Section) (i : ℕ) (ps : List Place) → section_swaps (λ x. stays) section name i ps ≡ []
+pub no_swaps : (section : ℕ) (name : Section) (i : ℕ) (ps : List Place) → section_swaps (λ x. stays) section name i ps ≡ []
 no_swaps section name i [] = refl
 no_swaps section name i (None ∷ ps) = no_swaps section name (suc i) ps
 no_swaps section name i (Some x ∷ ps) = no_swaps section name (suc i) ps
@@ -197,21 +197,22 @@ pub place_end : (fate : List ℕ → Fate) (d : Places) (section : ℕ) (name : 
 place_end fate d section name i swaps total end so_far =
     sym (ap (λ (ps : List Place). swaps ++ section_swaps fate section name i ps) (drop_all i (places_in d section) end) ∙ append-nil swaps) ∙ so_far
 
-pub section_turn : (fate : List ℕ → Fate) (d : Places) (i j : ℕ) (name : Section) (old new total : List SwapData) → i < length d → j ≡ suc i
+pub section_turn : (fates : Fates) (d : Places) (i j : ℕ) (name : Section) (old new total : List SwapData) → i < length d → j ≡ suc i
     → name ≡ section_name (head_or_none (item_at d i))
-    → new ≡ old ++ section_swaps fate i name 0 (places_in d i) → old ++ swaps_from (λ head. fate) i (drop i d) ≡ total
-    → new ++ swaps_from (λ head. fate) j (drop j d) ≡ total
-section_turn fate d i j name old new total lt e named is so_far =
+    → new ≡ old ++ section_swaps (fates (head_or_none (item_at d i))) i name 0 (places_in d i) → old ++ swaps_from fates i (drop i d) ≡ total
+    → new ++ swaps_from fates j (drop j d) ≡ total
+section_turn fates d i j name old new total lt e named is so_far =
     let h = here d i j lt e in
-    ap (λ (ss : List SwapData). ss ++ swaps_from (λ head. fate) j (drop j d))
-    (is ∙ ap (λ (n : Section). old ++ section_swaps fate i n 0 (places_in d i)) named
-    ∙ ap (λ (o : Option SectionPlaces). old ++ section_swaps fate i (section_name (head_or_none o)) 0 (places_or_none o)) h.at)
-    ∙ append_assoc old (section_swaps fate i (section_name h.item.area) 0 h.item.places) (swaps_from (λ head. fate) j (drop j d))
-    ∙ ap (λ (k : ℕ). old ++ (section_swaps fate i (section_name h.item.area) 0 h.item.places ++ swaps_from (λ head. fate) k (drop j d))) e
-    ∙ ap (λ (ls : Places). old ++ swaps_from (λ head. fate) i ls) (sym h.rest)
+    ap (λ (ss : List SwapData). ss ++ swaps_from fates j (drop j d))
+    (is ∙ ap (λ (n : Section). old ++ section_swaps (fates (head_or_none (item_at d i))) i n 0 (places_in d i)) named
+    ∙ ap (λ (o : Option SectionPlaces).
+    old ++ section_swaps (fates (head_or_none o)) i (section_name (head_or_none o)) 0 (places_or_none o)) h.at)
+    ∙ append_assoc old (section_swaps (fates h.item.area) i (section_name h.item.area) 0 h.item.places) (swaps_from fates j (drop j d))
+    ∙ ap (λ (k : ℕ). old ++ (section_swaps (fates h.item.area) i (section_name h.item.area) 0 h.item.places ++ swaps_from fates k (drop j d))) e
+    ∙ ap (λ (ls : Places). old ++ swaps_from fates i ls) (sym h.rest)
     ∙ so_far
 
-pub section_end : (fate : List ℕ → Fate) (d : Places) (i : ℕ) (swaps total : List SwapData) → length d ≤ i
-    → swaps ++ swaps_from (λ head. fate) i (drop i d) ≡ total → swaps ≡ total
-section_end fate d i swaps total end so_far =
-    sym (ap (λ (ls : Places). swaps ++ swaps_from (λ head. fate) i ls) (drop_all i d end) ∙ append-nil swaps) ∙ so_far
+pub section_end : (fates : Fates) (d : Places) (i : ℕ) (swaps total : List SwapData) → length d ≤ i
+    → swaps ++ swaps_from fates i (drop i d) ≡ total → swaps ≡ total
+section_end fates d i swaps total end so_far =
+    sym (ap (λ (ls : Places). swaps ++ swaps_from fates i ls) (drop_all i d end) ∙ append-nil swaps) ∙ so_far

@@ -19,6 +19,7 @@ pub use Rattle.edit_history.proofs.Growing.{state_is, recorded}
 pub use Rattle.edit_history.proofs.Keys.{found_passes, other_key, same_key_true}
 pub use Rattle.edit_history.proofs.Linked.{done_len, undone_len, reverse_cons}
 pub use Rattle.edit_history.proofs.Returning.{edits_back, back_and_on, on_and_back, seam_drop, seam_take}
+pub use Rattle.edit_history.proofs.RefreshApart.{refresh_touches_none}
 pub use Rattle.edit_history.proofs.Sparing.{untouched_stay}
 pub use Rattle.edit_history.proofs.Touching.{applied_touches, undo_is, undo_spares, redo_is, redo_spares}
 

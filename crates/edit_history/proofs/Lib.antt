@@ -23,7 +23,14 @@ pub mod PrefixEdits
 pub mod Returning
 pub mod RecordChanges
 pub mod Folding
+pub mod RefreshFates
+pub mod SparedFates
 pub mod Sparing
 pub mod Touching
 pub mod Accepting
+pub mod RefreshSettles
+pub mod RefreshApart
+pub mod RefreshLoops
+pub mod RefreshPasses
+pub mod Refreshes
 pub mod HistoryLemmas

@@ -1,18 +1,17 @@
 -- An edit that touches no router-LSA or network-LSA of an area leaves those of the area as they are.
 use Rattle.std.proofs.Common.{◌≡◌, ℕ, Bool, true, false, cond, ◌&&◌, List, [], ◌∷◌, ◌++◌, length, Option, Some, None, Result, Ok, Err, refl, sym}
 use Rattle.std.proofs.Common.{ap, ◌∙◌, subst, append-nil}
-use Rattle.std.specs.Prelude.{All, IfOk, filter, if◌then◌else◌, ◌==◌}
+use Rattle.std.specs.Prelude.{All, IfOk, if◌then◌else◌, ◌==◌}
 use Rattle.std.specs.List.{find, filter_map, cons_option}
 use Rattle.std.proofs.lemmas.Bool.{or_parts, and_parts, eqb-true}
 use Rattle.std.proofs.lemmas.List.Folds.{list_any-append}
 use Rattle.std.proofs.lemmas.List.Elements.{filter-append, All-head, All-tail}
-use Rattle.lsa_codec.specs.declared.address.Addr.{Addr}
 use Rattle.lsa_codec.specs.declared.address.AreaId.{AreaId}
 use Rattle.lsa_codec.specs.declared.address.RouterId.{RouterId}
 use Rattle.lsa_codec.specs.declared.key.Key.{Key}
 use Rattle.lsa_codec.specs.declared.fault.MakeFault.{MakeFault}
 use Rattle.lsa_codec.specs.Accepted.{IsAccepted}
-use Rattle.lsa_codec.specs.Fields.{kind_of, advertising_router_of}
+use Rattle.lsa_codec.specs.Fields.{kind_of}
 use Rattle.lsa_codec.specs.Key.{key_of, router_key}
 use Rattle.lsa_codec.specs.Prefix.{Net}
 use Rattle.lsa_codec.specs.Views.{has_metric}
@@ -21,10 +20,10 @@ use Rattle.lsa_codec.specs.Originating.{with_metric, new_summary, new_external}
 use Rattle.lsa_codec.proofs.LsaLemmas.{metric_rewritten}
 use Rattle.lsdb.specs.declared.section.Section.{Section}
 use Rattle.lsdb.specs.declared.section.Section.TheVariants.{Area, AsWide}
-use Rattle.lsdb.specs.Lists.{AreaHead, SectionLsas, Lists, IsDatabase, IsSection, is_head_of, is_section, has_key, lsas_or_none, lsas_of}
+use Rattle.lsdb.specs.Lists.{AreaHead, SectionLsas, Lists, IsDatabase, IsSection, is_head_of, is_section, lsas_or_none, lsas_of}
 use Rattle.edit_script.specs.declared.edit.Edit.{Edit}
 use Rattle.edit_script.specs.declared.edit.Edit.TheVariants.{Cost, DropLink, FailLink, FailNet, FailRouter, AddStub, Summary, AddSummary, AddExternal}
-use Rattle.edit_script.specs.declared.edit.Edit.TheVariants.{DropExternal}
+use Rattle.edit_script.specs.declared.edit.Edit.TheVariants.{DropExternal, Refresh}
 use Rattle.edit_history.specs.declared.fault.EditFault.{EditFault}
 use Rattle.edit_history.specs.declared.fault.EditFault.TheVariants.{NoArea, NoRouter, NoLink, SameRouter, NoNetwork, NoSummary, NoExternal, Full}
 use Rattle.edit_history.specs.Rules.{Fate, stays, removed, rewritten, Rule, NewLsa, Change, by_fates, one_lsa, within, adding, outcome}
@@ -32,60 +31,9 @@ use Rattle.edit_history.specs.Rules.{change_of, addition, with_added, section_na
 use Rattle.edit_history.specs.Effect.{◌>>=◌, or_refused, made, area_of, router_lsa_in, router_lsa_of, has_router, stub_octets, is_dump_full, remaking}
 use Rattle.edit_history.specs.Effect.{is_originated_for, is_network, are_linked, options_in, is_type2, room_for, added, link_fate, net_fate, router_fate}
 use Rattle.edit_history.specs.Effect.{rule_of, effect, is_graph_kind, touched, touched_by, edit_touches, graph_lsas}
-use Rattle.edit_history.proofs.Keys.{same_key_true, found_passes}
-
-abbrev is_graph_lsa : List ℕ → Bool
-is_graph_lsa lsa = is_graph_kind (kind_of lsa)
-
-abbrev graph_of : List (List ℕ) → List (List ℕ)
-graph_of lsas = filter is_graph_lsa lsas
-
--- ---- fates that make no LSA one of the graph
-
-abbrev IsSpared : Fate → Type 0
-IsSpared stays = Unit {0}
-IsSpared removed = Unit {0}
-IsSpared (rewritten new) = is_graph_lsa new ≡ false
-
--- an LSA that is not of the graph does not become one of it
-abbrev Spares : Rule → Type 0
-Spares rule = (head : Option AreaHead) (lsa : List ℕ) → is_graph_lsa lsa ≡ false → IsSpared (rule.fates head lsa)
-
-spared_if : (b : Bool) (f g : Fate) → (b ≡ true → IsSpared f) → (b ≡ false → IsSpared g) → IsSpared (if b then f else g)
-spared_if true f g one two = one refl
-spared_if false f g one two = two refl
-
-no_router_lsa : (lsa : List ℕ) → is_graph_lsa lsa ≡ false → kind_of lsa ≡ 1 → ⊥
-no_router_lsa lsa other is = let of_graph : is_graph_lsa lsa ≡ true = ap is_graph_kind is in cc
-
-no_router_key : (router : RouterId) (lsa : List ℕ) → is_graph_lsa lsa ≡ false → has_key (router_key router) lsa ≡ true → ⊥
-no_router_key router lsa other has = no_router_lsa lsa other (ap (λ (k : Key). k.kind) (same_key_true (key_of lsa) (router_key router) has))
-
-router_lsa_spares : (name : Section) (router : RouterId) (fate : Fate) → Spares (one_lsa name (router_key router) fate)
-router_lsa_spares name router fate head lsa other =
-    spared_if (is_head_of name head) _ _ (λ _. spared_if (has_key (router_key router) lsa) _ _ (λ has. absurd (no_router_key router lsa other has))
-    (λ _. tt)) (λ _. tt)
-
-one_spares : (name : Section) (key : Key) (fate : Fate) → IsSpared fate → Spares (one_lsa name key fate)
-one_spares name key fate spared head lsa other =
-    spared_if (is_head_of name head) _ _ (λ _. spared_if (has_key key lsa) _ _ (λ _. spared) (λ _. tt)) (λ _. tt)
-
-links_spare : (area : AreaId) (router neighbor : RouterId) → Spares (within (Area area) (link_fate router neighbor))
-links_spare area router neighbor head lsa other =
-    spared_if (is_head_of (Area area) head) _ _
-    (λ _. spared_if (has_key (router_key router) lsa) _ _ (λ has. absurd (no_router_key router lsa other has))
-    (λ _. spared_if (has_key (router_key neighbor) lsa) _ _ (λ has. absurd (no_router_key neighbor lsa other has)) (λ _. tt)))
-    (λ _. tt)
-
-network_spares : (area : AreaId) (network : Addr) → Spares (within (Area area) (net_fate network))
-network_spares area network head lsa other =
-    spared_if (is_head_of (Area area) head) _ _
-    (λ _. spared_if (is_network network lsa) _ _ (λ _. tt)
-    (λ _. spared_if (kind_of lsa == 1) _ _ (λ is. absurd (no_router_lsa lsa other (eqb-true _ _ is))) (λ _. tt)))
-    (λ _. tt)
-
-router_spares : (router : RouterId) → Spares (by_fates (λ head. router_fate router))
-router_spares router head lsa other = spared_if (advertising_router_of lsa == router.0) _ _ (λ _. tt) (λ _. tt)
+use Rattle.edit_history.proofs.Keys.{found_passes}
+use Rattle.edit_history.proofs.SparedFates.{is_graph_lsa, graph_of, IsSpared, Spares, router_lsa_spares, one_spares, links_spare, network_spares}
+use Rattle.edit_history.proofs.SparedFates.{router_spares, refresh_spares}
 
 -- ---- the rules of edits
 
@@ -129,7 +77,7 @@ summary_spared section router prefix metric lsa sound found =
 added_spares : (db : Lists) (name : Section) (new : List ℕ) → IfRuled (added db name new)
 added_spares db name new =
     if_bound (room_for db name (key_of new) (length new)) (λ room. let r : Result Rule EditFault = Ok (adding name new) in r)
-    (λ room _. ruled (adding name new) (λ head lsa other. tt))
+    (λ room _. ruled (adding name new) (λ head lsa accepted other. tt))
 
 abbrev remade : AreaId → RouterId → List ℕ → Result Rule EditFault
 remade area router new = Ok (one_lsa (Area area) (router_key router) (rewritten new))
@@ -189,6 +137,7 @@ rule_spares db (DropExternal router prefix) sound =
     let gone : List ℕ → Result Rule EditFault = λ lsa. Ok (one_lsa AsWide (key_of lsa) removed) in
     if_bound (or_refused NoExternal (find (is_originated_for 5 router prefix) (lsas_of AsWide db))) gone
     (λ lsa _. ruled _ (one_spares AsWide (key_of lsa) removed tt))
+rule_spares db Refresh sound = ruled _ (refresh_spares db)
 
 -- ---- a section of the area
 
@@ -202,12 +151,13 @@ dropped : (lsa : List ℕ) (rest lsas : List (List ℕ)) → is_graph_lsa lsa �
 dropped lsa rest lsas other same = same ∙ sym (ap (λ (b : Bool). cond b (lsa ∷ graph_of lsas) (graph_of lsas)) other)
 
 kept_graph : (fate : List ℕ → Fate) (id : ℕ) (area : AreaId) (lsas : List (List ℕ))
-    → ((lsa : List ℕ) → is_graph_lsa lsa ≡ false → IsSpared (fate lsa)) → (id == area.0) ≡ true
+    → ((lsa : List ℕ) → IsAccepted lsa → is_graph_lsa lsa ≡ false → IsSpared (fate lsa)) → All IsAccepted lsas → (id == area.0) ≡ true
     → touched area (filter_map (λ lsa. change_of (Area (record { 0 = id })) lsa (fate lsa)) lsas) ≡ false
     → graph_of (filter_map (λ lsa. outcome (fate lsa) lsa) lsas) ≡ graph_of lsas
-kept_graph fate id area [] spares here untouched = refl
-kept_graph fate id area (x ∷ xs) spares here untouched =
-    by_fate (fate x) (spares x) untouched (λ rest. kept_graph fate id area xs spares here rest) where
+kept_graph fate id area [] spares all here untouched = refl
+kept_graph fate id area (x ∷ xs) spares all here untouched =
+    by_fate (fate x) (spares x (All-head IsAccepted x xs all)) untouched
+    (λ rest. kept_graph fate id area xs spares (All-tail IsAccepted x xs all) here rest) where
       rest_after : List (List ℕ)
       rest_after = filter_map (λ lsa. outcome (fate lsa) lsa) xs
 
@@ -226,27 +176,27 @@ kept_graph fate id area (x ∷ xs) spares here untouched =
           let other : is_graph_lsa x ≡ false = not_of_graph (id == area.0) (kind_of x) here parts.0 in
           sym (dropped new rest_after rest_after (spared other) refl) ∙ dropped x rest_after xs other (rest parts.1)
 
-section_graph : (rule : Rule) (area : AreaId) (s : SectionLsas) → Spares rule → is_section (Area area) s ≡ true
+section_graph : (rule : Rule) (area : AreaId) (s : SectionLsas) → Spares rule → All IsAccepted s.lsas → is_section (Area area) s ≡ true
     → touched area (section_changes rule s) ≡ false
     → graph_of (section_after rule s).lsas ≡ graph_of s.lsas
-section_graph rule area s spares named untouched = by_head s.area s.lsas named (by_added rule.added) untouched where
-  by_head : (head : Option AreaHead) (lsas : List (List ℕ)) → is_head_of (Area area) head ≡ true
-      → ((head : AreaHead) (lsas : List (List ℕ)) → (head.id == area.0) ≡ true
+section_graph rule area s spares all named untouched = by_head s.area s.lsas all named (by_added rule.added) untouched where
+  by_head : (head : Option AreaHead) (lsas : List (List ℕ)) → All IsAccepted lsas → is_head_of (Area area) head ≡ true
+      → ((head : AreaHead) (lsas : List (List ℕ)) → All IsAccepted lsas → (head.id == area.0) ≡ true
       → touched area (with_added (addition (section_name (Some head))) rule.added (Some head)
       (filter_map (λ lsa. change_of (section_name (Some head)) lsa (rule.fates (Some head) lsa)) lsas)) ≡ false
       → graph_of (with_added (λ lsa. lsa) rule.added (Some head) (filter_map (λ lsa. outcome (rule.fates (Some head) lsa) lsa) lsas)) ≡ graph_of lsas)
       → touched area (with_added (addition (section_name head)) rule.added head
       (filter_map (λ lsa. change_of (section_name head) lsa (rule.fates head lsa)) lsas)) ≡ false
       → graph_of (with_added (λ lsa. lsa) rule.added head (filter_map (λ lsa. outcome (rule.fates head lsa) lsa) lsas)) ≡ graph_of lsas
-  by_head None lsas named each un = absurd cc
-  by_head (Some head) lsas named each un = each head lsas named un
+  by_head None lsas all named each un = absurd cc
+  by_head (Some head) lsas all named each un = each head lsas all named un
 
-  by_added : (o : Option NewLsa) (head : AreaHead) (lsas : List (List ℕ)) → (head.id == area.0) ≡ true
+  by_added : (o : Option NewLsa) (head : AreaHead) (lsas : List (List ℕ)) → All IsAccepted lsas → (head.id == area.0) ≡ true
       → touched area (with_added (addition (section_name (Some head))) o (Some head)
       (filter_map (λ lsa. change_of (section_name (Some head)) lsa (rule.fates (Some head) lsa)) lsas)) ≡ false
       → graph_of (with_added (λ lsa. lsa) o (Some head) (filter_map (λ lsa. outcome (rule.fates (Some head) lsa) lsa) lsas)) ≡ graph_of lsas
-  by_added None head lsas here un = kept_graph (rule.fates (Some head)) head.id area lsas (spares (Some head)) here un
-  by_added (Some new) head lsas here un = by_section (is_head_of new.section (Some head)) un where
+  by_added None head lsas all here un = kept_graph (rule.fates (Some head)) head.id area lsas (spares (Some head)) all here un
+  by_added (Some new) head lsas all here un = by_section (is_head_of new.section (Some head)) un where
     after : List (List ℕ)
     after = filter_map (λ lsa. outcome (rule.fates (Some head) lsa) lsa) lsas
 
@@ -255,7 +205,7 @@ section_graph rule area s spares named untouched = by_head s.area s.lsas named (
 
     by_section : (b : Bool) → touched area (if b then cs ++ addition (section_name (Some head)) new.lsa ∷ [] else cs) ≡ false
         → graph_of (if b then after ++ new.lsa ∷ [] else after) ≡ graph_of lsas
-    by_section false rest = kept_graph (rule.fates (Some head)) head.id area lsas (spares (Some head)) here rest
+    by_section false rest = kept_graph (rule.fates (Some head)) head.id area lsas (spares (Some head)) all here rest
     by_section true both =
         let parts = or_parts _ _ (sym (list_any-append _ cs (addition (section_name (Some head)) new.lsa ∷ [])) ∙ both) in
         let last = or_parts _ _ parts.1 in
@@ -263,23 +213,24 @@ section_graph rule area s spares named untouched = by_head s.area s.lsas named (
         filter-append is_graph_lsa after (new.lsa ∷ [])
         ∙ ap (λ (ys : List (List ℕ)). graph_of after ++ ys) (sym (dropped new.lsa [] [] other refl))
         ∙ append-nil (graph_of after)
-        ∙ kept_graph (rule.fates (Some head)) head.id area lsas (spares (Some head)) here parts.0
+        ∙ kept_graph (rule.fates (Some head)) head.id area lsas (spares (Some head)) all here parts.0
 
 -- ---- a whole database
 
-ruled_graph : (rule : Rule) (area : AreaId) (db : Lists) → Spares rule → touched area (changes_by rule db) ≡ false
+ruled_graph : (rule : Rule) (area : AreaId) (db : Lists) → Spares rule → All IsSection db → touched area (changes_by rule db) ≡ false
     → graph_lsas area (lists_after rule db) ≡ graph_lsas area db
-ruled_graph rule area [] spares untouched = refl
-ruled_graph rule area (s ∷ ss) spares untouched = by_name (is_section (Area area) s) refl (λ rest. ruled_graph rule area ss spares rest) where
-  parts : (touched area (section_changes rule s) ≡ false) × (touched area (changes_by rule ss) ≡ false)
-  parts = or_parts _ _ (sym (list_any-append _ (section_changes rule s) (changes_by rule ss)) ∙ untouched)
+ruled_graph rule area [] spares all untouched = refl
+ruled_graph rule area (s ∷ ss) spares all untouched =
+    by_name (is_section (Area area) s) refl (λ rest. ruled_graph rule area ss spares (All-tail IsSection s ss all) rest) where
+      parts : (touched area (section_changes rule s) ≡ false) × (touched area (changes_by rule ss) ≡ false)
+      parts = or_parts _ _ (sym (list_any-append _ (section_changes rule s) (changes_by rule ss)) ∙ untouched)
 
-  by_name : (b : Bool) → is_section (Area area) s ≡ b
-      → (touched area (changes_by rule ss) ≡ false → graph_lsas area (lists_after rule ss) ≡ graph_lsas area ss)
-      → graph_of (lsas_or_none (cond b (Some (section_after rule s)) (find (is_section (Area area)) (lists_after rule ss)))) ≡ graph_of
-      (lsas_or_none (cond b (Some s) (find (is_section (Area area)) ss)))
-  by_name true named rest = section_graph rule area s spares named parts.0
-  by_name false named rest = rest parts.1
+      by_name : (b : Bool) → is_section (Area area) s ≡ b
+          → (touched area (changes_by rule ss) ≡ false → graph_lsas area (lists_after rule ss) ≡ graph_lsas area ss)
+          → graph_of (lsas_or_none (cond b (Some (section_after rule s)) (find (is_section (Area area)) (lists_after rule ss)))) ≡ graph_of
+          (lsas_or_none (cond b (Some s) (find (is_section (Area area)) ss)))
+      by_name true named rest = section_graph rule area s spares (All-head IsSection s ss all).accepted named parts.0
+      by_name false named rest = rest parts.1
 
 pub untouched_stay : (db after : Lists) (edit : Edit) (area : AreaId) → IsDatabase db → effect db edit ≡ Ok after → edit_touches area db edit ≡ false
     → graph_lsas area after ≡ graph_lsas area db
@@ -288,5 +239,5 @@ untouched_stay db after edit area sound leads untouched = by_rule (rule_of db ed
       → touched_by area (r >>= λ rule. Ok (changes_by rule db)) ≡ false → graph_lsas area after ≡ graph_lsas area db
   by_rule (Ok rule) ruled is un =
       let same : lists_after rule db ≡ after = cc in
-      ap (graph_lsas area) (sym same) ∙ ruled_graph rule area db ruled.spares un
+      ap (graph_lsas area) (sym same) ∙ ruled_graph rule area db ruled.spares sound.sections un
   by_rule (Err fault) ruled is un = absurd cc

@@ -1,5 +1,6 @@
 pub mod Fault
 pub mod Rules
+pub mod Refreshing
 pub mod Effect
 pub mod Exchange
 pub mod Grown

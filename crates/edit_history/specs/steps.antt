@@ -1,3 +1,4 @@
 -- Steps of the code, which no public contract cites.
 pub mod Plans
 pub mod Failing
+pub mod Passing

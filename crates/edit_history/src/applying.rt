@@ -23,6 +23,8 @@ use std::alloc::Allocator;
 ///   `KeyTaken`, `Full`;
 /// - a new AS-external-LSA: `NoRouter`, `KeyTaken`, `Full`; one that is dropped: `NoExternal`.
 ///
+/// A refresh is refused for want of memory alone.
+///
 /// [`OutOfMemory`](EditFault::OutOfMemory) comes only for an edit that would be carried out, where
 /// memory ran out. All memory is taken, and a place for a new LSA is opened, before the first LSA
 /// is exchanged; after a refusal the database is as it was, place for place.

@@ -5,6 +5,8 @@ ghost use Rattle.lsa_codec.specs.declared.address.AreaId.{AreaId};
 ghost use Rattle.lsdb.specs.Lists.{IsDatabase, Lists};
 ghost use Rattle.lsdb.specs.Places.{Places, lists_of};
 ghost use Rattle.edit_script.specs.declared.edit.Edit.{Edit};
+ghost use Rattle.edit_script.specs.declared.edit.Edit.TheVariants.{Refresh};
+ghost use Rattle.summary_metrics.specs.Refreshed.{IsSettled, refreshed};
 ghost use Rattle.edit_history.specs.declared.fault.EditFault.{EditFault};
 ghost use Rattle.edit_history.specs.declared.fault.EditFault.TheVariants.{HistoryFull};
 ghost use Rattle.edit_history.specs.Rules.{Change};
@@ -14,6 +16,8 @@ ghost use Rattle.edit_history.specs.Grown.{Grown};
 ghost use Rattle.edit_history.specs.Applied.{Applied, TakesBack, CarriesOut, Tells};
 ghost use Rattle.edit_history.specs.Journal.{HistoryData, Links};
 ghost use Rattle.edit_history.specs.Session.{Session, Request, NoneRefused, session_of, start, state, effects, most_edits, edited, edited_by, after_requests, moved_back, moved_on, undo_touches, redo_touches};
+
+use summary_metrics::summaries_settle;
 
 /// What is done is undone again, to the same places and swaps, and the other way round.
 pub fn inverses()
@@ -121,3 +125,17 @@ pub fn untouched_areas_stay()
         → graph_lsas area (state (moved_on k (session_of d h)))
         ≡ graph_lsas area (state (session_of d h)) }
 {}
+
+/// A refresh leaves the refreshed database: each covered summary-LSA has the metric that it is due
+/// in that very database. So a second refresh changes no octet, and tells no change. It touches no
+/// area.
+pub fn refresh_settles()
+    ensures effect { (db : Lists) → effect db Refresh ≡ Ok (refreshed db) }
+    ensures settled { (db : Lists) → IsDatabase db → IsSettled (refreshed db) }
+    ensures again { (db : Lists) → IsDatabase db
+        → effect (refreshed db) Refresh ≡ Ok (refreshed db) }
+    ensures silent { (db : Lists) → IsDatabase db → changes (refreshed db) Refresh ≡ Ok [] }
+    ensures graphs { (db : Lists) (area : AreaId) → edit_touches area db Refresh ≡ false }
+{
+    summaries_settle();
+}

@@ -17,6 +17,7 @@ mod lookup;
 mod planning;
 mod prefixes;
 mod record;
+mod refreshing;
 mod swap;
 
 pub use applying::apply;
@@ -24,6 +25,6 @@ pub use fault::{EditFault, RedoFault, UndoFault};
 pub use history::History;
 pub use laws::{
     changes_told, folded, histories_are_linked, histories_show_sessions, inverses, moves,
-    no_edit_is_refused, untouched_areas_stay,
+    no_edit_is_refused, refresh_settles, untouched_areas_stay,
 };
 pub use record::{Record, replay, revert};

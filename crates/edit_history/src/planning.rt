@@ -8,6 +8,7 @@ use crate::failures::{plan_fail_link, plan_fail_net, plan_fail_router};
 use crate::fault::EditFault;
 use crate::links::{plan_add_stub, plan_cost, plan_drop_link};
 use crate::prefixes::{plan_add_external, plan_add_summary, plan_drop_external, plan_summary};
+use crate::refreshing::plan_refresh;
 use crate::swap::Swap;
 use edit_script::Edit;
 use lsdb::Database;
@@ -64,5 +65,6 @@ pub fn plan<A: Allocator + Copy>(
             forward,
             tag,
         } => plan_add_external(database, router, prefix, metric_type, metric, forward, tag),
+        Edit::Refresh => plan_refresh(database),
     }
 }

@@ -6,7 +6,7 @@ use Rattle.std.proofs.lemmas.List.Elements.{All-from_recursion}
 use Rattle.std.specs.List.{AllByRecursion}
 use Rattle.edit_script.specs.declared.edit.Edit.{Edit}
 use Rattle.edit_script.specs.declared.edit.Edit.TheVariants.{Cost, DropLink, FailLink, FailNet, FailRouter, AddStub, Summary, AddSummary, AddExternal}
-use Rattle.edit_script.specs.declared.edit.Edit.TheVariants.{DropExternal}
+use Rattle.edit_script.specs.declared.edit.Edit.TheVariants.{DropExternal, Refresh}
 use Rattle.edit_script.specs.declared.edit.MetricType.{MetricType}
 use Rattle.edit_script.specs.declared.edit.MetricType.TheVariants.{Type1, Type2}
 use Rattle.edit_script.specs.declared.command.Command.{Command}
@@ -14,7 +14,7 @@ use Rattle.edit_script.specs.declared.command.Command.TheVariants as command
 use Rattle.edit_script.specs.Words.{Word, is_blank, words}
 use Rattle.edit_script.specs.Reading.{metric_type, edit_of, cost_of, drop_link_of, fail_link_of, fail_net_of, fail_router_of, add_stub_of, summary_of}
 use Rattle.edit_script.specs.Reading.{add_summary_of, add_external_of, drop_external_of, command_of, undo_of, redo_of, table_of, tables_of, compare_of}
-use Rattle.edit_script.specs.Reading.{info_of}
+use Rattle.edit_script.specs.Reading.{info_of, refresh_of}
 use Rattle.edit_script.specs.Line.{meaning, meaning_of_words, behind_branch}
 use Rattle.edit_script.specs.Spelling.{spelling, type_text, edit_words, command_words, branch_word, Says, IsEditInRange, IsInRange}
 use Rattle.edit_script.proofs.Split.{IsWord, words_joined}
@@ -84,6 +84,7 @@ are_words (AddExternal router prefix type metric forward tag) h = (
 )
 are_words (DropExternal router prefix) h =
     (literal (codes "drop-external") refl (omega arith), (IsWord-address router.0, (IsWord-prefix prefix h.1, tt)))
+are_words Refresh h = (literal (codes "refresh") refl (omega arith), tt)
 
 words_again : (edit : Edit) → IsEditInRange edit → words (spelling edit) ≡ edit_words edit
 words_again (Cost area router link metric) h = words_joined _ _ (are_words (Cost area router link metric) h)
@@ -96,6 +97,7 @@ words_again (Summary area router prefix metric) h = words_joined _ _ (are_words 
 words_again (AddSummary area router prefix metric) h = words_joined _ _ (are_words (AddSummary area router prefix metric) h)
 words_again (AddExternal router prefix type metric forward tag) h = words_joined _ _ (are_words (AddExternal router prefix type metric forward tag) h)
 words_again (DropExternal router prefix) h = words_joined _ _ (are_words (DropExternal router prefix) h)
+words_again Refresh h = words_joined _ _ (are_words Refresh h)
 
 type_again : (type : MetricType) → metric_type (type_text type) ≡ Ok type
 type_again Type1 = refl
@@ -104,7 +106,7 @@ type_again Type2 = refl
 -- the words of an edit are read again
 edit_again : (edit : Edit) → IsEditInRange edit → (branch : ℕ) → behind_branch branch (edit_words edit) ≡ Ok (branch, command.Edit edit)
 unfolding behind_branch command_of edit_of cost_of drop_link_of fail_link_of fail_net_of fail_router_of
-    add_stub_of summary_of add_summary_of add_external_of drop_external_of
+    add_stub_of summary_of add_summary_of add_external_of drop_external_of refresh_of
 edit_again (Cost area router link metric) h branch =
     simp (
       address_again area.0 h.0,
@@ -139,6 +141,7 @@ edit_again (AddExternal router prefix type metric forward tag) h branch =
     )
 edit_again (DropExternal router prefix) h branch =
     simp (address_again router.0 h.0, prefix_again prefix h.1)
+edit_again Refresh h branch = refl
 
 -- the words of a command are read again
 read_again : (c : Command) → IsInRange c → (branch : ℕ) → behind_branch branch (command_words c) ≡ Ok (branch, c)
@@ -164,6 +167,7 @@ without_branch (command.Edit (Summary area router prefix metric)) = refl
 without_branch (command.Edit (AddSummary area router prefix metric)) = refl
 without_branch (command.Edit (AddExternal router prefix type metric forward tag)) = refl
 without_branch (command.Edit (DropExternal router prefix)) = refl
+without_branch (command.Edit Refresh) = refl
 without_branch (command.Undo count) = refl
 without_branch (command.Redo count) = refl
 without_branch (command.Table router) = refl

@@ -3,15 +3,15 @@ use Rattle.std.proofs.Common.{◌≡◌, List, [], ◌∷◌, Ok, ap, ◌∙◌,
 use Rattle.std.specs.Prelude.{codes}
 use Rattle.edit_script.specs.declared.edit.Edit.{Edit}
 use Rattle.edit_script.specs.declared.edit.Edit.TheVariants.{Cost, DropLink, FailLink, FailNet, FailRouter, AddStub, Summary, AddSummary, AddExternal}
-use Rattle.edit_script.specs.declared.edit.Edit.TheVariants.{DropExternal}
+use Rattle.edit_script.specs.declared.edit.Edit.TheVariants.{DropExternal, Refresh}
 use Rattle.edit_script.specs.Words.{Word}
 use Rattle.edit_script.specs.Reading.{one_of, two_of, three_of, four_of, six_of, number, address, prefix, metric_type, cost_of, drop_link_of}
 use Rattle.edit_script.specs.Reading.{fail_link_of, fail_net_of, fail_router_of, add_stub_of, summary_of, add_summary_of, add_external_of}
-use Rattle.edit_script.specs.Reading.{drop_external_of}
+use Rattle.edit_script.specs.Reading.{drop_external_of, none_of, refresh_of}
 use Rattle.edit_script.specs.Spelling.{edit_words}
 use Rattle.edit_script.specs.Spelling.{IsEditInRange}
 use Rattle.edit_script.proofs.SpelledArguments.{then_ok, same_ok, two_same, three_same, four_same, six_same, number_read, address_read, prefix_read}
-use Rattle.edit_script.proofs.SpelledArguments.{type_read, one_is, two_are, three_are, four_are, six_are}
+use Rattle.edit_script.proofs.SpelledArguments.{type_read, none_are, one_is, two_are, three_are, four_are, six_are}
 
 -- ---- the edits
 
@@ -200,4 +200,14 @@ drop_external_read arguments edit h =
     subst (IsEdit (codes "drop-external" ∷ arguments)) given (record {
       words = ap (λ (ws : List Word). codes "drop-external" ∷ ws) (two_are arguments w word.1.0 ∙ two_same _ _ _ _ first.0 second.0);
       range = (first.1, second.1);
+    })
+
+pub refresh_read : (arguments : List Word) (edit : Edit) → refresh_of arguments ≡ Ok edit → IsEdit (codes "refresh" ∷ arguments) edit
+unfolding refresh_of
+refresh_read arguments edit h =
+    let nothing = then_ok (none_of arguments) _ edit h in
+    let given : Refresh ≡ edit = same_ok _ edit nothing.1.1 in
+    subst (IsEdit (codes "refresh" ∷ arguments)) given (record {
+      words = ap (λ (ws : List Word). codes "refresh" ∷ ws) (none_are arguments nothing.0 nothing.1.0);
+      range = tt;
     })

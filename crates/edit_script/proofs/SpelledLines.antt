@@ -17,7 +17,7 @@ use Rattle.edit_script.specs.Spelling.{command_words, branch_word, Says}
 use Rattle.edit_script.specs.Spelling.{IsInRange}
 use Rattle.edit_script.proofs.SpelledArguments.{then_ok, same_ok, of_ok, number_spelled, number_read, address_read, none_are, one_is}
 use Rattle.edit_script.proofs.SpelledEdits.{IsEdit, cost_read, drop_link_read, fail_link_read, fail_net_read, fail_router_read, add_stub_read}
-use Rattle.edit_script.proofs.SpelledEdits.{summary_read, add_summary_read, add_external_read, drop_external_read}
+use Rattle.edit_script.proofs.SpelledEdits.{summary_read, add_summary_read, add_external_read, drop_external_read, refresh_read}
 
 -- ---- the commands
 
@@ -127,7 +127,8 @@ edit_word_read word arguments edit h =
     (by_name IsEdit (codes "add-summary") word arguments _ _ edit (add_summary_read arguments edit)
     (by_name IsEdit (codes "add-external") word arguments _ _ edit (add_external_read arguments edit)
     (by_name IsEdit (codes "drop-external") word arguments _ _ edit (drop_external_read arguments edit)
-    (λ e. absurd cc))))))))))
+    (by_name IsEdit (codes "refresh") word arguments _ _ edit (refresh_read arguments edit)
+    (λ e. absurd cc)))))))))))
     h
 
 command_read : (word : Word) (arguments : List Word) (c : Command) → command_of word arguments ≡ Ok c → IsCommand (word ∷ arguments) c

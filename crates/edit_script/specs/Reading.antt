@@ -3,7 +3,7 @@ use Rattle.std.specs.Prelude.{◌≡◌, ℕ, nat_lt, List, [], ◌∷◌, lengt
 use Rattle.lsa_codec.specs.Views.{ls_infinity}
 use Rattle.lsa_codec.specs.Prefix.{Net}
 use Rattle.edit_script.specs.declared.edit.Edit.{Edit}
-use Rattle.edit_script.specs.declared.edit.Edit.TheVariants.{Cost, DropLink, FailLink, FailNet, FailRouter, AddStub, Summary, AddSummary, AddExternal, DropExternal}
+use Rattle.edit_script.specs.declared.edit.Edit.TheVariants.{Cost, DropLink, FailLink, FailNet, FailRouter, AddStub, Summary, AddSummary, AddExternal, DropExternal, Refresh}
 use Rattle.edit_script.specs.declared.edit.MetricType.{MetricType}
 use Rattle.edit_script.specs.declared.edit.MetricType.TheVariants.{Type1, Type2}
 use Rattle.edit_script.specs.declared.command.Command.{Command}
@@ -166,6 +166,12 @@ drop_external_of arguments = do
   prefix ← prefix word.1
   Ok (DropExternal (record { 0 = router }) prefix)
 
+-- refresh
+unfoldable pub refresh_of : List Word → Result Edit ScriptFault
+refresh_of arguments = do
+  _ ← none_of arguments
+  Ok Refresh
+
 -- the command word of an edit, and its arguments
 unfoldable pub edit_of : Word → List Word → Result Edit ScriptFault
 edit_of word arguments =
@@ -179,6 +185,7 @@ edit_of word arguments =
     else if bytes_eq word (codes "add-summary") then add_summary_of arguments
     else if bytes_eq word (codes "add-external") then add_external_of arguments
     else if bytes_eq word (codes "drop-external") then drop_external_of arguments
+    else if bytes_eq word (codes "refresh") then refresh_of arguments
     else Err UnknownWord
 
 -- ---- the commands, by their arguments

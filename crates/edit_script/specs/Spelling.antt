@@ -4,7 +4,7 @@ use Rattle.std.specs.List.{join_with_byte}
 use Rattle.lsa_codec.specs.Spelling.{address_text, prefix_text}
 use Rattle.lsa_codec.specs.Prefix.{Net, IsNet}
 use Rattle.edit_script.specs.declared.edit.Edit.{Edit}
-use Rattle.edit_script.specs.declared.edit.Edit.TheVariants.{Cost, DropLink, FailLink, FailNet, FailRouter, AddStub, Summary, AddSummary, AddExternal, DropExternal}
+use Rattle.edit_script.specs.declared.edit.Edit.TheVariants.{Cost, DropLink, FailLink, FailNet, FailRouter, AddStub, Summary, AddSummary, AddExternal, DropExternal, Refresh}
 use Rattle.edit_script.specs.declared.edit.MetricType.{MetricType}
 use Rattle.edit_script.specs.declared.edit.MetricType.TheVariants.{Type1, Type2}
 use Rattle.edit_script.specs.declared.command.Command.{Command}
@@ -29,6 +29,7 @@ edit_words (AddSummary area router prefix metric) = codes "add-summary" ∷ addr
 edit_words (AddExternal router prefix type metric forward tag) =
     codes "add-external" ∷ address_text router.0 ∷ prefix_text prefix ∷ type_text type ∷ decimal metric ∷ address_text forward.0 ∷ decimal tag ∷ []
 edit_words (DropExternal router prefix) = codes "drop-external" ∷ address_text router.0 ∷ prefix_text prefix ∷ []
+edit_words Refresh = codes "refresh" ∷ []
 
 -- the words of a command
 abbrev pub command_words : Command → List Word
@@ -69,6 +70,7 @@ IsEditInRange (Summary area router prefix metric) = (area.0 < 2 ^ 32) × (router
 IsEditInRange (AddSummary area router prefix metric) = (area.0 < 2 ^ 32) × (router.0 < 2 ^ 32) × IsPrefix prefix × (metric < 2 ^ 24)
 IsEditInRange (AddExternal router prefix type metric forward tag) = (router.0 < 2 ^ 32) × IsPrefix prefix × (metric < 2 ^ 24) × (forward.0 < 2 ^ 32) × (tag < 2 ^ 32)
 IsEditInRange (DropExternal router prefix) = (router.0 < 2 ^ 32) × IsPrefix prefix
+IsEditInRange Refresh = Unit
 
 -- each number of a command is within the range of its type
 abbrev pub IsInRange : Command → Type 0

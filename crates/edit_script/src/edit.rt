@@ -127,6 +127,9 @@ pub enum Edit {
         /// The network that it tells of.
         prefix: Prefix,
     },
+    /// `refresh`: the summary-LSAs that are there get the metrics that their originators announce
+    /// (RFC 2328, 12.4.3).
+    Refresh,
 }
 
 impl fmt::Display for MetricType {
@@ -201,6 +204,7 @@ impl fmt::Display for Edit {
                 )
             }
             Edit::DropExternal { router, prefix } => write!(f, "drop-external {router} {prefix}"),
+            Edit::Refresh => write!(f, "refresh"),
         }
     }
 }

@@ -2,12 +2,12 @@
 
 ghost use Rattle.std.specs.Prelude.{◌≡◌};
 ghost use Rattle.edit_script.specs.Words.{words};
-ghost use Rattle.edit_script.specs.Reading.{cost_of, drop_link_of, fail_link_of, fail_net_of, fail_router_of, add_stub_of, summary_of, add_summary_of, add_external_of, drop_external_of, edit_of};
+ghost use Rattle.edit_script.specs.Reading.{cost_of, drop_link_of, fail_link_of, fail_net_of, fail_router_of, add_stub_of, summary_of, add_summary_of, add_external_of, drop_external_of, refresh_of, edit_of};
 
 use crate::edit::Edit;
 use crate::fault::ScriptFault;
 use crate::reading::{
-    address, four, metric_type, metric24, number, number16, one, prefix, six, three, two,
+    address, four, metric_type, metric24, none, number, number16, one, prefix, six, three, two,
 };
 use lsa_codec::{Addr, AreaId, RouterId};
 
@@ -164,6 +164,15 @@ fn drop_external(arguments: &[u8]) -> Result<Edit, ScriptFault>
     Ok(Edit::DropExternal { router, prefix })
 }
 
+/// `refresh`.
+#[tactic(auto, unfolding(crate::specs::Reading::refresh_of))]
+fn refresh(arguments: &[u8]) -> Result<Edit, ScriptFault>
+    ensures { result ≡ refresh_of (words arguments.now) }
+{
+    none(arguments)?;
+    Ok(Edit::Refresh)
+}
+
 /// The edit of a command word and its arguments.
 #[tactic(auto, unfolding(crate::specs::Reading::edit_of))]
 pub(crate) fn edit(word: &[u8], arguments: &[u8]) -> Result<Edit, ScriptFault>
@@ -189,6 +198,8 @@ pub(crate) fn edit(word: &[u8], arguments: &[u8]) -> Result<Edit, ScriptFault>
         add_external(arguments)
     } else if word == b"drop-external".as_slice() {
         drop_external(arguments)
+    } else if word == b"refresh".as_slice() {
+        refresh(arguments)
     } else {
         Err(ScriptFault::UnknownWord)
     }

@@ -1,6 +1,6 @@
 //! The laws between reading and spelling.
 
-ghost use Rattle.std.specs.Prelude.{◌≡◌, ◌↔◌, ◌<◌, ◌^◌, ℕ, List, Ok};
+ghost use Rattle.std.specs.Prelude.{◌≡◌, ◌≢◌, ◌↔◌, ◌<◌, ◌^◌, ℕ, List, All, Ok};
 ghost use Rattle.edit_script.specs.declared.command.Command.{Command};
 ghost use Rattle.edit_script.specs.declared.command.Command.TheVariants as command;
 ghost use Rattle.edit_script.specs.declared.edit.Edit.{Edit};
@@ -27,6 +27,13 @@ pub fn reads_what_is_said()
 pub fn reads_back()
     ensures { (edit : Edit) → IsEditInRange edit
         → meaning (spelling edit) ≡ Ok (0, command.Edit edit) }
+{}
+
+/// The line of an edit has no line feed.
+///
+/// The function does nothing: its contract is the law.
+pub fn spelled_on_one_line()
+    ensures { (edit : Edit) → IsEditInRange edit → All (λ byte. byte ≢ 10) (spelling edit) }
 {}
 
 /// Each number of an edit is in the range of its type: what [`reads_back`] asks holds of every
@@ -108,6 +115,7 @@ pub fn edits_are_in_range(edit: &Edit)
             numbers_are_in_range(router.0);
             prefixes_are_in_range(prefix);
         }
+        Edit::Refresh => {}
     }
 }
 

@@ -22,6 +22,6 @@ mod words;
 pub use command::Command;
 pub use edit::{Edit, MetricType};
 pub use fault::ScriptFault;
-pub use laws::{edits_are_in_range, reads_back, reads_what_is_said};
+pub use laws::{edits_are_in_range, reads_back, reads_what_is_said, spelled_on_one_line};
 pub use line::parse;
 pub use printing::print;

@@ -148,7 +148,14 @@ pub areas_take : (n : ℕ) (before : Option AreaHead) (seen : Lists) (at : At) (
 unfolding areas_from
 areas_take zero before seen at all after fits old e =
     subst (λ (p : Lists × At). TakesAreas 0 seen at p.0 p.1) (ok_is (seen, at) (all, after) e)
-    (record { new = []; all_is = sym (append-nil seen); count = refl; takes = record { parts = refl; rest_fits = fits }; last = before; good = old })
+    (record {
+      new = [];
+      all_is = sym (append-nil seen);
+      count = refl;
+      takes = record { parts = refl; rest_fits = fits; moved = omega arith };
+      last = before;
+      good = old;
+    })
 areas_take (suc n) before seen at all after fits old e =
     let a = bind_ok (area_at before at) (λ area. areas_from n area.0.area (seen ++ area.0 ∷ []) area.1) (all, after) e in
     let area : SectionLsas = a.0.0 in

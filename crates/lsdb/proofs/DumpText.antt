@@ -15,6 +15,7 @@ use Rattle.lsdb.specs.Limits.{longest_dump}
 use Rattle.lsdb.specs.Lists.{AreaHead, SectionLsas, Lists, IsSection, IsBefore, is_as_wide, HasWideId, IsOrdinaryBackbone, AreHeads, IsDatabase}
 use Rattle.lsdb.specs.Lists.{heads_of, size}
 use Rattle.lsdb.specs.Text.{magic, version, head_text, section_text, area_count, text}
+use Rattle.lsdb.specs.BaseText.{sections_text}
 use Rattle.lsdb.specs.Loading.{◌>>=◌, At, number_at, section_at, areas_from, magic_at, version_at, area_count_at, sections_at, ended, dump_at, loaded}
 use Rattle.lsdb.specs.Loading.{beginning}
 use Rattle.lsdb.proofs.Middle.{all_at_mid, all_front, pairs_without}
@@ -23,11 +24,11 @@ use Rattle.lsdb.proofs.Fields.{IsBytes, bind_ok, guard_ok, passed_ok, ok_is, don
 use Rattle.lsdb.proofs.SectionText.{lsas_text, section_takes, section_again}
 use Rattle.lsdb.proofs.AreaText.{section_text-split, IsUpTo, AreAreas, AreNext, no_areas, areas_take, areas_again}
 use Rattle.lsdb.proofs.LastSection.{split}
-use Rattle.lsdb.proofs.TextSize.{text_size}
+use Rattle.lsdb.proofs.TextSize.{sections_size, text_size}
 
 -- ---- what is read
 
-magic_takes : (at after : At) → IsBytes at.rest → magic_at at ≡ Ok after → Takes at (to_be_bytes w32 magic) after
+pub magic_takes : (at after : At) → IsBytes at.rest → magic_at at ≡ Ok after → Takes at (to_be_bytes w32 magic) after
 unfolding magic_at
 magic_takes at after fits e =
     let a = bind_ok (number_at w32 at) (λ n. cond (eqb n.0 magic) (Ok n.1) (Err (told at BadMagic))) after e in
@@ -76,10 +77,6 @@ heads_ended areas last h few =
       as_wide = wide_last heads;
     }
 
--- areas, and the LSAs of AS scope behind them
-abbrev pub sections_text : Lists → List ℕ
-sections_text db = to_be_bytes w8 (area_count db) ++ flat_map section_text db
-
 area_count-push : (areas : Lists) (s : SectionLsas) → area_count (areas ++ s ∷ []) ≡ length areas
 area_count-push areas s = omega (arith, length-append areas (s ∷ []))
 
@@ -91,7 +88,7 @@ flat_map-push areas s =
 wide_text : (s : SectionLsas) → None ≡ s.area → section_text s ≡ lsas_text s.lsas
 wide_text s e = section_text-split s ∙ ap (λ (h : Option AreaHead). head_text h ++ lsas_text s.lsas) (sym e)
 
-record TakesSections (at : At) (db : Lists) (after : At) : Type 0 where
+pub record TakesSections (at : At) (db : Lists) (after : At) : Type 0 where
   pub takes : Takes at (sections_text db) after
   pub heads : AreHeads (heads_of db)
   pub sections : All IsSection db
@@ -105,7 +102,7 @@ after_areas areas = section_at None areas.1 >>= with_wide areas.0
 abbrev after_count : ℕ × At → Result (Lists × At) DumpFault
 after_count count = areas_from count.0 None [] count.1 >>= after_areas
 
-sections_take : (at : At) (db : Lists) (after : At) → IsBytes at.rest → sections_at at ≡ Ok (db, after) → TakesSections at db after
+pub sections_take : (at : At) (db : Lists) (after : At) → IsBytes at.rest → sections_at at ≡ Ok (db, after) → TakesSections at db after
 unfolding sections_at
 sections_take at db after fits e =
     let c = bind_ok (area_count_at at) after_count (db, after) e in
@@ -186,7 +183,7 @@ loaded_takes bytes db fits e =
 
 -- ---- what is spelled is read again
 
-magic_again : (rest : List ℕ) → magic_at (here 0 (to_be_bytes w32 magic ++ rest)) ≡ Ok (here 4 rest)
+pub magic_again : (rest : List ℕ) → magic_at (here 0 (to_be_bytes w32 magic ++ rest)) ≡ Ok (here 4 rest)
 unfolding magic_at
 magic_again rest =
     let at : At = here 0 (to_be_bytes w32 magic ++ rest) in
@@ -231,27 +228,17 @@ sections_again areas lsas rest next few good =
     ∙ ap (λ (r : Result (Lists × At) DumpFault). r >>= after_areas) (areas_again areas None [] 6 behind next)
     ∙ ap (λ (r : Result (SectionLsas × At) DumpFault). r >>= with_wide areas) (section_again None lsas (6 + length listed) rest good)
 
-dump_again : (areas : Lists) (lsas : List (List ℕ)) → AreNext None areas → length areas ≤ 64 → IsSection (section_with None lsas) → let db =
-    areas ++ section_with None lsas ∷ [] in dump_at (beginning (text db)) ≡ Ok db
-unfolding dump_at
-dump_again areas lsas next few good =
-    let db = areas ++ section_with None lsas ∷ [] in
-    let whole : sections_text db ≡ sections_text db ++ [] = sym (append-nil (sections_text db)) in
-    let regrouped : text db ≡ to_be_bytes w32 magic ++ (to_be_bytes w8 version ++ (sections_text db ++ [])) =
-    text-split db ∙ ap (λ (t : List ℕ). to_be_bytes w32 magic ++ (to_be_bytes w8 version ++ t)) whole in
-    ap (λ (bytes : List ℕ). dump_at (beginning bytes)) regrouped
-    ∙ ap (λ (r : Result At DumpFault). r >>= after_magic) (magic_again (to_be_bytes w8 version ++ (sections_text db ++ [])))
-    ∙ ap (λ (r : Result At DumpFault). r >>= after_version) (version_again (sections_text db ++ []))
-    ∙ ap (λ (r : Result (Lists × At) DumpFault). r >>= ended) (sections_again areas lsas [] next few good)
-
-database_again : (db : Lists) → IsDatabase db → dump_at (beginning (text db)) ≡ Ok db
-database_again db good =
+-- the sections of a database, whatever follows them
+pub database_sections : (db : Lists) (rest : List ℕ) → IsDatabase db
+    → sections_at (here 5 (sections_text db ++ rest)) ≡ Ok (db, here (size db) rest)
+database_sections db rest good =
     let s = split db good.heads.order good.heads.as_wide in
     let wide = section_with None s.wide.lsas in
+    let whole : Lists = s.areas ++ wide ∷ [] in
     let same : s.wide ≡ wide = ap (λ (h : Option AreaHead). section_with h s.wide.lsas) s.none in
-    let is : db ≡ s.areas ++ wide ∷ [] = s.is ∙ ap (λ (x : SectionLsas). s.areas ++ x ∷ []) same in
+    let is : db ≡ whole = s.is ∙ ap (λ (x : SectionLsas). s.areas ++ x ∷ []) same in
     let heads : heads_of db ≡ heads_of s.areas ++ None ∷ [] = ap heads_of is ∙ map_push (λ (x : SectionLsas). x.area) s.areas wide in
-    let sections : All IsSection (s.areas ++ wide ∷ []) = subst (All IsSection) is good.sections in
+    let sections : All IsSection whole = subst (All IsSection) is good.sections in
     let next : AreNext None s.areas = record {
       sections = all_front IsSection s.areas (wide ∷ []) sections;
       ids = all_front HasWideId (heads_of s.areas) (None ∷ []) (subst (All HasWideId) heads good.heads.ids);
@@ -263,15 +250,30 @@ database_again db good =
     } in
     let few : length s.areas ≤ 64 =
     omega (arith, good.heads.few, ap length heads, length-append (heads_of s.areas) (None ∷ []), length-map s.areas (λ (x : SectionLsas). x.area)) in
-    subst (λ (d : Lists). dump_at (beginning (text d)) ≡ Ok d) (sym is)
-    (dump_again s.areas s.wide.lsas next few (all_at_mid IsSection s.areas [] wide sections))
+    let listed : List ℕ = flat_map section_text s.areas in
+    let last : List ℕ = lsas_text s.wide.lsas in
+    let pieces : flat_map section_text whole ≡ listed ++ last = flat_map-push s.areas wide ∙ ap (λ (t : List ℕ). listed ++ t) (wide_text wide refl) in
+    let place : 6 + length listed + length last ≡ size whole = omega (arith, sections_size whole, ap length pieces, length-append listed last) in
+    subst (λ (d : Lists). sections_at (here 5 (sections_text d ++ rest)) ≡ Ok (d, here (size d) rest)) (sym is)
+    (sections_again s.areas s.wide.lsas rest next few (all_at_mid IsSection s.areas [] wide sections) ∙ ap (λ (k : ℕ). done (whole, here k rest)) place)
+
+dump_again : (db : Lists) → IsDatabase db → dump_at (beginning (text db)) ≡ Ok db
+unfolding dump_at
+dump_again db good =
+    let whole : sections_text db ≡ sections_text db ++ [] = sym (append-nil (sections_text db)) in
+    let regrouped : text db ≡ to_be_bytes w32 magic ++ (to_be_bytes w8 version ++ (sections_text db ++ [])) =
+    text-split db ∙ ap (λ (t : List ℕ). to_be_bytes w32 magic ++ (to_be_bytes w8 version ++ t)) whole in
+    ap (λ (bytes : List ℕ). dump_at (beginning bytes)) regrouped
+    ∙ ap (λ (r : Result At DumpFault). r >>= after_magic) (magic_again (to_be_bytes w8 version ++ (sections_text db ++ [])))
+    ∙ ap (λ (r : Result At DumpFault). r >>= after_version) (version_again (sections_text db ++ []))
+    ∙ ap (λ (r : Result (Lists × At) DumpFault). r >>= ended) (database_sections db [] good)
 
 pub loaded_again : (db : Lists) → IsDatabase db → loaded (text db) ≡ Ok db
 unfolding loaded
 loaded_again db good =
     let small : ltb longest_dump (length (text db)) ≡ false = le-ltb _ _ (omega (arith, good.small, text_size db)) in
     ap (λ (b : Bool). cond b (Err (told (beginning (text db)) TooLarge)) (dump_at (beginning (text db)))) small
-    ∙ database_again db good
+    ∙ dump_again db good
 
 -- different databases have different texts
 pub one_text : (a b : Lists) → IsDatabase a → IsDatabase b → text a ≡ text b → a ≡ b

@@ -57,9 +57,14 @@ told at kind = record { offset = at.offset; kind = kind }
 pub record Takes (at : At) (text : List ℕ) (after : At) : Type 0 where
   pub parts : at.rest ≡ text ++ after.rest
   pub rest_fits : IsBytes after.rest
+  pub moved : after.offset ≡ at.offset + length text
 
 pub Takes-then : (a : At) (x : List ℕ) (b : At) (y : List ℕ) (c : At) → Takes a x b → Takes b y c → Takes a (x ++ y) c
-Takes-then a x b y c p q = record { parts = p.parts ∙ ap (λ (t : List ℕ). x ++ t) q.parts ∙ sym (append_assoc x y c.rest); rest_fits = q.rest_fits }
+Takes-then a x b y c p q = record {
+  parts = p.parts ∙ ap (λ (t : List ℕ). x ++ t) q.parts ∙ sym (append_assoc x y c.rest);
+  rest_fits = q.rest_fits;
+  moved = omega (arith, p.moved, q.moved, length-append x y);
+}
 
 -- ---- numbers
 
@@ -114,6 +119,7 @@ number_takes w limit wide at n after fits e =
         parts = rw (front, ← rest-is) (sym (take-append-drop (byte_len w) bytes));
         rest_fits =
             rw (← rest-is) (IsBytes-drop (byte_len w) bytes fits);
+        moved = omega (arith, ap (λ (p : ℕ × At). p.1.offset) both, wide.len n);
       },
       rw (← n-is) (wide.below (take (byte_len w) bytes) (IsBytes-take (byte_len w) bytes fits)),
     )

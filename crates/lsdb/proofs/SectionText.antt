@@ -117,7 +117,7 @@ placed_takes area at (Ok found) lsa after fits is e =
     let small : length_of at.rest < 65536 = omega (arith, fits 18, fits 19) in
     let front = decoded_front at.rest found small is in
     subst (λ (p : List ℕ × At). TakesLsa area at p.0 p.1) both (record {
-      takes = record { parts = front.parts; rest_fits = IsBytes-drop (length found) at.rest fits };
+      takes = record { parts = front.parts; rest_fits = IsBytes-drop (length found) at.rest fits; moved = refl };
       accepted = front.accepted;
       scope = a.0;
     })
@@ -152,7 +152,7 @@ lsas_take : (area : Option AreaHead) (n : ℕ) (seen : List (List ℕ)) (at : At
 unfolding lsas_from
 lsas_take area zero seen at all after fits old e =
     subst (λ (p : List (List ℕ) × At). TakesLsas area 0 seen at p.0 p.1) (ok_is (seen, at) (all, after) e)
-    (record { new = []; all_is = sym (append-nil seen); count = refl; takes = record { parts = refl; rest_fits = fits }; good = old })
+    (record { new = []; all_is = sym (append-nil seen); count = refl; takes = record { parts = refl; rest_fits = fits; moved = omega arith }; good = old })
 lsas_take area (suc n) seen at all after fits old e =
     let a = bind_ok (lsa_at area at) (next_lsas area n seen at) (all, after) e in
     let lsa : List ℕ = a.0.0 in

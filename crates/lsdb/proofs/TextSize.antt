@@ -1,15 +1,15 @@
 -- How long the text of a dump is.
-use Rattle.std.proofs.Common.{◌≡◌, ℕ, ◌+◌, List, [], ◌∷◌, length, Option, Some, None}
+use Rattle.std.proofs.Common.{◌≡◌, ℕ, ◌+◌, List, [], ◌∷◌, ◌++◌, length, Option, Some, None}
 use Rattle.std.proofs.Common.{refl, ap, arith}
 use Rattle.std.specs.List.{flat_map, concat, sum_by}
-use Rattle.std.specs.Int.{w16, to_be_bytes}
+use Rattle.std.specs.Int.{w8, w16, w32, to_be_bytes}
 use Rattle.std.proofs.lemmas.List.{length-append}
 use Rattle.std.proofs.lemmas.List.Concat.{flat_map-cons}
 use Rattle.std.proofs.lemmas.List.Sums.{sum_by-cons}
 use Rattle.lsdb.specs.Lists.{AreaHead, SectionLsas, Lists}
 use Rattle.lsdb.specs.Lists.{head_size, lsas_size, section_size, size}
-use Rattle.lsdb.specs.Text.{head_text, section_text, area_count, text}
-use Rattle.lsdb.proofs.Written.{opening}
+use Rattle.lsdb.specs.Text.{magic, version, head_text, section_text, area_count, text}
+use Rattle.lsdb.specs.BaseText.{session_start, base_text}
 use Rattle.lsdb.proofs.SectionText.{lsas_text}
 use Rattle.lsdb.proofs.AreaText.{section_text-split}
 
@@ -34,7 +34,7 @@ section_text_size s =
       concat_size s.lsas,
     )
 
-sections_size : (db : Lists) → length (flat_map section_text db) ≡ sum_by section_size db
+pub sections_size : (db : Lists) → length (flat_map section_text db) ≡ sum_by section_size db
 sections_size [] = refl
 sections_size (s ∷ ss) =
     omega (
@@ -49,4 +49,17 @@ sections_size (s ∷ ss) =
 
 pub text_size : (db : Lists) → length (text db) ≡ size db
 unfolding text
-text_size db = omega (arith, length-append (opening (area_count db)) (flat_map section_text db), sections_size db)
+text_size db =
+    let start : List ℕ = to_be_bytes w32 magic ++ to_be_bytes w8 version ++ to_be_bytes w8 (area_count db) in
+    omega (arith, length-append start (flat_map section_text db), sections_size db)
+
+pub base_size : (db : Lists) → length (base_text db) ≡ size db
+unfolding base_text
+base_size db =
+    let count : List ℕ = to_be_bytes w8 (area_count db) in
+    omega (
+      arith,
+      length-append session_start (count ++ flat_map section_text db),
+      length-append count (flat_map section_text db),
+      sections_size db,
+    )

@@ -2,7 +2,7 @@
 use Rattle.std.proofs.Common.{◌≡◌, ℕ, zero, suc, ◌^◌, ◌<◌, ◌≤◌, List, [], ◌∷◌, ◌++◌, length, get_or, take, refl, sym, ap, ◌∙◌, append_assoc, arith}
 use Rattle.std.proofs.Common.{Option, Some, None}
 use Rattle.std.specs.Prelude.{All}
-use Rattle.std.specs.Int.{w8, w32, to_be_bytes}
+use Rattle.std.specs.Int.{w8, to_be_bytes}
 use Rattle.std.specs.List.{flat_map}
 use Rattle.std.proofs.lemmas.List.{append-nil, take_all, length-map}
 use Rattle.std.proofs.lemmas.List.Concat.{flat_map-append, flat_map-cons}
@@ -12,13 +12,10 @@ use Rattle.lsdb.specs.declared.database.SectionOf.{SectionOf}
 use Rattle.lsdb.specs.Lists.{AreaHead, Lists, IsSection, IsDatabase, limit_of}
 use Rattle.lsdb.specs.Places.{item_at, lists_of}
 use Rattle.lsdb.specs.steps.View.{places_of}
-use Rattle.lsdb.specs.Text.{magic, version, section_text, area_count, text}
+use Rattle.lsdb.specs.Text.{section_text, area_count}
+use Rattle.lsdb.specs.BaseText.{sections_text}
 use Rattle.lsdb.proofs.Full.{shown}
 use Rattle.lsdb.proofs.Searching.{section_turn, section_count}
-
--- what stands before the sections
-abbrev pub opening : ℕ → List ℕ
-opening n = to_be_bytes w32 magic ++ to_be_bytes w8 version ++ to_be_bytes w8 n
 
 all_at_item : {X : Type 0} (P : X → Type 0) (xs : List X) (i : ℕ) (x : X) → item_at xs i ≡ Some x → All P xs → P x
 all_at_item P [] i x e h = absurd cc
@@ -59,9 +56,14 @@ section_next {A} ss i j s start old new lt step is pushed so_far =
     ∙ ap (λ (x : List ℕ). front ++ x) (flat_map-cons section_text (shown s) [] ∙ append-nil piece) in
     pushed ∙ ap (λ (x : List ℕ). x ++ piece) so_far ∙ append_assoc start front piece ∙ ap (λ (x : List ℕ). start ++ x) (sym more)
 
-pub sections_done : {A : Type 0} → (ss : List (SectionOf A)) (i : ℕ) (out : List ℕ) → length ss ≤ i
-    → out ≡ opening (area_count (lists_of (places_of ss))) ++ flat_map section_text (take i (lists_of (places_of ss))) → out ≡ text (lists_of (places_of ss))
-unfolding text
-sections_done {A} ss i out all so_far =
+-- the number of areas, behind what was written before
+abbrev pub counted : List ℕ → Lists → List ℕ
+counted start db = start ++ to_be_bytes w8 (area_count db)
+
+pub sections_done : {A : Type 0} → (ss : List (SectionOf A)) (i : ℕ) (start out : List ℕ) → length ss ≤ i
+    → out ≡ counted start (lists_of (places_of ss)) ++ flat_map section_text (take i (lists_of (places_of ss)))
+    → out ≡ start ++ sections_text (lists_of (places_of ss))
+sections_done {A} ss i start out all so_far =
     let db = lists_of (places_of ss) in
-    so_far ∙ ap (λ (xs : Lists). opening (area_count db) ++ flat_map section_text xs) (take_all i db (omega (arith, section_count ss)))
+    so_far ∙ ap (λ (xs : Lists). counted start db ++ flat_map section_text xs) (take_all i db (omega (arith, section_count ss)))
+    ∙ append_assoc start (to_be_bytes w8 (area_count db)) (flat_map section_text db)

@@ -1,9 +1,9 @@
 -- How a fault of a dump is told.
-use Rattle.std.specs.Prelude.{List, ℕ, ◌++◌, codes, decimal}
+use Rattle.std.specs.Prelude.{List, [], ℕ, ◌++◌, codes, decimal}
 use Rattle.lsa_codec.specs.declared.fault.LsaFault.TheVariants as lsa
 use Rattle.lsdb.specs.declared.fault.DumpFault.{DumpFault}
 use Rattle.lsdb.specs.declared.fault.DumpFaultKind.{DumpFaultKind}
-use Rattle.lsdb.specs.declared.fault.DumpFaultKind.TheVariants.{BadMagic, BadVersion, Truncated, TrailingBytes, TooManyAreas, AreaOrder, BadAreaKind, TooManyLsas, Lsa, WrongSection, DuplicateLsa, BackboneStub, TooLarge, OutOfMemory}
+use Rattle.lsdb.specs.declared.fault.DumpFaultKind.TheVariants.{BadMagic, BadVersion, Truncated, TrailingBytes, TooManyAreas, AreaOrder, BadAreaKind, TooManyLsas, Lsa, WrongSection, DuplicateLsa, BackboneStub, TooLarge, OutOfMemory, BadHistory}
 
 abbrev pub fault_code : DumpFaultKind → List ℕ
 fault_code BadMagic = codes "L1"
@@ -20,6 +20,7 @@ fault_code DuplicateLsa = codes "L11"
 fault_code BackboneStub = codes "L12"
 fault_code TooLarge = codes "L13"
 fault_code OutOfMemory = codes "L14"
+fault_code (BadHistory index) = codes "L15"
 
 -- what is wrong with an LSA, behind the word Lsa
 abbrev pub fault_name : DumpFaultKind → List ℕ
@@ -45,7 +46,14 @@ fault_name DuplicateLsa = codes "DuplicateLsa"
 fault_name BackboneStub = codes "BackboneStub"
 fault_name TooLarge = codes "TooLarge"
 fault_name OutOfMemory = codes "OutOfMemory"
+fault_name (BadHistory index) = codes "BadHistory"
 
--- as L4 TrailingBytes at 99
+-- which line of the history, behind its word
+abbrev pub fault_index : DumpFaultKind → List ℕ
+fault_index (BadHistory index) = codes " " ++ decimal index
+fault_index _ = []
+
+-- as L4 TrailingBytes at 99, or L15 BadHistory 1 at 129
 abbrev pub fault_text : DumpFault → List ℕ
-fault_text fault = fault_code fault.kind ++ codes " " ++ fault_name fault.kind ++ codes " at " ++ decimal fault.offset
+fault_text fault =
+    fault_code fault.kind ++ codes " " ++ fault_name fault.kind ++ fault_index fault.kind ++ codes " at " ++ decimal fault.offset

@@ -16,3 +16,7 @@ most_lsas_of_as = 65535
 -- the most octets of a dump
 abbrev pub longest_dump : ℕ
 longest_dump = 16777216
+
+-- the most octets of the dump of a session
+abbrev pub longest_session : ℕ
+longest_session = 17825792

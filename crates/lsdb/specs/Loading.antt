@@ -144,5 +144,5 @@ abbrev pub no_memory : DumpFault
 no_memory = record { offset = 0; kind = OutOfMemory }
 
 -- the fault is want of memory, or the first fault of the bytes
-abbrev pub IsFirstFault : DumpFault → Result Lists DumpFault → Type 0
+abbrev pub IsFirstFault : {A : Type 0} → DumpFault → Result A DumpFault → Type 0
 IsFirstFault fault answer = (fault ≡ no_memory) ⊎ (answer ≡ Err fault)

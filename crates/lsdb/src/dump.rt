@@ -5,6 +5,7 @@ ghost use Rattle.std.specs.List.{concat};
 ghost use Rattle.lsdb.specs.Places.{full, section_of, lists_of};
 ghost use Rattle.lsdb.specs.steps.View.{head_of, section_places_of};
 ghost use Rattle.lsdb.specs.Text.{text, head_text, section_text};
+ghost use Rattle.lsdb.specs.BaseText.{sections_text};
 
 use crate::database::{Database, Head, SectionOf};
 use crate::lsas::Lsas;
@@ -66,16 +67,26 @@ fn put_section<A: Allocator + Copy>(
 
 impl<A: Allocator + Copy> Database<A> {
     /// The dump of the database. `load` makes the same database of it.
+    #[tactic(auto, unfolding(crate::specs::Text::text))]
     pub fn dump(&self) -> Result<Vec<u8, A>, AllocError>
         ensures { IfOk result (λ v. v.items ≡ text (lists_of self.now)) }
     {
         let mut out = Vec::with_capacity(self.alloc, self.size())?;
         out.extend_from_slice(&MAGIC.to_be_bytes())?;
         out.push(VERSION)?;
+        self.put_sections(&mut out)?;
+        Ok(out)
+    }
+
+    /// Writes how many areas there are, the areas, and the LSAs of AS scope.
+    pub(crate) fn put_sections(&self, out: &mut Vec<u8, A>) -> Result<(), AllocError>
+        ensures { OnOk result
+            (out.new.items ≡ out.old.items ++ sections_text (lists_of self.now)) }
+    {
         out.push((self.sections.len() - 1) as u8)?;
         for section in &self.sections {
-            put_section(&mut out, section)?;
+            put_section(out, section)?;
         }
-        Ok(out)
+        Ok(())
     }
 }

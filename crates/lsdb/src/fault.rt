@@ -41,6 +41,9 @@ pub enum DumpFaultKind {
     TooLarge,
     /// A growth was refused.
     OutOfMemory,
+    /// A line of the history of a session, counted from 1, is not as it was saved. A database is
+    /// never refused so.
+    BadHistory(u16),
 }
 
 impl DumpFaultKind {
@@ -63,6 +66,7 @@ impl DumpFaultKind {
             DumpFaultKind::BackboneStub => "L12",
             DumpFaultKind::TooLarge => "L13",
             DumpFaultKind::OutOfMemory => "L14",
+            DumpFaultKind::BadHistory(_) => "L15",
         }
     }
 
@@ -86,6 +90,7 @@ impl DumpFaultKind {
             DumpFaultKind::BackboneStub => "BackboneStub",
             DumpFaultKind::TooLarge => "TooLarge",
             DumpFaultKind::OutOfMemory => "OutOfMemory",
+            DumpFaultKind::BadHistory(_) => "BadHistory",
         }
     }
 }
@@ -108,7 +113,7 @@ fn lsa_fault_name(fault: LsaFault) -> &'static str
 
 /// What is wrong with a dump, and the offset of the first octet of the field or LSA.
 ///
-/// It is shown as `L4 TrailingBytes at 99`, or `L9 Lsa ZeroCost at 13`.
+/// It is shown as `L4 TrailingBytes at 99`, `L9 Lsa ZeroCost at 13` or `L15 BadHistory 1 at 129`.
 #[derive(Clone, Copy, Debug, PartialEq, Eq)]
 pub struct DumpFault {
     /// How many octets stand before the field or LSA; 0 for `TooLarge` and `OutOfMemory`.
@@ -125,7 +130,11 @@ impl fmt::Display for DumpFault {
     fn fmt<W: fmt::Write>(&self, f: &mut fmt::Formatter<W>) -> fmt::Result {
         let (code, name) = (self.kind.code(), self.kind.name());
         let offset = Decimal(self.offset as u64);
-        write!(f, "{code} {name} at {offset}")
+        let DumpFaultKind::BadHistory(index) = self.kind else {
+            return write!(f, "{code} {name} at {offset}");
+        };
+        let index = Decimal(index as u64);
+        write!(f, "{code} {name} {index} at {offset}")
     }
 }
 

@@ -10,6 +10,7 @@
 //! by its number.
 #![tactic(auto)]
 
+mod base;
 mod copy;
 mod cursor;
 mod database;
@@ -26,10 +27,11 @@ mod read;
 mod section;
 mod slot;
 
+pub use base::base_laws;
 pub use database::Database;
 pub use fault::{DumpFault, DumpFaultKind};
 pub use laws::slot_laws;
-pub use limits::{LONGEST_DUMP, MOST_AREAS, MOST_LSAS_OF_AREA, MOST_LSAS_OF_AS};
+pub use limits::{LONGEST_DUMP, LONGEST_SESSION, MOST_AREAS, MOST_LSAS_OF_AREA, MOST_LSAS_OF_AS};
 pub use load::text_laws;
 pub use lsas::Lsas;
 pub use section::Section;

@@ -5,7 +5,7 @@ ghost use Rattle.lsdb.specs.Lists.{is_in_scope, limit_of, Lists, IsDatabase, siz
 ghost use Rattle.lsdb.specs.Places.{full, section_of, lists_of};
 ghost use Rattle.lsdb.specs.steps.View.{head_of, section_places_of, places_of};
 ghost use Rattle.lsdb.specs.Text.{text};
-ghost use Rattle.lsdb.specs.steps.Reading.{at_of, Gives, Fails};
+ghost use Rattle.lsdb.specs.steps.Reading.{at_of, Gives, told_fault};
 ghost use Rattle.lsdb.specs.Loading.{lsa_at, lsas_from, section_at, id_at, kind_at, area_at, areas_from, is_above, magic_at, version_at, area_count_at, sections_at, loaded, IsFirstFault};
 
 use crate::cursor::Cursor;
@@ -174,7 +174,7 @@ fn read_areas<'a, A: Allocator + Copy>(
 }
 
 #[tactic(auto, unfolding(crate::specs::Loading::magic_at))]
-fn read_magic(at: Cursor<'_>) -> Result<Cursor<'_>, ReadError>
+pub(crate) fn read_magic(at: Cursor<'_>) -> Result<Cursor<'_>, ReadError>
     ensures { Gives at_of result (magic_at (at_of at.entry)) }
 {
     let (found, rest) = read_u32(at)?;
@@ -208,7 +208,7 @@ fn read_area_count(at: Cursor<'_>) -> Result<(u8, Cursor<'_>), ReadError>
 
 /// The areas, and behind them the LSAs of AS scope.
 #[tactic(auto, unfolding(crate::specs::Loading::sections_at))]
-fn read_sections<'a, A: Allocator + Copy>(
+pub(crate) fn read_sections<'a, A: Allocator + Copy>(
     alloc: A,
     at: Cursor<'a>,
 ) -> Result<(Vec<SectionOf<A>, A>, Cursor<'a>), ReadError>
@@ -245,8 +245,8 @@ fn read_dump<A: Allocator + Copy>(alloc: A, bytes: &[u8]) -> Result<Vec<SectionO
 }
 
 /// The fault that is told of a failed reading.
-fn dump_fault(error: ReadError) -> DumpFault
-    ensures { (answer : Result Lists DumpFault) → Fails error answer → IsFirstFault result answer }
+pub(crate) fn dump_fault(error: ReadError) -> DumpFault
+    ensures { result ≡ told_fault error }
 {
     match error {
         ReadError::Fault(fault) => fault,
@@ -262,6 +262,7 @@ impl<A: Allocator + Copy> Database<A> {
     ///
     /// Of several faults the first from front to back is told; `TooLarge` comes before all others,
     /// and `OutOfMemory` may stand in place of any.
+    #[tactic(auto, using(crate::proofs::Told::first_told))]
     pub fn load(alloc: A, bytes: &[u8]) -> Result<Database<A>, DumpFault>
         // What is loaded is spelled so.
         ensures database { IfOk result (λ db. IsDatabase (lists_of db)) }

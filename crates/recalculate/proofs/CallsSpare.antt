@@ -16,8 +16,8 @@ use Rattle.edit_history.specs.declared.fault.EditFault.{EditFault}
 use Rattle.edit_history.specs.Effect.{edit_touches, graph_lsas}
 use Rattle.edit_history.specs.Session.{Session, Request, edit, undo, redo, accepted_or, after_request, edited, moved_back, moved_on, state}
 use Rattle.recalculate.specs.Calls.{AreMade, Call, CarriedOut, IsTaken, Leads, after_calls, call_touches, calls_touch, request_touches}
-use Rattle.recalculate.specs.AreasTrees.{AreasTrees, routers_of}
-use Rattle.recalculate.specs.KeptTrees.{KeptRouters, is_kept, less_touched}
+use Rattle.routing_table.specs.AreasTrees.{AreasTrees, routers_of}
+use Rattle.routing_table.specs.KeptTrees.{KeptRouters, is_kept, less_touched}
 use Rattle.recalculate.specs.Planning.{PlannerValue}
 use Rattle.recalculate.specs.Reached.{IsReached}
 use Rattle.recalculate.proofs.Touches.{IsKeptAs, edited_spares, redone_spares, undone_spares}

@@ -16,7 +16,7 @@ use Rattle.lsdb.specs.declared.section.Section.TheVariants.{Area, AsWide}
 use Rattle.lsdb.specs.Lists.{AreaHead, Lists, has_key, is_head_of, lsas_of}
 use Rattle.edit_script.specs.declared.edit.Edit.{Edit}
 use Rattle.edit_script.specs.declared.edit.Edit.TheVariants.{Cost, DropLink, FailLink, FailNet, FailRouter, AddStub, Summary, AddSummary}
-use Rattle.edit_script.specs.declared.edit.Edit.TheVariants.{AddExternal, DropExternal}
+use Rattle.edit_script.specs.declared.edit.Edit.TheVariants.{AddExternal, DropExternal, Refresh}
 use Rattle.edit_history.specs.declared.fault.EditFault.{EditFault}
 use Rattle.edit_history.specs.declared.fault.EditFault.TheVariants.{NoRouter, NoSummary, NoExternal}
 use Rattle.edit_history.specs.Rules.{Fate, stays, removed, rewritten, Rule, Change, one_lsa, adding, change_of, addition, with_added}
@@ -24,7 +24,7 @@ use Rattle.edit_history.specs.Rules.{section_name, section_changes, fated_change
 use Rattle.edit_history.specs.Effect.{◌>>=◌, or_refused, area_of, router_lsa_in, has_router, is_originated_for, options_in, is_type2, room_for, added, rule_of}
 use Rattle.edit_history.specs.Effect.{is_of_graph, touched, touched_by, edit_touches}
 use Rattle.recalculate.specs.Calls.{is_of_route}
-use Rattle.edit_history.proofs.HistoryLemmas.{found_passes}
+use Rattle.edit_history.proofs.HistoryLemmas.{found_passes, refresh_touches_none}
 
 module _ (area : AreaId) where
   abbrev counts : Change → Bool
@@ -164,6 +164,7 @@ module _ (area : AreaId) where
   route_leaves db (DropExternal router prefix) h =
       if_bound db (or_refused NoExternal (find (is_originated_for 5 router prefix) (lsas_of AsWide db))) _
       (λ lsa _. leaves db _ (one_spares AsWide (key_of lsa) removed (λ head other wide _. as_wide_apart (kind_of other) head wide)))
+  route_leaves db Refresh h = record { touches = refresh_touches_none area db }
   route_leaves db (Cost of router link metric) h = absurd (true≢false (sym h))
   route_leaves db (DropLink of router link) h = absurd (true≢false (sym h))
   route_leaves db (FailLink of router neighbor) h = absurd (true≢false (sym h))

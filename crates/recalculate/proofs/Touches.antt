@@ -13,8 +13,8 @@ use Rattle.edit_history.specs.Session.{Session, accepted, edited, edited_by, edi
 use Rattle.edit_history.specs.Session.{state, undo_touches}
 use Rattle.edit_history.proofs.HistoryLemmas.{edits_back, on_and_back, seam_drop, seam_take}
 use Rattle.edit_history.proofs.HistoryLemmas.{redo_spares, undo_spares}
-use Rattle.recalculate.specs.AreasTrees.{AreasTrees, AreOfDatabase, routers_of}
-use Rattle.recalculate.specs.KeptTrees.{less_touched}
+use Rattle.routing_table.specs.AreasTrees.{AreasTrees, AreOfDatabase, routers_of}
+use Rattle.routing_table.specs.KeptTrees.{less_touched}
 use Rattle.recalculate.specs.Reached.{IsReached}
 use Rattle.recalculate.proofs.TreesSpared.{told_untouched, untouched, untouched_stay}
 

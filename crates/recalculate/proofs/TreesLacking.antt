@@ -14,7 +14,7 @@ use Rattle.area_routes.specs.Attached.{has_live_router_lsa, is_attached}
 use Rattle.edit_history.specs.Session.{state}
 use Rattle.recalculate.specs.Calls.{AreMade, Call, after_calls, areas_lacking, areas_of_router, areas_touched, head_touched}
 use Rattle.routing_table.specs.Counting.{CountsAtMost}
-use Rattle.recalculate.specs.KeptTrees.{is_kept}
+use Rattle.routing_table.specs.KeptTrees.{is_kept}
 use Rattle.recalculate.specs.Planning.{PlannerValue}
 use Rattle.recalculate.specs.Reached.{IsReached}
 use Rattle.recalculate.proofs.CallsSpare.{calls_spare}

@@ -16,8 +16,8 @@ use Rattle.lsa_codec.specs.Order.{area_cmp, router_cmp}
 use Rattle.lsa_codec.proofs.OrderLemmas.{area_exact}
 use Rattle.edit_history.specs.Effect.{graph_lsas}
 use Rattle.routing_table.specs.AreaTrees.{AreaTreesValue, RouterTreeValue, has_tree}
-use Rattle.recalculate.specs.AreasTrees.{AreasTrees, AreOfDatabase, routers_of, trees_at, trees_in}
-use Rattle.recalculate.specs.KeptTrees.{KeptRouters, is_kept, less_touched}
+use Rattle.routing_table.specs.AreasTrees.{AreasTrees, AreOfDatabase, routers_of, trees_at, trees_in}
+use Rattle.routing_table.specs.KeptTrees.{KeptRouters, is_kept, less_touched}
 use Rattle.area_routes.proofs.SameGraphLemmas.{same_graph}
 
 -- ---- what is shown of the trees

@@ -6,10 +6,10 @@ use Rattle.lsdb.specs.Lists.{AreaHead}
 use Rattle.area_routes.specs.Attached.{attached_areas}
 use Rattle.edit_script.specs.declared.edit.Edit.{Edit}
 use Rattle.edit_script.specs.declared.edit.Edit.TheVariants.{Cost, DropLink, FailLink, FailNet, FailRouter, AddStub, Summary, AddSummary}
-use Rattle.edit_script.specs.declared.edit.Edit.TheVariants.{AddExternal, DropExternal}
+use Rattle.edit_script.specs.declared.edit.Edit.TheVariants.{AddExternal, DropExternal, Refresh}
 use Rattle.edit_history.specs.Effect.{edit_touches}
 use Rattle.edit_history.specs.Session.{Session, Request, edit, undo, redo, after_request, edited, redo_touches, state, undo_touches}
-use Rattle.recalculate.specs.KeptTrees.{IsWithin, areas_without_tree, is_kept, less_touched}
+use Rattle.routing_table.specs.KeptTrees.{IsWithin, areas_without_tree, is_kept, less_touched}
 use Rattle.recalculate.specs.Planning.{PlannerValue}
 use Rattle.recalculate.specs.Reached.{IsReached}
 
@@ -91,7 +91,7 @@ areas_touched router p calls = filter (head_touched p calls) (areas_of_router ro
 
 -- ---- edits of LSAs that are in no graph
 
--- whether an edit is of a summary-LSA or an AS-external-LSA
+-- whether an edit is of summary-LSAs or AS-external-LSAs
 abbrev pub is_of_route : Edit → Bool
 is_of_route (Cost area router link metric) = false
 is_of_route (DropLink area router link) = false
@@ -103,3 +103,4 @@ is_of_route (Summary area router prefix metric) = true
 is_of_route (AddSummary area router prefix metric) = true
 is_of_route (AddExternal router prefix metric_type metric forward tag) = true
 is_of_route (DropExternal router prefix) = true
+is_of_route Refresh = true

@@ -17,8 +17,8 @@ ghost use Rattle.recalculate.specs.Reached.{IsReached};
 /// whether edits, undos and redos that are carried out or refused, or tables of any routers, the
 /// areas whose tree it then lacks are among its attached areas that one of the calls touches. So
 /// the next table of the router raises [`runs`](crate::Planner::runs) by at most as many as there
-/// are of these. A call that is refused touches no area and leaves all as it was, and an edit of a
-/// summary-LSA or an AS-external-LSA touches no area.
+/// are of these. A call that is refused touches no area and leaves all as it was, and an edit of
+/// summary-LSAs or AS-external-LSAs touches no area.
 pub fn untouched_trees_stay()
     ensures lacking { (p : PlannerValue) (router : RouterId) (calls : List Call)
         → IsReached p.session → areas_lacking router p ≡ [] → AreMade p calls

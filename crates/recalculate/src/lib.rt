@@ -2,10 +2,10 @@
 #![tactic(auto)]
 
 mod counts;
-mod kept_trees;
 mod laws;
 mod planner;
 mod study;
+mod touched;
 
 pub use counts::Info;
 pub use laws::untouched_trees_stay;
@@ -13,6 +13,3 @@ pub use planner::Planner;
 pub use routing_table::{
     Table, TableFault, routers, routers_are_attached, table_of, tables_are_over_all_paths,
 };
-
-#[cfg(test)]
-mod tests;

@@ -1,12 +1,12 @@
 //! A session of edits.
 
-use crate::kept_trees::KeptTrees;
 use crate::study::Study;
+use crate::touched::{drop_done, drop_undone};
 use edit_history::{EditFault, RedoFault, UndoFault};
 use edit_script::Edit;
 use lsa_codec::RouterId;
 use lsdb::Database;
-use routing_table::{Table, TableFault, routers, table_from};
+use routing_table::{KeptTrees, Table, TableFault, routers, table_from};
 use spf::Meter;
 use std::alloc::{AllocError, Allocator, Global};
 use std::marker::Model;
@@ -26,7 +26,7 @@ pub struct Planner<A: Allocator = Global> {
 
 impl<A: Allocator> Model for Planner<A> {
     ghost use Rattle.edit_history.specs.Session.{state};
-    ghost use Rattle.recalculate.specs.AreasTrees.{AreOfDatabase, routers_of};
+    ghost use Rattle.routing_table.specs.AreasTrees.{AreOfDatabase, routers_of};
     ghost use Rattle.recalculate.specs.Planning.{PlannerValue};
 
     ghost Value = { PlannerValue };
@@ -45,7 +45,7 @@ impl<A: Allocator + Copy> Planner<A> {
     ghost use Rattle.edit_history.specs.Effect.{edit_touches};
     ghost use Rattle.recalculate.specs.Calls.{CarriedOut, Stayed};
     ghost use Rattle.routing_table.specs.Counting.{counted_by, CountsAtMost};
-    ghost use Rattle.recalculate.specs.KeptTrees.{IsWithin, areas_without_tree, is_kept, less_touched};
+    ghost use Rattle.routing_table.specs.KeptTrees.{IsWithin, areas_without_tree, is_kept, less_touched};
     ghost use Rattle.recalculate.specs.Reached.{IsReached};
     ghost use Rattle.routing_table.specs.Routers.{attached_routers};
     ghost use Rattle.routing_table.specs.Tables.{table_in, FaultMeans};
@@ -104,7 +104,7 @@ impl<A: Allocator + Copy> Planner<A> {
         ensures step { OnOk result (CarriedOut (edit_request edit.now) self.old self.new) }
     {
         self.study.edit(edit)?;
-        self.trees.drop_done(&self.study, 1);
+        drop_done(&mut self.trees, &self.study, 1);
         Ok(())
     }
 
@@ -125,7 +125,7 @@ impl<A: Allocator + Copy> Planner<A> {
         ensures step { OnOk result (CarriedOut (undo_request count) self.old self.new) }
     {
         self.study.undo(count as usize)?;
-        self.trees.drop_undone(&self.study, count as usize);
+        drop_undone(&mut self.trees, &self.study, count as usize);
         Ok(())
     }
 
@@ -146,7 +146,7 @@ impl<A: Allocator + Copy> Planner<A> {
         ensures step { OnOk result (CarriedOut (redo_request count) self.old self.new) }
     {
         self.study.redo(count as usize)?;
-        self.trees.drop_done(&self.study, count as usize);
+        drop_done(&mut self.trees, &self.study, count as usize);
         Ok(())
     }
 

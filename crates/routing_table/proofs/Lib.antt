@@ -9,3 +9,5 @@ pub mod TablePaths
 pub mod MapLemmas
 pub mod TreeMaps
 pub mod PreferenceLemmas
+pub mod KeptMaps
+pub mod TreeCounts

@@ -5,3 +5,5 @@ pub mod Counting
 pub mod AreaLsas
 pub mod Routers
 pub mod AreaTrees
+pub mod KeptTrees
+pub mod AreasTrees

@@ -4,3 +4,4 @@ pub mod SameGraphs
 pub mod Several
 pub mod IntoBackbone
 pub mod Settled
+pub mod KnownOriginators

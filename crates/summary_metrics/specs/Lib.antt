@@ -1,1 +1,2 @@
 pub mod Refreshed
+pub mod Originators

@@ -36,6 +36,10 @@ due_in db area lsa = due db area lsa (routes_inside db (originator_of lsa)) (ent
 abbrev pub is_stale : Lists → AreaId → List ℕ → Bool
 is_stale db area lsa = is_covered db area lsa && not (metric_of lsa == due_in db area lsa)
 
+-- the metric that a stale LSA of an area is due; none where it is not stale
+abbrev pub stale_metric : Lists → AreaId → List ℕ → Option ℕ
+stale_metric db area lsa = if is_stale db area lsa then Some (due_in db area lsa) else None
+
 -- an LSA of an area, with the metric that it is due; one that has it, or is not covered, stays as it is
 abbrev pub refreshed_lsa : Lists → AreaId → List ℕ → List ℕ
 refreshed_lsa db area lsa = if is_stale db area lsa then with_metric (due_in db area lsa) lsa else lsa

@@ -4,7 +4,7 @@ use Rattle.lsdb.specs.declared.cursor.Cursor.{Cursor}
 use Rattle.lsdb.specs.declared.fault.DumpFault.{DumpFault}
 use Rattle.lsdb.specs.declared.fault.ReadError.{ReadError}
 use Rattle.lsdb.specs.declared.fault.ReadError.TheVariants as errors
-use Rattle.lsdb.specs.Loading.{At}
+use Rattle.lsdb.specs.Loading.{At, no_memory}
 
 -- a place in a dump, without where its bytes lie in memory
 abbrev pub at_of : Cursor → At
@@ -19,3 +19,8 @@ Fails (errors.Fault f) read = read ≡ Err f
 abbrev pub Gives : {X Y : Type 0} → (X → Y) → Result X ReadError → Result Y DumpFault → Type 0
 Gives view (Ok x) read = read ≡ Ok (view x)
 Gives view (Err e) read = Fails e read
+
+-- the fault that is told of a failed reading
+abbrev pub told_fault : ReadError → DumpFault
+told_fault errors.Memory = no_memory
+told_fault (errors.Fault f) = f

@@ -25,7 +25,7 @@ add_swaps-requires g c = exists_at c.args.database.now c.loop-number.number (ome
 
 pub loop-number-preserved : goal.loop-number-preserved
 loop-number-preserved g c =
-    section_turn (router_fate c.args.router) c.args.database.now c.loop-number.number (c.loop-number.number + 1) c.section_name-section.result _ _ _
+    section_turn (λ head. router_fate c.args.router) c.args.database.now c.loop-number.number (c.loop-number.number + 1) c.section_name-section.result _ _ _
     (omega arith) (omega arith) c.section_name-section.ensures c.in_ok-add_swaps.ensures.swaps c.loop-number.invariant
 
 pub returns-in_err-add_swaps-clause-refused : goal.returns-in_err-add_swaps-clause-refused
@@ -43,4 +43,4 @@ returns-clause-planned g c =
     (swaps_from (λ head. router_fate c.args.router) 0 c.args.database.now) c.loop-number.swaps.items
     (router_ruled c.args.database.now c.args.router (sym c.has_router.ensures ∙ there))
     (router_carried_out c.args.database.now c.args.router c.known.ensures)
-    (section_end (router_fate c.args.router) c.args.database.now c.loop-number.number _ _ (omega arith) c.loop-number.invariant)
+    (section_end (λ head. router_fate c.args.router) c.args.database.now c.loop-number.number _ _ (omega arith) c.loop-number.invariant)

@@ -2,7 +2,7 @@ use Rattle.std.proofs.Common.{◌∙◌, ap, subst}
 use Rattle.edit_history.specs.Effect.{edit_touches}
 use Rattle.edit_history.specs.Session.{edit, state}
 use Rattle.recalculate.specs.Calls.{CarriedOut}
-use Rattle.recalculate.specs.KeptTrees.{less_touched}
+use Rattle.routing_table.specs.KeptTrees.{less_touched}
 use Rattle.recalculate.specs.Planning.{PlannerValue}
 use Rattle.recalculate.proofs.CallsSpare.{carries_out, edit_taken, shown, took}
 use Rattle.recalculate.proofs.Touches.{edited_kept, one_done}
@@ -13,20 +13,20 @@ drop_done-requires g c = one_done c.self.inside.study c.edit.new.self c.args.edi
 
 pub invariant_of-self-2 : goal.invariant_of-self-2
 invariant_of-self-2 g c =
-    (edited_kept c.self.inside.trees c.drop_done.new.self c.self.inside.study c.edit.new.self c.self.invariant
+    (edited_kept c.self.inside.trees c.drop_done.new.trees c.self.inside.study c.edit.new.self c.self.invariant
     c.args.edit.now c.in_ok-edit.ensures.reached c.in_ok-edit.ensures.ok c.drop_done.ensures).graphs
 
 pub returns-clause-kept : goal.returns-clause-kept
 returns-clause-kept g c =
-    (edited_kept c.self.inside.trees c.drop_done.new.self c.self.inside.study c.edit.new.self c.self.invariant
+    (edited_kept c.self.inside.trees c.drop_done.new.trees c.self.inside.study c.edit.new.self c.self.invariant
     c.args.edit.now c.in_ok-edit.ensures.reached c.in_ok-edit.ensures.ok c.drop_done.ensures).shown
     ∙ ap (λ (p : PlannerValue). less_touched (λ area. edit_touches area (state p.session) c.args.edit.now) p.kept) c.self.view_is
 
 pub returns-clause-step : goal.returns-clause-step
 returns-clause-step g c =
-    subst (λ (p : PlannerValue). CarriedOut (edit c.args.edit.now) p (shown c.edit.new.self c.self.inside.meter c.drop_done.new.self)) c.self.view_is
-    (carries_out (edit c.args.edit.now) c.self.inside.study c.edit.new.self c.self.inside.meter c.self.inside.trees c.drop_done.new.self
+    subst (λ (p : PlannerValue). CarriedOut (edit c.args.edit.now) p (shown c.edit.new.self c.self.inside.meter c.drop_done.new.trees)) c.self.view_is
+    (carries_out (edit c.args.edit.now) c.self.inside.study c.edit.new.self c.self.inside.meter c.self.inside.trees c.drop_done.new.trees
     (took c.self.inside.study c.edit.new.self c.args.edit.now c.in_ok-edit.ensures.ok)
     (edit_taken c.self.inside.study c.edit.new.self c.args.edit.now c.in_ok-edit.ensures.ok) c.in_ok-edit.ensures.reached
-    (edited_kept c.self.inside.trees c.drop_done.new.self c.self.inside.study c.edit.new.self c.self.invariant
+    (edited_kept c.self.inside.trees c.drop_done.new.trees c.self.inside.study c.edit.new.self c.self.invariant
     c.args.edit.now c.in_ok-edit.ensures.reached c.in_ok-edit.ensures.ok c.drop_done.ensures))

@@ -3,9 +3,9 @@ use Rattle.std.proofs.lemmas.Result.{err_from_is_err_and}
 use Rattle.lsdb.specs.Lists.{Lists}
 use Rattle.edit_history.specs.Session.{state}
 use Rattle.area_routes.specs.Attached.{attached_areas}
-use Rattle.recalculate.specs.AreasTrees.{routers_of, trees_in}
+use Rattle.routing_table.specs.AreasTrees.{routers_of, trees_in}
 use Rattle.routing_table.specs.Counting.{counted_by, CountsAtMost}
-use Rattle.recalculate.specs.KeptTrees.{IsWithin, TreeSet, areas_without_tree, is_kept}
+use Rattle.routing_table.specs.KeptTrees.{IsWithin, TreeSet, areas_without_tree, is_kept}
 use Rattle.recalculate.specs.Planning.{PlannerValue}
 use Rattle.routing_table.proofs.TableLemmas.{no_memory, on_ok}
 use Rattle.recalculate.proofs.TreesSpared.{told}

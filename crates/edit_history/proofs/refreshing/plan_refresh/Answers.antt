@@ -1,0 +1,36 @@
+use Rattle.std.proofs.Common.{◌++◌, List, refl, sym, ap, ◌∙◌, subst}
+use Rattle.std.proofs.lemmas.Result.{err_from_is_err_and}
+use Rattle.lsdb.specs.Places.{Places}
+use Rattle.edit_script.specs.declared.edit.Edit.TheVariants.{Refresh}
+use Rattle.edit_history.specs.Exchange.{SwapData, done_places}
+use Rattle.edit_history.specs.Applied.{Planned}
+use Rattle.edit_history.proofs.Refreshes.{first_can, refresh_planned, refresh_memory, written_back}
+use Rattle.edit_history.proofs.refreshing.plan_refresh.Goals as goal
+
+pub returns-in_err-swaps-clause-refused : goal.returns-in_err-swaps-clause-refused
+returns-in_err-swaps-clause-refused g c =
+    let gave = err_from_is_err_and c.from_residual.result c.from_residual.ensures.1 in
+    rw (gave.1, gave.2) (refresh_memory c.args.database.now c.in_err-swaps.field-0.0 c.in_err-swaps.ensures.memory)
+
+pub other_swaps-requires : goal.other_swaps-requires
+other_swaps-requires g c =
+    first_can c.args.database.now c.deref_mut.result.now c.known.ensures (c.deref_mut.ensures.value ∙ c.in_ok-swaps.ensures.swaps)
+
+pub returns-in_err-others-clause-refused : goal.returns-in_err-others-clause-refused
+returns-in_err-others-clause-refused g c =
+    let gave = err_from_is_err_and c.from_residual-in_err-others.result c.from_residual-in_err-others.ensures.1 in
+    rw (gave.1, gave.2) (refresh_memory c.args.database.now c.in_err-others.field-0.0 c.in_err-others.ensures.memory)
+
+pub returns-in_err-append-clause-refused : goal.returns-in_err-append-clause-refused
+returns-in_err-append-clause-refused g c =
+    let gave = err_from_is_err_and c.from_residual-in_err-append.result c.from_residual-in_err-append.ensures.1 in
+    rw (gave.1, gave.2) (refresh_memory c.args.database.now _ refl)
+
+pub returns-clause-planned : goal.returns-clause-planned
+returns-clause-planned g c =
+    let one_is = c.deref_mut.ensures.value ∙ c.in_ok-swaps.ensures.swaps in
+    subst (λ (e : Places). Planned c.args.database.now e Refresh c.append.new.self.items) (sym c.other_swaps.ensures.database)
+    (refresh_planned c.args.database.now (done_places c.args.database.now c.deref_mut.result.now) c.deref_mut.result.now c.in_ok-others.others.items
+    c.append.new.self.items c.known.ensures one_is refl c.in_ok-others.ensures.swaps
+    (c.in_ok-append.ensures.items ∙ ap (λ (ss : List SwapData). ss ++ c.in_ok-others.others.items)
+    (written_back c.deref_mut.result.now c.other_swaps.new.first c.in_ok-swaps.swaps.items _ (sym c.deref_mut.ensures.len) c.other_swaps.ensures.first)))

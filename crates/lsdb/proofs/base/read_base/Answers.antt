@@ -1,0 +1,22 @@
+use Rattle.std.proofs.Common.{arith, ◌≡◌, ◌≤◌, ℕ, List, length}
+use Rattle.lsdb.specs.Places.{lists_of}
+use Rattle.lsdb.specs.steps.View.{places_of}
+use Rattle.lsdb.specs.steps.Reading.{at_of}
+use Rattle.lsdb.specs.BaseLoading.{most_octets}
+use Rattle.lsdb.proofs.BaseParts.{base_too_large, base_read}
+use Rattle.lsdb.proofs.base.read_base.Goals as goal
+
+few : (bytes : List ℕ) (limit : ℕ) → limit ≡ most_octets bytes → length bytes ≤ limit → length bytes ≤ most_octets bytes
+few bytes limit is le = omega (arith, is, le)
+
+pub returns-then-end-gt-LONGEST_DUMP : goal.returns-then-end-gt-LONGEST_DUMP
+returns-then-end-gt-LONGEST_DUMP g c =
+    let bytes : List ℕ = c.args.bytes.now in
+    base_too_large bytes (lists_of (places_of c.in_ok-sections.sections.items)) (at_of c.in_ok-sections.end) (λ i. omega (arith, c.type_inv.bytes i))
+    (few bytes c.most_octets.result c.most_octets.ensures c.if-most_octets-bytes.false) c.in_ok-sections.ensures c.if-end-gt-LONGEST_DUMP.true
+
+pub returns : goal.returns
+returns g c =
+    let bytes : List ℕ = c.args.bytes.now in
+    base_read bytes (lists_of (places_of c.in_ok-sections.sections.items)) (at_of c.in_ok-sections.end) (λ i. omega (arith, c.type_inv.bytes i))
+    (few bytes c.most_octets.result c.most_octets.ensures c.if-most_octets-bytes.false) c.in_ok-sections.ensures c.if-end-gt-LONGEST_DUMP.false

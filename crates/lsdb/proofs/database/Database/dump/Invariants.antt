@@ -1,9 +1,0 @@
-use Rattle.std.proofs.Common.{◌≡◌, ◌++◌, take}
-use Rattle.std.specs.List.{flat_map}
-use Rattle.lsdb.specs.Places.{lists_of}
-use Rattle.lsdb.specs.Text.{area_count, section_text}
-use Rattle.lsdb.proofs.Written.{opening}
-use Rattle.lsdb.proofs.database.Database.dump.Given as goal
-
-abbrev pub invariant-loop-section : goal.invariant-loop-section
-invariant-loop-section g l = l.out.items ≡ opening (area_count (lists_of l.self)) ++ flat_map section_text (take l.section-index (lists_of l.self))

@@ -1,7 +1,0 @@
-use Rattle.lsdb.specs.Places.{lists_of}
-use Rattle.recalculate.proofs.TreeMaps.{has_vertex}
-use Rattle.recalculate.proofs.kept_trees.KeptTrees.grow.Goals as goal
-
-pub grow_in-requires : goal.grow_in-requires
-grow_in-requires g c = has_vertex (lists_of c.args.database.now) c.add_graph.new.self c.args.area c.args.router
-    c.known.ensures c.add_graph.ensures.graphs c.requires.attached c.in_ok-add_graph.ensures.there

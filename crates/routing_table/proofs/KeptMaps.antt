@@ -1,0 +1,99 @@
+-- Maps of the trees of all areas after one entry was put into them.
+use Rattle.std.proofs.Common.{◌≡◌, ◌≢◌, Bool, true, false, List, [], Option, Some, None, refl, sym, ap, ◌∙◌, subst, true≢false}
+use Rattle.std.specs.Prelude.{is_some, IsSome, IsSomeAnd, IfSome}
+use Rattle.std.specs.Cmp.{unsigned_ties}
+use Rattle.std.specs.List.{Contains}
+use Rattle.std.specs.Map.{lookup}
+use Rattle.std.specs.Option.{option_map, option_map_or}
+use Rattle.std.specs.Ordering.{eq_by_cmp}
+use Rattle.std.proofs.lemmas.Bool.{eq-eqb}
+use Rattle.lsa_codec.specs.declared.address.AreaId.{AreaId}
+use Rattle.lsa_codec.specs.declared.address.RouterId.{RouterId}
+use Rattle.lsdb.specs.declared.section.Section.TheVariants.{Area}
+use Rattle.lsdb.specs.Lists.{IsDatabase, Lists, lsas_of}
+use Rattle.area_graph.specs.declared.vertex.Vertex.{Vertex}
+use Rattle.area_graph.specs.declared.vertex.Vertex.TheVariants.{Router}
+use Rattle.area_graph.specs.Graphs.{IsGraphOf}
+use Rattle.area_graph.specs.Topology.{Topology}
+use Rattle.lsa_codec.specs.Order.{area_cmp, router_cmp}
+use Rattle.lsa_codec.proofs.OrderLemmas.{area_exact}
+use Rattle.area_routes.proofs.VertexLemmas.{attached_vertex}
+use Rattle.area_routes.specs.Attached.{is_attached}
+use Rattle.routing_table.specs.AreaTrees.{AreaTreesValue, has_tree}
+use Rattle.routing_table.proofs.MapLemmas.{Puts, if_found, put_all, put_here, put_other, put_passes, put_tells}
+use Rattle.routing_table.specs.AreasTrees.{AreasTrees, AreOfDatabase, trees_at, trees_in}
+use Rattle.routing_table.specs.KeptTrees.{IsWithin}
+
+area_self : (area : AreaId) → eq_by_cmp area_cmp area area ≡ true
+area_self area = sym (unsigned_ties area.0 area.0) ∙ eq-eqb area.0 area.0 refl
+
+abbrev pub graph_at : Option AreaTreesValue → Option Topology
+graph_at o = option_map (λ trees. trees.graph) o
+
+abbrev has_at : RouterId → Option AreaTreesValue → Bool
+has_at root o = option_map_or (λ kept. has_tree kept root) o false
+
+module _ (old new : AreasTrees) (area : AreaId) (t : AreaTreesValue) (puts : Puts area_cmp old new area t) where
+  -- the graph of an area came in
+  pub graphs_stay : (db : Lists) → IsGraphOf (lsas_of (Area area) db) t.graph → AreOfDatabase db old → AreOfDatabase db new
+  graphs_stay db is all = put_all area_cmp area_exact old new area t puts (λ a kept. IsGraphOf (lsas_of (Area a) db) kept.graph) is all
+
+  pub no_tree_more : trees_at old area ≡ None → t.trees ≡ [] → (other : AreaId) (root : RouterId) → trees_in new other root ≡ trees_in old other root
+  no_tree_more absent empty other root =
+      put_tells area_cmp area_exact old new area t puts (has_at root)
+      (ap (λ trees. is_some (lookup (eq_by_cmp router_cmp root) trees)) empty ∙ ap (has_at root) (sym absent)) other
+
+  pub area_here : IsSome (trees_at new area)
+  area_here = subst (λ o. IsSome o) (sym (put_here area_cmp area_exact old new area t puts (area_self area))) refl
+
+  -- trees came in where there was a graph
+  module _ (s : AreaTreesValue) (was : trees_at old area ≡ Some s) where
+    pub same_graphs : t.graph ≡ s.graph → (other : AreaId) → graph_at (trees_at new other) ≡ graph_at (trees_at old other)
+    same_graphs same other = put_tells area_cmp area_exact old new area t puts graph_at (ap (λ (g : Topology). Some g) same ∙ ap graph_at (sym was)) other
+
+    pub still_within : ((root : RouterId) → has_tree s root ≡ true → has_tree t root ≡ true) → IsWithin (trees_in old) (trees_in new)
+    still_within keeps other root had =
+        put_passes area_cmp area_exact old new area t puts (has_at root) (λ h. keeps root (ap (has_at root) (sym was) ∙ h)) other had
+
+  pub other_areas : (other : AreaId) → other ≢ area → (root : RouterId) → trees_in new other root ≡ trees_in old other root
+  other_areas other apart root = ap (has_at root) (put_other area_cmp area_exact old new area t puts other apart)
+
+  pub tree_in : (root : RouterId) → has_tree t root ≡ true → trees_in new area root ≡ true
+  tree_in root has = ap (has_at root) (put_here area_cmp area_exact old new area t puts (area_self area)) ∙ has
+
+-- ---- graphs of a database
+
+if_graph : (P : Topology → Type 0) (o p : Option AreaTreesValue) → graph_at o ≡ graph_at p → IfSome p (λ kept. P kept.graph) → IfSome o (λ kept. P kept.graph)
+if_graph P None p same h = tt
+if_graph P (Some x) None same h = absurd cc
+if_graph P (Some x) (Some y) same h = let is : x.graph ≡ y.graph = cc in subst P (sym is) h
+
+pub of_same_graphs : (db : Lists) (old new : AreasTrees) → ((area : AreaId) → graph_at (trees_at new area) ≡ graph_at (trees_at old area))
+    → AreOfDatabase db old → AreOfDatabase db new
+of_same_graphs db old new same all area = if_graph (λ g. IsGraphOf (lsas_of (Area area) db) g) (trees_at new area) (trees_at old area) (same area) (all area)
+
+-- the graph of an area has the routers that are attached to it
+pub has_vertex : (db : Lists) (areas : AreasTrees) (area : AreaId) (router : RouterId) → IsDatabase db → AreOfDatabase db areas
+    → is_attached db area router ≡ true
+    → IsSome (trees_at areas area) → IsSomeAnd (trees_at areas area) (λ trees. Contains trees.graph.vertices (Router router))
+has_vertex db areas area router sound all attached there = by (trees_at areas area) there (all area)
+  where
+    by : (o : Option AreaTreesValue) → IsSome o → IfSome o (λ kept. IsGraphOf (lsas_of (Area area) db) kept.graph)
+        → IsSomeAnd o (λ trees. Contains trees.graph.vertices (Router router))
+    by None some h = absurd (true≢false (sym some))
+    by (Some kept) some h =
+        subst (λ (vs : List Vertex). Contains vs (Router router)) (sym h.vertices) ((attached_vertex db sound area router).0 attached)
+
+-- ---- what a look-up found
+
+module _ (areas : AreasTrees) (area : AreaId) (kept : AreaTreesValue) (is : trees_at areas area ≡ Some kept) where
+  pub has_found : (router : RouterId) → trees_in areas area router ≡ true → has_tree kept router ≡ true
+  has_found router has = ap (has_at router) (sym is) ∙ has
+
+pub graph_found : (db : Lists) (areas : AreasTrees) (area : AreaId) (kept : AreaTreesValue) → AreOfDatabase db areas
+    → trees_at areas area ≡ Some kept → IsGraphOf (lsas_of (Area area) db) kept.graph
+graph_found db areas area kept all is = if_found (λ k. IsGraphOf (lsas_of (Area area) db) k.graph) (trees_at areas area) kept is (all area)
+
+pub vertex_found : (areas : AreasTrees) (area : AreaId) (router : RouterId) (kept : AreaTreesValue) → trees_at areas area ≡ Some kept
+    → IsSomeAnd (trees_at areas area) (λ trees. Contains trees.graph.vertices (Router router)) → Contains kept.graph.vertices (Router router)
+vertex_found areas area router kept is h = subst (λ o. IsSomeAnd o (λ trees. Contains trees.graph.vertices (Router router))) is h

@@ -1,0 +1,188 @@
+//! The trees of all areas that are kept from table to table.
+
+ghost use Rattle.std.specs.Prelude.{◌≡◌, ◌≢◌, true, [], Contains, IsSome, IsSomeAnd, IfOk, OnOk, OnErr, length, option_map};
+ghost use Rattle.lsa_codec.specs.declared.address.AreaId.{AreaId as AnyArea};
+ghost use Rattle.lsa_codec.specs.declared.address.RouterId.{RouterId as AnyRouter};
+ghost use Rattle.lsdb.specs.declared.section.Section.TheVariants.{Area};
+ghost use Rattle.lsdb.specs.Lists.{lsas_of};
+ghost use Rattle.lsdb.specs.Places.{lists_of};
+ghost use Rattle.area_graph.specs.declared.vertex.Vertex.TheVariants.{Router};
+ghost use Rattle.area_routes.specs.AreaResults.{area_result};
+ghost use Rattle.area_routes.specs.Attached.{attached_areas, is_attached};
+ghost use Rattle.routing_table.specs.AreaTrees.{missing};
+ghost use Rattle.routing_table.specs.AreasTrees.{AreOfDatabase, trees_at, trees_in};
+ghost use Rattle.routing_table.specs.Counting.{counted_by, CountsAtMost};
+ghost use Rattle.routing_table.specs.KeptTrees.{areas_without_tree, IsWithin};
+ghost use Rattle.routing_table.specs.Tables.{results_in};
+
+use crate::area_trees::AreaTrees;
+use crate::results::graph_of;
+use area_routes::{AreaResult, is_attached};
+use lsa_codec::{AreaId, RouterId};
+use lsdb::Database;
+use spf::Meter;
+use std::alloc::{AllocError, Allocator};
+use std::collections::BTreeMap;
+use std::marker::Model;
+
+/// The graphs and trees that were calculated, by their areas. Contracts see them as the list of
+/// these pairs.
+#[derive(Drop)]
+pub struct KeptTrees<A: Allocator> {
+    /// The graph and the trees of each area.
+    pub areas: BTreeMap<AreaId, AreaTrees<A>, A>,
+}
+
+impl<A: Allocator> Model for KeptTrees<A> {
+    ghost use Rattle.routing_table.specs.AreasTrees.{AreasTrees};
+
+    ghost Value = { AreasTrees };
+
+    ghost view = { λ k. k.areas.entries };
+}
+
+impl<A: Allocator + Copy> KeptTrees<A> {
+    /// No trees. It takes no memory.
+    pub fn new(alloc: A) -> KeptTrees<A>
+        ensures { result ≡ [] }
+    {
+        KeptTrees {
+            areas: BTreeMap::new(alloc),
+        }
+    }
+
+    /// Makes the graph of an area to which a router is attached, unless it is there.
+    fn add_graph(
+        &mut self,
+        alloc: A,
+        database: &Database<A>,
+        area: AreaId,
+        router: RouterId,
+    ) -> Result<(), AllocError>
+        requires attached { is_attached (lists_of database.now) area router ≡ true }
+        requires graphs { AreOfDatabase (lists_of database.now) self.old }
+        ensures graphs { AreOfDatabase (lists_of database.now) self.new }
+        ensures trees { (other : AnyArea) (root : AnyRouter)
+            → trees_in self.new other root ≡ trees_in self.old other root }
+        ensures there { OnOk result (IsSome (trees_at self.new area)) }
+    {
+        if self.areas.contains_key(&area) {
+            return Ok(());
+        }
+        let graph = graph_of(alloc, database, area, router)?;
+        self.areas.insert(area, AreaTrees::new(alloc, graph))?;
+        Ok(())
+    }
+
+    /// Calculates the tree of a router in an area whose graph is there and has the router, unless
+    /// it is there.
+    fn grow_in(
+        &mut self,
+        alloc: A,
+        area: AreaId,
+        router: RouterId,
+        meter: &mut Meter,
+    ) -> Result<(), AllocError>
+        requires { IsSomeAnd (trees_at self.old area)
+            (λ trees. Contains trees.graph.vertices (Router router)) }
+        ensures graphs { (other : AnyArea) → option_map (λ trees. trees.graph) (trees_at self.new other)
+            ≡ option_map (λ trees. trees.graph) (trees_at self.old other) }
+        ensures keeps { IsWithin (trees_in self.old) (trees_in self.new) }
+        ensures others { (other : AnyArea) → other ≢ area → (root : AnyRouter)
+            → trees_in self.new other root ≡ trees_in self.old other root }
+        ensures grown { OnOk result (trees_in self.new area router ≡ true) }
+        ensures meter { OnOk result (meter.new
+            ≡ counted_by (missing (trees_in self.old area router)) meter.old) }
+        ensures at_most { CountsAtMost (missing (trees_in self.old area router))
+            meter.old meter.new }
+    {
+        match self.areas.get_mut(&area) {
+            Some(trees) => trees.grow(alloc, router, meter),
+            None => unreachable!(),
+        }
+    }
+
+    /// Calculates the tree of a router in an area to which it is attached, unless it is there. The
+    /// meter counts a tree that is calculated.
+    fn grow(
+        &mut self,
+        alloc: A,
+        database: &Database<A>,
+        area: AreaId,
+        router: RouterId,
+        meter: &mut Meter,
+    ) -> Result<(), AllocError>
+        requires attached { is_attached (lists_of database.now) area router ≡ true }
+        requires graphs { AreOfDatabase (lists_of database.now) self.old }
+        ensures graphs { AreOfDatabase (lists_of database.now) self.new }
+        ensures keeps { IsWithin (trees_in self.old) (trees_in self.new) }
+        ensures others { (other : AnyArea) → other ≢ area → (root : AnyRouter)
+            → trees_in self.new other root ≡ trees_in self.old other root }
+        ensures grown { OnOk result (trees_in self.new area router ≡ true) }
+        ensures meter { OnOk result (meter.new
+            ≡ counted_by (missing (trees_in self.old area router)) meter.old) }
+        ensures at_most { CountsAtMost (missing (trees_in self.old area router))
+            meter.old meter.new }
+    {
+        // For the order of its areas and its keys: an attached router is a vertex of the graph.
+        database.known();
+        self.add_graph(alloc, database, area, router)?;
+        self.grow_in(alloc, area, router, meter)
+    }
+
+    /// What an area gives to a router whose tree is there.
+    fn result_of(
+        &self,
+        alloc: A,
+        database: &Database<A>,
+        area: AreaId,
+        router: RouterId,
+    ) -> Result<AreaResult<A>, AllocError>
+        requires graphs { AreOfDatabase (lists_of database.now) self.now }
+        requires tree { trees_in self.now area router ≡ true }
+        ensures { IfOk result (λ given. given
+            ≡ area_result area (lsas_of (Area area) (lists_of database.now)) router) }
+    {
+        match self.areas.get(&area) {
+            Some(trees) => trees.result_of(alloc, database, area, router),
+            None => unreachable!(),
+        }
+    }
+
+    /// What the areas give to which a router is attached, in rising order of their IDs. Trees that
+    /// are not there are calculated and kept, and the meter counts them.
+    pub fn results_of(
+        &mut self,
+        alloc: A,
+        database: &Database<A>,
+        router: RouterId,
+        meter: &mut Meter,
+    ) -> Result<Vec<AreaResult<A>, A>, AllocError>
+        requires { AreOfDatabase (lists_of database.now) self.old }
+        ensures results { IfOk result (λ results. results.items
+            ≡ results_in (lists_of database.now) router
+            (attached_areas (lists_of database.now) router)) }
+        ensures memory { OnErr result (attached_areas (lists_of database.now) router ≢ []) }
+        ensures graphs { AreOfDatabase (lists_of database.now) self.new }
+        ensures keeps { IsWithin (trees_in self.old) (trees_in self.new) }
+        ensures grown { OnOk result (areas_without_tree (trees_in self.new) router
+            (attached_areas (lists_of database.now) router) ≡ []) }
+        ensures meter { OnOk result (meter.new ≡ counted_by (length (areas_without_tree
+            (trees_in self.old) router (attached_areas (lists_of database.now) router)))
+            meter.old) }
+        ensures at_most { CountsAtMost (length (areas_without_tree (trees_in self.old) router
+            (attached_areas (lists_of database.now) router))) meter.old meter.new }
+    {
+        // For the order of its areas: their IDs differ, so a tree in one of them is in no other.
+        database.known();
+        let mut results = Vec::new(alloc);
+        for i in 0..database.area_count() {
+            let (area, _is_stub) = database.area(i);
+            if is_attached(database, area, router) {
+                self.grow(alloc, database, area, router, meter)?;
+                results.push(self.result_of(alloc, database, area, router)?)?;
+            }
+        }
+        Ok(results)
+    }
+}
