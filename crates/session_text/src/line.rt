@@ -1,0 +1,66 @@
+//! One line of an edit.
+
+ghost use Rattle.std.specs.Prelude.{◌≡◌, ◌==◌, ◌++◌, position, IfOk, OnOk};
+ghost use Rattle.edit_script.specs.Spelling.{spelling};
+ghost use Rattle.session_text.specs.Lines.{line_feed, line_of, edit_spelled, edit_line};
+
+use edit_script::{Command, Edit, parse, print};
+use std::alloc::{AllocError, Allocator};
+
+/// The index of the first line feed.
+fn first_line_feed(bytes: &[u8]) -> Option<usize>
+    ensures { result ≡ position (λ b. b == line_feed) bytes.now }
+{
+    bytes.iter().position(|byte| *byte == b'\n')
+}
+
+/// The edit that a line spells, as it is printed and no other way.
+fn edit_spelled<A: Allocator + Copy>(alloc: A, line: &[u8]) -> Result<Option<Edit>, AllocError>
+    ensures { IfOk result (λ edit. edit ≡ edit_spelled line.now) }
+{
+    let Ok((_, Command::Edit(edit))) = parse(line) else {
+        return Ok(None);
+    };
+    let spelled = print(alloc, &edit)?;
+    if line == spelled.as_bytes() {
+        Ok(Some(edit))
+    } else {
+        Ok(None)
+    }
+}
+
+/// The edit of the first line of the octets, and how many octets the line has with its line feed.
+/// `None` where no line feed stands there, and where the line is not just as an edit is printed.
+///
+/// The error is a want of memory.
+#[tactic(auto, unfolding(crate::specs::Lines::edit_line))]
+pub fn edit_line<A: Allocator + Copy>(
+    alloc: A,
+    bytes: &[u8],
+) -> Result<Option<(Edit, usize)>, AllocError>
+    ensures { IfOk result (λ found. found ≡ edit_line bytes.now) }
+{
+    let Some(end) = first_line_feed(bytes) else {
+        return Ok(None);
+    };
+    match edit_spelled(alloc, &bytes[..end])? {
+        Some(edit) => Ok(Some((edit, end + 1))),
+        None => Ok(None),
+    }
+}
+
+/// Writes the line of an edit behind what was written before.
+///
+/// The error is a want of memory.
+pub fn put_line<A: Allocator + Copy>(
+    alloc: A,
+    out: &mut Vec<u8, A>,
+    edit: &Edit,
+) -> Result<(), AllocError>
+    ensures { OnOk result (out.new.items ≡ out.old.items ++ line_of edit.now) }
+{
+    let spelled = print(alloc, edit)?;
+    out.extend_from_slice(spelled.as_bytes())?;
+    out.push(b'\n')?;
+    Ok(())
+}
