@@ -4,7 +4,7 @@ use Rattle.lsdb.specs.declared.fault.DumpFault.{DumpFault}
 use Rattle.lsdb.specs.declared.fault.DumpFaultKind.{DumpFaultKind}
 use Rattle.lsdb.specs.declared.fault.DumpFaultKind.TheVariants as kind
 use Rattle.lsdb.specs.Faults.{fault_text}
-use Rattle.ospf_plan.specs.declared.fault.RunFault.TheVariants as «run»
+use Rattle.whole_run.specs.declared.fault.RunFault.TheVariants as «run»
 use Rattle.ospf_plan.specs.declared.fault.FileArg.TheVariants as file
 use Rattle.ospf_plan.specs.declared.fault.ExitFault.{ExitFault}
 use Rattle.ospf_plan.specs.declared.fault.ExitFault.TheVariants.{Run, Open}

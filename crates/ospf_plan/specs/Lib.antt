@@ -1,11 +1,4 @@
-pub mod Branches
 pub mod CommandLine
 pub mod OptionsFaults
-pub mod Replies
-pub mod Run
-pub mod Alone
-pub mod Inputs
 pub mod Exit
-pub mod Streams
-pub mod WholeRun
 pub mod steps

@@ -1,5 +1,2 @@
 -- What private contracts cite: the steps of the code.
-pub mod Lines
-pub mod Planners
-pub mod Reading
 pub mod FoundFiles

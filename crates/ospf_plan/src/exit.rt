@@ -3,9 +3,10 @@
 ghost use Rattle.std.specs.Prelude.{◌≡◌, IfOk};
 ghost use Rattle.ospf_plan.specs.Exit.{exit_status, exit_text};
 
-use crate::fault::{ExitFault, FileArg, RunFault};
+use crate::fault::{ExitFault, FileArg};
 use lsdb::{DumpFault, DumpFaultKind};
 use std::alloc::{AllocError, Allocator};
+use whole_run::RunFault;
 
 /// The status of a refused dump.
 fn dump_status(fault: DumpFault) -> u8

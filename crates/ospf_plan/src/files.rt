@@ -5,14 +5,11 @@ ghost use Rattle.std.specs.Io.KnownBytes.{Appends};
 ghost use Rattle.streams.specs.Watched.{inner_of, has_failed};
 
 use crate::arguments::Options;
-use crate::fault::{ExitFault, FileArg, RunFault};
-use crate::output::write_and_flush;
-use crate::running::run;
-use crate::sample::SAMPLE;
-use crate::script::Summary;
+use crate::fault::{ExitFault, FileArg};
 use std::io::{Read, Write};
 use std::{fs, io};
 use streams::Watched;
+use whole_run::{RunFault, SAMPLE, Summary, run, write_and_flush};
 
 /// Opens the inputs, runs, and writes the dump that the script leaves to its file.
 pub(crate) fn run_files(rt: &HostRuntime, options: &Options) -> Result<Summary, ExitFault> {

@@ -19,6 +19,7 @@ pub const COMMANDS: &str = "Commands, each on a line of the script:
   add-external ROUTER PREFIX TYPE METRIC FORWARD TAG
                                               add an AS-external-LSA
   drop-external ROUTER PREFIX                 remove an AS-external-LSA
+  refresh                                     give summary-LSAs the metrics that they are due
   undo COUNT                                  take the last edits back
   redo COUNT                                  carry undone edits out again
   table ROUTER                                show the routing table of a router

@@ -1,37 +1,26 @@
 //! `ospf-plan`: a what-if planner for OSPF Version 2 (RFC 2328).
 //!
 //! It loads a dump of link state databases, carries out the commands of a script, and writes their replies and the
-//! dump that they leave. `running::run` is the whole run, over readers and writers; `main` hands it the files that
-//! the command line names.
+//! dump that they leave. `run` of the crate `whole_run` is the whole run, over readers and writers; `main` hands it the
+//! files that the command line names.
 #![tactic(auto)]
 
 mod arguments;
-mod branches;
 mod command_line;
-mod commands;
 mod exit;
 mod fault;
 mod files;
 mod help;
-mod inputs;
-mod laws;
-mod lines;
-mod output;
-mod reply;
-mod running;
-mod sample;
-mod script;
-#[cfg(test)]
-mod tests;
 
 use arguments::{Options, OptionsFault};
 use clap::Error;
 use command_line::options;
 use exit::exit_line;
-use fault::{ExitFault, RunFault};
+use fault::ExitFault;
 use std::io::{ErrorKind, Write};
 use std::process::ExitCode;
 use std::{env, io};
+use whole_run::RunFault;
 
 /// The line where an argument is no text.
 const BAD_ARGUMENT: &[u8] = b"error: an argument is not UTF-8 text\n";

@@ -1,0 +1,3 @@
+pub mod BranchSessions
+pub mod AllTables
+pub mod RefusedCommands

@@ -1,0 +1,28 @@
+use Rattle.std.proofs.Common.{◌≡◌, ◌∙◌, IfOk, ap, sym, subst}
+use Rattle.std.proofs.lemmas.Bool.{ne_eqb}
+use Rattle.lsdb.specs.Lists.{Lists}
+use Rattle.lsdb.specs.Text.{text}
+use Rattle.edit_history.specs.Session.{Session, state}
+use Rattle.branches.specs.Branches.{Named, sessions_of}
+use Rattle.branches.proofs.BranchSessions.{session_of_named, session_of_unnamed}
+use Rattle.branches.proofs.branches.Branches.dump.Goals as goal
+
+pub returns-in-Some-clause-dump : goal.returns-in-Some-clause-dump
+returns-in-Some-clause-dump g c =
+    subst (λ (s : Session). IfOk c.dump-in-Some.result (λ dump. dump.items ≡ text (state s)))
+    (sym (session_of_named c.self.inside.first c.self.inside.others.entries c.args.branch c.in-Some.planner.now
+    (ne_eqb c.args.branch 0 c.if-branch-eq0.false) c.in-Some.ensures.value)
+    ∙ ap (λ (n : Named). sessions_of n c.args.branch) c.self.view_is)
+    c.dump-in-Some.ensures
+
+pub invariant_of-self-in-None : goal.invariant_of-self-in-None
+invariant_of-self-in-None g c = rw c.base.ensures.kept c.self.invariant
+
+pub returns-in_ok-base-in-None-clause-dump : goal.returns-in_ok-base-in-None-clause-dump
+returns-in_ok-base-in-None-clause-dump g c =
+    let behind = ne_eqb c.args.branch 0 c.if-branch-eq0.false in
+    subst (λ (db : Lists). IfOk c.dump-in-None-2.result (λ dump. dump.items ≡ text db))
+    (c.in_ok-base-in-None.ensures.base
+    ∙ ap state (sym (session_of_unnamed c.self.inside.first c.self.inside.others.entries c.args.branch behind c.in-None.ensures.value)
+    ∙ ap (λ (n : Named). sessions_of n c.args.branch) c.self.view_is))
+    c.dump-in-None-2.ensures

@@ -1,0 +1,85 @@
+use Rattle.std.proofs.Common.{◌≡◌, ◌∙◌, ℕ, IfOk, ap, false, sym, subst}
+use Rattle.std.specs.Prelude.{OnOk}
+use Rattle.std.specs.BTreeMap.{BTreeMap}
+use Rattle.std.proofs.lemmas.Bool.{ne_eqb}
+use Rattle.lsdb.specs.Lists.{Lists}
+use Rattle.edit_history.specs.Session.{Session, start}
+use Rattle.recalculate.specs.Counts.{info_of}
+use Rattle.recalculate.specs.Planning.{PlannerValue}
+use Rattle.branches.specs.Branches.{Named, named_by, sessions_by, sessions_of, with_session}
+use Rattle.branches.specs.steps.Planners.{has_planner}
+use Rattle.branches.specs.Replies.{after, reply_to, said_by}
+use Rattle.branches.proofs.BranchSessions.{the_named, first_goes_on, first_base, not_named, one_base, session_of_named, shown_some, written}
+use Rattle.branches.proofs.BranchSessions.{written_on, written_same, base_of, on_ok, on_err}
+use Rattle.branches.proofs.branches.Branches.step.Goals as goal
+
+pub invariant_of-self : goal.invariant_of-self
+invariant_of-self g c =
+    let named : Named = named_by c.self.inside.first c.self.inside.others.entries in (
+      first_base named c.execute.new.planner.session c.execute.ensures.base c.self.invariant.0,
+      c.self.invariant.1 ∙ ap (λ (base : Lists). info_of (start base)) (sym c.execute.ensures.base),
+    )
+
+pub returns-then-branch-eq0-clause-sessions : goal.returns-then-branch-eq0-clause-sessions
+returns-then-branch-eq0-clause-sessions g c =
+    let b = c.args.branch in
+    let cmd = c.args.command.now in
+    let named : Named = named_by c.self.inside.first c.self.inside.others.entries in
+    let new : Named = named_by c.execute.new.planner c.self.inside.others.entries in
+    subst (λ (n : Named). OnOk c.execute.result (sessions_of new ≡ with_session b (after (sessions_of n b) cmd) (sessions_of n))) c.self.view_is
+    (on_ok c.execute.result (first_goes_on named b c.execute.new.planner.session cmd c.if-branch-eq0.true) c.execute.ensures.session)
+
+pub invariant_of-self-in-Some : goal.invariant_of-self-in-Some
+invariant_of-self-in-Some g c =
+    let w = c.execute-in-Some.new.planner in
+    let old = c.self.inside.others in
+    let new = c.get_mut.follows.lender w in
+    let branch = c.args.branch in
+    let planner = c.in-Some.planner.now in
+    let was = c.in-Some.ensures.value in
+    let named : Named = named_by c.self.inside.first old.entries in
+    let one = c.self.invariant.0 in
+    let base = c.execute-in-Some.ensures.base ∙ base_of named branch planner.session (shown_some old.entries branch planner was) one in
+    (one_base named (sessions_by new.entries) branch w.session base (written old new branch planner w was (c.get_mut.follows.holds w)) one, c.self.invariant.1)
+
+pub returns-in-Some-clause-sessions : goal.returns-in-Some-clause-sessions
+returns-in-Some-clause-sessions g c =
+    let w = c.execute-in-Some.new.planner in
+    let b = c.args.branch in
+    let cmd = c.args.command.now in
+    let old = c.self.inside.others in
+    let new : Named = named_by c.self.inside.first (c.get_mut.follows.lender w).entries in
+    subst (λ (n : Named). OnOk c.execute-in-Some.result (sessions_of new ≡ with_session b (after (sessions_of n b) cmd) (sessions_of n))) c.self.view_is
+    (on_ok c.execute-in-Some.result
+    (written_on c.self.inside.first old (c.get_mut.follows.lender w) b c.in-Some.planner.now w cmd
+    (ne_eqb b 0 c.if-branch-eq0.false) c.in-Some.ensures.value (c.get_mut.follows.holds w))
+    c.execute-in-Some.ensures.session)
+
+pub returns-in-Some-clause-kept : goal.returns-in-Some-clause-kept
+returns-in-Some-clause-kept g c =
+    let w = c.execute-in-Some.new.planner in
+    let old = c.self.inside.others in
+    on_err c.execute-in-Some.result
+    (λ same. ap (λ es. the_named c.self.inside.first.session es)
+    (written_same old (c.get_mut.follows.lender w) c.args.branch c.in-Some.planner.now w c.in-Some.ensures.value
+    (c.get_mut.follows.holds w) same) ∙ c.self.view_is)
+    c.execute-in-Some.ensures.kept
+
+pub returns-in-Some-clause-reply : goal.returns-in-Some-clause-reply
+returns-in-Some-clause-reply g c =
+    subst (λ (s : Session). IfOk c.execute-in-Some.result (λ reply. said_by reply ≡ reply_to s c.args.command.now))
+    (sym (session_of_named c.self.inside.first c.self.inside.others.entries c.args.branch c.in-Some.planner.now
+    (ne_eqb c.args.branch 0 c.if-branch-eq0.false) c.in-Some.ensures.value)
+    ∙ ap (λ (n : Named). sessions_of n c.args.branch) c.self.view_is)
+    c.execute-in-Some.ensures.reply
+
+pub step_first-requires-clause-new : goal.step_first-requires-clause-new
+step_first-requires-clause-new g c =
+    subst (λ (m : BTreeMap ℕ PlannerValue). has_planner (named_by c.self.inside.first m.entries) c.args.branch ≡ false) (sym c.get_mut.follows.holds-at-none)
+    (not_named c.self.inside.first c.self.inside.others.entries c.args.branch (ne_eqb c.args.branch 0 c.if-branch-eq0.false) c.in-None.ensures.value)
+
+pub returns-in-None-clause-reply : goal.returns-in-None-clause-reply
+returns-in-None-clause-reply g c =
+    subst (λ (n : Named). IfOk c.step_first.result (λ reply. said_by reply ≡ reply_to (sessions_of n c.args.branch) c.args.command.now))
+    (ap (λ (m : BTreeMap ℕ PlannerValue). named_by c.self.inside.first m.entries) c.get_mut.follows.holds-at-none ∙ c.self.view_is)
+    c.step_first.ensures.reply

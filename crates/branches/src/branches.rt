@@ -1,0 +1,167 @@
+//! The what-if studies of a run.
+
+ghost use Rattle.std.specs.Prelude.{◌≡◌, ◌<◌, ◌==◌, IfOk, OnOk, OnErr, IsOk, true, false};
+ghost use Rattle.lsdb.specs.Places.{lists_of};
+ghost use Rattle.lsdb.specs.Text.{text};
+ghost use Rattle.edit_history.specs.Session.{start, state};
+ghost use Rattle.branches.specs.Branches.{all_begin, with_session, sessions_of};
+ghost use Rattle.branches.specs.steps.Planners.{has_planner};
+ghost use Rattle.branches.specs.Replies.{reply_to, after, takes_memory, said_by};
+
+use crate::commands::execute;
+use crate::reply::{Refusal, Reply};
+use edit_history::{RedoFault, UndoFault};
+use edit_script::Command;
+use lsdb::Database;
+use recalculate::{Info, Planner};
+use std::alloc::{AllocError, Allocator, Global};
+use std::collections::BTreeMap;
+use std::marker::Model;
+
+/// The branches of a run, by the numbers 0 to 7: each is a study of its own that begins at the
+/// loaded database. A branch gets a planner at its first command that may take memory; until then
+/// it is at its beginning. Branch 0 has one from the start.
+///
+/// They are seen as the sessions of the branches that have a planner.
+#[derive(Drop)]
+pub struct Branches<A: Allocator = Global> {
+    first: Planner<A>,
+    others: BTreeMap<u8, Planner<A>, A>,
+    beginning: Info,
+    alloc: A,
+}
+
+impl<A: Allocator> Model for Branches<A> {
+    ghost use Rattle.std.specs.Prelude.{◌≡◌};
+    ghost use Rattle.edit_history.specs.Session.{start};
+    ghost use Rattle.recalculate.specs.Counts.{info_of};
+    ghost use Rattle.branches.specs.Branches.{Named, HaveOneBase, named_by};
+
+    ghost Value = { Named };
+
+    ghost view = { λ b. named_by b.first b.others.entries };
+
+    ghost invariant = { λ b. HaveOneBase (named_by b.first b.others.entries)
+        × (b.beginning ≡ info_of (start b.first.session.base)) };
+}
+
+impl<A: Allocator + Copy> Branches<A> {
+    /// Branches that begin at a database. It takes no memory.
+    pub fn new(alloc: A, database: Database<A>) -> Branches<A>
+        ensures { sessions_of result ≡ all_begin (lists_of database) }
+    {
+        let first = Planner::new(alloc, database);
+        let beginning = first.info();
+        Branches {
+            first,
+            others: BTreeMap::new(alloc),
+            beginning,
+            alloc,
+        }
+    }
+
+    /// Carries one command out in a branch, 0 to 7. `undo`, `redo` and `info` take no memory,
+    /// whatever the branch.
+    ///
+    /// # Errors
+    ///
+    /// Memory ran out. Then no branch has changed.
+    pub fn step(&mut self, branch: u8, command: &Command) -> Result<Reply<A>, AllocError>
+        requires { branch < 8 }
+        ensures reply { IfOk result
+            (λ reply. said_by reply ≡ reply_to (sessions_of self.old branch) command.now) }
+        ensures sessions { OnOk result (sessions_of self.new
+            ≡ with_session branch (after (sessions_of self.old branch) command.now)
+            (sessions_of self.old)) }
+        ensures kept { OnErr result (self.new ≡ self.old) }
+        ensures memory { takes_memory command.now ≡ false → IsOk result }
+    {
+        if branch == 0 {
+            return execute(self.alloc, &mut self.first, command);
+        }
+        match self.others.get_mut(&branch) {
+            Some(planner) => execute(self.alloc, planner, command),
+            None => self.step_first(branch, command),
+        }
+    }
+
+    /// Carries a command out in a branch that is at its beginning, and gives it a planner if it may
+    /// take memory.
+    fn step_first(&mut self, branch: u8, command: &Command) -> Result<Reply<A>, AllocError>
+        requires behind { (branch == 0) ≡ false }
+        requires new { has_planner self.old branch ≡ false }
+        ensures reply { IfOk result
+            (λ reply. said_by reply ≡ reply_to (sessions_of self.old branch) command.now) }
+        ensures sessions { OnOk result (sessions_of self.new
+            ≡ with_session branch (after (sessions_of self.old branch) command.now)
+            (sessions_of self.old)) }
+        ensures kept { OnErr result (self.new ≡ self.old) }
+        ensures memory { takes_memory command.now ≡ false → IsOk result }
+    {
+        match *command {
+            Command::Undo(0) | Command::Redo(0) => Ok(Reply::Done),
+            Command::Undo(_) => Ok(Reply::Refused(Refusal::Undo(UndoFault::NothingToUndo))),
+            Command::Redo(_) => Ok(Reply::Refused(Refusal::Redo(RedoFault::NothingToRedo))),
+            Command::Info => Ok(Reply::Info(self.beginning)),
+            _ => self.begin(branch, command),
+        }
+    }
+
+    /// Begins a branch, with its first command.
+    fn begin(&mut self, branch: u8, command: &Command) -> Result<Reply<A>, AllocError>
+        requires behind { (branch == 0) ≡ false }
+        requires new { has_planner self.old branch ≡ false }
+        ensures reply { IfOk result
+            (λ reply. said_by reply ≡ reply_to (sessions_of self.old branch) command.now) }
+        ensures sessions { OnOk result (sessions_of self.new
+            ≡ with_session branch (after (sessions_of self.old branch) command.now)
+            (sessions_of self.old)) }
+        ensures kept { OnErr result (self.new ≡ self.old) }
+    {
+        let mut planner = self.begun()?;
+        let reply = execute(self.alloc, &mut planner, command)?;
+        self.name(branch, planner)?;
+        Ok(reply)
+    }
+
+    /// A planner at the beginning of all branches.
+    fn begun(&mut self) -> Result<Planner<A>, AllocError>
+        ensures begun { IfOk result (λ planner. planner.session ≡ start self.old.first.base) }
+        ensures kept { self.new ≡ self.old }
+    {
+        let base = self.first.base()?;
+        Ok(Planner::new(self.alloc, base))
+    }
+
+    /// Gives a branch other than 0 a planner, with which it goes on.
+    fn name(&mut self, branch: u8, planner: Planner<A>) -> Result<(), AllocError>
+        requires behind { (branch == 0) ≡ false }
+        requires base { planner.session.base ≡ self.old.first.base }
+        ensures sessions { OnOk result (sessions_of self.new
+            ≡ with_session branch planner.session (sessions_of self.old)) }
+        ensures kept { OnErr result (self.new ≡ self.old) }
+    {
+        self.others.insert(branch, planner)?;
+        Ok(())
+    }
+
+    /// The dump of the database of a branch, 0 to 7. A branch that was not named has the loaded
+    /// database.
+    ///
+    /// # Errors
+    ///
+    /// Memory ran out.
+    pub fn dump(&mut self, branch: u8) -> Result<Vec<u8, A>, AllocError>
+        requires { branch < 8 }
+        ensures dump { IfOk result (λ dump. dump.items ≡ text (state (sessions_of self.old branch))) }
+        ensures kept { self.new ≡ self.old }
+    {
+        if branch == 0 {
+            return self.first.dump();
+        }
+        match self.others.get(&branch) {
+            Some(planner) => planner.dump(),
+            None => self.first.base()?.dump(),
+        }
+    }
+}

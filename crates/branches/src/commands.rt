@@ -1,0 +1,180 @@
+//! The commands of a script, executed on one planner.
+
+ghost use Rattle.std.specs.Prelude.{◌≡◌, ◌++◌, IfOk, OnOk, OnErr, IsOk, false, filter_map, option_to_list};
+ghost use Rattle.edit_history.specs.Session.{state, edited};
+ghost use Rattle.routing_table.specs.Routers.{attached_routers};
+ghost use Rattle.routing_table.specs.Tables.{table_in};
+ghost use Rattle.branches.specs.Replies.{reply_to, after, takes_memory, said_by, compare_reply, edit_reply, or_empty, table_reply, tables, unless_refused};
+
+use crate::reply::{Refusal, Reply};
+use edit_history::EditFault;
+use edit_script::{Command, Edit};
+use lsa_codec::RouterId;
+use recalculate::{Planner, Table, TableFault};
+use std::alloc::{AllocError, Allocator};
+
+/// Executes one command on a planner. An error is want of memory, and then the session is as it
+/// was. `undo`, `redo` and `info` take no memory.
+#[tactic(auto, using(crate::proofs::BranchSessions::after_base))]
+pub(crate) fn execute<A: Allocator + Copy>(
+    alloc: A,
+    planner: &mut Planner<A>,
+    command: &Command,
+) -> Result<Reply<A>, AllocError>
+    ensures reply { IfOk result (λ reply. said_by reply ≡ reply_to planner.old.session command.now) }
+    ensures session { OnOk result (planner.new.session ≡ after planner.old.session command.now) }
+    ensures base { planner.new.session.base ≡ planner.old.session.base }
+    ensures kept { OnErr result (planner.new.session ≡ planner.old.session) }
+    ensures memory { takes_memory command.now ≡ false → IsOk result }
+{
+    match *command {
+        Command::Edit(edit) => execute_edit(planner, &edit),
+        Command::Undo(count) => Ok(match planner.undo(count) {
+            Ok(()) => Reply::Done,
+            Err(fault) => Reply::Refused(Refusal::Undo(fault)),
+        }),
+        Command::Redo(count) => Ok(match planner.redo(count) {
+            Ok(()) => Reply::Done,
+            Err(fault) => Reply::Refused(Refusal::Redo(fault)),
+        }),
+        Command::Table(router) => table(planner, router),
+        Command::Tables => tables(alloc, planner),
+        Command::Compare(router) => compare(alloc, planner, router),
+        Command::Info => Ok(Reply::Info(planner.info())),
+    }
+}
+
+/// Carries an edit out.
+fn execute_edit<A: Allocator + Copy>(
+    planner: &mut Planner<A>,
+    edit: &Edit,
+) -> Result<Reply<A>, AllocError>
+    ensures reply { IfOk result (λ reply. said_by reply ≡ edit_reply (edited planner.old.session edit.now)) }
+    ensures session { OnOk result
+        (planner.new.session ≡ unless_refused planner.old.session
+        (edited planner.old.session edit.now)) }
+    ensures base { planner.new.session.base ≡ planner.old.session.base }
+    ensures kept { OnErr result (planner.new.session ≡ planner.old.session) }
+{
+    match planner.edit(edit) {
+        Ok(()) => Ok(Reply::Done),
+        Err(EditFault::OutOfMemory) => Err(AllocError),
+        Err(fault) => Ok(Reply::Refused(Refusal::Edit(fault))),
+    }
+}
+
+/// The routing table of a router now, if it is attached to an area.
+fn table_now<A: Allocator + Copy>(
+    planner: &mut Planner<A>,
+    router: RouterId,
+) -> Result<Option<Table<A>>, AllocError>
+    ensures table { IfOk result (λ table. table ≡ table_in (state planner.old.session) router) }
+    ensures kept { planner.new.session ≡ planner.old.session }
+{
+    match planner.table(router) {
+        Ok(table) => Ok(Some(table)),
+        Err(TableFault::NoRouter) => Ok(None),
+        Err(TableFault::OutOfMemory) => Err(AllocError),
+    }
+}
+
+/// The routing table of a router in the loaded database, if it is attached to an area there.
+fn table_before<A: Allocator + Copy>(
+    planner: &mut Planner<A>,
+    router: RouterId,
+) -> Result<Option<Table<A>>, AllocError>
+    ensures table { IfOk result (λ table. table ≡ table_in planner.old.session.base router) }
+    ensures kept { planner.new.session ≡ planner.old.session }
+{
+    match planner.base_table(router) {
+        Ok(table) => Ok(Some(table)),
+        Err(TableFault::NoRouter) => Ok(None),
+        Err(TableFault::OutOfMemory) => Err(AllocError),
+    }
+}
+
+/// The reply that a router is attached to no area.
+const NO_ROUTER: Refusal = Refusal::Table(TableFault::NoRouter);
+
+/// The reply to `table`.
+fn table<A: Allocator + Copy>(
+    planner: &mut Planner<A>,
+    router: RouterId,
+) -> Result<Reply<A>, AllocError>
+    ensures reply { IfOk result
+        (λ reply. said_by reply ≡ table_reply (table_in (state planner.old.session) router)) }
+    ensures kept { planner.new.session ≡ planner.old.session }
+{
+    Ok(match table_now(planner, router)? {
+        Some(table) => Reply::Table(table),
+        None => Reply::Refused(NO_ROUTER),
+    })
+}
+
+/// The reply to `tables`.
+fn tables<A: Allocator + Copy>(alloc: A, planner: &mut Planner<A>) -> Result<Reply<A>, AllocError>
+    ensures reply { IfOk result
+        (λ reply. said_by reply ≡ tables
+        (filter_map (table_in (state planner.old.session))
+        (attached_routers (state planner.old.session)))) }
+    ensures kept { planner.new.session ≡ planner.old.session }
+{
+    let routers = planner.routers()?;
+    let tables = tables_of(alloc, planner, &routers)?;
+    Ok(Reply::Tables(tables))
+}
+
+/// The routing tables of routers now, of those that are attached to an area.
+fn tables_of<A: Allocator + Copy>(
+    alloc: A,
+    planner: &mut Planner<A>,
+    routers: &[RouterId],
+) -> Result<Vec<Table<A>, A>, AllocError>
+    ensures tables { IfOk result
+        (λ tables. tables.items ≡ filter_map (table_in (state planner.old.session)) routers.now) }
+    ensures kept { planner.new.session ≡ planner.old.session }
+{
+    let mut tables = Vec::new(alloc);
+    for router in routers {
+        add_table(&mut tables, table_now(planner, *router)?)?;
+    }
+    Ok(tables)
+}
+
+/// Adds a table, if there is one.
+fn add_table<A: Allocator + Copy>(
+    tables: &mut Vec<Table<A>, A>,
+    table: Option<Table<A>>,
+) -> Result<(), AllocError>
+    ensures { OnOk result (tables.new.items ≡ tables.old.items ++ option_to_list table) }
+{
+    if let Some(table) = table {
+        tables.push(table)?;
+    }
+    Ok(())
+}
+
+/// The reply to `compare`.
+fn compare<A: Allocator + Copy>(
+    alloc: A,
+    planner: &mut Planner<A>,
+    router: RouterId,
+) -> Result<Reply<A>, AllocError>
+    ensures reply { IfOk result
+        (λ reply. said_by reply ≡ compare_reply router (table_in planner.old.session.base router)
+        (table_in (state planner.old.session) router)) }
+    ensures kept { planner.new.session ≡ planner.old.session }
+{
+    let Some(before) = table_before(planner, router)? else {
+        return Ok(Reply::Refused(NO_ROUTER));
+    };
+    let now = match table_now(planner, router)? {
+        Some(table) => table,
+        None => Table::empty(alloc, router),
+    };
+    Ok(Reply::Compare {
+        router,
+        before,
+        now,
+    })
+}

@@ -1,0 +1,215 @@
+//! Replies to commands, and the texts of answers.
+
+ghost use Rattle.std.specs.Prelude.{◌≡◌, ◌++◌, IfOk, codes, decimal, flat_map, length};
+ghost use Rattle.std.specs.String.{string_bytes};
+ghost use Rattle.table_report.specs.Texts.{table_text};
+ghost use Rattle.branches.specs.Replies.{refusal_code, refusal_name, lsa_counts, link_counts, edit_counts, info_text, said_by, said_text, mark_of, reply_text, script_text, is_refusal};
+
+use edit_history::{EditFault, RedoFault, UndoFault};
+use edit_script::ScriptFault;
+use lsa_codec::{Decimal, RouterId};
+use recalculate::{Info, Table, TableFault};
+use std::alloc::{AllocError, Allocator, Global};
+use table_report::{compare_text, table_text};
+
+/// Why a command is refused. A refused command changes nothing.
+#[derive(Clone, Copy, Debug, PartialEq, Eq)]
+pub enum Refusal {
+    /// An edit, for one of E1 to E12.
+    Edit(EditFault),
+    /// An `undo`, since fewer edits are done (U1).
+    Undo(UndoFault),
+    /// A `redo`, since fewer edits are undone (U2).
+    Redo(RedoFault),
+    /// A `table` or `compare`, since the router is attached to no area (N1).
+    Table(TableFault),
+}
+
+/// What a command is answered.
+#[derive(Drop)]
+pub enum Reply<A: Allocator = Global> {
+    /// The command was carried out.
+    Done,
+    /// The command was refused, and nothing has changed.
+    Refused(Refusal),
+    /// The routing table of a router.
+    Table(Table<A>),
+    /// The routing tables of all routers that are attached to an area, in rising order of their
+    /// IDs.
+    Tables(Vec<Table<A>, A>),
+    /// What to compare: the routing tables of a router in the loaded database, and now.
+    Compare {
+        /// The router.
+        router: RouterId,
+        /// Its table in the loaded database.
+        before: Table<A>,
+        /// Its table now; one without routes, where it is attached to no area now.
+        now: Table<A>,
+    },
+    /// What the session counts.
+    Info(Info),
+}
+
+impl Refusal {
+    /// The printed code, as `E4`.
+    fn code(self) -> &'static str
+        ensures { result.now ≡ refusal_code self }
+    {
+        match self {
+            Refusal::Edit(fault) => fault.code(),
+            Refusal::Undo(fault) => fault.code(),
+            Refusal::Redo(fault) => fault.code(),
+            Refusal::Table(fault) => fault.code(),
+        }
+    }
+
+    /// The printed name, as `ZeroCost`.
+    fn name(self) -> &'static str
+        ensures { result.now ≡ refusal_name self }
+    {
+        match self {
+            Refusal::Edit(fault) => fault.name(),
+            Refusal::Undo(fault) => fault.name(),
+            Refusal::Redo(fault) => fault.name(),
+            Refusal::Table(fault) => fault.name(),
+        }
+    }
+}
+
+impl<A: Allocator> Reply<A> {
+    /// Whether the command was refused.
+    pub fn is_refusal(&self) -> bool
+        ensures { result ≡ is_refusal (said_by self.now) }
+    {
+        matches!(self, Reply::Refused(_))
+    }
+}
+
+/// The text of a reply in a branch: `@0 ok`, `@0 refused E4 ZeroCost`, the text of a table or of a
+/// comparison behind `@0 `, `@0 tables 2` and the texts of the tables, or `@0 info areas 1 ..`;
+/// each line ends in a line feed.
+///
+/// # Errors
+///
+/// Memory ran out.
+pub fn reply_text<A: Allocator + Copy>(
+    alloc: A,
+    branch: u8,
+    reply: &Reply<A>,
+) -> Result<Vec<u8, A>, AllocError>
+    ensures { IfOk result (λ text. text.items ≡ reply_text branch (said_by reply.now)) }
+{
+    let mut text = mark(alloc, branch)?;
+    text.append(&mut said_text(alloc, reply)?)?;
+    Ok(text)
+}
+
+/// The mark of a branch before a reply: `@0 `.
+fn mark<A: Allocator + Copy>(alloc: A, branch: u8) -> Result<Vec<u8, A>, AllocError>
+    ensures { IfOk result (λ text. text.items ≡ mark_of branch) }
+{
+    let branch = Decimal(u64::from(branch));
+    let text = format!(in alloc; "@{branch} ")?;
+    Ok(text.into_bytes())
+}
+
+/// The text of a reply behind the mark of its branch.
+fn said_text<A: Allocator + Copy>(alloc: A, reply: &Reply<A>) -> Result<Vec<u8, A>, AllocError>
+    ensures { IfOk result (λ text. text.items ≡ said_text (said_by reply.now)) }
+{
+    match reply {
+        Reply::Done => Vec::from_slice(alloc, b"ok\n"),
+        Reply::Refused(why) => refusal_text(alloc, *why),
+        Reply::Table(table) => table_text(alloc, table),
+        Reply::Tables(tables) => tables_text(alloc, tables),
+        Reply::Compare {
+            router,
+            before,
+            now,
+        } => compare_text(alloc, *router, before, now),
+        Reply::Info(info) => info_text(alloc, info),
+    }
+}
+
+/// `refused CODE NAME`.
+fn refusal_text<A: Allocator + Copy>(alloc: A, why: Refusal) -> Result<Vec<u8, A>, AllocError>
+    ensures { IfOk result
+        (λ text. text.items ≡ codes "refused " ++ refusal_code why ++ codes
+        " " ++ refusal_name why ++ codes "\n") }
+{
+    let code = why.code();
+    let name = why.name();
+    let text = format!(in alloc; "refused {code} {name}\n")?;
+    Ok(text.into_bytes())
+}
+
+/// `tables COUNT`, and the text of each table.
+fn tables_text<A: Allocator + Copy>(
+    alloc: A,
+    tables: &Vec<Table<A>, A>,
+) -> Result<Vec<u8, A>, AllocError>
+    ensures { IfOk result
+        (λ text. text.items ≡ codes "tables " ++ decimal
+        (length tables.now.items) ++ codes "\n" ++ flat_map table_text tables.now.items) }
+{
+    let count = Decimal(tables.len() as u64);
+    let mut text = format!(in alloc; "tables {count}\n")?.into_bytes();
+    for table in tables {
+        text.append(&mut table_text(alloc, table)?)?;
+    }
+    Ok(text)
+}
+
+/// The counts of a session.
+fn info_text<A: Allocator + Copy>(alloc: A, info: &Info) -> Result<Vec<u8, A>, AllocError>
+    ensures { IfOk result (λ text. text.items ≡ info_text info.now) }
+{
+    let mut text = lsa_counts(alloc, info)?;
+    text.push_str(&link_counts(alloc, info)?)?;
+    text.push_str(&edit_counts(alloc, info)?)?;
+    Ok(text.into_bytes())
+}
+
+/// The counts of areas and LSAs.
+fn lsa_counts<A: Allocator + Copy>(alloc: A, info: &Info) -> Result<String<A>, AllocError>
+    ensures { IfOk result (λ text. string_bytes text ≡ lsa_counts info.now) }
+{
+    let areas = Decimal(info.areas as u64);
+    let lsas = Decimal(info.lsas as u64);
+    let as_lsas = Decimal(info.as_lsas as u64);
+    let text = format!(in alloc; "info areas {areas} lsas {lsas} as {as_lsas}")?;
+    Ok(text)
+}
+
+/// The counts of what virtual links leave in LSAs.
+fn link_counts<A: Allocator + Copy>(alloc: A, info: &Info) -> Result<String<A>, AllocError>
+    ensures { IfOk result (λ text. string_bytes text ≡ link_counts info.now) }
+{
+    let vbits = Decimal(info.vbits as u64);
+    let vlinks = Decimal(info.vlinks as u64);
+    let text = format!(in alloc; " vbits {vbits} vlinks {vlinks}")?;
+    Ok(text)
+}
+
+/// The counts of edits.
+fn edit_counts<A: Allocator + Copy>(alloc: A, info: &Info) -> Result<String<A>, AllocError>
+    ensures { IfOk result (λ text. string_bytes text ≡ edit_counts info.now) }
+{
+    let done = Decimal(info.done as u64);
+    let undone = Decimal(info.undone as u64);
+    let text = format!(in alloc; " done {done} undone {undone}\n")?;
+    Ok(text)
+}
+
+/// The text for a line that is no command: `script S2 UnknownWord`, and a line feed.
+pub fn script_text<A: Allocator + Copy>(
+    alloc: A,
+    fault: ScriptFault,
+) -> Result<Vec<u8, A>, AllocError>
+    ensures { IfOk result (λ text. text.items ≡ script_text fault) }
+{
+    let code = fault.code();
+    let name = fault.name();
+    let text = format!(in alloc; "script {code} {name}\n")?;
+    Ok(text.into_bytes())
+}

@@ -1,8 +1,0 @@
-use Rattle.ospf_plan.proofs.BranchesApart.{answers_alone, session_alone}
-use Rattle.ospf_plan.proofs.laws.branches_are_apart.Goals as goal
-
-pub returns-clause-answers : goal.returns-clause-answers
-returns-clause-answers c = answers_alone
-
-pub returns-clause-session : goal.returns-clause-session
-returns-clause-session c = session_alone

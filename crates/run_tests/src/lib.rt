@@ -1,0 +1,5 @@
+//! Tests of whole runs and of branches: what no run of the program shows.
+#![tactic(auto)]
+
+#[cfg(test)]
+mod tests;

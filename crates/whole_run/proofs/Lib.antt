@@ -1,0 +1,4 @@
+pub mod FirstLine
+pub mod ScriptLines
+pub mod KnownInputs
+pub mod BranchesApart

@@ -1,0 +1,32 @@
+use Rattle.streams.specs.Watched.{inner_of}
+use Rattle.streams.specs.WholeText.{IsAll}
+use Rattle.whole_run.proofs.KnownInputs.{if_written, if_prefix, if_counted, if_dump, if_nothing}
+use Rattle.whole_run.proofs.running.answer_all.Goals as goal
+
+pub returns-in_err-text-clause-prefix : goal.returns-in_err-text-clause-prefix
+returns-in_err-text-clause-prefix g c = if_nothing _ _ _ _
+
+pub returns-in_err-summary-clause-prefix : goal.returns-in_err-summary-clause-prefix
+returns-in_err-summary-clause-prefix g c =
+    let all : IsAll (g.S.Read.remaining (inner_of c.args.script.now)) c.as_slice.result.now = rw c.as_slice.ensures.value c.in_ok-text.ensures.whole in
+    if_prefix _ _ _ _ _ _ c.in_ok-branches.ensures.loads all c.answer_script.ensures.prefix
+
+pub returns-clause-replies : goal.returns-clause-replies
+returns-clause-replies g c =
+    let all : IsAll (g.S.Read.remaining (inner_of c.args.script.now)) c.as_slice.result.now = rw c.as_slice.ensures.value c.in_ok-text.ensures.whole in
+    if_written _ _ _ _ _ _ c.in_ok-branches.ensures.loads all c.in_ok-summary.ensures.whole
+
+pub returns-clause-dump : goal.returns-clause-dump
+returns-clause-dump g c =
+    let all : IsAll (g.S.Read.remaining (inner_of c.args.script.now)) c.as_slice.result.now = rw c.as_slice.ensures.value c.in_ok-text.ensures.whole in
+    if_dump _ _ _ _ _ c.in_ok-branches.ensures.loads all c.in_ok-summary.ensures.sessions
+
+pub returns-clause-summary : goal.returns-clause-summary
+returns-clause-summary g c =
+    let all : IsAll (g.S.Read.remaining (inner_of c.args.script.now)) c.as_slice.result.now = rw c.as_slice.ensures.value c.in_ok-text.ensures.whole in
+    if_counted _ _ _ _ _ c.in_ok-branches.ensures.loads all (c.in_ok-summary.ensures.commands, c.in_ok-summary.ensures.refused)
+
+pub returns-clause-prefix : goal.returns-clause-prefix
+returns-clause-prefix g c =
+    let all : IsAll (g.S.Read.remaining (inner_of c.args.script.now)) c.as_slice.result.now = rw c.as_slice.ensures.value c.in_ok-text.ensures.whole in
+    if_prefix _ _ _ _ _ _ c.in_ok-branches.ensures.loads all c.answer_script.ensures.prefix

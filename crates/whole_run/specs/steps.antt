@@ -1,0 +1,3 @@
+-- What private contracts cite: the steps of the code.
+pub mod Lines
+pub mod Reading

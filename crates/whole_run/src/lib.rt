@@ -1,0 +1,21 @@
+//! The whole run of a script on a dump, over readers and writers.
+//!
+//! [`run`] reads the dump and the script, writes the reply to each line, and then the dump that the
+//! script leaves. The theorem of the whole stands on it.
+#![tactic(auto)]
+
+mod fault;
+mod inputs;
+mod laws;
+mod lines;
+mod output;
+mod running;
+mod sample;
+mod script;
+
+pub use fault::RunFault;
+pub use laws::branches_are_apart;
+pub use output::write_and_flush;
+pub use running::run;
+pub use sample::SAMPLE;
+pub use script::Summary;

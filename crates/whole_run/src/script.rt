@@ -1,0 +1,147 @@
+//! A script: its lines are carried out in order, and each reply is written.
+
+ghost use Rattle.std.specs.Prelude.{◌≡◌, ◌↔◌, ◌+◌, ◌<◌, ◌≤◌, ◌^◌, false, true, length, count_by, option_map, option_to_list, OnOk, OnErr, IfOk, IfErr};
+ghost use Rattle.std.specs.Io.KnownBytes.{Appends};
+ghost use Rattle.streams.specs.Watched.{inner_of, has_failed};
+ghost use Rattle.streams.specs.WholeText.{AppendsPrefix};
+ghost use Rattle.edit_script.specs.Line.{meaning};
+ghost use Rattle.whole_run.specs.Run.{Answer, answer_to, after_line, answers, sessions_after, lines_of, text_of};
+ghost use Rattle.branches.specs.Branches.{sessions_of};
+ghost use Rattle.whole_run.specs.WholeRun.{refused_count};
+
+use crate::fault::RunFault;
+use crate::lines::first_line;
+use branches::{Branches, reply_text, script_text};
+use edit_script::{ScriptFault, parse};
+use std::alloc::{AllocError, Allocator, Global};
+use std::io::Write;
+use std::marker::Model;
+use streams::{Watched, write_whole};
+
+/// How many lines of a script had a reply, and how many of these were refused, by `refused` or
+/// `script`.
+#[derive(Clone, Copy, Debug, PartialEq, Eq)]
+pub struct Summary {
+    /// The lines with a reply.
+    pub commands: u64,
+    /// The lines whose reply refuses them.
+    pub refused: u64,
+}
+
+/// The text that a line is answered with, and whether it refuses the line.
+#[derive(Drop)]
+pub(crate) struct Answer<A: Allocator = Global> {
+    text: Vec<u8, A>,
+    refused: bool,
+}
+
+impl<A: Allocator> Model for Answer<A> {
+    ghost use Rattle.whole_run.specs.Run.{Answer as Told};
+
+    ghost Value = { Told };
+
+    ghost view = { λ a. record { text = a.text.items; refused = a.refused } };
+}
+
+/// Carries out one line. A line without words, or a comment, has no answer.
+fn execute_line<A: Allocator + Copy>(
+    alloc: A,
+    branches: &mut Branches<A>,
+    line: &[u8],
+) -> Result<Option<Answer<A>>, AllocError>
+    ensures answer { IfOk result
+        (λ told. option_to_list told ≡ answer_to (sessions_of branches.old) (meaning line.now)) }
+    ensures sessions { OnOk result
+        (sessions_of branches.new ≡ after_line (sessions_of branches.old) (meaning line.now)) }
+{
+    match parse(line) {
+        Err(ScriptFault::Empty) => Ok(None),
+        Err(fault) => Ok(Some(Answer {
+            text: script_text(alloc, fault)?,
+            refused: true,
+        })),
+        Ok((branch, command)) => {
+            let reply = branches.step(branch, &command)?;
+            Ok(Some(Answer {
+                text: reply_text(alloc, branch, &reply)?,
+                refused: reply.is_refusal(),
+            }))
+        }
+    }
+}
+
+/// Carries out one line, writes its answer if it has one, and counts it.
+fn answer_line<A: Allocator + Copy, W: Write>(
+    alloc: A,
+    branches: &mut Branches<A>,
+    line: &[u8],
+    replies: &mut Watched<W>,
+    summary: &mut Summary,
+) -> Result<(), RunFault>
+    requires open { has_failed replies.old ≡ false }
+    requires room { (summary.old.commands + 1 < 2 ^ 64) × (summary.old.refused + 1 < 2 ^ 64) }
+    ensures whole { OnOk result
+        (Appends (W.contents (inner_of replies.old)) (W.contents (inner_of replies.new))
+        (text_of (answer_to (sessions_of branches.old) (meaning line.now)))) }
+    ensures sessions { OnOk result
+        (sessions_of branches.new ≡ after_line (sessions_of branches.old) (meaning line.now)) }
+    ensures commands { OnOk result
+        (summary.new.commands ≡ summary.old.commands + length
+        (answer_to (sessions_of branches.old) (meaning line.now))) }
+    ensures refused { OnOk result
+        (summary.new.refused ≡ summary.old.refused + refused_count
+        (answer_to (sessions_of branches.old) (meaning line.now))) }
+    ensures prefix { AppendsPrefix (W.contents (inner_of replies.old)) (W.contents (inner_of replies.new))
+        (text_of (answer_to (sessions_of branches.old) (meaning line.now))) }
+    ensures failed { (result ≡ Err RunFault.Write) ↔ (has_failed replies.new ≡ true) }
+    ensures memory { has_failed replies.new ≡ false → IfErr result (λ fault. fault ≡ RunFault.OutOfMemory) }
+{
+    let Some(told) = execute_line(alloc, branches, line)? else {
+        return Ok(());
+    };
+    write_whole(replies, told.text.as_slice())?;
+    summary.commands += 1;
+    if told.refused {
+        summary.refused += 1;
+    }
+    Ok(())
+}
+
+/// Carries out the lines of a script, and writes their answers.
+pub(crate) fn answer_script<A: Allocator + Copy, W: Write>(
+    alloc: A,
+    branches: &mut Branches<A>,
+    script: &[u8],
+    replies: &mut Watched<W>,
+) -> Result<Summary, RunFault>
+    requires open { has_failed replies.old ≡ false }
+    requires size { length script.now ≤ 1048576 }
+    ensures whole { OnOk result
+        (Appends (W.contents (inner_of replies.old)) (W.contents (inner_of replies.new))
+        (text_of (answers (sessions_of branches.old) (lines_of script.now)))) }
+    ensures sessions { OnOk result
+        (sessions_of branches.new ≡ sessions_after (sessions_of branches.old)
+        (lines_of script.now)) }
+    ensures commands { IfOk result
+        (λ summary. summary.commands ≡ length
+        (answers (sessions_of branches.old) (lines_of script.now))) }
+    ensures refused { IfOk result
+        (λ summary. summary.refused ≡ refused_count
+        (answers (sessions_of branches.old) (lines_of script.now))) }
+    ensures prefix { AppendsPrefix (W.contents (inner_of replies.old)) (W.contents (inner_of replies.new))
+        (text_of (answers (sessions_of branches.old) (lines_of script.now))) }
+    ensures failed { (result ≡ Err RunFault.Write) ↔ (has_failed replies.new ≡ true) }
+    ensures memory { has_failed replies.new ≡ false → IfErr result (λ fault. fault ≡ RunFault.OutOfMemory) }
+{
+    let mut summary = Summary {
+        commands: 0,
+        refused: 0,
+    };
+    let mut rest = Some(script);
+    'lines: while let Some(text) = rest {
+        let (line, more) = first_line(text);
+        answer_line(alloc, branches, line, replies, &mut summary)?;
+        rest = more;
+    }
+    Ok(summary)
+}
