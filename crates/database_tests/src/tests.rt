@@ -7,6 +7,7 @@ mod texts;
 mod views;
 
 // Databases.
+mod bases;
 mod places;
 
 // Scripts.
@@ -19,5 +20,6 @@ mod limits;
 mod nets;
 mod opaque;
 mod records;
+mod refreshes;
 mod refusals;
 mod sessions;

@@ -5,10 +5,8 @@ use Rattle.lsdb.specs.Lists.{Lists, lsas_of}
 use Rattle.lsdb.specs.Loading.{loaded}
 use Rattle.area_graph.specs.Graphs.{IsGraphOf}
 use Rattle.area_graph.specs.Topology.{Topology}
-use Rattle.area_routes.specs.Values.{AreaResultValue, InterValue}
+use Rattle.area_routes.specs.Values.{AreaResultValue}
 use Rattle.area_routes.specs.AreaResults.{area_result}
-use Rattle.area_routes.specs.Intra.{intra_of}
-use Rattle.area_routes.specs.Inter.{inter_of}
 
 -- the LSAs of an area
 abbrev pub lsas_in : Lists → ℕ → List (List ℕ)
@@ -22,14 +20,6 @@ result_in db root area = area_result (record { 0 = area }) (lsas_in db area) (re
 abbrev pub results_in : Lists → ℕ → List ℕ → List AreaResultValue
 results_in db root areas = map (result_in db root) areas
 
--- the inter-area routes and the entries by what some areas give
-abbrev pub inter_by : Lists → ℕ → List AreaResultValue → InterValue
-inter_by db root results = inter_of db (record { 0 = root }) results (intra_of results)
-
 -- the graph is that of area 0.0.0.0 in the database that a dump holds
 abbrev pub IsBackboneOf : List ℕ → Topology → Type 0
 IsBackboneOf dump graph = (db : Lists) × ((loaded dump ≡ Ok db) × IsGraphOf (lsas_in db 0) graph)
-
--- the routes and entries are those of some areas in the database that a dump holds
-abbrev pub IsInterOf : List ℕ → ℕ → List ℕ → InterValue → Type 0
-IsInterOf dump root areas found = (db : Lists) × ((loaded dump ≡ Ok db) × (found ≡ inter_by db root (results_in db root areas)))

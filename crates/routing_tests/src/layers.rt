@@ -4,15 +4,15 @@ ghost use Rattle.std.specs.Prelude.{◌≡◌, length, IfOk};
 ghost use Rattle.lsdb.specs.Places.{lists_of};
 ghost use Rattle.area_graph.specs.declared.vertex.Vertex.TheVariants.{Router};
 ghost use Rattle.next_hops.specs.FirstHops.{table_of};
-ghost use Rattle.routing_tests.specs.Layers.{result_in, results_in, IsBackboneOf, IsInterOf};
+ghost use Rattle.routing_tests.specs.Layers.{result_in, results_in, IsBackboneOf};
 
 use area_graph::Graph;
-use area_routes::{AreaResult, InterResult, inter, intra};
+use area_routes::AreaResult;
 use lsa_codec::{AreaId, RouterId};
 use lsdb::Database;
 use next_hops::Hops;
 use spf::{Meter, Tree};
-use std::alloc::{Allocator, Global};
+use std::alloc::Allocator;
 use std::test::Fail;
 
 /// The graph of area 0.0.0.0.
@@ -68,14 +68,4 @@ pub fn results_of<A: Allocator + Copy>(
         results.push(result_of(alloc, database, *area, root)?)?;
     }
     Ok(results)
-}
-
-/// The inter-area routes and the entries of a router that is attached to these areas.
-pub fn inter_in(alloc: Global, dump: &[u8], areas: &[u32], root: u32) -> Result<InterResult, Fail>
-    ensures { IfOk result (IsInterOf dump.now root areas.now) }
-{
-    let database = Database::load(alloc, dump)?;
-    let results = results_of(alloc, &database, areas, root)?;
-    let routes = intra(alloc, &results)?;
-    Ok(inter(alloc, &database, RouterId(root), &results, &routes)?)
 }

@@ -10,16 +10,17 @@ use rationed::Rationed;
 use std::alloc::Global;
 use std::test::*;
 
-/// How many growths it takes to load `NETS`, and to carry an edit out.
+/// How many growths it takes to load a database, and to carry an edit of it out.
 #[derive(Clone, Copy)]
 pub struct Growths {
     pub loading: u64,
     pub editing: u64,
 }
 
-pub fn growths_of(alloc: Global, edit: &Edit) -> Result<Growths, Fail> {
+/// The growths of a dump and of an edit of its database.
+pub fn growths_of(alloc: Global, dump: &[u8], edit: &Edit) -> Result<Growths, Fail> {
     let counted = Rationed::new(alloc, u64::MAX);
-    let mut database = Database::load(&counted, NETS)?;
+    let mut database = Database::load(&counted, dump)?;
     let loaded = counted.left();
     let _record = apply(&mut database, edit)?;
     Ok(Growths {
@@ -45,7 +46,7 @@ pub fn is_refused_with(
 /// was.
 fn refuses_growths(alloc: Global, line: &str) -> Result<bool, Fail> {
     let edit = edit_of(line)?;
-    let growths = growths_of(alloc, &edit)?;
+    let growths = growths_of(alloc, NETS, &edit)?;
     for left in 0..growths.editing {
         let granted = growths.loading.saturating_add(left);
         if !is_refused_with(alloc, granted, &edit, EditFault::OutOfMemory)? {

@@ -77,6 +77,7 @@ const EDITS: &[(&str, &str)] = &[
         "DropExternal { router: RouterId(33686018), \
         prefix: Prefix { addr: Addr(168361984), len: 16 } }",
     ),
+    ("refresh", "Refresh"),
 ];
 
 /// What the edit of a line says.

@@ -73,8 +73,10 @@ pub const TEN_EDITS: &[&str] = &[
     "fail-router 3.3.3.3",
 ];
 
+/// The backbone.
 pub const BACKBONE: Section = Section::Area(AreaId(0));
 
+/// The stub area of `NETS`.
 pub const STUB_AREA: Section = Section::Area(AreaId(1));
 
 /// The edit of a line.
@@ -86,7 +88,7 @@ pub fn edit_of(line: &str) -> Result<Edit, Fail> {
 }
 
 /// Whether two databases have the same LSAs in a section.
-fn has_same<A: Allocator + Copy, B: Allocator + Copy>(
+pub fn has_same<A: Allocator + Copy, B: Allocator + Copy>(
     database: &Database<A>,
     other: &Database<B>,
     section: Section,

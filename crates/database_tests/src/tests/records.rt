@@ -32,23 +32,23 @@ const EDITS: &[(&str, usize)] = &[
 fn goes_and_comes<A: Allocator + Copy>(
     alloc: Global,
     database: &mut Database<A>,
-    record: &mut Record<A>,
+    change: &mut Record<A>,
     line: &str,
 ) -> Result<bool, Fail>
     requires database { IsDatabase (lists_of database.old) }
-    requires record { CanUndo database.old record.old.swaps }
+    requires linked { CanUndo database.old change.old.swaps }
 {
     inverses();
-    revert(database, record);
+    revert(database, change);
     let is_back = is_after(alloc, database, &[])?;
-    replay(database, record);
+    replay(database, change);
     Ok(is_back && is_after(alloc, database, &[line])?)
 }
 
 /// Whether an edit changes so many LSAs, and goes and comes where no growth is left.
 fn takes_no_memory(alloc: Global, line: &str, changed: usize) -> Result<bool, Fail> {
     let edit = edit_of(line)?;
-    let growths = growths_of(alloc, &edit)?;
+    let growths = growths_of(alloc, NETS, &edit)?;
     let rationed = Rationed::new(alloc, growths.loading.saturating_add(growths.editing));
     let mut database = Database::load(&rationed, NETS)?;
     let mut record = apply(&mut database, &edit)?;

@@ -1,7 +1,7 @@
 //! Refused edits where no memory is left: what an edit is refused for comes before want of memory.
 
 use super::growths::{growths_of, is_refused_with};
-use super::nets::edit_of;
+use super::nets::{NETS, edit_of};
 use edit_history::EditFault;
 use std::test::*;
 
@@ -66,7 +66,7 @@ const REFUSED: &[(&str, EditFault)] = &[
 #[test]
 fn a_refusal_comes_before_want_of_memory(rt: HostRuntime) -> Result<(), Fail> {
     let granted = edit_of("cost 0.0.0.0 1.1.1.1 3 7")?;
-    let growths = growths_of(rt.alloc(), &granted)?;
+    let growths = growths_of(rt.alloc(), NETS, &granted)?;
     for (line, fault) in REFUSED {
         let refused = is_refused_with(rt.alloc(), growths.loading, &edit_of(line)?, *fault)?;
         assert!(rt; refused, "{line}");

@@ -91,6 +91,14 @@ fn shows_faults(rt: HostRuntime) -> Result<(), Fail> {
     );
     assert_eq!(rt; fault.kind.code(), "L9");
     assert_eq!(rt; fault.kind.name(), "Lsa ZeroCost");
+    let fault = DumpFault {
+        offset: 129,
+        kind: DumpFaultKind::BadHistory(1),
+    };
+    assert_eq!(rt;
+        format!(in alloc; "{fault}")?.as_str(),
+        "L15 BadHistory 1 at 129"
+    );
     Ok(())
 }
 

@@ -16,24 +16,41 @@ fn rank(path: PathType, cost2: u32, class: u8, cost: u64) -> Rank {
     }
 }
 
+/// Paths inside the AS and of both types, the better first.
+const RANKS: &[(PathType, u32, u8, u64)] = &[
+    (PathType::Intra, 0, 0, 900),
+    (PathType::Inter, 0, 0, 800),
+    (PathType::Ext1, 0, 0, 700),
+    (PathType::Ext1, 0, 1, 600),
+    (PathType::Ext2, 20, 0, 50),
+    (PathType::Ext2, 20, 1, 10),
+    (PathType::Ext2, 20, 1, 11),
+    (PathType::Ext2, 21, 0, 1),
+];
+
+/// The rank of the path at a place.
+fn rank_at(place: usize) -> Option<Rank> {
+    let (path, cost2, class, cost) = RANKS.get(place).copied()?;
+    Some(rank(path, cost2, class, cost))
+}
+
+/// Whether the rank at a place is before the next one.
+fn is_before_next(place: usize) -> bool {
+    rank_order();
+    match (rank_at(place), rank_at(place.wrapping_add(1))) {
+        (Some(one), Some(next)) => one < next,
+        _ => false,
+    }
+}
+
 /// Type 1 before type 2; of type 2 the smaller metric, then the smaller class, then the smaller
 /// cost (RFC 2328, 16.4).
 #[test]
 fn ranks_in_order(rt: HostRuntime) -> Result<(), Fail> {
-    rank_order();
-    let ranks = [
-        rank(PathType::Intra, 0, 0, 900),
-        rank(PathType::Inter, 0, 0, 800),
-        rank(PathType::Ext1, 0, 0, 700),
-        rank(PathType::Ext1, 0, 1, 600),
-        rank(PathType::Ext2, 20, 0, 50),
-        rank(PathType::Ext2, 20, 1, 10),
-        rank(PathType::Ext2, 20, 1, 11),
-        rank(PathType::Ext2, 21, 0, 1),
-    ];
-    for index in 1..ranks.len() {
-        assert!(rt; ranks[index - 1] < ranks[index], "at {index}");
+    for place in 0..7 {
+        assert!(rt; is_before_next(place), "at {place}");
     }
+    assert!(rt; !is_before_next(7));
     Ok(())
 }
 

@@ -2,6 +2,7 @@
 
 use lsa_codec::Addr;
 use next_hops::{Hop, HopList};
+use std::alloc::Global;
 use std::test::*;
 
 const LINK: Hop = Hop::Link(Addr(0x0a00_0001));
@@ -20,47 +21,60 @@ fn prints_hops(rt: HostRuntime) -> Result<(), Fail> {
     Ok(())
 }
 
-#[test]
-fn keeps_hops_in_order(rt: HostRuntime) -> Result<(), Fail> {
-    let far = Hop::Link(Addr(0xc000_0201));
-    let near = Hop::Link(Addr(0x0a00_0000));
-    let mut list = HopList::new(rt.alloc())?;
-    for hop in [
-        GATEWAY,
-        far,
-        LINK,
-        Hop::Connected,
-        GATEWAY,
-        ATTACHED,
-        near,
-        LINK,
-    ] {
-        list.add(hop)?;
+const NEAR: Hop = Hop::Link(Addr(0x0a00_0000));
+
+const FAR: Hop = Hop::Link(Addr(0xc000_0201));
+
+/// Hops in no order, two of them twice.
+const GIVEN: &[Hop] = &[
+    GATEWAY,
+    FAR,
+    LINK,
+    Hop::Connected,
+    GATEWAY,
+    ATTACHED,
+    NEAR,
+    LINK,
+];
+
+/// The same in order, each once.
+const SORTED: &[Hop] = &[Hop::Connected, NEAR, LINK, FAR, ATTACHED, GATEWAY];
+
+/// The list of these hops, added one by one.
+fn added(alloc: Global, hops: &[Hop]) -> Result<HopList, Fail> {
+    let mut list = HopList::new(alloc)?;
+    for hop in hops {
+        list.add(*hop)?;
     }
-    let sorted = [Hop::Connected, near, LINK, far, ATTACHED, GATEWAY];
-    assert_eq!(rt; list.as_slice(), sorted.as_slice());
-    Ok(())
+    Ok(list)
+}
+
+/// A clone of a list, which is then joined with these hops.
+fn clone_and_join(alloc: Global, list: &mut HopList, hops: &[Hop]) -> Result<HopList, Fail> {
+    let clone = list.clone_of(alloc)?;
+    list.join(hops)?;
+    Ok(clone)
 }
 
 #[test]
+fn keeps_hops_in_order(rt: HostRuntime) -> Result<(), Fail> {
+    assert_eq!(rt; added(rt.alloc(), GIVEN)?.as_slice(), SORTED);
+    Ok(())
+}
+
+/// A short list lies in place, and one of more hops elsewhere.
+#[test]
 fn joins_and_clones(rt: HostRuntime) -> Result<(), Fail> {
-    let mut list = HopList::new(rt.alloc())?;
-    list.join(&[LINK, GATEWAY])?;
-    list.join(&[GATEWAY, ATTACHED, Hop::Connected])?;
-    let clone = list.clone_of(rt.alloc())?;
-    list.join(&[Hop::Link(Addr(2)), Hop::Link(Addr(1))])?;
-    let cloned = [Hop::Connected, LINK, ATTACHED, GATEWAY];
-    assert_eq!(rt; clone.as_slice(), cloned.as_slice());
-    let more = [
-        Hop::Connected,
-        Hop::Link(Addr(1)),
-        Hop::Link(Addr(2)),
-        LINK,
-        ATTACHED,
-        GATEWAY,
-    ];
-    assert_eq!(rt; list.as_slice(), more.as_slice());
-    let again = list.clone_of(rt.alloc())?;
-    assert_eq!(rt; again.as_slice(), more.as_slice());
+    let mut list = added(rt.alloc(), &[LINK, GATEWAY])?;
+    let short = clone_and_join(rt.alloc(), &mut list, &[GATEWAY, ATTACHED, Hop::Connected])?;
+    assert_eq!(rt; short.as_slice(), [LINK, GATEWAY].as_slice());
+    let short = clone_and_join(rt.alloc(), &mut list, &[FAR, NEAR])?;
+    assert_eq!(rt;
+        short.as_slice(),
+        [Hop::Connected, LINK, ATTACHED, GATEWAY].as_slice()
+    );
+    let long = clone_and_join(rt.alloc(), &mut list, &[])?;
+    assert_eq!(rt; long.as_slice(), SORTED);
+    assert_eq!(rt; list.as_slice(), SORTED);
     Ok(())
 }

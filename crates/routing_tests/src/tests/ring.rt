@@ -1,12 +1,12 @@
 //! Two areas of 40 routers in a ring, and 10 networks of four neighbouring routers each.
 
-ghost use Rattle.std.specs.Prelude.{◌<◌};
-
+use crate::layers::graph_of;
+use area_graph::Graph;
 use samples::{
     LsaList, RING_ROUTERS, RouterLink, add_ring_networks, ring_network, ring_router, to_network,
     to_router,
 };
-use std::alloc::Global;
+use std::alloc::{AllocError, Global};
 use std::test::*;
 
 /// Which ring it is.
@@ -19,9 +19,42 @@ pub(super) enum Ring {
     UnevenCosts,
 }
 
-/// The address of a router's interface.
-fn interface(place: u32, number: u32) -> u32 {
-    0x0a00_0000 | place % RING_ROUTERS << 8 | number
+/// A router that names one of the ring, and that none names.
+pub(super) const ALONE: u32 = 0x0909_0909;
+
+/// The router at a place.
+pub(super) fn router_at(place: u32) -> u32 {
+    ring_router(place)
+}
+
+/// The links of the router at a place.
+#[derive(Drop)]
+struct Links {
+    place: u32,
+    list: Vec<RouterLink>,
+}
+
+impl Links {
+    /// The address of the interface of a number.
+    fn interface(&self, number: u32) -> u32 {
+        0x0a00_0000 | self.place % RING_ROUTERS << 8 | number
+    }
+
+    /// Adds a link to the router so many places further, over the interface of a number.
+    fn join(&mut self, further: u32, number: u32, cost: u16) -> Result<(), AllocError> {
+        let other = router_at(self.place.wrapping_add(further));
+        let link = to_router(other, self.interface(number), cost);
+        self.list.push(link)?;
+        Ok(())
+    }
+
+    /// Adds a link to the network.
+    fn join_network(&mut self) -> Result<(), AllocError> {
+        let interface = 0x0a06_0000 | self.place;
+        let link = to_network(ring_network(self.place), interface, 2);
+        self.list.push(link)?;
+        Ok(())
+    }
 }
 
 impl Ring {
@@ -35,33 +68,44 @@ impl Ring {
 
     /// A router's links to both neighbours, to its network unless it is the last of the four, and
     /// at each eighth place to a router that has no link back.
-    fn links(self, alloc: Global, place: u32) -> Result<Vec<RouterLink>, Fail>
-        requires { place < 40 }
-    {
+    fn links(self, alloc: Global, place: u32) -> Result<Vec<RouterLink>, AllocError> {
         let (next, back) = self.costs(place);
-        let mut links = Vec::new(alloc);
-        links.push(to_router(ring_router(place + 1), interface(place, 1), next))?;
-        links.push(to_router(ring_router(place + 39), interface(place, 2), back))?;
+        let list = Vec::new(alloc);
+        let mut links = Links { place, list };
+        links.join(1, 1, next)?;
+        links.join(39, 2, back)?;
         if place % 4 != 3 {
-            links.push(to_network(ring_network(place), 0x0a06_0000 | place, 2))?;
+            links.join_network()?;
         }
         if place % 8 == 0 {
-            links.push(to_router(ring_router(place + 20), interface(place, 3), 1))?;
+            links.join(20, 3, 1)?;
         }
         if matches!(self, Ring::EqualWays) && place % 10 == 0 {
-            links.push(to_router(ring_router(place + 1), interface(place, 5), 1))?;
-            links.push(to_router(ring_router(place + 1), interface(place, 4), 1))?;
+            links.join(1, 5, 1)?;
+            links.join(1, 4, 1)?;
         }
-        Ok(links)
+        Ok(links.list)
     }
 
     /// The LSAs of the ring.
-    pub(super) fn area(self, alloc: Global) -> Result<LsaList, Fail> {
+    fn area(self, alloc: Global) -> Result<LsaList, AllocError> {
         let mut area = LsaList::new(alloc);
         for place in 0..RING_ROUTERS {
-            area.router(ring_router(place), &self.links(alloc, place)?)?;
+            area.router(router_at(place), &self.links(alloc, place)?)?;
         }
         add_ring_networks(&mut area)?;
         Ok(area)
+    }
+
+    /// The graph of the ring.
+    pub(super) fn graph(self, alloc: Global) -> Result<Graph, Fail> {
+        graph_of(alloc, &self.area(alloc)?.dump()?)
+    }
+
+    /// The graph of the ring and of the router that stands alone.
+    pub(super) fn graph_with_one_alone(self, alloc: Global) -> Result<Graph, Fail> {
+        let mut area = self.area(alloc)?;
+        area.router(ALONE, &[to_router(router_at(0), 0x0a00_0004, 1)])?;
+        graph_of(alloc, &area.dump()?)
     }
 }

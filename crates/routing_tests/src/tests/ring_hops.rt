@@ -2,15 +2,15 @@
 
 ghost use Rattle.std.specs.Prelude.{◌≡◌, length};
 
+use super::built::by_rounds;
 use super::plain_hops::plain_hops;
-use super::ring::Ring;
+use super::ring::{Ring, router_at};
 use super::texts::hops_text;
-use crate::layers::{graph_of, hops_from};
+use crate::layers::hops_from;
 use area_graph::{Graph, Vertex};
 use lsa_codec::RouterId;
 use next_hops::{Hop, Hops};
-use samples::{RING_ROUTERS, ring_router};
-use spf::distances_by_rounds;
+use samples::RING_ROUTERS;
 use std::alloc::Global;
 use std::test::*;
 
@@ -29,24 +29,25 @@ fn count_of_both(graph: &Graph, hops: &Hops, plain: &[Vec<Hop>]) -> Option<usize
     Some(count)
 }
 
-/// How many hops there are of all vertices from the router of a place, if both programs find the
-/// same ones of each.
-fn count_from(alloc: Global, graph: &Graph, place: u32) -> Result<Option<usize>, Fail> {
-    let root = RouterId(ring_router(place));
-    let number = graph.index_of(Vertex::Router(root)).ok_or("a router")?;
-    let distances = distances_by_rounds(alloc, graph, root)?;
+/// How many hops there are of all vertices from a router, if both programs find the same ones of
+/// each.
+fn count_from(alloc: Global, graph: &Graph, root: u32) -> Result<Option<usize>, Fail> {
+    let number = graph
+        .index_of(Vertex::Router(RouterId(root)))
+        .ok_or("a router")?;
+    let distances = by_rounds(alloc, graph, root)?;
     let plain = plain_hops(alloc, graph, &distances, number)?;
-    let hops = hops_from(alloc, graph, root.0)?;
+    let hops = hops_from(alloc, graph, root)?;
     Ok(count_of_both(graph, &hops, &plain))
 }
 
 #[test]
 fn both_programs_agree(rt: HostRuntime) -> Result<(), Fail> {
-    let graph = graph_of(rt.alloc(), &Ring::EqualWays.area(rt.alloc())?.dump()?)?;
+    let graph = Ring::EqualWays.graph(rt.alloc())?;
     assert_eq!(rt; graph.len(), 50);
     let mut found: usize = 0;
     for place in 0..RING_ROUTERS {
-        let count = count_from(rt.alloc(), &graph, place)?;
+        let count = count_from(rt.alloc(), &graph, router_at(place))?;
         assert!(rt; count.is_some(), "from {place}");
         found = found.wrapping_add(count.unwrap_or(0));
     }
@@ -56,8 +57,8 @@ fn both_programs_agree(rt: HostRuntime) -> Result<(), Fail> {
 
 /// The hops of a vertex from the first router.
 fn hops_at(alloc: Global, index: usize) -> Result<String, Fail> {
-    let graph = graph_of(alloc, &Ring::EqualWays.area(alloc)?.dump()?)?;
-    let hops = hops_from(alloc, &graph, ring_router(0))?;
+    let graph = Ring::EqualWays.graph(alloc)?;
+    let hops = hops_from(alloc, &graph, router_at(0))?;
     if graph.len() <= index {
         return Ok(String::new(alloc));
     }
@@ -70,10 +71,14 @@ const ALL: &str =
 
 #[test]
 fn hops_to_the_other_side(rt: HostRuntime) -> Result<(), Fail> {
-    assert_eq!(rt; hops_at(rt.alloc(), 0)?.as_str(), "");
-    assert_eq!(rt; hops_at(rt.alloc(), 21)?.as_str(), ALL);
-    assert_eq!(rt; hops_at(rt.alloc(), 22)?.as_str(), " link:10.0.0.2");
-    assert_eq!(rt; hops_at(rt.alloc(), 40)?.as_str(), " attached:10.6.0.0");
-    assert_eq!(rt; hops_at(rt.alloc(), 45)?.as_str(), ALL);
+    for (index, expected) in [
+        (0, ""),
+        (21, ALL),
+        (22, " link:10.0.0.2"),
+        (40, " attached:10.6.0.0"),
+        (45, ALL),
+    ] {
+        assert_eq!(rt; hops_at(rt.alloc(), index)?.as_str(), expected);
+    }
     Ok(())
 }

@@ -1,58 +1,46 @@
 //! Trees of the two small areas.
 
-use crate::layers::graph_of;
-use lsa_codec::RouterId;
+use super::built::{by_rounds, reached, sample_graph, three_graph, tree_of};
+use area_graph::Graph;
 use rationed::Rationed;
-use samples::{R1, R3, R4, SAMPLE, network_of_three};
-use spf::{Meter, SpfFault, Tree, distances_by_rounds};
-use std::alloc::{Allocator, Global};
+use samples::{R1, R3, R4};
+use spf::{Meter, SpfFault};
+use std::alloc::Global;
 use std::test::*;
 
-/// The vertices that a tree reaches, in their order, each with its distance.
-pub(super) fn reached<A: Allocator + Copy>(
-    alloc: A,
-    tree: &Tree<A>,
-) -> Result<Vec<(usize, Option<u64>), A>, Fail> {
-    let mut reached = Vec::new(alloc);
-    for index in tree.order() {
-        let index = usize::from(*index);
-        reached.push((index, tree.distance(index)))?;
-    }
-    Ok(reached)
-}
-
 #[test]
-fn reaches_the_sample(rt: HostRuntime) -> Result<(), Fail> {
-    let graph = graph_of(rt.alloc(), SAMPLE)?;
-    let mut meter = Meter::new();
-    let tree = Tree::build(rt.alloc(), &graph, RouterId(R1), &mut meter)?;
+fn tells_vertices_in_order(rt: HostRuntime) -> Result<(), Fail> {
+    let graph = sample_graph(rt.alloc())?;
+    let tree = tree_of(rt.alloc(), &graph, R1, &mut Meter::new())?;
     assert_eq!(rt; tree.root(), 0);
-    let expected = [(0, Some(0)), (1, Some(10))];
-    assert_eq!(rt; reached(rt.alloc(), &tree)?.as_slice(), expected.as_slice());
     assert_eq!(rt; tree.settled(1), Some(1));
     assert_eq!(rt; tree.settled(2), None);
-    assert_eq!(rt; meter.count(), 1);
     Ok(())
 }
+
+/// A router of which the graph has no vertex.
+const ABSENT: u32 = 0x0909_0909;
 
 #[test]
 fn misses_a_router(rt: HostRuntime) -> Result<(), Fail> {
-    let graph = graph_of(rt.alloc(), SAMPLE)?;
+    let graph = sample_graph(rt.alloc())?;
     let mut meter = Meter::new();
-    let absent = RouterId(0x0909_0909);
-    let fault = Tree::build(rt.alloc(), &graph, absent, &mut meter).err();
+    let fault = tree_of(rt.alloc(), &graph, ABSENT, &mut meter).err();
     assert_eq!(rt; fault, Some(SpfFault::NoRouter));
     assert_eq!(rt; meter.count(), 0);
-    let fault = distances_by_rounds(rt.alloc(), &graph, absent).err();
+    let fault = by_rounds(rt.alloc(), &graph, ABSENT).err();
     assert_eq!(rt; fault, Some(SpfFault::NoRouter));
     Ok(())
 }
 
-/// The vertices of the network of three routers that a tree of a root reaches, in their order, one a
-/// line: number and distance.
-fn reached_text(alloc: Global, root: u32, meter: &mut Meter) -> Result<String, Fail> {
-    let graph = graph_of(alloc, &network_of_three(alloc)?)?;
-    let tree = Tree::build(alloc, &graph, RouterId(root), meter)?;
+/// The vertices that the tree of a root reaches, in their order, one a line: number and distance.
+fn reached_text(
+    alloc: Global,
+    graph: &Graph,
+    root: u32,
+    meter: &mut Meter,
+) -> Result<String, Fail> {
+    let tree = tree_of(alloc, graph, root, meter)?;
     let mut text = String::new(alloc);
     for (index, distance) in reached(alloc, &tree)? {
         text.push_str(&format!(in alloc; "{index} {distance:?}\n")?)?;
@@ -61,37 +49,52 @@ fn reached_text(alloc: Global, root: u32, meter: &mut Meter) -> Result<String, F
 }
 
 #[test]
+fn reaches_the_sample(rt: HostRuntime) -> Result<(), Fail> {
+    let graph = sample_graph(rt.alloc())?;
+    let mut meter = Meter::new();
+    let found = reached_text(rt.alloc(), &graph, R1, &mut meter)?;
+    assert_eq!(rt; found.as_str(), "0 Some(0)\n1 Some(10)\n");
+    assert_eq!(rt; meter.count(), 1);
+    Ok(())
+}
+
+#[test]
 fn reaches_a_network_before_a_router(rt: HostRuntime) -> Result<(), Fail> {
+    let graph = three_graph(rt.alloc())?;
     let mut meter = Meter::new();
     for (root, expected) in [
         (R1, "0 Some(0)\n2 Some(5)\n3 Some(10)\n1 Some(10)\n"),
         (R3, "1 Some(0)\n3 Some(10)\n0 Some(10)\n2 Some(10)\n"),
         (R4, "2 Some(0)\n3 Some(5)\n0 Some(5)\n1 Some(5)\n"),
     ] {
-        let found = reached_text(rt.alloc(), root, &mut meter)?;
+        let found = reached_text(rt.alloc(), &graph, root, &mut meter)?;
         assert_eq!(rt; found.as_str(), expected);
     }
     assert_eq!(rt; meter.count(), 3);
     Ok(())
 }
 
+/// Builds the tree of the sample with so many growths: those that are left before it and after it,
+/// why there is none, and how many trees were counted.
+fn rationed_tree(alloc: Global, growths: u64) -> Result<(u64, u64, Option<SpfFault>, u64), Fail> {
+    let rationed = Rationed::new(alloc, growths);
+    let graph = sample_graph(&rationed)?;
+    let before = rationed.left();
+    let mut meter = Meter::new();
+    let fault = tree_of(&rationed, &graph, R1, &mut meter).err();
+    Ok((before, rationed.left(), fault, meter.count()))
+}
+
 #[test]
 fn counts_where_memory_runs_out(rt: HostRuntime) -> Result<(), Fail> {
-    let counted = Rationed::new(rt.alloc(), u64::MAX);
-    let graph = graph_of(&counted, SAMPLE)?;
-    let before = u64::MAX - counted.left();
-    let mut meter = Meter::new();
-    let built = Tree::build(&counted, &graph, RouterId(R1), &mut meter);
-    assert!(rt; built.is_ok());
-    let growths = u64::MAX - counted.left();
-    assert!(rt; before < growths);
-    for enough in before..growths {
-        let rationed = Rationed::new(rt.alloc(), enough);
-        let graph = graph_of(&rationed, SAMPLE)?;
-        let mut meter = Meter::new();
-        let fault = Tree::build(&rationed, &graph, RouterId(R1), &mut meter).err();
-        assert_eq!(rt; fault, Some(SpfFault::OutOfMemory), "with {enough} growths");
-        assert_eq!(rt; meter.count(), 1, "with {enough} growths");
+    let (before, after, fault, _) = rationed_tree(rt.alloc(), u64::MAX)?;
+    assert_eq!(rt; fault, None);
+    assert!(rt; after < before);
+    let needed = u64::MAX.wrapping_sub(before);
+    for more in 0..before.wrapping_sub(after) {
+        let (_, _, fault, count) = rationed_tree(rt.alloc(), needed.wrapping_add(more))?;
+        assert_eq!(rt; fault, Some(SpfFault::OutOfMemory), "with {more} growths");
+        assert_eq!(rt; count, 1, "with {more} growths");
     }
     Ok(())
 }

@@ -1,0 +1,27 @@
+//! The base of a session.
+
+use lsdb::{Database, DumpFault, DumpFaultKind};
+use std::test::*;
+
+/// A session without areas, LSAs and edits.
+const SESSION: &[u8] = b"OSWP\x02\0\0\0\0\0\0\0";
+
+#[test]
+fn loads_and_dumps_the_base_of_a_session(rt: HostRuntime) -> Result<(), Fail> {
+    let (database, octets) = Database::load_base(rt.alloc(), SESSION)?;
+    assert_eq!(rt; octets, 8);
+    let base = database.dump_base()?;
+    assert_eq!(rt; base.as_slice(), &SESSION[..8]);
+    Ok(())
+}
+
+#[test]
+fn tells_the_version_of_a_base(rt: HostRuntime) -> Result<(), Fail> {
+    let fault = Database::load_base(rt.alloc(), b"OSWP\x01\0\0\0").err();
+    let version = DumpFault {
+        offset: 4,
+        kind: DumpFaultKind::BadVersion,
+    };
+    assert_eq!(rt; fault, Some(version));
+    Ok(())
+}

@@ -1,0 +1,56 @@
+//! Graphs and trees that tests build. These functions have no clauses, so that the prover knows
+//! nothing of what they answer, and the tests are proved soon.
+
+use crate::layers::graph_of;
+use area_graph::{Graph, GraphFault};
+use lsa_codec::{AreaId, RouterId};
+use lsdb::Database;
+use samples::{SAMPLE, network_of_three};
+use spf::{Meter, SpfFault, Tree, distances_by_rounds};
+use std::alloc::{Allocator, Global};
+use std::test::*;
+
+/// The graph of the sample.
+pub(super) fn sample_graph<A: Allocator + Copy>(alloc: A) -> Result<Graph<A>, Fail> {
+    graph_of(alloc, SAMPLE)
+}
+
+/// The graph of the network of three routers.
+pub(super) fn three_graph(alloc: Global) -> Result<Graph, Fail> {
+    graph_of(alloc, &network_of_three(alloc)?)
+}
+
+/// Why the sample has no graph of an area.
+pub(super) fn graph_fault(alloc: Global, area: u32) -> Result<Option<GraphFault>, Fail> {
+    let database = Database::load(alloc, SAMPLE)?;
+    Ok(Graph::build(alloc, &database, AreaId(area)).err())
+}
+
+/// The tree of a router.
+pub(super) fn tree_of<A: Allocator + Copy>(
+    alloc: A,
+    graph: &Graph<A>,
+    root: u32,
+    meter: &mut Meter,
+) -> Result<Tree<A>, SpfFault> {
+    Tree::build(alloc, graph, RouterId(root), meter)
+}
+
+/// The distances from a router by the plain program.
+pub(super) fn by_rounds(
+    alloc: Global,
+    graph: &Graph,
+    root: u32,
+) -> Result<Vec<Option<u64>>, SpfFault> {
+    distances_by_rounds(alloc, graph, RouterId(root))
+}
+
+/// The vertices that a tree reaches, in their order, each with its distance.
+pub(super) fn reached(alloc: Global, tree: &Tree) -> Result<Vec<(usize, Option<u64>)>, Fail> {
+    let mut reached = Vec::new(alloc);
+    for index in tree.order() {
+        let index = usize::from(*index);
+        reached.push((index, tree.distance(index)))?;
+    }
+    Ok(reached)
+}

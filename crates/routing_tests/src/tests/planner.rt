@@ -1,0 +1,215 @@
+//! Planners: how many trees their tables calculate, and that tables over kept trees are right.
+
+use area_routes::Route;
+use edit_script::{Command, parse};
+use lsa_codec::RouterId;
+use lsdb::Database;
+use recalculate::{Planner, Table};
+use samples::SAMPLE;
+use std::alloc::{Allocator, Global};
+use std::test::*;
+
+/// The router-LSA of 1.1.1.1 in the areas 0.0.0.0 and 0.0.0.1, and an AS-external-LSA.
+const TWO_AREAS: &[u8] = &[
+    0x4f, 0x53, 0x57, 0x50, 1, 2, 0, 0, 0, 0, 0, 0, 1, 0x00, 0x01, 0x02, 0x01, 1, 1, 1, 1, 1, 1, 1,
+    1, 0x80, 0, 0, 1, 0xd5, 0x5a, 0, 0x24, 0, 0, 0, 1, 2, 2, 2, 2, 0x0a, 0, 0, 1, 1, 0, 0, 0x0a, 0,
+    0, 0, 1, 0, 0, 1, 0x00, 0x01, 0x02, 0x01, 1, 1, 1, 1, 1, 1, 1, 1, 0x80, 0, 0, 1, 0xd5, 0x5a, 0,
+    0x24, 0, 0, 0, 1, 2, 2, 2, 2, 0x0a, 0, 0, 1, 1, 0, 0, 0x0a, 0, 1, 0x00, 0x01, 0x02, 0x05, 0x0a,
+    9, 0, 0, 2, 2, 2, 2, 0x80, 0, 0, 1, 0x80, 0x23, 0, 0x24, 0xff, 0xff, 0, 0, 0x80, 0, 0, 0x14, 0,
+    0, 0, 0, 0, 0, 0, 0,
+];
+
+/// The planner of a dump.
+pub(super) fn planner_of<A: Allocator + Copy>(alloc: A, dump: &[u8]) -> Result<Planner<A>, Fail> {
+    Ok(Planner::new(alloc, Database::load(alloc, dump)?))
+}
+
+/// Whether two routes are the same.
+fn same_route<A: Allocator + Copy, B: Allocator + Copy>(one: &Route<A>, other: &Route<B>) -> bool {
+    one.net == other.net
+        && one.kind == other.kind
+        && one.cost == other.cost
+        && one.cost2 == other.cost2
+        && one.areas.as_slice() == other.areas.as_slice()
+        && one.hops.as_slice() == other.hops.as_slice()
+}
+
+/// Whether two lists have the same routes, in the same order.
+fn same_routes<A: Allocator + Copy, B: Allocator + Copy>(
+    some: &[Route<A>],
+    others: &[Route<B>],
+) -> bool {
+    some.len() == others.len()
+        && some
+            .iter()
+            .zip(others.iter())
+            .all(|(one, other)| same_route(one, other))
+}
+
+/// Whether a table is that of a fresh planner of a dump.
+fn is_of_dump<A: Allocator + Copy>(
+    table: &Table<A>,
+    alloc: Global,
+    dump: &[u8],
+) -> Result<bool, Fail> {
+    let fresh = planner_of(alloc, dump)?.table(table.router())?;
+    Ok(same_routes(table.routes().as_slice(), fresh.routes().as_slice()))
+}
+
+/// Asks for a table, and tells whether it is refused. A table that is not that of a fresh planner of
+/// the dumped database is a failure.
+pub(super) fn is_table_refused<A: Allocator + Copy>(
+    planner: &mut Planner<A>,
+    alloc: Global,
+    router: RouterId,
+) -> Result<bool, Fail> {
+    let Ok(table) = planner.table(router) else {
+        return Ok(true);
+    };
+    let is_right = is_of_dump(&table, alloc, &planner.dump()?)?;
+    if !is_right {
+        return Err(Fail::from("another table"));
+    }
+    Ok(false)
+}
+
+/// Carries a line of a script out, and tells whether it is refused. `tables` asks for the routers
+/// alone, and `compare` for a table of the database of the beginning.
+fn is_refused(planner: &mut Planner, alloc: Global, line: &str) -> Result<bool, Fail> {
+    let (_, command) = parse(line.as_bytes())?;
+    Ok(match command {
+        Command::Edit(edit) => planner.edit(&edit).is_err(),
+        Command::Undo(count) => planner.undo(count).is_err(),
+        Command::Redo(count) => planner.redo(count).is_err(),
+        Command::Table(router) => is_table_refused(planner, alloc, router)?,
+        Command::Tables => planner.routers().is_err(),
+        Command::Compare(router) => planner.base_table(router).is_err(),
+        Command::Info => {
+            let _info = planner.info();
+            false
+        },
+    })
+}
+
+/// A line of a script, whether it is refused, and how many trees are calculated after it.
+type Step = (&'static str, bool, u64);
+
+/// The place of the first step that goes otherwise.
+fn first_otherwise(alloc: Global, dump: &[u8], steps: &[Step]) -> Result<Option<usize>, Fail> {
+    let mut planner = planner_of(alloc, dump)?;
+    let mut place: usize = 0;
+    for (line, refused, runs) in steps {
+        if is_refused(&mut planner, alloc, line)? != *refused || planner.runs() != *runs {
+            return Ok(Some(place));
+        }
+        place = place.wrapping_add(1);
+    }
+    Ok(None)
+}
+
+/// An edit of a summary-LSA touches no area, and one of a router-LSA its own.
+const TOUCHED: &[Step] = &[
+    ("table 1.1.1.1", false, 1),
+    ("table 1.1.1.1", false, 1),
+    ("add-summary 0.0.0.0 2.2.2.2 10.8.0.0/16 20", false, 1),
+    ("table 1.1.1.1", false, 1),
+    ("cost 0.0.0.0 1.1.1.1 1 7", false, 1),
+    ("table 1.1.1.1", false, 2),
+    ("undo 1", false, 2),
+    ("table 1.1.1.1", false, 3),
+    ("table 1.1.1.1", false, 3),
+    ("redo 1", false, 3),
+    ("table 1.1.1.1", false, 4),
+];
+
+#[test]
+fn calculates_trees_of_touched_areas_alone(rt: HostRuntime) -> Result<(), Fail> {
+    assert_eq!(rt; first_otherwise(rt.alloc(), SAMPLE, TOUCHED)?, None);
+    Ok(())
+}
+
+const REFUSED: &[Step] = &[
+    ("table 1.1.1.1", false, 1),
+    ("drop-link 0.0.0.0 1.1.1.1 9", true, 1),
+    ("undo 1", true, 1),
+    ("redo 1", true, 1),
+    ("table 1.1.1.1", false, 1),
+];
+
+#[test]
+fn a_refused_edit_leaves_the_trees(rt: HostRuntime) -> Result<(), Fail> {
+    assert_eq!(rt; first_otherwise(rt.alloc(), SAMPLE, REFUSED)?, None);
+    Ok(())
+}
+
+const OF_TWO_AREAS: &[Step] = &[
+    ("table 1.1.1.1", false, 2),
+    ("cost 0.0.0.0 1.1.1.1 1 7", false, 2),
+    ("table 1.1.1.1", false, 3),
+    ("undo 1", false, 3),
+    ("table 1.1.1.1", false, 4),
+];
+
+#[test]
+fn other_areas_keep_their_trees(rt: HostRuntime) -> Result<(), Fail> {
+    assert_eq!(rt; first_otherwise(rt.alloc(), TWO_AREAS, OF_TWO_AREAS)?, None);
+    Ok(())
+}
+
+/// A refresh rewrites a summary-LSA, which is of no graph, and its own trees count nowhere.
+const REFRESHED: &[Step] = &[
+    ("table 1.1.1.1", false, 2),
+    ("add-summary 0.0.0.1 1.1.1.1 10.8.0.0/16 20", false, 2),
+    ("refresh", false, 2),
+    ("table 1.1.1.1", false, 2),
+    ("undo 1", false, 2),
+    ("table 1.1.1.1", false, 2),
+];
+
+#[test]
+fn a_refresh_leaves_the_trees_and_counts_none(rt: HostRuntime) -> Result<(), Fail> {
+    assert_eq!(rt; first_otherwise(rt.alloc(), TWO_AREAS, REFRESHED)?, None);
+    Ok(())
+}
+
+/// 9.9.9.9 is attached to no area.
+const TABLES: &[Step] = &[
+    ("info", false, 0),
+    ("table 1.1.1.1", false, 1),
+    ("table 9.9.9.9", true, 1),
+    ("compare 9.9.9.9", true, 1),
+    ("compare 1.1.1.1", false, 2),
+];
+
+#[test]
+fn counts_the_trees_of_tables(rt: HostRuntime) -> Result<(), Fail> {
+    assert_eq!(rt; first_otherwise(rt.alloc(), SAMPLE, TABLES)?, None);
+    Ok(())
+}
+
+const OTHER_CALLS: &[Step] = &[
+    ("table 1.1.1.1", false, 1),
+    ("fail-router 1.1.1.1", false, 1),
+    ("undo 1", false, 1),
+    ("redo 1", false, 1),
+    ("info", false, 1),
+    ("tables", false, 1),
+];
+
+#[test]
+fn counts_no_trees_of_other_calls(rt: HostRuntime) -> Result<(), Fail> {
+    assert_eq!(rt; first_otherwise(rt.alloc(), SAMPLE, OTHER_CALLS)?, None);
+    Ok(())
+}
+
+const BEGINNING: &[Step] = &[
+    ("fail-router 1.1.1.1", false, 0),
+    ("table 1.1.1.1", true, 0),
+    ("compare 1.1.1.1", false, 1),
+];
+
+#[test]
+fn counts_the_trees_of_the_beginning(rt: HostRuntime) -> Result<(), Fail> {
+    assert_eq!(rt; first_otherwise(rt.alloc(), SAMPLE, BEGINNING)?, None);
+    Ok(())
+}
