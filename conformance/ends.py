@@ -53,14 +53,14 @@ COMMENTS = b"# sixteen bytes\n" * 65_536
 
 
 def full_history(branch: bytes) -> bytes:
-    """Ten thousand edits, one more, one that would be refused in any case, and an undo of all that are done."""
-    more = [b"cost 0.0.0.0 1.1.1.1 1 0\n", b"undo 10000\n"]
+    """Ten thousand edits, one more, one refused in any case, a refresh, and an undo of all that are done."""
+    more = [b"cost 0.0.0.0 1.1.1.1 1 0\n", b"refresh\n", b"undo 10000\n"]
     return b"".join(branch + line for line in [b"cost 0.0.0.0 1.1.1.1 1 7\n"] * 10_001 + more)
 
 
 def full_history_replies(branch: bytes) -> bytes:
     """What these are answered."""
-    return b"".join(branch + line for line in [b"ok\n"] * 10_000 + [b"refused E12 HistoryFull\n"] * 2 + [b"ok\n"])
+    return b"".join(branch + line for line in [b"ok\n"] * 10_000 + [b"refused E12 HistoryFull\n"] * 3 + [b"ok\n"])
 
 
 ENDS = [
