@@ -18,7 +18,6 @@ mod edited;
 mod growths;
 mod limits;
 mod nets;
-mod opaque;
 mod records;
 mod refreshes;
 mod refusals;

@@ -1,17 +1,18 @@
-//! A database after edits, with its history.
+//! Edits, undo and redo, as the tests call them: these have no clauses but the one that undo and
+//! redo ask for, so that the prover reads no more in each test.
 
 ghost use Rattle.std.specs.Prelude.{IfOk};
 ghost use Rattle.edit_history.specs.Journal.{Links};
 
-use super::nets::edit_of;
-use edit_history::{EditFault, History, RedoFault, UndoFault, apply};
+use crate::edited;
+use edit_history::{EditFault, History, RedoFault, UndoFault};
 use edit_script::Edit;
 use lsdb::Database;
 use std::alloc::Allocator;
 use std::test::Fail;
 
 /// Carries an edit out, and keeps its record.
-pub fn apply_and_push<A: Allocator + Copy>(
+pub(super) fn apply_and_push<A: Allocator + Copy>(
     database: &mut Database<A>,
     history: &mut History<A>,
     edit: &Edit,
@@ -19,32 +20,22 @@ pub fn apply_and_push<A: Allocator + Copy>(
     requires { Links database.old history.old.lists }
     ensures { Links database.new history.new.lists }
 {
-    history.reserve()?;
-    let record = apply(database, edit)?;
-    history.push(record);
-    database.known();
-    Ok(())
+    edited::apply_and_push(database, history, edit)
 }
 
-/// A database after edits, and their history.
-pub fn edited<A: Allocator + Copy>(
+/// The database of a dump after the edits of lines, and their history.
+pub(super) fn edited<A: Allocator + Copy>(
     alloc: A,
     dump: &[u8],
     lines: &[&str],
 ) -> Result<(Database<A>, History<A>), Fail>
     ensures { IfOk result (λ edited. Links edited.0 edited.1.lists) }
 {
-    let mut database = Database::load(alloc, dump)?;
-    let mut history = History::new(alloc);
-    database.known();
-    for line in lines {
-        apply_and_push(&mut database, &mut history, &edit_of(line)?)?;
-    }
-    Ok((database, history))
+    edited::edited(alloc, dump, lines)
 }
 
 /// Takes edits back, one at a time.
-pub fn back<A: Allocator + Copy>(
+pub(super) fn back<A: Allocator + Copy>(
     database: &mut Database<A>,
     history: &mut History<A>,
     count: usize,
@@ -52,14 +43,11 @@ pub fn back<A: Allocator + Copy>(
     requires { Links database.old history.old.lists }
     ensures { Links database.new history.new.lists }
 {
-    for _step in 0..count {
-        history.undo(database, 1)?;
-    }
-    Ok(())
+    edited::back(database, history, count)
 }
 
 /// Carries undone edits out again, one at a time.
-pub fn on<A: Allocator + Copy>(
+pub(super) fn on<A: Allocator + Copy>(
     database: &mut Database<A>,
     history: &mut History<A>,
     count: usize,
@@ -67,8 +55,5 @@ pub fn on<A: Allocator + Copy>(
     requires { Links database.old history.old.lists }
     ensures { Links database.new history.new.lists }
 {
-    for _step in 0..count {
-        history.redo(database, 1)?;
-    }
-    Ok(())
+    edited::on(database, history, count)
 }

@@ -2,7 +2,7 @@
 
 use super::edited::{apply_and_push, edited};
 use super::nets::{BACKBONE, NETS, TEN_EDITS, edit_of, is_after};
-use super::opaque::area_of;
+use crate::filled::area_of;
 use edit_history::{EditFault, apply};
 use edit_script::Edit;
 use lsdb::Database;
@@ -12,13 +12,13 @@ use std::test::*;
 
 /// How many growths it takes to load a database, and to carry an edit of it out.
 #[derive(Clone, Copy)]
-pub struct Growths {
-    pub loading: u64,
-    pub editing: u64,
+pub(super) struct Growths {
+    pub(super) loading: u64,
+    pub(super) editing: u64,
 }
 
 /// The growths of a dump and of an edit of its database.
-pub fn growths_of(alloc: Global, dump: &[u8], edit: &Edit) -> Result<Growths, Fail> {
+pub(super) fn growths_of(alloc: Global, dump: &[u8], edit: &Edit) -> Result<Growths, Fail> {
     let counted = Rationed::new(alloc, u64::MAX);
     let mut database = Database::load(&counted, dump)?;
     let loaded = counted.left();
@@ -30,7 +30,7 @@ pub fn growths_of(alloc: Global, dump: &[u8], edit: &Edit) -> Result<Growths, Fa
 }
 
 /// Whether an edit of `NETS` is refused so with this many growths, and changes nothing.
-pub fn is_refused_with(
+pub(super) fn is_refused_with(
     alloc: Global,
     growths: u64,
     edit: &Edit,

@@ -1,7 +1,7 @@
 //! The limits of LSAs where no memory is left: a limit comes before want of memory.
 
 use super::nets::edit_of;
-use super::opaque::{area_of, as_list_of};
+use crate::filled::{area_of, as_list_of};
 use edit_history::{EditFault, apply};
 use lsdb::Database;
 use rationed::Rationed;

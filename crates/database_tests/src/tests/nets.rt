@@ -1,22 +1,11 @@
-//! Two databases, octet by octet, edits of them as lines of scripts, and what the edits lead to.
+//! A database, octet by octet, edits of it as lines of scripts, and what the edits lead to.
 
-use edit_history::apply;
-use edit_script::{Command, Edit, parse};
+use crate::{edited, lines};
+use edit_script::Edit;
 use lsa_codec::AreaId;
 use lsdb::{Database, Section};
 use std::alloc::{Allocator, Global};
 use std::test::Fail;
-
-/// Area 0.0.0.0 with 1.1.1.1 and 2.2.2.2, joined by a link of cost 10, and a stub link of 2.2.2.2.
-pub const SAMPLE: &[u8] = &[
-    0x4f, 0x53, 0x57, 0x50, 0x01, 0x01, 0x00, 0x00, 0x00, 0x00, 0x00, 0x00, 0x02, 0x00, 0x01, 0x02,
-    0x01, 0x01, 0x01, 0x01, 0x01, 0x01, 0x01, 0x01, 0x01, 0x80, 0x00, 0x00, 0x01, 0xd5, 0x5a, 0x00,
-    0x24, 0x00, 0x00, 0x00, 0x01, 0x02, 0x02, 0x02, 0x02, 0x0a, 0x00, 0x00, 0x01, 0x01, 0x00, 0x00,
-    0x0a, 0x00, 0x01, 0x02, 0x01, 0x02, 0x02, 0x02, 0x02, 0x02, 0x02, 0x02, 0x02, 0x80, 0x00, 0x00,
-    0x01, 0x62, 0xa7, 0x00, 0x30, 0x00, 0x00, 0x00, 0x02, 0x01, 0x01, 0x01, 0x01, 0x0a, 0x00, 0x00,
-    0x02, 0x01, 0x00, 0x00, 0x0a, 0x0a, 0x02, 0x00, 0x00, 0xff, 0xff, 0x00, 0x00, 0x03, 0x00, 0x00,
-    0x05, 0x00, 0x00,
-];
 
 /// Area 0.0.0.0: the router-LSA of 1.1.1.1 with two links to 2.2.2.2, a stub link and a link to
 /// the network 10.5.0.3, then the network-LSA by 3.3.3.3, the router-LSAs of 2.2.2.2 (bit E, the
@@ -25,7 +14,7 @@ pub const SAMPLE: &[u8] = &[
 /// router-LSA of 4.4.4.4 at age 3600 (the link to the network, and a stub link for the address
 /// 10.5.0.3). The stub area 0.0.0.1: a router-LSA of 2.2.2.2. Behind them the AS-external-LSAs of
 /// 2.2.2.2 for 10.91.0.0/16 and 10.92.0.0/16 and of 3.3.3.3 for 10.93.0.0/16.
-pub const NETS: &[u8] = &[
+pub(super) const NETS: &[u8] = &[
     0x4f, 0x53, 0x57, 0x50, 0x01, 0x02, 0x00, 0x00, 0x00, 0x00, 0x00, 0x00, 0x07, 0x00, 0x01, 0x02,
     0x01, 0x01, 0x01, 0x01, 0x01, 0x01, 0x01, 0x01, 0x01, 0x80, 0x00, 0x00, 0x01, 0xc4, 0xe7, 0x00,
     0x48, 0x00, 0x00, 0x00, 0x04, 0x02, 0x02, 0x02, 0x02, 0x0a, 0x00, 0x00, 0x01, 0x01, 0x00, 0x00,
@@ -60,7 +49,7 @@ pub const NETS: &[u8] = &[
 ];
 
 /// Ten edits of `NETS`, one of each kind.
-pub const TEN_EDITS: &[&str] = &[
+pub(super) const TEN_EDITS: &[&str] = &[
     "cost 0.0.0.0 1.1.1.1 3 7",
     "drop-link 0.0.0.0 2.2.2.2 1",
     "fail-link 0.0.0.0 1.1.1.1 2.2.2.2",
@@ -74,47 +63,24 @@ pub const TEN_EDITS: &[&str] = &[
 ];
 
 /// The backbone.
-pub const BACKBONE: Section = Section::Area(AreaId(0));
+pub(super) const BACKBONE: Section = Section::Area(AreaId(0));
 
 /// The stub area of `NETS`.
-pub const STUB_AREA: Section = Section::Area(AreaId(1));
+const STUB_AREA: Section = Section::Area(AreaId(1));
 
-/// The edit of a line.
-pub fn edit_of(line: &str) -> Result<Edit, Fail> {
-    match parse(line.as_bytes()) {
-        Ok((_, Command::Edit(edit))) => Ok(edit),
-        _ => Err("an edit")?,
-    }
+/// The sections of `NETS`.
+const SECTIONS: &[Section] = &[BACKBONE, STUB_AREA, Section::AsWide];
+
+/// The edit of a line. This has no clauses, so that the prover reads none in each test.
+pub(super) fn edit_of(line: &str) -> Result<Edit, Fail> {
+    lines::edit_of(line)
 }
 
-/// Whether two databases have the same LSAs in a section.
-pub fn has_same<A: Allocator + Copy, B: Allocator + Copy>(
-    database: &Database<A>,
-    other: &Database<B>,
-    section: Section,
-) -> bool {
-    let mut rest = other.lsas(section);
-    for lsa in database.lsas(section) {
-        if rest.next().map(|other| other.bytes()) != Some(lsa.bytes()) {
-            return false;
-        }
-    }
-    rest.next().is_none()
-}
-
-/// Whether a database has the LSAs of `NETS` after these edits.
-pub fn is_after<A: Allocator + Copy>(
+/// Whether a database has the LSAs of `NETS` after these edits. This has no clauses either.
+pub(super) fn is_after<A: Allocator + Copy>(
     alloc: Global,
     database: &Database<A>,
     lines: &[&str],
 ) -> Result<bool, Fail> {
-    let mut other = Database::load(alloc, NETS)?;
-    for line in lines {
-        let _record = apply(&mut other, &edit_of(line)?)?;
-    }
-    Ok(
-        has_same(database, &other, BACKBONE)
-            && has_same(database, &other, STUB_AREA)
-            && has_same(database, &other, Section::AsWide),
-    )
+    edited::is_after(alloc, database, NETS, lines, SECTIONS)
 }

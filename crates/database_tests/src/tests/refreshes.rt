@@ -1,7 +1,8 @@
 //! `refresh`: how many LSAs it rewrites, and each of its growths refused.
 
 use super::growths::growths_of;
-use super::nets::{BACKBONE, edit_of, has_same};
+use super::nets::{BACKBONE, edit_of};
+use crate::edited::is_after;
 use edit_history::{EditFault, apply};
 use lsa_codec::AreaId;
 use lsdb::{Database, Section};
@@ -42,7 +43,7 @@ const STALE: &[u8] = &[
     0x22, 0x00, 0x1c, 0xff, 0xff, 0x00, 0x00, 0x00, 0x00, 0x00, 0x13, 0x00, 0x00,
 ];
 
-const AREAS: &[Section] = &[
+const SECTIONS: &[Section] = &[
     BACKBONE,
     Section::Area(AreaId(1)),
     Section::Area(AreaId(2)),
@@ -51,12 +52,7 @@ const AREAS: &[Section] = &[
 
 /// Whether a database has the LSAs of `STALE`.
 fn is_loaded<A: Allocator + Copy>(alloc: Global, database: &Database<A>) -> Result<bool, Fail> {
-    let loaded = Database::load(alloc, STALE)?;
-    Ok(
-        AREAS
-            .iter()
-            .all(|section| has_same(database, &loaded, *section)),
-    )
+    is_after(alloc, database, STALE, &[], SECTIONS)
 }
 
 #[test]

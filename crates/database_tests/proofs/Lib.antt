@@ -1,0 +1,3 @@
+pub mod Moves
+pub mod Pushed
+pub mod Meant
