@@ -2,7 +2,7 @@
 use Rattle.std.proofs.Common.{◌≡◌, ℕ, Bool, true, false, cond, ◌&&◌, ◌||◌, List, [], ◌∷◌, Option, Some, None, Result, Ok, refl, ap, ◌∙◌}
 use Rattle.std.specs.Prelude.{◌==◌}
 use Rattle.std.specs.List.{cons_option, filter_map}
-use Rattle.std.proofs.lemmas.Bool.{and_parts, eqb-true}
+use Rattle.std.proofs.lemmas.Bool.{eqb-true}
 use Rattle.std.proofs.lemmas.List.Folds.{list_any-append}
 use Rattle.lsa_codec.specs.declared.address.AreaId.{AreaId}
 use Rattle.lsa_codec.specs.Areas.{is_backbone}
@@ -10,8 +10,8 @@ use Rattle.lsa_codec.specs.Fields.{kind_of}
 use Rattle.lsdb.specs.declared.section.Section.{Section}
 use Rattle.lsdb.specs.declared.section.Section.TheVariants.{Area, AsWide}
 use Rattle.lsdb.specs.Lists.{AreaHead, Lists}
-use Rattle.area_routes.specs.Inter.{is_summary}
 use Rattle.summary_metrics.specs.Refreshed.{id_of, is_stale, due_in, refreshed_areas}
+use Rattle.summary_metrics.proofs.StaleLemmas.{stale_summary}
 use Rattle.edit_script.specs.declared.edit.Edit.TheVariants.{Refresh}
 use Rattle.edit_history.specs.declared.fault.EditFault.{EditFault}
 use Rattle.edit_history.specs.Rules.{Rule, Change, by_fates, change_of, section_name, section_changes, changes_by}
@@ -40,7 +40,7 @@ module _ (area : AreaId) where
   metric_apart : (db : Lists) (of : AreaId) (name : Section) (lsa : List ℕ) → is_touching (change_of name lsa (metric_fate db of lsa)) ≡ false
   metric_apart db of name lsa = by_test (is_stale db of lsa) refl where
     by_test : (b : Bool) → is_stale db of lsa ≡ b → is_touching (change_of name lsa (with_due (cond b (Some (due_in db of lsa)) None) lsa)) ≡ false
-    by_test true stale = of_no_graph name (kind_of lsa) (kind_apart (kind_of lsa) (and_parts (is_summary lsa) _ (and_parts _ _ stale).0).0)
+    by_test true stale = of_no_graph name (kind_of lsa) (kind_apart (kind_of lsa) (stale_summary db of lsa stale))
     by_test false stale = refl
 
   refresh_apart : (db : Lists) (head : Option AreaHead) (lsa : List ℕ) → is_touching (change_of (section_name head) lsa (refresh_fates db head lsa)) ≡ false

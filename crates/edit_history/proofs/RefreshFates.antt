@@ -2,7 +2,6 @@
 use Rattle.std.proofs.Common.{◌≡◌, ℕ, Bool, true, false, cond, List, [], ◌∷◌, map, Option, Some, None, refl, ap, ◌∙◌}
 use Rattle.std.specs.Prelude.{◌==◌, ◌||◌, not}
 use Rattle.std.specs.List.{filter_map, cons_option}
-use Rattle.std.proofs.lemmas.Bool.{and_parts}
 use Rattle.lsa_codec.specs.declared.address.AreaId.{AreaId}
 use Rattle.lsa_codec.specs.Accepted.{IsAccepted}
 use Rattle.lsa_codec.specs.Areas.{is_backbone}
@@ -11,9 +10,9 @@ use Rattle.lsa_codec.specs.Originating.{with_metric}
 use Rattle.lsa_codec.specs.Views.{has_metric}
 use Rattle.lsa_codec.proofs.LsaLemmas.{metric_rewritten}
 use Rattle.lsdb.specs.Lists.{AreaHead, Lists}
-use Rattle.area_routes.specs.Inter.{is_summary}
 use Rattle.summary_metrics.specs.Refreshed.{id_of, is_stale, due_in, refreshed_lsa, refreshed_lsas, refreshed_section, refreshed_areas}
 use Rattle.summary_metrics.specs.Refreshed.{is_not_backbone, refreshed}
+use Rattle.summary_metrics.proofs.StaleLemmas.{stale_summary}
 use Rattle.edit_history.specs.Rules.{Fate, stays, by_fates, outcome, lists_after}
 use Rattle.edit_history.specs.Refreshing.{with_due, metric_fate, pass_fates, refresh_fates}
 use Rattle.edit_history.proofs.FatesByPlace.{IsSafeFate, IsSafe}
@@ -28,7 +27,7 @@ metric_of_kind false false c is = absurd cc
 -- a stale LSA has a metric
 pub stale_has_metric : (db : Lists) (area : AreaId) (lsa : List ℕ) → is_stale db area lsa ≡ true → has_metric (kind_of lsa) ≡ true
 stale_has_metric db area lsa stale =
-    metric_of_kind (kind_of lsa == 3) (kind_of lsa == 4) (kind_of lsa == 5) (and_parts (is_summary lsa) _ (and_parts _ _ stale).0).0
+    metric_of_kind (kind_of lsa == 3) (kind_of lsa == 4) (kind_of lsa == 5) (stale_summary db area lsa stale)
 
 pub metric_safe : (db : Lists) (area : AreaId) (lsa : List ℕ) → IsAccepted lsa → IsSafeFate lsa (metric_fate db area lsa)
 metric_safe db area lsa accepted = by_test (is_stale db area lsa) refl where

@@ -42,10 +42,15 @@ is_default net = net.len == 0
 abbrev pub is_stub_default : Lists → AreaId → Option Net → Bool
 is_stub_default db area net = option_map_or is_default net false && is_stub_area db area
 
--- whether an LSA of an area is a live summary-LSA whose metric follows from the database: its originator is attached to the
--- area and to another one, and it does not tell of the default destination in a stub area
+-- whether an LSA of an area is a live summary-LSA whose metric is calculated: it does not tell of the default destination in a
+-- stub area, whose metric is configured
+abbrev pub is_calculated : Lists → AreaId → List ℕ → Bool
+is_calculated db area lsa = is_summary lsa && (is_live lsa && not (is_stub_default db area (net_of_summary lsa)))
+
+-- whether the metric of an LSA of an area follows from the database: it is calculated, and the originator is attached to the
+-- area and to another one
 abbrev pub is_covered : Lists → AreaId → List ℕ → Bool
-is_covered db area lsa = is_summary lsa && (is_live lsa && (borders db area (originator_of lsa) && not (is_stub_default db area (net_of_summary lsa))))
+is_covered db area lsa = is_calculated db area lsa && borders db area (originator_of lsa)
 
 -- ---- the metrics
 

@@ -2,8 +2,9 @@
 
 ghost use Rattle.std.specs.Prelude.{◌≡◌};
 ghost use Rattle.lsdb.specs.Places.{lists_of};
-ghost use Rattle.external_routes.specs.Summaries.{borders, is_attached_elsewhere, is_covered};
-ghost use Rattle.external_routes.specs.Summaries.{is_default, is_stub_area, is_stub_default};
+ghost use Rattle.external_routes.specs.Summaries.{borders, is_attached_elsewhere, is_calculated};
+ghost use Rattle.external_routes.specs.Summaries.{is_covered, is_default, is_stub_area};
+ghost use Rattle.external_routes.specs.Summaries.{is_stub_default};
 
 use area_routes::is_attached;
 use lsa_codec::{AreaId, Lsa, Prefix, RouterId};
@@ -68,17 +69,27 @@ fn is_stub_default<A: Allocator + Copy>(
     }
 }
 
-/// Whether an LSA of an area is a live summary-LSA whose metric follows from the database, as that
-/// of an area border router does (RFC 2328, 12.4.3): its originator is attached to the area and to
-/// another one, and it does not tell of the default destination in a stub area, whose metric is
-/// configured. It takes no memory.
-pub fn covered<A: Allocator + Copy>(database: &Database<A>, area: AreaId, lsa: &Lsa<A>) -> bool
-    ensures { result ≡ is_covered (lists_of database.now) area lsa.now }
+/// Whether an LSA of an area is a live summary-LSA whose metric is calculated: it does not tell of
+/// the default destination in a stub area, whose metric is configured (RFC 2328, 12.4.3.1). It
+/// takes no memory.
+pub fn is_calculated<A: Allocator + Copy>(
+    database: &Database<A>,
+    area: AreaId,
+    lsa: &Lsa<A>,
+) -> bool
+    ensures { result ≡ is_calculated (lists_of database.now) area lsa.now }
 {
     let Some(summary) = lsa.summary() else {
         return false;
     };
-    !lsa.at_max_age()
-        && borders(database, area, lsa.key().adv)
-        && !is_stub_default(database, area, summary.net())
+    !lsa.at_max_age() && !is_stub_default(database, area, summary.net())
+}
+
+/// Whether the metric of an LSA of an area follows from the database, as that of a summary-LSA of
+/// an area border router does (RFC 2328, 12.4.3): it is calculated, and its originator is attached
+/// to the area and to another one. It takes no memory.
+pub fn covered<A: Allocator + Copy>(database: &Database<A>, area: AreaId, lsa: &Lsa<A>) -> bool
+    ensures { result ≡ is_covered (lists_of database.now) area lsa.now }
+{
+    is_calculated(database, area, lsa) && borders(database, area, lsa.key().adv)
 }

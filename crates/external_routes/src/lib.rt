@@ -23,6 +23,6 @@ mod candidates;
 mod routes;
 
 pub use choose::preferred;
-pub use coverage::covered;
+pub use coverage::{covered, is_calculated};
 pub use due_metric::due;
 pub use routes::externals;

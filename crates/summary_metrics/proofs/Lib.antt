@@ -1,7 +1,9 @@
 pub mod Retold
 pub mod Passes
+pub mod StaleLemmas
 pub mod SameGraphs
 pub mod Several
 pub mod IntoBackbone
 pub mod Settled
+pub mod AttachedIds
 pub mod KnownOriginators

@@ -15,7 +15,7 @@ use Rattle.lsdb.specs.declared.section.Section.TheVariants.{Area}
 use Rattle.lsdb.specs.Lists.{AreaHead, Lists, SectionLsas, areas_of, is_section, lsas_of, lsas_or_none}
 use Rattle.area_routes.specs.Inter.{is_summary}
 use Rattle.area_routes.proofs.SameGraphLemmas.{is_graph_lsa}
-use Rattle.external_routes.specs.Summaries.{announced_cost, is_covered, metric_for}
+use Rattle.external_routes.specs.Summaries.{announced_cost, is_calculated, is_covered, metric_for}
 use Rattle.summary_metrics.specs.Refreshed.{due_in, entries_inside, id_of, is_stale, refreshed_areas, refreshed_lsa, refreshed_lsas, refreshed_section, routes_inside}
 use Rattle.summary_metrics.proofs.Retold.{IsRetold, metric_accepted, other_metric, retold, retold_same}
 
@@ -39,8 +39,8 @@ due_small db area lsa = by (announced_cost db area lsa (routes_inside db _) (ent
 -- ---- one LSA
 
 module _ (db : Lists) (area : AreaId) where
-  stale_summary : (lsa : List ℕ) → is_stale db area lsa ≡ true → is_summary lsa ≡ true
-  stale_summary lsa h = (and_parts (is_summary lsa) _ (and_parts (is_covered db area lsa) _ h).0).0
+  pub stale_summary : (lsa : List ℕ) → is_stale db area lsa ≡ true → is_summary lsa ≡ true
+  stale_summary lsa h = (and_parts (is_summary lsa) _ (and_parts (is_calculated db area lsa) _ (and_parts (is_covered db area lsa) _ h).0).0).0
 
   pub lsa_accepted : (lsa : List ℕ) → IsAccepted lsa → IsAccepted (refreshed_lsa db area lsa)
   lsa_accepted lsa old = by (is_stale db area lsa) refl

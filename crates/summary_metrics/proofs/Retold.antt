@@ -61,7 +61,7 @@ module _ (lsa new : List ℕ) (told : IsRetold lsa new) (db : Lists) (area : Are
   summary_retold = ap (λ k. (k == summary_lsa) || (k == asbr_summary_lsa)) told.kind
 
   pub covered_retold : is_covered db area new ≡ is_covered db area lsa
-  covered_retold = λ i. summary_retold i && (told.live i && (borders db area (told.originator i) && not (is_stub_default db area (told.net i))))
+  covered_retold = λ i. (summary_retold i && (told.live i && not (is_stub_default db area (told.net i)))) && borders db area (told.originator i)
 
   pub due_retold : due_in db area new ≡ due_in db area lsa
   unfolding due_in

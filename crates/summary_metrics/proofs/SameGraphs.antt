@@ -44,7 +44,5 @@ module _ (db new : Lists) (same : HaveSameGraphs db new) where
 
   pub covered_alike : (area : AreaId) (lsa : List ℕ) → is_covered new area lsa ≡ is_covered db area lsa
   covered_alike area lsa = λ i.
-      is_summary lsa
-      && (is_live lsa
-      && ((attached_alike area (originator_of lsa) i && list_any (λ head. not (is_head_of_area area head)) (areas_alike (originator_of lsa) i))
-      && not (option_map_or is_default (net_of_summary lsa) false && stub_alike area i)))
+      (is_summary lsa && (is_live lsa && not (option_map_or is_default (net_of_summary lsa) false && stub_alike area i)))
+      && (attached_alike area (originator_of lsa) i && list_any (λ head. not (is_head_of_area area head)) (areas_alike (originator_of lsa) i))

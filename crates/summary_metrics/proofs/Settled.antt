@@ -19,7 +19,7 @@ use Rattle.area_routes.specs.Inter.{inter_of, is_summary, named_router, originat
 use Rattle.area_routes.specs.Intra.{intra_of}
 use Rattle.area_routes.specs.Values.{AreaResultValue}
 use Rattle.area_graph.specs.Area.{is_live}
-use Rattle.external_routes.specs.Summaries.{borders, cost_of_asbr, cost_of_net, is_covered, is_stub_default, metric_for}
+use Rattle.external_routes.specs.Summaries.{borders, cost_of_asbr, cost_of_net, is_calculated, is_covered, metric_for}
 use Rattle.routing_table.specs.Preferring.{preferring}
 use Rattle.summary_metrics.specs.Refreshed.{AreSettled, IsSettled, due_in, id_of, is_not_backbone, is_stale, refreshed, refreshed_areas}
 use Rattle.summary_metrics.specs.Refreshed.{refreshed_lsa, refreshed_lsas, refreshed_section, results_of}
@@ -32,9 +32,7 @@ use Rattle.summary_metrics.proofs.Several.{examines_backbone, inter_alike}
 -- ---- what is due outside the backbone depends on its summary-LSAs too
 
 covered_borders : (db : Lists) (area : AreaId) (lsa : List ℕ) → is_covered db area lsa ≡ true → borders db area (originator_of lsa) ≡ true
-covered_borders db area lsa h =
-    let rest = (and_parts (is_summary lsa) _ h).1 in
-    (and_parts (borders db area (originator_of lsa)) (not (is_stub_default db area (net_of_summary lsa))) (and_parts (is_live lsa) _ rest).1).0
+covered_borders db area lsa h = (and_parts (is_calculated db area lsa) (borders db area (originator_of lsa)) h).1
 
 module _ (db new : Lists) (same : HaveSameGraphs db new) where
   module _ (backbone_same : lsas_of (Area (record { 0 = 0 })) new ≡ lsas_of (Area (record { 0 = 0 })) db)

@@ -45,7 +45,7 @@ any_filtered p q (x ∷ xs) implies = by (p x) (q x) refl refl (any_filtered p q
     by false false e f rest = rest ∙ sym (ap (λ a. a || list_any p xs) e)
 
 module _ (db : Lists) (area : AreaId) (router : RouterId) where
-  attached_here : is_attached db area router ≡ true → list_any (is_head_of_area area) (attached_areas db router) ≡ true
+  pub attached_here : is_attached db area router ≡ true → list_any (is_head_of_area area) (attached_areas db router) ≡ true
   attached_here h =
       any_filtered (is_head_of_area area) (λ head. is_attached db (id_of head) router) (areas_of db)
       (λ head is. ap (λ n. is_attached db (record { 0 = n }) router) (eqb-true head.id area.0 is) ∙ h)

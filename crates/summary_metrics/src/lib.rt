@@ -4,6 +4,7 @@
 //! calculates for that, for one database.
 #![tactic(auto)]
 
+mod attached_areas;
 mod laws;
 mod originators;
 

@@ -7,13 +7,14 @@ ghost use Rattle.lsa_codec.specs.Order.{router_cmp};
 ghost use Rattle.lsa_codec.specs.Views.{ls_infinity, metric_of};
 ghost use Rattle.lsdb.specs.Lists.{Lists};
 ghost use Rattle.lsdb.specs.Places.{lists_of};
-ghost use Rattle.external_routes.specs.Summaries.{due, is_covered};
+ghost use Rattle.external_routes.specs.Summaries.{borders, due, is_covered};
 ghost use Rattle.routing_table.specs.Tables.{inside, inter_result};
 ghost use Rattle.summary_metrics.specs.Originators.{AreOf};
 ghost use Rattle.summary_metrics.specs.Refreshed.{stale_metric};
 
+use crate::attached_areas::AttachedAreas;
 use area_routes::{AreaResult, InsideRoutes, RouterEntries, inter, intra};
-use external_routes::{covered, due};
+use external_routes::{due, is_calculated};
 use lsa_codec::{AreaId, Lsa, RouterId};
 use lsdb::Database;
 use routing_table::{KeptTrees, prefer_intra};
@@ -37,11 +38,12 @@ impl<A: Allocator> Model for Inside<A> {
     ghost view = { λ i. record { routes = i.routes; entries = i.entries } };
 }
 
-/// What was calculated for the originators of summary-LSAs in one database: their trees, and by
-/// these their routes and router entries. It is filled as LSAs ask for it, so that each tree is
-/// calculated once.
+/// What was found for the originators of summary-LSAs in one database: their areas, their trees,
+/// and by these their routes and router entries. It is filled as LSAs ask for it, so that each tree
+/// is calculated once.
 #[derive(Drop)]
 pub struct Originators<A: Allocator> {
+    attached: BTreeMap<RouterId, AttachedAreas<A>, A>,
     trees: KeptTrees<A>,
     inside: BTreeMap<RouterId, Inside<A>, A>,
 }
@@ -51,7 +53,11 @@ impl<A: Allocator> Model for Originators<A> {
 
     ghost Value = { OriginatorsValue };
 
-    ghost view = { λ o. record { trees = o.trees; inside = o.inside.entries } };
+    ghost view = { λ o. record {
+      attached = o.attached.entries;
+      trees = o.trees;
+      inside = o.inside.entries;
+    } };
 }
 
 /// The intra-area and inter-area routes of a router, and its router entries, from what its areas
@@ -107,9 +113,32 @@ impl<A: Allocator + Copy> Originators<A> {
         ensures { (db : Lists) → AreOf db result }
     {
         Originators {
+            attached: BTreeMap::new(alloc),
             trees: KeptTrees::new(alloc),
             inside: BTreeMap::new(alloc),
         }
+    }
+
+    /// Whether a router is attached to an area and to another one. Its areas are looked up once.
+    fn borders(
+        &mut self,
+        alloc: A,
+        database: &Database<A>,
+        area: AreaId,
+        router: RouterId,
+    ) -> Result<bool, AllocError>
+        requires { AreOf (lists_of database.now) self.old }
+        ensures borders { IfOk result
+            (λ does. does ≡ borders (lists_of database.now) area router) }
+        ensures of { AreOf (lists_of database.now) self.new }
+    {
+        if let Some(areas) = self.attached.get(&router) {
+            return Ok(areas.is_border_of(area));
+        }
+        let areas = AttachedAreas::of(alloc, database, router)?;
+        let borders = areas.is_border_of(area);
+        self.attached.insert(router, areas)?;
+        Ok(borders)
     }
 
     /// Calculates the routes and entries of a router, unless they are there.
@@ -149,10 +178,13 @@ impl<A: Allocator + Copy> Originators<A> {
         ensures most { IfOk result (λ metric. IfSome metric (λ m. m ≤ ls_infinity)) }
         ensures of { AreOf (lists_of database.now) self.new }
     {
-        if !covered(database, area, lsa) {
+        if !is_calculated(database, area, lsa) {
             return Ok(None);
         }
         let router = lsa.key().adv;
+        if !self.borders(alloc, database, area, router)? {
+            return Ok(None);
+        }
         self.add(alloc, database, router)?;
         match self.inside.get(&router) {
             Some(known) => Ok(other_metric(database, area, lsa, known)),

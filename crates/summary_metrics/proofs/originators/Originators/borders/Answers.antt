@@ -1,0 +1,25 @@
+use Rattle.std.proofs.Common.{◌∙◌, sym, subst}
+use Rattle.lsdb.specs.Places.{lists_of}
+use Rattle.summary_metrics.specs.Originators.{AreOf, OriginatorsValue}
+use Rattle.summary_metrics.proofs.AttachedIds.{borders_by_ids}
+use Rattle.summary_metrics.proofs.KnownOriginators.{attached_found, known_as, more_attached}
+use Rattle.summary_metrics.proofs.originators.Originators.borders.Goals as goal
+
+pub returns-in-Some-clause-borders : goal.returns-in-Some-clause-borders
+returns-in-Some-clause-borders g c =
+    c.is_border_of.ensures
+    ∙ borders_by_ids (lists_of c.args.database.now) c.args.area c.args.router c.in-Some.areas.now
+    (attached_found (lists_of c.args.database.now) (known_as c.self.inside.attached.entries c.self.inside.trees c.self.inside.inside.entries) c.args.router
+    c.in-Some.areas.now (subst (λ (known : OriginatorsValue). AreOf (lists_of c.args.database.now) known) (sym c.self.view_is) c.requires)
+    (sym c.in-Some.ensures.value))
+
+pub returns-clause-borders : goal.returns-clause-borders
+returns-clause-borders g c =
+    c.is_border_of-borders.ensures
+    ∙ borders_by_ids (lists_of c.args.database.now) c.args.area c.args.router c.in_ok-areas.areas c.in_ok-areas.ensures
+
+pub returns-clause-of : goal.returns-clause-of
+returns-clause-of g c =
+    more_attached (lists_of c.args.database.now) c.args.router _ c.self.inside.attached.entries c.insert.new.self.entries
+    c.in_ok-insert.ensures.updates.0 c.self.inside.trees c.self.inside.inside.entries
+    (subst (λ (known : OriginatorsValue). AreOf (lists_of c.args.database.now) known) (sym c.self.view_is) c.requires) c.in_ok-areas.ensures

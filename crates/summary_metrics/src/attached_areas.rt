@@ -1,0 +1,69 @@
+//! The areas that a router is attached to.
+
+ghost use Rattle.std.specs.Prelude.{◌≡◌, ◌==◌, IfOk};
+ghost use Rattle.std.specs.List.{list_any};
+ghost use Rattle.lsdb.specs.Places.{lists_of};
+ghost use Rattle.summary_metrics.specs.Originators.{has_another, ids_attached, is_border_of};
+
+use area_routes::is_attached;
+use lsa_codec::{AreaId, RouterId};
+use lsdb::Database;
+use std::alloc::{AllocError, Allocator};
+use std::marker::Model;
+
+/// The areas that a router is attached to, in rising order of their IDs. Contracts see them as this
+/// list.
+#[derive(Drop)]
+pub(crate) struct AttachedAreas<A: Allocator> {
+    areas: Vec<AreaId, A>,
+}
+
+impl<A: Allocator> Model for AttachedAreas<A> {
+    ghost use Rattle.std.specs.Prelude.{List};
+    ghost use Rattle.lsa_codec.specs.declared.address.AreaId.{AreaId as AnyArea};
+
+    ghost Value = { List AnyArea };
+
+    ghost view = { λ a. a.areas.items };
+}
+
+impl<A: Allocator + Copy> AttachedAreas<A> {
+    /// The areas that a router is attached to in a database.
+    pub(crate) fn of(
+        alloc: A,
+        database: &Database<A>,
+        router: RouterId,
+    ) -> Result<AttachedAreas<A>, AllocError>
+        ensures { IfOk result (λ areas. areas ≡ ids_attached (lists_of database.now) router) }
+    {
+        let mut areas = Vec::new(alloc);
+        for i in 0..database.area_count() {
+            let (area, _is_stub) = database.area(i);
+            if is_attached(database, area, router) {
+                areas.push(area)?;
+            }
+        }
+        Ok(AttachedAreas { areas })
+    }
+
+    /// Whether an area is among them.
+    fn has(&self, area: AreaId) -> bool
+        ensures { result ≡ list_any (λ a. a.0 == area.0) self.now }
+    {
+        self.areas.iter().any(|other| *other == area)
+    }
+
+    /// Whether an area other than this one is among them.
+    fn has_another(&self, area: AreaId) -> bool
+        ensures { result ≡ has_another area self.now }
+    {
+        self.areas.iter().any(|other| *other != area)
+    }
+
+    /// Whether they are this area and at least another one, as those of an area border router.
+    pub(crate) fn is_border_of(&self, area: AreaId) -> bool
+        ensures { result ≡ is_border_of area self.now }
+    {
+        self.has(area) && self.has_another(area)
+    }
+}
