@@ -1,2 +1,3 @@
-mod LineParts
+pub mod LineParts
 mod SessionParts
+pub mod ShortLines

@@ -16,6 +16,10 @@ line_feed = 10
 abbrev pub line_of : Edit → List ℕ
 line_of edit = spelling edit ++ line_feed ∷ []
 
+-- the most octets of a line: of an AS-external-LSA that is added, with each number at its longest
+abbrev pub longest_line : ℕ
+longest_line = 86
+
 abbrev pub lines_of : List Edit → List ℕ
 lines_of edits = flat_map line_of edits
 

@@ -1,11 +1,11 @@
 //! Laws of the lines of edits, and of the dump of a session.
 
-ghost use Rattle.std.specs.Prelude.{◌≡◌, ◌≤◌, ◌++◌, ℕ, List, Some, length, drop};
+ghost use Rattle.std.specs.Prelude.{◌≡◌, ◌≤◌, ◌+◌, ◌*◌, ◌++◌, ℕ, List, Some, length, drop};
 ghost use Rattle.edit_script.specs.declared.edit.Edit.{Edit};
 ghost use Rattle.edit_script.specs.Spelling.{IsEditInRange};
-ghost use Rattle.lsdb.specs.Limits.{longest_session};
+ghost use Rattle.lsdb.specs.Limits.{longest_dump, longest_session};
 ghost use Rattle.lsdb.specs.Lists.{Lists, IsDatabase};
-ghost use Rattle.session_text.specs.Lines.{line_of, edit_line};
+ghost use Rattle.session_text.specs.Lines.{line_of, longest_line, edit_line};
 ghost use Rattle.session_text.specs.Text.{session_text, IsHistory};
 
 use edit_script::{reads_back, reads_what_is_said, spelled_on_one_line};
@@ -22,13 +22,15 @@ pub fn line_laws()
         → edit_line bytes ≡ Some (edit, octets)
         → IsEditInRange edit × (octets ≡ length (line_of edit))
         × (bytes ≡ line_of edit ++ drop octets bytes) }
+    ensures short { (edit : Edit) → IsEditInRange edit
+        → length (line_of edit) ≤ longest_line }
 {
     reads_back();
     reads_what_is_said();
     spelled_on_one_line();
 }
 
-/// Different sessions have different dumps.
+/// Different sessions have different dumps, and the dump of a session with few edits is short.
 ///
 /// The function does nothing: its contract is the law.
 pub fn session_laws()
@@ -37,6 +39,10 @@ pub fn session_laws()
         → length (session_text a done undone) ≤ longest_session
         → session_text a done undone ≡ session_text b again back
         → (a ≡ b) × (done ≡ again) × (undone ≡ back) }
+    ensures short { (base : Lists) (done undone : List Edit) → IsDatabase base
+        → IsHistory done undone
+        → length (session_text base done undone)
+        ≤ longest_dump + 4 + longest_line * (length done + length undone) }
 {
     base_laws();
     line_laws();

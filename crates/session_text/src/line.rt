@@ -1,10 +1,10 @@
 //! One line of an edit.
 
 ghost use Rattle.std.specs.Prelude.{◌≡◌, ◌==◌, ◌++◌, position, IfOk, OnOk};
-ghost use Rattle.edit_script.specs.Spelling.{spelling};
+ghost use Rattle.edit_script.specs.Spelling.{spelling, IsEditInRange};
 ghost use Rattle.session_text.specs.Lines.{line_feed, line_of, edit_spelled, edit_line};
 
-use edit_script::{Command, Edit, parse, print};
+use edit_script::{Command, Edit, edits_are_in_range, parse, print};
 use std::alloc::{AllocError, Allocator};
 
 /// The index of the first line feed.
@@ -49,7 +49,8 @@ pub fn edit_line<A: Allocator + Copy>(
     }
 }
 
-/// Writes the line of an edit behind what was written before.
+/// Writes the line of an edit behind what was written before. Each number of an edit is in the range
+/// of its type, so [`edit_line`] reads the line again.
 ///
 /// The error is a want of memory.
 pub fn put_line<A: Allocator + Copy>(
@@ -57,8 +58,10 @@ pub fn put_line<A: Allocator + Copy>(
     out: &mut Vec<u8, A>,
     edit: &Edit,
 ) -> Result<(), AllocError>
-    ensures { OnOk result (out.new.items ≡ out.old.items ++ line_of edit.now) }
+    ensures written { OnOk result (out.new.items ≡ out.old.items ++ line_of edit.now) }
+    ensures range { IsEditInRange edit.now }
 {
+    edits_are_in_range(edit);
     let spelled = print(alloc, edit)?;
     out.extend_from_slice(spelled.as_bytes())?;
     out.push(b'\n')?;

@@ -1,5 +1,6 @@
 use Rattle.edit_script.specs.declared.command.Command.TheVariants as command
 use Rattle.session_text.proofs.LineParts.{edit_line_is, edit_line_again}
+use Rattle.session_text.proofs.ShortLines.{short_line}
 use Rattle.session_text.proofs.laws.line_laws.Goals as goal
 
 pub returns-clause-again : goal.returns-clause-again
@@ -7,3 +8,6 @@ returns-clause-again c = edit_line_again c.reads_back.ensures c.spelled_on_one_l
 
 pub returns-clause-spelled : goal.returns-clause-spelled
 returns-clause-spelled c = edit_line_is (λ line branch edit means. ((c.reads_what_is_said.ensures line branch (command.Edit edit)).0 means).0)
+
+pub returns-clause-short : goal.returns-clause-short
+returns-clause-short c = short_line
