@@ -1,3 +1,3 @@
-pub mod LineParts
+mod LineParts
 mod SessionParts
-pub mod ShortLines
+mod ShortLines
