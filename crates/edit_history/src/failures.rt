@@ -238,7 +238,7 @@ fn are_linked<A: Allocator + Copy>(
 
 /// The point-to-point links between two routers go, on both sides. A router-LSA without such a
 /// link stays as it is.
-pub fn plan_fail_link<A: Allocator + Copy>(
+pub(crate) fn plan_fail_link<A: Allocator + Copy>(
     database: &Database<A>,
     area: AreaId,
     router: RouterId,
@@ -263,7 +263,7 @@ pub fn plan_fail_link<A: Allocator + Copy>(
 }
 
 /// The network-LSAs of a network go, and all links of router-LSAs to it.
-pub fn plan_fail_net<A: Allocator + Copy>(
+pub(crate) fn plan_fail_net<A: Allocator + Copy>(
     database: &Database<A>,
     area: AreaId,
     network: Addr,
@@ -293,7 +293,7 @@ fn section_name<A: Allocator + Copy>(database: &Database<A>, number: usize) -> S
 }
 
 /// All LSAs that a router originated go, in all areas and those of AS scope.
-pub fn plan_fail_router<A: Allocator + Copy>(
+pub(crate) fn plan_fail_router<A: Allocator + Copy>(
     database: &Database<A>,
     router: RouterId,
 ) -> Result<Vec<Swap<A>, A>, EditFault>

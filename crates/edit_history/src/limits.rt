@@ -10,7 +10,7 @@ use lsdb::{Database, LONGEST_DUMP, MOST_LSAS_OF_AREA, MOST_LSAS_OF_AS, Section};
 use std::alloc::Allocator;
 
 /// Whether the dump would be too long with so many octets more.
-pub fn is_dump_full<A: Allocator + Copy>(database: &Database<A>, octets: u16) -> bool
+pub(crate) fn is_dump_full<A: Allocator + Copy>(database: &Database<A>, octets: u16) -> bool
     ensures { result ≡ is_dump_full (lists_of database.now) octets }
 {
     database.size() + usize::from(octets) > LONGEST_DUMP
@@ -34,7 +34,7 @@ fn is_full<A: Allocator + Copy>(database: &Database<A>, section: Section, octets
 }
 
 /// Refuses a new LSA whose key is taken in its section, or for which there is no room.
-pub fn check_room<A: Allocator + Copy>(
+pub(crate) fn check_room<A: Allocator + Copy>(
     database: &Database<A>,
     section: Section,
     key: Key,

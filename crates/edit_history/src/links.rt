@@ -17,7 +17,7 @@ const STUB_OCTETS: u16 = 12;
 
 /// The metric of a link is another one: the cost of an interface (RFC 2328, C.3), told in the
 /// router-LSA that its router originates for the area (12.4.1).
-pub fn plan_cost<A: Allocator + Copy>(
+pub(crate) fn plan_cost<A: Allocator + Copy>(
     database: &Database<A>,
     area: AreaId,
     router: RouterId,
@@ -37,7 +37,7 @@ pub fn plan_cost<A: Allocator + Copy>(
 }
 
 /// A link goes, with its TOS metrics.
-pub fn plan_drop_link<A: Allocator + Copy>(
+pub(crate) fn plan_drop_link<A: Allocator + Copy>(
     database: &Database<A>,
     area: AreaId,
     router: RouterId,
@@ -56,7 +56,7 @@ pub fn plan_drop_link<A: Allocator + Copy>(
 }
 
 /// A router-LSA gets a link to a stub network, after its last link.
-pub fn plan_add_stub<A: Allocator + Copy>(
+pub(crate) fn plan_add_stub<A: Allocator + Copy>(
     database: &Database<A>,
     area: AreaId,
     router: RouterId,

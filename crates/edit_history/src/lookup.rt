@@ -17,7 +17,7 @@ use std::alloc::Allocator;
 
 /// An LSA that is looked for by more than its key.
 #[derive(Clone, Copy)]
-pub enum Wanted {
+pub(crate) enum Wanted {
     /// A network-LSA of the network whose Designated Router has this address.
     Network(Addr),
     /// A summary-LSA of type 3 of a router for a prefix.
@@ -85,7 +85,7 @@ fn is_originated_for<A: Allocator + Copy>(
 }
 
 /// The number of an area's section.
-pub fn area_section<A: Allocator + Copy>(
+pub(crate) fn area_section<A: Allocator + Copy>(
     database: &Database<A>,
     area: AreaId,
 ) -> Result<usize, EditFault>
@@ -102,7 +102,7 @@ pub fn area_section<A: Allocator + Copy>(
 
 /// The router-LSA that a router originated for an area that is there (RFC 2328, 12.4.1), and its
 /// place.
-pub fn router_lsa_in<A: Allocator + Copy>(
+pub(crate) fn router_lsa_in<A: Allocator + Copy>(
     database: &Database<A>,
     area: AreaId,
     router: RouterId,
@@ -125,7 +125,7 @@ pub fn router_lsa_in<A: Allocator + Copy>(
 }
 
 /// The router-LSA that a router originated for an area (RFC 2328, 12.4.1), and its place.
-pub fn router_lsa<A: Allocator + Copy>(
+pub(crate) fn router_lsa<A: Allocator + Copy>(
     database: &Database<A>,
     area: AreaId,
     router: RouterId,
@@ -153,7 +153,7 @@ fn is_in_section<A: Allocator + Copy>(
 }
 
 /// Whether a router originated a router-LSA for any area.
-pub fn has_router<A: Allocator + Copy>(database: &Database<A>, router: RouterId) -> bool
+pub(crate) fn has_router<A: Allocator + Copy>(database: &Database<A>, router: RouterId) -> bool
     ensures { result ≡ has_router router (lists_of database.now) }
 {
     for section in 0..database.section_count() {
@@ -194,7 +194,7 @@ fn first_in<A: Allocator + Copy>(
 }
 
 /// The first LSA of a section that is looked for, and its place.
-pub fn first<'a, A: Allocator + Copy>(
+pub(crate) fn first<'a, A: Allocator + Copy>(
     database: &'a Database<A>,
     section: Section,
     wanted: &Wanted,

@@ -15,7 +15,7 @@ use lsdb::Database;
 use std::alloc::Allocator;
 
 /// What an edit exchanges, or its first refusal.
-pub fn plan<A: Allocator + Copy>(
+pub(crate) fn plan<A: Allocator + Copy>(
     database: &mut Database<A>,
     edit: &Edit,
 ) -> Result<Vec<Swap<A>, A>, EditFault>

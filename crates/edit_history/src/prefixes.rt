@@ -25,7 +25,7 @@ const SUMMARY_OCTETS: u16 = 28;
 const EXTERNAL_OCTETS: u16 = 36;
 
 /// A router's first summary-LSA for a prefix has another metric.
-pub fn plan_summary<A: Allocator + Copy>(
+pub(crate) fn plan_summary<A: Allocator + Copy>(
     database: &Database<A>,
     area: AreaId,
     router: RouterId,
@@ -50,7 +50,7 @@ pub fn plan_summary<A: Allocator + Copy>(
 }
 
 /// A router's first AS-external-LSA for a prefix goes.
-pub fn plan_drop_external<A: Allocator + Copy>(
+pub(crate) fn plan_drop_external<A: Allocator + Copy>(
     database: &Database<A>,
     router: RouterId,
     prefix: Prefix,
@@ -116,7 +116,7 @@ fn options_in<A: Allocator + Copy>(database: &Database<A>, number: usize) -> u8
 }
 
 /// A new summary-LSA of a router for a prefix, at the end of an area.
-pub fn plan_add_summary<A: Allocator + Copy>(
+pub(crate) fn plan_add_summary<A: Allocator + Copy>(
     database: &mut Database<A>,
     area: AreaId,
     router: RouterId,
@@ -149,7 +149,7 @@ fn is_type2(metric_type: MetricType) -> bool
 }
 
 /// A new AS-external-LSA of a router for a prefix, at the end of those of AS scope.
-pub fn plan_add_external<A: Allocator + Copy>(
+pub(crate) fn plan_add_external<A: Allocator + Copy>(
     database: &mut Database<A>,
     router: RouterId,
     prefix: Prefix,

@@ -170,7 +170,7 @@ fn other_swaps<A: Allocator + Copy>(
 
 /// The summary-LSAs that are there get the metrics that their originators announce (RFC 2328,
 /// 12.4.3).
-pub fn plan_refresh<A: Allocator + Copy>(
+pub(crate) fn plan_refresh<A: Allocator + Copy>(
     database: &mut Database<A>,
 ) -> Result<Vec<Swap<A>, A>, EditFault>
     ensures planned { IfOk result

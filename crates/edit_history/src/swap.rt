@@ -14,7 +14,7 @@ use std::marker::Model;
 /// A place, the section and the LS type of the LSA that stands there or stood there, and what the
 /// database lacks of it: the old LSA once the edit is done, the new one once it is undone.
 #[derive(Drop)]
-pub struct Swap<A: Allocator = Global> {
+pub(crate) struct Swap<A: Allocator = Global> {
     slot: SlotId,
     section: Section,
     kind: u8,
@@ -32,7 +32,7 @@ impl<A: Allocator> Model for Swap<A> {
 
 impl<A: Allocator + Copy> Swap<A> {
     /// The swap that puts another LSA, or none, at a place.
-    pub fn new(slot: SlotId, section: Section, kind: u8, other: Option<Lsa<A>>) -> Swap<A>
+    pub(crate) fn new(slot: SlotId, section: Section, kind: u8, other: Option<Lsa<A>>) -> Swap<A>
         ensures { result ≡ record { slot = slot; section = section; kind = kind; other = other } }
     {
         Swap {
@@ -44,7 +44,7 @@ impl<A: Allocator + Copy> Swap<A> {
     }
 
     /// Whether it changes the graph of an area: a router-LSA or network-LSA of it (RFC 2328, 16.1).
-    pub fn touches(&self, area: AreaId) -> bool
+    pub(crate) fn touches(&self, area: AreaId) -> bool
         ensures { result ≡ is_of_graph area self.now.section self.now.kind }
     {
         match self.section {
@@ -65,7 +65,10 @@ impl<A: Allocator + Copy> Swap<A> {
 }
 
 /// A single swap.
-pub fn one_swap<A: Allocator + Copy>(alloc: A, swap: Swap<A>) -> Result<Vec<Swap<A>, A>, AllocError>
+pub(crate) fn one_swap<A: Allocator + Copy>(
+    alloc: A,
+    swap: Swap<A>,
+) -> Result<Vec<Swap<A>, A>, AllocError>
     ensures { IfOk result (λ v. v.items ≡ swap ∷ []) }
 {
     let mut swaps = Vec::with_capacity(alloc, 1)?;
@@ -74,7 +77,7 @@ pub fn one_swap<A: Allocator + Copy>(alloc: A, swap: Swap<A>) -> Result<Vec<Swap
 }
 
 /// Does swaps, from the first to the last.
-pub fn do_swaps<A: Allocator + Copy>(database: &mut Database<A>, swaps: &mut [Swap<A>])
+pub(crate) fn do_swaps<A: Allocator + Copy>(database: &mut Database<A>, swaps: &mut [Swap<A>])
     requires { CanDo database.old swaps.old }
     ensures database { database.new ≡ done_places database.old swaps.old }
     ensures swaps { swaps.new ≡ done_swaps database.old swaps.old }
@@ -86,7 +89,7 @@ pub fn do_swaps<A: Allocator + Copy>(database: &mut Database<A>, swaps: &mut [Sw
 }
 
 /// Undoes swaps, from the last to the first.
-pub fn undo_swaps<A: Allocator + Copy>(database: &mut Database<A>, swaps: &mut [Swap<A>])
+pub(crate) fn undo_swaps<A: Allocator + Copy>(database: &mut Database<A>, swaps: &mut [Swap<A>])
     requires { CanUndo database.old swaps.old }
     ensures database { database.new ≡ undone_places database.old swaps.old }
     ensures swaps { swaps.new ≡ undone_swaps database.old swaps.old }

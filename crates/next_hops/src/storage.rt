@@ -12,7 +12,7 @@ use std::marker::Model;
 use std::mem;
 
 /// An allocator, as a part of a list of hops.
-pub trait HoldsHops: Allocator {
+pub(crate) trait HoldsHops: Allocator {
     ghost use Rattle.std.specs.Prelude.{ℕ};
     ghost use Rattle.next_hops.specs.steps.Storage.{octets_of};
 

@@ -10,18 +10,18 @@ use std::alloc::AllocError;
 
 /// The files that the command line names.
 #[derive(Debug, Drop)]
-pub struct Options {
+pub(crate) struct Options {
     /// The dump that is loaded. Without it the program takes a small sample of its own.
-    pub dump: Option<String>,
+    pub(crate) dump: Option<String>,
     /// The script that is carried out. Without it the program reads standard input.
-    pub script: Option<String>,
+    pub(crate) script: Option<String>,
     /// Where the dump of the database after the script goes. Without it none is written.
-    pub out: Option<String>,
+    pub(crate) out: Option<String>,
 }
 
 /// Why words give no options.
 #[derive(Debug, Drop)]
-pub enum OptionsFault {
+pub(crate) enum OptionsFault {
     /// The words are refused, or ask for help or for the version. Its text goes where
     /// `Error::print` puts it, and its status is `Error::exit_code`. It is never for want of
     /// memory.

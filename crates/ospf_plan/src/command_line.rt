@@ -20,7 +20,7 @@ use std::alloc::{AllocError, Global};
 ///
 /// `Refused` for words that clap refuses, `--help` and `--version` among them, with clap's own
 /// error. `OutOfMemory` where a growth was refused.
-pub fn options(alloc: Global, words: &[String]) -> Result<Options, OptionsFault>
+pub(crate) fn options(alloc: Global, words: &[String]) -> Result<Options, OptionsFault>
     ensures given { IfOk result (IsGiven (map string_bytes words.now)) }
     ensures accepted { OnOk result (fault_of ospf_plan (map string_bytes words.now) ≡ []) }
     ensures refused { IfErr result (IsRefusal (fault_of ospf_plan (map string_bytes words.now))) }

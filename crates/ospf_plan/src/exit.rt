@@ -63,7 +63,7 @@ fn line_of<A: Allocator + Copy>(alloc: A, fault: &ExitFault) -> Result<Vec<u8, A
 /// of memory.
 ///
 /// An error is want of memory for the line; the status stands all the same.
-pub fn exit_line<A: Allocator + Copy>(
+pub(crate) fn exit_line<A: Allocator + Copy>(
     alloc: A,
     fault: &ExitFault,
 ) -> (u8, Result<Vec<u8, A>, AllocError>)

@@ -4,7 +4,7 @@ use whole_run::RunFault;
 
 /// A file that the command line names.
 #[derive(Clone, Copy, Debug, PartialEq, Eq)]
-pub enum FileArg {
+pub(crate) enum FileArg {
     /// The dump.
     Dump,
     /// The script.
@@ -15,7 +15,7 @@ pub enum FileArg {
 
 /// Why the program ends with status 3, 4 or 5.
 #[derive(Clone, Copy, Debug, PartialEq, Eq)]
-pub enum ExitFault {
+pub(crate) enum ExitFault {
     /// The run ended early.
     Run(RunFault),
     /// A file can not be opened.

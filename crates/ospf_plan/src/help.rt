@@ -1,13 +1,13 @@
 //! The texts of `--help` and `--version`.
 
 /// What the program is.
-pub const ABOUT: &str = "A what-if planner for OSPF";
+pub(crate) const ABOUT: &str = "A what-if planner for OSPF";
 
 /// The version of the program, and the kit that it was proved with, as `rt version` prints it.
-pub const VERSION: &str = "0.9.0, proved with rattle-kit-13b logic dac8208d650f15bf";
+pub(crate) const VERSION: &str = "0.9.0, proved with rattle-kit-13b logic dac8208d650f15bf";
 
 /// The commands of a script with their arguments, and an example.
-pub const COMMANDS: &str = "Commands, each on a line of the script:
+pub(crate) const COMMANDS: &str = "Commands, each on a line of the script:
   cost AREA ROUTER LINK METRIC                change the metric of a link
   drop-link AREA ROUTER LINK                  remove a link
   fail-link AREA ROUTER NEIGHBOR              remove the point-to-point links of two routers

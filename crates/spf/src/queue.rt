@@ -14,9 +14,9 @@ use std::marker::Model;
 /// takes eight octets.
 #[derive(Clone, Copy, Debug, PartialEq, Eq, PartialOrd, Ord)]
 pub(crate) struct Candidate {
-    pub distance: u32,
-    pub is_router: bool,
-    pub index: u16,
+    pub(crate) distance: u32,
+    pub(crate) is_router: bool,
+    pub(crate) index: u16,
 }
 
 /// The candidates, of which the first in their order is taken next. A vertex may be there several
@@ -41,7 +41,7 @@ impl<A: Allocator> Model for Queue<A> {
 
 impl<A: Allocator + Copy> Queue<A> {
     /// No candidates.
-    pub fn new(alloc: A) -> Queue<A>
+    pub(crate) fn new(alloc: A) -> Queue<A>
         ensures { result ≡ [] }
     {
         Queue {
@@ -50,7 +50,7 @@ impl<A: Allocator + Copy> Queue<A> {
     }
 
     /// Adds a candidate.
-    pub fn push(&mut self, candidate: Candidate) -> Result<(), AllocError>
+    pub(crate) fn push(&mut self, candidate: Candidate) -> Result<(), AllocError>
         ensures { OnOk result (IsPermutation (candidate ∷ self.old) self.new) }
     {
         self.heap.push(Reverse(candidate))?;
@@ -58,7 +58,7 @@ impl<A: Allocator + Copy> Queue<A> {
     }
 
     /// Takes out a candidate before which no other stands.
-    pub fn pop(&mut self) -> Option<Candidate>
+    pub(crate) fn pop(&mut self) -> Option<Candidate>
         ensures taken { IfSome result (λ c. IsPermutation self.old (c ∷ self.new)) }
         ensures first { IfSome result (λ c. All (λ other. is_lt (candidate_cmp other c) ≡ false) self.new) }
         ensures none { IfNone result (self.old ≡ []) }

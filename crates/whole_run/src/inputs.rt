@@ -18,7 +18,7 @@ use std::io::Read;
 use streams::{ReadFault, Watched, read_whole};
 
 /// The greatest length of a script, in octets.
-pub const SCRIPT_LIMIT: usize = 1_048_576;
+pub(crate) const SCRIPT_LIMIT: usize = 1_048_576;
 
 /// Reads a dump whole and loads it.
 pub(crate) fn read_branches<A: Allocator + Copy, R: Read>(
