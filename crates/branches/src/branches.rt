@@ -153,7 +153,8 @@ impl<A: Allocator + Copy> Branches<A> {
     /// Memory ran out.
     pub fn dump(&mut self, branch: u8) -> Result<Vec<u8, A>, AllocError>
         requires { branch < 8 }
-        ensures dump { IfOk result (λ dump. dump.items ≡ text (state (sessions_of self.old branch))) }
+        ensures dump { IfOk result
+            (λ dump. dump.items ≡ text (state (sessions_of self.old branch))) }
         ensures kept { self.new ≡ self.old }
     {
         if branch == 0 {

@@ -21,7 +21,8 @@ pub(crate) fn execute<A: Allocator + Copy>(
     planner: &mut Planner<A>,
     command: &Command,
 ) -> Result<Reply<A>, AllocError>
-    ensures reply { IfOk result (λ reply. said_by reply ≡ reply_to planner.old.session command.now) }
+    ensures reply { IfOk result
+        (λ reply. said_by reply ≡ reply_to planner.old.session command.now) }
     ensures session { OnOk result (planner.new.session ≡ after planner.old.session command.now) }
     ensures base { planner.new.session.base ≡ planner.old.session.base }
     ensures kept { OnErr result (planner.new.session ≡ planner.old.session) }
@@ -49,7 +50,8 @@ fn execute_edit<A: Allocator + Copy>(
     planner: &mut Planner<A>,
     edit: &Edit,
 ) -> Result<Reply<A>, AllocError>
-    ensures reply { IfOk result (λ reply. said_by reply ≡ edit_reply (edited planner.old.session edit.now)) }
+    ensures reply { IfOk result
+        (λ reply. said_by reply ≡ edit_reply (edited planner.old.session edit.now)) }
     ensures session { OnOk result
         (planner.new.session ≡ unless_refused planner.old.session
         (edited planner.old.session edit.now)) }

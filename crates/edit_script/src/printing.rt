@@ -16,7 +16,8 @@ use std::alloc::{AllocError, Allocator};
 #[tactic(auto, using(crate::proofs::RoundTrip::reads_back))]
 pub fn print<A: Allocator + Copy>(alloc: A, edit: &Edit) -> Result<String<A>, AllocError>
     ensures spelled { IfOk result (λ line. string_bytes line ≡ spelling edit.now) }
-    ensures read_back { IfOk result (λ line. meaning (string_bytes line) ≡ Ok (0, command.Edit edit.now)) }
+    ensures read_back { IfOk result
+        (λ line. meaning (string_bytes line) ≡ Ok (0, command.Edit edit.now)) }
 {
     edits_are_in_range(edit);
     format!(in alloc; "{edit}")

@@ -37,7 +37,8 @@ impl<A: Allocator> Model for Hops<A> {
 
     ghost view = { λ hops. lists_in hops.lists.keys hops.numbers.items };
 
-    ghost invariant = { λ hops. All (λ list. IsSortedHops list) (lists_in hops.lists.keys hops.numbers.items) };
+    ghost invariant = { λ hops.
+        All (λ list. IsSortedHops list) (lists_in hops.lists.keys hops.numbers.items) };
 }
 
 impl<A: Allocator + Copy> Hops<A> {

@@ -1,8 +1,8 @@
 //! `ospf-plan`: a what-if planner for OSPF Version 2 (RFC 2328).
 //!
-//! It loads a dump of link state databases, carries out the commands of a script, and writes their replies and the
-//! dump that they leave. `run` of the crate `whole_run` is the whole run, over readers and writers; `main` hands it the
-//! files that the command line names.
+//! It loads a dump of link state databases, carries out the commands of a script, and writes their
+//! replies and the dump that they leave. `run` of the crate `whole_run` is the whole run, over
+//! readers and writers; `main` hands it the files that the command line names.
 #![tactic(auto)]
 
 mod arguments;

@@ -193,7 +193,8 @@ impl<A: Allocator + Copy> Planner<A> {
     /// [`OutOfMemory`](TableFault::OutOfMemory); the trees begun before it count, and those that
     /// were finished are kept.
     pub fn table(&mut self, router: RouterId) -> Result<Table<A>, TableFault>
-        ensures table { IfOk result (λ table. table_in (state self.old.session) router ≡ Some table) }
+        ensures table { IfOk result
+            (λ table. table_in (state self.old.session) router ≡ Some table) }
         ensures fault { IfErr result (FaultMeans (table_in (state self.old.session) router)) }
         ensures session { self.new.session ≡ self.old.session }
         ensures runs { OnOk result (self.new.runs ≡ counted_by (length (areas_without_tree

@@ -85,7 +85,8 @@ impl<A: Allocator + Copy> KeptTrees<A> {
     ) -> Result<(), AllocError>
         requires { IsSomeAnd (trees_at self.old area)
             (λ trees. Contains trees.graph.vertices (Router router)) }
-        ensures graphs { (other : AnyArea) → option_map (λ trees. trees.graph) (trees_at self.new other)
+        ensures graphs { (other : AnyArea)
+            → option_map (λ trees. trees.graph) (trees_at self.new other)
             ≡ option_map (λ trees. trees.graph) (trees_at self.old other) }
         ensures keeps { IsWithin (trees_in self.old) (trees_in self.new) }
         ensures others { (other : AnyArea) → other ≢ area → (root : AnyRouter)

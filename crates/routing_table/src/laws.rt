@@ -23,7 +23,8 @@ pub fn routers_are_attached()
 /// the areas. The routes come from what each attached area gives; this is given by the vertices
 /// that are reached over the area's LSAs in use; and these are over all paths.
 pub fn tables_are_over_all_paths()
-    ensures routes { (db : Lists) (router : RouterId) (table : TableValue) → table_in db router ≡ Some table
+    ensures routes { (db : Lists) (router : RouterId) (table : TableValue)
+        → table_in db router ≡ Some table
         → table.routes ≡ routes_from db router (results_in db router (attached_areas db router)) }
     ensures areas { (db : Lists) (router : RouterId) (area : AreaHead)
         → result_in db router area ≡ result_of_reached (record { 0 = area.id }) router

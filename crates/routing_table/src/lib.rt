@@ -1,8 +1,9 @@
 //! The routing table of a router (RFC 2328, 11 and 16).
 //!
 //! [`table_of`] makes it from a link state database alone. Its parts can be called one by one: what
-//! an area gives to a router ([`result_in`], or [`AreaTrees`] and [`KeptTrees`] where trees are kept), what all areas
-//! give to which it is attached ([`results_of`]), and the routes from that ([`routes_from`]).
+//! an area gives to a router ([`result_in`], or [`AreaTrees`] and [`KeptTrees`] where trees are
+//! kept), what all areas give to which it is attached ([`results_of`]), and the routes from that
+//! ([`routes_from`]).
 #![tactic(auto)]
 
 mod area_trees;

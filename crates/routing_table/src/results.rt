@@ -90,7 +90,8 @@ pub fn results_of<A: Allocator + Copy>(
         (λ results. results.items ≡ results_in (lists_of database.now) router
         (attached_areas (lists_of database.now) router)) }
     ensures memory { OnErr result (attached_areas (lists_of database.now) router ≢ []) }
-    ensures meter { IfOk result (λ results. meter.new ≡ counted_by (length results.items) meter.old) }
+    ensures meter { IfOk result
+        (λ results. meter.new ≡ counted_by (length results.items) meter.old) }
     ensures at_most { CountsAtMost (length (attached_areas (lists_of database.now) router))
         meter.old meter.new }
 {

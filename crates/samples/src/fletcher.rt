@@ -3,7 +3,8 @@
 ghost use Rattle.std.specs.Prelude.{◌≡◌, [], ◌∷◌};
 ghost use Rattle.samples.specs.Fletcher.{first_sum, second_sum, nonzero_octet, checksum_of};
 
-/// Both sums over the octets, each modulo 255: the sum of the octets, and the sum of the first sums.
+/// Both sums over the octets, each modulo 255: the sum of the octets, and the sum of the first
+/// sums.
 fn sums(octets: &[u8]) -> (u64, u64)
     ensures first { result.0 ≡ first_sum octets.now }
     ensures second { result.1 ≡ second_sum octets.now }

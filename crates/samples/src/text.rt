@@ -1,11 +1,12 @@
 //! Databases as text: an area or an LSA a line.
 //!
-//! A line is a word, an ID, perhaps with a prefix length, and values with names. Behind a colon stand
-//! the links of a router-LSA or the attached routers of a network-LSA, with commas between them:
+//! A line is a word, an ID, perhaps with a prefix length, and values with names. Behind a colon
+//! stand the links of a router-LSA or the attached routers of a network-LSA, with commas between
+//! them:
 //!
 //! ```text
 //! area 0.0.0.0
-//! router 1.1.1.1 flags=3 age=3600: point-to-point 2.2.2.2 data=10.0.0.1 cost=10, stub 10.9.0.0/16 cost=5
+//! router 1.1.1.1 flags=3 age=9: point-to-point 2.2.2.2 data=10.0.0.1 cost=9, stub 9.0.0.0/8 cost=5
 //! network 10.5.0.3/16 by=3.3.3.3: 1.1.1.1, 3.3.3.3
 //! summary 10.20.0.0/16 by=2.2.2.2 cost=20
 //! asbr-summary 9.9.9.9 by=2.2.2.2 cost=5
@@ -143,8 +144,8 @@ fn add_router(
     Ok(lsas.router_of(item.age, item.id, item.flags, &list)?)
 }
 
-/// Adds a network-LSA with these attached routers. `unread` is the fault where one of them cannot be
-/// read.
+/// Adds a network-LSA with these attached routers. `unread` is the fault where one of them cannot
+/// be read.
 fn add_network(
     alloc: Global,
     lsas: &mut LsaList,

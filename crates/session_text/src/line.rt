@@ -49,8 +49,8 @@ pub fn edit_line<A: Allocator + Copy>(
     }
 }
 
-/// Writes the line of an edit behind what was written before. Each number of an edit is in the range
-/// of its type, so [`edit_line`] reads the line again.
+/// Writes the line of an edit behind what was written before. Each number of an edit is in the
+/// range of its type, so [`edit_line`] reads the line again.
 ///
 /// The error is a want of memory.
 pub fn put_line<A: Allocator + Copy>(

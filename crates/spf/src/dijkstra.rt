@@ -52,7 +52,8 @@ fn push_neighbours<A: Allocator + Copy>(
     requires sized { length distances.now ≡ length graph.now.vertices }
     requires from { from < length graph.now.vertices }
     requires small { distance < 2 ^ 31 }
-    ensures pushes { OnOk result (PushesNeighbours graph.now from distance distances.now queue.old queue.new) }
+    ensures pushes { OnOk result
+        (PushesNeighbours graph.now from distance distances.now queue.old queue.new) }
     ensures count { OnOk result (length queue.new < length queue.old + 2 ^ 64) }
 {
     for &edge in graph.edges(from) {

@@ -60,7 +60,8 @@ impl<A: Allocator + Copy> Queue<A> {
     /// Takes out a candidate before which no other stands.
     pub(crate) fn pop(&mut self) -> Option<Candidate>
         ensures taken { IfSome result (λ c. IsPermutation self.old (c ∷ self.new)) }
-        ensures first { IfSome result (λ c. All (λ other. is_lt (candidate_cmp other c) ≡ false) self.new) }
+        ensures first { IfSome result
+            (λ c. All (λ other. is_lt (candidate_cmp other c) ≡ false) self.new) }
         ensures none { IfNone result (self.old ≡ []) }
     {
         let Reverse(candidate) = self.heap.pop()?;

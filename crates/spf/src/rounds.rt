@@ -15,10 +15,12 @@ use std::alloc::{AllocError, Allocator};
 /// Lowers the distance at `index` to `candidate` where that is less, and says whether it did.
 fn improve(distances: &mut [Option<u64>], index: usize, candidate: u64) -> bool
     requires { index < length distances.old }
-    ensures lowered { OnTrue result (distances.new ≡ slice_set distances.old index (Some candidate)) }
+    ensures lowered { OnTrue result
+        (distances.new ≡ slice_set distances.old index (Some candidate)) }
     ensures less { OnTrue result (IsMoreThan (slice_index_or distances.old index None) candidate) }
     ensures same { OnFalse result (distances.new ≡ distances.old) }
-    ensures at_most { OnFalse result (IsAtMost (slice_index_or distances.old index None) candidate) }
+    ensures at_most { OnFalse result
+        (IsAtMost (slice_index_or distances.old index None) candidate) }
 {
     let is_less = match distances[index] {
         Some(distance) => candidate < distance,
@@ -76,7 +78,8 @@ fn relax_all<A: Allocator + Copy>(graph: &Graph<A>, distances: &mut [Option<u64>
     requires sized { length distances.old ≡ length graph.now.vertices }
     requires bounded { Bounded distances.old }
     ensures sized { length distances.new ≡ length distances.old }
-    ensures sound { (root : ℕ) → Sound graph.now root distances.old → Sound graph.now root distances.new }
+    ensures sound { (root : ℕ) → Sound graph.now root distances.old
+        → Sound graph.now root distances.new }
     ensures closed { Closed graph.now distances.new }
 {
     while relax_round(graph, distances) {}

@@ -53,8 +53,8 @@ pub fn read_whole<A: Allocator + Copy, R: Read>(
     ensures too_large { result ≡ Err ReadFault.TooLarge
         → IsLonger (R.remaining (inner_of reader.old)) limit }
     ensures failed { (result ≡ Err ReadFault.Failed) ↔ (has_failed reader.new ≡ true) }
-    ensures bounded { ConsumesAtMost (R.remaining (inner_of reader.old)) (R.remaining (inner_of reader.new))
-        (limit + 1) }
+    ensures bounded { ConsumesAtMost (R.remaining (inner_of reader.old))
+        (R.remaining (inner_of reader.new)) (limit + 1) }
 {
     let mut bytes = Vec::new(alloc);
     let mut chunk = [0u8; CHUNK];

@@ -54,8 +54,8 @@ impl<R: Read> Watched<R> {
     /// An error is handed on, `Interrupted` too, and is remembered.
     pub fn read(&mut self, buf: &mut [u8]) -> io::Result<usize>
         ensures bound { ReadsAtMost result buf.new }
-        ensures bytes { ReadConsumes (R.remaining (inner_of self.old)) (R.remaining (inner_of self.new))
-            result buf.new }
+        ensures bytes { ReadConsumes (R.remaining (inner_of self.old))
+            (R.remaining (inner_of self.new)) result buf.new }
         ensures failed { has_failed self.new ≡ (has_failed self.old || is_err result) }
     {
         let count = self.inner.read(buf);
@@ -71,8 +71,8 @@ impl<W: Write> Watched<W> {
     /// of a text that is not empty.
     pub fn write(&mut self, text: &[u8]) -> io::Result<usize>
         ensures bound { WritesAtMost result text.now }
-        ensures bytes { WriteAppends (W.contents (inner_of self.old)) (W.contents (inner_of self.new))
-            result text.now }
+        ensures bytes { WriteAppends (W.contents (inner_of self.old))
+            (W.contents (inner_of self.new)) result text.now }
         ensures failed { has_failed self.new ≡
             (has_failed self.old || is_failed_write result text.now) }
     {

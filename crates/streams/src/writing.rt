@@ -21,8 +21,8 @@ pub fn write_whole<W: Write>(writer: &mut Watched<W>, text: &[u8]) -> Result<(),
     requires { has_failed writer.old ≡ false }
     ensures whole { OnOk result
         (Appends (W.contents (inner_of writer.old)) (W.contents (inner_of writer.new)) text.now) }
-    ensures prefix { AppendsPrefix (W.contents (inner_of writer.old)) (W.contents (inner_of writer.new))
-        text.now }
+    ensures prefix { AppendsPrefix (W.contents (inner_of writer.old))
+        (W.contents (inner_of writer.new)) text.now }
     ensures failed { IsErr result ↔ (has_failed writer.new ≡ true) }
 {
     let mut at = 0;

@@ -4,9 +4,9 @@ ghost use Rattle.std.specs.Prelude.{◌≡◌};
 ghost use Rattle.lsdb.specs.Lists.{IsDatabase, Lists};
 ghost use Rattle.summary_metrics.specs.Refreshed.{IsSettled, refreshed};
 
-/// Once the backbone and then the other areas are refreshed, each covered summary-LSA has the metric
-/// that it is due in the very database that this leaves, though each was made from the one before.
-/// So doing it again changes nothing.
+/// Once the backbone and then the other areas are refreshed, each covered summary-LSA has the
+/// metric that it is due in the very database that this leaves, though each was made from the one
+/// before. So doing it again changes nothing.
 ///
 /// What is due into the backbone comes from what areas give by themselves, which no summary-LSA
 /// changes; what is due into other areas comes from that and from the summary-LSAs of the backbone,

@@ -1,4 +1,5 @@
-//! The metrics that summary-LSAs get from the area border routers that made them (RFC 2328, 12.4.3).
+//! The metrics that summary-LSAs get from the area border routers that made them (RFC 2328,
+//! 12.4.3).
 //!
 //! [`Originators`] answers which metric a summary-LSA is due that has another one. It keeps what it
 //! calculates for that, for one database.

@@ -55,7 +55,8 @@ const TOO_LARGE: DumpFault = DumpFault {
 
 /// How a run ends on a dump that is not loaded.
 fn load_fault(fault: DumpFault) -> RunFault
-    ensures end { (known : Option (List ℕ)) → IfSome known (λ bytes. IsFirstFault fault (loaded bytes))
+    ensures end { (known : Option (List ℕ))
+        → IfSome known (λ bytes. IsFirstFault fault (loaded bytes))
         → IsDumpEnd known result }
     ensures read { result ≢ RunFault.Read }
 {
@@ -74,7 +75,8 @@ pub(crate) fn read_script<A: Allocator + Copy, S: Read>(
     ensures whole { IfOk result (λ text. IsAll (S.remaining (inner_of script.old)) text.items) }
     ensures within { IfOk result (λ text. vec_len text ≤ SCRIPT_LIMIT) }
     ensures at_end { OnOk result (IsAtEnd (S.remaining (inner_of script.new))) }
-    ensures fault { IfErr result (IsScriptEnd (IsLonger (S.remaining (inner_of script.old)) SCRIPT_LIMIT)) }
+    ensures fault { IfErr result
+        (IsScriptEnd (IsLonger (S.remaining (inner_of script.old)) SCRIPT_LIMIT)) }
     ensures failed { (result ≡ Err RunFault.Read) ↔ (has_failed script.new ≡ true) }
     ensures bounded { ConsumesAtMost (S.remaining (inner_of script.old))
         (S.remaining (inner_of script.new)) 1048577 }

@@ -29,10 +29,12 @@ pub(crate) fn write_end<W: Write, D: Write>(
 ) -> Result<(), WriteFault>
     requires replies_open { has_failed replies.old ≡ false }
     requires out_open { has_failed out.old ≡ false }
-    ensures replies { Keeps (W.contents (inner_of replies.old)) (W.contents (inner_of replies.new)) }
+    ensures replies { Keeps (W.contents (inner_of replies.old))
+        (W.contents (inner_of replies.new)) }
     ensures whole { OnOk result
         (Appends (D.contents (inner_of out.old)) (D.contents (inner_of out.new)) dump.now) }
-    ensures prefix { AppendsPrefix (D.contents (inner_of out.old)) (D.contents (inner_of out.new)) dump.now }
+    ensures prefix { AppendsPrefix (D.contents (inner_of out.old))
+        (D.contents (inner_of out.new)) dump.now }
     ensures failed { IsErr result ↔ ((has_failed replies.new || has_failed out.new) ≡ true) }
 {
     write_whole(out, dump)?;

@@ -38,22 +38,26 @@ pub fn run<A: Allocator + Copy, R: Read, S: Read, W: Write, D: Write>(
     requires out_open { has_any_failed (at_call out) ≡ false }
 
     // What is written, where the bytes of both inputs are known.
-    ensures replies { OnOk result (IfBoth (R.remaining (inner_of dump.old)) (S.remaining (inner_of script.old))
+    ensures replies { OnOk result
+        (IfBoth (R.remaining (inner_of dump.old)) (S.remaining (inner_of script.old))
         (λ bytes script. Appends (W.contents (inner_of replies.old))
         (W.contents (inner_of replies.new))
         (run_text bytes script))) }
-    ensures out { OnOk result (IfBoth (R.remaining (inner_of dump.old)) (S.remaining (inner_of script.old))
+    ensures out { OnOk result
+        (IfBoth (R.remaining (inner_of dump.old)) (S.remaining (inner_of script.old))
         (λ bytes script. Appends (contents_of D.contents (at_call out.entry))
         (contents_of D.contents (at_return out.exit))
         (final_dump bytes script))) }
     ensures summary { IfOk result
         (λ summary. IfBoth (R.remaining (inner_of dump.old)) (S.remaining (inner_of script.old))
         (λ bytes script. IsSummaryOf (run_answers bytes script) summary)) }
-    ensures replies_prefix { IfBoth (R.remaining (inner_of dump.old)) (S.remaining (inner_of script.old))
+    ensures replies_prefix { IfBoth (R.remaining (inner_of dump.old))
+        (S.remaining (inner_of script.old))
         (λ bytes script. AppendsPrefix (W.contents (inner_of replies.old))
         (W.contents (inner_of replies.new))
         (run_text bytes script)) }
-    ensures out_prefix { IfBoth (R.remaining (inner_of dump.old)) (S.remaining (inner_of script.old))
+    ensures out_prefix { IfBoth (R.remaining (inner_of dump.old))
+        (S.remaining (inner_of script.old))
         (λ bytes script. AppendsPrefix (contents_of D.contents (at_call out.entry))
         (contents_of D.contents (at_return out.exit)) (final_dump bytes script)) }
 
@@ -63,7 +67,8 @@ pub fn run<A: Allocator + Copy, R: Read, S: Read, W: Write, D: Write>(
         (IfSome (S.remaining (inner_of script.old)) (λ script. length script ≤ 1048576)) }
     ensures faults { IfErr result
         (MayEndRun (R.remaining (inner_of dump.old)) (S.remaining (inner_of script.old))) }
-    ensures read { (result ≡ Err RunFault.Read) ↔ ((has_failed dump.new || has_failed script.new) ≡ true) }
+    ensures read { (result ≡ Err RunFault.Read)
+        ↔ ((has_failed dump.new || has_failed script.new) ≡ true) }
     ensures write { (result ≡ Err RunFault.Write)
         ↔ ((has_failed replies.new || has_any_failed (at_return out.exit)) ≡ true) }
 
@@ -107,7 +112,8 @@ fn answer_all<A: Allocator + Copy, R: Read, S: Read, W: Write>(
     requires dump_open { has_failed dump.old ≡ false }
     requires script_open { has_failed script.old ≡ false }
     requires replies_open { has_failed replies.old ≡ false }
-    ensures replies { OnOk result (IfBoth (R.remaining (inner_of dump.old)) (S.remaining (inner_of script.old))
+    ensures replies { OnOk result
+        (IfBoth (R.remaining (inner_of dump.old)) (S.remaining (inner_of script.old))
         (λ bytes script. Appends (W.contents (inner_of replies.old))
         (W.contents (inner_of replies.new))
         (run_text bytes script))) }
@@ -126,7 +132,8 @@ fn answer_all<A: Allocator + Copy, R: Read, S: Read, W: Write>(
         (IfSome (S.remaining (inner_of script.old)) (λ script. length script ≤ 1048576)) }
     ensures faults { IfErr result
         (MayEndRun (R.remaining (inner_of dump.old)) (S.remaining (inner_of script.old))) }
-    ensures read { (result ≡ Err RunFault.Read) ↔ ((has_failed dump.new || has_failed script.new) ≡ true) }
+    ensures read { (result ≡ Err RunFault.Read)
+        ↔ ((has_failed dump.new || has_failed script.new) ≡ true) }
     ensures write { (result ≡ Err RunFault.Write) ↔ (has_failed replies.new ≡ true) }
     ensures script_untouched { IfSome (R.remaining (inner_of dump.old))
         (λ bytes. IsErr (loaded bytes) → script.new ≡ script.old) }

@@ -91,10 +91,12 @@ fn answer_line<A: Allocator + Copy, W: Write>(
     ensures refused { OnOk result
         (summary.new.refused ≡ summary.old.refused + refused_count
         (answer_to (sessions_of branches.old) (meaning line.now))) }
-    ensures prefix { AppendsPrefix (W.contents (inner_of replies.old)) (W.contents (inner_of replies.new))
+    ensures prefix { AppendsPrefix (W.contents (inner_of replies.old))
+        (W.contents (inner_of replies.new))
         (text_of (answer_to (sessions_of branches.old) (meaning line.now))) }
     ensures failed { (result ≡ Err RunFault.Write) ↔ (has_failed replies.new ≡ true) }
-    ensures memory { has_failed replies.new ≡ false → IfErr result (λ fault. fault ≡ RunFault.OutOfMemory) }
+    ensures memory { has_failed replies.new ≡ false
+        → IfErr result (λ fault. fault ≡ RunFault.OutOfMemory) }
 {
     let Some(told) = execute_line(alloc, branches, line)? else {
         return Ok(());
@@ -128,10 +130,12 @@ pub(crate) fn answer_script<A: Allocator + Copy, W: Write>(
     ensures refused { IfOk result
         (λ summary. summary.refused ≡ refused_count
         (answers (sessions_of branches.old) (lines_of script.now))) }
-    ensures prefix { AppendsPrefix (W.contents (inner_of replies.old)) (W.contents (inner_of replies.new))
+    ensures prefix { AppendsPrefix (W.contents (inner_of replies.old))
+        (W.contents (inner_of replies.new))
         (text_of (answers (sessions_of branches.old) (lines_of script.now))) }
     ensures failed { (result ≡ Err RunFault.Write) ↔ (has_failed replies.new ≡ true) }
-    ensures memory { has_failed replies.new ≡ false → IfErr result (λ fault. fault ≡ RunFault.OutOfMemory) }
+    ensures memory { has_failed replies.new ≡ false
+        → IfErr result (λ fault. fault ≡ RunFault.OutOfMemory) }
 {
     let mut summary = Summary {
         commands: 0,

@@ -13,7 +13,8 @@ const EDITS: &[(&str, &str)] = &[
     ),
     (
         "cost 255.255.255.255 10.9.0.1 65535 65535",
-        "Cost { area: AreaId(4294967295), router: RouterId(168361985), link: 65535, metric: 65535 }",
+        "Cost { area: AreaId(4294967295), router: RouterId(168361985), link: 65535, \
+            metric: 65535 }",
     ),
     (
         "drop-link 0.0.0.0 1.1.1.1 2",

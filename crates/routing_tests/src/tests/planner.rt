@@ -56,8 +56,8 @@ fn is_of_dump<A: Allocator + Copy>(
     Ok(same_routes(table.routes().as_slice(), fresh.routes().as_slice()))
 }
 
-/// Asks for a table, and tells whether it is refused. A table that is not that of a fresh planner of
-/// the dumped database is a failure.
+/// Asks for a table, and tells whether it is refused. A table that is not that of a fresh planner
+/// of the dumped database is a failure.
 pub(super) fn is_table_refused<A: Allocator + Copy>(
     planner: &mut Planner<A>,
     alloc: Global,

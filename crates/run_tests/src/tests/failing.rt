@@ -7,8 +7,8 @@ use std::alloc::Global;
 use std::test::*;
 use whole_run::{RunFault, SAMPLE, Summary};
 
-/// An edit, lines without reply, a line that is no command, a refused edit and a refused undo, and an
-/// undo.
+/// An edit, lines without reply, a line that is no command, a refused edit and a refused undo, and
+/// an undo.
 const SCRIPT: &[u8] =
     b"cost 0.0.0.0 1.1.1.1 1 65535\n# note\n\nfrob\ncost 0.0.0.0 1.1.1.1 1 0\nundo 2\nundo 1";
 
