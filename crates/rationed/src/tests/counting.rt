@@ -1,0 +1,79 @@
+//! Growths that are granted, counted and refused.
+
+use crate::Rationed;
+use std::alloc::{AllocError, Allocator};
+
+/// More pushes than the tests' growths need: a list doubles.
+const PUSHES: u64 = 4_096;
+
+/// Pushes onto a list that starts with room for one, and counts the blocks that it got until the
+/// first refusal.
+fn blocks_until_refusal<A: Allocator + Copy>(alloc: A) -> u64 {
+    let Ok(mut list) = Vec::with_capacity(alloc, 1) else {
+        return 0;
+    };
+    let mut blocks: u64 = 1;
+    for number in 0..PUSHES {
+        let room = list.capacity();
+        if list.push(number).is_err() {
+            return blocks;
+        }
+        if list.capacity() > room {
+            blocks = blocks.wrapping_add(1);
+        }
+    }
+    blocks
+}
+
+/// Makes two lists at one handle, and frees both.
+fn make_two<A: Allocator + Copy>(alloc: A) -> Result<(), AllocError> {
+    let mut first = Vec::with_capacity(alloc, 4)?;
+    let mut second = Vec::with_capacity(alloc, 4)?;
+    first.push(1u32)?;
+    second.push(2u32)?;
+    Ok(())
+}
+
+#[test]
+fn grants_so_many_growths_and_refuses_the_next(rt: HostRuntime) {
+    for granted in 0..6u64 {
+        let rationed = Rationed::new(rt.alloc(), granted);
+        assert_eq!(rt;
+            blocks_until_refusal(&rationed),
+            granted,
+            "with {granted} left"
+        );
+        assert_eq!(rt; rationed.left(), 0, "with {granted} left");
+    }
+}
+
+#[test]
+fn counts_down(rt: HostRuntime) -> Result<(), AllocError> {
+    let rationed = Rationed::new(rt.alloc(), 4);
+    assert_eq!(rt; rationed.left(), 4);
+    let mut list = Vec::with_capacity(&rationed, 2)?;
+    assert_eq!(rt; rationed.left(), 3);
+    list.push(1u64)?;
+    list.push(2)?;
+    assert_eq!(rt; rationed.left(), 3, "two fit");
+    list.push(3)?;
+    assert_eq!(rt; rationed.left(), 2, "the third is a growth");
+    let other: Vec<u8, &Rationed> = Vec::with_capacity(&rationed, 1)?;
+    assert_eq!(rt; rationed.left(), 1, "two lists share the count");
+    drop(other);
+    drop(list);
+    assert_eq!(rt; rationed.left(), 1, "a freed block adds nothing");
+    Ok(())
+}
+
+#[test]
+fn counts_as_often_as_it_is_copied(rt: HostRuntime) -> Result<(), AllocError> {
+    let rationed = Rationed::new(rt.alloc(), 3);
+    make_two(&rationed)?;
+    assert_eq!(rt; rationed.left(), 1);
+    assert!(rt; make_two(&rationed).is_err());
+    assert_eq!(rt; rationed.left(), 0);
+    assert!(rt; make_two(&rationed).is_err(), "it goes on refusing");
+    assert_eq!(rt; rationed.left(), 0);
+    Ok(())
+}
