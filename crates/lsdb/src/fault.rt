@@ -41,7 +41,7 @@ pub enum DumpFaultKind {
     TooLarge,
     /// A growth was refused.
     OutOfMemory,
-    /// A line of the history of a session, counted from 1, is not as it was saved. A database is
+    /// A line of the history of a session, counted from 0, is not as it was saved. A database is
     /// never refused so.
     BadHistory(u16),
 }
@@ -130,11 +130,11 @@ impl fmt::Display for DumpFault {
     fn fmt<W: fmt::Write>(&self, f: &mut fmt::Formatter<W>) -> fmt::Result {
         let (code, name) = (self.kind.code(), self.kind.name());
         let offset = Decimal(self.offset as u64);
-        let DumpFaultKind::BadHistory(index) = self.kind else {
-            return write!(f, "{code} {name} at {offset}");
-        };
-        let index = Decimal(index as u64);
-        write!(f, "{code} {name} {index} at {offset}")
+        if let DumpFaultKind::BadHistory(line) = self.kind {
+            let line = Decimal(line as u64);
+            return write!(f, "{code} {name} {line} at {offset}");
+        }
+        write!(f, "{code} {name} at {offset}")
     }
 }
 

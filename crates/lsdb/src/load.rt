@@ -262,7 +262,7 @@ impl<A: Allocator + Copy> Database<A> {
     ///
     /// Of several faults the first from front to back is told; `TooLarge` comes before all others,
     /// and `OutOfMemory` may stand in place of any.
-    #[tactic(auto, using(crate::proofs::Told::first_told))]
+    #[tactic(auto, using(crate::proofs::FirstFault::first_told))]
     pub fn load(alloc: A, bytes: &[u8]) -> Result<Database<A>, DumpFault>
         // What is loaded is spelled so.
         ensures database { IfOk result (λ db. IsDatabase (lists_of db)) }
