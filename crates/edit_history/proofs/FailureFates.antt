@@ -20,12 +20,13 @@ use Rattle.lsdb.specs.declared.section.Section.{Section}
 use Rattle.lsdb.specs.declared.slot.SlotId.{SlotId}
 use Rattle.lsdb.specs.Lists.{AreaHead, SectionLsas, IsBefore, IsDatabase, heads_of, has_key, is_head_of, is_section}
 use Rattle.lsdb.specs.Places.{Place, Places, SectionPlaces, item_at, slot_at, section_of, lists_of, places_in, places_or_none, head_or_none, IsNamed}
+use Rattle.lsdb.proofs.KeyLemmas.{same_key_true}
 use Rattle.lsdb.proofs.ListLemmas.{pairs_head, pairs_tail}
 use Rattle.edit_history.specs.Rules.{Fate, Fates, stays, by_fates, within, section_name}
 use Rattle.edit_history.specs.Effect.{is_network, cut, link_fate, net_fate, router_fate}
 use Rattle.edit_history.specs.Exchange.{SwapData}
 use Rattle.edit_history.specs.steps.Plans.{slot_of, swap_for, section_swaps, swaps_from, place_swap}
-use Rattle.edit_history.proofs.Keys.{same_key_true, found_passes, head_before, head_after, name_is}
+use Rattle.edit_history.proofs.Keys.{found_passes, head_before, head_after, name_is}
 use Rattle.edit_history.proofs.Searches.{here, place_there}
 use Rattle.edit_history.proofs.RulesCarriedOut.{CarriesOutRule}
 use Rattle.edit_history.proofs.FatesByPlace.{IsSafeFate, IsSafe, fates_carried_out}

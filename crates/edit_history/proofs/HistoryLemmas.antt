@@ -16,7 +16,7 @@ use Rattle.edit_history.specs.Session.{Session, session_of, edits_of, edited, ac
 use Rattle.edit_history.proofs.Growing.{grown_stays}
 pub use Rattle.edit_history.proofs.Folding.{done_accepted, undone_accepted}
 pub use Rattle.edit_history.proofs.Growing.{state_is, recorded}
-pub use Rattle.edit_history.proofs.Keys.{found_passes, other_key, same_key_true}
+pub use Rattle.edit_history.proofs.Keys.{found_passes}
 pub use Rattle.edit_history.proofs.Linked.{done_len, undone_len, reverse_cons}
 pub use Rattle.edit_history.proofs.Returning.{edits_back, back_and_on, on_and_back, seam_drop, seam_take}
 pub use Rattle.edit_history.proofs.RefreshApart.{refresh_touches_none}

@@ -2,42 +2,16 @@
 use Rattle.std.proofs.Common.{◌≡◌, ◌≢◌, ℕ, Bool, true, false, List, [], ◌∷◌, ◌++◌, map, Option, Some, None, refl, sym, ap, ◌∙◌, subst, arith, cond}
 use Rattle.std.specs.Prelude.{All, AllPairs}
 use Rattle.std.specs.List.{find}
-use Rattle.std.proofs.lemmas.Bool.{and_parts, and_from, eqb-true, eq-eqb, ne_eqb}
+use Rattle.std.proofs.lemmas.Bool.{eqb-true, ne_eqb}
 use Rattle.lsa_codec.specs.declared.address.AreaId.{AreaId}
 use Rattle.lsa_codec.specs.declared.key.Key.{Key}
 use Rattle.lsa_codec.specs.Key.{key_of}
 use Rattle.lsdb.specs.declared.section.Section.{Section}
 use Rattle.lsdb.specs.declared.section.Section.TheVariants.{Area, AsWide}
-use Rattle.lsdb.specs.Lists.{AreaHead, SectionLsas, Lists, same_key, has_key, is_head_of, IsBefore}
+use Rattle.lsdb.specs.Lists.{AreaHead, SectionLsas, Lists, has_key, is_head_of, IsBefore}
+use Rattle.lsdb.proofs.KeyLemmas.{other_key}
 use Rattle.lsdb.proofs.ListLemmas.{pairs_before, pairs_after, map_mid, all_map}
 use Rattle.edit_history.specs.Rules.{section_name}
-
-key_from : (k l i j a b : ℕ) → k ≡ l → i ≡ j → a ≡ b → let p : Key = record { kind = k; id = record { 0 = i }; adv = record { 0 = a } } in
-    let q : Key = record { kind = l; id = record { 0 = j }; adv = record { 0 = b } } in p ≡ q
-key_from k l i j a b e f g = rw (e, f, g) refl
-
-pub same_key_true : (a b : Key) → same_key a b ≡ true → a ≡ b
-same_key_true a b e =
-    let p = and_parts _ _ e in
-    let q = and_parts _ _ p.1 in
-    let kind : a.kind ≡ b.kind = eqb-true _ _ p.0 in
-    let id : a.id.0 ≡ b.id.0 = eqb-true _ _ q.0 in
-    let adv : a.adv.0 ≡ b.adv.0 = eqb-true _ _ q.1 in
-    key_from a.kind b.kind a.id.0 b.id.0 a.adv.0 b.adv.0 kind id adv
-
-false_unless : (b : Bool) → (b ≡ true → ⊥) → b ≡ false
-false_unless true h = absurd (h refl)
-false_unless false h = refl
-
--- an LSA of another key
-pub other_key : (key : Key) (lsa : List ℕ) → key_of lsa ≢ key → has_key key lsa ≡ false
-other_key key lsa apart = false_unless (has_key key lsa) (λ e. apart (same_key_true (key_of lsa) key e))
-
--- an LSA has its own key
-pub own_key : (key : Key) (lsa : List ℕ) → key_of lsa ≡ key → has_key key lsa ≡ true
-own_key key lsa same =
-    and_from _ _ (eq-eqb _ _ (ap (λ (k : Key). k.kind) same))
-    (and_from _ _ (eq-eqb _ _ (ap (λ (k : Key). k.id.0) same)) (eq-eqb _ _ (ap (λ (k : Key). k.adv.0) same)))
 
 -- what was found passes
 pub found_passes : {X : Type 0} (p : X → Bool) (xs : List X) (x : X) → find p xs ≡ Some x → p x ≡ true

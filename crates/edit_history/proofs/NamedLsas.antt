@@ -12,11 +12,12 @@ use Rattle.lsdb.specs.declared.section.Section.TheVariants.{Area}
 use Rattle.lsdb.specs.declared.slot.SlotId.{SlotId}
 use Rattle.lsdb.specs.Lists.{SectionLsas, Lists, is_section, has_key, lsas_of}
 use Rattle.lsdb.specs.Places.{Place, Places, slot_at, lists_of, lsas_or_none, IsNamed, IsPlaceOf}
+use Rattle.lsdb.proofs.KeyLemmas.{same_key_true}
 use Rattle.edit_history.specs.declared.fault.EditFault.{EditFault}
 use Rattle.edit_history.specs.declared.fault.EditFault.TheVariants.{NoArea, NoRouter, OutOfMemory}
 use Rattle.edit_history.specs.Effect.{router_lsa_in, router_lsa_of, area_of, or_refused, ◌>>=◌}
 use Rattle.edit_history.specs.steps.Plans.{IsFirstLsa}
-use Rattle.edit_history.proofs.Keys.{same_key_true, found_passes}
+use Rattle.edit_history.proofs.Keys.{found_passes}
 
 -- ---- the area
 

@@ -8,6 +8,7 @@ use Rattle.lsdb.specs.declared.section.Section.{Section}
 use Rattle.lsdb.specs.declared.slot.SlotId.{SlotId}
 use Rattle.lsdb.specs.Lists.{AreaHead, Lists, IsDatabase, IsSection, IsBefore, heads_of, is_section, is_head_of}
 use Rattle.lsdb.specs.Places.{Place, Places, slot_at, put, lists_of, IsNamed}
+use Rattle.lsdb.proofs.KeyLemmas.{own_key}
 use Rattle.lsdb.proofs.PlaceLemmas.{slot_at-put}
 use Rattle.lsdb.proofs.ListLemmas.{all_at_mid}
 use Rattle.lsdb.proofs.PlaceLemmas.{section_with, between}
@@ -16,7 +17,7 @@ use Rattle.edit_history.specs.Rules.{Fate, stays, Change, section_name, one_lsa,
 use Rattle.edit_history.specs.Effect.{rule_of}
 use Rattle.edit_history.specs.Exchange.{SwapData}
 use Rattle.edit_history.specs.Applied.{Planned}
-use Rattle.edit_history.proofs.Keys.{own_key, found_passes, only_key, only_section, name_is}
+use Rattle.edit_history.proofs.Keys.{found_passes, only_key, only_section, name_is}
 use Rattle.edit_history.proofs.RuleOutcomes.{TouchesOne, fate_of, one_after, one_change}
 use Rattle.edit_history.proofs.RulesCarriedOut.{CarriesOutRule, planned_here}
 

@@ -3,7 +3,6 @@ use Rattle.std.proofs.Common.{◌≡◌, ◌≢◌, ℕ, zero, suc, ◌+◌, ◌
 use Rattle.std.proofs.Common.{sym, ap, ◌∙◌, subst, arith, cond, length-append}
 use Rattle.std.specs.Prelude.{All, AllPairs}
 use Rattle.std.specs.List.{find, sum_by}
-use Rattle.std.proofs.lemmas.Bool.{and_from, eq-eqb}
 use Rattle.std.proofs.lemmas.List.{length-map}
 use Rattle.std.proofs.lemmas.List.Sums.{sum_by-cons, sum_by-append}
 use Rattle.std.proofs.lemmas.List.Elements.{All-nil, All-cons, All-head, All-tail, All-append}
@@ -15,6 +14,7 @@ use Rattle.lsdb.specs.Limits.{longest_dump}
 use Rattle.lsdb.specs.Lists.{AreaHead, SectionLsas, Lists, AreKeys, IsSection, AreHeads, IsDatabase, is_in_scope, limit_of, lsas_size, section_size}
 use Rattle.lsdb.specs.Lists.{size, heads_of, has_key}
 use Rattle.lsdb.specs.Places.{Place, Places, update_at, item_at, put, put_place, open_at, full, section_of, lists_of, places_in}
+use Rattle.lsdb.proofs.KeyLemmas.{own_key}
 use Rattle.lsdb.proofs.Middle.{all_mid, map_mid, map_two}
 use Rattle.lsdb.proofs.Dominated.{size_around}
 
@@ -49,9 +49,7 @@ no_key key (x ∷ xs) e = by_test (has_key key x) refl (no_key key xs) e where
   by_test false is more e = All-cons (λ k. k ≢ key) (key_of x) (map key_of xs) (apart is) (more e) where
     apart : has_key key x ≡ false → key_of x ≢ key
     apart is same =
-        let yes' : has_key key x ≡ true =
-        and_from _ _ (eq-eqb _ _ (ap (λ (k : Key). k.kind) same))
-        (and_from _ _ (eq-eqb _ _ (ap (λ (k : Key). k.id.0) same)) (eq-eqb _ _ (ap (λ (k : Key). k.adv.0) same))) in
+        let yes' : has_key key x ≡ true = own_key key x same in
         absurd (let no' : true ≡ false = sym yes' ∙ is in cc)
 
 pairs_push : (ks : List Key) (k : Key) → AllPairs (λ a b. a ≢ b) ks → All (λ j. j ≢ k) ks → AllPairs (λ a b. a ≢ b) (ks ++ k ∷ [])

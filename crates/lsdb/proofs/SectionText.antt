@@ -4,7 +4,7 @@ use Rattle.std.proofs.Common.{Result, Ok, Err, refl, sym, ap, subst, ◌∙◌, 
 use Rattle.std.specs.Prelude.{All, AllPairs}
 use Rattle.std.specs.List.{concat, list_any}
 use Rattle.std.specs.Int.{w16, to_be_bytes}
-use Rattle.std.proofs.lemmas.Bool.{ltb-false, le-ltb, eqb-true, eq-eqb, and_parts, and_from, or_parts, false_from_ne_true}
+use Rattle.std.proofs.lemmas.Bool.{ltb-false, le-ltb, or_parts}
 use Rattle.std.proofs.lemmas.List.{append-nil, drop_at, length-append, length-map, map_push}
 use Rattle.std.proofs.lemmas.List.Elements.{All-nil, All-cons, All-head, All-tail, All-push}
 use Rattle.std.proofs.lemmas.List.Quantifiers.{all_pairs_push}
@@ -17,8 +17,9 @@ use Rattle.lsa_codec.specs.Decoding.{decoded}
 use Rattle.lsa_codec.proofs.LsaLemmas.{decoded_again, decoded_front}
 use Rattle.lsdb.specs.declared.fault.DumpFault.{DumpFault}
 use Rattle.lsdb.specs.declared.fault.DumpFaultKind.TheVariants.{WrongSection, DuplicateLsa, TooManyLsas}
-use Rattle.lsdb.specs.Lists.{AreaHead, SectionLsas, IsSection, is_in_scope, limit_of, same_key, has_key}
+use Rattle.lsdb.specs.Lists.{AreaHead, SectionLsas, IsSection, is_in_scope, limit_of, has_key}
 use Rattle.lsdb.specs.Loading.{◌>>=◌, At, number_at, advanced, has_key_of, placed, lsa_at, lsas_from, counted_at, section_at}
+use Rattle.lsdb.proofs.KeyLemmas.{other_key, own_key}
 use Rattle.lsdb.proofs.Middle.{all_at_mid, pairs_before, map_mid}
 use Rattle.lsdb.proofs.Dominated.{section_with}
 use Rattle.lsdb.proofs.Written.{limit_fits}
@@ -27,33 +28,18 @@ use Rattle.lsdb.proofs.Fields.{number_again, here}
 
 -- ---- keys
 
-key_from : (k l i j a b : ℕ) → k ≡ l → i ≡ j → a ≡ b → let p : Key =
-    record { kind = k; id = record { 0 = i }; adv = record { 0 = a } } in
-    let q : Key = record { kind = l; id = record { 0 = j }; adv = record { 0 = b } } in p ≡ q
-key_from k l i j a b e f g = rw (e, f, g) refl
-
-same_key_true : (a b : Key) → same_key a b ≡ true → a ≡ b
-same_key_true a b e =
-    let p = and_parts _ _ e in
-    let q = and_parts _ _ p.1 in
-    key_from a.kind b.kind a.id.0 b.id.0 a.adv.0 b.adv.0 (eqb-true _ _ p.0) (eqb-true _ _ q.0) (eqb-true _ _ q.1)
-
-same_key_from : (a b : Key) → a ≡ b → same_key a b ≡ true
-same_key_from a b e =
-    and_from _ _ (eq-eqb _ _ (ap (λ (k : Key). k.kind) e)) (and_from _ _ (eq-eqb _ _ (ap (λ (k : Key). k.id.0) e)) (eq-eqb _ _ (ap (λ (k : Key). k.adv.0) e)))
-
 -- no LSA has the key
 key_apart : (key : Key) (xs : List (List ℕ)) → list_any (has_key key) xs ≡ false → All (λ k. k ≢ key) (map key_of xs)
 key_apart key [] e = All-nil (λ k. k ≢ key)
 key_apart key (x ∷ xs) e =
     let p = or_parts _ _ e in
     All-cons (λ k. k ≢ key) (key_of x) (map key_of xs)
-    (λ same. let yes_it = same_key_from (key_of x) key same in let contrary : true ≡ false = sym yes_it ∙ p.0 in absurd cc) (key_apart key xs p.1)
+    (λ same. let yes_it = own_key key x same in let contrary : true ≡ false = sym yes_it ∙ p.0 in absurd cc) (key_apart key xs p.1)
 
 key_absent : (key : Key) (xs : List (List ℕ)) → All (λ k. k ≢ key) (map key_of xs) → list_any (has_key key) xs ≡ false
 key_absent key [] h = refl
 key_absent key (x ∷ xs) h =
-    let first : has_key key x ≡ false = false_from_ne_true _ (λ e. All-head (λ k. k ≢ key) (key_of x) (map key_of xs) h (same_key_true (key_of x) key e)) in
+    let first : has_key key x ≡ false = other_key key x (All-head (λ k. k ≢ key) (key_of x) (map key_of xs) h) in
     rw first (key_absent key xs (All-tail (λ k. k ≢ key) (key_of x) (map key_of xs) h))
 
 -- ---- the LSAs of a section, of any number

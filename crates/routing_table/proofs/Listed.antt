@@ -6,7 +6,7 @@ use Rattle.std.specs.Cmp.{Equal-is, unsigned_ties}
 use Rattle.std.specs.List.{AllPairs, Contains, filter_map, find}
 use Rattle.std.specs.Option.{option_map_or}
 use Rattle.std.specs.Ordering.{eq_by_cmp}
-use Rattle.std.proofs.lemmas.Bool.{and_from, and_parts, eq-eqb, eqb-true, false_from_ne_true}
+use Rattle.std.proofs.lemmas.Bool.{and_from, and_parts, eq-eqb, eqb-true}
 use Rattle.std.proofs.lemmas.List.Elements.{All-contains}
 use Rattle.std.proofs.lemmas.Map.Views.{Contains-from_any}
 use Rattle.lsa_codec.specs.declared.address.RouterId.{RouterId}
@@ -14,7 +14,8 @@ use Rattle.lsa_codec.specs.declared.key.Key.{Key}
 use Rattle.lsa_codec.specs.Accepted.{IsAccepted}
 use Rattle.lsa_codec.specs.Fields.{kind_of, link_state_id_of, advertising_router_of}
 use Rattle.lsa_codec.specs.Key.{key_of, router_key}
-use Rattle.lsdb.specs.Lists.{IsDatabase, Lists, areas_of, has_key, same_key}
+use Rattle.lsdb.specs.Lists.{IsDatabase, Lists, areas_of, has_key}
+use Rattle.lsdb.proofs.KeyLemmas.{other_key, same_key_true}
 use Rattle.lsdb.proofs.ListLemmas.{pairs_head, pairs_tail}
 use Rattle.area_graph.specs.Area.{is_live, is_router_lsa}
 use Rattle.area_graph.specs.Graphs.{AreOfArea}
@@ -63,20 +64,6 @@ rising-In rs router there =
     (In-from_Contains (rising router_cmp rs) router there) (same_self router)))
 
 -- ---- the router-LSA of a router
-
-key_from : (k l i j a b : ℕ) → k ≡ l → i ≡ j → a ≡ b → let p : Key = record { kind = k; id = record { 0 = i }; adv = record { 0 = a } } in
-    let q : Key = record { kind = l; id = record { 0 = j }; adv = record { 0 = b } } in p ≡ q
-key_from k l i j a b e f g = rw (e, f, g) refl
-
-same_key_true : (a b : Key) → same_key a b ≡ true → a ≡ b
-same_key_true a b e =
-    let p = and_parts _ _ e in
-    let q = and_parts _ _ p.1 in
-    key_from a.kind b.kind a.id.0 b.id.0 a.adv.0 b.adv.0 (eqb-true _ _ p.0) (eqb-true _ _ q.0) (eqb-true _ _ q.1)
-
--- an LSA of another key
-other_key : (key : Key) (lsa : List ℕ) → key_of lsa ≢ key → has_key key lsa ≡ false
-other_key key lsa apart = false_from_ne_true _ (λ e. apart (same_key_true (key_of lsa) key e))
 
 -- the only LSA of a key is found
 find_only : (key : Key) (lsas : List (List ℕ)) (lsa : List ℕ) → AllPairs (λ a b. key_of a ≢ key_of b) lsas
