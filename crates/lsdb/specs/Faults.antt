@@ -48,7 +48,7 @@ fault_name TooLarge = codes "TooLarge"
 fault_name OutOfMemory = codes "OutOfMemory"
 fault_name (BadHistory index) = codes "BadHistory"
 
--- which line of the history, behind its word
+-- which line of the history, counted from 0, behind its word
 abbrev pub fault_index : DumpFaultKind → List ℕ
 fault_index (BadHistory index) = codes " " ++ decimal index
 fault_index _ = []
