@@ -157,10 +157,16 @@ class Area:
                 return f"cost {dotted(self.ident)} {dotted(router)} {chance.choice(numbers)} {cost}"
 
 
-def one_area(size: int, chance: random.Random) -> Area:
+def area_of(size: int, step: int, chance: random.Random) -> Area:
+    """A backbone of so many routers without links, with IDs from 1.0.0.1 in such steps."""
     area = Area(0, chance)
     for place in range(size):
-        area.add_router(0x01000001 + 0x101 * place)
+        area.add_router(0x01000001 + step * place)
+    return area
+
+
+def one_area(size: int, chance: random.Random) -> Area:
+    area = area_of(size, 0x101, chance)
     area.attach(chance.uniform(4.5, 5.5))
     for place, router in enumerate(area.routers()):
         area.add_stub(router, 0xC0A80000 + place, 32, chance.choice([0, 1]))
@@ -171,9 +177,7 @@ def one_area(size: int, chance: random.Random) -> Area:
 
 
 def chain(size: int, chance: random.Random) -> Area:
-    area = Area(0, chance)
-    for place in range(size):
-        area.add_router(0x01000001 + place)
+    area = area_of(size, 1, chance)
     routers = area.routers()
     for one, other in zip(routers, routers[1:]):
         area.join(one, other, 65535, 65535)
@@ -183,9 +187,7 @@ def chain(size: int, chance: random.Random) -> Area:
 
 
 def mesh(size: int, chance: random.Random) -> Area:
-    area = Area(0, chance)
-    for place in range(size):
-        area.add_router(0x01000001 + place)
+    area = area_of(size, 1, chance)
     routers = area.routers()
     for place, router in enumerate(routers):
         for other in routers[:place]:
@@ -242,15 +244,21 @@ class SeveralAreas:
             found[router] = area
         return sorted(found.items())
 
+    def dues_of(self, area: Area, distances: dict[tuple[str, int], int]) -> dict[tuple[int, Prefix], int]:
+        """The metrics due for an area's networks (type 3) and AS boundary routers (type 4), at these distances in it."""
+        dues = {(3, net): cost for net, cost in area.prefixes(distances).items()}
+        for asbr, home in self.boundary:
+            if home is area and ("router", asbr) in distances:
+                dues[4, (asbr, 0)] = distances["router", asbr]
+        return dues
+
     def add_summaries(self) -> None:
         """The summary-LSAs of each border router, with the metrics of RFC 2328, 12.4.3."""
         backbone = self.areas[0]
         told: dict[tuple[int, Prefix], list[tuple[int, int]]] = {}
         for router, area in self.border.items():
             distances = area.distances(router)
-            dues = {(3, net): cost for net, cost in area.prefixes(distances).items()}
-            dues |= {(4, (asbr, 0)): distances["router", asbr] for asbr, home in self.boundary if home is area and ("router", asbr) in distances}
-            for (kind, net), cost in sorted(dues.items()):
+            for (kind, net), cost in sorted(self.dues_of(area, distances).items()):
                 if cost < LS_INFINITY:
                     told.setdefault((kind, net), []).append((router, cost))
                     backbone.summaries.append((kind, net[0], router, net[1], cost))
@@ -262,8 +270,7 @@ class SeveralAreas:
         backbone = self.areas[0]
         distances = backbone.distances(router)
         own = set(area.prefixes(area.distances(router)))
-        dues = {(3, net): cost for net, cost in backbone.prefixes(distances).items()}
-        dues |= {(4, (asbr, 0)): distances["router", asbr] for asbr, home in self.boundary if home is backbone and ("router", asbr) in distances}
+        dues = self.dues_of(backbone, distances)
         homes = dict(self.boundary)
         for (kind, net), ways in told.items():
             costs = [distances["router", other] + cost for other, cost in ways if other != router and ("router", other) in distances]
