@@ -1,5 +1,7 @@
-//! Tests of whole runs and of branches: what no run of the program shows.
+//! Whole runs with all that their callers see, and tests of runs and of branches: what no run of
+//! the program shows.
 #![tactic(auto)]
 
+pub mod outcome;
 #[cfg(test)]
 mod tests;

@@ -50,15 +50,10 @@ fn runs_over_short_reads_and_writes(rt: HostRuntime) -> Result<(), Fail> {
 fn the_dump_fails_at_each_octet(rt: HostRuntime) -> Result<(), Fail> {
     for n in 0..SAMPLE.len() + 1 {
         let dump = source(SAMPLE, Some(n));
-        let (result, dump, _, replies) = run_without_out(
-            rt.alloc(),
-            dump,
-            SCRIPT,
-            Vec::new(rt.alloc()),
-        );
-        assert_eq!(rt; result, Err(RunFault::Read), "after {n} octets");
-        assert!(rt; dump.failed);
-        assert!(rt; replies.stream.is_empty());
+        let ended = run_without_out(rt.alloc(), dump, SCRIPT, Vec::new(rt.alloc()));
+        assert_eq!(rt; ended.result, Err(RunFault::Read), "after {n} octets");
+        assert!(rt; ended.dump.failed);
+        assert!(rt; ended.replies.stream.is_empty());
     }
     Ok(())
 }
@@ -112,9 +107,9 @@ fn the_written_dump_fails_at_each_octet(rt: HostRuntime) -> Result<(), Fail> {
 #[test]
 fn a_flush_fails(rt: HostRuntime) -> Result<(), Fail> {
     let replies = sink(rt.alloc(), NEVER, Failing::FlushErrs);
-    let (result, _, _, replies) = run_without_out(rt.alloc(), SAMPLE, SCRIPT, replies);
-    assert_eq!(rt; result, Err(RunFault::Write));
-    assert_eq!(rt; replies.stream.taken.as_slice(), REPLIES);
+    let ended = run_without_out(rt.alloc(), SAMPLE, SCRIPT, replies);
+    assert_eq!(rt; ended.result, Err(RunFault::Write));
+    assert_eq!(rt; ended.replies.stream.taken.as_slice(), REPLIES);
     Ok(())
 }
 
@@ -141,27 +136,22 @@ fn the_flush_of_the_written_dump_fails(rt: HostRuntime) -> Result<(), Fail> {
 #[test]
 fn an_endless_dump(rt: HostRuntime) -> Result<(), Fail> {
     let endless = Zeros { given: 0 };
-    let (result, dump, _, _) = run_without_out(rt.alloc(), endless, SCRIPT, Vec::new(rt.alloc()));
+    let ended = run_without_out(rt.alloc(), endless, SCRIPT, Vec::new(rt.alloc()));
     let fault = DumpFault {
         offset: 0,
         kind: DumpFaultKind::TooLarge,
     };
-    assert_eq!(rt; result, Err(RunFault::Dump(fault)));
-    assert_eq!(rt; dump.stream.given, 16_777_217);
+    assert_eq!(rt; ended.result, Err(RunFault::Dump(fault)));
+    assert_eq!(rt; ended.dump.stream.given, 16_777_217);
     Ok(())
 }
 
 #[test]
 fn an_endless_script(rt: HostRuntime) -> Result<(), Fail> {
     let endless = Zeros { given: 0 };
-    let (result, _, script, replies) = run_without_out(
-        rt.alloc(),
-        SAMPLE,
-        endless,
-        Vec::new(rt.alloc()),
-    );
-    assert_eq!(rt; result, Err(RunFault::TooLarge));
-    assert_eq!(rt; script.stream.given, 1_048_577);
-    assert!(rt; replies.stream.is_empty());
+    let ended = run_without_out(rt.alloc(), SAMPLE, endless, Vec::new(rt.alloc()));
+    assert_eq!(rt; ended.result, Err(RunFault::TooLarge));
+    assert_eq!(rt; ended.script.stream.given, 1_048_577);
+    assert!(rt; ended.replies.stream.is_empty());
     Ok(())
 }
