@@ -20,6 +20,10 @@ INFO = b"@0 info areas 1 lsas 2 as 0 vbits 0 vlinks 0 done 1 undone 0\n"
 USAGE = "\n\nUsage: ospf-plan [OPTIONS]\n\nFor more information, try '--help'.\n"
 
 
+# The number of the user and of the group without rights.
+NOBODY = 65534
+
+
 @dataclasses.dataclass
 class End:
     """One run: its words, where `FOLDER` stands for the folder of its files, and how it must end."""
@@ -29,11 +33,13 @@ class End:
     status: int
     error: str = ""
     replies: bytes | None = b""
-    stdin: bytes = b""
+    stdin: bytes | None = b""
     stdout: str = "pipe"
     # What must stand in the file `out` of the folder; `None` where there may be no such file.
     out: bytes | None = None
     memory: int | None = None
+    # Whether it is run by a user that may read and write none of the files.
+    as_nobody: bool = False
 
 
 def with_metric(metric: bytes, checksum: bytes) -> bytes:
@@ -71,7 +77,10 @@ ENDS = [
         replies=b"@0 ok\n", out=EDITED),
     End("the dump's own file as --out", "--dump FOLDER/out --out FOLDER/out", 0, replies=b"@0 ok\n", stdin=COST,
         out=EDITED),
+    End("the script's own file as --out", "--script FOLDER/out --out FOLDER/out", 0, replies=b"@0 ok\n", out=EDITED),
     End("an empty script and /dev/full as standard output", "", 0, stdout="full"),
+    End("standard input closed, and a script", "--script FOLDER/script --out FOLDER/out", 0, replies=b"@0 ok\n",
+        stdin=None, out=EDITED),
     End("--dump alone", "--dump FOLDER/edited", 0, replies=EDITED_TABLE, stdin=TABLE),
     End("--script alone", "--script FOLDER/script", 0, replies=b"@0 ok\n"),
     End("--out alone", "--out FOLDER/out", 0, replies=b"@0 ok\n", stdin=COST, out=EDITED),
@@ -111,9 +120,16 @@ ENDS = [
     End("no such script", "--script FOLDER/none --out FOLDER/out", 4, "file: Open script\n"),
     End("no such script for a refused dump", "--dump FOLDER/long --script FOLDER/none", 4, "file: Open script\n"),
     End("no such folder for --out", "--out FOLDER/none/out", 4, "file: Open out\n", replies=b"@0 ok\n", stdin=COST),
+    End("a dump that may not be read", "--dump FOLDER/locked", 4, "file: Open dump\n", as_nobody=True),
+    End("a script that may not be read", "--script FOLDER/locked", 4, "file: Open script\n", as_nobody=True),
+    End("a file as --out that may not be written", "--out FOLDER/locked", 4, "file: Open out\n", replies=b"@0 ok\n",
+        stdin=COST, as_nobody=True),
+    End("a folder for --out that may not be written", "--out FOLDER/out", 4, "file: Open out\n", replies=b"@0 ok\n",
+        stdin=COST, as_nobody=True),
     End("a folder as --out", "--out FOLDER", 4, "file: Open out\n", replies=b"@0 ok\n", stdin=COST),
     End("a folder as dump", "--dump FOLDER --out FOLDER/out", 4, "file: Read\n", stdin=COST),
     End("a folder as script", "--script FOLDER --out FOLDER/out", 4, "file: Read\n"),
+    End("standard input closed", "--out FOLDER/out", 4, "file: Read\n", stdin=None),
     End("an endless script", "--script /dev/zero --out FOLDER/out", 4, "file: TooLarge\n"),
     End("a script of 1,048,577 octets", "--out FOLDER/out", 4, "file: TooLarge\n", stdin=COMMENTS + b"#"),
     End("/dev/full as --out", "--out /dev/full", 4, "file: Write\n", replies=b"@0 ok\n", stdin=COST),
@@ -131,11 +147,15 @@ def make_files(folder: pathlib.Path, case: End) -> None:
     (folder / "edited").write_bytes(EDITED)
     (folder / "long").write_bytes(SAMPLE + b"\0")
     (folder / "short").write_bytes(SAMPLE[:98])
+    (folder / "locked").write_bytes(SAMPLE)
+    (folder / "locked").chmod(0)
     if case.memory is not None:
         with (folder / "large").open("wb") as large:
             large.truncate(16_777_216)
     if "--dump FOLDER/out" in case.words:
         (folder / "out").write_bytes(SAMPLE)
+    if "--script FOLDER/out" in case.words:
+        (folder / "out").write_bytes(COST)
 
 
 def standard_output(kind: str) -> int:
@@ -155,28 +175,57 @@ def before_run(case: End):
     def prepare() -> None:
         if case.stdout == "closed":
             os.close(1)
+        if case.stdin is None:
+            os.close(0)
         if case.memory is not None:
             resource.setrlimit(resource.RLIMIT_AS, (case.memory, case.memory))
+        if case.as_nobody and os.geteuid() == 0:
+            os.setgroups([])
+            os.setgid(NOBODY)
+            os.setuid(NOBODY)
 
     return prepare
+
+
+def built(program: str) -> str:
+    """The program itself, where this is the script that runs that of a clone."""
+    found = pathlib.Path(program).parent / "crates" / "ospf_plan" / "out" / "ospf_plan"
+    return str(found if found.exists() else program)
+
+
+def ended(case: End, program: str, folder: pathlib.Path, stdout: int) -> subprocess.CompletedProcess:
+    """The run of a case."""
+    words = [program] + [word.replace("FOLDER", str(folder)) for word in case.words.split()]
+    how = {"input": case.stdin, "stdout": stdout, "stderr": subprocess.PIPE, "timeout": 120,
+           "preexec_fn": before_run(case)}
+    if not case.as_nobody:
+        return subprocess.run(words, **how)
+    # The program may lie where not everyone may go, so it is opened here.
+    opened = os.open(built(program), os.O_RDONLY)
+    try:
+        return subprocess.run(words, executable=f"/proc/self/fd/{opened}", pass_fds=[opened], **how)
+    finally:
+        os.close(opened)
 
 
 def differences(case: End, program: str, folder: pathlib.Path) -> list[str]:
     shutil.rmtree(folder, ignore_errors=True)
     folder.mkdir()
+    if case.as_nobody:
+        # What may not be opened is the file, and not the folder that it lies in.
+        folder.parent.chmod(0o711)
+        folder.chmod(0o755)
     make_files(folder, case)
-    words = [program] + [word.replace("FOLDER", str(folder)) for word in case.words.split()]
     stdout = standard_output(case.stdout)
-    ended = subprocess.run(words, input=case.stdin, stdout=stdout, stderr=subprocess.PIPE, timeout=120,
-                           preexec_fn=before_run(case))
+    run = ended(case, program, folder, stdout)
     if stdout != subprocess.PIPE:
         os.close(stdout)
     found = []
-    if ended.returncode != case.status:
-        found.append(f"status {ended.returncode} for {case.status}")
-    if ended.stderr.decode() != case.error:
-        found.append(f"standard error {ended.stderr.decode()!r}")
-    if case.stdout == "pipe" and ended.stdout != case.replies:
+    if run.returncode != case.status:
+        found.append(f"status {run.returncode} for {case.status}")
+    if run.stderr.decode() != case.error:
+        found.append(f"standard error {run.stderr.decode()!r}")
+    if case.stdout == "pipe" and run.stdout != case.replies:
         found.append("replies")
     out = folder / "out"
     if (out.read_bytes() if out.exists() else None) != case.out:
