@@ -1,0 +1,173 @@
+"""Reads a dump of version 1 as docs/FORMATS.md has it, in plain steps: which fault it is refused for, if any.
+
+It was written from that page and RFC 2328 alone, so that it can be put beside the program.
+"""
+import dataclasses
+
+LONGEST_DUMP = 16_777_216
+
+
+@dataclasses.dataclass
+class Refused(Exception):
+    """The fault of a dump, as it is printed, and its offset."""
+
+    fault: str
+    offset: int
+
+    def line(self) -> str:
+        """What standard error must have."""
+        return f"dump: {self.fault} at {self.offset}\n"
+
+
+def number(octets: bytes) -> int:
+    return int.from_bytes(octets, "big")
+
+
+def is_mask(octets: bytes) -> bool:
+    """Ones followed by zeros."""
+    return "01" not in format(number(octets), "032b")
+
+
+def has_good_checksum(lsa: bytes) -> bool:
+    octets = lsa[2:]
+    count = len(octets)
+    first = sum(octets) % 255
+    second = sum((count - place) * octet for place, octet in enumerate(octets)) % 255
+    return first == second == 0 and lsa[16:18] != b"\0\0"
+
+
+def links(lsa: bytes) -> list[tuple[bytes, int, int]] | None:
+    """Link Data, type and metric of each link of a router-LSA, where the links end exactly at its length."""
+    found, at = [], 24
+    if len(lsa) < 24:
+        return None
+    for _ in range(number(lsa[22:24])):
+        link = lsa[at:at + 12]
+        if len(link) < 12:
+            return None
+        found.append((link[4:8], link[8], number(link[10:12])))
+        at += 12 + 4 * link[9]
+    return found if at == len(lsa) else None
+
+
+def has_body(lsa: bytes) -> bool:
+    """Whether the body has the shape of its type."""
+    kind, length = lsa[3], len(lsa)
+    if kind == 1:
+        return links(lsa) is not None
+    if kind == 2:
+        return length >= 24 and length % 4 == 0
+    if kind in (3, 4):
+        return length >= 28 and length % 4 == 0
+    if kind == 5:
+        return length >= 36 and length % 12 == 0
+    return True
+
+
+def masks(lsa: bytes) -> list[bytes]:
+    """The masks that are checked: of networks, summaries of networks, externals, and stub links."""
+    if lsa[3] == 1:
+        return [data for data, kind, _ in links(lsa) if kind == 3]
+    return [lsa[20:24]] if lsa[3] in (2, 3, 5) else []
+
+
+def fault_of_lsa(octets: bytes) -> str | None:
+    """The first fault of the LSA at the front of octets."""
+    if len(octets) < 20:
+        return "Truncated"
+    length = number(octets[18:20])
+    if length < 20:
+        return "Length"
+    if length > len(octets):
+        return "Truncated"
+    lsa = octets[:length]
+    if not 1 <= lsa[3] <= 11:
+        return "BadType"
+    if not has_body(lsa):
+        return "Body"
+    if not has_good_checksum(lsa):
+        return "Checksum"
+    if not all(map(is_mask, masks(lsa))):
+        return "Mask"
+    if lsa[3] == 1 and lsa[4:8] != lsa[8:12]:
+        return "RouterId"
+    if lsa[3] == 1 and any(kind in (1, 2) and metric == 0 for _, kind, metric in links(lsa)):
+        return "ZeroCost"
+    return None
+
+
+class Reader:
+    """A dump, and how far it is read."""
+
+    def __init__(self, dump: bytes):
+        self.dump, self.at = dump, 0
+
+    def field(self, size: int) -> bytes:
+        octets = self.dump[self.at:self.at + size]
+        if len(octets) < size:
+            raise Refused("L3 Truncated", self.at)
+        self.at += size
+        return octets
+
+    def lsas(self, count: int, is_as_wide: bool) -> None:
+        keys = set()
+        for _ in range(count):
+            octets = self.dump[self.at:]
+            fault = fault_of_lsa(octets)
+            if fault:
+                raise Refused(f"L9 Lsa {fault}", self.at)
+            if (octets[3] in (5, 11)) != is_as_wide:
+                raise Refused("L10 WrongSection", self.at)
+            key = octets[3:12]
+            if key in keys:
+                raise Refused("L11 DuplicateLsa", self.at)
+            keys.add(key)
+            self.at += number(octets[18:20])
+
+    def area(self, before: int) -> int:
+        """The ID of the area that is read, which must be above that of the one before."""
+        start = self.at
+        ident = number(self.field(4))
+        if ident <= before:
+            raise Refused("L6 AreaOrder", start)
+        start = self.at
+        kind = self.field(1)[0]
+        if kind > 1:
+            raise Refused("L7 BadAreaKind", start)
+        if kind == 1 and ident == 0:
+            raise Refused("L12 BackboneStub", start)
+        start = self.at
+        count = number(self.field(2))
+        if count > 8192:
+            raise Refused("L8 TooManyLsas", start)
+        self.lsas(count, is_as_wide=False)
+        return ident
+
+
+def read(dump: bytes) -> None:
+    """Reads a whole dump. Raises `Refused` for its first fault."""
+    if len(dump) > LONGEST_DUMP:
+        raise Refused("L13 TooLarge", 0)
+    reader = Reader(dump)
+    if reader.field(4) != b"OSWP":
+        raise Refused("L1 BadMagic", 0)
+    if reader.field(1) != b"\x01":
+        raise Refused("L2 BadVersion", 4)
+    areas = reader.field(1)[0]
+    if areas > 64:
+        raise Refused("L5 TooManyAreas", 5)
+    ident = -1
+    for _ in range(areas):
+        ident = reader.area(ident)
+    reader.lsas(number(reader.field(2)), is_as_wide=True)
+    if reader.at != len(dump):
+        raise Refused("L4 TrailingBytes", reader.at)
+
+
+def refusal(dump: bytes) -> str:
+    """What standard error must have where the dump is loaded: nothing where it is accepted."""
+    try:
+        read(dump)
+    except Refused as refused:
+        return refused.line()
+    return ""
