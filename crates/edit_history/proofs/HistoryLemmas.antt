@@ -1,7 +1,8 @@
 -- For callers of a history: how it is linked to its database, the session that it shows, and the areas that its edits touch.
-use Rattle.std.proofs.Common.{◌≡◌, ◌<◌, ◌≤◌, List, [], ◌∷◌, ◌++◌, length, Result, Ok, Err, sym, ap, ◌∙◌, arith, ltb}
+use Rattle.std.proofs.Common.{◌≡◌, ◌<◌, ◌≤◌, List, [], ◌∷◌, ◌++◌, length, Result, Ok, Err, refl, sym, ap, ◌∙◌, arith, ltb}
 use Rattle.std.specs.Prelude.{reverse}
 use Rattle.std.proofs.lemmas.Bool.{lt-ltb, le-ltb, cond-true, cond-false}
+use Rattle.std.proofs.lemmas.List.{map-append, reverse-append}
 use Rattle.lsdb.specs.Lists.{Lists, IsDatabase}
 use Rattle.lsdb.specs.Places.{Places, lists_of}
 use Rattle.edit_script.specs.declared.edit.Edit.{Edit}
@@ -87,3 +88,17 @@ edited_accepted d d' h e r room links applied =
     ∙ ap (λ (db : Lists). taken (doing db (before ++ e ∷ []))) (sym base)
     ∙ ap (λ (x : Edit). taken (doing (lists_of (origin d' (r ∷ h.past))) (before ++ x ∷ []))) (sym applied.same)
     ∙ ap (λ (es : List Edit). taken (doing (lists_of (origin d' (r ∷ h.past))) es)) (sym (reverse_cons r.edit (edits_of h.past)))
+
+-- ---- its records
+
+reversed_edits : (rs : List RecordData) → edits_of (reverse rs) ≡ reverse (edits_of rs)
+reversed_edits [] = refl
+reversed_edits (r ∷ rs) =
+    ap edits_of (reverse-append (r ∷ []) rs) ∙ map-append (λ (x : RecordData). x.edit) (reverse rs) (r ∷ [])
+    ∙ ap (λ (es : List Edit). es ++ r.edit ∷ []) (reversed_edits rs) ∙ sym (reverse_cons r.edit (edits_of rs))
+
+-- the done records in the order in which they were carried out, and behind them the undone ones
+pub edits_in_order : (d : Places) (h : HistoryData) → edits_of (reverse h.past ++ h.future) ≡ (session_of d h).done ++ (session_of d h).undone
+edits_in_order d h =
+    map-append (λ (x : RecordData). x.edit) (reverse h.past) h.future
+    ∙ ap (λ (es : List Edit). es ++ edits_of h.future) (reversed_edits h.past)

@@ -43,9 +43,9 @@ impl<A: Allocator> Model for History<A> {
 }
 
 impl<A: Allocator + Copy> History<A> {
-    ghost use Rattle.std.specs.Prelude.{◌≡◌, ◌+◌, ◌<◌, ◌≤◌, [], ◌∷◌, length, OnOk, OnErr, IsOk, ◌↔◌};
+    ghost use Rattle.std.specs.Prelude.{◌≡◌, ◌+◌, ◌<◌, ◌≤◌, [], ◌∷◌, ◌++◌, length, reverse, OnOk, OnErr, IsOk, ◌↔◌};
     ghost use Rattle.edit_history.specs.Journal.{Links};
-    ghost use Rattle.edit_history.specs.Session.{session_of, moved_back, moved_on, undo_touches, redo_touches, StepsBack, StepsOn};
+    ghost use Rattle.edit_history.specs.Session.{edits_of, session_of, moved_back, moved_on, undo_touches, redo_touches, StepsBack, StepsOn};
     ghost use Rattle.lsdb.specs.Places.{Places};
 
     /// No edits. It takes no memory.
@@ -70,6 +70,17 @@ impl<A: Allocator + Copy> History<A> {
         ensures { result ≡ length self.now.lists.future }
     {
         self.records.len() - self.cursor
+    }
+
+    /// The records of all edits: of those that are done, in the order in which they were carried
+    /// out, and behind them of those that are undone, in the order in which
+    /// [`redo`](History::redo) takes them. It takes no memory.
+    pub fn records(&self) -> &[Record<A>]
+        ensures records { result.now ≡ reverse self.now.lists.past ++ self.now.lists.future }
+        ensures edits { (d : Places) → edits_of result.now
+            ≡ (session_of d self.now.lists).done ++ (session_of d self.now.lists).undone }
+    {
+        &self.records
     }
 
     /// One edit back.
