@@ -14,9 +14,16 @@ use Rattle.edit_history.specs.Journal.{HistoryData, Links, origin}
 use Rattle.edit_history.specs.Session.{Session, session_of, edits_of, edited, accepted, state, most_edits}
 use Rattle.edit_history.proofs.HistoryLemmas.{done_len, reverse_cons}
 use Rattle.edit_history.proofs.HistoryLemmas.{state_is, recorded}
+use Rattle.recalculate.specs.Reached.{LinksFew}
 
-pub start_links : (d : Places) (h : HistoryData) → IsDatabase (lists_of d) → h ≡ record { past = []; future = [] } → Links d h
+start_links : (d : Places) (h : HistoryData) → IsDatabase (lists_of d) → h ≡ record { past = []; future = [] } → Links d h
 start_links d h sound e = subst (λ (k : HistoryData). Links d k) (sym e) (record { sound = sound; back = tt; on = tt })
+
+pub start_few : (d : Places) (h : HistoryData) → IsDatabase (lists_of d) → h ≡ record { past = []; future = [] } → LinksFew d h
+start_few d h sound e = record {
+  links = start_links d h sound e;
+  few = omega (arith, ap (λ (k : HistoryData). length k.past) e, ap (λ (k : HistoryData). length k.future) e);
+}
 
 abbrev pub answer : Session → Result Session EditFault
 answer s = Ok s

@@ -1,8 +1,8 @@
 -- Sessions that a planner can show.
-use Rattle.std.specs.Prelude.{◌≡◌}
+use Rattle.std.specs.Prelude.{◌≡◌, ◌≤◌, ◌+◌, length}
 use Rattle.lsdb.specs.Places.{Places}
 use Rattle.edit_history.specs.Journal.{HistoryData, Links}
-use Rattle.edit_history.specs.Session.{Session, session_of}
+use Rattle.edit_history.specs.Session.{Session, most_edits, session_of}
 
 -- a history shows the session at the database that it led to; so each of its done edits was accepted, and so is each undone one
 -- in its turn
@@ -11,3 +11,8 @@ pub record IsReached (s : Session) : Type 0 where
   pub history : HistoryData
   pub links : Links places history
   pub shows : session_of places history ≡ s
+
+-- a history that led to a database, with no more edits, done and undone, than may be done
+pub record LinksFew (d : Places) (h : HistoryData) : Type 0 where
+  pub links : Links d h
+  pub few : length h.past + length h.future ≤ most_edits

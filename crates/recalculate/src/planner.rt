@@ -2,7 +2,7 @@
 
 use crate::study::Study;
 use crate::touched::{drop_done, drop_undone};
-use edit_history::{EditFault, RedoFault, UndoFault};
+use edit_history::{EditFault, Record, RedoFault, UndoFault};
 use edit_script::Edit;
 use lsa_codec::RouterId;
 use lsdb::Database;
@@ -37,7 +37,9 @@ impl<A: Allocator> Model for Planner<A> {
 }
 
 impl<A: Allocator + Copy> Planner<A> {
-    ghost use Rattle.std.specs.Prelude.{◌≡◌, ◌≢◌, ◌≤◌, ◌↔◌, [], Ok, Err, Some, length, IsOk, OnOk, OnErr, IfOk, IfErr, IsErrOf};
+    ghost use Rattle.std.specs.Prelude.{◌≡◌, ◌≢◌, ◌≤◌, ◌↔◌, ◌+◌, ◌++◌, [], Ok, Err, Some, length, IsOk, OnOk, OnErr, IfOk, IfErr, IsErrOf};
+    ghost use Rattle.lsdb.specs.BaseText.{base_text};
+    ghost use Rattle.lsdb.specs.Lists.{IsDatabase};
     ghost use Rattle.lsdb.specs.Places.{lists_of};
     ghost use Rattle.lsdb.specs.Text.{text};
     ghost use Rattle.area_routes.specs.Attached.{attached_areas};
@@ -50,7 +52,7 @@ impl<A: Allocator + Copy> Planner<A> {
     ghost use Rattle.routing_table.specs.Routers.{attached_routers};
     ghost use Rattle.routing_table.specs.Tables.{table_in, FaultMeans};
     ghost use Rattle.edit_history.specs.Session.{edit as edit_request, undo as undo_request, redo as redo_request};
-    ghost use Rattle.edit_history.specs.Session.{start, state, effects, most_edits, edited, moved_back, moved_on, redo_touches, undo_touches};
+    ghost use Rattle.edit_history.specs.Session.{edits_of, start, state, effects, most_edits, edited, moved_back, moved_on, redo_touches, undo_touches};
 
     /// The session that begins at a database: no edit is done, none is undone, and no tree is
     /// calculated. It takes no memory.
@@ -174,6 +176,16 @@ impl<A: Allocator + Copy> Planner<A> {
         self.study.undone()
     }
 
+    /// The records of the edits: of those that are done, in the order in which they were carried
+    /// out, and behind them of those that are undone, in the order in which
+    /// [`redo`](Planner::redo) takes them. There are at most 10,000. It takes no memory.
+    pub fn records(&self) -> &[Record<A>]
+        ensures edits { edits_of result.now ≡ self.now.session.done ++ self.now.session.undone }
+        ensures few { length self.now.session.done + length self.now.session.undone ≤ most_edits }
+    {
+        self.study.records()
+    }
+
     /// How many shortest-path trees the planner has calculated for tables. Only
     /// [`table`](Planner::table) and [`base_table`](Planner::base_table) raise it. It stays at its
     /// greatest value, 2^64 - 1, and takes no memory.
@@ -244,5 +256,16 @@ impl<A: Allocator + Copy> Planner<A> {
         ensures kept { self.new ≡ self.old }
     {
         self.study.base()
+    }
+
+    /// The octets that the dump of a session, version 2, begins with, for the database that the
+    /// session began at. The session stays as it is, also where memory runs out, which is the
+    /// error.
+    pub fn dump_base(&mut self) -> Result<Vec<u8, A>, AllocError>
+        ensures dump { IfOk result (λ dump. dump.items ≡ base_text self.old.session.base) }
+        ensures database { IsDatabase self.old.session.base }
+        ensures kept { self.new ≡ self.old }
+    {
+        self.study.dump_base()
     }
 }

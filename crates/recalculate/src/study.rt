@@ -1,6 +1,6 @@
 //! A database under its edits.
 
-use edit_history::{EditFault, History, RedoFault, UndoFault, apply};
+use edit_history::{EditFault, History, Record, RedoFault, UndoFault, apply};
 use edit_script::Edit;
 use lsa_codec::{AreaId, RouterId};
 use lsdb::Database;
@@ -21,29 +21,30 @@ pub(crate) struct Study<A: Allocator> {
 }
 
 impl<A: Allocator> Model for Study<A> {
-    ghost use Rattle.edit_history.specs.Journal.{Links};
     ghost use Rattle.edit_history.specs.Session.{Session, session_of};
+    ghost use Rattle.recalculate.specs.Reached.{LinksFew};
 
     ghost Value = { Session };
 
     ghost view = { λ s. session_of s.database s.history.lists };
 
-    ghost invariant = { λ s. Links s.database s.history.lists };
+    ghost invariant = { λ s. LinksFew s.database s.history.lists };
 }
 
 impl<A: Allocator + Copy> Study<A> {
-    ghost use Rattle.std.specs.Prelude.{◌≡◌, ◌≢◌, ◌≤◌, ◌↔◌, Ok, Err, Some, length, IsOk, OnOk, OnErr, IfOk, IfErr, IsErrOf};
+    ghost use Rattle.std.specs.Prelude.{◌≡◌, ◌≢◌, ◌≤◌, ◌↔◌, ◌+◌, ◌++◌, Ok, Err, Some, length, IsOk, OnOk, OnErr, IfOk, IfErr, IsErrOf};
+    ghost use Rattle.lsdb.specs.BaseText.{base_text};
     ghost use Rattle.lsdb.specs.Lists.{IsDatabase};
     ghost use Rattle.lsdb.specs.Places.{lists_of};
     ghost use Rattle.area_routes.specs.Attached.{attached_areas};
     ghost use Rattle.edit_history.specs.declared.fault.EditFault.TheVariants.{HistoryFull, OutOfMemory};
-    ghost use Rattle.edit_history.specs.Session.{start, state, effects, most_edits, edited, moved_back, moved_on, redo_touches, undo_touches};
+    ghost use Rattle.edit_history.specs.Session.{edits_of, start, state, effects, most_edits, edited, moved_back, moved_on, redo_touches, undo_touches};
     ghost use Rattle.routing_table.specs.Counting.{counted_by, CountsAtMost};
     ghost use Rattle.recalculate.specs.Reached.{IsReached};
     ghost use Rattle.routing_table.specs.Tables.{table_in, FaultMeans};
 
     /// The study of a database, without edits. It takes no memory.
-    #[tactic(auto, using(crate::proofs::Steps::start_links))]
+    #[tactic(auto, using(crate::proofs::Steps::start_few))]
     pub(crate) fn new(alloc: A, database: Database<A>) -> Study<A>
         ensures { result ≡ start (lists_of database) }
     {
@@ -140,6 +141,16 @@ impl<A: Allocator + Copy> Study<A> {
         self.history.undone()
     }
 
+    /// The records of the edits: of those that are done, in order, and behind them of those that
+    /// are undone, the next to be redone first. It takes no memory.
+    #[tactic(auto, using(edit_history::proofs::HistoryLemmas::done_len, edit_history::proofs::HistoryLemmas::undone_len))]
+    pub(crate) fn records(&self) -> &[Record<A>]
+        ensures edits { edits_of result.now ≡ self.now.done ++ self.now.undone }
+        ensures few { length self.now.done + length self.now.undone ≤ most_edits }
+    {
+        self.history.records()
+    }
+
     /// The routing table of a router in the loaded database, whose trees the meter counts. All
     /// edits are taken back for it, and carried out again.
     pub(crate) fn base_table(
@@ -172,6 +183,21 @@ impl<A: Allocator + Copy> Study<A> {
         let copy = self.database().clone_of();
         self.redo_all(done);
         copy
+    }
+
+    /// The octets that the dump of a session with the loaded database begins with. All edits are
+    /// taken back for it, and carried out again.
+    pub(crate) fn dump_base(&mut self) -> Result<Vec<u8, A>, AllocError>
+        ensures dump { IfOk result (λ dump. dump.items ≡ base_text self.old.base) }
+        ensures database { IsDatabase self.old.base }
+        ensures kept { self.new ≡ self.old }
+    {
+        let done = self.undo_all();
+        let database = self.database();
+        database.known();
+        let dump = database.dump_base();
+        self.redo_all(done);
+        dump
     }
 
     /// Takes all done edits back, and tells how many they were.

@@ -1,4 +1,4 @@
-use Rattle.std.proofs.Common.{refl, sym, ap, ◌∙◌, subst, arith}
+use Rattle.std.proofs.Common.{◌≡◌, length, refl, sym, ap, ◌∙◌, subst, arith}
 use Rattle.std.proofs.lemmas.Result.{err_from_is_err_and}
 use Rattle.edit_history.specs.Journal.{HistoryData, Links}
 use Rattle.edit_history.specs.Session.{session_of, edited}
@@ -18,19 +18,30 @@ returns-in_err-record-clause-refused g c =
     (λ known.
     ap (λ s. edited s c.args.edit.now) (sym c.self.view_is)
     ∙ edited_refused c.self.inside.database c.self.inside.history.lists c.args.edit.now c.in_err-record.field-0.0
-    (omega (arith, c.done.ensures, c.if-done-ge-MOST_EDITS.false)) c.self.invariant (c.in_err-record.ensures.refused.known known))
+    (omega (arith, c.done.ensures, c.if-done-ge-MOST_EDITS.false)) c.self.invariant.links (c.in_err-record.ensures.refused.known known))
 
 pub invariant_of-self-2 : goal.invariant_of-self-2
 invariant_of-self-2 g c =
-    subst (λ (h : HistoryData). Links c.apply.new.database h) (sym (c.push.ensures ∙ ap (pushed c.in_ok-record.record) c.reserve.ensures.lists))
-    (recorded c.self.inside.database c.apply.new.database c.self.inside.history.lists c.args.edit.now
-    c.in_ok-record.record c.self.invariant c.known.ensures c.in_ok-record.ensures.applied).links
+    let now : c.push.new.self.lists ≡ pushed c.in_ok-record.record c.self.inside.history.lists =
+    c.push.ensures ∙ ap (pushed c.in_ok-record.record) c.reserve.ensures.lists in
+    record {
+      links = subst (λ (h : HistoryData). Links c.apply.new.database h) (sym now)
+          (recorded c.self.inside.database c.apply.new.database c.self.inside.history.lists c.args.edit.now
+          c.in_ok-record.record c.self.invariant.links c.known.ensures c.in_ok-record.ensures.applied).links;
+      few = omega (
+        arith,
+        ap (λ (h : HistoryData). length h.past) now,
+        ap (λ (h : HistoryData). length h.future) now,
+        c.done.ensures,
+        c.if-done-ge-MOST_EDITS.false,
+      );
+    }
 
 pub returns-clause-ok : goal.returns-clause-ok
 returns-clause-ok g c =
     ap (λ s. edited s c.args.edit.now) (sym c.self.view_is)
     ∙ edited_accepted c.self.inside.database c.apply.new.database c.self.inside.history.lists c.args.edit.now c.in_ok-record.record
-    (omega (arith, c.done.ensures, c.if-done-ge-MOST_EDITS.false)) c.self.invariant c.known.ensures c.in_ok-record.ensures.applied
+    (omega (arith, c.done.ensures, c.if-done-ge-MOST_EDITS.false)) c.self.invariant.links c.known.ensures c.in_ok-record.ensures.applied
     ∙ ap (λ (h : HistoryData). answer (session_of c.apply.new.database h)) (sym (c.push.ensures ∙ ap (pushed c.in_ok-record.record) c.reserve.ensures.lists))
 
 pub returns-clause-reached : goal.returns-clause-reached
@@ -39,6 +50,6 @@ returns-clause-reached g c = record {
   history = c.push.new.self.lists;
   links = subst (λ (h : HistoryData). Links c.apply.new.database h) (sym (c.push.ensures ∙ ap (pushed c.in_ok-record.record) c.reserve.ensures.lists))
       (recorded c.self.inside.database c.apply.new.database c.self.inside.history.lists c.args.edit.now
-      c.in_ok-record.record c.self.invariant c.known.ensures c.in_ok-record.ensures.applied).links;
+      c.in_ok-record.record c.self.invariant.links c.known.ensures c.in_ok-record.ensures.applied).links;
   shows = refl;
 }
