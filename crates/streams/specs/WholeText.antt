@@ -1,5 +1,5 @@
 -- What is read and written of a whole text, where the bytes of the reader and the writer are known.
-use Rattle.std.specs.Prelude.{◌≡◌, ℕ, ◌<◌, ◌≤◌, List, length, Option, IfSome}
+use Rattle.std.specs.Prelude.{◌≡◌, ℕ, ◌<◌, ◌≤◌, List, ◌++◌, length, Option, IfSome}
 use Rattle.std.specs.Io.{StartsWith}
 use Rattle.std.specs.Io.KnownBytes.{Appends, Consumes}
 
@@ -18,3 +18,7 @@ ConsumesAtMost old new n = (taken : List ℕ) × (Consumes old new taken × (len
 -- the known bytes grew by a prefix of the text
 abbrev pub AppendsPrefix : Option (List ℕ) → Option (List ℕ) → List ℕ → Type 0
 AppendsPrefix old new text = (part : List ℕ) × (StartsWith text part × Appends old new part)
+
+-- the known bytes lost some at their front, which stand behind those that were there before
+abbrev pub ReadsBehind : Option (List ℕ) → Option (List ℕ) → List ℕ → List ℕ → Type 0
+ReadsBehind old new before after = (taken : List ℕ) × (Consumes old new taken × (after ≡ before ++ taken))

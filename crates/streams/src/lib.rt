@@ -11,6 +11,6 @@ mod tests;
 mod watch;
 mod writing;
 
-pub use reading::{ReadFault, read_whole};
+pub use reading::{ReadFault, read_more, read_whole};
 pub use watch::Watched;
 pub use writing::{WriteFault, write_whole};

@@ -1,10 +1,10 @@
 //! A whole text read from a watched reader.
 
-ghost use Rattle.std.specs.Prelude.{◌≡◌, ◌+◌, ◌<◌, ◌≤◌, ◌^◌, ◌↔◌, false, true, vec_len, IfOk, OnOk};
+ghost use Rattle.std.specs.Prelude.{◌≡◌, ◌+◌, ◌-◌, ◌<◌, ◌≤◌, ◌^◌, ◌↔◌, false, true, vec_len, IfOk, OnOk};
 ghost use Rattle.std.specs.Io.KnownBytes.{IsAtEnd};
 ghost use Rattle.streams.specs.declared.reading.ReadFault.TheVariants.{OutOfMemory};
 ghost use Rattle.streams.specs.Watched.{inner_of, has_failed};
-ghost use Rattle.streams.specs.WholeText.{IsAll, IsLonger, ConsumesAtMost};
+ghost use Rattle.streams.specs.WholeText.{IsAll, IsLonger, ConsumesAtMost, ReadsBehind};
 
 use crate::watch::Watched;
 use std::alloc::{AllocError, Allocator};
@@ -32,6 +32,48 @@ impl From<AllocError> for ReadFault {
 /// How many bytes one read may give.
 const CHUNK: usize = 4096;
 
+/// Reads on behind the bytes that were read before, where there are at most `limit` in all.
+///
+/// At most one byte past the limit is read, so reading ends for an endless reader too. After
+/// `TooLarge` one may read on, up to another limit.
+///
+/// # Errors
+///
+/// `Failed` exactly where a read failed, `TooLarge` where there are more than `limit` bytes, with
+/// what was read behind the others, and `OutOfMemory` where a growth was refused.
+pub fn read_more<A: Allocator + Copy, R: Read>(
+    reader: &mut Watched<R>,
+    bytes: &mut Vec<u8, A>,
+    limit: usize,
+) -> Result<(), ReadFault>
+    requires open { has_failed reader.old ≡ false }
+    requires limit { limit + 1 < 2 ^ 64 }
+    ensures whole { OnOk result (ReadsBehind (R.remaining (inner_of reader.old))
+        (R.remaining (inner_of reader.new)) bytes.old.items bytes.new.items) }
+    ensures within { OnOk result (vec_len bytes.new ≤ limit) }
+    ensures at_end { OnOk result (IsAtEnd (R.remaining (inner_of reader.new))) }
+    ensures too_large { result ≡ Err ReadFault.TooLarge
+        → ReadsBehind (R.remaining (inner_of reader.old))
+        (R.remaining (inner_of reader.new)) bytes.old.items bytes.new.items
+        × (limit < vec_len bytes.new) }
+    ensures failed { (result ≡ Err ReadFault.Failed) ↔ (has_failed reader.new ≡ true) }
+    ensures bounded { ConsumesAtMost (R.remaining (inner_of reader.old))
+        (R.remaining (inner_of reader.new)) (limit + 1 - vec_len bytes.old) }
+{
+    let mut chunk = [0u8; CHUNK];
+    'chunks: while bytes.len() <= limit {
+        let room = (limit + 1 - bytes.len()).min(CHUNK);
+        let Ok(count) = reader.read(&mut chunk[..room]) else {
+            return Err(ReadFault::Failed);
+        };
+        if count == 0 {
+            return Ok(());
+        }
+        bytes.extend_from_slice(&chunk[..count])?;
+    }
+    Err(ReadFault::TooLarge)
+}
+
 /// All bytes of a reader, where there are at most `limit`.
 ///
 /// At most one byte past the limit is read, so reading ends for an endless reader too.
@@ -57,16 +99,6 @@ pub fn read_whole<A: Allocator + Copy, R: Read>(
         (R.remaining (inner_of reader.new)) (limit + 1) }
 {
     let mut bytes = Vec::new(alloc);
-    let mut chunk = [0u8; CHUNK];
-    'chunks: while bytes.len() <= limit {
-        let room = (limit + 1 - bytes.len()).min(CHUNK);
-        let Ok(count) = reader.read(&mut chunk[..room]) else {
-            return Err(ReadFault::Failed);
-        };
-        if count == 0 {
-            return Ok(bytes);
-        }
-        bytes.extend_from_slice(&chunk[..count])?;
-    }
-    Err(ReadFault::TooLarge)
+    read_more(reader, &mut bytes, limit)?;
+    Ok(bytes)
 }

@@ -1,7 +1,7 @@
 //! Whole texts that are read.
 
 use super::text::{NEVER, TEXT};
-use crate::{ReadFault, Watched, read_whole};
+use crate::{ReadFault, Watched, read_more, read_whole};
 use samples::{Source, Zeros};
 use std::test::Fail;
 
@@ -67,6 +67,29 @@ fn reads_one_byte_past_the_limit_of_an_endless_reader(rt: HostRuntime) -> Result
         let fault = read_whole(rt.alloc(), &mut reader, limit).err();
         assert_eq!(rt; fault, Some(ReadFault::TooLarge), "limit {limit}");
         assert_eq!(rt; reader.into_inner().given, limit as u64 + 1);
+    }
+    Ok(())
+}
+
+#[test]
+fn reads_on_past_a_first_limit(rt: HostRuntime) -> Result<(), Fail> {
+    for limit in [0, 1, 4095, 4096, 5000] {
+        let zeros = vec![in rt.alloc(); 0u8; limit + 10]?;
+        for step in [1000, NEVER] {
+            let mut reader = Watched::new(Source::new(zeros.as_slice(), step, None));
+            let mut bytes = Vec::new(rt.alloc());
+            let fault = read_more(&mut reader, &mut bytes, limit).err();
+            assert_eq!(rt; fault, Some(ReadFault::TooLarge), "limit {limit} by {step}");
+            assert_eq!(rt; bytes.len(), limit + 1, "limit {limit} by {step}");
+            let fault = read_more(&mut reader, &mut bytes, limit + 9).err();
+            assert_eq!(rt; fault, Some(ReadFault::TooLarge), "limit {limit} by {step}");
+            read_more(&mut reader, &mut bytes, limit + 10).map_err(|_| "a fault")?;
+            assert_eq!(rt;
+                bytes.as_slice(),
+                zeros.as_slice(),
+                "limit {limit} by {step}"
+            );
+        }
     }
     Ok(())
 }
