@@ -5,6 +5,7 @@ ghost use Rattle.std.specs.List.{count_by, sum_by};
 ghost use Rattle.lsdb.specs.Lists.{areas_of};
 ghost use Rattle.lsdb.specs.Places.{lists_of};
 ghost use Rattle.routing_table.specs.AreaLsas.{area_lsas};
+ghost use Rattle.edit_history.specs.Session.{start};
 ghost use Rattle.recalculate.specs.Counts.{has_bit_v, info_of, is_virtual, virtual_links};
 
 use crate::planner::Planner;
@@ -41,16 +42,26 @@ impl<A: Allocator + Copy> Planner<A> {
     pub fn info(&self) -> Info
         ensures { result ≡ info_of self.now.session }
     {
-        let database = self.database();
         Info {
-            areas: database.area_count(),
-            lsas: lsas(database),
-            as_lsas: database.count(Section::AsWide),
-            vbits: vbits(database),
-            vlinks: vlinks(database),
             done: self.done(),
             undone: self.undone(),
+            ..beginning_of(self.database())
         }
+    }
+}
+
+/// What a session counts that begins at a database.
+pub(crate) fn beginning_of<A: Allocator + Copy>(database: &Database<A>) -> Info
+    ensures { result ≡ info_of (start (lists_of database.now)) }
+{
+    Info {
+        areas: database.area_count(),
+        lsas: lsas(database),
+        as_lsas: database.count(Section::AsWide),
+        vbits: vbits(database),
+        vlinks: vlinks(database),
+        done: 0,
+        undone: 0,
     }
 }
 

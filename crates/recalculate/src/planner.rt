@@ -1,5 +1,6 @@
 //! A session of edits.
 
+use crate::counts::Info;
 use crate::study::Study;
 use crate::touched::{drop_done, drop_undone};
 use edit_history::{EditFault, Record, RedoFault, UndoFault};
@@ -46,6 +47,7 @@ impl<A: Allocator + Copy> Planner<A> {
     ghost use Rattle.edit_history.specs.declared.fault.EditFault.TheVariants.{HistoryFull, OutOfMemory};
     ghost use Rattle.edit_history.specs.Effect.{edit_touches};
     ghost use Rattle.recalculate.specs.Calls.{CarriedOut, Stayed};
+    ghost use Rattle.recalculate.specs.Counts.{info_of};
     ghost use Rattle.routing_table.specs.Counting.{counted_by, CountsAtMost};
     ghost use Rattle.routing_table.specs.KeptTrees.{IsWithin, areas_without_tree, is_kept, less_touched};
     ghost use Rattle.recalculate.specs.Reached.{IsReached};
@@ -247,6 +249,15 @@ impl<A: Allocator + Copy> Planner<A> {
         ensures step { Stayed self.old self.new }
     {
         self.study.base_table(router, &mut self.meter)
+    }
+
+    /// What the session counted at its beginning, before all edits. The session stays as it is, and
+    /// it takes no memory.
+    pub fn beginning(&mut self) -> Info
+        ensures info { result ≡ info_of (start self.old.session.base) }
+        ensures kept { self.new ≡ self.old }
+    {
+        self.study.beginning()
     }
 
     /// A copy of the database that the session began at. The session stays as it is, also where

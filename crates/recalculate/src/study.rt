@@ -1,5 +1,6 @@
 //! A database under its edits.
 
+use crate::counts::{Info, beginning_of};
 use edit_history::{EditFault, History, Record, RedoFault, UndoFault, apply};
 use edit_script::Edit;
 use lsa_codec::{AreaId, RouterId};
@@ -40,6 +41,7 @@ impl<A: Allocator + Copy> Study<A> {
     ghost use Rattle.edit_history.specs.declared.fault.EditFault.TheVariants.{HistoryFull, OutOfMemory};
     ghost use Rattle.edit_history.specs.Session.{edits_of, start, state, effects, most_edits, edited, moved_back, moved_on, redo_touches, undo_touches};
     ghost use Rattle.routing_table.specs.Counting.{counted_by, CountsAtMost};
+    ghost use Rattle.recalculate.specs.Counts.{info_of};
     ghost use Rattle.recalculate.specs.Reached.{IsReached};
     ghost use Rattle.routing_table.specs.Tables.{table_in, FaultMeans};
 
@@ -172,6 +174,17 @@ impl<A: Allocator + Copy> Study<A> {
         let table = table_of(database.alloc(), database, router, meter);
         self.redo_all(done);
         table
+    }
+
+    /// What the loaded database counts. All edits are taken back for it, and carried out again.
+    pub(crate) fn beginning(&mut self) -> Info
+        ensures info { result ≡ info_of (start self.old.base) }
+        ensures kept { self.new ≡ self.old }
+    {
+        let done = self.undo_all();
+        let info = beginning_of(self.database());
+        self.redo_all(done);
+        info
     }
 
     /// A copy of the loaded database. All edits are taken back for it, and carried out again.
