@@ -21,7 +21,7 @@ use Rattle.edit_history.specs.declared.fault.EditFault.TheVariants.{HistoryFull}
 use Rattle.edit_history.specs.Effect.{effect}
 use Rattle.edit_history.specs.Session.{Session, edited, accepted, start, state, most_edits, moved_back, moved_on}
 use Rattle.recalculate.specs.Planning.{PlannerValue}
-use Rattle.branches.specs.Branches.{Named, Sessions, sessions_by, sessions_of, named_by, with_session, session_or_begin, HaveOneBase}
+use Rattle.branches.specs.Branches.{all_begin, resumed, Named, Sessions, sessions_by, sessions_of, named_by, with_session, session_or_begin, HaveOneBase}
 use Rattle.branches.specs.steps.Planners.{has_planner}
 use Rattle.branches.specs.Replies.{Said, reply_to, after, unless_refused}
 
@@ -56,6 +56,16 @@ after_base s command.Info = refl
 
 pub edited_keeps_base : (s t : Session) (e : Edit) → edited s e ≡ Ok t → t.base ≡ s.base
 edited_keeps_base s t e is = ap (λ r. (unless_refused s r).base) (sym is) ∙ after_base s (command.Edit e)
+
+-- ---- branches at their beginning
+
+either_way : (s : Session) (b : Bool) → cond b s s ≡ s
+either_way s true = refl
+either_way s false = refl
+
+-- a session without edits is at its beginning
+pub resumed_at_start : (base : Lists) → resumed (start base) ≡ all_begin base
+resumed_at_start base = λ i branch. either_way (start base) (eqb branch 0) i
 
 -- ---- one branch goes on
 

@@ -14,6 +14,10 @@ Sessions = ℕ → Session
 abbrev pub all_begin : Lists → Sessions
 all_begin base = λ branch. start base
 
+-- branch 0 is at a session, and the others begin where it did
+abbrev pub resumed : Session → Sessions
+resumed s = λ branch. if branch == 0 then s else start s.base
+
 -- one branch goes on, and the others stay
 abbrev pub with_session : ℕ → Session → Sessions → Sessions
 with_session branch s all = λ other. if branch == other then s else all other

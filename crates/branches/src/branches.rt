@@ -4,7 +4,7 @@ ghost use Rattle.std.specs.Prelude.{◌≡◌, ◌<◌, ◌==◌, IfOk, OnOk, On
 ghost use Rattle.lsdb.specs.Places.{lists_of};
 ghost use Rattle.lsdb.specs.Text.{text};
 ghost use Rattle.edit_history.specs.Session.{start, state};
-ghost use Rattle.branches.specs.Branches.{all_begin, with_session, sessions_of};
+ghost use Rattle.branches.specs.Branches.{all_begin, resumed, with_session, sessions_of};
 ghost use Rattle.branches.specs.steps.Planners.{has_planner};
 ghost use Rattle.branches.specs.Replies.{reply_to, after, takes_memory, said_by};
 
@@ -50,8 +50,16 @@ impl<A: Allocator + Copy> Branches<A> {
     pub fn new(alloc: A, database: Database<A>) -> Branches<A>
         ensures { sessions_of result ≡ all_begin (lists_of database) }
     {
-        let first = Planner::new(alloc, database);
-        let beginning = first.info();
+        Branches::resume(alloc, Planner::new(alloc, database))
+    }
+
+    /// Branches of which branch 0 goes on at the session of a planner. The others begin at the base
+    /// of that session. It takes no memory.
+    pub fn resume(alloc: A, planner: Planner<A>) -> Branches<A>
+        ensures { sessions_of result ≡ resumed planner.session }
+    {
+        let mut first = planner;
+        let beginning = first.beginning();
         Branches {
             first,
             others: BTreeMap::new(alloc),
