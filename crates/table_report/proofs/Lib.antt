@@ -1,2 +1,3 @@
 pub mod Joined
 pub mod Differing
+pub mod Sameness

@@ -1,6 +1,6 @@
 //! The text of the differences of two routing tables.
 
-ghost use Rattle.std.specs.Prelude.{◌≡◌, ◌++◌, IfOk, Some, codes, map, option_map};
+ghost use Rattle.std.specs.Prelude.{◌≡◌, ◌++◌, IfOk, Some, codes, map, option_map, true};
 ghost use Rattle.std.specs.Option.{option_copied};
 ghost use Rattle.std.specs.String.{string_bytes};
 ghost use Rattle.area_graph.specs.Rising.{rising};
@@ -11,7 +11,8 @@ ghost use Rattle.table_report.specs.Texts.{line_of};
 
 use crate::line::{push_line, push_rest};
 use area_routes::{Route, Routes};
-use lsa_codec::{Prefix, RouterId};
+use lsa_codec::{AreaId, Prefix, RouterId};
+use next_hops::{Hop, hop_equality};
 use routing_table::Table;
 use std::alloc::{AllocError, Allocator};
 
@@ -61,6 +62,33 @@ fn line_of<A: Allocator + Copy>(alloc: A, route: &Route<A>) -> Result<String<A>,
     Ok(text)
 }
 
+/// Whether hops are the same.
+fn are_same_hops(before: &[Hop], now: &[Hop]) -> bool
+    ensures { result ≡ true → before.now ≡ now.now }
+{
+    hop_equality();
+    before == now
+}
+
+/// Whether areas are the same.
+fn are_same_areas(before: &[AreaId], now: &[AreaId]) -> bool
+    ensures { result ≡ true → before.now ≡ now.now }
+{
+    before == now
+}
+
+/// Whether two routes are the same. It spares the lines of most of them.
+fn are_same<A: Allocator + Copy>(before: &Route<A>, now: &Route<A>) -> bool
+    ensures { result ≡ true → before.now ≡ now.now }
+{
+    before.cost == now.cost
+        && before.cost2 == now.cost2
+        && before.kind == now.kind
+        && before.net == now.net
+        && are_same_areas(before.areas.as_slice(), now.areas.as_slice())
+        && are_same_hops(before.hops.as_slice(), now.hops.as_slice())
+}
+
 /// The line for a prefix that both tables have, unless their lines are equal.
 fn changed<A: Allocator + Copy>(
     alloc: A,
@@ -70,7 +98,7 @@ fn changed<A: Allocator + Copy>(
     ensures { IfOk result
         (λ line. option_map string_bytes line ≡ change (Some before.now) (Some now.now)) }
 {
-    if line_of(alloc, before)? == line_of(alloc, now)? {
+    if are_same(before, now) || line_of(alloc, before)? == line_of(alloc, now)? {
         return Ok(None);
     }
     let mut text = marked(alloc, "~", now)?;
