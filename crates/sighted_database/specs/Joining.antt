@@ -1,0 +1,51 @@
+-- The database that sightings make: of each LSA the newest instance, in the section of its scope.
+use Rattle.std.specs.Prelude.{◌≡◌, ◌⊎◌, Bool, ℕ, List, map, All, AllPairs, Contains, Option, None, Some, ◌==◌, ◌&&◌, not}
+use Rattle.std.specs.List.{Any, list_any}
+use Rattle.std.specs.declared.cmp.Ordering.TheVariants.{Less}
+use Rattle.lsa_instances.specs.declared.place.Scope.{Scope}
+use Rattle.lsa_instances.specs.declared.place.Scope.TheVariants.{Area, AsWide}
+use Rattle.lsa_instances.specs.declared.sighting.Sighting.{Sighting}
+use Rattle.lsa_instances.specs.Newest.{AreNewest, lsas_of_scope}
+use Rattle.lsa_instances.specs.Order.{scope_cmp}
+use Rattle.lsdb.specs.Lists.{AreaHead, SectionLsas, Lists}
+use Rattle.sighted_database.specs.declared.area.ToldArea.{ToldArea}
+
+-- whether a file tells that the area is a stub area
+abbrev pub any_stub : List ToldArea → ℕ → Bool
+any_stub areas id = list_any (λ area. area.is_stub && (area.id.0 == id)) areas
+
+-- the backbone is no stub area, whatever is told (RFC 2328, 3.6)
+abbrev pub is_stub : List ToldArea → ℕ → Bool
+is_stub areas id = not (id == 0) && any_stub areas id
+
+-- an area and its kind; none for the LSAs of AS scope
+abbrev pub head : List ToldArea → Scope → Option AreaHead
+head areas (Area id) = Some (record { id = id.0; is_stub = is_stub areas id.0 })
+head areas AsWide = None
+
+abbrev pub section : {A : Type 0} → List ToldArea → List (Sighting A) → Scope → SectionLsas
+section areas newest scope = record { area = head areas scope; lsas = lsas_of_scope scope newest }
+
+-- the scope of an area that is told, or of an LSA that stands
+abbrev pub IsTold : {A : Type 0} → List ToldArea → List (Sighting A) → Scope → Type 0
+IsTold areas newest AsWide = Unit {0}
+IsTold areas newest (Area id) = Any (λ area. area.id ≡ id) areas ⊎ Any (λ x. x.scope ≡ Area id) newest
+
+-- the scopes of a database, each once: areas rise, and the AS stands last
+pub record AreScopes {A : Type 0} (areas : List ToldArea) (newest : List (Sighting A)) (scopes : List Scope) : Type 0 where
+  pub order : AllPairs (λ a b. scope_cmp a b ≡ Less) scopes
+  pub each : All (IsTold areas newest) scopes
+  pub areas_there : All (λ area. Contains scopes (Area area.id)) areas
+  pub lsas_there : All (λ x. Contains scopes x.scope) newest
+  pub as_there : Contains scopes AsWide
+
+-- what is told of LSAs and areas, joined: the newest of the LSAs, and the scopes
+pub record Joining {A : Type 0} (told : List (Sighting A)) (areas : List ToldArea) : Type 0 where
+  pub newest : List (Sighting A)
+  pub scopes : List Scope
+  pub are_newest : AreNewest told newest
+  pub are_scopes : AreScopes areas newest scopes
+
+-- the sections: the areas, and behind them the LSAs of AS scope
+abbrev pub joined : {A : Type 0} {told : List (Sighting A)} {areas : List ToldArea} → Joining told areas → Lists
+joined {A} {told} {areas} joining = map (section areas joining.newest) joining.scopes

@@ -1,0 +1,86 @@
+//! Sightings joined to a database.
+
+ghost use Rattle.std.specs.Prelude.{◌≡◌, ◌⊎◌, All, IfOk, IfErr, Some, map, List};
+ghost use Rattle.lsdb.specs.Lists.{Lists, IsDatabase};
+ghost use Rattle.lsdb.specs.Places.{lists_of};
+ghost use Rattle.lsdb.specs.Text.{text};
+ghost use Rattle.sighted_database.specs.Joining.{AreScopes, Joining, joined, section};
+ghost use Rattle.sighted_database.specs.Limits.{fault_of};
+ghost use Rattle.sighted_database.specs.Steps.{IsWide, HaveRisingKeys};
+ghost use Rattle.sighted_database.specs.declared.fault.JoinFault.TheVariants.{OutOfMemory};
+
+use crate::area::ToldArea;
+use crate::fault::JoinFault;
+use crate::scopes::scopes;
+use crate::section::{any_misplaced, text_of};
+use lsa_instances::{Scope, Sighting, keys_rise, newest};
+use lsdb::{Database, LONGEST_DUMP, MOST_AREAS, text_laws};
+use std::alloc::Allocator;
+
+/// The database of which the sections are the newest of the sightings, and its areas those that
+/// are told and those that have LSAs, with the kinds that are told: an area that is nowhere told
+/// to be a stub area is ordinary.
+///
+/// Of several faults the first in the order of [`JoinFault`] is told, and `OutOfMemory` may stand
+/// in place of any.
+pub fn join<A: Allocator + Copy>(
+    alloc: A,
+    sightings: Vec<Sighting<A>, A>,
+    areas: &[ToldArea],
+) -> Result<Database<A>, JoinFault>
+    ensures database { IfOk result (λ db. IsDatabase (lists_of db)) }
+    ensures joined { IfOk result (λ db. (joining : Joining sightings.items areas.now)
+        × (lists_of db ≡ joined joining)) }
+    ensures fault { IfErr result (λ fault. (fault ≡ OutOfMemory)
+        ⊎ ((joining : Joining sightings.items areas.now)
+        × (fault_of joining.newest (joined joining) ≡ Some fault))) }
+{
+    keys_rise::<A>();
+    let newest = newest(alloc, sightings)?;
+    let scopes = scopes(alloc, areas, &newest)?;
+    database_of(alloc, areas, &newest, &scopes)
+}
+
+/// The database with a section for each scope.
+fn database_of<A: Allocator + Copy>(
+    alloc: A,
+    areas: &[ToldArea],
+    newest: &[Sighting<A>],
+    scopes: &[Scope],
+) -> Result<Database<A>, JoinFault>
+    requires scopes { AreScopes areas.now newest.now scopes.now }
+    requires wide { All IsWide scopes.now }
+    requires rising { HaveRisingKeys newest.now }
+    ensures database { IfOk result (λ db. IsDatabase (lists_of db)) }
+    ensures joined { IfOk result
+        (λ db. lists_of db ≡ map (section areas.now newest.now) scopes.now) }
+    ensures fault { IfErr result (λ fault. (fault ≡ OutOfMemory)
+        ⊎ (fault_of newest.now (map (section areas.now newest.now) scopes.now) ≡ Some fault)) }
+{
+    text_laws();
+    if any_misplaced(newest) {
+        return Err(JoinFault::MisplacedLsa);
+    }
+    if usize::from(MOST_AREAS) + 1 < scopes.len() {
+        return Err(JoinFault::TooManyAreas);
+    }
+    let text = text_of(alloc, areas, newest, scopes)?;
+    if LONGEST_DUMP < text.len() {
+        return Err(JoinFault::TooLong);
+    }
+    loaded(alloc, &text)
+}
+
+/// The database that the text is known to spell.
+fn loaded<A: Allocator + Copy>(alloc: A, octets: &[u8]) -> Result<Database<A>, JoinFault>
+    requires { (db : Lists) × IsDatabase db × (octets.now ≡ text db) }
+    ensures database { IfOk result (λ db. IsDatabase (lists_of db)) }
+    ensures spelled { IfOk result (λ db. octets.now ≡ text (lists_of db)) }
+    ensures fault { IfErr result (λ fault. fault ≡ OutOfMemory) }
+{
+    text_laws();
+    match Database::load(alloc, octets) {
+        Ok(database) => Ok(database),
+        Err(_) => Err(JoinFault::OutOfMemory),
+    }
+}

@@ -1,0 +1,16 @@
+//! Sightings of LSAs joined to a link state database, and so to its dump.
+//!
+//! Files tell sightings: instances of LSAs, each with its scope; and areas, each with its kind.
+//! [`join`] makes the database of which the sections are the newest of them. Its dump is written
+//! by [`lsdb::Database::dump`].
+#![tactic(auto)]
+
+mod area;
+mod fault;
+mod joining;
+mod scopes;
+mod section;
+
+pub use area::ToldArea;
+pub use fault::JoinFault;
+pub use joining::join;

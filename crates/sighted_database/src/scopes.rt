@@ -1,0 +1,106 @@
+//! The scopes of a database.
+
+ghost use Rattle.std.specs.Prelude.{◌≡◌, ◌++◌, All, IfOk, OnOk, IsPermutation, map};
+ghost use Rattle.std.specs.List.Sorted.{IsSorted};
+ghost use Rattle.lsa_instances.specs.Order.{scope_cmp};
+ghost use Rattle.lsa_instances.specs.declared.place.Scope.TheVariants.{Area};
+ghost use Rattle.sighted_database.specs.Joining.{AreScopes};
+ghost use Rattle.sighted_database.specs.Steps.{scopes_told, AreOnce, IsWide, is_behind};
+
+use crate::area::ToldArea;
+use lsa_instances::{Scope, Sighting};
+use std::alloc::{AllocError, Allocator};
+use std::cmp::Ordering;
+
+/// Compares two scopes: areas by their IDs, and behind them the whole AS.
+pub(crate) fn compare_scopes(a: Scope, b: Scope) -> Ordering
+    ensures { result ≡ scope_cmp a b }
+{
+    a.cmp(&b)
+}
+
+fn put_areas<A: Allocator + Copy>(
+    told: &mut Vec<Scope, A>,
+    areas: &[ToldArea],
+) -> Result<(), AllocError>
+    ensures { OnOk result
+        (told.new.items ≡ told.old.items ++ map (λ area. Area area.id) areas.now) }
+{
+    for area in areas {
+        told.push(Scope::Area(area.id))?;
+    }
+    Ok(())
+}
+
+fn put_scopes<A: Allocator + Copy>(
+    told: &mut Vec<Scope, A>,
+    newest: &[Sighting<A>],
+) -> Result<(), AllocError>
+    ensures { OnOk result (told.new.items ≡ told.old.items ++ map (λ x. x.scope) newest.now) }
+{
+    for sighting in newest {
+        told.push(sighting.scope)?;
+    }
+    Ok(())
+}
+
+/// The scopes that are told, in any order, some of them often.
+fn scopes_told<A: Allocator + Copy>(
+    alloc: A,
+    areas: &[ToldArea],
+    newest: &[Sighting<A>],
+) -> Result<Vec<Scope, A>, AllocError>
+    ensures { IfOk result (λ told. told.items ≡ scopes_told areas.now newest.now) }
+{
+    let mut told = Vec::new(alloc);
+    put_areas(&mut told, areas)?;
+    put_scopes(&mut told, newest)?;
+    told.push(Scope::AsWide)?;
+    Ok(told)
+}
+
+fn sorted<A: Allocator + Copy>(scopes: Vec<Scope, A>) -> Result<Vec<Scope, A>, AllocError>
+    ensures same { IfOk result (λ sorted. IsPermutation scopes.items sorted.items) }
+    ensures order { IfOk result (λ sorted. IsSorted scope_cmp sorted.items) }
+{
+    let mut scopes = scopes;
+    scopes.sort_by(|a, b| compare_scopes(*a, *b))?;
+    Ok(scopes)
+}
+
+/// Scopes that are sorted, each once.
+fn each_once<A: Allocator + Copy>(alloc: A, sorted: &[Scope]) -> Result<Vec<Scope, A>, AllocError>
+    requires { IsSorted scope_cmp sorted.now }
+    ensures { IfOk result (λ once. AreOnce sorted.now once.items) }
+{
+    let mut once: Vec<Scope, A> = Vec::new(alloc);
+    for scope in sorted {
+        if is_behind(&once, *scope) {
+            once.push(*scope)?;
+        }
+    }
+    Ok(once)
+}
+
+/// Whether the scope stands behind the last of these.
+fn is_behind(scopes: &[Scope], scope: Scope) -> bool
+    ensures behind { result ≡ is_behind scopes.now scope }
+    ensures wide { IsWide scope }
+{
+    match scopes.last() {
+        Some(last) => compare_scopes(*last, scope).is_lt(),
+        None => true,
+    }
+}
+
+/// The scopes of the database, each once: areas rise, and the AS stands last.
+pub(crate) fn scopes<A: Allocator + Copy>(
+    alloc: A,
+    areas: &[ToldArea],
+    newest: &[Sighting<A>],
+) -> Result<Vec<Scope, A>, AllocError>
+    ensures all { IfOk result (λ scopes. AreScopes areas.now newest.now scopes.items) }
+    ensures wide { IfOk result (λ scopes. All IsWide scopes.items) }
+{
+    each_once(alloc, &sorted(scopes_told(alloc, areas, newest)?)?)
+}
