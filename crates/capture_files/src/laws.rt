@@ -1,0 +1,16 @@
+//! What holds of the definitions.
+
+ghost use Rattle.std.specs.Prelude.{◌≡◌, ℕ, List};
+ghost use Rattle.capture_files.specs.Told.{Told};
+ghost use Rattle.capture_files.specs.Pcap.{IsPcap, LiesAt};
+
+/// A file of the pcap format tells one list of frames and one end, or has one first record that
+/// lies, and never both.
+///
+/// The function does nothing: its contract is the law.
+pub fn one_reading_of_pcap()
+    ensures one { (file : List ℕ) (a b : Told) → IsPcap file a → IsPcap file b → a ≡ b }
+    ensures refused { (file : List ℕ) (told : Told) (offset : ℕ) → IsPcap file told
+        → LiesAt file offset → ⊥ }
+    ensures first { (file : List ℕ) (m n : ℕ) → LiesAt file m → LiesAt file n → m ≡ n }
+{}

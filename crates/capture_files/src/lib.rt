@@ -1,0 +1,22 @@
+//! The frames of a capture file (draft-ietf-opsawg-pcap, draft-ietf-opsawg-pcapng).
+//!
+//! A capture file is held in memory, and its frames are parts of it. [`read_pcap`] reads a file of
+//! the older format, in either byte order, with time stamps in microseconds or nanoseconds. A file
+//! that ends in the middle of its last record, as a stopped capture leaves it, is read to there,
+//! and [`End`] tells where that is.
+#![tactic(auto)]
+
+mod fault;
+mod field;
+mod frame;
+mod laws;
+mod order;
+mod pcap;
+
+pub use fault::CaptureFault;
+pub use frame::{Capture, End, Frame, LinkType};
+pub use laws::one_reading_of_pcap;
+pub use pcap::read_pcap;
+
+#[cfg(test)]
+mod tests;
