@@ -1,1 +1,3 @@
-//! Tests.
+//! Small files made by hand, octet by octet, as the format has them.
+
+mod pcap;
