@@ -1,1 +1,2 @@
+mod OptionWalk
 mod Records

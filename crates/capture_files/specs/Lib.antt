@@ -1,3 +1,5 @@
 pub mod Fields
 pub mod Told
 pub mod Pcap
+pub mod Blocks
+pub mod Interfaces

@@ -6,10 +6,13 @@
 //! and [`End`] tells where that is.
 #![tactic(auto)]
 
+mod block;
 mod fault;
 mod field;
 mod frame;
+mod interface;
 mod laws;
+mod options;
 mod order;
 mod pcap;
 

@@ -1,0 +1,126 @@
+//! What options tell of interfaces and time stamps (draft-ietf-opsawg-pcapng, 3.5 and 4.2).
+
+ghost use Rattle.std.specs.Prelude.{◌≡◌, ◌≤◌, ◌<◌, ◌+◌, ◌*◌, ◌^◌, length, option_map, Some, None, IfSome};
+ghost use Rattle.capture_files.specs.Blocks.{block_text};
+ghost use Rattle.capture_files.specs.Interfaces.{padded, first_option, option_of, units_of, resolution_of, units_in, moment_of, interface_of};
+
+use crate::block::Block;
+use crate::field::{u16_at, u32_at};
+use crate::frame::LinkType;
+use crate::interface::Interface;
+use crate::order::Order;
+
+/// The option with the resolution of time stamps.
+const IF_TSRESOL: u16 = 9;
+
+/// The option with an offset of time stamps.
+const IF_TSOFFSET: u16 = 14;
+
+/// A length with the octets behind it, up to a multiple of 4.
+fn padded(length: u16) -> usize
+    ensures { result ≡ padded length }
+{
+    (usize::from(length) + 3) / 4 * 4
+}
+
+/// An option: its code, its value, and what stands behind it.
+type FirstOption<'a> = Option<(u16, &'a [u8], &'a [u8])>;
+
+/// The first option, where a whole one stands there.
+fn first_option(order: Order, options: &[u8]) -> FirstOption<'_>
+    ensures { option_map (λ x. (x.0, x.1.now, x.2.now)) result ≡ first_option order options.now }
+{
+    if options.len() < 4 {
+        return None;
+    }
+    let code = u16_at(order, options, 0);
+    if code == 0 {
+        return None;
+    }
+    let length = u16_at(order, options, 2);
+    let size = 4 + padded(length);
+    if options.len() < size {
+        return None;
+    }
+    let value = &options[4..4 + usize::from(length)];
+    Some((code, value, &options[size..]))
+}
+
+/// The value of the first option of this code.
+fn option_of(order: Order, code: u16, options: &[u8]) -> Option<&[u8]>
+    ensures { option_map (λ value. value.now) result ≡ option_of order code options.now }
+{
+    let mut rest = options;
+    'options: for _ in 0..options.len() {
+        let Some((found, value, behind)) = first_option(order, rest) else {
+            return None;
+        };
+        if found == code {
+            return Some(value);
+        }
+        rest = behind;
+    }
+    None
+}
+
+/// How many units of time a second has.
+fn units_of(octet: u8) -> Option<u64>
+    ensures { result ≡ units_of octet }
+{
+    if octet < 128 {
+        10u64.checked_pow(u32::from(octet))
+    } else {
+        2u64.checked_pow(u32::from(octet - 128))
+    }
+}
+
+/// The units that the option if_tsresol tells.
+fn resolution_of(option: Option<&[u8]>) -> Option<u64>
+    ensures { result ≡ resolution_of (option_map (λ value. value.now) option.entry) }
+{
+    match option {
+        None => Some(1_000_000),
+        Some([octet]) => units_of(*octet),
+        Some(_) => None,
+    }
+}
+
+/// The units of time stamps, as options tell them.
+fn units_in(order: Order, options: &[u8]) -> Option<u64>
+    ensures { result ≡ units_in order options.now }
+{
+    match option_of(order, IF_TSOFFSET, options) {
+        None => resolution_of(option_of(order, IF_TSRESOL, options)),
+        Some(_) => None,
+    }
+}
+
+/// A time stamp in nanoseconds since 1970.
+pub(crate) fn moment_of(units: Option<u64>, stamp: u64) -> Option<u64>
+    ensures { result ≡ moment_of units stamp }
+{
+    match units {
+        None | Some(0) => None,
+        Some(units) => {
+            let moment = u128::from(stamp) * 1_000_000_000 / u128::from(units);
+            if moment < 0x1_0000_0000_0000_0000 {
+                Some(moment as u64)
+            } else {
+                None
+            }
+        }
+    }
+}
+
+/// What an Interface Description Block tells.
+pub(crate) fn interface_of(block: Block<'_>) -> Interface
+    requires { 20 ≤ length block.octets.now }
+    ensures { result ≡ interface_of (block_text block.entry) }
+{
+    let body = &block.octets[..block.octets.len() - 4];
+    Interface {
+        link: LinkType(u16_at(block.order, block.octets, 8)),
+        snap: u32_at(block.order, block.octets, 12),
+        units: units_in(block.order, &body[16..]),
+    }
+}
