@@ -3,3 +3,4 @@ pub mod Told
 pub mod Pcap
 pub mod Blocks
 pub mod Interfaces
+pub mod Parts

@@ -14,6 +14,7 @@ mod interface;
 mod laws;
 mod options;
 mod order;
+mod part;
 mod pcap;
 
 pub use fault::CaptureFault;
