@@ -4,3 +4,4 @@ pub mod Pcap
 pub mod Blocks
 pub mod Interfaces
 pub mod Parts
+pub mod Pcapng

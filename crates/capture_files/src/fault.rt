@@ -19,9 +19,23 @@ pub enum CaptureFault {
     #[error("Version at 4")]
     Version,
     /// The record at this offset has a captured length above its original length, or above the
-    /// most that a capture has (262,144 octets).
+    /// most that a capture has (262,144 octets), or above what the block has.
     #[error("CapturedLength at {0}")]
     CapturedLength(usize),
+    /// The section at this offset has a byte-order magic that is known in no byte order.
+    #[error("ByteOrder at {0}")]
+    ByteOrder(usize),
+    /// The block at this offset has a length that a block does not have (below 12, above
+    /// 16,777,216, or no multiple of 4), another length at its end, or too few octets for its
+    /// type.
+    #[error("BlockLength at {0}")]
+    BlockLength(usize),
+    /// The section at this offset is of another major version than 1.
+    #[error("SectionVersion at {0}")]
+    SectionVersion(usize),
+    /// The block at this offset names an interface that its section does not have.
+    #[error("NoInterface at {0}")]
+    NoInterface(usize),
     /// Memory ran out.
     #[error("OutOfMemory")]
     OutOfMemory,

@@ -16,6 +16,8 @@ mod options;
 mod order;
 mod part;
 mod pcap;
+mod pcapng;
+mod reading;
 
 pub use fault::CaptureFault;
 pub use frame::{Capture, End, Frame, LinkType};

@@ -191,7 +191,7 @@ fn read_records<A: Allocator + Copy>(
 }
 
 /// How the file ends, if its last whole record ends at this offset.
-fn end_at(file: &[u8], offset: usize) -> End
+pub(crate) fn end_at(file: &[u8], offset: usize) -> End
     ensures { result ≡ end_at file.now offset }
 {
     if offset == file.len() {

@@ -1,0 +1,92 @@
+//! Files of the pcapng format (draft-ietf-opsawg-pcapng).
+
+ghost use Rattle.std.specs.Prelude.{◌≡◌, ◌≤◌, ◌<◌, ◌+◌, length, drop, Ok, Err, Some, None, true, IfOk, IfErr, OnOk, MatchOption};
+ghost use Rattle.capture_files.specs.declared.fault.CaptureFault.TheVariants as faults;
+ghost use Rattle.capture_files.specs.Told.{told_of};
+ghost use Rattle.capture_files.specs.Parts.{telling_of};
+ghost use Rattle.capture_files.specs.Pcapng.{state_of, after, next, has_section, fault_at, Reaches, IsStop, IsPcapng, IsPcapngFault};
+
+use crate::block::{Lie, SECTION_HEADER, first_block};
+use crate::fault::CaptureFault;
+use crate::field::u32_at;
+use crate::frame::Capture;
+use crate::order::Order;
+use crate::part::{Part, told_by};
+use crate::pcap::end_at;
+use crate::reading::Reading;
+use std::alloc::Allocator;
+
+/// Whether the file begins with a Section Header Block.
+pub(crate) fn has_section(file: &[u8]) -> bool
+    ensures { result ≡ has_section file.now }
+{
+    if file.len() < 4 {
+        return false;
+    }
+    u32_at(Order::Big, file, 0) == SECTION_HEADER
+}
+
+/// The fault of a block at an offset that lies.
+fn fault_at(lie: Lie, offset: usize) -> CaptureFault
+    ensures { result ≡ fault_at lie offset }
+{
+    match lie {
+        Lie::ByteOrder => CaptureFault::ByteOrder(offset),
+        Lie::BlockLength => CaptureFault::BlockLength(offset),
+        Lie::SectionVersion => CaptureFault::SectionVersion(offset),
+        Lie::BlockCaptured => CaptureFault::CapturedLength(offset),
+        Lie::NoInterface => CaptureFault::NoInterface(offset),
+    }
+}
+
+/// Adds what a block in this byte order tells.
+fn add<'a, A: Allocator + Copy>(
+    reading: &mut Reading<'a, A>,
+    order: Order,
+    part: Part<'a>,
+) -> Result<(), CaptureFault>
+    ensures added { OnOk result
+        (state_of reading.new ≡ after (state_of reading.old) order (telling_of part.entry)) }
+    ensures memory { IfErr result (λ fault. fault ≡ faults.OutOfMemory) }
+{
+    reading.order = order;
+    match part {
+        Part::Section => reading.interfaces.clear(),
+        Part::Described(interface) => reading.interfaces.push(interface)?,
+        Part::Captured(frame) => reading.frames.push(frame)?,
+        Part::Other => {}
+    }
+    Ok(())
+}
+
+/// Reads the block at an offset, and answers how many octets it has; `None` where no whole block
+/// stands there.
+#[tactic(auto, unfolding(crate::specs::Pcapng::next))]
+fn read_block<'a, A: Allocator + Copy>(
+    reading: &mut Reading<'a, A>,
+    file: &'a [u8],
+    offset: usize,
+) -> Result<Option<usize>, CaptureFault>
+    requires { offset ≤ length file.now }
+    ensures block { IfOk result (λ found. MatchOption found
+        ((state_of reading.new ≡ state_of reading.old)
+        × (next (state_of reading.old) (drop offset file.now) ≡ Ok None))
+        (λ size. next (state_of reading.old) (drop offset file.now)
+        ≡ Ok (Some (state_of reading.new, size)))) }
+    ensures within { IfOk result (λ found. MatchOption found (offset ≤ length file.now)
+        (λ size. (0 < size) × (offset + size ≤ length file.now))) }
+    ensures fault { IfErr result
+        (λ fault. IsStop offset (next (state_of reading.old) (drop offset file.now)) fault) }
+{
+    let block = match first_block(reading.order, &file[offset..]) {
+        Err(lie) => return Err(fault_at(lie, offset)),
+        Ok(None) => return Ok(None),
+        Ok(Some(block)) => block,
+    };
+    let part = match told_by(&reading.interfaces, block) {
+        Err(lie) => return Err(fault_at(lie, offset)),
+        Ok(part) => part,
+    };
+    add(reading, block.order, part)?;
+    Ok(Some(block.octets.len()))
+}
