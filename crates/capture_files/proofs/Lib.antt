@@ -1,2 +1,3 @@
+mod BlockWalk
 mod OptionWalk
 mod Records

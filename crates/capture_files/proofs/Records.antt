@@ -68,13 +68,13 @@ same_records form bytes (p ∷ ps) (q ∷ qs) r s h k x y =
     let rest = same_records form (drop (16 + length p.octets) bytes) ps qs r s h.2 behind x y in
     (ap (λ (z : Packet). z ∷ ps) (sym same) ∙ ap (λ (zs : List Packet). q ∷ zs) rest.0, rest.1)
 
-same_offset : (file : List ℕ) (a b : ℕ) → a ≤ length file → b ≤ length file → drop a file ≡ drop b file → a ≡ b
+pub same_offset : (file : List ℕ) (a b : ℕ) → a ≤ length file → b ≤ length file → drop a file ≡ drop b file → a ≡ b
 same_offset file a b p q e = omega (arith, ap length e, length-drop a file, length-drop b file)
 
 same_form : (file : List ℕ) (f g : Form) → header file ≡ Ok f → header file ≡ Ok g → g ≡ f
 same_form file f g h k = let same : ◌≡◌ {A = Result Form CaptureFault} (Ok f) (Ok g) = sym h ∙ k in cc
 
-same_told : (a b : Told) → a.packets ≡ b.packets → a.end ≡ b.end → a ≡ b
+pub same_told : (a b : Told) → a.packets ≡ b.packets → a.end ≡ b.end → a ≡ b
 same_told a b packets end =
     ap (λ (ps : List Packet). record { packets = ps; end = a.end }) packets
     ∙ ap (λ (e : End). record { packets = b.packets; end = e }) end

@@ -1,8 +1,10 @@
 //! What holds of the definitions.
 
 ghost use Rattle.std.specs.Prelude.{◌≡◌, ℕ, List};
+ghost use Rattle.capture_files.specs.declared.block.Lie.{Lie};
 ghost use Rattle.capture_files.specs.Told.{Told};
 ghost use Rattle.capture_files.specs.Pcap.{IsPcap, LiesAt};
+ghost use Rattle.capture_files.specs.Pcapng.{IsPcapng, LiesIn};
 
 /// A file of the pcap format tells one list of frames and one end, or has one first record that
 /// lies, and never both.
@@ -13,4 +15,16 @@ pub fn one_reading_of_pcap()
     ensures refused { (file : List ℕ) (told : Told) (offset : ℕ) → IsPcap file told
         → LiesAt file offset → ⊥ }
     ensures first { (file : List ℕ) (m n : ℕ) → LiesAt file m → LiesAt file n → m ≡ n }
+{}
+
+/// A file of the pcapng format tells one list of frames and one end, or has one first block that
+/// lies, and never both.
+///
+/// The function does nothing: its contract is the law.
+pub fn one_reading_of_pcapng()
+    ensures one { (file : List ℕ) (a b : Told) → IsPcapng file a → IsPcapng file b → a ≡ b }
+    ensures refused { (file : List ℕ) (told : Told) (offset : ℕ) (lie : Lie) → IsPcapng file told
+        → LiesIn file offset lie → ⊥ }
+    ensures first { (file : List ℕ) (m n : ℕ) (x y : Lie) → LiesIn file m x → LiesIn file n y
+        → (m ≡ n) × (x ≡ y) }
 {}

@@ -90,3 +90,49 @@ fn read_block<'a, A: Allocator + Copy>(
     add(reading, block.order, part)?;
     Ok(Some(block.octets.len()))
 }
+
+/// What the whole blocks of the file tell, and the offset at which the last of them ends.
+fn read_blocks<A: Allocator + Copy>(
+    alloc: A,
+    file: &[u8],
+) -> Result<(Reading<'_, A>, usize), CaptureFault>
+    requires { has_section file.now ≡ true }
+    ensures reached { IfOk result (λ found. Reaches file.now (state_of found.0) found.1) }
+    ensures stopped { IfOk result
+        (λ found. next (state_of found.0) (drop found.1 file.now) ≡ Ok None) }
+    ensures fault { IfErr result (λ fault. IsPcapngFault file.now fault) }
+{
+    let mut reading = Reading {
+        order: Order::Big,
+        interfaces: Vec::new(alloc),
+        frames: Vec::new(alloc),
+    };
+    let mut offset = 0;
+    'walk: while let Some(size) = read_block(&mut reading, file, offset)? {
+        offset += size;
+    }
+    Ok((reading, offset))
+}
+
+/// Reads a file of the pcapng format. Its frames are parts of the file.
+///
+/// # Errors
+///
+/// `NotACapture` where the file does not begin with a Section Header Block, `ByteOrder`,
+/// `BlockLength`, `SectionVersion`, `CapturedLength` and `NoInterface` with the offset of the first
+/// block that lies, and `OutOfMemory`.
+pub fn read_pcapng<A: Allocator + Copy>(
+    alloc: A,
+    file: &[u8],
+) -> Result<Capture<'_, A>, CaptureFault>
+    ensures told { IfOk result (λ capture. IsPcapng file.now (told_of capture)) }
+    ensures fault { IfErr result (λ fault. IsPcapngFault file.now fault) }
+{
+    if !has_section(file) {
+        return Err(CaptureFault::NotACapture);
+    }
+    let (reading, offset) = read_blocks(alloc, file)?;
+    let end = end_at(file, offset);
+    let frames = reading.frames;
+    Ok(Capture { frames, end })
+}
