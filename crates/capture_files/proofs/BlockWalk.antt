@@ -1,19 +1,14 @@
 -- Blocks one behind the other.
-use Rattle.std.proofs.Common.{◌≡◌, ℕ, ◌+◌, ◌≤◌, Bool, true, List, [], ◌∷◌, ◌++◌, length, drop, Option, Some, None, Result, Ok, Err}
-use Rattle.std.proofs.Common.{refl, sym, ap, ◌∙◌, subst, arith, ◌⊎◌, inl, inr, length-drop}
+use Rattle.std.proofs.Common.{◌≡◌, ℕ, ◌+◌, ◌≤◌, List, [], ◌∷◌, ◌++◌, length, drop, Option, Some, None, Result, Ok, Err}
+use Rattle.std.proofs.Common.{refl, sym, ap, ◌∙◌, subst, ◌⊎◌, inl, inr}
 use Rattle.std.proofs.lemmas.List.{drop-drop}
 use Rattle.capture_files.specs.declared.block.Lie.{Lie}
-use Rattle.capture_files.specs.declared.fault.CaptureFault.{CaptureFault}
-use Rattle.capture_files.specs.declared.frame.End.{End}
-use Rattle.capture_files.specs.Told.{Packet, Told}
+use Rattle.capture_files.specs.Told.{Told}
 use Rattle.capture_files.specs.Pcap.{end_at}
-use Rattle.capture_files.specs.Pcapng.{State, start, next, AreBlocks, Reaches, has_section, IsStop, IsPcapngFault, IsPcapng, LiesIn}
+use Rattle.capture_files.specs.Pcapng.{State, start, next, AreBlocks, Reaches, IsPcapng, LiesIn}
 use Rattle.capture_files.proofs.Records.{same_offset, same_told}
 
 -- ---- as they are read
-
-pub none_read : (file : List ℕ) → Reaches file start 0
-none_read file = record { blocks = []; within = omega arith; whole = (refl, refl) }
 
 -- one more block
 one_more : (s : State) (bytes : List ℕ) (blocks : List (State × ℕ)) (t : State) (rest : List ℕ) (u : State) (size : ℕ)
@@ -32,12 +27,6 @@ next_block file t offset u size h is within = record {
       subst (λ (rest : List ℕ). AreBlocks start file (h.blocks ++ (u, size) ∷ []) u rest) (drop-drop size offset file)
       (one_more start file h.blocks t (drop offset file) u size h.whole is);
 }
-
-pub stop_told : (file : List ℕ) (t : State) (offset : ℕ) (fault : CaptureFault) → has_section file ≡ true → Reaches file t offset
-    → IsStop offset (next t (drop offset file)) fault → IsPcapngFault file fault
-stop_told file t offset fault headed h (inl memory) = inl memory
-stop_told file t offset fault headed h (inr lie) =
-    inr (inr (lie.0, offset, (lie.1.0, record { last = t; headed = headed; reached = h; lying = lie.1.1 })))
 
 -- ---- one reading
 

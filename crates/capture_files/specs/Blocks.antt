@@ -1,6 +1,6 @@
 -- The blocks of a pcapng file (draft-ietf-opsawg-pcapng, 3): a type, the length of the whole block, what it says, and its
 -- length again.
-use Rattle.std.specs.Prelude.{ℕ, ◌-◌, ◌%◌, ◌==◌, ◌||◌, not, nat_lt, if◌then◌else◌, List, length, take, Option, Some, None, Result, Ok, Err}
+use Rattle.std.specs.Prelude.{ℕ, ◌-◌, ◌%◌, ◌==◌, not, nat_lt, if◌then◌else◌, List, length, take, Option, Some, None, Result, Ok, Err}
 use Rattle.capture_files.specs.declared.block.Block.{Block}
 use Rattle.capture_files.specs.declared.block.Lie.{Lie}
 use Rattle.capture_files.specs.declared.block.Lie.TheVariants.{ByteOrder, BlockLength}

@@ -5,3 +5,4 @@ pub mod Blocks
 pub mod Interfaces
 pub mod Parts
 pub mod Pcapng
+pub mod Captures

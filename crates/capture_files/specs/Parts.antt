@@ -1,5 +1,5 @@
 -- What the blocks of a section tell (draft-ietf-opsawg-pcapng, 4).
-use Rattle.std.specs.Prelude.{ℕ, ◌+◌, ◌*◌, ◌==◌, ◌||◌, not, nat_lt, min, if◌then◌else◌, List, length, take, drop, slice_get, Option, Some, None, Result, Ok, Err}
+use Rattle.std.specs.Prelude.{ℕ, ◌+◌, ◌*◌, ◌==◌, nat_lt, min, if◌then◌else◌, List, length, take, drop, slice_get, Option, Some, None, Result, Ok, Err}
 use Rattle.capture_files.specs.declared.block.Lie.{Lie}
 use Rattle.capture_files.specs.declared.block.Lie.TheVariants.{BlockLength, SectionVersion, BlockCaptured, NoInterface}
 use Rattle.capture_files.specs.declared.interface.Interface.{Interface}

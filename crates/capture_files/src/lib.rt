@@ -1,12 +1,14 @@
 //! The frames of a capture file (draft-ietf-opsawg-pcap, draft-ietf-opsawg-pcapng).
 //!
-//! A capture file is held in memory, and its frames are parts of it. [`read_pcap`] reads a file of
-//! the older format, in either byte order, with time stamps in microseconds or nanoseconds. A file
-//! that ends in the middle of its last record, as a stopped capture leaves it, is read to there,
-//! and [`End`] tells where that is.
+//! A capture file is held in memory, and its frames are parts of it. [`read_capture`] reads a file
+//! of either format: pcap ([`read_pcap`]), with time stamps in microseconds or nanoseconds, and
+//! pcapng ([`read_pcapng`]), with any number of sections and interfaces, each in either byte order.
+//! A file that ends in the middle of its last record or block, as a stopped capture leaves it, is
+//! read to there, and [`End`] tells where that is. A length that lies is a [`CaptureFault`].
 #![tactic(auto)]
 
 mod block;
+mod capture;
 mod fault;
 mod field;
 mod frame;
@@ -19,6 +21,7 @@ mod pcap;
 mod pcapng;
 mod reading;
 
+pub use capture::read_capture;
 pub use fault::CaptureFault;
 pub use frame::{Capture, End, Frame, LinkType};
 pub use laws::{one_reading_of_pcap, one_reading_of_pcapng};

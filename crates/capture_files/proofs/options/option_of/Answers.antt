@@ -1,4 +1,3 @@
-use Rattle.std.proofs.Common.{length, sym, rules}
 use Rattle.capture_files.proofs.OptionWalk.{none_left, value_found, goes_on, all_seen}
 use Rattle.capture_files.proofs.options.option_of.Goals as goal
 

@@ -1,0 +1,32 @@
+//! Files of either format.
+
+ghost use Rattle.std.specs.Prelude.{IfOk, IfErr};
+ghost use Rattle.capture_files.specs.Told.{told_of};
+ghost use Rattle.capture_files.specs.Captures.{IsCapture, IsCaptureFault};
+
+use crate::fault::CaptureFault;
+use crate::frame::Capture;
+use crate::pcap::read_pcap;
+use crate::pcapng::{has_section, read_pcapng};
+use std::alloc::Allocator;
+
+/// Reads a capture file: of the pcapng format where it begins with a Section Header Block, else of
+/// the pcap format. Its frames are parts of the file.
+///
+/// # Errors
+///
+/// Those of [`read_pcapng`] and of [`read_pcap`]; `NotACapture` where the file begins as neither
+/// format does.
+pub fn read_capture<A: Allocator + Copy>(
+    alloc: A,
+    file: &[u8],
+) -> Result<Capture<'_, A>, CaptureFault>
+    ensures told { IfOk result (λ capture. IsCapture file.now (told_of capture)) }
+    ensures fault { IfErr result (λ fault. IsCaptureFault file.now fault) }
+{
+    if has_section(file) {
+        read_pcapng(alloc, file)
+    } else {
+        read_pcap(alloc, file)
+    }
+}
