@@ -1,0 +1,5 @@
+pub mod Split
+pub mod Digits
+pub mod Names
+pub mod Values
+pub mod Tellings

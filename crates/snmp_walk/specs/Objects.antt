@@ -1,0 +1,39 @@
+-- The objects of a walk: lines NAME = VALUE, and the lines that go on with a value.
+use Rattle.std.specs.Prelude.{ℕ, ◌==◌, ◌&&◌, Bool, false, List, [], ◌∷◌, codes, Option, Some, None, is_some, option_map, if◌then◌else◌}
+use Rattle.std.specs.List.{cons_option}
+use Rattle.snmp_walk.specs.Text.{line_feed, behind, first_word, behind_word}
+
+-- an object as it is printed: its name, and its value, which may have several lines
+pub record Object : Type 0 where
+  pub name : List ℕ
+  pub value : List ℕ
+
+-- what stands behind the first word and ` = `
+abbrev pub assigned : List ℕ → Option (List ℕ)
+assigned text = behind (codes " = ") (behind_word text)
+
+-- whether a line begins an object: behind its first word stands ` = `
+abbrev pub begins_object : List ℕ → Bool
+begins_object text = is_some (assigned text)
+
+-- whether here is the line feed before a line that begins an object
+abbrev pub ends_value : List ℕ → Bool
+ends_value [] = false
+ends_value (octet ∷ text) = octet == line_feed && begins_object text
+
+-- a value goes on up to the line feed before the line that begins the next object, or to the end
+unfoldable pub value_in : List ℕ → List ℕ
+value_in [] = []
+value_in (octet ∷ text) = if ends_value (octet ∷ text) then [] else octet ∷ value_in text
+
+-- the object that begins here, at the front of a line
+abbrev pub object_at : List ℕ → Option Object
+object_at text = option_map (λ value. record { name = first_word text; value = value_in value }) (assigned text)
+
+-- those that begin at the front of a later line
+unfoldable pub later_objects : List ℕ → List Object
+later_objects [] = []
+later_objects (octet ∷ text) = if octet == line_feed then cons_option (object_at text) (later_objects text) else later_objects text
+
+abbrev pub objects : List ℕ → List Object
+objects text = cons_option (object_at text) (later_objects text)

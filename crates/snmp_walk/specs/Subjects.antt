@@ -1,0 +1,96 @@
+-- What the objects of the OSPF-MIB are about (RFC 4750).
+use Rattle.std.specs.Prelude.{ℕ, ◌+◌, ◌==◌, ◌&&◌, not, nat_lt, List, [], ◌∷◌, length, take, drop, position, Option, Some, None, if◌then◌else◌}
+use Rattle.std.specs.Int.{w32, from_be_bytes}
+use Rattle.std.specs.List.{slice_split}
+use Rattle.lsa_codec.specs.declared.address.AreaId.{AreaId}
+use Rattle.lsa_codec.specs.declared.key.Key.{Key}
+use Rattle.snmp_walk.specs.declared.row.Row.{Row}
+use Rattle.snmp_walk.specs.declared.subject.Subject.{Subject}
+use Rattle.snmp_walk.specs.declared.subject.Subject.TheVariants.{Kind, Octets, Column, Other, Unreadable, Foreign}
+use Rattle.snmp_walk.specs.Text.{is_dot, behind}
+use Rattle.snmp_walk.specs.Names.{◌>>=◌, head_of, arcs_behind}
+
+-- an arc that is one octet
+abbrev pub octet_of : ℕ → Option ℕ
+octet_of arc = if nat_lt arc 256 then Some arc else None
+
+-- four arcs, the octets of an address, the highest first
+unfoldable pub address_of : List ℕ → Option ℕ
+address_of (a ∷ b ∷ c ∷ d ∷ []) = do
+  first ← octet_of a
+  second ← octet_of b
+  third ← octet_of c
+  fourth ← octet_of d
+  Some (from_be_bytes w32 (first ∷ second ∷ third ∷ fourth ∷ []))
+address_of _ = None
+
+-- LS type, Link State ID and Advertising Router
+unfoldable pub key_in : List ℕ → Option Key
+key_in [] = None
+key_in (arc ∷ names) = do
+  kind ← octet_of arc
+  id ← address_of (take 4 names)
+  adv ← address_of (drop 4 names)
+  Some (record { kind = kind; id = record { 0 = id }; adv = record { 0 = adv } })
+
+-- the row of a table outside of the areas
+unfoldable pub as_row : List ℕ → Option Row
+as_row index = do
+  key ← key_in index
+  Some (record { area = None; key = key })
+
+-- the row of the area's LSA
+unfoldable pub area_row : List ℕ → Option Row
+area_row index = do
+  area ← address_of (take 4 index)
+  key ← key_in (drop 4 index)
+  Some (record { area = Some (record { 0 = area }); key = key })
+
+abbrev pub kind_subject : Option ℕ → Subject
+kind_subject None = Unreadable
+kind_subject (Some area) = Kind (record { 0 = area })
+
+-- the column with this number has the octets of the LSA
+abbrev pub row_subject : ℕ → ℕ → Option Row → Subject
+row_subject octets column None = Unreadable
+row_subject octets column (Some row) = if column == octets then Octets row else Column row
+
+-- ospfAreaTable is 2, with ospfImportAsExtern 3; ospfLsdbTable 4, with ospfLsdbAdvertisement 8; ospfExtLsdbTable 12 and
+-- ospfAsLsdbTable 19, with ospfExtLsdbAdvertisement and ospfAsLsdbAdvertisement 7
+abbrev pub entry_subject : ℕ → ℕ → List ℕ → Subject
+entry_subject table column index =
+    if table == 4 then row_subject 8 column (area_row index)
+    else if table == 12 then row_subject 7 column (as_row index)
+    else if table == 19 then row_subject 7 column (as_row index)
+    else if not (table == 2) then Other
+    else if column == 3 then kind_subject (address_of index)
+    else Other
+
+-- the arcs behind that of the MIB: of a table, of its rows (1), of a column, and the index
+unfoldable pub inner_subject : List ℕ → Subject
+inner_subject (table ∷ entry ∷ column ∷ index) = if entry == 1 then entry_subject table column index else Other
+inner_subject _ = Other
+
+abbrev pub inside : Option (List ℕ) → Subject
+inside None = Foreign
+inside (Some arcs) = inner_subject arcs
+
+-- the arcs of OSPF in MIB-2
+abbrev pub ospf : List ℕ
+ospf = 1 ∷ 3 ∷ 6 ∷ 1 ∷ 2 ∷ 1 ∷ 14 ∷ []
+
+abbrev pub arcs_subject : Option (List ℕ) → Subject
+arcs_subject None = Unreadable
+arcs_subject (Some arcs) = inside (behind ospf arcs)
+
+abbrev pub words_subject : Option (List ℕ) → List (List ℕ) → Subject
+words_subject None words = Foreign
+words_subject (Some arcs) words = arcs_subject (arcs_behind arcs words)
+
+abbrev pub cut_subject : List ℕ → Option ℕ → Subject
+cut_subject name None = Foreign
+cut_subject name (Some end) = words_subject (head_of (take end name)) (slice_split is_dot (drop (end + 1) name))
+
+-- what an object of this name is about
+abbrev pub subject_of : List ℕ → Subject
+subject_of name = cut_subject name (position is_dot name)

@@ -1,0 +1,23 @@
+//! What an SNMP walk of a router tells of its link state databases (RFC 4750, the OSPF-MIB).
+//!
+//! A walk is what net-snmp's `snmpwalk` and `snmpbulkwalk` print, with `-On -Ox` or in the default
+//! form, with the MIB or without.
+#![tactic(auto)]
+
+mod fault;
+mod hole;
+mod kind;
+mod name;
+mod object;
+mod row;
+mod subject;
+mod text;
+mod told;
+mod value;
+mod walk;
+
+pub use fault::WalkFault;
+pub use hole::{Hole, RowFault};
+pub use kind::{AreaKind, AreaTold};
+pub use row::Row;
+pub use walk::{Walk, read_walk};

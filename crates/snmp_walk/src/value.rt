@@ -1,0 +1,87 @@
+//! What the values of objects say, as net-snmp prints them.
+
+ghost use Rattle.std.specs.Prelude.{◌≡◌, IfOk, option_map, not, filter};
+ghost use Rattle.snmp_walk.specs.Text.{is_blank, first_word};
+ghost use Rattle.snmp_walk.specs.Values.{is_end_of_view, pairs_of, octets_in, kind_named, kind_in};
+
+use crate::kind::AreaKind;
+use crate::text::{is_blank, word_len};
+use hex::FromHexError;
+use std::alloc::{AllocError, Allocator};
+
+/// Whether this stands in place of a value where the agent shows no more objects.
+pub(crate) fn is_end_of_view(value: &[u8]) -> bool
+    ensures { result ≡ is_end_of_view value.now }
+{
+    value
+        .strip_prefix(b"No more variables left in this MIB View".as_slice())
+        .is_some()
+}
+
+/// The octets that are not blank.
+fn without_blanks<A: Allocator + Copy>(alloc: A, text: &[u8]) -> Result<Vec<u8, A>, AllocError>
+    ensures { IfOk result (λ digits. digits.items ≡ filter (λ octet. not (is_blank octet)) text.now) }
+{
+    text.iter()
+        .copied()
+        .filter(|octet| !is_blank(*octet))
+        .collect(alloc)
+}
+
+/// Octets of two hexadecimal digits each; blanks do not count.
+fn pairs_of<A: Allocator + Copy>(alloc: A, text: &[u8]) -> Result<Option<Vec<u8, A>>, AllocError>
+    ensures { IfOk result (λ octets. option_map (λ v. v.items) octets ≡ pairs_of text.now) }
+{
+    let digits = without_blanks(alloc, text)?;
+    match hex::decode(alloc, digits) {
+        Ok(octets) => Ok(Some(octets)),
+        Err(FromHexError::OutOfMemory) => Err(AllocError),
+        Err(_) => Ok(None),
+    }
+}
+
+/// The octets of a value.
+#[tactic(auto, unfolding(crate::specs::Values::octets_in))]
+pub(crate) fn octets_in<A: Allocator + Copy>(
+    alloc: A,
+    value: &[u8],
+) -> Result<Option<Vec<u8, A>>, AllocError>
+    ensures { IfOk result (λ octets. option_map (λ v. v.items) octets ≡ octets_in value.now) }
+{
+    match value.strip_prefix(b"Hex-STRING:".as_slice()) {
+        Some(text) => pairs_of(alloc, text),
+        None => Ok(None),
+    }
+}
+
+/// The kind that the value of `ospfImportAsExtern` names, with a MIB and without.
+fn kind_named(word: &[u8]) -> Option<AreaKind>
+    ensures { result ≡ kind_named word.now }
+{
+    if word == b"1".as_slice() {
+        Some(AreaKind::Ordinary)
+    } else if word == b"importExternal(1)".as_slice() {
+        Some(AreaKind::Ordinary)
+    } else if word == b"2".as_slice() {
+        Some(AreaKind::Stub)
+    } else if word == b"importNoExternal(2)".as_slice() {
+        Some(AreaKind::Stub)
+    } else if word == b"3".as_slice() {
+        Some(AreaKind::Nssa)
+    } else if word == b"importNssa(3)".as_slice() {
+        Some(AreaKind::Nssa)
+    } else {
+        None
+    }
+}
+
+/// The kind of area that a value says.
+#[tactic(auto, unfolding(crate::specs::Values::kind_in))]
+pub(crate) fn kind_in(value: &[u8]) -> Option<AreaKind>
+    ensures { result ≡ kind_in value.now }
+{
+    match value.strip_prefix(b"INTEGER: ".as_slice()) {
+        Some(text) => kind_named(&text[..word_len(text)]),
+        None => None,
+    }
+}
