@@ -1,8 +1,7 @@
--- The names of objects, as lists of numbers (X.660): their arcs.
-use Rattle.std.specs.Prelude.{ℕ, ◌+◌, ◌-◌, ◌*◌, ◌==◌, ◌&&◌, nat_lt, nat_le, Bool, List, [], ◌∷◌, ◌++◌, length, take, drop, codes, bytes_eq, position, Option, Some, None, if◌then◌else◌}
-use Rattle.std.specs.List.{slice_split}
+-- The names of objects, as lists of numbers (X.660): their arcs. In place of numbers, names may have words of the MIB.
+use Rattle.std.specs.Prelude.{ℕ, ◌+◌, ◌-◌, ◌*◌, ◌==◌, ◌&&◌, nat_lt, nat_le, Bool, List, [], ◌∷◌, ◌++◌, length, codes, bytes_eq, Option, Some, None, is_some, if◌then◌else◌}
 use Rattle.std.specs.Str.{all_ascii_digits}
-use Rattle.snmp_walk.specs.Text.{is_dot}
+use Rattle.snmp_walk.specs.Text.{behind}
 
 infixl 10 ◌>>=◌
 abbrev pub ◌>>=◌ : {A B : Type 0} → Option A → (A → Option B) → Option B
@@ -19,17 +18,81 @@ unfoldable pub within : ℕ → ℕ → List ℕ → Option ℕ
 within max n digits = if all_ascii_digits digits && nat_le (digits_after n digits) max then Some (digits_after n digits) else None
 
 -- a decimal number of 32 bits
-abbrev pub number_of : List ℕ → Option ℕ
+unfoldable pub number_of : List ℕ → Option ℕ
 number_of word = if nat_lt 0 (length word) then within 0xffffffff 0 word else None
+
+-- the words of the OSPF-MIB for LS types (ospfLsdbType, ospfAsLsdbType and ospfLocalLsdbType of RFC 4750)
+unfoldable pub type_named : List ℕ → Option ℕ
+type_named word =
+    if bytes_eq word (codes "routerLink") then Some 1
+    else if bytes_eq word (codes "networkLink") then Some 2
+    else if bytes_eq word (codes "summaryLink") then Some 3
+    else if bytes_eq word (codes "asSummaryLink") then Some 4
+    else if bytes_eq word (codes "asExternalLink") then Some 5
+    else if bytes_eq word (codes "multicastLink") then Some 6
+    else if bytes_eq word (codes "nssaExternalLink") then Some 7
+    else if bytes_eq word (codes "localOpaqueLink") then Some 9
+    else if bytes_eq word (codes "areaOpaqueLink") then Some 10
+    else if bytes_eq word (codes "asOpaqueLink") then Some 11
+    else None
+
+-- a number, or the word for an LS type
+abbrev pub arc_of : List ℕ → Option ℕ
+arc_of word = if is_some (number_of word) then number_of word else type_named word
 
 -- the arcs that these words spell, behind those that were spelled before
 unfoldable pub arcs_behind : List ℕ → List (List ℕ) → Option (List ℕ)
 arcs_behind arcs [] = Some arcs
-arcs_behind arcs (word ∷ words) = number_of word >>= (λ arc. arcs_behind (arcs ++ arc ∷ []) words)
+arcs_behind arcs (word ∷ words) = arc_of word >>= (λ arc. arcs_behind (arcs ++ arc ∷ []) words)
 
--- what the first word of a name stands for: nothing stands before the dot of `.1.3.6`, and `iso` is 1
-abbrev pub head_of : List ℕ → Option (List ℕ)
+-- what the columns of the tables of LSAs are called behind the name of the table, by their numbers in the tables that
+-- are not of areas; those of ospfLsdbTable have one more, since ospfLsdbAreaId is the first
+unfoldable pub column_named : List ℕ → Option ℕ
+column_named word =
+    if bytes_eq word (codes "AreaId") then Some 0
+    else if bytes_eq word (codes "Type") then Some 1
+    else if bytes_eq word (codes "Lsid") then Some 2
+    else if bytes_eq word (codes "RouterId") then Some 3
+    else if bytes_eq word (codes "Sequence") then Some 4
+    else if bytes_eq word (codes "Age") then Some 5
+    else if bytes_eq word (codes "Checksum") then Some 6
+    else if bytes_eq word (codes "Advertisement") then Some 7
+    else None
+
+-- a table and a column; what is not needed here is taken as the table 0, which there is none of
+abbrev pub in_table : ℕ → ℕ → Option ℕ → ℕ × ℕ
+in_table table before None = (0, 0)
+in_table table before (Some column) = (table, column + before)
+
+abbrev pub in_as_table : Option (List ℕ) → ℕ × ℕ
+in_as_table None = (0, 0)
+in_as_table (Some column) = in_table 19 0 (column_named column)
+
+abbrev pub in_external_table : List ℕ → Option (List ℕ) → ℕ × ℕ
+in_external_table word None = in_as_table (behind (codes "ospfAsLsdb") word)
+in_external_table word (Some column) = in_table 12 0 (column_named column)
+
+abbrev pub in_area_table : List ℕ → Option (List ℕ) → ℕ × ℕ
+in_area_table word None = in_external_table word (behind (codes "ospfExtLsdb") word)
+in_area_table word (Some column) = in_table 4 1 (column_named column)
+
+-- the table and the column of an object of the OSPF-MIB, by its word there
+unfoldable pub object_named : List ℕ → ℕ × ℕ
+object_named word = if bytes_eq word (codes "ospfImportAsExtern") then (2, 3) else in_area_table word (behind (codes "ospfLsdb") word)
+
+-- OSPF in MIB-2
+abbrev pub ospf : List ℕ
+ospf = 1 ∷ 3 ∷ 6 ∷ 1 ∷ 2 ∷ 1 ∷ 14 ∷ []
+
+abbrev pub named_head : Option (List ℕ) → Option (List ℕ)
+named_head None = None
+named_head (Some word) = Some (ospf ++ (object_named word).0 ∷ 1 ∷ (object_named word).1 ∷ [])
+
+-- what the first word of a name stands for: nothing stands before the dot of `.1.3.6`, and `iso` is 1; with the MIB-2
+-- alone, and with the OSPF-MIB
+unfoldable pub head_of : List ℕ → Option (List ℕ)
 head_of word =
     if bytes_eq word [] then Some []
     else if bytes_eq word (codes "iso") then Some (1 ∷ [])
-    else None
+    else if bytes_eq word (codes "SNMPv2-SMI::mib-2") then Some (1 ∷ 3 ∷ 6 ∷ 1 ∷ 2 ∷ 1 ∷ [])
+    else named_head (behind (codes "OSPF-MIB::") word)

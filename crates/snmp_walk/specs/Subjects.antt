@@ -8,7 +8,7 @@ use Rattle.snmp_walk.specs.declared.row.Row.{Row}
 use Rattle.snmp_walk.specs.declared.subject.Subject.{Subject}
 use Rattle.snmp_walk.specs.declared.subject.Subject.TheVariants.{Kind, Octets, Column, Other, Unreadable, Foreign}
 use Rattle.snmp_walk.specs.Text.{is_dot, behind}
-use Rattle.snmp_walk.specs.Names.{◌>>=◌, head_of, arcs_behind}
+use Rattle.snmp_walk.specs.Names.{◌>>=◌, ospf, head_of, arcs_behind}
 
 -- an arc that is one octet
 abbrev pub octet_of : ℕ → Option ℕ
@@ -74,10 +74,6 @@ inner_subject _ = Other
 abbrev pub inside : Option (List ℕ) → Subject
 inside None = Foreign
 inside (Some arcs) = inner_subject arcs
-
--- the arcs of OSPF in MIB-2
-abbrev pub ospf : List ℕ
-ospf = 1 ∷ 3 ∷ 6 ∷ 1 ∷ 2 ∷ 1 ∷ 14 ∷ []
 
 abbrev pub arcs_subject : Option (List ℕ) → Subject
 arcs_subject None = Unreadable

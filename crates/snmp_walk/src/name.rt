@@ -1,9 +1,9 @@
 //! The names of objects.
 
-ghost use Rattle.std.specs.Prelude.{◌≡◌, ◌<◌, IfOk, option_map, MatchOption, [], ◌∷◌, length};
+ghost use Rattle.std.specs.Prelude.{◌≡◌, ◌<◌, ◌≤◌, IfOk, IfSome, option_map, MatchOption, [], ◌∷◌, length};
 ghost use Rattle.std.specs.List.{slice_split};
 ghost use Rattle.snmp_walk.specs.Text.{is_dot};
-ghost use Rattle.snmp_walk.specs.Names.{within, number_of, arcs_behind, head_of};
+ghost use Rattle.snmp_walk.specs.Names.{within, number_of, type_named, arc_of, arcs_behind, column_named, in_table, object_named, head_of};
 
 use crate::text::first_dot;
 use std::alloc::{AllocError, Allocator};
@@ -26,6 +26,7 @@ fn digits_value(digits: &[u8]) -> Option<u32>
 }
 
 /// The decimal number of 32 bits that a word spells.
+#[tactic(auto, unfolding(crate::specs::Names::number_of))]
 fn number_of(word: &[u8]) -> Option<u32>
     ensures { result ≡ number_of word.now }
 {
@@ -33,6 +34,46 @@ fn number_of(word: &[u8]) -> Option<u32>
         return None;
     }
     digits_value(word)
+}
+
+/// The LS type that a word of the OSPF-MIB names.
+#[tactic(auto, unfolding(crate::specs::Names::type_named))]
+fn type_named(word: &[u8]) -> Option<u32>
+    ensures { result ≡ type_named word.now }
+{
+    if word == b"routerLink".as_slice() {
+        Some(1)
+    } else if word == b"networkLink".as_slice() {
+        Some(2)
+    } else if word == b"summaryLink".as_slice() {
+        Some(3)
+    } else if word == b"asSummaryLink".as_slice() {
+        Some(4)
+    } else if word == b"asExternalLink".as_slice() {
+        Some(5)
+    } else if word == b"multicastLink".as_slice() {
+        Some(6)
+    } else if word == b"nssaExternalLink".as_slice() {
+        Some(7)
+    } else if word == b"localOpaqueLink".as_slice() {
+        Some(9)
+    } else if word == b"areaOpaqueLink".as_slice() {
+        Some(10)
+    } else if word == b"asOpaqueLink".as_slice() {
+        Some(11)
+    } else {
+        None
+    }
+}
+
+/// A number, or the word for an LS type.
+fn arc_of(word: &[u8]) -> Option<u32>
+    ensures { result ≡ arc_of word.now }
+{
+    match number_of(word) {
+        Some(number) => Some(number),
+        None => type_named(word),
+    }
 }
 
 /// What stands before the first dot, and behind it.
@@ -52,38 +93,109 @@ fn cut_at_dot(text: &[u8]) -> Option<(&[u8], &[u8])>
 /// The arcs that the words between dots spell, behind those that were spelled before.
 #[tactic(auto, using(crate::proofs::Names::arc_read, crate::proofs::Names::last_read, crate::proofs::Names::unread))]
 pub(crate) fn arcs_behind<A: Allocator + Copy>(
-    alloc: A,
-    front: &[u32],
+    front: Vec<u32, A>,
     words: &[u8],
 ) -> Result<Option<Vec<u32, A>>, AllocError>
     ensures { IfOk result (λ arcs. option_map (λ v. v.items) arcs
-        ≡ arcs_behind front.now (slice_split is_dot words.now)) }
+        ≡ arcs_behind front.items (slice_split is_dot words.now)) }
 {
-    let mut arcs = Vec::from_slice(alloc, front)?;
+    let mut arcs = front;
     let mut rest = words;
     while let Some((word, back)) = cut_at_dot(rest) {
-        let Some(arc) = number_of(word) else {
+        let Some(arc) = arc_of(word) else {
             return Ok(None);
         };
         arcs.push(arc)?;
         rest = back;
     }
-    let Some(arc) = number_of(rest) else {
+    let Some(arc) = arc_of(rest) else {
         return Ok(None);
     };
     arcs.push(arc)?;
     Ok(Some(arcs))
 }
 
-/// What the first word of a name stands for.
-pub(crate) fn head_of(word: &[u8]) -> Option<&'static [u32]>
-    ensures { option_map (λ arcs. arcs.now) result ≡ head_of word.now }
+/// The columns of the tables of LSAs, by their numbers in the tables that are not of areas.
+#[tactic(auto, unfolding(crate::specs::Names::column_named))]
+fn column_named(word: &[u8]) -> Option<u32>
+    ensures value { result ≡ column_named word.now }
+    ensures small { IfSome result (λ column. column < 8) }
 {
-    if word.is_empty() {
-        Some(&[])
-    } else if word == b"iso".as_slice() {
-        Some(&[1])
+    if word == b"AreaId".as_slice() {
+        Some(0)
+    } else if word == b"Type".as_slice() {
+        Some(1)
+    } else if word == b"Lsid".as_slice() {
+        Some(2)
+    } else if word == b"RouterId".as_slice() {
+        Some(3)
+    } else if word == b"Sequence".as_slice() {
+        Some(4)
+    } else if word == b"Age".as_slice() {
+        Some(5)
+    } else if word == b"Checksum".as_slice() {
+        Some(6)
+    } else if word == b"Advertisement".as_slice() {
+        Some(7)
     } else {
         None
+    }
+}
+
+/// A table and a column of it. What is not needed here is taken as the table 0.
+fn in_table(table: u32, before: u32, column: Option<u32>) -> (u32, u32)
+    requires { (before ≤ 1) × IfSome column (λ column. column < 8) }
+    ensures { result ≡ in_table table before column }
+{
+    match column {
+        None => (0, 0),
+        Some(column) => (table, column + before),
+    }
+}
+
+/// The table and the column of an object of the OSPF-MIB, by its word there.
+#[tactic(auto, unfolding(crate::specs::Names::object_named))]
+fn object_named(word: &[u8]) -> (u32, u32)
+    ensures { result ≡ object_named word.now }
+{
+    if word == b"ospfImportAsExtern".as_slice() {
+        return (2, 3);
+    }
+    if let Some(column) = word.strip_prefix(b"ospfLsdb".as_slice()) {
+        return in_table(4, 1, column_named(column));
+    }
+    if let Some(column) = word.strip_prefix(b"ospfExtLsdb".as_slice()) {
+        return in_table(12, 0, column_named(column));
+    }
+    match word.strip_prefix(b"ospfAsLsdb".as_slice()) {
+        None => (0, 0),
+        Some(column) => in_table(19, 0, column_named(column)),
+    }
+}
+
+/// What the first word of a name stands for.
+#[tactic(auto, unfolding(crate::specs::Names::head_of))]
+pub(crate) fn head_of<A: Allocator + Copy>(
+    alloc: A,
+    word: &[u8],
+) -> Result<Option<Vec<u32, A>>, AllocError>
+    ensures { IfOk result (λ arcs. option_map (λ v. v.items) arcs ≡ head_of word.now) }
+{
+    if word.is_empty() {
+        return Ok(Some(Vec::new(alloc)));
+    }
+    if word == b"iso".as_slice() {
+        return Ok(Some(Vec::from_slice(alloc, &[1])?));
+    }
+    if word == b"SNMPv2-SMI::mib-2".as_slice() {
+        return Ok(Some(Vec::from_slice(alloc, &[1, 3, 6, 1, 2, 1])?));
+    }
+    match word.strip_prefix(b"OSPF-MIB::".as_slice()) {
+        None => Ok(None),
+        Some(object) => {
+            let (table, column) = object_named(object);
+            let arcs = [1, 3, 6, 1, 2, 1, 14, table, 1, column];
+            Ok(Some(Vec::from_slice(alloc, &arcs)?))
+        }
     }
 }

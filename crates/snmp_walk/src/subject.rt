@@ -152,10 +152,10 @@ pub(crate) fn subject_of<A: Allocator + Copy>(alloc: A, name: &[u8]) -> Result<S
     let Some(end) = first_dot(name) else {
         return Ok(Subject::Foreign);
     };
-    let Some(front) = head_of(&name[..end]) else {
+    let Some(front) = head_of(alloc, &name[..end])? else {
         return Ok(Subject::Foreign);
     };
-    let Some(arcs) = arcs_behind(alloc, front, &name[end + 1..])? else {
+    let Some(arcs) = arcs_behind(front, &name[end + 1..])? else {
         return Ok(Subject::Unreadable);
     };
     match arcs.as_slice().strip_prefix(OSPF) {

@@ -5,7 +5,7 @@ use Rattle.snmp_walk.specs.Names.{arcs_behind}
 use Rattle.snmp_walk.proofs.name.arcs_behind.Given as goal
 
 abbrev pub invariant-loop-word : goal.invariant-loop-word
-invariant-loop-word g l = arcs_behind l.arcs.items (slice_split is_dot l.rest) ≡ arcs_behind l.front (slice_split is_dot l.words)
+invariant-loop-word g l = arcs_behind l.arcs.items (slice_split is_dot l.rest) ≡ arcs_behind l.fn.front.items (slice_split is_dot l.words)
 
 abbrev pub decreases-loop-word : goal.decreases-loop-word
 decreases-loop-word g l = length l.rest
