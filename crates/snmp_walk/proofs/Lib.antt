@@ -3,3 +3,4 @@ pub mod Digits
 pub mod Names
 pub mod Values
 pub mod Tellings
+pub mod Quotes

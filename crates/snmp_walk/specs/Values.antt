@@ -1,5 +1,6 @@
 -- What the values of objects say, as net-snmp prints them.
-use Rattle.std.specs.Prelude.{ℕ, not, Bool, List, codes, bytes_eq, filter, Option, Some, None, is_some, if◌then◌else◌, Result, Ok, Err}
+use Rattle.std.specs.Prelude.{ℕ, ◌==◌, not, Bool, true, false, List, [], ◌∷◌, ◌++◌, codes, bytes_eq, filter, Option, Some, None, is_some, if◌then◌else◌, Result, Ok, Err}
+use Rattle.std.specs.List.{list_all}
 use Rattle.hex.specs.Hex.{decode_of}
 use Rattle.hex.specs.declared.error.FromHexError.{FromHexError}
 use Rattle.snmp_walk.specs.declared.kind.AreaKind.{AreaKind}
@@ -19,9 +20,31 @@ ok (Err e) = None
 abbrev pub pairs_of : List ℕ → Option (List ℕ)
 pairs_of text = ok (decode_of (filter (λ octet. not (is_blank octet)) text))
 
--- the octets of a value
-unfoldable pub octets_in : List ℕ → Option (List ℕ)
-octets_in value = behind (codes "Hex-STRING:") value >>= pairs_of
+abbrev pub else_some : {A : Type 0} → Option A → A → A
+else_some (Some x) other = x
+else_some None other = other
+
+-- octets between quotes (0x22), behind those that were read before. An octet behind a backslash (0x5c) stands for itself;
+-- behind the closing quote stand blanks alone
+unfoldable pub quoted_behind : List ℕ → Bool → List ℕ → Option (List ℕ)
+quoted_behind octets escaped [] = None
+quoted_behind octets true (octet ∷ text) = quoted_behind (octets ++ octet ∷ []) false text
+quoted_behind octets false (octet ∷ text) =
+    if octet == 0x22 then (if list_all is_blank text then Some octets else None)
+    else if octet == 0x5c then quoted_behind octets true text
+    else quoted_behind (octets ++ octet ∷ []) false text
+
+-- octets that are all printable, between quotes; none at all are printed as the quotes alone
+unfoldable pub string_in : List ℕ → Option (List ℕ)
+string_in value = behind (0x22 ∷ []) (else_some (behind (codes "STRING: ") value) value) >>= quoted_behind [] false
+
+abbrev pub octets_behind : List ℕ → Option (List ℕ) → Option (List ℕ)
+octets_behind value None = string_in value
+octets_behind value (Some text) = pairs_of text
+
+-- the octets of a value: in hexadecimal, or where they are all printable perhaps as a string
+abbrev pub octets_in : List ℕ → Option (List ℕ)
+octets_in value = octets_behind value (behind (codes "Hex-STRING:") value)
 
 -- ospfImportAsExtern (RFC 4750), with a MIB and without
 abbrev pub kind_named : List ℕ → Option AreaKind

@@ -1,8 +1,9 @@
 //! What the values of objects say, as net-snmp prints them.
 
-ghost use Rattle.std.specs.Prelude.{◌≡◌, IfOk, option_map, not, filter};
+ghost use Rattle.std.specs.Prelude.{◌≡◌, IfOk, option_map, not, filter, false, []};
+ghost use Rattle.std.specs.List.{list_all};
 ghost use Rattle.snmp_walk.specs.Text.{is_blank, first_word};
-ghost use Rattle.snmp_walk.specs.Values.{is_end_of_view, pairs_of, octets_in, kind_named, kind_in};
+ghost use Rattle.snmp_walk.specs.Values.{is_end_of_view, pairs_of, quoted_behind, string_in, octets_in, kind_named, kind_in};
 
 use crate::kind::AreaKind;
 use crate::text::{is_blank, word_len};
@@ -40,8 +41,50 @@ fn pairs_of<A: Allocator + Copy>(alloc: A, text: &[u8]) -> Result<Option<Vec<u8,
     }
 }
 
-/// The octets of a value.
-#[tactic(auto, unfolding(crate::specs::Values::octets_in))]
+/// Whether all of it is blank.
+fn are_blanks(text: &[u8]) -> bool
+    ensures { result ≡ list_all is_blank text.now }
+{
+    text.iter().all(|octet| is_blank(*octet))
+}
+
+/// The octets up to the closing quote, behind which stand blanks alone.
+fn quoted<A: Allocator + Copy>(alloc: A, text: &[u8]) -> Result<Option<Vec<u8, A>>, AllocError>
+    ensures { IfOk result (λ octets. option_map (λ v. v.items) octets ≡ quoted_behind [] false text.now) }
+{
+    let mut octets = Vec::new(alloc);
+    let mut escaped = false;
+    for (index, octet) in text.iter().enumerate() {
+        if escaped {
+            octets.push(*octet)?;
+            escaped = false;
+        } else if *octet == b'"' {
+            if are_blanks(&text[index + 1..]) {
+                return Ok(Some(octets));
+            }
+            return Ok(None);
+        } else if *octet == b'\\' {
+            escaped = true;
+        } else {
+            octets.push(*octet)?;
+        }
+    }
+    Ok(None)
+}
+
+/// Octets that are all printable, between quotes; none at all are printed as the quotes alone.
+#[tactic(auto, unfolding(crate::specs::Values::string_in))]
+fn string_in<A: Allocator + Copy>(alloc: A, value: &[u8]) -> Result<Option<Vec<u8, A>>, AllocError>
+    ensures { IfOk result (λ octets. option_map (λ v. v.items) octets ≡ string_in value.now) }
+{
+    let text = value.strip_prefix(b"STRING: ".as_slice()).unwrap_or(value);
+    match text.strip_prefix(b"\"".as_slice()) {
+        Some(text) => quoted(alloc, text),
+        None => Ok(None),
+    }
+}
+
+/// The octets of a value: in hexadecimal, or where they are all printable perhaps as a string.
 pub(crate) fn octets_in<A: Allocator + Copy>(
     alloc: A,
     value: &[u8],
@@ -50,7 +93,7 @@ pub(crate) fn octets_in<A: Allocator + Copy>(
 {
     match value.strip_prefix(b"Hex-STRING:".as_slice()) {
         Some(text) => pairs_of(alloc, text),
-        None => Ok(None),
+        None => string_in(alloc, value),
     }
 }
 
