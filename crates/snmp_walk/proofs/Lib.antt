@@ -4,3 +4,4 @@ pub mod Names
 pub mod Values
 pub mod Tellings
 pub mod Quotes
+pub mod Rows

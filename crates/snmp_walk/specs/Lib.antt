@@ -5,3 +5,4 @@ pub mod Subjects
 pub mod Values
 pub mod Telling
 pub mod Walks
+pub mod Missing

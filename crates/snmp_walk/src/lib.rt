@@ -7,6 +7,7 @@
 mod fault;
 mod hole;
 mod kind;
+mod missing;
 mod name;
 mod object;
 mod row;

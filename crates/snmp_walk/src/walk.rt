@@ -3,12 +3,14 @@
 ghost use Rattle.std.specs.Prelude.{◌≡◌, IfOk, IfErr, ◌⊎◌, true, false};
 ghost use Rattle.std.specs.List.{filter_map, list_any};
 ghost use Rattle.snmp_walk.specs.declared.fault.WalkFault.TheVariants as faults;
+ghost use Rattle.snmp_walk.specs.Missing.{AreHoles};
 ghost use Rattle.snmp_walk.specs.Telling.{told_in};
 ghost use Rattle.snmp_walk.specs.Walks.{sighting_of, kind_of, hole_of, is_of_mib};
 
 use crate::fault::WalkFault;
 use crate::hole::Hole;
 use crate::kind::AreaTold;
+use crate::missing::{add_missing, rows_missing};
 use crate::told::{Told, tellings};
 use lsa_instances::Sighting;
 use std::alloc::{AllocError, Allocator, Global};
@@ -110,7 +112,7 @@ fn sightings_of<A: Allocator + Copy>(
 pub fn read_walk<A: Allocator + Copy>(alloc: A, text: &[u8]) -> Result<Walk<A>, WalkFault>
     ensures sightings { IfOk result (λ walk. walk.sightings.items ≡ filter_map sighting_of (told_in text.now)) }
     ensures kinds { IfOk result (λ walk. walk.kinds.items ≡ filter_map (kind_of {A = A}) (told_in text.now)) }
-    ensures holes { IfOk result (λ walk. walk.holes.items ≡ filter_map (hole_of {A = A}) (told_in text.now)) }
+    ensures holes { IfOk result (λ walk. AreHoles {A = A} (told_in text.now) walk.holes.items) }
     ensures walk { IfOk result (λ walk. list_any (is_of_mib {A = A}) (told_in text.now) ≡ true) }
     ensures fault { IfErr result (λ fault. (fault ≡ faults.OutOfMemory)
         ⊎ ((fault ≡ faults.NotAWalk) × (list_any (is_of_mib {A = A}) (told_in text.now) ≡ false))) }
@@ -120,7 +122,9 @@ pub fn read_walk<A: Allocator + Copy>(alloc: A, text: &[u8]) -> Result<Walk<A>, 
         return Err(WalkFault::NotAWalk);
     }
     let kinds = kinds_of(alloc, &told)?;
-    let holes = holes_of(alloc, &told)?;
+    let mut holes = holes_of(alloc, &told)?;
+    let missing = rows_missing(alloc, &told)?;
+    add_missing(&mut holes, &missing)?;
     let sightings = sightings_of(alloc, told)?;
     Ok(Walk {
         sightings,
