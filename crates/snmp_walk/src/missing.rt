@@ -76,7 +76,9 @@ pub(crate) fn rows_missing<A: Allocator + Copy>(
     alloc: A,
     told: &[Told<A>],
 ) -> Result<Vec<Row, A>, AllocError>
-    ensures { IfOk result (λ rows. AreMissing (filter_map column_row told.now) (filter_map octets_row told.now) rows.items) }
+    ensures { IfOk result (λ rows. AreMissing
+        (filter_map column_row told.now)
+        (filter_map octets_row told.now) rows.items) }
 {
     let columns = columns_of(alloc, told)?;
     let octets = octets_of(alloc, told)?;

@@ -59,8 +59,9 @@ fn value_len(text: &[u8]) -> usize
 
 /// The object that begins here, at the front of a line.
 pub(crate) fn object_at(text: &[u8]) -> Option<Object<'_>>
-    ensures { option_map (λ object. record { name = object.name.now; value = object.value.now }) result
-        ≡ object_at text.now }
+    ensures { option_map
+        (λ object. record { name = object.name.now; value = object.value.now })
+        result ≡ object_at text.now }
 {
     let Some(value) = assigned(text) else {
         return None;

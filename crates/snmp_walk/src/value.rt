@@ -21,7 +21,8 @@ pub(crate) fn is_end_of_view(value: &[u8]) -> bool
 
 /// The octets that are not blank.
 fn without_blanks<A: Allocator + Copy>(alloc: A, text: &[u8]) -> Result<Vec<u8, A>, AllocError>
-    ensures { IfOk result (λ digits. digits.items ≡ filter (λ octet. not (is_blank octet)) text.now) }
+    ensures { IfOk result (λ digits. digits.items
+        ≡ filter (λ octet. not (is_blank octet)) text.now) }
 {
     text.iter()
         .copied()
@@ -50,7 +51,8 @@ fn are_blanks(text: &[u8]) -> bool
 
 /// The octets up to the closing quote, behind which stand blanks alone.
 fn quoted<A: Allocator + Copy>(alloc: A, text: &[u8]) -> Result<Option<Vec<u8, A>>, AllocError>
-    ensures { IfOk result (λ octets. option_map (λ v. v.items) octets ≡ quoted_behind [] false text.now) }
+    ensures { IfOk result (λ octets. option_map (λ v. v.items) octets
+        ≡ quoted_behind [] false text.now) }
 {
     let mut octets = Vec::new(alloc);
     let mut escaped = false;

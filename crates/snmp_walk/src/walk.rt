@@ -110,8 +110,10 @@ fn sightings_of<A: Allocator + Copy>(
 ///
 /// No object of the OSPF-MIB is there, or memory ran out.
 pub fn read_walk<A: Allocator + Copy>(alloc: A, text: &[u8]) -> Result<Walk<A>, WalkFault>
-    ensures sightings { IfOk result (λ walk. walk.sightings.items ≡ filter_map sighting_of (told_in text.now)) }
-    ensures kinds { IfOk result (λ walk. walk.kinds.items ≡ filter_map (kind_of {A = A}) (told_in text.now)) }
+    ensures sightings { IfOk result (λ walk. walk.sightings.items
+        ≡ filter_map sighting_of (told_in text.now)) }
+    ensures kinds { IfOk result (λ walk. walk.kinds.items
+        ≡ filter_map (kind_of {A = A}) (told_in text.now)) }
     ensures holes { IfOk result (λ walk. AreHoles {A = A} (told_in text.now) walk.holes.items) }
     ensures walk { IfOk result (λ walk. list_any (is_of_mib {A = A}) (told_in text.now) ≡ true) }
     ensures fault { IfErr result (λ fault. (fault ≡ faults.OutOfMemory)
