@@ -14,3 +14,6 @@ mod section;
 pub use area::ToldArea;
 pub use fault::JoinFault;
 pub use joining::join;
+
+#[cfg(test)]
+mod tests;
