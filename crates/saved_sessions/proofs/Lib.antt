@@ -1,0 +1,9 @@
+pub mod Failing
+pub mod Numbers
+pub mod Doing
+pub mod Lines
+pub mod LinesTaken
+pub mod LinesAgain
+pub mod SessionAgain
+pub mod SessionTaken
+pub mod CanSave

@@ -1,0 +1,15 @@
+use Rattle.std.proofs.Common.{◌≡◌, ◌≤◌, take, length, sym, ap, ◌∙◌, arith}
+use Rattle.lsdb.specs.BaseText.{base_text}
+use Rattle.lsdb.specs.Lists.{Lists}
+use Rattle.edit_history.specs.Session.{Session}
+use Rattle.saved_sessions.proofs.SessionTaken.{session_is}
+use Rattle.saved_sessions.proofs.opening.read_session.Goals as goal
+
+pub returns-clause-spelled : goal.returns-clause-spelled
+returns-clause-spelled g c =
+    let base : Lists = c.new-planner.result.session.base in
+    let spelled : take c.in_ok-base.octets c.args.bytes.now ≡ base_text base =
+    c.in_ok-base.ensures.spelled ∙ ap (λ (s : Session). base_text s.base) (sym c.new-planner.ensures.session) in
+    let all : length c.args.bytes.now ≤ c.in_ok-end.end = omega (arith, c.if-end-bytes.false) in
+    session_is c.line_laws.ensures.spelled c.args.bytes.now (λ i. omega (arith, c.type_inv.bytes i)) base c.in_ok-base.octets
+    c.read_history.new.planner.session c.in_ok-end.end spelled c.in_ok-end.ensures.session all

@@ -1,0 +1,31 @@
+-- What a function that reads a part of a saved session tells of it.
+use Rattle.std.specs.Prelude.{◌≡◌, Result, Ok, Err}
+use Rattle.lsdb.specs.declared.fault.DumpFault.{DumpFault}
+use Rattle.lsdb.specs.declared.fault.DumpFaultKind.{DumpFaultKind}
+use Rattle.lsdb.specs.declared.fault.DumpFaultKind.TheVariants.{OutOfMemory}
+use Rattle.lsdb.specs.Loading.{no_memory}
+use Rattle.saved_sessions.specs.declared.fault.ReadError.{ReadError}
+use Rattle.saved_sessions.specs.declared.fault.ReadError.TheVariants as errors
+
+-- reading ended for want of memory, or with the fault that is told
+abbrev pub Fails : {Y : Type 0} → ReadError → Result Y DumpFault → Type 0
+Fails errors.Memory read = Unit {0}
+Fails (errors.Fault f) read = read ≡ Err f
+
+-- what a function returned, seen by view, is what reading gives, unless memory ran out
+abbrev pub Gives : {X Y : Type 0} → (X → Y) → Result X ReadError → Result Y DumpFault → Type 0
+Gives view (Ok x) read = read ≡ Ok (view x)
+Gives view (Err e) read = Fails e read
+
+-- the fault that is told of a failed reading
+abbrev pub told_fault : ReadError → DumpFault
+told_fault errors.Memory = no_memory
+told_fault (errors.Fault f) = f
+
+-- why reading ended, by the fault that loading a database told
+abbrev pub error_by : DumpFaultKind → DumpFault → ReadError
+error_by OutOfMemory f = errors.Memory
+error_by _ f = errors.Fault f
+
+abbrev pub error_of : DumpFault → ReadError
+error_of f = error_by f.kind f

@@ -1,0 +1,128 @@
+//! The edits of a session, read and carried out in turn.
+
+ghost use Rattle.std.specs.Prelude.{◌≡◌, ◌+◌, ◌≤◌, [], length, IfOk, OnOk};
+ghost use Rattle.edit_history.specs.Session.{start};
+ghost use Rattle.saved_sessions.specs.Opening.{behind, edit_at, has_line_feed, history_at, line_at, line_fault, lines_from};
+ghost use Rattle.saved_sessions.specs.steps.Reading.{Gives};
+
+use crate::fault::{ReadError, fault};
+use crate::read::read_counts;
+use edit_history::EditFault;
+use edit_script::Edit;
+use lsdb::DumpFaultKind;
+use recalculate::Planner;
+use session_text::{edit_line, line_laws};
+use std::alloc::Allocator;
+
+/// Whether a line feed is among octets.
+fn has_line_feed(octets: &[u8]) -> bool
+    ensures { result ≡ has_line_feed octets.now }
+{
+    octets.iter().any(|octet| *octet == b'\n')
+}
+
+/// What is wrong with a line that is no line of an edit.
+fn line_fault(line: u16, octets: &[u8]) -> DumpFaultKind
+    ensures { result ≡ line_fault line octets.now }
+{
+    if has_line_feed(octets) {
+        DumpFaultKind::BadHistory(line)
+    } else {
+        DumpFaultKind::Truncated
+    }
+}
+
+/// The edit of the line at an offset, and the offset behind the line.
+fn read_edit<A: Allocator + Copy>(
+    alloc: A,
+    line: u16,
+    bytes: &[u8],
+    offset: usize,
+) -> Result<(Edit, usize), ReadError>
+    requires { offset ≤ length bytes.now }
+    ensures edit { Gives (λ x. (x.0, behind x.1 bytes.now))
+        result (edit_at line (behind offset bytes.now)) }
+    ensures within { IfOk result (λ x. x.1 ≤ length bytes.now) }
+{
+    // A line that is found lies within the octets.
+    line_laws();
+    let rest = &bytes[offset..];
+    match edit_line(alloc, rest)? {
+        Some((edit, octets)) => Ok((edit, offset + octets)),
+        None => Err(fault(offset, line_fault(line, rest))),
+    }
+}
+
+/// Carries out the edit of the line at an offset, and answers the offset behind the line.
+#[tactic(auto, using(crate::proofs::Doing::one_more), unfolding(crate::specs::Opening::line_at))]
+fn carry_out_line<A: Allocator + Copy>(
+    alloc: A,
+    planner: &mut Planner<A>,
+    line: u16,
+    bytes: &[u8],
+    offset: usize,
+) -> Result<usize, ReadError>
+    requires { offset ≤ length bytes.now }
+    ensures session { Gives (λ end. (planner.new.session, behind end bytes.now))
+        result (line_at line planner.old.session (behind offset bytes.now)) }
+    ensures within { IfOk result (λ end. end ≤ length bytes.now) }
+    ensures done { OnOk result
+        (length planner.new.session.done ≡ length planner.old.session.done + 1) }
+    ensures runs { planner.new.runs ≡ planner.old.runs }
+    ensures kept { planner.old.kept ≡ [] → planner.new.kept ≡ [] }
+{
+    let (edit, end) = read_edit(alloc, line, bytes, offset)?;
+    match planner.edit(&edit) {
+        Ok(()) => Ok(end),
+        Err(EditFault::OutOfMemory) => Err(ReadError::Memory),
+        Err(_) => Err(fault(offset, DumpFaultKind::BadHistory(line))),
+    }
+}
+
+/// Carries out the edits of so many lines, in turn, and answers the offset behind them.
+fn carry_out_lines<A: Allocator + Copy>(
+    alloc: A,
+    planner: &mut Planner<A>,
+    count: u16,
+    bytes: &[u8],
+    offset: usize,
+) -> Result<usize, ReadError>
+    requires { offset ≤ length bytes.now }
+    ensures session { Gives (λ end. (planner.new.session, behind end bytes.now))
+        result (lines_from count 0 planner.old.session (behind offset bytes.now)) }
+    ensures within { IfOk result (λ end. end ≤ length bytes.now) }
+    ensures done { OnOk result
+        (length planner.new.session.done ≡ length planner.old.session.done + count) }
+    ensures runs { planner.new.runs ≡ planner.old.runs }
+    ensures kept { planner.old.kept ≡ [] → planner.new.kept ≡ [] }
+{
+    let mut end = offset;
+    for line in 0..count {
+        end = carry_out_line(alloc, planner, line, bytes, end)?;
+    }
+    Ok(end)
+}
+
+/// Carries out the edits behind the base, and takes the undone ones back. The planner has no edits
+/// before. The offset behind the edits is answered.
+#[tactic(auto, unfolding(crate::specs::Opening::history_at))]
+pub(crate) fn read_history<A: Allocator + Copy>(
+    alloc: A,
+    planner: &mut Planner<A>,
+    bytes: &[u8],
+    offset: usize,
+) -> Result<usize, ReadError>
+    requires within { offset ≤ length bytes.now }
+    requires start { planner.old.session ≡ start planner.old.session.base }
+    ensures session { Gives (λ end. (planner.new.session, behind end bytes.now))
+        result (history_at planner.old.session.base (behind offset bytes.now)) }
+    ensures within { IfOk result (λ end. end ≤ length bytes.now) }
+    ensures runs { planner.new.runs ≡ planner.old.runs }
+    ensures kept { planner.old.kept ≡ [] → planner.new.kept ≡ [] }
+{
+    let (done, undone, lines) = read_counts(bytes, offset)?;
+    let end = carry_out_lines(alloc, planner, done + undone, bytes, lines)?;
+    // It is not refused: all of them are done.
+    let _ = planner.undo(u32::from(undone));
+    Ok(end)
+}

@@ -1,0 +1,18 @@
+//! Sessions that outlive the program: a planner's base, its done edits and its undone ones, saved
+//! as octets and opened again.
+//!
+//! [`save`] writes the dump of a session, version 2, and [`open`] makes the same session of it, or
+//! a session without edits of a dump of version 1. What is opened is what was saved: the base, the
+//! edits that are done, and those that are undone, in their order.
+#![tactic(auto)]
+
+mod fault;
+mod history;
+mod laws;
+mod opening;
+mod read;
+mod saving;
+
+pub use laws::sessions_open_again;
+pub use opening::open;
+pub use saving::save;

@@ -1,0 +1,100 @@
+//! Opening a saved session.
+
+ghost use Rattle.std.specs.Prelude.{◌≡◌, true, false, [], Ok, IfOk, IfErr};
+ghost use Rattle.lsdb.specs.BaseLoading.{begins_session};
+ghost use Rattle.lsdb.specs.Loading.{IsFirstFault};
+ghost use Rattle.lsdb.specs.Text.{text};
+ghost use Rattle.edit_history.specs.Session.{start};
+ghost use Rattle.saved_sessions.specs.Opening.{dump_loaded, opened, session_loaded};
+ghost use Rattle.saved_sessions.specs.Saved.{saved_text};
+ghost use Rattle.saved_sessions.specs.steps.Reading.{Gives};
+
+use crate::fault::{ReadError, dump_fault, fault};
+use crate::history::read_history;
+use lsdb::{Database, DumpFault, DumpFaultKind};
+use recalculate::Planner;
+use session_text::line_laws;
+use std::alloc::Allocator;
+
+/// What the dump of a session begins with: the magic and the version.
+const SESSION_START: &[u8] = b"OSWP\x02";
+
+/// Whether octets begin as the dump of a session does.
+fn begins_session(bytes: &[u8]) -> bool
+    ensures { result ≡ begins_session bytes.now }
+{
+    bytes.starts_with(SESSION_START)
+}
+
+/// The session of a dump, version 2.
+#[tactic(auto, unfolding(crate::specs::Opening::session_loaded))]
+fn read_session<A: Allocator + Copy>(alloc: A, bytes: &[u8]) -> Result<Planner<A>, ReadError>
+    ensures session { Gives (λ planner. planner.session) result (session_loaded bytes.now) }
+    ensures spelled { IfOk result (λ planner. bytes.now ≡ saved_text planner.session) }
+    ensures runs { IfOk result (λ planner. planner.runs ≡ 0) }
+    ensures kept { IfOk result (λ planner. planner.kept ≡ []) }
+{
+    // The lines that are read are those of the edits.
+    line_laws();
+    let (base, octets) = Database::load_base(alloc, bytes)?;
+    let mut planner = Planner::new(alloc, base);
+    let end = read_history(alloc, &mut planner, bytes, octets)?;
+    if end < bytes.len() {
+        return Err(fault(end, DumpFaultKind::TrailingBytes));
+    }
+    Ok(planner)
+}
+
+/// The session of a dump, version 1, which has no edits.
+#[tactic(auto, unfolding(crate::specs::Opening::dump_loaded))]
+fn read_dump<A: Allocator + Copy>(alloc: A, bytes: &[u8]) -> Result<Planner<A>, ReadError>
+    ensures session { Gives (λ planner. planner.session) result (dump_loaded bytes.now) }
+    ensures spelled { IfOk result (λ planner. bytes.now ≡ text planner.session.base) }
+    ensures start { IfOk result (λ planner. planner.session ≡ start planner.session.base) }
+    ensures runs { IfOk result (λ planner. planner.runs ≡ 0) }
+    ensures kept { IfOk result (λ planner. planner.kept ≡ []) }
+{
+    let database = Database::load(alloc, bytes)?;
+    Ok(Planner::new(alloc, database))
+}
+
+/// The session that was saved as these octets, by [`save`](crate::save), or that begins at the
+/// database whose dump, version 1, the octets are.
+///
+/// Each edit is carried out in turn, first those that are done, and the undone ones are then taken
+/// back. So all limits and refusals of edits hold of a session that is opened.
+///
+/// # Errors
+///
+/// The first fault from front to back. `TooLarge` comes before all others for more than 17,825,792
+/// octets, or 16,777,216 where they do not begin as a session does, and behind the base where this
+/// alone has more octets than a dump may have. `BadHistory` tells the line, counted from 0, that is
+/// not just as an edit is printed or whose edit is refused; it is 10,000, at the numbers, where
+/// there are more edits than may be done. `OutOfMemory` may stand in place of any.
+#[tactic(auto, unfolding(crate::specs::Opening::opened))]
+pub fn open<A: Allocator + Copy>(alloc: A, bytes: &[u8]) -> Result<Planner<A>, DumpFault>
+    // What is opened is told so.
+    ensures session { begins_session bytes.now ≡ true
+        → IfOk result (λ planner. bytes.now ≡ saved_text planner.session) }
+    ensures dump { begins_session bytes.now ≡ false
+        → IfOk result (λ planner. (bytes.now ≡ text planner.session.base)
+        × (planner.session ≡ start planner.session.base)) }
+
+    // What is told so is opened, unless memory runs out; else the first fault is told.
+    ensures found { IfOk result (λ planner. opened bytes.now ≡ Ok planner.session) }
+    ensures fault { IfErr result (λ fault. IsFirstFault fault (opened bytes.now)) }
+
+    // No tree was calculated.
+    ensures runs { IfOk result (λ planner. planner.runs ≡ 0) }
+    ensures kept { IfOk result (λ planner. planner.kept ≡ []) }
+{
+    let read = if begins_session(bytes) {
+        read_session(alloc, bytes)
+    } else {
+        read_dump(alloc, bytes)
+    };
+    match read {
+        Ok(planner) => Ok(planner),
+        Err(error) => Err(dump_fault(error)),
+    }
+}
