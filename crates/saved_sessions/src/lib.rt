@@ -16,3 +16,6 @@ mod saving;
 pub use laws::sessions_open_again;
 pub use opening::open;
 pub use saving::save;
+
+#[cfg(test)]
+mod tests;
