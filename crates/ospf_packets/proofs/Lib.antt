@@ -1,0 +1,5 @@
+pub mod Tags
+pub mod Words
+pub mod Lsas
+pub mod Tellings
+pub mod Fronts

@@ -1,0 +1,75 @@
+-- IPv4 datagrams that carry OSPF (RFC 791, 3.1; RFC 2328, appendix A.1).
+use Rattle.std.specs.Prelude.{ℕ, ◌-◌, ◌*◌, ◌/◌, ◌%◌, ◌==◌, ◌&&◌, ◌||◌, Bool, not, nat_le, nat_lt, if◌then◌else◌, List}
+use Rattle.std.specs.Prelude.{length, take, drop, Result, Ok, Err}
+use Rattle.lsa_codec.specs.Fields.{number_at, octet_at}
+use Rattle.ospf_packets.specs.declared.datagram.Datagram.{Datagram}
+use Rattle.ospf_packets.specs.declared.odd.Odd.{Odd}
+use Rattle.ospf_packets.specs.declared.odd.Odd.TheVariants.{NotIpv4, NotOspf, Truncated, BadLength}
+
+-- a datagram, or a fragment of one, without where its octets lie in memory: what tells the datagrams of one sender
+-- apart; how many octets of the payload stand before those of the fragment, and whether others stand behind them; the
+-- octets of the payload that are at hand, and whether they are all that the fragment has
+pub record DatagramText : Type 0 where
+  pub source : ℕ
+  pub destination : ℕ
+  pub identification : ℕ
+  pub before : ℕ
+  pub more : Bool
+  pub whole : Bool
+  pub payload : List ℕ
+
+abbrev pub datagram_text : Datagram → DatagramText
+datagram_text datagram = record {
+  source = datagram.source;
+  destination = datagram.destination;
+  identification = datagram.identification;
+  before = datagram.before;
+  more = datagram.more;
+  whole = datagram.whole;
+  payload = datagram.payload.now;
+}
+
+-- the upper half of the first octet
+abbrev pub version_of : List ℕ → ℕ
+version_of octets = octet_at 0 octets / 16
+
+-- its lower half counts words of four octets
+abbrev pub header_length_of : List ℕ → ℕ
+header_length_of octets = octet_at 0 octets % 16 * 4
+
+-- the header and the payload
+abbrev pub total_length_of : List ℕ → ℕ
+total_length_of octets = number_at 2 2 octets
+
+-- three flags, of which the last is More Fragments, and the Fragment Offset, in units of eight octets
+abbrev pub flags_and_offset_of : List ℕ → ℕ
+flags_and_offset_of octets = number_at 2 6 octets
+
+abbrev pub datagram_in : List ℕ → DatagramText
+datagram_in octets = record {
+  source = number_at 4 12 octets;
+  destination = number_at 4 16 octets;
+  identification = number_at 2 4 octets;
+  before = flags_and_offset_of octets % 8192 * 8;
+  more = flags_and_offset_of octets / 8192 % 2 == 1;
+  whole = nat_le (total_length_of octets) (length octets);
+  payload = take (total_length_of octets - header_length_of octets) (drop (header_length_of octets) octets);
+}
+
+-- the lengths are possible: the header has 20 octets or more and fits into the whole, and the whole is at hand, unless
+-- the frame was cut short
+abbrev pub has_lengths : Bool → List ℕ → Bool
+has_lengths is_cut octets =
+    nat_le 20 (header_length_of octets) && nat_le (header_length_of octets) (total_length_of octets)
+    && (is_cut || nat_le (total_length_of octets) (length octets))
+
+-- the datagram in the octets that a frame carries: one of version 4 and of protocol 89. What stands behind it, as the
+-- padding of a short frame, is no part
+abbrev pub ipv4_of : Bool → List ℕ → Result DatagramText Odd
+ipv4_of is_cut octets =
+    if nat_lt (length octets) 20 then Err Truncated
+    else if not (version_of octets == 4) then Err NotIpv4
+    else if not (octet_at 9 octets == 89) then Err NotOspf
+    else if not (has_lengths is_cut octets) then Err BadLength
+    else if nat_lt (length octets) (header_length_of octets) then Err Truncated
+    else Ok (datagram_in octets)

@@ -1,0 +1,56 @@
+-- OSPF packets of version 2 (RFC 2328, A.3.1).
+use Rattle.std.specs.Prelude.{ℕ, ◌==◌, ◌&&◌, ◌||◌, Bool, not, nat_le, nat_lt, if◌then◌else◌, List, length, take}
+use Rattle.std.specs.Prelude.{Result, Ok, Err}
+use Rattle.lsa_codec.specs.Fields.{number_at, octet_at}
+use Rattle.ospf_packets.specs.declared.odd.Odd.{Odd}
+use Rattle.ospf_packets.specs.declared.odd.Odd.TheVariants.{Truncated, BadLength, OtherVersion, BadChecksum}
+use Rattle.ospf_packets.specs.declared.packet.Packet.{Packet}
+use Rattle.ospf_packets.specs.Checksums.{is_checksum_good}
+
+-- a packet without where its octets lie in memory: those that are at hand, and whether they are all of it
+pub record PacketText : Type 0 where
+  pub whole : Bool
+  pub octets : List ℕ
+
+abbrev pub packet_text : Packet → PacketText
+packet_text packet = record { whole = packet.whole; octets = packet.octets.now }
+
+-- why octets are lacking: of what is whole a length lies
+abbrev pub lack : Bool → Odd
+lack whole = if whole then BadLength else Truncated
+
+abbrev pub version_of : List ℕ → ℕ
+version_of packet = octet_at 0 packet
+
+abbrev pub type_of : List ℕ → ℕ
+type_of packet = octet_at 1 packet
+
+-- header and body, without what stands behind them, as a digest (D.4.3)
+abbrev pub packet_length_of : List ℕ → ℕ
+packet_length_of packet = number_at 2 2 packet
+
+abbrev pub area_id_of : List ℕ → ℕ
+area_id_of packet = number_at 4 8 packet
+
+-- the length counts the header, and where the payload is whole no more than this has
+abbrev pub has_length : Bool → List ℕ → Bool
+has_length whole payload =
+    nat_le 24 (packet_length_of payload) && (not whole || nat_le (packet_length_of payload) (length payload))
+
+abbrev pub packet_in : List ℕ → PacketText
+packet_in payload = record {
+  whole = nat_le (packet_length_of payload) (length payload);
+  octets = take (packet_length_of payload) payload;
+}
+
+-- of what was cut short the checksum is not known
+abbrev pub summed : PacketText → Result PacketText Odd
+summed packet = if packet.whole && not (is_checksum_good packet.octets) then Err BadChecksum else Ok packet
+
+-- the packet that a datagram has as its payload, all of it or what is at hand
+abbrev pub ospf_of : Bool → List ℕ → Result PacketText Odd
+ospf_of whole payload =
+    if nat_lt (length payload) 24 then Err (lack whole)
+    else if not (version_of payload == 2) then Err OtherVersion
+    else if not (has_length whole payload) then Err BadLength
+    else summed (packet_in payload)

@@ -1,0 +1,103 @@
+//! IPv4 datagrams that carry OSPF (RFC 791, 3.1; RFC 2328, A.1).
+
+ghost use Rattle.std.specs.Prelude.{◌≡◌, ◌≤◌, length, Ok, Err, true, MatchResult};
+ghost use Rattle.ospf_packets.specs.Datagrams.{datagram_text, header_length_of, total_length_of, has_lengths, datagram_in, ipv4_of};
+
+use crate::field::{u16_at, u32_at};
+use crate::odd::Odd;
+
+/// How many octets the header of a datagram has at least.
+const SHORTEST_HEADER: usize = 20;
+
+/// The protocol number of OSPF.
+const OSPF: u8 = 89;
+
+/// A datagram, or a fragment of one.
+#[derive(Clone, Copy, Debug)]
+pub(crate) struct Datagram<'a> {
+    /// Source Address.
+    pub(crate) source: u32,
+    /// Destination Address.
+    pub(crate) destination: u32,
+    /// Identification: what the fragments of one datagram have in common.
+    pub(crate) identification: u16,
+    /// How many octets of the payload stand before those of this fragment.
+    pub(crate) before: u32,
+    /// Whether fragments stand behind this one.
+    pub(crate) more: bool,
+    /// Whether all octets of it are at hand.
+    pub(crate) whole: bool,
+    /// The octets of the payload that are at hand.
+    pub(crate) payload: &'a [u8],
+}
+
+/// How many octets the header has.
+fn header_length_of(octets: &[u8]) -> usize
+    requires { 20 ≤ length octets.now }
+    ensures { result ≡ header_length_of octets.now }
+{
+    usize::from(octets[0] % 16) * 4
+}
+
+/// How many octets header and payload have.
+fn total_length_of(octets: &[u8]) -> usize
+    requires { 20 ≤ length octets.now }
+    ensures { result ≡ total_length_of octets.now }
+{
+    usize::from(u16_at(octets, 2))
+}
+
+/// Whether the lengths are possible.
+fn has_lengths(is_cut: bool, octets: &[u8]) -> bool
+    requires { 20 ≤ length octets.now }
+    ensures { result ≡ has_lengths is_cut octets.now }
+{
+    let header = header_length_of(octets);
+    let total = total_length_of(octets);
+    SHORTEST_HEADER <= header && header <= total && (is_cut || total <= octets.len())
+}
+
+/// The datagram at the front of octets that have its header.
+fn datagram_in(octets: &[u8]) -> Datagram<'_>
+    requires long { 20 ≤ length octets.now }
+    requires header { header_length_of octets.now ≤ length octets.now }
+    requires total { header_length_of octets.now ≤ total_length_of octets.now }
+    ensures { datagram_text result ≡ datagram_in octets.now }
+{
+    let header = header_length_of(octets);
+    let total = total_length_of(octets);
+    let flags_and_offset = u16_at(octets, 6);
+    Datagram {
+        source: u32_at(octets, 12),
+        destination: u32_at(octets, 16),
+        identification: u16_at(octets, 4),
+        before: u32::from(flags_and_offset % 8192) * 8,
+        more: flags_and_offset / 8192 % 2 == 1,
+        whole: total <= octets.len(),
+        payload: &octets[header..total.min(octets.len())],
+    }
+}
+
+/// The OSPF datagram in the octets that a frame carries.
+pub(crate) fn ipv4_of(is_cut: bool, octets: &[u8]) -> Result<Datagram<'_>, Odd>
+    ensures { MatchResult result
+        (λ datagram. ipv4_of is_cut octets.now ≡ Ok (datagram_text datagram))
+        (λ odd. ipv4_of is_cut octets.now ≡ Err odd) }
+{
+    if octets.len() < SHORTEST_HEADER {
+        return Err(Odd::Truncated);
+    }
+    if octets[0] / 16 != 4 {
+        return Err(Odd::NotIpv4);
+    }
+    if octets[9] != OSPF {
+        return Err(Odd::NotOspf);
+    }
+    if !has_lengths(is_cut, octets) {
+        return Err(Odd::BadLength);
+    }
+    if octets.len() < header_length_of(octets) {
+        return Err(Odd::Truncated);
+    }
+    Ok(datagram_in(octets))
+}

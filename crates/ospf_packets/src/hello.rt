@@ -1,0 +1,25 @@
+//! What Hello packets tell of their area (RFC 2328, 9.5, A.2 and A.3.2).
+
+ghost use Rattle.std.specs.Prelude.{◌≡◌};
+ghost use Rattle.ospf_packets.specs.Hellos.{kind_by_options};
+
+use crate::kind::AreaKind;
+
+/// Where the Options of a Hello packet stand.
+pub(crate) const OPTIONS: usize = 30;
+
+/// How many octets a Hello packet has at least.
+pub(crate) const SHORTEST_HELLO: usize = 44;
+
+/// The kind of area that these Options tell.
+pub(crate) fn kind_by_options(options: u8) -> AreaKind
+    ensures { result ≡ kind_by_options options }
+{
+    if options & 0x02 != 0 {
+        AreaKind::Ordinary
+    } else if options & 0x08 == 0 {
+        AreaKind::Stub
+    } else {
+        AreaKind::Nssa
+    }
+}

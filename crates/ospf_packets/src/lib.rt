@@ -1,0 +1,22 @@
+//! What captured frames tell of link state databases: the LSAs of OSPF version 2 packets
+//! (RFC 2328, A.3).
+//!
+//! A frame is read layer by layer: what it carries by its link type, an IPv4 datagram (RFC 791), an
+//! OSPF packet, and the LSAs of a Link State Update packet.
+#![tactic(auto)]
+
+mod checksum;
+mod datagram;
+mod field;
+mod hello;
+mod kind;
+mod link;
+mod odd;
+mod packet;
+mod packets;
+mod telling;
+mod update;
+
+pub use kind::{AreaKind, AreaTold};
+pub use odd::Odd;
+pub use packets::{Packets, read_frames};

@@ -1,0 +1,78 @@
+//! What frames carry, by the type of their link.
+
+ghost use Rattle.std.specs.Prelude.{◌≡◌, ◌+◌, ◌≤◌, length, Ok, Err, MatchResult};
+ghost use Rattle.ospf_packets.specs.Links.{is_tag, untagged, behind_type, behind_header, link_payload};
+
+use crate::field::u16_at;
+use crate::odd::Odd;
+use capture_files::LinkType;
+
+/// The EtherType of IPv4.
+const IPV4: u16 = 0x0800;
+
+/// Whether this is the EtherType of a VLAN tag.
+fn is_tag(kind: u16) -> bool
+    ensures { result ≡ is_tag kind }
+{
+    kind == 0x8100 || kind == 0x88a8 || kind == 0x9100
+}
+
+/// What stands behind an EtherType that is none of a tag.
+fn untagged(kind: u16, octets: &[u8]) -> Result<&[u8], Odd>
+    ensures { MatchResult result
+        (λ payload. untagged kind octets.now ≡ Ok payload.now)
+        (λ odd. untagged kind octets.now ≡ Err odd) }
+{
+    if kind == IPV4 {
+        Ok(octets)
+    } else {
+        Err(Odd::NotIpv4)
+    }
+}
+
+/// What stands behind an EtherType, and behind all tags.
+#[tactic(auto, using(crate::proofs::Tags::tagged, crate::proofs::Tags::cut_tag, crate::proofs::Tags::no_tag))]
+fn behind_type(kind: u16, octets: &[u8]) -> Result<&[u8], Odd>
+    ensures { MatchResult result
+        (λ payload. behind_type kind octets.now ≡ Ok payload.now)
+        (λ odd. behind_type kind octets.now ≡ Err odd) }
+{
+    let mut kind = kind;
+    let mut rest = octets;
+    'tags: while is_tag(kind) {
+        if rest.len() < 4 {
+            return Err(Odd::Truncated);
+        }
+        kind = u16_at(rest, 2);
+        rest = &rest[4..];
+    }
+    untagged(kind, rest)
+}
+
+/// What stands behind a header of so many octets, which has the EtherType at an offset.
+fn behind_header(size: usize, offset: usize, frame: &[u8]) -> Result<&[u8], Odd>
+    requires { offset + 2 ≤ size }
+    ensures { MatchResult result
+        (λ payload. behind_header size offset frame.now ≡ Ok payload.now)
+        (λ odd. behind_header size offset frame.now ≡ Err odd) }
+{
+    if frame.len() < size {
+        return Err(Odd::Truncated);
+    }
+    behind_type(u16_at(frame, offset), &frame[size..])
+}
+
+/// The IPv4 datagram that a frame carries.
+pub(crate) fn link_payload(link: LinkType, frame: &[u8]) -> Result<&[u8], Odd>
+    ensures { MatchResult result
+        (λ payload. link_payload link frame.now ≡ Ok payload.now)
+        (λ odd. link_payload link frame.now ≡ Err odd) }
+{
+    match link.0 {
+        1 => behind_header(14, 12, frame),
+        113 => behind_header(16, 14, frame),
+        276 => behind_header(20, 0, frame),
+        101 | 228 => Ok(frame),
+        _ => Err(Odd::OtherLink),
+    }
+}

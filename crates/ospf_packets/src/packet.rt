@@ -1,0 +1,98 @@
+//! OSPF packets of version 2 (RFC 2328, A.3.1).
+
+ghost use Rattle.std.specs.Prelude.{◌≡◌, ◌≤◌, ◌<◌, ◌^◌, length, Ok, Err, true, MatchResult, IfOk};
+ghost use Rattle.ospf_packets.specs.Packets.{packet_text, lack, packet_length_of, has_length, packet_in, summed, ospf_of};
+
+use crate::checksum::is_checksum_good;
+use crate::field::u16_at;
+use crate::odd::Odd;
+
+/// How many octets the header of a packet has.
+pub(crate) const PACKET_HEADER: usize = 24;
+
+/// A packet of version 2.
+#[derive(Clone, Copy, Debug)]
+pub(crate) struct Packet<'a> {
+    /// Whether all octets of it are at hand.
+    pub(crate) whole: bool,
+    /// The octets that are at hand, its header among them.
+    pub(crate) octets: &'a [u8],
+}
+
+/// Why octets are lacking: of what is whole a length lies.
+pub(crate) fn lack(whole: bool) -> Odd
+    ensures { result ≡ lack whole }
+{
+    if whole {
+        Odd::BadLength
+    } else {
+        Odd::Truncated
+    }
+}
+
+/// How many octets the packet has.
+fn packet_length_of(payload: &[u8]) -> usize
+    requires { 24 ≤ length payload.now }
+    ensures same { result ≡ packet_length_of payload.now }
+    ensures short { result < 2 ^ 16 }
+{
+    usize::from(u16_at(payload, 2))
+}
+
+/// Whether its length is possible.
+fn has_length(whole: bool, payload: &[u8]) -> bool
+    requires { 24 ≤ length payload.now }
+    ensures { result ≡ has_length whole payload.now }
+{
+    let length = packet_length_of(payload);
+    PACKET_HEADER <= length && (!whole || length <= payload.len())
+}
+
+/// The packet at the front of octets.
+fn packet_in(payload: &[u8]) -> Packet<'_>
+    requires long { 24 ≤ length payload.now }
+    requires header { 24 ≤ packet_length_of payload.now }
+    ensures packet { packet_text result ≡ packet_in payload.now }
+    ensures long { 24 ≤ length result.octets.now }
+    ensures short { length result.octets.now < 2 ^ 16 }
+{
+    let length = packet_length_of(payload);
+    Packet {
+        whole: length <= payload.len(),
+        octets: &payload[..length.min(payload.len())],
+    }
+}
+
+/// The packet, where its checksum is not known to be wrong.
+fn summed(packet: Packet<'_>) -> Result<Packet<'_>, Odd>
+    requires long { 24 ≤ length packet.octets.now }
+    requires short { length packet.octets.now < 2 ^ 16 }
+    ensures packet { MatchResult result
+        (λ found. summed (packet_text packet.entry) ≡ Ok (packet_text found))
+        (λ odd. summed (packet_text packet.entry) ≡ Err odd) }
+    ensures long { IfOk result (λ found. 24 ≤ length found.octets.now) }
+{
+    if packet.whole && !is_checksum_good(packet.octets) {
+        return Err(Odd::BadChecksum);
+    }
+    Ok(packet)
+}
+
+/// The packet that a datagram has as its payload, all of it or what is at hand.
+pub(crate) fn ospf_of(whole: bool, payload: &[u8]) -> Result<Packet<'_>, Odd>
+    ensures packet { MatchResult result
+        (λ packet. ospf_of whole payload.now ≡ Ok (packet_text packet))
+        (λ odd. ospf_of whole payload.now ≡ Err odd) }
+    ensures long { IfOk result (λ packet. 24 ≤ length packet.octets.now) }
+{
+    if payload.len() < PACKET_HEADER {
+        return Err(lack(whole));
+    }
+    if payload[0] != 2 {
+        return Err(Odd::OtherVersion);
+    }
+    if !has_length(whole, payload) {
+        return Err(Odd::BadLength);
+    }
+    summed(packet_in(payload))
+}

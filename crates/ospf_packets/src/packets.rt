@@ -1,0 +1,108 @@
+//! What the frames of a capture tell.
+
+ghost use Rattle.std.specs.Prelude.{◌≡◌, IfOk, map};
+ghost use Rattle.std.specs.List.{filter_map};
+ghost use Rattle.capture_files.specs.Told.{packet_of};
+ghost use Rattle.ospf_packets.specs.Sorting.{sighting_of, kind_of, odd_of};
+ghost use Rattle.ospf_packets.specs.Telling.{told_in};
+
+use crate::kind::AreaTold;
+use crate::odd::Odd;
+use crate::telling::{Told, tellings};
+use capture_files::Frame;
+use lsa_instances::Sighting;
+use std::alloc::{AllocError, Allocator, Global};
+
+/// What frames tell, in their order.
+#[derive(Debug, Drop)]
+pub struct Packets<A: Allocator = Global> {
+    /// The LSAs of Link State Update packets, octet for octet.
+    pub sightings: Vec<Sighting<A>, A>,
+    /// The kinds of areas, one for each Hello packet.
+    pub kinds: Vec<AreaTold, A>,
+    /// What is odd: at most one for each frame, and one for each LSA that is refused.
+    pub odd: Vec<Odd, A>,
+}
+
+/// The LSA that is told.
+fn sighting_of<A: Allocator + Copy>(told: Told<A>) -> Option<Sighting<A>>
+    ensures { result ≡ sighting_of told }
+{
+    match told {
+        Told::Lsa(sighting) => Some(sighting),
+        _ => None,
+    }
+}
+
+/// The kind of an area that is told.
+fn kind_of<A: Allocator + Copy>(told: &Told<A>) -> Option<AreaTold>
+    ensures { result ≡ kind_of told.now }
+{
+    match told {
+        Told::Kind(area) => Some(*area),
+        _ => None,
+    }
+}
+
+/// What is odd.
+fn odd_of<A: Allocator + Copy>(told: &Told<A>) -> Option<Odd>
+    ensures { result ≡ odd_of told.now }
+{
+    match told {
+        Told::Odd(odd) => Some(*odd),
+        _ => None,
+    }
+}
+
+/// The kinds of areas.
+fn kinds_of<A: Allocator + Copy>(alloc: A, told: &[Told<A>]) -> Result<Vec<AreaTold, A>, AllocError>
+    ensures { IfOk result (λ kinds. kinds.items ≡ filter_map kind_of told.now) }
+{
+    told.iter().filter_map(|item| kind_of(item)).collect(alloc)
+}
+
+/// All that is odd.
+fn odds_of<A: Allocator + Copy>(alloc: A, told: &[Told<A>]) -> Result<Vec<Odd, A>, AllocError>
+    ensures { IfOk result (λ odd. odd.items ≡ filter_map odd_of told.now) }
+{
+    told.iter().filter_map(|item| odd_of(item)).collect(alloc)
+}
+
+/// The LSAs.
+fn sightings_of<A: Allocator + Copy>(
+    alloc: A,
+    told: Vec<Told<A>, A>,
+) -> Result<Vec<Sighting<A>, A>, AllocError>
+    ensures { IfOk result (λ sightings. sightings.items ≡ filter_map sighting_of told.items) }
+{
+    told.into_iter()
+        .filter_map(|item| sighting_of(item))
+        .collect(alloc)
+}
+
+/// Reads the OSPF packets of frames.
+///
+/// # Errors
+///
+/// Memory ran out.
+pub fn read_frames<A: Allocator + Copy>(
+    alloc: A,
+    frames: &[Frame<'_>],
+) -> Result<Packets<A>, AllocError>
+    ensures sightings { IfOk result (λ packets. packets.sightings.items
+        ≡ filter_map sighting_of (told_in (map packet_of frames.now))) }
+    ensures kinds { IfOk result (λ packets. packets.kinds.items
+        ≡ filter_map (kind_of {A = A}) (told_in (map packet_of frames.now))) }
+    ensures odd { IfOk result (λ packets. packets.odd.items
+        ≡ filter_map (odd_of {A = A}) (told_in (map packet_of frames.now))) }
+{
+    let told = tellings(alloc, frames)?;
+    let kinds = kinds_of(alloc, &told)?;
+    let odd = odds_of(alloc, &told)?;
+    let sightings = sightings_of(alloc, told)?;
+    Ok(Packets {
+        sightings,
+        kinds,
+        odd,
+    })
+}

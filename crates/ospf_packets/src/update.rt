@@ -1,0 +1,101 @@
+//! The LSAs of Link State Update packets (RFC 2328, A.3.5).
+
+ghost use Rattle.std.specs.Prelude.{◌≡◌, ◌≤◌, ◌++◌, length, Ok, Err, MatchResult, IfOk, OnOk};
+ghost use Rattle.ospf_packets.specs.Updates.{lsa_length, scope_in, lsa_told, lsas_told};
+
+use crate::field::u16_at;
+use crate::odd::Odd;
+use crate::packet::lack;
+use crate::telling::Told;
+use lsa_codec::{AreaId, Lsa, LsaFault};
+use lsa_instances::{Scope, Sighting};
+use std::alloc::{AllocError, Allocator};
+
+/// How many octets the header of an LSA has.
+const LSA_HEADER: usize = 20;
+
+/// What a packet says of all of its LSAs.
+#[derive(Clone, Copy, Debug)]
+pub(crate) struct Flooded {
+    /// The area in which it was sent.
+    pub(crate) area: AreaId,
+    /// When it was seen, in nanoseconds since 1970; `None` where the file does not tell.
+    pub(crate) seen: Option<u64>,
+    /// Whether all octets of it are at hand.
+    pub(crate) whole: bool,
+}
+
+/// How many octets the LSA at the front has.
+fn lsa_length(whole: bool, octets: &[u8]) -> Result<usize, Odd>
+    ensures same { result ≡ lsa_length whole octets.now }
+    ensures within { IfOk result (λ size. size ≤ length octets.now) }
+{
+    if octets.len() < LSA_HEADER {
+        return Err(lack(whole));
+    }
+    let size = usize::from(u16_at(octets, 18));
+    if size < LSA_HEADER {
+        return Err(Odd::BadLength);
+    }
+    if octets.len() < size {
+        return Err(lack(whole));
+    }
+    Ok(size)
+}
+
+/// The scope of an LSA of this LS type that is flooded in an area.
+fn scope_in(area: AreaId, kind: u8) -> Scope
+    ensures { result ≡ scope_in area kind }
+{
+    if kind == 5 || kind == 11 {
+        Scope::AsWide
+    } else {
+        Scope::Area(area)
+    }
+}
+
+/// An LSA, or why its octets are none.
+fn lsa_told<A: Allocator + Copy>(
+    alloc: A,
+    by: Flooded,
+    octets: &[u8],
+) -> Result<Told<A>, AllocError>
+    ensures { IfOk result (λ told. told ≡ lsa_told by octets.now) }
+{
+    match Lsa::decode(alloc, octets) {
+        Ok((lsa, _)) => Ok(Told::Lsa(Sighting {
+            scope: scope_in(by.area, lsa.key().kind),
+            seen: by.seen,
+            lsa,
+        })),
+        Err(LsaFault::OutOfMemory) => Err(AllocError),
+        Err(fault) => Ok(Told::Odd(Odd::RefusedLsa(fault))),
+    }
+}
+
+/// Adds so many LSAs at the front of the octets.
+#[tactic(auto, using(crate::proofs::Lsas::one_more, crate::proofs::Lsas::stopped, crate::proofs::Lsas::all_told))]
+pub(crate) fn tell_lsas<A: Allocator + Copy>(
+    alloc: A,
+    told: &mut Vec<Told<A>, A>,
+    by: Flooded,
+    count: u32,
+    octets: &[u8],
+) -> Result<(), AllocError>
+    ensures { OnOk result (told.new.items ≡ told.old.items ++ lsas_told by count octets.now) }
+{
+    let mut rest = octets;
+    'lsas: for _ in 0..count {
+        match lsa_length(by.whole, rest) {
+            Ok(size) => {
+                told.push(lsa_told(alloc, by, &rest[..size])?)?;
+                rest = &rest[size..];
+            }
+            Err(odd) => {
+                told.push(Told::Odd(odd))?;
+                return Ok(());
+            }
+        }
+    }
+    Ok(())
+}
