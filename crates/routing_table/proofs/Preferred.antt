@@ -1,5 +1,5 @@
 -- A map into which the second list of routes went, and then the first, has the preferred routes.
-use Rattle.std.proofs.Common.{◌≡◌, ◌<◌, ◌^◌, Bool, true, false, cond, List, [], ◌∷◌, ◌++◌, map, Option, Some, None, IfSome, refl, sym, ap, ◌∙◌, subst}
+use Rattle.std.proofs.Common.{◌≡◌, ◌<◌, ◌^◌, Bool, true, false, cond, List, [], ◌∷◌, ◌++◌, length, map, Option, Some, None, IfSome, refl, sym, ap, ◌∙◌, subst}
 use Rattle.std.specs.Prelude.{◌||◌}
 use Rattle.std.specs.List.{All, list_any, filter_map, cons_option, IsDistinct}
 use Rattle.std.specs.List.Sorted.{IsStrictlySortedBy}
@@ -149,6 +149,34 @@ preferring_sorted first second =
     let ks = rising prefix_cmp (nets (first ++ second)) in
     subst (λ ns. IsStrictlySortedBy prefix_cmp ns) (sym (nets_at (preferred_route first second) ks (preferred_net first second)))
     (sorted_entries prefix_cmp (preferred_route first second) ks (sorted_rising prefix_total (nets (first ++ second))))
+
+-- ---- where there is no second list the first one stands as it is
+
+values_keyed : (rs : List RouteValue) → map (λ (e : Net × RouteValue). e.1) (map keyed rs) ≡ rs
+values_keyed [] = refl
+values_keyed (r ∷ rs) = ap (λ l. r ∷ l) (values_keyed rs)
+
+keyed_sorted : (rs : List RouteValue) → AreSortedRoutes rs → IsStrictlySortedBy prefix_cmp (keys_of (map keyed rs))
+keyed_sorted rs up = subst (λ ks. IsStrictlySortedBy prefix_cmp ks) (sym (keys_keyed rs)) up
+
+-- two lists in order that have the same route to each prefix are one
+same_routes : (xs ys : List RouteValue) → AreSortedRoutes xs → AreSortedRoutes ys → ((q : Net) → route_to xs q ≡ route_to ys q) → xs ≡ ys
+same_routes xs ys up_x up_y same_at =
+    sym (values_keyed xs)
+    ∙ ap (map (λ (e : Net × RouteValue). e.1))
+    (same_entries prefix_total prefix_exact (map keyed xs) (map keyed ys) (keyed_sorted xs up_x) (keyed_sorted ys up_y)
+    (λ q. lookup_keyed q xs ∙ same_at q ∙ sym (lookup_keyed q ys)))
+    ∙ values_keyed ys
+
+pub preferring_alone : (first second : List RouteValue) → AreSortedRoutes first → second ≡ [] → preferring first second ≡ first
+preferring_alone first second up empty =
+    ap (preferring first) empty
+    ∙ same_routes (preferring first []) first (preferring_sorted first []) up
+    (λ q. route_preferring first [] q ∙ option_or-none (route_to first q))
+
+pub nothing_in : (rs : List RouteValue) → length rs ≡ 0 → rs ≡ []
+nothing_in [] none = refl
+nothing_in (r ∷ rs) none = absurd cc
 
 module _ (P : RouteValue → Type 0) where
   pub route_all : (rs : List RouteValue) (q : Net) → All P rs → IfSome (route_to rs q) P

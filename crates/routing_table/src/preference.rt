@@ -11,7 +11,8 @@ use lsa_codec::Prefix;
 use std::alloc::{AllocError, Allocator};
 use std::collections::BTreeMap;
 
-/// To each prefix the route of the first list, else that of the second.
+/// To each prefix the route of the first list, else that of the second. Where the second list is
+/// empty it takes no memory.
 pub fn prefer<A: Allocator + Copy>(
     alloc: A,
     first: Routes<A>,
@@ -21,6 +22,9 @@ pub fn prefer<A: Allocator + Copy>(
     ensures small { RoutesBelow (2 ^ 34) first → RoutesBelow (2 ^ 34) second
         → IfOk result (RoutesBelow (2 ^ 34)) }
 {
+    if second.as_slice().is_empty() {
+        return Ok(Routes::from_sorted(first.into_vec()));
+    }
     let mut first = first.into_vec();
     let mut routes = second.into_vec();
     routes.append(&mut first)?;

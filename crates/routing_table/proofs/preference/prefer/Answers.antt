@@ -1,17 +1,26 @@
-use Rattle.std.proofs.Common.{◌^◌, List, ◌∙◌, ap, subst, sym}
+use Rattle.std.proofs.Common.{◌≡◌, ◌^◌, List, [], length, ◌∙◌, ap, subst, sym}
+use Rattle.std.proofs.lemmas.Bool.{eqb-true}
+use Rattle.area_routes.specs.Routes.{AreSortedRoutes}
 use Rattle.area_routes.specs.Values.{RouteValue, RoutesBelow}
 use Rattle.routing_table.specs.Preferring.{preferring}
-use Rattle.routing_table.proofs.Preferred.{listed_is, listed_small, listed_sorted}
+use Rattle.routing_table.proofs.Preferred.{listed_is, listed_small, listed_sorted, nothing_in, preferring_alone}
 use Rattle.routing_table.proofs.preference.prefer.Goals as goal
 
-pub from_sorted-requires : goal.from_sorted-requires
-from_sorted-requires g c =
+pub returns-then-is_empty-clause-routes : goal.returns-then-is_empty-clause-routes
+returns-then-is_empty-clause-routes g c =
+    let none : c.args.second ≡ [] = nothing_in c.args.second
+    (sym (ap (λ (l : List RouteValue). length l) c.as_slice.ensures.routes) ∙ eqb-true (length c.as_slice.result.now) 0 (sym c.is_empty.ensures ∙ c.if-is_empty.true)) in
+    c.from_sorted.ensures ∙ c.into_vec.ensures.routes
+    ∙ sym (preferring_alone c.args.first c.args.second (subst (λ (l : List RouteValue). AreSortedRoutes l) c.into_vec.ensures.routes c.into_vec.ensures.sorted) none)
+
+pub from_sorted-requires-2 : goal.from_sorted-requires-2
+from_sorted-requires-2 g c =
     listed_sorted c.in_ok-by_prefix.field-0 c.into_vec-first.result.items c.into_vec-routes.result.items c.append.new.self.items c.in_ok-routes.routes.items
     c.into_vec-first.ensures.sorted c.into_vec-routes.ensures.sorted c.in_ok-append.ensures.items c.in_ok-by_prefix.ensures c.in_ok-routes.ensures
 
 pub returns-clause-routes : goal.returns-clause-routes
 returns-clause-routes g c =
-    c.from_sorted.ensures
+    c.from_sorted-2.ensures
     ∙ listed_is c.in_ok-by_prefix.field-0 c.into_vec-first.result.items c.into_vec-routes.result.items c.append.new.self.items c.in_ok-routes.routes.items
     c.into_vec-first.ensures.sorted c.into_vec-routes.ensures.sorted c.in_ok-append.ensures.items c.in_ok-by_prefix.ensures c.in_ok-routes.ensures
     ∙ ap (λ (l : List RouteValue). preferring l c.into_vec-routes.result.items) c.into_vec-first.ensures.routes
@@ -19,7 +28,7 @@ returns-clause-routes g c =
 
 pub returns-clause-small : goal.returns-clause-small
 returns-clause-small g c = λ first second.
-    subst (RoutesBelow (2 ^ 34)) (sym c.from_sorted.ensures)
+    subst (RoutesBelow (2 ^ 34)) (sym c.from_sorted-2.ensures)
     (listed_small c.in_ok-by_prefix.field-0 c.into_vec-first.result.items c.into_vec-routes.result.items c.append.new.self.items c.in_ok-routes.routes.items
     c.into_vec-first.ensures.sorted c.into_vec-routes.ensures.sorted c.in_ok-append.ensures.items c.in_ok-by_prefix.ensures c.in_ok-routes.ensures
     (subst (RoutesBelow (2 ^ 34)) (sym c.into_vec-first.ensures.routes) first) (subst (RoutesBelow (2 ^ 34)) (sym c.into_vec-routes.ensures.routes) second))
