@@ -1,7 +1,6 @@
--- Slices as the code takes them, and tests on lengths.
-use Rattle.std.proofs.Common.{◌≡◌, ℕ, ◌+◌, ◌-◌, ◌≤◌, ◌%◌, true, List, length, take, drop, sym, ap, ◌∙◌, arith}
+-- Parts of packets as the code takes them.
+use Rattle.std.proofs.Common.{◌≡◌, ℕ, ◌+◌, ◌-◌, ◌≤◌, ◌%◌, true, List, length, take, drop, sym, ap, ◌∙◌}
 use Rattle.std.specs.Prelude.{◌==◌, ◌||◌, not}
-use Rattle.std.proofs.lemmas.List.{take_all, length-drop}
 use Rattle.std.proofs.lemmas.Bool.{cond-false, le-ltb}
 use Rattle.lsa_codec.specs.Fields.{number_at}
 use Rattle.ospf_packets.specs.declared.update.Flooded.{Flooded}
@@ -9,10 +8,7 @@ use Rattle.ospf_packets.specs.Checksums.{sum_of_words, has_checksum, is_checksum
 use Rattle.ospf_packets.specs.Packets.{lack}
 use Rattle.ospf_packets.specs.Telling.{is_odd, update_told}
 use Rattle.ospf_packets.specs.Updates.{lsas_told}
-
--- what stands from an index on, as the code takes it
-pub rest_at : (octets : List ℕ) (i : ℕ) → take (length octets - i) (drop i octets) ≡ drop i octets
-rest_at octets i = take_all _ (drop i octets) (omega (arith, length-drop i octets))
+use Rattle.ospf_packets.proofs.Slices.{rest_at}
 
 pub summed_up : (packet : List ℕ) (a b : ℕ) → has_checksum packet ≡ true → a ≡ sum_of_words (take 16 packet)
     → b ≡ sum_of_words (take (length packet - 24) (drop 24 packet)) → ((a + b) % 65535 == 0) ≡ is_checksum_good packet

@@ -1,5 +1,7 @@
 pub mod Tags
 pub mod Words
+pub mod Slices
 pub mod Lsas
 pub mod Tellings
 pub mod Fronts
+pub mod Joins

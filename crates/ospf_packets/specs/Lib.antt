@@ -1,5 +1,6 @@
 pub mod Links
 pub mod Datagrams
+pub mod Fragments
 pub mod Checksums
 pub mod Packets
 pub mod Hellos

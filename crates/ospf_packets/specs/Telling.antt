@@ -1,36 +1,19 @@
 -- What a frame tells.
-use Rattle.std.specs.Prelude.{ℕ, ◌==◌, ◌||◌, Bool, not, nat_lt, if◌then◌else◌, List, [], ◌∷◌, ◌++◌, length, drop}
-use Rattle.std.specs.Prelude.{Option, Result, Ok, Err}
+use Rattle.std.specs.Prelude.{ℕ, ◌==◌, ◌&&◌, ◌||◌, Bool, true, not, nat_lt, if◌then◌else◌, List, [], ◌∷◌, ◌++◌}
+use Rattle.std.specs.Prelude.{length, drop}
+use Rattle.std.specs.Prelude.{Option, Some, None, Result, Ok, Err}
 use Rattle.capture_files.specs.Told.{Packet}
 use Rattle.lsa_codec.specs.Fields.{number_at}
 use Rattle.ospf_packets.specs.declared.odd.Odd.{Odd}
-use Rattle.ospf_packets.specs.declared.odd.Odd.TheVariants.{Fragment, OtherType}
+use Rattle.ospf_packets.specs.declared.odd.Odd.TheVariants.{MissingFragment, OtherType}
 use Rattle.ospf_packets.specs.declared.telling.Told.{Told}
 use Rattle.ospf_packets.specs.declared.telling.Told.TheVariants as tells
 use Rattle.ospf_packets.specs.declared.update.Flooded.{Flooded}
-use Rattle.ospf_packets.specs.Datagrams.{DatagramText, ipv4_of}
+use Rattle.ospf_packets.specs.Datagrams.{DatagramText}
+use Rattle.ospf_packets.specs.Fragments.{datagram_of, joined, has_front, last_few, first_few}
 use Rattle.ospf_packets.specs.Hellos.{options_of, kind_by_options}
-use Rattle.ospf_packets.specs.Links.{link_payload}
 use Rattle.ospf_packets.specs.Packets.{PacketText, lack, type_of, area_id_of, ospf_of}
 use Rattle.ospf_packets.specs.Updates.{lsas_told}
-
-infixl 10 ◌>>=◌
-abbrev pub ◌>>=◌ : {A B : Type 0} → Result A Odd → (A → Result B Odd) → Result B Odd
-(Ok x) >>= f = f x
-(Err odd) >>= f = Err odd
-
--- fewer octets of the frame were captured than it had
-abbrev pub is_cut : Packet → Bool
-is_cut frame = nat_lt (length frame.octets) frame.original
-
-abbrev pub unfragmented : DatagramText → Result DatagramText Odd
-unfragmented datagram = if datagram.more || not (datagram.before == 0) then Err Fragment else Ok datagram
-
--- the OSPF packet in the datagram in a frame
-abbrev pub carried : Packet → Result PacketText Odd
-carried frame =
-    link_payload frame.link frame.octets >>= ipv4_of (is_cut frame) >>= unfragmented
-    >>= (λ datagram. ospf_of datagram.whole datagram.payload)
 
 abbrev pub flooded : Option ℕ → PacketText → Flooded
 flooded seen packet = record { area = record { 0 = area_id_of packet.octets }; seen = seen; whole = packet.whole }
@@ -63,11 +46,32 @@ module _ {A : Type 0} where
   packet_told seen (Err odd) = is_odd odd
   packet_told seen (Ok packet) = told_by_type (type_of packet.octets) (flooded seen packet) packet.octets
 
-  -- what a frame tells: LSAs, the kind of an area, nothing, or what is odd of it
-  unfoldable pub frame_told : Packet → List (Told A)
-  frame_told frame = packet_told frame.seen (carried frame)
+  abbrev pub joined_told : Option ℕ → Option (List ℕ) → List (Told A)
+  joined_told seen None = is_odd MissingFragment
+  joined_told seen (Some payload) = packet_told seen (ospf_of true payload)
 
-  -- what each frame tells, one after another
-  unfoldable pub told_in : List Packet → List (Told A)
-  told_in [] = []
-  told_in (frame ∷ frames) = frame_told frame ++ told_in frames
+  abbrev pub later_told : Bool → List (Told A)
+  later_told is_there = if is_there then [] else is_odd MissingFragment
+
+  -- a datagram tells what the packet in it tells, and a fragment that begins one what that one tells; another fragment
+  -- tells nothing, where the one before it is there
+  abbrev pub datagram_told : Option ℕ → List Packet → List Packet → Result DatagramText Odd → List (Told A)
+  datagram_told seen before behind (Err odd) = is_odd odd
+  datagram_told seen before behind (Ok datagram) =
+      if not (datagram.before == 0) then later_told (has_front datagram before)
+      else if datagram.more && datagram.whole then joined_told seen (joined datagram datagram.payload behind)
+      else packet_told seen (ospf_of datagram.whole datagram.payload)
+
+  -- what a frame tells between others: LSAs, the kind of an area, nothing, or what is odd of it
+  unfoldable pub frame_told : List Packet → Packet → List Packet → List (Told A)
+  frame_told before frame behind =
+      datagram_told frame.seen (last_few before) (first_few behind) (datagram_of frame)
+
+  -- what each frame tells behind others, one after another
+  unfoldable pub told_behind : List Packet → List Packet → List (Told A)
+  told_behind before [] = []
+  told_behind before (frame ∷ frames) = frame_told before frame frames ++ told_behind (before ++ frame ∷ []) frames
+
+  -- what each frame tells
+  abbrev pub told_in : List Packet → List (Told A)
+  told_in frames = told_behind [] frames

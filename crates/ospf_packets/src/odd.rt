@@ -15,8 +15,9 @@ pub enum Odd {
     Truncated,
     /// A length is too small for what it counts, or larger than what has it.
     BadLength,
-    /// A fragment of an OSPF datagram (RFC 791, 3.2).
-    Fragment,
+    /// A fragment of an OSPF datagram that can not be put together with the others, since not all
+    /// of these are there (RFC 791, 3.2).
+    MissingFragment,
     /// The packet is of another version of OSPF than 2.
     OtherVersion,
     /// The checksum of the packet is wrong (RFC 2328, A.3.1).

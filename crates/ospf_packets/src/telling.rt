@@ -1,16 +1,17 @@
 //! What a frame tells.
 
-ghost use Rattle.std.specs.Prelude.{◌≡◌, ◌≤◌, ◌++◌, length, map, Ok, Err, MatchResult, IfOk, OnOk};
+ghost use Rattle.std.specs.Prelude.{◌≡◌, ◌≤◌, ◌++◌, length, map, IfOk, OnOk};
 ghost use Rattle.capture_files.specs.Told.{packet_of};
 ghost use Rattle.ospf_packets.specs.Datagrams.{datagram_text};
-ghost use Rattle.ospf_packets.specs.Packets.{packet_text};
-ghost use Rattle.ospf_packets.specs.Telling.{is_cut, unfragmented, carried, flooded, hello_told, update_told, told_by_type, frame_told, told_in};
+ghost use Rattle.ospf_packets.specs.Fragments.{datagram_of, joined, has_front};
+ghost use Rattle.ospf_packets.specs.Packets.{packet_text, ospf_of};
+ghost use Rattle.ospf_packets.specs.Telling.{flooded, hello_told, update_told, told_by_type, packet_told, joined_told, later_told, frame_told, told_in};
 
-use crate::datagram::{Datagram, ipv4_of};
+use crate::datagram::Datagram;
 use crate::field::u32_at;
+use crate::fragment::{datagram_of, first_few, has_front, joined, last_few};
 use crate::hello::{OPTIONS, SHORTEST_HELLO, kind_by_options};
 use crate::kind::AreaTold;
-use crate::link::link_payload;
 use crate::odd::Odd;
 use crate::packet::{Packet, lack, ospf_of};
 use crate::update::{Flooded, tell_lsas};
@@ -31,37 +32,6 @@ pub(crate) enum Told<A: Allocator> {
     Kind(AreaTold),
     /// What is odd of it.
     Odd(Odd),
-}
-
-/// Whether fewer octets of the frame were captured than it had.
-fn is_cut(frame: &Frame<'_>) -> bool
-    ensures { result ≡ is_cut (packet_of frame.now) }
-{
-    frame.octets.len() < frame.original as usize
-}
-
-/// The datagram, where it is no fragment of one.
-fn unfragmented(datagram: Datagram<'_>) -> Result<Datagram<'_>, Odd>
-    ensures { MatchResult result
-        (λ found. unfragmented (datagram_text datagram.entry) ≡ Ok (datagram_text found))
-        (λ odd. unfragmented (datagram_text datagram.entry) ≡ Err odd) }
-{
-    if datagram.more || datagram.before != 0 {
-        return Err(Odd::Fragment);
-    }
-    Ok(datagram)
-}
-
-/// The OSPF packet in the datagram in a frame.
-fn carried<'a>(frame: &Frame<'a>) -> Result<Packet<'a>, Odd>
-    ensures packet { MatchResult result
-        (λ packet. carried (packet_of frame.now) ≡ Ok (packet_text packet))
-        (λ odd. carried (packet_of frame.now) ≡ Err odd) }
-    ensures long { IfOk result (λ packet. 24 ≤ length packet.octets.now) }
-{
-    let payload = link_payload(frame.link, frame.octets)?;
-    let datagram = unfragmented(ipv4_of(is_cut(frame), payload)?)?;
-    ospf_of(datagram.whole, datagram.payload)
 }
 
 /// What the packet says of all of its LSAs.
@@ -132,19 +102,86 @@ fn tell_by_type<A: Allocator + Copy>(
     }
 }
 
-/// Adds what a frame tells.
+/// Adds what the packet tells that a datagram has as its payload, all of it or what is at hand.
+fn tell_packet<A: Allocator + Copy>(
+    alloc: A,
+    told: &mut Vec<Told<A>, A>,
+    seen: Option<u64>,
+    whole: bool,
+    payload: &[u8],
+) -> Result<(), AllocError>
+    ensures { OnOk result (told.new.items
+        ≡ told.old.items ++ packet_told seen (ospf_of whole payload.now)) }
+{
+    match ospf_of(whole, payload) {
+        Ok(packet) => {
+            let by = flooded(seen, packet);
+            tell_by_type(alloc, told, by, packet.octets[1], packet.octets)
+        }
+        Err(odd) => {
+            told.push(Told::Odd(odd))?;
+            Ok(())
+        }
+    }
+}
+
+/// Adds what the datagram tells that this fragment begins, where the others stand in frames
+/// behind it.
+fn tell_joined<A: Allocator + Copy>(
+    alloc: A,
+    told: &mut Vec<Told<A>, A>,
+    seen: Option<u64>,
+    first: Datagram<'_>,
+    behind: &[Frame<'_>],
+) -> Result<(), AllocError>
+    ensures { OnOk result (told.new.items ≡ told.old.items ++ joined_told seen
+        (joined (datagram_text first.entry) first.entry.payload.now (map packet_of behind.now))) }
+{
+    match joined(alloc, first, behind)? {
+        Some(payload) => tell_packet(alloc, told, seen, true, &payload),
+        None => {
+            told.push(Told::Odd(Odd::MissingFragment))?;
+            Ok(())
+        }
+    }
+}
+
+/// Adds what a fragment tells that does not begin its datagram.
+fn tell_later<A: Allocator + Copy>(
+    told: &mut Vec<Told<A>, A>,
+    fragment: Datagram<'_>,
+    before: &[Frame<'_>],
+) -> Result<(), AllocError>
+    ensures { OnOk result (told.new.items ≡ told.old.items
+        ++ later_told (has_front (datagram_text fragment.entry) (map packet_of before.now))) }
+{
+    if !has_front(fragment, before) {
+        told.push(Told::Odd(Odd::MissingFragment))?;
+    }
+    Ok(())
+}
+
+/// Adds what a frame tells between others.
 #[tactic(auto, unfolding(crate::specs::Telling::frame_told))]
 fn tell_frame<A: Allocator + Copy>(
     alloc: A,
     told: &mut Vec<Told<A>, A>,
+    before: &[Frame<'_>],
     frame: &Frame<'_>,
+    behind: &[Frame<'_>],
 ) -> Result<(), AllocError>
-    ensures { OnOk result (told.new.items ≡ told.old.items ++ frame_told (packet_of frame.now)) }
+    ensures { OnOk result (told.new.items ≡ told.old.items ++ frame_told
+        (map packet_of before.now) (packet_of frame.now) (map packet_of behind.now)) }
 {
-    match carried(frame) {
-        Ok(packet) => {
-            let by = flooded(frame.seen, packet);
-            tell_by_type(alloc, told, by, packet.octets[1], packet.octets)
+    match datagram_of(frame) {
+        Ok(datagram) => {
+            if datagram.before != 0 {
+                return tell_later(told, datagram, last_few(before));
+            }
+            if datagram.more && datagram.whole {
+                return tell_joined(alloc, told, frame.seen, datagram, first_few(behind));
+            }
+            tell_packet(alloc, told, frame.seen, datagram.whole, datagram.payload)
         }
         Err(odd) => {
             told.push(Told::Odd(odd))?;
@@ -162,8 +199,10 @@ pub(crate) fn tellings<A: Allocator + Copy>(
     ensures { IfOk result (λ told. told.items ≡ told_in (map packet_of frames.now)) }
 {
     let mut told = Vec::new(alloc);
-    for frame in frames {
-        tell_frame(alloc, &mut told, frame)?;
+    for (index, frame) in frames.iter().enumerate() {
+        let before = &frames[..index];
+        let behind = &frames[index + 1..];
+        tell_frame(alloc, &mut told, before, frame, behind)?;
     }
     Ok(told)
 }

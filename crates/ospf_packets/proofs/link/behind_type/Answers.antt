@@ -1,6 +1,6 @@
 use Rattle.std.proofs.Common.{sym, ap, ◌∙◌, drop, arith}
 use Rattle.ospf_packets.specs.Links.{behind_type}
-use Rattle.ospf_packets.proofs.Fronts.{rest_at}
+use Rattle.ospf_packets.proofs.Slices.{rest_at}
 use Rattle.ospf_packets.proofs.Tags.{tagged}
 use Rattle.ospf_packets.proofs.link.behind_type.Goals as goal
 

@@ -3,4 +3,4 @@ use Rattle.ospf_packets.proofs.Tellings.{told_all}
 use Rattle.ospf_packets.proofs.telling.tellings.Goals as goal
 
 pub returns : goal.returns
-returns g c = told_all c.loop-frame.told.items c.args.frames.now c.loop-frame.frame-index _ (omega arith) c.loop-frame.invariant
+returns g c = told_all c.loop-index.told.items c.args.frames.now c.loop-index.index _ (omega arith) c.loop-index.invariant

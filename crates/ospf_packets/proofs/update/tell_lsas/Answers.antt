@@ -1,6 +1,6 @@
 use Rattle.std.proofs.Common.{◌+◌, ◌-◌, ◌++◌, ◌∷◌, [], length, take, drop, sym, ap, ◌∙◌, arith}
 use Rattle.ospf_packets.specs.Updates.{lsa_told, lsas_told}
-use Rattle.ospf_packets.proofs.Fronts.{rest_at}
+use Rattle.ospf_packets.proofs.Slices.{rest_at}
 use Rattle.ospf_packets.proofs.Lsas.{one_more}
 use Rattle.ospf_packets.proofs.update.tell_lsas.Goals as goal
 
