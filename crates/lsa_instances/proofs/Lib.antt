@@ -3,6 +3,8 @@ pub mod Rule
 pub mod Looking
 pub mod Flushed
 pub mod Steps
+pub mod SameLemmas
 pub mod Reordered
+pub mod SameValuesLemmas
 pub mod Unique
 pub mod Rising

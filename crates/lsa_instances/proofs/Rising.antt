@@ -15,7 +15,7 @@ use Rattle.lsa_instances.specs.Order.{key_cmp, place_cmp, place_of, scope_cmp}
 use Rattle.lsa_instances.specs.Newest.{AreNewest, is_of_scope, lsas_of_scope}
 use Rattle.lsa_instances.proofs.Looking.{eq_true}
 use Rattle.lsa_instances.proofs.Orders.{scope_exact, scope_total}
-use Rattle.lsa_instances.proofs.Unique.{pairs_head, pairs_tail}
+use Rattle.lsa_instances.proofs.SameValuesLemmas.{pairs_head, pairs_tail}
 
 second_decides : (r s : Ordering) → r ≡ Equal → ordering_then r s ≡ Less → s ≡ Less
 second_decides r s e h = ap (λ o. ordering_then o s) (sym e) ∙ h

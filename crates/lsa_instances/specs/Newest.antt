@@ -50,6 +50,10 @@ pub record AreNewest {A : Type 0} (told newest : List (Sighting A)) : Type 0 whe
   pub whole : All (λ y. is_flushed told y ≡ false → Any (λ x. place_of x ≡ place_of y) newest) told
   pub order : AllPairs (λ x y. place_cmp (place_of x) (place_of y) ≡ Less) newest
 
+-- the same sightings, in any order, each any number of times
+abbrev pub AreSame : {X : Type 0} → List X → List X → Type 0
+AreSame xs ys = All (Contains ys) xs × All (Contains xs) ys
+
 -- what a database keeps of a sighting
 abbrev pub place_and_octets : {A : Type 0} → Sighting A → Place × List ℕ
 place_and_octets x = (place_of x, x.lsa)

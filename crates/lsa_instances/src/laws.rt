@@ -7,7 +7,7 @@ ghost use Rattle.lsa_codec.specs.Key.{key_of};
 ghost use Rattle.lsa_instances.specs.declared.place.Scope.{Scope as AnyScope};
 ghost use Rattle.lsa_instances.specs.declared.sighting.Sighting.{Sighting as AnySighting};
 ghost use Rattle.lsa_instances.specs.Instance.{instance_cmp, IsNewerByRule};
-ghost use Rattle.lsa_instances.specs.Newest.{AreNewest, lsas_of_scope, place_and_octets};
+ghost use Rattle.lsa_instances.specs.Newest.{AreNewest, AreSame, lsas_of_scope, place_and_octets};
 ghost use Rattle.lsa_instances.specs.Order.{key_cmp};
 
 use std::alloc::Allocator;
@@ -23,9 +23,11 @@ pub fn instance_order()
 {}
 
 /// The newest of sightings are the newest of the same sightings in any other order, as of files
-/// that are read in another order.
+/// that are read in another order, and also where some are told more often.
 pub fn newest_in_any_order<A: Allocator>()
     ensures same { (told other newest : List (AnySighting A)) → IsPermutation told other
+        → AreNewest told newest → AreNewest other newest }
+    ensures again { (told other newest : List (AnySighting A)) → AreSame told other
         → AreNewest told newest → AreNewest other newest }
 
     // Two answers have the same LSAs, octet for octet, in the same order.

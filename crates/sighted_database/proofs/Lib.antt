@@ -4,5 +4,6 @@ mod Counted
 mod Sections
 mod Rising
 mod ScopesTold
+mod AnyOrder
 mod Heads
 mod Whole

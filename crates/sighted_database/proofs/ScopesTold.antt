@@ -13,10 +13,10 @@ use Rattle.sighted_database.specs.declared.area.ToldArea.{ToldArea}
 use Rattle.sighted_database.specs.Joining.{AreScopes, IsTold}
 use Rattle.sighted_database.specs.Steps.{AreOnce, scopes_told}
 
-in_map : {X Y : Type 0} (f : X → Y) (xs : List X) (k : ℕ) (d : X) → k < length xs → Contains (map f xs) (f (get_or xs k d))
+pub in_map : {X Y : Type 0} (f : X → Y) (xs : List X) (k : ℕ) (d : X) → k < length xs → Contains (map f xs) (f (get_or xs k d))
 in_map f xs k d l = (k, omega (arith, l, length-map xs f), get_or-map f xs k d (f (get_or xs k d)) l)
 
-from_map : {X Y : Type 0} (f : X → Y) (xs : List X) (y : Y) → Contains (map f xs) y → Any (λ x. f x ≡ y) xs
+pub from_map : {X Y : Type 0} (f : X → Y) (xs : List X) (y : Y) → Contains (map f xs) y → Any (λ x. f x ≡ y) xs
 from_map f xs y c =
     let l : c.0 < length xs = omega (arith, c.1, length-map xs f) in
     elim (slice_get_cases xs c.0).1 as (λ _. Any (λ x. f x ≡ y) xs) [

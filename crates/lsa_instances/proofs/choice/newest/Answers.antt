@@ -1,10 +1,12 @@
 use Rattle.std.proofs.lemmas.List.Sorted.{IsPermutation-sym}
 use Rattle.std.proofs.lemmas.Result.{IfOk-weaker}
 use Rattle.lsa_instances.proofs.Reordered.{reordered}
+use Rattle.lsa_instances.proofs.SameLemmas.{same_in_order}
 use Rattle.lsa_instances.proofs.choice.newest.Goals as goal
 
 pub returns : goal.returns
 returns g c =
     let told = c.args.sightings.items in
-    let same = IsPermutation-sym told c.in_ok-sorted.field-0.items c.in_ok-sorted.ensures.same in
-    IfOk-weaker c.newest_of_sorted.result _ _ (λ newest h. reordered c.in_ok-sorted.field-0.items told same newest.items h) c.newest_of_sorted.ensures
+    let sorted = c.in_ok-sorted.field-0.items in
+    let same = same_in_order sorted told (IsPermutation-sym told sorted c.in_ok-sorted.ensures.same) in
+    IfOk-weaker c.newest_of_sorted.result _ _ (λ newest h. reordered sorted told same newest.items h) c.newest_of_sorted.ensures

@@ -1,0 +1,117 @@
+-- What is joined of the same sightings and areas, in any order, each told any number of times.
+use Rattle.std.proofs.Common.{◌≡◌, ℕ, refl, sym, ◌∙◌, ap, subst, inl, inr, Bool, true, false, cond, List, [], ◌∷◌, length, get_or, map, not, ◌==◌, ◌&&◌}
+use Rattle.std.specs.Prelude.{All, AllPairs, Contains, Some}
+use Rattle.std.specs.List.{Any, filter}
+use Rattle.std.specs.Ordering.{is_eq}
+use Rattle.std.specs.declared.cmp.Ordering.TheVariants.{Less}
+use Rattle.std.proofs.lemmas.List.{map-id}
+use Rattle.std.proofs.lemmas.List.Elements.{All-contains, All-weaker}
+use Rattle.lsa_codec.specs.declared.address.AreaId.{AreaId}
+use Rattle.lsa_instances.specs.declared.place.Place.{Place}
+use Rattle.lsa_instances.specs.declared.place.Scope.{Scope}
+use Rattle.lsa_instances.specs.declared.place.Scope.TheVariants.{Area, AsWide}
+use Rattle.lsa_instances.specs.declared.sighting.Sighting.{Sighting}
+use Rattle.lsa_instances.specs.Newest.{AreSame, is_of_scope, lsas_of_scope, place_and_octets}
+use Rattle.lsa_instances.specs.Order.{scope_cmp}
+use Rattle.lsa_instances.proofs.SameLemmas.{any_same}
+use Rattle.lsa_instances.proofs.SameValuesLemmas.{same_values}
+use Rattle.lsdb.specs.Lists.{AreaHead, SectionLsas}
+use Rattle.sighted_database.specs.declared.area.ToldArea.{ToldArea}
+use Rattle.sighted_database.specs.Joining.{AreScopes, IsTold, Joining, any_stub, head, is_stub, joined, section}
+use Rattle.sighted_database.proofs.Rising.{scope_total}
+use Rattle.sighted_database.proofs.ScopesTold.{from_map, in_map}
+
+abbrev Before : Scope → Scope → Type 0
+Before a b = scope_cmp a b ≡ Less
+
+never_both : (a b : Scope) → Before a b → Before b a → ⊥
+never_both a b p q = let e = scope_total.antisymm a b in absurd (cc)
+
+module _ (areas others : List ToldArea) (same : AreSame areas others) where
+  same_stub : (id : ℕ) → is_stub areas id ≡ is_stub others id
+  same_stub id = ap (λ b. not (id == 0) && b) (any_same (λ area. area.is_stub && (area.id.0 == id)) areas others same)
+
+  same_head : (scope : Scope) → head areas scope ≡ head others scope
+  same_head (Area id) = ap (λ b. let h : AreaHead = record { id = id.0; is_stub = b } in Some h) (same_stub id.0)
+  same_head AsWide = refl
+
+-- what a database keeps of a sighting
+abbrev Kept : Type 0
+Kept = Place × List ℕ
+
+-- the LSAs of a scope, by what a database keeps
+abbrev kept_of : Scope → List Kept → List (List ℕ)
+kept_of scope kept = map (λ v. v.1) (filter (λ v. is_eq (scope_cmp v.0.scope scope)) kept)
+
+module _ {A : Type 0} where
+  one_more : (b : Bool) (x : Sighting A) (xs : List (Sighting A)) (ks : List Kept) → map (λ y. y.lsa) xs ≡ map (λ v. v.1) ks
+      → map (λ y. y.lsa) (cond b (x ∷ xs) xs) ≡ map (λ v. v.1) (cond b (place_and_octets x ∷ ks) ks)
+  one_more true x xs ks e = ap (λ ls. x.lsa ∷ ls) e
+  one_more false x xs ks e = e
+
+  lsas_kept : (scope : Scope) (xs : List (Sighting A)) → lsas_of_scope scope xs ≡ kept_of scope (map place_and_octets xs)
+  lsas_kept scope [] = refl
+  lsas_kept scope (x ∷ xs) =
+      one_more (is_of_scope scope x) x (filter (is_of_scope scope) xs)
+      (filter (λ v. is_eq (scope_cmp v.0.scope scope)) (map place_and_octets xs)) (lsas_kept scope xs)
+
+  same_lsas : (scope : Scope) (xs ys : List (Sighting A)) → map place_and_octets xs ≡ map place_and_octets ys
+      → lsas_of_scope scope xs ≡ lsas_of_scope scope ys
+  same_lsas scope xs ys e = lsas_kept scope xs ∙ ap (kept_of scope) e ∙ sym (lsas_kept scope ys)
+
+  abbrev scopes_in : List (Sighting A) → List Scope
+  scopes_in xs = map (λ x. x.scope) xs
+
+  scopes_kept : (xs : List (Sighting A)) → scopes_in xs ≡ map (λ (v : Kept). v.0.scope) (map place_and_octets xs)
+  scopes_kept [] = refl
+  scopes_kept (x ∷ xs) = ap (λ scopes. x.scope ∷ scopes) (scopes_kept xs)
+
+  scope_in : (xs ys : List (Sighting A)) (scope : Scope) → map place_and_octets xs ≡ map place_and_octets ys
+      → Any (λ x. x.scope ≡ scope) xs → Any (λ x. x.scope ≡ scope) ys
+  scope_in xs ys scope e a =
+      let alike : scopes_in xs ≡ scopes_in ys = scopes_kept xs ∙ ap (map (λ (v : Kept). v.0.scope)) e ∙ sym (scopes_kept ys) in
+      let C : Scope → Type 0 = λ s. Contains (scopes_in xs) s in
+      let D : List Scope → Type 0 = λ scopes. Contains scopes scope in
+      let within : Contains (scopes_in xs) scope =
+      subst C (ap (λ (x : Sighting A). x.scope) a.3 ∙ a.4) (in_map (λ (x : Sighting A). x.scope) xs a.0 a.1 a.2) in
+      from_map (λ (x : Sighting A). x.scope) ys scope (subst D alike within)
+
+  -- each scope that is told of these stands among the scopes of the others
+  found : (areas others : List ToldArea) (xs ys : List (Sighting A)) (scopes : List Scope) → AreSame areas others
+      → map place_and_octets xs ≡ map place_and_octets ys → AreScopes others ys scopes → (scope : Scope) → IsTold areas xs scope → Contains scopes scope
+  found areas others xs ys scopes same e s AsWide h = s.as_there
+  found areas others xs ys scopes same e s (Area id) (inl a) =
+      let P : AreaId → Type 0 = λ i. Contains scopes (Area i) in
+      let other : Contains others a.1 = All-contains (Contains others) areas a.1 same.0 (a.0, a.2, a.3) in
+      subst P a.4 (All-contains (λ area. Contains scopes (Area area.id)) others a.1 s.areas_there other)
+  found areas others xs ys scopes same e s (Area id) (inr b) =
+      let P : Scope → Type 0 = λ y. Contains scopes y in
+      let a = scope_in xs ys (Area id) e b in
+      subst P a.4 (All-contains (λ x. Contains scopes x.scope) ys a.1 s.lsas_there (a.0, a.2, a.3))
+
+  all_found : (areas others : List ToldArea) (xs ys : List (Sighting A)) (scopes more : List Scope) → AreSame areas others
+      → map place_and_octets xs ≡ map place_and_octets ys → AreScopes areas xs scopes → AreScopes others ys more
+      → All (λ scope. Any (λ z. z ≡ scope) more) scopes
+  all_found areas others xs ys scopes more same e s t =
+      All-weaker (IsTold areas xs) (λ scope. Any (λ z. z ≡ scope) more)
+      (λ scope h. let c = found areas others xs ys more same e t scope h in (c.0, scope, c.1, c.2, refl)) scopes s.each
+
+  same_scopes : (areas others : List ToldArea) (xs ys : List (Sighting A)) (scopes more : List Scope) → AreSame areas others
+      → map place_and_octets xs ≡ map place_and_octets ys → AreScopes areas xs scopes → AreScopes others ys more → scopes ≡ more
+  same_scopes areas others xs ys scopes more same e s t =
+      sym (map-id scopes)
+      ∙ same_values (λ scope. scope) Before never_both scopes more s.order t.order
+      (all_found areas others xs ys scopes more same e s t) (all_found others areas ys xs more scopes (same.1, same.0) (sym e) t s)
+      ∙ map-id more
+
+  same_section : (areas others : List ToldArea) (xs ys : List (Sighting A)) → AreSame areas others
+      → map place_and_octets xs ≡ map place_and_octets ys → (scope : Scope) → section areas xs scope ≡ section others ys scope
+  same_section areas others xs ys same e scope =
+      λ i. record { area = same_head areas others same scope i; lsas = same_lsas scope xs ys e i }
+
+  pub same_joined : (told other : List (Sighting A)) (areas others : List ToldArea) (one : Joining told areas) (two : Joining other others)
+      → AreSame areas others → map place_and_octets one.newest ≡ map place_and_octets two.newest → joined one ≡ joined two
+  same_joined told other areas others one two same e =
+      let scopes : one.scopes ≡ two.scopes =
+      same_scopes areas others one.newest two.newest one.scopes two.scopes same e one.are_scopes two.are_scopes in
+      λ i. map (λ scope. same_section areas others one.newest two.newest same e scope i) (scopes i)

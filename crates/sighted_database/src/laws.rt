@@ -1,0 +1,25 @@
+//! Laws of joining.
+
+ghost use Rattle.std.specs.Prelude.{◌≡◌, IsPermutation, List};
+ghost use Rattle.lsa_instances.specs.Newest.{AreSame};
+ghost use Rattle.lsa_instances.specs.declared.sighting.Sighting.{Sighting as AnySighting};
+ghost use Rattle.sighted_database.specs.declared.area.ToldArea.{ToldArea as AnyArea};
+ghost use Rattle.sighted_database.specs.Joining.{Joining, joined};
+
+use lsa_instances::newest_in_any_order;
+use std::alloc::Allocator;
+
+/// What [`join`](crate::join) makes depends on which sightings and which areas are told, and not
+/// on their order, as of files that are read in another order, nor on how often each is told.
+///
+/// The function does nothing: its contract is the law.
+pub fn joined_in_any_order<A: Allocator>()
+    ensures order { (told other : List (AnySighting A)) (areas others : List AnyArea)
+        (one : Joining told areas) (two : Joining other others)
+        → IsPermutation told other → IsPermutation areas others → joined one ≡ joined two }
+    ensures again { (told other : List (AnySighting A)) (areas others : List AnyArea)
+        (one : Joining told areas) (two : Joining other others)
+        → AreSame told other → AreSame areas others → joined one ≡ joined two }
+{
+    newest_in_any_order::<A>();
+}
