@@ -22,3 +22,6 @@ pub use hole::{Hole, RowFault};
 pub use kind::{AreaKind, AreaTold};
 pub use row::Row;
 pub use walk::{Walk, read_walk};
+
+#[cfg(test)]
+mod tests;
