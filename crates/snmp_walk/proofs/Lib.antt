@@ -4,4 +4,5 @@ pub mod Names
 pub mod Values
 pub mod Tellings
 pub mod Quotes
+pub mod Printed
 pub mod Rows

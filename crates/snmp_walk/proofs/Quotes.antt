@@ -14,17 +14,17 @@ pub quoted_escaped : (octets text : List ℕ) (i : ℕ) → i < length text
 unfolding quoted_behind
 quoted_escaped octets text i lt = ap (quoted_behind octets true) (cut text i lt)
 
-closing : (octets : List ℕ) (octet : ℕ) (text : List ℕ) → eqb octet 0x22 ≡ true
+pub closing : (octets : List ℕ) (octet : ℕ) (text : List ℕ) → eqb octet 0x22 ≡ true
     → quoted_behind octets false (octet ∷ text) ≡ cond (list_all is_blank text) (Some octets) None
 unfolding quoted_behind
 closing octets octet text h = rw h refl
 
-escaping : (octets : List ℕ) (octet : ℕ) (text : List ℕ) → eqb octet 0x22 ≡ false → eqb octet 0x5c ≡ true
+pub escaping : (octets : List ℕ) (octet : ℕ) (text : List ℕ) → eqb octet 0x22 ≡ false → eqb octet 0x5c ≡ true
     → quoted_behind octets false (octet ∷ text) ≡ quoted_behind octets true text
 unfolding quoted_behind
 escaping octets octet text h k = rw (h, k) refl
 
-plain : (octets : List ℕ) (octet : ℕ) (text : List ℕ) → eqb octet 0x22 ≡ false → eqb octet 0x5c ≡ false
+pub plain : (octets : List ℕ) (octet : ℕ) (text : List ℕ) → eqb octet 0x22 ≡ false → eqb octet 0x5c ≡ false
     → quoted_behind octets false (octet ∷ text) ≡ quoted_behind (octets ++ octet ∷ []) false text
 unfolding quoted_behind
 plain octets octet text h k = rw (h, k) refl

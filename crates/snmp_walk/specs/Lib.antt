@@ -3,6 +3,7 @@ pub mod Objects
 pub mod Names
 pub mod Subjects
 pub mod Values
+pub mod Printing
 pub mod Telling
 pub mod Walks
 pub mod Missing

@@ -7,6 +7,7 @@
 mod fault;
 mod hole;
 mod kind;
+mod laws;
 mod missing;
 mod name;
 mod object;
@@ -20,6 +21,7 @@ mod walk;
 pub use fault::WalkFault;
 pub use hole::{Hole, RowFault};
 pub use kind::{AreaKind, AreaTold};
+pub use laws::printed_octets_are_read;
 pub use row::Row;
 pub use walk::{Walk, read_walk};
 
