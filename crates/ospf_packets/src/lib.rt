@@ -22,3 +22,6 @@ mod update;
 pub use kind::{AreaKind, AreaTold};
 pub use odd::Odd;
 pub use packets::{Packets, read_frames};
+
+#[cfg(test)]
+mod tests;
