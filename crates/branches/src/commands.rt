@@ -88,7 +88,7 @@ fn table_before<A: Allocator + Copy>(
     ensures table { IfOk result (λ table. table ≡ table_in planner.old.session.base router) }
     ensures kept { planner.new.session ≡ planner.old.session }
 {
-    match planner.base_table(router) {
+    match planner.kept_base_table(router) {
         Ok(table) => Ok(Some(table)),
         Err(TableFault::NoRouter) => Ok(None),
         Err(TableFault::OutOfMemory) => Err(AllocError),

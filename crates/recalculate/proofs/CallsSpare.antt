@@ -37,12 +37,12 @@ pub took : (s t : Session) (e : Edit) → edited s e ≡ Ok t → IsTaken (edit 
 took s t e is = subst (λ (r : Result Session EditFault). IsOk r) (sym is) refl
 
 -- what a planner shows that has these trees
-abbrev pub shown : Session → ℕ → AreasTrees → PlannerValue
-shown s runs areas = record { session = s; runs = runs; kept = routers_of areas }
+abbrev pub shown : Session → ℕ → (trees first_trees : AreasTrees) → PlannerValue
+shown s runs trees first_trees = record { session = s; runs = runs; kept = routers_of trees; first_kept = routers_of first_trees }
 
-pub carries_out : (r : Request) (s t : Session) (runs : ℕ) (areas new : AreasTrees) → IsTaken r s → after_request s r ≡ t → IsReached t
-    → IsKeptAs (state t) (request_touches r s) areas new → CarriedOut r (shown s runs areas) (shown t runs new)
-carries_out r s t runs areas new taken is reached kept = record { taken = taken; session = sym is; reached = reached; runs = refl; kept = kept.shown }
+pub carries_out : (r : Request) (s t : Session) (runs : ℕ) (areas new first_trees : AreasTrees) → IsTaken r s → after_request s r ≡ t → IsReached t
+    → IsKeptAs (state t) (request_touches r s) areas new → CarriedOut r (shown s runs areas first_trees) (shown t runs new first_trees)
+carries_out r s t runs areas new first_trees taken is reached kept = record { taken = taken; session = sym is; reached = reached; runs = refl; kept = kept.shown }
 
 -- ---- the graph of an area stays
 

@@ -7,7 +7,7 @@ use edit_history::{EditFault, Record, RedoFault, UndoFault};
 use edit_script::Edit;
 use lsa_codec::RouterId;
 use lsdb::Database;
-use routing_table::{KeptTrees, Table, TableFault, routers, table_from};
+use routing_table::{KeptTrees, Table, TableFault, routers};
 use spf::Meter;
 use std::alloc::{AllocError, Allocator, Global};
 use std::marker::Model;
@@ -16,25 +16,31 @@ use std::marker::Model;
 /// were undone since.
 ///
 /// It is seen as its session, which is the loaded database, the edits done and the edits undone, as
-/// how many trees it has calculated, and as which of them it keeps for further tables. After any
-/// calls its database is the effect of the done edits, in order, on the loaded one.
+/// how many trees it has calculated, and as which of them it keeps for further tables, of its
+/// database and of the loaded one. After any calls its database is the effect of the done edits, in
+/// order, on the loaded one.
 #[derive(Drop)]
 pub struct Planner<A: Allocator = Global> {
     study: Study<A>,
     trees: KeptTrees<A>,
+    first_trees: KeptTrees<A>,
     meter: Meter,
 }
 
 impl<A: Allocator> Model for Planner<A> {
-    ghost use Rattle.edit_history.specs.Session.{state};
-    ghost use Rattle.routing_table.specs.AreasTrees.{AreOfDatabase, routers_of};
-    ghost use Rattle.recalculate.specs.Planning.{PlannerValue};
+    ghost use Rattle.routing_table.specs.AreasTrees.{routers_of};
+    ghost use Rattle.recalculate.specs.Planning.{KeepsTrees, PlannerValue};
 
     ghost Value = { PlannerValue };
 
-    ghost view = { λ p. record { session = p.study; runs = p.meter; kept = routers_of p.trees } };
+    ghost view = { λ p. record {
+      session = p.study;
+      runs = p.meter;
+      kept = routers_of p.trees;
+      first_kept = routers_of p.first_trees;
+    } };
 
-    ghost invariant = { λ p. AreOfDatabase (state p.study) p.trees };
+    ghost invariant = { λ p. KeepsTrees p.study p.trees p.first_trees };
 }
 
 impl<A: Allocator + Copy> Planner<A> {
@@ -62,10 +68,12 @@ impl<A: Allocator + Copy> Planner<A> {
         ensures session { result.session ≡ start (lists_of database) }
         ensures runs { result.runs ≡ 0 }
         ensures kept { result.kept ≡ [] }
+        ensures first_kept { result.first_kept ≡ [] }
     {
         Planner {
             study: Study::new(alloc, database),
             trees: KeptTrees::new(alloc),
+            first_trees: KeptTrees::new(alloc),
             meter: Meter::new(),
         }
     }
@@ -105,6 +113,7 @@ impl<A: Allocator + Copy> Planner<A> {
         ensures runs { self.new.runs ≡ self.old.runs }
         ensures kept { OnOk result (self.new.kept ≡ less_touched
             (λ area. edit_touches area (state self.old.session) edit.now) self.old.kept) }
+        ensures first_kept { self.new.first_kept ≡ self.old.first_kept }
         ensures step { OnOk result (CarriedOut (edit_request edit.now) self.old self.new) }
     {
         self.study.edit(edit)?;
@@ -126,6 +135,7 @@ impl<A: Allocator + Copy> Planner<A> {
         ensures runs { self.new.runs ≡ self.old.runs }
         ensures kept { OnOk result (self.new.kept ≡ less_touched
             (λ area. undo_touches count area self.old.session) self.old.kept) }
+        ensures first_kept { self.new.first_kept ≡ self.old.first_kept }
         ensures step { OnOk result (CarriedOut (undo_request count) self.old self.new) }
     {
         self.study.undo(count as usize)?;
@@ -147,6 +157,7 @@ impl<A: Allocator + Copy> Planner<A> {
         ensures runs { self.new.runs ≡ self.old.runs }
         ensures kept { OnOk result (self.new.kept ≡ less_touched
             (λ area. redo_touches count area self.old.session) self.old.kept) }
+        ensures first_kept { self.new.first_kept ≡ self.old.first_kept }
         ensures step { OnOk result (CarriedOut (redo_request count) self.old self.new) }
     {
         self.study.redo(count as usize)?;
@@ -189,8 +200,9 @@ impl<A: Allocator + Copy> Planner<A> {
     }
 
     /// How many shortest-path trees the planner has calculated for tables. Only
-    /// [`table`](Planner::table) and [`base_table`](Planner::base_table) raise it. It stays at its
-    /// greatest value, 2^64 - 1, and takes no memory.
+    /// [`table`](Planner::table), [`base_table`](Planner::base_table) and
+    /// [`kept_base_table`](Planner::kept_base_table) raise it. It stays at its greatest value,
+    /// 2^64 - 1, and takes no memory.
     pub fn runs(&self) -> u64
         ensures { result ≡ self.now.runs }
     {
@@ -220,18 +232,15 @@ impl<A: Allocator + Copy> Planner<A> {
         ensures kept { OnOk result (areas_without_tree (is_kept self.new.kept) router
             (attached_areas (state self.old.session) router) ≡ []) }
         ensures keeps { IsWithin (is_kept self.old.kept) (is_kept self.new.kept) }
+        ensures first_kept { self.new.first_kept ≡ self.old.first_kept }
         ensures step { Stayed self.old self.new }
     {
-        let database = self.study.database();
-        let alloc = database.alloc();
-        let results = self
-            .trees
-            .results_of(alloc, database, router, &mut self.meter)?;
-        table_from(alloc, database, router, &results)
+        self.study
+            .table_over(router, &mut self.trees, &mut self.meter)
     }
 
-    /// The routing table of a router in the database that the session began at. The session stays
-    /// as it is, also after an error.
+    /// The routing table of a router in the database that the session began at, by trees that are
+    /// not kept. The session stays as it is, also after an error.
     ///
     /// # Errors
     ///
@@ -241,6 +250,7 @@ impl<A: Allocator + Copy> Planner<A> {
         ensures fault { IfErr result (FaultMeans (table_in self.old.session.base router)) }
         ensures session { self.new.session ≡ self.old.session }
         ensures kept { self.new.kept ≡ self.old.kept }
+        ensures first_kept { self.new.first_kept ≡ self.old.first_kept }
         ensures runs { OnOk result (self.new.runs
             ≡ counted_by (length (attached_areas self.old.session.base router)) self.old.runs) }
         ensures no_router { result ≡ Err TableFault.NoRouter → self.new.runs ≡ self.old.runs }
@@ -249,6 +259,34 @@ impl<A: Allocator + Copy> Planner<A> {
         ensures step { Stayed self.old self.new }
     {
         self.study.base_table(router, &mut self.meter)
+    }
+
+    /// The routing table of a router in the database that the session began at. In each area that
+    /// the router is attached to there its tree is calculated, unless it is kept, and then it is
+    /// kept until the planner is dropped, since no edit changes that database. The session and the
+    /// trees of its own database stay as they are, also after an error.
+    ///
+    /// # Errors
+    ///
+    /// As those of [`table`](Planner::table), for that database.
+    pub fn kept_base_table(&mut self, router: RouterId) -> Result<Table<A>, TableFault>
+        ensures table { IfOk result (λ table. table_in self.old.session.base router ≡ Some table) }
+        ensures fault { IfErr result (FaultMeans (table_in self.old.session.base router)) }
+        ensures session { self.new.session ≡ self.old.session }
+        ensures kept { self.new.kept ≡ self.old.kept }
+        ensures runs { OnOk result (self.new.runs ≡ counted_by (length (areas_without_tree
+            (is_kept self.old.first_kept) router (attached_areas self.old.session.base router)))
+            self.old.runs) }
+        ensures no_router { result ≡ Err TableFault.NoRouter → self.new.runs ≡ self.old.runs }
+        ensures at_most { CountsAtMost (length (areas_without_tree (is_kept self.old.first_kept)
+            router (attached_areas self.old.session.base router))) self.old.runs self.new.runs }
+        ensures first_kept { OnOk result (areas_without_tree (is_kept self.new.first_kept) router
+            (attached_areas self.old.session.base router) ≡ []) }
+        ensures keeps { IsWithin (is_kept self.old.first_kept) (is_kept self.new.first_kept) }
+        ensures step { Stayed self.old self.new }
+    {
+        self.study
+            .base_table_over(router, &mut self.first_trees, &mut self.meter)
     }
 
     /// What the session counted at its beginning, before all edits. The session stays as it is, and

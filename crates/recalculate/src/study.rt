@@ -5,7 +5,7 @@ use edit_history::{EditFault, History, Record, RedoFault, UndoFault, apply};
 use edit_script::Edit;
 use lsa_codec::{AreaId, RouterId};
 use lsdb::Database;
-use routing_table::{Table, TableFault, table_of};
+use routing_table::{KeptTrees, Table, TableFault, table_from, table_of};
 use spf::Meter;
 use std::alloc::{AllocError, Allocator};
 use std::marker::Model;
@@ -33,14 +33,16 @@ impl<A: Allocator> Model for Study<A> {
 }
 
 impl<A: Allocator + Copy> Study<A> {
-    ghost use Rattle.std.specs.Prelude.{◌≡◌, ◌≢◌, ◌≤◌, ◌↔◌, ◌+◌, ◌++◌, Ok, Err, Some, length, IsOk, OnOk, OnErr, IfOk, IfErr, IsErrOf};
+    ghost use Rattle.std.specs.Prelude.{◌≡◌, ◌≢◌, ◌≤◌, ◌↔◌, ◌+◌, ◌++◌, [], Ok, Err, Some, length, IsOk, OnOk, OnErr, IfOk, IfErr, IsErrOf};
     ghost use Rattle.lsdb.specs.BaseText.{base_text};
     ghost use Rattle.lsdb.specs.Lists.{IsDatabase};
     ghost use Rattle.lsdb.specs.Places.{lists_of};
     ghost use Rattle.area_routes.specs.Attached.{attached_areas};
     ghost use Rattle.edit_history.specs.declared.fault.EditFault.TheVariants.{HistoryFull, OutOfMemory};
     ghost use Rattle.edit_history.specs.Session.{edits_of, start, state, effects, most_edits, edited, moved_back, moved_on, redo_touches, undo_touches};
+    ghost use Rattle.routing_table.specs.AreasTrees.{AreOfDatabase, routers_of};
     ghost use Rattle.routing_table.specs.Counting.{counted_by, CountsAtMost};
+    ghost use Rattle.routing_table.specs.KeptTrees.{IsWithin, areas_without_tree, is_kept};
     ghost use Rattle.recalculate.specs.Counts.{info_of};
     ghost use Rattle.recalculate.specs.Reached.{IsReached};
     ghost use Rattle.routing_table.specs.Tables.{table_in, FaultMeans};
@@ -151,6 +153,64 @@ impl<A: Allocator + Copy> Study<A> {
         ensures few { length self.now.done + length self.now.undone ≤ most_edits }
     {
         self.history.records()
+    }
+
+    /// The routing table of a router over trees of the database that are kept. Those of the router
+    /// that are not there are calculated and kept, and the meter counts them.
+    pub(crate) fn table_over(
+        &self,
+        router: RouterId,
+        trees: &mut KeptTrees<A>,
+        meter: &mut Meter,
+    ) -> Result<Table<A>, TableFault>
+        requires { AreOfDatabase (state self.now) trees.old }
+        ensures table { IfOk result (λ table. table_in (state self.now) router ≡ Some table) }
+        ensures fault { IfErr result (FaultMeans (table_in (state self.now) router)) }
+        ensures graphs { AreOfDatabase (state self.now) trees.new }
+        ensures meter { OnOk result (meter.new ≡ counted_by (length (areas_without_tree
+            (is_kept (routers_of trees.old)) router (attached_areas (state self.now) router)))
+            meter.old) }
+        ensures no_router { result ≡ Err TableFault.NoRouter → meter.new ≡ meter.old }
+        ensures at_most { CountsAtMost (length (areas_without_tree (is_kept (routers_of trees.old))
+            router (attached_areas (state self.now) router))) meter.old meter.new }
+        ensures kept { OnOk result (areas_without_tree (is_kept (routers_of trees.new)) router
+            (attached_areas (state self.now) router) ≡ []) }
+        ensures keeps { IsWithin (is_kept (routers_of trees.old)) (is_kept (routers_of trees.new)) }
+    {
+        let database = self.database();
+        let alloc = database.alloc();
+        let results = trees.results_of(alloc, database, router, meter)?;
+        table_from(alloc, database, router, &results)
+    }
+
+    /// The routing table of a router over trees of the loaded database that are kept. Those of the
+    /// router that are not there are calculated and kept, and the meter counts them. All edits are
+    /// taken back for it, and carried out again.
+    pub(crate) fn base_table_over(
+        &mut self,
+        router: RouterId,
+        trees: &mut KeptTrees<A>,
+        meter: &mut Meter,
+    ) -> Result<Table<A>, TableFault>
+        requires { AreOfDatabase self.old.base trees.old }
+        ensures table { IfOk result (λ table. table_in self.old.base router ≡ Some table) }
+        ensures fault { IfErr result (FaultMeans (table_in self.old.base router)) }
+        ensures session { self.new ≡ self.old }
+        ensures graphs { AreOfDatabase self.old.base trees.new }
+        ensures meter { OnOk result (meter.new ≡ counted_by (length (areas_without_tree
+            (is_kept (routers_of trees.old)) router (attached_areas self.old.base router)))
+            meter.old) }
+        ensures no_router { result ≡ Err TableFault.NoRouter → meter.new ≡ meter.old }
+        ensures at_most { CountsAtMost (length (areas_without_tree (is_kept (routers_of trees.old))
+            router (attached_areas self.old.base router))) meter.old meter.new }
+        ensures kept { OnOk result (areas_without_tree (is_kept (routers_of trees.new)) router
+            (attached_areas self.old.base router) ≡ []) }
+        ensures keeps { IsWithin (is_kept (routers_of trees.old)) (is_kept (routers_of trees.new)) }
+    {
+        let done = self.undo_all();
+        let table = self.table_over(router, trees, meter);
+        self.redo_all(done);
+        table
     }
 
     /// The routing table of a router in the loaded database, whose trees the meter counts. All

@@ -5,7 +5,7 @@ use edit_script::{Command, parse};
 use lsa_codec::RouterId;
 use lsdb::Database;
 use recalculate::{Planner, Table};
-use samples::SAMPLE;
+use samples::{R1, SAMPLE};
 use std::alloc::{Allocator, Global};
 use std::test::*;
 
@@ -211,5 +211,30 @@ const BEGINNING: &[Step] = &[
 #[test]
 fn counts_the_trees_of_the_beginning(rt: HostRuntime) -> Result<(), Fail> {
     assert_eq!(rt; first_otherwise(rt.alloc(), SAMPLE, BEGINNING)?, None);
+    Ok(())
+}
+
+/// How many trees are calculated after each of three tables of the beginning: after the first,
+/// after one that follows an edit of the router's own area, and after one by trees that are not
+/// kept. Another table than the first is a failure.
+fn runs_at_the_beginning(alloc: Global) -> Result<(u64, u64, u64), Fail> {
+    let mut planner = planner_of(alloc, SAMPLE)?;
+    let before = planner.kept_base_table(RouterId(R1))?;
+    let first = planner.runs();
+    let _refused = is_refused(&mut planner, alloc, "fail-router 1.1.1.1")?;
+    let again = planner.kept_base_table(RouterId(R1))?;
+    let second = planner.runs();
+    let fresh = planner.base_table(RouterId(R1))?;
+    for table in [&again, &fresh] {
+        if !same_routes(before.routes().as_slice(), table.routes().as_slice()) {
+            return Err(Fail::from("another table"));
+        }
+    }
+    Ok((first, second, planner.runs()))
+}
+
+#[test]
+fn keeps_the_trees_of_the_beginning(rt: HostRuntime) -> Result<(), Fail> {
+    assert_eq!(rt; runs_at_the_beginning(rt.alloc())?, (1, 1, 2));
     Ok(())
 }

@@ -15,6 +15,9 @@ returns-in-Some-clause-dump g c =
     ∙ ap (λ (n : Named). sessions_of n c.args.branch) c.self.view_is)
     c.dump-in-Some.ensures
 
+pub invariant_of-self : goal.invariant_of-self
+invariant_of-self g c = rw c.base.ensures.kept c.self.invariant
+
 pub invariant_of-self-in-None : goal.invariant_of-self-in-None
 invariant_of-self-in-None g c = rw c.base.ensures.kept c.self.invariant
 

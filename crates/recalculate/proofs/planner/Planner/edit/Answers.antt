@@ -1,9 +1,12 @@
-use Rattle.std.proofs.Common.{◌∙◌, ap, subst}
+use Rattle.std.proofs.Common.{◌∙◌, sym, ap, subst}
 use Rattle.edit_history.specs.Effect.{edit_touches}
+use Rattle.lsdb.specs.Lists.{Lists}
 use Rattle.edit_history.specs.Session.{edit, state}
 use Rattle.recalculate.specs.Calls.{CarriedOut}
+use Rattle.routing_table.specs.AreasTrees.{AreOfDatabase}
 use Rattle.routing_table.specs.KeptTrees.{less_touched}
 use Rattle.recalculate.specs.Planning.{PlannerValue}
+use Rattle.recalculate.proofs.Bases.{edited_base}
 use Rattle.recalculate.proofs.CallsSpare.{carries_out, edit_taken, shown, took}
 use Rattle.recalculate.proofs.Touches.{edited_kept, one_done}
 use Rattle.recalculate.proofs.planner.Planner.edit.Goals as goal
@@ -12,21 +15,24 @@ pub drop_done-requires : goal.drop_done-requires
 drop_done-requires g c = one_done c.self.inside.study c.edit.new.self c.args.edit.now c.in_ok-edit.ensures.ok
 
 pub invariant_of-self-2 : goal.invariant_of-self-2
-invariant_of-self-2 g c =
-    (edited_kept c.self.inside.trees c.drop_done.new.trees c.self.inside.study c.edit.new.self c.self.invariant
-    c.args.edit.now c.in_ok-edit.ensures.reached c.in_ok-edit.ensures.ok c.drop_done.ensures).graphs
+invariant_of-self-2 g c = record {
+  now = (edited_kept c.self.inside.trees c.drop_done.new.trees c.self.inside.study c.edit.new.self c.self.invariant.now
+      c.args.edit.now c.in_ok-edit.ensures.reached c.in_ok-edit.ensures.ok c.drop_done.ensures).graphs;
+  beginning = subst (λ (db : Lists). AreOfDatabase db c.self.inside.first_trees) (sym (edited_base c.self.inside.study c.edit.new.self c.args.edit.now c.in_ok-edit.ensures.ok))
+      c.self.invariant.beginning;
+}
 
 pub returns-clause-kept : goal.returns-clause-kept
 returns-clause-kept g c =
-    (edited_kept c.self.inside.trees c.drop_done.new.trees c.self.inside.study c.edit.new.self c.self.invariant
+    (edited_kept c.self.inside.trees c.drop_done.new.trees c.self.inside.study c.edit.new.self c.self.invariant.now
     c.args.edit.now c.in_ok-edit.ensures.reached c.in_ok-edit.ensures.ok c.drop_done.ensures).shown
     ∙ ap (λ (p : PlannerValue). less_touched (λ area. edit_touches area (state p.session) c.args.edit.now) p.kept) c.self.view_is
 
 pub returns-clause-step : goal.returns-clause-step
 returns-clause-step g c =
-    subst (λ (p : PlannerValue). CarriedOut (edit c.args.edit.now) p (shown c.edit.new.self c.self.inside.meter c.drop_done.new.trees)) c.self.view_is
-    (carries_out (edit c.args.edit.now) c.self.inside.study c.edit.new.self c.self.inside.meter c.self.inside.trees c.drop_done.new.trees
+    subst (λ (p : PlannerValue). CarriedOut (edit c.args.edit.now) p (shown c.edit.new.self c.self.inside.meter c.drop_done.new.trees c.self.inside.first_trees)) c.self.view_is
+    (carries_out (edit c.args.edit.now) c.self.inside.study c.edit.new.self c.self.inside.meter c.self.inside.trees c.drop_done.new.trees c.self.inside.first_trees
     (took c.self.inside.study c.edit.new.self c.args.edit.now c.in_ok-edit.ensures.ok)
     (edit_taken c.self.inside.study c.edit.new.self c.args.edit.now c.in_ok-edit.ensures.ok) c.in_ok-edit.ensures.reached
-    (edited_kept c.self.inside.trees c.drop_done.new.trees c.self.inside.study c.edit.new.self c.self.invariant
+    (edited_kept c.self.inside.trees c.drop_done.new.trees c.self.inside.study c.edit.new.self c.self.invariant.now
     c.args.edit.now c.in_ok-edit.ensures.reached c.in_ok-edit.ensures.ok c.drop_done.ensures))

@@ -1,83 +1,12 @@
-use Rattle.std.proofs.Common.{◌≡◌, ◌∙◌, [], length, sym, ap, subst}
-use Rattle.std.proofs.lemmas.Result.{err_from_is_err_and}
-use Rattle.lsdb.specs.Lists.{Lists}
-use Rattle.edit_history.specs.Session.{state}
-use Rattle.area_routes.specs.Attached.{attached_areas}
-use Rattle.routing_table.specs.AreasTrees.{routers_of, trees_in}
-use Rattle.routing_table.specs.Counting.{counted_by, CountsAtMost}
-use Rattle.routing_table.specs.KeptTrees.{IsWithin, TreeSet, areas_without_tree, is_kept}
+use Rattle.std.proofs.Common.{ap, subst}
+use Rattle.routing_table.specs.AreasTrees.{routers_of}
+use Rattle.routing_table.specs.KeptTrees.{IsWithin, is_kept}
 use Rattle.recalculate.specs.Planning.{PlannerValue}
-use Rattle.routing_table.proofs.TableLemmas.{no_memory, on_ok}
-use Rattle.recalculate.proofs.TreesSpared.{told}
 use Rattle.recalculate.proofs.planner.Planner.table.Goals as goal
-
-pub returns-in_err-results-clause-fault : goal.returns-in_err-results-clause-fault
-returns-in_err-results-clause-fault g c =
-    let gave = err_from_is_err_and c.from_residual.result c.from_residual.ensures.1 in
-    rw (gave.1, gave.2)
-    (no_memory (state c.args.self.now.session) c.args.router
-    (subst (λ (db : Lists). attached_areas db c.args.router ≡ [] → ⊥)
-    (c.database-database.ensures.state ∙ ap (λ (p : PlannerValue). state p.session) c.self.view_is) c.in_err-results.ensures.memory))
-
-pub returns-in_err-results-clause-at_most : goal.returns-in_err-results-clause-at_most
-returns-in_err-results-clause-at_most g c =
-    subst (λ (p : PlannerValue). CountsAtMost (length
-    (areas_without_tree (is_kept p.kept) c.args.router (attached_areas (state p.session) c.args.router))) p.runs c.results_of.new.meter) c.self.view_is
-    (subst (λ (t : TreeSet). CountsAtMost
-    (length (areas_without_tree t c.args.router (attached_areas (state c.self.inside.study) c.args.router))) c.self.inside.meter c.results_of.new.meter)
-    (sym (told c.self.inside.trees))
-    (subst (λ (db : Lists). CountsAtMost
-    (length (areas_without_tree (trees_in c.self.inside.trees) c.args.router (attached_areas db c.args.router))) c.self.inside.meter c.results_of.new.meter)
-    c.database-database.ensures.state c.results_of.ensures.at_most))
-
-pub returns-clause-at_most : goal.returns-clause-at_most
-returns-clause-at_most g c =
-    subst (λ (p : PlannerValue). CountsAtMost (length
-    (areas_without_tree (is_kept p.kept) c.args.router (attached_areas (state p.session) c.args.router))) p.runs c.results_of.new.meter) c.self.view_is
-    (subst (λ (t : TreeSet). CountsAtMost
-    (length (areas_without_tree t c.args.router (attached_areas (state c.self.inside.study) c.args.router))) c.self.inside.meter c.results_of.new.meter)
-    (sym (told c.self.inside.trees))
-    (subst (λ (db : Lists). CountsAtMost
-    (length (areas_without_tree (trees_in c.self.inside.trees) c.args.router (attached_areas db c.args.router))) c.self.inside.meter c.results_of.new.meter)
-    c.database-database.ensures.state c.results_of.ensures.at_most))
-
-pub returns-in_err-results-clause-keeps : goal.returns-in_err-results-clause-keeps
-returns-in_err-results-clause-keeps g c =
-    subst (λ (p : PlannerValue). IsWithin (is_kept p.kept) (is_kept (routers_of c.results_of.new.self))) c.self.view_is
-    (subst (λ (t : TreeSet). IsWithin t (is_kept (routers_of c.results_of.new.self))) (sym (told c.self.inside.trees))
-    (subst (λ (t : TreeSet). IsWithin (trees_in c.self.inside.trees) t) (sym (told c.results_of.new.self)) c.results_of.ensures.keeps))
 
 pub returns-clause-keeps : goal.returns-clause-keeps
 returns-clause-keeps g c =
-    subst (λ (p : PlannerValue). IsWithin (is_kept p.kept) (is_kept (routers_of c.results_of.new.self))) c.self.view_is
-    (subst (λ (t : TreeSet). IsWithin t (is_kept (routers_of c.results_of.new.self))) (sym (told c.self.inside.trees))
-    (subst (λ (t : TreeSet). IsWithin (trees_in c.self.inside.trees) t) (sym (told c.results_of.new.self)) c.results_of.ensures.keeps))
-
-pub returns-clause-runs : goal.returns-clause-runs
-returns-clause-runs g c =
-    on_ok c.table_from.result
-    (subst (λ (p : PlannerValue). c.results_of.new.meter ≡ counted_by
-    (length (areas_without_tree (is_kept p.kept) c.args.router (attached_areas (state p.session) c.args.router))) p.runs) c.self.view_is
-    (subst (λ (t : TreeSet). c.results_of.new.meter ≡ counted_by
-    (length (areas_without_tree t c.args.router (attached_areas (state c.self.inside.study) c.args.router))) c.self.inside.meter)
-    (sym (told c.self.inside.trees))
-    (subst (λ (db : Lists). c.results_of.new.meter ≡ counted_by
-    (length (areas_without_tree (trees_in c.self.inside.trees) c.args.router (attached_areas db c.args.router))) c.self.inside.meter)
-    c.database-database.ensures.state c.in_ok-results.ensures.meter)))
-
-pub returns-clause-kept : goal.returns-clause-kept
-returns-clause-kept g c =
-    on_ok c.table_from.result
-    (subst (λ (t : TreeSet). areas_without_tree t c.args.router (attached_areas (state c.args.self.now.session) c.args.router) ≡ [])
-    (sym (told c.results_of.new.self))
-    (subst (λ (db : Lists). areas_without_tree (trees_in c.results_of.new.self) c.args.router (attached_areas db c.args.router) ≡ [])
-    (c.database-database.ensures.state ∙ ap (λ (p : PlannerValue). state p.session) c.self.view_is) c.in_ok-results.ensures.grown))
-
-pub returns-in_err-results-clause-step : goal.returns-in_err-results-clause-step
-returns-in_err-results-clause-step g c = record {
-  session = ap (λ (p : PlannerValue). p.session) c.self.view_is;
-  keeps = returns-in_err-results-clause-keeps g c;
-}
+    subst (λ (p : PlannerValue). IsWithin (is_kept p.kept) (is_kept (routers_of c.table_over.new.trees))) c.self.view_is c.table_over.ensures.keeps
 
 pub returns-clause-step : goal.returns-clause-step
 returns-clause-step g c = record {

@@ -1,6 +1,8 @@
 use Rattle.std.proofs.Common.{◌∙◌, refl, sym, ap, subst}
-use Rattle.edit_history.specs.Session.{undo, undo_touches}
+use Rattle.lsdb.specs.Lists.{Lists}
+use Rattle.edit_history.specs.Session.{Session, undo, undo_touches}
 use Rattle.recalculate.specs.Calls.{CarriedOut}
+use Rattle.routing_table.specs.AreasTrees.{AreOfDatabase}
 use Rattle.routing_table.specs.KeptTrees.{less_touched}
 use Rattle.recalculate.specs.Planning.{PlannerValue}
 use Rattle.recalculate.proofs.CallsSpare.{carries_out, shown, undo_taken}
@@ -8,21 +10,24 @@ use Rattle.recalculate.proofs.Touches.{undone_kept}
 use Rattle.recalculate.proofs.planner.Planner.undo.Goals as goal
 
 pub invariant_of-self-2 : goal.invariant_of-self-2
-invariant_of-self-2 g c =
-    (undone_kept c.self.inside.trees c.drop_undone.new.trees c.self.inside.study c.undo.new.self c.self.invariant c.args.count
-    c.undo.ensures.reached (c.in_ok-undo.ensures.ok.0 refl) c.in_ok-undo.ensures.session c.drop_undone.ensures).graphs
+invariant_of-self-2 g c = record {
+  now = (undone_kept c.self.inside.trees c.drop_undone.new.trees c.self.inside.study c.undo.new.self c.self.invariant.now c.args.count
+      c.undo.ensures.reached (c.in_ok-undo.ensures.ok.0 refl) c.in_ok-undo.ensures.session c.drop_undone.ensures).graphs;
+  beginning = subst (λ (db : Lists). AreOfDatabase db c.self.inside.first_trees) (sym (ap (λ (s : Session). s.base) c.in_ok-undo.ensures.session))
+      c.self.invariant.beginning;
+}
 
 pub returns-clause-kept : goal.returns-clause-kept
 returns-clause-kept g c =
-    (undone_kept c.self.inside.trees c.drop_undone.new.trees c.self.inside.study c.undo.new.self c.self.invariant c.args.count
+    (undone_kept c.self.inside.trees c.drop_undone.new.trees c.self.inside.study c.undo.new.self c.self.invariant.now c.args.count
     c.undo.ensures.reached (c.in_ok-undo.ensures.ok.0 refl) c.in_ok-undo.ensures.session c.drop_undone.ensures).shown
     ∙ ap (λ (p : PlannerValue). less_touched (λ area. undo_touches c.args.count area p.session) p.kept) c.self.view_is
 
 pub returns-clause-step : goal.returns-clause-step
 returns-clause-step g c =
-    subst (λ (p : PlannerValue). CarriedOut (undo c.args.count) p (shown c.undo.new.self c.self.inside.meter c.drop_undone.new.trees)) c.self.view_is
-    (carries_out (undo c.args.count) c.self.inside.study c.undo.new.self c.self.inside.meter c.self.inside.trees c.drop_undone.new.trees
+    subst (λ (p : PlannerValue). CarriedOut (undo c.args.count) p (shown c.undo.new.self c.self.inside.meter c.drop_undone.new.trees c.self.inside.first_trees)) c.self.view_is
+    (carries_out (undo c.args.count) c.self.inside.study c.undo.new.self c.self.inside.meter c.self.inside.trees c.drop_undone.new.trees c.self.inside.first_trees
     (c.in_ok-undo.ensures.ok.0 refl)
     (undo_taken c.self.inside.study c.args.count (c.in_ok-undo.ensures.ok.0 refl) ∙ sym c.in_ok-undo.ensures.session) c.undo.ensures.leads
-    (undone_kept c.self.inside.trees c.drop_undone.new.trees c.self.inside.study c.undo.new.self c.self.invariant c.args.count
+    (undone_kept c.self.inside.trees c.drop_undone.new.trees c.self.inside.study c.undo.new.self c.self.invariant.now c.args.count
     c.undo.ensures.reached (c.in_ok-undo.ensures.ok.0 refl) c.in_ok-undo.ensures.session c.drop_undone.ensures))
