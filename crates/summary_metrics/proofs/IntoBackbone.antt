@@ -1,11 +1,10 @@
 -- What is due into the backbone comes from what the areas of the originator give by themselves.
-use Rattle.std.proofs.Common.{◌≡◌, ℕ, Bool, true, false, cond, List, [], ◌∷◌, ◌++◌, filter, map, Option, Some, None, IfSome, refl, sym, ap, ◌∙◌, ◌⊎◌, inl, inr, ⊎_elim}
+use Rattle.std.proofs.Common.{◌≡◌, ℕ, Bool, true, false, cond, List, [], ◌∷◌, ◌++◌, filter, map, Option, Some, None, IfSome, refl, sym, ap, ◌∙◌, ⊎_elim}
 use Rattle.std.specs.Prelude.{◌==◌, ◌&&◌, ◌||◌, not}
 use Rattle.std.specs.List.{All, filter_map, list_any}
 use Rattle.std.specs.Option.{option_and_then, option_map, option_map_or, option_or}
-use Rattle.std.specs.Ordering.{is_lt, nat_cmp, ordering_then}
 use Rattle.std.proofs.lemmas.Bool.{eqb-true}
-use Rattle.std.proofs.lemmas.List.Elements.{All-cons, All-filter, All-head, All-map, All-nil, All-tail, filter-append}
+use Rattle.std.proofs.lemmas.List.Elements.{All-cons, All-filter, All-map, All-nil, filter-append}
 use Rattle.lsa_codec.specs.Areas.{is_backbone}
 use Rattle.lsa_codec.specs.LsTypes.{asbr_summary_lsa}
 use Rattle.lsa_codec.specs.declared.address.AreaId.{AreaId}
@@ -16,7 +15,7 @@ use Rattle.lsa_codec.specs.Prefix.{Net}
 use Rattle.lsa_codec.specs.Views.{ls_infinity, net_of_summary}
 use Rattle.lsdb.specs.declared.section.Section.TheVariants.{Area}
 use Rattle.lsdb.specs.Lists.{Lists, lsas_of}
-use Rattle.area_graph.specs.Least.{least, lesser}
+use Rattle.area_graph.specs.Least.{least}
 use Rattle.area_routes.specs.declared.entry.EntryKind.TheVariants.{AsbrInter}
 use Rattle.area_routes.specs.declared.rank.PathType.TheVariants.{Inter}
 use Rattle.area_routes.specs.Best.{ways_of}
@@ -32,6 +31,7 @@ use Rattle.external_routes.specs.Summaries.{asbr_of_summary, cost_of_asbr, cost_
 use Rattle.routing_table.specs.Preferring.{preferring}
 use Rattle.routing_table.proofs.PreferenceLemmas.{route_all, route_preferring}
 use Rattle.summary_metrics.specs.Refreshed.{due_in, results_of}
+use Rattle.summary_metrics.proofs.Outside.{IsInside, is_outside, least_alike}
 use Rattle.summary_metrics.proofs.SameGraphs.{HaveSameGraphs, results_alike, stub_alike}
 
 and_false : (b : Bool) → (b && false) ≡ false
@@ -67,11 +67,11 @@ all_asbr_inter area (way ∷ ways) =
     All-cons (λ (e : EntryValue). e.kind ≡ AsbrInter) (asbr_entry area way) (map (asbr_entry area) ways) refl (all_asbr_inter area ways)
 
 module _ (db : Lists) (router : RouterId) where
-  routes_inter : (intra : List RouteValue) (o : Option AreaResultValue) → All (λ r. r.kind ≡ Inter) (routes_by db router intra o)
+  pub routes_inter : (intra : List RouteValue) (o : Option AreaResultValue) → All (λ r. r.kind ≡ Inter) (routes_by db router intra o)
   routes_inter intra None = All-nil (λ (r : RouteValue). r.kind ≡ Inter)
   routes_inter intra (Some area) = all_inter router area intra (lsas_of (Area area.area) db)
 
-  entries_inter : (o : Option AreaResultValue) → All (λ e. e.kind ≡ AsbrInter) (entries_by db router o)
+  pub entries_inter : (o : Option AreaResultValue) → All (λ e. e.kind ≡ AsbrInter) (entries_by db router o)
   entries_inter None = All-nil (λ (e : EntryValue). e.kind ≡ AsbrInter)
   entries_inter (Some area) = all_asbr_inter area.area (ways_of router_cmp (filter_map (asbr_candidate router area) (lsas_of (Area area.area) db)))
 
@@ -98,15 +98,6 @@ module _ (area : AreaId) (is : is_backbone area ≡ true) where
       by None None h = refl
       by None (Some r) h = ap (λ b. cond b (Some r.cost) None) (route_unannounced r h)
 
-  -- an intra-area entry of an area that is not the backbone
-  abbrev is_outside : EntryValue → Bool
-  is_outside e = is_asbr_intra e.kind && not (is_backbone e.area)
-
-  -- there is no entry, or it is none of these
-  abbrev IsInside : Option EntryValue → Type 0
-  IsInside None = Unit {0}
-  IsInside (Some e) = is_outside e ≡ false
-
   abbrev entry_cost : EntryValue → Option ℕ
   entry_cost e = cond (is_announced_entry area e) (Some e.cost) None
 
@@ -123,44 +114,6 @@ module _ (area : AreaId) (is : is_backbone area ≡ true) where
   inside_cost : (o : Option EntryValue) → IsInside o → option_and_then entry_cost o ≡ None
   inside_cost None h = refl
   inside_cost (Some e) h = ap (λ b. cond b (Some e.cost) None) (entry_unannounced e h)
-
-  -- an entry of an area outside is preferred to one inside
-  outside_first : (x l : EntryValue) → is_outside x ≡ true → is_outside l ≡ false → is_lt (preference l x) ≡ false
-  outside_first x l hx hl =
-      λ i. is_lt (ordering_then (nat_cmp (cond (hl i) 0 1) (cond (hx i) 0 1)) (ordering_then (nat_cmp l.cost x.cost) (nat_cmp x.area.0 l.area.0)))
-
-  lesser_inside : (x : EntryValue) (o : Option EntryValue) → is_outside x ≡ false → IsInside o → IsInside (Some (lesser preference x o))
-  lesser_inside x None hx h = hx
-  lesser_inside x (Some l) hx h = by (is_lt (preference l x))
-    where
-      by : (b : Bool) → is_outside (cond b l x) ≡ false
-      by true = h
-      by false = hx
-
-  lesser_outside : (x : EntryValue) (o : Option EntryValue) → is_outside x ≡ true → IsInside o → lesser preference x o ≡ x
-  lesser_outside x None hx h = refl
-  lesser_outside x (Some l) hx h = ap (λ b. cond b l x) (outside_first x l hx h)
-
-  -- the two are equal, or both inside
-  abbrev Alike : Option EntryValue → Option EntryValue → Type 0
-  Alike o p = (o ≡ p) ⊎ (IsInside o × IsInside p)
-
-  inside_all : (ys : List EntryValue) → All (λ e. e.kind ≡ AsbrInter) ys → IsInside (least preference ys)
-  inside_all [] all = tt
-  inside_all (y ∷ ys) all =
-      let P : EntryValue → Type 0 = λ e. e.kind ≡ AsbrInter in
-      lesser_inside y (least preference ys) (ap (λ k. is_asbr_intra k && not (is_backbone y.area)) (All-head P y ys all)) (inside_all ys (All-tail P y ys all))
-
-  least_alike : (xs ys : List EntryValue) → All (λ e. e.kind ≡ AsbrInter) ys → Alike (least preference (xs ++ ys)) (least preference xs)
-  least_alike [] ys all = inr (inside_all ys all, tt)
-  least_alike (x ∷ xs) ys all =
-      ⊎_elim (λ same. inl (ap (λ o. Some (lesser preference x o)) same)) (λ both. by (is_outside x) refl both) (least_alike xs ys all)
-    where
-      by : (b : Bool) → is_outside x ≡ b → IsInside (least preference (xs ++ ys)) × IsInside (least preference xs)
-          → Alike (Some (lesser preference x (least preference (xs ++ ys)))) (Some (lesser preference x (least preference xs)))
-      by true h both =
-          inl (ap Some (lesser_outside x (least preference (xs ++ ys)) h both.0 ∙ sym (lesser_outside x (least preference xs) h both.1)))
-      by false h both = inr (lesser_inside x (least preference (xs ++ ys)) h both.0, lesser_inside x (least preference xs) h both.1)
 
   pub asbr_cost : (xs ys : List EntryValue) → All (λ e. e.kind ≡ AsbrInter) ys → (asbr : RouterId)
       → cost_of_asbr area (xs ++ ys) asbr ≡ cost_of_asbr area xs asbr

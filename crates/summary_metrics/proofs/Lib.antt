@@ -3,7 +3,16 @@ pub mod Passes
 pub mod StaleLemmas
 pub mod SameGraphs
 pub mod Several
+pub mod Outside
 pub mod IntoBackbone
 pub mod Settled
 pub mod AttachedIds
+pub mod ToldWays
+pub mod ToldRoutes
+pub mod OwnEntries
+pub mod IntraKinds
+pub mod DueByTold
 pub mod KnownOriginators
+pub mod MoreTold
+pub mod MoreCosts
+pub mod AnyArea

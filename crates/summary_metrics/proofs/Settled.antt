@@ -15,10 +15,9 @@ use Rattle.lsa_codec.specs.Originating.{with_metric}
 use Rattle.lsa_codec.specs.Views.{ls_infinity, metric_of, net_of_summary}
 use Rattle.lsdb.specs.declared.section.Section.TheVariants.{Area}
 use Rattle.lsdb.specs.Lists.{AreaHead, IsDatabase, IsSection, Lists, SectionLsas, lsas_of}
-use Rattle.area_routes.specs.Inter.{inter_of, is_summary, named_router, originator_of}
+use Rattle.area_routes.specs.Inter.{inter_of, named_router, originator_of}
 use Rattle.area_routes.specs.Intra.{intra_of}
 use Rattle.area_routes.specs.Values.{AreaResultValue}
-use Rattle.area_graph.specs.Area.{is_live}
 use Rattle.external_routes.specs.Summaries.{borders, cost_of_asbr, cost_of_net, is_calculated, is_covered, metric_for}
 use Rattle.routing_table.specs.Preferring.{preferring}
 use Rattle.summary_metrics.specs.Refreshed.{AreSettled, IsSettled, due_in, id_of, is_not_backbone, is_stale, refreshed, refreshed_areas}

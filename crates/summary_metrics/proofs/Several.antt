@@ -69,7 +69,7 @@ module _ (db : Lists) (area : AreaId) (router : RouterId) where
 
 -- ---- inter-area routes by the backbone
 
-found_backbone : (results : List AreaResultValue) (r : AreaResultValue) → backbone results ≡ Some r → is_backbone r.area ≡ true
+pub found_backbone : (results : List AreaResultValue) (r : AreaResultValue) → backbone results ≡ Some r → is_backbone r.area ≡ true
 found_backbone [] r h = absurd cc
 found_backbone (x ∷ xs) r h = by (is_backbone x.area) refl h (found_backbone xs r)
   where

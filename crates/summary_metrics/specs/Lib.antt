@@ -1,2 +1,3 @@
 pub mod Refreshed
+pub mod Told
 pub mod Originators

@@ -1,6 +1,6 @@
--- What is known of the originators of summary-LSAs: their areas, and the trees, routes and router entries that were calculated for
--- them.
-use Rattle.std.specs.Prelude.{◌≡◌, ◌==◌, ◌&&◌, Bool, not, List, IfSome, map}
+-- What is known of the originators of summary-LSAs: their areas, the trees that were calculated for them, what their areas give,
+-- and what the backbone tells.
+use Rattle.std.specs.Prelude.{◌≡◌, ◌==◌, ◌&&◌, ℕ, Bool, not, List, Option, IfSome, map}
 use Rattle.std.specs.List.{list_any}
 use Rattle.std.specs.Map.{lookup}
 use Rattle.std.specs.Ordering.{eq_by_cmp}
@@ -9,20 +9,26 @@ use Rattle.lsa_codec.specs.declared.address.RouterId.{RouterId}
 use Rattle.lsa_codec.specs.Order.{router_cmp}
 use Rattle.lsdb.specs.Lists.{Lists}
 use Rattle.area_routes.specs.Attached.{attached_areas}
-use Rattle.area_routes.specs.Values.{EntryValue, RouteValue}
+use Rattle.area_routes.specs.Inter.{entries_of_all}
+use Rattle.area_routes.specs.Intra.{intra_of}
+use Rattle.area_routes.specs.Values.{AreaResultValue, EntryValue, RouteValue}
 use Rattle.routing_table.specs.AreasTrees.{AreasTrees, AreOfDatabase}
-use Rattle.summary_metrics.specs.Refreshed.{entries_inside, id_of, routes_inside}
+use Rattle.summary_metrics.specs.Refreshed.{id_of, results_of}
+use Rattle.summary_metrics.specs.Told.{AreTold, HasCosts, ToldValue, backbone_entries, backbone_lsas}
 
--- intra-area and inter-area routes, and router entries
+-- the intra-area routes of a router, the router entries of its areas, and the costs of the area border routers of the backbone
 pub record InsideValue : Type 0 where
   pub routes : List RouteValue
   pub entries : List EntryValue
+  pub borders : List (RouterId × ℕ)
 
--- areas by the routers that are attached to them, trees by their areas, and routes and entries by their routers
+-- areas by the routers that are attached to them, trees by their areas, what areas give by their routers, and what the backbone
+-- tells
 pub record OriginatorsValue : Type 0 where
   pub attached : List (RouterId × List AreaId)
   pub trees : AreasTrees
   pub inside : List (RouterId × InsideValue)
+  pub told : Option ToldValue
 
 -- the IDs of the areas that a router is attached to
 abbrev pub ids_attached : Lists → RouterId → List AreaId
@@ -36,13 +42,19 @@ has_another area areas = list_any (λ a. not (a.0 == area.0)) areas
 abbrev pub is_border_of : AreaId → List AreaId → Bool
 is_border_of area areas = list_any (λ a. a.0 == area.0) areas && has_another area areas
 
--- the routes and entries are those of the router in the database
-pub record AreInside (db : Lists) (router : RouterId) (i : InsideValue) : Type 0 where
-  pub routes : i.routes ≡ routes_inside db router
-  pub entries : i.entries ≡ entries_inside db router
+-- routes, entries and costs are what these areas give
+pub record AreGiven (results : List AreaResultValue) (i : InsideValue) : Type 0 where
+  pub routes : i.routes ≡ intra_of results
+  pub entries : i.entries ≡ entries_of_all results
+  pub borders : HasCosts (backbone_entries results) i.borders
+
+-- they are what the areas of the router give in the database
+abbrev pub AreInside : Lists → RouterId → InsideValue → Type 0
+AreInside db router i = AreGiven (results_of db router) i
 
 -- all of it is of the database
 pub record AreOf (db : Lists) (known : OriginatorsValue) : Type 0 where
   pub attached : (router : RouterId) → IfSome (lookup (eq_by_cmp router_cmp router) known.attached) (λ areas. areas ≡ ids_attached db router)
   pub trees : AreOfDatabase db known.trees
   pub inside : (router : RouterId) → IfSome (lookup (eq_by_cmp router_cmp router) known.inside) (AreInside db router)
+  pub told : IfSome known.told (AreTold (backbone_lsas db))

@@ -6,8 +6,12 @@
 #![tactic(auto)]
 
 mod attached_areas;
+mod border_costs;
+mod due_told;
+mod inside;
 mod laws;
 mod originators;
+mod sources;
 
 pub use laws::summaries_settle;
 pub use originators::Originators;

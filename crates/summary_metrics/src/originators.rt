@@ -1,51 +1,39 @@
 //! What each originator of summary-LSAs is due to announce.
 
-ghost use Rattle.std.specs.Prelude.{◌≡◌, ◌≤◌, ◌==◌, true, not, if◌then◌else◌, Some, None, IsSome, IfSome, IfOk, OnOk};
+ghost use Rattle.std.specs.Prelude.{◌≡◌, ◌≤◌, IsSome, IfSome, IfOk, OnOk};
 ghost use Rattle.std.specs.Map.{lookup};
 ghost use Rattle.std.specs.Ordering.{eq_by_cmp};
 ghost use Rattle.lsa_codec.specs.Order.{router_cmp};
-ghost use Rattle.lsa_codec.specs.Views.{ls_infinity, metric_of};
+ghost use Rattle.lsa_codec.specs.Views.{ls_infinity};
 ghost use Rattle.lsdb.specs.Lists.{Lists};
 ghost use Rattle.lsdb.specs.Places.{lists_of};
-ghost use Rattle.external_routes.specs.Summaries.{borders, due, is_covered};
-ghost use Rattle.routing_table.specs.Tables.{inside, inter_result};
+ghost use Rattle.external_routes.specs.Summaries.{borders};
 ghost use Rattle.summary_metrics.specs.Originators.{AreOf};
 ghost use Rattle.summary_metrics.specs.Refreshed.{stale_metric};
+ghost use Rattle.summary_metrics.specs.Told.{IsToldFor};
 
 use crate::attached_areas::AttachedAreas;
-use area_routes::{AreaResult, InsideRoutes, RouterEntries, inter, intra};
-use external_routes::{due, is_calculated};
+use crate::due_told::other_metric;
+use crate::inside::Inside;
+use crate::sources::Told;
+use external_routes::is_calculated;
 use lsa_codec::{AreaId, Lsa, RouterId};
-use lsdb::Database;
-use routing_table::{KeptTrees, prefer_intra};
+use lsdb::{Database, Section};
+use routing_table::KeptTrees;
 use spf::Meter;
 use std::alloc::{AllocError, Allocator};
 use std::collections::BTreeMap;
 use std::marker::Model;
 
-/// The intra-area and inter-area routes of a router, and its router entries.
-#[derive(Drop)]
-struct Inside<A: Allocator> {
-    routes: InsideRoutes<A>,
-    entries: RouterEntries<A>,
-}
-
-impl<A: Allocator> Model for Inside<A> {
-    ghost use Rattle.summary_metrics.specs.Originators.{InsideValue};
-
-    ghost Value = { InsideValue };
-
-    ghost view = { λ i. record { routes = i.routes; entries = i.entries } };
-}
-
-/// What was found for the originators of summary-LSAs in one database: their areas, their trees,
-/// and by these their routes and router entries. It is filled as LSAs ask for it, so that each tree
-/// is calculated once.
+/// What was found for the originators of summary-LSAs in one database: their areas, their trees, by
+/// these what their areas give, and what the backbone tells. It is filled as LSAs ask for it, so
+/// that each tree is calculated once.
 #[derive(Drop)]
 pub struct Originators<A: Allocator> {
     attached: BTreeMap<RouterId, AttachedAreas<A>, A>,
     trees: KeptTrees<A>,
     inside: BTreeMap<RouterId, Inside<A>, A>,
+    told: Option<Told<A>>,
 }
 
 impl<A: Allocator> Model for Originators<A> {
@@ -57,54 +45,8 @@ impl<A: Allocator> Model for Originators<A> {
       attached = o.attached.entries;
       trees = o.trees;
       inside = o.inside.entries;
+      told = o.told;
     } };
-}
-
-/// The intra-area and inter-area routes of a router, and its router entries, from what its areas
-/// give.
-fn inside_of<A: Allocator + Copy>(
-    alloc: A,
-    database: &Database<A>,
-    router: RouterId,
-    results: &[AreaResult<A>],
-) -> Result<Inside<A>, AllocError>
-    ensures { IfOk result (λ found. found ≡ record {
-      routes = inside (lists_of database.now) router results.now;
-      entries = (inter_result (lists_of database.now) router results.now).routers;
-    }) }
-{
-    let intra = intra(alloc, results)?;
-    let inter = inter(alloc, database, router, results, &intra)?;
-    let routes = prefer_intra(alloc, intra, inter.routes)?;
-    Ok(Inside {
-        routes,
-        entries: inter.routers,
-    })
-}
-
-/// The metric that a summary-LSA of an area is due by the routes and entries of its originator,
-/// where it has another one.
-fn other_metric<A: Allocator + Copy>(
-    database: &Database<A>,
-    area: AreaId,
-    lsa: &Lsa<A>,
-    known: &Inside<A>,
-) -> Option<u32>
-    requires { is_covered (lists_of database.now) area lsa.now ≡ true }
-    ensures metric { result ≡ if not (metric_of lsa.now
-        == due (lists_of database.now) area lsa.now known.now.routes known.now.entries)
-        then Some (due (lists_of database.now) area lsa.now known.now.routes known.now.entries)
-        else None }
-    ensures most { IfSome result (λ metric. metric ≤ ls_infinity) }
-{
-    let Some(summary) = lsa.summary() else {
-        unreachable!()
-    };
-    let metric = due(database, area, lsa, &known.routes, &known.entries);
-    if summary.metric() == metric {
-        return None;
-    }
-    Some(metric)
 }
 
 impl<A: Allocator + Copy> Originators<A> {
@@ -116,6 +58,7 @@ impl<A: Allocator + Copy> Originators<A> {
             attached: BTreeMap::new(alloc),
             trees: KeptTrees::new(alloc),
             inside: BTreeMap::new(alloc),
+            told: None,
         }
     }
 
@@ -141,20 +84,35 @@ impl<A: Allocator + Copy> Originators<A> {
         Ok(borders)
     }
 
-    /// Calculates the routes and entries of a router, unless they are there.
+    /// Finds what the areas of a router give, unless it is there.
     fn add(&mut self, alloc: A, database: &Database<A>, router: RouterId) -> Result<(), AllocError>
         requires { AreOf (lists_of database.now) self.old }
         ensures of { AreOf (lists_of database.now) self.new }
         ensures there { OnOk result
             (IsSome (lookup (eq_by_cmp router_cmp router) self.new.inside)) }
+        ensures told { self.new.told ≡ self.old.told }
     {
         if self.inside.contains_key(&router) {
             return Ok(());
         }
         let mut meter = Meter::new();
         let results = self.trees.results_of(alloc, database, router, &mut meter)?;
-        let known = inside_of(alloc, database, router, &results)?;
+        let known = Inside::of(alloc, &results)?;
         self.inside.insert(router, known)?;
+        Ok(())
+    }
+
+    /// Finds what the backbone tells, unless it is there, where that is told into the area.
+    fn listen(&mut self, alloc: A, database: &Database<A>, area: AreaId) -> Result<(), AllocError>
+        requires { AreOf (lists_of database.now) self.old }
+        ensures of { AreOf (lists_of database.now) self.new }
+        ensures told { OnOk result (IsToldFor (lists_of database.now) area self.new.told) }
+    {
+        if area == AreaId::BACKBONE || self.told.is_some() {
+            return Ok(());
+        }
+        let lsas = database.lsas(Section::Area(AreaId::BACKBONE));
+        self.told = Some(Told::of(alloc, lsas)?);
         Ok(())
     }
 
@@ -185,9 +143,10 @@ impl<A: Allocator + Copy> Originators<A> {
         if !self.borders(alloc, database, area, router)? {
             return Ok(None);
         }
+        self.listen(alloc, database, area)?;
         self.add(alloc, database, router)?;
         match self.inside.get(&router) {
-            Some(known) => Ok(other_metric(database, area, lsa, known)),
+            Some(known) => Ok(other_metric(database, area, lsa, known, &self.told)),
             None => unreachable!(),
         }
     }

@@ -9,7 +9,7 @@ pub returns-in-Some-clause-borders : goal.returns-in-Some-clause-borders
 returns-in-Some-clause-borders g c =
     c.is_border_of.ensures
     ∙ borders_by_ids (lists_of c.args.database.now) c.args.area c.args.router c.in-Some.areas.now
-    (attached_found (lists_of c.args.database.now) (known_as c.self.inside.attached.entries c.self.inside.trees c.self.inside.inside.entries) c.args.router
+    (attached_found (lists_of c.args.database.now) (known_as c.self.inside.attached.entries c.self.inside.trees c.self.inside.inside.entries c.self.inside.told) c.args.router
     c.in-Some.areas.now (subst (λ (known : OriginatorsValue). AreOf (lists_of c.args.database.now) known) (sym c.self.view_is) c.requires)
     (sym c.in-Some.ensures.value))
 
@@ -21,5 +21,5 @@ returns-clause-borders g c =
 pub returns-clause-of : goal.returns-clause-of
 returns-clause-of g c =
     more_attached (lists_of c.args.database.now) c.args.router _ c.self.inside.attached.entries c.insert.new.self.entries
-    c.in_ok-insert.ensures.updates.0 c.self.inside.trees c.self.inside.inside.entries
+    c.in_ok-insert.ensures.updates.0 c.self.inside.trees c.self.inside.inside.entries c.self.inside.told
     (subst (λ (known : OriginatorsValue). AreOf (lists_of c.args.database.now) known) (sym c.self.view_is) c.requires) c.in_ok-areas.ensures

@@ -1,0 +1,7 @@
+use Rattle.std.proofs.Common.{take}
+use Rattle.summary_metrics.specs.Told.{HasCosts}
+use Rattle.summary_metrics.proofs.border_costs.BorderCosts.of_area.Given as goal
+
+-- the entries so far
+abbrev pub invariant-loop-entry : goal.invariant-loop-entry
+invariant-loop-entry g l = HasCosts (take l.entry-index l.entries) l.costs.entries

@@ -1,0 +1,7 @@
+use Rattle.std.proofs.Common.{map}
+use Rattle.summary_metrics.specs.Told.{AreTold}
+use Rattle.summary_metrics.proofs.sources.Told.of.Given as goal
+
+-- what the LSAs so far tell
+abbrev pub invariant-loop-lsa : goal.invariant-loop-lsa
+invariant-loop-lsa g l = AreTold (map (λ lsa. lsa.now) l.yielded) l.told

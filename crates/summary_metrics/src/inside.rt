@@ -1,0 +1,151 @@
+//! What the areas of a router give it.
+
+ghost use Rattle.std.specs.Prelude.{◌≡◌, ◌++◌, ◌==◌, IfOk, OnOk};
+ghost use Rattle.std.specs.List.{list_any};
+ghost use Rattle.lsdb.specs.Lists.{Lists};
+ghost use Rattle.area_routes.specs.Inter.{entries_of_all};
+ghost use Rattle.summary_metrics.specs.Originators.{AreGiven, AreInside};
+ghost use Rattle.summary_metrics.specs.Refreshed.{results_of};
+ghost use Rattle.summary_metrics.specs.Told.{IsToldFor, asbr_cost, entry_cost, net_cost};
+ghost use Rattle.summary_metrics.specs.Told.{route_cost};
+
+use crate::border_costs::BorderCosts;
+use crate::sources::Told;
+use area_routes::{AreaResult, InsideRoutes, Route, RouterEntries, RouterEntry, intra};
+use external_routes::preferred;
+use lsa_codec::{AreaId, Prefix, RouterId};
+use std::alloc::{AllocError, Allocator};
+use std::marker::Model;
+
+/// The intra-area routes of a router, the router entries of its areas, and the costs of the area
+/// border routers of the backbone.
+#[derive(Drop)]
+pub(crate) struct Inside<A: Allocator> {
+    routes: InsideRoutes<A>,
+    entries: RouterEntries<A>,
+    borders: BorderCosts<A>,
+}
+
+impl<A: Allocator> Model for Inside<A> {
+    ghost use Rattle.summary_metrics.specs.Originators.{InsideValue};
+
+    ghost Value = { InsideValue };
+
+    ghost view = { λ i. record { routes = i.routes; entries = i.entries; borders = i.borders } };
+}
+
+/// Adds the entries of an area.
+fn add_entries<A: Allocator + Copy>(
+    alloc: A,
+    all: &mut RouterEntries<A>,
+    area: &AreaResult<A>,
+) -> Result<(), AllocError>
+    ensures { OnOk result (all.new ≡ all.old ++ area.now.entries) }
+{
+    let entries = area.entries();
+    for entry in entries {
+        all.push(entry.clone_of(alloc)?)?;
+    }
+    Ok(())
+}
+
+/// The entries of all areas, area by area.
+fn all_entries<A: Allocator + Copy>(
+    alloc: A,
+    results: &[AreaResult<A>],
+) -> Result<RouterEntries<A>, AllocError>
+    ensures { IfOk result (λ all. all ≡ entries_of_all results.now) }
+{
+    let mut all = RouterEntries::new(alloc);
+    for area in results {
+        add_entries(alloc, &mut all, area)?;
+    }
+    Ok(all)
+}
+
+/// Whether the area is among these.
+fn is_among(area: AreaId, areas: &[AreaId]) -> bool
+    ensures { result ≡ list_any (λ a. a.0 == area.0) areas.now }
+{
+    areas.iter().any(|other| *other == area)
+}
+
+/// The cost of an intra-area route; none where one of its paths leads through the area.
+fn route_cost<A: Allocator + Copy>(area: AreaId, route: &Route<A>) -> Option<u64>
+    ensures { result ≡ route_cost area route.now }
+{
+    if is_among(area, route.areas.as_slice()) {
+        return None;
+    }
+    Some(route.cost)
+}
+
+/// The cost of an entry; none where it is of the area.
+fn entry_cost<A: Allocator + Copy>(area: AreaId, entry: &RouterEntry<A>) -> Option<u64>
+    ensures { result ≡ entry_cost area entry.now }
+{
+    if entry.area == area {
+        return None;
+    }
+    Some(entry.cost)
+}
+
+impl<A: Allocator + Copy> Inside<A> {
+    /// By what the areas of a router give it.
+    pub(crate) fn of(alloc: A, results: &[AreaResult<A>]) -> Result<Inside<A>, AllocError>
+        ensures { IfOk result (AreGiven results.now) }
+    {
+        Ok(Inside {
+            routes: intra(alloc, results)?,
+            entries: all_entries(alloc, results)?,
+            borders: BorderCosts::of(alloc, results)?,
+        })
+    }
+
+    /// The cost that a router announces of a prefix into an area, if it does.
+    pub(crate) fn net_cost(
+        &self,
+        area: AreaId,
+        router: RouterId,
+        net: Prefix,
+        told: &Option<Told<A>>,
+    ) -> Option<u64>
+        ensures { (db : Lists) → AreInside db router self.now → IsToldFor db area told.now
+            → result ≡ net_cost db area router (results_of db router) net }
+    {
+        if let Some(route) = self.routes.as_routes().route_to(net) {
+            return route_cost(area, route);
+        }
+        match told {
+            Some(told) if area != AreaId::BACKBONE => {
+                self.borders.told_from(router, told.of_net(net))
+            }
+            _ => None,
+        }
+    }
+
+    /// The cost that a router announces of an AS boundary router into an area, if it does.
+    pub(crate) fn asbr_cost(
+        &self,
+        area: AreaId,
+        router: RouterId,
+        asbr: RouterId,
+        told: &Option<Told<A>>,
+    ) -> Option<u64>
+        ensures { (db : Lists) → AreInside db router self.now → IsToldFor db area told.now
+            → result ≡ asbr_cost db area router (results_of db router) asbr }
+    {
+        if let Some(entry) = preferred(self.entries.as_slice(), asbr) {
+            return entry_cost(area, entry);
+        }
+        if asbr == router {
+            return None;
+        }
+        match told {
+            Some(told) if area != AreaId::BACKBONE => {
+                self.borders.told_from(router, told.of_asbr(asbr))
+            }
+            _ => None,
+        }
+    }
+}
