@@ -2,7 +2,7 @@
 import dataclasses
 import pathlib
 
-SECTIONS = ("script", "replies", "status", "error", "dump", "out")
+SECTIONS = ("script", "replies", "status", "error", "dump", "out", "save")
 
 
 def escaped(text: bytes) -> list[str]:
@@ -50,18 +50,32 @@ class Case:
     status: int
     error: bytes
     out: bytes | None
+    # Whether the run is told to save its session, and what must be saved.
+    saves: bool = False
+    save: bytes | None = None
+
+    def written(self, data: bytes | None) -> list[str]:
+        """The lines of a file that must be written."""
+        return ["none"] if data is None else ["the dump"] if data == self.dump else hexadecimal(data)
 
     def to_text(self) -> str:
-        out = ["none"] if self.out is None else ["the dump"] if self.out == self.dump else hexadecimal(self.out)
         parts = {
             "script": escaped(self.script),
             "replies": escaped(self.replies),
             "status": [str(self.status)],
             "error": escaped(self.error),
             "dump": hexadecimal(self.dump),
-            "out": out,
+            "out": self.written(self.out),
         }
-        return "".join(f"== {name}\n" + "".join(line + "\n" for line in parts[name]) for name in SECTIONS)
+        if self.saves:
+            parts["save"] = self.written(self.save)
+        shown = [name for name in SECTIONS if name in parts]
+        return "".join(f"== {name}\n" + "".join(line + "\n" for line in parts[name]) for name in shown)
+
+
+def read_written(lines: list[str], dump: bytes) -> bytes | None:
+    """The file that must be written; `None` where there may be none."""
+    return None if lines == ["none"] else dump if lines == ["the dump"] else bytes.fromhex("".join(lines))
 
 
 def read_case(path: pathlib.Path) -> Case:
@@ -72,12 +86,13 @@ def read_case(path: pathlib.Path) -> Case:
         elif line:
             lines.append(line)
     dump = bytes.fromhex("".join(parts["dump"]))
-    out = parts["out"]
     return Case(
         dump=dump,
         script=unescaped(parts["script"]),
         replies=unescaped(parts["replies"]),
         status=int(parts["status"][0]),
         error=unescaped(parts["error"]),
-        out=None if out == ["none"] else dump if out == ["the dump"] else bytes.fromhex("".join(out)),
+        out=read_written(parts["out"], dump),
+        saves="save" in parts,
+        save=read_written(parts.get("save", ["none"]), dump),
     )

@@ -5,6 +5,7 @@ import os
 import pathlib
 import resource
 import shutil
+import signal
 import subprocess
 
 # The built-in sample: docs/FORMATS.md has its octets.
@@ -37,6 +38,15 @@ class End:
     stdout: str = "pipe"
     # What must stand in the file `out` of the folder; `None` where there may be no such file.
     out: bytes | None = None
+    # The same of the file `saved`.
+    saved: bytes | None = None
+    # The file `saved` before the run, if it is there, and its mode; and whether `link` leads to it.
+    before: bytes | None = None
+    mode: int = 0o640
+    linked: bool = False
+    # The octets that a file may have at most; whether a longer one ends the program, as a crash would.
+    room: int | None = None
+    is_ended: bool = False
     memory: int | None = None
     # Whether it is run by a user that may read and write none of the files.
     as_nobody: bool = False
@@ -53,6 +63,9 @@ def with_metric(metric: bytes, checksum: bytes) -> bytes:
 EDITED = with_metric(b"\xff\xff", b"\x21\x19")
 TABLE = b"table 1.1.1.1\n"
 EDITED_TABLE = b"@0 table 1.1.1.1 1\n10.2.0.0/16 intra 65540 0 0.0.0.0 link:10.0.0.1\n"
+
+# The session of the sample after COST.
+SESSION = SAMPLE[:4] + b"\x02" + SAMPLE[5:] + b"\0\1\0\0" + COST
 
 # Lines of the longest script, which has 1,048,576 octets.
 COMMENTS = b"# sixteen bytes\n" * 65_536
@@ -94,6 +107,18 @@ ENDS = [
         + b"cost 0.0.0.0 1.1.1.1 1 13\n@1 undo 1\n", replies=full_history_replies(b"@1 ")
         + b"@0 ok\n@1 refused U1 NothingToUndo\n", out=with_metric(b"\x00\x0d", bytes.fromhex("0c21"))),
     End("a script of 1,048,576 octets", "--out FOLDER/out", 0, stdin=COMMENTS, out=SAMPLE),
+    # ---- 0: sessions are saved
+    End("--save alone", "--save FOLDER/saved", 0, replies=b"@0 ok\n", stdin=COST, saved=SESSION),
+    End("--save and --out", "--save FOLDER/saved --out FOLDER/out", 0, replies=b"@0 ok\n", stdin=COST, out=EDITED,
+        saved=SESSION),
+    End("the loaded session as --save", "--dump FOLDER/saved --save FOLDER/saved", 0, replies=INFO, stdin=b"info\n",
+        before=SESSION, saved=SESSION),
+    End("a link to a file as --save", "--save FOLDER/link", 0, replies=b"@0 ok\n", stdin=COST, before=b"a study",
+        linked=True, saved=SESSION),
+    End("a link that leads nowhere as --save", "--save FOLDER/link", 0, replies=b"@0 ok\n", stdin=COST, linked=True,
+        saved=SESSION),
+    End("a file of another mode as --save", "--save FOLDER/saved", 0, replies=b"@0 ok\n", stdin=COST,
+        before=b"a study", mode=0o604, saved=SESSION),
     # ---- 2: the command line is refused
     End("an option that is not there", "--frob", 2, f"error: unexpected argument '--frob' found{USAGE}"),
     End("a word that is no option", "dump", 2, f"error: unexpected argument 'dump' found{USAGE}"),
@@ -133,6 +158,17 @@ ENDS = [
     End("an endless script", "--script /dev/zero --out FOLDER/out", 4, "file: TooLarge\n"),
     End("a script of 1,048,577 octets", "--out FOLDER/out", 4, "file: TooLarge\n", stdin=COMMENTS + b"#"),
     End("/dev/full as --out", "--out /dev/full", 4, "file: Write\n", replies=b"@0 ok\n", stdin=COST),
+    End("/dev/full as --save", "--save /dev/full --out FOLDER/out", 4, "file: Write\n", replies=b"@0 ok\n", stdin=COST,
+        out=EDITED),
+    End("no such folder for --save", "--save FOLDER/none/saved --out FOLDER/out", 4, "file: Open save\n",
+        replies=b"@0 ok\n", stdin=COST, out=EDITED),
+    End("a folder as --save", "--save FOLDER", 4, "file: Open save\n", replies=b"@0 ok\n", stdin=COST),
+    End("no room for the session", "--save FOLDER/saved", 4, "file: Write\n", replies=b"@0 ok\n", stdin=COST,
+        before=b"a study", room=100, saved=b"a study"),
+    End("no room for a session that is not there yet", "--save FOLDER/saved", 4, "file: Write\n", replies=b"@0 ok\n",
+        stdin=COST, room=100),
+    End("the program ends while it saves", "--save FOLDER/saved", -signal.SIGXFSZ, replies=b"@0 ok\n", stdin=COST,
+        before=b"a study", room=100, is_ended=True, saved=b"a study"),
     End("/dev/full as standard output", "--out FOLDER/out", 4, "file: Write\n", stdin=COST, stdout="full"),
     End("standard output closed", "--out FOLDER/out", 4, "file: Write\n", stdin=COST, stdout="closed"),
     End("a pipe that nobody reads", "--out FOLDER/out", 4, "file: Write\n", stdin=COST, stdout="unread"),
@@ -152,6 +188,11 @@ def make_files(folder: pathlib.Path, case: End) -> None:
     if case.memory is not None:
         with (folder / "large").open("wb") as large:
             large.truncate(16_777_216)
+    if case.before is not None:
+        (folder / "saved").write_bytes(case.before)
+        (folder / "saved").chmod(case.mode)
+    if case.linked:
+        (folder / "link").symlink_to("saved")
     if "--dump FOLDER/out" in case.words:
         (folder / "out").write_bytes(SAMPLE)
     if "--script FOLDER/out" in case.words:
@@ -177,6 +218,9 @@ def before_run(case: End):
             os.close(1)
         if case.stdin is None:
             os.close(0)
+        if case.room is not None:
+            resource.setrlimit(resource.RLIMIT_FSIZE, (case.room, case.room))
+            signal.signal(signal.SIGXFSZ, signal.SIG_DFL if case.is_ended else signal.SIG_IGN)
         if case.memory is not None:
             resource.setrlimit(resource.RLIMIT_AS, (case.memory, case.memory))
         if case.as_nobody and os.geteuid() == 0:
@@ -230,4 +274,19 @@ def differences(case: End, program: str, folder: pathlib.Path) -> list[str]:
     out = folder / "out"
     if (out.read_bytes() if out.exists() else None) != case.out:
         found.append("the dump written")
+    return found + saved_differences(case, folder)
+
+
+def saved_differences(case: End, folder: pathlib.Path) -> list[str]:
+    """What differs from what must be of the saved file, of the link to it, and of what stands beside."""
+    saved, link = folder / "saved", folder / "link"
+    found = []
+    if (saved.read_bytes() if saved.exists() else None) != case.saved:
+        found.append("the session saved")
+    if case.before is not None and saved.stat().st_mode & 0o777 != case.mode:
+        found.append("the mode of the session saved")
+    if link.is_symlink() != case.linked:
+        found.append("the link")
+    if list(folder.glob("*.new")) and not case.is_ended:
+        found.append("files beside")
     return found

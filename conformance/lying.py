@@ -1,9 +1,9 @@
 """Dumps that lie: octets that are set to other values, beside a plain reader of docs/FORMATS.md.
 
-Each octet of the sample is set to each of its 256 values. Of a dump with LSAs of several types, in areas of both kinds,
+Each octet of the sample, and of a saved session behind its base, is set to each of its 256 values. Of a dump with LSAs of several types, in areas of both kinds,
 each octet is set to some, as it is and with the checksum of its LSA made good again, so that what is tested behind the
 checksum is reached too. The program must refuse exactly what the plain reader refuses, for the same fault at the same
-offset, and what it loads it must write back octet for octet.
+offset, and what it opens it must write back octet for octet.
 """
 import pathlib
 import subprocess
@@ -16,6 +16,11 @@ HERE = pathlib.Path(__file__).resolve().parent
 
 # Areas of both kinds, with LSAs of the types 1 to 5 and 7, in 409 octets.
 SEVERAL = read_case(HERE / "sessions" / "v1-0104.case").dump
+
+
+# The sample after two costs, of which the second is undone, in 155 octets.
+SESSION = (SAMPLE[:4] + b"\x02" + SAMPLE[5:] + b"\0\1\0\1" + b"cost 0.0.0.0 1.1.1.1 1 11\n"
+           + b"cost 0.0.0.0 1.1.1.1 1 12\n")
 
 
 def with_octet(dump: bytes, place: int, value: int) -> bytes:
@@ -54,6 +59,10 @@ def lies():
     """The dumps."""
     for place in range(len(SAMPLE)):
         yield from (with_octet(SAMPLE, place, value) for value in range(256))
+    for place, octet in enumerate(SESSION):
+        yield SESSION[:place]
+        values = some_values(octet) if place < len(SAMPLE) - 1 else range(256)
+        yield from (with_octet(SESSION, place, value) for value in values)
     for place, octet in enumerate(SEVERAL):
         yield from (with_octet(SEVERAL, place, value) for value in some_values(octet))
     for begin, end in lsas_of(SEVERAL):
@@ -64,11 +73,12 @@ def lies():
 
 
 def is_as_read(program: str, dump: bytes, folder: pathlib.Path) -> bool:
-    """Whether the program refuses or loads a dump as the plain reader does."""
+    """Whether the program refuses or opens a dump as the plain reader does."""
     file, out = folder / "lying.oswp", folder / "lying.out"
     file.write_bytes(dump)
     out.unlink(missing_ok=True)
-    words = [program, "--dump", str(file), "--script", "/dev/null", "--out", str(out)]
+    back = "--save" if plain_reader.is_session(dump) else "--out"
+    words = [program, "--dump", str(file), "--script", "/dev/null", back, str(out)]
     ended = subprocess.run(words, stdin=subprocess.DEVNULL, capture_output=True, timeout=120)
     error = plain_reader.refusal(dump)
     left = out.read_bytes() if out.exists() else None

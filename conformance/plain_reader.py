@@ -1,10 +1,20 @@
-"""Reads a dump of version 1 as docs/FORMATS.md has it, in plain steps: which fault it is refused for, if any.
+"""Reads a dump as docs/FORMATS.md has it, in plain steps: which fault it is refused for, if any. Of saved sessions it
+reads those whose edits are all `cost`.
 
 It was written from that page and RFC 2328 alone, so that it can be put beside the program.
 """
 import dataclasses
+import re
 
 LONGEST_DUMP = 16_777_216
+LONGEST_SESSION = 17_825_792
+MOST_EDITS = 10_000
+
+# The one spelling of an address and of a number, and that of the edit `cost`.
+OCTET = rb"(?:25[0-5]|2[0-4][0-9]|1[0-9]{2}|[1-9]?[0-9])"
+ADDRESS = rb"(" + rb"\.".join([OCTET] * 4) + rb")"
+NUMBER = rb"(0|[1-9][0-9]*)"
+COST = re.compile(rb"cost " + rb" ".join([ADDRESS, ADDRESS, NUMBER, NUMBER]))
 
 
 @dataclasses.dataclass
@@ -101,6 +111,8 @@ class Reader:
 
     def __init__(self, dump: bytes):
         self.dump, self.at = dump, 0
+        # The areas, each with the router-LSAs of its routers.
+        self.areas: dict[int, dict[bytes, bytes]] = {}
 
     def field(self, size: int) -> bytes:
         octets = self.dump[self.at:self.at + size]
@@ -109,7 +121,7 @@ class Reader:
         self.at += size
         return octets
 
-    def lsas(self, count: int, is_as_wide: bool) -> None:
+    def lsas(self, count: int, is_as_wide: bool, routers: dict[bytes, bytes]) -> None:
         keys = set()
         for _ in range(count):
             octets = self.dump[self.at:]
@@ -122,7 +134,10 @@ class Reader:
             if key in keys:
                 raise Refused("L11 DuplicateLsa", self.at)
             keys.add(key)
-            self.at += number(octets[18:20])
+            length = number(octets[18:20])
+            if octets[3] == 1:
+                routers[octets[8:12]] = octets[:length]
+            self.at += length
 
     def area(self, before: int) -> int:
         """The ID of the area that is read, which must be above that of the one before."""
@@ -140,26 +155,69 @@ class Reader:
         count = number(self.field(2))
         if count > 8192:
             raise Refused("L8 TooManyLsas", start)
-        self.lsas(count, is_as_wide=False)
+        self.lsas(count, False, self.areas.setdefault(ident, {}))
         return ident
+
+    def base(self) -> None:
+        """The areas and the LSAs of AS scope."""
+        start = self.at
+        areas = self.field(1)[0]
+        if areas > 64:
+            raise Refused("L5 TooManyAreas", start)
+        ident = -1
+        for _ in range(areas):
+            ident = self.area(ident)
+        self.lsas(number(self.field(2)), True, {})
+
+    def does_cost(self, line: bytes) -> bool:
+        """Whether a line spells an edit `cost` that is carried out. Such an edit changes nothing that another asks for."""
+        spelled = COST.fullmatch(line)
+        if spelled is None:
+            return False
+        area, router = (bytes(map(int, spelled[place].split(b"."))) for place in (1, 2))
+        link, metric = int(spelled[3]), int(spelled[4])
+        lsa = self.areas.get(number(area), {}).get(router)
+        if lsa is None or link > 65535 or metric > 65535 or not 1 <= link <= len(links(lsa)):
+            return False
+        return metric > 0 or links(lsa)[link - 1][1] not in (1, 2)
+
+    def edit(self, index: int) -> None:
+        """The line of an edit."""
+        line, feed, _ = self.dump[self.at:].partition(b"\n")
+        if not feed:
+            raise Refused("L3 Truncated", self.at)
+        if not self.does_cost(line):
+            raise Refused(f"L15 BadHistory {index}", self.at)
+        self.at += len(line) + 1
+
+    def history(self) -> None:
+        """The edits of a session."""
+        start = self.at
+        count = number(self.field(2)) + number(self.field(2))
+        if count > MOST_EDITS:
+            raise Refused(f"L15 BadHistory {MOST_EDITS}", start)
+        for index in range(count):
+            self.edit(index)
+
+
+def is_session(dump: bytes) -> bool:
+    return dump.startswith(b"OSWP\x02")
 
 
 def read(dump: bytes) -> None:
     """Reads a whole dump. Raises `Refused` for its first fault."""
-    if len(dump) > LONGEST_DUMP:
+    if len(dump) > (LONGEST_SESSION if is_session(dump) else LONGEST_DUMP):
         raise Refused("L13 TooLarge", 0)
     reader = Reader(dump)
     if reader.field(4) != b"OSWP":
         raise Refused("L1 BadMagic", 0)
-    if reader.field(1) != b"\x01":
+    if reader.field(1) not in (b"\x01", b"\x02"):
         raise Refused("L2 BadVersion", 4)
-    areas = reader.field(1)[0]
-    if areas > 64:
-        raise Refused("L5 TooManyAreas", 5)
-    ident = -1
-    for _ in range(areas):
-        ident = reader.area(ident)
-    reader.lsas(number(reader.field(2)), is_as_wide=True)
+    reader.base()
+    if is_session(dump):
+        if reader.at > LONGEST_DUMP:
+            raise Refused("L13 TooLarge", 0)
+        reader.history()
     if reader.at != len(dump):
         raise Refused("L4 TrailingBytes", reader.at)
 

@@ -1,9 +1,11 @@
 //! The what-if studies of a run.
 
-ghost use Rattle.std.specs.Prelude.{◌≡◌, ◌<◌, ◌==◌, IfOk, OnOk, OnErr, IsOk, true, false};
+ghost use Rattle.std.specs.Prelude.{◌≡◌, ◌<◌, ◌==◌, Ok, IfOk, OnOk, OnErr, IsOk, true, false};
 ghost use Rattle.lsdb.specs.Places.{lists_of};
 ghost use Rattle.lsdb.specs.Text.{text};
 ghost use Rattle.edit_history.specs.Session.{start, state};
+ghost use Rattle.saved_sessions.specs.Opening.{opened};
+ghost use Rattle.saved_sessions.specs.Saved.{saved_text};
 ghost use Rattle.branches.specs.Branches.{all_begin, resumed, with_session, sessions_of};
 ghost use Rattle.branches.specs.steps.Planners.{has_planner};
 ghost use Rattle.branches.specs.Replies.{reply_to, after, takes_memory, said_by};
@@ -14,6 +16,7 @@ use edit_history::{RedoFault, UndoFault};
 use edit_script::Command;
 use lsdb::Database;
 use recalculate::{Info, Planner};
+use saved_sessions::save;
 use std::alloc::{AllocError, Allocator, Global};
 use std::collections::BTreeMap;
 use std::marker::Model;
@@ -172,5 +175,20 @@ impl<A: Allocator + Copy> Branches<A> {
             Some(planner) => planner.dump(),
             None => self.first.base()?.dump(),
         }
+    }
+
+    /// The session of branch 0, saved as a dump of version 2.
+    ///
+    /// # Errors
+    ///
+    /// Memory ran out.
+    pub fn save(&mut self) -> Result<Vec<u8, A>, AllocError>
+        ensures saved { IfOk result
+            (λ bytes. bytes.items ≡ saved_text (sessions_of self.old 0)) }
+        ensures opens { IfOk result
+            (λ bytes. opened bytes.items ≡ Ok (sessions_of self.old 0)) }
+        ensures kept { self.new ≡ self.old }
+    {
+        save(&mut self.first)
     }
 }

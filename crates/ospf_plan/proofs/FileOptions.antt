@@ -19,4 +19,5 @@ IsGiven-from_read words m o has read = record {
   dump = read.dump ∙ first_value-matches words m _ has;
   script = read.script ∙ first_value-matches words m _ has;
   out = read.out ∙ first_value-matches words m _ has;
+  save = read.save ∙ first_value-matches words m _ has;
 }

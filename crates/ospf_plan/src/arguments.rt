@@ -11,12 +11,15 @@ use std::alloc::AllocError;
 /// The files that the command line names.
 #[derive(Debug, Drop)]
 pub(crate) struct Options {
-    /// The dump that is loaded. Without it the program takes a small sample of its own.
+    /// The dump or the session that is opened. Without it the program takes a small sample of its
+    /// own.
     pub(crate) dump: Option<String>,
     /// The script that is carried out. Without it the program reads standard input.
     pub(crate) script: Option<String>,
     /// Where the dump of the database after the script goes. Without it none is written.
     pub(crate) out: Option<String>,
+    /// Where the session after the script goes. Without it none is saved.
+    pub(crate) save: Option<String>,
 }
 
 /// Why words give no options.

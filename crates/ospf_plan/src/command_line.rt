@@ -37,10 +37,11 @@ fn command<'a>(alloc: Global) -> Result<Command<'a>, AllocError>
         .arg(file_option(
             alloc,
             "dump",
-            "The dump to load, in place of a small sample",
+            "The dump or the saved session to open, in place of a small sample",
         ))?
         .arg(file_option(alloc, "script", "The script, in place of standard input"))?
-        .arg(file_option(alloc, "out", "Where to write the dump after the script"))
+        .arg(file_option(alloc, "out", "Where to write the dump after the script"))?
+        .arg(file_option(alloc, "save", "Where to save the session after the script"))
 }
 
 /// The command without its options: its name, and the texts of `--help` and `--version`.
@@ -76,6 +77,7 @@ fn named_files(alloc: Global, matches: &ArgMatches<'_>) -> Result<Options, Alloc
         dump: file_name(alloc, matches, "dump")?,
         script: file_name(alloc, matches, "script")?,
         out: file_name(alloc, matches, "out")?,
+        save: file_name(alloc, matches, "save")?,
     })
 }
 

@@ -54,6 +54,7 @@ fn line_of<A: Allocator + Copy>(alloc: A, fault: &ExitFault) -> Result<Vec<u8, A
         ExitFault::Open(FileArg::Dump) => "file: Open dump\n",
         ExitFault::Open(FileArg::Script) => "file: Open script\n",
         ExitFault::Open(FileArg::Out) => "file: Open out\n",
+        ExitFault::Open(FileArg::Save) => "file: Open save\n",
     };
     Vec::from_slice(alloc, line.as_bytes())
 }

@@ -11,6 +11,8 @@ pub(crate) enum FileArg {
     Script,
     /// The file for the dump that the script leaves.
     Out,
+    /// The file for the session that the script leaves.
+    Save,
 }
 
 /// Why the program ends with status 3, 4 or 5.

@@ -1,17 +1,18 @@
 //! The files that the command line names.
 
-ghost use Rattle.std.specs.Prelude.{◌≡◌, ◌↔◌, false, true, IfOk, IfErr, OnOk, OnErr, IsErr};
-ghost use Rattle.std.specs.Io.KnownBytes.{Appends};
-ghost use Rattle.streams.specs.Watched.{inner_of, has_failed};
+ghost use Rattle.std.specs.Prelude.{◌≡◌, false, IfOk, OnErr};
+ghost use Rattle.whole_run.specs.Streams.{has_any_failed};
 
 use crate::arguments::Options;
 use crate::fault::{ExitFault, FileArg};
-use std::io::{Read, Write};
+use crate::replacing::write_file;
+use std::io::Read;
 use std::{fs, io};
 use streams::Watched;
-use whole_run::{RunFault, SAMPLE, Summary, run, write_and_flush};
+use whole_run::{RunFault, SAMPLE, Summary, run};
 
-/// Opens the inputs, runs, and writes the dump that the script leaves to its file.
+/// Opens the inputs, runs, and writes the dump and the session that the script leaves to their
+/// files.
 pub(crate) fn run_files(rt: &HostRuntime, options: &Options) -> Result<Summary, ExitFault> {
     match &options.dump {
         None => run_on_dump(rt, options, SAMPLE),
@@ -37,8 +38,8 @@ fn run_on_dump<R: Read + Drop>(
     }
 }
 
-/// Runs a script on a dump. The replies go to standard output, and the dump to its file, which is
-/// opened only when the whole run went well.
+/// Runs a script on a dump. The replies go to standard output; the dump and the session that the
+/// script leaves go to their files, which are opened only when the whole run went well.
 fn run_script<R: Read + Drop, S: Read + Drop>(
     rt: &HostRuntime,
     options: &Options,
@@ -48,45 +49,64 @@ fn run_script<R: Read + Drop, S: Read + Drop>(
     let mut dump = Watched::new(dump);
     let mut script = Watched::new(script);
     let mut replies = Watched::new(io::writer(rt));
-    match &options.out {
-        None => {
-            let none = None::<&mut Watched<Vec<u8>>>;
-            run(rt.alloc(), &mut dump, &mut script, &mut replies, none).map_err(ExitFault::Run)
-        }
-        Some(path) => {
-            let mut out = Watched::new(Vec::new(rt.alloc()));
-            let written = Some(&mut out);
-            let ended = run(rt.alloc(), &mut dump, &mut script, &mut replies, written);
-            // A write to memory fails for want of it alone.
-            if out.failed() {
-                return Err(ExitFault::Run(RunFault::OutOfMemory));
-            }
-            let summary = ended.map_err(ExitFault::Run)?;
-            save(rt, path.as_str(), out.into_inner().as_slice())?;
-            Ok(summary)
-        }
+    let mut out = memory_for(rt, &options.out);
+    let mut save = memory_for(rt, &options.save);
+    let alloc = rt.alloc();
+    let ended = run(
+        alloc,
+        &mut dump,
+        &mut script,
+        &mut replies,
+        &mut out,
+        &mut save,
+    );
+    // A write to memory fails for want of it alone.
+    if has_failed(&out) || has_failed(&save) {
+        return Err(ExitFault::Run(RunFault::OutOfMemory));
+    }
+    let summary = ended.map_err(ExitFault::Run)?;
+    write_named(rt, &options.out, out, FileArg::Out)?;
+    write_named(rt, &options.save, save, FileArg::Save)?;
+    Ok(summary)
+}
+
+/// A writer to memory, where a file is named.
+fn memory_for(rt: &HostRuntime, path: &Option<String>) -> Option<Watched<Vec<u8>>>
+    ensures { has_any_failed result ≡ false }
+{
+    match path {
+        None => None,
+        Some(_) => Some(Watched::new(Vec::new(rt.alloc()))),
     }
 }
 
-/// Opens the file for the dump, and writes it.
-fn save(rt: &HostRuntime, path: &str, dump: &[u8]) -> Result<(), ExitFault> {
-    let file = opened(fs::create(rt, path), FileArg::Out)?;
-    write_saved(&mut Watched::new(file), dump)
+/// Whether a writer has failed, if there is one.
+fn has_failed(writer: &Option<Watched<Vec<u8>>>) -> bool
+    ensures { result ≡ has_any_failed writer.now }
+{
+    match writer {
+        None => false,
+        Some(writer) => writer.failed(),
+    }
 }
 
-/// Writes the dump that a script leaves, and flushes it.
-fn write_saved<W: Write>(file: &mut Watched<W>, dump: &[u8]) -> Result<(), ExitFault>
-    requires { has_failed file.old ≡ false }
-    ensures whole { OnOk result
-        (Appends (W.contents (inner_of file.old)) (W.contents (inner_of file.new)) dump.now) }
-    ensures failed { IsErr result ↔ (has_failed file.new ≡ true) }
-    ensures fault { IfErr result (λ fault. fault ≡ ExitFault.Run RunFault.Write) }
-{
-    write_and_flush(file, dump).map_err(|_| ExitFault::Run(RunFault::Write))
+/// Writes what a script leaves to its file, if one is named.
+fn write_named(
+    rt: &HostRuntime,
+    path: &Option<String>,
+    left: Option<Watched<Vec<u8>>>,
+    name: FileArg,
+) -> Result<(), ExitFault> {
+    match (path, left) {
+        (Some(path), Some(left)) => {
+            write_file(rt, path.as_str(), left.into_inner().as_slice(), name)
+        }
+        _ => Ok(()),
+    }
 }
 
 /// The file, or the fault that it can not be opened.
-fn opened<T>(file: io::Result<T>, name: FileArg) -> Result<T, ExitFault>
+pub(crate) fn opened<T>(file: io::Result<T>, name: FileArg) -> Result<T, ExitFault>
     ensures file { IfOk file (λ file. result ≡ Ok file) }
     ensures fault { OnErr file (result ≡ Err (ExitFault.Open name)) }
 {

@@ -1,8 +1,9 @@
 //! `ospf-plan`: a what-if planner for OSPF Version 2 (RFC 2328).
 //!
-//! It loads a dump of link state databases, carries out the commands of a script, and writes their
-//! replies and the dump that they leave. `run` of the crate `whole_run` is the whole run, over
-//! readers and writers; `main` hands it the files that the command line names.
+//! It opens a dump of link state databases or a saved session, carries out the commands of a
+//! script, and writes their replies, and the dump and the session that they leave. `run` of the
+//! crate `whole_run` is the whole run, over readers and writers; `main` hands it the files that the
+//! command line names.
 #![tactic(auto)]
 
 mod arguments;
@@ -11,6 +12,7 @@ mod exit;
 mod fault;
 mod files;
 mod help;
+mod replacing;
 
 use arguments::{Options, OptionsFault};
 use clap::Error;

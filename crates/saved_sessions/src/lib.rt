@@ -14,7 +14,7 @@ mod read;
 mod saving;
 
 pub use laws::sessions_open_again;
-pub use opening::open;
+pub use opening::{begins_session, open};
 pub use saving::save;
 
 #[cfg(test)]

@@ -19,8 +19,8 @@ use std::alloc::Allocator;
 /// What the dump of a session begins with: the magic and the version.
 const SESSION_START: &[u8] = b"OSWP\x02";
 
-/// Whether octets begin as the dump of a session does.
-fn begins_session(bytes: &[u8]) -> bool
+/// Whether octets begin as the dump of a session does: with the magic, and version 2.
+pub fn begins_session(bytes: &[u8]) -> bool
     ensures { result ≡ begins_session bytes.now }
 {
     bytes.starts_with(SESSION_START)

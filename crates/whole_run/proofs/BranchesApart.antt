@@ -1,12 +1,11 @@
 -- Branches go on apart from one another.
 use Rattle.std.proofs.Common.{◌≡◌, ℕ, List, [], ◌∷◌, ◌++◌, Bool, true, false, eqb, cond, Result, Ok, Err, refl, sym, ap, ◌∙◌}
 use Rattle.std.proofs.lemmas.Bool.{eqb-true}
-use Rattle.lsdb.specs.Lists.{Lists}
 use Rattle.edit_script.specs.declared.command.Command.{Command}
 use Rattle.edit_script.specs.declared.fault.ScriptFault.{ScriptFault}
 use Rattle.edit_script.specs.Line.{meaning}
-use Rattle.edit_history.specs.Session.{Session, start}
-use Rattle.branches.specs.Branches.{Sessions, all_begin}
+use Rattle.edit_history.specs.Session.{Session}
+use Rattle.branches.specs.Branches.{Sessions}
 use Rattle.branches.specs.Replies.{after}
 use Rattle.whole_run.specs.Run.{answer_to, after_line, answers, sessions_after}
 use Rattle.whole_run.specs.Alone.{is_in, lines_in, answers_in, command_in, commands_in, after_all}
@@ -39,9 +38,9 @@ own_session branch all (line ∷ lines) =
     ∙ ap (λ s. after_all s (commands_in branch lines)) (own_line branch all (meaning line))
     ∙ sym (after_all-append (all branch) (command_in branch (meaning line)) (commands_in branch lines))
 
-pub session_alone : (base : Lists) (lines : List (List ℕ)) (branch : ℕ)
-    → sessions_after (all_begin base) lines branch ≡ after_all (start base) (commands_in branch lines)
-session_alone base lines branch = own_session branch (all_begin base) lines
+pub session_alone : (all : Sessions) (lines : List (List ℕ)) (branch : ℕ)
+    → sessions_after all lines branch ≡ after_all (all branch) (commands_in branch lines)
+session_alone all lines branch = own_session branch all lines
 
 -- ---- the answers to a branch
 

@@ -2,3 +2,4 @@ pub mod FirstLine
 pub mod ScriptLines
 pub mod KnownInputs
 pub mod BranchesApart
+pub mod ReadOctets

@@ -1,16 +1,16 @@
--- What a script is answered, line by line, and the database that it leaves.
+-- What a script is answered, line by line, and the database and the session that it leaves.
 use Rattle.std.specs.Prelude.{ℕ, ◌==◌, List, [], ◌∷◌, ◌++◌, Result, Ok, Err, Bool, true}
 use Rattle.std.specs.List.{slice_split, flat_map}
-use Rattle.lsdb.specs.Lists.{Lists}
 use Rattle.lsdb.specs.declared.fault.DumpFault.{DumpFault}
 use Rattle.lsdb.specs.Text.{text}
-use Rattle.lsdb.specs.Loading.{loaded}
 use Rattle.edit_script.specs.declared.command.Command.{Command}
 use Rattle.edit_script.specs.declared.fault.ScriptFault.{ScriptFault}
 use Rattle.edit_script.specs.declared.fault.ScriptFault.TheVariants.{Empty}
 use Rattle.edit_script.specs.Line.{meaning}
-use Rattle.edit_history.specs.Session.{state}
-use Rattle.branches.specs.Branches.{Sessions, all_begin, with_session}
+use Rattle.edit_history.specs.Session.{Session, state}
+use Rattle.saved_sessions.specs.Opening.{opened}
+use Rattle.saved_sessions.specs.Saved.{saved_text}
+use Rattle.branches.specs.Branches.{Sessions, resumed, with_session}
 use Rattle.branches.specs.Replies.{reply_to, after, is_refusal, reply_text, script_text}
 
 -- ---- lines
@@ -47,9 +47,9 @@ sessions_after all (line ∷ lines) = sessions_after (after_line all (meaning li
 
 -- ---- a run
 
--- the branches that begin at the database of a dump
-abbrev pub begun : Result Lists DumpFault → Result Sessions DumpFault
-begun (Ok lists) = Ok (all_begin lists)
+-- the branches of an opened session: branch 0 goes on with it, and the others begin at its base
+abbrev pub begun : Result Session DumpFault → Result Sessions DumpFault
+begun (Ok s) = Ok (resumed s)
 begun (Err fault) = Err fault
 
 abbrev pub answers_from : Result Sessions DumpFault → List (List ℕ) → List Answer
@@ -58,7 +58,7 @@ answers_from (Err fault) lines = []
 
 -- what a script is answered on a dump; a refused dump answers nothing
 unfoldable pub run_answers : List ℕ → List ℕ → List Answer
-run_answers dump script = answers_from (begun (loaded dump)) (lines_of script)
+run_answers dump script = answers_from (begun (opened dump)) (lines_of script)
 
 -- the text of answers, one after another
 abbrev pub text_of : List Answer → List ℕ
@@ -75,4 +75,13 @@ dump_after (Err fault) lines = []
 -- the dump that a script leaves, which is that of branch 0: the text of its edits that are not undone, folded over
 -- the loaded database
 unfoldable pub final_dump : List ℕ → List ℕ → List ℕ
-final_dump dump script = dump_after (begun (loaded dump)) (lines_of script)
+final_dump dump script = dump_after (begun (opened dump)) (lines_of script)
+
+abbrev pub session_after : Result Sessions DumpFault → List (List ℕ) → List ℕ
+session_after (Ok all) lines = saved_text (sessions_after all lines 0)
+session_after (Err fault) lines = []
+
+-- the session that a script leaves, which is that of branch 0, as it is saved: its base, its done edits, and its undone
+-- ones
+unfoldable pub final_session : List ℕ → List ℕ → List ℕ
+final_session dump script = session_after (begun (opened dump)) (lines_of script)

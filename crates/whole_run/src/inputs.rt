@@ -1,26 +1,73 @@
-//! The two inputs of a run: the dump and the script.
+//! The two inputs of a run: the dump, which may be that of a session, and the script.
 
-ghost use Rattle.std.specs.Prelude.{◌≡◌, ◌≢◌, ◌↔◌, ◌≤◌, ◌+◌, ℕ, List, Option, true, false, Ok, vec_len, IfSome, IfOk, IfErr, OnOk};
+ghost use Rattle.std.specs.Prelude.{◌≡◌, ◌≢◌, ◌↔◌, ◌<◌, ◌≤◌, ◌+◌, ◌++◌, ℕ, List, Option, true, false, Ok, vec_len, IfSome, IfOk, IfErr, OnOk};
 ghost use Rattle.std.specs.Io.KnownBytes.{IsAtEnd};
 ghost use Rattle.streams.specs.Watched.{inner_of, has_failed};
 ghost use Rattle.streams.specs.WholeText.{IsAll, IsLonger, ConsumesAtMost};
-ghost use Rattle.lsdb.specs.Loading.{loaded, IsFirstFault};
+ghost use Rattle.lsdb.specs.Limits.{longest_dump};
+ghost use Rattle.lsdb.specs.Loading.{IsFirstFault};
+ghost use Rattle.saved_sessions.specs.Opening.{opened};
 ghost use Rattle.branches.specs.Branches.{sessions_of};
 ghost use Rattle.whole_run.specs.Run.{begun};
-ghost use Rattle.whole_run.specs.Inputs.{IsAccepted};
-ghost use Rattle.whole_run.specs.steps.Reading.{IsDumpEnd, IsScriptEnd};
+ghost use Rattle.whole_run.specs.Inputs.{IsAccepted, most_read};
+ghost use Rattle.whole_run.specs.steps.Reading.{IsDumpEnd, IsScriptEnd, IsTooLong, most_behind};
 
 use crate::fault::RunFault;
 use branches::Branches;
-use lsdb::{Database, DumpFault, DumpFaultKind, LONGEST_DUMP};
+use lsdb::{DumpFault, DumpFaultKind, LONGEST_DUMP, LONGEST_SESSION};
+use saved_sessions::{begins_session, open};
 use std::alloc::Allocator;
 use std::io::Read;
-use streams::{ReadFault, Watched, read_whole};
+use streams::{ReadFault, Watched, read_more, read_whole};
 
 /// The greatest length of a script, in octets.
 pub(crate) const SCRIPT_LIMIT: usize = 1_048_576;
 
-/// Reads a dump whole and loads it.
+/// Reads on behind more octets than a dump without edits may have: those of a session may be more.
+fn read_on<A: Allocator + Copy, R: Read>(
+    dump: &mut Watched<R>,
+    front: Vec<u8, A>,
+) -> Result<Vec<u8, A>, ReadFault>
+    requires open { has_failed dump.old ≡ false }
+    requires long { longest_dump < vec_len front }
+    ensures whole { IfOk result (λ bytes. IfSome (R.remaining (inner_of dump.old))
+        (λ rest. bytes.items ≡ front.items ++ rest)) }
+    ensures too_large { result ≡ Err ReadFault.TooLarge
+        → IfSome (R.remaining (inner_of dump.old)) (λ rest. IsTooLong (front.items ++ rest)) }
+    ensures failed { (result ≡ Err ReadFault.Failed) ↔ (has_failed dump.new ≡ true) }
+    ensures bounded { ConsumesAtMost (R.remaining (inner_of dump.old))
+        (R.remaining (inner_of dump.new)) (most_behind front.items) }
+{
+    if !begins_session(front.as_slice()) {
+        return Err(ReadFault::TooLarge);
+    }
+    let mut bytes = front;
+    read_more(dump, &mut bytes, LONGEST_SESSION)?;
+    Ok(bytes)
+}
+
+/// Reads the octets of a dump, or of a session, whole.
+fn read_octets<A: Allocator + Copy, R: Read>(
+    alloc: A,
+    dump: &mut Watched<R>,
+) -> Result<Vec<u8, A>, ReadFault>
+    requires { has_failed dump.old ≡ false }
+    ensures whole { IfOk result (λ bytes. IsAll (R.remaining (inner_of dump.old)) bytes.items) }
+    ensures too_large { result ≡ Err ReadFault.TooLarge
+        → IfSome (R.remaining (inner_of dump.old)) IsTooLong }
+    ensures failed { (result ≡ Err ReadFault.Failed) ↔ (has_failed dump.new ≡ true) }
+    ensures bounded { ConsumesAtMost (R.remaining (inner_of dump.old))
+        (R.remaining (inner_of dump.new)) (most_read (R.remaining (inner_of dump.old))) }
+{
+    let mut bytes = Vec::new(alloc);
+    match read_more(dump, &mut bytes, LONGEST_DUMP) {
+        Ok(()) => Ok(bytes),
+        Err(ReadFault::TooLarge) => read_on(dump, bytes),
+        Err(fault) => Err(fault),
+    }
+}
+
+/// Reads a dump whole, and opens the session that it has.
 pub(crate) fn read_branches<A: Allocator + Copy, R: Read>(
     alloc: A,
     dump: &mut Watched<R>,
@@ -28,22 +75,22 @@ pub(crate) fn read_branches<A: Allocator + Copy, R: Read>(
     requires { has_failed dump.old ≡ false }
     ensures loads { IfOk result
         (λ branches. IfSome (R.remaining (inner_of dump.old))
-        (λ bytes. begun (loaded bytes) ≡ Ok (sessions_of branches))) }
+        (λ bytes. begun (opened bytes) ≡ Ok (sessions_of branches))) }
     ensures accepted { OnOk result (IfSome (R.remaining (inner_of dump.old)) IsAccepted) }
     ensures refused { IfErr result (IsDumpEnd (R.remaining (inner_of dump.old))) }
     ensures failed { (result ≡ Err RunFault.Read) ↔ (has_failed dump.new ≡ true) }
     ensures bounded { ConsumesAtMost (R.remaining (inner_of dump.old))
-        (R.remaining (inner_of dump.new)) 16777217 }
+        (R.remaining (inner_of dump.new)) (most_read (R.remaining (inner_of dump.old))) }
 {
-    let bytes = match read_whole(alloc, dump, LONGEST_DUMP) {
+    let bytes = match read_octets(alloc, dump) {
         Ok(bytes) => bytes,
         Err(ReadFault::Failed) => return Err(RunFault::Read),
         Err(ReadFault::TooLarge) => return Err(RunFault::Dump(TOO_LARGE)),
         Err(ReadFault::OutOfMemory) => return Err(RunFault::OutOfMemory),
     };
-    match Database::load(alloc, bytes.as_slice()) {
-        Ok(database) => Ok(Branches::new(alloc, database)),
-        Err(fault) => Err(load_fault(fault)),
+    match open(alloc, bytes.as_slice()) {
+        Ok(planner) => Ok(Branches::resume(alloc, planner)),
+        Err(fault) => Err(open_fault(fault)),
     }
 }
 
@@ -53,10 +100,10 @@ const TOO_LARGE: DumpFault = DumpFault {
     kind: DumpFaultKind::TooLarge,
 };
 
-/// How a run ends on a dump that is not loaded.
-fn load_fault(fault: DumpFault) -> RunFault
+/// How a run ends on a dump that is not opened.
+fn open_fault(fault: DumpFault) -> RunFault
     ensures end { (known : Option (List ℕ))
-        → IfSome known (λ bytes. IsFirstFault fault (loaded bytes))
+        → IfSome known (λ bytes. IsFirstFault fault (opened bytes))
         → IsDumpEnd known result }
     ensures read { result ≢ RunFault.Read }
 {

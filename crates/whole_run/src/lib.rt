@@ -1,12 +1,13 @@
 //! The whole run of a script on a dump, over readers and writers.
 //!
-//! [`run`] reads the dump and the script, writes the reply to each line, and then the dump that the
-//! script leaves. The theorem of the whole stands on it.
+//! [`run`] reads the dump and the script, writes the reply to each line, and then the dump and the
+//! session that the script leaves. The theorem of the whole stands on it.
 #![tactic(auto)]
 
 mod fault;
 mod inputs;
 mod laws;
+mod leaving;
 mod lines;
 mod output;
 mod running;

@@ -1,9 +1,10 @@
 //! Texts written whole, and flushed.
 
-ghost use Rattle.std.specs.Prelude.{◌≡◌, ◌↔◌, ◌||◌, false, true, OnOk, IsErr};
+ghost use Rattle.std.specs.Prelude.{◌≡◌, ◌↔◌, ◌||◌, false, true, is_some, OnOk, IsErr};
 ghost use Rattle.std.specs.Io.KnownBytes.{Appends, Keeps};
 ghost use Rattle.streams.specs.Watched.{inner_of, has_failed};
 ghost use Rattle.streams.specs.WholeText.{AppendsPrefix};
+ghost use Rattle.whole_run.specs.Streams.{contents_of, has_any_failed};
 
 use std::io::Write;
 use streams::{Watched, WriteFault, write_whole};
@@ -21,29 +22,72 @@ pub fn write_and_flush<W: Write>(writer: &mut Watched<W>, text: &[u8]) -> Result
     flush(writer)
 }
 
-/// Writes the dump of the end to `out`, and then flushes the replies and `out`.
-pub(crate) fn write_end<W: Write, D: Write>(
+/// Writes the dump to `out` and the session to `save`, where they are given, and then flushes the
+/// replies and both.
+pub(crate) fn write_ends<W: Write, D: Write, E: Write>(
     dump: &[u8],
+    session: &[u8],
     replies: &mut Watched<W>,
-    out: &mut Watched<D>,
+    out: &mut Option<Watched<D>>,
+    save: &mut Option<Watched<E>>,
 ) -> Result<(), WriteFault>
     requires replies_open { has_failed replies.old ≡ false }
-    requires out_open { has_failed out.old ≡ false }
+    requires out_open { has_any_failed out.old ≡ false }
+    requires save_open { has_any_failed save.old ≡ false }
     ensures replies { Keeps (W.contents (inner_of replies.old))
         (W.contents (inner_of replies.new)) }
-    ensures whole { OnOk result
-        (Appends (D.contents (inner_of out.old)) (D.contents (inner_of out.new)) dump.now) }
-    ensures prefix { AppendsPrefix (D.contents (inner_of out.old))
-        (D.contents (inner_of out.new)) dump.now }
-    ensures failed { IsErr result ↔ ((has_failed replies.new || has_failed out.new) ≡ true) }
+    ensures out { OnOk result
+        (Appends (contents_of D.contents out.old) (contents_of D.contents out.new) dump.now) }
+    ensures save { OnOk result
+        (Appends (contents_of E.contents save.old) (contents_of E.contents save.new) session.now) }
+    ensures out_prefix { AppendsPrefix (contents_of D.contents out.old)
+        (contents_of D.contents out.new) dump.now }
+    ensures save_prefix { AppendsPrefix (contents_of E.contents save.old)
+        (contents_of E.contents save.new) session.now }
+    ensures out_given { is_some out.new ≡ is_some out.old }
+    ensures save_given { is_some save.new ≡ is_some save.old }
+    ensures failed { IsErr result ↔ ((has_failed replies.new
+        || has_any_failed out.new || has_any_failed save.new) ≡ true) }
 {
-    write_whole(out, dump)?;
+    write_given(out, dump)?;
+    write_given(save, session)?;
     flush(replies)?;
-    flush(out)
+    flush_given(out)?;
+    flush_given(save)
+}
+
+/// Writes a text to a writer, where one is given.
+fn write_given<W: Write>(writer: &mut Option<Watched<W>>, text: &[u8]) -> Result<(), WriteFault>
+    requires { has_any_failed writer.old ≡ false }
+    ensures whole { OnOk result
+        (Appends (contents_of W.contents writer.old) (contents_of W.contents writer.new) text.now) }
+    ensures prefix { AppendsPrefix (contents_of W.contents writer.old)
+        (contents_of W.contents writer.new) text.now }
+    ensures given { is_some writer.new ≡ is_some writer.old }
+    ensures failed { IsErr result ↔ (has_any_failed writer.new ≡ true) }
+{
+    match writer {
+        None => Ok(()),
+        Some(writer) => write_whole(writer, text),
+    }
+}
+
+/// Flushes a writer, where one is given.
+fn flush_given<W: Write>(writer: &mut Option<Watched<W>>) -> Result<(), WriteFault>
+    requires { has_any_failed writer.old ≡ false }
+    ensures bytes { Keeps (contents_of W.contents writer.old)
+        (contents_of W.contents writer.new) }
+    ensures given { is_some writer.new ≡ is_some writer.old }
+    ensures failed { IsErr result ↔ (has_any_failed writer.new ≡ true) }
+{
+    match writer {
+        None => Ok(()),
+        Some(writer) => flush(writer),
+    }
 }
 
 /// Flushes a writer.
-pub(crate) fn flush<W: Write>(writer: &mut Watched<W>) -> Result<(), WriteFault>
+fn flush<W: Write>(writer: &mut Watched<W>) -> Result<(), WriteFault>
     requires { has_failed writer.old ≡ false }
     ensures bytes { Keeps (W.contents (inner_of writer.old)) (W.contents (inner_of writer.new)) }
     ensures failed { IsErr result ↔ (has_failed writer.new ≡ true) }

@@ -9,3 +9,4 @@ pub record IsRead (found : Found) (o : Options) : Type 0 where
   pub dump : option_map string_bytes o.dump ≡ first_value found (codes "dump")
   pub script : option_map string_bytes o.script ≡ first_value found (codes "script")
   pub out : option_map string_bytes o.out ≡ first_value found (codes "out")
+  pub save : option_map string_bytes o.save ≡ first_value found (codes "save")

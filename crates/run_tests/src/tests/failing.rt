@@ -1,9 +1,11 @@
 //! Readers and writers that fail at each octet in turn.
 
 use super::outcome::{run_whole, run_without_out};
+use crate::outcome::Outcome;
 use lsdb::{DumpFault, DumpFaultKind};
 use samples::{Failing, Sink, Source, Zeros};
 use std::alloc::Global;
+use std::io::Write;
 use std::test::*;
 use whole_run::{RunFault, SAMPLE, Summary};
 
@@ -14,6 +16,19 @@ const SCRIPT: &[u8] =
 
 const REPLIES: &[u8] =
     b"@0 ok\nscript S2 UnknownWord\n@0 refused E4 ZeroCost\n@0 refused U1 NothingToUndo\n@0 ok\n";
+
+/// The session that SCRIPT leaves of the sample, saved: no edit is done, and one is undone.
+const LEFT: &[u8] = &[
+    0x4f, 0x53, 0x57, 0x50, 0x02, 0x01, 0x00, 0x00, 0x00, 0x00, 0x00, 0x00, 0x02, 0x00, 0x01, 0x02,
+    0x01, 0x01, 0x01, 0x01, 0x01, 0x01, 0x01, 0x01, 0x01, 0x80, 0x00, 0x00, 0x01, 0xd5, 0x5a, 0x00,
+    0x24, 0x00, 0x00, 0x00, 0x01, 0x02, 0x02, 0x02, 0x02, 0x0a, 0x00, 0x00, 0x01, 0x01, 0x00, 0x00,
+    0x0a, 0x00, 0x01, 0x02, 0x01, 0x02, 0x02, 0x02, 0x02, 0x02, 0x02, 0x02, 0x02, 0x80, 0x00, 0x00,
+    0x01, 0x62, 0xa7, 0x00, 0x30, 0x00, 0x00, 0x00, 0x02, 0x01, 0x01, 0x01, 0x01, 0x0a, 0x00, 0x00,
+    0x02, 0x01, 0x00, 0x00, 0x0a, 0x0a, 0x02, 0x00, 0x00, 0xff, 0xff, 0x00, 0x00, 0x03, 0x00, 0x00,
+    0x05, 0x00, 0x00, 0x00, 0x00, 0x00, 0x01, 0x63, 0x6f, 0x73, 0x74, 0x20, 0x30, 0x2e, 0x30, 0x2e,
+    0x30, 0x2e, 0x30, 0x20, 0x31, 0x2e, 0x31, 0x2e, 0x31, 0x2e, 0x31, 0x20, 0x31, 0x20, 0x36, 0x35,
+    0x35, 0x33, 0x35, 0x0a,
+];
 
 /// A place past the end of every text of these tests.
 const NEVER: usize = 1_000_000;
@@ -28,6 +43,16 @@ fn sink(alloc: Global, limit: usize, failing: Failing) -> Sink {
     Sink::new(alloc, 1, limit, failing)
 }
 
+/// Runs the script on the sample.
+fn run_to<W: Write, D: Write, E: Write>(
+    alloc: Global,
+    replies: W,
+    out: D,
+    save: E,
+) -> Outcome<&'static [u8], &'static [u8], W, D, E> {
+    run_whole(alloc, SAMPLE, SCRIPT, replies, out, save)
+}
+
 const SUMMARY: Summary = Summary {
     commands: 5,
     refused: 3,
@@ -39,10 +64,12 @@ fn runs_over_short_reads_and_writes(rt: HostRuntime) -> Result<(), Fail> {
     let script = source(SCRIPT, None);
     let replies = sink(rt.alloc(), NEVER, Failing::WriteErrs);
     let out = sink(rt.alloc(), NEVER, Failing::WriteErrs);
-    let ended = run_whole(rt.alloc(), dump, script, replies, out);
+    let save = sink(rt.alloc(), NEVER, Failing::WriteErrs);
+    let ended = run_whole(rt.alloc(), dump, script, replies, out, save);
     assert_eq!(rt; ended.result, Ok(SUMMARY));
     assert_eq!(rt; ended.replies.stream.taken.as_slice(), REPLIES);
     assert_eq!(rt; ended.out.stream.taken.as_slice(), SAMPLE);
+    assert_eq!(rt; ended.save.stream.taken.as_slice(), LEFT);
     Ok(())
 }
 
@@ -62,12 +89,17 @@ fn the_dump_fails_at_each_octet(rt: HostRuntime) -> Result<(), Fail> {
 fn the_script_fails_at_each_octet(rt: HostRuntime) -> Result<(), Fail> {
     for n in 0..SCRIPT.len() + 1 {
         let script = source(SCRIPT, Some(n));
-        let (replies, out) = (Vec::new(rt.alloc()), Vec::new(rt.alloc()));
-        let ended = run_whole(rt.alloc(), SAMPLE, script, replies, out);
+        let (replies, out, save) = (
+            Vec::new(rt.alloc()),
+            Vec::new(rt.alloc()),
+            Vec::new(rt.alloc()),
+        );
+        let ended = run_whole(rt.alloc(), SAMPLE, script, replies, out, save);
         assert_eq!(rt; ended.result, Err(RunFault::Read), "after {n} octets");
         assert!(rt; ended.script.failed);
         assert!(rt; ended.replies.stream.is_empty());
         assert!(rt; ended.out.stream.is_empty());
+        assert!(rt; ended.save.stream.is_empty());
     }
     Ok(())
 }
@@ -77,12 +109,18 @@ fn the_replies_fail_at_each_octet(rt: HostRuntime) -> Result<(), Fail> {
     for failing in [Failing::WriteErrs, Failing::WriteTakesNone] {
         for n in 0..REPLIES.len() {
             let replies = sink(rt.alloc(), n, failing);
-            let ended = run_whole(rt.alloc(), SAMPLE, SCRIPT, replies, Vec::new(rt.alloc()));
+            let ended = run_to(
+                rt.alloc(),
+                replies,
+                Vec::new(rt.alloc()),
+                Vec::new(rt.alloc()),
+            );
             assert_eq!(rt; ended.result, Err(RunFault::Write), "after {n} octets");
             assert!(rt; ended.replies.failed);
             let taken = ended.replies.stream.taken.as_slice();
             assert_eq!(rt; Some(taken), REPLIES.get(..n));
             assert!(rt; ended.out.stream.is_empty());
+            assert!(rt; ended.save.stream.is_empty());
         }
     }
     Ok(())
@@ -93,12 +131,30 @@ fn the_written_dump_fails_at_each_octet(rt: HostRuntime) -> Result<(), Fail> {
     for failing in [Failing::WriteErrs, Failing::WriteTakesNone] {
         for n in 0..SAMPLE.len() {
             let out = sink(rt.alloc(), n, failing);
-            let ended = run_whole(rt.alloc(), SAMPLE, SCRIPT, Vec::new(rt.alloc()), out);
+            let ended = run_to(rt.alloc(), Vec::new(rt.alloc()), out, Vec::new(rt.alloc()));
             assert_eq!(rt; ended.result, Err(RunFault::Write), "after {n} octets");
             assert!(rt; ended.out.failed);
             assert_eq!(rt; ended.replies.stream.as_slice(), REPLIES);
             let taken = ended.out.stream.taken.as_slice();
             assert_eq!(rt; Some(taken), SAMPLE.get(..n));
+            assert!(rt; ended.save.stream.is_empty());
+        }
+    }
+    Ok(())
+}
+
+#[test]
+fn the_saved_session_fails_at_each_octet(rt: HostRuntime) -> Result<(), Fail> {
+    for failing in [Failing::WriteErrs, Failing::WriteTakesNone] {
+        for n in 0..LEFT.len() {
+            let save = sink(rt.alloc(), n, failing);
+            let ended = run_to(rt.alloc(), Vec::new(rt.alloc()), Vec::new(rt.alloc()), save);
+            assert_eq!(rt; ended.result, Err(RunFault::Write), "after {n} octets");
+            assert!(rt; ended.save.failed);
+            assert_eq!(rt; ended.replies.stream.as_slice(), REPLIES);
+            assert_eq!(rt; ended.out.stream.as_slice(), SAMPLE);
+            let taken = ended.save.stream.taken.as_slice();
+            assert_eq!(rt; Some(taken), LEFT.get(..n));
         }
     }
     Ok(())
@@ -116,7 +172,12 @@ fn a_flush_fails(rt: HostRuntime) -> Result<(), Fail> {
 #[test]
 fn a_flush_fails_after_the_dump_is_written(rt: HostRuntime) -> Result<(), Fail> {
     let replies = sink(rt.alloc(), NEVER, Failing::FlushErrs);
-    let ended = run_whole(rt.alloc(), SAMPLE, SCRIPT, replies, Vec::new(rt.alloc()));
+    let ended = run_to(
+        rt.alloc(),
+        replies,
+        Vec::new(rt.alloc()),
+        Vec::new(rt.alloc()),
+    );
     assert_eq!(rt; ended.result, Err(RunFault::Write));
     assert!(rt; ended.replies.failed);
     assert_eq!(rt; ended.replies.stream.taken.as_slice(), REPLIES);
@@ -127,9 +188,19 @@ fn a_flush_fails_after_the_dump_is_written(rt: HostRuntime) -> Result<(), Fail> 
 #[test]
 fn the_flush_of_the_written_dump_fails(rt: HostRuntime) -> Result<(), Fail> {
     let out = sink(rt.alloc(), NEVER, Failing::FlushErrs);
-    let ended = run_whole(rt.alloc(), SAMPLE, SCRIPT, Vec::new(rt.alloc()), out);
+    let ended = run_to(rt.alloc(), Vec::new(rt.alloc()), out, Vec::new(rt.alloc()));
     assert_eq!(rt; ended.result, Err(RunFault::Write));
     assert_eq!(rt; ended.out.stream.taken.as_slice(), SAMPLE);
+    Ok(())
+}
+
+#[test]
+fn the_flush_of_the_saved_session_fails(rt: HostRuntime) -> Result<(), Fail> {
+    let save = sink(rt.alloc(), NEVER, Failing::FlushErrs);
+    let ended = run_to(rt.alloc(), Vec::new(rt.alloc()), Vec::new(rt.alloc()), save);
+    assert_eq!(rt; ended.result, Err(RunFault::Write));
+    assert_eq!(rt; ended.out.stream.as_slice(), SAMPLE);
+    assert_eq!(rt; ended.save.stream.taken.as_slice(), LEFT);
     Ok(())
 }
 

@@ -1,7 +1,8 @@
 //! Whole runs in which each growth is refused in turn.
 
-use super::dumps::{NETWORK, TWO_AREAS};
+use super::dumps::{NETWORK, SAVED, TWO_AREAS};
 use super::outcome::run_whole;
+use crate::outcome::Outcome;
 use rationed::Rationed;
 use std::alloc::Global;
 use std::test::*;
@@ -47,6 +48,10 @@ info
 @1 info
 ";
 
+/// Redo, undo and an edit on the saved session, in branch 0 and in branch 1.
+const ON_SAVED: &[u8] =
+    b"info\nredo 1\nundo 2\nadd-stub 0.0.0.0 1.1.1.1 10.9.0.0/16 3\ntables\n@1 redo 1\n@1 info\n";
+
 /// The same, on the dump of two areas.
 const ON_TWO_AREAS: &[u8] = b"cost 0.0.0.0 1.1.1.1 1 11
 add-stub 0.0.0.1 1.1.1.1 10.9.0.0/16 3
@@ -82,20 +87,32 @@ info
 @1 info
 ";
 
+/// A run that asks for a dump and a session.
+fn whole<'a>(
+    rationed: &'a Rationed,
+    alloc: Global,
+    dump: &'a [u8],
+    script: &'a [u8],
+) -> Outcome<&'a [u8], &'a [u8], Vec<u8>, Vec<u8>, Vec<u8>> {
+    let (replies, out, save) = (Vec::new(alloc), Vec::new(alloc), Vec::new(alloc));
+    run_whole(rationed, dump, script, replies, out, save)
+}
+
 /// Whether a run over so many growths ends for want of memory, with a prefix of these replies and
-/// no dump.
+/// no dump and no session.
 fn ends_early(alloc: Global, growths: u64, dump: &[u8], script: &[u8], ample: &[u8]) -> bool {
     let rationed = Rationed::new(alloc, growths);
-    let ended = run_whole(&rationed, dump, script, Vec::new(alloc), Vec::new(alloc));
+    let ended = whole(&rationed, alloc, dump, script);
     ended.result == Err(RunFault::OutOfMemory)
         && ample.starts_with(ended.replies.stream.as_slice())
         && ended.out.stream.is_empty()
+        && ended.save.stream.is_empty()
 }
 
 /// Whether a run ends early wherever one of its growths is refused, and well where none is.
 fn ends_early_or_well(alloc: Global, dump: &[u8], script: &[u8]) -> bool {
     let counted = Rationed::new(alloc, u64::MAX);
-    let ample = run_whole(&counted, dump, script, Vec::new(alloc), Vec::new(alloc));
+    let ample = whole(&counted, alloc, dump, script);
     let growths = u64::MAX - counted.left();
     for n in 0..growths {
         if !ends_early(alloc, n, dump, script, ample.replies.stream.as_slice()) {
@@ -103,11 +120,12 @@ fn ends_early_or_well(alloc: Global, dump: &[u8], script: &[u8]) -> bool {
         }
     }
     let enough = Rationed::new(alloc, growths);
-    let ended = run_whole(&enough, dump, script, Vec::new(alloc), Vec::new(alloc));
+    let ended = whole(&enough, alloc, dump, script);
     growths > 0
         && ended.result.is_ok()
         && ended.replies.stream.as_slice() == ample.replies.stream.as_slice()
         && ended.out.stream.as_slice() == ample.out.stream.as_slice()
+        && ended.save.stream.as_slice() == ample.save.stream.as_slice()
 }
 
 #[test]
@@ -125,5 +143,11 @@ fn each_growth_refused_on_a_network(rt: HostRuntime) -> Result<(), Fail> {
 #[test]
 fn each_growth_refused_on_two_areas(rt: HostRuntime) -> Result<(), Fail> {
     assert!(rt; ends_early_or_well(rt.alloc(), TWO_AREAS, ON_TWO_AREAS));
+    Ok(())
+}
+
+#[test]
+fn each_growth_refused_on_a_saved_session(rt: HostRuntime) -> Result<(), Fail> {
+    assert!(rt; ends_early_or_well(rt.alloc(), SAVED, ON_SAVED));
     Ok(())
 }

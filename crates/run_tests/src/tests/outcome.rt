@@ -6,15 +6,16 @@ use crate::outcome::{Outcome, Replied};
 use std::alloc::Allocator;
 use std::io::{Read, Write};
 
-/// Runs a script on a dump, and takes the replies and the dump that it leaves.
-pub(super) fn run_whole<A: Allocator + Copy, R: Read, S: Read, W: Write, D: Write>(
+/// Runs a script on a dump, and takes the replies and the dump and the session that it leaves.
+pub(super) fn run_whole<A: Allocator + Copy, R: Read, S: Read, W: Write, D: Write, E: Write>(
     alloc: A,
     dump: R,
     script: S,
     replies: W,
     out: D,
-) -> Outcome<R, S, W, D> {
-    outcome::run_whole(alloc, dump, script, replies, out)
+    save: E,
+) -> Outcome<R, S, W, D, E> {
+    outcome::run_whole(alloc, dump, script, replies, out, save)
 }
 
 /// Runs a script on a dump, and takes the replies alone.

@@ -1,5 +1,7 @@
 -- How the reading of each input may end.
-use Rattle.std.specs.Prelude.{ℕ, List, Option}
+use Rattle.std.specs.Prelude.{ℕ, ◌+◌, ◌-◌, ◌<◌, List, length, Option, if◌then◌else◌}
+use Rattle.lsdb.specs.Limits.{longest_session}
+use Rattle.lsdb.specs.BaseLoading.{begins_session, most_octets}
 use Rattle.whole_run.specs.Inputs.{IsRefusedDump}
 use Rattle.whole_run.specs.declared.fault.RunFault.{RunFault}
 use Rattle.whole_run.specs.declared.fault.RunFault.TheVariants.{Dump, Read, Write, TooLarge, OutOfMemory}
@@ -19,3 +21,11 @@ IsScriptEnd long Read = Unit {0}
 IsScriptEnd long OutOfMemory = Unit {0}
 IsScriptEnd long Write = ⊥
 IsScriptEnd long TooLarge = long
+
+-- more octets than they may be, by what they begin with
+abbrev pub IsTooLong : List ℕ → Type 0
+IsTooLong bytes = most_octets bytes < length bytes
+
+-- how many octets are read at most behind those that are too many for a dump without edits
+abbrev pub most_behind : List ℕ → ℕ
+most_behind front = if begins_session front then longest_session + 1 - length front else 0
