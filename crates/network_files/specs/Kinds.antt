@@ -1,0 +1,15 @@
+-- Kinds of files, told apart by their content.
+use Rattle.std.specs.Prelude.{ℕ, Bool, false, ◌||◌, nat_lt, if◌then◌else◌, List, length}
+use Rattle.std.specs.Option.{is_some}
+use Rattle.capture_files.specs.Pcap.{signature_of}
+use Rattle.capture_files.specs.Pcapng.{has_section}
+use Rattle.network_files.specs.declared.kind.FileKind.{FileKind}
+use Rattle.network_files.specs.declared.kind.FileKind.TheVariants.{Capture, Walk}
+
+-- the file begins with a Section Header Block, or with a magic number of the pcap format in one of the byte orders
+abbrev pub is_capture : List ℕ → Bool
+is_capture octets = if nat_lt (length octets) 4 then false else has_section octets || is_some (signature_of octets)
+
+-- what is no capture is taken as a walk
+abbrev pub kind_of : List ℕ → FileKind
+kind_of octets = if is_capture octets then Capture else Walk

@@ -1,0 +1,150 @@
+-- What a file tells.
+use Rattle.std.specs.Prelude.{◌≡◌, ◌≢◌, ℕ, Bool, true, false, List, map, Option, Some, None}
+use Rattle.std.specs.List.{filter_map, list_any}
+use Rattle.capture_files.specs.declared.fault.CaptureFault.TheVariants as captures
+use Rattle.capture_files.specs.declared.frame.End.{End}
+use Rattle.capture_files.specs.Captures.{IsCapture, IsCaptureFault}
+use Rattle.capture_files.specs.Told.{Packet, Told}
+use Rattle.lsa_codec.specs.declared.address.AreaId.{AreaId}
+use Rattle.lsa_instances.specs.declared.sighting.Sighting.{Sighting}
+use Rattle.network_files.specs.declared.fault.FileFault.{FileFault}
+use Rattle.network_files.specs.declared.fault.FileFault.TheVariants as faults
+use Rattle.network_files.specs.declared.kind.FileKind.{FileKind}
+use Rattle.network_files.specs.declared.kind.FileKind.TheVariants as kinds
+use Rattle.network_files.specs.declared.telling.FileTold.{FileTold}
+use Rattle.network_files.specs.declared.telling.Oddities.{Oddities}
+use Rattle.network_files.specs.declared.telling.Oddities.TheVariants.{Frames, Rows}
+use Rattle.network_files.specs.Kinds.{kind_of}
+use Rattle.ospf_packets.specs.declared.kind.AreaKind.{AreaKind as HelloKind}
+use Rattle.ospf_packets.specs.declared.kind.AreaKind.TheVariants as hello
+use Rattle.ospf_packets.specs.declared.kind.AreaTold.{AreaTold as HelloTold}
+use Rattle.ospf_packets.specs.declared.odd.Odd.{Odd}
+use Rattle.ospf_packets.specs.Sorting as packets
+use Rattle.ospf_packets.specs.Telling.{told_in as told_in_frames}
+use Rattle.sighted_database.specs.declared.area.ToldArea.{ToldArea}
+use Rattle.snmp_walk.specs.declared.kind.AreaKind.{AreaKind as RowKind}
+use Rattle.snmp_walk.specs.declared.kind.AreaKind.TheVariants as column
+use Rattle.snmp_walk.specs.declared.kind.AreaTold.{AreaTold as RowTold}
+use Rattle.snmp_walk.specs.Missing.{AreHoles}
+use Rattle.snmp_walk.specs.Telling.{told_in as told_in_walk}
+use Rattle.snmp_walk.specs.Walks as walks
+
+-- ---- kinds of areas
+
+-- by the Options of a Hello packet
+abbrev pub is_stub_by_hello : HelloKind → Bool
+is_stub_by_hello hello.Ordinary = false
+is_stub_by_hello hello.Stub = true
+is_stub_by_hello hello.Nssa = false
+
+abbrev pub area_by_hello : HelloTold → ToldArea
+area_by_hello told = record { id = told.area; is_stub = is_stub_by_hello told.kind }
+
+abbrev pub nssa_with : HelloKind → AreaId → Option AreaId
+nssa_with hello.Ordinary area = None
+nssa_with hello.Stub area = None
+nssa_with hello.Nssa area = Some area
+
+-- a not-so-stubby area
+abbrev pub nssa_by_hello : HelloTold → Option AreaId
+nssa_by_hello told = nssa_with told.kind told.area
+
+-- by ospfImportAsExtern of a walk
+abbrev pub is_stub_by_row : RowKind → Bool
+is_stub_by_row column.Ordinary = false
+is_stub_by_row column.Stub = true
+is_stub_by_row column.Nssa = false
+
+abbrev pub area_by_row : RowTold → ToldArea
+area_by_row told = record { id = told.area; is_stub = is_stub_by_row told.kind }
+
+abbrev pub nssa_in : RowKind → AreaId → Option AreaId
+nssa_in column.Ordinary area = None
+nssa_in column.Stub area = None
+nssa_in column.Nssa area = Some area
+
+abbrev pub nssa_by_row : RowTold → Option AreaId
+nssa_by_row told = nssa_in told.kind told.area
+
+-- ---- what is told
+
+-- LSAs, areas and their kinds, and which of them are not-so-stubby, each in the order of the file
+pub record Telling (A : Type 0) : Type 0 where
+  pub sightings : List (Sighting A)
+  pub areas : List ToldArea
+  pub nssas : List AreaId
+
+abbrev pub telling_of : {A : Type 0} → FileTold A → Telling A
+telling_of file = record { sightings = file.sightings.items; areas = file.areas.items; nssas = file.nssas.items }
+
+-- a capture tells what its frames tell
+abbrev pub told_by_frames : {A : Type 0} → List Packet → Telling A
+told_by_frames {A} frames = record {
+  sightings = filter_map packets.sighting_of (told_in_frames frames);
+  areas = map area_by_hello (filter_map (packets.kind_of {A = A}) (told_in_frames frames));
+  nssas = filter_map nssa_by_hello (filter_map (packets.kind_of {A = A}) (told_in_frames frames));
+}
+
+-- a walk tells what its objects tell
+abbrev pub told_by_walk : {A : Type 0} → List ℕ → Telling A
+told_by_walk {A} text = record {
+  sightings = filter_map walks.sighting_of (told_in_walk text);
+  areas = map area_by_row (filter_map (walks.kind_of {A = A}) (told_in_walk text));
+  nssas = filter_map nssa_by_row (filter_map (walks.kind_of {A = A}) (told_in_walk text));
+}
+
+-- ---- what can not be used, or is missing
+
+module _ {A : Type 0} where
+  -- these of the frames, in a capture that ends so
+  abbrev pub AreOddFrames : List Odd → End → Oddities A → Type 0
+  AreOddFrames odd end (Frames found last) = (found.items ≡ odd) × (last ≡ end)
+  AreOddFrames odd end (Rows holes) = ⊥
+
+  -- those of the walk
+  abbrev pub AreOddRows : List ℕ → Oddities A → Type 0
+  AreOddRows text (Frames found last) = ⊥
+  AreOddRows text (Rows holes) = AreHoles {A = A} (told_in_walk text) holes.items
+
+-- ---- files
+
+pub record IsToldByCapture {A : Type 0} (octets : List ℕ) (file : FileTold A) : Type 0 where
+  pub capture : Told
+  pub read : IsCapture octets capture
+  pub telling : telling_of file ≡ told_by_frames capture.packets
+  pub odd : AreOddFrames (filter_map (packets.odd_of {A = A}) (told_in_frames capture.packets)) capture.end file.oddities
+
+pub record IsToldByWalk {A : Type 0} (octets : List ℕ) (file : FileTold A) : Type 0 where
+  pub telling : telling_of file ≡ told_by_walk octets
+  pub odd : AreOddRows octets file.oddities
+  pub read : list_any (walks.is_of_mib {A = A}) (told_in_walk octets) ≡ true
+
+abbrev pub IsToldAs : {A : Type 0} → FileKind → List ℕ → FileTold A → Type 0
+IsToldAs kinds.Capture octets file = IsToldByCapture octets file
+IsToldAs kinds.Walk octets file = IsToldByWalk octets file
+
+-- a file with these octets tells this, read as its content says
+abbrev pub IsToldOf : {A : Type 0} → List ℕ → FileTold A → Type 0
+IsToldOf octets file = IsToldAs (kind_of octets) octets file
+
+-- ---- refusals
+
+-- memory can run out with any file
+abbrev pub IsRefusalOfCapture : List ℕ → FileFault → Type 0
+IsRefusalOfCapture octets faults.OutOfMemory = Unit {0}
+IsRefusalOfCapture octets (faults.Capture fault) = IsCaptureFault octets fault × (fault ≢ captures.OutOfMemory)
+IsRefusalOfCapture octets faults.UnknownKind = ⊥
+
+-- no object of the OSPF-MIB is there
+abbrev pub IsRefusalOfWalk : (A : Type 0) → List ℕ → FileFault → Type 0
+IsRefusalOfWalk A octets faults.OutOfMemory = Unit {0}
+IsRefusalOfWalk A octets (faults.Capture fault) = ⊥
+IsRefusalOfWalk A octets faults.UnknownKind = list_any (walks.is_of_mib {A = A}) (told_in_walk octets) ≡ false
+
+abbrev pub IsRefusalAs : (A : Type 0) → FileKind → List ℕ → FileFault → Type 0
+IsRefusalAs A kinds.Capture octets fault = IsRefusalOfCapture octets fault
+IsRefusalAs A kinds.Walk octets fault = IsRefusalOfWalk A octets fault
+
+-- a file with these octets tells nothing, for this fault
+abbrev pub IsRefusalOf : (A : Type 0) → List ℕ → FileFault → Type 0
+IsRefusalOf A octets fault = IsRefusalAs A (kind_of octets) octets fault

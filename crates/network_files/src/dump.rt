@@ -1,0 +1,71 @@
+//! The dump that all files together make.
+
+ghost use Rattle.std.specs.Prelude.{◌≡◌, ◌++◌, IfOk, IfErr, OnOk};
+ghost use Rattle.network_files.specs.Dumps.{sightings_of, areas_of, IsDump, IsJoinFault};
+
+use crate::telling::FileTold;
+use lsa_instances::Sighting;
+use sighted_database::{JoinFault, ToldArea, join};
+use std::alloc::{AllocError, Allocator};
+
+/// Adds copies of sightings.
+fn put_sightings<A: Allocator + Copy>(
+    alloc: A,
+    all: &mut Vec<Sighting<A>, A>,
+    sightings: &[Sighting<A>],
+) -> Result<(), AllocError>
+    ensures { OnOk result (all.new.items ≡ all.old.items ++ sightings.now) }
+{
+    for sighting in sightings {
+        all.push(sighting.clone_of(alloc)?)?;
+    }
+    Ok(())
+}
+
+/// What all files tell of LSAs. A copy of each is made.
+fn sightings_of<A: Allocator + Copy>(
+    alloc: A,
+    files: &[FileTold<A>],
+) -> Result<Vec<Sighting<A>, A>, AllocError>
+    ensures { IfOk result (λ all. all.items ≡ sightings_of files.now) }
+{
+    let mut all = Vec::new(alloc);
+    for file in files {
+        put_sightings(alloc, &mut all, &file.sightings)?;
+    }
+    Ok(all)
+}
+
+/// What all files tell of areas.
+fn areas_of<A: Allocator + Copy>(
+    alloc: A,
+    files: &[FileTold<A>],
+) -> Result<Vec<ToldArea, A>, AllocError>
+    ensures { IfOk result (λ all. all.items ≡ areas_of files.now) }
+{
+    let mut all = Vec::new(alloc);
+    for file in files {
+        all.extend_from_slice(&file.areas)?;
+    }
+    Ok(all)
+}
+
+/// The dump of the database that all files together make: its sections are the newest of all
+/// LSAs that the files tell, and its areas those of which they tell the kind and those that have
+/// LSAs.
+///
+/// # Errors
+///
+/// Those of [`join`].
+pub fn dump_of_files<A: Allocator + Copy>(
+    alloc: A,
+    files: &[FileTold<A>],
+) -> Result<Vec<u8, A>, JoinFault>
+    ensures dump { IfOk result (λ dump. IsDump files.now dump.items) }
+    ensures fault { IfErr result (λ fault. IsJoinFault files.now fault) }
+{
+    let sightings = sightings_of(alloc, files)?;
+    let areas = areas_of(alloc, files)?;
+    let database = join(alloc, sightings, &areas)?;
+    Ok(database.dump()?)
+}

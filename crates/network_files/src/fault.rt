@@ -1,0 +1,31 @@
+//! Why a file tells nothing.
+
+ghost use Rattle.std.specs.Prelude.{◌≡◌};
+ghost use Rattle.network_files.specs.declared.fault.FileFault.TheVariants as faults;
+
+use capture_files::CaptureFault;
+use std::alloc::AllocError;
+use thiserror::Error;
+
+/// Why a file is refused: what lies in it, and where.
+#[derive(Clone, Copy, Debug, PartialEq, Eq, Error)]
+pub enum FileFault {
+    /// The file begins as a capture does, and is none, for this fault, which is never
+    /// `OutOfMemory`.
+    #[error("{0}")]
+    Capture(CaptureFault),
+    /// The file does not begin as a capture does, and no line of it is an object of the OSPF-MIB.
+    #[error("UnknownKind")]
+    UnknownKind,
+    /// Memory ran out.
+    #[error("OutOfMemory")]
+    OutOfMemory,
+}
+
+impl From<AllocError> for FileFault {
+    ghost from_gives = { λ _ e. e ≡ faults.OutOfMemory };
+
+    fn from(_e: AllocError) -> FileFault {
+        FileFault::OutOfMemory
+    }
+}

@@ -1,0 +1,51 @@
+//! Kinds of files.
+
+ghost use Rattle.std.specs.Prelude.{◌≡◌, ◌≤◌, length};
+ghost use Rattle.std.specs.Option.{is_some};
+ghost use Rattle.capture_files.specs.Pcap.{fraction_of};
+ghost use Rattle.network_files.specs.Kinds.{is_capture, kind_of};
+
+use byteorder::{BigEndian, ByteOrder, LittleEndian};
+
+/// The type of a Section Header Block, which reads the same in both byte orders.
+const SECTION_HEADER: u32 = 0x0a0d_0d0a;
+
+/// What kind of file it is, by its content.
+#[derive(Clone, Copy, Debug, PartialEq, Eq)]
+pub enum FileKind {
+    /// A packet capture: it begins as a file of the pcapng or of the pcap format does.
+    Capture,
+    /// An SNMP walk, as every file is taken that is no capture.
+    Walk,
+}
+
+/// Whether a magic number is one of the pcap format.
+fn is_magic(number: u32) -> bool
+    ensures { result ≡ is_some (fraction_of number) }
+{
+    matches!(number, 0xa1b2_c3d4 | 0xa1b2_3c4d)
+}
+
+/// Whether the file begins as a capture does.
+fn is_capture(octets: &[u8]) -> bool
+    ensures { result ≡ is_capture octets.now }
+{
+    if octets.len() < 4 {
+        return false;
+    }
+    let big = BigEndian::read_u32(octets);
+    big == SECTION_HEADER || is_magic(big) || is_magic(LittleEndian::read_u32(octets))
+}
+
+impl FileKind {
+    /// The kind of a file with these octets.
+    pub fn of(octets: &[u8]) -> FileKind
+        ensures { result ≡ kind_of octets.now }
+    {
+        if is_capture(octets) {
+            FileKind::Capture
+        } else {
+            FileKind::Walk
+        }
+    }
+}

@@ -1,0 +1,35 @@
+//! Laws of files and of the dump that they make.
+
+ghost use Rattle.std.specs.Prelude.{◌≡◌, ℕ, List, IsPermutation};
+ghost use Rattle.lsa_instances.specs.Newest.{AreSame};
+ghost use Rattle.network_files.specs.declared.telling.FileTold.{FileTold as AnyFile};
+ghost use Rattle.network_files.specs.Dumps.{IsDump};
+ghost use Rattle.network_files.specs.Telling.{IsToldOf, telling_of};
+
+use capture_files::{one_reading_of_pcap, one_reading_of_pcapng};
+use sighted_database::joined_in_any_order;
+use std::alloc::Allocator;
+
+/// The octets of a file determine the LSAs and the kinds of areas that it tells.
+///
+/// The function does nothing: its contract is the law.
+pub fn one_telling_of_a_file<A: Allocator>()
+    ensures { (octets : List ℕ) (one two : AnyFile A) → IsToldOf octets one
+        → IsToldOf octets two → telling_of one ≡ telling_of two }
+{
+    one_reading_of_pcap();
+    one_reading_of_pcapng();
+}
+
+/// The dump that files make depends on which files there are, and not on their order, nor on how
+/// often each of them is given.
+///
+/// The function does nothing: its contract is the law.
+pub fn files_in_any_order<A: Allocator>()
+    ensures order { (files others : List (AnyFile A)) (one two : List ℕ) → IsDump files one
+        → IsDump others two → IsPermutation files others → one ≡ two }
+    ensures again { (files others : List (AnyFile A)) (one two : List ℕ) → IsDump files one
+        → IsDump others two → AreSame files others → one ≡ two }
+{
+    joined_in_any_order::<A>();
+}

@@ -1,0 +1,54 @@
+//! What a file tells.
+
+ghost use Rattle.std.specs.Prelude.{IfOk, IfErr};
+ghost use Rattle.network_files.specs.Telling.{IsToldOf, IsRefusalOf};
+
+use crate::capture::told_of_capture;
+use crate::fault::FileFault;
+use crate::kind::FileKind;
+use crate::walk::told_of_walk;
+use capture_files::End;
+use lsa_codec::AreaId;
+use lsa_instances::Sighting;
+use ospf_packets::Odd;
+use sighted_database::ToldArea;
+use snmp_walk::Hole;
+use std::alloc::{Allocator, Global};
+
+/// What can not be used of a file, or is missing in it.
+#[derive(Debug, Drop)]
+pub enum Oddities<A: Allocator = Global> {
+    /// What is odd of the frames of a capture, and how the capture ends.
+    Frames(Vec<Odd, A>, End),
+    /// What is missing in a walk, or can not be used of it.
+    Rows(Vec<Hole, A>),
+}
+
+/// What a file tells, in the order of the file.
+#[derive(Debug, Drop)]
+pub struct FileTold<A: Allocator = Global> {
+    /// The LSAs, octet for octet.
+    pub sightings: Vec<Sighting<A>, A>,
+    /// The areas whose kind is told, as often as it is; a not-so-stubby area is no stub area here.
+    pub areas: Vec<ToldArea, A>,
+    /// The areas that are told to be not-so-stubby (RFC 3101).
+    pub nssas: Vec<AreaId, A>,
+    /// What can not be used, or is missing.
+    pub oddities: Oddities<A>,
+}
+
+/// Reads a file of either kind.
+///
+/// # Errors
+///
+/// A capture is refused for what lies in it, and a file that is no capture where no line of it is
+/// an object of the OSPF-MIB: then nobody knows what kind of file it is. Or memory ran out.
+pub fn told_of<A: Allocator + Copy>(alloc: A, octets: &[u8]) -> Result<FileTold<A>, FileFault>
+    ensures told { IfOk result (λ file. IsToldOf octets.now file) }
+    ensures fault { IfErr result (λ fault. IsRefusalOf A octets.now fault) }
+{
+    match FileKind::of(octets) {
+        FileKind::Capture => told_of_capture(alloc, octets),
+        FileKind::Walk => told_of_walk(alloc, octets),
+    }
+}
