@@ -1,5 +1,5 @@
 -- What is joined of lists is joined of the files that tell them.
-use Rattle.std.proofs.Common.{◌≡◌, ◌⊎◌, ◌∙◌, sym, ap, subst, inl, inr, ℕ, List}
+use Rattle.std.proofs.Common.{◌≡◌, ◌⊎◌, ◌∙◌, ap, subst, ℕ, List}
 use Rattle.std.specs.Prelude.{Some}
 use Rattle.lsa_instances.specs.declared.sighting.Sighting.{Sighting}
 use Rattle.lsdb.specs.Lists.{Lists, IsDatabase}

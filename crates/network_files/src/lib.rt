@@ -1,9 +1,9 @@
 //! What files that a network gives tell, and the dump that all of them make.
 //!
-//! A file is a packet capture or an SNMP walk, told apart by its content ([`FileKind`]). [`told_of`]
-//! reads a file of either kind: its LSAs, the kinds of areas, and what is odd of it or missing in
-//! it. [`dump_of_files`] joins what all files tell, and answers the dump of the database. It depends
-//! on which files there are, and not on their order.
+//! A file is a packet capture or an SNMP walk, told apart by its content ([`FileKind`]).
+//! [`told_of`] reads a file of either kind: its LSAs, the kinds of areas, and what is odd of it or
+//! missing in it. [`dump_of_files`] joins what all files tell, and answers the dump of the
+//! database. It depends on which files there are, and not on their order.
 #![tactic(auto)]
 
 mod capture;
@@ -19,3 +19,6 @@ pub use fault::FileFault;
 pub use kind::FileKind;
 pub use laws::{files_in_any_order, one_telling_of_a_file};
 pub use telling::{FileTold, Oddities, told_of};
+
+#[cfg(test)]
+mod tests;

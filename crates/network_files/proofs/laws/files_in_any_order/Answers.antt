@@ -1,4 +1,4 @@
-use Rattle.std.proofs.Common.{◌≡◌, ◌∙◌, sym, ap}
+use Rattle.std.proofs.Common.{◌∙◌, sym, ap}
 use Rattle.lsa_instances.proofs.SameLemmas.{same_in_order}
 use Rattle.lsdb.specs.Text.{text}
 use Rattle.network_files.proofs.Pieces.{same_pieces}
