@@ -1,3 +1,4 @@
 mod Joins
 mod Once
 mod Pieces
+mod Refused

@@ -1,8 +1,23 @@
+use Rattle.std.proofs.Common.{◌∙◌, sym, inl, inr, true≢false}
+use Rattle.capture_files.specs.Pcapng.{IsPcapng, IsPcapngFault}
 use Rattle.network_files.specs.Kinds.{kind_of}
 use Rattle.network_files.proofs.Once.{one_telling}
+use Rattle.network_files.proofs.Refused.{IsNotRefused, memory_alone}
 use Rattle.network_files.proofs.laws.one_telling_of_a_file.Goals as goal
 
-pub returns : goal.returns
-returns g c =
+pub returns-clause-same : goal.returns-clause-same
+returns-clause-same g c =
     λ octets one two a b.
     one_telling c.one_reading_of_pcap.ensures.one c.one_reading_of_pcapng.ensures.one (kind_of octets) octets one two a b
+
+pub returns-clause-refused : goal.returns-clause-refused
+returns-clause-refused g c =
+    let pcapng : IsNotRefused IsPcapngFault IsPcapng = λ file told fault a b n.
+    elim b as (λ _. ⊥) [
+      | inl e ↦ n e
+      | inr r ↦ elim r as (λ _. ⊥) [
+        | inl p ↦ true≢false (sym a.headed ∙ p.1)
+        | inr q ↦ c.one_reading_of_pcapng.ensures.refused file told q.1 q.0 a q.2.1
+      ]
+    ] in
+    λ octets file fault a b. memory_alone c.one_reading_of_pcap.ensures.refused pcapng (kind_of octets) octets file fault a b

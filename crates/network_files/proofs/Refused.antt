@@ -1,0 +1,49 @@
+-- A file that tells is not refused.
+use Rattle.std.proofs.Common.{◌≡◌, ◌∙◌, ℕ, refl, sym, ap, true≢false, Bool, true, false, List}
+use Rattle.std.specs.Prelude.{◌≢◌, is_ok}
+use Rattle.capture_files.specs.declared.fault.CaptureFault.{CaptureFault}
+use Rattle.capture_files.specs.declared.fault.CaptureFault.TheVariants as captures
+use Rattle.capture_files.specs.Captures.{IsOfFormat, IsFaultOfFormat}
+use Rattle.capture_files.specs.Pcap.{IsPcap, IsPcapFault, LiesAt}
+use Rattle.capture_files.specs.Pcapng.{IsPcapng, IsPcapngFault, has_section}
+use Rattle.capture_files.specs.Told.{Told}
+use Rattle.network_files.specs.declared.fault.FileFault.{FileFault}
+use Rattle.network_files.specs.declared.fault.FileFault.TheVariants as faults
+use Rattle.network_files.specs.declared.kind.FileKind.{FileKind}
+use Rattle.network_files.specs.declared.kind.FileKind.TheVariants.{Capture, Walk}
+use Rattle.network_files.specs.declared.telling.FileTold.{FileTold}
+use Rattle.network_files.specs.Telling.{IsToldAs, IsRefusalAs}
+use Rattle.std.specs.Prelude.{Result, Ok, Err}
+
+not_both : {X E : Type 0} (r : Result X E) (x : X) (e : E) → r ≡ Ok x → r ≡ Err e → ⊥
+not_both r x e a b = true≢false (ap is_ok (sym a ∙ b))
+
+-- what is read so is not refused, but for want of memory
+abbrev pub IsNotRefused : (List ℕ → CaptureFault → Type 0) → (List ℕ → Told → Type 0) → Type 0
+IsNotRefused IsFault IsRead = (file : List ℕ) (told : Told) (fault : CaptureFault) → IsRead file told → IsFault file fault → fault ≢ captures.OutOfMemory → ⊥
+
+module _ (pcap : (file : List ℕ) (told : Told) (offset : ℕ) → IsPcap file told → LiesAt file offset → ⊥)
+    (pcapng : IsNotRefused IsPcapngFault IsPcapng) where
+  no_fault_of_pcap : IsNotRefused IsPcapFault IsPcap
+  no_fault_of_pcap file told captures.OutOfMemory a b n = n refl
+  no_fault_of_pcap file told (captures.CapturedLength offset) a b n = pcap file told offset a b
+  no_fault_of_pcap file told captures.NotACapture a b n = not_both _ a.form _ a.headed b
+  no_fault_of_pcap file told captures.ShortHeader a b n = not_both _ a.form _ a.headed b
+  no_fault_of_pcap file told captures.Version a b n = not_both _ a.form _ a.headed b
+  no_fault_of_pcap file told (captures.ByteOrder offset) a b n = not_both _ a.form _ a.headed b
+  no_fault_of_pcap file told (captures.BlockLength offset) a b n = not_both _ a.form _ a.headed b
+  no_fault_of_pcap file told (captures.SectionVersion offset) a b n = not_both _ a.form _ a.headed b
+  no_fault_of_pcap file told (captures.NoInterface offset) a b n = not_both _ a.form _ a.headed b
+
+  no_fault : (is_pcapng : Bool) → IsNotRefused (IsFaultOfFormat is_pcapng) (IsOfFormat is_pcapng)
+  no_fault true = pcapng
+  no_fault false = no_fault_of_pcap
+
+  pub memory_alone : {A : Type 0} (kind : FileKind) (octets : List ℕ) (file : FileTold A) (fault : FileFault)
+      → IsToldAs kind octets file → IsRefusalAs A kind octets fault → fault ≡ faults.OutOfMemory
+  memory_alone Capture octets file faults.OutOfMemory a b = refl
+  memory_alone Capture octets file (faults.Capture fault) a b = absurd (no_fault (has_section octets) octets a.capture fault a.read b.0 b.1)
+  memory_alone Capture octets file faults.UnknownKind a b = absurd b
+  memory_alone Walk octets file faults.OutOfMemory a b = refl
+  memory_alone Walk octets file (faults.Capture fault) a b = absurd b
+  memory_alone Walk octets file faults.UnknownKind a b = absurd (true≢false (sym a.read ∙ b))
