@@ -1,0 +1,68 @@
+-- What the words tell that a router prints of its databases.
+use Rattle.std.specs.Prelude.{ℕ, ◌==◌, List, [], ◌∷◌, ◌++◌, Option, Some, None, option_map, Result, Ok, Err}
+use Rattle.std.specs.List.{slice_split}
+use Rattle.lsa_codec.specs.declared.address.AreaId.{AreaId}
+use Rattle.lsa_codec.specs.declared.fault.LsaFault.{LsaFault}
+use Rattle.lsa_codec.specs.declared.key.Key.{Key}
+use Rattle.lsa_codec.specs.Decoding.{decoded}
+use Rattle.lsa_instances.specs.declared.place.Scope.{Scope}
+use Rattle.lsa_instances.specs.Order.{scope_told}
+use Rattle.printed_databases.specs.declared.summary.Summary.{Summary}
+use Rattle.printed_databases.specs.declared.told.Told.{Told}
+use Rattle.printed_databases.specs.declared.told.Told.TheVariants.{Lsa, Refused, NoArea, Unreadable}
+use Rattle.printed_databases.specs.Words.{Word}
+use Rattle.printed_databases.specs.Numbers.{address_of}
+use Rattle.printed_databases.specs.declared.label.Label.TheVariants as label
+use Rattle.printed_databases.specs.Labels.{behind_label, word_behind}
+use Rattle.printed_databases.specs.Fields.{summary_in}
+use Rattle.printed_databases.specs.Making.{summary_octets}
+
+-- what names an LSA with these fields
+abbrev pub key_of : Summary → Key
+key_of summary = record { kind = summary.name.kind; id = summary.name.id; adv = summary.issue.adv }
+
+abbrev pub first_part : List Word → Word
+first_part [] = []
+first_part (part ∷ parts) = part
+
+-- the area that the word behind `(Area` names: the address before the closing parenthesis (41), if there is one
+abbrev pub area_of : Word → Option AreaId
+area_of word = option_map (λ address. record { 0 = address }) (address_of (first_part (slice_split (λ b. b == 41) word)))
+
+abbrev pub area_named : Option AreaId → Option (Word × List Word) → Option AreaId
+area_named area None = area
+area_named area (Some found) = area_of found.0
+
+-- the area that a heading here begins, else the area that was begun before
+unfoldable pub area_at : Option AreaId → List Word → Option AreaId
+area_at area text = area_named area (word_behind label.Area text)
+
+module _ {A : Type 0} where
+  abbrev pub in_scope : Key → List ℕ → Option Scope → Told A
+  in_scope key lsa None = NoArea key
+  in_scope key lsa (Some scope) = Lsa (record { scope = scope; seen = None; lsa = lsa })
+
+  abbrev pub decoded_told : Option AreaId → Key → Result (List ℕ) LsaFault → Told A
+  decoded_told area key (Err fault) = Refused key fault
+  decoded_told area key (Ok lsa) = in_scope key lsa (scope_told key.kind area)
+
+  -- the octets that the fields make are an accepted LSA, with the checksum that was printed
+  abbrev pub summary_told : Option AreaId → Summary → Told A
+  summary_told area summary = decoded_told area (key_of summary) (decoded (summary_octets summary))
+
+  abbrev pub fields_told : Option AreaId → Option Summary → Told A
+  fields_told area None = Unreadable
+  fields_told area (Some summary) = summary_told area summary
+
+  abbrev pub told_from : Option AreaId → List Word → Option (List Word) → List (Told A)
+  told_from area text None = []
+  told_from area text (Some rest) = fields_told area (summary_in text) ∷ []
+
+  -- what the LSA tells that begins here, if one does
+  unfoldable pub told_at : Option AreaId → List Word → List (Told A)
+  told_at area text = told_from area text (behind_label label.Age text)
+
+  -- what is told from here on, in the area that was begun before
+  unfoldable pub told_in : Option AreaId → List Word → List (Told A)
+  told_in area [] = []
+  told_in area (word ∷ text) = told_at (area_at area (word ∷ text)) (word ∷ text) ++ told_in (area_at area (word ∷ text)) text

@@ -1,0 +1,17 @@
+-- The words of a text.
+use Rattle.std.specs.Prelude.{ℕ, ◌==◌, ◌||◌, Bool, List, length, nat_lt, filter}
+use Rattle.std.specs.List.{slice_split}
+
+abbrev pub Word : Type 0
+Word = List ℕ
+
+-- a space, a tab, a line feed or a carriage return
+abbrev pub is_blank : ℕ → Bool
+is_blank octet = octet == 0x20 || octet == 0x09 || octet == 0x0a || octet == 0x0d
+
+abbrev pub is_nonempty : Word → Bool
+is_nonempty word = nat_lt 0 (length word)
+
+-- the words of a text, from left to right: its longest runs of octets that are no blanks
+unfoldable pub words : List ℕ → List Word
+words text = filter is_nonempty (slice_split is_blank text)
