@@ -3,7 +3,8 @@ use Rattle.std.proofs.Common.{◌≡◌, ℕ, ◌+◌, ◌*◌, ◌<◌, ◌≤�
 use Rattle.std.proofs.lemmas.Bool.{lt-leb, le-leb, cond-false, cond-true}
 use Rattle.std.proofs.Math.Seq.{drop-cons}
 use Rattle.std.proofs.lemmas.List.{drop_all}
-use Rattle.printed_databases.specs.Numbers.{◌>>=◌, hex_digit, hex_behind}
+use Rattle.printed_databases.specs.Numbers.{hex_digit, hex_behind}
+use Rattle.printed_databases.specs.Rules.{◌>>=◌}
 
 cut : (octets : List ℕ) (i : ℕ) → i < length octets → drop i octets ≡ get_or octets i 0 ∷ drop (i + 1) octets
 cut octets i lt = rw (add-one, drop-cons octets i 0) refl

@@ -1,4 +1,5 @@
 pub mod Split
 pub mod Digits
 pub mod Hex
+pub mod Reading
 pub mod Tellings

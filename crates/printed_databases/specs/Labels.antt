@@ -3,23 +3,50 @@ use Rattle.std.specs.Prelude.{ℕ, ◌∷◌, [], List, codes, bytes_eq, Option,
 use Rattle.printed_databases.specs.declared.label.Label.{Label}
 use Rattle.printed_databases.specs.declared.label.Label.TheVariants as label
 use Rattle.printed_databases.specs.Words.{Word, words}
-use Rattle.printed_databases.specs.Numbers.{◌>>=◌}
+use Rattle.printed_databases.specs.Rules.{◌>>=◌}
 
 unfoldable pub text_of : Label → List ℕ
 text_of label.Age = codes "LS age:"
 text_of label.Options = codes "Options:"
 text_of label.Letters = codes ":"
-text_of label.Flags = codes "LS Flags:"
+text_of label.LsFlags = codes "LS Flags:"
+text_of label.Flags = codes "Flags:"
+text_of label.BoundaryBit = codes "ABR"
+text_of label.ExternalBit = codes "ASBR"
+text_of label.VirtualBit = codes "VL-endpoint"
+text_of label.ShortcutBit = codes "Shortcut"
+text_of label.RouterLsa = codes "LS Type: router-LSA"
+text_of label.NetworkLsa = codes "LS Type: network-LSA"
 text_of label.SummaryLsa = codes "LS Type: summary-LSA"
+text_of label.ExternalLsa = codes "LS Type: AS-external-LSA"
 text_of label.Id = codes "Link State ID:"
-text_of label.Network = codes "(summary Network Number)"
+text_of label.Nothing = codes ""
+text_of label.DesignatedRouter = codes "(address of Designated Router)"
+text_of label.SummaryNetwork = codes "(summary Network Number)"
 text_of label.BoundaryRouter = codes "(AS Boundary Router address)"
+text_of label.ExternalNetwork = codes "(External Network Number)"
 text_of label.AdvertisingRouter = codes "Advertising Router:"
 text_of label.Sequence = codes "LS Seq Number:"
 text_of label.Checksum = codes "Checksum:"
 text_of label.Length = codes "Length:"
+text_of label.LinkCount = codes "Number of Links:"
+text_of label.ToRouter = codes "Link connected to: another Router (point-to-point)"
+text_of label.ToTransit = codes "Link connected to: a Transit Network"
+text_of label.ToStub = codes "Link connected to: Stub Network"
+text_of label.ToVirtual = codes "Link connected to: a Virtual Link"
+text_of label.NeighborId = codes "(Link ID) Neighboring Router ID:"
+text_of label.DesignatedId = codes "(Link ID) Designated Router address:"
+text_of label.NetId = codes "(Link ID) Net:"
+text_of label.InterfaceData = codes "(Link Data) Router Interface address:"
+text_of label.MaskData = codes "(Link Data) Network Mask:"
+text_of label.LinkMetric = codes "Number of TOS metrics: 0 TOS 0 Metric:"
 text_of label.Mask = codes "Network Mask:"
+text_of label.Attached = codes "Attached Router:"
+text_of label.MetricType1 = codes "Metric Type: 1"
+text_of label.MetricType2 = codes "Metric Type: 2 (Larger than any link state path)"
 text_of label.Metric = codes "TOS: 0 Metric:"
+text_of label.Forward = codes "Forward Address:"
+text_of label.Tag = codes "External Route Tag:"
 text_of label.Area = codes "(Area"
 
 -- the words behind these, where the text begins with these

@@ -4,11 +4,7 @@ use Rattle.std.specs.Int.{w32, from_be_bytes}
 use Rattle.std.specs.List.{slice_split}
 use Rattle.std.specs.Str.{all_ascii_digits}
 use Rattle.printed_databases.specs.Words.{Word}
-
-infixl 10 ◌>>=◌
-abbrev pub ◌>>=◌ : {A B : Type 0} → Option A → (A → Option B) → Option B
-(Some x) >>= f = f x
-None >>= f = None
+use Rattle.printed_databases.specs.Rules.{◌>>=◌}
 
 -- the value of decimal digits that stand behind the number n
 abbrev pub digits_after : ℕ → List ℕ → ℕ

@@ -7,19 +7,20 @@ use Rattle.lsa_codec.specs.declared.key.Key.{Key}
 use Rattle.lsa_codec.specs.Decoding.{decoded}
 use Rattle.lsa_instances.specs.declared.place.Scope.{Scope}
 use Rattle.lsa_instances.specs.Order.{scope_told}
-use Rattle.printed_databases.specs.declared.summary.Summary.{Summary}
+use Rattle.printed_databases.specs.declared.header.Header.{Header}
 use Rattle.printed_databases.specs.declared.told.Told.{Told}
 use Rattle.printed_databases.specs.declared.told.Told.TheVariants.{Lsa, Refused, NoArea, Unreadable}
 use Rattle.printed_databases.specs.Words.{Word}
 use Rattle.printed_databases.specs.Numbers.{address_of}
 use Rattle.printed_databases.specs.declared.label.Label.TheVariants as label
 use Rattle.printed_databases.specs.Labels.{behind_label, word_behind}
-use Rattle.printed_databases.specs.Fields.{summary_in}
-use Rattle.printed_databases.specs.Making.{summary_octets}
+use Rattle.printed_databases.specs.Fields.{header_in}
+use Rattle.printed_databases.specs.Bodies.{body_in}
+use Rattle.printed_databases.specs.Making.{type_code, header_octets}
 
--- what names an LSA with these fields
-abbrev pub key_of : Summary → Key
-key_of summary = record { kind = summary.name.kind; id = summary.name.id; adv = summary.issue.adv }
+-- what names an LSA with this header
+abbrev pub key_of : Header → Key
+key_of header = record { kind = type_code header.name.ls_type; id = header.name.id; adv = header.issue.adv }
 
 abbrev pub first_part : List Word → Word
 first_part [] = []
@@ -46,17 +47,18 @@ module _ {A : Type 0} where
   decoded_told area key (Err fault) = Refused key fault
   decoded_told area key (Ok lsa) = in_scope key lsa (scope_told key.kind area)
 
-  -- the octets that the fields make are an accepted LSA, with the checksum that was printed
-  abbrev pub summary_told : Option AreaId → Summary → Told A
-  summary_told area summary = decoded_told area (key_of summary) (decoded (summary_octets summary))
+  -- the octets that the fields make are an accepted LSA, with the checksum and the length that were printed
+  abbrev pub made_told : Option AreaId → Header → Option (List ℕ) → Told A
+  made_told area header None = Unreadable
+  made_told area header (Some body) = decoded_told area (key_of header) (decoded (header_octets header ++ body))
 
-  abbrev pub fields_told : Option AreaId → Option Summary → Told A
-  fields_told area None = Unreadable
-  fields_told area (Some summary) = summary_told area summary
+  abbrev pub header_told : Option AreaId → Option (Header × List Word) → Told A
+  header_told area None = Unreadable
+  header_told area (Some found) = made_told area found.0 (body_in found.0 found.1)
 
   abbrev pub told_from : Option AreaId → List Word → Option (List Word) → List (Told A)
   told_from area text None = []
-  told_from area text (Some rest) = fields_told area (summary_in text) ∷ []
+  told_from area text (Some rest) = header_told area (header_in text) ∷ []
 
   -- what the LSA tells that begins here, if one does
   unfoldable pub told_at : Option AreaId → List Word → List (Told A)

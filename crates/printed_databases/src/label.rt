@@ -3,6 +3,7 @@
 ghost use Rattle.std.specs.Prelude.{◌≡◌, ◌≤◌, IfSome, option_map};
 ghost use Rattle.printed_databases.specs.Words.{words};
 ghost use Rattle.printed_databases.specs.Numbers.{number_up_to, hex_up_to, marked_up_to, mask_length, address_of};
+ghost use Rattle.printed_databases.specs.Fields.{past};
 ghost use Rattle.printed_databases.specs.Labels.{text_of, behind_words, behind_label, word_behind, value_behind};
 
 use crate::number::{address_of, hex_up_to, marked_up_to, mask_length, number_up_to};
@@ -15,18 +16,40 @@ pub(crate) enum Label {
     Age,
     /// Before the number of the options.
     Options,
-    /// Between that number and its letters.
+    /// Between a number and its letters or names.
     Letters,
     /// Before flags that are no part of the LSA.
+    LsFlags,
+    /// Before the octet of the bits V, E and B.
     Flags,
-    /// The LS type of the types 3 and 4.
+    /// The bit B by its name.
+    BoundaryBit,
+    /// The bit E by its name.
+    ExternalBit,
+    /// The bit V by its name.
+    VirtualBit,
+    /// The bit of a shortcut router by its name.
+    ShortcutBit,
+    /// LS type 1.
+    RouterLsa,
+    /// LS type 2.
+    NetworkLsa,
+    /// The LS types 3 and 4.
     SummaryLsa,
+    /// LS type 5.
+    ExternalLsa,
     /// Before the Link State ID.
     Id,
+    /// No word: behind the Link State ID of type 1.
+    Nothing,
+    /// Behind the Link State ID of type 2.
+    DesignatedRouter,
     /// Behind the Link State ID of type 3.
-    Network,
+    SummaryNetwork,
     /// Behind the Link State ID of type 4.
     BoundaryRouter,
+    /// Behind the Link State ID of type 5.
+    ExternalNetwork,
     /// Before the Advertising Router.
     AdvertisingRouter,
     /// Before the LS sequence number.
@@ -35,10 +58,42 @@ pub(crate) enum Label {
     Checksum,
     /// Before the length.
     Length,
+    /// Before the number of links.
+    LinkCount,
+    /// A link of type 1.
+    ToRouter,
+    /// A link of type 2.
+    ToTransit,
+    /// A link of type 3.
+    ToStub,
+    /// A link of type 4.
+    ToVirtual,
+    /// Before the Link ID of the types 1 and 4.
+    NeighborId,
+    /// Before the Link ID of type 2.
+    DesignatedId,
+    /// Before the Link ID of type 3.
+    NetId,
+    /// Before the Link Data of the types 1, 2 and 4.
+    InterfaceData,
+    /// Before the Link Data of type 3.
+    MaskData,
+    /// Before the metric of a link for TOS 0.
+    LinkMetric,
     /// Before the length of the mask.
     Mask,
+    /// Before an attached router.
+    Attached,
+    /// The metric of an AS-external-LSA is of type 1.
+    MetricType1,
+    /// It is of type 2.
+    MetricType2,
     /// Before the metric for TOS 0.
     Metric,
+    /// Before the forwarding address.
+    Forward,
+    /// Before the external route tag.
+    Tag,
     /// Before the Area ID of a heading.
     Area,
 }
@@ -52,17 +107,44 @@ fn text_of(label: Label) -> &'static [u8]
         Label::Age => b"LS age:",
         Label::Options => b"Options:",
         Label::Letters => b":",
-        Label::Flags => b"LS Flags:",
+        Label::LsFlags => b"LS Flags:",
+        Label::Flags => b"Flags:",
+        Label::BoundaryBit => b"ABR",
+        Label::ExternalBit => b"ASBR",
+        Label::VirtualBit => b"VL-endpoint",
+        Label::ShortcutBit => b"Shortcut",
+        Label::RouterLsa => b"LS Type: router-LSA",
+        Label::NetworkLsa => b"LS Type: network-LSA",
         Label::SummaryLsa => b"LS Type: summary-LSA",
+        Label::ExternalLsa => b"LS Type: AS-external-LSA",
         Label::Id => b"Link State ID:",
-        Label::Network => b"(summary Network Number)",
+        Label::Nothing => b"",
+        Label::DesignatedRouter => b"(address of Designated Router)",
+        Label::SummaryNetwork => b"(summary Network Number)",
         Label::BoundaryRouter => b"(AS Boundary Router address)",
+        Label::ExternalNetwork => b"(External Network Number)",
         Label::AdvertisingRouter => b"Advertising Router:",
         Label::Sequence => b"LS Seq Number:",
         Label::Checksum => b"Checksum:",
         Label::Length => b"Length:",
+        Label::LinkCount => b"Number of Links:",
+        Label::ToRouter => b"Link connected to: another Router (point-to-point)",
+        Label::ToTransit => b"Link connected to: a Transit Network",
+        Label::ToStub => b"Link connected to: Stub Network",
+        Label::ToVirtual => b"Link connected to: a Virtual Link",
+        Label::NeighborId => b"(Link ID) Neighboring Router ID:",
+        Label::DesignatedId => b"(Link ID) Designated Router address:",
+        Label::NetId => b"(Link ID) Net:",
+        Label::InterfaceData => b"(Link Data) Router Interface address:",
+        Label::MaskData => b"(Link Data) Network Mask:",
+        Label::LinkMetric => b"Number of TOS metrics: 0 TOS 0 Metric:",
         Label::Mask => b"Network Mask:",
+        Label::Attached => b"Attached Router:",
+        Label::MetricType1 => b"Metric Type: 1",
+        Label::MetricType2 => b"Metric Type: 2 (Larger than any link state path)",
         Label::Metric => b"TOS: 0 Metric:",
+        Label::Forward => b"Forward Address:",
+        Label::Tag => b"External Route Tag:",
         Label::Area => b"(Area",
     }
 }
@@ -94,6 +176,17 @@ pub(crate) fn behind_label(label: Label, text: &[u8]) -> Option<&[u8]>
     ensures { option_map (λ rest. words rest.now) result ≡ behind_label label (words text.now) }
 {
     behind_words(text_of(label), text)
+}
+
+/// What stands behind a label, where the text begins with it, else all of the text.
+#[tactic(auto, unfolding(crate::specs::Fields::past))]
+pub(crate) fn past(label: Label, text: &[u8]) -> &[u8]
+    ensures { words result.now ≡ past label (words text.now) }
+{
+    match behind_label(label, text) {
+        Some(rest) => rest,
+        None => text,
+    }
 }
 
 /// The word behind a label, and what stands behind that.

@@ -1,15 +1,24 @@
 //! What routers print of their link state databases, in FRR's text form.
 //!
 //! An LSA is made anew from the printed fields and must then be an accepted LSA with the very
-//! checksum that was printed. So far the summary-LSAs are read (RFC 2328, A.4.4): what
-//! `show ip ospf database summary` and `asbr-summary` print.
+//! checksum and length that were printed. The types 1 to 5 are read (RFC 2328, A.4): what
+//! `show ip ospf database` prints with `router`, `network`, `summary`, `asbr-summary` and
+//! `external`.
 #![tactic(auto)]
 
+// Words, and what they say.
 mod label;
 mod number;
-mod octets;
-mod summary;
 mod text;
+
+// The fields of LSAs, and their octets.
+mod body;
+mod external;
+mod header;
+mod ls_type;
+mod network;
+mod router;
+mod summary;
 mod told;
 
 pub use told::{Told, read_printed};

@@ -1,16 +1,18 @@
 //! What a printed database tells.
 
-ghost use Rattle.std.specs.Prelude.{◌≡◌, ◌≤◌, ◌++◌, IfOk, OnOk, None, option_map};
+ghost use Rattle.std.specs.Prelude.{◌≡◌, ◌++◌, IfOk, OnOk, None, option_map};
 ghost use Rattle.printed_databases.specs.Words.{words};
-ghost use Rattle.printed_databases.specs.Telling.{key_of, area_of, area_at, in_scope, decoded_told, summary_told, fields_told, told_at, told_in};
-ghost use Rattle.printed_databases.specs.Fields.{summary_in};
+ghost use Rattle.printed_databases.specs.Bodies.{body_in};
+ghost use Rattle.printed_databases.specs.Fields.{header_in};
+ghost use Rattle.printed_databases.specs.Making.{header_octets};
+ghost use Rattle.printed_databases.specs.Telling.{key_of, area_of, area_at, in_scope, decoded_told, made_told, header_told, told_at, told_in};
 ghost use Rattle.lsa_codec.specs.Decoding.{decoded};
 ghost use Rattle.lsa_instances.specs.Order.{scope_told};
 
+use crate::body::body_in;
+use crate::header::{Header, header_in, header_octets};
 use crate::label::{Label, behind_label, word_behind};
 use crate::number::address_of;
-use crate::octets::summary_octets;
-use crate::summary::{Summary, summary_in};
 use crate::text::{cut_at, next_word};
 use lsa_codec::{AreaId, Key, Lsa, LsaFault};
 use lsa_instances::{Scope, Sighting};
@@ -26,19 +28,19 @@ pub enum Told<A: Allocator> {
     Refused(Key, LsaFault),
     /// The LSA with this key is printed under no area's heading.
     NoArea(Key),
-    /// The fields can not be read: they are those of an LSA of another type than 3 and 4, or
+    /// The fields can not be read: they are those of an LSA of another type than 1 to 5, or
     /// printed in another way.
     Unreadable,
 }
 
 /// What names the LSA.
-fn key_of(summary: Summary) -> Key
-    ensures { result ≡ key_of summary }
+fn key_of(header: Header) -> Key
+    ensures { result ≡ key_of header }
 {
     Key {
-        kind: summary.name.kind,
-        id: summary.name.id,
-        adv: summary.issue.adv,
+        kind: header.name.ls_type.code(),
+        id: header.name.id,
+        adv: header.issue.adv,
     }
 }
 
@@ -97,29 +99,46 @@ fn octets_told<A: Allocator + Copy>(
     }
 }
 
-/// What the fields of a summary-LSA tell.
-fn summary_told<A: Allocator + Copy>(
+/// What the LSA tells that has this header and, behind it, these octets.
+fn made_told<A: Allocator + Copy>(
     alloc: A,
     area: Option<AreaId>,
-    summary: Summary,
+    header: Header,
+    body: &[u8],
 ) -> Result<Told<A>, AllocError>
-    requires { summary.body.len ≤ 32 }
-    ensures { IfOk result (λ told. told ≡ summary_told area summary) }
+    ensures { IfOk result (λ told. told
+        ≡ decoded_told area (key_of header) (decoded (header_octets header ++ body.now))) }
 {
-    let octets = summary_octets(alloc, summary)?;
-    octets_told(alloc, area, key_of(summary), &octets)
+    let mut octets = Vec::from_slice(alloc, &header_octets(header))?;
+    octets.extend_from_slice(body)?;
+    octets_told(alloc, area, key_of(header), &octets)
+}
+
+/// What the LSA tells that has this header and whose further words stand here.
+fn body_told<A: Allocator + Copy>(
+    alloc: A,
+    area: Option<AreaId>,
+    header: Header,
+    text: &[u8],
+) -> Result<Told<A>, AllocError>
+    ensures { IfOk result (λ told. told ≡ made_told area header (body_in header (words text.now))) }
+{
+    match body_in(alloc, header, text)? {
+        Some(body) => made_told(alloc, area, header, &body),
+        None => Ok(Told::Unreadable),
+    }
 }
 
 /// What the LSA tells whose words stand here.
-fn fields_told<A: Allocator + Copy>(
+fn header_told<A: Allocator + Copy>(
     alloc: A,
     area: Option<AreaId>,
     text: &[u8],
 ) -> Result<Told<A>, AllocError>
-    ensures { IfOk result (λ told. told ≡ fields_told area (summary_in (words text.now))) }
+    ensures { IfOk result (λ told. told ≡ header_told area (header_in (words text.now))) }
 {
-    match summary_in(text) {
-        Some(summary) => summary_told(alloc, area, summary),
+    match header_in(text) {
+        Some((header, rest)) => body_told(alloc, area, header, rest),
         None => Ok(Told::Unreadable),
     }
 }
@@ -136,16 +155,17 @@ fn tell<A: Allocator + Copy>(
 {
     match behind_label(Label::Age, text) {
         Some(_) => {
-            told.push(fields_told(alloc, area, text)?)?;
+            told.push(header_told(alloc, area, text)?)?;
             Ok(())
         }
         None => Ok(()),
     }
 }
 
-/// What each LSA tells of a text that a router prints for `show ip ospf database summary` or
-/// `asbr-summary` (FRR), in the order of the text. Headings name the areas. Blanks and line feeds
-/// have no part in it but to stand between words. The only error is want of memory.
+/// What each LSA tells of a text that a router prints (FRR) for `show ip ospf database` with
+/// `router`, `network`, `summary`, `asbr-summary` or `external`, in the order of the text. Several
+/// such texts may stand behind one another. Headings name the areas. Blanks and line feeds have no
+/// part in it but to stand between words. The only error is want of memory.
 pub fn read_printed<A: Allocator + Copy>(
     alloc: A,
     text: &[u8],

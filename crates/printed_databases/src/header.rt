@@ -1,0 +1,211 @@
+//! The header of an LSA (RFC 2328, A.4.1) as it is printed, and its octets.
+
+ghost use Rattle.std.specs.Prelude.{◌≡◌, option_map};
+ghost use Rattle.printed_databases.specs.Words.{words};
+ghost use Rattle.printed_databases.specs.Fields.{front_in, past_names, flags_in, ls_types, name_as, name_in, issue_in, seal_in, header_in};
+ghost use Rattle.printed_databases.specs.Making.{header_octets};
+
+use crate::label::{
+    Label, address_behind, behind_label, hex_behind, marked_behind, number_behind, past,
+    word_behind,
+};
+use crate::ls_type::LsType;
+use lsa_codec::{Addr, RouterId};
+
+/// What is printed first.
+#[derive(Clone, Copy)]
+pub(crate) struct Front {
+    /// LS age, in seconds.
+    pub(crate) age: u16,
+    /// Options.
+    pub(crate) options: u8,
+}
+
+/// What names the LSA among those of its Advertising Router.
+#[derive(Clone, Copy)]
+pub(crate) struct Name {
+    /// LS type.
+    pub(crate) ls_type: LsType,
+    /// Link State ID.
+    pub(crate) id: Addr,
+}
+
+/// Who issued the LSA, and which instance it is.
+#[derive(Clone, Copy)]
+pub(crate) struct Issue {
+    /// Advertising Router.
+    pub(crate) adv: RouterId,
+    /// LS sequence number.
+    pub(crate) sequence: u32,
+}
+
+/// What the LSA is tested by.
+#[derive(Clone, Copy)]
+pub(crate) struct Seal {
+    /// LS checksum.
+    pub(crate) checksum: u16,
+    /// Length, in octets.
+    pub(crate) size: u16,
+}
+
+/// What is printed of each LSA before its body.
+#[derive(Clone, Copy)]
+pub(crate) struct Header {
+    /// LS age and options.
+    pub(crate) front: Front,
+    /// The octet of the bits V, E and B, which is printed of router-LSAs alone, among the fields of
+    /// the header.
+    pub(crate) flags: Option<u8>,
+    /// LS type and Link State ID.
+    pub(crate) name: Name,
+    /// Advertising Router and LS sequence number.
+    pub(crate) issue: Issue,
+    /// LS checksum and length.
+    pub(crate) seal: Seal,
+}
+
+/// The LS types, in rising order.
+const LS_TYPES: &[LsType] = &[
+    LsType::Router,
+    LsType::Network,
+    LsType::Summary,
+    LsType::AsbrSummary,
+    LsType::External,
+];
+
+/// LS age and options, and what stands behind the LS flags.
+#[tactic(auto, unfolding(crate::specs::Fields::front_in))]
+fn front_in(text: &[u8]) -> Option<(Front, &[u8])>
+    ensures { option_map (λ found. (found.0, words found.1.now)) result
+        ≡ front_in (words text.now) }
+{
+    let (age, rest) = number_behind(0xffff, Label::Age, text)?;
+    let (options, rest) = marked_behind(0xff, Label::Options, rest)?;
+    let (_letters, rest) = word_behind(Label::Letters, rest)?;
+    let (_ls_flags, rest) = word_behind(Label::LsFlags, rest)?;
+    let front = Front {
+        age: age as u16,
+        options: options as u8,
+    };
+    Some((front, rest))
+}
+
+/// What stands behind the names of the bits V, E and B.
+#[tactic(auto, unfolding(crate::specs::Fields::past_names))]
+fn past_names(text: &[u8]) -> &[u8]
+    ensures { words result.now ≡ past_names (words text.now) }
+{
+    let rest = past(Label::Letters, text);
+    let rest = past(Label::BoundaryBit, rest);
+    let rest = past(Label::ExternalBit, rest);
+    let rest = past(Label::VirtualBit, rest);
+    past(Label::ShortcutBit, rest)
+}
+
+/// The octet of the bits V, E and B, where it is printed, and what stands behind it.
+#[tactic(auto, unfolding(crate::specs::Fields::flags_in))]
+fn flags_in(text: &[u8]) -> (Option<u8>, &[u8])
+    ensures { (result.0, words result.1.now) ≡ flags_in (words text.now) }
+{
+    match marked_behind(0xff, Label::Flags, text) {
+        Some((flags, rest)) => (Some(flags as u8), past_names(rest)),
+        None => (None, text),
+    }
+}
+
+/// LS type, of this kind, and Link State ID, and what stands behind them.
+#[tactic(auto, unfolding(crate::specs::Fields::name_as))]
+fn name_as(ls_type: LsType, text: &[u8]) -> Option<(Name, &[u8])>
+    ensures { option_map (λ found. (found.0, words found.1.now)) result
+        ≡ name_as ls_type (words text.now) }
+{
+    let rest = behind_label(ls_type.label(), text)?;
+    let (id, rest) = address_behind(Label::Id, rest)?;
+    let rest = behind_label(ls_type.id_label(), rest)?;
+    let name = Name {
+        ls_type,
+        id: Addr(id),
+    };
+    Some((name, rest))
+}
+
+/// LS type and Link State ID, and what stands behind them.
+fn name_in(text: &[u8]) -> Option<(Name, &[u8])>
+    ensures { option_map (λ found. (found.0, words found.1.now)) result
+        ≡ name_in (words text.now) }
+{
+    for ls_type in LS_TYPES {
+        if let Some((name, rest)) = name_as(*ls_type, text) {
+            return Some((name, rest));
+        }
+    }
+    None
+}
+
+/// Advertising Router and LS sequence number, and what stands behind them.
+#[tactic(auto, unfolding(crate::specs::Fields::issue_in))]
+fn issue_in(text: &[u8]) -> Option<(Issue, &[u8])>
+    ensures { option_map (λ found. (found.0, words found.1.now)) result
+        ≡ issue_in (words text.now) }
+{
+    let (adv, rest) = address_behind(Label::AdvertisingRouter, text)?;
+    let (sequence, rest) = hex_behind(0xffff_ffff, Label::Sequence, rest)?;
+    let issue = Issue {
+        adv: RouterId(adv),
+        sequence,
+    };
+    Some((issue, rest))
+}
+
+/// LS checksum and length, and what stands behind them.
+#[tactic(auto, unfolding(crate::specs::Fields::seal_in))]
+fn seal_in(text: &[u8]) -> Option<(Seal, &[u8])>
+    ensures { option_map (λ found. (found.0, words found.1.now)) result
+        ≡ seal_in (words text.now) }
+{
+    let (checksum, rest) = marked_behind(0xffff, Label::Checksum, text)?;
+    let (size, rest) = number_behind(0xffff, Label::Length, rest)?;
+    let seal = Seal {
+        checksum: checksum as u16,
+        size: size as u16,
+    };
+    Some((seal, rest))
+}
+
+/// The header of the LSA whose words stand here, and what stands behind it.
+#[tactic(auto, unfolding(crate::specs::Fields::header_in))]
+pub(crate) fn header_in(text: &[u8]) -> Option<(Header, &[u8])>
+    ensures { option_map (λ found. (found.0, words found.1.now)) result
+        ≡ header_in (words text.now) }
+{
+    let (front, rest) = front_in(text)?;
+    let (flags, rest) = flags_in(rest);
+    let (name, rest) = name_in(rest)?;
+    let (issue, rest) = issue_in(rest)?;
+    let (seal, rest) = seal_in(rest)?;
+    let header = Header {
+        front,
+        flags,
+        name,
+        issue,
+        seal,
+    };
+    Some((header, rest))
+}
+
+/// The octets of a header, its checksum and its length as they were printed.
+pub(crate) fn header_octets(header: Header) -> [u8; 20]
+    ensures { result ≡ header_octets header }
+{
+    let [a0, a1] = header.front.age.to_be_bytes();
+    let [i0, i1, i2, i3] = header.name.id.0.to_be_bytes();
+    let [r0, r1, r2, r3] = header.issue.adv.0.to_be_bytes();
+    let [s0, s1, s2, s3] = header.issue.sequence.to_be_bytes();
+    let [c0, c1] = header.seal.checksum.to_be_bytes();
+    let [l0, l1] = header.seal.size.to_be_bytes();
+    let options = header.front.options;
+    let code = header.name.ls_type.code();
+    [
+        a0, a1, options, code, i0, i1, i2, i3, r0, r1, r2, r3, s0, s1, s2, s3, c0, c1, l0, l1,
+    ]
+}
