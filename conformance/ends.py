@@ -36,6 +36,8 @@ class End:
     replies: bytes | None = b""
     stdin: bytes | None = b""
     stdout: str = "pipe"
+    # Whether standard error takes no line, so that the status alone tells.
+    is_silent: bool = False
     # What must stand in the file `out` of the folder; `None` where there may be no such file.
     out: bytes | None = None
     # The same of the file `saved`.
@@ -64,8 +66,9 @@ EDITED = with_metric(b"\xff\xff", b"\x21\x19")
 TABLE = b"table 1.1.1.1\n"
 EDITED_TABLE = b"@0 table 1.1.1.1 1\n10.2.0.0/16 intra 65540 0 0.0.0.0 link:10.0.0.1\n"
 
-# The session of the sample after COST.
+# The session of the sample after COST, and before it.
 SESSION = SAMPLE[:4] + b"\x02" + SAMPLE[5:] + b"\0\1\0\0" + COST
+BASE = SAMPLE[:4] + b"\x02" + SAMPLE[5:] + b"\0\0\0\0"
 
 # Lines of the longest script, which has 1,048,576 octets.
 COMMENTS = b"# sixteen bytes\n" * 65_536
@@ -107,6 +110,11 @@ ENDS = [
         + b"cost 0.0.0.0 1.1.1.1 1 13\n@1 undo 1\n", replies=full_history_replies(b"@1 ")
         + b"@0 ok\n@1 refused U1 NothingToUndo\n", out=with_metric(b"\x00\x0d", bytes.fromhex("0c21"))),
     End("a script of 1,048,576 octets", "--out FOLDER/out", 0, stdin=COMMENTS, out=SAMPLE),
+    End("standard input as dump, and a script", "--dump /dev/stdin --script FOLDER/script --out FOLDER/out", 0,
+        replies=b"@0 ok\n", stdin=SAMPLE, out=EDITED),
+    End("standard input as dump, which leaves no script", "--dump /dev/stdin --out FOLDER/out", 0, stdin=EDITED,
+        out=EDITED),
+    End("standard output as --out", "--out /dev/stdout", 0, replies=b"@0 ok\n" + EDITED, stdin=COST),
     # ---- 0: sessions are saved
     End("--save alone", "--save FOLDER/saved", 0, replies=b"@0 ok\n", stdin=COST, saved=SESSION),
     End("--save and --out", "--save FOLDER/saved --out FOLDER/out", 0, replies=b"@0 ok\n", stdin=COST, out=EDITED,
@@ -117,8 +125,17 @@ ENDS = [
         linked=True, saved=SESSION),
     End("a link that leads nowhere as --save", "--save FOLDER/link", 0, replies=b"@0 ok\n", stdin=COST, linked=True,
         saved=SESSION),
+    End("one file as dump, --out and --save", "--dump FOLDER/saved --out FOLDER/saved --save FOLDER/saved", 0,
+        replies=b"@0 ok\n", stdin=COST, before=SAMPLE, saved=SESSION),
+    End("one saved session as dump, --out and --save", "--dump FOLDER/saved --out FOLDER/saved --save FOLDER/saved", 0,
+        replies=INFO, stdin=b"info", before=SESSION, saved=SESSION),
+    End("the script's own file as --save", "--script FOLDER/saved --save FOLDER/saved", 0, replies=b"@0 ok\n",
+        before=COST, saved=SESSION),
+    End("standard output as --save", "--save /dev/stdout", 0, replies=b"@0 ok\n" + SESSION, stdin=COST),
     End("a file of another mode as --save", "--save FOLDER/saved", 0, replies=b"@0 ok\n", stdin=COST,
         before=b"a study", mode=0o604, saved=SESSION),
+    End("standard output closed, and an empty script", "--dump FOLDER/dump --save FOLDER/saved", 0, stdin=b"",
+        stdout="closed", before=b"a study", saved=BASE),
     # ---- 2: the command line is refused
     End("an option that is not there", "--frob", 2, f"error: unexpected argument '--frob' found{USAGE}"),
     End("a word that is no option", "dump", 2, f"error: unexpected argument 'dump' found{USAGE}"),
@@ -130,7 +147,12 @@ ENDS = [
     End("--out without its file", "--out", 2,
         "error: a value is required for '--out <FILE>' but none was supplied\n\n"
         "For more information, try '--help'.\n"),
+    End("--save without its file", "--save", 2,
+        "error: a value is required for '--save <FILE>' but none was supplied\n\n"
+        "For more information, try '--help'.\n"),
     End("a word that is no text", "--dump \udcff", 2, "error: an argument is not UTF-8 text\n"),
+    End("a word that is no text, and nobody hears", "--dump \udcff", 2, is_silent=True),
+    End("an option that is not there, and nobody hears", "--frob", 2, is_silent=True),
     # ---- 3: the dump is refused
     End("an octet behind the dump", "--dump FOLDER/long --out FOLDER/out", 3, "dump: L4 TrailingBytes at 99\n"),
     End("a refused dump before a script that can not be read", "--dump FOLDER/long --script FOLDER", 3,
@@ -139,6 +161,11 @@ ENDS = [
         "dump: L3 Truncated at 97\n"),
     End("an empty dump", "--dump /dev/null", 3, "dump: L3 Truncated at 0\n"),
     End("an endless dump", "--dump /dev/zero", 3, "dump: L13 TooLarge at 0\n"),
+    End("a refused dump, and a file as --save", "--dump FOLDER/long --save FOLDER/saved", 3,
+        "dump: L4 TrailingBytes at 99\n", before=SESSION, saved=SESSION),
+    End("a saved session that was cut, as --save", "--dump FOLDER/saved --save FOLDER/saved", 3,
+        "dump: L3 Truncated at 103\n", before=SESSION[:-1], saved=SESSION[:-1]),
+    End("a refused dump, and nobody hears", "--dump FOLDER/long --out FOLDER/out", 3, is_silent=True),
     # ---- 4: a file can not be opened, read or written
     End("no such dump", "--dump FOLDER/none --out FOLDER/out", 4, "file: Open dump\n"),
     End("no such dump and no such script", "--dump FOLDER/none --script FOLDER/none", 4, "file: Open dump\n"),
@@ -151,18 +178,35 @@ ENDS = [
         stdin=COST, as_nobody=True),
     End("a folder for --out that may not be written", "--out FOLDER/out", 4, "file: Open out\n", replies=b"@0 ok\n",
         stdin=COST, as_nobody=True),
+    End("a file as --save that may not be written", "--save FOLDER/locked", 4, "file: Open save\n",
+        replies=b"@0 ok\n", stdin=COST, as_nobody=True),
+    End("a folder for --save that may not be written", "--save FOLDER/saved", 4, "file: Open save\n",
+        replies=b"@0 ok\n", stdin=COST, as_nobody=True),
     End("a folder as --out", "--out FOLDER", 4, "file: Open out\n", replies=b"@0 ok\n", stdin=COST),
     End("a folder as dump", "--dump FOLDER --out FOLDER/out", 4, "file: Read\n", stdin=COST),
     End("a folder as script", "--script FOLDER --out FOLDER/out", 4, "file: Read\n"),
+    End("a folder as dump, and a file as --save", "--dump FOLDER --save FOLDER/saved", 4, "file: Read\n", stdin=COST,
+        before=b"a study", saved=b"a study"),
     End("standard input closed", "--out FOLDER/out", 4, "file: Read\n", stdin=None),
+    End("standard input closed, and a file as --save", "--save FOLDER/saved", 4, "file: Read\n", stdin=None,
+        before=b"a study", saved=b"a study"),
+    End("standard input closed, and nobody hears", "--out FOLDER/out", 4, stdin=None, is_silent=True),
     End("an endless script", "--script /dev/zero --out FOLDER/out", 4, "file: TooLarge\n"),
     End("a script of 1,048,577 octets", "--out FOLDER/out", 4, "file: TooLarge\n", stdin=COMMENTS + b"#"),
+    End("a script of 1,048,577 octets, and a file as --save", "--save FOLDER/saved", 4, "file: TooLarge\n",
+        stdin=COMMENTS + b"#", before=b"a study", saved=b"a study"),
     End("/dev/full as --out", "--out /dev/full", 4, "file: Write\n", replies=b"@0 ok\n", stdin=COST),
+    End("/dev/full as --out, and a file as --save", "--out /dev/full --save FOLDER/saved", 4, "file: Write\n",
+        replies=b"@0 ok\n", stdin=COST, before=b"a study", saved=b"a study"),
+    End("no such folder for --out, and --save", "--out FOLDER/none/out --save FOLDER/saved", 4, "file: Open out\n",
+        replies=b"@0 ok\n", stdin=COST),
     End("/dev/full as --save", "--save /dev/full --out FOLDER/out", 4, "file: Write\n", replies=b"@0 ok\n", stdin=COST,
         out=EDITED),
     End("no such folder for --save", "--save FOLDER/none/saved --out FOLDER/out", 4, "file: Open save\n",
         replies=b"@0 ok\n", stdin=COST, out=EDITED),
     End("a folder as --save", "--save FOLDER", 4, "file: Open save\n", replies=b"@0 ok\n", stdin=COST),
+    End("no room for the dump", "--out FOLDER/out --save FOLDER/saved", 4, "file: Write\n", replies=b"@0 ok\n",
+        stdin=COST, before=b"a study", room=98, saved=b"a study"),
     End("no room for the session", "--save FOLDER/saved", 4, "file: Write\n", replies=b"@0 ok\n", stdin=COST,
         before=b"a study", room=100, saved=b"a study"),
     End("no room for a session that is not there yet", "--save FOLDER/saved", 4, "file: Write\n", replies=b"@0 ok\n",
@@ -172,8 +216,22 @@ ENDS = [
     End("/dev/full as standard output", "--out FOLDER/out", 4, "file: Write\n", stdin=COST, stdout="full"),
     End("standard output closed", "--out FOLDER/out", 4, "file: Write\n", stdin=COST, stdout="closed"),
     End("a pipe that nobody reads", "--out FOLDER/out", 4, "file: Write\n", stdin=COST, stdout="unread"),
+    End("a pipe into head", "--out FOLDER/out --save FOLDER/saved", 4, "file: Write\n", stdin=b"info\n" * 100_000,
+        stdout="head", before=b"a study", saved=b"a study"),
+    End("/dev/full as standard output, and --save", "--save FOLDER/saved", 4, "file: Write\n", stdin=COST,
+        stdout="full", before=b"a study", saved=b"a study"),
+    End("standard output closed, and a dump", "--dump FOLDER/dump --script FOLDER/script --out FOLDER/out", 4,
+        "file: Write\n", stdout="closed"),
+    End("standard output closed, and --save", "--save FOLDER/saved", 4, "file: Write\n", stdin=COST,
+        stdout="closed"),
+    End("a pipe that nobody reads, and nobody hears", "--save FOLDER/saved", 4, stdin=COST, stdout="unread",
+        is_silent=True),
     # ---- 5: want of memory
     End("a large dump and little memory", "--dump FOLDER/large", 5, "memory: OutOfMemory\n", memory=16 << 20),
+    End("a large dump and little memory, and a file as --save", "--dump FOLDER/large --save FOLDER/saved", 5,
+        "memory: OutOfMemory\n", memory=16 << 20, before=b"a study", saved=b"a study"),
+    End("a large dump and little memory, and nobody hears", "--dump FOLDER/large", 5, memory=16 << 20,
+        is_silent=True),
 ]
 
 
@@ -200,9 +258,13 @@ def make_files(folder: pathlib.Path, case: End) -> None:
 
 
 def standard_output(kind: str) -> int:
-    """A file descriptor to write to, or that of a pipe to read from."""
+    """A file descriptor for the program to write to; `PIPE` where these checks read it."""
     if kind == "full":
         return os.open("/dev/full", os.O_WRONLY)
+    if kind == "head":
+        # It reads one line and goes away.
+        head = subprocess.Popen(["head", "-n", "1"], stdin=subprocess.PIPE, stdout=subprocess.DEVNULL)
+        return os.dup(head.stdin.fileno())
     if kind == "unread":
         reader, writer = os.pipe()
         os.close(reader)
@@ -237,11 +299,10 @@ def built(program: str) -> str:
     return str(found if found.exists() else program)
 
 
-def ended(case: End, program: str, folder: pathlib.Path, stdout: int) -> subprocess.CompletedProcess:
+def ended(case: End, program: str, folder: pathlib.Path, stdout: int, stderr: int) -> subprocess.CompletedProcess:
     """The run of a case."""
     words = [program] + [word.replace("FOLDER", str(folder)) for word in case.words.split()]
-    how = {"input": case.stdin, "stdout": stdout, "stderr": subprocess.PIPE, "timeout": 120,
-           "preexec_fn": before_run(case)}
+    how = {"input": case.stdin, "stdout": stdout, "stderr": stderr, "timeout": 120, "preexec_fn": before_run(case)}
     if not case.as_nobody:
         return subprocess.run(words, **how)
     # The program may lie where not everyone may go, so it is opened here.
@@ -261,13 +322,14 @@ def differences(case: End, program: str, folder: pathlib.Path) -> list[str]:
         folder.chmod(0o755)
     make_files(folder, case)
     stdout = standard_output(case.stdout)
-    run = ended(case, program, folder, stdout)
-    if stdout != subprocess.PIPE:
-        os.close(stdout)
+    stderr = standard_output("full" if case.is_silent else "pipe")
+    run = ended(case, program, folder, stdout, stderr)
+    for stream in {stdout, stderr} - {subprocess.PIPE}:
+        os.close(stream)
     found = []
     if run.returncode != case.status:
         found.append(f"status {run.returncode} for {case.status}")
-    if run.stderr.decode() != case.error:
+    if run.stderr is not None and run.stderr.decode() != case.error:
         found.append(f"standard error {run.stderr.decode()!r}")
     if case.stdout == "pipe" and run.stdout != case.replies:
         found.append("replies")

@@ -1,41 +1,89 @@
 """Runs in limited address spaces, so that memory truly runs out, in the middle of whatever is done then.
 
-One run, of full histories in three branches, is made in ever larger spaces: from one in which the program just starts
-to one that is ample. Each must end well and whole, or for want of memory with a part of the replies from their beginning
-and without a dump.
+Two runs, of full histories in three branches and of tables with many next hops, are made in ever larger spaces: from one
+in which the program just starts to one that is ample. Each must end well and whole, or for want of memory with a part of
+the replies from their beginning, without a dump and without a session.
 """
+import dataclasses
 import pathlib
 import resource
 import subprocess
 
-from ends import COST, EDITED, built, full_history, full_history_replies
-
-BRANCHES = [b"@%d " % branch for branch in range(1, 4)]
-SCRIPT = COST + b"".join(full_history(branch) for branch in BRANCHES)
-REPLIES = b"@0 ok\n" + b"".join(full_history_replies(branch) for branch in BRANCHES)
-
-# From 4 MiB up, each a twelfth larger than the one before. The program and the C library alone take 3.5 MiB.
-SIZES = [round((4 << 20) * (13 / 12) ** step) for step in range(16)]
+import large
+from ends import COST, EDITED, SAMPLE, SESSION, built, full_history, full_history_replies
 
 
-def run_in(size: int, program: str, out: pathlib.Path) -> tuple[int, bytes, str, bytes | None]:
-    """Status, replies, standard error and the dump written by the run in an address space of so many octets."""
+@dataclasses.dataclass
+class Run:
+    """A run of the program, and what it leaves where there is memory."""
+
+    name: str
+    dump: bytes
+    script: bytes
+    replies: bytes
+    out: bytes
+    saved: bytes
+    # The sizes of the address spaces, in octets.
+    sizes: list[int]
+
+
+def sizes(least: float, times: float, count: int) -> list[int]:
+    """So many sizes, from one in MiB on, each so many times the one before."""
+    return [round(least * (1 << 20) * times**step) for step in range(count)]
+
+
+def histories() -> Run:
+    """Full histories in three branches. The program and the C library alone take 3.5 MiB."""
+    branches = [b"@%d " % branch for branch in range(1, 4)]
+    return Run(
+        name="full histories",
+        dump=SAMPLE,
+        script=COST + b"".join(full_history(branch) for branch in branches),
+        replies=b"@0 ok\n" + b"".join(full_history_replies(branch) for branch in branches),
+        out=EDITED,
+        saved=SESSION,
+        sizes=sizes(4, 13 / 12, 16),
+    )
+
+
+def tables() -> Run:
+    """Tables and comparisons in two branches, with 4,000 next hops of equal cost."""
+    case = large.equal_ways(4000)
+    undone = b"\0\0\0\1cost 0.0.0.0 1.1.1.1 7 11\n"
+    return Run(
+        name="tables",
+        dump=case.dump,
+        script=case.script + b"".join(b"@1 " + line + b"\n" for line in case.script.splitlines()),
+        replies=case.replies + case.replies.replace(b"@0", b"@1"),
+        out=case.dump,
+        saved=case.dump[:4] + b"\2" + case.dump[5:] + undone,
+        sizes=sizes(4, 13 / 12, 16),
+    )
+
+
+def ended_in(size: int, run: Run, program: str, folder: pathlib.Path) -> tuple[int, bytes, str, bytes | None, bytes | None]:
+    """Status, replies, standard error, and the dump and the session written in an address space of so many octets."""
+    dump, out, save = (folder / f"limited.{name}" for name in ("dump", "out", "save"))
+    dump.write_bytes(run.dump)
     out.unlink(missing_ok=True)
+    save.unlink(missing_ok=True)
     limit = lambda: resource.setrlimit(resource.RLIMIT_AS, (size, size))
-    ended = subprocess.run([program, "--out", str(out)], input=SCRIPT, capture_output=True, timeout=120,
-                           preexec_fn=limit)
-    return ended.returncode, ended.stdout, ended.stderr.decode(), out.read_bytes() if out.exists() else None
+    words = [program, "--dump", str(dump), "--out", str(out), "--save", str(save)]
+    ended = subprocess.run(words, input=run.script, capture_output=True, timeout=120, preexec_fn=limit)
+    out, save = (file.read_bytes() if file.exists() else None for file in (out, save))
+    return ended.returncode, ended.stdout, ended.stderr.decode(), out, save
 
 
 def checks(program: str, folder: pathlib.Path):
     """The name of each run, and what it ended with otherwise; and what the runs together did not show."""
-    lengths = set()
-    for size in SIZES:
-        status, replies, error, out = run_in(size, built(program), folder / "limited.oswp")
-        whole = (status, replies, error, out) == (0, REPLIES, "", EDITED)
-        short = (status, error, out) == (5, "memory: OutOfMemory\n", None) and REPLIES.startswith(replies)
-        yield f"full histories in {size} octets of memory", [] if whole or short else ["status, replies or dump"]
-        lengths.add(len(replies))
-    missing = [] if {0, len(REPLIES)} <= lengths else ["the ends, none of the replies and all of them,"]
-    missing += [] if len(lengths) > 5 else ["how far the replies come"]
-    yield "memory that runs out at the beginning, in the middle and not at all", missing
+    for run in (histories(), tables()):
+        lengths = set()
+        for size in run.sizes:
+            status, replies, *left = ended_in(size, run, built(program), folder)
+            is_whole = (status, replies, *left) == (0, run.replies, "", run.out, run.saved)
+            is_part = (status, *left) == (5, "memory: OutOfMemory\n", None, None) and run.replies.startswith(replies)
+            yield f"{run.name} in {size} octets of memory", [] if is_whole or is_part else ["status, replies or files"]
+            lengths.add(len(replies))
+        missing = [] if {0, len(run.replies)} <= lengths else ["the ends, none of the replies and all of them,"]
+        missing += [] if len(lengths) > 4 else ["how far the replies come"]
+        yield f"memory of {run.name} that runs out at the beginning, in the middle and not at all", missing

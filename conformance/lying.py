@@ -1,12 +1,14 @@
 """Dumps that lie: octets that are set to other values, beside a plain reader of docs/FORMATS.md.
 
-Each octet of the sample, and of a saved session behind its base, is set to each of its 256 values. Of a dump with LSAs of several types, in areas of both kinds,
-each octet is set to some, as it is and with the checksum of its LSA made good again, so that what is tested behind the
-checksum is reached too. The program must refuse exactly what the plain reader refuses, for the same fault at the same
-offset, and what it opens it must write back octet for octet.
+Each octet of the sample, and of a saved session on it, is set to each of its 256 values, and both are cut everywhere. Of
+a dump with LSAs of several types, in areas of both kinds, each octet is set to some, as it is and with the checksum of
+its LSA made good again, so that what is tested behind the checksum is reached too. The program must refuse exactly what
+the plain reader refuses, for the same fault at the same offset, and what it opens it must write back octet for octet.
 """
+import os
 import pathlib
-import subprocess
+import signal
+import tempfile
 
 import plain_reader
 from cases import read_case
@@ -16,7 +18,6 @@ HERE = pathlib.Path(__file__).resolve().parent
 
 # Areas of both kinds, with LSAs of the types 1 to 5 and 7, in 409 octets.
 SEVERAL = read_case(HERE / "sessions" / "v1-0104.case").dump
-
 
 # The sample after two costs, of which the second is undone, in 155 octets.
 SESSION = (SAMPLE[:4] + b"\x02" + SAMPLE[5:] + b"\0\1\0\1" + b"cost 0.0.0.0 1.1.1.1 1 11\n"
@@ -57,12 +58,10 @@ def some_values(octet: int) -> set[int]:
 
 def lies():
     """The dumps."""
-    for place in range(len(SAMPLE)):
-        yield from (with_octet(SAMPLE, place, value) for value in range(256))
-    for place, octet in enumerate(SESSION):
-        yield SESSION[:place]
-        values = some_values(octet) if place < len(SAMPLE) - 1 else range(256)
-        yield from (with_octet(SESSION, place, value) for value in values)
+    for whole in (SAMPLE, SESSION):
+        for place in range(len(whole)):
+            yield whole[:place]
+            yield from (with_octet(whole, place, value) for value in range(256))
     for place, octet in enumerate(SEVERAL):
         yield from (with_octet(SEVERAL, place, value) for value in some_values(octet))
     for begin, end in lsas_of(SEVERAL):
@@ -72,27 +71,45 @@ def lies():
                 yield SEVERAL[:begin] + with_checksum(lsa) + SEVERAL[end:]
 
 
-def is_as_read(program: str, dump: bytes, folder: pathlib.Path) -> bool:
-    """Whether the program refuses or opens a dump as the plain reader does."""
+def ended(words: list[str], replies: pathlib.Path, error: pathlib.Path) -> tuple[int, bytes, bytes]:
+    """Status, standard output and standard error of a run, which gets no standard input. There are many, so that the
+    least is done for each."""
+    made = os.O_WRONLY | os.O_CREAT | os.O_TRUNC
+    pid = os.posix_spawn(words[0], words, {}, file_actions=[
+        (os.POSIX_SPAWN_OPEN, 0, "/dev/null", os.O_RDONLY, 0),
+        (os.POSIX_SPAWN_OPEN, 1, replies, made, 0o600),
+        (os.POSIX_SPAWN_OPEN, 2, error, made, 0o600),
+    ])
+    # A run that does not end ends these checks.
+    signal.alarm(120)
+    _, status = os.waitpid(pid, 0)
+    signal.alarm(0)
+    return os.waitstatus_to_exitcode(status), replies.read_bytes(), error.read_bytes()
+
+
+def is_as_read(program: str, dump: bytes, refusal: str, folder: pathlib.Path) -> bool:
+    """Whether the program refuses a dump so, or opens it where it is not to be refused."""
     file, out = folder / "lying.oswp", folder / "lying.out"
     file.write_bytes(dump)
-    out.unlink(missing_ok=True)
     back = "--save" if plain_reader.is_session(dump) else "--out"
     words = [program, "--dump", str(file), "--script", "/dev/null", back, str(out)]
-    ended = subprocess.run(words, stdin=subprocess.DEVNULL, capture_output=True, timeout=120)
-    error = plain_reader.refusal(dump)
+    run = ended(words, folder / "lying.replies", folder / "lying.error")
     left = out.read_bytes() if out.exists() else None
-    wanted = (3, b"", error.encode(), None) if error else (0, b"", b"", dump)
-    return (ended.returncode, ended.stdout, ended.stderr, left) == wanted
+    if left is not None:
+        out.unlink()
+    return (*run, left) == ((3, b"", refusal.encode(), None) if refusal else (0, b"", b"", dump))
 
 
-def checks(program: str, folder: pathlib.Path):
-    """One check of all of them, with the first that is not read so."""
+def checks(program: str):
+    """One check of all of them, with the first that is not read so. Their files are in memory where they can be, since
+    there are many."""
     tried = accepted = 0
-    for dump in lies():
-        tried += 1
-        accepted += not plain_reader.refusal(dump)
-        if not is_as_read(built(program), dump, folder):
-            yield "dumps that lie", [f"the program and the plain reader of {dump.hex()}"]
-            return
+    with tempfile.TemporaryDirectory(dir="/dev/shm" if os.path.isdir("/dev/shm") else None) as folder:
+        for dump in lies():
+            refusal = plain_reader.refusal(dump)
+            tried += 1
+            accepted += not refusal
+            if not is_as_read(built(program), dump, refusal, pathlib.Path(folder)):
+                yield "dumps that lie", [f"the program and the plain reader of {dump.hex()}"]
+                return
     yield f"{tried} dumps that lie, of which {accepted} are accepted", []
