@@ -4,7 +4,9 @@
 //! A test hands in `&rationed`, which is an allocator and is `Copy`, and so can:
 //!
 //! - refuse the growth after the first `n`, for each `n` in turn, with `Rationed::new(alloc, n)`;
-//! - count growths, with `Rationed::new(alloc, u64::MAX)` and the difference of two `left()`.
+//! - count growths, with `Rationed::new(alloc, u64::MAX)` and the difference of two `left()`;
+//! - make what a call is lent with ample memory, refuse growths in that call alone, and have
+//!   ample memory after it, with `leave`.
 //!
 //! # What is proved, and what is not
 //!
@@ -13,7 +15,8 @@
 //! limit is the number given to `new`, and what is left is at most the limit.
 //!
 //! Not stated, since no contract can say what a `Cell` holds: that nothing is spent at first, that
-//! each request spends one, and that requests are refused exactly from the limit on. Nor does the
+//! each request spends one, that requests are refused exactly from the limit on, and what `leave`
+//! lets be left. Nor does the
 //! contract of `Allocator` say when a request is refused, or that a freed block goes back to the
 //! inner allocator and is not kept. The tests show these.
 #![tactic(auto)]
@@ -51,6 +54,13 @@ impl<A: Allocator> Rationed<A> {
             inner,
             ration: Ration::new(left),
         }
+    }
+
+    /// Lets it ask for so many blocks from now on, but for no more than the limit given to `new`.
+    ///
+    /// No clause can say so; a test shows it.
+    pub fn leave(&self, left: u64) {
+        self.ration.leave(left);
     }
 
     /// How many blocks it will still ask for.

@@ -34,6 +34,11 @@ impl Ration {
         true
     }
 
+    /// Lets so much be left, but no more than the limit.
+    pub(crate) fn leave(&self, left: u64) {
+        self.spent.set(self.limit.saturating_sub(left));
+    }
+
     /// How much of the limit is not spent.
     pub(crate) fn left(&self) -> u64
         ensures within { result ≤ self.now.limit }

@@ -77,3 +77,18 @@ fn counts_as_often_as_it_is_copied(rt: HostRuntime) -> Result<(), AllocError> {
     assert_eq!(rt; rationed.left(), 0);
     Ok(())
 }
+
+#[test]
+fn leaves_as_many_growths_as_it_is_told(rt: HostRuntime) -> Result<(), AllocError> {
+    let rationed = Rationed::new(rt.alloc(), 5);
+    make_two(&rationed)?;
+    rationed.leave(1);
+    assert_eq!(rt; rationed.left(), 1);
+    assert!(rt; make_two(&rationed).is_err());
+    rationed.leave(u64::MAX);
+    assert_eq!(rt; rationed.left(), 5, "no more than the limit");
+    assert_eq!(rt; blocks_until_refusal(&rationed), 5);
+    rationed.leave(2);
+    assert_eq!(rt; blocks_until_refusal(&rationed), 2);
+    Ok(())
+}
