@@ -1,5 +1,8 @@
 //! Views, places, records and texts, and what is answered where memory runs out.
 
+// What answers something new.
+mod calls;
+
 // LSAs, and what they speak of.
 mod metrics;
 mod prefixes;

@@ -3,12 +3,15 @@
 use super::edited::{apply_and_push, edited};
 use super::nets::{BACKBONE, NETS, TEN_EDITS, edit_of, is_after};
 use crate::filled::area_of;
-use edit_history::{EditFault, apply};
+use edit_history::{EditFault, History, apply};
 use edit_script::Edit;
-use lsdb::Database;
+use lsdb::{Database, SlotFault};
 use rationed::Rationed;
 use std::alloc::Global;
 use std::test::*;
+
+/// More growths than anything here asks for.
+const MANY: u64 = 100;
 
 /// How many growths it takes to load a database, and to carry an edit of it out.
 #[derive(Clone, Copy)]
@@ -42,14 +45,26 @@ pub(super) fn is_refused_with(
     Ok(refusal == Some(fault) && is_after(alloc, &database, &[])?)
 }
 
-/// Whether an edit asks for few growths, and the refusal of each in turn leaves the database as it
-/// was.
-fn refuses_growths(alloc: Global, line: &str) -> Result<bool, Fail> {
+/// Whether an edit of `NETS` is refused for want of memory with so many growths, changes nothing,
+/// and is then carried out with ample memory.
+fn is_refused_and_then_done(alloc: Global, growths: u64, line: &str) -> Result<bool, Fail> {
     let edit = edit_of(line)?;
-    let growths = growths_of(alloc, NETS, &edit)?;
+    let rationed = Rationed::new(alloc, u64::MAX);
+    let mut database = Database::load(&rationed, NETS)?;
+    rationed.leave(growths);
+    let refusal = apply(&mut database, &edit).err();
+    rationed.leave(u64::MAX);
+    let stays = refusal == Some(EditFault::OutOfMemory) && is_after(alloc, &database, &[])?;
+    let _record = apply(&mut database, &edit)?;
+    Ok(stays && is_after(alloc, &database, &[line])?)
+}
+
+/// Whether an edit asks for few growths, and the refusal of each in turn leaves the database as it
+/// was, for the edit to be carried out.
+fn refuses_growths(alloc: Global, line: &str) -> Result<bool, Fail> {
+    let growths = growths_of(alloc, NETS, &edit_of(line)?)?;
     for left in 0..growths.editing {
-        let granted = growths.loading.saturating_add(left);
-        if !is_refused_with(alloc, granted, &edit, EditFault::OutOfMemory)? {
+        if !is_refused_and_then_done(alloc, left, line)? {
             return Ok(false);
         }
     }
@@ -62,6 +77,63 @@ fn refused_growths_change_nothing(rt: HostRuntime) -> Result<(), Fail> {
         assert!(rt; refuses_growths(rt.alloc(), line)?, "{line}");
     }
     assert!(rt; refuses_growths(rt.alloc(), "fail-router 2.2.2.2")?);
+    Ok(())
+}
+
+/// How many growths it takes to open a place at the end of the backbone of a dump. With fewer none
+/// is opened, and the same call then opens it.
+fn growths_of_opening(alloc: Global, dump: &[u8]) -> Result<u64, Fail> {
+    for growths in 0..MANY {
+        let rationed = Rationed::new(alloc, u64::MAX);
+        let mut database = Database::load(&rationed, dump)?;
+        rationed.leave(growths);
+        let refusal = database.open_slot(BACKBONE).err();
+        rationed.leave(u64::MAX);
+        if database.dump()?.as_slice() != dump {
+            return Err("the database has changed")?;
+        }
+        if refusal != Some(SlotFault::OutOfMemory) {
+            return Ok(growths);
+        }
+        let _slot = database.open_slot(BACKBONE)?;
+    }
+    Err("a place")?
+}
+
+/// A list of LSAs that was loaded has room for a power of two.
+#[test]
+fn a_refused_place_changes_nothing(rt: HostRuntime) -> Result<(), Fail> {
+    for (lsas, growths) in [(7, 0), (8, 1), (16, 1)] {
+        let dump = area_of(rt.alloc(), lsas)?;
+        assert_eq!(rt;
+            growths_of_opening(rt.alloc(), &dump)?,
+            growths,
+            "{lsas} LSAs"
+        );
+    }
+    Ok(())
+}
+
+/// How many growths the room for a first record takes. With fewer there is none, and the same call
+/// then makes it.
+fn growths_of_room(alloc: Global) -> Result<u64, Fail> {
+    for growths in 0..MANY {
+        let rationed = Rationed::new(alloc, growths);
+        let mut history = History::new(&rationed);
+        let refused = history.reserve().is_err();
+        if !refused {
+            return Ok(growths);
+        }
+        if history.done() != 0 || history.undone() != 0 || rationed.left() != 0 {
+            return Err("the history has changed")?;
+        }
+    }
+    Err("room")?
+}
+
+#[test]
+fn refused_room_changes_nothing(rt: HostRuntime) -> Result<(), Fail> {
+    assert_eq!(rt; growths_of_room(rt.alloc())?, 1);
     Ok(())
 }
 

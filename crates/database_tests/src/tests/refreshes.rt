@@ -68,13 +68,17 @@ fn a_refresh_rewrites_three_metrics_and_then_none(rt: HostRuntime) -> Result<(),
     Ok(())
 }
 
-/// Whether a refresh of `STALE` is refused for want of memory with this many growths, and changes
-/// nothing.
+/// Whether a refresh of `STALE` is refused for want of memory with this many growths, changes
+/// nothing, and is then carried out with ample memory.
 fn is_refused_with(alloc: Global, growths: u64) -> Result<bool, Fail> {
-    let rationed = Rationed::new(alloc, growths);
+    let refresh = edit_of("refresh")?;
+    let rationed = Rationed::new(alloc, u64::MAX);
     let mut database = Database::load(&rationed, STALE)?;
-    let refusal = apply(&mut database, &edit_of("refresh")?).err();
-    Ok(refusal == Some(EditFault::OutOfMemory) && is_loaded(alloc, &database)?)
+    rationed.leave(growths);
+    let refusal = apply(&mut database, &refresh).err();
+    rationed.leave(u64::MAX);
+    let stays = refusal == Some(EditFault::OutOfMemory) && is_loaded(alloc, &database)?;
+    Ok(stays && apply(&mut database, &refresh)?.len() == 3)
 }
 
 #[test]
@@ -82,8 +86,7 @@ fn each_refused_growth_of_a_refresh_changes_nothing(rt: HostRuntime) -> Result<(
     let growths = growths_of(rt.alloc(), STALE, &edit_of("refresh")?)?;
     assert!(rt; 0 < growths.editing);
     for left in 0..growths.editing {
-        let granted = growths.loading.saturating_add(left);
-        assert!(rt; is_refused_with(rt.alloc(), granted)?, "{left}");
+        assert!(rt; is_refused_with(rt.alloc(), left)?, "{left}");
     }
     Ok(())
 }
