@@ -1,0 +1,84 @@
+-- A run over files, where their octets are known.
+use Rattle.std.specs.Prelude.{◌≡◌, ◌≢◌, ℕ, List, [], ◌∷◌, ◌++◌, length, map, Option, IfSome}
+use Rattle.std.specs.List.{AllZip}
+use Rattle.network_dump.specs.declared.fault.RunFault.{RunFault}
+use Rattle.network_dump.specs.declared.fault.RunFault.TheVariants.{Read, TooLarge, Refused, Join, Write, OutOfMemory}
+use Rattle.network_files.specs.declared.fault.FileFault.TheVariants as files
+use Rattle.network_files.specs.declared.telling.FileTold.{FileTold}
+use Rattle.network_files.specs.Dumps.{IsDump, IsJoinFault}
+use Rattle.network_files.specs.Telling.{IsToldOf, IsRefusalOf}
+use Rattle.sighted_database.specs.declared.fault.JoinFault.TheVariants as joins
+use Rattle.streams.specs.declared.watch.Watched.{Watched}
+use Rattle.streams.specs.Watched.{inner_of}
+use Rattle.streams.specs.WholeText.{IsLonger}
+
+-- the octets of each file, where they are known
+abbrev pub known : {R : Type 0} → (R → Option (List ℕ)) → List (Watched R) → List (Option (List ℕ))
+known remaining files = map (λ file. remaining (inner_of file)) files
+
+-- the greatest length of a file
+abbrev pub longest_file : ℕ
+longest_file = 536870912
+
+-- each file tells this, in their order, as far as their octets are known
+abbrev pub AreTold : {A : Type 0} → List (Option (List ℕ)) → List (FileTold A) → Type 0
+AreTold known told = AllZip (λ octets file. IfSome octets (λ o. IsToldOf o file)) known told
+
+-- ---- one file
+
+-- why the file at this place tells nothing: a read failed, it is too long, it is refused, or memory ran out
+abbrev pub IsFileEnd : (A : Type 0) → Option (List ℕ) → ℕ → RunFault → Type 0
+IsFileEnd A octets index (Read file) = file ≡ index
+IsFileEnd A octets index (TooLarge file) = (file ≡ index) × IsLonger octets longest_file
+IsFileEnd A octets index (Refused file fault) =
+    (file ≡ index) × ((fault ≢ files.OutOfMemory) × IfSome octets (λ o. IsRefusalOf A o fault))
+IsFileEnd A octets index (Join fault) = ⊥
+IsFileEnd A octets index Write = ⊥
+IsFileEnd A octets index OutOfMemory = Unit {0}
+
+-- ---- all files
+
+-- the first file that tells nothing, behind others that each tell something
+pub record IsInputEnd (A : Type 0) (known : List (Option (List ℕ))) (fault : RunFault) : Type 0 where
+  pub front : List (Option (List ℕ))
+  pub octets : Option (List ℕ)
+  pub rest : List (Option (List ℕ))
+  pub split : known ≡ front ++ (octets ∷ rest)
+  pub told : List (FileTold A)
+  pub before : AreTold front told
+  pub ended : IsFileEnd A octets (length front) fault
+
+-- ---- the database
+
+-- memory ran out, or this is the first fault of the joining
+abbrev pub IsDumpEnd : {A : Type 0} → List (FileTold A) → RunFault → Type 0
+IsDumpEnd told (Read file) = ⊥
+IsDumpEnd told (TooLarge file) = ⊥
+IsDumpEnd told (Refused file fault) = ⊥
+IsDumpEnd told (Join fault) = (fault ≢ joins.OutOfMemory) × IsJoinFault told fault
+IsDumpEnd told Write = ⊥
+IsDumpEnd told OutOfMemory = Unit {0}
+
+-- ---- the run
+
+-- the files can not all be read
+abbrev pub IsReadEnd : (A : Type 0) → List (Option (List ℕ)) → RunFault → Type 0
+IsReadEnd A known (Read file) = IsInputEnd A known (Read file)
+IsReadEnd A known (TooLarge file) = IsInputEnd A known (TooLarge file)
+IsReadEnd A known (Refused file fault) = IsInputEnd A known (Refused file fault)
+IsReadEnd A known (Join fault) = ⊥
+IsReadEnd A known Write = ⊥
+IsReadEnd A known OutOfMemory = Unit {0}
+
+-- all files tell something, and then this holds
+abbrev pub AfterAll : (A : Type 0) → List (Option (List ℕ)) → (List (FileTold A) → Type 0) → Type 0
+AfterAll A known P = (told : List (FileTold A)) × (AreTold known told × P told)
+
+-- a run ends with the first file that tells nothing, or with what makes no database, or as the dump is written
+abbrev pub MayEndRun : (A : Type 0) → List (Option (List ℕ)) → RunFault → Type 0
+MayEndRun A known (Read file) = IsInputEnd A known (Read file)
+MayEndRun A known (TooLarge file) = IsInputEnd A known (TooLarge file)
+MayEndRun A known (Refused file fault) = IsInputEnd A known (Refused file fault)
+MayEndRun A known (Join fault) = AfterAll A known (λ told. IsDumpEnd told (Join fault))
+MayEndRun A known Write = AfterAll A known (λ told. (dump : List ℕ) × IsDump told dump)
+MayEndRun A known OutOfMemory = Unit {0}

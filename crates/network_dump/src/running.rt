@@ -1,0 +1,77 @@
+//! The whole run: files are read, and the dump that they make is written.
+
+ghost use Rattle.std.specs.Prelude.{◌≡◌, ◌≢◌, ◌↔◌, ℕ, List, All, IfErr, IfOk, OnOk, IsErr, false, true};
+ghost use Rattle.std.specs.Io.KnownBytes.{Appends};
+ghost use Rattle.streams.specs.Watched.{inner_of, has_failed};
+ghost use Rattle.streams.specs.WholeText.{AppendsPrefix};
+ghost use Rattle.network_files.specs.Dumps.{IsDump};
+ghost use Rattle.network_dump.specs.Runs.{AreTold, IsDumpEnd, MayEndRun, known};
+
+use crate::fault::RunFault;
+use crate::input::read_files;
+use network_files::{FileTold, dump_of_files};
+use sighted_database::JoinFault;
+use std::alloc::Allocator;
+use std::io::{Read, Write};
+use streams::{Watched, WriteFault, write_whole};
+
+/// The dump that all files together make.
+fn dump_of<A: Allocator + Copy>(alloc: A, told: &[FileTold<A>]) -> Result<Vec<u8, A>, RunFault>
+    ensures dump { IfOk result (λ dump. IsDump told.now dump.items) }
+    ensures fault { IfErr result (IsDumpEnd told.now) }
+{
+    match dump_of_files(alloc, told) {
+        Ok(dump) => Ok(dump),
+        Err(JoinFault::OutOfMemory) => Err(RunFault::OutOfMemory),
+        Err(fault) => Err(RunFault::Join(fault)),
+    }
+}
+
+/// Writes a text whole, and flushes the writer.
+fn write_and_flush<W: Write>(writer: &mut Watched<W>, text: &[u8]) -> Result<(), WriteFault>
+    requires { has_failed writer.old ≡ false }
+    ensures whole { OnOk result
+        (Appends (W.contents (inner_of writer.old)) (W.contents (inner_of writer.new)) text.now) }
+    ensures prefix { AppendsPrefix (W.contents (inner_of writer.old))
+        (W.contents (inner_of writer.new)) text.now }
+    ensures failed { IsErr result ↔ (has_failed writer.new ≡ true) }
+{
+    write_whole(writer, text)?;
+    writer.flush().map_err(|_| WriteFault)
+}
+
+/// Reads the files, one after another, joins what they tell, and writes the dump of the database
+/// to `out`. The answer is what each file tells.
+///
+/// # Errors
+///
+/// Want of memory, a writer that has failed, or the first of these that comes: a file that can not
+/// be read, is too long or is refused, in the order of the files; and then what makes no database.
+/// Nothing is written before all files are read and joined.
+pub fn run<A: Allocator + Copy, R: Read, W: Write>(
+    alloc: A,
+    files: &mut [Watched<R>],
+    out: &mut Watched<W>,
+) -> Result<Vec<FileTold<A>, A>, RunFault>
+    requires files_open { All (λ file. has_failed file ≡ false) files.old }
+    requires out_open { has_failed out.old ≡ false }
+
+    // What is written, where the octets of the files are known.
+    ensures told { IfOk result (λ told. AreTold (known R.remaining files.old) told.items) }
+    ensures dump { IfOk result (λ told. (dump : List ℕ) × (IsDump told.items dump
+        × Appends (W.contents (inner_of out.old)) (W.contents (inner_of out.new)) dump)) }
+
+    // When each fault comes.
+    ensures faults { IfErr result (MayEndRun A (known R.remaining files.old)) }
+    ensures read { ((k : ℕ) → result ≢ Err (RunFault.Read k))
+        → All (λ file. has_failed file ≡ false) files.new }
+    ensures write { (result ≡ Err RunFault.Write) ↔ (has_failed out.new ≡ true) }
+
+    // What is left alone.
+    ensures untouched { IfErr result (λ fault. fault ≢ RunFault.Write → out.new ≡ out.old) }
+{
+    let told = read_files(alloc, files)?;
+    let dump = dump_of(alloc, &told)?;
+    write_and_flush(out, &dump)?;
+    Ok(told)
+}
