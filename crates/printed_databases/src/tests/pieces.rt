@@ -51,7 +51,8 @@ pub(super) const ROUTER: &[u8] = b"                Router Link States (Area 0.0.
     LS age: 25\n  Options: 0x2  : *|-|-|-|-|-|E|-\n  LS Flags: 0x3  \n  Flags: 0x0\n  \
     LS Type: router-LSA\n  Link State ID: 1.1.1.1 \n  Advertising Router: 1.1.1.1\n  \
     LS Seq Number: 80000008\n  Checksum: 0x1ac9\n  Length: 72\n\n   Number of Links: 4\n\n    \
-    Link connected to: a Transit Network\n     (Link ID) Designated Router address: 192.168.1.1\n     \
+    Link connected to: a Transit Network\n     \
+    (Link ID) Designated Router address: 192.168.1.1\n     \
     (Link Data) Router Interface address: 192.168.1.1\n      Number of TOS metrics: 0\n       \
     TOS 0 Metric: 10\n\n    Link connected to: another Router (point-to-point)\n     \
     (Link ID) Neighboring Router ID: 5.5.5.5\n     \
@@ -103,12 +104,14 @@ pub(super) const NETWORK_OCTETS: &[u8] = &[
 /// `show ip ospf database external`: one LSA with a metric of type 2 and a forwarding address, and
 /// one with a metric of type 1.
 pub(super) const EXTERNALS: &[u8] = b"                AS External Link States \n\n  \
-    LS age: 24\n  Options: 0x2  : *|-|-|-|-|-|E|-\n  LS Flags: 0x6  \n  LS Type: AS-external-LSA\n  \
+    LS age: 24\n  Options: 0x2  : *|-|-|-|-|-|E|-\n  LS Flags: 0x6  \n  \
+    LS Type: AS-external-LSA\n  \
     Link State ID: 10.94.0.255 (External Network Number)\n  Advertising Router: 4.4.4.4\n  \
     LS Seq Number: 80000001\n  Checksum: 0x6fef\n  Length: 36\n\n  Network Mask: /24\n        \
     Metric Type: 2 (Larger than any link state path)\n        TOS: 0\n        Metric: 9\n        \
     Forward Address: 192.168.50.77\n        External Route Tag: 9\n\n  \
-    LS age: 24\n  Options: 0x2  : *|-|-|-|-|-|E|-\n  LS Flags: 0x6  \n  LS Type: AS-external-LSA\n  \
+    LS age: 24\n  Options: 0x2  : *|-|-|-|-|-|E|-\n  LS Flags: 0x6  \n  \
+    LS Type: AS-external-LSA\n  \
     Link State ID: 10.91.0.0 (External Network Number)\n  Advertising Router: 3.3.3.3\n  \
     LS Seq Number: 80000001\n  Checksum: 0xc65a\n  Length: 36\n\n  Network Mask: /16\n        \
     Metric Type: 1\n        TOS: 0\n        Metric: 30\n        Forward Address: 0.0.0.0\n        \
