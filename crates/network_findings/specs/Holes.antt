@@ -1,0 +1,47 @@
+-- What is to be told of a file besides what it gave.
+use Rattle.std.specs.Prelude.{ℕ, ◌==◌, List, [], ◌∷◌, count_by, Option, None, Some, if◌then◌else◌}
+use Rattle.std.specs.List.{filter_map}
+use Rattle.capture_files.specs.declared.frame.End.{End}
+use Rattle.capture_files.specs.declared.frame.End.TheVariants as ends
+use Rattle.lsa_codec.specs.declared.fault.LsaFault.TheVariants as lsa
+use Rattle.network_findings.specs.declared.hole.Hole.{Hole}
+use Rattle.network_findings.specs.declared.hole.Hole.TheVariants.{Frames, Cut}
+use Rattle.ospf_packets.specs.declared.odd.Odd.{Odd}
+use Rattle.ospf_packets.specs.declared.odd.Odd.TheVariants.{OtherLink, NotIpv4, NotOspf, Truncated, BadLength, MissingFragment, OtherVersion, BadChecksum, OtherType, RefusedLsa}
+
+-- a number that no other reason has
+abbrev pub number_of : Odd → ℕ
+number_of OtherLink = 0
+number_of NotIpv4 = 1
+number_of NotOspf = 2
+number_of Truncated = 3
+number_of BadLength = 4
+number_of MissingFragment = 5
+number_of OtherVersion = 6
+number_of BadChecksum = 7
+number_of OtherType = 8
+number_of (RefusedLsa lsa.Truncated) = 9
+number_of (RefusedLsa lsa.Length) = 10
+number_of (RefusedLsa lsa.BadType) = 11
+number_of (RefusedLsa lsa.Body) = 12
+number_of (RefusedLsa lsa.Checksum) = 13
+number_of (RefusedLsa lsa.Mask) = 14
+number_of (RefusedLsa lsa.RouterId) = 15
+number_of (RefusedLsa lsa.ZeroCost) = 16
+number_of (RefusedLsa lsa.OutOfMemory) = 17
+
+-- how often a reason is told
+abbrev pub times : List Odd → Odd → ℕ
+times odd reason = count_by (λ one. number_of one == number_of reason) odd
+
+-- a reason, with how often it is told, where it is
+abbrev pub counted : List Odd → Odd → Option Hole
+counted odd reason = if times odd reason == 0 then None else Some (Frames reason (times odd reason))
+
+-- the reasons that are told of frames, each once
+abbrev pub frame_holes : List Odd → List Odd → List Hole
+frame_holes reasons odd = filter_map (counted odd) reasons
+
+abbrev pub end_holes : End → List Hole
+end_holes ends.Whole = []
+end_holes (ends.Cut offset) = Cut offset ∷ []

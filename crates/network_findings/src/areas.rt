@@ -1,0 +1,71 @@
+//! Areas, each once.
+
+ghost use Rattle.std.specs.Prelude.{◌≡◌, IfOk, map};
+ghost use Rattle.std.specs.List.{filter_map};
+ghost use Rattle.network_findings.specs.Areas.{area_in, areas_told};
+
+use lsa_codec::AreaId;
+use lsa_instances::{Scope, Sighting};
+use network_files::FileTold;
+use sighted_database::ToldArea;
+use std::alloc::{AllocError, Allocator};
+use std::collections::BTreeSet;
+
+/// The area of a scope.
+fn area_in(scope: Scope) -> Option<AreaId>
+    ensures { result ≡ area_in scope }
+{
+    match scope {
+        Scope::Area(id) => Some(id),
+        Scope::AsWide => None,
+    }
+}
+
+/// The areas of which the file tells the kind, as often as it tells it.
+fn areas_of_kinds<A: Allocator + Copy>(
+    alloc: A,
+    kinds: &[ToldArea],
+) -> Result<Vec<AreaId, A>, AllocError>
+    ensures { IfOk result (λ areas. areas.items ≡ map (λ area. area.id) kinds.now) }
+{
+    kinds.iter().map(|area| area.id).collect(alloc)
+}
+
+/// The areas of LSAs, as often as there is one.
+fn areas_of_lsas<A: Allocator + Copy>(
+    alloc: A,
+    sightings: &[Sighting<A>],
+) -> Result<Vec<AreaId, A>, AllocError>
+    ensures { IfOk result (λ areas. areas.items
+        ≡ filter_map (λ sighting. area_in sighting.scope) sightings.now) }
+{
+    sightings
+        .iter()
+        .filter_map(|sighting| area_in(sighting.scope))
+        .collect(alloc)
+}
+
+/// The areas of which the file tells the kind or an LSA, as often as it tells them.
+pub(crate) fn areas_told<A: Allocator + Copy>(
+    alloc: A,
+    file: &FileTold<A>,
+) -> Result<Vec<AreaId, A>, AllocError>
+    ensures { IfOk result (λ areas. areas.items ≡ areas_told file.now) }
+{
+    let mut areas = areas_of_kinds(alloc, &file.areas)?;
+    let of_lsas = areas_of_lsas(alloc, &file.sightings)?;
+    areas.extend_from_slice(&of_lsas)?;
+    Ok(areas)
+}
+
+/// The IDs of areas, each once.
+pub(crate) fn each_once<A: Allocator + Copy>(
+    alloc: A,
+    areas: &[AreaId],
+) -> Result<BTreeSet<u32, A>, AllocError> {
+    let mut once = BTreeSet::new(alloc);
+    for area in areas {
+        once.insert(area.0)?;
+    }
+    Ok(once)
+}

@@ -1,0 +1,91 @@
+//! What is missing in a file, or can not be used.
+
+use lsa_codec::{AreaId, Key, LsaFault};
+use ospf_packets::Odd;
+use snmp_walk::{Hole as RowHole, Row, RowFault};
+use std::fmt;
+
+/// What is missing in a file, or can not be used of it.
+///
+/// Its `Display` is a few words on one line, as `MissingFragment 3` or `Cut at 4711`.
+#[derive(Clone, Copy, Debug, PartialEq, Eq)]
+pub enum Hole {
+    /// So many frames of a capture, or LSAs in them, can not be used for this reason. It is never
+    /// that a frame carries something else than OSPF.
+    Frames(Odd, usize),
+    /// The capture ends in the middle of its last record, which begins at this offset.
+    Cut(usize),
+    /// A row of a walk tells nothing, or an object of it can not be read.
+    Walk(RowHole),
+    /// The area is told to be not-so-stubby (RFC 3101), which the planner does not know.
+    Nssa(AreaId),
+}
+
+/// The name of a reason.
+fn odd_name(odd: Odd) -> &'static str {
+    match odd {
+        Odd::OtherLink => "OtherLink",
+        Odd::NotIpv4 => "NotIpv4",
+        Odd::NotOspf => "NotOspf",
+        Odd::Truncated => "Truncated",
+        Odd::BadLength => "BadLength",
+        Odd::MissingFragment => "MissingFragment",
+        Odd::OtherVersion => "OtherVersion",
+        Odd::BadChecksum => "BadChecksum",
+        Odd::OtherType => "OtherType",
+        Odd::RefusedLsa(fault) => lsa_name(fault),
+    }
+}
+
+/// The name of an LSA that is refused.
+fn lsa_name(fault: LsaFault) -> &'static str {
+    match fault {
+        LsaFault::Truncated => "RefusedLsa Truncated",
+        LsaFault::Length => "RefusedLsa Length",
+        LsaFault::BadType => "RefusedLsa BadType",
+        LsaFault::Body => "RefusedLsa Body",
+        LsaFault::Checksum => "RefusedLsa Checksum",
+        LsaFault::Mask => "RefusedLsa Mask",
+        LsaFault::RouterId => "RefusedLsa RouterId",
+        LsaFault::ZeroCost => "RefusedLsa ZeroCost",
+        LsaFault::OutOfMemory => "RefusedLsa OutOfMemory",
+    }
+}
+
+/// The name of the reason for which a row tells no LSA.
+fn row_name(fault: RowFault) -> &'static str {
+    match fault {
+        RowFault::Missing => "Missing",
+        RowFault::NotOctets => "NotOctets",
+        RowFault::Refused(fault) => lsa_name(fault),
+        RowFault::Longer => "Longer",
+        RowFault::OtherKey(_) => "OtherKey",
+        RowFault::NoArea => "NoArea",
+    }
+}
+
+/// Writes what names an LSA, behind the area of its row.
+fn write_row<W: fmt::Write>(f: &mut fmt::Formatter<W>, row: Row, name: &str) -> fmt::Result {
+    let Row { area, key } = row;
+    let Key { kind, id, adv } = key;
+    match area {
+        Some(area) => write!(f, "{name} area {area} type {kind} id {id} adv {adv}"),
+        None => write!(f, "{name} type {kind} id {id} adv {adv}"),
+    }
+}
+
+impl fmt::Display for Hole {
+    fn fmt<W: fmt::Write>(&self, f: &mut fmt::Formatter<W>) -> fmt::Result {
+        match *self {
+            Hole::Frames(odd, count) => {
+                let name = odd_name(odd);
+                write!(f, "{name} {count}")
+            }
+            Hole::Cut(offset) => write!(f, "Cut at {offset}"),
+            Hole::Walk(RowHole::Row(row, fault)) => write_row(f, row, row_name(fault)),
+            Hole::Walk(RowHole::Kind(area)) => write!(f, "Kind area {area}"),
+            Hole::Walk(RowHole::Name) => write!(f, "Name"),
+            Hole::Nssa(area) => write!(f, "Nssa area {area}"),
+        }
+    }
+}

@@ -1,0 +1,128 @@
+//! The holes of a file.
+
+ghost use Rattle.std.specs.Prelude.{◌≡◌, ◌++◌, IfOk, OnOk};
+ghost use Rattle.network_findings.specs.Holes.{counted, end_holes, frame_holes, number_of};
+
+use crate::areas::each_once;
+use crate::hole::Hole;
+use capture_files::End;
+use lsa_codec::{AreaId, LsaFault};
+use network_files::{FileTold, Oddities};
+use ospf_packets::Odd;
+use std::alloc::{AllocError, Allocator};
+
+/// The reasons that are told of frames and of their LSAs. That a frame carries something else than
+/// IPv4, or a datagram something else than OSPF, is none.
+const REASONS: &[Odd] = &[
+    Odd::OtherLink,
+    Odd::Truncated,
+    Odd::BadLength,
+    Odd::MissingFragment,
+    Odd::OtherVersion,
+    Odd::BadChecksum,
+    Odd::OtherType,
+    Odd::RefusedLsa(LsaFault::Truncated),
+    Odd::RefusedLsa(LsaFault::Length),
+    Odd::RefusedLsa(LsaFault::BadType),
+    Odd::RefusedLsa(LsaFault::Body),
+    Odd::RefusedLsa(LsaFault::Checksum),
+    Odd::RefusedLsa(LsaFault::Mask),
+    Odd::RefusedLsa(LsaFault::RouterId),
+    Odd::RefusedLsa(LsaFault::ZeroCost),
+];
+
+/// A number that no other reason has.
+fn number_of(odd: Odd) -> u8
+    ensures { result ≡ number_of odd }
+{
+    match odd {
+        Odd::OtherLink => 0,
+        Odd::NotIpv4 => 1,
+        Odd::NotOspf => 2,
+        Odd::Truncated => 3,
+        Odd::BadLength => 4,
+        Odd::MissingFragment => 5,
+        Odd::OtherVersion => 6,
+        Odd::BadChecksum => 7,
+        Odd::OtherType => 8,
+        Odd::RefusedLsa(LsaFault::Truncated) => 9,
+        Odd::RefusedLsa(LsaFault::Length) => 10,
+        Odd::RefusedLsa(LsaFault::BadType) => 11,
+        Odd::RefusedLsa(LsaFault::Body) => 12,
+        Odd::RefusedLsa(LsaFault::Checksum) => 13,
+        Odd::RefusedLsa(LsaFault::Mask) => 14,
+        Odd::RefusedLsa(LsaFault::RouterId) => 15,
+        Odd::RefusedLsa(LsaFault::ZeroCost) => 16,
+        Odd::RefusedLsa(LsaFault::OutOfMemory) => 17,
+    }
+}
+
+/// How often a reason is told, if it is.
+fn counted(odd: &[Odd], reason: Odd) -> Option<Hole>
+    ensures { result ≡ counted odd.now reason }
+{
+    let number = number_of(reason);
+    let count = odd.iter().filter(|one| number_of(**one) == number).count();
+    if count == 0 {
+        None
+    } else {
+        Some(Hole::Frames(reason, count))
+    }
+}
+
+/// What is odd of frames, each reason once.
+fn frame_holes<A: Allocator + Copy>(alloc: A, odd: &[Odd]) -> Result<Vec<Hole, A>, AllocError>
+    ensures { IfOk result (λ holes. holes.items ≡ frame_holes REASONS.now odd.now) }
+{
+    REASONS
+        .iter()
+        .filter_map(|reason| counted(odd, *reason))
+        .collect(alloc)
+}
+
+/// What is missing at the end of a capture, behind other holes.
+fn put_end<A: Allocator + Copy>(holes: &mut Vec<Hole, A>, end: End) -> Result<(), AllocError>
+    ensures { OnOk result (holes.new.items ≡ holes.old.items ++ end_holes end) }
+{
+    if let End::Cut(offset) = end {
+        holes.push(Hole::Cut(offset))?;
+    }
+    Ok(())
+}
+
+/// What can not be used of a file, or is missing in it.
+fn oddity_holes<A: Allocator + Copy>(
+    alloc: A,
+    oddities: &Oddities<A>,
+) -> Result<Vec<Hole, A>, AllocError> {
+    match oddities {
+        Oddities::Frames(odd, end) => {
+            let mut holes = frame_holes(alloc, odd)?;
+            put_end(&mut holes, *end)?;
+            Ok(holes)
+        }
+        Oddities::Rows(rows) => rows.iter().map(|row| Hole::Walk(*row)).collect(alloc),
+    }
+}
+
+/// The not-so-stubby areas, each once, in rising order.
+fn nssa_holes<A: Allocator + Copy>(alloc: A, areas: &[AreaId]) -> Result<Vec<Hole, A>, AllocError> {
+    let ids = each_once(alloc, areas)?;
+    ids.iter().map(|id| Hole::Nssa(AreaId(*id))).collect(alloc)
+}
+
+/// What is to be told of a file besides what it gave: what is odd of its frames and how often, that
+/// it is cut, rows that tell nothing, and not-so-stubby areas.
+///
+/// # Errors
+///
+/// A growth was refused.
+pub fn holes_of<A: Allocator + Copy>(
+    alloc: A,
+    file: &FileTold<A>,
+) -> Result<Vec<Hole, A>, AllocError> {
+    let mut holes = oddity_holes(alloc, &file.oddities)?;
+    let nssas = nssa_holes(alloc, &file.nssas)?;
+    holes.extend_from_slice(&nssas)?;
+    Ok(holes)
+}

@@ -1,0 +1,14 @@
+//! What the files of a network gave, and what is missing in them or can not be used.
+//!
+//! [`file_line`] tells of a file what it gave. [`holes_of`] answers what is to be told of it
+//! besides: each [`Hole`] says that the databases may lack an LSA, or are not to be trusted.
+#![tactic(auto)]
+
+mod areas;
+mod hole;
+mod holes;
+mod line;
+
+pub use hole::Hole;
+pub use holes::holes_of;
+pub use line::file_line;
