@@ -1,0 +1,10 @@
+use Rattle.std.proofs.Common.{◌∙◌, ap}
+use Rattle.clap.specs.Simple.{app_of_fields}
+use Rattle.ospf_capture.specs.CommandLine.{with_version}
+use Rattle.ospf_capture.proofs.command_line.named_command.Goals as goal
+
+-- only the version is of those fields that the parser reads
+pub returns : goal.returns
+returns c =
+    ap app_of_fields c.after_help.ensures ∙ ap app_of_fields c.version.ensures
+    ∙ ap with_version (ap app_of_fields c.about.ensures ∙ ap app_of_fields c.in_ok-bin_name.ensures.0 ∙ c.new.ensures.app)

@@ -1,0 +1,125 @@
+-- How the program ends after a fault: the status, and the line on standard error.
+use Rattle.std.specs.Prelude.{ℕ, List, ◌++◌, codes, decimal}
+use Rattle.std.specs.Borrow.{Bor}
+use Rattle.capture_files.specs.declared.fault.CaptureFault.{CaptureFault}
+use Rattle.capture_files.specs.declared.fault.CaptureFault.TheVariants as captures
+use Rattle.network_dump.specs.declared.fault.RunFault.{RunFault}
+use Rattle.network_dump.specs.declared.fault.RunFault.TheVariants as runs
+use Rattle.network_files.specs.declared.fault.FileFault.{FileFault}
+use Rattle.network_files.specs.declared.fault.FileFault.TheVariants as files
+use Rattle.sighted_database.specs.declared.fault.JoinFault.{JoinFault}
+use Rattle.sighted_database.specs.declared.fault.JoinFault.TheVariants as joins
+use Rattle.ospf_capture.specs.declared.fault.ExitFault.{ExitFault}
+use Rattle.ospf_capture.specs.declared.fault.ExitFault.TheVariants.{File, Join, Output, Memory}
+use Rattle.ospf_capture.specs.declared.fault.FileEnd.{FileEnd}
+use Rattle.ospf_capture.specs.declared.fault.FileEnd.TheVariants.{Open, Read, Write, TooLarge, Refused}
+
+-- ---- faults of a run
+
+-- the place of the file that a fault tells of, and 0 where it tells of none
+abbrev pub index_of : RunFault → ℕ
+index_of (runs.Read index) = index
+index_of (runs.TooLarge index) = index
+index_of (runs.Refused index fault) = index
+index_of (runs.Join fault) = 0
+index_of runs.Write = 0
+index_of runs.OutOfMemory = 0
+
+-- a fault with the name of that file; the writer is memory, which fails for want of it alone
+abbrev pub named : Bor (List ℕ) → RunFault → ExitFault
+named name (runs.Read index) = File name Read
+named name (runs.TooLarge index) = File name TooLarge
+named name (runs.Refused index fault) = File name (Refused fault)
+named name (runs.Join fault) = Join fault
+named name runs.Write = Memory
+named name runs.OutOfMemory = Memory
+
+-- ---- status
+
+abbrev pub capture_status : CaptureFault → ℕ
+capture_status captures.OutOfMemory = 5
+capture_status _ = 3
+
+abbrev pub refusal_status : FileFault → ℕ
+refusal_status (files.Capture fault) = capture_status fault
+refusal_status files.UnknownKind = 3
+refusal_status files.OutOfMemory = 5
+
+-- 3 where a file is refused, 4 where it can not be opened, read or written
+abbrev pub file_status : FileEnd → ℕ
+file_status Open = 4
+file_status Read = 4
+file_status Write = 4
+file_status TooLarge = 4
+file_status (Refused fault) = refusal_status fault
+
+abbrev pub join_status : JoinFault → ℕ
+join_status joins.OutOfMemory = 5
+join_status _ = 3
+
+-- 3 for what is refused, 4 for files and standard output, 5 for want of memory
+abbrev pub exit_status : ExitFault → ℕ
+exit_status (File name end) = file_status end
+exit_status (Join fault) = join_status fault
+exit_status Output = 4
+exit_status Memory = 5
+
+-- ---- the line
+
+abbrev pub capture_name : CaptureFault → List ℕ
+capture_name captures.NotACapture = codes "NotACapture"
+capture_name captures.ShortHeader = codes "ShortHeader"
+capture_name captures.Version = codes "Version"
+capture_name (captures.CapturedLength offset) = codes "CapturedLength"
+capture_name (captures.ByteOrder offset) = codes "ByteOrder"
+capture_name (captures.BlockLength offset) = codes "BlockLength"
+capture_name (captures.SectionVersion offset) = codes "SectionVersion"
+capture_name (captures.NoInterface offset) = codes "NoInterface"
+capture_name captures.OutOfMemory = codes "OutOfMemory"
+
+-- the offset of what lies: the header begins at 0, its version stands at 4
+abbrev pub capture_offset : CaptureFault → ℕ
+capture_offset captures.NotACapture = 0
+capture_offset captures.ShortHeader = 0
+capture_offset captures.Version = 4
+capture_offset (captures.CapturedLength offset) = offset
+capture_offset (captures.ByteOrder offset) = offset
+capture_offset (captures.BlockLength offset) = offset
+capture_offset (captures.SectionVersion offset) = offset
+capture_offset (captures.NoInterface offset) = offset
+capture_offset captures.OutOfMemory = 0
+
+abbrev pub refusal_name : FileFault → List ℕ
+refusal_name (files.Capture fault) = capture_name fault
+refusal_name files.UnknownKind = codes "UnknownKind"
+refusal_name files.OutOfMemory = codes "OutOfMemory"
+
+abbrev pub refusal_offset : FileFault → ℕ
+refusal_offset (files.Capture fault) = capture_offset fault
+refusal_offset files.UnknownKind = 0
+refusal_offset files.OutOfMemory = 0
+
+-- as `r1.pcap: BlockLength at 28`
+abbrev pub refused_text : List ℕ → FileFault → List ℕ
+refused_text name fault = name ++ codes ": " ++ refusal_name fault ++ codes " at " ++ decimal (refusal_offset fault) ++ codes "\n"
+
+abbrev pub file_text : List ℕ → FileEnd → List ℕ
+file_text name Open = name ++ codes ": Open\n"
+file_text name Read = name ++ codes ": Read\n"
+file_text name Write = name ++ codes ": Write\n"
+file_text name TooLarge = name ++ codes ": TooLarge\n"
+file_text name (Refused fault) = refused_text name fault
+
+abbrev pub join_text : JoinFault → List ℕ
+join_text joins.MisplacedLsa = codes "dump: MisplacedLsa\n"
+join_text joins.TooManyAreas = codes "dump: TooManyAreas\n"
+join_text joins.TooManyLsas = codes "dump: TooManyLsas\n"
+join_text joins.TooLong = codes "dump: TooLong\n"
+join_text joins.OutOfMemory = codes "memory: OutOfMemory\n"
+
+-- the line, its end included
+abbrev pub exit_text : ExitFault → List ℕ
+exit_text (File name end) = file_text name.now end
+exit_text (Join fault) = join_text fault
+exit_text Output = codes "standard output: Write\n"
+exit_text Memory = codes "memory: OutOfMemory\n"

@@ -1,0 +1,4 @@
+pub mod CommandLine
+pub mod OptionsFaults
+pub mod Exit
+pub mod steps

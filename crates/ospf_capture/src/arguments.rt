@@ -1,0 +1,48 @@
+//! The arguments that the command line gives, or why it gives none.
+
+ghost use Rattle.std.specs.Prelude.{◌≡◌};
+ghost use Rattle.ospf_capture.specs.declared.arguments.OptionsFault.TheVariants.{OutOfMemory};
+ghost use Rattle.ospf_capture.specs.OptionsFaults.{IsFaultOf};
+
+use clap::Error;
+use clap::error::ErrorKind;
+use std::alloc::AllocError;
+
+/// The files that the command line names.
+#[derive(Debug, Drop)]
+pub(crate) struct Options<'a> {
+    /// Where the dump goes. Without it none is written.
+    pub(crate) out: Option<&'a str>,
+    /// The files that are read, one at least.
+    pub(crate) files: Vec<&'a str>,
+}
+
+/// Why words give no options.
+#[derive(Debug, Drop)]
+pub(crate) enum OptionsFault {
+    /// The words are refused, or ask for help or for the version. Its text goes where
+    /// `Error::print` puts it, and its status is `Error::exit_code`. It is never for want of
+    /// memory.
+    Refused(Error),
+    /// A growth was refused.
+    OutOfMemory,
+}
+
+impl From<AllocError> for OptionsFault {
+    ghost from_gives = { λ _ fault. fault ≡ OutOfMemory };
+
+    fn from(_error: AllocError) -> OptionsFault {
+        OptionsFault::OutOfMemory
+    }
+}
+
+impl From<Error> for OptionsFault {
+    ghost from_gives = { λ error fault. IsFaultOf error fault };
+
+    fn from(error: Error) -> OptionsFault {
+        match error.kind() {
+            ErrorKind::OutOfMemory => OptionsFault::OutOfMemory,
+            _ => OptionsFault::Refused(error),
+        }
+    }
+}

@@ -1,0 +1,99 @@
+//! The command line, read by clap.
+
+ghost use Rattle.std.specs.Prelude.{◌≡◌, false, [], codes, map, string_bytes, IfOk, IfErr, OnOk};
+ghost use Rattle.clap.specs.Words.{app_of, fault_of, found_of, new_app, rule_of};
+ghost use Rattle.ospf_capture.specs.CommandLine.{files_rule, ospf_capture, out_rule, with_version, IsGiven};
+ghost use Rattle.ospf_capture.specs.steps.FoundFiles.{IsRead, values_in};
+ghost use Rattle.ospf_capture.specs.OptionsFaults.{IsRefusal};
+
+use crate::arguments::{Options, OptionsFault};
+use crate::help::{ABOUT, DETAILS, VERSION};
+use clap::{Arg, ArgAction, ArgMatches, Command};
+use std::alloc::{AllocError, Global};
+
+/// The options that the words of a command line give. The first word is the program's name.
+///
+/// Each field is what clap gives the argument of its name for these words.
+///
+/// # Errors
+///
+/// `Refused` for words that clap refuses, `--help` and `--version` among them, with clap's own
+/// error. `OutOfMemory` where a growth was refused.
+pub(crate) fn options<'a>(alloc: Global, words: &'a [String]) -> Result<Options<'a>, OptionsFault>
+    ensures given { IfOk result (IsGiven (map string_bytes words.now)) }
+    ensures accepted { OnOk result (fault_of ospf_capture (map string_bytes words.now) ≡ []) }
+    ensures refused { IfErr result
+        (IsRefusal (fault_of ospf_capture (map string_bytes words.now))) }
+{
+    let matches = command(alloc)?.try_get_matches_from(words)?;
+    Ok(named_files(alloc, &matches)?)
+}
+
+/// The program's command. Its name in help and usage is `ospf-capture`, whatever file it is run
+/// from.
+fn command<'a>(alloc: Global) -> Result<Command<'a>, AllocError>
+    ensures { IfOk result (λ command. app_of command ≡ ospf_capture) }
+{
+    named_command(alloc)?
+        .arg(out_option(alloc))?
+        .arg(file_words(alloc))
+}
+
+/// The command without its arguments: its name, and the texts of `--help` and `--version`.
+fn named_command<'a>(alloc: Global) -> Result<Command<'a>, AllocError>
+    ensures { IfOk result
+        (λ command. app_of command ≡ with_version (new_app (codes "ospf-capture"))) }
+{
+    Ok(
+        Command::new(alloc, "ospf-capture")
+            .bin_name("ospf-capture")?
+            .about(ABOUT)
+            .version(VERSION)
+            .after_help(DETAILS),
+    )
+}
+
+/// The option `--out DUMP`.
+fn out_option<'a>(alloc: Global) -> Arg<'a>
+    ensures rule { rule_of result ≡ out_rule }
+    ensures local { result.global ≡ false }
+{
+    Arg::new(alloc, "out")
+        .long("out")
+        .value_name("DUMP")
+        .help("Where to write the dump")
+        .action(ArgAction::Set)
+}
+
+/// The words `FILE..`.
+fn file_words<'a>(alloc: Global) -> Arg<'a>
+    ensures rule { rule_of result ≡ files_rule }
+    ensures local { result.global ≡ false }
+{
+    Arg::new(alloc, "files")
+        .value_name("FILE")
+        .help("Packet captures (pcap, pcapng) and SNMP walks, told apart by their content")
+        .required(true)
+        .action(ArgAction::Append)
+}
+
+/// The files that clap found.
+fn named_files<'a>(alloc: Global, matches: &ArgMatches<'a>) -> Result<Options<'a>, AllocError>
+    ensures { IfOk result (IsRead (found_of matches.now)) }
+{
+    Ok(Options {
+        out: matches.get_str("out"),
+        files: file_names(alloc, matches)?,
+    })
+}
+
+/// The words that clap found for the files.
+fn file_names<'a>(alloc: Global, matches: &ArgMatches<'a>) -> Result<Vec<&'a str>, AllocError>
+    ensures { IfOk result (λ names.
+        map (λ name. name.now) names.items ≡ values_in (found_of matches.now) (codes "files")) }
+{
+    match matches.get_strs("files") {
+        None => Ok(Vec::new(alloc)),
+        Some(words) => Vec::from_slice(alloc, words),
+    }
+}

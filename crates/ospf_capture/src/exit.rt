@@ -1,0 +1,177 @@
+//! How the program ends after a fault: its status, and the line on standard error.
+
+ghost use Rattle.std.specs.Prelude.{◌≡◌, IfOk, string_bytes};
+ghost use Rattle.ospf_capture.specs.Exit.{capture_name, capture_offset, capture_status, exit_status, exit_text, file_status, file_text, join_status, join_text, refusal_name, refusal_offset, refusal_status, refused_text};
+
+use crate::fault::{ExitFault, FileEnd};
+use capture_files::CaptureFault;
+use network_files::FileFault;
+use sighted_database::JoinFault;
+use std::alloc::{AllocError, Allocator};
+
+fn capture_status(fault: CaptureFault) -> u8
+    ensures { result ≡ capture_status fault }
+{
+    match fault {
+        CaptureFault::OutOfMemory => 5,
+        _ => 3,
+    }
+}
+
+fn refusal_status(fault: FileFault) -> u8
+    ensures { result ≡ refusal_status fault }
+{
+    match fault {
+        FileFault::Capture(fault) => capture_status(fault),
+        FileFault::UnknownKind => 3,
+        FileFault::OutOfMemory => 5,
+    }
+}
+
+fn file_status(end: FileEnd) -> u8
+    ensures { result ≡ file_status end }
+{
+    match end {
+        FileEnd::Open | FileEnd::Read | FileEnd::Write | FileEnd::TooLarge => 4,
+        FileEnd::Refused(fault) => refusal_status(fault),
+    }
+}
+
+fn join_status(fault: JoinFault) -> u8
+    ensures { result ≡ join_status fault }
+{
+    match fault {
+        JoinFault::OutOfMemory => 5,
+        _ => 3,
+    }
+}
+
+fn status_of(fault: ExitFault<'_>) -> u8
+    ensures { result ≡ exit_status fault.entry }
+{
+    match fault {
+        ExitFault::File(_, end) => file_status(end),
+        ExitFault::Join(fault) => join_status(fault),
+        ExitFault::Output => 4,
+        ExitFault::Memory => 5,
+    }
+}
+
+fn capture_name(fault: CaptureFault) -> &'static str
+    ensures { result.now ≡ capture_name fault }
+{
+    match fault {
+        CaptureFault::NotACapture => "NotACapture",
+        CaptureFault::ShortHeader => "ShortHeader",
+        CaptureFault::Version => "Version",
+        CaptureFault::CapturedLength(_) => "CapturedLength",
+        CaptureFault::ByteOrder(_) => "ByteOrder",
+        CaptureFault::BlockLength(_) => "BlockLength",
+        CaptureFault::SectionVersion(_) => "SectionVersion",
+        CaptureFault::NoInterface(_) => "NoInterface",
+        CaptureFault::OutOfMemory => "OutOfMemory",
+    }
+}
+
+fn capture_offset(fault: CaptureFault) -> usize
+    ensures { result ≡ capture_offset fault }
+{
+    match fault {
+        CaptureFault::NotACapture | CaptureFault::ShortHeader | CaptureFault::OutOfMemory => 0,
+        CaptureFault::Version => 4,
+        CaptureFault::CapturedLength(offset)
+        | CaptureFault::ByteOrder(offset)
+        | CaptureFault::BlockLength(offset)
+        | CaptureFault::SectionVersion(offset)
+        | CaptureFault::NoInterface(offset) => offset,
+    }
+}
+
+fn refusal_name(fault: FileFault) -> &'static str
+    ensures { result.now ≡ refusal_name fault }
+{
+    match fault {
+        FileFault::Capture(fault) => capture_name(fault),
+        FileFault::UnknownKind => "UnknownKind",
+        FileFault::OutOfMemory => "OutOfMemory",
+    }
+}
+
+fn refusal_offset(fault: FileFault) -> usize
+    ensures { result ≡ refusal_offset fault }
+{
+    match fault {
+        FileFault::Capture(fault) => capture_offset(fault),
+        FileFault::UnknownKind | FileFault::OutOfMemory => 0,
+    }
+}
+
+/// The line of a file that is refused.
+fn refused_line<A: Allocator + Copy>(
+    alloc: A,
+    name: &str,
+    fault: FileFault,
+) -> Result<String<A>, AllocError>
+    ensures { IfOk result (λ line. string_bytes line ≡ refused_text name.now fault) }
+{
+    let what = refusal_name(fault);
+    let offset = refusal_offset(fault);
+    let line = format!(in alloc; "{name}: {what} at {offset}\n")?;
+    Ok(line)
+}
+
+/// The line of a file.
+fn file_line<A: Allocator + Copy>(
+    alloc: A,
+    name: &str,
+    end: FileEnd,
+) -> Result<String<A>, AllocError>
+    ensures { IfOk result (λ line. string_bytes line ≡ file_text name.now end) }
+{
+    match end {
+        FileEnd::Open => format!(in alloc; "{name}: Open\n"),
+        FileEnd::Read => format!(in alloc; "{name}: Read\n"),
+        FileEnd::Write => format!(in alloc; "{name}: Write\n"),
+        FileEnd::TooLarge => format!(in alloc; "{name}: TooLarge\n"),
+        FileEnd::Refused(fault) => refused_line(alloc, name, fault),
+    }
+}
+
+/// The line of what makes no database.
+fn join_line(fault: JoinFault) -> &'static str
+    ensures { result.now ≡ join_text fault }
+{
+    match fault {
+        JoinFault::MisplacedLsa => "dump: MisplacedLsa\n",
+        JoinFault::TooManyAreas => "dump: TooManyAreas\n",
+        JoinFault::TooManyLsas => "dump: TooManyLsas\n",
+        JoinFault::TooLong => "dump: TooLong\n",
+        JoinFault::OutOfMemory => "memory: OutOfMemory\n",
+    }
+}
+
+fn line_of<A: Allocator + Copy>(alloc: A, fault: ExitFault<'_>) -> Result<String<A>, AllocError>
+    ensures { IfOk result (λ line. string_bytes line ≡ exit_text fault.entry) }
+{
+    match fault {
+        ExitFault::File(name, end) => file_line(alloc, name, end),
+        ExitFault::Join(fault) => String::from_str(alloc, join_line(fault)),
+        ExitFault::Output => String::from_str(alloc, "standard output: Write\n"),
+        ExitFault::Memory => String::from_str(alloc, "memory: OutOfMemory\n"),
+    }
+}
+
+/// The exit status and the line for standard error, its line feed included: 3 where a file is
+/// refused or the files make no database, 4 where a file can not be opened, read or written, 5 for
+/// want of memory.
+///
+/// An error is want of memory for the line; the status stands all the same.
+pub(crate) fn exit_line<A: Allocator + Copy>(
+    alloc: A,
+    fault: ExitFault<'_>,
+) -> (u8, Result<String<A>, AllocError>)
+    ensures status { result.0 ≡ exit_status fault.entry }
+    ensures line { IfOk result.1 (λ line. string_bytes line ≡ exit_text fault.entry) }
+{
+    (status_of(fault), line_of(alloc, fault))
+}

@@ -1,0 +1,73 @@
+//! Why the program ends with status 3, 4 or 5.
+
+ghost use Rattle.std.specs.Prelude.{◌≡◌};
+ghost use Rattle.ospf_capture.specs.Exit.{index_of, named};
+
+use network_dump::RunFault;
+use network_files::FileFault;
+use sighted_database::JoinFault;
+use std::alloc::{AllocError, AllocFailed};
+
+/// What is wrong with a file.
+#[derive(Clone, Copy, Debug, PartialEq, Eq)]
+pub(crate) enum FileEnd {
+    /// It can not be opened.
+    Open,
+    /// It can not be read.
+    Read,
+    /// It can not be written.
+    Write,
+    /// It has too many octets.
+    TooLarge,
+    /// What lies in it is refused.
+    Refused(FileFault),
+}
+
+/// Why the program ends with status 3, 4 or 5.
+#[derive(Clone, Copy, Debug, PartialEq, Eq)]
+pub(crate) enum ExitFault<'a> {
+    /// What is wrong with the file of this name.
+    File(&'a str, FileEnd),
+    /// What all files tell makes no database.
+    Join(JoinFault),
+    /// Standard output takes no lines.
+    Output,
+    /// Memory ran out.
+    Memory,
+}
+
+impl<'a> From<AllocError> for ExitFault<'a> {
+    fn from(_error: AllocError) -> ExitFault<'a> {
+        ExitFault::Memory
+    }
+}
+
+impl<'a, T: Drop> From<AllocFailed<T>> for ExitFault<'a> {
+    fn from(_error: AllocFailed<T>) -> ExitFault<'a> {
+        ExitFault::Memory
+    }
+}
+
+/// The fault of a run, with the name of the file. The dump of a run goes to memory, so that its
+/// writer fails for want of that alone.
+pub(crate) fn named(name: &str, fault: RunFault) -> ExitFault<'_>
+    ensures { result ≡ named name.entry fault }
+{
+    match fault {
+        RunFault::Read(_) => ExitFault::File(name, FileEnd::Read),
+        RunFault::TooLarge(_) => ExitFault::File(name, FileEnd::TooLarge),
+        RunFault::Refused(_, fault) => ExitFault::File(name, FileEnd::Refused(fault)),
+        RunFault::Join(fault) => ExitFault::Join(fault),
+        RunFault::Write | RunFault::OutOfMemory => ExitFault::Memory,
+    }
+}
+
+/// The place of the file that the fault tells of, counted from 0, and 0 where it tells of none.
+pub(crate) fn index_of(fault: RunFault) -> usize
+    ensures { result ≡ index_of fault }
+{
+    match fault {
+        RunFault::Read(index) | RunFault::TooLarge(index) | RunFault::Refused(index, _) => index,
+        RunFault::Join(_) | RunFault::Write | RunFault::OutOfMemory => 0,
+    }
+}
