@@ -4,3 +4,4 @@ pub mod Growing
 pub mod Standings
 pub mod Merge
 pub mod EntryIndex
+pub mod KeptAreas
