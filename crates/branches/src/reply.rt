@@ -1,6 +1,6 @@
 //! Replies to commands, and the texts of answers.
 
-ghost use Rattle.std.specs.Prelude.{◌≡◌, ◌++◌, IfOk, codes, decimal, flat_map, length};
+ghost use Rattle.std.specs.Prelude.{◌≡◌, ◌++◌, IfOk, OnOk, codes, decimal, flat_map, length};
 ghost use Rattle.std.specs.String.{string_bytes};
 ghost use Rattle.table_report.specs.Texts.{table_text};
 ghost use Rattle.branches.specs.Replies.{refusal_code, refusal_name, lsa_counts, link_counts, edit_counts, info_text, said_by, said_text, mark_of, reply_text, script_text, is_refusal};
@@ -10,7 +10,7 @@ use edit_script::ScriptFault;
 use lsa_codec::{Decimal, RouterId};
 use recalculate::{Info, Table, TableFault};
 use std::alloc::{AllocError, Allocator, Global};
-use table_report::{compare_text, table_text};
+use table_report::{push_compare, push_table};
 
 /// Why a command is refused. A refused command changes nothing.
 #[derive(Clone, Copy, Debug, PartialEq, Eq)]
@@ -100,105 +100,115 @@ pub fn reply_text<A: Allocator + Copy>(
     ensures { IfOk result (λ text. text.items ≡ reply_text branch (said_by reply.now)) }
 {
     let mut text = mark(alloc, branch)?;
-    text.append(&mut said_text(alloc, reply)?)?;
-    Ok(text)
-}
-
-/// The mark of a branch before a reply: `@0 `.
-fn mark<A: Allocator + Copy>(alloc: A, branch: u8) -> Result<Vec<u8, A>, AllocError>
-    ensures { IfOk result (λ text. text.items ≡ mark_of branch) }
-{
-    let branch = Decimal(u64::from(branch));
-    let text = format!(in alloc; "@{branch} ")?;
+    push_said(alloc, &mut text, reply)?;
     Ok(text.into_bytes())
 }
 
-/// The text of a reply behind the mark of its branch.
-fn said_text<A: Allocator + Copy>(alloc: A, reply: &Reply<A>) -> Result<Vec<u8, A>, AllocError>
-    ensures { IfOk result (λ text. text.items ≡ said_text (said_by reply.now)) }
+/// The mark of a branch before a reply: `@0 `.
+fn mark<A: Allocator + Copy>(alloc: A, branch: u8) -> Result<String<A>, AllocError>
+    ensures { IfOk result (λ text. string_bytes text ≡ mark_of branch) }
+{
+    let branch = Decimal(u64::from(branch));
+    format!(in alloc; "@{branch} ")
+}
+
+/// Adds the text of a reply behind the mark of its branch.
+fn push_said<A: Allocator + Copy>(
+    alloc: A,
+    text: &mut String<A>,
+    reply: &Reply<A>,
+) -> Result<(), AllocError>
+    ensures { OnOk result
+        (string_bytes text.new ≡ string_bytes text.old ++ said_text (said_by reply.now)) }
 {
     match reply {
-        Reply::Done => Vec::from_slice(alloc, b"ok\n"),
-        Reply::Refused(why) => refusal_text(alloc, *why),
-        Reply::Table(table) => table_text(alloc, table),
-        Reply::Tables(tables) => tables_text(alloc, tables),
+        Reply::Done => text.push_str("ok\n"),
+        Reply::Refused(why) => push_refusal(text, *why),
+        Reply::Table(table) => push_table(text, table),
+        Reply::Tables(tables) => push_tables(text, tables),
         Reply::Compare {
             router,
             before,
             now,
-        } => compare_text(alloc, *router, before, now),
-        Reply::Info(info) => info_text(alloc, info),
+        } => push_compare(alloc, text, *router, before, now),
+        Reply::Info(info) => push_info(text, info),
     }
 }
 
-/// `refused CODE NAME`.
-fn refusal_text<A: Allocator + Copy>(alloc: A, why: Refusal) -> Result<Vec<u8, A>, AllocError>
-    ensures { IfOk result
-        (λ text. text.items ≡ codes "refused " ++ refusal_code why ++ codes
-        " " ++ refusal_name why ++ codes "\n") }
+/// Adds `refused CODE NAME`.
+fn push_refusal<A: Allocator + Copy>(text: &mut String<A>, why: Refusal) -> Result<(), AllocError>
+    ensures { OnOk result
+        (string_bytes text.new ≡ string_bytes text.old
+        ++ (codes "refused " ++ refusal_code why ++ codes " " ++ refusal_name why ++ codes "\n")) }
 {
     let code = why.code();
     let name = why.name();
-    let text = format!(in alloc; "refused {code} {name}\n")?;
-    Ok(text.into_bytes())
+    write!(text, "refused {code} {name}\n")
 }
 
-/// `tables COUNT`, and the text of each table.
-fn tables_text<A: Allocator + Copy>(
-    alloc: A,
+/// Adds `tables COUNT`, and the text of each table.
+fn push_tables<A: Allocator + Copy>(
+    text: &mut String<A>,
     tables: &Vec<Table<A>, A>,
-) -> Result<Vec<u8, A>, AllocError>
-    ensures { IfOk result
-        (λ text. text.items ≡ codes "tables " ++ decimal
-        (length tables.now.items) ++ codes "\n" ++ flat_map table_text tables.now.items) }
+) -> Result<(), AllocError>
+    ensures { OnOk result
+        (string_bytes text.new ≡ string_bytes text.old
+        ++ (codes "tables " ++ decimal (length tables.now.items) ++ codes "\n"
+        ++ flat_map table_text tables.now.items)) }
 {
     let count = Decimal(tables.len() as u64);
-    let mut text = format!(in alloc; "tables {count}\n")?.into_bytes();
+    write!(text, "tables {count}\n")?;
     for table in tables {
-        text.append(&mut table_text(alloc, table)?)?;
+        push_table(text, table)?;
     }
-    Ok(text)
+    Ok(())
 }
 
-/// The counts of a session.
-fn info_text<A: Allocator + Copy>(alloc: A, info: &Info) -> Result<Vec<u8, A>, AllocError>
-    ensures { IfOk result (λ text. text.items ≡ info_text info.now) }
+/// Adds the counts of a session.
+fn push_info<A: Allocator + Copy>(text: &mut String<A>, info: &Info) -> Result<(), AllocError>
+    ensures { OnOk result
+        (string_bytes text.new ≡ string_bytes text.old ++ info_text info.now) }
 {
-    let mut text = lsa_counts(alloc, info)?;
-    text.push_str(&link_counts(alloc, info)?)?;
-    text.push_str(&edit_counts(alloc, info)?)?;
-    Ok(text.into_bytes())
+    push_lsa_counts(text, info)?;
+    push_link_counts(text, info)?;
+    push_edit_counts(text, info)
 }
 
-/// The counts of areas and LSAs.
-fn lsa_counts<A: Allocator + Copy>(alloc: A, info: &Info) -> Result<String<A>, AllocError>
-    ensures { IfOk result (λ text. string_bytes text ≡ lsa_counts info.now) }
+/// Adds the counts of areas and LSAs.
+fn push_lsa_counts<A: Allocator + Copy>(text: &mut String<A>, info: &Info) -> Result<(), AllocError>
+    ensures { OnOk result
+        (string_bytes text.new ≡ string_bytes text.old ++ lsa_counts info.now) }
 {
     let areas = Decimal(info.areas as u64);
     let lsas = Decimal(info.lsas as u64);
     let as_lsas = Decimal(info.as_lsas as u64);
-    let text = format!(in alloc; "info areas {areas} lsas {lsas} as {as_lsas}")?;
-    Ok(text)
+    write!(text, "info areas {areas} lsas {lsas} as {as_lsas}")
 }
 
-/// The counts of what virtual links leave in LSAs.
-fn link_counts<A: Allocator + Copy>(alloc: A, info: &Info) -> Result<String<A>, AllocError>
-    ensures { IfOk result (λ text. string_bytes text ≡ link_counts info.now) }
+/// Adds the counts of what virtual links leave in LSAs.
+fn push_link_counts<A: Allocator + Copy>(
+    text: &mut String<A>,
+    info: &Info,
+) -> Result<(), AllocError>
+    ensures { OnOk result
+        (string_bytes text.new ≡ string_bytes text.old ++ link_counts info.now) }
 {
     let vbits = Decimal(info.vbits as u64);
     let vlinks = Decimal(info.vlinks as u64);
-    let text = format!(in alloc; " vbits {vbits} vlinks {vlinks}")?;
-    Ok(text)
+    write!(text, " vbits {vbits} vlinks {vlinks}")
 }
 
-/// The counts of edits.
-fn edit_counts<A: Allocator + Copy>(alloc: A, info: &Info) -> Result<String<A>, AllocError>
-    ensures { IfOk result (λ text. string_bytes text ≡ edit_counts info.now) }
+/// Adds the counts of edits.
+fn push_edit_counts<A: Allocator + Copy>(
+    text: &mut String<A>,
+    info: &Info,
+) -> Result<(), AllocError>
+    ensures { OnOk result
+        (string_bytes text.new ≡ string_bytes text.old ++ edit_counts info.now) }
 {
     let done = Decimal(info.done as u64);
     let undone = Decimal(info.undone as u64);
-    let text = format!(in alloc; " done {done} undone {undone}\n")?;
-    Ok(text)
+    write!(text, " done {done} undone {undone}\n")
 }
 
 /// The text for a line that is no command: `script S2 UnknownWord`, and a line feed.

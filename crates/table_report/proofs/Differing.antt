@@ -1,15 +1,20 @@
 -- Prefixes in order, and the lines for them.
-use Rattle.std.proofs.Common.{◌≡◌, ℕ, ◌+◌, ◌<◌, List, [], ◌∷◌, ◌++◌, length, map, take, get_or, Option, None, Some, refl, sym, ap, ◌∙◌}
+use Rattle.std.proofs.Common.{◌≡◌, ℕ, zero, suc, ◌+◌, ◌<◌, cond, List, [], ◌∷◌, ◌++◌, length, map, take, get_or, Option, None, Some, refl, sym, ap, subst, ◌∙◌}
 use Rattle.std.specs.Prelude.{◌&&◌, ◌==◌}
-use Rattle.std.specs.List.{filter_map, cons_option}
+use Rattle.std.specs.List.{AllByRecursion, filter_map, cons_option, slice_get}
+use Rattle.std.specs.List.Sorted.{IsStrictlySortedBy}
 use Rattle.std.specs.Cmp.{unsigned_ties}
-use Rattle.std.specs.Ordering.{eq_by_cmp, is_eq, nat_cmp, ordering_then}
+use Rattle.std.specs.Ordering.{eq_by_cmp, is_eq, nat_cmp, ordering_reverse, ordering_then}
 use Rattle.std.specs.declared.cmp.Ordering.{Ordering}
 use Rattle.std.specs.declared.cmp.Ordering.TheVariants.{Less, Equal, Greater}
+use Rattle.std.proofs.lemmas.Cmp.{tied_itself}
 use Rattle.std.proofs.lemmas.List.{append-nil, map-append, take_more}
 use Rattle.std.proofs.lemmas.List.Elements.{filter_map-append}
 use Rattle.lsa_codec.specs.Prefix.{Net}
 use Rattle.lsa_codec.specs.Order.{prefix_cmp}
+use Rattle.lsa_codec.proofs.OrderLemmas.{prefix_total}
+use Rattle.area_routes.specs.Routes.{AreSortedRoutes, nets, route_to}
+use Rattle.area_routes.specs.Values.{RouteValue}
 
 -- ---- equal prefixes
 
@@ -22,6 +27,29 @@ pub same_prefix : (x y : Net) → ((x.addr.0 == y.addr.0) && (x.len == y.len)) �
 same_prefix x y =
     ap (λ b. b && (x.len == y.len)) (unsigned_ties x.addr.0 y.addr.0) ∙ ap (λ b. is_eq (nat_cmp x.addr.0 y.addr.0) && b) (unsigned_ties x.len y.len)
     ∙ sym (equal_then (nat_cmp x.addr.0 y.addr.0) (nat_cmp x.len y.len))
+
+-- ---- the route at a place
+
+net_at : (k : Net) (rs : List RouteValue) (i : ℕ) (r : RouteValue) → AllByRecursion (λ y. prefix_cmp k y ≡ Less) (nets rs) → slice_get rs i ≡ Some r
+    → prefix_cmp k r.net ≡ Less
+net_at k [] i r above h = cc
+net_at k (x ∷ xs) zero r above h = let is : x ≡ r = cc in subst (λ (y : RouteValue). prefix_cmp k y.net ≡ Less) is above.0
+net_at k (x ∷ xs) (suc i) r above h = net_at k xs i r above.1 h
+
+-- a route that stands in a list in order is the route to its prefix
+pub route_at : (rs : List RouteValue) (i : ℕ) (r : RouteValue) (q : Net) → AreSortedRoutes rs → slice_get rs i ≡ Some r → r.net ≡ q
+    → Some r ≡ route_to rs q
+unfolding IsStrictlySortedBy
+route_at [] i r q up h is = cc
+route_at (x ∷ xs) zero r q up h is =
+    let same : x ≡ r = cc in
+    let tie : prefix_cmp q x.net ≡ Equal =
+    subst (λ (k : Net). prefix_cmp q k ≡ Equal) (sym is ∙ ap (λ (y : RouteValue). y.net) (sym same)) (tied_itself prefix_total q) in
+    ap Some (sym same) ∙ sym (ap (λ o. cond (is_eq o) (Some x) (route_to xs q)) tie)
+route_at (x ∷ xs) (suc i) r q up h is =
+    let above : prefix_cmp x.net q ≡ Less = subst (λ (k : Net). prefix_cmp x.net k ≡ Less) is (net_at x.net xs i r up.0 h) in
+    route_at xs i r q up.1 h is
+    ∙ sym (ap (λ o. cond (is_eq o) (Some x) (route_to xs q)) (prefix_total.antisymm q x.net ∙ ap ordering_reverse above))
 
 -- ---- a line, or none, for one more prefix
 

@@ -1,6 +1,6 @@
 -- Texts that are joined, piece by piece.
-use Rattle.std.proofs.Common.{◌≡◌, ℕ, ◌+◌, ◌<◌, ◌≤◌, List, [], ◌∷◌, ◌++◌, length, map, take, get_or, codes, decimal, refl, sym, ap, ◌∙◌}
-use Rattle.std.specs.Prelude.{flat_map}
+use Rattle.std.proofs.Common.{◌≡◌, ℕ, ◌+◌, ◌<◌, ◌≤◌, List, [], ◌∷◌, ◌++◌, length, map, take, get_or, codes, decimal, Result, Ok, Err, refl, sym, ap, ◌∙◌}
+use Rattle.std.specs.Prelude.{flat_map, OnOk}
 use Rattle.std.proofs.lemmas.List.{append-nil, append_assoc, take_more, take_all}
 use Rattle.std.proofs.lemmas.Grind.{flat_map-append}
 use Rattle.lsa_codec.specs.declared.address.RouterId.{RouterId}
@@ -68,12 +68,20 @@ headed_by word middle number lines =
     (append_assoc (word ++ space ++ middle ++ space) number (codes "\n") ∙ append_assoc (word ++ space ++ middle) space rest
     ∙ append_assoc (word ++ space) middle (32 ∷ rest) ∙ append_assoc word space (middle ++ 32 ∷ rest)))
 
-pub headed_is : (word : List ℕ) (router : RouterId) (lines shown : List (List ℕ)) (n : ℕ) (head text : List ℕ)
-    → head ≡ word ++ 32 ∷ (address_text router.0 ++ 32 ∷ (decimal n ++ 10 ∷ [])) → n ≡ length shown → text ≡ head ++ lines_text shown → shown ≡ lines
-    → text ≡ headed word router lines
-headed_is word router lines shown n head text begins count all are =
-    all ∙ ap (λ h. h ++ lines_text shown) begins ∙ headed_by word (address_text router.0) (decimal n) (lines_text shown)
-    ∙ ap (λ k. word ++ codes " " ++ address_text router.0 ++ codes " " ++ decimal k ++ codes "\n" ++ lines_text shown) count ∙ ap (headed word router) are
+-- a head and its lines, behind a text
+pub pushed_is : (word : List ℕ) (router : RouterId) (lines : List (List ℕ)) (n : ℕ) (old before text : List ℕ)
+    → before ≡ old ++ (word ++ 32 ∷ (address_text router.0 ++ 32 ∷ (decimal n ++ 10 ∷ []))) → n ≡ length lines
+    → text ≡ before ++ lines_text lines → text ≡ old ++ headed word router lines
+pushed_is word router lines n old before text begins count all =
+    let head = word ++ 32 ∷ (address_text router.0 ++ 32 ∷ (decimal n ++ 10 ∷ [])) in
+    all ∙ ap (λ l. l ++ lines_text lines) begins ∙ append_assoc old head (lines_text lines)
+    ∙ ap (λ l. old ++ l) (headed_by word (address_text router.0) (decimal n) (lines_text lines)
+    ∙ ap (λ k. word ++ codes " " ++ address_text router.0 ++ codes " " ++ decimal k ++ codes "\n" ++ lines_text lines) count)
+
+-- what holds of a call that went well
+pub on_ok : {T E P Q : Type 0} (result : Result T E) → (P → Q) → OnOk result P → OnOk result Q
+on_ok (Ok t) f p = f p
+on_ok (Err e) f p = p
 
 pub table_text_is : (table : TableValue) → headed (codes "table") table.router (map line_of table.routes) ≡ table_text table
 unfolding table_text

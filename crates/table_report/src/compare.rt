@@ -1,13 +1,13 @@
 //! The text of the differences of two routing tables.
 
-ghost use Rattle.std.specs.Prelude.{◌≡◌, ◌++◌, IfOk, Some, codes, map, option_map, true};
+ghost use Rattle.std.specs.Prelude.{◌≡◌, ◌++◌, IfOk, OnOk, Some, codes, map, option_map, true};
 ghost use Rattle.std.specs.Option.{option_copied};
 ghost use Rattle.std.specs.String.{string_bytes};
 ghost use Rattle.area_graph.specs.Rising.{rising};
 ghost use Rattle.lsa_codec.specs.Order.{prefix_cmp};
-ghost use Rattle.area_routes.specs.Routes.{nets};
+ghost use Rattle.area_routes.specs.Routes.{nets, route_to};
 ghost use Rattle.table_report.specs.Comparing.{change, changes, compare_text};
-ghost use Rattle.table_report.specs.Texts.{line_of};
+ghost use Rattle.table_report.specs.Texts.{line_of, lines_text};
 
 use crate::line::{push_line, push_rest};
 use area_routes::{Route, Routes};
@@ -35,7 +35,8 @@ fn all_nets<A: Allocator + Copy>(
 {
     let mut nets = nets_of(alloc, before)?;
     nets.append(&mut nets_of(alloc, now)?)?;
-    nets.sort_unstable();
+    // Two lists in order: a stable sort merges them in one go.
+    nets.sort()?;
     nets.dedup();
     Ok(nets)
 }
@@ -125,6 +126,20 @@ fn change<A: Allocator + Copy>(
     }
 }
 
+/// The route to a prefix, which is looked for at a place first.
+fn route_near<A: Allocator + Copy>(
+    routes: &Routes<A>,
+    place: usize,
+    net: Prefix,
+) -> Option<&Route<A>>
+    ensures { option_copied result ≡ route_to routes.now net }
+{
+    match routes.as_slice().get(place) {
+        Some(route) if route.net == net => Some(route),
+        _ => routes.route_to(net),
+    }
+}
+
 /// The lines for the prefixes at which two lists of routes differ, in order of prefix.
 fn changes<A: Allocator + Copy>(
     alloc: A,
@@ -135,36 +150,55 @@ fn changes<A: Allocator + Copy>(
 {
     let nets = all_nets(alloc, before, now)?;
     let mut lines = Vec::new(alloc);
+    // Where the next routes are likely to stand: a wrong place costs a search.
+    let (mut place_before, mut place_now) = (0, 0);
     for net in nets.as_slice() {
-        if let Some(line) = change(alloc, before.route_to(*net), now.route_to(*net))? {
+        let route_before = route_near(before, place_before, *net);
+        let route_now = route_near(now, place_now, *net);
+        place_before = place_before.wrapping_add(usize::from(route_before.is_some()));
+        place_now = place_now.wrapping_add(usize::from(route_now.is_some()));
+        if let Some(line) = change(alloc, route_before, route_now)? {
             lines.push(line)?;
         }
     }
     Ok(lines)
 }
 
-/// The text of what a routing table of a router has otherwise than an earlier one:
+/// Adds lines, each with its end.
+fn push_lines<A: Allocator + Copy>(
+    text: &mut String<A>,
+    lines: &[String<A>],
+) -> Result<(), AllocError>
+    ensures { OnOk result (string_bytes text.new
+        ≡ string_bytes text.old ++ lines_text (map string_bytes lines.now)) }
+{
+    for line in lines {
+        text.push_str(line)?;
+        text.push_str("\n")?;
+    }
+    Ok(())
+}
+
+/// Adds the text of what a routing table of a router has otherwise than an earlier one:
 /// `compare 1.1.1.1 1`, and a line for each prefix whose lines differ, in order of prefix. Such a
 /// line is `+ LINE` where only the present table has the prefix, `- LINE` where only the earlier
 /// one has it, and else `~ LINE was REST`, where REST is the earlier line without its prefix.
 ///
 /// # Errors
 ///
-/// Memory ran out.
-pub fn compare_text<A: Allocator + Copy>(
+/// Memory ran out. A part of the text may have been added.
+pub fn push_compare<A: Allocator + Copy>(
     alloc: A,
+    text: &mut String<A>,
     router: RouterId,
     before: &Table<A>,
     now: &Table<A>,
-) -> Result<Vec<u8, A>, AllocError>
-    ensures { IfOk result (λ text. text.items ≡ compare_text router before.now now.now) }
+) -> Result<(), AllocError>
+    ensures { OnOk result (string_bytes text.new
+        ≡ string_bytes text.old ++ compare_text router before.now now.now) }
 {
     let lines = changes(alloc, before.routes(), now.routes())?;
     let count = lines.len();
-    let mut text = format!(in alloc; "compare {router} {count}\n")?;
-    for line in &lines {
-        text.push_str(line)?;
-        text.push_str("\n")?;
-    }
-    Ok(text.into_bytes())
+    write!(text, "compare {router} {count}\n")?;
+    push_lines(text, &lines)
 }

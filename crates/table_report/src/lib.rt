@@ -5,5 +5,5 @@ mod compare;
 mod line;
 mod text;
 
-pub use compare::compare_text;
-pub use text::table_text;
+pub use compare::push_compare;
+pub use text::push_table;

@@ -12,7 +12,7 @@ use Rattle.table_report.proofs.compare.all_nets.Goals as goal
 pub returns : goal.returns
 returns g c =
     dedup_is _ _ _ c.dedup.ensures.filtered
-    ∙ dedup_rising prefix_total prefix_exact same_prefix _ _ c.sort_unstable.ensures.permutation c.sort_unstable.ensures.sorted
+    ∙ dedup_rising prefix_total prefix_exact same_prefix _ _ c.sort.ensures.permutation c.in_ok-sort.ensures.sorted
     ∙ ap (rising prefix_cmp)
     (c.in_ok-append.ensures.items ∙ ap (λ l. l ++ c.in_ok-nets_of.field-0.items) c.in_ok-nets.ensures
     ∙ ap (λ l. nets c.args.before.now ++ l) c.in_ok-nets_of.ensures

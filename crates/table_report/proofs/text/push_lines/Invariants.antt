@@ -2,7 +2,7 @@ use Rattle.std.proofs.Common.{◌≡◌, ◌++◌, take}
 use Rattle.std.specs.Prelude.{flat_map, codes}
 use Rattle.std.specs.String.{string_bytes}
 use Rattle.table_report.specs.Texts.{line_of}
-use Rattle.table_report.proofs.text.table_text.Given as goal
+use Rattle.table_report.proofs.text.push_lines.Given as goal
 
 abbrev pub invariant-loop-route : goal.invariant-loop-route
 invariant-loop-route g l = string_bytes l.text ≡ string_bytes l.initial.text ++ flat_map (λ r. line_of r ++ codes "\n") (take l.route-index l.routes)
