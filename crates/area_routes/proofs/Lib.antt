@@ -5,7 +5,9 @@ pub mod LeastLemmas
 pub mod LookupLemmas
 pub mod Merging
 pub mod AddsLemmas
+pub mod Runs
 pub mod Words
+pub mod Reordered
 pub mod Gathering
 pub mod Reaching
 pub mod Beaten

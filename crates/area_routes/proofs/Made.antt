@@ -16,11 +16,11 @@ module _ (ways : List (Net × WayValue)) (routes : List RouteValue) (made : rout
   pub sorted_made : IsStrictlySortedBy prefix_cmp (keys_of ways) → AreSortedRoutes routes
   sorted_made up = subst AreSortedRoutes (sym made) (subst (λ (ks : List Net). IsStrictlySortedBy prefix_cmp ks) (sym (nets_ways ways)) up)
 
-  module _ (es : List (Net × WayValue)) (gathered : (cs : List (Candidate Net)) → Gathers prefix_cmp cs es → ways ≡ ways_of prefix_cmp cs) where
-    pub routes_made : (cs : List (Candidate Net)) → Gathers prefix_cmp cs es → routes ≡ routes_of cs
+  module _ (es : List (Candidate Net)) (gathered : (cs : List (Candidate Net)) → Gathers cs es → ways ≡ ways_of prefix_cmp cs) where
+    pub routes_made : (cs : List (Candidate Net)) → Gathers cs es → routes ≡ routes_of cs
     routes_made cs at = made ∙ ap (map route_of) (gathered cs at)
 
-    pub below_made : (bound : ℕ) (cs : List (Candidate Net)) → Gathers prefix_cmp cs es → All (λ c. c.rank.cost < bound) cs → RoutesBelow bound routes
+    pub below_made : (bound : ℕ) (cs : List (Candidate Net)) → Gathers cs es → All (λ c. c.rank.cost < bound) cs → RoutesBelow bound routes
     below_made bound cs at a = subst (RoutesBelow bound) (sym (routes_made cs at)) (routes_below bound cs a)
 
 -- a greater bound

@@ -1,10 +1,10 @@
 -- One more candidate, and the list of ways.
-use Rattle.std.proofs.Common.{◌≡◌, Bool, true, false, cond, List, [], ◌∷◌, ◌++◌, map, Option, Some, None, Result, Ok, Err, IfOk, OnOk, refl, sym, ap}
-use Rattle.std.proofs.Common.{subst, ◌∙◌}
+use Rattle.std.proofs.Common.{◌≡◌, Bool, true, false, cond, List, [], ◌∷◌, ◌++◌, map, Option, Some, None, refl, sym, ap}
+use Rattle.std.proofs.Common.{◌∙◌}
 use Rattle.std.specs.List.{AllByRecursion, list_any, filter, filter_map, flat_map, cons_option}
 use Rattle.std.specs.Option.{option_map}
 use Rattle.std.specs.Cmp.{IsTotalOrder}
-use Rattle.std.specs.BTreeMap.{BTreeMap, get, IsOrdered, Updates, is_at}
+use Rattle.std.specs.BTreeMap.{is_at}
 use Rattle.std.specs.Ordering.{eq_by_cmp, match_ordering, is_lt, is_eq, ordering_reverse}
 use Rattle.std.specs.declared.cmp.Ordering.{Ordering}
 use Rattle.std.specs.declared.cmp.Ordering.TheVariants.{Less, Equal, Greater}
@@ -16,7 +16,7 @@ use Rattle.std.specs.Map.{keys_of, lookup}
 use Rattle.std.specs.List.Sorted.{IsStrictlySortedBy}
 use Rattle.std.proofs.lemmas.Grind.{flat_map-append}
 use Rattle.std.proofs.lemmas.Map.Lookups.{CmpEqualImpliesEq}
-use Rattle.area_routes.specs.Best.{of_rank, joined, way_of, way_to, ways_of, Gathers}
+use Rattle.area_routes.specs.Best.{of_rank, joined, way_of, way_to, ways_of}
 use Rattle.area_graph.specs.Least.{least, lesser}
 use Rattle.area_routes.specs.steps.Merge.{add_area, fresh, merged, merge}
 use Rattle.lsa_codec.specs.Order.{area_cmp}
@@ -60,20 +60,20 @@ module _ {K : Type 0} where
       ap (rising hop_cmp) (flat_map-append (λ c. c.hops) cs (c ∷ []) ∙ ap (λ l. flat_map (λ c. c.hops) cs ++ l) (append-nil c.hops))
       ∙ sym (rising_append hop_total hop_exact (flat_map (λ c. c.hops) cs) c.hops)
 
-  joined_push : (r : Rank) (cs : List (Candidate K)) (c : Candidate K) → joined r (cs ++ c ∷ []) ≡ merged (joined r cs) c.area c.hops
+  joined_push : (r : Rank) (cs : List (Candidate K)) (c : Candidate K) → joined r (cs ++ c ∷ []) ≡ merged (joined r cs) c
   joined_push r cs c i = record { rank = r; areas = areas_push cs c i; hops = hops_push cs c i }
 
   of_rank_itself : (c : Candidate K) → cond (eq_by_cmp rank_cmp c.rank c.rank) (c ∷ []) [] ≡ c ∷ []
   of_rank_itself c = ap (λ o. cond (is_eq o) (c ∷ []) []) (tied_itself rank_total c.rank)
 
-  joined_alone : (c : Candidate K) → joined c.rank (c ∷ []) ≡ fresh c.rank c.area c.hops
+  joined_alone : (c : Candidate K) → joined c.rank (c ∷ []) ≡ fresh c
   joined_alone c i = record { rank = c.rank; areas = areas_push [] c i; hops = ap (rising hop_cmp) (append-nil c.hops) i }
 
   -- one more candidate, where r is how its rank compares to the least so far
   more_of_rank : (cs : List (Candidate K)) (c : Candidate K) (m : Rank)
       → (rank_cmp c.rank m ≡ Less → of_rank c.rank cs ≡ []) → (r : Ordering) → rank_cmp c.rank m ≡ r
       → joined (cond (is_lt r) c.rank m) (of_rank (cond (is_lt r) c.rank m) (cs ++ c ∷ [])) ≡ match_ordering r
-      (fresh c.rank c.area c.hops) (merged (joined m (of_rank m cs)) c.area c.hops) (joined m (of_rank m cs))
+      (fresh c) (merged (joined m (of_rank m cs)) c) (joined m (of_rank m cs))
   more_of_rank cs c m below Less e = ap (joined c.rank)
       (of_rank_push c.rank cs c ∙ ap (λ l. l ++ cond (eq_by_cmp rank_cmp c.rank c.rank) (c ∷ []) []) (below e) ∙ of_rank_itself c) ∙ joined_alone c
   more_of_rank cs c m below Equal e =
@@ -84,7 +84,7 @@ module _ {K : Type 0} where
       (rank_total.antisymm m c.rank ∙ ap ordering_reverse e) ∙ append-nil (of_rank m cs))
 
   -- one more candidate for a key
-  pub way_push : (cs : List (Candidate K)) (c : Candidate K) → way_of (cs ++ c ∷ []) ≡ Some (merge (way_of cs) c.rank c.area c.hops)
+  pub way_push : (cs : List (Candidate K)) (c : Candidate K) → way_of (cs ++ c ∷ []) ≡ Some (merge (way_of cs) c)
   way_push [] c = ap (λ l. Some (joined c.rank l)) (of_rank_itself c) ∙ ap Some (joined_alone c)
   way_push (x ∷ xs) c =
       let m = lesser rank_cmp x.rank (least rank_cmp (map (λ c. c.rank) xs)) in
@@ -93,6 +93,10 @@ module _ {K : Type 0} where
       ∙ ap Some
       (more_of_rank (x ∷ xs) c m
       (λ e. let b = below_all rank_total c.rank x.rank (map (λ c. c.rank) xs) e in none_of_rank c.rank (x ∷ xs) (b.0, b.1)) (rank_cmp c.rank m) refl)
+
+  -- entries that have at each key the way of these candidates
+  abbrev pub HasWays : (K → K → Ordering) → List (Candidate K) → List (K × WayValue) → Type 0
+  HasWays R cs es = (q : K) → lookup (eq_by_cmp R q) es ≡ way_to R cs q
 
   module _ {R : K → K → Ordering} (o : IsTotalOrder R) (exact : CmpEqualImpliesEq R) where
     for_key_push : (cs : List (Candidate K)) (c : Candidate K) (q : K)
@@ -106,14 +110,14 @@ module _ {K : Type 0} where
 
     -- one more candidate
     pub way_to_push : (cs : List (Candidate K)) (c : Candidate K) (q : K)
-        → way_to R (cs ++ c ∷ []) q ≡ cond (is_at (R c.key) q) (Some (merge (way_to R cs c.key) c.rank c.area c.hops)) (way_to R cs q)
+        → way_to R (cs ++ c ∷ []) q ≡ cond (is_at (R c.key) q) (Some (merge (way_to R cs c.key) c)) (way_to R cs q)
     way_to_push cs c q = by (R c.key q) refl
       where
-        by : (r : Ordering) → R c.key q ≡ r → way_to R (cs ++ c ∷ []) q ≡ cond (is_eq r) (Some (merge (way_to R cs c.key) c.rank c.area c.hops)) (way_to R cs q)
+        by : (r : Ordering) → R c.key q ≡ r → way_to R (cs ++ c ∷ []) q ≡ cond (is_eq r) (Some (merge (way_to R cs c.key) c)) (way_to R cs q)
         by Less e = other_key cs c q (ap is_eq (o.antisymm q c.key ∙ ap ordering_reverse e))
         by Equal e =
             ap way_of (for_key_push cs c q ∙ ap (λ o. filter (λ c. eq_by_cmp R q c.key) cs ++ cond (is_eq o) (c ∷ []) []) (tied_back o c.key q e))
-            ∙ way_push (filter (λ c. eq_by_cmp R q c.key) cs) c ∙ ap (λ k. Some (merge (way_to R cs k) c.rank c.area c.hops)) (sym (exact c.key q e))
+            ∙ way_push (filter (λ c. eq_by_cmp R q c.key) cs) c ∙ ap (λ k. Some (merge (way_to R cs k) c)) (sym (exact c.key q e))
         by Greater e = other_key cs c q (ap is_eq (o.antisymm q c.key ∙ ap ordering_reverse e))
 
     none_for_key : (q : K) (cs : List (Candidate K)) → list_any (eq_by_cmp R q) (map (λ c. c.key) cs) ≡ false → filter (λ c. eq_by_cmp R q c.key) cs ≡ []
@@ -136,36 +140,15 @@ module _ {K : Type 0} where
     pub sorted_ways : (cs : List (Candidate K)) → IsStrictlySortedBy R (keys_of (ways_of R cs))
     sorted_ways cs = sorted_entries R (way_to R cs) (rising R (map (λ c. c.key) cs)) (sorted_rising o (map (λ c. c.key) cs))
 
-    -- a map after one more candidate
-    pub gathers_push : (es fs : List (K × WayValue)) (cs : List (Candidate K)) (c : Candidate K) → Gathers R cs es
+    -- entries after one more candidate
+    pub ways_push : (es fs : List (K × WayValue)) (cs : List (Candidate K)) (c : Candidate K) → HasWays R cs es
         → ((q : K) → lookup (eq_by_cmp R q) fs ≡ cond (is_at (R c.key) q)
-        (Some (merge (lookup (eq_by_cmp R c.key) es) c.rank c.area c.hops)) (lookup (eq_by_cmp R q) es)) → Gathers R (cs ++ c ∷ []) fs
-    gathers_push es fs cs c before after q =
-        after q ∙ ap (λ w. cond (is_at (R c.key) q) (Some (merge w c.rank c.area c.hops)) (lookup (eq_by_cmp R q) es)) (before c.key)
-        ∙ ap (λ w. cond (is_at (R c.key) q) (Some (merge (way_to R cs c.key) c.rank c.area c.hops)) w) (before q)
+        (Some (merge (lookup (eq_by_cmp R c.key) es) c)) (lookup (eq_by_cmp R q) es)) → HasWays R (cs ++ c ∷ []) fs
+    ways_push es fs cs c before after q =
+        after q ∙ ap (λ w. cond (is_at (R c.key) q) (Some (merge w c)) (lookup (eq_by_cmp R q) es)) (before c.key)
+        ∙ ap (λ w. cond (is_at (R c.key) q) (Some (merge (way_to R cs c.key) c)) w) (before q)
         ∙ sym (way_to_push cs c q)
 
     -- the entries in order are the ways
-    pub ways_from_gathers : (es : List (K × WayValue)) (cs : List (Candidate K)) → IsStrictlySortedBy R (keys_of es) → Gathers R cs es → es ≡ ways_of R cs
-    ways_from_gathers es cs up h = same_entries o exact es (ways_of R cs) up (sorted_ways cs) (λ q. h q ∙ sym (lookup_ways cs q))
-
-    -- the list that a map was made into
-    pub ways_from_entries : {X E : Type 0} (items : X → List (K × WayValue)) (m : BTreeMap K WayValue) (es : List (K × WayValue))
-        → m.entries ≡ es → (r : Result X E) → IfOk r (λ v. items v ≡ m.entries) → OnOk r (IsOrdered R m)
-        → IfOk r (λ v. (cs : List (Candidate K)) → Gathers R cs es → items v ≡ ways_of R cs)
-    ways_from_entries items m es same (Ok v) h up = λ cs at. h ∙ ways_from_gathers m.entries cs up (λ q. ap (lookup (eq_by_cmp R q)) same ∙ at q)
-    ways_from_entries items m es same (Err e) h up = tt
-
-    -- what `add_candidate` left
-    pub gathers_from_updates : {X E : Type 0} (r : Result X E) (m n : BTreeMap K WayValue) (es : List (K × WayValue)) → m.entries ≡ es → (c : Candidate K)
-        → OnOk r (Updates R m n c.key (Some (merge (get R m c.key) c.rank c.area c.hops)))
-        → OnOk r ((cs : List (Candidate K)) → Gathers R cs es → Gathers R (cs ++ c ∷ []) n.entries)
-    gathers_from_updates (Ok v) m n es same c h = λ cs before. gathers_push m.entries n.entries cs c
-        (λ q. ap (lookup (eq_by_cmp R q)) same ∙ before q) (λ q. h.0 q)
-    gathers_from_updates (Err e) m n es same c h = tt
-
--- the keys of the list that a map was made into stand in order
-pub keys_sorted : {X E K V : Type 0} (R : K → K → Ordering) (items : X → List (K × V)) (m : BTreeMap K V) (r : Result X E)
-    → IfOk r (λ v. items v ≡ m.entries) → OnOk r (IsOrdered R m) → IfOk r (λ v. IsStrictlySortedBy R (keys_of (items v)))
-keys_sorted R items m (Ok v) h up = subst (λ es. IsStrictlySortedBy R (keys_of es)) (sym h) up
-keys_sorted R items m (Err e) h up = tt
+    pub all_ways : (es : List (K × WayValue)) (cs : List (Candidate K)) → IsStrictlySortedBy R (keys_of es) → HasWays R cs es → es ≡ ways_of R cs
+    all_ways es cs up h = same_entries o exact es (ways_of R cs) up (sorted_ways cs) (λ q. h q ∙ sym (lookup_ways cs q))

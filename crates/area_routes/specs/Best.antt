@@ -1,6 +1,5 @@
 -- The best ways to each of the keys that candidates offer (RFC 2328, 16.1, 16.2 and 16.4).
 use Rattle.std.specs.Prelude.{◌≡◌, List, Option, map}
-use Rattle.std.specs.Map.{lookup}
 use Rattle.std.specs.List.{filter, filter_map, flat_map}
 use Rattle.std.specs.Option.{option_map}
 use Rattle.std.specs.Ordering.{eq_by_cmp}
@@ -31,6 +30,10 @@ module _ {K : Type 0} where
   abbrev pub way_of : List (Candidate K) → Option WayValue
   way_of cs = option_map (λ rank. joined rank (of_rank rank cs)) (least rank_cmp (map (λ c. c.rank) cs))
 
+  -- what was gathered is these candidates
+  abbrev pub Gathers : List (Candidate K) → List (Candidate K) → Type 0
+  Gathers cs gathered = gathered ≡ cs
+
   module _ (R : K → K → Ordering) where
     -- the way to a key, if a candidate has it
     abbrev pub way_to : List (Candidate K) → K → Option WayValue
@@ -39,7 +42,3 @@ module _ {K : Type 0} where
     -- each key that a candidate has, once and in order, with the way to it
     abbrev pub ways_of : List (Candidate K) → List (K × WayValue)
     ways_of cs = filter_map (λ key. option_map (λ way. (key, way)) (way_to cs key)) (rising R (map (λ c. c.key) cs))
-
-    -- entries that have at each key the way of these candidates
-    abbrev pub Gathers : List (Candidate K) → List (K × WayValue) → Type 0
-    Gathers cs entries = (key : K) → lookup (eq_by_cmp R key) entries ≡ way_to cs key

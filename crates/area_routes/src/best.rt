@@ -1,45 +1,48 @@
 //! The best ways to each destination, of any number of candidates.
 
-ghost use Rattle.std.specs.Prelude.{◌≡◌, ◌++◌, ◌∷◌, [], List, OnOk, IfOk, Some};
-ghost use Rattle.std.specs.BTreeMap.{get, IsOrdered, Updates};
-ghost use Rattle.std.specs.List.Sorted.{IsStrictlySortedBy};
+ghost use Rattle.std.specs.Prelude.{◌≡◌, ◌++◌, ◌∷◌, [], List, OnOk, IfOk, IsPermutation, Some, map};
+ghost use Rattle.std.specs.List.Sorted.{IsSorted, IsStrictlySortedBy};
 ghost use Rattle.std.specs.Map.{keys_of};
 ghost use Rattle.std.proofs.lemmas.Map.Lookups.{CmpEqualImpliesEq};
+ghost use Rattle.next_hops.specs.Hop.{extended};
 ghost use Rattle.area_routes.specs.Best.{ways_of, Gathers};
 ghost use Rattle.area_routes.specs.Candidate.{Candidate};
-ghost use Rattle.area_routes.specs.steps.Merge.{merge};
+ghost use Rattle.area_routes.specs.Values.{WayValue};
+ghost use Rattle.area_routes.specs.steps.Merge.{candidate_cmp, is_last, merge};
 
+use crate::contender::Contender;
 use crate::rank::Rank;
 use crate::way::Way;
-use lsa_codec::AreaId;
+use lsa_codec::{Addr, AreaId};
 use next_hops::Hop;
 use std::alloc::{AllocError, Allocator, Global};
-use std::collections::BTreeMap;
 use std::marker::Model;
 
-/// The ways to the destinations of the candidates that were added. Contracts see it as the list
-/// of its entries, in order of the destinations.
+/// Candidates, of which the best ways to each destination are made. Contracts see it as the list of
+/// the candidates that were added.
+///
+/// The hops of the candidates are borrowed: lists of hops are made for the best ways alone.
 #[derive(Drop)]
-pub struct BestWays<K: Ord, A: Allocator = Global> {
-    found: BTreeMap<K, Way<A>, A>,
+pub struct BestWays<'a, K, A: Allocator = Global> {
+    candidates: Vec<Contender<'a, K>, A>,
 }
 
-impl<K: Ord, A: Allocator> Model for BestWays<K, A> {
+impl<'a, K, A: Allocator> Model for BestWays<'a, K, A> {
     ghost use Rattle.std.specs.Prelude.{List};
-    ghost use Rattle.area_routes.specs.Values.{WayValue};
+    ghost use Rattle.area_routes.specs.Candidate.{Candidate};
 
-    ghost Value = { List (K × WayValue) };
+    ghost Value = { List (Candidate K) };
 
-    ghost view = { λ w. w.found.entries };
+    ghost view = { λ w. w.candidates.items };
 }
 
-impl<K: Ord + Copy + Drop, A: Allocator + Copy> BestWays<K, A> {
+impl<'a, K: Ord + Copy + Drop, A: Allocator + Copy> BestWays<'a, K, A> {
     /// Of no candidates. It takes no memory.
-    pub fn new(alloc: A) -> BestWays<K, A>
-        ensures { Gathers K.cmp [] result }
+    pub fn new(alloc: A) -> BestWays<'a, K, A>
+        ensures { Gathers [] result }
     {
         BestWays {
-            found: BTreeMap::new(alloc),
+            candidates: Vec::new(alloc),
         }
     }
 
@@ -48,62 +51,128 @@ impl<K: Ord + Copy + Drop, A: Allocator + Copy> BestWays<K, A> {
     ///
     /// # Errors
     ///
-    /// Memory ran out; what was gathered so far is then of no use.
+    /// Memory ran out.
     pub fn add_candidate(
         &mut self,
-        alloc: A,
         key: K,
         rank: Rank,
         area: Option<AreaId>,
-        hops: &[Hop],
+        hops: &'a [Hop],
     ) -> Result<(), AllocError>
-        requires { CmpEqualImpliesEq K.cmp }
-        ensures { OnOk result ((cs : List (Candidate K)) → Gathers K.cmp cs self.old
-            → Gathers K.cmp
+        ensures { OnOk result ((cs : List (Candidate K)) → Gathers cs self.old → Gathers
             (cs ++ record { key = key; rank = rank; area = area; hops = hops.now } ∷ []) self.new) }
     {
-        add_candidate(alloc, &mut self.found, key, rank, area, hops)
+        self.candidates.push(Contender {
+            key,
+            rank,
+            area,
+            hops,
+            onward: None,
+        })?;
+        Ok(())
+    }
+
+    /// Takes a further candidate into account: a way to a destination, with what it is compared
+    /// by, that goes on to an address behind its next hops ([`Hop::extended`]).
+    ///
+    /// # Errors
+    ///
+    /// Memory ran out.
+    pub fn add_candidate_onward(
+        &mut self,
+        key: K,
+        rank: Rank,
+        hops: &'a [Hop],
+        address: Addr,
+    ) -> Result<(), AllocError>
+        ensures { OnOk result ((cs : List (Candidate K)) → Gathers cs self.old → Gathers
+            (cs ++ record {
+              key = key;
+              rank = rank;
+              area = None;
+              hops = map (λ hop. extended hop address) hops.now;
+            } ∷ []) self.new) }
+    {
+        self.candidates.push(Contender {
+            key,
+            rank,
+            area: None,
+            hops,
+            onward: Some(address),
+        })?;
+        Ok(())
     }
 
     /// Each destination that a candidate has, in order, with the best ways to it.
+    ///
+    /// # Errors
+    ///
+    /// Memory ran out.
     pub fn into_list(self, alloc: A) -> Result<Vec<(K, Way<A>), A>, AllocError>
         requires { CmpEqualImpliesEq K.cmp }
         ensures ways { IfOk result (λ ways. (cs : List (Candidate K))
-            → Gathers K.cmp cs self → ways.items ≡ ways_of K.cmp cs) }
+            → Gathers cs self.entry → ways.items ≡ ways_of K.cmp cs) }
         ensures sorted { IfOk result (λ ways. IsStrictlySortedBy K.cmp (keys_of ways.items)) }
     {
-        entries(alloc, self.found)
+        ways_in_order(alloc, &sorted(self.candidates)?)
     }
 }
 
-/// Takes a further candidate into account.
-fn add_candidate<K: Ord + Copy + Drop, A: Allocator + Copy>(
-    alloc: A,
-    found: &mut BTreeMap<K, Way<A>, A>,
-    key: K,
-    rank: Rank,
-    area: Option<AreaId>,
-    hops: &[Hop],
-) -> Result<(), AllocError>
-    ensures { OnOk result (Updates K.cmp found.old found.new key
-        (Some (merge (get K.cmp found.old key) rank area hops.now))) }
+/// The candidates in order of their destinations, and those of one from the best on.
+fn sorted<'a, K: Ord + Copy + Drop, A: Allocator + Copy>(
+    candidates: Vec<Contender<'a, K>, A>,
+) -> Result<Vec<Contender<'a, K>, A>, AllocError>
+    ensures same { IfOk result (λ sorted. IsPermutation candidates.entry.items sorted.items) }
+    ensures order { IfOk result (λ sorted. IsSorted (candidate_cmp K.cmp) sorted.items) }
 {
-    match found.get_mut(&key) {
-        Some(way) => way.merge(alloc, rank, area, hops)?,
-        None => {
-            found.insert(key, Way::of(alloc, rank, area, hops)?)?;
+    let mut candidates = candidates;
+    candidates.sort_by(|a, b| a.compare(b))?;
+    Ok(candidates)
+}
+
+/// The best ways of candidates that stand in order.
+fn ways_in_order<K: Ord + Copy + Drop, A: Allocator + Copy>(
+    alloc: A,
+    candidates: &[Contender<'_, K>],
+) -> Result<Vec<(K, Way<A>), A>, AllocError>
+    requires exact { CmpEqualImpliesEq K.cmp }
+    requires order { IsSorted (candidate_cmp K.cmp) candidates.now }
+    ensures ways { IfOk result (λ ways. ways.items ≡ ways_of K.cmp candidates.now) }
+    ensures sorted { IfOk result (λ ways. IsStrictlySortedBy K.cmp (keys_of ways.items)) }
+{
+    let mut ways = Vec::new(alloc);
+    for candidate in candidates {
+        if is_last(&ways, candidate.key) {
+            merge_last(alloc, &mut ways, candidate)?;
+        } else {
+            ways.push((candidate.key, Way::of(alloc, candidate)?))?;
         }
     }
-    Ok(())
+    Ok(ways)
 }
 
-/// The entries of a map, in order.
-fn entries<K: Ord + Drop, V: Drop, A: Allocator + Copy>(
-    alloc: A,
-    map: BTreeMap<K, V, A>,
-) -> Result<Vec<(K, V), A>, AllocError>
-    ensures items { IfOk result (λ entries. entries.items ≡ map.entries) }
-    ensures ordered { OnOk result (IsOrdered K.cmp map) }
+/// Whether the last of these ways leads to a destination.
+fn is_last<K: Ord + Copy, A: Allocator + Copy>(ways: &[(K, Way<A>)], key: K) -> bool
+    ensures { result ≡ is_last K.cmp ways.now key }
 {
-    map.into_iter().collect(alloc)
+    match ways.last() {
+        Some(last) => last.0.cmp(&key).is_eq(),
+        None => false,
+    }
+}
+
+/// Takes a further candidate for the destination of the last of these ways into account.
+fn merge_last<K: Ord + Copy + Drop, A: Allocator + Copy>(
+    alloc: A,
+    ways: &mut Vec<(K, Way<A>), A>,
+    candidate: &Contender<'_, K>,
+) -> Result<(), AllocError>
+    ensures { OnOk result ((before : List (K × WayValue)) (key : K) (way : WayValue)
+        → ways.old.items ≡ before ++ (key, way) ∷ []
+        → ways.new.items ≡ before ++ (key, merge (Some way) candidate.now) ∷ []) }
+{
+    if let Some(last) = ways.last_mut() {
+        last.1.merge(alloc, candidate)?;
+    }
+    Ok(())
 }

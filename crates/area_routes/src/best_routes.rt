@@ -4,7 +4,6 @@ ghost use Rattle.std.specs.Prelude.{◌≡◌, ◌<◌, ℕ, List, IfOk, All, ma
 ghost use Rattle.lsa_codec.specs.Prefix.{Net};
 ghost use Rattle.area_routes.specs.Best.{Gathers};
 ghost use Rattle.area_routes.specs.Candidate.{Candidate};
-ghost use Rattle.lsa_codec.specs.Order.{prefix_cmp};
 ghost use Rattle.area_routes.specs.Routes.{route_of, routes_of};
 ghost use Rattle.area_routes.specs.Values.{RoutesBelow};
 
@@ -15,7 +14,7 @@ use crate::way::Way;
 use lsa_codec::Prefix;
 use std::alloc::{AllocError, Allocator};
 
-impl<A: Allocator + Copy> BestWays<Prefix, A> {
+impl<'a, A: Allocator + Copy> BestWays<'a, Prefix, A> {
     /// The routes by these ways, one for each. No route costs more than each candidate.
     ///
     /// # Errors
@@ -23,9 +22,9 @@ impl<A: Allocator + Copy> BestWays<Prefix, A> {
     /// Memory ran out.
     pub fn into_routes(self, alloc: A) -> Result<Routes<A>, AllocError>
         ensures routes { IfOk result (λ routes. (cs : List (Candidate Net))
-            → Gathers prefix_cmp cs self → routes ≡ routes_of cs) }
+            → Gathers cs self.entry → routes ≡ routes_of cs) }
         ensures small { IfOk result (λ routes. (bound : ℕ) (cs : List (Candidate Net))
-            → Gathers prefix_cmp cs self
+            → Gathers cs self.entry
             → All (λ c. c.rank.cost < bound) cs → RoutesBelow bound routes) }
     {
         let ways = self.into_list(alloc)?;

@@ -2,14 +2,12 @@
 
 ghost use Rattle.std.specs.Prelude.{◌≡◌, ◌++◌, ◌^◌, List, [], OnOk, IfOk, map};
 ghost use Rattle.std.specs.List.{cons_option};
-ghost use Rattle.std.proofs.lemmas.Map.Lookups.{CmpEqualImpliesEq};
 ghost use Rattle.lsa_codec.specs.Prefix.{Net};
 ghost use Rattle.lsa_codec.specs.declared.address.RouterId.{RouterId as AnyRouter};
 ghost use Rattle.lsdb.specs.Places.{lists_of};
 ghost use Rattle.area_routes.specs.Best.{Gathers};
 ghost use Rattle.area_routes.specs.Candidate.{Candidate};
 ghost use Rattle.area_routes.specs.Inter.{asbr_candidate, asbr_entry, candidate_to, inter_entries, inter_of, inter_routes, network_candidate};
-ghost use Rattle.lsa_codec.specs.Order.{prefix_cmp, router_cmp};
 ghost use Rattle.area_routes.specs.Values.{ResultBelow, EntriesBelow};
 
 use crate::all_entries::all_entries;
@@ -84,7 +82,7 @@ fn inter_routes<A: Allocator + Copy>(
 {
     let mut ways = BestWays::new(alloc);
     for lsa in lsas {
-        add_network_candidate(alloc, &mut ways, lsa, router, area, intra)?;
+        add_network_candidate(&mut ways, lsa, router, area, intra)?;
     }
     Ok(InsideRoutes::from_routes(ways.into_routes(alloc)?))
 }
@@ -104,62 +102,58 @@ fn inter_entries<A: Allocator + Copy>(
 {
     let mut ways = BestWays::new(alloc);
     for lsa in lsas {
-        add_asbr_candidate(alloc, &mut ways, lsa, router, area)?;
+        add_asbr_candidate(&mut ways, lsa, router, area)?;
     }
     entries(alloc, ways.into_list(alloc)?, area.area())
 }
 
 /// Takes the way to a prefix of another area that an LSA gives, if it does, into account.
-fn add_network_candidate<A: Allocator + Copy>(
-    alloc: A,
-    ways: &mut BestWays<Prefix, A>,
+fn add_network_candidate<'a, A: Allocator + Copy>(
+    ways: &mut BestWays<'a, Prefix, A>,
     lsa: &Lsa<A>,
     router: RouterId,
-    area: &IndexedArea<'_, A>,
+    area: &IndexedArea<'a, A>,
     intra: &InsideRoutes<A>,
 ) -> Result<(), AllocError>
-    ensures { OnOk result ((cs : List (Candidate Net)) → Gathers prefix_cmp cs ways.old
-        → Gathers prefix_cmp
+    ensures { OnOk result ((cs : List (Candidate Net)) → Gathers cs ways.old
+        → Gathers
         (cs ++ cons_option (network_candidate router area.now intra.now lsa.now) []) ways.new) }
 {
     if let Some(net) = network_told(lsa, intra) {
-        add_summary_candidate(alloc, ways, net, lsa, router, area)?;
+        add_summary_candidate(ways, net, lsa, router, area)?;
     }
     Ok(())
 }
 
 /// Takes the way to an AS boundary router of another area that an LSA gives, if it does, into
 /// account.
-fn add_asbr_candidate<A: Allocator + Copy>(
-    alloc: A,
-    ways: &mut BestWays<RouterId, A>,
+fn add_asbr_candidate<'a, A: Allocator + Copy>(
+    ways: &mut BestWays<'a, RouterId, A>,
     lsa: &Lsa<A>,
     router: RouterId,
-    area: &IndexedArea<'_, A>,
+    area: &IndexedArea<'a, A>,
 ) -> Result<(), AllocError>
-    ensures { OnOk result ((cs : List (Candidate AnyRouter)) → Gathers router_cmp cs ways.old
-        → Gathers router_cmp
+    ensures { OnOk result ((cs : List (Candidate AnyRouter)) → Gathers cs ways.old
+        → Gathers
         (cs ++ cons_option (asbr_candidate router area.now lsa.now) []) ways.new) }
 {
     if let Some(asbr) = asbr_told(lsa, router, area) {
-        add_summary_candidate(alloc, ways, asbr, lsa, router, area)?;
+        add_summary_candidate(ways, asbr, lsa, router, area)?;
     }
     Ok(())
 }
 
 /// Takes the way by a summary-LSA to what it tells of into account, where the LSA is usable and its
 /// originator has an entry.
-fn add_summary_candidate<K: Ord + Copy + Drop, A: Allocator + Copy>(
-    alloc: A,
-    ways: &mut BestWays<K, A>,
+fn add_summary_candidate<'a, K: Ord + Copy + Drop, A: Allocator + Copy>(
+    ways: &mut BestWays<'a, K, A>,
     key: K,
     lsa: &Lsa<A>,
     router: RouterId,
-    area: &IndexedArea<'_, A>,
+    area: &IndexedArea<'a, A>,
 ) -> Result<(), AllocError>
-    requires { CmpEqualImpliesEq K.cmp }
-    ensures { OnOk result ((cs : List (Candidate K)) → Gathers K.cmp cs ways.old
-        → Gathers K.cmp
+    ensures { OnOk result ((cs : List (Candidate K)) → Gathers cs ways.old
+        → Gathers
         (cs ++ cons_option (candidate_to router area.now lsa.now key) []) ways.new) }
 {
     let (Some(metric), Some(border)) = (usable_metric(lsa, router), area.border(lsa.key().adv))
@@ -172,7 +166,7 @@ fn add_summary_candidate<K: Ord + Copy + Drop, A: Allocator + Copy>(
         class: 0,
         cost: border.cost + u64::from(metric),
     };
-    ways.add_candidate(alloc, key, rank, Some(area.area()), border.hops.as_slice())
+    ways.add_candidate(key, rank, Some(area.area()), border.hops.as_slice())
 }
 
 /// The entry of an AS boundary router of another area.

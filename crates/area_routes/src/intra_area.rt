@@ -5,7 +5,6 @@ ghost use Rattle.lsa_codec.specs.Prefix.{Net};
 ghost use Rattle.area_routes.specs.Best.{Gathers};
 ghost use Rattle.area_routes.specs.Candidate.{Candidate};
 ghost use Rattle.area_routes.specs.Intra.{intra_candidate, intra_candidates, intra_of};
-ghost use Rattle.lsa_codec.specs.Order.{prefix_cmp};
 ghost use Rattle.area_routes.specs.Values.{ResultBelow, RoutesBelow};
 
 use crate::area_result::AreaResult;
@@ -34,37 +33,35 @@ pub fn intra<A: Allocator + Copy>(
 {
     let mut ways = BestWays::new(alloc);
     for area in results {
-        add_intra_candidates(alloc, &mut ways, area)?;
+        add_intra_candidates(&mut ways, area)?;
     }
     Ok(InsideRoutes::from_routes(ways.into_routes(alloc)?))
 }
 
 /// Takes all ways that an area offers into account.
-fn add_intra_candidates<A: Allocator + Copy>(
-    alloc: A,
-    ways: &mut BestWays<Prefix, A>,
-    area: &AreaResult<A>,
+fn add_intra_candidates<'a, A: Allocator + Copy>(
+    ways: &mut BestWays<'a, Prefix, A>,
+    area: &'a AreaResult<A>,
 ) -> Result<(), AllocError>
-    ensures added { OnOk result ((cs : List (Candidate Net)) → Gathers prefix_cmp cs ways.old
-        → Gathers prefix_cmp (cs ++ intra_candidates area.now) ways.new) }
+    ensures added { OnOk result ((cs : List (Candidate Net)) → Gathers cs ways.old
+        → Gathers (cs ++ intra_candidates area.now) ways.new) }
     ensures below { ResultBelow (2 ^ 33) area.now }
 {
     let offers = area.offers();
     for offer in offers {
-        add_intra_candidate(alloc, ways, area.area(), offer)?;
+        add_intra_candidate(ways, area.area(), offer)?;
     }
     Ok(())
 }
 
 /// Takes a way that an area offers into account.
-fn add_intra_candidate<A: Allocator + Copy>(
-    alloc: A,
-    ways: &mut BestWays<Prefix, A>,
+fn add_intra_candidate<'a, A: Allocator + Copy>(
+    ways: &mut BestWays<'a, Prefix, A>,
     area: AreaId,
-    offer: &Offer<A>,
+    offer: &'a Offer<A>,
 ) -> Result<(), AllocError>
-    ensures { OnOk result ((cs : List (Candidate Net)) → Gathers prefix_cmp cs ways.old
-        → Gathers prefix_cmp (cs ++ intra_candidate area offer.now ∷ []) ways.new) }
+    ensures { OnOk result ((cs : List (Candidate Net)) → Gathers cs ways.old
+        → Gathers (cs ++ intra_candidate area offer.now ∷ []) ways.new) }
 {
     let rank = Rank {
         path: PathType::Intra,
@@ -72,5 +69,5 @@ fn add_intra_candidate<A: Allocator + Copy>(
         class: 0,
         cost: offer.cost,
     };
-    ways.add_candidate(alloc, offer.net, rank, Some(area), offer.hops.as_slice())
+    ways.add_candidate(offer.net, rank, Some(area), offer.hops.as_slice())
 }

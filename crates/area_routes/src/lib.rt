@@ -19,6 +19,7 @@ mod route_list;
 
 // The best of many candidates.
 mod best;
+mod contender;
 mod way;
 
 // What an area gives.

@@ -4,10 +4,10 @@ ghost use Rattle.std.specs.Prelude.{◌≡◌, OnOk, IfOk, Some};
 ghost use Rattle.area_routes.specs.steps.Merge.{fresh, merged, merge};
 
 use crate::areas::AreaList;
+use crate::contender::Contender;
 use crate::laws::rank_order;
 use crate::rank::Rank;
-use lsa_codec::AreaId;
-use next_hops::{Hop, HopList};
+use next_hops::HopList;
 use std::alloc::{AllocError, Allocator, Global};
 use std::cmp::Ordering;
 use std::marker::Model;
@@ -40,47 +40,43 @@ impl<A: Allocator + Copy> Way<A> {
     }
 
     /// The way of one candidate.
-    pub(crate) fn of(
-        alloc: A,
-        rank: Rank,
-        area: Option<AreaId>,
-        hops: &[Hop],
-    ) -> Result<Way<A>, AllocError>
-        ensures { IfOk result (λ way. way ≡ fresh rank area hops.now) }
+    pub(crate) fn of<K>(alloc: A, candidate: &Contender<'_, K>) -> Result<Way<A>, AllocError>
+        ensures { IfOk result (λ way. way ≡ fresh candidate.now) }
     {
         let mut way = Way {
-            rank,
+            rank: candidate.rank,
             areas: AreaList::new(alloc),
             hops: HopList::new(alloc)?,
         };
-        way.join(area, hops)?;
+        way.join(candidate)?;
         Ok(way)
     }
 
     /// Adds the area and the hops of a candidate of the same rank.
-    fn join(&mut self, area: Option<AreaId>, hops: &[Hop]) -> Result<(), AllocError>
-        ensures { OnOk result (self.new ≡ merged self.old area hops.now) }
+    fn join<K>(&mut self, candidate: &Contender<'_, K>) -> Result<(), AllocError>
+        ensures { OnOk result (self.new ≡ merged self.old candidate.now) }
     {
-        if let Some(area) = area {
+        if let Some(area) = candidate.area {
             self.areas.add(area)?;
         }
-        self.hops.join(hops)
+        match candidate.onward {
+            Some(address) => self.hops.join_extended(candidate.hops, address),
+            None => self.hops.join(candidate.hops),
+        }
     }
 
     /// Takes a further candidate for the same destination into account.
-    pub(crate) fn merge(
+    pub(crate) fn merge<K>(
         &mut self,
         alloc: A,
-        rank: Rank,
-        area: Option<AreaId>,
-        hops: &[Hop],
+        candidate: &Contender<'_, K>,
     ) -> Result<(), AllocError>
-        ensures { OnOk result (self.new ≡ merge (Some self.old) rank area hops.now) }
+        ensures { OnOk result (self.new ≡ merge (Some self.old) candidate.now) }
     {
         rank_order();
-        match rank.cmp(&self.rank()) {
-            Ordering::Less => *self = Way::of(alloc, rank, area, hops)?,
-            Ordering::Equal => self.join(area, hops)?,
+        match candidate.rank.cmp(&self.rank()) {
+            Ordering::Less => *self = Way::of(alloc, candidate)?,
+            Ordering::Equal => self.join(candidate)?,
             Ordering::Greater => (),
         }
         Ok(())

@@ -7,9 +7,8 @@ use Rattle.lsdb.specs.Lists.{Lists, lsas_of}
 use Rattle.lsa_codec.specs.Prefix.{Net}
 use Rattle.area_routes.specs.Best.{Gathers}
 use Rattle.area_routes.specs.Candidate.{Candidate}
-use Rattle.lsa_codec.specs.Order.{prefix_cmp}
 use Rattle.area_routes.specs.Routes.{routes_of}
-use Rattle.area_routes.specs.Values.{EntryValue, RouteValue, WayValue}
+use Rattle.area_routes.specs.Values.{EntryValue, RouteValue}
 use Rattle.external_routes.specs.Flooding.{is_attached_outside_stubs}
 use Rattle.external_routes.specs.steps.Lookup.{WaysInside}
 use Rattle.external_routes.specs.External.{external_candidate, externals_of}
@@ -29,9 +28,9 @@ module _ (db : Lists) (router : RouterId) (routes : List RouteValue) (entries : 
   all_candidates = filter_map (external_candidate router routes entries) (lsas_of AsWide db)
 
   -- what was gathered of these LSAs with these ways inside the AS
-  pub gathered : (inside : WaysInside) (lsas : List (List ℕ)) (ways : List (Net × WayValue))
+  pub gathered : (inside : WaysInside) (lsas : List (List ℕ)) (ways : List (Candidate Net))
       → inside ≡ record { routes = routes; entries = entries } → lsas ≡ lsas_of AsWide db
-      → Gathers prefix_cmp (filter_map (external_candidate router inside.routes inside.entries) lsas) ways → Gathers prefix_cmp all_candidates ways
+      → Gathers (filter_map (external_candidate router inside.routes inside.entries) lsas) ways → Gathers all_candidates ways
   gathered inside lsas ways same all before =
-      subst (λ (i : WaysInside). Gathers prefix_cmp (filter_map (external_candidate router i.routes i.entries) (lsas_of AsWide db)) ways) same
-      (subst (λ (xs : List (List ℕ)). Gathers prefix_cmp (filter_map (external_candidate router inside.routes inside.entries) xs) ways) all before)
+      subst (λ (i : WaysInside). Gathers (filter_map (external_candidate router i.routes i.entries) (lsas_of AsWide db)) ways) same
+      (subst (λ (xs : List (List ℕ)). Gathers (filter_map (external_candidate router inside.routes inside.entries) xs) ways) all before)

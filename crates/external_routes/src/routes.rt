@@ -4,7 +4,6 @@ ghost use Rattle.std.specs.Prelude.{◌≡◌, ◌^◌, IfOk};
 ghost use Rattle.std.specs.List.{filter_map};
 ghost use Rattle.lsdb.specs.Places.{lists_of};
 ghost use Rattle.area_routes.specs.Best.{Gathers};
-ghost use Rattle.lsa_codec.specs.Order.{prefix_cmp};
 ghost use Rattle.area_routes.specs.Values.{RoutesBelow};
 ghost use Rattle.external_routes.specs.External.{external_candidate, externals_of};
 
@@ -17,19 +16,19 @@ use lsdb::{Database, Lsas, Section};
 use std::alloc::{AllocError, Allocator};
 
 /// Takes what LSAs offer into account, one after another.
-fn ways_of<A: Allocator + Copy>(
+fn ways_of<'a, A: Allocator + Copy>(
     alloc: A,
     lsas: Lsas<'_, A>,
     router: RouterId,
-    inside: &Inside<'_, A>,
-) -> Result<BestWays<Prefix, A>, AllocError>
-    ensures { IfOk result (λ ways. Gathers prefix_cmp
+    inside: &Inside<'a, A>,
+) -> Result<BestWays<'a, Prefix, A>, AllocError>
+    ensures { IfOk result (λ ways. Gathers
         (filter_map (external_candidate router inside.now.routes inside.now.entries) lsas.entry)
         ways) }
 {
     let mut ways = BestWays::new(alloc);
     for lsa in lsas {
-        add_external_candidate(alloc, &mut ways, inside, router, lsa)?;
+        add_external_candidate(&mut ways, inside, router, lsa)?;
     }
     Ok(ways)
 }

@@ -1,28 +1,46 @@
 -- The best way to a destination, with one candidate more.
-use Rattle.std.specs.Prelude.{List, [], ◌∷◌, ◌++◌, Option, None, Some}
-use Rattle.std.specs.Ordering.{match_ordering}
+use Rattle.std.specs.Prelude.{◌-◌, Bool, false, List, [], ◌∷◌, ◌++◌, Option, None, Some, length, map, slice_get}
+use Rattle.std.specs.Option.{option_map_or}
+use Rattle.std.specs.Ordering.{is_eq, match_ordering, ordering_then}
+use Rattle.std.specs.declared.cmp.Ordering.{Ordering}
+use Rattle.lsa_codec.specs.declared.address.Addr.{Addr}
 use Rattle.lsa_codec.specs.Order.{area_cmp}
+use Rattle.area_routes.specs.Candidate.{Candidate}
 use Rattle.area_routes.specs.Order.{rank_cmp}
-use Rattle.next_hops.specs.Hop.{hop_cmp}
+use Rattle.next_hops.specs.Hop.{extended, hop_cmp}
 use Rattle.area_graph.specs.Rising.{rising}
 use Rattle.area_routes.specs.Values.{WayValue}
 use Rattle.lsa_codec.specs.declared.address.AreaId.{AreaId}
 use Rattle.next_hops.specs.declared.hop.Hop.{Hop}
-use Rattle.area_routes.specs.declared.rank.Rank.{Rank}
+
+-- the hops of a way that goes on to an address, or does not
+abbrev pub going_on : Option Addr → List Hop → List Hop
+going_on None hops = hops
+going_on (Some address) hops = map (λ hop. extended hop address) hops
 
 -- areas with one more
 abbrev pub add_area : List AreaId → Option AreaId → List AreaId
 add_area areas None = areas
 add_area areas (Some area) = rising area_cmp (areas ++ area ∷ [])
 
--- the way of one candidate
-abbrev pub fresh : Rank → Option AreaId → List Hop → WayValue
-fresh rank area hops = record { rank = rank; areas = add_area [] area; hops = rising hop_cmp hops }
+module _ {K : Type 0} where
+  -- the way of one candidate
+  abbrev pub fresh : Candidate K → WayValue
+  fresh c = record { rank = c.rank; areas = add_area [] c.area; hops = rising hop_cmp c.hops }
 
--- a way with the area and the hops of one more candidate
-abbrev pub merged : WayValue → Option AreaId → List Hop → WayValue
-merged w area hops = record w { areas = add_area w.areas area; hops = rising hop_cmp (w.hops ++ hops) }
+  -- a way with the area and the hops of one more candidate
+  abbrev pub merged : WayValue → Candidate K → WayValue
+  merged w c = record w { areas = add_area w.areas c.area; hops = rising hop_cmp (w.hops ++ c.hops) }
 
-abbrev pub merge : Option WayValue → Rank → Option AreaId → List Hop → WayValue
-merge None rank area hops = fresh rank area hops
-merge (Some w) rank area hops = match_ordering (rank_cmp rank w.rank) (fresh rank area hops) (merged w area hops) w
+  abbrev pub merge : Option WayValue → Candidate K → WayValue
+  merge None c = fresh c
+  merge (Some w) c = match_ordering (rank_cmp c.rank w.rank) (fresh c) (merged w c) w
+
+  module _ (R : K → K → Ordering) where
+    -- by the destination, and then by the rank
+    abbrev pub candidate_cmp : Candidate K → Candidate K → Ordering
+    candidate_cmp a b = ordering_then (R a.key b.key) (rank_cmp a.rank b.rank)
+
+    -- whether the last of these ways leads to the key
+    abbrev pub is_last : List (K × WayValue) → K → Bool
+    is_last ways key = option_map_or (λ e. is_eq (R e.0 key)) (slice_get ways (length ways - 1)) false

@@ -79,7 +79,7 @@ fn best_of(
     ways_are_best::<u8>();
     let mut ways = BestWays::new(alloc);
     for (key, cost, area, hops) in candidates {
-        ways.add_candidate(alloc, *key, rank(PathType::Inter, 0, 0, *cost), *area, hops)?;
+        ways.add_candidate(*key, rank(PathType::Inter, 0, 0, *cost), *area, hops)?;
     }
     ways_text(alloc, &ways.into_list(alloc)?)
 }

@@ -8,7 +8,6 @@ use Rattle.lsa_codec.specs.declared.address.RouterId.{RouterId}
 use Rattle.area_routes.specs.Best.{Gathers}
 use Rattle.area_routes.specs.Candidate.{Candidate}
 use Rattle.area_routes.specs.Inter.{asbr_candidate, asbr_entry}
-use Rattle.lsa_codec.specs.Order.{router_cmp}
 use Rattle.area_routes.specs.Values.{EntriesBelow}
 use Rattle.area_routes.proofs.Costs.{asbrs_below, entries_below}
 use Rattle.area_routes.proofs.AddsLemmas.{filter_map_adds}
@@ -18,7 +17,7 @@ pub loop-lsa-preserved : goal.loop-lsa-preserved
 loop-lsa-preserved g c =
     let f = asbr_candidate c.args.router c.args.area.now in
     let so_far = map (λ lsa. lsa.now) c.loop-lsa.yielded in
-    let P : List (Candidate RouterId) → Type 0 = λ cs. Gathers router_cmp cs c.add_asbr_candidate.new.ways in
+    let P : List (Candidate RouterId) → Type 0 = λ cs. Gathers cs c.add_asbr_candidate.new.ways in
     subst P (sym (ap (filter_map f) (map-append (λ lsa. lsa.now) c.loop-lsa.yielded (c.in-Some.lsa ∷ [])) ∙ (filter_map_adds f).push so_far c.in-Some.lsa.now))
     (c.in_ok-add_asbr_candidate.ensures (filter_map f so_far) c.loop-lsa.invariant)
 
@@ -28,7 +27,7 @@ returns-clause-entries g c =
     c.loop-lsa.yielded _ c.loop-lsa.yielded_by _ _ c.in-None.is c.next.ensures.steps in
     let all : map (λ lsa. lsa.now) c.loop-lsa.yielded ≡ c.args.lsas = seen.0 in
     let f = asbr_candidate c.args.router c.args.area.now in
-    let P : List (List ℕ) → Type 0 = λ lsas. Gathers router_cmp (filter_map f lsas) c.loop-lsa.ways in
+    let P : List (List ℕ) → Type 0 = λ lsas. Gathers (filter_map f lsas) c.loop-lsa.ways in
     let ways = c.in_ok-into_list.ensures.ways (filter_map f c.args.lsas) (subst P all c.loop-lsa.invariant) in
     IfOk-weaker c.entries.result _ _
     (λ x h. h ∙ ap (λ (a : AreaId). map (asbr_entry a) c.in_ok-into_list.field-0.items) c.area.ensures ∙ ap (map (asbr_entry c.args.area.now.area)) ways)

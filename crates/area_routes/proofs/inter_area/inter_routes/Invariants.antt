@@ -2,9 +2,8 @@ use Rattle.std.proofs.Common.{map}
 use Rattle.std.specs.List.{filter_map}
 use Rattle.area_routes.specs.Best.{Gathers}
 use Rattle.area_routes.specs.Inter.{network_candidate}
-use Rattle.lsa_codec.specs.Order.{prefix_cmp}
 use Rattle.area_routes.proofs.inter_area.inter_routes.Given as goal
 
 -- the ways have taken the LSAs so far into account
 abbrev pub invariant-loop-lsa : goal.invariant-loop-lsa
-invariant-loop-lsa g l = Gathers prefix_cmp (filter_map (network_candidate l.router l.area l.intra) (map (λ lsa. lsa.now) l.yielded)) l.ways
+invariant-loop-lsa g l = Gathers (filter_map (network_candidate l.router l.area l.intra) (map (λ lsa. lsa.now) l.yielded)) l.ways

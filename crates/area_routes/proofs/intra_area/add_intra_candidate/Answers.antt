@@ -5,13 +5,12 @@ use Rattle.area_routes.specs.declared.rank.PathType.TheVariants.{Intra}
 use Rattle.area_routes.specs.Best.{Gathers}
 use Rattle.area_routes.specs.Candidate.{Candidate}
 use Rattle.area_routes.specs.Intra.{intra_candidate}
-use Rattle.lsa_codec.specs.Order.{prefix_cmp}
 use Rattle.area_routes.proofs.intra_area.add_intra_candidate.Goals as goal
 
 pub returns : goal.returns
 returns g c =
     let P : Candidate Net → Type 0 = λ x. OnOk c.add_candidate.result
-    ((cs : List (Candidate Net)) → Gathers prefix_cmp cs c.args.ways.now → Gathers prefix_cmp (cs ++ x ∷ []) c.add_candidate.new.self) in
+    ((cs : List (Candidate Net)) → Gathers cs c.args.ways.now → Gathers (cs ++ x ∷ []) c.add_candidate.new.self) in
     let with_hops : List Hop → Candidate Net = λ hops. record {
       key = c.offer.inside.net;
       rank = record { path = Intra; cost2 = 0; class = 0; cost = c.offer.inside.cost };

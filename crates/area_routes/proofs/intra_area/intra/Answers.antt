@@ -6,7 +6,6 @@ use Rattle.lsa_codec.specs.Prefix.{Net}
 use Rattle.area_routes.specs.Best.{Gathers}
 use Rattle.area_routes.specs.Candidate.{Candidate}
 use Rattle.area_routes.specs.Intra.{intra_candidate, intra_candidates, intra_of}
-use Rattle.lsa_codec.specs.Order.{prefix_cmp}
 use Rattle.area_routes.specs.Values.{AreaResultValue, ResultBelow, RoutesBelow}
 use Rattle.area_routes.proofs.Bounds.{All-flat_map, All-taken}
 use Rattle.area_routes.proofs.Made.{wider_routes}
@@ -15,7 +14,7 @@ use Rattle.area_routes.proofs.intra_area.intra.Goals as goal
 
 pub loop-area-preserved : goal.loop-area-preserved
 loop-area-preserved g c = (
-  adds_step (flat_map_adds intra_candidates) (λ cs. Gathers prefix_cmp cs c.loop-area.ways) (λ cs. Gathers prefix_cmp cs c.add_intra_candidates.new.ways)
+  adds_step (flat_map_adds intra_candidates) (λ cs. Gathers cs c.loop-area.ways) (λ cs. Gathers cs c.add_intra_candidates.new.ways)
       c.args.results.now c.loop-area.area-index c.area-item.result c.loop-area-test.true
       c.area-item.is c.loop-area.invariant.0 c.in_ok-add_intra_candidates.ensures.added,
   All-taken (ResultBelow (2 ^ 33)) c.args.results.now c.loop-area.area-index c.area-item.result c.loop-area-test.true
@@ -35,7 +34,7 @@ pub from_routes-requires : goal.from_routes-requires
 from_routes-requires g c =
     let all = take_all c.loop-area.area-index c.args.results.now c.loop-area-test.false in
     let at = whole c.args.results.now c.loop-area.area-index
-    (λ rs. Gathers prefix_cmp (flat_map intra_candidates rs) c.loop-area.ways) all c.loop-area.invariant.0 in
+    (λ rs. Gathers (flat_map intra_candidates rs) c.loop-area.ways) all c.loop-area.invariant.0 in
     let areas = whole c.args.results.now c.loop-area.area-index (λ rs. All (ResultBelow (2 ^ 33)) rs) all c.loop-area.invariant.1 in
     let below = candidates_below c.args.results.now areas in
     wider_routes c.in_ok-into_routes.field-0 (c.in_ok-into_routes.ensures.small (2 ^ 33) (flat_map intra_candidates c.args.results.now) at below)
@@ -45,14 +44,14 @@ unfolding intra_of
 returns-clause-routes g c =
     let all = take_all c.loop-area.area-index c.args.results.now c.loop-area-test.false in
     let at = whole c.args.results.now c.loop-area.area-index
-    (λ rs. Gathers prefix_cmp (flat_map intra_candidates rs) c.loop-area.ways) all c.loop-area.invariant.0 in
+    (λ rs. Gathers (flat_map intra_candidates rs) c.loop-area.ways) all c.loop-area.invariant.0 in
     c.from_routes.ensures ∙ c.in_ok-into_routes.ensures.routes (flat_map intra_candidates c.args.results.now) at
 
 pub returns-clause-small : goal.returns-clause-small
 returns-clause-small g c =
     let all = take_all c.loop-area.area-index c.args.results.now c.loop-area-test.false in
     let at = whole c.args.results.now c.loop-area.area-index
-    (λ rs. Gathers prefix_cmp (flat_map intra_candidates rs) c.loop-area.ways) all c.loop-area.invariant.0 in
+    (λ rs. Gathers (flat_map intra_candidates rs) c.loop-area.ways) all c.loop-area.invariant.0 in
     let areas = whole c.args.results.now c.loop-area.area-index (λ rs. All (ResultBelow (2 ^ 33)) rs) all c.loop-area.invariant.1 in
     let below = candidates_below c.args.results.now areas in
     subst (RoutesBelow (2 ^ 33)) (sym c.from_routes.ensures)

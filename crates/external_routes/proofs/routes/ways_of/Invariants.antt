@@ -1,10 +1,9 @@
 use Rattle.std.proofs.Common.{map}
 use Rattle.std.specs.List.{filter_map}
 use Rattle.area_routes.specs.Best.{Gathers}
-use Rattle.lsa_codec.specs.Order.{prefix_cmp}
 use Rattle.external_routes.specs.External.{external_candidate}
 use Rattle.external_routes.proofs.routes.ways_of.Given as goal
 
 -- the ways have taken what the LSAs so far offer into account
 abbrev pub invariant-loop-lsa : goal.invariant-loop-lsa
-invariant-loop-lsa g l = Gathers prefix_cmp (filter_map (external_candidate l.router l.inside.routes l.inside.entries) (map (λ lsa. lsa.now) l.yielded)) l.ways
+invariant-loop-lsa g l = Gathers (filter_map (external_candidate l.router l.inside.routes l.inside.entries) (map (λ lsa. lsa.now) l.yielded)) l.ways

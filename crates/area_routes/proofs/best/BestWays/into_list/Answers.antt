@@ -1,10 +1,13 @@
-use Rattle.area_routes.proofs.Merging.{keys_sorted, ways_from_entries}
+use Rattle.std.proofs.Common.{ap, ◌∙◌}
+use Rattle.std.proofs.lemmas.Result.{IfOk-weaker}
+use Rattle.area_routes.specs.Best.{ways_of}
+use Rattle.area_routes.proofs.Reordered.{reordered}
 use Rattle.area_routes.proofs.best.BestWays.into_list.Goals as goal
 
 pub returns-clause-ways : goal.returns-clause-ways
 returns-clause-ways g c =
-    ways_from_entries g.met.K.Ord.total c.requires (λ v. v.items) c.self.inside.found c.args.self c.self.view_is c.entries.result
-    c.entries.ensures.items c.entries.ensures.ordered
-
-pub returns-clause-sorted : goal.returns-clause-sorted
-returns-clause-sorted g c = keys_sorted _ (λ v. v.items) c.self.inside.found c.entries.result c.entries.ensures.items c.entries.ensures.ordered
+    let R = g.K.Ord.cmp in
+    IfOk-weaker c.ways_in_order.result _ _
+    (λ ways is cs at. is ∙ ap (ways_of R) c.deref.ensures.value
+    ∙ reordered g.met.K.Ord.total c.requires c.self.inside.candidates.items c.in_ok-sorted.field-0.items c.in_ok-sorted.ensures.same
+    ∙ ap (ways_of R) (c.self.view_is ∙ at)) c.ways_in_order.ensures.ways

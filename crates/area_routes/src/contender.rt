@@ -1,0 +1,49 @@
+//! Candidates for destinations, which borrow their next hops.
+
+ghost use Rattle.std.specs.Prelude.{◌≡◌};
+ghost use Rattle.area_routes.specs.steps.Merge.{candidate_cmp};
+
+use crate::rank::Rank;
+use lsa_codec::{Addr, AreaId};
+use next_hops::Hop;
+use std::cmp::Ordering;
+use std::marker::Model;
+
+/// A way to a destination that one path, or several of equal cost, offer. Contracts see it as the
+/// record of its parts, the hops as they are where the way goes on.
+#[derive(Drop)]
+pub(crate) struct Contender<'a, K> {
+    /// The destination.
+    pub(crate) key: K,
+    /// What the way is compared by.
+    pub(crate) rank: Rank,
+    /// The area that the way leads through if it stays in one.
+    pub(crate) area: Option<AreaId>,
+    /// The next hops up to where the way goes on.
+    pub(crate) hops: &'a [Hop],
+    /// The address that the way goes on to, if it does ([`Hop::extended`]).
+    pub(crate) onward: Option<Addr>,
+}
+
+impl<'a, K> Model for Contender<'a, K> {
+    ghost use Rattle.area_routes.specs.Candidate.{Candidate};
+    ghost use Rattle.area_routes.specs.steps.Merge.{going_on};
+
+    ghost Value = { Candidate K };
+
+    ghost view = { λ c. record {
+      key = c.key;
+      rank = c.rank;
+      area = c.area;
+      hops = going_on c.onward c.hops.now;
+    } };
+}
+
+impl<'a, K: Ord + Copy> Contender<'a, K> {
+    /// Compares two candidates: by their destinations, and then by their ranks.
+    pub(crate) fn compare(&self, other: &Contender<'a, K>) -> Ordering
+        ensures { result ≡ candidate_cmp K.cmp self.now other.now }
+    {
+        self.key.cmp(&other.key).then(self.rank.cmp(&other.rank))
+    }
+}
