@@ -47,7 +47,10 @@ text_of label.MetricType2 = codes "Metric Type: 2 (Larger than any link state pa
 text_of label.Metric = codes "TOS: 0 Metric:"
 text_of label.Forward = codes "Forward Address:"
 text_of label.Tag = codes "External Route Tag:"
+text_of label.Router = codes "OSPF Router with ID"
 text_of label.Area = codes "(Area"
+text_of label.Stub = codes "[Stub])"
+text_of label.Nssa = codes "[NSSA])"
 
 -- the words behind these, where the text begins with these
 unfoldable pub behind_words : List Word → List Word → Option (List Word)

@@ -5,4 +5,6 @@ pub mod Labels
 pub mod Fields
 pub mod Bodies
 pub mod Making
+pub mod Headings
 pub mod Telling
+pub mod Sorting

@@ -1,6 +1,5 @@
 -- What the words tell that a router prints of its databases.
-use Rattle.std.specs.Prelude.{ℕ, ◌==◌, List, [], ◌∷◌, ◌++◌, Option, Some, None, option_map, Result, Ok, Err}
-use Rattle.std.specs.List.{slice_split}
+use Rattle.std.specs.Prelude.{ℕ, List, [], ◌∷◌, ◌++◌, Option, Some, None, Result, Ok, Err}
 use Rattle.lsa_codec.specs.declared.address.AreaId.{AreaId}
 use Rattle.lsa_codec.specs.declared.fault.LsaFault.{LsaFault}
 use Rattle.lsa_codec.specs.declared.key.Key.{Key}
@@ -8,12 +7,14 @@ use Rattle.lsa_codec.specs.Decoding.{decoded}
 use Rattle.lsa_instances.specs.declared.place.Scope.{Scope}
 use Rattle.lsa_instances.specs.Order.{scope_told}
 use Rattle.printed_databases.specs.declared.header.Header.{Header}
+use Rattle.printed_databases.specs.declared.hole.Hole.TheVariants as holes
+use Rattle.printed_databases.specs.declared.kind.AreaTold.{AreaTold}
 use Rattle.printed_databases.specs.declared.told.Told.{Told}
-use Rattle.printed_databases.specs.declared.told.Told.TheVariants.{Lsa, Refused, NoArea, Unreadable}
+use Rattle.printed_databases.specs.declared.told.Told.TheVariants as tells
 use Rattle.printed_databases.specs.Words.{Word}
-use Rattle.printed_databases.specs.Numbers.{address_of}
+use Rattle.printed_databases.specs.Headings.{heading_at, area_at}
 use Rattle.printed_databases.specs.declared.label.Label.TheVariants as label
-use Rattle.printed_databases.specs.Labels.{behind_label, word_behind}
+use Rattle.printed_databases.specs.Labels.{behind_label}
 use Rattle.printed_databases.specs.Fields.{header_in}
 use Rattle.printed_databases.specs.Bodies.{body_in}
 use Rattle.printed_databases.specs.Making.{type_code, header_octets}
@@ -22,47 +23,42 @@ use Rattle.printed_databases.specs.Making.{type_code, header_octets}
 abbrev pub key_of : Header → Key
 key_of header = record { kind = type_code header.name.ls_type; id = header.name.id; adv = header.issue.adv }
 
-abbrev pub first_part : List Word → Word
-first_part [] = []
-first_part (part ∷ parts) = part
-
--- the area that the word behind `(Area` names: the address before the closing parenthesis (41), if there is one
-abbrev pub area_of : Word → Option AreaId
-area_of word = option_map (λ address. record { 0 = address }) (address_of (first_part (slice_split (λ b. b == 41) word)))
-
-abbrev pub area_named : Option AreaId → Option (Word × List Word) → Option AreaId
-area_named area None = area
-area_named area (Some found) = area_of found.0
-
--- the area that a heading here begins, else the area that was begun before
-unfoldable pub area_at : Option AreaId → List Word → Option AreaId
-area_at area text = area_named area (word_behind label.Area text)
-
 module _ {A : Type 0} where
   abbrev pub in_scope : Key → List ℕ → Option Scope → Told A
-  in_scope key lsa None = NoArea key
-  in_scope key lsa (Some scope) = Lsa (record { scope = scope; seen = None; lsa = lsa })
+  in_scope key lsa None = tells.Hole (holes.NoArea key)
+  in_scope key lsa (Some scope) = tells.Lsa (record { scope = scope; seen = None; lsa = lsa })
 
   abbrev pub decoded_told : Option AreaId → Key → Result (List ℕ) LsaFault → Told A
-  decoded_told area key (Err fault) = Refused key fault
+  decoded_told area key (Err fault) = tells.Hole (holes.Refused key fault)
   decoded_told area key (Ok lsa) = in_scope key lsa (scope_told key.kind area)
 
   -- the octets that the fields make are an accepted LSA, with the checksum and the length that were printed
   abbrev pub made_told : Option AreaId → Header → Option (List ℕ) → Told A
-  made_told area header None = Unreadable
+  made_told area header None = tells.Hole holes.Unreadable
   made_told area header (Some body) = decoded_told area (key_of header) (decoded (header_octets header ++ body))
 
   abbrev pub header_told : Option AreaId → Option (Header × List Word) → Told A
-  header_told area None = Unreadable
+  header_told area None = tells.Hole holes.Unreadable
   header_told area (Some found) = made_told area found.0 (body_in found.0 found.1)
 
-  abbrev pub told_from : Option AreaId → List Word → Option (List Word) → List (Told A)
-  told_from area text None = []
-  told_from area text (Some rest) = header_told area (header_in text) ∷ []
+  abbrev pub kind_from : Option AreaTold → List (Told A)
+  kind_from None = []
+  kind_from (Some area) = tells.Kind area ∷ []
+
+  -- the kind of the area that a heading here names, if one does
+  unfoldable pub kinds_at : List Word → List (Told A)
+  kinds_at text = kind_from (heading_at text)
+
+  abbrev pub lsa_from : Option AreaId → List Word → Option (List Word) → List (Told A)
+  lsa_from area text None = []
+  lsa_from area text (Some rest) = header_told area (header_in text) ∷ []
 
   -- what the LSA tells that begins here, if one does
-  unfoldable pub told_at : Option AreaId → List Word → List (Told A)
-  told_at area text = told_from area text (behind_label label.Age text)
+  unfoldable pub lsas_at : Option AreaId → List Word → List (Told A)
+  lsas_at area text = lsa_from area text (behind_label label.Age text)
+
+  abbrev pub told_at : Option AreaId → List Word → List (Told A)
+  told_at area text = kinds_at text ++ lsas_at area text
 
   -- what is told from here on, in the area that was begun before
   unfoldable pub told_in : Option AreaId → List Word → List (Told A)

@@ -94,8 +94,14 @@ pub(crate) enum Label {
     Forward,
     /// Before the external route tag.
     Tag,
+    /// Before the Router ID of the router that prints.
+    Router,
     /// Before the Area ID of a heading.
     Area,
+    /// Behind the Area ID of a stub area.
+    Stub,
+    /// Behind the Area ID of a not-so-stubby area.
+    Nssa,
 }
 
 /// The words of a label.
@@ -145,7 +151,10 @@ fn text_of(label: Label) -> &'static [u8]
         Label::Metric => b"TOS: 0 Metric:",
         Label::Forward => b"Forward Address:",
         Label::Tag => b"External Route Tag:",
+        Label::Router => b"OSPF Router with ID",
         Label::Area => b"(Area",
+        Label::Stub => b"[Stub])",
+        Label::Nssa => b"[NSSA])",
     }
 }
 

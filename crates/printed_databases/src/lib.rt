@@ -3,7 +3,7 @@
 //! An LSA is made anew from the printed fields and must then be an accepted LSA with the very
 //! checksum and length that were printed. The types 1 to 5 are read (RFC 2328, A.4): what
 //! `show ip ospf database` prints with `router`, `network`, `summary`, `asbr-summary` and
-//! `external`.
+//! `external`. Headings tell the kinds of areas.
 #![tactic(auto)]
 
 // Words, and what they say.
@@ -19,9 +19,15 @@ mod ls_type;
 mod network;
 mod router;
 mod summary;
+// What is told.
+mod hole;
+mod kind;
+mod printed;
 mod told;
 
-pub use told::{Told, read_printed};
+pub use hole::Hole;
+pub use kind::{AreaKind, AreaTold};
+pub use printed::{Printed, is_printed, read_printed};
 
 #[cfg(test)]
 mod tests;

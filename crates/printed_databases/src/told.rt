@@ -1,36 +1,33 @@
-//! What a printed database tells.
+//! What the parts of a text tell.
 
-ghost use Rattle.std.specs.Prelude.{◌≡◌, ◌++◌, IfOk, OnOk, None, option_map};
+ghost use Rattle.std.specs.Prelude.{◌≡◌, ◌++◌, IfOk, OnOk, None};
 ghost use Rattle.printed_databases.specs.Words.{words};
 ghost use Rattle.printed_databases.specs.Bodies.{body_in};
 ghost use Rattle.printed_databases.specs.Fields.{header_in};
 ghost use Rattle.printed_databases.specs.Making.{header_octets};
-ghost use Rattle.printed_databases.specs.Telling.{key_of, area_of, area_at, in_scope, decoded_told, made_told, header_told, told_at, told_in};
+ghost use Rattle.printed_databases.specs.Telling.{key_of, in_scope, decoded_told, made_told, header_told, kinds_at, lsas_at, told_in};
 ghost use Rattle.lsa_codec.specs.Decoding.{decoded};
 ghost use Rattle.lsa_instances.specs.Order.{scope_told};
 
 use crate::body::body_in;
 use crate::header::{Header, header_in, header_octets};
-use crate::label::{Label, behind_label, word_behind};
-use crate::number::address_of;
-use crate::text::{cut_at, next_word};
+use crate::hole::Hole;
+use crate::kind::{AreaTold, area_at, heading_at};
+use crate::label::{Label, behind_label};
+use crate::text::next_word;
 use lsa_codec::{AreaId, Key, Lsa, LsaFault};
 use lsa_instances::{Scope, Sighting};
 use std::alloc::{AllocError, Allocator};
 
-/// What the text of an LSA tells.
+/// What a part of a text tells.
 #[derive(Debug, Drop)]
-pub enum Told<A: Allocator> {
-    /// The LSA that the printed fields make. It has the very checksum and length that were printed.
+pub(crate) enum Told<A: Allocator> {
+    /// The LSA that the printed fields make.
     Lsa(Sighting<A>),
-    /// The fields of the LSA with this key make none that is accepted, for this fault, which is
-    /// never `OutOfMemory`: it is `Checksum` where something is not printed that the LSA has.
-    Refused(Key, LsaFault),
-    /// The LSA with this key is printed under no area's heading.
-    NoArea(Key),
-    /// The fields can not be read: they are those of an LSA of another type than 1 to 5, or
-    /// printed in another way.
-    Unreadable,
+    /// The kind of the area of a heading.
+    Kind(AreaTold),
+    /// What is printed of an LSA, and tells none.
+    Hole(Hole),
 }
 
 /// What names the LSA.
@@ -44,37 +41,12 @@ fn key_of(header: Header) -> Key
     }
 }
 
-/// The area that the word behind `(Area` names.
-fn area_of(word: &[u8]) -> Option<AreaId>
-    ensures { result ≡ area_of word.now }
-{
-    let name = match cut_at(word, b')') {
-        Some((name, _)) => name,
-        None => word,
-    };
-    match address_of(name) {
-        Some(address) => Some(AreaId(address)),
-        None => None,
-    }
-}
-
-/// The area that a heading here begins, else the area that was begun before.
-#[tactic(auto, unfolding(crate::specs::Telling::area_at))]
-fn area_at(area: Option<AreaId>, text: &[u8]) -> Option<AreaId>
-    ensures { result ≡ area_at area (words text.now) }
-{
-    match word_behind(Label::Area, text) {
-        Some((word, _)) => area_of(word),
-        None => area,
-    }
-}
-
 /// An LSA, in its scope.
 fn in_scope<A: Allocator + Copy>(area: Option<AreaId>, key: Key, lsa: Lsa<A>) -> Told<A>
     ensures { result ≡ in_scope key lsa (scope_told key.kind area) }
 {
     match Scope::of(key.kind, area) {
-        None => Told::NoArea(key),
+        None => Told::Hole(Hole::NoArea(key)),
         Some(scope) => Told::Lsa(Sighting {
             scope,
             seen: None,
@@ -95,7 +67,7 @@ fn octets_told<A: Allocator + Copy>(
     match Lsa::decode(alloc, octets) {
         Ok((lsa, _)) => Ok(in_scope(area, key, lsa)),
         Err(LsaFault::OutOfMemory) => Err(AllocError),
-        Err(fault) => Ok(Told::Refused(key, fault)),
+        Err(fault) => Ok(Told::Hole(Hole::Refused(key, fault))),
     }
 }
 
@@ -125,7 +97,7 @@ fn body_told<A: Allocator + Copy>(
 {
     match body_in(alloc, header, text)? {
         Some(body) => made_told(alloc, area, header, &body),
-        None => Ok(Told::Unreadable),
+        None => Ok(Told::Hole(Hole::Unreadable)),
     }
 }
 
@@ -139,19 +111,33 @@ fn header_told<A: Allocator + Copy>(
 {
     match header_in(text) {
         Some((header, rest)) => body_told(alloc, area, header, rest),
-        None => Ok(Told::Unreadable),
+        None => Ok(Told::Hole(Hole::Unreadable)),
+    }
+}
+
+/// Adds the kind of the area that a heading here names, if one does.
+#[tactic(auto, unfolding(crate::specs::Telling::kinds_at))]
+fn tell_kind<A: Allocator + Copy>(told: &mut Vec<Told<A>, A>, text: &[u8]) -> Result<(), AllocError>
+    ensures { OnOk result (told.new.items ≡ told.old.items ++ kinds_at (words text.now)) }
+{
+    match heading_at(text) {
+        Some(area) => {
+            told.push(Told::Kind(area))?;
+            Ok(())
+        }
+        None => Ok(()),
     }
 }
 
 /// Adds what the LSA tells that begins here, if one does.
-#[tactic(auto, unfolding(crate::specs::Telling::told_at))]
-fn tell<A: Allocator + Copy>(
+#[tactic(auto, unfolding(crate::specs::Telling::lsas_at))]
+fn tell_lsa<A: Allocator + Copy>(
     alloc: A,
     told: &mut Vec<Told<A>, A>,
     area: Option<AreaId>,
     text: &[u8],
 ) -> Result<(), AllocError>
-    ensures { OnOk result (told.new.items ≡ told.old.items ++ told_at area (words text.now)) }
+    ensures { OnOk result (told.new.items ≡ told.old.items ++ lsas_at area (words text.now)) }
 {
     match behind_label(Label::Age, text) {
         Some(_) => {
@@ -162,11 +148,9 @@ fn tell<A: Allocator + Copy>(
     }
 }
 
-/// What each LSA tells of a text that a router prints (FRR) for `show ip ospf database` with
-/// `router`, `network`, `summary`, `asbr-summary` or `external`, in the order of the text. Several
-/// such texts may stand behind one another. Headings name the areas. Blanks and line feeds have no
-/// part in it but to stand between words. The only error is want of memory.
-pub fn read_printed<A: Allocator + Copy>(
+/// What the headings and the LSAs of a text tell, in the order of the text. Headings name the areas
+/// of the LSAs.
+pub(crate) fn tellings<A: Allocator + Copy>(
     alloc: A,
     text: &[u8],
 ) -> Result<Vec<Told<A>, A>, AllocError>
@@ -177,7 +161,8 @@ pub fn read_printed<A: Allocator + Copy>(
     let mut rest = text;
     while let Some((_word, behind)) = next_word(rest) {
         area = area_at(area, rest);
-        tell(alloc, &mut told, area, rest)?;
+        tell_kind(&mut told, rest)?;
+        tell_lsa(alloc, &mut told, area, rest)?;
         rest = behind;
     }
     Ok(told)

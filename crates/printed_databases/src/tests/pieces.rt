@@ -1,9 +1,6 @@
 //! Pieces of what routers print.
 
-use crate::{Told, read_printed};
 use lsa_codec::{Addr, Key, RouterId};
-use std::alloc::Global;
-use std::test::*;
 
 /// `show ip ospf database summary`: the first LSA of the backbone.
 pub(super) const SUMMARY: &[u8] = b"\n       OSPF Router with ID (1.1.1.1)\n\n\n                \
@@ -134,8 +131,3 @@ pub(super) const OPAQUE: &[u8] = b"                Area-Local Opaque-LSA (Area 0
     LS age: 171\n  Options: 0x42 : *|O|-|-|-|-|E|-\n  LS Flags: 0x6  \n  \
     LS Type: Area-Local Opaque-LSA\n  \
     Link State ID: 4.0.0.0 (Area-Local Opaque-Type/ID)\n  Advertising Router: 10.255.0.3\n";
-
-/// What a text tells.
-pub(super) fn told(alloc: Global, text: &[u8]) -> Result<Vec<Told<Global>>, Fail> {
-    Ok(read_printed(alloc, text)?)
-}

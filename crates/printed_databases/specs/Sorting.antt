@@ -1,0 +1,23 @@
+-- What a router prints tells, sorted out.
+use Rattle.std.specs.Prelude.{Option, Some, None}
+use Rattle.lsa_instances.specs.declared.sighting.Sighting.{Sighting}
+use Rattle.printed_databases.specs.declared.hole.Hole.{Hole}
+use Rattle.printed_databases.specs.declared.kind.AreaTold.{AreaTold}
+use Rattle.printed_databases.specs.declared.told.Told.{Told}
+use Rattle.printed_databases.specs.declared.told.Told.TheVariants as tells
+
+module _ {A : Type 0} where
+  abbrev pub sighting_of : Told A → Option (Sighting A)
+  sighting_of (tells.Lsa sighting) = Some sighting
+  sighting_of (tells.Kind area) = None
+  sighting_of (tells.Hole hole) = None
+
+  abbrev pub kind_of : Told A → Option AreaTold
+  kind_of (tells.Lsa sighting) = None
+  kind_of (tells.Kind area) = Some area
+  kind_of (tells.Hole hole) = None
+
+  abbrev pub hole_of : Told A → Option Hole
+  hole_of (tells.Lsa sighting) = None
+  hole_of (tells.Kind area) = None
+  hole_of (tells.Hole hole) = Some hole

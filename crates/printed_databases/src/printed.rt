@@ -1,0 +1,129 @@
+//! What a router prints, sorted out.
+
+ghost use Rattle.std.specs.Prelude.{◌≡◌, IfOk, None};
+ghost use Rattle.std.specs.List.{filter_map};
+ghost use Rattle.printed_databases.specs.Headings.{begins_here, is_printed};
+ghost use Rattle.printed_databases.specs.Sorting.{sighting_of, kind_of, hole_of};
+ghost use Rattle.printed_databases.specs.Telling.{told_in};
+ghost use Rattle.printed_databases.specs.Words.{words};
+
+use crate::hole::Hole;
+use crate::kind::AreaTold;
+use crate::label::{Label, behind_label};
+use crate::text::next_word;
+use crate::told::{Told, tellings};
+use lsa_instances::Sighting;
+use std::alloc::{AllocError, Allocator, Global};
+
+/// What a router prints tells, in the order of the text.
+#[derive(Debug, Drop)]
+pub struct Printed<A: Allocator = Global> {
+    /// The LSAs that the printed fields make. Each has the very checksum and length that were
+    /// printed; a text has no time stamps.
+    pub sightings: Vec<Sighting<A>, A>,
+    /// The kinds of areas, as often as headings tell them.
+    pub kinds: Vec<AreaTold, A>,
+    /// What tells no LSA.
+    pub holes: Vec<Hole, A>,
+}
+
+/// The LSA that is told.
+fn sighting_of<A: Allocator + Copy>(told: Told<A>) -> Option<Sighting<A>>
+    ensures { result ≡ sighting_of told }
+{
+    match told {
+        Told::Lsa(sighting) => Some(sighting),
+        _ => None,
+    }
+}
+
+/// The kind of an area that is told.
+fn kind_of<A: Allocator + Copy>(told: &Told<A>) -> Option<AreaTold>
+    ensures { result ≡ kind_of told.now }
+{
+    match told {
+        Told::Kind(area) => Some(*area),
+        _ => None,
+    }
+}
+
+/// The hole that is told.
+fn hole_of<A: Allocator + Copy>(told: &Told<A>) -> Option<Hole>
+    ensures { result ≡ hole_of told.now }
+{
+    match told {
+        Told::Hole(hole) => Some(*hole),
+        _ => None,
+    }
+}
+
+/// The kinds of areas.
+fn kinds_of<A: Allocator + Copy>(alloc: A, told: &[Told<A>]) -> Result<Vec<AreaTold, A>, AllocError>
+    ensures { IfOk result (λ kinds. kinds.items ≡ filter_map kind_of told.now) }
+{
+    told.iter().filter_map(|one| kind_of(one)).collect(alloc)
+}
+
+/// The holes.
+fn holes_of<A: Allocator + Copy>(alloc: A, told: &[Told<A>]) -> Result<Vec<Hole, A>, AllocError>
+    ensures { IfOk result (λ holes. holes.items ≡ filter_map hole_of told.now) }
+{
+    told.iter().filter_map(|one| hole_of(one)).collect(alloc)
+}
+
+/// The LSAs.
+fn sightings_of<A: Allocator + Copy>(
+    alloc: A,
+    told: Vec<Told<A>, A>,
+) -> Result<Vec<Sighting<A>, A>, AllocError>
+    ensures { IfOk result (λ sightings. sightings.items ≡ filter_map sighting_of told.items) }
+{
+    told.into_iter()
+        .filter_map(|one| sighting_of(one))
+        .collect(alloc)
+}
+
+/// Reads what a router prints (FRR) for `show ip ospf database` with `router`, `network`,
+/// `summary`, `asbr-summary` or `external`. Several such texts may stand behind one another.
+/// Blanks and line feeds have no part in it but to stand between words. The only error is want of
+/// memory.
+pub fn read_printed<A: Allocator + Copy>(alloc: A, text: &[u8]) -> Result<Printed<A>, AllocError>
+    ensures sightings { IfOk result (λ printed. printed.sightings.items
+        ≡ filter_map sighting_of (told_in None (words text.now))) }
+    ensures kinds { IfOk result (λ printed. printed.kinds.items
+        ≡ filter_map (kind_of {A = A}) (told_in None (words text.now))) }
+    ensures holes { IfOk result (λ printed. printed.holes.items
+        ≡ filter_map (hole_of {A = A}) (told_in None (words text.now))) }
+{
+    let told = tellings(alloc, text)?;
+    let kinds = kinds_of(alloc, &told)?;
+    let holes = holes_of(alloc, &told)?;
+    let sightings = sightings_of(alloc, told)?;
+    Ok(Printed {
+        sightings,
+        kinds,
+        holes,
+    })
+}
+
+/// Whether a router names itself here as it prints its databases, or an LSA begins.
+fn begins_here(text: &[u8]) -> bool
+    ensures { result ≡ begins_here (words text.now) }
+{
+    behind_label(Label::Router, text).is_some() || behind_label(Label::Age, text).is_some()
+}
+
+/// Whether a text is what a router prints of its databases: somewhere in it are the words
+/// `OSPF Router with ID` or `LS age:`.
+pub fn is_printed(text: &[u8]) -> bool
+    ensures { result ≡ is_printed (words text.now) }
+{
+    let mut rest = text;
+    while let Some((_word, behind)) = next_word(rest) {
+        if begins_here(rest) {
+            return true;
+        }
+        rest = behind;
+    }
+    false
+}
