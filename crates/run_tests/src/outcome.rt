@@ -88,6 +88,9 @@ pub fn run_whole<A: Allocator + Copy, R: Read, S: Read, W: Write, D: Write, E: W
     ensures out_prefix { IfBoth (R.remaining dump) (S.remaining script)
         (λ bytes lines. AppendsPrefix (D.contents out) (D.contents result.out.stream)
         (final_dump bytes lines)) }
+    ensures save_prefix { IfBoth (R.remaining dump) (S.remaining script)
+        (λ bytes lines. AppendsPrefix (E.contents save) (E.contents result.save.stream)
+        (final_session bytes lines)) }
     ensures accepted { OnOk result.result (IfSome (R.remaining dump) IsAccepted) }
     ensures within { OnOk result.result
         (IfSome (S.remaining script) (λ lines. length lines ≤ 1048576)) }
