@@ -148,6 +148,14 @@ module _ (db : Lists) where
               ∙ ap (λ (xs : List SwapData). xs ++ swaps_from second 1 ss) (append-nil here)
               ∙ (λ i. same_swaps (first (Some head)) (both (Some head)) 0 name 0 ps (first_backbone head is) i ++ all_second 1 ss all i)
 
+-- where the first pass is done, the backbone is refreshed
+pub first_leads : (d : Places) (one : List SwapData) → IsDatabase (lists_of d) → one ≡ swaps_from (pass_fates is_backbone (lists_of d)) 0 d
+    → lists_of (done_places d one) ≡ refreshed_areas is_backbone (lists_of d)
+first_leads d one sound is =
+    let db : Lists = lists_of d in
+    ap lists_of (ap (done_places d) is ∙ (walked (first db) d (pass_safe is_backbone db) sound).leads) ∙ lists-after (first db) d
+    ∙ pass_after is_backbone db db
+
 -- the swaps of the first pass, and those of the second one where the first is done
 pub passes_joined : (d e : Places) (one two : List SwapData) → IsDatabase (lists_of d) → one ≡ swaps_from (pass_fates is_backbone (lists_of d)) 0 d
     → e ≡ done_places d one → two ≡ swaps_from (pass_fates is_not_backbone (lists_of e)) 0 e

@@ -134,15 +134,17 @@ fn add_pass_swaps<A: Allocator + Copy>(
 fn metric_swaps<A: Allocator + Copy>(
     database: &Database<A>,
     pass: Pass,
+    known: &mut Originators<A>,
 ) -> Result<Vec<Swap<A>, A>, EditFault>
+    requires { AreOf (lists_of database.now) known.old }
     ensures swaps { IfOk result (λ v. v.items
         ≡ swaps_from (pass_fates (chosen pass) (lists_of database.now)) 0 database.now) }
     ensures memory { IfErr result (λ fault. fault ≡ OutOfMemory) }
+    ensures known { AreOf (lists_of database.now) known.new }
 {
     let mut swaps = Vec::new(database.alloc());
-    let mut known = Originators::new(database.alloc());
     for number in 0..database.section_count() {
-        add_pass_swaps(database, number, pass, &mut known, &mut swaps)?;
+        add_pass_swaps(database, number, pass, known, &mut swaps)?;
     }
     Ok(swaps)
 }
@@ -152,8 +154,10 @@ fn metric_swaps<A: Allocator + Copy>(
 fn other_swaps<A: Allocator + Copy>(
     database: &mut Database<A>,
     first: &mut [Swap<A>],
+    known: &mut Originators<A>,
 ) -> Result<Vec<Swap<A>, A>, EditFault>
-    requires { CanDo database.old first.old }
+    requires can { CanDo database.old first.old }
+    requires known { AreOf (lists_of (done_places database.old first.old)) known.old }
     ensures swaps { IfOk result (λ v. let d = done_places database.old first.old in
         v.items ≡ swaps_from (pass_fates is_not_backbone (lists_of d)) 0 d) }
     ensures memory { IfErr result (λ fault. fault ≡ OutOfMemory) }
@@ -163,7 +167,7 @@ fn other_swaps<A: Allocator + Copy>(
     // What is true of it has to hold after each swap too.
     database.known();
     do_swaps(database, first);
-    let others = metric_swaps(database, Pass::OtherAreas);
+    let others = metric_swaps(database, Pass::OtherAreas, known);
     undo_swaps(database, first);
     others
 }
@@ -180,8 +184,10 @@ pub(crate) fn plan_refresh<A: Allocator + Copy>(
 {
     // What is true of it has to hold after each swap too.
     database.known();
-    let mut swaps = metric_swaps(database, Pass::Backbone)?;
-    let mut others = other_swaps(database, &mut swaps)?;
+    let mut known = Originators::new(database.alloc());
+    let mut swaps = metric_swaps(database, Pass::Backbone, &mut known)?;
+    known.forget_told();
+    let mut others = other_swaps(database, &mut swaps, &mut known)?;
     swaps.append(&mut others)?;
     Ok(swaps)
 }

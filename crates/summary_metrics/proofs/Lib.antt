@@ -6,6 +6,7 @@ pub mod Several
 pub mod Outside
 pub mod IntoBackbone
 pub mod Settled
+pub mod NextPass
 pub mod AttachedIds
 pub mod ToldWays
 pub mod ToldRoutes

@@ -27,7 +27,7 @@ module _ (db new : Lists) (same : HaveSameGraphs db new) where
   attached_alike : (area : AreaId) (router : RouterId) → is_attached new area router ≡ is_attached db area router
   attached_alike area router = same_live (lsas_of (Area area) new) (lsas_of (Area area) db) (same.lsas area) router
 
-  areas_alike : (router : RouterId) → attached_areas new router ≡ attached_areas db router
+  pub areas_alike : (router : RouterId) → attached_areas new router ≡ attached_areas db router
   areas_alike router = λ i. filter (λ head. attached_alike (id_of head) router i) (same.areas i)
 
   result_alike : (router : RouterId) (head : AreaHead) → result_in new router head ≡ result_in db router head

@@ -178,7 +178,7 @@ module _ (db : Lists) (chosen : AreaId → Bool) where
   settled_stays : IsSettled db → refreshed_areas chosen db ≡ db
   settled_stays settled = sections_stay db settled
 
-accepted_of : (db : Lists) → IsDatabase db → AreAccepted db
+pub accepted_of : (db : Lists) → IsDatabase db → AreAccepted db
 accepted_of db is = All-weaker IsSection (λ (s : SectionLsas). All IsAccepted s.lsas) (λ s section. section.accepted) db is.sections
 
 pub refreshed_settled : (db : Lists) → IsDatabase db → IsSettled (refreshed db)

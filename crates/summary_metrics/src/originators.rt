@@ -3,13 +3,14 @@
 ghost use Rattle.std.specs.Prelude.{◌≡◌, ◌≤◌, IsSome, IfSome, IfOk, OnOk};
 ghost use Rattle.std.specs.Map.{lookup};
 ghost use Rattle.std.specs.Ordering.{eq_by_cmp};
+ghost use Rattle.lsa_codec.specs.Areas.{is_backbone};
 ghost use Rattle.lsa_codec.specs.Order.{router_cmp};
 ghost use Rattle.lsa_codec.specs.Views.{ls_infinity};
-ghost use Rattle.lsdb.specs.Lists.{Lists};
+ghost use Rattle.lsdb.specs.Lists.{IsDatabase, Lists};
 ghost use Rattle.lsdb.specs.Places.{lists_of};
 ghost use Rattle.external_routes.specs.Summaries.{borders};
 ghost use Rattle.summary_metrics.specs.Originators.{AreOf};
-ghost use Rattle.summary_metrics.specs.Refreshed.{stale_metric};
+ghost use Rattle.summary_metrics.specs.Refreshed.{refreshed_areas, stale_metric};
 ghost use Rattle.summary_metrics.specs.Told.{IsToldFor};
 
 use crate::attached_areas::AttachedAreas;
@@ -114,6 +115,16 @@ impl<A: Allocator + Copy> Originators<A> {
         let lsas = database.lsas(Section::Area(AreaId::BACKBONE));
         self.told = Some(Told::of(alloc, lsas)?);
         Ok(())
+    }
+
+    /// Forgets what the backbone tells. What else is known follows from router-LSAs and
+    /// network-LSAs, so it is known of the database with the refreshed backbone too. It takes no
+    /// memory.
+    pub fn forget_told(&mut self)
+        ensures { (db : Lists) → IsDatabase db → AreOf db self.old
+            → AreOf (refreshed_areas is_backbone db) self.new }
+    {
+        self.told = None;
     }
 
     /// The metric that a summary-LSA of an area is due (RFC 2328, 12.4.3), where it is stale: its

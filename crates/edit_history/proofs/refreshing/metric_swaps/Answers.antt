@@ -11,7 +11,7 @@ use Rattle.edit_history.proofs.refreshing.metric_swaps.Goals as goal
 
 pub loop-number-init : goal.loop-number-init
 loop-number-init g c = record {
-  known = c.new-known.ensures (lists_of c.args.database.now);
+  known = c.requires;
   swaps = ap (λ (ss : List SwapData). ss ++ swaps_from (pass_fates (chosen c.args.pass) (lists_of c.args.database.now)) 0 c.args.database.now)
       c.new-swaps.ensures.items;
 }

@@ -1,9 +1,12 @@
 use Rattle.std.proofs.Common.{◌++◌, List, refl, sym, ap, ◌∙◌, subst}
 use Rattle.std.proofs.lemmas.Result.{err_from_is_err_and}
-use Rattle.lsdb.specs.Places.{Places}
+use Rattle.lsdb.specs.Lists.{Lists}
+use Rattle.lsdb.specs.Places.{Places, lists_of}
+use Rattle.summary_metrics.specs.Originators.{AreOf}
 use Rattle.edit_script.specs.declared.edit.Edit.TheVariants.{Refresh}
 use Rattle.edit_history.specs.Exchange.{SwapData, done_places}
 use Rattle.edit_history.specs.Applied.{Planned}
+use Rattle.edit_history.proofs.RefreshPasses.{first_leads}
 use Rattle.edit_history.proofs.Refreshes.{first_can, refresh_planned, refresh_memory, written_back}
 use Rattle.edit_history.proofs.refreshing.plan_refresh.Goals as goal
 
@@ -12,8 +15,17 @@ returns-in_err-swaps-clause-refused g c =
     let gave = err_from_is_err_and c.from_residual.result c.from_residual.ensures.1 in
     rw (gave.1, gave.2) (refresh_memory c.args.database.now c.in_err-swaps.field-0.0 c.in_err-swaps.ensures.memory)
 
-pub other_swaps-requires : goal.other_swaps-requires
-other_swaps-requires g c =
+pub metric_swaps-requires : goal.metric_swaps-requires
+metric_swaps-requires g c = c.new-known.ensures (lists_of c.args.database.now)
+
+pub other_swaps-requires-clause-known : goal.other_swaps-requires-clause-known
+other_swaps-requires-clause-known g c =
+    let leads = first_leads c.args.database.now c.deref_mut.result.now c.known.ensures (c.deref_mut.ensures.value ∙ c.in_ok-swaps.ensures.swaps) in
+    subst (λ (db : Lists). AreOf db c.forget_told.new.self) (sym leads)
+    (c.forget_told.ensures (lists_of c.args.database.now) c.known.ensures c.in_ok-swaps.ensures.known)
+
+pub other_swaps-requires-clause-can : goal.other_swaps-requires-clause-can
+other_swaps-requires-clause-can g c =
     first_can c.args.database.now c.deref_mut.result.now c.known.ensures (c.deref_mut.ensures.value ∙ c.in_ok-swaps.ensures.swaps)
 
 pub returns-in_err-others-clause-refused : goal.returns-in_err-others-clause-refused

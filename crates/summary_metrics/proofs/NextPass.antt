@@ -1,0 +1,52 @@
+-- What is known of originators, but for what the backbone tells, holds where the backbone is refreshed too.
+use Rattle.std.proofs.Common.{◌≡◌, List, map, Option, Some, None, sym, ap, subst}
+use Rattle.std.specs.Prelude.{IfSome}
+use Rattle.std.specs.Map.{lookup}
+use Rattle.std.specs.Ordering.{eq_by_cmp}
+use Rattle.lsa_codec.specs.Areas.{is_backbone}
+use Rattle.lsa_codec.specs.declared.address.AreaId.{AreaId}
+use Rattle.lsa_codec.specs.Order.{router_cmp}
+use Rattle.lsdb.specs.declared.section.Section.TheVariants.{Area}
+use Rattle.lsdb.specs.Lists.{IsDatabase, Lists, lsas_of}
+use Rattle.area_graph.specs.Graphs.{IsGraphOf}
+use Rattle.area_routes.specs.Values.{AreaResultValue}
+use Rattle.area_routes.proofs.SameGraphLemmas.{same_graph}
+use Rattle.routing_table.specs.AreaTrees.{AreaTreesValue}
+use Rattle.routing_table.specs.AreasTrees.{AreasTrees, AreOfDatabase, trees_at}
+use Rattle.summary_metrics.specs.Originators.{AreGiven, AreOf, OriginatorsValue}
+use Rattle.summary_metrics.specs.Refreshed.{id_of, refreshed_areas}
+use Rattle.summary_metrics.specs.Told.{ToldValue}
+use Rattle.summary_metrics.proofs.KnownOriginators.{Attached, Known, known_as}
+use Rattle.summary_metrics.proofs.Passes.{areas_kept, graph_kept}
+use Rattle.summary_metrics.proofs.SameGraphs.{HaveSameGraphs, areas_alike, results_alike}
+use Rattle.summary_metrics.proofs.Settled.{accepted_of}
+
+module _ (db : Lists) (is : IsDatabase db) where
+  abbrev next : Lists
+  next = refreshed_areas is_backbone db
+
+  same : HaveSameGraphs db next
+  same = record { areas = areas_kept is_backbone db; lsas = λ area. graph_kept is_backbone db (Area area) (accepted_of db is) }
+
+  trees_next : (trees : AreasTrees) → AreOfDatabase db trees → AreOfDatabase next trees
+  trees_next trees all area = by (trees_at trees area) (all area)
+    where
+      by : (o : Option AreaTreesValue) → IfSome o (λ kept. IsGraphOf (lsas_of (Area area) db) kept.graph)
+          → IfSome o (λ kept. IsGraphOf (lsas_of (Area area) next) kept.graph)
+      by None h = tt
+      by (Some kept) h = same_graph (lsas_of (Area area) db) (lsas_of (Area area) next) (sym (same.lsas area)) kept.graph h
+
+  known_next : (known : OriginatorsValue) → AreOf db known → AreOf next (known_as known.attached known.trees known.inside None)
+  known_next known all = record {
+    attached = λ router. subst (λ (ids : List AreaId). IfSome (lookup (eq_by_cmp router_cmp router) known.attached) (λ areas. areas ≡ ids))
+        (sym (ap (map id_of) (areas_alike db next same router))) (all.attached router);
+    trees = trees_next known.trees all.trees;
+    inside = λ router. subst (λ (rs : List AreaResultValue). IfSome (lookup (eq_by_cmp router_cmp router) known.inside) (AreGiven rs))
+        (sym (results_alike db next same router)) (all.inside router);
+    told = tt;
+  }
+
+  pub told_forgotten : (old : OriginatorsValue) (attached : Attached) (trees : AreasTrees) (inside : Known) (told : Option ToldValue)
+      → known_as attached trees inside told ≡ old → AreOf db old → AreOf next (known_as attached trees inside None)
+  told_forgotten old attached trees inside told is_old all =
+      known_next (known_as attached trees inside told) (subst (λ (o : OriginatorsValue). AreOf db o) (sym is_old) all)
