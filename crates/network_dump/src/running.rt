@@ -1,9 +1,8 @@
 //! The whole run: files are read, and the dump that they make is written.
 
-ghost use Rattle.std.specs.Prelude.{◌≡◌, ◌≢◌, ◌↔◌, ℕ, List, All, IfErr, IfOk, OnOk, IsErr, false, true};
+ghost use Rattle.std.specs.Prelude.{◌≡◌, ◌≢◌, ◌↔◌, ℕ, List, All, IfErr, IfOk, false, true};
 ghost use Rattle.std.specs.Io.KnownBytes.{Appends};
 ghost use Rattle.streams.specs.Watched.{inner_of, has_failed};
-ghost use Rattle.streams.specs.WholeText.{AppendsPrefix};
 ghost use Rattle.network_files.specs.Dumps.{IsDump};
 ghost use Rattle.network_dump.specs.Runs.{AreTold, IsDumpEnd, MayEndRun, known};
 
@@ -13,7 +12,7 @@ use network_files::{FileTold, dump_of_files};
 use sighted_database::JoinFault;
 use std::alloc::Allocator;
 use std::io::{Read, Write};
-use streams::{Watched, WriteFault, write_whole};
+use streams::{Watched, write_and_flush};
 
 /// The dump that all files together make.
 fn dump_of<A: Allocator + Copy>(alloc: A, told: &[FileTold<A>]) -> Result<Vec<u8, A>, RunFault>
@@ -25,19 +24,6 @@ fn dump_of<A: Allocator + Copy>(alloc: A, told: &[FileTold<A>]) -> Result<Vec<u8
         Err(JoinFault::OutOfMemory) => Err(RunFault::OutOfMemory),
         Err(fault) => Err(RunFault::Join(fault)),
     }
-}
-
-/// Writes a text whole, and flushes the writer.
-fn write_and_flush<W: Write>(writer: &mut Watched<W>, text: &[u8]) -> Result<(), WriteFault>
-    requires { has_failed writer.old ≡ false }
-    ensures whole { OnOk result
-        (Appends (W.contents (inner_of writer.old)) (W.contents (inner_of writer.new)) text.now) }
-    ensures prefix { AppendsPrefix (W.contents (inner_of writer.old))
-        (W.contents (inner_of writer.new)) text.now }
-    ensures failed { IsErr result ↔ (has_failed writer.new ≡ true) }
-{
-    write_whole(writer, text)?;
-    writer.flush().map_err(|_| WriteFault)
 }
 
 /// Reads the files, one after another, joins what they tell, and writes the dump of the database

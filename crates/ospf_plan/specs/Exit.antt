@@ -5,9 +5,12 @@ use Rattle.lsdb.specs.declared.fault.DumpFaultKind.{DumpFaultKind}
 use Rattle.lsdb.specs.declared.fault.DumpFaultKind.TheVariants as kind
 use Rattle.lsdb.specs.Faults.{fault_text}
 use Rattle.whole_run.specs.declared.fault.RunFault.TheVariants as «run»
+use Rattle.ospf_plan.specs.declared.fault.FileArg.{FileArg}
 use Rattle.ospf_plan.specs.declared.fault.FileArg.TheVariants as file
 use Rattle.ospf_plan.specs.declared.fault.ExitFault.{ExitFault}
 use Rattle.ospf_plan.specs.declared.fault.ExitFault.TheVariants.{Run, Open}
+use Rattle.replaced_files.specs.declared.fault.ReplaceFault.{ReplaceFault}
+use Rattle.replaced_files.specs.declared.fault.ReplaceFault.TheVariants as replace
 
 abbrev pub dump_status : DumpFaultKind → ℕ
 dump_status kind.OutOfMemory = 5
@@ -38,3 +41,8 @@ exit_text (Open file.Dump) = codes "file: Open dump\n"
 exit_text (Open file.Script) = codes "file: Open script\n"
 exit_text (Open file.Out) = codes "file: Open out\n"
 exit_text (Open file.Save) = codes "file: Open save\n"
+
+-- a file that was not replaced could not be opened, or not be written
+abbrev pub not_replaced : ReplaceFault → FileArg → ExitFault
+not_replaced replace.Open name = Open name
+not_replaced replace.Write name = Run run.Write

@@ -2,10 +2,11 @@
 
 ghost use Rattle.std.specs.Prelude.{◌≡◌, false, IfOk, OnErr};
 ghost use Rattle.whole_run.specs.Streams.{has_any_failed};
+ghost use Rattle.ospf_plan.specs.Exit.{not_replaced};
 
 use crate::arguments::Options;
 use crate::fault::{ExitFault, FileArg};
-use crate::replacing::write_file;
+use replaced_files::{ReplaceFault, replace_file};
 use std::io::Read;
 use std::{fs, io};
 use streams::Watched;
@@ -90,7 +91,8 @@ fn has_failed(writer: &Option<Watched<Vec<u8>>>) -> bool
     }
 }
 
-/// Writes what a script leaves to its file, if one is named.
+/// Writes what a script leaves to its file, if one is named. The file is replaced once the new one
+/// is whole.
 fn write_named(
     rt: &HostRuntime,
     path: &Option<String>,
@@ -98,10 +100,22 @@ fn write_named(
     name: FileArg,
 ) -> Result<(), ExitFault> {
     match (path, left) {
-        (Some(path), Some(left)) => {
-            write_file(rt, path.as_str(), left.into_inner().as_slice(), name)
-        }
+        (Some(path), Some(left)) => replace_file(
+            rt,
+            path.as_str(),
+            left.into_inner().as_slice(),
+        ).map_err(|fault| not_replaced(fault, name)),
         _ => Ok(()),
+    }
+}
+
+/// The fault of a file that was not replaced.
+fn not_replaced(fault: ReplaceFault, name: FileArg) -> ExitFault
+    ensures { result ≡ not_replaced fault name }
+{
+    match fault {
+        ReplaceFault::Open => ExitFault::Open(name),
+        ReplaceFault::Write => ExitFault::Run(RunFault::Write),
     }
 }
 

@@ -12,7 +12,6 @@ mod exit;
 mod fault;
 mod files;
 mod help;
-mod replacing;
 
 use arguments::{Options, OptionsFault};
 use clap::Error;

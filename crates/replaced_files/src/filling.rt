@@ -7,7 +7,7 @@ ghost use Rattle.replaced_files.specs.declared.fault.ReplaceFault.TheVariants.{W
 
 use crate::fault::ReplaceFault;
 use std::io::Write;
-use streams::{Watched, WriteFault, write_whole};
+use streams::{Watched, WriteFault, write_and_flush};
 
 impl From<WriteFault> for ReplaceFault {
     ghost from_gives = { λ _ fault. fault ≡ WriteFails };
@@ -25,6 +25,6 @@ pub(crate) fn fill<W: Write>(file: &mut Watched<W>, text: &[u8]) -> Result<(), R
     ensures failed { IsErr result ↔ (has_failed file.new ≡ true) }
     ensures fault { IfErr result (λ fault. fault ≡ ReplaceFault.Write) }
 {
-    write_whole(file, text)?;
-    file.flush().map_err(|_| ReplaceFault::Write)
+    write_and_flush(file, text)?;
+    Ok(())
 }

@@ -13,4 +13,4 @@ mod writing;
 
 pub use reading::{ReadFault, read_more, read_whole};
 pub use watch::Watched;
-pub use writing::{WriteFault, write_whole};
+pub use writing::{WriteFault, write_and_flush, write_whole};

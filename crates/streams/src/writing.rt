@@ -34,3 +34,21 @@ pub fn write_whole<W: Write>(writer: &mut Watched<W>, text: &[u8]) -> Result<(),
     }
     Ok(())
 }
+
+/// Writes the whole text, and flushes the writer.
+///
+/// # Errors
+///
+/// `WriteFault` exactly where a write or the flush failed. The writer has then taken a prefix of
+/// the text.
+pub fn write_and_flush<W: Write>(writer: &mut Watched<W>, text: &[u8]) -> Result<(), WriteFault>
+    requires { has_failed writer.old ≡ false }
+    ensures whole { OnOk result
+        (Appends (W.contents (inner_of writer.old)) (W.contents (inner_of writer.new)) text.now) }
+    ensures prefix { AppendsPrefix (W.contents (inner_of writer.old))
+        (W.contents (inner_of writer.new)) text.now }
+    ensures failed { IsErr result ↔ (has_failed writer.new ≡ true) }
+{
+    write_whole(writer, text)?;
+    writer.flush().map_err(|_| WriteFault)
+}

@@ -16,7 +16,6 @@ mod script;
 
 pub use fault::RunFault;
 pub use laws::branches_are_apart;
-pub use output::write_and_flush;
 pub use running::run;
 pub use sample::SAMPLE;
 pub use script::Summary;

@@ -1,4 +1,4 @@
-//! Texts written whole, and flushed.
+//! What a script leaves, written whole, and all writers flushed.
 
 ghost use Rattle.std.specs.Prelude.{◌≡◌, ◌↔◌, ◌||◌, false, true, is_some, OnOk, IsErr};
 ghost use Rattle.std.specs.Io.KnownBytes.{Appends, Keeps};
@@ -8,19 +8,6 @@ ghost use Rattle.whole_run.specs.Streams.{contents_of, has_any_failed};
 
 use std::io::Write;
 use streams::{Watched, WriteFault, write_whole};
-
-/// Writes a text whole, and flushes the writer.
-pub fn write_and_flush<W: Write>(writer: &mut Watched<W>, text: &[u8]) -> Result<(), WriteFault>
-    requires { has_failed writer.old ≡ false }
-    ensures whole { OnOk result
-        (Appends (W.contents (inner_of writer.old)) (W.contents (inner_of writer.new)) text.now) }
-    ensures prefix { AppendsPrefix (W.contents (inner_of writer.old))
-        (W.contents (inner_of writer.new)) text.now }
-    ensures failed { IsErr result ↔ (has_failed writer.new ≡ true) }
-{
-    write_whole(writer, text)?;
-    flush(writer)
-}
 
 /// Writes the dump to `out` and the session to `save`, where they are given, and then flushes the
 /// replies and both.
