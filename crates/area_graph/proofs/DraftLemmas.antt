@@ -1,25 +1,20 @@
 -- Graphs with one more edge.
-use Rattle.std.proofs.Common.{◌≡◌, ◌≢◌, ℕ, zero, suc, ◌<◌, ◌^◌, Bool, true, false, cond, List, [], ◌∷◌, ◌++◌, map, length, get_or, set, Option, None}
-use Rattle.std.proofs.Common.{Some, refl, sym, ap, ◌∙◌, subst, arith, ◌⊎◌, inl, inr, ⊎_elim}
-use Rattle.std.specs.List.{slice_get, Contains, AllPairs, position, filter, filter_map, cons_option}
-use Rattle.std.specs.Option.{option_map}
+use Rattle.std.proofs.Common.{◌≡◌, ◌≢◌, ℕ, zero, suc, ◌<◌, ◌^◌, eqb, Bool, true, false, cond, List, [], ◌∷◌, ◌++◌, map, length, get_or, set}
+use Rattle.std.proofs.Common.{refl, sym, ap, ◌∙◌, subst, arith, ◌⊎◌, inl, inr, ⊎_elim, true≢false}
+use Rattle.std.specs.List.{Contains, AllPairs}
 use Rattle.std.proofs.lemmas.List.Elements.{Contains-push_cases}
 use Rattle.std.proofs.lemmas.List.{get_or-set_same, get_or-set_other, length-set, length-map, map-set, get_or-map, append-nil}
 use Rattle.std.proofs.Math.Seq.{map-set_same}
 use Rattle.std.specs.Result.{OnOk, OnErr}
 use Rattle.std.specs.declared.result.Result.{Result}
 use Rattle.std.specs.declared.result.Result.TheVariants.{Ok, Err}
-use Rattle.std.proofs.lemmas.Bool.{cases_eq}
+use Rattle.std.proofs.lemmas.Bool.{cases_eq, eqb-true, eq-eqb}
 use Rattle.area_graph.specs.declared.vertex.Vertex.{Vertex}
 use Rattle.area_graph.specs.declared.edge.Edge.{Edge}
 use Rattle.area_graph.specs.Paths.{DirectedEdge}
 use Rattle.area_graph.specs.Topology.{Topology, row_at}
-use Rattle.area_graph.specs.Rows.{numbered, is_out_of}
-use Rattle.area_graph.specs.steps.Drafts.{IsDraft, with_edge, Adds}
-use Rattle.area_graph.specs.Vertex.{is_same}
-use Rattle.area_graph.proofs.VertexLemmas.{found, missing, at_one_place}
-use Rattle.area_graph.proofs.AllPathsLemmas.{same_from_is_same, is_same-from}
-use Rattle.area_graph.proofs.MemberLemmas.{In-from_Contains, Some-same}
+use Rattle.area_graph.specs.steps.Drafts.{IsDraft, with_edge, Adds, arc_of, edge_of, out_of}
+use Rattle.area_graph.proofs.MemberLemmas.{In-from_Contains}
 
 -- ---- rows
 
@@ -57,72 +52,17 @@ module _ (t : Topology) (draft : IsDraft t) (i : ℕ) (within : i < length t.ver
 
 -- ---- one more edge
 
--- an edge in the row of a vertex: it stands there if it leads out of the vertex to one with a number
-row_of_one : List Vertex → Vertex → DirectedEdge Vertex → List Edge
-row_of_one vertices v f = filter_map (numbered vertices) (filter (is_out_of v) (f ∷ []))
-
-module _ (vertices : List Vertex) (f : DirectedEdge Vertex) where
-  elsewhere : (v : Vertex) → is_same f.from v ≡ false → row_of_one vertices v f ≡ []
-  unfolding row_of_one
-  elsewhere v out = ap (λ (b : Bool). filter_map (numbered vertices) (cond b (f ∷ []) [])) out
-
-  nowhere : position (is_same f.to) vertices ≡ None → (v : Vertex) → row_of_one vertices v f ≡ []
-  unfolding row_of_one
-  nowhere none v = by (is_same f.from v)
-    where
-      by : (b : Bool) → filter_map (numbered vertices) (cond b (f ∷ []) []) ≡ []
-      by false = refl
-      by true = ap (λ (o : Option ℕ). cons_option (option_map (λ to. let e : Edge = record { to = to; cost = f.cost; link_data = f.link_data } in e) o) []) none
-
-  here : (v : Vertex) (to : ℕ) → is_same f.from v ≡ true → position (is_same f.to) vertices ≡ Some to
-      → row_of_one vertices v f ≡ record { to = to; cost = f.cost; link_data = f.link_data } ∷ []
-  unfolding row_of_one
-  here v to out at =
-      ap (λ (b : Bool). filter_map (numbered vertices) (cond b (f ∷ []) [])) out
-      ∙ ap (λ (o : Option ℕ). cons_option (option_map (λ to. let e : Edge = record { to = to; cost = f.cost; link_data = f.link_data } in e) o) []) at
-
--- where an end of an edge is no vertex, nothing is to be added
-pub adds_none-from : (t : Topology) (f : DirectedEdge Vertex) → position (is_same f.from) t.vertices ≡ None → Adds (f ∷ []) t t
-unfolding row_of_one
-adds_none-from t f none = record { rows = λ i v at. by i v at (is_same f.from v) refl }
+pub adds_one : (t : Topology) → IsDraft t → (i : ℕ) → i < length t.vertices → (e : Edge) (new : Topology) → new ≡ with_edge t i e → Adds (arc_of i e ∷ []) t new
+adds_one t draft i within e new is = record { rows = λ j. ap (λ (u : Topology). row_at u j) is ∙ by j (eqb i j) refl }
   where
-    by : (i : ℕ) (v : Vertex) → slice_get t.vertices i ≡ Some v → (b : Bool) → is_same f.from v ≡ b → row_at t i ≡ row_at t i ++ row_of_one t.vertices v f
-    by i v at false out = sym (ap (λ (r : List Edge). row_at t i ++ r) (elsewhere t.vertices f v out) ∙ append-nil (row_at t i))
-    by i v at true same = absurd (missing t.vertices f.from none i v at same)
-
-pub adds_none-to : (t : Topology) (f : DirectedEdge Vertex) → position (is_same f.to) t.vertices ≡ None → Adds (f ∷ []) t t
-unfolding row_of_one
-adds_none-to t f none = record { rows = λ i v at. sym (ap (λ (r : List Edge). row_at t i ++ r) (nowhere t.vertices f none v) ∙ append-nil (row_at t i)) }
-
--- an edge between vertices, whose numbers were found
-pub adds_one : (t : Topology) → IsDraft t → (f : DirectedEdge Vertex) (i : ℕ) (e : Edge) → position (is_same f.from) t.vertices ≡ Some i
-    → position (is_same f.to) t.vertices ≡ Some e.to
-    → e.cost ≡ f.cost → e.link_data ≡ f.link_data → (new : Topology) → new ≡ with_edge t i e → Adds (f ∷ []) t new
-unfolding row_of_one
-adds_one t draft f i e at_i at_to cost carried new is =
-    record { rows = λ j v at_j. ap (λ (u : Topology). row_at u j) is ∙ ⊎_elim (same j v at_j) (other j v at_j) (cases_eq j i) }
-  where
-    from : (i < length t.vertices) × (slice_get t.vertices i ≡ Some f.from)
-    from = found t.vertices f.from i at_i
-
-    same : (j : ℕ) (v : Vertex) → slice_get t.vertices j ≡ Some v → j ≡ i → row_at (with_edge t i e) j ≡ row_at t j ++ row_of_one t.vertices v f
-    same j v at_j k =
-        let this : f.from ≡ v = Some-same (sym from.1 ∙ ap (slice_get t.vertices) (sym k) ∙ at_j) in
-        let one : row_of_one t.vertices v f ≡ e ∷ [] =
-        here t.vertices f v e.to (is_same-from f.from v this) at_to
-        ∙ (λ n. (let g : Edge = record { to = e.to; cost = sym cost n; link_data = sym carried n } in g) ∷ []) in
-        ap (λ (n : ℕ). row_at (with_edge t i e) n) k ∙ row_here t draft i from.0 e ∙ ap (λ (n : ℕ). row_at t n ++ e ∷ []) (sym k)
-        ∙ ap (λ (r : List Edge). row_at t j ++ r) (sym one)
-
-    in_one_row : (j : ℕ) (v : Vertex) → slice_get t.vertices j ≡ Some v → j ≢ i → (b : Bool) → is_same f.from v ≡ b → b ≡ false
-    in_one_row j v at_j k false out = refl
-    in_one_row j v at_j k true out =
-        absurd (k (at_one_place t.vertices draft.distinct j i v at_j (from.1 ∙ ap (λ (u : Vertex). Some u) (same_from_is_same f.from v out))))
-
-    other : (j : ℕ) (v : Vertex) → slice_get t.vertices j ≡ Some v → j ≢ i → row_at (with_edge t i e) j ≡ row_at t j ++ row_of_one t.vertices v f
-    other j v at_j k =
-        row_else t draft i from.0 e j k
-        ∙ sym (ap (λ (r : List Edge). row_at t j ++ r) (elsewhere t.vertices f v (in_one_row j v at_j k (is_same f.from v) refl)) ∙ append-nil (row_at t j))
+    by : (j : ℕ) (b : Bool) → eqb i j ≡ b → row_at (with_edge t i e) j ≡ row_at t j ++ out_of j (arc_of i e ∷ [])
+    by j true is =
+        let same : i ≡ j = eqb-true i j is in
+        subst (λ (k : ℕ). row_at (with_edge t i e) k ≡ row_at t k ++ e ∷ []) same (row_here t draft i within e)
+        ∙ ap (λ (r : List Edge). row_at t j ++ r) (sym (ap (λ (b : Bool). map edge_of (cond b (arc_of i e ∷ []) [])) is))
+    by j false is =
+        row_else t draft i within e j (λ same. true≢false (sym (eq-eqb i j (sym same)) ∙ is))
+        ∙ sym (append-nil (row_at t j)) ∙ ap (λ (r : List Edge). row_at t j ++ r) (sym (ap (λ (b : Bool). map edge_of (cond b (arc_of i e ∷ []) [])) is))
 
 -- ---- in memory, where a row has its list of edges
 

@@ -3,7 +3,7 @@ use Rattle.std.proofs.Common.{◌≡◌, ◌≢◌, ℕ, ◌<◌, Bool, true, fa
 use Rattle.std.proofs.Common.{subst, ap, ◌∙◌, inl, inr, ⊎_elim, arith, true≢false}
 use Rattle.std.specs.Prelude.{◌||◌, option_map, ◌++◌}
 use Rattle.std.specs.List.{Contains, AllPairs, All, list_any, list_all, find, slice_get, position, filter, filter_map}
-use Rattle.std.proofs.lemmas.List.{length-map, get_or-map}
+use Rattle.std.proofs.lemmas.List.{length-map, get_or-map, take_all}
 use Rattle.std.proofs.lemmas.Option.{slice_get-get_or}
 use Rattle.std.proofs.Math.ListN.{get_or-map as get_or-map-all}
 use Rattle.std.proofs.lemmas.List.Elements.{All-contains}
@@ -29,7 +29,8 @@ use Rattle.area_graph.specs.AreaEdges.{area_edges, names}
 use Rattle.area_graph.specs.Joins.{IsLinkTo, HasLink, Joins}
 use Rattle.area_graph.specs.declared.edge.Edge.{Edge}
 use Rattle.area_graph.specs.Rows.{same_edge, each_once, numbered, is_out_of, row_of, rows_of}
-use Rattle.area_graph.specs.steps.Drafts.{IsDraft, Adds, over_lsas, edges_once}
+use Rattle.area_graph.specs.steps.Naming.{naming}
+use Rattle.area_graph.specs.steps.Drafts.{IsDraft, Adds, out_of, arcs_below, over_lsas, edges_once}
 use Rattle.area_graph.specs.Graphs.{IsGraphOf, AreOfArea}
 use Rattle.area_graph.proofs.MemberLemmas.{In, In-from_Contains, Contains-from_In, list_all-In, Some-same, In-filter, filter-In, In-filter_map}
 use Rattle.area_graph.proofs.MemberLemmas.{filter_map-In, map-by_place}
@@ -38,6 +39,7 @@ use Rattle.area_graph.proofs.VertexLemmas.{found, has_number}
 use Rattle.area_graph.proofs.OnceLemmas.{Contains-each_once, each_once-In, each_once-distinct}
 use Rattle.area_graph.proofs.JoinLemmas.{Contains-area_edges}
 use Rattle.area_graph.proofs.OverLemmas.{ends, over_lsas-outs}
+use Rattle.area_graph.proofs.ArcLemmas.{arc_between, links_back, arcs_are, rows_same}
 use Rattle.area_graph.proofs.UsedLemmas.{used_accepted, used_few}
 use Rattle.area_graph.proofs.EdgeLemmas.{distance_of-edges}
 
@@ -189,23 +191,38 @@ module _ (lsas : List (List ℕ)) (are : AreOfArea lsas) (t : Topology) (draft :
   }
 
 -- the same, for the steps in which it is built
-pub built : (lsas vertex_lsas back_link_lsas edge_lsas : List (List ℕ)) → AreOfArea lsas → vertex_lsas ≡ used lsas → back_link_lsas ≡ used lsas
-    → edge_lsas ≡ used lsas
-    → (keys : List Vertex) → keys ≡ map vertex_of vertex_lsas → (links_back : Vertex → Vertex → Bool)
-    → ((v w : Vertex) → links_back v w ≡ list_any (names v w) back_link_lsas)
+pub built : (lsas vertex_lsas naming_lsas : List (List ℕ)) → AreOfArea lsas → vertex_lsas ≡ used lsas → naming_lsas ≡ used lsas
+    → (keys : List Vertex) → keys ≡ map vertex_of vertex_lsas → (rows : List (List Edge)) → rows ≡ map (naming keys) naming_lsas
     → (old t : Topology) → old.vertices ≡ keys → ((i : ℕ) → row_at old i ≡ []) → t.vertices ≡ old.vertices → IsDraft t
-    → Adds (over_lsas links_back edge_lsas) old t
+    → Adds (arcs_below old.vertices rows (length rows)) old t
     → IsGraphOf lsas (edges_once t)
-built lsas vertex_lsas back_link_lsas edge_lsas are uv ut ue keys k links_back back_links old t ok none tv draft adds =
-    is_graph lsas are t draft (tv ∙ ok ∙ k ∙ ap (map vertex_of) uv) row
+built lsas vertex_lsas naming_lsas are uv un keys k rows r old t ok none tv draft adds = is_graph lsas are t draft (tv ∙ vertices_are) row
   where
+    vertices_are : old.vertices ≡ vertices_of lsas
+    vertices_are = ok ∙ k ∙ ap (map vertex_of) uv
+
+    distinct : AllPairs (λ v w. v ≢ w) (vertices_of lsas)
+    distinct = subst (λ (vs : List Vertex). AllPairs (λ v w. v ≢ w) vs) (tv ∙ vertices_are) draft.distinct
+
+    rows_are : rows ≡ map (naming (vertices_of lsas)) (used lsas)
+    rows_are = r ∙ (λ i. map (naming ((k ∙ ap (map vertex_of) uv) i)) (un i))
+
+    arcs : arcs_below old.vertices rows (length rows) ≡ filter_map (arc_between (vertices_of lsas) distinct) (over_lsas (links_back (used lsas)) (used lsas))
+    arcs =
+        (λ i. arcs_below (vertices_are i) (rows_are i) (length rows))
+        ∙ ap (arcs_below (vertices_of lsas) (map (naming (vertices_of lsas)) (used lsas)))
+        (ap (λ (rs : List (List Edge)). length rs) rows_are ∙ length-map (used lsas) (naming (vertices_of lsas)))
+        ∙ arcs_are (used lsas) distinct (length (used lsas)) (omega arith)
+        ∙ ap (λ (ls : List (List ℕ)). filter_map (arc_between (vertices_of lsas) distinct) (over_lsas (links_back (used lsas)) ls)) (take_all (length (used lsas)) (used lsas) (omega arith))
+
     row : (i : ℕ) (v : Vertex) → slice_get t.vertices i ≡ Some v → row_at t i ≡ filter_map (numbered t.vertices) (filter (is_out_of v) (area_edges (used lsas)))
     row i v at =
-        adds.rows i v (subst (λ (vs : List Vertex). slice_get vs i ≡ Some v) tv at)
-        ∙ ap (λ (r : List Edge). r ++ filter_map (numbered old.vertices) (filter (is_out_of v) (over_lsas links_back edge_lsas))) (none i)
-        ∙ ap (λ (vs : List Vertex). filter_map (numbered vs) (filter (is_out_of v) (over_lsas links_back edge_lsas))) (sym tv)
-        ∙ ap (λ (us : List (List ℕ)). filter_map (numbered t.vertices) (filter (is_out_of v) (over_lsas links_back us))) ue
-        ∙ ap (filter_map (numbered t.vertices)) (over_lsas-outs (used lsas) links_back (λ v w. back_links v w ∙ ap (list_any (names v w)) ut) v)
+        adds.rows i
+        ∙ ap (λ (r : List Edge). r ++ out_of i (arcs_below old.vertices rows (length rows))) (none i)
+        ∙ ap (out_of i) arcs
+        ∙ rows_same (vertices_of lsas) distinct i v (subst (λ (vs : List Vertex). slice_get vs i ≡ Some v) (tv ∙ vertices_are) at) (over_lsas (links_back (used lsas)) (used lsas))
+        ∙ ap (λ (vs : List Vertex). filter_map (numbered vs) (filter (is_out_of v) (over_lsas (links_back (used lsas)) (used lsas)))) (sym (tv ∙ vertices_are))
+        ∙ ap (filter_map (numbered t.vertices)) (over_lsas-outs (used lsas) (links_back (used lsas)) (λ v w. refl) v)
 
 -- the distances in the graph are those over the edges of the area
 pub distance_of-area : (lsas : List (List ℕ)) (t : Topology) → IsGraphOf lsas t → (v w : Vertex)

@@ -7,12 +7,14 @@ pub mod VertexLemmas
 pub mod TopologyLemmas
 pub mod EdgeLemmas
 pub mod RankLemmas
-pub mod BackLinkLemmas
 pub mod OnceLemmas
 pub mod SpanLemmas
 pub mod Equality
+pub mod NamingLemmas
+pub mod BackLinkLemmas
 pub mod DraftLemmas
 pub mod AddsLemmas
+pub mod ArcLemmas
 pub mod AreaLemmas
 pub mod JoinLemmas
 pub mod OverLemmas

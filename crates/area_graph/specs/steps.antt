@@ -1,5 +1,6 @@
 -- What only the contracts of private functions cite: the steps in which a graph is built.
 pub mod Ranks
-pub mod BackLinks
 pub mod Spans
+pub mod Naming
 pub mod Drafts
+pub mod BackLinks

@@ -1,146 +1,152 @@
 //! Links back: an edge is there only where the other end names the vertex too (RFC 2328, 16.1).
 
-ghost use Rattle.std.specs.Prelude.{◌≡◌, true, ◌∷◌, [], map, filter_map, OnOk, IfOk};
-ghost use Rattle.area_graph.specs.declared.vertex.Vertex.TheVariants.{Router};
+ghost use Rattle.std.specs.Prelude.{◌≡◌, true, ◌<◌, length, All, OnOk, IfOk};
 ghost use Rattle.std.specs.HashSet.{Updates};
-ghost use Rattle.area_graph.specs.Area.{vertex_of};
-ghost use Rattle.area_graph.specs.AreaEdges.{target_of, named_by};
-ghost use Rattle.area_graph.specs.steps.BackLinks.{same_back_link, links_back, AreBackLinksOf, AddsBackLinks};
+ghost use Rattle.area_graph.specs.steps.Naming.{names_in, row_in};
+ghost use Rattle.area_graph.specs.steps.Drafts.{AreWithin};
+ghost use Rattle.area_graph.specs.steps.BackLinks.{same_back_link, has, AddsLink, AddsLinks, AddsLong, AreLongBelow};
 
-use crate::used::{VertexLsa, vertex_of};
-use crate::vertex::Vertex;
-use lsa_codec::{Attached, Link, LinkKind, Links, Lsa, RouterId};
+use crate::edge::Edge;
+use crate::rows::Rows;
 use std::alloc::{AllocError, Allocator};
 use std::collections::HashSet;
 use std::hash::{BuildHasherDefault, FoldHasher};
+use std::marker::Model;
 
-/// The LSA of one vertex names another, and so links back to it (RFC 2328, 16.1).
+/// One vertex names another, and so links back to it: their numbers.
 #[derive(Clone, Copy, Debug, PartialEq, Eq, Hash)]
 pub(crate) struct BackLink {
-    of: Vertex,
-    named: Vertex,
+    of: usize,
+    named: usize,
 }
 
-/// The links back of an area: each pair of a vertex and one that its LSA names.
-pub(crate) type BackLinks<A> = HashSet<BackLink, BuildHasherDefault<FoldHasher>, A>;
+/// Links back, each of which is found by a hash.
+pub(crate) type LinkSet<A> = HashSet<BackLink, BuildHasherDefault<FoldHasher>, A>;
 
-/// The vertex that a link leads to.
-pub(crate) fn target_of(link: Link) -> Option<Vertex>
-    ensures { result ≡ target_of link }
-{
-    match link.kind {
-        LinkKind::PointToPoint => Some(Vertex::Router(RouterId(link.id.0))),
-        LinkKind::Transit => Some(Vertex::Network(link.id)),
-        _ => None,
-    }
+/// How many edges are looked through; those of longer rows are found by a hash.
+const SHORT_ROW: usize = 16;
+
+/// Which vertices name which others, by their numbers. Contracts see it as a row for each vertex:
+/// edges to those that it names.
+#[derive(Drop)]
+pub(crate) struct BackLinks<A: Allocator> {
+    naming: Rows<A>,
+    long: LinkSet<A>,
 }
 
-/// Whether the LSA of one vertex names the other: links back to it.
-pub(crate) fn links_back<A: Allocator + Copy>(
-    back_links: &BackLinks<A>,
-    of: Vertex,
-    named: Vertex,
-) -> bool
-    ensures { result ≡ links_back back_links.now of named }
-{
-    back_links.contains(&BackLink { of, named })
+impl<A: Allocator> Model for BackLinks<A> {
+    ghost use Rattle.std.specs.Prelude.{List, length};
+    ghost use Rattle.area_graph.specs.declared.edge.Edge.{Edge as AnyEdge};
+    ghost use Rattle.area_graph.specs.steps.BackLinks.{AreBackLinks};
+
+    ghost Value = { List (List AnyEdge) };
+
+    ghost view = { λ b. b.naming };
+
+    ghost invariant = { λ b. AreBackLinks b.naming b.long };
 }
 
-/// Puts a link back into the set.
 fn insert<A: Allocator + Copy>(
-    back_links: &mut BackLinks<A>,
+    links: &mut LinkSet<A>,
     back_link: BackLink,
 ) -> Result<(), AllocError>
-    ensures { OnOk result (Updates same_back_link back_links.old back_links.new back_link true) }
+    ensures { OnOk result (Updates same_back_link links.old links.new back_link true) }
 {
-    back_links.insert(back_link)?;
+    links.insert(back_link)?;
     Ok(())
 }
 
-/// Adds the link back of a vertex to one that its LSA names.
-fn add_back_link<A: Allocator + Copy>(
-    back_links: &mut BackLinks<A>,
-    of: Vertex,
-    named: Vertex,
+fn add_link<A: Allocator + Copy>(
+    links: &mut LinkSet<A>,
+    of: usize,
+    named: usize,
 ) -> Result<(), AllocError>
-    ensures { OnOk result (AddsBackLinks of (named ∷ []) back_links.old back_links.new) }
+    ensures { OnOk result (AddsLink of named links.old links.new) }
 {
-    insert(back_links, BackLink { of, named })
+    insert(links, BackLink { of, named })
 }
 
-/// Adds the link back of a vertex to the one that a link of it leads to.
-fn add_target_of<A: Allocator + Copy>(
-    back_links: &mut BackLinks<A>,
-    of: Vertex,
-    link: Link,
+/// Adds the links back of a vertex to those to which these edges lead.
+fn add_links<A: Allocator + Copy>(
+    links: &mut LinkSet<A>,
+    of: usize,
+    row: &[Edge],
 ) -> Result<(), AllocError>
-    ensures { OnOk result
-        (AddsBackLinks of (filter_map target_of (link ∷ [])) back_links.old back_links.new) }
+    ensures { OnOk result (AddsLinks of row.now links.old links.new) }
 {
-    match target_of(link) {
-        Some(named) => add_back_link(back_links, of, named),
-        None => Ok(()),
-    }
-}
-
-/// Adds the links back of a vertex to those that its links lead to.
-fn add_targets_of<A: Allocator + Copy>(
-    back_links: &mut BackLinks<A>,
-    of: Vertex,
-    links: Links<'_>,
-) -> Result<(), AllocError>
-    ensures { OnOk result
-        (AddsBackLinks of (filter_map target_of links.entry) back_links.old back_links.new) }
-{
-    for link in links {
-        add_target_of(back_links, of, link)?;
+    for edge in row {
+        add_link(links, of, edge.to)?;
     }
     Ok(())
 }
 
-/// Adds the links back of a network to its routers.
-fn add_routers<A: Allocator + Copy>(
-    back_links: &mut BackLinks<A>,
-    of: Vertex,
-    routers: Attached<'_>,
+/// Adds the links back of a vertex, if its row is long.
+fn add_long<A: Allocator + Copy>(
+    links: &mut LinkSet<A>,
+    of: usize,
+    row: &[Edge],
 ) -> Result<(), AllocError>
-    ensures { OnOk result (AddsBackLinks of (map (λ router. Router router) routers.entry)
-        back_links.old back_links.new) }
+    ensures { OnOk result (AddsLong of row.now links.old links.new) }
 {
-    for router in routers {
-        add_back_link(back_links, of, Vertex::Router(router))?;
+    if row.len() <= SHORT_ROW {
+        return Ok(());
     }
-    Ok(())
+    add_links(links, of, row)
 }
 
-/// Adds the links back of the vertex of an LSA to those that the LSA names.
-fn add_named_by<A: Allocator + Copy>(
-    back_links: &mut BackLinks<A>,
-    lsa: &Lsa<A>,
-) -> Result<(), AllocError>
-    ensures { OnOk result
-        (AddsBackLinks (vertex_of lsa.now) (named_by lsa.now) back_links.old back_links.new) }
+/// The links back of those vertices whose rows are long.
+fn long_links<A: Allocator + Copy>(alloc: A, naming: &Rows<A>) -> Result<LinkSet<A>, AllocError>
+    ensures { IfOk result (AreLongBelow (length naming.now) naming.now) }
 {
-    let of = vertex_of(lsa);
-    if let Some(router) = lsa.router() {
-        return add_targets_of(back_links, of, router.links());
+    let mut links = HashSet::new(alloc);
+    for of in 0..naming.len() {
+        add_long(&mut links, of, naming.row(of))?;
     }
-    match lsa.network() {
-        Some(network) => add_routers(back_links, of, network.attached()),
-        None => Ok(()),
-    }
+    Ok(links)
 }
 
-/// The links back that these LSAs make.
-pub(crate) fn back_links<A: Allocator + Copy>(
-    alloc: A,
-    lsas: &[VertexLsa<'_, A>],
-) -> Result<BackLinks<A>, AllocError>
-    ensures { IfOk result (AreBackLinksOf lsas.now) }
+fn has<A: Allocator + Copy>(links: &LinkSet<A>, of: usize, named: usize) -> bool
+    ensures { result ≡ has links.now of named }
 {
-    let mut back_links = HashSet::new(alloc);
-    for lsa in lsas {
-        add_named_by(&mut back_links, lsa.lsa())?;
+    links.contains(&BackLink { of, named })
+}
+
+impl<A: Allocator + Copy> BackLinks<A> {
+    /// The links back by these rows, one for each vertex.
+    pub(crate) fn new(alloc: A, naming: Rows<A>) -> Result<BackLinks<A>, AllocError>
+        requires { AreWithin (length naming) naming }
+        ensures { IfOk result (λ back_links. back_links ≡ naming) }
+    {
+        let long = long_links(alloc, &naming)?;
+        Ok(BackLinks { naming, long })
     }
-    Ok(back_links)
+
+    /// How many vertices there are.
+    pub(crate) fn len(&self) -> usize
+        ensures { result ≡ length self.now }
+    {
+        self.naming.len()
+    }
+
+    /// Edges to the vertices that a vertex names.
+    pub(crate) fn row(&self, of: usize) -> &[Edge]
+        requires { of < length self.now }
+        ensures row { result.now ≡ row_in self.now of }
+        ensures within { All (λ e. e.to < length self.now) result.now }
+    {
+        self.naming.row(of)
+    }
+
+    /// Whether one vertex names the other.
+    pub(crate) fn names(&self, of: usize, other: usize) -> bool
+        requires { of < length self.now }
+        ensures { result ≡ names_in self.now of other }
+    {
+        let row = self.naming.row(of);
+        if row.len() <= SHORT_ROW {
+            row.iter().any(|edge| edge.to == other)
+        } else {
+            has(&self.long, of, other)
+        }
+    }
 }

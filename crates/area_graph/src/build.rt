@@ -7,11 +7,12 @@ ghost use Rattle.lsdb.specs.Lists.{is_section, lsas_of};
 ghost use Rattle.lsdb.specs.Places.{lists_of};
 ghost use Rattle.area_graph.specs.Graphs.{IsGraphOf, FaultMeans, AreOfArea};
 
-use crate::back_links::back_links;
+use crate::back_links::BackLinks;
 use crate::draft::Draft;
 use crate::fault::GraphFault;
 use crate::graph::Graph;
 use crate::links::add_edges;
+use crate::naming::naming_rows;
 use crate::numbers::vertices;
 use crate::used::used_lsas;
 use lsa_codec::AreaId;
@@ -25,9 +26,10 @@ fn graph_of<A: Allocator + Copy>(alloc: A, lsas: Lsas<'_, A>) -> Result<Graph<A>
 {
     let used = used_lsas(alloc, lsas)?;
     let vertices = vertices(alloc, &used)?;
-    let back_links = back_links(alloc, &used)?;
+    let naming = naming_rows(alloc, &vertices, &used)?;
+    let back_links = BackLinks::new(alloc, naming)?;
     let mut draft = Draft::new(alloc, vertices)?;
-    add_edges(&mut draft, &back_links, &used)?;
+    add_edges(&mut draft, &back_links)?;
     draft.into_graph(alloc)
 }
 

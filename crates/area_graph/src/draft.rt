@@ -3,14 +3,12 @@
 ghost use Rattle.std.specs.Prelude.{◌≡◌, ◌≢◌, ◌<◌, ◌^◌, ◌++◌, ◌∷◌, ℕ, [], length, map, slice_index_or, AllPairs, OnOk, OnErr, IfOk};
 ghost use Rattle.area_graph.specs.Topology.{IsTopology, row_at};
 ghost use Rattle.area_graph.specs.Rows.{same_edge, each_once};
-ghost use Rattle.area_graph.specs.steps.Drafts.{with_edge, Adds, edges_once};
+ghost use Rattle.area_graph.specs.steps.Drafts.{Adds, arc_of, edges_once, is_network_at, with_edge};
 
 use crate::edge::Edge;
 use crate::graph::Graph;
-use crate::numbers::{Vertices, number_of};
+use crate::numbers::Vertices;
 use crate::rows::Rows;
-use crate::vertex::Vertex;
-use lsa_codec::Addr;
 use std::alloc::{AllocError, Allocator};
 use std::marker::Model;
 
@@ -64,7 +62,7 @@ fn rows_once<A: Allocator + Copy>(alloc: A, rows: &[Row<A>]) -> Result<Rows<A>, 
     ensures { IfOk result
         (λ once. once ≡ map (each_once same_edge) (map (λ row. row.items) rows.now)) }
 {
-    let mut once = Rows::new(alloc);
+    let mut once = Rows::with_capacity(alloc, rows.len())?;
     for row in rows {
         once.push_once(alloc, row)?;
     }
@@ -82,6 +80,14 @@ impl<A: Allocator + Copy> Draft<A> {
         Ok(Draft { vertices, rows })
     }
 
+    /// Whether the vertex with a number is a transit network.
+    pub(crate) fn is_network(&self, index: usize) -> bool
+        requires { index < length self.now.vertices }
+        ensures { result ≡ is_network_at self.now.vertices index }
+    {
+        self.vertices.as_slice()[index].is_network()
+    }
+
     fn insert(&mut self, row: usize, edge: Edge) -> Result<(), AllocError>
         requires row { row < length self.old.vertices }
         requires to { edge.to < length self.old.vertices }
@@ -92,33 +98,16 @@ impl<A: Allocator + Copy> Draft<A> {
         add_to_row(&mut self.rows[row], edge)
     }
 
-    /// Adds an edge to the row of its first vertex, unless an end of it is no vertex.
-    pub(crate) fn add(
-        &mut self,
-        from: Vertex,
-        to: Vertex,
-        cost: u16,
-        link_data: Addr,
-    ) -> Result<(), AllocError>
+    /// Adds an edge to the row of a vertex.
+    pub(crate) fn add(&mut self, row: usize, edge: Edge) -> Result<(), AllocError>
+        requires row { row < length self.old.vertices }
+        requires to { edge.to < length self.old.vertices }
         ensures vertices { self.new.vertices ≡ self.old.vertices }
-        ensures edges { OnOk result
-            (Adds (record { from = from; to = to; cost = cost; link_data = link_data } ∷ [])
-            self.old self.new) }
+        ensures edges { OnOk result (Adds (arc_of row edge ∷ []) self.old self.new) }
     {
-        let Some(row) = number_of(&self.vertices, from) else {
-            return Ok(());
-        };
-        let Some(to) = number_of(&self.vertices, to) else {
-            return Ok(());
-        };
-        self.insert(
-            row,
-            Edge {
-                to,
-                cost,
-                link_data,
-            },
-        )
+        // Opens the value, so that its invariant is known.
+        let _ = &self.vertices;
+        self.insert(row, edge)
     }
 
     /// The graph with each edge once in its row.

@@ -12,6 +12,7 @@ mod vertex;
 
 // The LSAs that make it.
 mod back_links;
+mod naming;
 mod numbers;
 mod ranks;
 mod used;

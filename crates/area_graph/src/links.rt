@@ -1,102 +1,112 @@
-//! The edges over the links of router-LSAs.
+//! The edges over the links of routers.
 
-ghost use Rattle.std.specs.Prelude.{◌≡◌, ◌∷◌, [], OnOk};
-ghost use Rattle.area_graph.specs.Area.{vertex_of};
-ghost use Rattle.area_graph.specs.AreaEdges.{router_links};
-ghost use Rattle.area_graph.specs.steps.BackLinks.{links_back};
-ghost use Rattle.area_graph.specs.steps.Drafts.{Adds, both_ways, over_links, over_lsas};
+ghost use Rattle.std.specs.Prelude.{◌≡◌, ◌<◌, ◌∷◌, [], length, map, All, OnOk};
+ghost use Rattle.area_graph.specs.steps.Drafts.{Adds, arc_of, both_arcs, returned_arcs, row_arcs, arcs_below};
 
-use crate::back_links::{BackLinks, links_back, target_of};
+use crate::back_links::BackLinks;
 use crate::draft::Draft;
-use crate::used::{VertexLsa, vertex_of};
-use crate::vertex::Vertex;
-use lsa_codec::{Link, Links, Lsa};
+use crate::edge::Edge;
 use std::alloc::{AllocError, Allocator};
 
-/// Adds the edge over a link, and the edge back where it leads to a network.
+/// Adds an edge of a vertex, and the edge back where it leads to a network.
 fn add_both<A: Allocator + Copy>(
     draft: &mut Draft<A>,
-    from: Vertex,
-    to: Vertex,
-    link: Link,
+    from: usize,
+    edge: Edge,
 ) -> Result<(), AllocError>
+    requires from { from < length draft.old.vertices }
+    requires to { edge.to < length draft.old.vertices }
     ensures vertices { draft.new.vertices ≡ draft.old.vertices }
-    ensures edges { OnOk result (Adds (both_ways
-        (record { from = from; to = to; cost = link.metric; link_data = link.link_data }))
+    ensures edges { OnOk result
+        (Adds (both_arcs draft.old.vertices (arc_of from edge)) draft.old draft.new) }
+{
+    draft.add(from, edge)?;
+    if !draft.is_network(edge.to) {
+        return Ok(());
+    }
+    draft.add(
+        edge.to,
+        Edge {
+            to: from,
+            cost: 0,
+            link_data: edge.link_data,
+        },
+    )
+}
+
+/// Adds an edge of a vertex, both ways, where the other end names the vertex.
+fn add_edge<A: Allocator + Copy>(
+    draft: &mut Draft<A>,
+    back_links: &BackLinks<A>,
+    from: usize,
+    edge: Edge,
+) -> Result<(), AllocError>
+    requires sized { length back_links.now ≡ length draft.old.vertices }
+    requires from { from < length draft.old.vertices }
+    requires to { edge.to < length draft.old.vertices }
+    ensures vertices { draft.new.vertices ≡ draft.old.vertices }
+    ensures edges { OnOk result
+        (Adds (returned_arcs draft.old.vertices back_links.now (arc_of from edge ∷ []))
         draft.old draft.new) }
 {
-    draft.add(from, to, link.metric, link.link_data)?;
-    if !to.is_network() {
+    if !back_links.names(edge.to, from) {
         return Ok(());
     }
-    draft.add(to, from, 0, link.link_data)
+    add_both(draft, from, edge)
 }
 
-/// Adds the edges over a link of a vertex, where the other end names the vertex.
-fn add_link<A: Allocator + Copy>(
+/// Adds those of these edges of a vertex whose other ends name it.
+fn add_returned<A: Allocator + Copy>(
     draft: &mut Draft<A>,
     back_links: &BackLinks<A>,
-    from: Vertex,
-    link: Link,
+    from: usize,
+    row: &[Edge],
 ) -> Result<(), AllocError>
+    requires sized { length back_links.now ≡ length draft.old.vertices }
+    requires from { from < length draft.old.vertices }
+    requires to { All (λ e. e.to < length draft.old.vertices) row.now }
     ensures vertices { draft.new.vertices ≡ draft.old.vertices }
     ensures edges { OnOk result
-        (Adds (over_links (links_back back_links.now) from (link ∷ [])) draft.old draft.new) }
+        (Adds (returned_arcs draft.old.vertices back_links.now (map (arc_of from) row.now))
+        draft.old draft.new) }
 {
-    let Some(to) = target_of(link) else {
-        return Ok(());
-    };
-    if !links_back(back_links, to, from) {
-        return Ok(());
-    }
-    add_both(draft, from, to, link)
-}
-
-fn add_links<A: Allocator + Copy>(
-    draft: &mut Draft<A>,
-    back_links: &BackLinks<A>,
-    from: Vertex,
-    links: Links<'_>,
-) -> Result<(), AllocError>
-    ensures vertices { draft.new.vertices ≡ draft.old.vertices }
-    ensures edges { OnOk result
-        (Adds (over_links (links_back back_links.now) from links.entry) draft.old draft.new) }
-{
-    for link in links {
-        add_link(draft, back_links, from, link)?;
+    for edge in row {
+        add_edge(draft, back_links, from, *edge)?;
     }
     Ok(())
 }
 
-/// Adds the edges over the links of an LSA, which only router-LSAs have.
-fn add_lsa<A: Allocator + Copy>(
+/// Adds the edges over the links of a vertex, which only a router has.
+fn add_row<A: Allocator + Copy>(
     draft: &mut Draft<A>,
     back_links: &BackLinks<A>,
-    lsa: &Lsa<A>,
+    from: usize,
 ) -> Result<(), AllocError>
+    requires sized { length back_links.now ≡ length draft.old.vertices }
+    requires from { from < length draft.old.vertices }
     ensures vertices { draft.new.vertices ≡ draft.old.vertices }
     ensures edges { OnOk result
-        (Adds (over_links (links_back back_links.now) (vertex_of lsa.now) (router_links lsa.now))
-        draft.old draft.new) }
+        (Adds (row_arcs draft.old.vertices back_links.now from) draft.old draft.new) }
 {
-    let Some(router) = lsa.router() else {
+    if draft.is_network(from) {
         return Ok(());
-    };
-    add_links(draft, back_links, vertex_of(lsa), router.links())
+    }
+    add_returned(draft, back_links, from, back_links.row(from))
 }
 
-/// Adds the edges over the links of all these LSAs.
+/// Adds the edges over the links of all vertices.
 pub(crate) fn add_edges<A: Allocator + Copy>(
     draft: &mut Draft<A>,
     back_links: &BackLinks<A>,
-    lsas: &[VertexLsa<'_, A>],
 ) -> Result<(), AllocError>
+    requires { length back_links.now ≡ length draft.old.vertices }
     ensures vertices { draft.new.vertices ≡ draft.old.vertices }
     ensures edges { OnOk result
-        (Adds (over_lsas (links_back back_links.now) lsas.now) draft.old draft.new) }
+        (Adds (arcs_below draft.old.vertices back_links.now (length back_links.now))
+        draft.old draft.new) }
 {
-    for lsa in lsas {
-        add_lsa(draft, back_links, lsa.lsa())?;
+    for from in 0..back_links.len() {
+        add_row(draft, back_links, from)?;
     }
     Ok(())
 }

@@ -44,7 +44,7 @@ pub(crate) fn vertices<A: Allocator + Copy>(
     requires { AllPairs (λ v w. v ≢ w) (map vertex_of lsas.now) }
     ensures { IfOk result (λ found. found.keys ≡ map vertex_of lsas.now) }
 {
-    let mut found = IndexSet::new(alloc);
+    let mut found = IndexSet::with_capacity(alloc, lsas.len())?;
     for lsa in lsas {
         add_vertex(&mut found, vertex_of(lsa.lsa()))?;
     }

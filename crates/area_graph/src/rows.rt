@@ -65,14 +65,21 @@ fn edge_set<A: Allocator + Copy>(alloc: A, row: &[Edge]) -> Result<EdgeSet<A>, A
 }
 
 impl<A: Allocator + Copy> Rows<A> {
-    /// No rows.
-    pub(crate) fn new(alloc: A) -> Rows<A>
-        ensures { result ≡ [] }
+    /// No rows, with room for so many.
+    pub(crate) fn with_capacity(alloc: A, rows: usize) -> Result<Rows<A>, AllocError>
+        ensures { IfOk result (λ none. none ≡ []) }
     {
-        Rows {
-            spans: Vec::new(alloc),
+        Ok(Rows {
+            spans: Vec::with_capacity(alloc, rows)?,
             edges: Vec::new(alloc),
-        }
+        })
+    }
+
+    /// How many rows there are.
+    pub(crate) fn len(&self) -> usize
+        ensures { result ≡ length self.now }
+    {
+        self.spans.len()
     }
 
     /// The row with a number.
@@ -84,7 +91,8 @@ impl<A: Allocator + Copy> Rows<A> {
         &self.edges[span.start..span.end]
     }
 
-    fn push(&mut self, row: &[Edge]) -> Result<(), AllocError>
+    /// Adds a row.
+    pub(crate) fn push(&mut self, row: &[Edge]) -> Result<(), AllocError>
         ensures { OnOk result (self.new ≡ self.old ++ row.now ∷ []) }
     {
         let start = self.edges.len();

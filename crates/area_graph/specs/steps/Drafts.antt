@@ -1,13 +1,15 @@
 -- Graphs to which edges are added.
-use Rattle.std.specs.Prelude.{◌≡◌, ◌≢◌, ℕ, ◌<◌, ◌^◌, Bool, if◌then◌else◌, List, [], ◌∷◌, ◌++◌, length, map, filter, filter_map, flat_map, AllPairs, Some, slice_get, slice_set}
-use Rattle.lsa_codec.specs.declared.link.Link.{Link}
+use Rattle.std.specs.Prelude.{◌≡◌, ◌≢◌, ℕ, zero, suc, ◌<◌, ◌^◌, ◌==◌, Bool, false, if◌then◌else◌, List, [], ◌∷◌, ◌++◌, length, map, filter}
+use Rattle.std.specs.Prelude.{filter_map, flat_map, All, AllPairs, slice_get, slice_set}
+use Rattle.std.specs.Option.{option_map, unwrap_or}
 use Rattle.area_graph.specs.declared.vertex.Vertex.{Vertex}
 use Rattle.area_graph.specs.declared.edge.Edge.{Edge}
 use Rattle.area_graph.specs.Vertex.{is_network}
 use Rattle.area_graph.specs.Paths.{DirectedEdge}
 use Rattle.area_graph.specs.Topology.{Topology, IsArc, row_at}
-use Rattle.area_graph.specs.AreaEdges.{edge_over, edges_over, back}
-use Rattle.area_graph.specs.Rows.{same_edge, each_once, numbered, is_out_of}
+use Rattle.area_graph.specs.AreaEdges.{edges_over, back}
+use Rattle.area_graph.specs.Rows.{same_edge, each_once}
+use Rattle.area_graph.specs.steps.Naming.{row_in, names_in}
 
 -- what holds of a graph while edges are added
 pub record IsDraft (t : Topology) : Type 0 where
@@ -20,22 +22,56 @@ pub record IsDraft (t : Topology) : Type 0 where
 abbrev pub with_edge : Topology → ℕ → Edge → Topology
 with_edge t i e = record { vertices = t.vertices; rows = slice_set t.rows i (row_at t i ++ e ∷ []) }
 
+-- an edge between numbers, and as it stands in the row of the first of them
+abbrev pub arc_of : ℕ → Edge → DirectedEdge ℕ
+arc_of i e = record { from = i; to = e.to; cost = e.cost; link_data = e.link_data }
+
+abbrev pub edge_of : DirectedEdge ℕ → Edge
+edge_of a = record { to = a.to; cost = a.cost; link_data = a.link_data }
+
+-- those out of one number
+abbrev pub out_of : ℕ → List (DirectedEdge ℕ) → List Edge
+out_of i arcs = map edge_of (filter (λ a. a.from == i) arcs)
+
 -- each row has got those of these edges that are out of its vertex, in their order
-pub record Adds (es : List (DirectedEdge Vertex)) (old new : Topology) : Type 0 where
-  pub rows : (i : ℕ) (v : Vertex) → slice_get old.vertices i ≡ Some v
-      → row_at new i ≡ row_at old i ++ filter_map (numbered old.vertices) (filter (is_out_of v) es)
+pub record Adds (arcs : List (DirectedEdge ℕ)) (old new : Topology) : Type 0 where
+  pub rows : (i : ℕ) → row_at new i ≡ row_at old i ++ out_of i arcs
+
+-- whether the vertex with a number is a network
+abbrev pub is_network_at : List Vertex → ℕ → Bool
+is_network_at vertices i = unwrap_or (option_map is_network (slice_get vertices i)) false
+
+abbrev pub arc_back : DirectedEdge ℕ → DirectedEdge ℕ
+arc_back a = record { from = a.to; to = a.from; cost = 0; link_data = a.link_data }
 
 -- an edge and, where it leads to a network, the edge back
+abbrev pub both_arcs : List Vertex → DirectedEdge ℕ → List (DirectedEdge ℕ)
+both_arcs vertices a = if is_network_at vertices a.to then a ∷ arc_back a ∷ [] else a ∷ []
+
+-- of these edges those whose other end names the first in its row, and their ways back
+abbrev pub returned_arcs : List Vertex → List (List Edge) → List (DirectedEdge ℕ) → List (DirectedEdge ℕ)
+returned_arcs vertices naming arcs = flat_map (both_arcs vertices) (filter (λ a. names_in naming a.to a.from) arcs)
+
+-- the edges over the links of a vertex, which is a router
+abbrev pub row_arcs : List Vertex → List (List Edge) → ℕ → List (DirectedEdge ℕ)
+row_arcs vertices naming i = if is_network_at vertices i then [] else returned_arcs vertices naming (map (arc_of i) (row_in naming i))
+
+-- those of the first vertices
+abbrev pub arcs_below : List Vertex → List (List Edge) → ℕ → List (DirectedEdge ℕ)
+arcs_below vertices naming zero = []
+arcs_below vertices naming (suc n) = arcs_below vertices naming n ++ row_arcs vertices naming n
+
+-- the rows name none but these
+abbrev pub AreWithin : ℕ → List (List Edge) → Type 0
+AreWithin count rows = (i : ℕ) → All (λ e. e.to < count) (row_in rows i)
+
+-- an edge of an area and, where it leads to a network, the edge back
 abbrev pub both_ways : DirectedEdge Vertex → List (DirectedEdge Vertex)
 both_ways e = if is_network e.to then e ∷ back e ∷ [] else e ∷ []
 
 -- of these edges those whose other end links back, and their ways back
 abbrev pub returned : (Vertex → Vertex → Bool) → List (DirectedEdge Vertex) → List (DirectedEdge Vertex)
 returned links_back es = flat_map both_ways (filter (λ e. links_back e.to e.from) es)
-
--- the edges over links of a vertex
-abbrev pub over_links : (Vertex → Vertex → Bool) → Vertex → List Link → List (DirectedEdge Vertex)
-over_links links_back v links = returned links_back (filter_map (edge_over v) links)
 
 -- the edges over the links of LSAs
 abbrev pub over_lsas : (Vertex → Vertex → Bool) → List (List ℕ) → List (DirectedEdge Vertex)

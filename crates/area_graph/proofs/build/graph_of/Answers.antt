@@ -1,13 +1,14 @@
-use Rattle.std.proofs.Common.{◌≢◌, ◌∙◌, sym, subst, ap, map, List, ℕ}
+use Rattle.std.proofs.Common.{◌≢◌, ◌∙◌, sym, subst, ap, map, length, List, ℕ}
 use Rattle.std.specs.List.{AllPairs}
+use Rattle.std.proofs.lemmas.List.{length-map}
 use Rattle.std.proofs.lemmas.Result.{IfOk-weaker}
 use Rattle.area_graph.specs.declared.vertex.Vertex.{Vertex}
 use Rattle.area_graph.specs.Topology.{Topology}
 use Rattle.area_graph.specs.Area.{vertex_of}
-use Rattle.area_graph.specs.steps.BackLinks.{links_back}
 use Rattle.area_graph.specs.steps.Drafts.{IsDraft}
 use Rattle.area_graph.specs.Graphs.{IsGraphOf}
 use Rattle.area_graph.proofs.GraphLemmas.{built}
+use Rattle.area_graph.proofs.NamingLemmas.{rows_within}
 use Rattle.area_graph.proofs.UsedLemmas.{vertices_distinct}
 use Rattle.area_graph.proofs.build.graph_of.Goals as goal
 
@@ -18,15 +19,22 @@ vertices-requires g c =
 
 pub new-requires : goal.new-requires
 new-requires g c =
+    rows_within c.in_ok-vertices.vertices.keys c.deref-2.result.now c.in_ok-naming.naming
+    (ap (λ (vs : List Vertex). length vs) (c.in_ok-vertices.ensures ∙ ap (map vertex_of) (c.deref.ensures.value ∙ sym c.deref-2.ensures.value))
+    ∙ length-map c.deref-2.result.now vertex_of)
+    c.in_ok-naming.ensures
+
+pub new-requires-2 : goal.new-requires-2
+new-requires-2 g c =
     subst (λ (vs : List Vertex). AllPairs (λ v w. v ≢ w) vs)
     (sym (c.in_ok-vertices.ensures ∙ ap (map vertex_of) (c.deref.ensures.value ∙ c.in_ok-used.ensures)))
     (vertices_distinct c.args.lsas c.requires.accepted c.requires.distinct)
 
 pub into_graph-requires : goal.into_graph-requires
 into_graph-requires g c =
-    (built c.args.lsas c.deref.result.now c.deref-2.result.now c.deref-3.result.now c.requires
-    (c.deref.ensures.value ∙ c.in_ok-used.ensures) (c.deref-2.ensures.value ∙ c.in_ok-used.ensures) (c.deref-3.ensures.value ∙ c.in_ok-used.ensures)
-    c.in_ok-vertices.vertices.keys c.in_ok-vertices.ensures (links_back c.in_ok-back_links.back_links) c.in_ok-back_links.ensures
+    (built c.args.lsas c.deref.result.now c.deref-2.result.now c.requires
+    (c.deref.ensures.value ∙ c.in_ok-used.ensures) (c.deref-2.ensures.value ∙ c.in_ok-used.ensures)
+    c.in_ok-vertices.vertices.keys c.in_ok-vertices.ensures c.in_ok-back_links.back_links (c.in_ok-back_links.ensures ∙ c.in_ok-naming.ensures)
     c.in_ok-draft.draft c.add_edges.new.draft c.in_ok-draft.ensures.vertices c.in_ok-draft.ensures.empty c.in_ok-add_edges.ensures.vertices
     (subst IsDraft c.draft.view_is c.draft.invariant) c.in_ok-add_edges.ensures.edges).shape
 
@@ -34,9 +42,9 @@ pub returns : goal.returns
 returns g c =
     IfOk-weaker c.into_graph.result _ _
     (λ graph is. subst (λ (t : Topology). IsGraphOf c.args.lsas t) (sym is)
-    (built c.args.lsas c.deref.result.now c.deref-2.result.now c.deref-3.result.now c.requires
-    (c.deref.ensures.value ∙ c.in_ok-used.ensures) (c.deref-2.ensures.value ∙ c.in_ok-used.ensures) (c.deref-3.ensures.value ∙ c.in_ok-used.ensures)
-    c.in_ok-vertices.vertices.keys c.in_ok-vertices.ensures (links_back c.in_ok-back_links.back_links) c.in_ok-back_links.ensures
+    (built c.args.lsas c.deref.result.now c.deref-2.result.now c.requires
+    (c.deref.ensures.value ∙ c.in_ok-used.ensures) (c.deref-2.ensures.value ∙ c.in_ok-used.ensures)
+    c.in_ok-vertices.vertices.keys c.in_ok-vertices.ensures c.in_ok-back_links.back_links (c.in_ok-back_links.ensures ∙ c.in_ok-naming.ensures)
     c.in_ok-draft.draft c.add_edges.new.draft c.in_ok-draft.ensures.vertices c.in_ok-draft.ensures.empty c.in_ok-add_edges.ensures.vertices
     (subst IsDraft c.draft.view_is c.draft.invariant) c.in_ok-add_edges.ensures.edges))
     c.into_graph.ensures
