@@ -1,6 +1,6 @@
 -- Edges between numbers stand for edges between vertices.
-use Rattle.std.proofs.Common.{◌≡◌, ◌≢◌, ℕ, zero, suc, ◌+◌, ◌<◌, ◌≤◌, eqb, Bool, true, false, cond, ◌||◌, ◌&&◌, List, [], ◌∷◌, ◌++◌, map, length, take, get_or}
-use Rattle.std.proofs.Common.{Option, None, Some, refl, sym, ap, ◌∙◌, subst, arith, inl, inr, true≢false}
+use Rattle.std.proofs.Common.{◌≡◌, ◌≢◌, ℕ, zero, suc, ◌+◌, ◌<◌, ◌≤◌, eqb, Bool, true, false, cond, ◌||◌, ◌&&◌, List, [], ◌∷◌, ◌++◌, map, length, take}
+use Rattle.std.proofs.Common.{Option, None, Some, refl, sym, ap, ◌∙◌, arith, inl, inr, true≢false}
 use Rattle.std.specs.List.{slice_get, AllPairs, position, filter, filter_map, flat_map, cons_option, list_any}
 use Rattle.std.specs.Option.{option_map, unwrap_or}
 use Rattle.std.proofs.lemmas.Bool.{eqb-true, eq-eqb, and_parts, and_from}
@@ -20,7 +20,7 @@ use Rattle.area_graph.specs.declared.edge.Edge.{Edge}
 use Rattle.area_graph.specs.Vertex.{is_same, is_network}
 use Rattle.area_graph.specs.Paths.{DirectedEdge}
 use Rattle.area_graph.specs.Area.{is_router_lsa, is_network_lsa, vertex_of}
-use Rattle.area_graph.specs.AreaEdges.{target_of, named_by, names, edge_over, router_links, edges_over, back}
+use Rattle.area_graph.specs.AreaEdges.{target_of, named_by, names, edge_over, edges_over, back}
 use Rattle.area_graph.specs.Rows.{numbered, is_out_of}
 use Rattle.area_graph.specs.steps.Naming.{edge_to_some, linked, listed, naming, row_in, names_in}
 use Rattle.area_graph.specs.steps.Drafts.{arc_of, edge_of, out_of, is_network_at, arc_back, both_arcs, returned_arcs, row_arcs, arcs_below, both_ways}

@@ -11,7 +11,6 @@ use Rattle.std.specs.declared.result.Result.TheVariants.{Ok, Err}
 use Rattle.std.proofs.lemmas.Bool.{cases_eq, eqb-true, eq-eqb}
 use Rattle.area_graph.specs.declared.vertex.Vertex.{Vertex}
 use Rattle.area_graph.specs.declared.edge.Edge.{Edge}
-use Rattle.area_graph.specs.Paths.{DirectedEdge}
 use Rattle.area_graph.specs.Topology.{Topology, row_at}
 use Rattle.area_graph.specs.steps.Drafts.{IsDraft, with_edge, Adds, arc_of, edge_of, out_of}
 use Rattle.area_graph.proofs.MemberLemmas.{In-from_Contains}

@@ -1,5 +1,5 @@
 -- `==` of the crate's types.
-use Rattle.std.proofs.Common.{◌≡◌, Bool, ◌&&◌, refl, ap, ◌∙◌}
+use Rattle.std.proofs.Common.{◌≡◌, Bool, refl}
 use Rattle.area_graph.specs.declared.vertex.Vertex.{Vertex}
 use Rattle.area_graph.specs.declared.vertex.Vertex.TheVariants.{Router, Network}
 use Rattle.area_graph.specs.contracts.vertex.VertexPartialEq.TheImpl as vertex_impl

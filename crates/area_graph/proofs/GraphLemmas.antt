@@ -2,7 +2,7 @@
 use Rattle.std.proofs.Common.{◌≡◌, ◌≢◌, ℕ, ◌<◌, Bool, true, false, cond, not, eqb, List, [], ◌∷◌, map, length, get_or, Option, None, Some, refl, sym}
 use Rattle.std.proofs.Common.{subst, ap, ◌∙◌, inl, inr, ⊎_elim, arith, true≢false}
 use Rattle.std.specs.Prelude.{◌||◌, option_map, ◌++◌}
-use Rattle.std.specs.List.{Contains, AllPairs, All, list_any, list_all, find, slice_get, position, filter, filter_map}
+use Rattle.std.specs.List.{Contains, AllPairs, All, list_all, find, slice_get, position, filter, filter_map}
 use Rattle.std.proofs.lemmas.List.{length-map, get_or-map, take_all}
 use Rattle.std.proofs.lemmas.Option.{slice_get-get_or}
 use Rattle.std.proofs.Math.ListN.{get_or-map as get_or-map-all}
@@ -25,7 +25,7 @@ use Rattle.area_graph.specs.Paths.{DirectedEdge}
 use Rattle.area_graph.specs.AllPaths.{distance_of}
 use Rattle.area_graph.specs.Topology.{Topology, IsEdge, row_at, edges_of}
 use Rattle.area_graph.specs.Area.{used, vertex_of, vertices_of}
-use Rattle.area_graph.specs.AreaEdges.{area_edges, names}
+use Rattle.area_graph.specs.AreaEdges.{area_edges}
 use Rattle.area_graph.specs.Joins.{IsLinkTo, HasLink, Joins}
 use Rattle.area_graph.specs.declared.edge.Edge.{Edge}
 use Rattle.area_graph.specs.Rows.{same_edge, each_once, numbered, is_out_of, row_of, rows_of}

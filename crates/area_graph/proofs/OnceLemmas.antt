@@ -1,14 +1,14 @@
 -- Lists of edges in which each stands once.
-use Rattle.std.proofs.Common.{◌≡◌, ◌≢◌, ℕ, ◌+◌, ◌<◌, Bool, true, false, cond, ◌&&◌, eqb, List, [], ◌∷◌, ◌++◌, take, length, get_or, refl, sym, ap, ◌∙◌}
+use Rattle.std.proofs.Common.{◌≡◌, ◌≢◌, ℕ, zero, suc, ◌+◌, ◌-◌, ◌<◌, ◌≤◌, Bool, true, false, cond, ◌&&◌, eqb, List, [], ◌∷◌, ◌++◌, take, length, get_or, refl, sym, ap, ◌∙◌}
 use Rattle.std.proofs.Common.{subst, arith, ◌⊎◌, inl, inr, ⊎_elim, true≢false}
 use Rattle.std.specs.List.{Contains, AllPairs, list_any, fold}
-use Rattle.std.proofs.lemmas.List.{take_more}
+use Rattle.std.proofs.lemmas.List.{take_more, take_all, get_or-take, get_or_default, length-take-le}
 use Rattle.std.proofs.lemmas.List.Sums.{fold_push}
 use Rattle.std.proofs.lemmas.List.Elements.{Contains-push, Contains-push_cases, Contains-append_left}
 use Rattle.std.proofs.lemmas.List.Quantifiers.{all_pairs_push}
 use Rattle.std.proofs.lemmas.List.Folds.{list_any_at}
 use Rattle.std.proofs.lemmas.Map.Views.{Contains-from_any}
-use Rattle.std.proofs.lemmas.Bool.{eqb-true, eq-eqb, and_parts, and_from}
+use Rattle.std.proofs.lemmas.Bool.{eqb-true, eq-eqb, and_parts, and_from, cases_eq, cases_lt}
 use Rattle.indexmap.specs.IndexSet.{insert_key}
 use Rattle.area_graph.specs.declared.edge.Edge.{Edge}
 use Rattle.area_graph.specs.Rows.{same_edge, each_once}
@@ -118,3 +118,46 @@ other_way e es none = by (list_any (same_edge e) es) refl
     by true is =
         let f = list_any-In (same_edge e) es is in
         absurd (true≢false (sym (In-list_any (λ f. same_edge f e) es f.0 f.1 (edge_same f.0 e (sym (edge_is e f.0 f.2)))) ∙ none))
+
+-- ---- edges to vertices with rising numbers
+
+-- those before a place rise
+abbrev pub RiseBelow : List Edge → ℕ → Type 0
+RiseBelow row n = (k j : ℕ) → k < j → j < n → (edge_at row k).to < (edge_at row j).to
+
+pub rise_more : (row : List Edge) (n : ℕ) → 0 < n → RiseBelow row n → (edge_at row (n - 1)).to < (edge_at row n).to → RiseBelow row (n + 1)
+rise_more row n some before last k j lt le =
+    ⊎_elim (λ early. before k j lt early)
+    (λ late. (let here : n ≡ j = omega arith in
+    subst (λ (m : ℕ). (edge_at row k).to < (edge_at row m).to) here
+    (⊎_elim (λ same. subst (λ (m : ℕ). (edge_at row m).to < (edge_at row n).to) (sym same) last)
+    (λ other. (let step = before k (n - 1) (omega arith) (omega arith) in omega arith)) (cases_eq k (n - 1)))))
+    (cases_lt j n)
+
+pub rising_once : (row : List Edge) (n : ℕ) → n ≤ length row → RiseBelow row n → each_once same_edge (take n row) ≡ take n row
+rising_once row zero le rise = refl
+rising_once row (suc n) le rise =
+    let next : suc n ≡ n + 1 = omega arith in
+    subst (λ (m : ℕ). each_once same_edge (take m row) ≡ take m row) (sym next)
+    (distinct-more row n no_edge (omega arith) (rising_once row n (omega arith) (λ k j lt le. rise k j lt (omega arith))) (new (list_any (same_edge (edge_at row n)) (take n row)) refl))
+  where
+    new : (b : Bool) → list_any (same_edge (edge_at row n)) (take n row) ≡ b → b ≡ false
+    new false is = refl
+    new true is =
+        let there = Contains-from_any edge_is (edge_at row n) (take n row) is in
+        again there
+      where
+        again : Contains (take n row) (edge_at row n) → true ≡ false
+        again (k, below, same) =
+            let short : length (take n row) ≡ n = length-take-le n row (omega arith) in
+            let lt : k < n = omega arith in
+            let at : edge_at row k ≡ edge_at row n = sym (get_or_default row k (edge_at row n) no_edge (omega arith)) ∙ sym (get_or-take n row k (edge_at row n) lt) ∙ same in
+            let less = rise k n lt (omega arith) in
+            let level : (edge_at row k).to ≡ (edge_at row n).to = ap (λ (e : Edge). e.to) at in
+            absurd (omega arith)
+
+pub rising_whole : (row : List Edge) (n : ℕ) → length row ≤ n → RiseBelow row n → each_once same_edge row ≡ row
+rising_whole row n past rise =
+    let size = length row in
+    subst (λ (es : List Edge). each_once same_edge es ≡ es) (take_all size row (omega arith))
+    (rising_once row size (omega arith) (λ k j lt le. rise k j lt (omega arith)))

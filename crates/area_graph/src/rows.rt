@@ -50,6 +50,19 @@ fn is_distinct(row: &[Edge]) -> bool
     true
 }
 
+/// Whether each edge leads to a vertex with a greater number than that of the edge before, so that
+/// no edge stands twice.
+fn is_rising(row: &[Edge]) -> bool
+    ensures { result ≡ true → each_once same_edge row.now ≡ row.now }
+{
+    for index in 1..row.len() {
+        if row[index].to <= row[index - 1].to {
+            return false;
+        }
+    }
+    true
+}
+
 /// A set of edges in the order in which they were added.
 type EdgeSet<A> = IndexSet<Edge, BuildHasherDefault<FoldHasher>, A>;
 
@@ -106,7 +119,7 @@ impl<A: Allocator + Copy> Rows<A> {
     pub(crate) fn push_once(&mut self, alloc: A, row: &[Edge]) -> Result<(), AllocError>
         ensures { OnOk result (self.new ≡ self.old ++ each_once same_edge row.now ∷ []) }
     {
-        if row.len() <= SHORT_ROW && is_distinct(row) {
+        if is_rising(row) || (row.len() <= SHORT_ROW && is_distinct(row)) {
             return self.push(row);
         }
         let edges = edge_set(alloc, row)?;
