@@ -1,11 +1,12 @@
 -- Lists that are kept once keep their numbers.
-use Rattle.std.proofs.Common.{◌≡◌, ℕ, ◌+◌, ◌<◌, Bool, true, false, ◌&&◌, Option, Some, List, [], ◌∷◌, ◌++◌, length, map, get_or, take, if◌then◌else◌}
+use Rattle.std.proofs.Common.{◌≡◌, ℕ, ◌+◌, ◌<◌, Bool, true, false, ◌&&◌, Option, None, Some, List, [], ◌∷◌, ◌++◌, length, map, get_or, take, if◌then◌else◌}
 use Rattle.std.proofs.Common.{refl, sym, ap, ◌∙◌, subst, arith}
 use lib.Pointwise.{pointwise}
-use Rattle.std.specs.List.{All, slice_get}
-use Rattle.std.specs.Option.{option_map}
+use Rattle.std.specs.List.{All, slice_get, position}
+use Rattle.std.specs.Option.{option_map, IfSome}
+use Rattle.std.proofs.lemmas.List.Quantifiers.{position-Some}
 use Rattle.std.proofs.lemmas.Bool.{false≢true}
-use Rattle.std.proofs.lemmas.Option.{get_or_from_slice_get, slice_get-map}
+use Rattle.std.proofs.lemmas.Option.{get_or_from_slice_get, slice_get-get_or, slice_get-map}
 use Rattle.std.proofs.lemmas.List.{get_or-map, length-append, length-map, map-append, take_more}
 use Rattle.std.proofs.lemmas.List.Elements.{All-head, All-tail}
 use Rattle.std.proofs.Math.ListN.{get_or-append}
@@ -14,7 +15,7 @@ use Rattle.next_hops.specs.declared.hop.Hop.{Hop}
 use Rattle.next_hops.specs.steps.Shared.{Keeps, list_in, lists_in}
 
 module _ {A : Type 0} where
-  Keeps-same : (lists : List (Vec Hop A)) → Keeps lists lists
+  pub Keeps-same : (lists : List (Vec Hop A)) → Keeps lists lists
   Keeps-same lists = record { same = λ n lt. refl; no_less = omega arith; one_more = omega arith }
 
   Keeps-put : (lists : List (Vec Hop A)) (list : Vec Hop A) → Keeps lists (lists ++ list ∷ [])
@@ -78,3 +79,14 @@ module _ {A : Type 0} where
       get_or-map (λ m. list_in lists m) numbers index n [] (subst (λ k. index < k) (length-map numbers (λ m. list_in lists m)) within)
       ∙ ap (λ (m : ℕ). list_in lists m) (sym number)
       ∙ list_in-at lists n list at
+
+-- the list that a search finds is the one that was looked for
+pub found_list : {A : Type 0} (eq : Hop → Hop → Bool) → ((g h : Hop) → eq g h ≡ true → g ≡ h) → (hops : List Hop) (lists : List (Vec Hop A)) (o : Option ℕ)
+    → o ≡ position (λ list. pointwise eq hops list.items) lists → IfSome o (λ n. list_in lists n ≡ hops)
+found_list eq exact hops lists None is = tt
+found_list eq exact hops [] (Some n) is = absurd (cc)
+found_list {A} eq exact hops (first ∷ rest) (Some n) is =
+    let lists : List (Vec Hop A) = first ∷ rest in
+    let found = position-Some (λ (list : Vec Hop A). pointwise eq hops list.items) lists n first (sym is) in
+    let at : slice_get lists n ≡ Some (get_or lists n first) = slice_get-get_or lists n first found.0 in
+    list_in-at lists n (get_or lists n first) at ∙ sym (pointwise-same eq exact hops (get_or lists n first).items found.1)

@@ -1,6 +1,6 @@
 //! Lists of hops that many vertices share: equal lists are kept once.
 
-ghost use Rattle.std.specs.Prelude.{◌≡◌, ◌<◌, length, IfOk, OnOk};
+ghost use Rattle.std.specs.Prelude.{◌≡◌, ◌<◌, length, IfSome, IfOk, OnOk};
 ghost use Rattle.next_hops.specs.steps.Shared.{Keeps, list_in};
 
 use crate::hop::Hop;
@@ -12,8 +12,17 @@ use std::hash::{BuildHasherDefault, FoldHasher};
 /// Lists of hops, no two of them equal. The number of a list is its place.
 pub(crate) type DistinctLists<A> = IndexSet<Vec<Hop, A>, BuildHasherDefault<FoldHasher>, A>;
 
-/// The number of the list of these hops, which is put in unless it is there.
-pub(crate) fn number_of<A: Allocator + Copy>(
+/// The number of the list of these hops, if it is there.
+fn find<A: Allocator + Copy>(hops: &[Hop], lists: &DistinctLists<A>) -> Option<usize>
+    ensures within { IfSome result (λ n. n < length lists.now.keys) }
+    ensures list { IfSome result (λ n. list_in lists.now.keys n ≡ hops.now) }
+{
+    hop_equality();
+    lists.get_index_of(hops)
+}
+
+/// Puts in a list of these hops, and tells its number.
+fn put<A: Allocator + Copy>(
     alloc: A,
     hops: &[Hop],
     lists: &mut DistinctLists<A>,
@@ -25,4 +34,20 @@ pub(crate) fn number_of<A: Allocator + Copy>(
     hop_equality();
     let (number, _) = lists.insert_full(Vec::from_slice(alloc, hops)?)?;
     Ok(number)
+}
+
+/// The number of the list of these hops, which is put in unless it is there.
+pub(crate) fn number_of<A: Allocator + Copy>(
+    alloc: A,
+    hops: &[Hop],
+    lists: &mut DistinctLists<A>,
+) -> Result<usize, AllocError>
+    ensures within { IfOk result (λ n. n < length lists.new.keys) }
+    ensures list { IfOk result (λ n. list_in lists.new.keys n ≡ hops.now) }
+    ensures keeps { OnOk result (Keeps lists.old.keys lists.new.keys) }
+{
+    match find(hops, lists) {
+        Some(number) => Ok(number),
+        None => put(alloc, hops, lists),
+    }
 }

@@ -1,6 +1,6 @@
 use Rattle.std.proofs.Common.{◌∙◌, sym}
 use Rattle.next_hops.proofs.Sharing.{Keeps-inserted, list_in-at, pointwise-same}
-use Rattle.next_hops.proofs.shared.number_of.Goals as goal
+use Rattle.next_hops.proofs.shared.put.Goals as goal
 
 pub returns-clause-list : goal.returns-clause-list
 returns-clause-list g c =
