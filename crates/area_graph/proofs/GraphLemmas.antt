@@ -39,7 +39,8 @@ use Rattle.area_graph.proofs.VertexLemmas.{found, has_number}
 use Rattle.area_graph.proofs.OnceLemmas.{Contains-each_once, each_once-In, each_once-distinct}
 use Rattle.area_graph.proofs.JoinLemmas.{Contains-area_edges}
 use Rattle.area_graph.proofs.OverLemmas.{ends, over_lsas-outs}
-use Rattle.area_graph.proofs.ArcLemmas.{arc_between, links_back, arcs_are, rows_same}
+use Rattle.area_graph.proofs.Arcs.{arc_between, rows_same}
+use Rattle.area_graph.proofs.ArcLemmas.{links_back, arcs_are}
 use Rattle.area_graph.proofs.UsedLemmas.{used_accepted, used_few}
 use Rattle.area_graph.proofs.EdgeLemmas.{distance_of-edges}
 

@@ -14,6 +14,7 @@ pub mod NamingLemmas
 pub mod BackLinkLemmas
 pub mod DraftLemmas
 pub mod AddsLemmas
+pub mod Arcs
 pub mod ArcLemmas
 pub mod AreaLemmas
 pub mod JoinLemmas
