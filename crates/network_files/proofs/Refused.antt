@@ -10,7 +10,7 @@ use Rattle.capture_files.specs.Told.{Told}
 use Rattle.network_files.specs.declared.fault.FileFault.{FileFault}
 use Rattle.network_files.specs.declared.fault.FileFault.TheVariants as faults
 use Rattle.network_files.specs.declared.kind.FileKind.{FileKind}
-use Rattle.network_files.specs.declared.kind.FileKind.TheVariants.{Capture, Walk}
+use Rattle.network_files.specs.declared.kind.FileKind.TheVariants.{Capture, Printed, Walk}
 use Rattle.network_files.specs.declared.telling.FileTold.{FileTold}
 use Rattle.network_files.specs.Telling.{IsToldAs, IsRefusalAs}
 use Rattle.std.specs.Prelude.{Result, Ok, Err}
@@ -44,6 +44,7 @@ module _ (pcap : (file : List ℕ) (told : Told) (offset : ℕ) → IsPcap file 
   memory_alone Capture octets file faults.OutOfMemory a b = refl
   memory_alone Capture octets file (faults.Capture fault) a b = absurd (no_fault (has_section octets) octets a.capture fault a.read b.0 b.1)
   memory_alone Capture octets file faults.UnknownKind a b = absurd b
+  memory_alone Printed octets file fault a b = b
   memory_alone Walk octets file faults.OutOfMemory a b = refl
   memory_alone Walk octets file (faults.Capture fault) a b = absurd b
   memory_alone Walk octets file faults.UnknownKind a b = absurd (true≢false (sym a.read ∙ b))

@@ -13,7 +13,7 @@ use Rattle.network_files.specs.declared.kind.FileKind.{FileKind}
 use Rattle.network_files.specs.declared.kind.FileKind.TheVariants as kinds
 use Rattle.network_files.specs.declared.telling.FileTold.{FileTold}
 use Rattle.network_files.specs.declared.telling.Oddities.{Oddities}
-use Rattle.network_files.specs.declared.telling.Oddities.TheVariants.{Frames, Rows}
+use Rattle.network_files.specs.declared.telling.Oddities.TheVariants.{Frames, Rows, Texts}
 use Rattle.network_files.specs.Kinds.{kind_of}
 use Rattle.ospf_packets.specs.declared.kind.AreaKind.{AreaKind as HelloKind}
 use Rattle.ospf_packets.specs.declared.kind.AreaKind.TheVariants as hello
@@ -21,6 +21,13 @@ use Rattle.ospf_packets.specs.declared.kind.AreaTold.{AreaTold as HelloTold}
 use Rattle.ospf_packets.specs.declared.odd.Odd.{Odd}
 use Rattle.ospf_packets.specs.Sorting as packets
 use Rattle.ospf_packets.specs.Telling.{told_in as told_in_frames}
+use Rattle.printed_databases.specs.declared.hole.Hole.{Hole as TextHole}
+use Rattle.printed_databases.specs.declared.kind.AreaKind.{AreaKind as HeadingKind}
+use Rattle.printed_databases.specs.declared.kind.AreaKind.TheVariants as heading
+use Rattle.printed_databases.specs.declared.kind.AreaTold.{AreaTold as HeadingTold}
+use Rattle.printed_databases.specs.Sorting as prints
+use Rattle.printed_databases.specs.Telling.{told_in as told_in_words}
+use Rattle.printed_databases.specs.Words.{words}
 use Rattle.sighted_database.specs.declared.area.ToldArea.{ToldArea}
 use Rattle.snmp_walk.specs.declared.kind.AreaKind.{AreaKind as RowKind}
 use Rattle.snmp_walk.specs.declared.kind.AreaKind.TheVariants as column
@@ -66,6 +73,23 @@ nssa_in column.Nssa area = Some area
 abbrev pub nssa_by_row : RowTold → Option AreaId
 nssa_by_row told = nssa_in told.kind told.area
 
+-- by the heading of an area in what a router prints
+abbrev pub is_stub_by_heading : HeadingKind → Bool
+is_stub_by_heading heading.Ordinary = false
+is_stub_by_heading heading.Stub = true
+is_stub_by_heading heading.Nssa = false
+
+abbrev pub area_by_heading : HeadingTold → ToldArea
+area_by_heading told = record { id = told.area; is_stub = is_stub_by_heading told.kind }
+
+abbrev pub nssa_under : HeadingKind → AreaId → Option AreaId
+nssa_under heading.Ordinary area = None
+nssa_under heading.Stub area = None
+nssa_under heading.Nssa area = Some area
+
+abbrev pub nssa_by_heading : HeadingTold → Option AreaId
+nssa_by_heading told = nssa_under told.kind told.area
+
 -- ---- what is told
 
 -- LSAs, areas and their kinds, and which of them are not-so-stubby, each in the order of the file
@@ -93,6 +117,14 @@ told_by_walk {A} text = record {
   nssas = filter_map nssa_by_row (filter_map (walks.kind_of {A = A}) (told_in_walk text));
 }
 
+-- what a router prints tells what its headings and its LSAs tell, without a moment
+abbrev pub told_by_text : {A : Type 0} → List ℕ → Telling A
+told_by_text {A} text = record {
+  sightings = filter_map prints.sighting_of (told_in_words None (words text));
+  areas = map area_by_heading (filter_map (prints.kind_of {A = A}) (told_in_words None (words text)));
+  nssas = filter_map nssa_by_heading (filter_map (prints.kind_of {A = A}) (told_in_words None (words text)));
+}
+
 -- ---- what can not be used, or is missing
 
 module _ {A : Type 0} where
@@ -100,11 +132,19 @@ module _ {A : Type 0} where
   abbrev pub AreOddFrames : List Odd → End → Oddities A → Type 0
   AreOddFrames odd end (Frames found last) = (found.items ≡ odd) × (last ≡ end)
   AreOddFrames odd end (Rows holes) = ⊥
+  AreOddFrames odd end (Texts holes) = ⊥
 
   -- those of the walk
   abbrev pub AreOddRows : List ℕ → Oddities A → Type 0
   AreOddRows text (Frames found last) = ⊥
   AreOddRows text (Rows holes) = AreHoles {A = A} (told_in_walk text) holes.items
+  AreOddRows text (Texts holes) = ⊥
+
+  -- what is printed of LSAs, and tells none
+  abbrev pub AreOddTexts : List TextHole → Oddities A → Type 0
+  AreOddTexts texts (Frames found last) = ⊥
+  AreOddTexts texts (Rows holes) = ⊥
+  AreOddTexts texts (Texts holes) = holes.items ≡ texts
 
 -- ---- files
 
@@ -119,8 +159,13 @@ pub record IsToldByWalk {A : Type 0} (octets : List ℕ) (file : FileTold A) : T
   pub odd : AreOddRows octets file.oddities
   pub read : list_any (walks.is_of_mib {A = A}) (told_in_walk octets) ≡ true
 
+pub record IsToldByText {A : Type 0} (octets : List ℕ) (file : FileTold A) : Type 0 where
+  pub telling : telling_of file ≡ told_by_text octets
+  pub odd : AreOddTexts (filter_map (prints.hole_of {A = A}) (told_in_words None (words octets))) file.oddities
+
 abbrev pub IsToldAs : {A : Type 0} → FileKind → List ℕ → FileTold A → Type 0
 IsToldAs kinds.Capture octets file = IsToldByCapture octets file
+IsToldAs kinds.Printed octets file = IsToldByText octets file
 IsToldAs kinds.Walk octets file = IsToldByWalk octets file
 
 -- a file with these octets tells this, read as its content says
@@ -141,8 +186,13 @@ IsRefusalOfWalk A octets faults.OutOfMemory = Unit {0}
 IsRefusalOfWalk A octets (faults.Capture fault) = ⊥
 IsRefusalOfWalk A octets faults.UnknownKind = list_any (walks.is_of_mib {A = A}) (told_in_walk octets) ≡ false
 
+-- what a router prints is refused for want of memory alone
+abbrev pub IsRefusalOfText : FileFault → Type 0
+IsRefusalOfText fault = fault ≡ faults.OutOfMemory
+
 abbrev pub IsRefusalAs : (A : Type 0) → FileKind → List ℕ → FileFault → Type 0
 IsRefusalAs A kinds.Capture octets fault = IsRefusalOfCapture octets fault
+IsRefusalAs A kinds.Printed octets fault = IsRefusalOfText fault
 IsRefusalAs A kinds.Walk octets fault = IsRefusalOfWalk A octets fault
 
 -- a file with these octets tells nothing, for this fault

@@ -14,7 +14,8 @@ pub enum FileFault {
     /// `OutOfMemory`.
     #[error("{0}")]
     Capture(CaptureFault),
-    /// The file does not begin as a capture does, and no line of it is an object of the OSPF-MIB.
+    /// The file does not begin as a capture does, is not what a router prints, and no line of it is
+    /// an object of the OSPF-MIB.
     #[error("UnknownKind")]
     UnknownKind,
     /// Memory ran out.

@@ -4,8 +4,11 @@ ghost use Rattle.std.specs.Prelude.{◌≡◌, ◌≤◌, length};
 ghost use Rattle.std.specs.Option.{is_some};
 ghost use Rattle.capture_files.specs.Pcap.{fraction_of};
 ghost use Rattle.network_files.specs.Kinds.{is_capture, kind_of};
+ghost use Rattle.printed_databases.specs.Headings.{is_printed};
+ghost use Rattle.printed_databases.specs.Words.{words};
 
 use byteorder::{BigEndian, ByteOrder, LittleEndian};
+use printed_databases::is_printed;
 
 /// The type of a Section Header Block, which reads the same in both byte orders.
 const SECTION_HEADER: u32 = 0x0a0d_0d0a;
@@ -15,7 +18,10 @@ const SECTION_HEADER: u32 = 0x0a0d_0d0a;
 pub enum FileKind {
     /// A packet capture: it begins as a file of the pcapng or of the pcap format does.
     Capture,
-    /// An SNMP walk, as every file is taken that is no capture.
+    /// What a router prints of its databases: it is no capture, and somewhere in it are the words
+    /// `OSPF Router with ID` or `LS age:`.
+    Printed,
+    /// An SNMP walk, as every other file is taken.
     Walk,
 }
 
@@ -44,6 +50,8 @@ impl FileKind {
     {
         if is_capture(octets) {
             FileKind::Capture
+        } else if is_printed(octets) {
+            FileKind::Printed
         } else {
             FileKind::Walk
         }

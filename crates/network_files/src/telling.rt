@@ -6,11 +6,13 @@ ghost use Rattle.network_files.specs.Telling.{IsToldOf, IsRefusalOf};
 use crate::capture::told_of_capture;
 use crate::fault::FileFault;
 use crate::kind::FileKind;
+use crate::printed::told_of_text;
 use crate::walk::told_of_walk;
 use capture_files::End;
 use lsa_codec::AreaId;
 use lsa_instances::Sighting;
 use ospf_packets::Odd;
+use printed_databases::Hole as TextHole;
 use sighted_database::ToldArea;
 use snmp_walk::Hole;
 use std::alloc::{Allocator, Global};
@@ -22,6 +24,8 @@ pub enum Oddities<A: Allocator = Global> {
     Frames(Vec<Odd, A>, End),
     /// What is missing in a walk, or can not be used of it.
     Rows(Vec<Hole, A>),
+    /// What a router prints of LSAs, and tells none.
+    Texts(Vec<TextHole, A>),
 }
 
 /// What a file tells, in the order of the file.
@@ -37,18 +41,20 @@ pub struct FileTold<A: Allocator = Global> {
     pub oddities: Oddities<A>,
 }
 
-/// Reads a file of either kind.
+/// Reads a file of any kind.
 ///
 /// # Errors
 ///
-/// A capture is refused for what lies in it, and a file that is no capture where no line of it is
-/// an object of the OSPF-MIB: then nobody knows what kind of file it is. Or memory ran out.
+/// A capture is refused for what lies in it. A file that is neither a capture nor what a router
+/// prints is refused where no line of it is an object of the OSPF-MIB: then nobody knows what kind
+/// of file it is. Or memory ran out.
 pub fn told_of<A: Allocator + Copy>(alloc: A, octets: &[u8]) -> Result<FileTold<A>, FileFault>
     ensures told { IfOk result (λ file. IsToldOf octets.now file) }
     ensures fault { IfErr result (λ fault. IsRefusalOf A octets.now fault) }
 {
     match FileKind::of(octets) {
         FileKind::Capture => told_of_capture(alloc, octets),
+        FileKind::Printed => told_of_text(alloc, octets),
         FileKind::Walk => told_of_walk(alloc, octets),
     }
 }

@@ -28,6 +28,40 @@ pub(super) const WALK: &[u8] = b".1.3.6.1.2.1.14.2.1.3.0.0.0.2 = INTEGER: 2\n\
     E7 FD 00 30 01 00 00 02 07 07 07 07 0A 02 00 0A \n\
     01 00 00 09 0A 02 00 08 FF FF FF FC 03 00 00 09 \n";
 
+/// What the FRR router 6.6.6.6 prints of the same, at LS age 33.
+pub(super) const TEXT: &[u8] = b"
+       OSPF Router with ID (6.6.6.6)
+
+
+                Router Link States (Area 0.0.0.2 [Stub])
+
+  LS age: 33
+  Options: 0x0  : *|-|-|-|-|-|-|-
+  LS Flags: 0x6  
+  Flags: 0x1 : ABR
+  LS Type: router-LSA
+  Link State ID: 1.1.1.1 
+  Advertising Router: 1.1.1.1
+  LS Seq Number: 80000004
+  Checksum: 0xe7fd
+  Length: 48
+
+   Number of Links: 2
+
+    Link connected to: another Router (point-to-point)
+     (Link ID) Neighboring Router ID: 7.7.7.7
+     (Link Data) Router Interface address: 10.2.0.10
+      Number of TOS metrics: 0
+       TOS 0 Metric: 9
+
+    Link connected to: Stub Network
+     (Link ID) Net: 10.2.0.8
+     (Link Data) Network Mask: 255.255.255.252
+      Number of TOS metrics: 0
+       TOS 0 Metric: 9
+
+";
+
 /// The dump of a database with this area and this LSA alone: `OSWP`, version 1, one area, its ID,
 /// that it is a stub area, one LSA, its octets, and no LSA of AS scope.
 pub(super) const DUMP: &[u8] = &[
