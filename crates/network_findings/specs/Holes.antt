@@ -1,13 +1,15 @@
 -- What is to be told of a file besides what it gave.
-use Rattle.std.specs.Prelude.{ℕ, ◌==◌, List, [], ◌∷◌, count_by, Option, None, Some, if◌then◌else◌}
+use Rattle.std.specs.Prelude.{ℕ, Bool, true, false, ◌==◌, List, [], ◌∷◌, ◌++◌, count_by, Option, None, Some, if◌then◌else◌}
 use Rattle.std.specs.List.{filter_map}
 use Rattle.capture_files.specs.declared.frame.End.{End}
 use Rattle.capture_files.specs.declared.frame.End.TheVariants as ends
 use Rattle.lsa_codec.specs.declared.fault.LsaFault.TheVariants as lsa
 use Rattle.network_findings.specs.declared.hole.Hole.{Hole}
-use Rattle.network_findings.specs.declared.hole.Hole.TheVariants.{Frames, Cut}
+use Rattle.network_findings.specs.declared.hole.Hole.TheVariants.{Frames, Cut, Refused, NoArea, Unreadable}
 use Rattle.ospf_packets.specs.declared.odd.Odd.{Odd}
 use Rattle.ospf_packets.specs.declared.odd.Odd.TheVariants.{OtherLink, NotIpv4, NotOspf, Truncated, BadLength, MissingFragment, OtherVersion, BadChecksum, OtherType, RefusedLsa}
+use Rattle.printed_databases.specs.declared.hole.Hole.{Hole as TextHole}
+use Rattle.printed_databases.specs.declared.hole.Hole.TheVariants as texts
 
 -- a number that no other reason has
 abbrev pub number_of : Odd → ℕ
@@ -45,3 +47,22 @@ frame_holes reasons odd = filter_map (counted odd) reasons
 abbrev pub end_holes : End → List Hole
 end_holes ends.Whole = []
 end_holes (ends.Cut offset) = Cut offset ∷ []
+
+-- what is printed of an LSA that has a key, and tells none
+abbrev pub keyed : TextHole → Option Hole
+keyed (texts.Refused key fault) = Some (Refused key fault)
+keyed (texts.NoArea key) = Some (NoArea key)
+keyed texts.Unreadable = None
+
+abbrev pub is_unreadable : TextHole → Bool
+is_unreadable (texts.Refused key fault) = false
+is_unreadable (texts.NoArea key) = false
+is_unreadable texts.Unreadable = true
+
+-- how many LSAs are printed whose fields can not be read, where there is one
+abbrev pub unread : List TextHole → List Hole
+unread printed = if count_by is_unreadable printed == 0 then [] else Unreadable (count_by is_unreadable printed) ∷ []
+
+-- what is printed and tells no LSA: each that has a key, and how many have none
+abbrev pub text_holes : List TextHole → List Hole
+text_holes printed = filter_map keyed printed ++ unread printed

@@ -1,3 +1,4 @@
 pub mod Areas
+pub mod Contradictions
 pub mod Holes
 pub mod Lines

@@ -17,6 +17,12 @@ pub enum Hole {
     Cut(usize),
     /// A row of a walk tells nothing, or an object of it can not be read.
     Walk(RowHole),
+    /// What a router prints of the LSA with this key makes none that is accepted, for this fault.
+    Refused(Key, LsaFault),
+    /// The LSA with this key is printed under no area's heading.
+    NoArea(Key),
+    /// So many LSAs are printed whose fields can not be read.
+    Unreadable(usize),
     /// The area is told to be not-so-stubby (RFC 3101), which the planner does not know.
     Nssa(AreaId),
 }
@@ -64,13 +70,19 @@ fn row_name(fault: RowFault) -> &'static str {
     }
 }
 
+/// Writes what names an LSA, behind why it is not told.
+fn write_key<W: fmt::Write>(f: &mut fmt::Formatter<W>, key: Key, name: &str) -> fmt::Result {
+    let Key { kind, id, adv } = key;
+    write!(f, "{name} type {kind} id {id} adv {adv}")
+}
+
 /// Writes what names an LSA, behind the area of its row.
 fn write_row<W: fmt::Write>(f: &mut fmt::Formatter<W>, row: Row, name: &str) -> fmt::Result {
     let Row { area, key } = row;
     let Key { kind, id, adv } = key;
     match area {
         Some(area) => write!(f, "{name} area {area} type {kind} id {id} adv {adv}"),
-        None => write!(f, "{name} type {kind} id {id} adv {adv}"),
+        None => write_key(f, key, name),
     }
 }
 
@@ -85,6 +97,9 @@ impl fmt::Display for Hole {
             Hole::Walk(RowHole::Row(row, fault)) => write_row(f, row, row_name(fault)),
             Hole::Walk(RowHole::Kind(area)) => write!(f, "Kind area {area}"),
             Hole::Walk(RowHole::Name) => write!(f, "Name"),
+            Hole::Refused(key, fault) => write_key(f, key, lsa_name(fault)),
+            Hole::NoArea(key) => write_key(f, key, "NoArea"),
+            Hole::Unreadable(count) => write!(f, "Unreadable {count}"),
             Hole::Nssa(area) => write!(f, "Nssa area {area}"),
         }
     }

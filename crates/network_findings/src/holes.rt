@@ -1,7 +1,8 @@
 //! The holes of a file.
 
 ghost use Rattle.std.specs.Prelude.{◌≡◌, ◌++◌, IfOk, OnOk};
-ghost use Rattle.network_findings.specs.Holes.{counted, end_holes, frame_holes, number_of};
+ghost use Rattle.std.specs.List.{filter_map};
+ghost use Rattle.network_findings.specs.Holes.{counted, end_holes, frame_holes, is_unreadable, keyed, number_of, text_holes, unread};
 
 use crate::areas::each_once;
 use crate::hole::Hole;
@@ -9,6 +10,7 @@ use capture_files::End;
 use lsa_codec::{AreaId, LsaFault};
 use network_files::{FileTold, Oddities};
 use ospf_packets::Odd;
+use printed_databases::Hole as TextHole;
 use std::alloc::{AllocError, Allocator};
 
 /// The reasons that are told of frames and of their LSAs. That a frame carries something else than
@@ -90,6 +92,60 @@ fn put_end<A: Allocator + Copy>(holes: &mut Vec<Hole, A>, end: End) -> Result<()
     Ok(())
 }
 
+/// What is printed of an LSA that has a key.
+fn keyed(text: TextHole) -> Option<Hole>
+    ensures { result ≡ keyed text }
+{
+    match text {
+        TextHole::Refused(key, fault) => Some(Hole::Refused(key, fault)),
+        TextHole::NoArea(key) => Some(Hole::NoArea(key)),
+        TextHole::Unreadable => None,
+    }
+}
+
+/// Whether the fields of an LSA can not be read.
+fn is_unreadable(text: TextHole) -> bool
+    ensures { result ≡ is_unreadable text }
+{
+    match text {
+        TextHole::Refused(_, _) | TextHole::NoArea(_) => false,
+        TextHole::Unreadable => true,
+    }
+}
+
+/// How many LSAs can not be read, behind other holes.
+fn put_unread<A: Allocator + Copy>(
+    holes: &mut Vec<Hole, A>,
+    texts: &[TextHole],
+) -> Result<(), AllocError>
+    ensures { OnOk result (holes.new.items ≡ holes.old.items ++ unread texts.now) }
+{
+    let count = texts.iter().filter(|text| is_unreadable(**text)).count();
+    if count != 0 {
+        holes.push(Hole::Unreadable(count))?;
+    }
+    Ok(())
+}
+
+/// What is printed of LSAs that have a key.
+fn keyed_holes<A: Allocator + Copy>(
+    alloc: A,
+    texts: &[TextHole],
+) -> Result<Vec<Hole, A>, AllocError>
+    ensures { IfOk result (λ holes. holes.items ≡ filter_map keyed texts.now) }
+{
+    texts.iter().filter_map(|text| keyed(*text)).collect(alloc)
+}
+
+/// What is printed of LSAs and tells none: each that has a key, and how many have none.
+fn text_holes<A: Allocator + Copy>(alloc: A, texts: &[TextHole]) -> Result<Vec<Hole, A>, AllocError>
+    ensures { IfOk result (λ holes. holes.items ≡ text_holes texts.now) }
+{
+    let mut holes = keyed_holes(alloc, texts)?;
+    put_unread(&mut holes, texts)?;
+    Ok(holes)
+}
+
 /// What can not be used of a file, or is missing in it.
 fn oddity_holes<A: Allocator + Copy>(
     alloc: A,
@@ -102,6 +158,7 @@ fn oddity_holes<A: Allocator + Copy>(
             Ok(holes)
         }
         Oddities::Rows(rows) => rows.iter().map(|row| Hole::Walk(*row)).collect(alloc),
+        Oddities::Texts(texts) => text_holes(alloc, texts),
     }
 }
 
@@ -112,7 +169,7 @@ fn nssa_holes<A: Allocator + Copy>(alloc: A, areas: &[AreaId]) -> Result<Vec<Hol
 }
 
 /// What is to be told of a file besides what it gave: what is odd of its frames and how often, that
-/// it is cut, rows that tell nothing, and not-so-stubby areas.
+/// it is cut, rows that tell nothing, printed LSAs that tell none, and not-so-stubby areas.
 ///
 /// # Errors
 ///

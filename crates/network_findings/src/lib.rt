@@ -2,13 +2,16 @@
 //!
 //! [`file_line`] tells of a file what it gave. [`holes_of`] answers what is to be told of it
 //! besides: each [`Hole`] says that the databases may lack an LSA, or are not to be trusted.
+//! [`contradictions`] answers the areas whose kinds the files tell in two ways.
 #![tactic(auto)]
 
 mod areas;
+mod both_kinds;
 mod hole;
 mod holes;
 mod line;
 
+pub use both_kinds::contradictions;
 pub use hole::Hole;
 pub use holes::holes_of;
 pub use line::file_line;

@@ -14,6 +14,7 @@ fn kind_name<A: Allocator>(oddities: &Oddities<A>) -> &'static str
     match oddities {
         Oddities::Frames(_, _) => "capture",
         Oddities::Rows(_) => "walk",
+        Oddities::Texts(_) => "printed",
     }
 }
 

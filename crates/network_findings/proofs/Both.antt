@@ -1,0 +1,37 @@
+-- Sets of areas: what is in both.
+use Rattle.std.proofs.Common.{◌≡◌, Bool, true, false, List, ℕ, sym, ap, subst, ◌∙◌, refl}
+use Rattle.std.specs.Prelude.{filter, ◌&&◌}
+use Rattle.std.specs.BTreeSet.{BTreeSet, IsFromIterResult, contains}
+use Rattle.std.specs.List.{filter_map}
+use Rattle.std.specs.List.Sorted.{IsStrictlySortedBy}
+use Rattle.std.specs.Ordering.{is_eq, eq_by_cmp}
+use Rattle.std.specs.declared.cmp.Ordering.{Ordering}
+use Rattle.std.specs.declared.cmp.Ordering.TheVariants.{Less, Equal, Greater}
+use Rattle.std.proofs.lemmas.List.Kept.{IsStrictlySortedBy-filter}
+use Rattle.std.proofs.lemmas.Map.Lookups.{exact_unsigned}
+use Rattle.std.proofs.lemmas.Map.Views.{any-filter_same}
+use Rattle.lsa_codec.specs.declared.address.AreaId.{AreaId}
+use Rattle.lsa_codec.specs.Order.{area_cmp}
+use Rattle.network_findings.specs.Contradictions.{AreContradictions, has, id_told}
+use Rattle.sighted_database.specs.declared.area.ToldArea.{ToldArea}
+
+eq_true : (o : Ordering) → is_eq o ≡ true → o ≡ Equal
+eq_true Less h = cc
+eq_true Equal h = refl
+eq_true Greater h = cc
+
+same_area : (a b : AreaId) → area_cmp a b ≡ Equal → a ≡ b
+same_area a b h = ap (λ (n : ℕ). let id : AreaId = record { 0 = n } in id) (exact_unsigned a.0 b.0 h)
+
+pub in_both : (areas : List ToldArea) (stubs others : BTreeSet AreaId) (both : List AreaId)
+    → IsFromIterResult area_cmp (filter_map (id_told true) areas) stubs → IsFromIterResult area_cmp (filter_map (id_told false) areas) others
+    → both ≡ filter (contains area_cmp others) stubs.keys → AreContradictions areas both
+in_both areas stubs others both h k e = record {
+  which = λ id.
+      ap (has id) e
+      ∙ any-filter_same (eq_by_cmp area_cmp id) (contains area_cmp others) (contains area_cmp others id)
+      (λ a same. ap (contains area_cmp others) (sym (same_area id a (eq_true (area_cmp id a) same)))) stubs.keys
+      ∙ ap (λ b. b && has id stubs.keys) (k.0 id)
+      ∙ ap (λ b. has id (filter_map (id_told false) areas) && b) (h.0 id);
+  order = subst (λ l. IsStrictlySortedBy area_cmp l) (sym e) (IsStrictlySortedBy-filter area_cmp (contains area_cmp others) stubs.keys h.1);
+}
