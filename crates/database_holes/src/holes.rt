@@ -1,0 +1,202 @@
+//! The holes of a database.
+
+ghost use Rattle.std.specs.Prelude.{◌≡◌, ◌++◌, IfOk, OnOk, map};
+ghost use Rattle.std.specs.List.{AllZip, filter_map, flat_map};
+ghost use Rattle.lsdb.specs.Lists.{areas_of, lsas_of};
+ghost use Rattle.lsdb.specs.Places.{lists_of};
+ghost use Rattle.lsdb.specs.declared.section.Section.TheVariants.{Area, AsWide};
+ghost use Rattle.database_holes.specs.Holes.{AreHoles, AreHolesOfArea, AreHolesOfAs, AreMissing, IsPartOf, asbr_hole, network_hole, router_hole, routers_anywhere};
+ghost use Rattle.database_holes.specs.Naming.{asbr_named, network_described, networks_named, router_described, routers_named};
+
+use crate::hole::Hole;
+use crate::left_out::put_all_left_out;
+use crate::missing::missing;
+use crate::naming::{
+    asbrs_named, networks_described, networks_named, routers_described, routers_named,
+};
+use lsa_codec::{Addr, AreaId, RouterId};
+use lsdb::{Database, Section};
+use std::alloc::{AllocError, Allocator};
+
+/// The routers that LSAs of an area name, and no LSA of it describes.
+fn missing_routers<A: Allocator + Copy>(
+    alloc: A,
+    database: &Database<A>,
+    area: AreaId,
+) -> Result<Vec<u32, A>, AllocError>
+    ensures { IfOk result (λ routers. AreMissing
+        (flat_map routers_named (lsas_of (Area area) (lists_of database.now)))
+        (filter_map router_described (lsas_of (Area area) (lists_of database.now)))
+        routers.items) }
+{
+    let named = routers_named(alloc, database.lsas(Section::Area(area)))?;
+    let described = routers_described(alloc, database.lsas(Section::Area(area)))?;
+    missing(alloc, &named, &described)
+}
+
+/// The networks that LSAs of an area name, and no LSA of it describes.
+fn missing_networks<A: Allocator + Copy>(
+    alloc: A,
+    database: &Database<A>,
+    area: AreaId,
+) -> Result<Vec<u32, A>, AllocError>
+    ensures { IfOk result (λ networks. AreMissing
+        (flat_map networks_named (lsas_of (Area area) (lists_of database.now)))
+        (filter_map network_described (lsas_of (Area area) (lists_of database.now)))
+        networks.items) }
+{
+    let named = networks_named(alloc, database.lsas(Section::Area(area)))?;
+    let described = networks_described(alloc, database.lsas(Section::Area(area)))?;
+    missing(alloc, &named, &described)
+}
+
+/// The routers that have a router-LSA in some area.
+fn routers_anywhere<A: Allocator + Copy>(
+    alloc: A,
+    database: &Database<A>,
+) -> Result<Vec<u32, A>, AllocError>
+    ensures { IfOk result (λ ids. ids.items ≡ routers_anywhere (lists_of database.now)) }
+{
+    let mut found = Vec::new(alloc);
+    for i in 0..database.area_count() {
+        let (area, _is_stub) = database.area(i);
+        let described = routers_described(alloc, database.lsas(Section::Area(area)))?;
+        found.extend_from_slice(&described)?;
+    }
+    Ok(found)
+}
+
+/// The AS boundary routers of AS-external-LSAs that no LSA of any area describes.
+fn missing_asbrs<A: Allocator + Copy>(
+    alloc: A,
+    database: &Database<A>,
+) -> Result<Vec<u32, A>, AllocError>
+    ensures { IfOk result (λ routers. AreMissing
+        (filter_map asbr_named (lsas_of AsWide (lists_of database.now)))
+        (routers_anywhere (lists_of database.now)) routers.items) }
+{
+    let named = asbrs_named(alloc, database.lsas(Section::AsWide))?;
+    let described = routers_anywhere(alloc, database)?;
+    missing(alloc, &named, &described)
+}
+
+/// Adds the routers that are missing in an area.
+fn put_routers<A: Allocator + Copy>(
+    holes: &mut Vec<Hole, A>,
+    area: AreaId,
+    routers: &[u32],
+) -> Result<(), AllocError>
+    ensures { OnOk result
+        (holes.new.items ≡ holes.old.items ++ map (router_hole area) routers.now) }
+{
+    for id in routers {
+        holes.push(Hole::Router(area, RouterId(*id)))?;
+    }
+    Ok(())
+}
+
+/// Adds the networks that are missing in an area.
+fn put_networks<A: Allocator + Copy>(
+    holes: &mut Vec<Hole, A>,
+    area: AreaId,
+    networks: &[u32],
+) -> Result<(), AllocError>
+    ensures { OnOk result
+        (holes.new.items ≡ holes.old.items ++ map (network_hole area) networks.now) }
+{
+    for id in networks {
+        holes.push(Hole::Network(area, Addr(*id)))?;
+    }
+    Ok(())
+}
+
+/// Adds the AS boundary routers that are missing.
+fn put_asbrs<A: Allocator + Copy>(
+    holes: &mut Vec<Hole, A>,
+    routers: &[u32],
+) -> Result<(), AllocError>
+    ensures { OnOk result (holes.new.items ≡ holes.old.items ++ map asbr_hole routers.now) }
+{
+    for id in routers {
+        holes.push(Hole::Asbr(RouterId(*id)))?;
+    }
+    Ok(())
+}
+
+/// The holes of an area.
+fn holes_of_area<A: Allocator + Copy>(
+    alloc: A,
+    database: &Database<A>,
+    area: AreaId,
+) -> Result<Vec<Hole, A>, AllocError>
+    ensures { IfOk result (λ holes.
+        AreHolesOfArea area (lsas_of (Area area) (lists_of database.now)) holes.items) }
+{
+    let routers = missing_routers(alloc, database, area)?;
+    let networks = missing_networks(alloc, database, area)?;
+    let mut holes = Vec::new(alloc);
+    put_routers(&mut holes, area, &routers)?;
+    put_networks(&mut holes, area, &networks)?;
+    put_all_left_out(&mut holes, database, Section::Area(area))?;
+    Ok(holes)
+}
+
+/// The holes of AS scope.
+fn holes_of_as<A: Allocator + Copy>(
+    alloc: A,
+    database: &Database<A>,
+) -> Result<Vec<Hole, A>, AllocError>
+    ensures { IfOk result (λ holes. AreHolesOfAs (lists_of database.now) holes.items) }
+{
+    let routers = missing_asbrs(alloc, database)?;
+    let mut holes = Vec::new(alloc);
+    put_asbrs(&mut holes, &routers)?;
+    put_all_left_out(&mut holes, database, Section::AsWide)?;
+    Ok(holes)
+}
+
+/// The holes of each area, in the order of the areas.
+fn holes_of_areas<A: Allocator + Copy>(
+    alloc: A,
+    database: &Database<A>,
+) -> Result<Vec<Vec<Hole, A>, A>, AllocError>
+    ensures { IfOk result (λ parts. AllZip (IsPartOf (lists_of database.now))
+        (areas_of (lists_of database.now)) (map (λ part. part.items) parts.items)) }
+{
+    let mut parts = Vec::new(alloc);
+    for i in 0..database.area_count() {
+        let (area, _is_stub) = database.area(i);
+        parts.push(holes_of_area(alloc, database, area)?)?;
+    }
+    Ok(parts)
+}
+
+/// All holes of these lists, one list after another.
+fn joined<A: Allocator + Copy>(alloc: A, parts: &[Vec<Hole, A>]) -> Result<Vec<Hole, A>, AllocError>
+    ensures { IfOk result (λ holes. holes.items ≡ flat_map (λ part. part.items) parts.now) }
+{
+    let mut holes = Vec::new(alloc);
+    for part in parts {
+        holes.extend_from_slice(part)?;
+    }
+    Ok(holes)
+}
+
+/// What the database lacks, and what the planner leaves out of it: for each area, in rising order,
+/// the routers that are missing, the networks, and what is left out; and behind that the same of
+/// the LSAs of AS scope. Routers and networks rise, each of them once.
+///
+/// # Errors
+///
+/// Memory ran out.
+pub fn holes_of<A: Allocator + Copy>(
+    alloc: A,
+    database: &Database<A>,
+) -> Result<Vec<Hole, A>, AllocError>
+    ensures { IfOk result (λ holes. AreHoles (lists_of database.now) holes.items) }
+{
+    let parts = holes_of_areas(alloc, database)?;
+    let mut holes = joined(alloc, &parts)?;
+    holes.extend_from_slice(&holes_of_as(alloc, database)?)?;
+    Ok(holes)
+}

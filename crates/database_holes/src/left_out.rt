@@ -1,0 +1,136 @@
+//! What the planner leaves out and LSAs show.
+
+ghost use Rattle.std.specs.Prelude.{◌≡◌, ◌≤◌, ◌++◌, length, IfOk, OnOk, filter};
+ghost use Rattle.std.specs.List.{count_by, flat_map};
+ghost use Rattle.lsdb.specs.Lists.{lsas_of};
+ghost use Rattle.lsdb.specs.Places.{lists_of};
+ghost use Rattle.database_holes.specs.LeftOut.{is_nssa, is_opaque, is_virtual_end, is_virtual, virtual_links, left_out, all_left_out};
+
+use crate::hole::{Feature, Hole};
+use lsa_codec::{Link, LinkKind, Links, Lsa};
+use lsdb::{Database, Lsas, Section};
+use std::alloc::{AllocError, Allocator};
+
+/// Whether it is an LSA of type 7.
+fn is_nssa<A: Allocator + Copy>(lsa: &Lsa<A>) -> bool
+    ensures { result ≡ is_nssa lsa.now }
+{
+    lsa.key().kind == 7
+}
+
+/// Whether it is an opaque LSA.
+fn is_opaque<A: Allocator + Copy>(lsa: &Lsa<A>) -> bool
+    ensures { result ≡ is_opaque lsa.now }
+{
+    let kind = lsa.key().kind;
+    9 <= kind && kind <= 11
+}
+
+/// Whether it is a router-LSA with bit V.
+fn is_virtual_end<A: Allocator + Copy>(lsa: &Lsa<A>) -> bool
+    ensures { result ≡ is_virtual_end lsa.now }
+{
+    match lsa.router() {
+        Some(router) => router.flags() & 4 != 0,
+        None => false,
+    }
+}
+
+/// Whether it is a virtual link.
+fn is_virtual(link: Link) -> bool
+    ensures { result ≡ is_virtual link }
+{
+    matches!(link.kind, LinkKind::Virtual)
+}
+
+/// The virtual links among these.
+fn virtual_among<A: Allocator + Copy>(
+    alloc: A,
+    links: Links<'_>,
+) -> Result<Vec<Link, A>, AllocError>
+    ensures { IfOk result (λ found. found.items ≡ filter is_virtual links.entry) }
+{
+    links.filter(|link| is_virtual(*link)).collect(alloc)
+}
+
+/// The virtual links of an LSA.
+fn virtual_of_lsa<A: Allocator + Copy>(alloc: A, lsa: &Lsa<A>) -> Result<Vec<Link, A>, AllocError>
+    ensures { IfOk result (λ found. found.items ≡ virtual_links lsa.now) }
+{
+    match lsa.router() {
+        Some(router) => virtual_among(alloc, router.links()),
+        None => Ok(Vec::new(alloc)),
+    }
+}
+
+/// The virtual links of LSAs.
+fn virtual_links<A: Allocator + Copy>(
+    alloc: A,
+    lsas: Lsas<'_, A>,
+) -> Result<Vec<Link, A>, AllocError>
+    ensures { IfOk result (λ found. found.items ≡ flat_map virtual_links lsas.entry) }
+{
+    let mut found = Vec::new(alloc);
+    for lsa in lsas {
+        found.extend_from_slice(&virtual_of_lsa(alloc, lsa)?)?;
+    }
+    Ok(found)
+}
+
+/// How many LSAs are of type 7.
+fn nssa_count<A: Allocator + Copy>(lsas: Lsas<'_, A>) -> usize
+    requires { length lsas ≤ 65535 }
+    ensures { result ≡ count_by is_nssa lsas.entry }
+{
+    lsas.filter(|lsa| is_nssa(*lsa)).count()
+}
+
+/// How many LSAs are opaque.
+fn opaque_count<A: Allocator + Copy>(lsas: Lsas<'_, A>) -> usize
+    requires { length lsas ≤ 65535 }
+    ensures { result ≡ count_by is_opaque lsas.entry }
+{
+    lsas.filter(|lsa| is_opaque(*lsa)).count()
+}
+
+/// How many LSAs are router-LSAs with bit V.
+fn virtual_ends<A: Allocator + Copy>(lsas: Lsas<'_, A>) -> usize
+    requires { length lsas ≤ 65535 }
+    ensures { result ≡ count_by is_virtual_end lsas.entry }
+{
+    lsas.filter(|lsa| is_virtual_end(*lsa)).count()
+}
+
+/// Adds what is left out so often, where it is.
+fn put_left_out<A: Allocator + Copy>(
+    holes: &mut Vec<Hole, A>,
+    section: Section,
+    feature: Feature,
+    count: usize,
+) -> Result<(), AllocError>
+    ensures { OnOk result (holes.new.items ≡ holes.old.items ++ left_out section feature count) }
+{
+    if count != 0 {
+        holes.push(Hole::LeftOut(section, feature, count))?;
+    }
+    Ok(())
+}
+
+/// Adds what the LSAs of a section show that the planner leaves out.
+pub(crate) fn put_all_left_out<A: Allocator + Copy>(
+    holes: &mut Vec<Hole, A>,
+    database: &Database<A>,
+    section: Section,
+) -> Result<(), AllocError>
+    ensures { OnOk result (holes.new.items ≡ holes.old.items
+        ++ all_left_out section (lsas_of section (lists_of database.now))) }
+{
+    let nssas = nssa_count(database.lsas(section));
+    put_left_out(holes, section, Feature::Nssa, nssas)?;
+    let opaques = opaque_count(database.lsas(section));
+    put_left_out(holes, section, Feature::Opaque, opaques)?;
+    let ends = virtual_ends(database.lsas(section));
+    put_left_out(holes, section, Feature::VirtualEnd, ends)?;
+    let links = virtual_links(database.alloc(), database.lsas(section))?.len();
+    put_left_out(holes, section, Feature::VirtualLink, links)
+}
