@@ -5,6 +5,7 @@ ghost use Rattle.streams.specs.Watched.{has_failed};
 
 use crate::arguments::Options;
 use crate::fault::{ExitFault, FileEnd, index_of, named};
+use crate::lacks::lack_lines;
 use network_dump::{RunFault, run};
 use network_files::FileTold;
 use network_findings::{file_line, holes_of};
@@ -101,6 +102,8 @@ pub(crate) fn make_dump<'a>(
     let mut files = opened(rt, names)?;
     let mut dump = Watched::new(Vec::new(rt.alloc()));
     let told = run(rt.alloc(), &mut files, &mut dump).map_err(|fault| told_of(names, fault))?;
+    let dump = dump.into_inner();
+    let lacks = lack_lines(rt, dump.as_slice())?;
     let gifts = gift_lines(rt, names, &told)?;
     let holes = hole_lines(rt, names, &told)?;
     io::writer(rt)
@@ -108,8 +111,9 @@ pub(crate) fn make_dump<'a>(
         .map_err(|_| ExitFault::Output)?;
     // Where standard error takes no line, the status alone tells.
     let _ = rt.stderr().write_all(holes.as_bytes());
+    let _ = rt.stderr().write_all(lacks.as_bytes());
     if let Some(path) = options.out {
-        write_dump(rt, path, dump.into_inner().as_slice())?;
+        write_dump(rt, path, dump.as_slice())?;
     }
-    Ok(holes.is_empty())
+    Ok(holes.is_empty() && lacks.is_empty())
 }

@@ -12,7 +12,8 @@ pub(crate) const DETAILS: &str = "Files that give the LSAs of a network, octet f
   a packet capture    tcpdump -i INTERFACE -w LINK.pcap proto ospf
 
 A line of standard output tells what each file gave, and a line of standard error what is
-missing in it or can not be used. Of the instances of an LSA the newest goes into the dump.
+missing in it or can not be used. Lines that begin with `database:` tell what all files together
+lack. Of the instances of an LSA the newest goes into the dump.
 The dump replaces its file only once it is whole.
 
 Example:

@@ -11,6 +11,7 @@ mod exit;
 mod fault;
 mod files;
 mod help;
+mod lacks;
 
 use arguments::{Options, OptionsFault};
 use clap::Error;
