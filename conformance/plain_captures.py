@@ -1,0 +1,595 @@
+"""Reads captures and SNMP walks as docs/CAPTURE.md has it, in plain steps: what a file tells, or why it is refused; and
+the dump that files make.
+
+It was written from that page and the descriptions of the formats (draft-ietf-opsawg-pcap, draft-ietf-opsawg-pcapng,
+RFC 791, RFC 2328, RFC 4750), so that it can be put beside the program. Nothing in it is fast.
+"""
+import collections
+import dataclasses
+import re
+
+from plain_reader import fault_of_lsa, number
+
+LONGEST_DUMP = 16_777_216
+MOST_APART = 256
+SECOND = 1_000_000_000
+
+
+@dataclasses.dataclass
+class Refused(Exception):
+    """Why a file is refused, and the offset; or why files make no dump, without one."""
+
+    fault: str
+    offset: int | None = None
+
+
+class Odd(Exception):
+    """Why a frame, or a part of it, can not be used."""
+
+
+@dataclasses.dataclass
+class Sighting:
+    """An LSA in its scope, which is an area, or the AS where that is none; and its moment in nanoseconds since 1970."""
+
+    area: int | None
+    seen: int | None
+    lsa: bytes
+
+    def place(self) -> tuple:
+        """Areas stand in rising order, and the AS last."""
+        return self.area is None, self.area or 0, self.lsa[3], self.lsa[4:8], self.lsa[8:12]
+
+
+@dataclasses.dataclass
+class Told:
+    """What a file tells: LSAs, the kind of areas as `ordinary`, `stub` or `nssa`, and what is to be told besides."""
+
+    word: str
+    sightings: list[Sighting] = dataclasses.field(default_factory=list)
+    kinds: list[tuple[int, str]] = dataclasses.field(default_factory=list)
+    holes: list[str] = dataclasses.field(default_factory=list)
+
+    def line(self) -> str:
+        """What standard output has behind the name of the file."""
+        areas = {area for area, _ in self.kinds} | {sighting.area for sighting in self.sightings} - {None}
+        return f"{self.word}, {len(self.sightings)} LSAs, {len(areas)} areas"
+
+
+def address(value: int | bytes) -> str:
+    return ".".join(map(str, value if isinstance(value, bytes) else value.to_bytes(4, "big")))
+
+
+def scope(kind: int, area: int | None) -> int | None:
+    """The area of an LSA, and none for the types of AS scope."""
+    return None if kind in (5, 11) else area
+
+
+# ---- frames of captures
+
+
+@dataclasses.dataclass
+class Frame:
+    link: int
+    seen: int | None
+    octets: bytes
+    original: int
+
+    def is_cut(self) -> bool:
+        return len(self.octets) < self.original
+
+
+# The byte order and the nanoseconds of a unit, by the magic number.
+MAGIC_NUMBERS = {
+    bytes.fromhex("a1b2c3d4"): ("big", 1000),
+    bytes.fromhex("d4c3b2a1"): ("little", 1000),
+    bytes.fromhex("a1b23c4d"): ("big", 1),
+    bytes.fromhex("4d3cb2a1"): ("little", 1),
+}
+SECTION_HEADER = bytes.fromhex("0a0d0d0a")
+
+
+def pcap(file: bytes) -> tuple[list[Frame], int]:
+    """The frames, and the offset of what is no whole record."""
+    order, unit = MAGIC_NUMBERS[file[:4]]
+    if len(file) < 24:
+        raise Refused("ShortHeader", 0)
+    if int.from_bytes(file[4:6], order) != 2:
+        raise Refused("Version", 4)
+    link = int.from_bytes(file[20:24], order) % 65536
+    frames, at = [], 24
+    while at + 16 <= len(file):
+        second, fraction, captured, original = (int.from_bytes(file[at + place:at + place + 4], order)
+                                                for place in (0, 4, 8, 12))
+        if captured > original or captured > 262_144:
+            raise Refused("CapturedLength", at)
+        if at + 16 + captured > len(file):
+            break
+        frames.append(Frame(link, second * SECOND + fraction * unit, file[at + 16:at + 16 + captured], original))
+        at += 16 + captured
+    return frames, at
+
+
+class Pcapng:
+    """A pcapng file, and how far it is read."""
+
+    def __init__(self, file: bytes):
+        self.file, self.at, self.order = file, 0, "big"
+        # Each with its link type, its snap length, and its units in a second.
+        self.interfaces: list[tuple[int, int, int | None]] = []
+        self.frames: list[Frame] = []
+
+    def number(self, octets: bytes) -> int:
+        return int.from_bytes(octets, self.order)
+
+    def refuse(self, fault: str):
+        raise Refused(fault, self.at)
+
+    def block(self) -> bytes | None:
+        """The block at the front, where there is a whole one."""
+        front = self.file[self.at:self.at + 12]
+        if len(front) < 12:
+            return None
+        if front[:4] == SECTION_HEADER:
+            orders = {bytes.fromhex("1a2b3c4d"): "big", bytes.fromhex("4d3c2b1a"): "little"}
+            if front[8:] not in orders:
+                self.refuse("ByteOrder")
+            self.order = orders[front[8:]]
+        size = self.number(front[4:8])
+        if size < 12 or size > 16_777_216 or size % 4:
+            self.refuse("BlockLength")
+        whole = self.file[self.at:self.at + size]
+        if len(whole) < size:
+            return None
+        if self.number(whole[-4:]) != size:
+            self.refuse("BlockLength")
+        return whole
+
+    def section(self, block: bytes) -> None:
+        if len(block) < 28:
+            self.refuse("BlockLength")
+        if self.number(block[12:14]) != 1:
+            self.refuse("SectionVersion")
+        self.interfaces = []
+
+    def option(self, options: bytes, code: int) -> bytes | None:
+        """The value of the first option of this code."""
+        while len(options) >= 4:
+            found, size = self.number(options[:2]), self.number(options[2:4])
+            behind = 4 + size + -size % 4
+            if found == 0 or behind > len(options):
+                return None
+            if found == code:
+                return options[4:4 + size]
+            options = options[behind:]
+        return None
+
+    def units(self, options: bytes) -> int | None:
+        """The units in a second, where moments are told."""
+        resolution = self.option(options, 9)
+        if self.option(options, 14) is not None:
+            return None
+        if resolution is None:
+            return 1_000_000
+        if len(resolution) != 1:
+            return None
+        octet = resolution[0]
+        units = 2 ** (octet - 128) if octet >= 128 else 10 ** octet
+        return units if units < 2 ** 64 else None
+
+    def interface(self, block: bytes) -> None:
+        if len(block) < 20:
+            self.refuse("BlockLength")
+        self.interfaces.append((self.number(block[8:10]), self.number(block[12:16]), self.units(block[16:-4])))
+
+    def enhanced(self, block: bytes) -> None:
+        if len(block) < 32:
+            self.refuse("BlockLength")
+        index, upper, lower, captured, original = (self.number(block[at:at + 4]) for at in range(8, 28, 4))
+        if index >= len(self.interfaces):
+            self.refuse("NoInterface")
+        if captured > original or 32 + captured > len(block):
+            self.refuse("CapturedLength")
+        link, _, units = self.interfaces[index]
+        seen = (upper * 2 ** 32 + lower) * SECOND // units if units else 2 ** 64
+        self.frames.append(Frame(link, seen if seen < 2 ** 64 else None, block[28:28 + captured], original))
+
+    def simple(self, block: bytes) -> None:
+        if len(block) < 16:
+            self.refuse("BlockLength")
+        if not self.interfaces:
+            self.refuse("NoInterface")
+        link, snap, _ = self.interfaces[0]
+        original = self.number(block[8:12])
+        captured = min(original, snap) if snap else original
+        if 16 + captured > len(block):
+            self.refuse("CapturedLength")
+        self.frames.append(Frame(link, None, block[12:12 + captured], original))
+
+    def read(self) -> tuple[list[Frame], int]:
+        """The frames, and the offset of what is no whole block."""
+        readers = {1: self.interface, 3: self.simple, 6: self.enhanced, number(SECTION_HEADER): self.section}
+        while (block := self.block()) is not None:
+            reader = readers.get(self.number(block[:4]))
+            if reader:
+                reader(block)
+            self.at += len(block)
+        return self.frames, self.at
+
+
+# ---- what frames carry
+
+# How long the header of a link is, and where its EtherType stands.
+LINKS = {1: (14, 12), 113: (16, 14), 276: (20, 0)}
+TAGS = (0x8100, 0x88A8, 0x9100)
+
+
+def carried(frame: Frame) -> bytes:
+    """What a frame carries as IPv4."""
+    if frame.link in (101, 228):
+        return frame.octets
+    if frame.link not in LINKS:
+        raise Odd("OtherLink")
+    size, at = LINKS[frame.link]
+    if len(frame.octets) < size:
+        raise Odd("Truncated")
+    kind, octets = number(frame.octets[at:at + 2]), frame.octets[size:]
+    while kind in TAGS:
+        if len(octets) < 4:
+            raise Odd("Truncated")
+        kind, octets = number(octets[2:4]), octets[4:]
+    if kind != 0x0800:
+        raise Odd("NotIpv4")
+    return octets
+
+
+@dataclasses.dataclass
+class Datagram:
+    """A datagram with an OSPF packet, or a fragment of one."""
+
+    name: bytes
+    before: int
+    more: bool
+    whole: bool
+    payload: bytes
+
+
+def datagram_of(frame: Frame) -> Datagram:
+    octets = carried(frame)
+    if len(octets) < 20:
+        raise Odd("Truncated")
+    if octets[0] >> 4 != 4:
+        raise Odd("NotIpv4")
+    if octets[9] != 89:
+        raise Odd("NotOspf")
+    header, total = octets[0] % 16 * 4, number(octets[2:4])
+    if header < 20 or total < header or (total > len(octets) and not frame.is_cut()):
+        raise Odd("BadLength")
+    if len(octets) < header:
+        raise Odd("Truncated")
+    flags = number(octets[6:8])
+    return Datagram(octets[12:20] + octets[4:6], flags % 8192 * 8, bool(flags & 0x2000), total <= len(octets),
+                    octets[header:total])
+
+
+def datagrams_of(frames: list[Frame]) -> list[Datagram]:
+    """Those that can be read."""
+    found = []
+    for frame in frames:
+        try:
+            found.append(datagram_of(frame))
+        except Odd:
+            pass
+    return found
+
+
+def payload_of(first: Datagram, behind: list[Frame]) -> bytes:
+    """The payload of a datagram, put together of its fragments."""
+    payload = first.payload
+    for datagram in datagrams_of(behind):
+        if datagram.name == first.name and datagram.before == len(payload) and datagram.whole:
+            payload += datagram.payload
+            if not datagram.more:
+                return payload
+    raise Odd("MissingFragment")
+
+
+# ---- what packets tell
+
+
+def word_sum(octets: bytes) -> int:
+    octets += b"\0" * (len(octets) % 2)
+    return sum(number(octets[at:at + 2]) for at in range(0, len(octets), 2))
+
+
+class Capture:
+    """What the frames of a capture tell."""
+
+    def __init__(self, frames: list[Frame]):
+        self.frames, self.told = frames, Told("capture")
+        self.odd: collections.Counter[str] = collections.Counter()
+
+    def read(self) -> Told:
+        for place in range(len(self.frames)):
+            try:
+                self.frame(place)
+            except Odd as odd:
+                self.odd[str(odd)] += 1
+        self.told.holes = [f"{odd} {count}" for odd, count in self.odd.items() if odd not in ("NotIpv4", "NotOspf")]
+        return self.told
+
+    def frame(self, place: int) -> None:
+        frame = self.frames[place]
+        datagram = datagram_of(frame)
+        if datagram.before:
+            fronts = datagrams_of(self.frames[max(place - MOST_APART, 0):place])
+            if not any(front.name == datagram.name and front.more and front.before + len(front.payload) == datagram.before
+                       for front in fronts):
+                raise Odd("MissingFragment")
+        elif datagram.more and datagram.whole:
+            self.packet(payload_of(datagram, self.frames[place + 1:place + 1 + MOST_APART]), True, frame.seen)
+        else:
+            self.packet(datagram.payload, datagram.whole, frame.seen)
+
+    def packet(self, payload: bytes, whole: bool, seen: int | None) -> None:
+        if len(payload) < 24:
+            raise Odd("BadLength" if whole else "Truncated")
+        if payload[0] != 2:
+            raise Odd("OtherVersion")
+        length = number(payload[2:4])
+        if length < 24 or (whole and length > len(payload)):
+            raise Odd("BadLength")
+        whole, octets = length <= len(payload), payload[:length]
+        if whole and number(octets[14:16]) < 2 and (word_sum(octets[:16]) + word_sum(octets[24:])) % 65535:
+            raise Odd("BadChecksum")
+        lack = "BadLength" if whole else "Truncated"
+        if octets[1] == 1:
+            self.hello(octets, lack)
+        elif octets[1] == 4:
+            self.update(octets, lack, seen)
+        elif octets[1] not in (2, 3, 5):
+            raise Odd("OtherType")
+
+    def hello(self, octets: bytes, lack: str) -> None:
+        if len(octets) < 44:
+            raise Odd(lack)
+        kind = "ordinary" if octets[30] & 2 else "nssa" if octets[30] & 8 else "stub"
+        self.told.kinds.append((number(octets[8:12]), kind))
+
+    def update(self, octets: bytes, lack: str, seen: int | None) -> None:
+        if len(octets) < 28:
+            raise Odd(lack)
+        rest = octets[28:]
+        for _ in range(number(octets[24:28])):
+            length = number(rest[18:20])
+            if len(rest) < 20 or (length >= 20 and length > len(rest)):
+                raise Odd(lack)
+            if length < 20:
+                raise Odd("BadLength")
+            fault = fault_of_lsa(rest[:length])
+            if fault:
+                self.odd[f"RefusedLsa {fault}"] += 1
+            else:
+                self.told.sightings.append(Sighting(scope(rest[3], number(octets[8:12])), seen, rest[:length]))
+            rest = rest[length:]
+
+
+def told_by_capture(file: bytes) -> Told:
+    frames, end = Pcapng(file).read() if file[:4] == SECTION_HEADER else pcap(file)
+    told = Capture(frames).read()
+    if end != len(file):
+        told.holes.append(f"Cut at {end}")
+    return told
+
+
+# ---- walks
+
+BLANKS = b" \t\n\r"
+OSPF = [1, 3, 6, 1, 2, 1, 14]
+# The table of each name of the OSPF-MIB, the column of its octets, and its columns.
+COLUMNS = ["AreaId", "Type", "Lsid", "RouterId", "Sequence", "Age", "Checksum", "Advertisement"]
+TABLES = {4: ("ospfLsdb", 1), 12: ("ospfExtLsdb", 0), 19: ("ospfAsLsdb", 0)}
+NAMES = {"ospfImportAsExtern": (2, 3)} | {
+    table + column: (index, before + place)
+    for index, (table, before) in TABLES.items() for place, column in enumerate(COLUMNS)
+}
+TYPES = {"routerLink": 1, "networkLink": 2, "summaryLink": 3, "asSummaryLink": 4, "asExternalLink": 5,
+         "multicastLink": 6, "nssaExternalLink": 7, "localOpaqueLink": 9, "areaOpaqueLink": 10, "asOpaqueLink": 11}
+KINDS = {b"1": "ordinary", b"importExternal(1)": "ordinary", b"2": "stub", b"importNoExternal(2)": "stub",
+         b"3": "nssa", b"importNssa(3)": "nssa"}
+
+
+class Unreadable(Exception):
+    """A name, or the index in it, can not be read."""
+
+
+def objects(text: bytes) -> list[tuple[bytes, bytes]]:
+    """The name and the value of each object."""
+    found: list[tuple[bytes, list[bytes]]] = []
+    for line in text.split(b"\n"):
+        begin = re.match(rb"([^ \t\n\r]*) = ", line)
+        if begin:
+            found.append((begin[1], [line[begin.end():]]))
+        elif found:
+            found[-1][1].append(line)
+    return [(name, b"\n".join(lines)) for name, lines in found]
+
+
+def arc(word: str) -> int:
+    if re.fullmatch("[0-9]+", word) and int(word) < 2 ** 32:
+        return int(word)
+    if word not in TYPES:
+        raise Unreadable
+    return TYPES[word]
+
+
+def arcs_of(name: str) -> list[int] | None:
+    """A name as numbers, and none where it is of something else."""
+    head, dot, rest = name.partition(".")
+    heads = {"": [], "iso": [1], "SNMPv2-SMI::mib-2": OSPF[:6]}
+    if not dot or not (head in heads or head.startswith("OSPF-MIB::")):
+        return None
+    if head.startswith("OSPF-MIB::"):
+        table, column = NAMES.get(head.removeprefix("OSPF-MIB::"), (0, 0))
+        heads[head] = OSPF + [table, 1, column]
+    arcs = heads[head] + [arc(word) for word in rest.split(".")]
+    return arcs[7:] if arcs[:7] == OSPF else None
+
+
+def octets_of(arcs: list[int], count: int) -> bytes:
+    if len(arcs) != count or max(arcs) > 255:
+        raise Unreadable
+    return bytes(arcs)
+
+
+def hexadecimal(text: bytes) -> bytes | None:
+    digits = bytes(octet for octet in text if octet not in BLANKS)
+    return bytes.fromhex(digits.decode()) if re.fullmatch(rb"([0-9A-Fa-f]{2})*", digits) else None
+
+
+def octets_in(value: bytes) -> bytes | None:
+    """The octets of a value: in hexadecimal, or between quotes."""
+    if value.startswith(b"Hex-STRING:"):
+        return hexadecimal(value.removeprefix(b"Hex-STRING:"))
+    quoted = re.fullmatch(rb'"((?:[^"\\]|\\.)*)"[ \t\n\r]*', value.removeprefix(b"STRING: "), re.DOTALL)
+    return re.sub(rb"\\(.)", rb"\1", quoted[1], flags=re.DOTALL) if quoted else None
+
+
+class Walk:
+    """What the objects of a walk tell."""
+
+    def __init__(self, text: bytes):
+        self.text, self.told, self.is_of_mib = text, Told("walk"), False
+        # The rows of which other columns are there, and those of which the octets are.
+        self.columns: set[tuple[bytes, bytes]] = set()
+        self.rows: set[tuple[bytes, bytes]] = set()
+
+    def read(self) -> Told:
+        for name, value in objects(self.text):
+            try:
+                self.object(name, value)
+            except Unreadable:
+                self.told.holes.append("Name")
+        if not self.is_of_mib:
+            raise Refused("UnknownKind", 0)
+        for row in self.columns - self.rows:
+            self.row_hole(row, "Missing")
+        return self.told
+
+    def row_hole(self, row: tuple[bytes, bytes], fault: str) -> None:
+        area, key = row
+        where = f"area {address(area)} " if area else ""
+        self.told.holes.append(f"{fault} {where}type {key[0]} id {address(key[1:5])} adv {address(key[5:])}")
+
+    def object(self, name: bytes, value: bytes) -> None:
+        arcs = arcs_of(name.decode("latin-1"))
+        if arcs is None:
+            return
+        table, entry, column = (arcs + [0, 0, 0])[:3] if len(arcs) >= 3 else (0, 0, 0)
+        index = arcs[3:]
+        is_last = value.startswith(b"No more variables left in this MIB View")
+        if entry == 1 and (table, column) == (2, 3):
+            area = number(octets_of(index, 4))
+            if not is_last:
+                self.kind(area, value)
+        elif entry == 1 and table in TABLES:
+            in_area = table == 4
+            octets = octets_of(index, 13 if in_area else 9)
+            row = (octets[:4], octets[4:]) if in_area else (b"", octets)
+            if not is_last:
+                self.column(row, column == 7 + TABLES[table][1], value)
+        self.is_of_mib = True
+
+    def kind(self, area: int, value: bytes) -> None:
+        word = re.match(rb"INTEGER: ([^ \t\n\r]*)", value)
+        if word and word[1] in KINDS:
+            self.told.kinds.append((area, KINDS[word[1]]))
+        else:
+            self.told.holes.append(f"Kind area {address(area)}")
+
+    def column(self, row: tuple[bytes, bytes], is_octets: bool, value: bytes) -> None:
+        if not is_octets:
+            self.columns.add(row)
+            return
+        self.rows.add(row)
+        area, key = row
+        lsa = octets_in(value)
+        if lsa is None:
+            self.row_hole(row, "NotOctets")
+        elif fault := fault_of_lsa(lsa):
+            self.row_hole(row, f"RefusedLsa {fault}")
+        elif number(lsa[18:20]) != len(lsa):
+            self.row_hole(row, "Longer")
+        elif lsa[3:12] != key:
+            self.row_hole(row, "OtherKey")
+        elif not area and lsa[3] not in (5, 11):
+            self.row_hole(row, "NoArea")
+        else:
+            self.told.sightings.append(Sighting(scope(lsa[3], number(area)), None, lsa))
+
+
+# ---- files, and the dump that they make
+
+
+def told_by(file: bytes) -> Told:
+    """What a file tells. Raises `Refused`."""
+    is_capture = file[:4] == SECTION_HEADER or file[:4] in MAGIC_NUMBERS
+    told = told_by_capture(file) if is_capture else Walk(file).read()
+    told.holes += [f"Nssa area {address(area)}" for area in {area for area, kind in told.kinds if kind == "nssa"}]
+    return told
+
+
+def seconds(lsa: bytes) -> int:
+    """The LS age without the bit DoNotAge."""
+    return number(lsa[:2]) & 0x7FFF
+
+
+def is_at_max_age(lsa: bytes) -> bool:
+    return seconds(lsa) >= 3600
+
+
+def instance(lsa: bytes) -> tuple:
+    """The greater, the newer."""
+    sequence = int.from_bytes(lsa[12:16], "big", signed=True)
+    return sequence, lsa[16:18], is_at_max_age(lsa), -seconds(lsa), lsa
+
+
+def began_after(copy: Sighting, moment: int | None) -> bool:
+    return moment is not None and copy.seen is not None and copy.seen - number(copy.lsa[:2]) * SECOND > moment
+
+
+def flushes(flush: Sighting, copy: Sighting) -> bool:
+    return (is_at_max_age(flush.lsa) and instance(copy.lsa) <= instance(flush.lsa)
+            and not began_after(copy, flush.seen))
+
+
+def newest(sightings: list[Sighting]) -> list[Sighting]:
+    """The newest of each LSA that stands, in order."""
+    places = collections.defaultdict(list)
+    for sighting in sightings:
+        places[sighting.place()].append(sighting)
+    found = []
+    for place in sorted(places):
+        standing = [copy for copy in places[place] if not any(flushes(flush, copy) for flush in places[place])]
+        if standing:
+            found.append(max(standing, key=lambda copy: instance(copy.lsa)))
+    return found
+
+
+def dump_of(files: list[Told]) -> bytes:
+    """The dump that files make. Raises `Refused`."""
+    standing = newest([sighting for file in files for sighting in file.sightings])
+    kinds = [kind for file in files for kind in file.kinds]
+    areas = sorted({area for area, _ in kinds} | {sighting.area for sighting in standing} - {None})
+    lsas = {area: [sighting.lsa for sighting in standing if sighting.area == area] for area in [*areas, None]}
+    if len(areas) > 64:
+        raise Refused("TooManyAreas")
+    if any(len(lsas[area]) > 8192 for area in areas) or len(lsas[None]) > 65535:
+        raise Refused("TooManyLsas")
+    dump = b"OSWP\1" + bytes([len(areas)])
+    for area in areas:
+        is_stub = area != 0 and (area, "stub") in kinds
+        dump += area.to_bytes(4, "big") + bytes([is_stub]) + len(lsas[area]).to_bytes(2, "big") + b"".join(lsas[area])
+    dump += len(lsas[None]).to_bytes(2, "big") + b"".join(lsas[None])
+    if len(dump) > LONGEST_DUMP:
+        raise Refused("TooLong")
+    return dump
