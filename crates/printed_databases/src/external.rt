@@ -9,17 +9,17 @@ use lsa_codec::mask_of_len;
 
 /// What an AS-external-LSA has behind its header.
 #[derive(Clone, Copy)]
-pub(crate) struct External {
+pub struct External {
     /// The length of the network mask, at most 32.
-    pub(crate) len: u8,
+    pub len: u8,
     /// Whether the metric is of type 2: the bit E.
-    pub(crate) is_type2: bool,
+    pub is_type2: bool,
     /// The metric for TOS 0, of 24 bits.
-    pub(crate) metric: u32,
+    pub metric: u32,
     /// The forwarding address, or 0.
-    pub(crate) forward: u32,
+    pub forward: u32,
     /// The external route tag.
-    pub(crate) tag: u32,
+    pub tag: u32,
 }
 
 /// Whether the metric is of type 2, and what stands behind its type.
@@ -58,7 +58,7 @@ pub(crate) fn external_in(text: &[u8]) -> Option<External>
 }
 
 /// Their octets: the mask, the bit E and the metric, the forwarding address and the tag.
-pub(crate) fn external_octets(external: External) -> [u8; 16]
+pub fn external_octets(external: External) -> [u8; 16]
     requires { external.len ≤ 32 }
     ensures { result ≡ external_octets external }
 {

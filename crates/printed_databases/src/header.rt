@@ -14,54 +14,54 @@ use lsa_codec::{Addr, RouterId};
 
 /// What is printed first.
 #[derive(Clone, Copy)]
-pub(crate) struct Front {
+pub struct Front {
     /// LS age, in seconds.
-    pub(crate) age: u16,
+    pub age: u16,
     /// Options.
-    pub(crate) options: u8,
+    pub options: u8,
 }
 
 /// What names the LSA among those of its Advertising Router.
 #[derive(Clone, Copy)]
-pub(crate) struct Name {
+pub struct Name {
     /// LS type.
-    pub(crate) ls_type: LsType,
+    pub ls_type: LsType,
     /// Link State ID.
-    pub(crate) id: Addr,
+    pub id: Addr,
 }
 
 /// Who issued the LSA, and which instance it is.
 #[derive(Clone, Copy)]
-pub(crate) struct Issue {
+pub struct Issue {
     /// Advertising Router.
-    pub(crate) adv: RouterId,
+    pub adv: RouterId,
     /// LS sequence number.
-    pub(crate) sequence: u32,
+    pub sequence: u32,
 }
 
 /// What the LSA is tested by.
 #[derive(Clone, Copy)]
-pub(crate) struct Seal {
+pub struct Seal {
     /// LS checksum.
-    pub(crate) checksum: u16,
+    pub checksum: u16,
     /// Length, in octets.
-    pub(crate) size: u16,
+    pub size: u16,
 }
 
 /// What is printed of each LSA before its body.
 #[derive(Clone, Copy)]
-pub(crate) struct Header {
+pub struct Header {
     /// LS age and options.
-    pub(crate) front: Front,
+    pub front: Front,
     /// The octet of the bits V, E and B, which is printed of router-LSAs alone, among the fields of
     /// the header.
-    pub(crate) flags: Option<u8>,
+    pub flags: Option<u8>,
     /// LS type and Link State ID.
-    pub(crate) name: Name,
+    pub name: Name,
     /// Advertising Router and LS sequence number.
-    pub(crate) issue: Issue,
+    pub issue: Issue,
     /// LS checksum and length.
-    pub(crate) seal: Seal,
+    pub seal: Seal,
 }
 
 /// The LS types, in rising order.
@@ -194,7 +194,7 @@ pub(crate) fn header_in(text: &[u8]) -> Option<(Header, &[u8])>
 }
 
 /// The octets of a header, its checksum and its length as they were printed.
-pub(crate) fn header_octets(header: Header) -> [u8; 20]
+pub fn header_octets(header: Header) -> [u8; 20]
     ensures { result ≡ header_octets header }
 {
     let [a0, a1] = header.front.age.to_be_bytes();

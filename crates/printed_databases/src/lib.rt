@@ -14,6 +14,7 @@ mod text;
 // The fields of LSAs, and their octets.
 mod body;
 mod external;
+pub mod fields;
 mod header;
 mod ls_type;
 mod network;
@@ -27,7 +28,10 @@ mod told;
 
 pub use hole::Hole;
 pub use kind::{AreaKind, AreaTold};
-pub use printed::{Printed, is_printed, read_printed};
+pub use number::{address_of, hex_up_to, number_up_to};
+pub use printed::{Printed, is_printed, read_printed, sorted};
+pub use text::next_word;
+pub use told::{Told, made_told};
 
 #[cfg(test)]
 mod tests;

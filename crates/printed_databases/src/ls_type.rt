@@ -9,7 +9,7 @@ use lsa_codec::{ASBR_SUMMARY_LSA, EXTERNAL_LSA, NETWORK_LSA, ROUTER_LSA, SUMMARY
 
 /// An LS type that is read.
 #[derive(Clone, Copy)]
-pub(crate) enum LsType {
+pub enum LsType {
     /// Type 1: router-LSAs.
     Router,
     /// Type 2: network-LSAs.

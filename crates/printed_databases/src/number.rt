@@ -25,7 +25,7 @@ fn digits_up_to(max: u32, digits: &[u8]) -> Option<u32>
 
 /// The number that a word spells in decimal, without a leading zero, where it is at most `max`.
 #[tactic(auto, using(crate::proofs::Digits::number_plain, crate::proofs::Digits::number_empty, crate::proofs::Digits::number_zero, crate::proofs::Digits::within_bound))]
-pub(crate) fn number_up_to(max: u32, word: &[u8]) -> Option<u32>
+pub fn number_up_to(max: u32, word: &[u8]) -> Option<u32>
     ensures value { result ≡ number_up_to max word.now }
     ensures bound { IfSome result (λ n. n ≤ max) }
 {
@@ -72,7 +72,7 @@ fn hex_digits(max: u32, digits: &[u8]) -> Option<u32>
 
 /// The number that a word spells in hexadecimal, where it is at most `max`.
 #[tactic(auto, unfolding(crate::specs::Numbers::hex_up_to))]
-pub(crate) fn hex_up_to(max: u32, word: &[u8]) -> Option<u32>
+pub fn hex_up_to(max: u32, word: &[u8]) -> Option<u32>
     ensures value { result ≡ hex_up_to max word.now }
     ensures bound { IfSome result (λ n. n ≤ max) }
 {
@@ -139,7 +139,7 @@ fn octet(word: &[u8]) -> Option<u8>
 
 /// The address that a word spells in dotted decimal.
 #[tactic(auto, unfolding(crate::specs::Numbers::address_of_parts))]
-pub(crate) fn address_of(word: &[u8]) -> Option<u32>
+pub fn address_of(word: &[u8]) -> Option<u32>
     ensures { result ≡ address_of word.now }
 {
     let (first, second, third, fourth) = four_parts(word)?;

@@ -83,6 +83,26 @@ fn sightings_of<A: Allocator + Copy>(
         .collect(alloc)
 }
 
+/// What is told, sorted out. The only error is want of memory.
+pub fn sorted<A: Allocator + Copy>(
+    alloc: A,
+    told: Vec<Told<A>, A>,
+) -> Result<Printed<A>, AllocError>
+    ensures sightings { IfOk result (λ printed. printed.sightings.items
+        ≡ filter_map sighting_of told.items) }
+    ensures kinds { IfOk result (λ printed. printed.kinds.items ≡ filter_map kind_of told.items) }
+    ensures holes { IfOk result (λ printed. printed.holes.items ≡ filter_map hole_of told.items) }
+{
+    let kinds = kinds_of(alloc, &told)?;
+    let holes = holes_of(alloc, &told)?;
+    let sightings = sightings_of(alloc, told)?;
+    Ok(Printed {
+        sightings,
+        kinds,
+        holes,
+    })
+}
+
 /// Reads what a router prints (FRR) for `show ip ospf database` with `router`, `network`,
 /// `summary`, `asbr-summary` or `external`. Several such texts may stand behind one another.
 /// Blanks and line feeds have no part in it but to stand between words. The only error is want of
@@ -96,14 +116,7 @@ pub fn read_printed<A: Allocator + Copy>(alloc: A, text: &[u8]) -> Result<Printe
         ≡ filter_map (hole_of {A = A}) (told_in None (words text.now))) }
 {
     let told = tellings(alloc, text)?;
-    let kinds = kinds_of(alloc, &told)?;
-    let holes = holes_of(alloc, &told)?;
-    let sightings = sightings_of(alloc, told)?;
-    Ok(Printed {
-        sightings,
-        kinds,
-        holes,
-    })
+    sorted(alloc, told)
 }
 
 /// Whether a router names itself here as it prints its databases, or an LSA begins.

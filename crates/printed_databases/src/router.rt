@@ -11,7 +11,7 @@ use std::alloc::{AllocError, Allocator};
 
 /// The type of a link.
 #[derive(Clone, Copy)]
-pub(crate) enum LinkType {
+pub enum LinkType {
     /// Type 1: to another router, over a point-to-point link.
     PointToPoint,
     /// Type 2: to a transit network.
@@ -24,15 +24,15 @@ pub(crate) enum LinkType {
 
 /// A link without metrics for other TOS.
 #[derive(Clone, Copy)]
-pub(crate) struct Link {
+pub struct Link {
     /// What it leads to.
-    pub(crate) link_type: LinkType,
+    pub link_type: LinkType,
     /// Link ID.
-    pub(crate) id: u32,
+    pub id: u32,
     /// Link Data.
-    pub(crate) link_data: u32,
+    pub link_data: u32,
     /// The metric for TOS 0.
-    pub(crate) metric: u16,
+    pub metric: u16,
 }
 
 /// The types of links, in rising order.
@@ -123,7 +123,7 @@ fn link_in(text: &[u8]) -> Option<(Link, &[u8])>
 }
 
 /// The octets of a link.
-fn link_octets(link: Link) -> [u8; 12]
+pub fn link_octets(link: Link) -> [u8; 12]
     ensures { result ≡ link_octets link }
 {
     let [i0, i1, i2, i3] = link.id.to_be_bytes();

@@ -9,11 +9,11 @@ use lsa_codec::mask_of_len;
 
 /// What a summary-LSA has behind its header.
 #[derive(Clone, Copy)]
-pub(crate) struct Summary {
+pub struct Summary {
     /// The length of the network mask, at most 32.
-    pub(crate) len: u8,
+    pub len: u8,
     /// The metric for TOS 0, of 24 bits.
-    pub(crate) metric: u32,
+    pub metric: u32,
 }
 
 /// The fields behind the header.
@@ -32,7 +32,7 @@ pub(crate) fn summary_in(text: &[u8]) -> Option<Summary>
 }
 
 /// Their octets: the mask and the metric.
-pub(crate) fn summary_octets(summary: Summary) -> [u8; 8]
+pub fn summary_octets(summary: Summary) -> [u8; 8]
     requires { summary.len ≤ 32 }
     ensures { result ≡ summary_octets summary }
 {

@@ -55,7 +55,7 @@ pub(crate) fn cut_at(word: &[u8], stop: u8) -> Option<(&[u8], &[u8])>
 
 /// The first word of a text, and the text behind it.
 #[tactic(auto, unfolding(crate::specs::Words::words))]
-pub(crate) fn next_word(text: &[u8]) -> Option<(&[u8], &[u8])>
+pub fn next_word(text: &[u8]) -> Option<(&[u8], &[u8])>
     ensures { MatchOption result (words text.now ≡ [])
         (λ x. (words text.now ≡ x.0.now ∷ words x.1.now) × (length x.1.now < length text.now)) }
 {

@@ -21,7 +21,7 @@ use std::alloc::{AllocError, Allocator};
 
 /// What a part of a text tells.
 #[derive(Debug, Drop)]
-pub(crate) enum Told<A: Allocator> {
+pub enum Told<A: Allocator> {
     /// The LSA that the printed fields make.
     Lsa(Sighting<A>),
     /// The kind of the area of a heading.
@@ -72,7 +72,7 @@ fn octets_told<A: Allocator + Copy>(
 }
 
 /// What the LSA tells that has this header and, behind it, these octets.
-fn made_told<A: Allocator + Copy>(
+pub fn made_told<A: Allocator + Copy>(
     alloc: A,
     area: Option<AreaId>,
     header: Header,

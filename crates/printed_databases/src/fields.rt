@@ -1,0 +1,8 @@
+//! The fields of LSAs, in whatever form a router prints them, and the octets that they make
+//! (RFC 2328, A.4).
+
+pub use crate::external::{External, external_octets};
+pub use crate::header::{Front, Header, Issue, Name, Seal, header_octets};
+pub use crate::ls_type::LsType;
+pub use crate::router::{Link, LinkType, link_octets};
+pub use crate::summary::{Summary, summary_octets};
