@@ -72,7 +72,7 @@ fn file_words<'a>(alloc: Global) -> Arg<'a>
 {
     Arg::new(alloc, "files")
         .value_name("FILE")
-        .help("Packet captures (pcap, pcapng) and SNMP walks, told apart by their content")
+        .help("Packet captures, SNMP walks and printed databases, told apart by their content")
         .required(true)
         .action(ArgAction::Append)
 }

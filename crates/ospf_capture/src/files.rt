@@ -8,7 +8,7 @@ use crate::fault::{ExitFault, FileEnd, index_of, named};
 use crate::lacks::lack_lines;
 use network_dump::{RunFault, run};
 use network_files::FileTold;
-use network_findings::{file_line, holes_of};
+use network_findings::{contradictions, file_line, holes_of};
 use replaced_files::{ReplaceFault, replace_file};
 use std::fs::{self, File};
 use std::io::{self, Write};
@@ -82,6 +82,17 @@ fn hole_lines<'a>(
     Ok(lines)
 }
 
+/// The lines of the areas whose kinds the files tell in two ways.
+fn area_lines<'a>(rt: &HostRuntime, told: &[FileTold]) -> Result<String, ExitFault<'a>> {
+    let mut lines = String::new(rt.alloc());
+    let areas = contradictions(rt.alloc(), told)?;
+    for area in &areas {
+        let line = format!(in rt.alloc(); "dump: BothKinds area {area}\n")?;
+        lines.push_str(line.as_str())?;
+    }
+    Ok(lines)
+}
+
 /// Writes the dump to its file.
 fn write_dump<'a>(rt: &HostRuntime, path: &'a str, dump: &[u8]) -> Result<(), ExitFault<'a>> {
     replace_file(rt, path, dump).map_err(|fault| match fault {
@@ -105,7 +116,8 @@ pub(crate) fn make_dump<'a>(
     let dump = dump.into_inner();
     let lacks = lack_lines(rt, dump.as_slice())?;
     let gifts = gift_lines(rt, names, &told)?;
-    let holes = hole_lines(rt, names, &told)?;
+    let mut holes = hole_lines(rt, names, &told)?;
+    holes.push_str(area_lines(rt, &told)?.as_str())?;
     io::writer(rt)
         .write_all(gifts.as_bytes())
         .map_err(|_| ExitFault::Output)?;

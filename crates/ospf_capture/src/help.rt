@@ -7,9 +7,12 @@ pub(crate) const ABOUT: &str = "Makes a dump for ospf-plan from files that a net
 pub(crate) const VERSION: &str = "0.9.0, proved with rattle-kit-13f logic dac8208d650f15bf";
 
 /// Where files come from, what is told, and an example.
-pub(crate) const DETAILS: &str = "Files that give the LSAs of a network, octet for octet:
+pub(crate) const DETAILS: &str = "Files that give the LSAs of a network:
   an SNMP walk        snmpbulkwalk -v2c -c COMMUNITY -On -Ox ROUTER 1.3.6.1.2.1.14 > ROUTER.walk
   a packet capture    tcpdump -i INTERFACE -w LINK.pcap proto ospf
+  a printed database  for type in router network summary asbr-summary external; do
+                        vtysh -c \"show ip ospf database $type\"; done > ROUTER.txt
+The first two have the LSAs octet for octet; printed ones are made anew from their fields.
 
 A line of standard output tells what each file gave, and a line of standard error what is
 missing in it or can not be used. Lines that begin with `database:` tell what all files together

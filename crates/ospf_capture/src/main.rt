@@ -1,5 +1,5 @@
 //! `ospf-capture`: a dump of a network's link state databases (RFC 2328), made from files that the
-//! network gives: packet captures and SNMP walks.
+//! network gives: packet captures, SNMP walks, and what its routers print.
 //!
 //! `run` of the crate `network_dump` is the whole run, over readers and a writer; `main` hands it
 //! the files that the command line names, tells what each gave, and writes the dump.
