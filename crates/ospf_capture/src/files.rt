@@ -87,7 +87,7 @@ fn area_lines<'a>(rt: &HostRuntime, told: &[FileTold]) -> Result<String, ExitFau
     let mut lines = String::new(rt.alloc());
     let areas = contradictions(rt.alloc(), told)?;
     for area in &areas {
-        let line = format!(in rt.alloc(); "dump: BothKinds area {area}\n")?;
+        let line = format!(in rt.alloc(); "database: BothKinds area {area}\n")?;
         lines.push_str(line.as_str())?;
     }
     Ok(lines)
