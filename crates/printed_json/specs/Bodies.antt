@@ -1,0 +1,120 @@
+-- What stands behind an LSA's header (RFC 2328, A.4.2 to A.4.5) in the object that FRR prints of it, and its octets.
+use Rattle.std.specs.Prelude.{ℕ, codes, option_map, Bool, true, false, if◌then◌else◌, List, [], ◌∷◌, ◌++◌, Option, Some, None}
+use Rattle.std.specs.Int.{w16, w32, to_be_bytes}
+use Rattle.std.specs.Str.{bytes_eq}
+use Rattle.json.specs.Json.{Json, Members, no_members, member}
+use Rattle.lsa_codec.specs.Prefix.{mask_of_len}
+use Rattle.printed_databases.specs.declared.external.External.{External}
+use Rattle.printed_databases.specs.declared.header.Header.{Header}
+use Rattle.printed_databases.specs.declared.ls_type.LsType.{LsType}
+use Rattle.printed_databases.specs.declared.ls_type.LsType.TheVariants as types
+use Rattle.printed_databases.specs.declared.router.Link.{Link}
+use Rattle.printed_databases.specs.declared.router.LinkType.{LinkType}
+use Rattle.printed_databases.specs.declared.router.LinkType.TheVariants as links
+use Rattle.printed_databases.specs.declared.summary.Summary.{Summary}
+use Rattle.printed_databases.specs.Bodies.{link_octets, summary_octets, external_octets}
+use Rattle.printed_databases.specs.Rules.{◌>>=◌}
+use Rattle.printed_json.specs.Members.{text_at, number_at, address_at, members_at}
+
+-- the octets that each member tells, one behind another, in the order of the text
+unfoldable pub octets_of_each : (Json → Option (List ℕ)) → Members → Option (List ℕ)
+octets_of_each told no_members = Some []
+octets_of_each told (member name json members) = do
+  first ← told json
+  others ← octets_of_each told members
+  Some (first ++ others)
+
+-- ---- router-LSAs (A.4.2)
+
+abbrev pub link_type_named : List ℕ → Option LinkType
+link_type_named name =
+    if bytes_eq name (codes "another Router (point-to-point)") then Some links.PointToPoint else
+    if bytes_eq name (codes "a Transit Network") then Some links.Transit else
+    if bytes_eq name (codes "Stub Network") then Some links.Stub else
+    if bytes_eq name (codes "a Virtual Link") then Some links.Virtual else None
+
+-- the name of the Link ID
+abbrev pub id_name : LinkType → List ℕ
+id_name links.PointToPoint = codes "neighborRouterId"
+id_name links.Transit = codes "designatedRouterAddress"
+id_name links.Stub = codes "networkAddress"
+id_name links.Virtual = codes "neighborRouterId"
+
+-- the name of the Link Data
+abbrev pub data_name : LinkType → List ℕ
+data_name links.PointToPoint = codes "routerInterfaceAddress"
+data_name links.Transit = codes "routerInterfaceAddress"
+data_name links.Stub = codes "networkMask"
+data_name links.Virtual = codes "routerInterfaceAddress"
+
+unfoldable pub link_in : Json → Option Link
+link_in json = do
+  name ← text_at (codes "linkType") json
+  link_type ← link_type_named name
+  id ← address_at (id_name link_type) json
+  link_data ← address_at (data_name link_type) json
+  metric ← number_at 0xffff (codes "tos0Metric") json
+  Some (record { link_type = link_type; id = id; link_data = link_data; metric = metric })
+
+abbrev pub link_octets_in : Json → Option (List ℕ)
+link_octets_in json = option_map link_octets (link_in json)
+
+-- the bits V, E and B, an octet 0, the number of links, and the links
+unfoldable pub router_in : Option ℕ → Json → Option (List ℕ)
+router_in flags json = do
+  bits ← flags
+  count ← number_at 0xffff (codes "numOfLinks") json
+  members ← members_at (codes "routerLinks") json
+  option_map (λ found. (bits ∷ 0 ∷ to_be_bytes w16 count) ++ found) (octets_of_each link_octets_in members)
+
+-- ---- network-LSAs (A.4.3)
+
+abbrev pub attached_octets_in : Json → Option (List ℕ)
+attached_octets_in json = option_map (to_be_bytes w32) (address_at (codes "attachedRouterId") json)
+
+-- the mask, and the attached routers, whose name FRR spells so
+unfoldable pub network_in : Json → Option (List ℕ)
+network_in json = do
+  len ← number_at 32 (codes "networkMask") json
+  members ← members_at (codes "attchedRouters") json
+  option_map (λ found. to_be_bytes w32 (mask_of_len len) ++ found) (octets_of_each attached_octets_in members)
+
+-- ---- summary-LSAs (A.4.4)
+
+-- the length of the mask, and the metric for TOS 0
+unfoldable pub summary_in : Json → Option Summary
+summary_in json = do
+  len ← number_at 32 (codes "networkMask") json
+  metric ← number_at 0xffffff (codes "tos0Metric") json
+  Some (record { len = len; metric = metric })
+
+-- ---- AS-external-LSAs (A.4.5)
+
+abbrev pub is_type2_named : List ℕ → Option Bool
+is_type2_named name =
+    if bytes_eq name (codes "E2 (Larger than any link state path)") then Some true else
+    if bytes_eq name (codes "E1") then Some false else None
+
+-- the length of the mask, the type of the metric, the metric for TOS 0, the forwarding address and the external route tag
+unfoldable pub external_in : Json → Option External
+external_in json = do
+  len ← number_at 32 (codes "networkMask") json
+  name ← text_at (codes "metricType") json
+  is_type2 ← is_type2_named name
+  metric ← number_at 0xffffff (codes "metric") json
+  forward ← address_at (codes "forwardAddress") json
+  tag ← number_at 0xffffffff (codes "externalRouteTag") json
+  Some (record { len = len; is_type2 = is_type2; metric = metric; forward = forward; tag = tag })
+
+-- ---- of any type
+
+abbrev pub body_as : LsType → Option ℕ → Json → Option (List ℕ)
+body_as types.Router flags json = router_in flags json
+body_as types.Network flags json = network_in json
+body_as types.Summary flags json = option_map summary_octets (summary_in json)
+body_as types.AsbrSummary flags json = option_map summary_octets (summary_in json)
+body_as types.External flags json = option_map external_octets (external_in json)
+
+-- the octets behind this header, of the LSA that the object tells
+abbrev pub body_in : Header → Json → Option (List ℕ)
+body_in header json = body_as header.name.ls_type header.flags json

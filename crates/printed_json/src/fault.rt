@@ -1,0 +1,25 @@
+//! Why a text is no database in JSON.
+
+use std::alloc::AllocError;
+
+/// Why a text is not read.
+#[derive(Clone, Copy, Debug, PartialEq, Eq)]
+pub enum JsonFault {
+    /// The allocator refused memory.
+    OutOfMemory,
+    /// The text is not JSON (RFC 8259) in UTF-8, or it nests deeper than 128 levels.
+    NotJson,
+    /// It is JSON, but not an object with one of the databases that are read.
+    NoDatabase,
+}
+
+impl From<AllocError> for JsonFault {
+    ghost use Rattle.printed_json.specs.declared.fault.JsonFault.TheVariants.{OutOfMemory};
+    ghost use Rattle.std.specs.Prelude.{◌≡◌};
+
+    ghost from_gives = { λ _ fault. fault ≡ OutOfMemory };
+
+    fn from(_refused: AllocError) -> JsonFault {
+        JsonFault::OutOfMemory
+    }
+}

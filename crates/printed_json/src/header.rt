@@ -1,0 +1,82 @@
+//! The header of an LSA (RFC 2328, A.4.1) in JSON.
+
+ghost use Rattle.std.specs.Prelude.{◌≡◌};
+ghost use Rattle.json.specs.Value.{value_view};
+ghost use Rattle.printed_json.specs.Header.{front_in, flags_in, issue_in, seal_in, header_in};
+
+use crate::member::{address_at, hex_at, number_at, text_at};
+use crate::options::options_of;
+use json::Value;
+use lsa_codec::{Addr, RouterId};
+use printed_databases::fields::{Front, Header, Issue, LsType, Name, Seal};
+use std::alloc::Allocator;
+
+/// LS age and options.
+#[tactic(auto, unfolding(crate::specs::Header::front_in))]
+fn front_in<A: Allocator>(json: &Value<'_, A>) -> Option<Front>
+    ensures { result ≡ front_in (value_view json.now) }
+{
+    let age = number_at(0xffff, "lsaAge", json)?;
+    let letters = text_at("options", json)?;
+    let options = options_of(letters.as_bytes())?;
+    Some(Front {
+        age: age as u16,
+        options,
+    })
+}
+
+/// The octet of the bits V, E and B, which is printed of router-LSAs alone.
+#[tactic(auto, unfolding(crate::specs::Header::flags_in))]
+fn flags_in<A: Allocator>(json: &Value<'_, A>) -> Option<u8>
+    ensures { result ≡ flags_in (value_view json.now) }
+{
+    let flags = number_at(0xff, "flags", json)?;
+    Some(flags as u8)
+}
+
+/// Advertising Router and LS sequence number.
+#[tactic(auto, unfolding(crate::specs::Header::issue_in))]
+fn issue_in<A: Allocator>(json: &Value<'_, A>) -> Option<Issue>
+    ensures { result ≡ issue_in (value_view json.now) }
+{
+    let adv = address_at("advertisingRouter", json)?;
+    let sequence = hex_at(0xffff_ffff, "lsaSeqNumber", json)?;
+    Some(Issue {
+        adv: RouterId(adv),
+        sequence,
+    })
+}
+
+/// LS checksum and length.
+#[tactic(auto, unfolding(crate::specs::Header::seal_in))]
+fn seal_in<A: Allocator>(json: &Value<'_, A>) -> Option<Seal>
+    ensures { result ≡ seal_in (value_view json.now) }
+{
+    let checksum = hex_at(0xffff, "checksum", json)?;
+    let size = number_at(0xffff, "length", json)?;
+    Some(Seal {
+        checksum: checksum as u16,
+        size: size as u16,
+    })
+}
+
+/// The header of the LSA of this type that the object tells.
+#[tactic(auto, unfolding(crate::specs::Header::header_in))]
+pub(crate) fn header_in<A: Allocator>(ls_type: LsType, json: &Value<'_, A>) -> Option<Header>
+    ensures { result ≡ header_in ls_type (value_view json.now) }
+{
+    let front = front_in(json)?;
+    let id = address_at("linkStateId", json)?;
+    let issue = issue_in(json)?;
+    let seal = seal_in(json)?;
+    Some(Header {
+        front,
+        flags: flags_in(json),
+        name: Name {
+            ls_type,
+            id: Addr(id),
+        },
+        issue,
+        seal,
+    })
+}

@@ -1,0 +1,4 @@
+//! Tests of what documents tell.
+
+mod pieces;
+mod told;
