@@ -13,7 +13,8 @@ returns-in_default g c =
 pub routers-preserved : goal.routers-preserved
 routers-preserved g c =
     sym (each_next attached_octets_in c.routers.octets.items c.extend_from_slice.new.self.items (to_be_bytes w32 c.in-Some.router)
-    c.args.members.now c.routers.member-index c.member-item.result c.routers-test.true c.member-item.is (ap (option_map (to_be_bytes w32)) (sym c.in-Some.ensures))
+    c.args.members.now c.routers.member-index c.member-item.result c.routers-test.true c.member-item.is
+    (ap (option_map (to_be_bytes w32)) (sym c.in-Some.ensures))
     (c.in_ok-extend_from_slice.ensures.items ∙ ap (λ (added : List ℕ). c.routers.octets.items ++ added) c.to_be_bytes.ensures))
     ∙ c.routers.invariant
 
