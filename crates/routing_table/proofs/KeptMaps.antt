@@ -1,6 +1,7 @@
 -- Maps of the trees of all areas after one entry was put into them.
 use Rattle.std.proofs.Common.{◌≡◌, ◌≢◌, Bool, true, false, List, [], Option, Some, None, refl, sym, ap, ◌∙◌, subst, true≢false}
 use Rattle.std.specs.Prelude.{is_some, IsSome, IsSomeAnd, IfSome}
+use Rattle.std.specs.Bool.{OnFalse, OnTrue}
 use Rattle.std.specs.Cmp.{unsigned_ties}
 use Rattle.std.specs.List.{Contains}
 use Rattle.std.specs.Map.{lookup}
@@ -97,3 +98,24 @@ graph_found db areas area kept all is = if_found (λ k. IsGraphOf (lsas_of (Area
 pub vertex_found : (areas : AreasTrees) (area : AreaId) (router : RouterId) (kept : AreaTreesValue) → trees_at areas area ≡ Some kept
     → IsSomeAnd (trees_at areas area) (λ trees. Contains trees.graph.vertices (Router router)) → Contains kept.graph.vertices (Router router)
 vertex_found areas area router kept is h = subst (λ o. IsSomeAnd o (λ trees. Contains trees.graph.vertices (Router router))) is h
+
+-- ---- who is attached, by the graph
+
+module _ (db : Lists) (sound : IsDatabase db) (area : AreaId) (router : RouterId) (kept : AreaTreesValue)
+    (of : IsGraphOf (lsas_of (Area area) db) kept.graph) where
+  abbrev in_graph : Type 0
+  in_graph = Contains kept.graph.vertices (Router router)
+
+  from_graph : in_graph → is_attached db area router ≡ true
+  from_graph h = (attached_vertex db sound area router).1 (subst (λ (vs : List Vertex). Contains vs (Router router)) of.vertices h)
+
+  to_graph : is_attached db area router ≡ true → in_graph
+  to_graph h = subst (λ (vs : List Vertex). Contains vs (Router router)) (sym of.vertices) ((attached_vertex db sound area router).0 h)
+
+  pub vertex_tells : (b : Bool) → OnTrue b in_graph → OnFalse b (in_graph → ⊥) → b ≡ is_attached db area router
+  vertex_tells true here away = sym (from_graph here)
+  vertex_tells false here away = by (is_attached db area router) refl
+    where
+      by : (e : Bool) → is_attached db area router ≡ e → false ≡ e
+      by true e = absurd (away (to_graph e))
+      by false e = refl

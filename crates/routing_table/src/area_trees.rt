@@ -1,6 +1,7 @@
 //! The trees of one area.
 
 ghost use Rattle.std.specs.Prelude.{◌≡◌, true, [], Contains, IfOk, OnOk};
+ghost use Rattle.std.specs.Bool.{OnFalse, OnTrue};
 ghost use Rattle.lsa_codec.specs.declared.address.RouterId.{RouterId as AnyRouter};
 ghost use Rattle.lsdb.specs.declared.section.Section.TheVariants.{Area};
 ghost use Rattle.lsdb.specs.Lists.{lsas_of};
@@ -12,7 +13,7 @@ ghost use Rattle.routing_table.specs.AreaTrees.{has_tree, missing};
 ghost use Rattle.routing_table.specs.Counting.{counted_by, CountsAtMost};
 
 use crate::results::tree_of;
-use area_graph::Graph;
+use area_graph::{Graph, Vertex};
 use area_routes::AreaResult;
 use lsa_codec::{AreaId, RouterId};
 use lsdb::Database;
@@ -84,6 +85,17 @@ impl<A: Allocator + Copy> AreaTrees<A> {
         let hops = Hops::build(alloc, &self.graph, &tree)?;
         self.trees.insert(router, RouterTree { tree, hops })?;
         Ok(())
+    }
+
+    /// Whether a router is in the graph. It takes no memory.
+    pub fn has_router(&self, router: RouterId) -> bool
+        ensures yes { OnTrue result (Contains self.now.graph.vertices (Router router)) }
+        ensures no { OnFalse result (¬ Contains self.now.graph.vertices (Router router)) }
+    {
+        match self.graph.index_of(Vertex::Router(router)) {
+            Some(_) => true,
+            None => false,
+        }
     }
 
     /// What the area gives to a router whose tree is there.

@@ -17,6 +17,7 @@ ghost use Rattle.routing_table.specs.Tables.{results_in};
 
 use crate::area_trees::AreaTrees;
 use crate::results::graph_of;
+use area_graph::{Graph, GraphFault};
 use area_routes::{AreaResult, is_attached};
 use lsa_codec::{AreaId, RouterId};
 use lsdb::Database;
@@ -49,6 +50,58 @@ impl<A: Allocator + Copy> KeptTrees<A> {
         KeptTrees {
             areas: BTreeMap::new(alloc),
         }
+    }
+
+    /// Whether a router is attached to an area, as [`is_attached`] answers it, but without going
+    /// through the LSAs of an area whose graph is there. It takes no memory.
+    pub fn is_attached(&self, database: &Database<A>, area: AreaId, router: RouterId) -> bool
+        requires { AreOfDatabase (lists_of database.now) self.now }
+        ensures { result ≡ is_attached (lists_of database.now) area router }
+    {
+        // For what holds of its areas: an attached router is a vertex of the graph.
+        database.known();
+        match self.areas.get(&area) {
+            Some(trees) => trees.has_router(router),
+            None => is_attached(database, area, router),
+        }
+    }
+
+    /// Makes the graph of an area, unless it is there, or the database lacks the area.
+    fn add_graph_of(
+        &mut self,
+        alloc: A,
+        database: &Database<A>,
+        area: AreaId,
+    ) -> Result<(), AllocError>
+        requires { AreOfDatabase (lists_of database.now) self.old }
+        ensures graphs { AreOfDatabase (lists_of database.now) self.new }
+        ensures trees { (other : AnyArea) (root : AnyRouter)
+            → trees_in self.new other root ≡ trees_in self.old other root }
+    {
+        if self.areas.contains_key(&area) {
+            return Ok(());
+        }
+        let graph = match Graph::build(alloc, database, area) {
+            Ok(graph) => graph,
+            Err(GraphFault::NoArea) => return Ok(()),
+            Err(GraphFault::OutOfMemory) => return Err(AllocError),
+        };
+        self.areas.insert(area, AreaTrees::new(alloc, graph))?;
+        Ok(())
+    }
+
+    /// Makes the graphs of all areas that are not there.
+    pub fn add_graphs(&mut self, alloc: A, database: &Database<A>) -> Result<(), AllocError>
+        requires { AreOfDatabase (lists_of database.now) self.old }
+        ensures graphs { AreOfDatabase (lists_of database.now) self.new }
+        ensures trees { (other : AnyArea) (root : AnyRouter)
+            → trees_in self.new other root ≡ trees_in self.old other root }
+    {
+        for i in 0..database.area_count() {
+            let (area, _is_stub) = database.area(i);
+            self.add_graph_of(alloc, database, area)?;
+        }
+        Ok(())
     }
 
     /// Makes the graph of an area to which a router is attached, unless it is there.
@@ -179,7 +232,7 @@ impl<A: Allocator + Copy> KeptTrees<A> {
         let mut results = Vec::new(alloc);
         for i in 0..database.area_count() {
             let (area, _is_stub) = database.area(i);
-            if is_attached(database, area, router) {
+            if self.is_attached(database, area, router) {
                 self.grow(alloc, database, area, router, meter)?;
                 results.push(self.result_of(alloc, database, area, router)?)?;
             }

@@ -3,11 +3,12 @@
 ghost use Rattle.std.specs.Prelude.{◌≡◌, ◌==◌, IfOk};
 ghost use Rattle.std.specs.List.{list_any};
 ghost use Rattle.lsdb.specs.Places.{lists_of};
+ghost use Rattle.routing_table.specs.AreasTrees.{AreOfDatabase};
 ghost use Rattle.summary_metrics.specs.Originators.{has_another, ids_attached, is_border_of};
 
-use area_routes::is_attached;
 use lsa_codec::{AreaId, RouterId};
 use lsdb::Database;
+use routing_table::KeptTrees;
 use std::alloc::{AllocError, Allocator};
 use std::marker::Model;
 
@@ -32,14 +33,16 @@ impl<A: Allocator + Copy> AttachedAreas<A> {
     pub(crate) fn of(
         alloc: A,
         database: &Database<A>,
+        trees: &KeptTrees<A>,
         router: RouterId,
     ) -> Result<AttachedAreas<A>, AllocError>
+        requires { AreOfDatabase (lists_of database.now) trees.now }
         ensures { IfOk result (λ areas. areas ≡ ids_attached (lists_of database.now) router) }
     {
         let mut areas = Vec::new(alloc);
         for i in 0..database.area_count() {
             let (area, _is_stub) = database.area(i);
-            if is_attached(database, area, router) {
+            if trees.is_attached(database, area, router) {
                 areas.push(area)?;
             }
         }

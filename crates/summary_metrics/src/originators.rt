@@ -63,6 +63,18 @@ impl<A: Allocator + Copy> Originators<A> {
         }
     }
 
+    /// Makes the graphs of all areas before the areas of the first router are looked up: they tell
+    /// who is attached without going through LSAs for each router.
+    fn add_graphs(&mut self, alloc: A, database: &Database<A>) -> Result<(), AllocError>
+        requires { AreOf (lists_of database.now) self.old }
+        ensures { AreOf (lists_of database.now) self.new }
+    {
+        if !self.attached.is_empty() {
+            return Ok(());
+        }
+        self.trees.add_graphs(alloc, database)
+    }
+
     /// Whether a router is attached to an area and to another one. Its areas are looked up once.
     fn borders(
         &mut self,
@@ -79,7 +91,7 @@ impl<A: Allocator + Copy> Originators<A> {
         if let Some(areas) = self.attached.get(&router) {
             return Ok(areas.is_border_of(area));
         }
-        let areas = AttachedAreas::of(alloc, database, router)?;
+        let areas = AttachedAreas::of(alloc, database, &self.trees, router)?;
         let borders = areas.is_border_of(area);
         self.attached.insert(router, areas)?;
         Ok(borders)
@@ -150,6 +162,7 @@ impl<A: Allocator + Copy> Originators<A> {
         if !is_calculated(database, area, lsa) {
             return Ok(None);
         }
+        self.add_graphs(alloc, database)?;
         let router = lsa.key().adv;
         if !self.borders(alloc, database, area, router)? {
             return Ok(None);

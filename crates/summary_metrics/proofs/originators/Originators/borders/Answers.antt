@@ -2,7 +2,7 @@ use Rattle.std.proofs.Common.{◌∙◌, sym, subst}
 use Rattle.lsdb.specs.Places.{lists_of}
 use Rattle.summary_metrics.specs.Originators.{AreOf, OriginatorsValue}
 use Rattle.summary_metrics.proofs.AttachedIds.{borders_by_ids}
-use Rattle.summary_metrics.proofs.KnownOriginators.{attached_found, known_as, more_attached}
+use Rattle.summary_metrics.proofs.KnownOriginators.{attached_found, known_as, more_attached, trees_known}
 use Rattle.summary_metrics.proofs.originators.Originators.borders.Goals as goal
 
 pub returns-in-Some-clause-borders : goal.returns-in-Some-clause-borders
@@ -23,3 +23,8 @@ returns-clause-of g c =
     more_attached (lists_of c.args.database.now) c.args.router _ c.self.inside.attached.entries c.insert.new.self.entries
     c.in_ok-insert.ensures.updates.0 c.self.inside.trees c.self.inside.inside.entries c.self.inside.told
     (subst (λ (known : OriginatorsValue). AreOf (lists_of c.args.database.now) known) (sym c.self.view_is) c.requires) c.in_ok-areas.ensures
+
+pub of-requires : goal.of-requires
+of-requires g c =
+    trees_known (lists_of c.args.database.now) c.args.self.now c.requires c.self.inside.attached.entries c.self.inside.trees c.self.inside.inside.entries
+    c.self.inside.told c.self.view_is
