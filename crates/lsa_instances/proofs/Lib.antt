@@ -5,6 +5,7 @@ pub mod Flushed
 pub mod Steps
 pub mod SameLemmas
 pub mod Reordered
+pub mod Standing
 pub mod SameValuesLemmas
 pub mod Unique
 pub mod Rising

@@ -9,6 +9,7 @@ use Rattle.std.proofs.lemmas.Cmp.{tied_itself}
 use Rattle.std.proofs.lemmas.List.Elements.{All-head, All-map, All-tail, filter_passes}
 use Rattle.std.proofs.lemmas.List.Kept.{AllPairs-cons, AllPairs-filter}
 use Rattle.lsa_codec.specs.Key.{key_of}
+use Rattle.lsa_instances.specs.declared.keeping.FlushedLsas.{FlushedLsas}
 use Rattle.lsa_instances.specs.declared.place.Scope.{Scope}
 use Rattle.lsa_instances.specs.declared.sighting.Sighting.{Sighting}
 use Rattle.lsa_instances.specs.Order.{key_cmp, place_cmp, place_of, scope_cmp}
@@ -47,7 +48,8 @@ module _ {A : Type 0} (scope : Scope) where
       (All-map (KeysRise x.lsa) (λ (y : Sighting A). y.lsa) xs (λ k d l. by_key x (get_or xs k d) (first k d l) here (rest k d l)))
       (rise xs (pairs_tail Before x xs p) rest)
 
-  pub keys_rise : (told newest : List (Sighting A)) → AreNewest told newest → AllPairs KeysRise (lsas_of_scope scope newest)
-  keys_rise told newest n =
+  pub keys_rise : (flushed : FlushedLsas) (told newest : List (Sighting A)) → AreNewest flushed told newest
+      → AllPairs KeysRise (lsas_of_scope scope newest)
+  keys_rise flushed told newest n =
       let of_scope = filter (is_of_scope scope) newest in
       rise of_scope (AllPairs-filter Before (is_of_scope scope) newest n.order) (filter_passes (is_of_scope scope) newest)

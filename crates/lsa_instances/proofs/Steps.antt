@@ -1,21 +1,28 @@
 -- The loop over sorted sightings.
-use Rattle.std.proofs.Common.{◌≡◌, ℕ, ◌<◌, sym, ◌∙◌, ap, subst, List, [], ◌∷◌, ◌++◌, length, get_or, take, true, false, Option, Some, None, arith}
+use Rattle.std.proofs.Common.{◌≡◌, ℕ, ◌-◌, ◌<◌, ◌⊎◌, refl, sym, ◌∙◌, ap, subst, inl, inr, List, [], ◌∷◌, ◌++◌, length, get_or, take}
+use Rattle.std.proofs.Common.{Bool, true, false, ◌&&◌, ◌||◌, Option, Some, None, arith}
+use Rattle.std.specs.Prelude.{Contains, slice_get, if◌then◌else◌}
 use Rattle.std.specs.List.Sorted.{IsSorted}
-use Rattle.std.specs.Ordering.{is_gt, is_lt, ordering_reverse}
+use Rattle.std.specs.Ordering.{is_eq, is_gt, is_lt, ordering_reverse}
 use Rattle.std.specs.declared.cmp.Ordering.{Ordering}
 use Rattle.std.specs.declared.cmp.Ordering.TheVariants.{Less, Equal, Greater}
-use Rattle.std.proofs.lemmas.Bool.{both_ways}
+use Rattle.std.proofs.lemmas.Bool.{and_parts, both_ways, cases_Bool, false_from_ne_true}
 use Rattle.std.proofs.lemmas.List.{get_or-take, get_or_default, length-take}
-use Rattle.std.proofs.lemmas.List.Elements.{Contains-push}
+use Rattle.std.proofs.lemmas.List.Elements.{All-contains, Contains-push}
 use Rattle.std.proofs.lemmas.List.Sorted.{ranks_by, sorted_far}
+use Rattle.std.proofs.lemmas.Option.{slice_get_cases}
 use Rattle.lsa_codec.specs.Key.{is_at_max_age}
 use Rattle.lsa_instances.specs.declared.flush.Flush.{Flush}
+use Rattle.lsa_instances.specs.declared.keeping.FlushedLsas.{FlushedLsas}
+use Rattle.lsa_instances.specs.declared.keeping.FlushedLsas.TheVariants.{Kept, LeftOut}
 use Rattle.lsa_instances.specs.declared.sighting.Sighting.{Sighting}
-use Rattle.lsa_instances.specs.Order.{sighting_cmp}
-use Rattle.lsa_instances.specs.Newest.{AreNewest}
-use Rattle.lsa_instances.specs.Flushing.{is_stopped, is_last, flush_after}
-use Rattle.lsa_instances.proofs.Orders.{sighting_total}
-use Rattle.lsa_instances.proofs.Looking.{Behind, absent, kept, lasted, lasting_is_live, nothing, present, pushed}
+use Rattle.lsa_instances.specs.Order.{place_cmp, place_of, sighting_cmp}
+use Rattle.lsa_instances.specs.Newest.{AreNewest, IsNewest, flushes, is_flushed, is_left_out}
+use Rattle.lsa_instances.specs.Flushing.{flush_so_far, is_flush_of, is_flushed_so_far, is_last, is_last_flush, is_of, is_stopped, newest_after}
+use Rattle.lsa_instances.specs.Flushing.{with_first, with_flushed, without_flush}
+use Rattle.lsa_instances.proofs.Orders.{place_exact, sighting_total}
+use Rattle.lsa_instances.proofs.Looking.{Behind, IsBehind, absent, behind_live, eq_true, equal_places, front_absent, grown, kept, max_age_flushed}
+use Rattle.lsa_instances.proofs.Looking.{no_flush, not_left_out, nothing, only_last, present, pushed, replaced, stands_live}
 use Rattle.lsa_instances.proofs.Flushed.{Keeps, keeps, keeps_more, none_kept}
 
 back : (r s : Ordering) → r ≡ ordering_reverse s → is_lt s ≡ false → is_gt r ≡ false
@@ -23,14 +30,22 @@ back r Less e h = cc
 back r Equal e h = ap is_gt e
 back r Greater e h = ap is_gt e
 
+not_both : (a b : Bool) → (a && b) ≡ false → b ≡ true → a ≡ false
+not_both true b h i = sym i ∙ h
+not_both false b h i = refl
+
+or_none : (a b : Bool) → b ≡ false → (a || b) ≡ a
+or_none true b h = refl
+or_none false b h = h
+
 module _ {A : Type 0} where
   -- of the sightings that were looked at, the newest are known, and the flushes
-  pub record Looked (p : List (Sighting A)) (flush : Option Flush) (newest : List (Sighting A)) : Type 0 where
-    pub answers : AreNewest p newest
+  pub record Looked (flushed : FlushedLsas) (p : List (Sighting A)) (flush : Option Flush) (newest : List (Sighting A)) : Type 0 where
+    pub answers : AreNewest flushed p newest
     pub stops : Keeps p flush
 
-  pub begun : Looked [] None []
-  begun = record { answers = nothing; stops = none_kept }
+  pub begun : (flushed : FlushedLsas) → Looked flushed [] None []
+  begun flushed = record { answers = nothing flushed; stops = none_kept }
 
   pub behind : (all : List (Sighting A)) (i : ℕ) (d : Sighting A) → IsSorted sighting_cmp all → i < length all → Behind (take i all) (get_or all i d)
   behind all i d up l = record {
@@ -45,28 +60,113 @@ module _ {A : Type 0} where
         subst P same (subst Q (get_or_default all i y d l) (back _ _ (sighting_total.antisymm (get_or all k y) (get_or all i y)) far));
   }
 
-  module _ (p : List (Sighting A)) (x : Sighting A) (b : Behind p x) (flush : Option Flush) (newest : List (Sighting A)) (k : Looked p flush newest) where
-    pub flushed : is_at_max_age x.lsa ≡ true → Looked (p ++ x ∷ []) (Some (flush_after flush x)) newest
-    flushed m = record {
-      answers = kept p x b newest k.answers (λ f. absurd (both_ways _ (lasting_is_live (p ++ x ∷ []) x (Contains-push p x) f) m));
-      stops = keeps_more p x flush k.stops b m;
-    }
+  module _ (flushed : FlushedLsas) (p : List (Sighting A)) (x : Sighting A) (b : Behind p x) where
+    -- what is known of the last of the newest, where it is of the LSA of x
+    pub record IsEnd (newest : List (Sighting A)) (z : Sighting A) : Type 0 where
+      pub within : length newest - 1 < length newest
+      pub at : get_or newest (length newest - 1) z ≡ z
+      pub found : slice_get newest (length newest - 1) ≡ Some z
+      pub same : place_of z ≡ place_of x
 
-    pub stopped : is_at_max_age x.lsa ≡ false → is_stopped flush x ≡ true → Looked (p ++ x ∷ []) flush newest
-    stopped m s = record {
-      answers = kept p x b newest k.answers (λ f. absurd (both_ways _ (lasted p x x f) (sym (k.stops.stops x b) ∙ s)));
-      stops = keeps p x flush k.stops m;
-    }
+    last_of : (newest : List (Sighting A)) → is_last newest x ≡ true → (z : Sighting A) × IsEnd newest z
+    last_of newest h =
+        elim (slice_get_cases newest (length newest - 1)).1 as (λ _. (z : Sighting A) × IsEnd newest z) [
+          | inl s ↦ (
+            s.0,
+            record {
+              within = s.1;
+              at = s.3;
+              found = s.2;
+              same = place_exact (place_of s.0) (place_of x) (eq_true _ (ap (λ o. is_of o x) (sym s.2) ∙ h));
+            },
+          )
+          | inr s ↦ absurd (both_ways false refl (ap (λ o. is_of o x) (sym s.1) ∙ h))
+        ]
 
-    pub known : is_at_max_age x.lsa ≡ false → is_last newest x ≡ true → Looked (p ++ x ∷ []) flush newest
-    known m s = record {
-      answers = kept p x b newest k.answers (λ f. present newest x s);
-      stops = keeps p x flush k.stops m;
-    }
+    -- a flush that stands last is of the LSA of x
+    flush_is_last : (newest : List (Sighting A)) → is_last_flush newest x ≡ true → is_last newest x ≡ true
+    flush_is_last newest h =
+        elim (slice_get_cases newest (length newest - 1)).1 as (λ _. is_last newest x ≡ true) [
+          | inl s ↦ ap (λ o. is_of o x) s.2 ∙ (and_parts (is_at_max_age s.0.lsa) _ (ap (λ o. is_flush_of o x) (sym s.2) ∙ h)).1
+          | inr s ↦ absurd (both_ways false refl (ap (λ o. is_flush_of o x) (sym s.1) ∙ h))
+        ]
 
-    pub first : is_at_max_age x.lsa ≡ false → is_stopped flush x ≡ false → is_last newest x ≡ false
-        → Looked (p ++ x ∷ []) flush (newest ++ x ∷ [])
-    first m s n = record {
-      answers = pushed p x b newest k.answers (sym (k.stops.stops x b) ∙ s) m (absent p x b newest k.answers n);
-      stops = keeps p x flush k.stops m;
-    }
+    -- x was flushed, and flushed LSAs are kept
+    with_kept : (newest : List (Sighting A)) → AreNewest flushed p newest → is_left_out flushed (p ++ x ∷ []) x ≡ false
+        → ((z : Sighting A) → Contains newest z → IsBehind flushed p x b z) → AreNewest flushed (p ++ x ∷ []) (with_first newest x)
+    with_kept newest n f h =
+        elim (cases_Bool (is_last newest x)) as (λ _. AreNewest flushed (p ++ x ∷ []) (with_first newest x)) [
+          | inl t ↦ rw t (kept flushed p x b newest n h (λ g. present newest x t))
+          | inr t ↦ rw t (pushed flushed p x b newest n f (absent flushed p x b newest n t))
+        ]
+
+    -- x was not flushed, and no flush of its LSA stands
+    no_flush_stands : (newest : List (Sighting A)) → AreNewest flushed p newest → is_last_flush newest x ≡ false
+        → (z : Sighting A) → Contains newest z → IsBehind flushed p x b z
+    no_flush_stands newest n f z c e =
+        elim (cases_Bool (is_last newest x)) as (λ _. (is_flushed (p ++ x ∷ []) x ≡ true) ⊎ (is_flushed (p ++ x ∷ []) z ≡ false)) [
+          | inl t ↦
+              let w = last_of newest t in
+              let k = w.1 in
+              let same : z ≡ w.0 = only_last flushed p x b newest n w.0 k.within k.at k.same z c (sym e) in
+              let stood : IsNewest flushed p z = All-contains (IsNewest flushed p) newest z n.each c in
+              let eq : is_eq (place_cmp (place_of w.0) (place_of x)) ≡ true = ap is_eq (equal_places (place_of w.0) (place_of x) k.same) in
+              let young : is_at_max_age w.0.lsa ≡ false = not_both _ _ (ap (λ o. is_flush_of o x) (sym k.found) ∙ f) eq in
+              let live = stands_live flushed p z stood (ap (λ (v : Sighting A). is_at_max_age v.lsa) same ∙ young) in
+              behind_live flushed p x b z stood.told_so live e
+          | inr t ↦ absurd (absent flushed p x b newest n t z c (sym e))
+        ]
+
+    -- x was not flushed
+    with_live : (newest : List (Sighting A)) → AreNewest flushed p newest → is_flushed (p ++ x ∷ []) x ≡ false
+        → AreNewest flushed (p ++ x ∷ []) (with_first (without_flush newest x) x)
+    with_live newest n f =
+        elim (cases_Bool (is_last_flush newest x)) as (λ _. AreNewest flushed (p ++ x ∷ []) (with_first (without_flush newest x) x)) [
+          | inl t ↦
+              let w = last_of newest (flush_is_last newest t) in
+              let k = w.1 in
+              let front : List (Sighting A) = take (length newest - 1) newest in
+              let gone : is_last front x ≡ false = false_from_ne_true _
+              (λ s. let a = present front x s in front_absent flushed p x b newest n w.0 k.within k.at k.same a.1 (a.0, a.2, a.3) a.4) in
+              let stood : IsNewest flushed p w.0 =
+              let P : Sighting A → Type 0 = λ v. IsNewest flushed p v in subst P k.at (n.each (length newest - 1) w.0 k.within) in
+              let old = (and_parts (is_at_max_age w.0.lsa) _ (ap (λ o. is_flush_of o x) (sym k.found) ∙ t)).0 in
+              rw (t, gone) (replaced flushed p x b newest n w.0 k.within k.at k.same (max_age_flushed p w.0 stood.told_so old) f)
+          | inr t ↦ rw t (with_kept newest n (not_left_out flushed (p ++ x ∷ []) x f) (no_flush_stands newest n t))
+        ]
+
+    -- x was flushed
+    with_gone : (k : FlushedLsas) → k ≡ flushed → (newest : List (Sighting A)) → AreNewest flushed p newest → is_flushed (p ++ x ∷ []) x ≡ true
+        → AreNewest flushed (p ++ x ∷ []) (with_flushed k newest x)
+    with_gone LeftOut e newest n f =
+        let out : is_left_out flushed (p ++ x ∷ []) x ≡ true = ap (λ k. is_left_out k (p ++ x ∷ []) x) (sym e) ∙ f in
+        kept flushed p x b newest n (λ z c s. inl f) (λ g. absurd (both_ways _ g out))
+    with_gone Kept e newest n f =
+        with_kept newest n (ap (λ k. is_left_out k (p ++ x ∷ []) x) (sym e)) (λ z c s. inl f)
+
+    module _ (flush : Option Flush) (newest : List (Sighting A)) (k : Looked flushed p flush newest) where
+      flushed_so_far : is_flushed (p ++ x ∷ []) x ≡ is_flushed_so_far flush x
+      flushed_so_far =
+          elim (cases_Bool (is_at_max_age x.lsa)) as (λ _. is_flushed (p ++ x ∷ []) x ≡ is_flushed_so_far flush x) [
+            | inl m ↦ max_age_flushed (p ++ x ∷ []) x (Contains-push p x) m ∙ sym (ap (λ v. v || is_stopped flush x) m)
+            | inr m ↦
+                (grown p x x ∙ (or_none (is_flushed p x) (flushes x x) (no_flush x x m) ∙ sym (k.stops.stops x b)))
+                ∙ sym (ap (λ v. v || is_stopped flush x) m)
+          ]
+
+      stops_after : Keeps (p ++ x ∷ []) (flush_so_far flush x)
+      stops_after =
+          elim (cases_Bool (is_at_max_age x.lsa)) as (λ _. Keeps (p ++ x ∷ []) (flush_so_far flush x)) [
+            | inl m ↦ rw m (keeps_more p x flush k.stops b m)
+            | inr m ↦ rw m (keeps p x flush k.stops m)
+          ]
+
+      answers_after : AreNewest flushed (p ++ x ∷ []) (newest_after flushed flush newest x)
+      answers_after =
+          elim (cases_Bool (is_flushed_so_far flush x)) as (λ _. AreNewest flushed (p ++ x ∷ []) (newest_after flushed flush newest x)) [
+            | inl t ↦ rw t (with_gone flushed refl newest k.answers (flushed_so_far ∙ t))
+            | inr t ↦ rw t (with_live newest k.answers (flushed_so_far ∙ t))
+          ]
+
+      pub looked_at : Looked flushed (p ++ x ∷ []) (flush_so_far flush x) (newest_after flushed flush newest x)
+      looked_at = record { answers = answers_after; stops = stops_after }

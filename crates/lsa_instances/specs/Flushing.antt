@@ -1,7 +1,10 @@
 -- What is kept of flushes while the sightings are looked through.
-use Rattle.std.specs.Prelude.{ℕ, ◌-◌, Bool, false, not, ◌&&◌, List, length, slice_get, Option, None, Some, max, if◌then◌else◌}
+use Rattle.std.specs.Prelude.{ℕ, ◌-◌, Bool, false, not, ◌&&◌, ◌||◌, List, [], ◌∷◌, ◌++◌, length, slice_get, take, Option, None, Some, max, if◌then◌else◌}
 use Rattle.std.specs.Ordering.{is_eq}
+use Rattle.lsa_codec.specs.Key.{is_at_max_age}
 use Rattle.lsa_instances.specs.declared.flush.Flush.{Flush}
+use Rattle.lsa_instances.specs.declared.keeping.FlushedLsas.{FlushedLsas}
+use Rattle.lsa_instances.specs.declared.keeping.FlushedLsas.TheVariants.{Kept, LeftOut}
 use Rattle.lsa_instances.specs.declared.sighting.Sighting.{Sighting}
 use Rattle.lsa_instances.specs.Order.{place_cmp, place_of}
 use Rattle.lsa_instances.specs.Newest.{began_after}
@@ -32,3 +35,37 @@ is_of (Some last) x = is_eq (place_cmp (place_of last) (place_of x))
 
 abbrev pub is_last : {A : Type 0} → List (Sighting A) → Sighting A → Bool
 is_last newest x = is_of (slice_get newest (length newest - 1)) x
+
+-- whether this is the flush of the same LSA
+abbrev pub is_flush_of : {A : Type 0} → Option (Sighting A) → Sighting A → Bool
+is_flush_of None x = false
+is_flush_of (Some last) x = is_at_max_age last.lsa && is_eq (place_cmp (place_of last) (place_of x))
+
+abbrev pub is_last_flush : {A : Type 0} → List (Sighting A) → Sighting A → Bool
+is_last_flush newest x = is_flush_of (slice_get newest (length newest - 1)) x
+
+-- the newest so far, without the flush of the LSA of x
+abbrev pub without_flush : {A : Type 0} → List (Sighting A) → Sighting A → List (Sighting A)
+without_flush newest x = if is_last_flush newest x then take (length newest - 1) newest else newest
+
+-- the newest so far, and x where none of them is of its LSA
+abbrev pub with_first : {A : Type 0} → List (Sighting A) → Sighting A → List (Sighting A)
+with_first newest x = if is_last newest x then newest else newest ++ x ∷ []
+
+-- whether x is flushed, by itself or by what was looked at
+abbrev pub is_flushed_so_far : {A : Type 0} → Option Flush → Sighting A → Bool
+is_flushed_so_far flush x = is_at_max_age x.lsa || is_stopped flush x
+
+-- the newest so far and x, which was flushed
+abbrev pub with_flushed : {A : Type 0} → FlushedLsas → List (Sighting A) → Sighting A → List (Sighting A)
+with_flushed LeftOut newest x = newest
+with_flushed Kept newest x = with_first newest x
+
+-- the newest after one sighting more
+abbrev pub newest_after : {A : Type 0} → FlushedLsas → Option Flush → List (Sighting A) → Sighting A → List (Sighting A)
+newest_after flushed flush newest x =
+    if is_flushed_so_far flush x then with_flushed flushed newest x else with_first (without_flush newest x) x
+
+-- the flush that is kept after one sighting more
+abbrev pub flush_so_far : {A : Type 0} → Option Flush → Sighting A → Option Flush
+flush_so_far flush x = if is_at_max_age x.lsa then Some (flush_after flush x) else flush

@@ -1,10 +1,13 @@
--- Which sightings are of flushed LSAs, and which are the newest of the others.
+-- Which sightings are of flushed LSAs, and which are the newest: of the others, or of all.
 use Rattle.std.specs.Prelude.{◌≡◌, ℕ, ◌-◌, ◌*◌, Bool, false, not, ◌&&◌, nat_lt, List, map, All, AllPairs, Contains, Option, None, Some}
 use Rattle.std.specs.List.{Any, filter, list_any}
-use Rattle.std.specs.Ordering.{is_eq, is_gt}
+use Rattle.std.specs.Ordering.{bool_cmp, is_eq, is_gt, ordering_then}
+use Rattle.std.specs.declared.cmp.Ordering.{Ordering}
 use Rattle.std.specs.declared.cmp.Ordering.TheVariants.{Less}
 use Rattle.lsa_codec.specs.Fields.{age_of}
 use Rattle.lsa_codec.specs.Key.{is_at_max_age}
+use Rattle.lsa_instances.specs.declared.keeping.FlushedLsas.{FlushedLsas}
+use Rattle.lsa_instances.specs.declared.keeping.FlushedLsas.TheVariants.{Kept, LeftOut}
 use Rattle.lsa_instances.specs.declared.place.Place.{Place}
 use Rattle.lsa_instances.specs.declared.place.Scope.{Scope}
 use Rattle.lsa_instances.specs.declared.sighting.Sighting.{Sighting}
@@ -34,20 +37,34 @@ flushes f x =
 abbrev pub is_flushed : {A : Type 0} → List (Sighting A) → Sighting A → Bool
 is_flushed told x = list_any (λ f. flushes f x) told
 
--- of the same LSA, not flushed, and not newer
-abbrev pub IsNoNewer : {A : Type 0} → List (Sighting A) → Sighting A → Sighting A → Type 0
-IsNoNewer told x y = place_of y ≡ place_of x → is_flushed told y ≡ false → is_gt (instance_cmp y.lsa x.lsa) ≡ false
+-- whether a sighting can not stand: it was flushed, and flushed LSAs are not kept
+abbrev pub is_left_out : {A : Type 0} → FlushedLsas → List (Sighting A) → Sighting A → Bool
+is_left_out LeftOut told x = is_flushed told x
+is_left_out Kept told x = false
 
--- one of those told, that is not flushed, and than which none of the same LSA is newer
-pub record IsNewest {A : Type 0} (told : List (Sighting A)) (x : Sighting A) : Type 0 where
+-- `Greater` where the first of two sightings of one LSA stands before the second: one that was not flushed before one that
+-- was, so that an LSA stands as it was announced again; else the newer instance
+abbrev pub standing_cmp : {A : Type 0} → List (Sighting A) → Sighting A → Sighting A → Ordering
+standing_cmp told x y = ordering_then (bool_cmp (is_flushed told y) (is_flushed told x)) (instance_cmp x.lsa y.lsa)
+
+-- of the same LSA, not left out, and not before the other
+abbrev pub IsNoNewer : {A : Type 0} → FlushedLsas → List (Sighting A) → Sighting A → Sighting A → Type 0
+IsNoNewer flushed told x y =
+    place_of y ≡ place_of x → is_left_out flushed told y ≡ false → is_gt (standing_cmp told y x) ≡ false
+
+-- one of those told, that is not left out, and before which none of the same LSA stands
+pub record IsNewest {A : Type 0} (flushed : FlushedLsas) (told : List (Sighting A)) (x : Sighting A) : Type 0 where
   pub told_so : Contains told x
-  pub lasting : is_flushed told x ≡ false
-  pub unsurpassed : All (IsNoNewer told x) told
+  pub lasting : is_left_out flushed told x ≡ false
+  pub unsurpassed : All (IsNoNewer flushed told x) told
 
--- the newest of all LSAs that are not flushed, in order of their places, each once
-pub record AreNewest {A : Type 0} (told newest : List (Sighting A)) : Type 0 where
-  pub each : All (IsNewest told) newest
-  pub whole : All (λ y. is_flushed told y ≡ false → Any (λ x. place_of x ≡ place_of y) newest) told
+abbrev pub IsCovered : {A : Type 0} → FlushedLsas → List (Sighting A) → List (Sighting A) → Sighting A → Type 0
+IsCovered flushed told newest y = is_left_out flushed told y ≡ false → Any (λ x. place_of x ≡ place_of y) newest
+
+-- the newest of all LSAs that are not left out, in order of their places, each once
+pub record AreNewest {A : Type 0} (flushed : FlushedLsas) (told newest : List (Sighting A)) : Type 0 where
+  pub each : All (IsNewest flushed told) newest
+  pub whole : All (IsCovered flushed told newest) told
   pub order : AllPairs (λ x y. place_cmp (place_of x) (place_of y) ≡ Less) newest
 
 -- the same sightings, in any order, each any number of times

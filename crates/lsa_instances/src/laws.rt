@@ -1,14 +1,19 @@
 //! What holds of the definitions.
 
-ghost use Rattle.std.specs.Prelude.{◌≡◌, ℕ, AllPairs, List, map, IsPermutation};
+ghost use Rattle.std.specs.Prelude.{◌≡◌, ℕ, All, AllPairs, List, map, IsPermutation, false, true};
+ghost use Rattle.std.specs.List.{Any};
 ghost use Rattle.std.specs.Cmp.{IsTotalOrder};
+ghost use Rattle.std.specs.Ordering.{is_gt};
 ghost use Rattle.std.specs.declared.cmp.Ordering.TheVariants.{Equal, Greater, Less};
-ghost use Rattle.lsa_codec.specs.Key.{key_of};
+ghost use Rattle.lsa_codec.specs.Key.{is_at_max_age, key_of};
+ghost use Rattle.lsa_instances.specs.declared.keeping.FlushedLsas.{FlushedLsas as Flushed};
+ghost use Rattle.lsa_instances.specs.declared.keeping.FlushedLsas.TheVariants.{Kept, LeftOut};
 ghost use Rattle.lsa_instances.specs.declared.place.Scope.{Scope as AnyScope};
 ghost use Rattle.lsa_instances.specs.declared.sighting.Sighting.{Sighting as AnySighting};
 ghost use Rattle.lsa_instances.specs.Instance.{instance_cmp, IsNewerByRule};
-ghost use Rattle.lsa_instances.specs.Newest.{AreNewest, AreSame, lsas_of_scope, place_and_octets};
-ghost use Rattle.lsa_instances.specs.Order.{key_cmp};
+ghost use Rattle.lsa_instances.specs.Newest.{AreNewest, AreSame, IsNewest, is_flushed};
+ghost use Rattle.lsa_instances.specs.Newest.{lsas_of_scope, place_and_octets};
+ghost use Rattle.lsa_instances.specs.Order.{key_cmp, place_of};
 
 use std::alloc::Allocator;
 
@@ -25,19 +30,37 @@ pub fn instance_order()
 /// The newest of sightings are the newest of the same sightings in any other order, as of files
 /// that are read in another order, and also where some are told more often.
 pub fn newest_in_any_order<A: Allocator>()
-    ensures same { (told other newest : List (AnySighting A)) → IsPermutation told other
-        → AreNewest told newest → AreNewest other newest }
-    ensures again { (told other newest : List (AnySighting A)) → AreSame told other
-        → AreNewest told newest → AreNewest other newest }
+    ensures same { (flushed : Flushed) (told other newest : List (AnySighting A))
+        → IsPermutation told other → AreNewest flushed told newest
+        → AreNewest flushed other newest }
+    ensures again { (flushed : Flushed) (told other newest : List (AnySighting A))
+        → AreSame told other → AreNewest flushed told newest → AreNewest flushed other newest }
 
     // Two answers have the same LSAs, octet for octet, in the same order.
-    ensures only { (told a b : List (AnySighting A)) → AreNewest told a → AreNewest told b
+    ensures only { (flushed : Flushed) (told a b : List (AnySighting A))
+        → AreNewest flushed told a → AreNewest flushed told b
         → map place_and_octets a ≡ map place_and_octets b }
 {}
 
 /// Within a scope the keys of the newest rise strictly: so each LSA stands once in its section, and
 /// the order of a section's LSAs depends on their keys alone.
 pub fn keys_rise<A: Allocator>()
-    ensures { (told newest : List (AnySighting A)) (scope : AnyScope) → AreNewest told newest
+    ensures { (flushed : Flushed) (told newest : List (AnySighting A)) (scope : AnyScope)
+        → AreNewest flushed told newest
         → AllPairs (λ a b. key_cmp (key_of a) (key_of b) ≡ Less) (lsas_of_scope scope newest) }
+{}
+
+/// What stands of flushed LSAs. Where they are left out, each that stands was not flushed, and none
+/// of its LSA that was not flushed is newer. Where they are kept, each LSA that is told stands: the
+/// same one where one was not flushed, and else one at MaxAge.
+pub fn flushed_lsas<A: Allocator>()
+    ensures left_out { (told : List (AnySighting A)) (x : AnySighting A) → IsNewest LeftOut told x
+        → (is_flushed told x ≡ false) × All (λ y. place_of y ≡ place_of x
+        → is_flushed told y ≡ false → is_gt (instance_cmp y.lsa x.lsa) ≡ false) told }
+    ensures kept { (told newest : List (AnySighting A)) → AreNewest Kept told newest
+        → All (λ y. Any (λ x. place_of x ≡ place_of y) newest) told }
+    ensures same { (told : List (AnySighting A)) (x : AnySighting A) → IsNewest Kept told x
+        → is_flushed told x ≡ false → IsNewest LeftOut told x }
+    ensures max_age { (told : List (AnySighting A)) (x : AnySighting A) → IsNewest Kept told x
+        → is_flushed told x ≡ true → is_at_max_age x.lsa ≡ true }
 {}

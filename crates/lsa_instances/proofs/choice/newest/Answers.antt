@@ -9,4 +9,4 @@ returns g c =
     let told = c.args.sightings.items in
     let sorted = c.in_ok-sorted.field-0.items in
     let same = same_in_order sorted told (IsPermutation-sym told sorted c.in_ok-sorted.ensures.same) in
-    IfOk-weaker c.newest_of_sorted.result _ _ (λ newest h. reordered sorted told same newest.items h) c.newest_of_sorted.ensures
+    IfOk-weaker c.newest_of_sorted.result _ _ (λ newest h. reordered sorted told same c.args.flushed newest.items h) c.newest_of_sorted.ensures
