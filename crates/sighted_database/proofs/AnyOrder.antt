@@ -7,6 +7,7 @@ use Rattle.std.specs.declared.cmp.Ordering.TheVariants.{Less}
 use Rattle.std.proofs.lemmas.List.{map-id}
 use Rattle.std.proofs.lemmas.List.Elements.{All-contains, All-weaker}
 use Rattle.lsa_codec.specs.declared.address.AreaId.{AreaId}
+use Rattle.lsa_instances.specs.declared.keeping.FlushedLsas.{FlushedLsas}
 use Rattle.lsa_instances.specs.declared.place.Place.{Place}
 use Rattle.lsa_instances.specs.declared.place.Scope.{Scope}
 use Rattle.lsa_instances.specs.declared.place.Scope.TheVariants.{Area, AsWide}
@@ -109,9 +110,10 @@ module _ {A : Type 0} where
   same_section areas others xs ys same e scope =
       λ i. record { area = same_head areas others same scope i; lsas = same_lsas scope xs ys e i }
 
-  pub same_joined : (told other : List (Sighting A)) (areas others : List ToldArea) (one : Joining told areas) (two : Joining other others)
+  pub same_joined : (flushed : FlushedLsas) (told other : List (Sighting A)) (areas others : List ToldArea)
+      → (one : Joining flushed told areas) (two : Joining flushed other others)
       → AreSame areas others → map place_and_octets one.newest ≡ map place_and_octets two.newest → joined one ≡ joined two
-  same_joined told other areas others one two same e =
+  same_joined flushed told other areas others one two same e =
       let scopes : one.scopes ≡ two.scopes =
       same_scopes areas others one.newest two.newest one.scopes two.scopes same e one.are_scopes two.are_scopes in
       λ i. map (λ scope. same_section areas others one.newest two.newest same e scope i) (scopes i)

@@ -8,6 +8,7 @@ use Rattle.std.proofs.lemmas.List.Elements.{All-map, All-weaker}
 use Rattle.lsa_codec.specs.Accepted.{IsAccepted}
 use Rattle.lsa_instances.specs.declared.place.Scope.{Scope}
 use Rattle.lsa_instances.specs.declared.sighting.Sighting.{Sighting}
+use Rattle.lsa_instances.specs.declared.keeping.FlushedLsas.{FlushedLsas}
 use Rattle.lsa_instances.specs.Newest.{AreNewest}
 use Rattle.lsdb.proofs.ListLemmas.{all_map}
 use Rattle.lsdb.specs.Limits.{longest_dump}
@@ -52,10 +53,11 @@ module _ {A : Type 0} (areas : List ToldArea) (newest : List (Sighting A)) (scop
       rw (placed, le-ltb 65 (length Db) (omega (arith, few, length-map scopes (section areas newest))), full, lt-ltb longest_dump (size Db) long) refl
 
 -- what was found, seen through references
-pub joining_of : {A : Type 0} (told : List (Sighting A)) (areas : List ToldArea) (newest a b : List (Sighting A)) (scopes t : List Scope)
-    → a ≡ newest → b ≡ newest → t ≡ scopes → AreNewest told newest → AreScopes areas a scopes → AreNewest told b × AreScopes areas b t
-joining_of {A} told areas newest a b scopes t e f g n s =
-    let P : List (Sighting A) → Type 0 = λ xs. AreNewest told xs in
+pub joining_of : {A : Type 0} (flushed : FlushedLsas) (told : List (Sighting A)) (areas : List ToldArea) (newest a b : List (Sighting A)) (scopes t : List Scope)
+    → a ≡ newest → b ≡ newest → t ≡ scopes → AreNewest flushed told newest → AreScopes areas a scopes
+    → AreNewest flushed told b × AreScopes areas b t
+joining_of {A} flushed told areas newest a b scopes t e f g n s =
+    let P : List (Sighting A) → Type 0 = λ xs. AreNewest flushed told xs in
     let Q : List (Sighting A) → Type 0 = λ xs. AreScopes areas xs scopes in
     let R : List Scope → Type 0 = λ ss. AreScopes areas b ss in
     (subst P (sym f) n, subst R (sym g) (subst Q (e ∙ sym f) s))

@@ -1,7 +1,9 @@
--- The database that sightings make: of each LSA the newest instance, in the section of its scope.
+-- The database that sightings make: of each LSA the newest instance, in the section of its scope; flushed LSAs are left out
+-- or kept.
 use Rattle.std.specs.Prelude.{◌≡◌, ◌⊎◌, Bool, ℕ, List, map, All, AllPairs, Contains, Option, None, Some, ◌==◌, ◌&&◌, not}
 use Rattle.std.specs.List.{Any, list_any}
 use Rattle.std.specs.declared.cmp.Ordering.TheVariants.{Less}
+use Rattle.lsa_instances.specs.declared.keeping.FlushedLsas.{FlushedLsas}
 use Rattle.lsa_instances.specs.declared.place.Scope.{Scope}
 use Rattle.lsa_instances.specs.declared.place.Scope.TheVariants.{Area, AsWide}
 use Rattle.lsa_instances.specs.declared.sighting.Sighting.{Sighting}
@@ -40,12 +42,12 @@ pub record AreScopes {A : Type 0} (areas : List ToldArea) (newest : List (Sighti
   pub as_there : Contains scopes AsWide
 
 -- what is told of LSAs and areas, joined: the newest of the LSAs, and the scopes
-pub record Joining {A : Type 0} (told : List (Sighting A)) (areas : List ToldArea) : Type 0 where
+pub record Joining {A : Type 0} (flushed : FlushedLsas) (told : List (Sighting A)) (areas : List ToldArea) : Type 0 where
   pub newest : List (Sighting A)
   pub scopes : List Scope
-  pub are_newest : AreNewest told newest
+  pub are_newest : AreNewest flushed told newest
   pub are_scopes : AreScopes areas newest scopes
 
 -- the sections: the areas, and behind them the LSAs of AS scope
-abbrev pub joined : {A : Type 0} {told : List (Sighting A)} {areas : List ToldArea} → Joining told areas → Lists
-joined {A} {told} {areas} joining = map (section areas joining.newest) joining.scopes
+abbrev pub joined : {A : Type 0} {flushed : FlushedLsas} {told : List (Sighting A)} {areas : List ToldArea} → Joining flushed told areas → Lists
+joined {A} {flushed} {told} {areas} joining = map (section areas joining.newest) joining.scopes

@@ -13,11 +13,12 @@ use crate::area::ToldArea;
 use crate::fault::JoinFault;
 use crate::scopes::scopes;
 use crate::section::{any_misplaced, text_of};
-use lsa_instances::{Scope, Sighting, keys_rise, newest};
+use lsa_instances::{FlushedLsas, Scope, Sighting, keys_rise, newest};
 use lsdb::{Database, LONGEST_DUMP, MOST_AREAS, text_laws};
 use std::alloc::Allocator;
 
-/// The database of which the sections are the newest of the sightings, and its areas those that
+/// The database of which the sections are the newest of the sightings (flushed LSAs left out or
+/// kept at MaxAge, as is told), and its areas those that
 /// are told and those that have LSAs, with the kinds that are told: an area that is nowhere told
 /// to be a stub area is ordinary.
 ///
@@ -25,18 +26,19 @@ use std::alloc::Allocator;
 /// in place of any.
 pub fn join<A: Allocator + Copy>(
     alloc: A,
+    flushed: FlushedLsas,
     sightings: Vec<Sighting<A>, A>,
     areas: &[ToldArea],
 ) -> Result<Database<A>, JoinFault>
     ensures database { IfOk result (λ db. IsDatabase (lists_of db)) }
-    ensures joined { IfOk result (λ db. (joining : Joining sightings.items areas.now)
+    ensures joined { IfOk result (λ db. (joining : Joining flushed sightings.items areas.now)
         × (lists_of db ≡ joined joining)) }
     ensures fault { IfErr result (λ fault. (fault ≡ OutOfMemory)
-        ⊎ ((joining : Joining sightings.items areas.now)
+        ⊎ ((joining : Joining flushed sightings.items areas.now)
         × (fault_of joining.newest (joined joining) ≡ Some fault))) }
 {
     keys_rise::<A>();
-    let newest = newest(alloc, sightings)?;
+    let newest = newest(alloc, flushed, sightings)?;
     let scopes = scopes(alloc, areas, &newest)?;
     database_of(alloc, areas, &newest, &scopes)
 }

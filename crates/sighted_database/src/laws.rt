@@ -2,6 +2,7 @@
 
 ghost use Rattle.std.specs.Prelude.{◌≡◌, IsPermutation, List};
 ghost use Rattle.lsa_instances.specs.Newest.{AreSame};
+ghost use Rattle.lsa_instances.specs.declared.keeping.FlushedLsas.{FlushedLsas as Flushed};
 ghost use Rattle.lsa_instances.specs.declared.sighting.Sighting.{Sighting as AnySighting};
 ghost use Rattle.sighted_database.specs.declared.area.ToldArea.{ToldArea as AnyArea};
 ghost use Rattle.sighted_database.specs.Joining.{Joining, joined};
@@ -14,11 +15,11 @@ use std::alloc::Allocator;
 ///
 /// The function does nothing: its contract is the law.
 pub fn joined_in_any_order<A: Allocator>()
-    ensures order { (told other : List (AnySighting A)) (areas others : List AnyArea)
-        (one : Joining told areas) (two : Joining other others)
+    ensures order { (flushed : Flushed) (told other : List (AnySighting A)) (areas others : List AnyArea)
+        (one : Joining flushed told areas) (two : Joining flushed other others)
         → IsPermutation told other → IsPermutation areas others → joined one ≡ joined two }
-    ensures again { (told other : List (AnySighting A)) (areas others : List AnyArea)
-        (one : Joining told areas) (two : Joining other others)
+    ensures again { (flushed : Flushed) (told other : List (AnySighting A)) (areas others : List AnyArea)
+        (one : Joining flushed told areas) (two : Joining flushed other others)
         → AreSame told other → AreSame areas others → joined one ≡ joined two }
 {
     newest_in_any_order::<A>();

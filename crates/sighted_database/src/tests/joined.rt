@@ -3,12 +3,18 @@
 
 use crate::{JoinFault, ToldArea, join};
 use lsa_codec::{AreaId, Lsa};
-use lsa_instances::{Scope, Sighting};
+use lsa_instances::{FlushedLsas, Scope, Sighting};
 use std::alloc::Global;
 use std::test::*;
 
 const EXTERNAL: &[u8] = &[
     0x00, 0x01, 0x02, 0x05, 0x0a, 0x5b, 0, 0, 0x0a, 0xff, 0, 5, 0x80, 0, 0, 1, 0x84, 0xc3, 0, 0x24,
+    0xff, 0xff, 0, 0, 0x80, 0, 0, 0x15, 0, 0, 0, 0, 0, 0, 0, 1,
+];
+
+/// The same as it is flushed, at age 3600: the checksum leaves the age out.
+const FLUSHED: &[u8] = &[
+    0x0e, 0x10, 0x02, 0x05, 0x0a, 0x5b, 0, 0, 0x0a, 0xff, 0, 5, 0x80, 0, 0, 1, 0x84, 0xc3, 0, 0x24,
     0xff, 0xff, 0, 0, 0x80, 0, 0, 0x15, 0, 0, 0, 0, 0, 0, 0, 1,
 ];
 
@@ -48,7 +54,7 @@ fn sections_stand_in_order(rt: HostRuntime) -> Result<(), Fail> {
         id: AreaId(1),
         is_stub: true,
     };
-    let dump = join(alloc, told, &[stub])?.dump()?;
+    let dump = join(alloc, FlushedLsas::LeftOut, told, &[stub])?.dump()?;
     let head: &[u8] = b"OSWP\x01\x02\0\0\0\0\0\0\x01";
     let stub_head: &[u8] = b"\0\0\0\x01\x01\0\0\0\x01";
     assert!(rt; dump.len() == 13 + NEWER.len() + 9 + EXTERNAL.len());
@@ -64,6 +70,32 @@ fn an_lsa_outside_its_scope_is_told(rt: HostRuntime) -> Result<(), Fail> {
     let alloc = rt.alloc();
     let mut told = Vec::new(alloc);
     add(&mut told, alloc, Scope::Area(AreaId(0)), EXTERNAL)?;
-    assert!(rt; matches!(join(alloc, told, &[]), Err(JoinFault::MisplacedLsa)));
+    assert!(rt;
+        matches!(
+            join(alloc, FlushedLsas::LeftOut, told, &[]),
+            Err(JoinFault::MisplacedLsa)
+        )
+    );
+    Ok(())
+}
+
+/// The dump of no area and of the LSAs of AS scope, one of which was flushed.
+#[test]
+fn a_flushed_lsa_is_left_out_or_kept(rt: HostRuntime) -> Result<(), Fail> {
+    let alloc = rt.alloc();
+    let head: &[u8] = b"OSWP\x01\0\0\x01";
+    let mut told = Vec::new(alloc);
+    add(&mut told, alloc, Scope::AsWide, EXTERNAL)?;
+    add(&mut told, alloc, Scope::AsWide, FLUSHED)?;
+    let dump = join(alloc, FlushedLsas::Kept, told, &[])?.dump()?;
+    assert!(rt; dump.len() == 8 + FLUSHED.len());
+    assert!(rt; dump.starts_with(head));
+    assert!(rt; dump[8..].starts_with(FLUSHED));
+    let mut told = Vec::new(alloc);
+    add(&mut told, alloc, Scope::AsWide, EXTERNAL)?;
+    add(&mut told, alloc, Scope::AsWide, FLUSHED)?;
+    let dump = join(alloc, FlushedLsas::LeftOut, told, &[])?.dump()?;
+    let empty: &[u8] = b"OSWP\x01\0\0\0";
+    assert!(rt; dump.as_slice() == empty);
     Ok(())
 }
