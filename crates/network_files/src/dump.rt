@@ -4,7 +4,7 @@ ghost use Rattle.std.specs.Prelude.{◌≡◌, ◌++◌, IfOk, IfErr, OnOk};
 ghost use Rattle.network_files.specs.Dumps.{sightings_of, areas_of, IsDump, IsJoinFault};
 
 use crate::telling::FileTold;
-use lsa_instances::Sighting;
+use lsa_instances::{FlushedLsas, Sighting};
 use sighted_database::{JoinFault, ToldArea, join};
 use std::alloc::{AllocError, Allocator};
 
@@ -51,21 +51,22 @@ fn areas_of<A: Allocator + Copy>(
 }
 
 /// The dump of the database that all files together make: its sections are the newest of all
-/// LSAs that the files tell, and its areas those of which they tell the kind and those that have
-/// LSAs.
+/// LSAs that the files tell (flushed LSAs left out or kept at MaxAge, as is told), and its areas
+/// those of which they tell the kind and those that have LSAs.
 ///
 /// # Errors
 ///
 /// Those of [`join`].
 pub fn dump_of_files<A: Allocator + Copy>(
     alloc: A,
+    flushed: FlushedLsas,
     files: &[FileTold<A>],
 ) -> Result<Vec<u8, A>, JoinFault>
-    ensures dump { IfOk result (λ dump. IsDump files.now dump.items) }
-    ensures fault { IfErr result (λ fault. IsJoinFault files.now fault) }
+    ensures dump { IfOk result (λ dump. IsDump flushed files.now dump.items) }
+    ensures fault { IfErr result (λ fault. IsJoinFault flushed files.now fault) }
 {
     let sightings = sightings_of(alloc, files)?;
     let areas = areas_of(alloc, files)?;
-    let database = join(alloc, sightings, &areas)?;
+    let database = join(alloc, flushed, sightings, &areas)?;
     Ok(database.dump()?)
 }

@@ -2,6 +2,7 @@
 
 ghost use Rattle.std.specs.Prelude.{◌≡◌, ℕ, List, IsPermutation};
 ghost use Rattle.lsa_instances.specs.Newest.{AreSame};
+ghost use Rattle.lsa_instances.specs.declared.keeping.FlushedLsas.{FlushedLsas as Flushed};
 ghost use Rattle.network_files.specs.declared.fault.FileFault.{FileFault as AnyFault};
 ghost use Rattle.network_files.specs.declared.fault.FileFault.TheVariants as faults;
 ghost use Rattle.network_files.specs.declared.telling.FileTold.{FileTold as AnyFile};
@@ -33,10 +34,10 @@ pub fn one_telling_of_a_file<A: Allocator>()
 ///
 /// The function does nothing: its contract is the law.
 pub fn files_in_any_order<A: Allocator>()
-    ensures order { (files others : List (AnyFile A)) (one two : List ℕ) → IsDump files one
-        → IsDump others two → IsPermutation files others → one ≡ two }
-    ensures again { (files others : List (AnyFile A)) (one two : List ℕ) → IsDump files one
-        → IsDump others two → AreSame files others → one ≡ two }
+    ensures order { (flushed : Flushed) (files others : List (AnyFile A)) (one two : List ℕ)
+        → IsDump flushed files one → IsDump flushed others two → IsPermutation files others → one ≡ two }
+    ensures again { (flushed : Flushed) (files others : List (AnyFile A)) (one two : List ℕ)
+        → IsDump flushed files one → IsDump flushed others two → AreSame files others → one ≡ two }
 {
     joined_in_any_order::<A>();
 }

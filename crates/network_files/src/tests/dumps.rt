@@ -4,6 +4,7 @@ use super::pieces::{CAPTURE, DUMP, TEXT, WALK};
 use crate::{FileKind, FileTold, Oddities, dump_of_files, told_of};
 use capture_files::End;
 use lsa_codec::AreaId;
+use lsa_instances::FlushedLsas;
 use sighted_database::ToldArea;
 use std::alloc::Global;
 use std::test::*;
@@ -14,7 +15,7 @@ fn dump_of(alloc: Global, files: &[&[u8]]) -> Result<Vec<u8>, Fail> {
     for octets in files {
         told.push(told_of(alloc, octets)?)?;
     }
-    Ok(dump_of_files(alloc, &told)?)
+    Ok(dump_of_files(alloc, FlushedLsas::LeftOut, &told)?)
 }
 
 #[test]
