@@ -1,6 +1,7 @@
 -- A run over files, where their octets are known.
 use Rattle.std.specs.Prelude.{◌≡◌, ◌≢◌, ℕ, List, [], ◌∷◌, ◌++◌, length, map, Option, IfSome}
 use Rattle.std.specs.List.{AllZip}
+use Rattle.lsa_instances.specs.declared.keeping.FlushedLsas.{FlushedLsas}
 use Rattle.network_dump.specs.declared.fault.RunFault.{RunFault}
 use Rattle.network_dump.specs.declared.fault.RunFault.TheVariants.{Read, TooLarge, Refused, Join, Write, OutOfMemory}
 use Rattle.network_files.specs.declared.fault.FileFault.TheVariants as files
@@ -51,13 +52,13 @@ pub record IsInputEnd (A : Type 0) (known : List (Option (List ℕ))) (fault : R
 -- ---- the database
 
 -- memory ran out, or this is the first fault of the joining
-abbrev pub IsDumpEnd : {A : Type 0} → List (FileTold A) → RunFault → Type 0
-IsDumpEnd told (Read file) = ⊥
-IsDumpEnd told (TooLarge file) = ⊥
-IsDumpEnd told (Refused file fault) = ⊥
-IsDumpEnd told (Join fault) = (fault ≢ joins.OutOfMemory) × IsJoinFault told fault
-IsDumpEnd told Write = ⊥
-IsDumpEnd told OutOfMemory = Unit {0}
+abbrev pub IsDumpEnd : {A : Type 0} → FlushedLsas → List (FileTold A) → RunFault → Type 0
+IsDumpEnd flushed told (Read file) = ⊥
+IsDumpEnd flushed told (TooLarge file) = ⊥
+IsDumpEnd flushed told (Refused file fault) = ⊥
+IsDumpEnd flushed told (Join fault) = (fault ≢ joins.OutOfMemory) × IsJoinFault flushed told fault
+IsDumpEnd flushed told Write = ⊥
+IsDumpEnd flushed told OutOfMemory = Unit {0}
 
 -- ---- the run
 
@@ -75,10 +76,10 @@ abbrev pub AfterAll : (A : Type 0) → List (Option (List ℕ)) → (List (FileT
 AfterAll A known P = (told : List (FileTold A)) × (AreTold known told × P told)
 
 -- a run ends with the first file that tells nothing, or with what makes no database, or as the dump is written
-abbrev pub MayEndRun : (A : Type 0) → List (Option (List ℕ)) → RunFault → Type 0
-MayEndRun A known (Read file) = IsInputEnd A known (Read file)
-MayEndRun A known (TooLarge file) = IsInputEnd A known (TooLarge file)
-MayEndRun A known (Refused file fault) = IsInputEnd A known (Refused file fault)
-MayEndRun A known (Join fault) = AfterAll A known (λ told. IsDumpEnd told (Join fault))
-MayEndRun A known Write = AfterAll A known (λ told. (dump : List ℕ) × IsDump told dump)
-MayEndRun A known OutOfMemory = Unit {0}
+abbrev pub MayEndRun : (A : Type 0) → FlushedLsas → List (Option (List ℕ)) → RunFault → Type 0
+MayEndRun A flushed known (Read file) = IsInputEnd A known (Read file)
+MayEndRun A flushed known (TooLarge file) = IsInputEnd A known (TooLarge file)
+MayEndRun A flushed known (Refused file fault) = IsInputEnd A known (Refused file fault)
+MayEndRun A flushed known (Join fault) = AfterAll A known (λ told. IsDumpEnd flushed told (Join fault))
+MayEndRun A flushed known Write = AfterAll A known (λ told. (dump : List ℕ) × IsDump flushed told dump)
+MayEndRun A flushed known OutOfMemory = Unit {0}

@@ -8,6 +8,7 @@ ghost use Rattle.network_dump.specs.Runs.{AreTold, IsDumpEnd, MayEndRun, known};
 
 use crate::fault::RunFault;
 use crate::input::read_files;
+use lsa_instances::FlushedLsas;
 use network_files::{FileTold, dump_of_files};
 use sighted_database::JoinFault;
 use std::alloc::Allocator;
@@ -15,11 +16,15 @@ use std::io::{Read, Write};
 use streams::{Watched, write_and_flush};
 
 /// The dump that all files together make.
-fn dump_of<A: Allocator + Copy>(alloc: A, told: &[FileTold<A>]) -> Result<Vec<u8, A>, RunFault>
-    ensures dump { IfOk result (λ dump. IsDump told.now dump.items) }
-    ensures fault { IfErr result (IsDumpEnd told.now) }
+fn dump_of<A: Allocator + Copy>(
+    alloc: A,
+    flushed: FlushedLsas,
+    told: &[FileTold<A>],
+) -> Result<Vec<u8, A>, RunFault>
+    ensures dump { IfOk result (λ dump. IsDump flushed told.now dump.items) }
+    ensures fault { IfErr result (IsDumpEnd flushed told.now) }
 {
-    match dump_of_files(alloc, told) {
+    match dump_of_files(alloc, flushed, told) {
         Ok(dump) => Ok(dump),
         Err(JoinFault::OutOfMemory) => Err(RunFault::OutOfMemory),
         Err(fault) => Err(RunFault::Join(fault)),
@@ -27,7 +32,8 @@ fn dump_of<A: Allocator + Copy>(alloc: A, told: &[FileTold<A>]) -> Result<Vec<u8
 }
 
 /// Reads the files, one after another, joins what they tell, and writes the dump of the database
-/// to `out`. The answer is what each file tells.
+/// to `out`; flushed LSAs are left out or kept at MaxAge, as is told. The answer is what each file
+/// tells.
 ///
 /// # Errors
 ///
@@ -36,6 +42,7 @@ fn dump_of<A: Allocator + Copy>(alloc: A, told: &[FileTold<A>]) -> Result<Vec<u8
 /// Nothing is written before all files are read and joined.
 pub fn run<A: Allocator + Copy, R: Read, W: Write>(
     alloc: A,
+    flushed: FlushedLsas,
     files: &mut [Watched<R>],
     out: &mut Watched<W>,
 ) -> Result<Vec<FileTold<A>, A>, RunFault>
@@ -44,11 +51,11 @@ pub fn run<A: Allocator + Copy, R: Read, W: Write>(
 
     // What is written, where the octets of the files are known.
     ensures told { IfOk result (λ told. AreTold (known R.remaining files.old) told.items) }
-    ensures dump { IfOk result (λ told. (dump : List ℕ) × (IsDump told.items dump
+    ensures dump { IfOk result (λ told. (dump : List ℕ) × (IsDump flushed told.items dump
         × Appends (W.contents (inner_of out.old)) (W.contents (inner_of out.new)) dump)) }
 
     // When each fault comes.
-    ensures faults { IfErr result (MayEndRun A (known R.remaining files.old)) }
+    ensures faults { IfErr result (MayEndRun A flushed (known R.remaining files.old)) }
     ensures read { ((k : ℕ) → result ≢ Err (RunFault.Read k))
         → All (λ file. has_failed file ≡ false) files.new }
     ensures write { (result ≡ Err RunFault.Write) ↔ (has_failed out.new ≡ true) }
@@ -57,7 +64,7 @@ pub fn run<A: Allocator + Copy, R: Read, W: Write>(
     ensures untouched { IfErr result (λ fault. fault ≢ RunFault.Write → out.new ≡ out.old) }
 {
     let told = read_files(alloc, files)?;
-    let dump = dump_of(alloc, &told)?;
+    let dump = dump_of(alloc, flushed, &told)?;
     write_and_flush(out, &dump)?;
     Ok(told)
 }
