@@ -1,3 +1,4 @@
+mod Documents
 mod Joins
 mod Once
 mod Pieces

@@ -4,8 +4,9 @@ use Rattle.capture_files.specs.Captures.{IsOfFormat}
 use Rattle.capture_files.specs.Pcap.{IsPcap}
 use Rattle.capture_files.specs.Pcapng.{IsPcapng, has_section}
 use Rattle.capture_files.specs.Told.{Told}
+use Rattle.network_files.proofs.Documents.{one_document}
 use Rattle.network_files.specs.declared.kind.FileKind.{FileKind}
-use Rattle.network_files.specs.declared.kind.FileKind.TheVariants.{Capture, Printed, Walk}
+use Rattle.network_files.specs.declared.kind.FileKind.TheVariants.{Capture, Json, Printed, Walk}
 use Rattle.network_files.specs.declared.telling.FileTold.{FileTold}
 use Rattle.network_files.specs.Telling.{IsToldAs, IsToldByCapture, told_by_frames, telling_of}
 
@@ -24,5 +25,6 @@ module _ (pcap : (file : List ℕ) (a b : Told) → IsPcap file a → IsPcap fil
   pub one_telling : {A : Type 0} (kind : FileKind) (octets : List ℕ) (one two : FileTold A) → IsToldAs kind octets one → IsToldAs kind octets two
       → telling_of one ≡ telling_of two
   one_telling Capture octets one two a b = by_capture octets one two a b
+  one_telling Json octets one two a b = one_document octets one two a b
   one_telling Printed octets one two a b = a.telling ∙ sym b.telling
   one_telling Walk octets one two a b = a.telling ∙ sym b.telling

@@ -1,5 +1,6 @@
 -- A file that tells is not refused.
 use Rattle.std.proofs.Common.{◌≡◌, ◌∙◌, ℕ, refl, sym, ap, true≢false, Bool, true, false, List}
+use Rattle.std.proofs.lemmas.Option.{none-some}
 use Rattle.std.specs.Prelude.{◌≢◌, is_ok}
 use Rattle.capture_files.specs.declared.fault.CaptureFault.{CaptureFault}
 use Rattle.capture_files.specs.declared.fault.CaptureFault.TheVariants as captures
@@ -7,10 +8,11 @@ use Rattle.capture_files.specs.Captures.{IsOfFormat, IsFaultOfFormat}
 use Rattle.capture_files.specs.Pcap.{IsPcap, IsPcapFault, LiesAt}
 use Rattle.capture_files.specs.Pcapng.{IsPcapng, IsPcapngFault, has_section}
 use Rattle.capture_files.specs.Told.{Told}
+use Rattle.network_files.proofs.Documents.{no_lack}
 use Rattle.network_files.specs.declared.fault.FileFault.{FileFault}
 use Rattle.network_files.specs.declared.fault.FileFault.TheVariants as faults
 use Rattle.network_files.specs.declared.kind.FileKind.{FileKind}
-use Rattle.network_files.specs.declared.kind.FileKind.TheVariants.{Capture, Printed, Walk}
+use Rattle.network_files.specs.declared.kind.FileKind.TheVariants.{Capture, Json, Printed, Walk}
 use Rattle.network_files.specs.declared.telling.FileTold.{FileTold}
 use Rattle.network_files.specs.Telling.{IsToldAs, IsRefusalAs}
 use Rattle.std.specs.Prelude.{Result, Ok, Err}
@@ -43,8 +45,17 @@ module _ (pcap : (file : List ℕ) (told : Told) (offset : ℕ) → IsPcap file 
       → IsToldAs kind octets file → IsRefusalAs A kind octets fault → fault ≡ faults.OutOfMemory
   memory_alone Capture octets file faults.OutOfMemory a b = refl
   memory_alone Capture octets file (faults.Capture fault) a b = absurd (no_fault (has_section octets) octets a.capture fault a.read b.0 b.1)
+  memory_alone Capture octets file faults.NotJson a b = absurd b
+  memory_alone Capture octets file faults.NoDatabase a b = absurd b
   memory_alone Capture octets file faults.UnknownKind a b = absurd b
+  memory_alone Json octets file faults.OutOfMemory a b = refl
+  memory_alone Json octets file (faults.Capture fault) a b = absurd b
+  memory_alone Json octets file faults.NotJson a b = absurd (none-some a.json (sym (b a.spelled) ∙ a.read))
+  memory_alone Json octets file faults.NoDatabase a b = absurd (no_lack octets file a b.1)
+  memory_alone Json octets file faults.UnknownKind a b = absurd b
   memory_alone Printed octets file fault a b = b
   memory_alone Walk octets file faults.OutOfMemory a b = refl
   memory_alone Walk octets file (faults.Capture fault) a b = absurd b
+  memory_alone Walk octets file faults.NotJson a b = absurd b
+  memory_alone Walk octets file faults.NoDatabase a b = absurd b
   memory_alone Walk octets file faults.UnknownKind a b = absurd (true≢false (sym a.read ∙ b))

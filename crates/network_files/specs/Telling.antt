@@ -1,10 +1,12 @@
 -- What a file tells.
-use Rattle.std.specs.Prelude.{◌≡◌, ◌≢◌, ℕ, Bool, true, false, List, map, Option, Some, None}
+use Rattle.std.specs.Prelude.{◌≡◌, ◌≢◌, ℕ, Bool, true, false, List, map, Option, Some, None, option_map}
 use Rattle.std.specs.List.{filter_map, list_any}
+use Rattle.std.specs.Str.{IsUtf8}
 use Rattle.capture_files.specs.declared.fault.CaptureFault.TheVariants as captures
 use Rattle.capture_files.specs.declared.frame.End.{End}
 use Rattle.capture_files.specs.Captures.{IsCapture, IsCaptureFault}
 use Rattle.capture_files.specs.Told.{Packet, Told}
+use Rattle.json.specs.Json.{Json, document}
 use Rattle.lsa_codec.specs.declared.address.AreaId.{AreaId}
 use Rattle.lsa_instances.specs.declared.sighting.Sighting.{Sighting}
 use Rattle.network_files.specs.declared.fault.FileFault.{FileFault}
@@ -13,7 +15,7 @@ use Rattle.network_files.specs.declared.kind.FileKind.{FileKind}
 use Rattle.network_files.specs.declared.kind.FileKind.TheVariants as kinds
 use Rattle.network_files.specs.declared.telling.FileTold.{FileTold}
 use Rattle.network_files.specs.declared.telling.Oddities.{Oddities}
-use Rattle.network_files.specs.declared.telling.Oddities.TheVariants.{Frames, Rows, Texts}
+use Rattle.network_files.specs.declared.telling.Oddities.TheVariants.{Frames, Rows, Texts, Documents}
 use Rattle.network_files.specs.Kinds.{kind_of}
 use Rattle.ospf_packets.specs.declared.kind.AreaKind.{AreaKind as HelloKind}
 use Rattle.ospf_packets.specs.declared.kind.AreaKind.TheVariants as hello
@@ -28,6 +30,7 @@ use Rattle.printed_databases.specs.declared.kind.AreaTold.{AreaTold as HeadingTo
 use Rattle.printed_databases.specs.Sorting as prints
 use Rattle.printed_databases.specs.Telling.{told_in as told_in_words}
 use Rattle.printed_databases.specs.Words.{words}
+use Rattle.printed_json.specs.Telling.{told_in as told_in_json, has_database}
 use Rattle.sighted_database.specs.declared.area.ToldArea.{ToldArea}
 use Rattle.snmp_walk.specs.declared.kind.AreaKind.{AreaKind as RowKind}
 use Rattle.snmp_walk.specs.declared.kind.AreaKind.TheVariants as column
@@ -125,6 +128,14 @@ told_by_text {A} text = record {
   nssas = filter_map nssa_by_heading (filter_map (prints.kind_of {A = A}) (told_in_words None (words text)));
 }
 
+-- what a router prints in JSON tells what the LSAs of its document tell
+abbrev pub told_by_json : {A : Type 0} → Json → Telling A
+told_by_json {A} json = record {
+  sightings = filter_map prints.sighting_of (told_in_json json);
+  areas = map area_by_heading (filter_map (prints.kind_of {A = A}) (told_in_json json));
+  nssas = filter_map nssa_by_heading (filter_map (prints.kind_of {A = A}) (told_in_json json));
+}
+
 -- ---- what can not be used, or is missing
 
 module _ {A : Type 0} where
@@ -133,18 +144,28 @@ module _ {A : Type 0} where
   AreOddFrames odd end (Frames found last) = (found.items ≡ odd) × (last ≡ end)
   AreOddFrames odd end (Rows holes) = ⊥
   AreOddFrames odd end (Texts holes) = ⊥
+  AreOddFrames odd end (Documents holes) = ⊥
 
   -- those of the walk
   abbrev pub AreOddRows : List ℕ → Oddities A → Type 0
   AreOddRows text (Frames found last) = ⊥
   AreOddRows text (Rows holes) = AreHoles {A = A} (told_in_walk text) holes.items
   AreOddRows text (Texts holes) = ⊥
+  AreOddRows text (Documents holes) = ⊥
 
   -- what is printed of LSAs, and tells none
   abbrev pub AreOddTexts : List TextHole → Oddities A → Type 0
   AreOddTexts texts (Frames found last) = ⊥
   AreOddTexts texts (Rows holes) = ⊥
   AreOddTexts texts (Texts holes) = holes.items ≡ texts
+  AreOddTexts texts (Documents holes) = ⊥
+
+  -- what is printed of LSAs in JSON, and tells none
+  abbrev pub AreOddDocuments : List TextHole → Oddities A → Type 0
+  AreOddDocuments texts (Frames found last) = ⊥
+  AreOddDocuments texts (Rows holes) = ⊥
+  AreOddDocuments texts (Texts holes) = ⊥
+  AreOddDocuments texts (Documents holes) = holes.items ≡ texts
 
 -- ---- files
 
@@ -163,8 +184,27 @@ pub record IsToldByText {A : Type 0} (octets : List ℕ) (file : FileTold A) : T
   pub telling : telling_of file ≡ told_by_text octets
   pub odd : AreOddTexts (filter_map (prints.hole_of {A = A}) (told_in_words None (words octets))) file.oddities
 
+-- the file is a document in JSON that has a database, and these are its LSAs, kinds of areas and what tells none
+pub record IsPrintedBy {A : Type 0} (octets : List ℕ) (sightings : List (Sighting A)) (kinds : List HeadingTold) (holes : List TextHole) : Type 0 where
+  pub json : Json
+  pub spelled : IsUtf8 octets
+  pub read : document octets ≡ Some json
+  pub database : has_database json ≡ true
+  pub lsas : sightings ≡ filter_map prints.sighting_of (told_in_json json)
+  pub areas : kinds ≡ filter_map (prints.kind_of {A = A}) (told_in_json json)
+  pub odd : holes ≡ filter_map (prints.hole_of {A = A}) (told_in_json json)
+
+pub record IsToldByJson {A : Type 0} (octets : List ℕ) (file : FileTold A) : Type 0 where
+  pub json : Json
+  pub spelled : IsUtf8 octets
+  pub read : document octets ≡ Some json
+  pub database : has_database json ≡ true
+  pub telling : telling_of file ≡ told_by_json json
+  pub odd : AreOddDocuments (filter_map (prints.hole_of {A = A}) (told_in_json json)) file.oddities
+
 abbrev pub IsToldAs : {A : Type 0} → FileKind → List ℕ → FileTold A → Type 0
 IsToldAs kinds.Capture octets file = IsToldByCapture octets file
+IsToldAs kinds.Json octets file = IsToldByJson octets file
 IsToldAs kinds.Printed octets file = IsToldByText octets file
 IsToldAs kinds.Walk octets file = IsToldByWalk octets file
 
@@ -178,20 +218,33 @@ IsToldOf octets file = IsToldAs (kind_of octets) octets file
 abbrev pub IsRefusalOfCapture : List ℕ → FileFault → Type 0
 IsRefusalOfCapture octets faults.OutOfMemory = Unit {0}
 IsRefusalOfCapture octets (faults.Capture fault) = IsCaptureFault octets fault × (fault ≢ captures.OutOfMemory)
+IsRefusalOfCapture octets faults.NotJson = ⊥
+IsRefusalOfCapture octets faults.NoDatabase = ⊥
 IsRefusalOfCapture octets faults.UnknownKind = ⊥
 
 -- no object of the OSPF-MIB is there
 abbrev pub IsRefusalOfWalk : (A : Type 0) → List ℕ → FileFault → Type 0
 IsRefusalOfWalk A octets faults.OutOfMemory = Unit {0}
 IsRefusalOfWalk A octets (faults.Capture fault) = ⊥
+IsRefusalOfWalk A octets faults.NotJson = ⊥
+IsRefusalOfWalk A octets faults.NoDatabase = ⊥
 IsRefusalOfWalk A octets faults.UnknownKind = list_any (walks.is_of_mib {A = A}) (told_in_walk octets) ≡ false
 
--- what a router prints is refused for want of memory alone
+-- the file is not JSON in UTF-8, or it is and has no database
+abbrev pub IsRefusalOfJson : List ℕ → FileFault → Type 0
+IsRefusalOfJson octets faults.OutOfMemory = Unit {0}
+IsRefusalOfJson octets (faults.Capture fault) = ⊥
+IsRefusalOfJson octets faults.NotJson = IsUtf8 octets → document octets ≡ None
+IsRefusalOfJson octets faults.NoDatabase = IsUtf8 octets × (option_map has_database (document octets) ≡ Some false)
+IsRefusalOfJson octets faults.UnknownKind = ⊥
+
+-- what a router prints as a text is refused for want of memory alone
 abbrev pub IsRefusalOfText : FileFault → Type 0
 IsRefusalOfText fault = fault ≡ faults.OutOfMemory
 
 abbrev pub IsRefusalAs : (A : Type 0) → FileKind → List ℕ → FileFault → Type 0
 IsRefusalAs A kinds.Capture octets fault = IsRefusalOfCapture octets fault
+IsRefusalAs A kinds.Json octets fault = IsRefusalOfJson octets fault
 IsRefusalAs A kinds.Printed octets fault = IsRefusalOfText fault
 IsRefusalAs A kinds.Walk octets fault = IsRefusalOfWalk A octets fault
 

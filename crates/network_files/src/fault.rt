@@ -14,6 +14,13 @@ pub enum FileFault {
     /// `OutOfMemory`.
     #[error("{0}")]
     Capture(CaptureFault),
+    /// The file begins with a brace, and is not JSON (RFC 8259) in UTF-8, or it nests deeper than
+    /// 128 levels.
+    #[error("NotJson")]
+    NotJson,
+    /// The file is an object in JSON, and has none of the databases that are read.
+    #[error("NoDatabase")]
+    NoDatabase,
     /// The file does not begin as a capture does, is not what a router prints, and no line of it is
     /// an object of the OSPF-MIB.
     #[error("UnknownKind")]

@@ -6,9 +6,11 @@ ghost use Rattle.capture_files.specs.Pcap.{fraction_of};
 ghost use Rattle.network_files.specs.Kinds.{is_capture, kind_of};
 ghost use Rattle.printed_databases.specs.Headings.{is_printed};
 ghost use Rattle.printed_databases.specs.Words.{words};
+ghost use Rattle.printed_json.specs.Telling.{is_printed_json};
 
 use byteorder::{BigEndian, ByteOrder, LittleEndian};
 use printed_databases::is_printed;
+use printed_json::is_printed_json;
 
 /// The type of a Section Header Block, which reads the same in both byte orders.
 const SECTION_HEADER: u32 = 0x0a0d_0d0a;
@@ -18,8 +20,11 @@ const SECTION_HEADER: u32 = 0x0a0d_0d0a;
 pub enum FileKind {
     /// A packet capture: it begins as a file of the pcapng or of the pcap format does.
     Capture,
-    /// What a router prints of its databases: it is no capture, and somewhere in it are the words
-    /// `OSPF Router with ID` or `LS age:`.
+    /// What a router prints of its databases in JSON: it is no capture, and its first character
+    /// behind white space is a brace that opens.
+    Json,
+    /// What a router prints of its databases as a text: it is none of both, and somewhere in it are
+    /// the words `OSPF Router with ID` or `LS age:`.
     Printed,
     /// An SNMP walk, as every other file is taken.
     Walk,
@@ -50,6 +55,8 @@ impl FileKind {
     {
         if is_capture(octets) {
             FileKind::Capture
+        } else if is_printed_json(octets) {
+            FileKind::Json
         } else if is_printed(octets) {
             FileKind::Printed
         } else {

@@ -42,7 +42,7 @@ fn nssa_of(told: AreaTold) -> Option<AreaId>
 }
 
 /// The areas whose kinds are told.
-fn areas_of<A: Allocator + Copy>(
+pub(crate) fn areas_of<A: Allocator + Copy>(
     alloc: A,
     kinds: &[AreaTold],
 ) -> Result<Vec<ToldArea, A>, AllocError>
@@ -52,7 +52,10 @@ fn areas_of<A: Allocator + Copy>(
 }
 
 /// The not-so-stubby areas.
-fn nssas_of<A: Allocator + Copy>(alloc: A, kinds: &[AreaTold]) -> Result<Vec<AreaId, A>, AllocError>
+pub(crate) fn nssas_of<A: Allocator + Copy>(
+    alloc: A,
+    kinds: &[AreaTold],
+) -> Result<Vec<AreaId, A>, AllocError>
     ensures { IfOk result (λ areas. areas.items ≡ filter_map nssa_by_heading kinds.now) }
 {
     kinds

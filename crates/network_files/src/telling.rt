@@ -4,6 +4,7 @@ ghost use Rattle.std.specs.Prelude.{IfOk, IfErr};
 ghost use Rattle.network_files.specs.Telling.{IsToldOf, IsRefusalOf};
 
 use crate::capture::told_of_capture;
+use crate::document::told_of_json;
 use crate::fault::FileFault;
 use crate::kind::FileKind;
 use crate::printed::told_of_text;
@@ -26,6 +27,8 @@ pub enum Oddities<A: Allocator = Global> {
     Rows(Vec<Hole, A>),
     /// What a router prints of LSAs, and tells none.
     Texts(Vec<TextHole, A>),
+    /// What a router prints of LSAs in JSON, and tells none.
+    Documents(Vec<TextHole, A>),
 }
 
 /// What a file tells, in the order of the file.
@@ -45,7 +48,8 @@ pub struct FileTold<A: Allocator = Global> {
 ///
 /// # Errors
 ///
-/// A capture is refused for what lies in it. A file that is neither a capture nor what a router
+/// A capture is refused for what lies in it. A file that begins with a brace is refused where it is
+/// not JSON, or has none of the databases that are read. A file that is neither a capture nor what a router
 /// prints is refused where no line of it is an object of the OSPF-MIB: then nobody knows what kind
 /// of file it is. Or memory ran out.
 pub fn told_of<A: Allocator + Copy>(alloc: A, octets: &[u8]) -> Result<FileTold<A>, FileFault>
@@ -54,6 +58,7 @@ pub fn told_of<A: Allocator + Copy>(alloc: A, octets: &[u8]) -> Result<FileTold<
 {
     match FileKind::of(octets) {
         FileKind::Capture => told_of_capture(alloc, octets),
+        FileKind::Json => told_of_json(alloc, octets),
         FileKind::Printed => told_of_text(alloc, octets),
         FileKind::Walk => told_of_walk(alloc, octets),
     }

@@ -1,6 +1,6 @@
 //! The dump of files of one network.
 
-use super::pieces::{CAPTURE, DUMP, TEXT, WALK};
+use super::pieces::{CAPTURE, DUMP, JSON, TEXT, WALK};
 use crate::{FileKind, FileTold, Oddities, dump_of_files, told_of};
 use capture_files::End;
 use lsa_codec::AreaId;
@@ -43,6 +43,19 @@ fn a_printed_database_gives_the_same_dump_but_for_the_age(rt: HostRuntime) -> Re
     assert!(rt; dump.len() == DUMP.len() && dump.get(14) == Some(&33));
     assert!(rt; dump[..14] == DUMP[..14] && dump[15..] == DUMP[15..]);
     let files: [&[u8]; 2] = [TEXT, CAPTURE];
+    assert!(rt; dump_of(alloc, &files)?.as_slice() == DUMP);
+    Ok(())
+}
+
+#[test]
+fn a_document_gives_the_same_dump_but_for_the_age(rt: HostRuntime) -> Result<(), Fail> {
+    let alloc = rt.alloc();
+    assert!(rt; FileKind::of(JSON) == FileKind::Json);
+    let files: [&[u8]; 2] = [JSON, &CAPTURE[..118]];
+    let dump = dump_of(alloc, &files)?;
+    assert!(rt; dump.len() == DUMP.len() && dump.get(14) == Some(&33));
+    assert!(rt; dump[..14] == DUMP[..14] && dump[15..] == DUMP[15..]);
+    let files: [&[u8]; 2] = [JSON, CAPTURE];
     assert!(rt; dump_of(alloc, &files)?.as_slice() == DUMP);
     Ok(())
 }

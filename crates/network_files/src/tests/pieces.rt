@@ -62,6 +62,18 @@ pub(super) const TEXT: &[u8] = b"
 
 ";
 
+/// The same LSA as that router prints it in JSON. No kind of an area is printed.
+pub(super) const JSON: &[u8] =
+    b"{\"routerId\": \"6.6.6.6\", \"routerLinkStates\": {\"areas\": {\"0.0.0.2\": [{\"lsaAge\": \
+    33, \"options\": \"*|-|-|-|-|-|-|-\", \"lsaFlags\": 6, \"flags\": 1, \"abr\": true, \
+    \"lsaType\": \"router-LSA\", \"linkStateId\": \"1.1.1.1\", \"advertisingRouter\": \
+    \"1.1.1.1\", \"lsaSeqNumber\": \"80000004\", \"checksum\": \"e7fd\", \"length\": 48, \
+    \"numOfLinks\": 2, \"routerLinks\": {\"link0\": {\"linkType\": \
+    \"another Router (point-to-point)\", \"neighborRouterId\": \"7.7.7.7\", \
+    \"routerInterfaceAddress\": \"10.2.0.10\", \"numOfTosMetrics\": 0, \"tos0Metric\": 9}, \
+    \"link1\": {\"linkType\": \"Stub Network\", \"networkAddress\": \"10.2.0.8\", \
+    \"networkMask\": \"255.255.255.252\", \"numOfTosMetrics\": 0, \"tos0Metric\": 9}}}]}}}";
+
 /// The dump of a database with this area and this LSA alone: `OSWP`, version 1, one area, its ID,
 /// that it is a stub area, one LSA, its octets, and no LSA of AS scope.
 pub(super) const DUMP: &[u8] = &[

@@ -13,6 +13,15 @@ fn a_file_of_no_kind_is_refused(rt: HostRuntime) -> Result<(), Fail> {
     Ok(())
 }
 
+#[test]
+fn a_document_without_a_database_is_refused(rt: HostRuntime) -> Result<(), Fail> {
+    let alloc = rt.alloc();
+    assert!(rt; matches!(told_of(alloc, b" {"), Err(FileFault::NotJson)));
+    assert!(rt; matches!(told_of(alloc, b"{}"), Err(FileFault::NoDatabase)));
+    assert!(rt; matches!(told_of(alloc, b"[]"), Err(FileFault::UnknownKind)));
+    Ok(())
+}
+
 /// Magic numbers of pcap, in both byte orders and both units, and the first block of pcapng.
 #[test]
 fn captures_are_told_by_their_magic_numbers(rt: HostRuntime) -> Result<(), Fail> {

@@ -1,0 +1,46 @@
+//! What a router prints in JSON tells.
+
+ghost use Rattle.std.specs.Prelude.{◌≡◌, IfOk, IfErr};
+ghost use Rattle.network_files.specs.Telling.{IsToldByJson, IsRefusalOfJson, IsPrintedBy};
+
+use crate::fault::FileFault;
+use crate::printed::{areas_of, nssas_of};
+use crate::telling::{FileTold, Oddities};
+use printed_databases::Printed;
+use printed_json::{JsonFault, read_printed_json};
+use std::alloc::Allocator;
+
+/// What the document tells.
+fn printed_of<A: Allocator + Copy>(alloc: A, octets: &[u8]) -> Result<Printed<A>, FileFault>
+    ensures printed { IfOk result (λ printed. IsPrintedBy octets.now printed.sightings.items
+        printed.kinds.items printed.holes.items) }
+    ensures fault { IfErr result (λ fault. IsRefusalOfJson octets.now fault) }
+{
+    match read_printed_json(alloc, octets) {
+        Ok(printed) => Ok(printed),
+        Err(JsonFault::NotJson) => Err(FileFault::NotJson),
+        Err(JsonFault::NoDatabase) => Err(FileFault::NoDatabase),
+        Err(JsonFault::OutOfMemory) => Err(FileFault::OutOfMemory),
+    }
+}
+
+/// Reads what a router prints in JSON.
+pub(crate) fn told_of_json<A: Allocator + Copy>(
+    alloc: A,
+    octets: &[u8],
+) -> Result<FileTold<A>, FileFault>
+    ensures told { IfOk result (λ file. IsToldByJson octets.now file) }
+    ensures fault { IfErr result (λ fault. IsRefusalOfJson octets.now fault) }
+{
+    let Printed {
+        sightings,
+        kinds,
+        holes,
+    } = printed_of(alloc, octets)?;
+    Ok(FileTold {
+        sightings,
+        areas: areas_of(alloc, &kinds)?,
+        nssas: nssas_of(alloc, &kinds)?,
+        oddities: Oddities::Documents(holes),
+    })
+}
