@@ -158,7 +158,7 @@ fn oddity_holes<A: Allocator + Copy>(
             Ok(holes)
         }
         Oddities::Rows(rows) => rows.iter().map(|row| Hole::Walk(*row)).collect(alloc),
-        Oddities::Texts(texts) => text_holes(alloc, texts),
+        Oddities::Texts(texts) | Oddities::Documents(texts) => text_holes(alloc, texts),
     }
 }
 

@@ -15,6 +15,7 @@ fn kind_name<A: Allocator>(oddities: &Oddities<A>) -> &'static str
         Oddities::Frames(_, _) => "capture",
         Oddities::Rows(_) => "walk",
         Oddities::Texts(_) => "printed",
+        Oddities::Documents(_) => "printed in JSON",
     }
 }
 
