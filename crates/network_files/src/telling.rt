@@ -48,10 +48,10 @@ pub struct FileTold<A: Allocator = Global> {
 ///
 /// # Errors
 ///
-/// A capture is refused for what lies in it. A file that begins with a brace is refused where it is
-/// not JSON, or has none of the databases that are read. A file that is neither a capture nor what a router
-/// prints is refused where no line of it is an object of the OSPF-MIB: then nobody knows what kind
-/// of file it is. Or memory ran out.
+/// A capture is refused for what lies in it. A file that begins with a brace is refused where it
+/// is not JSON, or has none of the databases that are read. A file that is neither a capture nor
+/// what a router prints is refused where no line of it is an object of the OSPF-MIB: then nobody
+/// knows what kind of file it is. Or memory ran out.
 pub fn told_of<A: Allocator + Copy>(alloc: A, octets: &[u8]) -> Result<FileTold<A>, FileFault>
     ensures told { IfOk result (λ file. IsToldOf octets.now file) }
     ensures fault { IfErr result (λ fault. IsRefusalOf A octets.now fault) }
