@@ -1,5 +1,5 @@
 -- How the program ends after a fault: the status, and the line on standard error.
-use Rattle.std.specs.Prelude.{ℕ, List, ◌++◌, codes, decimal}
+use Rattle.std.specs.Prelude.{ℕ, List, [], ◌++◌, Option, Some, None, codes, decimal}
 use Rattle.std.specs.Borrow.{Bor}
 use Rattle.capture_files.specs.declared.fault.CaptureFault.{CaptureFault}
 use Rattle.capture_files.specs.declared.fault.CaptureFault.TheVariants as captures
@@ -42,6 +42,8 @@ capture_status _ = 3
 
 abbrev pub refusal_status : FileFault → ℕ
 refusal_status (files.Capture fault) = capture_status fault
+refusal_status files.NotJson = 3
+refusal_status files.NoDatabase = 3
 refusal_status files.UnknownKind = 3
 refusal_status files.OutOfMemory = 5
 
@@ -91,17 +93,27 @@ capture_offset captures.OutOfMemory = 0
 
 abbrev pub refusal_name : FileFault → List ℕ
 refusal_name (files.Capture fault) = capture_name fault
+refusal_name files.NotJson = codes "NotJson"
+refusal_name files.NoDatabase = codes "NoDatabase"
 refusal_name files.UnknownKind = codes "UnknownKind"
 refusal_name files.OutOfMemory = codes "OutOfMemory"
 
-abbrev pub refusal_offset : FileFault → ℕ
-refusal_offset (files.Capture fault) = capture_offset fault
-refusal_offset files.UnknownKind = 0
-refusal_offset files.OutOfMemory = 0
+-- the offset of what lies, where the fault tells of one
+abbrev pub refusal_offset : FileFault → Option ℕ
+refusal_offset (files.Capture fault) = Some (capture_offset fault)
+refusal_offset files.NotJson = None
+refusal_offset files.NoDatabase = None
+refusal_offset files.UnknownKind = Some 0
+refusal_offset files.OutOfMemory = Some 0
 
--- as `r1.pcap: BlockLength at 28`
+-- as ` at 28`
+abbrev pub at_text : Option ℕ → List ℕ
+at_text None = []
+at_text (Some offset) = codes " at " ++ decimal offset
+
+-- as `r1.pcap: BlockLength at 28`, or `r1.json: NotJson`
 abbrev pub refused_text : List ℕ → FileFault → List ℕ
-refused_text name fault = name ++ codes ": " ++ refusal_name fault ++ codes " at " ++ decimal (refusal_offset fault) ++ codes "\n"
+refused_text name fault = name ++ codes ": " ++ refusal_name fault ++ at_text (refusal_offset fault) ++ codes "\n"
 
 abbrev pub file_text : List ℕ → FileEnd → List ℕ
 file_text name Open = name ++ codes ": Open\n"

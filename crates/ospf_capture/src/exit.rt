@@ -23,7 +23,7 @@ fn refusal_status(fault: FileFault) -> u8
 {
     match fault {
         FileFault::Capture(fault) => capture_status(fault),
-        FileFault::UnknownKind => 3,
+        FileFault::NotJson | FileFault::NoDatabase | FileFault::UnknownKind => 3,
         FileFault::OutOfMemory => 5,
     }
 }
@@ -92,17 +92,21 @@ fn refusal_name(fault: FileFault) -> &'static str
 {
     match fault {
         FileFault::Capture(fault) => capture_name(fault),
+        FileFault::NotJson => "NotJson",
+        FileFault::NoDatabase => "NoDatabase",
         FileFault::UnknownKind => "UnknownKind",
         FileFault::OutOfMemory => "OutOfMemory",
     }
 }
 
-fn refusal_offset(fault: FileFault) -> usize
+/// The offset of what lies, where the fault tells of one. Those of documents in JSON do not.
+fn refusal_offset(fault: FileFault) -> Option<usize>
     ensures { result ≡ refusal_offset fault }
 {
     match fault {
-        FileFault::Capture(fault) => capture_offset(fault),
-        FileFault::UnknownKind | FileFault::OutOfMemory => 0,
+        FileFault::Capture(fault) => Some(capture_offset(fault)),
+        FileFault::NotJson | FileFault::NoDatabase => None,
+        FileFault::UnknownKind | FileFault::OutOfMemory => Some(0),
     }
 }
 
@@ -115,9 +119,10 @@ fn refused_line<A: Allocator + Copy>(
     ensures { IfOk result (λ line. string_bytes line ≡ refused_text name.now fault) }
 {
     let what = refusal_name(fault);
-    let offset = refusal_offset(fault);
-    let line = format!(in alloc; "{name}: {what} at {offset}\n")?;
-    Ok(line)
+    match refusal_offset(fault) {
+        Some(offset) => format!(in alloc; "{name}: {what} at {offset}\n"),
+        None => format!(in alloc; "{name}: {what}\n"),
+    }
 }
 
 /// The line of a file.
