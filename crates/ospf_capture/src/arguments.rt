@@ -6,13 +6,16 @@ ghost use Rattle.ospf_capture.specs.OptionsFaults.{IsFaultOf};
 
 use clap::Error;
 use clap::error::ErrorKind;
+use lsa_instances::FlushedLsas;
 use std::alloc::AllocError;
 
-/// The files that the command line names.
+/// The files that the command line names, and what becomes of flushed LSAs.
 #[derive(Debug, Drop)]
 pub(crate) struct Options<'a> {
     /// Where the dump goes. Without it none is written.
     pub(crate) out: Option<&'a str>,
+    /// Whether flushed LSAs are left out of the dump, or kept at MaxAge.
+    pub(crate) flushed: FlushedLsas,
     /// The files that are read, one at least.
     pub(crate) files: Vec<&'a str>,
 }

@@ -1,14 +1,17 @@
 //! The command line, read by clap.
 
 ghost use Rattle.std.specs.Prelude.{◌≡◌, false, [], codes, map, string_bytes, IfOk, IfErr, OnOk};
-ghost use Rattle.clap.specs.Words.{app_of, fault_of, found_of, new_app, rule_of};
-ghost use Rattle.ospf_capture.specs.CommandLine.{files_rule, ospf_capture, out_rule, with_version, IsGiven};
+ghost use Rattle.clap.specs.Words.{app_of, count_of, fault_of, found_of, new_app};
+ghost use Rattle.clap.specs.Words.{rows_of, rule_of};
+ghost use Rattle.ospf_capture.specs.CommandLine.{files_rule, keep_rule, ospf_capture, out_rule};
+ghost use Rattle.ospf_capture.specs.CommandLine.{kept_where, with_version, IsGiven};
 ghost use Rattle.ospf_capture.specs.steps.FoundFiles.{IsRead, values_in};
 ghost use Rattle.ospf_capture.specs.OptionsFaults.{IsRefusal};
 
 use crate::arguments::{Options, OptionsFault};
 use crate::help::{ABOUT, DETAILS, VERSION};
 use clap::{Arg, ArgAction, ArgMatches, Command};
+use lsa_instances::FlushedLsas;
 use std::alloc::{AllocError, Global};
 
 /// The options that the words of a command line give. The first word is the program's name.
@@ -36,6 +39,7 @@ fn command<'a>(alloc: Global) -> Result<Command<'a>, AllocError>
 {
     named_command(alloc)?
         .arg(out_option(alloc))?
+        .arg(keep_option(alloc))?
         .arg(file_words(alloc))
 }
 
@@ -65,6 +69,17 @@ fn out_option<'a>(alloc: Global) -> Arg<'a>
         .action(ArgAction::Set)
 }
 
+/// The option `--keep-flushed`.
+fn keep_option<'a>(alloc: Global) -> Arg<'a>
+    ensures rule { rule_of result ≡ keep_rule }
+    ensures local { result.global ≡ false }
+{
+    Arg::new(alloc, "keep-flushed")
+        .long("keep-flushed")
+        .help("Keep flushed LSAs in the dump, at MaxAge")
+        .action(ArgAction::Count)
+}
+
 /// The words `FILE..`.
 fn file_words<'a>(alloc: Global) -> Arg<'a>
     ensures rule { rule_of result ≡ files_rule }
@@ -77,14 +92,26 @@ fn file_words<'a>(alloc: Global) -> Arg<'a>
         .action(ArgAction::Append)
 }
 
-/// The files that clap found.
+/// The files and the options that clap found.
 fn named_files<'a>(alloc: Global, matches: &ArgMatches<'a>) -> Result<Options<'a>, AllocError>
     ensures { IfOk result (IsRead (found_of matches.now)) }
 {
     Ok(Options {
         out: matches.get_str("out"),
+        flushed: flushed_lsas(matches),
         files: file_names(alloc, matches)?,
     })
+}
+
+/// What becomes of flushed LSAs: they are kept where the option is given.
+fn flushed_lsas(matches: &ArgMatches<'_>) -> FlushedLsas
+    ensures { result ≡ kept_where (count_of (codes "keep-flushed") (rows_of (found_of matches.now))) }
+{
+    if matches.get_count("keep-flushed") == 0 {
+        FlushedLsas::LeftOut
+    } else {
+        FlushedLsas::Kept
+    }
 }
 
 /// The words that clap found for the files.

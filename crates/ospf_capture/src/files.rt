@@ -112,7 +112,9 @@ pub(crate) fn make_dump<'a>(
     let names = options.files.as_slice();
     let mut files = opened(rt, names)?;
     let mut dump = Watched::new(Vec::new(rt.alloc()));
-    let told = run(rt.alloc(), &mut files, &mut dump).map_err(|fault| told_of(names, fault))?;
+    let told = run(rt.alloc(), options.flushed, &mut files, &mut dump).map_err(|fault| told_of(
+        names, fault,
+    ))?;
     let dump = dump.into_inner();
     let lacks = lack_lines(rt, dump.as_slice())?;
     let gifts = gift_lines(rt, names, &told)?;
