@@ -9,3 +9,4 @@ pub mod Standing
 pub mod SameValuesLemmas
 pub mod Unique
 pub mod Rising
+pub mod PlaceLemmas

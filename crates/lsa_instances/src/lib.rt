@@ -9,6 +9,7 @@
 
 mod choice;
 mod flush;
+mod header;
 mod keeping;
 mod laws;
 mod order;
@@ -16,6 +17,7 @@ mod place;
 mod sighting;
 
 pub use choice::newest;
+pub use header::{Header, Issue};
 pub use keeping::FlushedLsas;
 pub use laws::{flushed_lsas, instance_order, keys_rise, newest_in_any_order};
 pub use order::compare_instances;

@@ -1,5 +1,5 @@
 -- What a file tells.
-use Rattle.std.specs.Prelude.{◌≡◌, ◌≢◌, ℕ, Bool, true, false, List, map, Option, Some, None, option_map}
+use Rattle.std.specs.Prelude.{◌≡◌, ◌≢◌, ℕ, Bool, true, false, List, [], map, Option, Some, None, option_map}
 use Rattle.std.specs.List.{filter_map, list_any}
 use Rattle.std.specs.Str.{IsUtf8}
 use Rattle.capture_files.specs.declared.fault.CaptureFault.TheVariants as captures
@@ -8,6 +8,7 @@ use Rattle.capture_files.specs.Captures.{IsCapture, IsCaptureFault}
 use Rattle.capture_files.specs.Told.{Packet, Told}
 use Rattle.json.specs.Json.{Json, document}
 use Rattle.lsa_codec.specs.declared.address.AreaId.{AreaId}
+use Rattle.lsa_instances.specs.declared.header.Header.{Header}
 use Rattle.lsa_instances.specs.declared.sighting.Sighting.{Sighting}
 use Rattle.network_files.specs.declared.fault.FileFault.{FileFault}
 use Rattle.network_files.specs.declared.fault.FileFault.TheVariants as faults
@@ -95,14 +96,20 @@ nssa_by_heading told = nssa_under told.kind told.area
 
 -- ---- what is told
 
--- LSAs, areas and their kinds, and which of them are not-so-stubby, each in the order of the file
+-- LSAs, areas and their kinds, which of them are not-so-stubby, and headers of LSAs, each in the order of the file
 pub record Telling (A : Type 0) : Type 0 where
   pub sightings : List (Sighting A)
   pub areas : List ToldArea
   pub nssas : List AreaId
+  pub headers : List Header
 
 abbrev pub telling_of : {A : Type 0} → FileTold A → Telling A
-telling_of file = record { sightings = file.sightings.items; areas = file.areas.items; nssas = file.nssas.items }
+telling_of file = record {
+  sightings = file.sightings.items;
+  areas = file.areas.items;
+  nssas = file.nssas.items;
+  headers = file.headers.items;
+}
 
 -- a capture tells what its frames tell
 abbrev pub told_by_frames : {A : Type 0} → List Packet → Telling A
@@ -110,6 +117,7 @@ told_by_frames {A} frames = record {
   sightings = filter_map packets.sighting_of (told_in_frames frames);
   areas = map area_by_hello (filter_map (packets.kind_of {A = A}) (told_in_frames frames));
   nssas = filter_map nssa_by_hello (filter_map (packets.kind_of {A = A}) (told_in_frames frames));
+  headers = filter_map (packets.header_of {A = A}) (told_in_frames frames);
 }
 
 -- a walk tells what its objects tell
@@ -118,6 +126,7 @@ told_by_walk {A} text = record {
   sightings = filter_map walks.sighting_of (told_in_walk text);
   areas = map area_by_row (filter_map (walks.kind_of {A = A}) (told_in_walk text));
   nssas = filter_map nssa_by_row (filter_map (walks.kind_of {A = A}) (told_in_walk text));
+  headers = [];
 }
 
 -- what a router prints tells what its headings and its LSAs tell, without a moment
@@ -126,6 +135,7 @@ told_by_text {A} text = record {
   sightings = filter_map prints.sighting_of (told_in_words None (words text));
   areas = map area_by_heading (filter_map (prints.kind_of {A = A}) (told_in_words None (words text)));
   nssas = filter_map nssa_by_heading (filter_map (prints.kind_of {A = A}) (told_in_words None (words text)));
+  headers = [];
 }
 
 -- what a router prints in JSON tells what the LSAs of its document tell
@@ -134,6 +144,7 @@ told_by_json {A} json = record {
   sightings = filter_map prints.sighting_of (told_in_json json);
   areas = map area_by_heading (filter_map (prints.kind_of {A = A}) (told_in_json json));
   nssas = filter_map nssa_by_heading (filter_map (prints.kind_of {A = A}) (told_in_json json));
+  headers = [];
 }
 
 -- ---- what can not be used, or is missing

@@ -88,12 +88,14 @@ pub(crate) fn told_of_capture<A: Allocator + Copy>(
     let Packets {
         sightings,
         kinds,
+        headers,
         odd,
     } = read_frames(alloc, &frames)?;
     Ok(FileTold {
         sightings,
         areas: areas_of(alloc, &kinds)?,
         nssas: nssas_of(alloc, &kinds)?,
+        headers,
         oddities: Oddities::Frames(odd, end),
     })
 }

@@ -41,6 +41,7 @@ pub(crate) fn told_of_json<A: Allocator + Copy>(
         sightings,
         areas: areas_of(alloc, &kinds)?,
         nssas: nssas_of(alloc, &kinds)?,
+        headers: Vec::new(alloc),
         oddities: Oddities::Documents(holes),
     })
 }

@@ -81,6 +81,7 @@ pub(crate) fn told_of_text<A: Allocator + Copy>(
         sightings,
         areas: areas_of(alloc, &kinds)?,
         nssas: nssas_of(alloc, &kinds)?,
+        headers: Vec::new(alloc),
         oddities: Oddities::Texts(holes),
     })
 }

@@ -11,7 +11,7 @@ use crate::printed::told_of_text;
 use crate::walk::told_of_walk;
 use capture_files::End;
 use lsa_codec::AreaId;
-use lsa_instances::Sighting;
+use lsa_instances::{Header, Sighting};
 use ospf_packets::Odd;
 use printed_databases::Hole as TextHole;
 use sighted_database::ToldArea;
@@ -40,6 +40,8 @@ pub struct FileTold<A: Allocator = Global> {
     pub areas: Vec<ToldArea, A>,
     /// The areas that are told to be not-so-stubby (RFC 3101).
     pub nssas: Vec<AreaId, A>,
+    /// The headers of LSAs that stand without their bodies, in the packets of a capture.
+    pub headers: Vec<Header, A>,
     /// What can not be used, or is missing.
     pub oddities: Oddities<A>,
 }

@@ -98,6 +98,7 @@ pub(crate) fn told_of_walk<A: Allocator + Copy>(
         sightings,
         areas: areas_of(alloc, &kinds)?,
         nssas: nssas_of(alloc, &kinds)?,
+        headers: Vec::new(alloc),
         oddities: Oddities::Rows(holes),
     })
 }

@@ -4,4 +4,5 @@ pub mod Slices
 pub mod Lsas
 pub mod Tellings
 pub mod Fronts
-pub mod Joins
+pub mod Headers
+mod Joins

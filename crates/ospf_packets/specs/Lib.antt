@@ -5,5 +5,6 @@ pub mod Checksums
 pub mod Packets
 pub mod Hellos
 pub mod Updates
+pub mod Headers
 pub mod Telling
 pub mod Sorting

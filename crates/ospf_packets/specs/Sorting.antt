@@ -1,5 +1,6 @@
 -- What frames tell, sorted out.
 use Rattle.std.specs.Prelude.{Option, Some, None}
+use Rattle.lsa_instances.specs.declared.header.Header.{Header}
 use Rattle.lsa_instances.specs.declared.sighting.Sighting.{Sighting}
 use Rattle.ospf_packets.specs.declared.kind.AreaTold.{AreaTold}
 use Rattle.ospf_packets.specs.declared.odd.Odd.{Odd}
@@ -10,14 +11,23 @@ module _ {A : Type 0} where
   abbrev pub sighting_of : Told A → Option (Sighting A)
   sighting_of (tells.Lsa sighting) = Some sighting
   sighting_of (tells.Kind area) = None
+  sighting_of (tells.Header header) = None
   sighting_of (tells.Odd odd) = None
 
   abbrev pub kind_of : Told A → Option AreaTold
   kind_of (tells.Lsa sighting) = None
   kind_of (tells.Kind area) = Some area
+  kind_of (tells.Header header) = None
   kind_of (tells.Odd odd) = None
+
+  abbrev pub header_of : Told A → Option Header
+  header_of (tells.Lsa sighting) = None
+  header_of (tells.Kind area) = None
+  header_of (tells.Header header) = Some header
+  header_of (tells.Odd odd) = None
 
   abbrev pub odd_of : Told A → Option Odd
   odd_of (tells.Lsa sighting) = None
   odd_of (tells.Kind area) = None
+  odd_of (tells.Header header) = None
   odd_of (tells.Odd odd) = Some odd

@@ -1,5 +1,5 @@
 -- What a frame tells.
-use Rattle.std.specs.Prelude.{ℕ, ◌==◌, ◌&&◌, ◌||◌, Bool, true, not, nat_lt, if◌then◌else◌, List, [], ◌∷◌, ◌++◌}
+use Rattle.std.specs.Prelude.{ℕ, ◌==◌, ◌&&◌, Bool, true, not, nat_lt, if◌then◌else◌, List, [], ◌∷◌, ◌++◌}
 use Rattle.std.specs.Prelude.{length, drop}
 use Rattle.std.specs.Prelude.{Option, Some, None, Result, Ok, Err}
 use Rattle.capture_files.specs.Told.{Packet}
@@ -11,6 +11,7 @@ use Rattle.ospf_packets.specs.declared.telling.Told.TheVariants as tells
 use Rattle.ospf_packets.specs.declared.update.Flooded.{Flooded}
 use Rattle.ospf_packets.specs.Datagrams.{DatagramText}
 use Rattle.ospf_packets.specs.Fragments.{datagram_of, joined, has_front, last_few, first_few}
+use Rattle.ospf_packets.specs.Headers.{headers_behind}
 use Rattle.ospf_packets.specs.Hellos.{options_of, kind_by_options}
 use Rattle.ospf_packets.specs.Packets.{PacketText, lack, type_of, area_id_of, ospf_of}
 use Rattle.ospf_packets.specs.Updates.{lsas_told}
@@ -34,12 +35,15 @@ module _ {A : Type 0} where
       if nat_lt (length packet) 28 then is_odd (lack by.whole)
       else lsas_told by (number_at 4 24 packet) (drop 28 packet)
 
-  -- Database Description (2), Link State Request (3) and Link State Acknowledgment packets (5) have no whole LSA
+  -- Database Description (2) and Link State Acknowledgment packets (5) have headers of LSAs (A.3.3, A.3.6). Those of
+  -- Link State Request packets (3) name LSAs, but no instances of them
   abbrev pub told_by_type : ℕ → Flooded → List ℕ → List (Told A)
   told_by_type kind by packet =
       if kind == 1 then hello_told by packet
       else if kind == 4 then update_told by packet
-      else if kind == 2 || kind == 3 || kind == 5 then []
+      else if kind == 2 then headers_behind 32 by packet
+      else if kind == 3 then []
+      else if kind == 5 then headers_behind 24 by packet
       else is_odd OtherType
 
   abbrev pub packet_told : Option ℕ → Result PacketText Odd → List (Told A)

@@ -2,14 +2,16 @@
 //! (RFC 2328, A.3).
 //!
 //! A frame is read layer by layer: what it carries by its link type, an IPv4 datagram (RFC 791), an
-//! OSPF packet, and the LSAs of a Link State Update packet. Datagrams are put together of their
-//! fragments. [`read_frames`] answers what the frames of a capture tell, and what is odd of them.
+//! OSPF packet, and the LSAs of a Link State Update packet or the LSA headers of a Database
+//! Description or Link State Acknowledgment packet. Datagrams are put together of their fragments.
+//! [`read_frames`] answers what the frames of a capture tell, and what is odd of them.
 #![tactic(auto)]
 
 mod checksum;
 mod datagram;
 mod field;
 mod fragment;
+mod header;
 mod hello;
 mod kind;
 mod link;

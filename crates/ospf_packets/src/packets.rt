@@ -3,14 +3,14 @@
 ghost use Rattle.std.specs.Prelude.{◌≡◌, IfOk, map};
 ghost use Rattle.std.specs.List.{filter_map};
 ghost use Rattle.capture_files.specs.Told.{packet_of};
-ghost use Rattle.ospf_packets.specs.Sorting.{sighting_of, kind_of, odd_of};
+ghost use Rattle.ospf_packets.specs.Sorting.{sighting_of, kind_of, header_of, odd_of};
 ghost use Rattle.ospf_packets.specs.Telling.{told_in};
 
 use crate::kind::AreaTold;
 use crate::odd::Odd;
 use crate::telling::{Told, tellings};
 use capture_files::Frame;
-use lsa_instances::Sighting;
+use lsa_instances::{Header, Sighting};
 use std::alloc::{AllocError, Allocator, Global};
 
 /// What frames tell, in their order.
@@ -20,6 +20,8 @@ pub struct Packets<A: Allocator = Global> {
     pub sightings: Vec<Sighting<A>, A>,
     /// The kinds of areas, one for each Hello packet.
     pub kinds: Vec<AreaTold, A>,
+    /// The LSA headers of Database Description and Link State Acknowledgment packets.
+    pub headers: Vec<Header, A>,
     /// What is odd: at most one for each frame, and one for each LSA that is refused.
     pub odd: Vec<Odd, A>,
 }
@@ -44,6 +46,16 @@ fn kind_of<A: Allocator + Copy>(told: &Told<A>) -> Option<AreaTold>
     }
 }
 
+/// The header that is told.
+fn header_of<A: Allocator + Copy>(told: &Told<A>) -> Option<Header>
+    ensures { result ≡ header_of told.now }
+{
+    match told {
+        Told::Header(header) => Some(*header),
+        _ => None,
+    }
+}
+
 /// What is odd.
 fn odd_of<A: Allocator + Copy>(told: &Told<A>) -> Option<Odd>
     ensures { result ≡ odd_of told.now }
@@ -59,6 +71,13 @@ fn kinds_of<A: Allocator + Copy>(alloc: A, told: &[Told<A>]) -> Result<Vec<AreaT
     ensures { IfOk result (λ kinds. kinds.items ≡ filter_map kind_of told.now) }
 {
     told.iter().filter_map(|item| kind_of(item)).collect(alloc)
+}
+
+/// The headers.
+fn headers_of<A: Allocator + Copy>(alloc: A, told: &[Told<A>]) -> Result<Vec<Header, A>, AllocError>
+    ensures { IfOk result (λ headers. headers.items ≡ filter_map header_of told.now) }
+{
+    told.iter().filter_map(|item| header_of(item)).collect(alloc)
 }
 
 /// All that is odd.
@@ -93,16 +112,20 @@ pub fn read_frames<A: Allocator + Copy>(
         ≡ filter_map sighting_of (told_in (map packet_of frames.now))) }
     ensures kinds { IfOk result (λ packets. packets.kinds.items
         ≡ filter_map (kind_of {A = A}) (told_in (map packet_of frames.now))) }
+    ensures headers { IfOk result (λ packets. packets.headers.items
+        ≡ filter_map (header_of {A = A}) (told_in (map packet_of frames.now))) }
     ensures odd { IfOk result (λ packets. packets.odd.items
         ≡ filter_map (odd_of {A = A}) (told_in (map packet_of frames.now))) }
 {
     let told = tellings(alloc, frames)?;
     let kinds = kinds_of(alloc, &told)?;
+    let headers = headers_of(alloc, &told)?;
     let odd = odds_of(alloc, &told)?;
     let sightings = sightings_of(alloc, told)?;
     Ok(Packets {
         sightings,
         kinds,
+        headers,
         odd,
     })
 }

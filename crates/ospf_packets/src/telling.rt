@@ -10,14 +10,15 @@ ghost use Rattle.ospf_packets.specs.Telling.{flooded, hello_told, update_told, t
 use crate::datagram::Datagram;
 use crate::field::u32_at;
 use crate::fragment::{datagram_of, first_few, has_front, joined, last_few};
+use crate::header::{BEFORE_HEADERS, tell_headers_behind};
 use crate::hello::{OPTIONS, SHORTEST_HELLO, kind_by_options};
 use crate::kind::AreaTold;
 use crate::odd::Odd;
-use crate::packet::{Packet, lack, ospf_of};
+use crate::packet::{PACKET_HEADER, Packet, lack, ospf_of};
 use crate::update::{Flooded, tell_lsas};
 use capture_files::Frame;
 use lsa_codec::AreaId;
-use lsa_instances::Sighting;
+use lsa_instances::{Header, Sighting};
 use std::alloc::{AllocError, Allocator};
 
 /// How many octets an update packet has before its LSAs.
@@ -30,6 +31,8 @@ pub(crate) enum Told<A: Allocator> {
     Lsa(Sighting<A>),
     /// The kind of an area.
     Kind(AreaTold),
+    /// The header of an LSA, which stands without its body.
+    Header(Header),
     /// What is odd of it.
     Odd(Odd),
 }
@@ -94,7 +97,9 @@ fn tell_by_type<A: Allocator + Copy>(
     match kind {
         1 => tell_hello(told, by, packet),
         4 => tell_update(alloc, told, by, packet),
-        2 | 3 | 5 => Ok(()),
+        2 => tell_headers_behind(told, by, BEFORE_HEADERS, packet),
+        3 => Ok(()),
+        5 => tell_headers_behind(told, by, PACKET_HEADER, packet),
         _ => {
             told.push(Told::Odd(Odd::OtherType))?;
             Ok(())

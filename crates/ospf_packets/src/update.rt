@@ -12,7 +12,7 @@ use lsa_instances::{Scope, Sighting};
 use std::alloc::{AllocError, Allocator};
 
 /// How many octets the header of an LSA has.
-const LSA_HEADER: usize = 20;
+pub(crate) const LSA_HEADER: usize = 20;
 
 /// What a packet says of all of its LSAs.
 #[derive(Clone, Copy, Debug)]
@@ -44,7 +44,7 @@ fn lsa_length(whole: bool, octets: &[u8]) -> Result<usize, Odd>
 }
 
 /// The scope of an LSA of this LS type that is flooded in an area.
-fn scope_in(area: AreaId, kind: u8) -> Scope
+pub(crate) fn scope_in(area: AreaId, kind: u8) -> Scope
     ensures { result ≡ scope_in area kind }
 {
     if kind == 5 || kind == 11 {

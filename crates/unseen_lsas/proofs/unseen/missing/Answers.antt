@@ -1,0 +1,10 @@
+use Rattle.std.proofs.lemmas.Result.{IfOk-weaker}
+use Rattle.unseen_lsas.proofs.Sets.{left_over}
+use Rattle.unseen_lsas.proofs.unseen.missing.Goals as goal
+
+pub returns : goal.returns
+returns g c =
+    IfOk-weaker c.without.result _ _
+    (λ left h. left_over c.args.named.now c.args.seen.now c.in_ok-named.named c.in_ok-seen.seen left.items c.in_ok-named.ensures
+    c.in_ok-seen.ensures h)
+    c.without.ensures
