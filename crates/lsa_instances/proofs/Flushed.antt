@@ -20,7 +20,7 @@ use Rattle.lsa_instances.specs.Order.{place_cmp, place_of, sighting_cmp}
 use Rattle.lsa_instances.specs.Newest.{second, is_after, began_after, flushes, is_flushed}
 use Rattle.lsa_instances.specs.Flushing.{is_stopped, latest, last_with, flush_after}
 use Rattle.lsa_instances.proofs.Orders.{place_exact, place_total}
-use Rattle.lsa_instances.proofs.Looking.{Behind, any_append, eq_true, grown, later_instance, later_place, less_from, no_flush}
+use Rattle.lsa_instances.proofs.Comparing.{Behind, any_append, eq_true, grown, later_instance, later_place, less_from, no_flush}
 
 or_true : (b : Bool) → true ≡ (b || true)
 or_true true = refl

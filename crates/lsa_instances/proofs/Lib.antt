@@ -1,5 +1,6 @@
 pub mod Orders
 pub mod Rule
+pub mod Comparing
 pub mod Looking
 pub mod Flushed
 pub mod Steps

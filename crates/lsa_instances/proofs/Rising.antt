@@ -14,7 +14,7 @@ use Rattle.lsa_instances.specs.declared.place.Scope.{Scope}
 use Rattle.lsa_instances.specs.declared.sighting.Sighting.{Sighting}
 use Rattle.lsa_instances.specs.Order.{key_cmp, place_cmp, place_of, scope_cmp}
 use Rattle.lsa_instances.specs.Newest.{AreNewest, is_of_scope, lsas_of_scope}
-use Rattle.lsa_instances.proofs.Looking.{eq_true}
+use Rattle.lsa_instances.proofs.Comparing.{eq_true}
 use Rattle.lsa_instances.proofs.Orders.{scope_exact, scope_total}
 use Rattle.lsa_instances.proofs.SameValuesLemmas.{pairs_head, pairs_tail}
 

@@ -1,7 +1,7 @@
 -- The loop over sorted sightings.
 use Rattle.std.proofs.Common.{◌≡◌, ℕ, ◌-◌, ◌<◌, ◌⊎◌, refl, sym, ◌∙◌, ap, subst, inl, inr, List, [], ◌∷◌, ◌++◌, length, get_or, take}
 use Rattle.std.proofs.Common.{Bool, true, false, ◌&&◌, ◌||◌, Option, Some, None, arith}
-use Rattle.std.specs.Prelude.{Contains, slice_get, if◌then◌else◌}
+use Rattle.std.specs.Prelude.{Contains, slice_get}
 use Rattle.std.specs.List.Sorted.{IsSorted}
 use Rattle.std.specs.Ordering.{is_eq, is_gt, is_lt, ordering_reverse}
 use Rattle.std.specs.declared.cmp.Ordering.{Ordering}
@@ -21,8 +21,10 @@ use Rattle.lsa_instances.specs.Newest.{AreNewest, IsNewest, flushes, is_flushed,
 use Rattle.lsa_instances.specs.Flushing.{flush_so_far, is_flush_of, is_flushed_so_far, is_last, is_last_flush, is_of, is_stopped, newest_after}
 use Rattle.lsa_instances.specs.Flushing.{with_first, with_flushed, without_flush}
 use Rattle.lsa_instances.proofs.Orders.{place_exact, sighting_total}
-use Rattle.lsa_instances.proofs.Looking.{Behind, IsBehind, absent, behind_live, eq_true, equal_places, front_absent, grown, kept, max_age_flushed}
-use Rattle.lsa_instances.proofs.Looking.{no_flush, not_left_out, nothing, only_last, present, pushed, replaced, stands_live}
+use Rattle.lsa_instances.proofs.Comparing.{Behind, eq_true, equal_places, grown}
+use Rattle.lsa_instances.proofs.Looking.{IsBehind, absent, behind_live, front_absent, kept, max_age_flushed}
+use Rattle.lsa_instances.proofs.Comparing.{no_flush}
+use Rattle.lsa_instances.proofs.Looking.{not_left_out, nothing, only_last, present, pushed, replaced, stands_live}
 use Rattle.lsa_instances.proofs.Flushed.{Keeps, keeps, keeps_more, none_kept}
 
 back : (r s : Ordering) → r ≡ ordering_reverse s → is_lt s ≡ false → is_gt r ≡ false

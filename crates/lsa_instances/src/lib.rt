@@ -2,8 +2,8 @@
 //!
 //! Files tell LSAs: a walk or a capture shows the same LSA many times, as older and newer
 //! instances, and as copies of one instance that differ in their LS age. A [`Sighting`] is one of
-//! them. [`newest`] answers, of any number of sightings, the newest instance of each LSA, each once;
-//! those that were flushed are left out, or kept at MaxAge. What it answers depends on which
+//! them. [`newest`] answers, of any number of sightings, the newest instance of each LSA, each
+//! once; those that were flushed are left out, or kept at MaxAge. What it answers depends on which
 //! sightings there are, and not on their order.
 #![tactic(auto)]
 

@@ -35,7 +35,8 @@ pub fn one_telling_of_a_file<A: Allocator>()
 /// The function does nothing: its contract is the law.
 pub fn files_in_any_order<A: Allocator>()
     ensures order { (flushed : Flushed) (files others : List (AnyFile A)) (one two : List ℕ)
-        → IsDump flushed files one → IsDump flushed others two → IsPermutation files others → one ≡ two }
+        → IsDump flushed files one → IsDump flushed others two → IsPermutation files others
+        → one ≡ two }
     ensures again { (flushed : Flushed) (files others : List (AnyFile A)) (one two : List ℕ)
         → IsDump flushed files one → IsDump flushed others two → AreSame files others → one ≡ two }
 {

@@ -105,7 +105,8 @@ fn named_files<'a>(alloc: Global, matches: &ArgMatches<'a>) -> Result<Options<'a
 
 /// What becomes of flushed LSAs: they are kept where the option is given.
 fn flushed_lsas(matches: &ArgMatches<'_>) -> FlushedLsas
-    ensures { result ≡ kept_where (count_of (codes "keep-flushed") (rows_of (found_of matches.now))) }
+    ensures { result
+        ≡ kept_where (count_of (codes "keep-flushed") (rows_of (found_of matches.now))) }
 {
     if matches.get_count("keep-flushed") == 0 {
         FlushedLsas::LeftOut

@@ -77,7 +77,9 @@ fn kinds_of<A: Allocator + Copy>(alloc: A, told: &[Told<A>]) -> Result<Vec<AreaT
 fn headers_of<A: Allocator + Copy>(alloc: A, told: &[Told<A>]) -> Result<Vec<Header, A>, AllocError>
     ensures { IfOk result (λ headers. headers.items ≡ filter_map header_of told.now) }
 {
-    told.iter().filter_map(|item| header_of(item)).collect(alloc)
+    told.iter()
+        .filter_map(|item| header_of(item))
+        .collect(alloc)
 }
 
 /// All that is odd.

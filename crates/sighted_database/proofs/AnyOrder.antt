@@ -1,6 +1,6 @@
 -- What is joined of the same sightings and areas, in any order, each told any number of times.
-use Rattle.std.proofs.Common.{◌≡◌, ℕ, refl, sym, ◌∙◌, ap, subst, inl, inr, Bool, true, false, cond, List, [], ◌∷◌, length, get_or, map, not, ◌==◌, ◌&&◌}
-use Rattle.std.specs.Prelude.{All, AllPairs, Contains, Some}
+use Rattle.std.proofs.Common.{◌≡◌, ℕ, refl, sym, ◌∙◌, ap, subst, inl, inr, Bool, true, false, cond, List, [], ◌∷◌, map, not, ◌==◌, ◌&&◌}
+use Rattle.std.specs.Prelude.{All, Contains, Some}
 use Rattle.std.specs.List.{Any, filter}
 use Rattle.std.specs.Ordering.{is_eq}
 use Rattle.std.specs.declared.cmp.Ordering.TheVariants.{Less}
@@ -16,9 +16,9 @@ use Rattle.lsa_instances.specs.Newest.{AreSame, is_of_scope, lsas_of_scope, plac
 use Rattle.lsa_instances.specs.Order.{scope_cmp}
 use Rattle.lsa_instances.proofs.SameLemmas.{any_same}
 use Rattle.lsa_instances.proofs.SameValuesLemmas.{same_values}
-use Rattle.lsdb.specs.Lists.{AreaHead, SectionLsas}
+use Rattle.lsdb.specs.Lists.{AreaHead}
 use Rattle.sighted_database.specs.declared.area.ToldArea.{ToldArea}
-use Rattle.sighted_database.specs.Joining.{AreScopes, IsTold, Joining, any_stub, head, is_stub, joined, section}
+use Rattle.sighted_database.specs.Joining.{AreScopes, IsTold, Joining, head, is_stub, joined, section}
 use Rattle.sighted_database.proofs.Rising.{scope_total}
 use Rattle.sighted_database.proofs.ScopesTold.{from_map, in_map}
 

@@ -1,13 +1,12 @@
 -- How many LSAs a scope has, and their octets, while the sightings are looked through.
-use Rattle.std.proofs.Common.{◌≡◌, ℕ, ◌+◌, ◌<◌, ◌≤◌, true, false, refl, sym, ◌∙◌, ap, subst, List, [], ◌∷◌, ◌++◌, append_assoc, length, get_or, take, map, arith}
+use Rattle.std.proofs.Common.{◌≡◌, ℕ, ◌+◌, ◌≤◌, true, false, refl, sym, ◌∙◌, ap, List, [], ◌∷◌, ◌++◌, length, map, arith}
 use Rattle.std.specs.List.{concat, filter}
-use Rattle.std.proofs.lemmas.List.{append-nil, length-append, length-map, map-append}
+use Rattle.std.proofs.lemmas.List.{append-nil, length-append, map-append}
 use Rattle.std.proofs.lemmas.List.Elements.{filter-append}
 use Rattle.std.proofs.lemmas.List.Folds.{concat-append}
 use Rattle.lsa_instances.specs.declared.place.Scope.{Scope}
 use Rattle.lsa_instances.specs.declared.sighting.Sighting.{Sighting}
 use Rattle.lsa_instances.specs.Newest.{is_of_scope, lsas_of_scope}
-use Rattle.sighted_database.proofs.Growing.{item_more}
 
 module _ {A : Type 0} (scope : Scope) where
   pub record IsCounted (xs : List (Sighting A)) (count : ℕ) (octets : List ℕ) : Type 0 where

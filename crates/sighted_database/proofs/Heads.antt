@@ -1,5 +1,5 @@
 -- The heads of the sections, and the LSAs of each section.
-use Rattle.std.proofs.Common.{◌≡◌, ℕ, ◌≤◌, ◌<◌, ◌⊎◌, Bool, true, false, cond, ltb, eqb, refl, sym, ◌∙◌, ap, subst, List, [], ◌∷◌, length, get_or, map, Option, arith}
+use Rattle.std.proofs.Common.{◌≡◌, ℕ, ◌≤◌, ◌<◌, Bool, true, false, cond, ltb, eqb, refl, sym, ◌∙◌, ap, List, [], ◌∷◌, length, get_or, map, arith}
 use Rattle.std.specs.Prelude.{All, AllPairs, Contains, ◌≢◌}
 use Rattle.std.specs.Cmp.{IsTotalOrder}
 use Rattle.std.specs.List.{filter, list_any}
@@ -21,7 +21,7 @@ use Rattle.lsa_instances.specs.declared.sighting.Sighting.{Sighting}
 use Rattle.lsa_instances.specs.Newest.{is_of_scope, lsas_of_scope}
 use Rattle.lsa_instances.specs.Order.{key_cmp, scope_cmp}
 use Rattle.lsdb.proofs.ListLemmas.{pairs_head, pairs_tail}
-use Rattle.lsdb.specs.Lists.{AreHeads, AreKeys, HasWideId, IsBefore, IsOrdinaryBackbone, IsSection, is_as_wide, is_in_scope}
+use Rattle.lsdb.specs.Lists.{AreHeads, HasWideId, IsBefore, IsOrdinaryBackbone, IsSection, is_as_wide, is_in_scope}
 use Rattle.sighted_database.proofs.Rising.{scope_exact}
 use Rattle.sighted_database.specs.declared.area.ToldArea.{ToldArea}
 use Rattle.sighted_database.specs.Joining.{head, is_stub, section}

@@ -1,5 +1,5 @@
 -- The sections are a database, where the limits hold.
-use Rattle.std.proofs.Common.{◌≡◌, ℕ, ◌≤◌, ◌<◌, true, false, ltb, refl, sym, ◌∙◌, ap, subst, List, [], ◌∷◌, length, map, Some, Result, Ok, Err, arith}
+use Rattle.std.proofs.Common.{◌≡◌, ◌≤◌, ◌<◌, false, refl, sym, ◌∙◌, ap, subst, List, [], ◌∷◌, length, map, Some, Result, Ok, Err, arith}
 use Rattle.std.specs.Prelude.{All, IfOk}
 use Rattle.std.specs.List.{list_any}
 use Rattle.std.proofs.lemmas.Bool.{le-ltb, lt-ltb}
@@ -15,9 +15,8 @@ use Rattle.lsdb.specs.Limits.{longest_dump}
 use Rattle.lsdb.specs.Lists.{AreHeads, IsDatabase, IsSection, Lists, heads_of, size}
 use Rattle.sighted_database.proofs.Heads.{are_heads, none_passes, sound_section}
 use Rattle.sighted_database.specs.declared.area.ToldArea.{ToldArea}
-use Rattle.sighted_database.specs.declared.fault.JoinFault.{JoinFault}
 use Rattle.sighted_database.specs.declared.fault.JoinFault.TheVariants.{TooLong}
-use Rattle.sighted_database.specs.Joining.{AreScopes, Joining, head, section}
+use Rattle.sighted_database.specs.Joining.{AreScopes, head, section}
 use Rattle.sighted_database.specs.Limits.{fault_of, is_misplaced, is_overfull}
 use Rattle.sighted_database.specs.Steps.{HaveRisingKeys, IsWide}
 

@@ -15,12 +15,14 @@ use std::alloc::Allocator;
 ///
 /// The function does nothing: its contract is the law.
 pub fn joined_in_any_order<A: Allocator>()
-    ensures order { (flushed : Flushed) (told other : List (AnySighting A)) (areas others : List AnyArea)
-        (one : Joining flushed told areas) (two : Joining flushed other others)
-        → IsPermutation told other → IsPermutation areas others → joined one ≡ joined two }
-    ensures again { (flushed : Flushed) (told other : List (AnySighting A)) (areas others : List AnyArea)
-        (one : Joining flushed told areas) (two : Joining flushed other others)
-        → AreSame told other → AreSame areas others → joined one ≡ joined two }
+    ensures order { (flushed : Flushed) (told other : List (AnySighting A))
+        (areas others : List AnyArea) (one : Joining flushed told areas)
+        (two : Joining flushed other others) → IsPermutation told other
+        → IsPermutation areas others → joined one ≡ joined two }
+    ensures again { (flushed : Flushed) (told other : List (AnySighting A))
+        (areas others : List AnyArea) (one : Joining flushed told areas)
+        (two : Joining flushed other others) → AreSame told other
+        → AreSame areas others → joined one ≡ joined two }
 {
     newest_in_any_order::<A>();
 }

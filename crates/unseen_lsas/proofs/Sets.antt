@@ -24,8 +24,11 @@ left_over named seen these others left h k e = record {
   which = λ place.
       ap (has place) e
       ∙ any-filter_same (eq_by_cmp place_cmp place) (λ x. not (contains place_cmp others x)) (not (contains place_cmp others place))
-      (λ x same. ap (λ (p : Place). not (contains place_cmp others p)) (sym (same_place place x (eq_true (place_cmp place x) same)))) these.keys
+      (λ x same. ap (λ (p : Place). not (contains place_cmp others p)) (sym (same_place place x (eq_true (place_cmp place x) same))))
+      these.keys
       ∙ ap (λ b. not b && has place these.keys) (k.0 place)
       ∙ ap (λ b. not (has place seen) && b) (h.0 place);
-  order = subst (λ l. IsStrictlySortedBy place_cmp l) (sym e) (IsStrictlySortedBy-filter place_cmp (λ place. not (contains place_cmp others place)) these.keys h.1);
+  order =
+      subst (λ l. IsStrictlySortedBy place_cmp l) (sym e)
+      (IsStrictlySortedBy-filter place_cmp (λ place. not (contains place_cmp others place)) these.keys h.1);
 }

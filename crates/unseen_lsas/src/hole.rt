@@ -15,9 +15,7 @@ impl fmt::Display for Hole {
     fn fmt<W: fmt::Write>(&self, f: &mut fmt::Formatter<W>) -> fmt::Result {
         let Key { kind, id, adv } = self.0.key;
         match self.0.scope {
-            Scope::Area(area) => {
-                write!(f, "Unseen area {area} type {kind} id {id} adv {adv}")
-            }
+            Scope::Area(area) => { write!(f, "Unseen area {area} type {kind} id {id} adv {adv}") }
             Scope::AsWide => write!(f, "Unseen type {kind} id {id} adv {adv}"),
         }
     }

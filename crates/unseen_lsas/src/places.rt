@@ -24,10 +24,7 @@ fn place_named(header: &Header) -> Option<Place>
 }
 
 /// The places that these headers name.
-fn named_by<A: Allocator + Copy>(
-    alloc: A,
-    headers: &[Header],
-) -> Result<Vec<Place, A>, AllocError>
+fn named_by<A: Allocator + Copy>(alloc: A, headers: &[Header]) -> Result<Vec<Place, A>, AllocError>
     ensures { IfOk result (λ places. places.items ≡ filter_map place_named headers.now) }
 {
     headers

@@ -12,10 +12,7 @@ use std::alloc::{AllocError, Allocator};
 use std::collections::BTreeSet;
 
 /// The places, each once, in order.
-fn once<A: Allocator + Copy>(
-    alloc: A,
-    places: &[Place],
-) -> Result<BTreeSet<Place, A>, AllocError>
+fn once<A: Allocator + Copy>(alloc: A, places: &[Place]) -> Result<BTreeSet<Place, A>, AllocError>
     ensures { IfOk result (λ set. IsFromIterResult place_cmp places.now set) }
 {
     places.iter().copied().collect(alloc)

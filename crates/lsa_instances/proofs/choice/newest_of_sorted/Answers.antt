@@ -3,8 +3,8 @@ use Rattle.std.specs.List.Sorted.{IsSorted}
 use Rattle.std.proofs.lemmas.List.{take_more}
 use Rattle.lsa_instances.specs.declared.sighting.Sighting.{Sighting}
 use Rattle.lsa_instances.specs.Order.{sighting_cmp}
-use Rattle.lsa_instances.proofs.Looking.{Behind}
-use Rattle.lsa_instances.proofs.Steps.{Looked, behind, looked_at}
+use Rattle.lsa_instances.proofs.Comparing.{Behind}
+use Rattle.lsa_instances.proofs.Steps.{behind, looked_at}
 use Rattle.lsa_instances.proofs.choice.newest_of_sorted.Goals as goal
 
 pub loop-sighting-preserved : goal.loop-sighting-preserved

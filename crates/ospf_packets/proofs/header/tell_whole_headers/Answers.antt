@@ -1,4 +1,4 @@
-use Rattle.std.proofs.Common.{[], sym, ◌∙◌}
+use Rattle.std.proofs.Common.{sym, ◌∙◌}
 use Rattle.std.proofs.lemmas.List.{append-nil}
 use Rattle.ospf_packets.proofs.Headers.{one_more, all_headers}
 use Rattle.ospf_packets.proofs.header.tell_whole_headers.Goals as goal

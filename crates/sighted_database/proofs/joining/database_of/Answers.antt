@@ -1,11 +1,8 @@
-use Rattle.std.proofs.Common.{◌≡◌, ◌≤◌, ◌<◌, ◌∙◌, inr, sym, ap, length, List, ℕ, map, false, arith}
-use Rattle.std.specs.List.{list_any}
+use Rattle.std.proofs.Common.{◌≡◌, ◌≤◌, ◌<◌, ◌∙◌, inr, sym, ap, length, map, arith}
 use Rattle.lsdb.specs.Limits.{longest_dump}
 use Rattle.lsdb.specs.Lists.{IsDatabase, Lists, size}
 use Rattle.lsdb.specs.Places.{lists_of}
-use Rattle.lsdb.specs.Text.{text}
 use Rattle.sighted_database.specs.Joining.{section}
-use Rattle.sighted_database.specs.Limits.{is_misplaced, is_overfull}
 use Rattle.sighted_database.proofs.Whole.{if_both, is_database, too_long}
 use Rattle.sighted_database.proofs.joining.database_of.Goals as goal
 

@@ -1,4 +1,3 @@
-use Rattle.std.proofs.Common.{◌≡◌}
 use Rattle.std.proofs.lemmas.Result.{IfOk-weaker}
 use Rattle.sighted_database.proofs.ScopesTold.{scopes_of}
 use Rattle.sighted_database.proofs.scopes.scopes.Goals as goal

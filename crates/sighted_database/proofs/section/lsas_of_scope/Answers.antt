@@ -1,8 +1,8 @@
-use Rattle.std.proofs.Common.{◌≡◌, ◌+◌, ◌∙◌, sym, ap, true, false, List, ℕ, ◌++◌, take}
+use Rattle.std.proofs.Common.{◌≡◌, ◌∙◌, sym, ap, true, false, List, ℕ, ◌++◌, take}
 use Rattle.lsa_instances.specs.Newest.{is_of_scope}
 use Rattle.lsa_instances.specs.declared.sighting.Sighting.{Sighting}
 use Rattle.sighted_database.proofs.Growing.{item_more}
-use Rattle.sighted_database.proofs.Counted.{IsCounted, none_more, one_more}
+use Rattle.sighted_database.proofs.Counted.{none_more, one_more}
 use Rattle.sighted_database.proofs.section.lsas_of_scope.Goals.{then-is_of_scope+in_ok-extend_from_slice, else-is_of_scope}
 use Rattle.sighted_database.proofs.section.lsas_of_scope.Goals as goal
 

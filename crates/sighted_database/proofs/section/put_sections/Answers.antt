@@ -1,5 +1,4 @@
-use Rattle.std.proofs.Common.{◌≡◌, ◌<◌, ◌⊎◌, ◌∙◌, inl, inr, sym, ap, true, List, [], ◌∷◌, ◌++◌, length, get_or, take, map}
-use Rattle.std.proofs.lemmas.List.{get_or_default}
+use Rattle.std.proofs.Common.{◌<◌, List, length}
 use Rattle.std.proofs.lemmas.Result.{err_from_is_err_and}
 use Rattle.lsa_instances.specs.declared.place.Scope.{Scope}
 use Rattle.lsa_instances.specs.declared.place.Scope.TheVariants.{Area}
