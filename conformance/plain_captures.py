@@ -346,7 +346,11 @@ class Capture:
             self.hello(octets, lack)
         elif octets[1] == 4:
             self.update(octets, lack, seen)
-        elif octets[1] not in (2, 3, 5):
+        elif octets[1] == 2:
+            self.headers(octets, 32, lack)
+        elif octets[1] == 5:
+            self.headers(octets, 24, lack)
+        elif octets[1] != 3:
             raise Odd("OtherType")
 
     def hello(self, octets: bytes, lack: str) -> None:
@@ -354,6 +358,11 @@ class Capture:
             raise Odd(lack)
         kind = "ordinary" if octets[30] & 2 else "nssa" if octets[30] & 8 else "stub"
         self.told.kinds.append((number(octets[8:12]), kind))
+
+    def headers(self, octets: bytes, before: int, lack: str) -> None:
+        """LSA headers, which fill the packet behind so many octets."""
+        if len(octets) < before or (len(octets) - before) % 20:
+            raise Odd(lack)
 
     def update(self, octets: bytes, lack: str, seen: int | None) -> None:
         if len(octets) < 28:

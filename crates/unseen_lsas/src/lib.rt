@@ -6,8 +6,8 @@
 #![tactic(auto)]
 
 mod hole;
+mod missing;
 mod places;
-mod unseen;
 
 pub use hole::Hole;
-pub use unseen::unseen;
+pub use missing::unseen;

@@ -1,6 +1,6 @@
 use Rattle.std.proofs.lemmas.Result.{IfOk-weaker}
 use Rattle.unseen_lsas.proofs.Sets.{left_over}
-use Rattle.unseen_lsas.proofs.unseen.missing.Goals as goal
+use Rattle.unseen_lsas.proofs.missing.missing.Goals as goal
 
 pub returns : goal.returns
 returns g c =
