@@ -12,7 +12,6 @@ mod fault;
 mod files;
 mod help;
 mod lacks;
-mod unseen;
 
 use arguments::{Options, OptionsFault};
 use clap::Error;
