@@ -1,7 +1,7 @@
 //! How the program ends after a fault: its status, and the line on standard error.
 
 ghost use Rattle.std.specs.Prelude.{◌≡◌, IfOk, string_bytes};
-ghost use Rattle.ospf_capture.specs.Exit.{capture_name, capture_offset, capture_status, exit_status, exit_text, file_status, file_text, join_status, join_text, refusal_name, refusal_offset, refusal_status, refused_text};
+ghost use Rattle.ospf_capture.specs.Exit.{at_text, capture_name, capture_offset, capture_status, exit_status, exit_text, file_status, file_text, join_status, join_text, refusal_name, refusal_offset, refusal_status, refused_text};
 
 use crate::fault::{ExitFault, FileEnd};
 use capture_files::CaptureFault;
@@ -110,6 +110,16 @@ fn refusal_offset(fault: FileFault) -> Option<usize>
     }
 }
 
+/// The words for the offset of what lies, if there is one.
+fn at_words<A: Allocator + Copy>(alloc: A, offset: Option<usize>) -> Result<String<A>, AllocError>
+    ensures { IfOk result (λ words. string_bytes words ≡ at_text offset) }
+{
+    match offset {
+        Some(offset) => format!(in alloc; " at {offset}"),
+        None => Ok(String::new(alloc)),
+    }
+}
+
 /// The line of a file that is refused.
 fn refused_line<A: Allocator + Copy>(
     alloc: A,
@@ -119,10 +129,9 @@ fn refused_line<A: Allocator + Copy>(
     ensures { IfOk result (λ line. string_bytes line ≡ refused_text name.now fault) }
 {
     let what = refusal_name(fault);
-    match refusal_offset(fault) {
-        Some(offset) => format!(in alloc; "{name}: {what} at {offset}\n"),
-        None => format!(in alloc; "{name}: {what}\n"),
-    }
+    let words = at_words(alloc, refusal_offset(fault))?;
+    let line = format!(in alloc; "{name}: {what}{words}\n")?;
+    Ok(line)
 }
 
 /// The line of a file.
