@@ -1,0 +1,68 @@
+//! Which LSAs are named and not shown.
+
+ghost use Rattle.std.specs.Prelude.{◌≡◌, IfOk, filter, not};
+ghost use Rattle.std.specs.BTreeSet.{IsFromIterResult, contains};
+ghost use Rattle.unseen_lsas.specs.Unseen.{AreUnseen, all_named, all_shown, lsa_cmp};
+
+use crate::named::NamedLsa;
+use crate::shown::{all_named, all_shown};
+use network_files::FileTold;
+use std::alloc::{AllocError, Allocator};
+use std::collections::BTreeSet;
+
+/// The LSAs, each once, in order.
+fn once<A: Allocator + Copy>(
+    alloc: A,
+    lsas: Vec<NamedLsa, A>,
+) -> Result<BTreeSet<NamedLsa, A>, AllocError>
+    ensures { IfOk result (λ set. IsFromIterResult lsa_cmp lsas.items set) }
+{
+    lsas.into_iter().collect(alloc)
+}
+
+/// Those that are not among others.
+fn without<A: Allocator + Copy>(
+    alloc: A,
+    lsas: &BTreeSet<NamedLsa, A>,
+    others: &BTreeSet<NamedLsa, A>,
+) -> Result<Vec<NamedLsa, A>, AllocError>
+    ensures { IfOk result (λ left. left.items
+        ≡ filter (λ lsa. not (contains lsa_cmp others.now lsa)) lsas.now.keys) }
+{
+    lsas.iter()
+        .copied()
+        .filter(|lsa| !others.contains(lsa))
+        .collect(alloc)
+}
+
+/// The LSAs that are named and not shown, each once, in order.
+fn missing<A: Allocator + Copy>(
+    alloc: A,
+    named: Vec<NamedLsa, A>,
+    shown: Vec<NamedLsa, A>,
+) -> Result<Vec<NamedLsa, A>, AllocError>
+    ensures { IfOk result (λ missing. AreUnseen named.items shown.items missing.items) }
+{
+    let named = once(alloc, named)?;
+    let shown = once(alloc, shown)?;
+    without(alloc, &named, &shown)
+}
+
+/// The LSAs that the headers of the files name, and of which no file shows an instance, each once,
+/// in order of scope and key. A header at MaxAge names none: it is that of an LSA that was flushed
+/// (RFC 2328, 14).
+///
+/// # Errors
+///
+/// A growth was refused.
+pub fn unseen<A: Allocator + Copy>(
+    alloc: A,
+    files: &[FileTold<A>],
+) -> Result<Vec<NamedLsa, A>, AllocError>
+    ensures { IfOk result (λ lsas. AreUnseen (all_named files.now) (all_shown files.now)
+        lsas.items) }
+{
+    let named = all_named(alloc, files)?;
+    let shown = all_shown(alloc, files)?;
+    missing(alloc, named, shown)
+}

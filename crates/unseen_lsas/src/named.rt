@@ -1,0 +1,57 @@
+//! LSAs by their names alone.
+
+ghost use Rattle.std.specs.Prelude.{◌≡◌};
+ghost use Rattle.unseen_lsas.specs.Unseen.{named_at};
+
+use lsa_codec::{AreaId, Key};
+use lsa_instances::{Place, Scope};
+use std::fmt;
+
+/// What names an LSA in the databases of a network: where it is flooded, and its key there. Areas
+/// stand before the whole AS.
+///
+/// Its `Display` is a few words on one line, as `area 0.0.0.0 type 1 id 1.1.1.1 adv 1.1.1.1`,
+/// without an area for an LSA of AS scope.
+#[derive(Clone, Copy, Debug, PartialEq, Eq, PartialOrd, Ord)]
+pub struct NamedLsa {
+    /// Whether it is flooded in the whole AS.
+    pub is_as_wide: bool,
+    /// The area where it is flooded; 0.0.0.0 for the whole AS.
+    pub area: AreaId,
+    /// What names it there.
+    pub key: Key,
+}
+
+/// The LSA of a place.
+pub(crate) fn named_at(place: Place) -> NamedLsa
+    ensures { result ≡ named_at place }
+{
+    match place.scope {
+        Scope::Area(area) => NamedLsa {
+            is_as_wide: false,
+            area,
+            key: place.key,
+        },
+        Scope::AsWide => NamedLsa {
+            is_as_wide: true,
+            area: AreaId(0),
+            key: place.key,
+        },
+    }
+}
+
+impl fmt::Display for NamedLsa {
+    fn fmt<W: fmt::Write>(&self, f: &mut fmt::Formatter<W>) -> fmt::Result {
+        let NamedLsa {
+            is_as_wide,
+            area,
+            key,
+        } = *self;
+        let Key { kind, id, adv } = key;
+        if is_as_wide {
+            write!(f, "type {kind} id {id} adv {adv}")
+        } else {
+            write!(f, "area {area} type {kind} id {id} adv {adv}")
+        }
+    }
+}

@@ -1,0 +1,85 @@
+//! The LSAs that headers name, and those that are shown.
+
+ghost use Rattle.std.specs.Prelude.{◌≡◌, ◌++◌, IfOk, OnOk, map};
+ghost use Rattle.std.specs.List.{filter_map};
+ghost use Rattle.unseen_lsas.specs.Unseen.{named_by, all_named, shown_by, all_shown};
+
+use crate::named::{NamedLsa, named_at};
+use lsa_instances::{Header, Sighting};
+use network_files::FileTold;
+use std::alloc::{AllocError, Allocator};
+
+/// The LS age of an LSA that is flushed from all databases, in seconds (RFC 2328, B).
+const MAX_AGE: u16 = 3600;
+
+/// The LSA, unless the header flushes it.
+fn named_by(header: &Header) -> Option<NamedLsa>
+    ensures { result ≡ named_by header.now }
+{
+    if header.age < MAX_AGE {
+        Some(named_at(header.place))
+    } else {
+        None
+    }
+}
+
+/// The LSA of which this is an instance.
+fn shown_by<A: Allocator + Copy>(sighting: &Sighting<A>) -> NamedLsa
+    ensures { result ≡ shown_by sighting.now }
+{
+    named_at(sighting.place())
+}
+
+/// The LSAs that these headers name.
+fn named_in<A: Allocator + Copy>(
+    alloc: A,
+    headers: &[Header],
+) -> Result<Vec<NamedLsa, A>, AllocError>
+    ensures { IfOk result (λ lsas. lsas.items ≡ filter_map named_by headers.now) }
+{
+    headers
+        .iter()
+        .filter_map(|header| named_by(header))
+        .collect(alloc)
+}
+
+/// The LSAs of which these are instances.
+fn shown_in<A: Allocator + Copy>(
+    alloc: A,
+    sightings: &[Sighting<A>],
+) -> Result<Vec<NamedLsa, A>, AllocError>
+    ensures { IfOk result (λ lsas. lsas.items ≡ map shown_by sightings.now) }
+{
+    sightings
+        .iter()
+        .map(|sighting| shown_by(sighting))
+        .collect(alloc)
+}
+
+/// The LSAs that the headers of all files name, one file after another.
+pub(crate) fn all_named<A: Allocator + Copy>(
+    alloc: A,
+    files: &[FileTold<A>],
+) -> Result<Vec<NamedLsa, A>, AllocError>
+    ensures { IfOk result (λ lsas. lsas.items ≡ all_named files.now) }
+{
+    let mut lsas = Vec::new(alloc);
+    for file in files {
+        lsas.append(&mut named_in(alloc, &file.headers)?)?;
+    }
+    Ok(lsas)
+}
+
+/// The LSAs of which the files show instances, one file after another.
+pub(crate) fn all_shown<A: Allocator + Copy>(
+    alloc: A,
+    files: &[FileTold<A>],
+) -> Result<Vec<NamedLsa, A>, AllocError>
+    ensures { IfOk result (λ lsas. lsas.items ≡ all_shown files.now) }
+{
+    let mut lsas = Vec::new(alloc);
+    for file in files {
+        lsas.append(&mut shown_in(alloc, &file.sightings)?)?;
+    }
+    Ok(lsas)
+}
