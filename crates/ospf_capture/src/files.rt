@@ -6,6 +6,7 @@ ghost use Rattle.streams.specs.Watched.{has_failed};
 use crate::arguments::Options;
 use crate::fault::{ExitFault, FileEnd, index_of, named};
 use crate::lacks::lack_lines;
+use crate::unseen::unseen_lines;
 use network_dump::{RunFault, run};
 use network_files::FileTold;
 use network_findings::{contradictions, file_line, holes_of};
@@ -120,6 +121,7 @@ pub(crate) fn make_dump<'a>(
     let gifts = gift_lines(rt, names, &told)?;
     let mut holes = hole_lines(rt, names, &told)?;
     holes.push_str(area_lines(rt, &told)?.as_str())?;
+    holes.push_str(unseen_lines(rt, &told)?.as_str())?;
     io::writer(rt)
         .write_all(gifts.as_bytes())
         .map_err(|_| ExitFault::Output)?;

@@ -12,6 +12,7 @@ mod fault;
 mod files;
 mod help;
 mod lacks;
+mod unseen;
 
 use arguments::{Options, OptionsFault};
 use clap::Error;
