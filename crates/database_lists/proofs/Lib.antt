@@ -1,0 +1,5 @@
+pub mod Split
+pub mod Titles
+pub mod Marks
+pub mod Tellings
+pub mod Parts

@@ -1,0 +1,98 @@
+-- Lines that name where the rows below them belong.
+use Rattle.std.specs.Prelude.{ℕ, Bool, true, false, ◌||◌, List, [], ◌∷◌, Option, Some, None, option_map, if◌then◌else◌}
+use Rattle.lsa_codec.specs.declared.address.AreaId.{AreaId}
+use Rattle.printed_databases.specs.Headings.{area_of}
+use Rattle.printed_databases.specs.Labels.{first_word}
+use Rattle.printed_databases.specs.Numbers.{address_of}
+use Rattle.printed_databases.specs.Rules.{◌>>=◌, or_else}
+use Rattle.database_lists.specs.declared.heading.Heading.{Heading}
+use Rattle.database_lists.specs.declared.heading.Heading.TheVariants as headings
+use Rattle.database_lists.specs.declared.label.Label.{Label}
+use Rattle.database_lists.specs.declared.label.Label.TheVariants as label
+use Rattle.database_lists.specs.declared.mark.Mark.{Mark}
+use Rattle.database_lists.specs.declared.mark.Mark.TheVariants as marks
+use Rattle.database_lists.specs.declared.title.Title.{Title}
+use Rattle.database_lists.specs.Labels.{behind_label, begins_with}
+use Rattle.database_lists.specs.Lines.{Line}
+
+-- ---- FRR: a table for each LS type (RFC 2328, 12.1.3; RFC 3101 for type 7; RFC 5250 for the types 9 to 11)
+
+abbrev pub title : ℕ → Label → Title
+title kind label = record { kind = kind; label = label }
+
+abbrev pub titles : List Title
+titles =
+    title 1 label.Router ∷ title 2 label.Network ∷ title 3 label.Summary ∷ title 4 label.AsbrSummary ∷ title 5 label.External
+    ∷ title 7 label.Nssa ∷ title 9 label.LinkOpaque ∷ title 10 label.AreaOpaque ∷ title 11 label.AsOpaque ∷ []
+
+-- the area that is named behind a title, if one is: none where nothing stands there
+abbrev pub area_behind : Line → Option (Option AreaId)
+area_behind [] = Some None
+area_behind (word ∷ line) = do
+  behind ← behind_label label.InArea (word ∷ line)
+  found ← first_word behind
+  option_map Some (area_of found.0)
+
+unfoldable pub table_as : Title → Line → Option Heading
+table_as title line = do
+  behind ← behind_label title.label line
+  option_map (headings.Table title.kind) (area_behind behind)
+
+-- the table of the first of these titles that stands here
+unfoldable pub table_among : List Title → Line → Option Heading
+table_among [] line = None
+table_among (title ∷ others) line = or_else (table_as title line) (table_among others line)
+
+-- ---- BIRD: a section for each area, for the whole AS, and for each link
+
+unfoldable pub area_section : Line → Option Heading
+area_section line = do
+  behind ← behind_label label.Area line
+  found ← first_word behind
+  option_map (λ address. headings.Section (Some (record { 0 = address }))) (address_of found.0)
+
+abbrev pub bare_section : Line → Option Heading
+bare_section line = if begins_with label.Global line || begins_with label.Link line then Some (headings.Section None) else None
+
+unfoldable pub section_in : Line → Option Heading
+section_in line = or_else (area_section line) (bare_section line)
+
+-- ---- what a line is to those below it
+
+abbrev pub is_columns : Line → Bool
+is_columns line = begins_with label.IdColumns line || begins_with label.OpaqueColumns line || begins_with label.TypeColumns line
+
+-- nothing, or the names of columns
+abbrev pub is_idle : Line → Bool
+is_idle [] = true
+is_idle (word ∷ line) = is_columns (word ∷ line)
+
+-- a router or a program names itself
+abbrev pub is_start : Line → Bool
+is_start line = begins_with label.Printer line || begins_with label.Bird line
+
+abbrev pub is_heading_word : Line → Bool
+is_heading_word line = begins_with label.InArea line || begins_with label.States line
+
+-- a word of a heading stands somewhere
+unfoldable pub has_heading_word : Line → Bool
+has_heading_word [] = false
+has_heading_word (word ∷ line) = is_heading_word (word ∷ line) || has_heading_word line
+
+abbrev pub no_heading : Line → Mark
+no_heading line = if is_start line then marks.Start else if has_heading_word line then marks.Foreign else marks.Row
+
+abbrev pub by_heading : Line → Option Heading → Mark
+by_heading line (Some heading) = marks.Heading heading
+by_heading line None = no_heading line
+
+unfoldable pub mark_of : Line → Mark
+mark_of line = if is_idle line then marks.Idle else by_heading line (or_else (table_among titles line) (section_in line))
+
+-- the heading that the next line stands under
+abbrev pub heading_after : Option Heading → Mark → Option Heading
+heading_after heading (marks.Heading next) = Some next
+heading_after heading marks.Start = None
+heading_after heading marks.Foreign = None
+heading_after heading marks.Idle = heading
+heading_after heading marks.Row = heading

@@ -1,0 +1,64 @@
+-- The fields of a row: those of an LSA's header (RFC 2328, A.4.1) that are printed.
+use Rattle.std.specs.Prelude.{ℕ, ◌==◌, ◌&&◌, ◌∷◌, Option, Some, None, if◌then◌else◌}
+use Rattle.lsa_codec.specs.declared.address.AreaId.{AreaId}
+use Rattle.printed_databases.specs.Words.{Word}
+use Rattle.printed_databases.specs.Labels.{first_word}
+use Rattle.printed_databases.specs.Numbers.{number_up_to, hex_up_to, address_of}
+use Rattle.printed_databases.specs.Rules.{◌>>=◌, Rule}
+use Rattle.database_lists.specs.declared.heading.Heading.{Heading}
+use Rattle.database_lists.specs.declared.heading.Heading.TheVariants as headings
+use Rattle.database_lists.specs.declared.row.Row.{Row}
+use Rattle.database_lists.specs.Lines.{Line}
+
+-- the number that a word spells in hexadecimal behind `0x` (48 and 120), where it spells one that is at most max
+unfoldable pub marked_up_to : ℕ → Word → Option ℕ
+marked_up_to max (first ∷ second ∷ digits) = if first == 48 && second == 120 then hex_up_to max digits else None
+marked_up_to max _ = None
+
+-- the value that the first word says by a rule
+abbrev pub value_of : (Word → Option ℕ) → Rule ℕ
+value_of rule line = do
+  found ← first_word line
+  value ← rule found.0
+  Some (value, found.1)
+
+-- a row of a table of this LS type: Link State ID, Advertising Router, LS age in decimal, LS sequence number and LS
+-- checksum, both in hexadecimal behind `0x`
+unfoldable pub table_row : ℕ → Line → Option Row
+table_row kind line = do
+  id ← value_of address_of line
+  adv ← value_of address_of id.1
+  age ← value_of (number_up_to 0xffff) adv.1
+  sequence ← value_of (marked_up_to 0xffffffff) age.1
+  checksum ← value_of (marked_up_to 0xffff) sequence.1
+  Some (record {
+    key = record { kind = kind; id = record { 0 = id.0 }; adv = record { 0 = adv.0 } };
+    issue = record { sequence = sequence.0; checksum = checksum.0 };
+    age = age.0;
+  })
+
+-- a row of a section: LS type in hexadecimal, Link State ID, Advertising Router, LS sequence number in hexadecimal, LS age
+-- in decimal, and LS checksum in hexadecimal
+unfoldable pub section_row : Line → Option Row
+section_row line = do
+  kind ← value_of (hex_up_to 0xff) line
+  id ← value_of address_of kind.1
+  adv ← value_of address_of id.1
+  sequence ← value_of (hex_up_to 0xffffffff) adv.1
+  age ← value_of (number_up_to 0xffff) sequence.1
+  checksum ← value_of (hex_up_to 0xffff) age.1
+  Some (record {
+    key = record { kind = kind.0; id = record { 0 = id.0 }; adv = record { 0 = adv.0 } };
+    issue = record { sequence = sequence.0; checksum = checksum.0 };
+    age = age.0;
+  })
+
+-- what stands behind these fields has no part in it
+abbrev pub row_under : Heading → Line → Option Row
+row_under (headings.Table kind area) line = table_row kind line
+row_under (headings.Section area) line = section_row line
+
+-- the area that a heading names
+abbrev pub area_under : Heading → Option AreaId
+area_under (headings.Table kind area) = area
+area_under (headings.Section area) = area

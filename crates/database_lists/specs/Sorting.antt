@@ -1,0 +1,29 @@
+-- What a list tells, sorted out.
+use Rattle.std.specs.Prelude.{ℕ, Bool, List, Option, Some, None}
+use Rattle.std.specs.List.{list_any}
+use Rattle.database_lists.specs.declared.header.Header.{Header}
+use Rattle.database_lists.specs.declared.hole.Hole.{Hole}
+use Rattle.database_lists.specs.declared.told.Told.{Told}
+use Rattle.database_lists.specs.declared.told.Told.TheVariants as tells
+use Rattle.database_lists.specs.Headings.{mark_of}
+use Rattle.database_lists.specs.Lines.{Line, lines}
+use Rattle.database_lists.specs.Telling.{is_heading, told_in}
+
+abbrev pub header_of : Told → Option Header
+header_of (tells.Header header) = Some header
+header_of (tells.Hole hole) = None
+
+abbrev pub hole_of : Told → Option Hole
+hole_of (tells.Header header) = None
+hole_of (tells.Hole hole) = Some hole
+
+-- what a text tells
+abbrev pub told_of : List ℕ → List Told
+told_of text = told_in None (lines text)
+
+-- a text is a list where one of its lines is a heading, though no row may stand below it
+unfoldable pub has_heading : List Line → Bool
+has_heading these = list_any (λ line. is_heading (mark_of line)) these
+
+abbrev pub is_list : List ℕ → Bool
+is_list text = has_heading (lines text)

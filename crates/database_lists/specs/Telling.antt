@@ -1,0 +1,50 @@
+-- What the lines of a list tell.
+use Rattle.std.specs.Prelude.{ℕ, Bool, true, false, List, [], ◌∷◌, ◌++◌, Option, Some, None}
+use Rattle.lsa_codec.specs.declared.address.AreaId.{AreaId}
+use Rattle.lsa_instances.specs.declared.place.Scope.{Scope}
+use Rattle.lsa_instances.specs.Order.{scope_told}
+use Rattle.database_lists.specs.declared.heading.Heading.{Heading}
+use Rattle.database_lists.specs.declared.header.Header.{Header}
+use Rattle.database_lists.specs.declared.hole.Hole.TheVariants as holes
+use Rattle.database_lists.specs.declared.mark.Mark.{Mark}
+use Rattle.database_lists.specs.declared.mark.Mark.TheVariants as marks
+use Rattle.database_lists.specs.declared.row.Row.{Row}
+use Rattle.database_lists.specs.declared.told.Told.{Told}
+use Rattle.database_lists.specs.declared.told.Told.TheVariants as tells
+use Rattle.database_lists.specs.Lines.{Line}
+use Rattle.database_lists.specs.Headings.{mark_of, heading_after}
+use Rattle.database_lists.specs.Rows.{row_under, area_under}
+
+abbrev pub in_scope : Row → Option Scope → Told
+in_scope row None = tells.Hole (holes.NoArea row.key)
+in_scope row (Some scope) =
+    tells.Header (record { place = record { scope = scope; key = row.key }; issue = row.issue; age = row.age })
+
+-- the LSA is of the scope of its LS type in the area of the heading
+abbrev pub row_told : Option AreaId → Option Row → Told
+row_told area None = tells.Hole holes.Unreadable
+row_told area (Some row) = in_scope row (scope_told row.key.kind area)
+
+abbrev pub row_below : Option Heading → Line → List Told
+row_below None line = []
+row_below (Some heading) line = row_told (area_under heading) (row_under heading line) ∷ []
+
+-- a row tells its header; so does nothing else, but a heading that is not known is told too, since its rows are not read
+abbrev pub told_by : Option Heading → Line → Mark → List Told
+told_by heading line (marks.Heading next) = []
+told_by heading line marks.Start = []
+told_by heading line marks.Foreign = tells.Hole holes.Unreadable ∷ []
+told_by heading line marks.Idle = []
+told_by heading line marks.Row = row_below heading line
+
+-- what the lines from here on tell, under the heading that stands before them
+unfoldable pub told_in : Option Heading → List Line → List Told
+told_in heading [] = []
+told_in heading (line ∷ others) = told_by heading line (mark_of line) ++ told_in (heading_after heading (mark_of line)) others
+
+abbrev pub is_heading : Mark → Bool
+is_heading (marks.Heading heading) = true
+is_heading marks.Start = false
+is_heading marks.Foreign = false
+is_heading marks.Idle = false
+is_heading marks.Row = false

@@ -1,0 +1,37 @@
+//! Lists of LSA headers, as routers print them, and how a database differs from one.
+//!
+//! A list is what FRR prints for `show ip ospf database`, or BIRD for `show ospf lsadb`: a row for
+//! each LSA of the router's databases, without its body. Rows stand below headings, which name
+//! their areas.
+#![tactic(auto)]
+
+// Lines, and what is printed in them.
+mod label;
+mod line;
+
+// Headings and rows.
+mod heading;
+mod mark;
+mod row;
+mod title;
+
+// What is told.
+mod fault;
+mod header;
+mod hole;
+mod list;
+mod told;
+
+// What a database has.
+mod difference;
+mod held;
+mod spot;
+
+pub use difference::{Change, Difference, differences, differences_of_dump};
+pub use fault::ListFault;
+pub use header::{Header, Issue};
+pub use hole::Hole;
+pub use list::{Headers, read_list};
+
+#[cfg(test)]
+mod tests;

@@ -1,0 +1,135 @@
+//! The fields of a row.
+
+ghost use Rattle.std.specs.Prelude.{◌≡◌, ◌≤◌, IfSome, option_map};
+ghost use Rattle.printed_databases.specs.Words.{words};
+ghost use Rattle.printed_databases.specs.Numbers.{number_up_to, hex_up_to, address_of};
+ghost use Rattle.database_lists.specs.Rows.{marked_up_to, value_of, table_row, section_row, row_under};
+
+use crate::header::Issue;
+use crate::heading::Heading;
+use lsa_codec::{Addr, Key, RouterId};
+use printed_databases::{address_of, hex_up_to, next_word, number_up_to};
+
+/// What a row has.
+#[derive(Clone, Copy)]
+pub(crate) struct Row {
+    /// LS type, Link State ID and Advertising Router.
+    pub(crate) key: Key,
+    /// LS sequence number and LS checksum.
+    pub(crate) issue: Issue,
+    /// LS age, in seconds.
+    pub(crate) age: u16,
+}
+
+/// The number that a word spells in hexadecimal behind `0x`, where it is at most `max`.
+#[tactic(auto, unfolding(crate::specs::Rows::marked_up_to))]
+fn marked_up_to(max: u32, word: &[u8]) -> Option<u32>
+    ensures value { result ≡ marked_up_to max word.now }
+    ensures bound { IfSome result (λ n. n ≤ max) }
+{
+    match word {
+        [b'0', b'x', digits @ ..] => hex_up_to(max, digits),
+        _ => None,
+    }
+}
+
+/// The address that stands here, and what stands behind it.
+fn address_in(line: &[u8]) -> Option<(u32, &[u8])>
+    ensures { option_map (λ found. (found.0, words found.1.now)) result
+        ≡ value_of address_of (words line.now) }
+{
+    let (word, rest) = next_word(line)?;
+    let address = address_of(word)?;
+    Some((address, rest))
+}
+
+/// The decimal number that stands here, where it is at most `max`, and what stands behind it.
+fn number_in(max: u32, line: &[u8]) -> Option<(u32, &[u8])>
+    ensures value { option_map (λ found. (found.0, words found.1.now)) result
+        ≡ value_of (number_up_to max) (words line.now) }
+    ensures bound { IfSome result (λ found. found.0 ≤ max) }
+{
+    let (word, rest) = next_word(line)?;
+    let number = number_up_to(max, word)?;
+    Some((number, rest))
+}
+
+/// The hexadecimal number that stands here, where it is at most `max`, and what stands behind it.
+fn hex_in(max: u32, line: &[u8]) -> Option<(u32, &[u8])>
+    ensures value { option_map (λ found. (found.0, words found.1.now)) result
+        ≡ value_of (hex_up_to max) (words line.now) }
+    ensures bound { IfSome result (λ found. found.0 ≤ max) }
+{
+    let (word, rest) = next_word(line)?;
+    let number = hex_up_to(max, word)?;
+    Some((number, rest))
+}
+
+/// The hexadecimal number that stands here behind `0x`, where it is at most `max`, and what stands
+/// behind it.
+fn marked_in(max: u32, line: &[u8]) -> Option<(u32, &[u8])>
+    ensures value { option_map (λ found. (found.0, words found.1.now)) result
+        ≡ value_of (marked_up_to max) (words line.now) }
+    ensures bound { IfSome result (λ found. found.0 ≤ max) }
+{
+    let (word, rest) = next_word(line)?;
+    let number = marked_up_to(max, word)?;
+    Some((number, rest))
+}
+
+/// A row of a table of this LS type.
+#[tactic(auto, unfolding(crate::specs::Rows::table_row))]
+fn table_row(kind: u8, line: &[u8]) -> Option<Row>
+    ensures { result ≡ table_row kind (words line.now) }
+{
+    let (id, rest) = address_in(line)?;
+    let (adv, rest) = address_in(rest)?;
+    let (age, rest) = number_in(0xffff, rest)?;
+    let (sequence, rest) = marked_in(0xffff_ffff, rest)?;
+    let (checksum, _) = marked_in(0xffff, rest)?;
+    let key = Key {
+        kind,
+        id: Addr(id),
+        adv: RouterId(adv),
+    };
+    let issue = Issue {
+        sequence,
+        checksum: checksum as u16,
+    };
+    let age = age as u16;
+    Some(Row { key, issue, age })
+}
+
+/// A row of a section.
+#[tactic(auto, unfolding(crate::specs::Rows::section_row))]
+fn section_row(line: &[u8]) -> Option<Row>
+    ensures { result ≡ section_row (words line.now) }
+{
+    let (kind, rest) = hex_in(0xff, line)?;
+    let (id, rest) = address_in(rest)?;
+    let (adv, rest) = address_in(rest)?;
+    let (sequence, rest) = hex_in(0xffff_ffff, rest)?;
+    let (age, rest) = number_in(0xffff, rest)?;
+    let (checksum, _) = hex_in(0xffff, rest)?;
+    let key = Key {
+        kind: kind as u8,
+        id: Addr(id),
+        adv: RouterId(adv),
+    };
+    let issue = Issue {
+        sequence,
+        checksum: checksum as u16,
+    };
+    let age = age as u16;
+    Some(Row { key, issue, age })
+}
+
+/// The row that stands under a heading.
+pub(crate) fn row_under(heading: Heading, line: &[u8]) -> Option<Row>
+    ensures { result ≡ row_under heading (words line.now) }
+{
+    match heading {
+        Heading::Table(kind, _) => table_row(kind, line),
+        Heading::Section(_) => section_row(line),
+    }
+}

@@ -1,0 +1,4 @@
+mod differences;
+mod growths;
+mod lists;
+mod pieces;

@@ -1,0 +1,89 @@
+//! What the lines of a list tell.
+
+ghost use Rattle.std.specs.Prelude.{◌≡◌, ◌++◌, IfOk, OnOk, None};
+ghost use Rattle.lsa_instances.specs.Order.{scope_told};
+ghost use Rattle.printed_databases.specs.Words.{words};
+ghost use Rattle.database_lists.specs.Lines.{lines};
+ghost use Rattle.database_lists.specs.Telling.{in_scope, row_told, told_by, told_in};
+
+use crate::header::Header;
+use crate::heading::Heading;
+use crate::hole::Hole;
+use crate::line::cut_at;
+use crate::mark::{Mark, mark_of};
+use crate::row::{Row, row_under};
+use lsa_codec::AreaId;
+use lsa_instances::{Place, Scope};
+use std::alloc::{AllocError, Allocator};
+
+/// What a line tells.
+#[derive(Clone, Copy, Debug)]
+pub(crate) enum Told {
+    /// A header.
+    Header(Header),
+    /// That there is none.
+    Hole(Hole),
+}
+
+/// What a row tells under the heading of an area, or of none.
+fn row_told(area: Option<AreaId>, row: Option<Row>) -> Told
+    ensures { result ≡ row_told area row }
+{
+    let Some(row) = row else {
+        return Told::Hole(Hole::Unreadable);
+    };
+    match Scope::of(row.key.kind, area) {
+        None => Told::Hole(Hole::NoArea(row.key)),
+        Some(scope) => Told::Header(Header {
+            place: Place {
+                scope,
+                key: row.key,
+            },
+            issue: row.issue,
+            age: row.age,
+        }),
+    }
+}
+
+/// Adds what a line tells.
+fn tell<A: Allocator + Copy>(
+    told: &mut Vec<Told, A>,
+    heading: Option<Heading>,
+    line: &[u8],
+    mark: Mark,
+) -> Result<(), AllocError>
+    ensures { OnOk result (told.new.items
+        ≡ told.old.items ++ told_by heading (words line.now) mark) }
+{
+    match (mark, heading) {
+        (Mark::Foreign, _) => {
+            told.push(Told::Hole(Hole::Unreadable))?;
+            Ok(())
+        }
+        (Mark::Row, Some(heading)) => {
+            told.push(row_told(heading.area(), row_under(heading, line)))?;
+            Ok(())
+        }
+        _ => Ok(()),
+    }
+}
+
+/// What the lines of a text tell, from the first line to the last.
+pub(crate) fn tellings<A: Allocator + Copy>(
+    alloc: A,
+    text: &[u8],
+) -> Result<Vec<Told, A>, AllocError>
+    ensures { IfOk result (λ told. told.items ≡ told_in None (lines text.now)) }
+{
+    let mut told = Vec::new(alloc);
+    let mut heading = None;
+    let mut rest = text;
+    while let Some((line, behind)) = cut_at(rest, b'\n') {
+        let mark = mark_of(line);
+        tell(&mut told, heading, line, mark)?;
+        heading = mark.heading_after(heading);
+        rest = behind;
+    }
+    tell(&mut told, heading, rest, mark_of(rest))?;
+    Ok(told)
+}
