@@ -1,5 +1,5 @@
 -- The words of a heading, one word after another.
-use Rattle.std.proofs.Common.{◌≡◌, Bool, true, false, List, [], ◌∷◌, refl, sym, ap, ◌∙◌}
+use Rattle.std.proofs.Common.{◌≡◌, Bool, true, false, [], ◌∷◌, refl, sym, ap, ◌∙◌}
 use Rattle.std.specs.Prelude.{◌||◌}
 use Rattle.printed_databases.specs.Words.{Word}
 use Rattle.database_lists.specs.Headings.{is_heading_word, has_heading_word}

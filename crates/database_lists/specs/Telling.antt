@@ -1,10 +1,9 @@
 -- What the lines of a list tell.
-use Rattle.std.specs.Prelude.{ℕ, Bool, true, false, List, [], ◌∷◌, ◌++◌, Option, Some, None}
+use Rattle.std.specs.Prelude.{Bool, true, false, List, [], ◌∷◌, ◌++◌, Option, Some, None}
 use Rattle.lsa_codec.specs.declared.address.AreaId.{AreaId}
 use Rattle.lsa_instances.specs.declared.place.Scope.{Scope}
 use Rattle.lsa_instances.specs.Order.{scope_told}
 use Rattle.database_lists.specs.declared.heading.Heading.{Heading}
-use Rattle.database_lists.specs.declared.header.Header.{Header}
 use Rattle.database_lists.specs.declared.hole.Hole.TheVariants as holes
 use Rattle.database_lists.specs.declared.mark.Mark.{Mark}
 use Rattle.database_lists.specs.declared.mark.Mark.TheVariants as marks

@@ -1,4 +1,4 @@
-use Rattle.std.proofs.Common.{ap, ◌∙◌, map}
+use Rattle.std.proofs.Common.{ap, map}
 use Rattle.lsa_instances.specs.declared.place.Scope.TheVariants as scopes
 use Rattle.lsdb.specs.Lists.{AreaHead, areas_of}
 use Rattle.lsdb.specs.Places.{lists_of}
