@@ -19,8 +19,8 @@ use Rattle.lsdb.specs.Lists.{AreaHead, Lists, areas_of, lsas_of}
 use Rattle.database_lists.specs.declared.difference.Change.{Change}
 use Rattle.database_lists.specs.declared.difference.Change.TheVariants as changes
 use Rattle.database_lists.specs.declared.difference.Difference.{Difference}
-use Rattle.database_lists.specs.declared.header.Header.{Header}
-use Rattle.database_lists.specs.declared.header.Issue.{Issue}
+use Rattle.lsa_instances.specs.declared.header.Header.{Header}
+use Rattle.lsa_instances.specs.declared.header.Issue.{Issue}
 use Rattle.database_lists.specs.declared.spot.Spot.{Spot}
 
 -- ---- which of two instances is newer

@@ -1,7 +1,7 @@
 -- What a list tells, sorted out.
 use Rattle.std.specs.Prelude.{ℕ, Bool, List, Option, Some, None}
 use Rattle.std.specs.List.{list_any}
-use Rattle.database_lists.specs.declared.header.Header.{Header}
+use Rattle.lsa_instances.specs.declared.header.Header.{Header}
 use Rattle.database_lists.specs.declared.hole.Hole.{Hole}
 use Rattle.database_lists.specs.declared.told.Told.{Told}
 use Rattle.database_lists.specs.declared.told.Told.TheVariants as tells

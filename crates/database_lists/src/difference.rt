@@ -9,9 +9,8 @@ ghost use Rattle.lsdb.specs.Places.{lists_of};
 ghost use Rattle.database_lists.specs.Comparing.{issue_cmp, is_flushed, change_by, change_of, differences, spot_cmp, spot_of};
 ghost use Rattle.database_lists.specs.steps.Compared.{difference_in};
 
-use crate::header::{Header, Issue};
 use crate::held::{Held, held_by, issue_at};
-use lsa_instances::{Place, Scope};
+use lsa_instances::{Header, Issue, Place, Scope};
 use lsdb::{Database, DumpFault, DumpFaultKind};
 use std::alloc::{AllocError, Allocator};
 use std::cmp::Ordering;

@@ -9,11 +9,10 @@ ghost use Rattle.database_lists.specs.Comparing.{issue_of, spot_cmp, held_in, he
 ghost use Rattle.std.specs.Map.{update_all};
 ghost use Rattle.std.specs.Ordering.{eq_by_cmp};
 
-use crate::header::Issue;
 use crate::spot::{Spot, spot_of};
 use byteorder::{BigEndian, ByteOrder};
 use lsa_codec::Lsa;
-use lsa_instances::{Place, Scope};
+use lsa_instances::{Issue, Place, Scope};
 use lsdb::{Database, Lsas, Section};
 use std::alloc::{AllocError, Allocator};
 use std::collections::BTreeMap;

@@ -17,7 +17,6 @@ mod title;
 
 // What is told.
 mod fault;
-mod header;
 mod hole;
 mod list;
 mod told;
@@ -29,9 +28,9 @@ mod spot;
 
 pub use difference::{Change, Difference, differences, differences_of_dump};
 pub use fault::ListFault;
-pub use header::{Header, Issue};
 pub use hole::Hole;
 pub use list::{Headers, read_list};
+pub use lsa_instances::{Header, Issue};
 
 #[cfg(test)]
 mod tests;

@@ -7,11 +7,11 @@ ghost use Rattle.database_lists.specs.Lines.{lines};
 ghost use Rattle.database_lists.specs.Sorting.{header_of, hole_of, told_of, has_heading, is_list};
 
 use crate::fault::ListFault;
-use crate::header::Header;
 use crate::hole::Hole;
 use crate::line::cut_at;
 use crate::mark::mark_of;
 use crate::told::{Told, tellings};
+use lsa_instances::Header;
 use std::alloc::{AllocError, Allocator, Global};
 
 /// What a list tells, in the order of its lines.

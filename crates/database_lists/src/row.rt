@@ -5,9 +5,9 @@ ghost use Rattle.printed_databases.specs.Words.{words};
 ghost use Rattle.printed_databases.specs.Numbers.{number_up_to, hex_up_to, address_of};
 ghost use Rattle.database_lists.specs.Rows.{marked_up_to, value_of, table_row, section_row, row_under};
 
-use crate::header::Issue;
 use crate::heading::Heading;
 use lsa_codec::{Addr, Key, RouterId};
+use lsa_instances::Issue;
 use printed_databases::{address_of, hex_up_to, next_word, number_up_to};
 
 /// What a row has.

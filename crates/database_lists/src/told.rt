@@ -6,14 +6,13 @@ ghost use Rattle.printed_databases.specs.Words.{words};
 ghost use Rattle.database_lists.specs.Lines.{lines};
 ghost use Rattle.database_lists.specs.Telling.{in_scope, row_told, told_by, told_in};
 
-use crate::header::Header;
 use crate::heading::Heading;
 use crate::hole::Hole;
 use crate::line::cut_at;
 use crate::mark::{Mark, mark_of};
 use crate::row::{Row, row_under};
 use lsa_codec::AreaId;
-use lsa_instances::{Place, Scope};
+use lsa_instances::{Header, Place, Scope};
 use std::alloc::{AllocError, Allocator};
 
 /// What a line tells.

@@ -1,8 +1,8 @@
 -- Differences from what a function has at each place.
 use Rattle.std.specs.Prelude.{Option, option_map}
 use Rattle.database_lists.specs.declared.difference.Difference.{Difference}
-use Rattle.database_lists.specs.declared.header.Header.{Header}
-use Rattle.database_lists.specs.declared.header.Issue.{Issue}
+use Rattle.lsa_instances.specs.declared.header.Header.{Header}
+use Rattle.lsa_instances.specs.declared.header.Issue.{Issue}
 use Rattle.database_lists.specs.declared.spot.Spot.{Spot}
 use Rattle.database_lists.specs.Comparing.{change_of, spot_of}
 
