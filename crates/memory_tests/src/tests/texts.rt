@@ -1,0 +1,66 @@
+//! What calls answer, as texts that say all of it. Readers alone make them: what is read holds an
+//! allocator that may refuse, and the texts have another one.
+
+ghost use Rattle.std.specs.Prelude.{◌≡◌, length};
+
+use area_graph::{Edge, Graph};
+use next_hops::{Hop, Hops};
+use rationed::Rationed;
+use spf::Tree;
+use std::alloc::Global;
+use std::test::*;
+
+/// Adds the edges out of a vertex.
+fn push_edges(text: &mut String, edges: &[Edge]) -> Result<(), Fail> {
+    for edge in edges {
+        write!(text, " {edge:?}")?;
+    }
+    Ok(())
+}
+
+/// The vertices of a graph, each with the edges out of it.
+pub(super) fn graph_text(alloc: Global, graph: &Graph<&Rationed>) -> Result<String, Fail> {
+    let mut text = String::new(alloc);
+    for index in 0..graph.len() {
+        let vertex = graph.vertex(index);
+        write!(text, "{vertex:?}")?;
+        push_edges(&mut text, graph.edges(index))?;
+    }
+    Ok(text)
+}
+
+/// The vertices that a tree reaches, each with its distance.
+pub(super) fn tree_text(alloc: Global, tree: &Tree<&Rationed>) -> Result<String, Fail> {
+    let root = tree.root();
+    let mut text = format!(in alloc; "{root}")?;
+    for index in tree.order() {
+        let index = usize::from(*index);
+        let distance = tree.distance(index);
+        write!(text, " {index} {distance:?}")?;
+    }
+    Ok(text)
+}
+
+/// Adds hops.
+fn push_hops(text: &mut String, hops: &[Hop]) -> Result<(), Fail> {
+    for hop in hops {
+        write!(text, " {hop:?}")?;
+    }
+    Ok(())
+}
+
+/// The hops of each vertex of a graph.
+pub(super) fn hops_text(
+    alloc: Global,
+    graph: &Graph<&Rationed>,
+    hops: &Hops<&Rationed>,
+) -> Result<String, Fail>
+    requires { length hops.now ≡ length graph.now.vertices }
+{
+    let mut text = String::new(alloc);
+    for index in 0..graph.len() {
+        write!(text, "{index}")?;
+        push_hops(&mut text, hops.of(index))?;
+    }
+    Ok(text)
+}
