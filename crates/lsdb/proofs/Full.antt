@@ -12,7 +12,7 @@ full-push [] x = refl
 full-push (None ∷ ps) x = full-push ps x
 full-push (Some y ∷ ps) x = ap (λ (ys : List (List ℕ)). y ∷ ys) (full-push ps x)
 
-full-skip : (ps : List Place) → full (ps ++ None ∷ []) ≡ full ps
+pub full-skip : (ps : List Place) → full (ps ++ None ∷ []) ≡ full ps
 full-skip [] = refl
 full-skip (None ∷ ps) = full-skip ps
 full-skip (Some y ∷ ps) = ap (λ (ys : List (List ℕ)). y ∷ ys) (full-skip ps)

@@ -42,7 +42,7 @@ equal_last x y =
       by_test true = refl
       by_test false = refl
 
-is_at_key : (a b : Key) → is_at (key_cmp a) b ≡ same_key a b
+pub is_at_key : (a b : Key) → is_at (key_cmp a) b ≡ same_key a b
 is_at_key a b =
     equal_then a.kind b.kind _ ∙ ap (λ t. eqb a.kind b.kind && t) (equal_then a.id.0 b.id.0 _ ∙ ap (λ t. eqb a.id.0 b.id.0 && t) (equal_last a.adv.0 b.adv.0))
 

@@ -104,13 +104,13 @@ section_count {A} ss = ap length (shown_all ss) ∙ length-map ss shown
 -- what is found in the places of a section is found in the database
 pub found_in : {A : Type 0}
     → (ss : List (SectionOf A)) (section index : ℕ) (s : SectionOf A) (places : List Place) (key : Key)
-    → IsSome (item_at (lists_of (places_of ss)) section) → s ≡ get_or ss section s → places ≡ s.places.items
+    → IsSome (item_at (lists_of (places_of ss)) section) → s ≡ get_or ss section s → places ≡ s.places
     → IsFirstIndex places (has_key key) index
     → IsFirstPlace (places_of ss) section (has_key key) (record { section = section; index = index })
 found_in {A} [] section index s places key some h e found = absurd (search rules)
 found_in {A} (t ∷ ss) zero index s places key some h e found =
-    let same : places ≡ t.places.items = e ∙ ap (λ (x : SectionOf A). x.places.items) h in
-    let at : IsFirstIndex t.places.items (has_key key) index = subst (λ (ps : List Place). IsFirstIndex ps (has_key key) index) same found in
+    let same : places ≡ t.places = e ∙ ap (λ (x : SectionOf A). x.places) h in
+    let at : IsFirstIndex t.places (has_key key) index = subst (λ (ps : List Place). IsFirstIndex ps (has_key key) index) same found in
     record { same = refl; held = at.held; found = at.found }
 found_in {A} (t ∷ ss) (suc section) index s places key some h e found =
     let at = found_in ss section index s places key some h e found in
@@ -118,10 +118,10 @@ found_in {A} (t ∷ ss) (suc section) index s places key some h e found =
 
 pub none_in : {A : Type 0}
     → (ss : List (SectionOf A)) (section : ℕ) (s : SectionOf A) (places : List Place) (key : Key)
-    → IsSome (item_at (lists_of (places_of ss)) section) → s ≡ get_or ss section s → places ≡ s.places.items
+    → IsSome (item_at (lists_of (places_of ss)) section) → s ≡ get_or ss section s → places ≡ s.places
     → find (has_key key) (full places) ≡ None → find (has_key key) (lsas_in (places_of ss) section) ≡ None
 none_in {A} [] section s places key some h e found = absurd (search rules)
 none_in {A} (t ∷ ss) zero s places key some h e found =
-    let same : places ≡ t.places.items = e ∙ ap (λ (x : SectionOf A). x.places.items) h in
+    let same : places ≡ t.places = e ∙ ap (λ (x : SectionOf A). x.places) h in
     subst (λ (ps : List Place). find (has_key key) (full ps) ≡ None) same found
 none_in {A} (t ∷ ss) (suc section) s places key some h e found = none_in ss section s places key some h e found

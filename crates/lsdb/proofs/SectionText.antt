@@ -52,6 +52,13 @@ pub record AreLsas (area : Option AreaHead) (lsas : List (List ℕ)) : Type 0 wh
 no_lsas : (area : Option AreaHead) → AreLsas area []
 no_lsas area = record { accepted = λ k d lt. absurd (omega arith); scope = λ k d lt. absurd (omega arith); distinct = λ i j d lt up. absurd (omega arith) }
 
+-- the keys stay apart with that of an LSA that is new
+pub apart_push : (seen : List (List ℕ)) (lsa : List ℕ) → AllPairs (λ a b. a ≢ b) (map key_of seen) → has_key_of seen lsa ≡ false
+    → AllPairs (λ a b. a ≢ b) (map key_of (seen ++ lsa ∷ []))
+apart_push seen lsa old new =
+    subst (AllPairs (λ a b. a ≢ b)) (sym (map_push key_of seen lsa))
+    (all_pairs_push (λ a b. a ≢ b) (map key_of seen) (key_of lsa) old (key_apart (key_of lsa) seen new))
+
 lsas_push : (area : Option AreaHead) (seen : List (List ℕ)) (lsa : List ℕ) → AreLsas area seen
     → IsAccepted lsa → is_in_scope area (key_of lsa) ≡ true → has_key_of seen lsa ≡ false
     → AreLsas area (seen ++ lsa ∷ [])
@@ -62,9 +69,7 @@ lsas_push area seen lsa old accepted scope new =
       scope =
           subst (All (λ key. is_in_scope area key ≡ true)) (sym keys)
           (All-push (λ key. is_in_scope area key ≡ true) (map key_of seen) (key_of lsa) old.scope scope);
-      distinct =
-          subst (AllPairs (λ a b. a ≢ b)) (sym keys)
-          (all_pairs_push (λ a b. a ≢ b) (map key_of seen) (key_of lsa) old.distinct (key_apart (key_of lsa) seen new));
+      distinct = apart_push seen lsa old.distinct new;
     }
 
 -- an LSA behind others

@@ -1,9 +1,13 @@
 -- What a write in memory changes of what is seen.
-use Rattle.std.proofs.Common.{◌≡◌, ℕ, zero, suc, List, [], ◌∷◌, ◌++◌, length, get_or, Option, Some, None, refl, sym, ap, ◌∙◌, rules}
+use Rattle.std.proofs.Common.{◌≡◌, ℕ, zero, suc, ◌<◌, List, [], ◌∷◌, ◌++◌, length, get_or, Option, Some, None, refl, sym, ap, subst, ◌∙◌, arith, rules}
 use Rattle.std.specs.Prelude.{IsSome, slice_set, option_map}
 use Rattle.lsdb.specs.declared.slot.SlotId.{SlotId}
 use Rattle.lsdb.specs.declared.database.SectionOf.{SectionOf}
-use Rattle.lsdb.specs.Places.{Place, Places, SectionPlaces, update_at, item_at, put_place, put, place_in, slot_at, open_at}
+use Rattle.std.specs.Prelude.{All}
+use Rattle.std.proofs.lemmas.List.Elements.{All-head, All-tail}
+use Rattle.lsdb.specs.Lists.{IsSection}
+use Rattle.lsdb.specs.Places.{Place, Places, SectionPlaces, update_at, item_at, put_place, put, place_in, slot_at, open_at, full, section_of, lists_of}
+use Rattle.lsdb.specs.steps.NotedKeys.{AreApart}
 use Rattle.lsdb.specs.declared.database.Head.{Head}
 use Rattle.lsdb.specs.steps.View.{head_of, section_places_of, places_of}
 
@@ -25,50 +29,45 @@ section_exists : (o : Option SectionPlaces) (i : ℕ) → IsSome (place_in o i) 
 section_exists None i h = h
 section_exists (Some s) i h = search rules
 
-place_read : (ps : List Place) (i : ℕ) (w : Place) → IsSome (item_at ps i) → w ≡ get_or ps i w → item_at ps i ≡ Some w
-place_read [] i w some h = absurd (search rules)
-place_read (p ∷ ps) zero w some h = ap (λ (q : Place). Some q) (sym h)
-place_read (p ∷ ps) (suc i) w some h = place_read ps i w some h
-
 slot_read : {A : Type 0} → (ss : List (SectionOf A)) (section i : ℕ) (old : SectionOf A) (w : Place)
     → IsSome (place_in (item_at (places_of ss) section) i) → old ≡ get_or ss section old
-    → w ≡ get_or old.places.items i w → place_in (item_at (places_of ss) section) i ≡ Some w
+    → item_at old.places i ≡ Some w → place_in (item_at (places_of ss) section) i ≡ Some w
 slot_read {A} [] section i old w some h e = absurd (search rules)
-slot_read {A} (s ∷ ss) zero i old w some h e = place_read s.places.items i w some (e ∙ ap (λ (o : SectionOf A). get_or o.places.items i w) h)
+slot_read {A} (s ∷ ss) zero i old w some h e = ap (λ (o : SectionOf A). item_at o.places i) (sym h) ∙ e
 slot_read {A} (s ∷ ss) (suc section) i old w some h e = slot_read ss section i old w some h e
 
 pub swap_read : {A : Type 0} → (ss : List (SectionOf A)) (slot : SlotId) (old : SectionOf A) (w : Place)
     → IsSome (slot_at (places_of ss) slot) → old ≡ get_or ss slot.section old
-    → w ≡ get_or old.places.items slot.index w → slot_at (places_of ss) slot ≡ Some w
+    → item_at old.places slot.index ≡ Some w → slot_at (places_of ss) slot ≡ Some w
 swap_read {A} ss slot old w some h e = slot_read ss slot.section slot.index old w some h e
 
 pub swap_put : {A : Type 0} → (ss : List (SectionOf A)) (slot : SlotId) (old t : SectionOf A) (v : Place)
     → IsSome (slot_at (places_of ss) slot) → old ≡ get_or ss slot.section old → t.area ≡ old.area
-    → t.places.items ≡ slice_set old.places.items slot.index v
+    → t.places ≡ put_place v old.places slot.index
     → places_of (slice_set ss slot.section t) ≡ put (places_of ss) slot v
 swap_put {A} ss slot old t v some h area items =
     let f : SectionPlaces → SectionPlaces = λ p. record { area = p.area; places = put_place v p.places slot.index } in
-    let same_area = λ (a : Option Head). let p : SectionPlaces = record { area = option_map head_of a; places = t.places.items } in p in
+    let same_area = λ (a : Option Head). let p : SectionPlaces = record { area = option_map head_of a; places = t.places } in p in
     let same_items = λ (ps : List Place). let p : SectionPlaces = record { area = option_map head_of old.area; places = ps } in p in
     section_set f ss slot.section old t (section_exists (item_at (places_of ss) slot.section) slot.index some) h
-    (ap same_area area ∙ ap same_items (items ∙ place_set v old.places.items slot.index))
+    (ap same_area area ∙ ap same_items items)
 
 pub open_places : {A : Type 0} → (ss : List (SectionOf A)) (section : ℕ) (old t : SectionOf A)
     → IsSome (item_at (places_of ss) section) → old ≡ get_or ss section old → t.area ≡ old.area
-    → t.places.items ≡ old.places.items ++ None ∷ []
+    → t.places ≡ old.places ++ None ∷ []
     → places_of (slice_set ss section t) ≡ open_at (places_of ss) section
 open_places {A} ss section old t some h area items =
     let f : SectionPlaces → SectionPlaces = λ p. record { area = p.area; places = p.places ++ None ∷ [] } in
-    let same_area = λ (a : Option Head). let p : SectionPlaces = record { area = option_map head_of a; places = t.places.items } in p in
+    let same_area = λ (a : Option Head). let p : SectionPlaces = record { area = option_map head_of a; places = t.places } in p in
     let same_items = λ (ps : List Place). let p : SectionPlaces = record { area = option_map head_of old.area; places = ps } in p in
     section_set f ss section old t some h (ap same_area area ∙ ap same_items items)
 
 -- nothing was pushed
 pub kept_places : {A : Type 0} → (ss : List (SectionOf A)) (section : ℕ) (old t : SectionOf A)
     → IsSome (item_at (places_of ss) section) → old ≡ get_or ss section old → t.area ≡ old.area
-    → t.places.items ≡ old.places.items → places_of (slice_set ss section t) ≡ places_of ss
+    → t.places ≡ old.places → places_of (slice_set ss section t) ≡ places_of ss
 kept_places {A} ss section old t some h area items =
-    let same_area = λ (a : Option Head). let p : SectionPlaces = record { area = option_map head_of a; places = t.places.items } in p in
+    let same_area = λ (a : Option Head). let p : SectionPlaces = record { area = option_map head_of a; places = t.places } in p in
     let same_items = λ (ps : List Place). let p : SectionPlaces = record { area = option_map head_of old.area; places = ps } in p in
     section_set (λ p. p) ss section old t some h (ap same_area area ∙ ap same_items items) ∙ kept (places_of ss) section where
       kept : (ps : Places) (i : ℕ) → update_at (λ p. p) ps i ≡ ps
@@ -82,7 +81,36 @@ place_opened (p ∷ ps) = place_opened ps
 
 pub slot_opened : {A : Type 0} → (ss : List (SectionOf A)) (section : ℕ) (old : SectionOf A)
     → IsSome (item_at (places_of ss) section) → old ≡ get_or ss section old
-    → place_in (item_at (open_at (places_of ss) section) section) (length old.places.items) ≡ Some None
+    → place_in (item_at (open_at (places_of ss) section) section) (length old.places) ≡ Some None
 slot_opened {A} [] section old some h = absurd (search rules)
-slot_opened {A} (s ∷ ss) zero old some h = rw h (place_opened s.places.items)
+slot_opened {A} (s ∷ ss) zero old some h = rw h (place_opened s.places)
 slot_opened {A} (s ∷ ss) (suc section) old some h = slot_opened ss section old some h
+
+-- ---- what an exchange asks
+
+place_within : (ps : List Place) (i : ℕ) → IsSome (item_at ps i) → i < length ps
+place_within [] i some = absurd (search rules)
+place_within (p ∷ ps) zero some = omega arith
+place_within (p ∷ ps) (suc i) some = omega (arith, place_within ps i some)
+
+pub slot_within : {A : Type 0} → (ss : List (SectionOf A)) (section i : ℕ) (old : SectionOf A)
+    → IsSome (place_in (item_at (places_of ss) section) i) → old ≡ get_or ss section old → i < length old.places
+slot_within {A} [] section i old some h = absurd (search rules)
+slot_within {A} (s ∷ ss) zero i old some h = subst (λ (o : SectionOf A). i < length o.places) (sym h) (place_within s.places i some)
+slot_within {A} (s ∷ ss) (suc section) i old some h = slot_within ss section i old some h
+
+-- in a database no two LSAs of a section have one key
+pub slot_apart : {A : Type 0} → (ss : List (SectionOf A)) (slot : SlotId) (old : SectionOf A) (v : Place)
+    → IsSome (slot_at (places_of ss) slot) → old ≡ get_or ss slot.section old
+    → All IsSection (lists_of (put (places_of ss) slot v)) → AreApart (put_place v old.places slot.index)
+slot_apart {A} ss slot old v some h sound = apart_in ss slot.section slot.index old v some h sound where
+  apart_in : {A : Type 0} → (ss : List (SectionOf A)) (section i : ℕ) (old : SectionOf A) (v : Place)
+      → IsSome (place_in (item_at (places_of ss) section) i) → old ≡ get_or ss section old
+      → All IsSection (lists_of (put (places_of ss) (record { section = section; index = i }) v)) → AreApart (put_place v old.places i)
+  apart_in {A} [] section i old v some h sound = absurd (search rules)
+  apart_in {A} (s ∷ ss) zero i old v some h sound =
+      let first = All-head IsSection (record { area = option_map head_of s.area; lsas = full (put_place v s.places i) }) (lists_of (places_of ss)) sound in
+      subst (λ (o : SectionOf A). AreApart (put_place v o.places i)) (sym h) first.keys.distinct
+  apart_in {A} (s ∷ ss) (suc section) i old v some h sound =
+      apart_in ss section i old v some h
+      (All-tail IsSection (section_of (section_places_of s)) (lists_of (put (places_of ss) (record { section = section; index = i }) v)) sound)

@@ -24,10 +24,10 @@ first_full ps rest i j lsa p within next here some behind same =
 
 pub section_seen : {A : Type 0}
     → (ss : List (SectionOf A)) (section : ℕ) (s : SectionOf A) (places : List Place)
-    → IsSome (item_at (lists_of (places_of ss)) section) → s ≡ get_or ss section s → places ≡ s.places.items
+    → IsSome (item_at (lists_of (places_of ss)) section) → s ≡ get_or ss section s → places ≡ s.places
     → full places ≡ lsas_in (places_of ss) section
 section_seen {A} [] section s places some h e = absurd (search rules)
-section_seen {A} (t ∷ ss) zero s places some h e = ap (λ (ps : List Place). full ps) (e ∙ ap (λ (x : SectionOf A). x.places.items) h)
+section_seen {A} (t ∷ ss) zero s places some h e = ap (λ (ps : List Place). full ps) (e ∙ ap (λ (x : SectionOf A). x.places) h)
 section_seen {A} (t ∷ ss) (suc section) s places some h e = section_seen ss section s places some h e
 
 -- ---- their number

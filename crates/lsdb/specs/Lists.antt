@@ -36,11 +36,15 @@ abbrev pub limit_of : Option AreaHead → ℕ
 limit_of None = most_lsas_of_as
 limit_of (Some area) = most_lsas_of_area
 
+-- no two of the keys are the same
+abbrev pub AreDistinct : List Key → Type 0
+AreDistinct keys = AllPairs (λ a b. a ≢ b) keys
+
 -- the keys of one section
 pub record AreKeys (area : Option AreaHead) (keys : List Key) : Type 0 where
   pub few : length keys ≤ limit_of area
   pub scope : All (λ key. is_in_scope area key ≡ true) keys
-  pub distinct : AllPairs (λ a b. a ≢ b) keys
+  pub distinct : AreDistinct keys
 
 pub record IsSection (section : SectionLsas) : Type 0 where
   pub accepted : All IsAccepted section.lsas

@@ -2,3 +2,4 @@
 pub mod View
 pub mod Reading
 pub mod OnePlace
+pub mod NotedKeys

@@ -29,7 +29,7 @@ fn copy_of_sections<A: Allocator + Copy>(
 {
     let mut copy = Vec::with_capacity(alloc, sections.len())?;
     for section in sections {
-        let places = copy_of_places(alloc, &section.places)?;
+        let places = section.places.clone_of(alloc)?;
         copy.push(SectionOf {
             area: section.area,
             places,
@@ -38,7 +38,8 @@ fn copy_of_sections<A: Allocator + Copy>(
     Ok(copy)
 }
 
-fn copy_of_places<A: Allocator + Copy>(
+/// A copy of each place.
+pub(crate) fn copy_of_places<A: Allocator + Copy>(
     alloc: A,
     places: &[Option<Lsa<A>>],
 ) -> Result<Vec<Option<Lsa<A>>, A>, AllocError>

@@ -6,7 +6,8 @@ ghost use Rattle.lsdb.specs.Lists.{IsDatabase, size};
 ghost use Rattle.lsdb.specs.Places.{lists_of};
 ghost use Rattle.lsdb.specs.steps.View.{places_of};
 
-use lsa_codec::{AreaId, Lsa};
+use crate::keyed_places::KeyedPlaces;
+use lsa_codec::AreaId;
 use std::alloc::{Allocator, Global};
 use std::marker::Model;
 
@@ -21,7 +22,7 @@ pub(crate) struct Head {
 #[derive(Drop)]
 pub(crate) struct SectionOf<A: Allocator> {
     pub(crate) area: Option<Head>,
-    pub(crate) places: Vec<Option<Lsa<A>>, A>,
+    pub(crate) places: KeyedPlaces<A>,
 }
 
 /// A link state database: areas in rising order of their IDs, and the LSAs of AS scope behind

@@ -55,14 +55,15 @@ fn put_section<A: Allocator + Copy>(
     out: &mut Vec<u8, A>,
     section: &SectionOf<A>,
 ) -> Result<(), AllocError>
-    requires { length (full section.now.places.items) < 2 ^ 16 }
+    requires { length (full section.now.places) < 2 ^ 16 }
     ensures { OnOk result (out.new.items
         ≡ out.old.items ++ section_text (section_of (section_places_of section.now))) }
 {
     put_head(out, section.area)?;
-    let count = count_of(&section.places) as u16;
+    let places = section.places.as_slice();
+    let count = count_of(places) as u16;
     out.extend_from_slice(&count.to_be_bytes())?;
-    put_lsas(out, &section.places)
+    put_lsas(out, places)
 }
 
 impl<A: Allocator + Copy> Database<A> {

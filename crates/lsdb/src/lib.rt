@@ -16,6 +16,7 @@ mod cursor;
 mod database;
 mod dump;
 mod fault;
+mod keyed_places;
 mod laws;
 mod limits;
 mod lists;

@@ -49,7 +49,7 @@ impl<A: Allocator + Copy> Database<A> {
         ensures lsas { result ≡ lsas_in self.now section }
         ensures few { length result ≤ 65535 }
     {
-        Lsas::of(&self.sections[section].places)
+        Lsas::of(self.sections[section].places.as_slice())
     }
 
     /// The LSAs of a section, in order; none where there is no such section.
@@ -63,19 +63,24 @@ impl<A: Allocator + Copy> Database<A> {
         }
     }
 
-    /// How many LSAs a section has, by the section's number.
+    /// How many LSAs a section has, by the section's number. They are counted as they come and
+    /// go, so it does not go through them.
     pub fn count_in(&self, section: usize) -> usize
         requires { IsSome (item_at (lists_of self.now) section) }
         ensures { result ≡ length (lsas_in self.now section) }
     {
-        self.lsas_in(section).count()
+        self.sections[section].places.count()
     }
 
-    /// How many LSAs a section has; 0 where there is no such section.
+    /// How many LSAs a section has; 0 where there is no such section. It does not go through the
+    /// LSAs.
     pub fn count(&self, section: Section) -> usize
         ensures { result ≡ length (lsas_of section (lists_of self.now)) }
     {
-        self.lsas(section).count()
+        match self.index_of(section) {
+            Some(index) => self.count_in(index),
+            None => 0,
+        }
     }
 
     /// LSA `i` of a section, counted from 0. It is found from the front: to read all of a

@@ -3,6 +3,7 @@
 ghost use Rattle.std.specs.Prelude.{◌≡◌, length, [], Ok, Some, None, IfOk, IfErr, Result, option_map};
 ghost use Rattle.lsdb.specs.Lists.{is_in_scope, limit_of, Lists, IsDatabase, size};
 ghost use Rattle.lsdb.specs.Places.{full, section_of, lists_of};
+ghost use Rattle.lsdb.specs.steps.NotedKeys.{AreApart};
 ghost use Rattle.lsdb.specs.steps.View.{head_of, section_places_of, places_of};
 ghost use Rattle.lsdb.specs.Text.{text};
 ghost use Rattle.lsdb.specs.steps.Reading.{at_of, Gives, told_fault};
@@ -12,6 +13,7 @@ use crate::cursor::Cursor;
 use crate::database::{Database, Head, SectionOf};
 use crate::dump::{MAGIC, VERSION};
 use crate::fault::{DumpFault, DumpFaultKind, ReadError};
+use crate::keyed_places::KeyedPlaces;
 use crate::limits::{LONGEST_DUMP, MOST_AREAS, MOST_LSAS_OF_AREA, MOST_LSAS_OF_AS};
 use crate::read::{advanced, fault, read_u8, read_u16, read_u32};
 use lsa_codec::{AS_OPAQUE_LSA, AreaId, EXTERNAL_LSA, Key, Lsa, LsaFault};
@@ -64,8 +66,9 @@ fn read_lsas<'a, A: Allocator + Copy>(
     count: u16,
     start: Cursor<'a>,
 ) -> Result<(Vec<Option<Lsa<A>>, A>, Cursor<'a>), ReadError>
-    ensures { Gives (λ x. (full x.0.items, at_of x.1))
+    ensures lsas { Gives (λ x. (full x.0.items, at_of x.1))
         result (lsas_from (option_map head_of area) count [] (at_of start.entry)) }
+    ensures apart { IfOk result (λ x. AreApart x.0.items) }
 {
     let mut places = Vec::new(alloc);
     let mut keys = BTreeSet::new(alloc);
@@ -95,6 +98,7 @@ fn read_section<'a, A: Allocator + Copy>(
         return Err(fault(at, DumpFaultKind::TooManyLsas));
     }
     let (places, rest) = read_lsas(alloc, area, count, rest)?;
+    let places = KeyedPlaces::of(alloc, places)?;
     Ok((SectionOf { area, places }, rest))
 }
 

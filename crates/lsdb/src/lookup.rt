@@ -3,14 +3,13 @@
 ghost use Rattle.std.specs.Prelude.{◌≡◌, None, IsSome, MatchOption, option_map};
 ghost use Rattle.std.specs.List.{find};
 ghost use Rattle.lsdb.specs.Lists.{is_head_of, is_section, has_key, lsas_of};
-ghost use Rattle.lsdb.specs.Places.{item_at, lists_of, lsas_in, full, IsFirstPlace, IsNamed, IsPlaceOf};
-ghost use Rattle.lsdb.specs.steps.OnePlace.{place_has_key, IsFirstIndex};
+ghost use Rattle.lsdb.specs.Places.{item_at, lists_of, lsas_in, IsFirstPlace, IsNamed, IsPlaceOf};
 ghost use Rattle.lsdb.specs.steps.View.{head_of};
 
 use crate::database::{Database, Head};
 use crate::section::Section;
 use crate::slot::SlotId;
-use lsa_codec::{Key, Lsa};
+use lsa_codec::Key;
 use std::alloc::Allocator;
 
 impl<A: Allocator + Copy> Database<A> {
@@ -34,7 +33,7 @@ impl<A: Allocator + Copy> Database<A> {
         ensures { MatchOption result (find (has_key key) (lsas_in self.now section) ≡ None)
             (IsFirstPlace self.now section (has_key key)) }
     {
-        let Some(index) = find_place(&self.sections[section].places, key) else {
+        let Some(index) = self.sections[section].places.find(key) else {
             return None;
         };
         Some(SlotId { section, index })
@@ -61,28 +60,5 @@ fn is_head_of(section: Section, head: Option<Head>) -> bool
         (Section::Area(id), Some(head)) => head.id.0 == id.0,
         (Section::Area(_), None) => false,
         (Section::AsWide, head) => head.is_none(),
-    }
-}
-
-/// The index of the place with the LSA of a key; `None` where no place has it.
-fn find_place<A: Allocator + Copy>(places: &[Option<Lsa<A>>], key: Key) -> Option<usize>
-    ensures { MatchOption result (find (has_key key) (full places.now) ≡ None)
-        (IsFirstIndex places.now (has_key key)) }
-{
-    for index in 0..places.len() {
-        if has_key(&places[index], key) {
-            return Some(index);
-        }
-    }
-    None
-}
-
-/// Whether an LSA with this key stands at a place.
-fn has_key<A: Allocator + Copy>(place: &Option<Lsa<A>>, key: Key) -> bool
-    ensures { result ≡ place_has_key key place.now }
-{
-    match place {
-        Some(lsa) => lsa.key() == key,
-        None => false,
     }
 }

@@ -12,7 +12,6 @@ use crate::section::Section;
 use crate::slot::{SlotFault, SlotId};
 use lsa_codec::Lsa;
 use std::alloc::{AllocError, Allocator};
-use std::mem;
 
 impl<A: Allocator + Copy> Database<A> {
     /// How many sections it has: its areas, and the LSAs of AS scope.
@@ -27,7 +26,7 @@ impl<A: Allocator + Copy> Database<A> {
         requires { IsSome (item_at self.now section) }
         ensures { result ≡ length (places_in self.now section) }
     {
-        self.sections[section].places.len()
+        self.sections[section].places.as_slice().len()
     }
 
     /// The LSA at a place; `None` where the place is empty, and where there is no such place.
@@ -36,7 +35,7 @@ impl<A: Allocator + Copy> Database<A> {
             (λ lsa. slot_at self.now slot ≡ Some (Some lsa.now)) }
     {
         let section = self.sections.get(slot.section)?;
-        let place = section.places.get(slot.index)?;
+        let place = section.places.as_slice().get(slot.index)?;
         place.as_ref()
     }
 
@@ -49,10 +48,9 @@ impl<A: Allocator + Copy> Database<A> {
         ensures sound_before { IsDatabase (lists_of self.old) }
     {
         let section = &mut self.sections[slot.section];
-        let taken = place_size(&section.places[slot.index]);
         let given = place_size(place);
-        mem::swap(&mut section.places[slot.index], place);
-        self.octets = self.octets - taken + given;
+        section.places.swap(slot.index, place);
+        self.octets = self.octets - place_size(place) + given;
     }
 
     /// Opens an empty place at the end of a section, by the section's number. The lists of LSAs
@@ -66,8 +64,8 @@ impl<A: Allocator + Copy> Database<A> {
         ensures err { OnErr result (self.new ≡ self.old) }
     {
         let places = &mut self.sections[section].places;
-        let index = places.len();
-        places.push(None)?;
+        let index = places.as_slice().len();
+        places.push_empty()?;
         Ok(SlotId { section, index })
     }
 

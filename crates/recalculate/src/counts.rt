@@ -74,7 +74,7 @@ fn lsas<A: Allocator + Copy>(database: &Database<A>) -> usize
     let mut count = 0;
     for i in 0..database.area_count() {
         let (area, _is_stub) = database.area(i);
-        count += database.lsas(Section::Area(area)).count();
+        count += database.count(Section::Area(area));
     }
     count
 }

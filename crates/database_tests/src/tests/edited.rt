@@ -4,9 +4,9 @@
 ghost use Rattle.std.specs.Prelude.{IfOk};
 ghost use Rattle.edit_history.specs.Journal.{Links};
 
-use crate::edited;
 use edit_history::{EditFault, History, RedoFault, UndoFault};
 use edit_script::Edit;
+use edited_databases::edited;
 use lsdb::Database;
 use std::alloc::Allocator;
 use std::test::Fail;

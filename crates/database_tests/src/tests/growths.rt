@@ -2,9 +2,9 @@
 
 use super::edited::{apply_and_push, edited};
 use super::nets::{BACKBONE, NETS, TEN_EDITS, edit_of, is_after};
-use crate::filled::area_of;
 use edit_history::{EditFault, History, apply};
 use edit_script::Edit;
+use edited_databases::filled::area_of;
 use lsdb::{Database, SlotFault};
 use rationed::Rationed;
 use std::alloc::Global;
@@ -100,10 +100,10 @@ fn growths_of_opening(alloc: Global, dump: &[u8]) -> Result<u64, Fail> {
     Err("a place")?
 }
 
-/// A list of LSAs that was loaded has room for a power of two.
+/// A list of LSAs that was loaded has room for a power of two, and its index for each of them.
 #[test]
 fn a_refused_place_changes_nothing(rt: HostRuntime) -> Result<(), Fail> {
-    for (lsas, growths) in [(7, 0), (8, 1), (16, 1)] {
+    for (lsas, growths) in [(7, 1), (8, 2), (16, 2)] {
         let dump = area_of(rt.alloc(), lsas)?;
         assert_eq!(rt;
             growths_of_opening(rt.alloc(), &dump)?,

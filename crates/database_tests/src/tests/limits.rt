@@ -1,8 +1,8 @@
 //! The limits of LSAs where no memory is left: a limit comes before want of memory.
 
 use super::nets::edit_of;
-use crate::filled::{area_of, as_list_of};
 use edit_history::{EditFault, apply};
+use edited_databases::filled::{area_of, as_list_of};
 use lsdb::Database;
 use rationed::Rationed;
 use std::alloc::Global;

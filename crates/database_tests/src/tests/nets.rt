@@ -1,7 +1,7 @@
 //! A database, octet by octet, edits of it as lines of scripts, and what the edits lead to.
 
-use crate::{edited, lines};
 use edit_script::Edit;
+use edited_databases::{edited, lines};
 use lsa_codec::AreaId;
 use lsdb::{Database, Section};
 use std::alloc::{Allocator, Global};

@@ -2,8 +2,8 @@
 
 use super::growths::growths_of;
 use super::nets::{BACKBONE, edit_of};
-use crate::edited::is_after;
 use edit_history::{EditFault, apply};
+use edited_databases::edited::is_after;
 use lsa_codec::AreaId;
 use lsdb::{Database, Section};
 use rationed::Rationed;

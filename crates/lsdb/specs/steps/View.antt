@@ -10,7 +10,7 @@ abbrev pub head_of : Head → AreaHead
 head_of h = record { id = h.id.0; is_stub = h.is_stub }
 
 abbrev pub section_places_of : {A : Type 0} → SectionOf A → SectionPlaces
-section_places_of s = record { area = option_map head_of s.area; places = s.places.items }
+section_places_of s = record { area = option_map head_of s.area; places = s.places }
 
 abbrev pub places_of : {A : Type 0} → List (SectionOf A) → Places
 places_of ss = map section_places_of ss

@@ -1,4 +1,7 @@
-use Rattle.std.proofs.Common.{[], ◌∷◌, ◌++◌, ◌∙◌, ap, sym, ◌≡◌, option_map}
+use Rattle.std.proofs.Common.{[], ◌∷◌, ◌++◌, ◌∙◌, ap, sym, subst, map, List, ℕ, ◌≡◌, ◌≢◌, option_map}
+use Rattle.std.specs.Prelude.{AllPairs}
+use Rattle.lsa_codec.specs.Key.{key_of}
+use Rattle.lsdb.proofs.SectionText.{apart_push}
 use Rattle.std.proofs.lemmas.Bool.{not-false, not-true}
 use Rattle.std.proofs.lemmas.Result.{err_from_is_err_and}
 use Rattle.lsdb.specs.Places.{full}
@@ -10,14 +13,14 @@ use Rattle.lsdb.proofs.Keys.{inserted, keys_push}
 use Rattle.lsdb.proofs.Loop.{lsas_goes_on, lsas_end, lsas_twice, lsas_done}
 use Rattle.lsdb.proofs.load.read_lsas.Goals as goal
 
-pub returns-in_err-lsa : goal.returns-in_err-lsa
-returns-in_err-lsa g c =
+pub returns-in_err-lsa-clause-lsas : goal.returns-in_err-lsa-clause-lsas
+returns-in_err-lsa-clause-lsas g c =
     let p = err_from_is_err_and c.from_residual.result c.from_residual.ensures.1 in
     rw (p.1, p.2) (lsas_end c.in_err-lsa.field-0.0 (option_map head_of c.args.area) c.args.count c.loop.counter
     (full c.loop.places.items) (at_of c.loop.at) _ c.loop-test.true c.in_err-lsa.ensures c.loop.invariant.reading)
 
-pub returns-then-not-branch : goal.returns-then-not-branch
-returns-then-not-branch g c =
+pub returns-then-not-branch-clause-lsas : goal.returns-then-not-branch-clause-lsas
+returns-then-not-branch-clause-lsas g c =
     let seen = full c.loop.places.items in
     let told = inserted c.loop.keys seen c.in_ok-lsa.lsa c.key.result c.in_ok-insert.field-0 c.loop.invariant.keys c.key.ensures c.in_ok-insert.ensures.added in
     let again = not-false (has_key_of seen c.in_ok-lsa.lsa) (sym told ∙ c.if-not-branch.true) in
@@ -38,9 +41,10 @@ loop-preserved g c =
       keys =
           rw pushed
           (keys_push c.loop.keys c.insert.new.self seen c.in_ok-lsa.lsa c.key.result c.loop.invariant.keys c.key.ensures c.in_ok-insert.ensures.updates);
+      apart = subst (λ (xs : List (List ℕ)). AllPairs (λ a b. a ≢ b) (map key_of xs)) (sym pushed) (apart_push seen c.in_ok-lsa.lsa c.loop.invariant.apart new);
     }
 
-pub returns : goal.returns
-returns g c =
+pub returns-clause-lsas : goal.returns-clause-lsas
+returns-clause-lsas g c =
     lsas_done (option_map head_of c.args.area) c.args.count c.loop.counter (full c.loop.places.items)
     (at_of c.loop.at) _ c.loop-test.false c.loop.invariant.reading

@@ -1,5 +1,6 @@
 use Rattle.std.proofs.Common.{◌≡◌, ◌-◌, [], option_map}
 use Rattle.lsdb.specs.Places.{full}
+use Rattle.lsdb.specs.steps.NotedKeys.{AreApart}
 use Rattle.lsdb.specs.steps.View.{head_of}
 use Rattle.lsdb.specs.steps.Reading.{at_of}
 use Rattle.lsdb.specs.Loading.{lsas_from}
@@ -11,4 +12,5 @@ invariant-loop g l = record {
   reading : lsas_from (option_map head_of l.area) (l.count - l.counter) (full l.places.items)
       (at_of l.at) ≡ lsas_from (option_map head_of l.area) l.count [] (at_of l.start);
   keys : HasKeys l.keys (full l.places.items);
+  apart : AreApart l.places.items;
 }

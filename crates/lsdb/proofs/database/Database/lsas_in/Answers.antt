@@ -7,8 +7,8 @@ use Rattle.lsdb.proofs.database.Database.lsas_in.Goals as goal
 pub returns-clause-lsas : goal.returns-clause-lsas
 returns-clause-lsas g c =
     subst (λ (d : Places). c.of.result ≡ lsas_in d c.args.section) c.self.view_is
-    (c.of.ensures ∙ section_seen c.self.inside.sections.items c.args.section c.index.result.now c.deref.result.now
-    (rw c.self.view_is c.requires) c.index.ensures c.deref.ensures.value)
+    (c.of.ensures ∙ section_seen c.self.inside.sections.items c.args.section c.index.result.now c.as_slice.result.now
+    (rw c.self.view_is c.requires) c.index.ensures c.as_slice.ensures)
 
 pub returns-clause-few : goal.returns-clause-few
 returns-clause-few g c =
@@ -16,6 +16,6 @@ returns-clause-few g c =
       arith,
       few_at (lists_of (places_of c.self.inside.sections.items)) c.args.section c.self.invariant.sound.sections,
       ap length
-          (c.of.ensures ∙ section_seen c.self.inside.sections.items c.args.section c.index.result.now c.deref.result.now
-          (rw c.self.view_is c.requires) c.index.ensures c.deref.ensures.value),
+          (c.of.ensures ∙ section_seen c.self.inside.sections.items c.args.section c.index.result.now c.as_slice.result.now
+          (rw c.self.view_is c.requires) c.index.ensures c.as_slice.ensures),
     )

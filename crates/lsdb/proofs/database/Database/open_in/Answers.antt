@@ -1,6 +1,6 @@
-use Rattle.std.proofs.Common.{refl, ap, ◌∙◌, ◌≡◌, ℕ, length, vec_len, rules}
+use Rattle.std.proofs.Common.{refl, ap, ◌∙◌, ◌≡◌, ℕ, List, length}
 use Rattle.std.specs.Prelude.{OnErr, Result, Ok, Err}
-use Rattle.lsdb.specs.Places.{Places, open_at, place_in, item_at, lists_of}
+use Rattle.lsdb.specs.Places.{Place, Places, open_at, place_in, item_at, lists_of}
 use Rattle.lsdb.specs.steps.View.{places_of}
 use Rattle.lsdb.proofs.Seen.{open_places, kept_places, slot_opened}
 use Rattle.lsdb.proofs.Slots.{lists_of-open_at}
@@ -15,34 +15,34 @@ pub invariant_of-self : goal.invariant_of-self
 invariant_of-self g c =
     kept_lists c.self.inside.sections.items _ c.self.inside.octets
     (ap (λ (d : Places). lists_of d) (kept_places c.self.inside.sections.items c.args.section c.index_mut.result.now _
-    (rw c.self.view_is c.requires) c.index_mut.ensures.value refl c.in_err-push.ensures.items))
+    (rw c.self.view_is c.requires) c.index_mut.ensures.value refl c.in_err-push_empty.ensures.err))
     c.self.invariant
 
-pub returns-in_err-push-clause-err : goal.returns-in_err-push-clause-err
-returns-in_err-push-clause-err g c =
+pub returns-in_err-push_empty-clause-err : goal.returns-in_err-push_empty-clause-err
+returns-in_err-push_empty-clause-err g c =
     on_err_from c.from_residual.result
     (kept_places c.self.inside.sections.items c.args.section c.index_mut.result.now _
-    (rw c.self.view_is c.requires) c.index_mut.ensures.value refl c.in_err-push.ensures.items ∙ c.self.view_is)
+    (rw c.self.view_is c.requires) c.index_mut.ensures.value refl c.in_err-push_empty.ensures.err ∙ c.self.view_is)
 
 pub invariant_of-self-2 : goal.invariant_of-self-2
 invariant_of-self-2 g c =
     kept_lists c.self.inside.sections.items _ c.self.inside.octets
     (ap (λ (d : Places). lists_of d) (open_places c.self.inside.sections.items c.args.section c.index_mut.result.now _
-    (rw c.self.view_is c.requires) c.index_mut.ensures.value refl c.in_ok-push.ensures.items)
+    (rw c.self.view_is c.requires) c.index_mut.ensures.value refl c.in_ok-push_empty.ensures.ok)
     ∙ lists_of-open_at (places_of c.self.inside.sections.items) c.args.section)
     c.self.invariant
 
 pub returns-clause-ok : goal.returns-clause-ok
 returns-clause-ok g c =
     open_places c.self.inside.sections.items c.args.section c.index_mut.result.now _
-    (rw c.self.view_is c.requires) c.index_mut.ensures.value refl c.in_ok-push.ensures.items
+    (rw c.self.view_is c.requires) c.index_mut.ensures.value refl c.in_ok-push_empty.ensures.ok
     ∙ ap (λ (d : Places). open_at d c.args.section) c.self.view_is
 
 pub returns-clause-slot : goal.returns-clause-slot
 returns-clause-slot g c =
-    let sized : vec_len c.index_mut.result.now.places ≡ length c.index_mut.result.now.places.items = search rules in
-    ap (λ (d : Places). place_in (item_at d c.args.section) c.len-index.result)
+    let sized : length c.as_slice-index.result.now ≡ length c.index_mut.result.now.places = ap (λ (ps : List Place). length ps) c.as_slice-index.ensures in
+    ap (λ (d : Places). place_in (item_at d c.args.section) (length c.as_slice-index.result.now))
     (open_places c.self.inside.sections.items c.args.section c.index_mut.result.now _
-    (rw c.self.view_is c.requires) c.index_mut.ensures.value refl c.in_ok-push.ensures.items)
-    ∙ ap (λ (i : ℕ). place_in (item_at (open_at (places_of c.self.inside.sections.items) c.args.section) c.args.section) i) (c.len-index.ensures ∙ sized)
+    (rw c.self.view_is c.requires) c.index_mut.ensures.value refl c.in_ok-push_empty.ensures.ok)
+    ∙ ap (λ (i : ℕ). place_in (item_at (open_at (places_of c.self.inside.sections.items) c.args.section) c.args.section) i) sized
     ∙ slot_opened c.self.inside.sections.items c.args.section c.index_mut.result.now (rw c.self.view_is c.requires) c.index_mut.ensures.value

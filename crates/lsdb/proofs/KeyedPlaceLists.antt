@@ -1,0 +1,253 @@
+-- The keys noted beside the places: what is found by it, and what an exchange of one place leaves of it.
+use Rattle.std.proofs.Common.{◌≡◌, ℕ, zero, suc, ◌+◌, ◌-◌, ◌<◌, ◌≤◌, Bool, true, false, cond, List, [], ◌∷◌, ◌++◌, length, get_or, set, Option, Some, None, Result, Ok, Err, IfOk, IfErr, refl, sym, ap, subst, ◌∙◌, arith, length-append, ◌⊎◌, inl, inr, ⊎_elim}
+use Rattle.std.specs.Prelude.{IsSome}
+use Rattle.std.specs.List.{find}
+use Rattle.std.specs.Result.{result_ok}
+use Rattle.lsa_codec.specs.declared.key.Key.{Key}
+use Rattle.lsa_codec.specs.Key.{key_of}
+use Rattle.lsdb.specs.declared.keyed_places.KeyAt.{KeyAt}
+use Rattle.lsdb.specs.Lists.{same_key, has_key}
+use Rattle.lsdb.specs.Places.{Place, item_at, put_place, full}
+use Rattle.lsdb.specs.steps.OnePlace.{place_has_key, IsFirstIndex}
+use Rattle.lsdb.specs.steps.NotedKeys.{noted_index, AreApart, AreNoted, IsKeyed, IsFoundAt, IsGapFor, Notes}
+use Rattle.lsdb.proofs.KeyLemmas.{same_key_true}
+use Rattle.lsdb.proofs.NotedKeys.{laws, noted_at, none_noted_in_gap}
+use Rattle.lsdb.proofs.KeysFrom.{one_place}
+use Rattle.lsdb.proofs.Searching.{turn}
+use Rattle.lsdb.proofs.Full.{full-skip}
+use Rattle.lsdb.proofs.Seen.{place_set}
+
+-- ---- finding
+
+-- no LSA of the places has the key
+abbrev NoneHas : List Place → Key → Type 0
+NoneHas ps key = (j : ℕ) (x : List ℕ) → item_at ps j ≡ Some (Some x) → has_key key x ≡ false
+
+none_found : (ps : List Place) (key : Key) → NoneHas ps key → find (has_key key) (full ps) ≡ None
+none_found [] key h = refl
+none_found (None ∷ ps) key h = none_found ps key (λ j x at. h (suc j) x at)
+none_found (Some x ∷ ps) key h =
+    ap (λ b. cond b (Some x) (find (has_key key) (full ps))) (h 0 x refl) ∙ none_found ps key (λ j y at. h (suc j) y at)
+
+first_found : (ps : List Place) (i : ℕ) (lsa : List ℕ) (key : Key) → item_at ps i ≡ Some (Some lsa) → has_key key lsa ≡ true
+    → ((j : ℕ) (x : List ℕ) → j < i → item_at ps j ≡ Some (Some x) → has_key key x ≡ false) → find (has_key key) (full ps) ≡ Some lsa
+first_found [] i lsa key at has before = absurd cc
+first_found (None ∷ ps) zero lsa key at has before = absurd cc
+first_found (Some x ∷ ps) zero lsa key at has before =
+    let same : x ≡ lsa = cc in
+    ap (λ (y : List ℕ). cond (has_key key y) (Some y) (find (has_key key) (full ps))) same ∙ ap (λ b. cond b (Some lsa) (find (has_key key) (full ps))) has
+first_found (None ∷ ps) (suc i) lsa key at has before = first_found ps i lsa key at has (λ j x lt at_j. before (suc j) x (omega arith) at_j)
+first_found (Some x ∷ ps) (suc i) lsa key at has before =
+    ap (λ b. cond b (Some x) (find (has_key key) (full ps))) (before 0 x (omega arith) refl)
+    ∙ first_found ps i lsa key at has (λ j y lt at_j. before (suc j) y (omega arith) at_j)
+
+by_truth : (b : Bool) → (b ≡ true → true ≡ false) → b ≡ false
+by_truth true h = h refl
+by_truth false h = refl
+
+-- an LSA that has the key stands at the place that is noted of it
+noted_of : (ps : List Place) (keys : List KeyAt) (key : Key) (j : ℕ) (x : List ℕ) → AreNoted ps keys → item_at ps j ≡ Some (Some x)
+    → has_key key x ≡ true → noted_index keys key ≡ Some j
+noted_of ps keys key j x sound at has = ap (noted_index keys) (sym (same_key_true (key_of x) key has)) ∙ sound.whole j x at
+
+missing_in_gap : (ps : List Place) (keys : List KeyAt) (key : Key) (at : ℕ) → AreNoted ps keys → IsGapFor keys key at → find (has_key key) (full ps) ≡ None
+missing_in_gap ps keys key at sound gap =
+    none_found ps key (λ j x at_j. by_truth (has_key key x) (λ has.
+    let both : None ≡ Some j = sym (none_noted_in_gap keys key at gap) ∙ noted_of ps keys key j x sound at_j has in
+    absurd cc))
+
+has_not : (place : Option Place) (key : Key) (x : List ℕ) → place ≡ Some (Some x) → has_key key x ≡ true
+    → ((p : Place) → place ≡ Some p → place_has_key key p ≡ false) → true ≡ false
+has_not place key x is has none = sym has ∙ none (Some x) is
+
+-- a search that found nothing
+pub missing_by_search : (ps : List Place) (keys : List KeyAt) (key : Key) (r : Result ℕ ℕ) → AreNoted ps keys → None ≡ result_ok r
+    → IfErr r (IsGapFor keys key) → find (has_key key) (full ps) ≡ None
+missing_by_search ps keys key (Ok at) sound none gap = absurd cc
+missing_by_search ps keys key (Err at) sound none gap = missing_in_gap ps keys key at sound gap
+
+-- a search that found the key
+pub found_by_search : (keys : List KeyAt) (key : Key) (r : Result ℕ ℕ) (at : ℕ) → Some at ≡ result_ok r → IfOk r (IsFoundAt keys key) → IsFoundAt keys key at
+found_by_search keys key (Ok i) at is found = subst (IsFoundAt keys key) (let same : i ≡ at = cc in same) found
+found_by_search keys key (Err i) at is found = absurd cc
+
+-- the LSA at the place that is noted has another key, or is gone
+missing_at : (ps : List Place) (keys : List KeyAt) (key : Key) (at : ℕ) (e : KeyAt) → AreNoted ps keys → IsFoundAt keys key at
+    → e ≡ get_or keys at e → ((p : Place) → item_at ps e.index ≡ Some p → place_has_key key p ≡ false) → find (has_key key) (full ps) ≡ None
+missing_at ps keys key at e sound pair is none =
+    none_found ps key (λ j x at_j. by_truth (has_key key x) (λ has.
+    let both : Some e.index ≡ Some j = sym (noted_at keys key at e sound.rising pair is) ∙ noted_of ps keys key j x sound at_j has in
+    let same : e.index ≡ j = cc in
+    has_not (item_at ps e.index) key x (ap (item_at ps) same ∙ at_j) has none))
+
+-- the LSA at the place that is noted has the key: it is the first
+pub found_at : (ps : List Place) (keys : List KeyAt) (key : Key) (i : ℕ) (p : Place) → AreNoted ps keys
+    → item_at ps i ≡ Some p → place_has_key key p ≡ true → IsFirstIndex ps (has_key key) i
+found_at ps keys key i None sound at has = absurd cc
+found_at ps keys key i (Some lsa) sound at has =
+    let first : find (has_key key) (full ps) ≡ Some lsa = first_found ps i lsa key at has (λ j x lt at_j. by_truth (has_key key x) (λ other.
+    let both : Some j ≡ Some i = sym (noted_of ps keys key j x sound at_j other) ∙ noted_of ps keys key i lsa sound at has in
+    let same : j ≡ i = cc in
+    absurd (omega arith))) in
+    record { held = at ∙ ap (λ (o : Place). Some o) (sym first); found = some_is (find (has_key key) (full ps)) lsa first } where
+      some_is : (o : Place) (x : List ℕ) → o ≡ Some x → IsSome o
+      some_is None x e = absurd cc
+      some_is (Some y) x e = refl
+
+-- ---- exchanging
+
+-- a place of the new ones is the one exchanged, or as before
+place_after : (v : Place) (ps : List Place) (n i : ℕ) (lsa : List ℕ) → item_at (put_place v ps n) i ≡ Some (Some lsa)
+    → ((i ≡ n) × (v ≡ Some lsa)) ⊎ (item_at ps i ≡ Some (Some lsa))
+place_after v [] n i lsa at = absurd cc
+place_after v (p ∷ ps) zero zero lsa at = inl (refl, (let e : v ≡ Some lsa = cc in e))
+place_after v (p ∷ ps) zero (suc i) lsa at = inr at
+place_after v (p ∷ ps) (suc n) zero lsa at = inr at
+place_after v (p ∷ ps) (suc n) (suc i) lsa at = ⊎_elim (λ h. inl (ap suc h.0, h.1)) (λ h. inr h) (place_after v ps n i lsa at)
+
+here_after : (v : Place) (ps : List Place) (n : ℕ) → n < length ps → item_at (put_place v ps n) n ≡ Some v
+here_after v [] n lt = absurd (omega arith)
+here_after v (p ∷ ps) zero lt = refl
+here_after v (p ∷ ps) (suc n) lt = here_after v ps n (omega arith)
+
+pub count_after : (v : Place) (ps : List Place) (n : ℕ) → length (put_place v ps n) ≡ length ps
+count_after v [] n = refl
+count_after v (p ∷ ps) zero = refl
+count_after v (p ∷ ps) (suc n) = ap suc (count_after v ps n)
+
+pub emptied : (ps : List Place) (n : ℕ) (v : Place) (keys : List KeyAt) → v ≡ None → AreNoted ps keys → AreNoted (put_place v ps n) keys
+emptied ps n v keys is sound = record {
+  rising = sound.rising;
+  whole = λ i lsa at. ⊎_elim (λ h. absurd (let e : None ≡ Some lsa = sym is ∙ h.1 in cc)) (λ h. sound.whole i lsa h) (place_after v ps n i lsa at);
+}
+
+-- the LSAs before and after have one key
+pub rewritten : (ps : List Place) (n : ℕ) (old v : Place) (lsa : List ℕ) (keys : List KeyAt) → item_at ps n ≡ Some old → v ≡ Some lsa
+    → place_has_key (key_of lsa) old ≡ true → AreNoted ps keys → AreNoted (put_place v ps n) keys
+rewritten ps n None v lsa keys before is same sound = absurd cc
+rewritten ps n (Some old) v lsa keys before is same sound = record {
+  rising = sound.rising;
+  whole = λ i x at. ⊎_elim (λ h.
+      let new : lsa ≡ x = (let e : Some lsa ≡ Some x = sym is ∙ h.1 in cc) in
+      ap (noted_index keys) (ap key_of (sym new) ∙ sym (same_key_true (key_of old) (key_of lsa) same)) ∙ sound.whole n old before ∙ ap Some (sym h.0))
+      (λ h. sound.whole i x h) (place_after v ps n i x at);
+}
+
+-- the place of the new LSA is noted of its key now
+pub noted : (ps : List Place) (n : ℕ) (v : Place) (lsa : List ℕ) (key : Key) (keys new : List KeyAt) → n < length ps → v ≡ Some lsa
+    → key ≡ key_of lsa → AreApart (put_place v ps n) → Notes keys new key n → AreNoted ps keys → AreNoted (put_place v ps n) new
+noted ps n v lsa key keys new lt is named apart notes sound = record {
+  rising = notes.rising;
+  whole = λ i x at. notes.noted (key_of x) ∙ by_test i x at (same_key key (key_of x)) refl;
+} where
+  here : item_at (put_place v ps n) n ≡ Some (Some lsa)
+  here = here_after v ps n lt ∙ ap (λ (p : Place). Some p) is
+
+  by_test : (i : ℕ) (x : List ℕ) → item_at (put_place v ps n) i ≡ Some (Some x) → (b : Bool) → same_key key (key_of x) ≡ b
+      → cond b (Some n) (noted_index keys (key_of x)) ≡ Some i
+  by_test i x at true same =
+      ap Some (one_place (put_place v ps n) apart n i lsa x here at (sym named ∙ same_key_true key (key_of x) same))
+  by_test i x at false other =
+      ⊎_elim (λ h.
+      let new_one : lsa ≡ x = (let e : Some lsa ≡ Some x = sym is ∙ h.1 in cc) in
+      let itself : same_key key (key_of x) ≡ true = ap (λ (k : Key). same_key k (key_of x)) (named ∙ ap key_of new_one) ∙ laws.refl (key_of x) in
+      absurd (let no' : true ≡ false = sym itself ∙ other in cc))
+      (λ h. sound.whole i x h) (place_after v ps n i x at)
+
+-- ---- counting
+
+full_first : (p : Place) (ps : List Place) → length (full (p ∷ ps)) ≡ length (full (p ∷ [])) + length (full ps)
+full_first None ps = omega arith
+full_first (Some x) ps = omega arith
+
+pub full_few : (ps : List Place) → length (full ps) ≤ length ps
+full_few [] = omega arith
+full_few (None ∷ ps) = omega (arith, full_few ps)
+full_few (Some x ∷ ps) = omega (arith, full_few ps)
+
+pub full_at : (ps : List Place) (n : ℕ) (p : Place) → item_at ps n ≡ Some p → length (full (p ∷ [])) ≤ length (full ps)
+full_at [] n p at = absurd cc
+full_at (q ∷ ps) zero p at =
+    let same : q ≡ p = cc in
+    omega (arith, full_first q ps, ap (λ (r : Place). length (full (r ∷ []))) same)
+full_at (q ∷ ps) (suc n) p at = omega (arith, full_first q ps, full_at ps n p at)
+
+lsas_put : (ps : List Place) (n : ℕ) (old x : Place) → item_at ps n ≡ Some old
+    → length (full (put_place x ps n)) + length (full (old ∷ [])) ≡ length (full ps) + length (full (x ∷ []))
+lsas_put [] n old x at = absurd cc
+lsas_put (p ∷ ps) zero old x at =
+    let same : p ≡ old = cc in
+    omega (arith, full_first p ps, full_first x ps, ap (λ (r : Place). length (full (r ∷ []))) same)
+lsas_put (p ∷ ps) (suc n) old x at = omega (arith, full_first p ps, full_first p (put_place x ps n), lsas_put ps n old x at)
+
+lsas_after : (ps : List Place) (n : ℕ) (old x : Place) → item_at ps n ≡ Some old
+    → length (full (put_place x ps n)) ≡ length (full ps) - length (full (old ∷ [])) + length (full (x ∷ []))
+lsas_after ps n old x at = omega (arith, lsas_put ps n old x at, full_at ps n old at)
+
+-- ---- as it is written in memory
+
+pub read : (ps : List Place) (i : ℕ) (p : Place) → i < length ps → p ≡ get_or ps i p → item_at ps i ≡ Some p
+read ps i p lt is = (turn ps i (suc i) p lt refl is).here
+
+not_beyond : (ps : List Place) (i : ℕ) (p : Place) → item_at ps i ≡ Some p → i < length ps
+not_beyond [] i p at = absurd cc
+not_beyond (q ∷ ps) zero p at = omega arith
+not_beyond (q ∷ ps) (suc i) p at = omega (arith, not_beyond ps i p at)
+
+pub missing_beyond : (ps : List Place) (keys : List KeyAt) (key : Key) (at : ℕ) (e : KeyAt) → AreNoted ps keys → IsFoundAt keys key at
+    → e ≡ get_or keys at e → length ps ≤ e.index → find (has_key key) (full ps) ≡ None
+missing_beyond ps keys key at e sound pair is far =
+    missing_at ps keys key at e sound pair is (λ p here. absurd (omega (arith, not_beyond ps e.index p here)))
+
+pub missing_other : (ps : List Place) (keys : List KeyAt) (key : Key) (at : ℕ) (e : KeyAt) (q : Place) → AreNoted ps keys → IsFoundAt keys key at
+    → e ≡ get_or keys at e → item_at ps e.index ≡ Some q → place_has_key key q ≡ false → find (has_key key) (full ps) ≡ None
+missing_other ps keys key at e q sound pair is stands other =
+    missing_at ps keys key at e sound pair is (λ p here.
+    let same : p ≡ q = (let both : Some p ≡ Some q = sym here ∙ stands in cc) in
+    ap (place_has_key key) same ∙ other)
+
+pub put_is : (ps qs : List Place) (n : ℕ) (x v : Place) → x ≡ v → ps ≡ qs → set ps n x ≡ put_place v qs n
+put_is ps qs n x v e f = place_set x ps n ∙ ap (λ (p : Place). put_place p ps n) e ∙ ap (λ (l : List Place). put_place v l n) f
+
+-- what stood there
+pub read_is : (ps : List Place) (n : ℕ) (y z : Place) → n < length ps → z ≡ get_or ps n z → y ≡ z → item_at ps n ≡ Some y
+read_is ps n y z lt is e = (turn ps n (suc n) z lt refl is).here ∙ ap (λ (p : Place). Some p) (sym e)
+
+-- what stands there now
+pub set_read : (ps : List Place) (n : ℕ) (x r : Place) → n < length ps → r ≡ get_or (set ps n x) n r → r ≡ x
+set_read [] n x r lt is = absurd (omega arith)
+set_read (p ∷ ps) zero x r lt is = is
+set_read (p ∷ ps) (suc n) x r lt is = set_read ps n x r (omega arith) is
+
+-- y stood there, x stands there now, and is read as r
+pub keyed_set : (ps : List Place) (n : ℕ) (y x r : Place) (keys : List KeyAt) (room before count less more : ℕ) → AreNoted (put_place x ps n) keys
+    → length ps ≤ before → room ≡ before → n < length ps → item_at ps n ≡ Some y → r ≡ get_or (set ps n x) n r → count ≡ length (full ps)
+    → less ≡ length (full (y ∷ [])) → more ≡ length (full (r ∷ [])) → IsKeyed (set ps n x) keys room (count - less + more)
+keyed_set ps n y x r keys room before count less more sound few same lt at is counted gone come = record {
+  sound = subst (λ (l : List Place). AreNoted l keys) (sym (place_set x ps n)) sound;
+  fits = omega (arith, ap length (place_set x ps n), count_after x ps n, few, same);
+  counted =
+      omega (
+        arith,
+        ap (λ (l : List Place). length (full l)) (place_set x ps n),
+        lsas_after ps n y x at,
+        counted,
+        gone,
+        come,
+        ap (λ (p : Place). length (full (p ∷ []))) (set_read ps n x r lt is),
+      );
+}
+
+opened : (ps : List Place) (i : ℕ) (lsa : List ℕ) → item_at (ps ++ None ∷ []) i ≡ Some (Some lsa) → item_at ps i ≡ Some (Some lsa)
+opened [] zero lsa at = absurd cc
+opened [] (suc i) lsa at = absurd cc
+opened (p ∷ ps) zero lsa at = at
+opened (p ∷ ps) (suc i) lsa at = opened ps i lsa at
+
+pub keyed_open : (ps qs : List Place) (keys : List KeyAt) (room count : ℕ) → qs ≡ ps ++ None ∷ [] → length ps + 1 ≤ room → AreNoted ps keys
+    → count ≡ length (full ps) → IsKeyed qs keys room count
+keyed_open ps qs keys room count is few sound counted = record {
+  sound = record { rising = sound.rising; whole = λ i lsa at. sound.whole i lsa (opened ps i lsa (sym (ap (λ (l : List Place). item_at l i) is) ∙ at)) };
+  fits = omega (arith, ap length is, length-append ps (None ∷ []), few);
+  counted = counted ∙ sym (ap (λ (l : List Place). length (full l)) is ∙ ap length (full-skip ps));
+}

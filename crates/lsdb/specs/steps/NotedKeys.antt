@@ -1,0 +1,58 @@
+-- The keys of a section's LSAs, each noted with the index of a place, and kept beside the places.
+use Rattle.std.specs.Prelude.{◌≡◌, ◌<◌, ◌≤◌, ℕ, suc, cond, List, [], ◌∷◌, length, map, Option, Some, None, slice_index_or}
+use Rattle.std.specs.Map.{keys_of, lookup}
+use Rattle.std.specs.List.Sorted.{IsStrictlySortedBy}
+use Rattle.std.specs.declared.cmp.Ordering.TheVariants.{Less}
+use Rattle.lsa_codec.specs.declared.key.Key.{Key}
+use Rattle.lsa_codec.specs.Key.{key_of}
+use Rattle.lsa_codec.specs.Order.{key_cmp}
+use Rattle.lsdb.specs.declared.keyed_places.KeyAt.{KeyAt}
+use Rattle.lsdb.specs.Lists.{same_key, AreDistinct}
+use Rattle.lsdb.specs.Places.{Place, item_at, full}
+
+abbrev pub pairs_of : List KeyAt → List (Key × ℕ)
+pairs_of keys = map (λ noted. (noted.key, noted.index)) keys
+
+-- the index that is noted of a key
+abbrev pub noted_index : List KeyAt → Key → Option ℕ
+noted_index keys key = lookup (same_key key) (pairs_of keys)
+
+abbrev pub IsRising : List KeyAt → Type 0
+IsRising keys = IsStrictlySortedBy key_cmp (keys_of (pairs_of keys))
+
+-- no two of the LSAs have one key
+abbrev pub AreApart : List Place → Type 0
+AreApart places = AreDistinct (map key_of (full places))
+
+-- keys rise, and the index of each LSA's place is noted of its key
+pub record AreNoted (places : List Place) (keys : List KeyAt) : Type 0 where
+  pub rising : IsRising keys
+  pub whole : (i : ℕ) (lsa : List ℕ) → item_at places i ≡ Some (Some lsa) → noted_index keys (key_of lsa) ≡ Some i
+
+-- and there is room for a key of each place, and the LSAs are counted
+pub record IsKeyed (places : List Place) (keys : List KeyAt) (room count : ℕ) : Type 0 where
+  pub sound : AreNoted places keys
+  pub fits : length places ≤ room
+  pub counted : count ≡ length (full places)
+
+-- each LSA's key with the index of its place, in order of the places, of which the first has index n
+abbrev pub keys_from : ℕ → List Place → List KeyAt
+keys_from n [] = []
+keys_from n (None ∷ ps) = keys_from (suc n) ps
+keys_from n (Some lsa ∷ ps) = record { key = key_of lsa; index = n } ∷ keys_from (suc n) ps
+
+-- the key stands here
+pub record IsFoundAt (keys : List KeyAt) (key : Key) (at : ℕ) : Type 0 where
+  pub within : at < length keys
+  pub has_key : (d : KeyAt) → (slice_index_or keys at d).key ≡ key
+
+-- the key stands nowhere, and would stand here
+pub record IsGapFor (keys : List KeyAt) (key : Key) (at : ℕ) : Type 0 where
+  pub within : at ≤ length keys
+  pub below : (i : ℕ) (d : KeyAt) → i < at → key_cmp (slice_index_or keys i d).key key ≡ Less
+  pub above : (i : ℕ) (d : KeyAt) → at ≤ i → i < length keys → key_cmp key (slice_index_or keys i d).key ≡ Less
+
+-- the index is noted of the key, and of other keys what was noted before
+pub record Notes (old new : List KeyAt) (key : Key) (index : ℕ) : Type 0 where
+  pub rising : IsRising new
+  pub noted : (q : Key) → noted_index new q ≡ cond (same_key key q) (Some index) (noted_index old q)

@@ -1,0 +1,214 @@
+//! The places of one section, and where each key stands.
+
+ghost use Rattle.std.specs.Prelude.{◌≡◌, ◌<◌, ◌≤◌, ◌++◌, None, [], ◌∷◌, Some, length, OnOk, OnErr, IfOk, IfErr, true, MatchOption, vec_capacity};
+ghost use Rattle.std.specs.List.{find};
+ghost use Rattle.lsdb.specs.Lists.{has_key};
+ghost use Rattle.lsdb.specs.Places.{full, item_at, put_place};
+ghost use Rattle.lsdb.specs.steps.OnePlace.{place_has_key, IsFirstIndex};
+ghost use Rattle.lsdb.specs.steps.NotedKeys.{AreApart, AreNoted, IsFoundAt, IsGapFor, IsRising, Notes, keys_from};
+
+use crate::copy::copy_of_places;
+use crate::lsas::Lsas;
+use lsa_codec::{Key, Lsa};
+use std::alloc::{AllocError, Allocator};
+use std::marker::Model;
+use std::mem;
+
+/// A key, and the index of the place at which its LSA was put last.
+#[derive(Clone, Copy)]
+struct KeyAt {
+    key: Key,
+    index: usize,
+}
+
+/// The places of one section, and beside them where each key stands, so that an LSA is found by
+/// its key without going through the places. Contracts see the places.
+#[derive(Drop)]
+pub(crate) struct KeyedPlaces<A: Allocator> {
+    places: Vec<Option<Lsa<A>>, A>,
+    /// In rising order of the keys. The key of an LSA that is gone stays until its room is wanted.
+    keys: Vec<KeyAt, A>,
+    /// How many of the places have an LSA.
+    count: usize,
+}
+
+impl<A: Allocator> Model for KeyedPlaces<A> {
+    ghost use Rattle.std.specs.Prelude.{List, vec_capacity};
+    ghost use Rattle.lsdb.specs.Places.{Place};
+
+    ghost Value = { List Place };
+
+    ghost use Rattle.lsdb.specs.steps.NotedKeys.{IsKeyed};
+
+    ghost view = { λ p. p.places.items };
+
+    ghost invariant = { λ p. IsKeyed p.places.items p.keys.items (vec_capacity p.keys) p.count };
+}
+
+impl<A: Allocator + Copy> KeyedPlaces<A> {
+    /// These places, of whose LSAs no two have one key. The error is want of memory.
+    pub(crate) fn of(alloc: A, places: Vec<Option<Lsa<A>>, A>) -> Result<KeyedPlaces<A>, AllocError>
+        requires { AreApart places.items }
+        ensures { IfOk result (λ keyed. keyed ≡ places.items) }
+    {
+        let mut keys = Vec::with_capacity(alloc, places.len())?;
+        fill(&mut keys, &places);
+        let count = Lsas::of(&places).count();
+        Ok(KeyedPlaces {
+            places,
+            keys,
+            count,
+        })
+    }
+
+    /// The places in order.
+    pub(crate) fn as_slice(&self) -> &[Option<Lsa<A>>]
+        ensures { result.now ≡ self.now }
+    {
+        &self.places
+    }
+
+    /// How many of the places have an LSA. It does not go through them.
+    pub(crate) fn count(&self) -> usize
+        ensures { result ≡ length (full self.now) }
+    {
+        self.count
+    }
+
+    /// The index of the place with the LSA of a key; `None` where no place has it. It takes no
+    /// memory.
+    pub(crate) fn find(&self, key: Key) -> Option<usize>
+        ensures { MatchOption result (find (has_key key) (full self.now) ≡ None)
+            (IsFirstIndex self.now (has_key key)) }
+    {
+        // A binary search: its steps are in the logarithm of the number of keys.
+        let at = search(&self.keys, key).ok()?;
+        let index = self.keys[at].index;
+        let place = self.places.get(index)?;
+        has_key(place, key).then_some(index)
+    }
+
+    /// Exchanges what stands at one place, and nothing else. It takes no memory.
+    pub(crate) fn swap(&mut self, index: usize, place: &mut Option<Lsa<A>>)
+        requires within { index < length self.old }
+        requires apart { AreApart (put_place place.old self.old index) }
+        ensures put { self.new ≡ put_place place.old self.old index }
+        ensures place { item_at self.old index ≡ Some place.new }
+    {
+        mem::swap(&mut self.places[index], place);
+        self.count = self.count - lsa_count(place) + lsa_count(&self.places[index]);
+        let Some(lsa) = &self.places[index] else {
+            return;
+        };
+        let key = lsa.key();
+        if has_key(place, key) {
+            return;
+        }
+        if !note(&mut self.keys, key, index) {
+            fill(&mut self.keys, &self.places);
+        }
+    }
+
+    /// The same places. The error is want of memory.
+    pub(crate) fn clone_of(&self, alloc: A) -> Result<KeyedPlaces<A>, AllocError>
+        ensures { IfOk result (λ copy. copy ≡ self.now) }
+    {
+        let places = copy_of_places(alloc, &self.places)?;
+        let mut keys = Vec::with_capacity(alloc, places.len().max(self.keys.len()))?;
+        keys.extend_from_slice(&self.keys)?;
+        Ok(KeyedPlaces {
+            places,
+            keys,
+            count: self.count,
+        })
+    }
+
+    /// Opens an empty place behind the others. The error is want of memory; the places are then
+    /// as before.
+    pub(crate) fn push_empty(&mut self) -> Result<(), AllocError>
+        ensures ok { OnOk result (self.new ≡ self.old ++ None ∷ []) }
+        ensures err { OnErr result (self.new ≡ self.old) }
+    {
+        let wanted = (self.places.len() + 1).saturating_sub(self.keys.len());
+        self.keys.reserve(wanted)?;
+        self.places.push(None)?;
+        Ok(())
+    }
+}
+
+/// Whether an LSA with this key stands at a place.
+fn has_key<A: Allocator + Copy>(place: &Option<Lsa<A>>, key: Key) -> bool
+    ensures { result ≡ place_has_key key place.now }
+{
+    match place {
+        Some(lsa) => lsa.key() == key,
+        None => false,
+    }
+}
+
+/// How many LSAs stand at a place: one, or none.
+fn lsa_count<A: Allocator + Copy>(place: &Option<Lsa<A>>) -> usize
+    ensures { result ≡ length (full (place.now ∷ [])) }
+{
+    match place {
+        Some(_) => 1,
+        None => 0,
+    }
+}
+
+/// Where a key stands, or else where it is to be inserted.
+fn search(keys: &[KeyAt], key: Key) -> Result<usize, usize>
+    requires { IsRising keys.now }
+    ensures found { IfOk result (IsFoundAt keys.now key) }
+    ensures absent { IfErr result (IsGapFor keys.now key) }
+{
+    keys.binary_search_by_key(&key, |noted| noted.key)
+}
+
+/// Notes at which place the LSA of a key stands now, and answers whether it did: where the key is
+/// new, and there is no room for it, nothing is noted. It takes no memory.
+fn note<A: Allocator + Copy>(keys: &mut Vec<KeyAt, A>, key: Key, index: usize) -> bool
+    requires { IsRising keys.old.items }
+    ensures noted { result ≡ true → Notes keys.old.items keys.new.items key index }
+    ensures room { vec_capacity keys.new ≡ vec_capacity keys.old }
+{
+    match search(keys, key) {
+        Ok(at) => keys[at].index = index,
+        Err(at) => {
+            if keys.capacity() <= keys.len() {
+                return false;
+            }
+            // There is room for it, so no memory is wanted, and this does not fail.
+            let _ = keys.insert(at, KeyAt { key, index });
+        }
+    }
+    true
+}
+
+/// Notes all keys anew. It takes no memory.
+fn fill<A: Allocator + Copy>(keys: &mut Vec<KeyAt, A>, places: &[Option<Lsa<A>>])
+    requires apart { AreApart places.now }
+    requires fits { length places.now ≤ vec_capacity keys.old }
+    ensures sound { AreNoted places.now keys.new.items }
+    ensures room { vec_capacity keys.new ≡ vec_capacity keys.old }
+{
+    put_keys(keys, places);
+    keys.sort_unstable_by_key(|noted| noted.key);
+}
+
+/// Each LSA's key with the index of its place, in order of the places.
+fn put_keys<A: Allocator + Copy>(keys: &mut Vec<KeyAt, A>, places: &[Option<Lsa<A>>])
+    requires { length places.now ≤ vec_capacity keys.old }
+    ensures keys { keys.new.items ≡ keys_from 0 places.now }
+    ensures room { vec_capacity keys.new ≡ vec_capacity keys.old }
+{
+    keys.clear();
+    for index in 0..places.len() {
+        if let Some(lsa) = &places[index] {
+            keys.push_reserved(KeyAt {
+                key: lsa.key(),
+                index,
+            });
+        }
+    }
+}
