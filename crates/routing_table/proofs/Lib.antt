@@ -1,3 +1,4 @@
+pub mod Firsts
 pub mod Preferred
 pub mod Counted
 pub mod Tabled

@@ -1,27 +1,22 @@
--- A map into which the second list of routes went, and then the first, has the preferred routes.
+-- What the preferred routes of two lists are: in order, and to each prefix the first list's route, else the second's.
 use Rattle.std.proofs.Common.{◌≡◌, ◌<◌, ◌^◌, Bool, true, false, cond, List, [], ◌∷◌, ◌++◌, length, map, Option, Some, None, IfSome, refl, sym, ap, ◌∙◌, subst}
 use Rattle.std.specs.Prelude.{◌||◌}
-use Rattle.std.specs.List.{All, list_any, filter_map, cons_option, IsDistinct}
+use Rattle.std.specs.List.{All, list_any, filter_map, cons_option}
 use Rattle.std.specs.List.Sorted.{IsStrictlySortedBy}
-use Rattle.std.specs.Map.{keys_of, lookup, update_all}
+use Rattle.std.specs.Map.{keys_of, lookup}
 use Rattle.std.specs.Option.{option_map, option_or}
 use Rattle.std.specs.Cmp.{Equal-is}
 use Rattle.std.proofs.lemmas.List.Elements.{All-cons, All-head, All-nil, All-tail}
-use Rattle.std.specs.BTreeMap.{BTreeMap, IsFromIterResult, values}
 use Rattle.std.specs.Ordering.{eq_by_cmp}
-use Rattle.std.proofs.lemmas.Cmp.{eq_by_cmp_equiv}
 use Rattle.std.proofs.lemmas.List.{map-append}
 use Rattle.std.proofs.lemmas.List.Folds.{list_any-append}
-use Rattle.std.proofs.lemmas.Grind.{fold-append}
 use Rattle.std.proofs.lemmas.Bool.{or_parts}
-use Rattle.std.proofs.lemmas.Map.Keys.{IsDistinct-from_sorted}
-use Rattle.std.proofs.lemmas.Map.Made.{update_all_distinct}
 use Rattle.lsa_codec.specs.Prefix.{Net}
 use Rattle.area_graph.specs.Rising.{rising}
 use Rattle.lsa_codec.specs.Order.{prefix_cmp}
 use Rattle.area_routes.specs.Routes.{AreSortedRoutes, nets, route_to}
 use Rattle.area_routes.specs.Values.{RouteValue, RoutesBelow}
-use Rattle.area_routes.proofs.LookupLemmas.{entries_at, lookup_entries, same_entries, sorted_entries, values_entries}
+use Rattle.area_routes.proofs.LookupLemmas.{entries_at, lookup_entries, same_entries, sorted_entries}
 use Rattle.lsa_codec.proofs.OrderLemmas.{prefix_exact, prefix_total}
 use Rattle.area_routes.proofs.RisingLemmas.{any_rising, sorted_rising}
 use Rattle.routing_table.specs.Preferring.{preferred_route, preferring}
@@ -40,21 +35,6 @@ lookup_keyed q (r ∷ rs) = ap (cond (same q r.net) (Some r)) (lookup_keyed q rs
 keys_keyed : (rs : List RouteValue) → keys_of (map keyed rs) ≡ nets rs
 keys_keyed [] = refl
 keys_keyed (r ∷ rs) = ap (λ l. r.net ∷ l) (keys_keyed rs)
-
--- one list that goes into the map
-one_list : (f : Net → Option RouteValue) (rs : List RouteValue) (q : Net) → AreSortedRoutes rs
-    → update_all same f (map keyed rs) q ≡ option_or (route_to rs q) (f q)
-one_list f rs q up =
-    let P : List Net → Type 0 = λ ks. IsDistinct same ks in
-    update_all_distinct (eq_by_cmp_equiv prefix_total) same (λ x y. refl) f (map keyed rs) q
-    (subst P (sym (keys_keyed rs)) (IsDistinct-from_sorted prefix_cmp (nets rs) up))
-    ∙ ap (λ o. option_or o (f q)) (lookup_keyed q rs)
-
-two_lists : (f : Net → Option RouteValue) (xs ys : List RouteValue) (q : Net) → AreSortedRoutes ys
-    → update_all same f (map keyed (xs ++ ys)) q ≡ option_or (route_to ys q) (update_all same f (map keyed xs) q)
-two_lists f xs ys q up =
-    ap (λ l. update_all same f l q) (map-append keyed xs ys) ∙ ap (λ g. g q) (fold-append _ f (map keyed xs) (map keyed ys))
-    ∙ one_list (update_all same f (map keyed xs)) ys q up
 
 option_or-none : {A : Type 0} (o : Option A) → option_or o None ≡ o
 option_or-none None = refl
@@ -77,24 +57,6 @@ module _ (first second : List RouteValue) where
   only_nets q false h =
       let parts = or_parts (list_any (same q) (nets first)) (list_any (same q) (nets second)) (sym (any_nets q) ∙ h) in
       sym (ap (λ o. option_or o (route_to second q)) (none_there q first parts.0) ∙ none_there q second parts.1)
-
-  module _ (up_first : AreSortedRoutes first) (up_second : AreSortedRoutes second) where
-    in_turn : (q : Net) → update_all same (λ _. None) (map keyed (second ++ first)) q ≡ preferred_route first second q
-    in_turn q =
-        two_lists (λ _. None) second first q up_first
-        ∙ ap (option_or (route_to first q)) (one_list (λ _. None) second q up_second ∙ option_or-none (route_to second q))
-
-    values_are : (m : BTreeMap Net RouteValue) → IsFromIterResult prefix_cmp (map (λ r. (r.net, r)) (second ++ first)) m → values m ≡ preferring first second
-    values_are m made =
-        let ks = rising prefix_cmp (nets (first ++ second)) in
-        let f = preferred_route first second in
-        ap (map (λ (e : Net × RouteValue). e.1))
-        (same_entries prefix_total prefix_exact m.entries (entries_at prefix_cmp f ks) made.1
-        (sorted_entries prefix_cmp f ks (sorted_rising prefix_total (nets (first ++ second))))
-        (λ q. made.0 q ∙ in_turn q
-        ∙ sym (lookup_entries prefix_cmp prefix_exact f ks q
-        ∙ ap (λ b. cond b (f q) None) (any_rising prefix_total q (nets (first ++ second))) ∙ only_nets q _ refl)))
-        ∙ values_entries prefix_cmp f ks
 
 -- ---- the preferred routes stand in order, and what holds of all routes of both lists holds of them
 
@@ -203,15 +165,23 @@ module _ (P : RouteValue → Type 0) where
       by None other h k = k
       by (Some r) other h k = h
 
--- the list that the map was made into
-module _ (m : BTreeMap Net RouteValue) (first second whole listed : List RouteValue) (up_first : AreSortedRoutes first) (up_second : AreSortedRoutes second)
-    (is : whole ≡ second ++ first) (made : IsFromIterResult prefix_cmp (map (λ r. (r.net, r)) whole) m) (values_of : listed ≡ values m) where
-  pub listed_is : listed ≡ preferring first second
-  listed_is = values_of ∙ values_are first second up_first up_second m
-      (subst (λ (l : List RouteValue). IsFromIterResult prefix_cmp (map (λ r. (r.net, r)) l) m) is made)
+-- the route to a prefix in two lists, one behind the other
+route_append : (q : Net) (xs ys : List RouteValue) → route_to (xs ++ ys) q ≡ option_or (route_to xs q) (route_to ys q)
+route_append q [] ys = refl
+route_append q (x ∷ xs) ys = by (same q x.net) (route_append q xs ys)
+  where
+    by : (b : Bool) → route_to (xs ++ ys) q ≡ option_or (route_to xs q) (route_to ys q)
+        → cond b (Some x) (route_to (xs ++ ys) q) ≡ option_or (cond b (Some x) (route_to xs q)) (route_to ys q)
+    by true rest = refl
+    by false rest = rest
 
-  pub listed_sorted : AreSortedRoutes listed
-  listed_sorted = subst AreSortedRoutes (sym listed_is) (preferring_sorted first second)
+-- routes in order that have to each prefix the first of both lists
+module _ (first second whole firsts : List RouteValue) (up : AreSortedRoutes firsts) (is : whole ≡ first ++ second)
+    (same_at : (q : Net) → route_to firsts q ≡ route_to whole q) where
+  pub firsts_are : firsts ≡ preferring first second
+  firsts_are =
+      same_routes firsts (preferring first second) up (preferring_sorted first second)
+      (λ q. same_at q ∙ ap (λ (l : List RouteValue). route_to l q) is ∙ route_append q first second ∙ sym (route_preferring first second q))
 
-  pub listed_small : RoutesBelow (2 ^ 34) first → RoutesBelow (2 ^ 34) second → RoutesBelow (2 ^ 34) listed
-  listed_small a b = subst (RoutesBelow (2 ^ 34)) (sym listed_is) (preferring_all (λ r. r.cost < 2 ^ 34) first second a b)
+  pub firsts_small : RoutesBelow (2 ^ 34) first → RoutesBelow (2 ^ 34) second → RoutesBelow (2 ^ 34) firsts
+  firsts_small a b = subst (RoutesBelow (2 ^ 34)) (sym firsts_are) (preferring_all (λ r. r.cost < 2 ^ 34) first second a b)

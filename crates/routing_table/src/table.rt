@@ -161,7 +161,7 @@ pub fn routes_from<A: Allocator + Copy>(
 {
     let intra = intra(alloc, results)?;
     let inter = inter(alloc, database, router, results, &intra)?;
-    let inside = prefer_intra(alloc, intra, inter.routes)?;
+    let inside = prefer_intra(intra, inter.routes)?;
     let external = externals(alloc, database, router, &inside, &inter.routers)?;
-    prefer(alloc, inside.into_routes(), external)
+    prefer(inside.into_routes(), external)
 }

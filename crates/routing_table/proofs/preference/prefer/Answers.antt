@@ -3,7 +3,7 @@ use Rattle.std.proofs.lemmas.Bool.{eqb-true}
 use Rattle.area_routes.specs.Routes.{AreSortedRoutes}
 use Rattle.area_routes.specs.Values.{RouteValue, RoutesBelow}
 use Rattle.routing_table.specs.Preferring.{preferring}
-use Rattle.routing_table.proofs.Preferred.{listed_is, listed_small, listed_sorted, nothing_in, preferring_alone}
+use Rattle.routing_table.proofs.Preferred.{firsts_are, firsts_small, nothing_in, preferring_alone}
 use Rattle.routing_table.proofs.preference.prefer.Goals as goal
 
 pub returns-then-is_empty-clause-routes : goal.returns-then-is_empty-clause-routes
@@ -13,22 +13,17 @@ returns-then-is_empty-clause-routes g c =
     c.from_sorted.ensures ∙ c.into_vec.ensures.routes
     ∙ sym (preferring_alone c.args.first c.args.second (subst (λ (l : List RouteValue). AreSortedRoutes l) c.into_vec.ensures.routes c.into_vec.ensures.sorted) none)
 
-pub from_sorted-requires-2 : goal.from_sorted-requires-2
-from_sorted-requires-2 g c =
-    listed_sorted c.in_ok-by_prefix.field-0 c.into_vec-first.result.items c.into_vec-routes.result.items c.append.new.self.items c.in_ok-routes.routes.items
-    c.into_vec-first.ensures.sorted c.into_vec-routes.ensures.sorted c.in_ok-append.ensures.items c.in_ok-by_prefix.ensures c.in_ok-routes.ensures
-
 pub returns-clause-routes : goal.returns-clause-routes
 returns-clause-routes g c =
     c.from_sorted-2.ensures
-    ∙ listed_is c.in_ok-by_prefix.field-0 c.into_vec-first.result.items c.into_vec-routes.result.items c.append.new.self.items c.in_ok-routes.routes.items
-    c.into_vec-first.ensures.sorted c.into_vec-routes.ensures.sorted c.in_ok-append.ensures.items c.in_ok-by_prefix.ensures c.in_ok-routes.ensures
-    ∙ ap (λ (l : List RouteValue). preferring l c.into_vec-routes.result.items) c.into_vec-first.ensures.routes
-    ∙ ap (λ (l : List RouteValue). preferring c.args.first l) c.into_vec-routes.ensures.routes
+    ∙ firsts_are c.into_vec-routes.result.items c.into_vec-2.result.items c.append.new.self.items c.in_ok-first_of_each.field-0.items
+    c.in_ok-first_of_each.ensures.sorted c.in_ok-append.ensures.items c.in_ok-first_of_each.ensures.routes
+    ∙ ap (λ (l : List RouteValue). preferring l c.into_vec-2.result.items) c.into_vec-routes.ensures.routes
+    ∙ ap (λ (l : List RouteValue). preferring c.args.first l) c.into_vec-2.ensures.routes
 
 pub returns-clause-small : goal.returns-clause-small
 returns-clause-small g c = λ first second.
     subst (RoutesBelow (2 ^ 34)) (sym c.from_sorted-2.ensures)
-    (listed_small c.in_ok-by_prefix.field-0 c.into_vec-first.result.items c.into_vec-routes.result.items c.append.new.self.items c.in_ok-routes.routes.items
-    c.into_vec-first.ensures.sorted c.into_vec-routes.ensures.sorted c.in_ok-append.ensures.items c.in_ok-by_prefix.ensures c.in_ok-routes.ensures
-    (subst (RoutesBelow (2 ^ 34)) (sym c.into_vec-first.ensures.routes) first) (subst (RoutesBelow (2 ^ 34)) (sym c.into_vec-routes.ensures.routes) second))
+    (firsts_small c.into_vec-routes.result.items c.into_vec-2.result.items c.append.new.self.items c.in_ok-first_of_each.field-0.items
+    c.in_ok-first_of_each.ensures.sorted c.in_ok-append.ensures.items c.in_ok-first_of_each.ensures.routes
+    (subst (RoutesBelow (2 ^ 34)) (sym c.into_vec-routes.ensures.routes) first) (subst (RoutesBelow (2 ^ 34)) (sym c.into_vec-2.ensures.routes) second))

@@ -12,6 +12,6 @@ returns g c =
     if_routes (lists_of c.args.database.now) c.args.router c.args.results.now (λ v. v) c.in_ok-intra.intra c.in_ok-inside.inside external inter c.prefer.result
     c.in_ok-intra.ensures.routes
     (c.inter-2.view_is ∙ c.in_ok-inter.ensures)
-    c.in_ok-inside.ensures
+    c.in_ok-inside.ensures.routes
     c.in_ok-external.ensures.routes
     (subst (λ (l : List RouteValue). IfOk c.prefer.result (λ v. v ≡ preferring l external)) c.into_routes.ensures.routes c.prefer.ensures.routes)
