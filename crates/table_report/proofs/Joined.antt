@@ -1,14 +1,17 @@
 -- Texts that are joined, piece by piece.
-use Rattle.std.proofs.Common.{◌≡◌, ℕ, ◌+◌, ◌<◌, ◌≤◌, List, [], ◌∷◌, ◌++◌, length, map, take, get_or, codes, decimal, Result, Ok, Err, refl, sym, ap, ◌∙◌}
-use Rattle.std.specs.Prelude.{flat_map, OnOk}
+use Rattle.std.proofs.Common.{◌≡◌, ℕ, ◌+◌, ◌<◌, ◌≤◌, List, [], ◌∷◌, ◌++◌, length, map, take, get_or, codes, cond, decimal, Result, Ok, Err, refl, sym, ap, ◌∙◌}
+use Rattle.std.specs.Prelude.{flat_map, is_ok, OnOk}
+use Rattle.std.specs.List.{join_with_byte}
 use Rattle.std.proofs.lemmas.List.{append-nil, append_assoc, take_more, take_all}
 use Rattle.std.proofs.lemmas.Grind.{flat_map-append}
 use Rattle.lsa_codec.specs.declared.address.RouterId.{RouterId}
-use Rattle.lsa_codec.specs.Spelling.{address_text}
+use Rattle.lsa_codec.specs.Spelling.{address_text, prefix_text}
 use Rattle.next_hops.specs.declared.hop.Hop.{Hop}
 use Rattle.next_hops.specs.Hop.{hop_text}
 use Rattle.routing_table.specs.Tables.{TableValue}
-use Rattle.table_report.specs.Texts.{headed, hops_text, line_of, lines_text, table_text}
+use Rattle.area_routes.specs.Values.{RouteValue}
+use Rattle.table_report.specs.Texts.{area_text, headed, hops_text, kind_text, line_of, lines_text, rest_of, table_text}
+use Rattle.table_report.specs.steps.Parts.{paths_text, ways_text}
 use Rattle.table_report.specs.Comparing.{changes, compare_text}
 
 -- one more piece after those so far
@@ -41,12 +44,10 @@ module _ {X : Type 0} (line : X → List ℕ) where
   abbrev pub ended : X → List ℕ
   ended x = line x ++ codes "\n"
 
-  -- one more line, and then its end
-  pub line_more : (start : List ℕ) (xs : List X) (i : ℕ) (x : X) (old pushed new : List ℕ) → i < length xs → x ≡ get_or xs i x
-      → old ≡ start ++ flat_map ended (take i xs) → pushed ≡ old ++ line x → new ≡ pushed ++ codes "\n" → new ≡ start ++ flat_map ended (take (i + 1) xs)
-  line_more start xs i x old pushed new lt is so_far push last =
-      last ∙ ap (λ l. l ++ codes "\n") (push ∙ ap (λ l. l ++ line x) so_far) ∙ append_assoc (start ++ flat_map ended (take i xs)) (line x) (codes "\n")
-      ∙ one_more ended start xs i x lt is
+  -- one more line with its end
+  pub line_more : (start : List ℕ) (xs : List X) (i : ℕ) (x : X) (old new : List ℕ) → i < length xs → x ≡ get_or xs i x
+      → old ≡ start ++ flat_map ended (take i xs) → new ≡ old ++ ended x → new ≡ start ++ flat_map ended (take (i + 1) xs)
+  line_more start xs i x old new lt is so_far push = push ∙ ap (λ l. l ++ ended x) so_far ∙ one_more ended start xs i x lt is
 
   all_ended : (xs : List X) → flat_map ended xs ≡ lines_text (map line xs)
   all_ended [] = refl
@@ -56,6 +57,30 @@ module _ {X : Type 0} (line : X → List ℕ) where
   pub all_lines : (start : List ℕ) (xs : List X) (i : ℕ) (text : List ℕ) → length xs ≤ i
       → text ≡ start ++ flat_map ended (take i xs) → text ≡ start ++ lines_text (map line xs)
   all_lines start xs i text done so_far = so_far ∙ ap (λ l. start ++ l) (ap (flat_map ended) (take_all i xs done) ∙ all_ended xs)
+
+-- the line of a route by its parts, and its end
+paths_then : (kind cost cost2 area hops end : List ℕ)
+    → (kind ++ codes " " ++ cost ++ codes " " ++ cost2 ++ codes " ") ++ ((area ++ codes " " ++ hops) ++ end)
+    ≡ join_with_byte 32 (kind ∷ cost ∷ cost2 ∷ area ∷ hops ∷ []) ++ end
+paths_then kind cost cost2 area hops end = simp append_assoc refl
+
+line_with : (r : RouteValue) (old begun new ways : List ℕ) → begun ≡ old ++ (prefix_text r.net ++ codes " " ++ paths_text r)
+    → ways ≡ ways_text r ++ codes "\n" → new ≡ begun ++ ways → new ≡ old ++ (line_of r ++ codes "\n")
+line_with r old begun new ways begins are is =
+    let net = prefix_text r.net ++ codes " " in
+    is ∙ ap (λ l. l ++ ways) begins ∙ ap (λ l. (old ++ (net ++ paths_text r)) ++ l) are
+    ∙ append_assoc old (net ++ paths_text r) (ways_text r ++ codes "\n")
+    ∙ ap (λ l. old ++ l)
+    (append_assoc net (paths_text r) (ways_text r ++ codes "\n")
+    ∙ ap (λ l. net ++ l)
+    (paths_then (kind_text r.kind) (decimal r.cost) (decimal r.cost2) (area_text r.areas) (hops_text r.hops) (codes "\n"))
+    ∙ sym (append_assoc net (rest_of r) (codes "\n")))
+
+pub line_pushed : {T E : Type 0} (result : Result T E) (r : RouteValue) (old begun new ways : List ℕ)
+    → begun ≡ old ++ (prefix_text r.net ++ codes " " ++ paths_text r) → ways ≡ ways_text r ++ codes "\n"
+    → new ≡ cond (is_ok result) (begun ++ ways) begun → OnOk result (new ≡ old ++ (line_of r ++ codes "\n"))
+line_pushed (Ok t) r old begun new ways begins are is = line_with r old begun new ways begins are is
+line_pushed (Err e) r old begun new ways begins are is = tt
 
 -- ---- whole texts
 

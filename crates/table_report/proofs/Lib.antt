@@ -1,3 +1,4 @@
+pub mod Ascii
 pub mod Joined
 pub mod Differing
 pub mod Sameness

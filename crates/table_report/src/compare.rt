@@ -64,7 +64,7 @@ fn line_of<A: Allocator + Copy>(alloc: A, route: &Route<A>) -> Result<String<A>,
 }
 
 /// Whether hops are the same.
-fn are_same_hops(before: &[Hop], now: &[Hop]) -> bool
+pub(crate) fn are_same_hops(before: &[Hop], now: &[Hop]) -> bool
     ensures { result ≡ true → before.now ≡ now.now }
 {
     hop_equality();
@@ -72,7 +72,7 @@ fn are_same_hops(before: &[Hop], now: &[Hop]) -> bool
 }
 
 /// Whether areas are the same.
-fn are_same_areas(before: &[AreaId], now: &[AreaId]) -> bool
+pub(crate) fn are_same_areas(before: &[AreaId], now: &[AreaId]) -> bool
     ensures { result ≡ true → before.now ≡ now.now }
 {
     before == now

@@ -3,6 +3,7 @@
 
 mod compare;
 mod line;
+mod piece;
 mod text;
 
 pub use compare::push_compare;

@@ -1,11 +1,14 @@
 //! The line of a route.
 
-ghost use Rattle.std.specs.Prelude.{◌≡◌, ◌++◌, IfOk, OnOk};
+ghost use Rattle.std.specs.Prelude.{◌≡◌, ◌++◌, IfOk, OnOk, codes};
 ghost use Rattle.std.specs.String.{string_bytes};
+ghost use Rattle.lsa_codec.specs.Spelling.{prefix_text};
 ghost use Rattle.table_report.specs.Texts.{area_text, hops_text, kind_text, line_of, rest_of};
+ghost use Rattle.table_report.specs.steps.Parts.{paths_text, ways_text};
 
+use crate::piece::{push_address, push_costs, push_hop, push_prefix};
 use area_routes::{PathType, Route};
-use lsa_codec::AreaId;
+use lsa_codec::{Addr, AreaId};
 use next_hops::Hop;
 use std::alloc::{AllocError, Allocator};
 
@@ -26,7 +29,7 @@ fn push_area<A: Allocator + Copy>(text: &mut String<A>, areas: &[AreaId]) -> Res
     ensures { OnOk result (string_bytes text.new ≡ string_bytes text.old ++ area_text areas.now) }
 {
     match areas.first() {
-        Some(area) => write!(text, "{area}"),
+        Some(area) => push_address(text, Addr(area.0)),
         None => text.push_str("-"),
     }
 }
@@ -38,11 +41,43 @@ fn push_hops<A: Allocator + Copy>(text: &mut String<A>, hops: &[Hop]) -> Result<
     let Some((first, more)) = hops.split_first() else {
         return Ok(());
     };
-    write!(text, "{first}")?;
+    push_hop(text, *first)?;
     for hop in more {
-        write!(text, ",{hop}")?;
+        text.push_str(",")?;
+        push_hop(text, *hop)?;
     }
     Ok(())
+}
+
+/// Adds the type of the paths of a route and their costs, and a space.
+fn push_paths<A: Allocator + Copy>(text: &mut String<A>, route: &Route<A>) -> Result<(), AllocError>
+    ensures { OnOk result (string_bytes text.new ≡ string_bytes text.old ++ paths_text route.now) }
+{
+    text.push_str(kind_word(route.kind))?;
+    push_costs(text, route.cost, route.cost2)
+}
+
+/// Adds the prefix of a route, the type of its paths and their costs, and a space.
+fn push_front<A: Allocator + Copy>(text: &mut String<A>, route: &Route<A>) -> Result<(), AllocError>
+    ensures { OnOk result
+        (string_bytes text.new
+        ≡ string_bytes text.old
+        ++ (prefix_text route.now.net ++ codes " " ++ paths_text route.now)) }
+{
+    push_prefix(text, route.net)?;
+    push_paths(text, route)
+}
+
+/// Adds the area and the hops of a route.
+pub(crate) fn push_ways<A: Allocator + Copy>(
+    text: &mut String<A>,
+    route: &Route<A>,
+) -> Result<(), AllocError>
+    ensures { OnOk result (string_bytes text.new ≡ string_bytes text.old ++ ways_text route.now) }
+{
+    push_area(text, route.areas.as_slice())?;
+    text.push_str(" ")?;
+    push_hops(text, route.hops.as_slice())
 }
 
 /// Adds what is said of a route but its prefix.
@@ -52,13 +87,8 @@ pub(crate) fn push_rest<A: Allocator + Copy>(
 ) -> Result<(), AllocError>
     ensures { OnOk result (string_bytes text.new ≡ string_bytes text.old ++ rest_of route.now) }
 {
-    let kind = kind_word(route.kind);
-    let cost = route.cost;
-    let cost2 = route.cost2;
-    write!(text, "{kind} {cost} {cost2} ")?;
-    push_area(text, route.areas.as_slice())?;
-    text.push_str(" ")?;
-    push_hops(text, route.hops.as_slice())
+    push_paths(text, route)?;
+    push_ways(text, route)
 }
 
 /// Adds the line of a route, without its end.
@@ -68,7 +98,20 @@ pub(crate) fn push_line<A: Allocator + Copy>(
 ) -> Result<(), AllocError>
     ensures { OnOk result (string_bytes text.new ≡ string_bytes text.old ++ line_of route.now) }
 {
-    let net = route.net;
-    write!(text, "{net} ")?;
-    push_rest(text, route)
+    push_front(text, route)?;
+    push_ways(text, route)
+}
+
+/// Adds the line of a route with its end, of which its area and hops are written already.
+pub(crate) fn push_line_with<A: Allocator + Copy>(
+    text: &mut String<A>,
+    route: &Route<A>,
+    ways: &str,
+) -> Result<(), AllocError>
+    requires { ways.now ≡ ways_text route.now ++ codes "\n" }
+    ensures { OnOk result
+        (string_bytes text.new ≡ string_bytes text.old ++ (line_of route.now ++ codes "\n")) }
+{
+    push_front(text, route)?;
+    text.push_str(ways)
 }

@@ -1,13 +1,44 @@
 //! The text of a routing table.
 
-ghost use Rattle.std.specs.Prelude.{◌≡◌, ◌++◌, OnOk, map};
+ghost use Rattle.std.specs.Prelude.{◌≡◌, ◌++◌, IfSome, OnOk, codes, map, true};
 ghost use Rattle.std.specs.String.{string_bytes};
 ghost use Rattle.table_report.specs.Texts.{line_of, lines_text, table_text};
+ghost use Rattle.table_report.specs.steps.Parts.{ways_text};
 
-use crate::line::push_line;
+use crate::compare::{are_same_areas, are_same_hops};
+use crate::line::{push_line_with, push_ways};
 use area_routes::Route;
 use routing_table::Table;
 use std::alloc::{AllocError, Allocator};
+
+/// Whether two routes have the same areas and hops.
+fn have_same_ways<A: Allocator + Copy>(before: &Route<A>, now: &Route<A>) -> bool
+    ensures { result ≡ true → ways_text before.now ≡ ways_text now.now }
+{
+    are_same_areas(before.areas.as_slice(), now.areas.as_slice())
+        && are_same_hops(before.hops.as_slice(), now.hops.as_slice())
+}
+
+/// Makes a text the area and the hops of a route, and the end of its line. The text was that of the
+/// route before, and stays where the ways are the same.
+fn write_ways<A: Allocator + Copy>(
+    ways: &mut String<A>,
+    before: Option<&Route<A>>,
+    route: &Route<A>,
+) -> Result<(), AllocError>
+    requires { IfSome before
+        (λ before. string_bytes ways.old ≡ ways_text before.now ++ codes "\n") }
+    ensures { OnOk result (string_bytes ways.new ≡ ways_text route.now ++ codes "\n") }
+{
+    if let Some(before) = before
+        && have_same_ways(before, route)
+    {
+        return Ok(());
+    }
+    ways.clear();
+    push_ways(ways, route)?;
+    ways.push_str("\n")
+}
 
 /// Adds the lines of routes, each with its end.
 fn push_lines<A: Allocator + Copy>(
@@ -17,9 +48,12 @@ fn push_lines<A: Allocator + Copy>(
     ensures { OnOk result
         (string_bytes text.new ≡ string_bytes text.old ++ lines_text (map line_of routes.now)) }
 {
+    let mut ways = String::new(*text.allocator());
+    let mut before = None;
     for route in routes {
-        push_line(text, route)?;
-        text.push_str("\n")?;
+        write_ways(&mut ways, before, route)?;
+        push_line_with(text, route, &ways)?;
+        before = Some(route);
     }
     Ok(())
 }
