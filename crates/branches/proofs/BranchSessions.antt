@@ -208,7 +208,7 @@ own_at : (branch other : ℕ) (all : Sessions) (same : Bool) → eqb branch othe
 own_at branch other all true e = ap all (sym (eqb-true branch other e))
 own_at branch other all false e = refl
 
-with_own : (branch : ℕ) (all : Sessions) → all ≡ with_session branch (all branch) all
+pub with_own : (branch : ℕ) (all : Sessions) → all ≡ with_session branch (all branch) all
 with_own branch all = λ i other. own_at branch other all (eqb branch other) refl i
 
 begins_at : (first : Session) (o : Option Session) (z : Bool) → z ≡ false → (z || is_some o) ≡ false
@@ -232,6 +232,14 @@ begins_stays named branch c behind none stays =
     let at = begins named branch behind none in
     with_own branch (sessions_of named)
     ∙ ap (λ (s : Session). with_session branch s (sessions_of named)) (at ∙ sym stays ∙ ap (λ (s : Session). after s c) (sym at))
+
+-- beginning it alone leaves all sessions
+pub begins_alone : (named new : Named) (branch : ℕ) (s : Session) → eqb branch 0 ≡ false → has_planner named branch ≡ false
+    → s ≡ start named.first.base → sessions_of new ≡ with_session branch s (sessions_of named)
+    → sessions_of new ≡ sessions_of named
+begins_alone named new branch s behind none at went =
+    went ∙ ap (λ (t : Session). with_session branch t (sessions_of named)) (at ∙ sym (begins named branch behind none))
+    ∙ sym (with_own branch (sessions_of named))
 
 -- what follows from what holds of a success, or of an error
 pub on_ok : {T E P Q : Type 0} (r : Result T E) → (P → Q) → OnOk r P → OnOk r Q

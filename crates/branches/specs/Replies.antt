@@ -105,6 +105,11 @@ takes_memory command.Info = false
 
 -- ---- texts
 
+-- the text that a line is answered with, and whether the line was refused
+pub record Answer : Type 0 where
+  pub text : List ℕ
+  pub refused : Bool
+
 abbrev pub refusal_code : Refusal → List ℕ
 refusal_code (refusal.Edit fault) = edit_code fault
 refusal_code (refusal.Undo NothingToUndo) = codes "U1"

@@ -1,6 +1,6 @@
 //! The what-if studies of a run.
 
-ghost use Rattle.std.specs.Prelude.{◌≡◌, ◌<◌, ◌==◌, Ok, IfOk, OnOk, OnErr, IsOk, true, false};
+ghost use Rattle.std.specs.Prelude.{◌≡◌, ◌⊎◌, ◌<◌, ◌==◌, Ok, IfOk, OnOk, OnErr, IsOk, true, false};
 ghost use Rattle.lsdb.specs.Places.{lists_of};
 ghost use Rattle.lsdb.specs.Text.{text};
 ghost use Rattle.edit_history.specs.Session.{start, state};
@@ -8,10 +8,10 @@ ghost use Rattle.saved_sessions.specs.Opening.{opened};
 ghost use Rattle.saved_sessions.specs.Saved.{saved_text};
 ghost use Rattle.branches.specs.Branches.{all_begin, resumed, with_session, sessions_of};
 ghost use Rattle.branches.specs.steps.Planners.{has_planner};
-ghost use Rattle.branches.specs.Replies.{reply_to, after, takes_memory, said_by};
+ghost use Rattle.branches.specs.Replies.{reply_text, reply_to, after, is_refusal, takes_memory, said_by};
 
-use crate::commands::execute;
-use crate::reply::{Refusal, Reply};
+use crate::commands::{execute, tables_text};
+use crate::reply::{Answer, Refusal, Reply, reply_text};
 use edit_history::{RedoFault, UndoFault};
 use edit_script::Command;
 use lsdb::Database;
@@ -133,6 +133,72 @@ impl<A: Allocator + Copy> Branches<A> {
         let reply = execute(self.alloc, &mut planner, command)?;
         self.name(branch, planner)?;
         Ok(reply)
+    }
+
+    /// Carries one command out in a branch, 0 to 7, as [`step`](Branches::step) does, and answers
+    /// the text of its reply, as [`reply_text`] makes it. Of the tables that `tables` asks for, one
+    /// at a time is held.
+    ///
+    /// # Errors
+    ///
+    /// Memory ran out. The branch is as before, or the command was carried out in it; the other
+    /// branches stay.
+    pub fn answer(&mut self, branch: u8, command: &Command) -> Result<Answer<A>, AllocError>
+        requires { branch < 8 }
+        ensures text { IfOk result (λ answer. answer.text
+            ≡ reply_text branch (reply_to (sessions_of self.old branch) command.now)) }
+        ensures refused { IfOk result (λ answer. answer.refused
+            ≡ is_refusal (reply_to (sessions_of self.old branch) command.now)) }
+        ensures sessions { OnOk result (sessions_of self.new
+            ≡ with_session branch (after (sessions_of self.old branch) command.now)
+            (sessions_of self.old)) }
+        ensures kept { OnErr result ((sessions_of self.new ≡ sessions_of self.old)
+            ⊎ (sessions_of self.new
+            ≡ with_session branch (after (sessions_of self.old branch) command.now)
+            (sessions_of self.old))) }
+    {
+        if let Command::Tables = command {
+            let text = self.tables(branch)?;
+            return Ok(Answer {
+                text,
+                refused: false,
+            });
+        }
+        let reply = self.step(branch, command)?;
+        Ok(Answer {
+            text: reply_text(self.alloc, branch, &reply)?,
+            refused: reply.is_refusal(),
+        })
+    }
+
+    /// The text of the reply to `tables` in a branch. All sessions stay, also where memory ran out.
+    fn tables(&mut self, branch: u8) -> Result<Vec<u8, A>, AllocError>
+        ensures text { IfOk result (λ text. text.items
+            ≡ reply_text branch (reply_to (sessions_of self.old branch) Command.Tables)) }
+        ensures kept { sessions_of self.new ≡ sessions_of self.old }
+    {
+        if branch == 0 {
+            return tables_text(self.alloc, branch, &mut self.first);
+        }
+        match self.others.get_mut(&branch) {
+            Some(planner) => tables_text(self.alloc, branch, planner),
+            None => self.begin_with_tables(branch),
+        }
+    }
+
+    /// Begins a branch, and makes the text of the reply to `tables` in it. All sessions stay, also
+    /// where memory ran out.
+    fn begin_with_tables(&mut self, branch: u8) -> Result<Vec<u8, A>, AllocError>
+        requires behind { (branch == 0) ≡ false }
+        requires new { has_planner self.old branch ≡ false }
+        ensures text { IfOk result (λ text. text.items
+            ≡ reply_text branch (reply_to (sessions_of self.old branch) Command.Tables)) }
+        ensures kept { sessions_of self.new ≡ sessions_of self.old }
+    {
+        let mut planner = self.begun()?;
+        let text = tables_text(self.alloc, branch, &mut planner)?;
+        self.name(branch, planner)?;
+        Ok(text)
     }
 
     /// A planner at the beginning of all branches.

@@ -1,17 +1,21 @@
 //! The commands of a script, executed on one planner.
 
-ghost use Rattle.std.specs.Prelude.{◌≡◌, ◌++◌, IfOk, OnOk, OnErr, IsOk, false, filter_map, option_to_list};
+ghost use Rattle.std.specs.Prelude.{◌≡◌, ◌++◌, IfOk, OnOk, OnErr, IsOk, false, filter_map, flat_map, length, option_to_list};
+ghost use Rattle.std.specs.String.{string_bytes};
 ghost use Rattle.edit_history.specs.Session.{state, edited};
 ghost use Rattle.routing_table.specs.Routers.{attached_routers};
 ghost use Rattle.routing_table.specs.Tables.{table_in};
-ghost use Rattle.branches.specs.Replies.{reply_to, after, takes_memory, said_by, compare_reply, edit_reply, or_empty, table_reply, tables, unless_refused};
+ghost use Rattle.table_report.specs.Texts.{table_text};
+ghost use Rattle.branches.specs.Replies.{reply_text, reply_to, after, takes_memory, said_by, compare_reply, edit_reply, or_empty, table_reply, tables, unless_refused};
 
-use crate::reply::{Refusal, Reply};
+use crate::reply::{Refusal, Reply, mark, push_tables_head};
 use edit_history::EditFault;
 use edit_script::{Command, Edit};
 use lsa_codec::RouterId;
 use recalculate::{Planner, Table, TableFault};
+use routing_table::routers_are_attached;
 use std::alloc::{AllocError, Allocator};
+use table_report::push_table;
 
 /// Executes one command on a planner. An error is want of memory, and then the session is as it
 /// was. `undo`, `redo` and `info` take no memory.
@@ -154,6 +158,70 @@ fn add_table<A: Allocator + Copy>(
         tables.push(table)?;
     }
     Ok(())
+}
+
+/// Makes the text of the reply to `tables` from one table after another; each is dropped before the
+/// next is made.
+pub(crate) fn tables_text<A: Allocator + Copy>(
+    alloc: A,
+    branch: u8,
+    planner: &mut Planner<A>,
+) -> Result<Vec<u8, A>, AllocError>
+    ensures text { IfOk result
+        (λ text. text.items ≡ reply_text branch (reply_to planner.old.session Command.Tables)) }
+    ensures kept { planner.new.session ≡ planner.old.session }
+{
+    let routers = routers_with_table(planner)?;
+    let mut text = mark(alloc, branch)?;
+    push_tables_head(&mut text, routers.len())?;
+    push_tables_of(&mut text, planner, &routers)?;
+    Ok(text.into_bytes())
+}
+
+/// The routers that are attached to an area now. Each of them has a routing table.
+fn routers_with_table<A: Allocator + Copy>(
+    planner: &Planner<A>,
+) -> Result<Vec<RouterId, A>, AllocError>
+    ensures routers { IfOk result
+        (λ routers. routers.items ≡ attached_routers (state planner.now.session)) }
+    ensures tables { IfOk result
+        (λ routers. length (filter_map (table_in (state planner.now.session)) routers.items)
+        ≡ length routers.items) }
+{
+    routers_are_attached();
+    planner.database().known();
+    planner.routers()
+}
+
+/// Adds the texts of the routing tables of routers now, of those that are attached to an area.
+fn push_tables_of<A: Allocator + Copy>(
+    text: &mut String<A>,
+    planner: &mut Planner<A>,
+    routers: &[RouterId],
+) -> Result<(), AllocError>
+    ensures text { OnOk result (string_bytes text.new ≡ string_bytes text.old
+        ++ flat_map table_text
+        (filter_map (table_in (state planner.old.session)) routers.now)) }
+    ensures kept { planner.new.session ≡ planner.old.session }
+{
+    for router in routers {
+        push_if_there(text, table_now(planner, *router)?)?;
+    }
+    Ok(())
+}
+
+/// Adds the text of a routing table, if there is one, and drops the table.
+fn push_if_there<A: Allocator + Copy>(
+    text: &mut String<A>,
+    table: Option<Table<A>>,
+) -> Result<(), AllocError>
+    ensures { OnOk result (string_bytes text.new
+        ≡ string_bytes text.old ++ flat_map table_text (option_to_list table)) }
+{
+    match table {
+        Some(table) => push_table(text, &table),
+        None => Ok(()),
+    }
 }
 
 /// The reply to `compare`.

@@ -1,7 +1,8 @@
 //! Branches: eight sessions side by side, and the reply to each command.
 //!
 //! [`Branches::step`] carries out one command in one branch, and answers its [`Reply`]; the other
-//! branches stay as they were. [`reply_text`] is the reply as it is printed.
+//! branches stay as they were. [`reply_text`] is the reply as it is printed. [`Branches::answer`]
+//! does both, and holds one routing table at a time where `step` holds all.
 #![tactic(auto)]
 
 mod branches;
@@ -11,4 +12,4 @@ mod reply;
 
 pub use branches::Branches;
 pub use laws::refused_commands_change_nothing;
-pub use reply::{Refusal, Reply, reply_text, script_text};
+pub use reply::{Answer, Refusal, Reply, reply_text, script_text};

@@ -10,6 +10,7 @@ use edit_script::ScriptFault;
 use lsa_codec::{Decimal, RouterId};
 use recalculate::{Info, Table, TableFault};
 use std::alloc::{AllocError, Allocator, Global};
+use std::marker::Model;
 use table_report::{push_compare, push_table};
 
 /// Why a command is refused. A refused command changes nothing.
@@ -48,6 +49,23 @@ pub enum Reply<A: Allocator = Global> {
     },
     /// What the session counts.
     Info(Info),
+}
+
+/// The text that a command is answered with, and whether it refuses the command.
+#[derive(Drop)]
+pub struct Answer<A: Allocator = Global> {
+    /// The text of the reply, as [`reply_text`] makes it.
+    pub text: Vec<u8, A>,
+    /// Whether the command was refused.
+    pub refused: bool,
+}
+
+impl<A: Allocator> Model for Answer<A> {
+    ghost use Rattle.branches.specs.Replies.{Answer as Told};
+
+    ghost Value = { Told };
+
+    ghost view = { λ a. record { text = a.text.items; refused = a.refused } };
 }
 
 impl Refusal {
@@ -105,7 +123,7 @@ pub fn reply_text<A: Allocator + Copy>(
 }
 
 /// The mark of a branch before a reply: `@0 `.
-fn mark<A: Allocator + Copy>(alloc: A, branch: u8) -> Result<String<A>, AllocError>
+pub(crate) fn mark<A: Allocator + Copy>(alloc: A, branch: u8) -> Result<String<A>, AllocError>
     ensures { IfOk result (λ text. string_bytes text ≡ mark_of branch) }
 {
     let branch = Decimal(u64::from(branch));
@@ -146,6 +164,19 @@ fn push_refusal<A: Allocator + Copy>(text: &mut String<A>, why: Refusal) -> Resu
     write!(text, "refused {code} {name}\n")
 }
 
+/// Adds `tables COUNT`.
+pub(crate) fn push_tables_head<A: Allocator + Copy>(
+    text: &mut String<A>,
+    count: usize,
+) -> Result<(), AllocError>
+    ensures { OnOk result
+        (string_bytes text.new
+        ≡ string_bytes text.old ++ (codes "tables " ++ decimal count ++ codes "\n")) }
+{
+    let count = Decimal(count as u64);
+    write!(text, "tables {count}\n")
+}
+
 /// Adds `tables COUNT`, and the text of each table.
 fn push_tables<A: Allocator + Copy>(
     text: &mut String<A>,
@@ -156,8 +187,7 @@ fn push_tables<A: Allocator + Copy>(
         ++ (codes "tables " ++ decimal (length tables.now.items) ++ codes "\n"
         ++ flat_map table_text tables.now.items)) }
 {
-    let count = Decimal(tables.len() as u64);
-    write!(text, "tables {count}\n")?;
+    push_tables_head(text, tables.len())?;
     for table in tables {
         push_table(text, table)?;
     }

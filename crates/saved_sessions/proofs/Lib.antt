@@ -1,3 +1,4 @@
+pub mod Trailing
 pub mod Failing
 pub mod Numbers
 pub mod Doing

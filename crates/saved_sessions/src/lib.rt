@@ -16,6 +16,3 @@ mod saving;
 pub use laws::sessions_open_again;
 pub use opening::{begins_session, open};
 pub use saving::save;
-
-#[cfg(test)]
-mod tests;

@@ -12,7 +12,8 @@ use Rattle.saved_sessions.specs.Opening.{opened}
 use Rattle.saved_sessions.specs.Saved.{saved_text}
 use Rattle.edit_history.specs.Session.{state}
 use Rattle.branches.specs.Branches.{Sessions}
-use Rattle.whole_run.specs.Run.{Answer, answers, answers_from, sessions_after, dump_after, session_after, lines_of, begun, text_of, run_answers, run_text, final_dump, final_session}
+use Rattle.branches.specs.Replies.{Answer}
+use Rattle.whole_run.specs.Run.{answers, answers_from, sessions_after, dump_after, session_after, lines_of, begun, text_of, run_answers, run_text, final_dump, final_session}
 use Rattle.streams.specs.WholeText.{IsAll, IsLonger, AppendsPrefix}
 use Rattle.streams.specs.declared.watch.Watched.{Watched}
 use Rattle.streams.specs.Watched.{inner_of}

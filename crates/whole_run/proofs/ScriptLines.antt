@@ -14,7 +14,8 @@ use Rattle.edit_script.specs.declared.fault.ScriptFault.{ScriptFault}
 use Rattle.edit_script.specs.declared.fault.ScriptFault.TheVariants.{Empty, UnknownWord, MissingWord, ExtraWord, BadNumber, BadAddress, BadPrefix, BadBranch}
 use Rattle.edit_script.specs.Line.{meaning}
 use Rattle.branches.specs.Branches.{Sessions}
-use Rattle.whole_run.specs.Run.{Answer, answer_to, after_line, answers, sessions_after, lines_of, text_of}
+use Rattle.branches.specs.Replies.{Answer}
+use Rattle.whole_run.specs.Run.{answer_to, after_line, answers, sessions_after, lines_of, text_of}
 use Rattle.whole_run.specs.WholeRun.{refused_count}
 
 -- the bytes that are left, and the end

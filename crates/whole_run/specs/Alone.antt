@@ -5,8 +5,8 @@ use Rattle.edit_script.specs.declared.fault.ScriptFault.{ScriptFault}
 use Rattle.edit_script.specs.Line.{meaning}
 use Rattle.edit_history.specs.Session.{Session}
 use Rattle.branches.specs.Branches.{Sessions}
-use Rattle.branches.specs.Replies.{after}
-use Rattle.whole_run.specs.Run.{Answer, answer_to, after_line}
+use Rattle.branches.specs.Replies.{Answer, after}
+use Rattle.whole_run.specs.Run.{answer_to, after_line}
 
 -- a line that means a command in this branch
 abbrev pub is_in : ℕ → Result (ℕ × Command) ScriptFault → Bool

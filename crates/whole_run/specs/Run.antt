@@ -1,5 +1,5 @@
 -- What a script is answered, line by line, and the database and the session that it leaves.
-use Rattle.std.specs.Prelude.{ℕ, ◌==◌, List, [], ◌∷◌, ◌++◌, Result, Ok, Err, Bool, true}
+use Rattle.std.specs.Prelude.{ℕ, ◌==◌, List, [], ◌∷◌, ◌++◌, Result, Ok, Err, true}
 use Rattle.std.specs.List.{slice_split, flat_map}
 use Rattle.lsdb.specs.declared.fault.DumpFault.{DumpFault}
 use Rattle.lsdb.specs.Text.{text}
@@ -11,18 +11,13 @@ use Rattle.edit_history.specs.Session.{Session, state}
 use Rattle.saved_sessions.specs.Opening.{opened}
 use Rattle.saved_sessions.specs.Saved.{saved_text}
 use Rattle.branches.specs.Branches.{Sessions, resumed, with_session}
-use Rattle.branches.specs.Replies.{reply_to, after, is_refusal, reply_text, script_text}
+use Rattle.branches.specs.Replies.{Answer, reply_to, after, is_refusal, reply_text, script_text}
 
 -- ---- lines
 
 -- lines end at a line feed
 abbrev pub lines_of : List ℕ → List (List ℕ)
 lines_of script = slice_split (λ byte. byte == 10) script
-
--- the text that a line is answered with, and whether the line was refused
-pub record Answer : Type 0 where
-  pub text : List ℕ
-  pub refused : Bool
 
 -- what a line is answered, by its meaning: nothing, where it has no words or is a comment
 abbrev pub answer_to : Sessions → Result (ℕ × Command) ScriptFault → List Answer

@@ -1,7 +1,7 @@
 -- A whole run, where the bytes of its inputs are known.
 use Rattle.std.specs.Prelude.{◌≡◌, ℕ, List, length, count_by, Option, None, Some, IfSome}
 use Rattle.streams.specs.WholeText.{IsLonger}
-use Rattle.whole_run.specs.Run.{Answer}
+use Rattle.branches.specs.Replies.{Answer}
 use Rattle.whole_run.specs.Inputs.{IsAccepted, IsRefusedDump}
 use Rattle.whole_run.specs.declared.script.Summary.{Summary}
 use Rattle.whole_run.specs.declared.fault.RunFault.{RunFault}

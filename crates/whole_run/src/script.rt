@@ -5,17 +5,16 @@ ghost use Rattle.std.specs.Io.KnownBytes.{Appends};
 ghost use Rattle.streams.specs.Watched.{inner_of, has_failed};
 ghost use Rattle.streams.specs.WholeText.{AppendsPrefix};
 ghost use Rattle.edit_script.specs.Line.{meaning};
-ghost use Rattle.whole_run.specs.Run.{Answer, answer_to, after_line, answers, sessions_after, lines_of, text_of};
+ghost use Rattle.whole_run.specs.Run.{answer_to, after_line, answers, sessions_after, lines_of, text_of};
 ghost use Rattle.branches.specs.Branches.{sessions_of};
 ghost use Rattle.whole_run.specs.WholeRun.{refused_count};
 
 use crate::fault::RunFault;
 use crate::lines::first_line;
-use branches::{Branches, reply_text, script_text};
+use branches::{Answer, Branches, script_text};
 use edit_script::{ScriptFault, parse};
-use std::alloc::{AllocError, Allocator, Global};
+use std::alloc::{AllocError, Allocator};
 use std::io::Write;
-use std::marker::Model;
 use streams::{Watched, write_whole};
 
 /// How many lines of a script had a reply, and how many of these were refused, by `refused` or
@@ -26,21 +25,6 @@ pub struct Summary {
     pub commands: u64,
     /// The lines whose reply refuses them.
     pub refused: u64,
-}
-
-/// The text that a line is answered with, and whether it refuses the line.
-#[derive(Drop)]
-pub(crate) struct Answer<A: Allocator = Global> {
-    text: Vec<u8, A>,
-    refused: bool,
-}
-
-impl<A: Allocator> Model for Answer<A> {
-    ghost use Rattle.whole_run.specs.Run.{Answer as Told};
-
-    ghost Value = { Told };
-
-    ghost view = { λ a. record { text = a.text.items; refused = a.refused } };
 }
 
 /// Carries out one line. A line without words, or a comment, has no answer.
@@ -60,13 +44,7 @@ fn execute_line<A: Allocator + Copy>(
             text: script_text(alloc, fault)?,
             refused: true,
         })),
-        Ok((branch, command)) => {
-            let reply = branches.step(branch, &command)?;
-            Ok(Some(Answer {
-                text: reply_text(alloc, branch, &reply)?,
-                refused: reply.is_refusal(),
-            }))
-        }
+        Ok((branch, command)) => Ok(Some(branches.answer(branch, &command)?)),
     }
 }
 

@@ -1,4 +1,4 @@
-use Rattle.std.proofs.Common.{◌≡◌, ◌+◌, ◌≤◌, length, rules, arith}
+use Rattle.std.proofs.Common.{◌+◌, ◌≤◌, length, rules}
 use Rattle.saved_sessions.proofs.LinesTaken.{lies_within}
 use Rattle.saved_sessions.proofs.history.read_edit.Goals as goal
 

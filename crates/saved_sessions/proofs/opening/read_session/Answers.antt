@@ -1,8 +1,11 @@
-use Rattle.std.proofs.Common.{◌≡◌, ◌≤◌, take, length, sym, ap, ◌∙◌, arith}
+use Rattle.std.proofs.Common.{◌≡◌, ◌≤◌, Ok, take, length, subst, sym, ap, ◌∙◌, arith}
 use Rattle.lsdb.specs.BaseText.{base_text}
 use Rattle.lsdb.specs.Lists.{Lists}
 use Rattle.edit_history.specs.Session.{Session}
+use Rattle.saved_sessions.specs.Opening.{session_loaded}
+use Rattle.saved_sessions.specs.steps.Reading.{Fails}
 use Rattle.saved_sessions.proofs.SessionTaken.{session_is}
+use Rattle.saved_sessions.proofs.Trailing.{trailing}
 use Rattle.saved_sessions.proofs.opening.read_session.Goals as goal
 
 pub returns-clause-spelled : goal.returns-clause-spelled
@@ -13,3 +16,11 @@ returns-clause-spelled g c =
     let all : length c.args.bytes.now ≤ c.in_ok-end.end = omega (arith, c.if-end-bytes.false) in
     session_is c.line_laws.ensures.spelled c.args.bytes.now (λ i. omega (arith, c.type_inv.bytes i)) base c.in_ok-base.octets
     c.read_history.new.planner.session c.in_ok-end.end spelled c.in_ok-end.ensures.session all
+
+pub returns-then-end-bytes-clause-session : goal.returns-then-end-bytes-clause-session
+returns-then-end-bytes-clause-session g c =
+    let base : Lists = c.new-planner.result.session.base in
+    subst (λ error. Fails error (session_loaded c.args.bytes.now)) (sym c.fault.ensures)
+    (trailing c.args.bytes.now (base, c.in_ok-base.octets) c.read_history.new.planner.session c.in_ok-end.end
+    (c.in_ok-base.ensures.found ∙ ap (λ (s : Session). Ok (s.base, c.in_ok-base.octets)) (sym c.new-planner.ensures.session))
+    c.in_ok-end.ensures.session c.if-end-bytes.true)
