@@ -27,6 +27,3 @@ pub use frame::{Capture, End, Frame, LinkType};
 pub use laws::{one_reading_of_pcap, one_reading_of_pcapng};
 pub use pcap::read_pcap;
 pub use pcapng::read_pcapng;
-
-#[cfg(test)]
-mod tests;

@@ -22,6 +22,3 @@ pub use fault::FileFault;
 pub use kind::FileKind;
 pub use laws::{files_in_any_order, one_telling_of_a_file};
 pub use telling::{FileTold, Oddities, told_of};
-
-#[cfg(test)]
-mod tests;

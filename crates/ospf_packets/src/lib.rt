@@ -24,6 +24,3 @@ mod update;
 pub use kind::{AreaKind, AreaTold};
 pub use odd::Odd;
 pub use packets::{Packets, read_frames};
-
-#[cfg(test)]
-mod tests;

@@ -4,6 +4,9 @@ pub mod Numbers
 pub mod Labels
 pub mod Fields
 pub mod Bodies
+pub mod Printing
+pub mod PrintingBodies
+pub mod PrintingTexts
 pub mod Making
 pub mod Headings
 pub mod Telling

@@ -23,15 +23,17 @@ mod summary;
 // What is told.
 mod hole;
 mod kind;
+mod laws;
 mod printed;
 mod told;
 
 pub use hole::Hole;
 pub use kind::{AreaKind, AreaTold};
+pub use laws::{
+    printed_bodies_are_read, printed_headers_are_read, printed_lsas_are_told,
+    printed_words_are_read,
+};
 pub use number::{address_of, hex_up_to, number_up_to};
 pub use printed::{Printed, is_printed, read_printed, sorted};
 pub use text::next_word;
 pub use told::{Told, made_told};
-
-#[cfg(test)]
-mod tests;

@@ -24,6 +24,3 @@ mod told;
 
 pub use fault::JsonFault;
 pub use printed::{is_printed_json, read_printed_json};
-
-#[cfg(test)]
-mod tests;

@@ -17,6 +17,3 @@ pub use area::ToldArea;
 pub use fault::JoinFault;
 pub use joining::join;
 pub use laws::joined_in_any_order;
-
-#[cfg(test)]
-mod tests;

@@ -24,6 +24,3 @@ pub use kind::{AreaKind, AreaTold};
 pub use laws::printed_octets_are_read;
 pub use row::Row;
 pub use walk::{Walk, read_walk};
-
-#[cfg(test)]
-mod tests;

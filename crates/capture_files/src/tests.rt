@@ -1,4 +1,0 @@
-//! Small files made by hand, octet by octet, as the formats have them.
-
-mod pcap;
-mod pcapng;

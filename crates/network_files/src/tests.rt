@@ -1,3 +1,0 @@
-mod dumps;
-mod pieces;
-mod refusals;

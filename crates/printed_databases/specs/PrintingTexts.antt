@@ -1,0 +1,27 @@
+-- How an FRR router prints headings and LSAs one behind another, as words.
+use Rattle.std.specs.Prelude.{◌≢◌, List, [], ◌∷◌, ◌++◌, codes}
+use Rattle.lsa_codec.specs.Spelling.{address_text}
+use Rattle.printed_databases.specs.declared.kind.AreaKind.{AreaKind}
+use Rattle.printed_databases.specs.declared.kind.AreaKind.TheVariants as kinds
+use Rattle.printed_databases.specs.declared.kind.AreaTold.{AreaTold}
+use Rattle.printed_databases.specs.declared.label.Label.TheVariants as label
+use Rattle.printed_databases.specs.Words.{Word}
+use Rattle.printed_databases.specs.Printing.{Beside, label_words, said}
+
+-- neither an LSA nor the area of a heading begins with this word
+pub record IsPlain (word : Word) : Type 0 where
+  pub no_lsa : word ≢ codes "LS"
+  pub no_area : word ≢ codes "(Area"
+
+pub record ArePlain (beside : Beside) : Type 0 where
+  pub letters : IsPlain beside.letters
+  pub ls_flags : IsPlain beside.ls_flags
+
+abbrev pub area_words : AreaKind → Word → List Word
+area_words kinds.Ordinary address = said label.Area (address ++ 41 ∷ [])
+area_words kinds.Stub address = said label.Area address ++ label_words label.Stub
+area_words kinds.Nssa address = said label.Area address ++ label_words label.Nssa
+
+-- the area that a heading names, and the kind of the area, before a closing parenthesis (41)
+abbrev pub heading_words : AreaTold → List Word
+heading_words told = area_words told.kind (address_text told.area.0)

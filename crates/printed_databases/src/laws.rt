@@ -1,0 +1,71 @@
+//! Laws of printing and reading.
+
+ghost use Rattle.std.specs.Prelude.{◌≡◌, ◌<◌, ◌^◌, ◌++◌, ◌∷◌, [], All, List, ℕ, Option, Some, Ok, true};
+ghost use Rattle.std.specs.List.{join_with_byte};
+ghost use Rattle.lsa_codec.specs.declared.address.AreaId.{AreaId};
+ghost use Rattle.lsa_codec.specs.Decoding.{decoded};
+ghost use Rattle.lsa_instances.specs.Order.{scope_told};
+ghost use Rattle.printed_databases.specs.declared.header.Header.{Header};
+ghost use Rattle.printed_databases.specs.declared.kind.AreaKind.TheVariants as kinds;
+ghost use Rattle.printed_databases.specs.declared.kind.AreaTold.{AreaTold};
+ghost use Rattle.printed_databases.specs.declared.told.Told.TheVariants as tells;
+ghost use Rattle.printed_databases.specs.Words.{Word, is_blank, words};
+ghost use Rattle.printed_databases.specs.Fields.{header_in};
+ghost use Rattle.printed_databases.specs.Bodies.{body_in};
+ghost use Rattle.printed_databases.specs.Making.{header_octets};
+ghost use Rattle.printed_databases.specs.Headings.{kind_in};
+ghost use Rattle.printed_databases.specs.Telling.{in_scope, key_of, told_in};
+ghost use Rattle.printed_databases.specs.Printing.{Beside, BesideFits, HeaderFits, IsWord, header_words};
+ghost use Rattle.printed_databases.specs.PrintingBodies.{Body, BodyFits, body_octets, body_words, lsa_words};
+ghost use Rattle.printed_databases.specs.PrintingTexts.{ArePlain, IsPlain, heading_words};
+
+use std::alloc::Allocator;
+
+/// A header is read back from the words that are printed of it, whatever stands behind them.
+///
+/// The function does nothing: its contract is the law.
+pub fn printed_headers_are_read()
+    ensures { (beside : Beside) (header : Header) (rest : List Word) → HeaderFits header
+        → header_in (header_words beside header ++ rest) ≡ Some (header, rest) }
+{}
+
+/// What stands behind a header is read back from the words that are printed of it, as its octets.
+///
+/// The function does nothing: its contract is the law.
+pub fn printed_bodies_are_read()
+    ensures { (header : Header) (body : Body) (rest : List Word) → BodyFits header body
+        → body_in header (body_words body ++ rest) ≡ Some (body_octets body) }
+{}
+
+/// What is printed of an LSA are words, and they are the words of each text in which blanks stand
+/// between them.
+///
+/// The function does nothing: its contract is the law.
+pub fn printed_words_are_read()
+    ensures words { (beside : Beside) (header : Header) (body : Body) → BesideFits beside
+        → HeaderFits header → BodyFits header body → All IsWord (lsa_words beside header body) }
+    ensures word { (word : Word) → IsWord word → words word ≡ word ∷ [] }
+    ensures blank { (front text : List ℕ) (blank : ℕ) → is_blank blank ≡ true
+        → words (front ++ blank ∷ text) ≡ words front ++ words text }
+    ensures joined { (printed : List Word) (blank : ℕ) → All IsWord printed
+        → is_blank blank ≡ true → words (join_with_byte blank printed) ≡ printed }
+{}
+
+/// What a text tells whose words are printed, from its front: where an LSA is printed that the
+/// decoder accepts, that LSA, with its octets, in the area of the last heading; where a heading is
+/// printed, the kind of its area; and a word at which neither begins tells nothing.
+///
+/// The function does nothing: its contract is the law.
+pub fn printed_lsas_are_told<A: Allocator>()
+    ensures lsa { (area : Option AreaId) (beside : Beside) (header : Header) (body : Body)
+        (rest : List Word) (lsa : List ℕ) → ArePlain beside → HeaderFits header
+        → BodyFits header body → decoded (header_octets header ++ body_octets body) ≡ Ok lsa
+        → told_in {A = A} area (lsa_words beside header body ++ rest)
+        ≡ in_scope (key_of header) lsa (scope_told (key_of header).kind area) ∷ told_in area rest }
+    ensures heading { (before : Option AreaId) (told : AreaTold) (rest : List Word)
+        → told.area.0 < 2 ^ 32 → kind_in rest ≡ kinds.Ordinary
+        → told_in {A = A} before (heading_words told ++ rest)
+        ≡ tells.Kind told ∷ told_in (Some told.area) rest }
+    ensures word { (area : Option AreaId) (word : Word) (rest : List Word) → IsPlain word
+        → told_in {A = A} area (word ∷ rest) ≡ told_in area rest }
+{}

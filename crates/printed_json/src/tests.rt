@@ -1,4 +1,0 @@
-//! Tests of what documents tell.
-
-mod pieces;
-mod told;

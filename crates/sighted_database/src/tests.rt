@@ -1,3 +1,0 @@
-//! Databases that sightings make.
-
-mod joined;
