@@ -19,7 +19,8 @@ abbrev pub second : ℕ
 second = 1000000000
 
 -- whether a copy of this age, seen then, began after the moment: its time stamp less its LS age lies behind it. No,
--- where moment or time stamp are not known
+-- where moment or time stamp are not known. The bit DoNotAge counts as 32,768 seconds more (RFC 1793, 2.2): how long a
+-- router has held such a copy its age does not tell
 abbrev pub is_after : Option ℕ → Option ℕ → ℕ → Bool
 is_after None seen age = false
 is_after (Some moment) None age = false

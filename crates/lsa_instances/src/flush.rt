@@ -19,7 +19,9 @@ pub(crate) struct Flush {
     pub(crate) last: Option<u64>,
 }
 
-/// Whether a copy began after a moment: its time stamp less its LS age lies behind it.
+/// Whether a copy began after a moment: its time stamp less its LS age lies behind it. The bit
+/// DoNotAge counts as 32,768 seconds more (RFC 1793, 2.2): how long a router has held such a copy
+/// its age does not tell.
 fn began_after<A: Allocator + Copy>(moment: Option<u64>, copy: &Sighting<A>) -> bool
     ensures { result ≡ began_after moment copy.now }
 {

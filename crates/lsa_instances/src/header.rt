@@ -1,5 +1,8 @@
 //! Headers of LSAs, which name instances of LSAs without their bodies (RFC 2328, A.4.1).
 
+ghost use Rattle.std.specs.Prelude.{◌≡◌};
+ghost use Rattle.lsa_instances.specs.Headers.{is_at_max_age};
+
 use crate::place::Place;
 
 /// Which instance of an LSA it is, but for its age.
@@ -18,6 +21,16 @@ pub struct Header {
     pub place: Place,
     /// Which instance it is.
     pub issue: Issue,
-    /// The LS age, in seconds.
+    /// The LS age, in seconds; its top bit is DoNotAge (RFC 1793, 2.2).
     pub age: u16,
+}
+
+impl Header {
+    /// Whether the LS age is MaxAge, which is 3600 seconds (RFC 2328, B), or more: then the LSA is
+    /// flushed (RFC 2328, 14.1). The top bit of the age, DoNotAge, does not count (RFC 1793, 2.2).
+    pub fn is_at_max_age(&self) -> bool
+        ensures { result ≡ is_at_max_age self.now }
+    {
+        self.age & 0x7fff >= 3600
+    }
 }

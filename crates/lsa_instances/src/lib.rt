@@ -23,6 +23,3 @@ pub use laws::{flushed_lsas, instance_order, keys_rise, newest_in_any_order};
 pub use order::compare_instances;
 pub use place::{Place, Scope};
 pub use sighting::Sighting;
-
-#[cfg(test)]
-mod tests;

@@ -26,7 +26,7 @@ fn checksum_of<A: Allocator + Copy>(lsa: &Lsa<A>) -> u16
     BigEndian::read_u16(&lsa.bytes()[16..])
 }
 
-/// The LS age, in seconds, without the bit DoNotAge.
+/// The LS age, in seconds, without the bit DoNotAge (RFC 1793, 2.2).
 fn seconds_of<A: Allocator + Copy>(lsa: &Lsa<A>) -> u16
     ensures { result ≡ seconds_of lsa.now }
 {

@@ -1,9 +1,11 @@
 //! What tells LSAs apart.
 
-ghost use Rattle.std.specs.Prelude.{◌≡◌};
+ghost use Rattle.std.specs.Prelude.{◌≡◌, Some};
 ghost use Rattle.lsa_instances.specs.Order.{scope_told};
+ghost use Rattle.lsa_instances.specs.Texts.{place_text};
 
 use lsa_codec::{AreaId, Key};
+use std::fmt;
 
 /// The flooding scope of an LSA: one area, or the whole AS (RFC 2328, 13; RFC 5250, 2). Areas are
 /// ordered by their IDs, and the AS stands behind them.
@@ -31,10 +33,25 @@ impl Scope {
 
 /// The place of an LSA in a link state database: two sightings of one place are instances of one
 /// LSA. Places are ordered by scope, then by key.
+///
+/// Its `Display` is a few words on one line, as `area 0.0.0.0 type 1 id 1.1.1.1 adv 1.1.1.1`,
+/// without an area for an LSA of AS scope.
 #[derive(Clone, Copy, Debug, PartialEq, Eq, PartialOrd, Ord)]
 pub struct Place {
     /// Where the LSA is flooded.
     pub scope: Scope,
     /// What names it there.
     pub key: Key,
+}
+
+impl fmt::Display for Place {
+    ghost output = { λ place. Some (place_text place) };
+
+    fn fmt<W: fmt::Write>(&self, f: &mut fmt::Formatter<W>) -> fmt::Result {
+        let Key { kind, id, adv } = self.key;
+        match self.scope {
+            Scope::Area(area) => write!(f, "area {area} type {kind} id {id} adv {adv}"),
+            Scope::AsWide => write!(f, "type {kind} id {id} adv {adv}"),
+        }
+    }
 }
