@@ -1,18 +1,21 @@
--- Sets of areas: what is in both.
+-- Sets of areas: what is in both, and what is not in one.
 use Rattle.std.proofs.Common.{◌≡◌, Bool, true, false, List, ℕ, sym, ap, subst, ◌∙◌, refl}
-use Rattle.std.specs.Prelude.{filter, ◌&&◌}
+use Rattle.std.specs.Prelude.{filter, not, ◌&&◌, ◌==◌}
 use Rattle.std.specs.BTreeSet.{BTreeSet, IsFromIterResult, contains}
 use Rattle.std.specs.List.{filter_map}
 use Rattle.std.specs.List.Sorted.{IsStrictlySortedBy}
 use Rattle.std.specs.Ordering.{is_eq, eq_by_cmp}
 use Rattle.std.specs.declared.cmp.Ordering.{Ordering}
 use Rattle.std.specs.declared.cmp.Ordering.TheVariants.{Less, Equal, Greater}
+use Rattle.std.proofs.lemmas.List.Elements.{filter_agree}
 use Rattle.std.proofs.lemmas.List.Kept.{IsStrictlySortedBy-filter}
 use Rattle.std.proofs.lemmas.Map.Lookups.{exact_unsigned}
 use Rattle.std.proofs.lemmas.Map.Views.{any-filter_same}
 use Rattle.lsa_codec.specs.declared.address.AreaId.{AreaId}
 use Rattle.lsa_codec.specs.Order.{area_cmp}
-use Rattle.network_findings.specs.Contradictions.{AreContradictions, has, id_told}
+use Rattle.network_findings.specs.Areas.{has}
+use Rattle.network_findings.specs.Contradictions.{AreContradictions, id_told}
+use Rattle.network_findings.specs.NoKind.{ids_of, without_kind}
 use Rattle.sighted_database.specs.declared.area.ToldArea.{ToldArea}
 
 eq_true : (o : Ordering) → is_eq o ≡ true → o ≡ Equal
@@ -35,3 +38,11 @@ in_both areas stubs others both h k e = record {
       ∙ ap (λ b. has id (filter_map (id_told false) areas) && b) (h.0 id);
   order = subst (λ l. IsStrictlySortedBy area_cmp l) (sym e) (IsStrictlySortedBy-filter area_cmp (contains area_cmp others) stubs.keys h.1);
 }
+
+pub those_left : (kinds : List ToldArea) (told ids left : List AreaId) (others : BTreeSet AreaId) → told ≡ ids_of kinds
+    → IsFromIterResult area_cmp told others → left ≡ filter (λ id. not (id.0 == 0) && not (contains area_cmp others id)) ids
+    → left ≡ without_kind kinds ids
+those_left kinds told ids left others e h k =
+    k
+    ∙ filter_agree (λ id. not (id.0 == 0) && not (contains area_cmp others id)) (λ id. not (id.0 == 0) && not (has id (ids_of kinds)))
+    (λ id. ap (λ b. not (id.0 == 0) && not b) (h.0 id ∙ ap (has id) e)) ids

@@ -1,7 +1,10 @@
 -- The areas that a file tells.
-use Rattle.std.specs.Prelude.{List, ◌++◌, map, Option, None, Some}
-use Rattle.std.specs.List.{filter_map}
+use Rattle.std.specs.Prelude.{◌≡◌, Bool, List, ◌++◌, map, Option, None, Some}
+use Rattle.std.specs.List.{filter_map, list_any}
+use Rattle.std.specs.List.Sorted.{IsStrictlySortedBy}
+use Rattle.std.specs.Ordering.{eq_by_cmp}
 use Rattle.lsa_codec.specs.declared.address.AreaId.{AreaId}
+use Rattle.lsa_codec.specs.Order.{area_cmp}
 use Rattle.lsa_instances.specs.declared.place.Scope.{Scope}
 use Rattle.lsa_instances.specs.declared.place.Scope.TheVariants.{Area, AsWide}
 use Rattle.network_files.specs.declared.telling.FileTold.{FileTold}
@@ -13,3 +16,12 @@ area_in AsWide = None
 -- those of which it tells the kind, and then those of its LSAs, as often as they are told
 abbrev pub areas_told : {A : Type 0} → FileTold A → List AreaId
 areas_told file = map (λ area. area.id) file.areas.items ++ filter_map (λ sighting. area_in sighting.scope) file.sightings.items
+
+-- whether the area is one of these
+abbrev pub has : AreaId → List AreaId → Bool
+has id ids = list_any (eq_by_cmp area_cmp id) ids
+
+-- the areas that are told, each once, in rising order
+pub record AreOnce (told once : List AreaId) : Type 0 where
+  pub which : (id : AreaId) → has id once ≡ has id told
+  pub order : IsStrictlySortedBy area_cmp once

@@ -1,20 +1,16 @@
 -- Areas whose kinds contradict (RFC 2328, 3.6).
 use Rattle.std.specs.Prelude.{◌≡◌, ◌&&◌, Bool, true, false, if◌then◌else◌, List, Option, None, Some}
-use Rattle.std.specs.List.{filter_map, list_any}
+use Rattle.std.specs.List.{filter_map}
 use Rattle.std.specs.List.Sorted.{IsStrictlySortedBy}
-use Rattle.std.specs.Ordering.{eq_by_cmp}
 use Rattle.lsa_codec.specs.declared.address.AreaId.{AreaId}
 use Rattle.lsa_codec.specs.Order.{area_cmp}
+use Rattle.network_findings.specs.Areas.{has}
 use Rattle.sighted_database.specs.declared.area.ToldArea.{ToldArea}
 
 -- the area, where it is told to be a stub area, or to be none
 abbrev pub id_told : Bool → ToldArea → Option AreaId
 id_told true area = if area.is_stub then Some area.id else None
 id_told false area = if area.is_stub then None else Some area.id
-
--- whether the area is one of these
-abbrev pub has : AreaId → List AreaId → Bool
-has id ids = list_any (eq_by_cmp area_cmp id) ids
 
 -- the areas that are told to be stub areas and to be none, each once, in order
 pub record AreContradictions (areas : List ToldArea) (both : List AreaId) : Type 0 where

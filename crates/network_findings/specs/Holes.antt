@@ -1,11 +1,16 @@
 -- What is to be told of a file besides what it gave.
-use Rattle.std.specs.Prelude.{ℕ, Bool, true, false, ◌==◌, List, [], ◌∷◌, ◌++◌, count_by, Option, None, Some, if◌then◌else◌}
+use Rattle.std.specs.Prelude.{◌≡◌, ℕ, Bool, true, false, ◌==◌, List, [], ◌∷◌, ◌++◌, count_by, map, Option, None, Some, if◌then◌else◌}
 use Rattle.std.specs.List.{filter_map}
 use Rattle.capture_files.specs.declared.frame.End.{End}
 use Rattle.capture_files.specs.declared.frame.End.TheVariants as ends
+use Rattle.lsa_codec.specs.declared.address.AreaId.{AreaId}
 use Rattle.lsa_codec.specs.declared.fault.LsaFault.TheVariants as lsa
 use Rattle.network_findings.specs.declared.hole.Hole.{Hole}
-use Rattle.network_findings.specs.declared.hole.Hole.TheVariants.{Frames, Cut, Refused, NoArea, Unreadable}
+use Rattle.network_findings.specs.declared.hole.Hole.TheVariants.{Frames, Cut, Walk, Refused, NoArea, Unreadable, Nssa}
+use Rattle.network_findings.specs.Areas.{AreOnce}
+use Rattle.network_files.specs.declared.telling.FileTold.{FileTold}
+use Rattle.network_files.specs.declared.telling.Oddities.{Oddities}
+use Rattle.network_files.specs.declared.telling.Oddities.TheVariants as oddities
 use Rattle.ospf_packets.specs.declared.odd.Odd.{Odd}
 use Rattle.ospf_packets.specs.declared.odd.Odd.TheVariants.{OtherLink, NotIpv4, NotOspf, Truncated, BadLength, MissingFragment, OtherVersion, BadChecksum, OtherType, RefusedLsa}
 use Rattle.printed_databases.specs.declared.hole.Hole.{Hole as TextHole}
@@ -40,9 +45,17 @@ times odd reason = count_by (λ one. number_of one == number_of reason) odd
 abbrev pub counted : List Odd → Odd → Option Hole
 counted odd reason = if times odd reason == 0 then None else Some (Frames reason (times odd reason))
 
--- the reasons that are told of frames, each once
-abbrev pub frame_holes : List Odd → List Odd → List Hole
-frame_holes reasons odd = filter_map (counted odd) reasons
+-- the reasons that are told of frames and of their LSAs: not that a frame carries something else than IPv4, or a datagram
+-- something else than OSPF
+abbrev pub reasons : List Odd
+reasons =
+    OtherLink ∷ Truncated ∷ BadLength ∷ MissingFragment ∷ OtherVersion ∷ BadChecksum ∷ OtherType ∷ RefusedLsa lsa.Truncated
+    ∷ RefusedLsa lsa.Length ∷ RefusedLsa lsa.BadType ∷ RefusedLsa lsa.Body ∷ RefusedLsa lsa.Checksum ∷ RefusedLsa lsa.Mask
+    ∷ RefusedLsa lsa.RouterId ∷ RefusedLsa lsa.ZeroCost ∷ []
+
+-- what is odd of frames, each reason once
+abbrev pub frame_holes : List Odd → List Hole
+frame_holes odd = filter_map (counted odd) reasons
 
 abbrev pub end_holes : End → List Hole
 end_holes ends.Whole = []
@@ -66,3 +79,16 @@ unread printed = if count_by is_unreadable printed == 0 then [] else Unreadable 
 -- what is printed and tells no LSA: each that has a key, and how many have none
 abbrev pub text_holes : List TextHole → List Hole
 text_holes printed = filter_map keyed printed ++ unread printed
+
+-- what can not be used of a file, or is missing in it
+abbrev pub oddity_holes : {A : Type 0} → Oddities A → List Hole
+oddity_holes (oddities.Frames odd end) = frame_holes odd.items ++ end_holes end
+oddity_holes (oddities.Rows rows) = map Walk rows.items
+oddity_holes (oddities.Texts printed) = text_holes printed.items
+oddity_holes (oddities.Documents printed) = text_holes printed.items
+
+-- all of it, and behind it the not-so-stubby areas, each once, in rising order
+pub record AreHoles {A : Type 0} (file : FileTold A) (holes : List Hole) : Type 0 where
+  pub nssas : List AreaId
+  pub once : AreOnce file.nssas.items nssas
+  pub told : holes ≡ oddity_holes file.oddities ++ map Nssa nssas

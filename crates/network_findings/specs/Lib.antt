@@ -2,3 +2,6 @@ pub mod Areas
 pub mod Contradictions
 pub mod Holes
 pub mod Lines
+pub mod NoKind
+pub mod Texts
+pub mod steps

@@ -1,7 +1,9 @@
 //! Areas, each once.
 
 ghost use Rattle.std.specs.Prelude.{◌≡◌, IfOk, map};
+ghost use Rattle.std.specs.BTreeSet.{IsFromIterResult};
 ghost use Rattle.std.specs.List.{filter_map};
+ghost use Rattle.lsa_codec.specs.Order.{area_cmp};
 ghost use Rattle.network_findings.specs.Areas.{area_in, areas_told};
 
 use lsa_codec::AreaId;
@@ -22,7 +24,7 @@ fn area_in(scope: Scope) -> Option<AreaId>
 }
 
 /// The areas of which the file tells the kind, as often as it tells it.
-fn areas_of_kinds<A: Allocator + Copy>(
+pub(crate) fn areas_of_kinds<A: Allocator + Copy>(
     alloc: A,
     kinds: &[ToldArea],
 ) -> Result<Vec<AreaId, A>, AllocError>
@@ -32,7 +34,7 @@ fn areas_of_kinds<A: Allocator + Copy>(
 }
 
 /// The areas of LSAs, as often as there is one.
-fn areas_of_lsas<A: Allocator + Copy>(
+pub(crate) fn areas_of_lsas<A: Allocator + Copy>(
     alloc: A,
     sightings: &[Sighting<A>],
 ) -> Result<Vec<AreaId, A>, AllocError>
@@ -58,14 +60,12 @@ pub(crate) fn areas_told<A: Allocator + Copy>(
     Ok(areas)
 }
 
-/// The IDs of areas, each once.
-pub(crate) fn each_once<A: Allocator + Copy>(
+/// Areas, each once, in order.
+pub(crate) fn once<A: Allocator + Copy>(
     alloc: A,
-    areas: &[AreaId],
-) -> Result<BTreeSet<u32, A>, AllocError> {
-    let mut once = BTreeSet::new(alloc);
-    for area in areas {
-        once.insert(area.0)?;
-    }
-    Ok(once)
+    areas: Vec<AreaId, A>,
+) -> Result<BTreeSet<AreaId, A>, AllocError>
+    ensures { IfOk result (λ set. IsFromIterResult area_cmp areas.items set) }
+{
+    areas.into_iter().collect(alloc)
 }

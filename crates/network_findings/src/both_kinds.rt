@@ -55,7 +55,7 @@ fn in_both<A: Allocator + Copy>(
 }
 
 /// The areas of which files tell the kind, one file after another.
-fn areas_of<A: Allocator + Copy>(
+pub(crate) fn areas_of<A: Allocator + Copy>(
     alloc: A,
     files: &[FileTold<A>],
 ) -> Result<Vec<ToldArea, A>, AllocError>

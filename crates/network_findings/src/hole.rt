@@ -1,8 +1,13 @@
 //! What is missing in a file, or can not be used.
 
+ghost use Rattle.std.specs.Prelude.{◌≡◌, Some};
+ghost use Rattle.network_findings.specs.Texts.{hole_text, lsa_name, lsa_text, odd_name, row_name};
+ghost use Rattle.network_findings.specs.steps.Untold.{untold_text};
+
+use crate::untold::Untold;
 use lsa_codec::{AreaId, Key, LsaFault};
 use ospf_packets::Odd;
-use snmp_walk::{Hole as RowHole, Row, RowFault};
+use snmp_walk::{Hole as RowHole, RowFault};
 use std::fmt;
 
 /// What is missing in a file, or can not be used of it.
@@ -28,7 +33,9 @@ pub enum Hole {
 }
 
 /// The name of a reason.
-fn odd_name(odd: Odd) -> &'static str {
+fn odd_name(odd: Odd) -> &'static str
+    ensures { result.now ≡ odd_name odd }
+{
     match odd {
         Odd::OtherLink => "OtherLink",
         Odd::NotIpv4 => "NotIpv4",
@@ -44,7 +51,9 @@ fn odd_name(odd: Odd) -> &'static str {
 }
 
 /// The name of an LSA that is refused.
-fn lsa_name(fault: LsaFault) -> &'static str {
+fn lsa_name(fault: LsaFault) -> &'static str
+    ensures { result.now ≡ lsa_name fault }
+{
     match fault {
         LsaFault::Truncated => "RefusedLsa Truncated",
         LsaFault::Length => "RefusedLsa Length",
@@ -59,7 +68,9 @@ fn lsa_name(fault: LsaFault) -> &'static str {
 }
 
 /// The name of the reason for which a row tells no LSA.
-fn row_name(fault: RowFault) -> &'static str {
+fn row_name(fault: RowFault) -> &'static str
+    ensures { result.now ≡ row_name fault }
+{
     match fault {
         RowFault::Missing => "Missing",
         RowFault::NotOctets => "NotOctets",
@@ -70,23 +81,16 @@ fn row_name(fault: RowFault) -> &'static str {
     }
 }
 
-/// Writes what names an LSA, behind why it is not told.
-fn write_key<W: fmt::Write>(f: &mut fmt::Formatter<W>, key: Key, name: &str) -> fmt::Result {
-    let Key { kind, id, adv } = key;
-    write!(f, "{name} type {kind} id {id} adv {adv}")
-}
-
-/// Writes what names an LSA, behind the area of its row.
-fn write_row<W: fmt::Write>(f: &mut fmt::Formatter<W>, row: Row, name: &str) -> fmt::Result {
-    let Row { area, key } = row;
-    let Key { kind, id, adv } = key;
-    match area {
-        Some(area) => write!(f, "{name} area {area} type {kind} id {id} adv {adv}"),
-        None => write_key(f, key, name),
-    }
+/// What names an LSA, behind why it is not told.
+fn untold(why: &str, area: Option<AreaId>, key: Key) -> Untold<'_>
+    ensures { untold_text result ≡ lsa_text why.now area key }
+{
+    Untold { why, area, key }
 }
 
 impl fmt::Display for Hole {
+    ghost output = { λ hole. Some (hole_text hole) };
+
     fn fmt<W: fmt::Write>(&self, f: &mut fmt::Formatter<W>) -> fmt::Result {
         match *self {
             Hole::Frames(odd, count) => {
@@ -94,11 +98,20 @@ impl fmt::Display for Hole {
                 write!(f, "{name} {count}")
             }
             Hole::Cut(offset) => write!(f, "Cut at {offset}"),
-            Hole::Walk(RowHole::Row(row, fault)) => write_row(f, row, row_name(fault)),
+            Hole::Walk(RowHole::Row(row, fault)) => {
+                let lsa = untold(row_name(fault), row.area, row.key);
+                write!(f, "{lsa}")
+            }
             Hole::Walk(RowHole::Kind(area)) => write!(f, "Kind area {area}"),
             Hole::Walk(RowHole::Name) => write!(f, "Name"),
-            Hole::Refused(key, fault) => write_key(f, key, lsa_name(fault)),
-            Hole::NoArea(key) => write_key(f, key, "NoArea"),
+            Hole::Refused(key, fault) => {
+                let lsa = untold(lsa_name(fault), None, key);
+                write!(f, "{lsa}")
+            }
+            Hole::NoArea(key) => {
+                let lsa = untold("NoArea", None, key);
+                write!(f, "{lsa}")
+            }
             Hole::Unreadable(count) => write!(f, "Unreadable {count}"),
             Hole::Nssa(area) => write!(f, "Nssa area {area}"),
         }

@@ -1,17 +1,23 @@
 //! The holes of a file.
 
-ghost use Rattle.std.specs.Prelude.{◌≡◌, ◌++◌, IfOk, OnOk};
+ghost use Rattle.std.specs.Prelude.{◌≡◌, ◌++◌, List, IfOk, OnOk, map};
 ghost use Rattle.std.specs.List.{filter_map};
-ghost use Rattle.network_findings.specs.Holes.{counted, end_holes, frame_holes, is_unreadable, keyed, number_of, text_holes, unread};
+ghost use Rattle.lsa_codec.specs.declared.address.AreaId.{AreaId as AnyAreaId};
+ghost use Rattle.network_findings.specs.declared.hole.Hole.TheVariants.{Nssa, Walk};
+ghost use Rattle.network_findings.specs.Areas.{AreOnce};
+ghost use Rattle.network_findings.specs.Holes.{AreHoles, counted, end_holes, frame_holes, is_unreadable};
+ghost use Rattle.network_findings.specs.Holes.{keyed, number_of, oddity_holes, text_holes, unread};
 
-use crate::areas::each_once;
+use crate::areas::once;
 use crate::hole::Hole;
 use capture_files::End;
 use lsa_codec::{AreaId, LsaFault};
 use network_files::{FileTold, Oddities};
 use ospf_packets::Odd;
 use printed_databases::Hole as TextHole;
+use snmp_walk::Hole as RowHole;
 use std::alloc::{AllocError, Allocator};
+use std::collections::BTreeSet;
 
 /// The reasons that are told of frames and of their LSAs. That a frame carries something else than
 /// IPv4, or a datagram something else than OSPF, is none.
@@ -74,7 +80,7 @@ fn counted(odd: &[Odd], reason: Odd) -> Option<Hole>
 
 /// What is odd of frames, each reason once.
 fn frame_holes<A: Allocator + Copy>(alloc: A, odd: &[Odd]) -> Result<Vec<Hole, A>, AllocError>
-    ensures { IfOk result (λ holes. holes.items ≡ frame_holes REASONS.now odd.now) }
+    ensures { IfOk result (λ holes. holes.items ≡ frame_holes odd.now) }
 {
     REASONS
         .iter()
@@ -146,26 +152,67 @@ fn text_holes<A: Allocator + Copy>(alloc: A, texts: &[TextHole]) -> Result<Vec<H
     Ok(holes)
 }
 
+/// What is odd of the frames of a capture, and what is missing at its end.
+fn capture_holes<A: Allocator + Copy>(
+    alloc: A,
+    odd: &[Odd],
+    end: End,
+) -> Result<Vec<Hole, A>, AllocError>
+    ensures { IfOk result (λ holes. holes.items ≡ frame_holes odd.now ++ end_holes end) }
+{
+    let mut holes = frame_holes(alloc, odd)?;
+    put_end(&mut holes, end)?;
+    Ok(holes)
+}
+
+/// What is missing in a walk, or can not be used of it.
+fn row_holes<A: Allocator + Copy>(alloc: A, rows: &[RowHole]) -> Result<Vec<Hole, A>, AllocError>
+    ensures { IfOk result (λ holes. holes.items ≡ map Walk rows.now) }
+{
+    rows.iter().map(|row| Hole::Walk(*row)).collect(alloc)
+}
+
 /// What can not be used of a file, or is missing in it.
 fn oddity_holes<A: Allocator + Copy>(
     alloc: A,
     oddities: &Oddities<A>,
-) -> Result<Vec<Hole, A>, AllocError> {
+) -> Result<Vec<Hole, A>, AllocError>
+    ensures { IfOk result (λ holes. holes.items ≡ oddity_holes oddities.now) }
+{
     match oddities {
-        Oddities::Frames(odd, end) => {
-            let mut holes = frame_holes(alloc, odd)?;
-            put_end(&mut holes, *end)?;
-            Ok(holes)
-        }
-        Oddities::Rows(rows) => rows.iter().map(|row| Hole::Walk(*row)).collect(alloc),
+        Oddities::Frames(odd, end) => capture_holes(alloc, odd, *end),
+        Oddities::Rows(rows) => row_holes(alloc, rows),
         Oddities::Texts(texts) | Oddities::Documents(texts) => text_holes(alloc, texts),
     }
 }
 
+/// The same areas, in memory of their own.
+fn copied<A: Allocator + Copy>(alloc: A, areas: &[AreaId]) -> Result<Vec<AreaId, A>, AllocError>
+    ensures { IfOk result (λ copy. copy.items ≡ areas.now) }
+{
+    let mut copy = Vec::new(alloc);
+    copy.extend_from_slice(areas)?;
+    Ok(copy)
+}
+
+/// A hole for each of these areas.
+fn nssas_in<A: Allocator + Copy>(
+    alloc: A,
+    ids: &BTreeSet<AreaId, A>,
+) -> Result<Vec<Hole, A>, AllocError>
+    ensures { IfOk result (λ holes. holes.items ≡ map Nssa ids.now.keys) }
+{
+    ids.iter().map(|id| Hole::Nssa(*id)).collect(alloc)
+}
+
 /// The not-so-stubby areas, each once, in rising order.
-fn nssa_holes<A: Allocator + Copy>(alloc: A, areas: &[AreaId]) -> Result<Vec<Hole, A>, AllocError> {
-    let ids = each_once(alloc, areas)?;
-    ids.iter().map(|id| Hole::Nssa(AreaId(*id))).collect(alloc)
+fn nssa_holes<A: Allocator + Copy>(alloc: A, areas: &[AreaId]) -> Result<Vec<Hole, A>, AllocError>
+    ensures { IfOk result (λ holes. (ids : List AnyAreaId)
+        × (AreOnce areas.now ids × (holes.items ≡ map Nssa ids))) }
+{
+    let all = copied(alloc, areas)?;
+    let ids = once(alloc, all)?;
+    nssas_in(alloc, &ids)
 }
 
 /// What is to be told of a file besides what it gave: what is odd of its frames and how often, that
@@ -177,7 +224,9 @@ fn nssa_holes<A: Allocator + Copy>(alloc: A, areas: &[AreaId]) -> Result<Vec<Hol
 pub fn holes_of<A: Allocator + Copy>(
     alloc: A,
     file: &FileTold<A>,
-) -> Result<Vec<Hole, A>, AllocError> {
+) -> Result<Vec<Hole, A>, AllocError>
+    ensures { IfOk result (λ holes. AreHoles file.now holes.items) }
+{
     let mut holes = oddity_holes(alloc, &file.oddities)?;
     let nssas = nssa_holes(alloc, &file.nssas)?;
     holes.extend_from_slice(&nssas)?;

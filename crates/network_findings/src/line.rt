@@ -1,9 +1,10 @@
 //! What a file gave, as a line.
 
-ghost use Rattle.std.specs.Prelude.{◌≡◌};
-ghost use Rattle.network_findings.specs.Lines.{kind_name};
+ghost use Rattle.std.specs.Prelude.{◌≡◌, IfOk};
+ghost use Rattle.std.specs.String.{string_bytes};
+ghost use Rattle.network_findings.specs.Lines.{IsLine, kind_name, line_words};
 
-use crate::areas::{areas_told, each_once};
+use crate::areas::{areas_told, once};
 use network_files::{FileTold, Oddities};
 use std::alloc::{AllocError, Allocator};
 
@@ -19,6 +20,21 @@ fn kind_name<A: Allocator>(oddities: &Oddities<A>) -> &'static str
     }
 }
 
+/// The line of a file of this name and kind, with so many LSAs and areas.
+fn line_of<A: Allocator + Copy>(
+    alloc: A,
+    name: &str,
+    kind: &str,
+    lsas: usize,
+    areas: usize,
+) -> Result<String<A>, AllocError>
+    ensures { IfOk result (λ line. string_bytes line ≡ line_words name.now kind.now lsas areas) }
+{
+    let mut line = String::new(alloc);
+    write!(line, "{name}: {kind}, {lsas} LSAs, {areas} areas\n")?;
+    Ok(line)
+}
+
 /// The line of a file, its end included: its name, its kind, how many LSAs it tells, each as often
 /// as it does, and how many areas; as `r4-r5.pcap: capture, 180 LSAs, 1 areas`.
 ///
@@ -29,10 +45,12 @@ pub fn file_line<A: Allocator + Copy>(
     alloc: A,
     name: &str,
     file: &FileTold<A>,
-) -> Result<String<A>, AllocError> {
+) -> Result<String<A>, AllocError>
+    ensures { IfOk result (λ line. IsLine name.now file.now (string_bytes line)) }
+{
     let kind = kind_name(&file.oddities);
     let lsas = file.sightings.len();
     let told = areas_told(alloc, file)?;
-    let areas = each_once(alloc, &told)?.len();
-    format!(in alloc; "{name}: {kind}, {lsas} LSAs, {areas} areas\n")
+    let areas = once(alloc, told)?.len();
+    line_of(alloc, name, kind, lsas, areas)
 }

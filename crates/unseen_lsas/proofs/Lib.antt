@@ -1,1 +1,3 @@
 mod Sets
+mod OneMore
+mod NewerHeaders

@@ -9,7 +9,6 @@ use Rattle.std.specs.declared.cmp.Ordering.TheVariants.{Less, Equal, Greater}
 use Rattle.std.proofs.lemmas.List.Kept.{IsStrictlySortedBy-filter}
 use Rattle.std.proofs.lemmas.Map.Lookups.{exact_unsigned}
 use Rattle.std.proofs.lemmas.Map.Views.{any-filter_same}
-use Rattle.lsa_codec.specs.declared.address.AreaId.{AreaId}
 use Rattle.lsa_codec.specs.declared.key.Key.{Key}
 use Rattle.lsa_instances.proofs.PlaceLemmas.{same_place}
 use Rattle.lsa_instances.specs.declared.place.Place.{Place}
@@ -18,7 +17,7 @@ use Rattle.lsa_instances.specs.Order.{key_cmp}
 use Rattle.unseen_lsas.specs.declared.named.NamedLsa.{NamedLsa}
 use Rattle.unseen_lsas.specs.Unseen.{has, lsa_cmp, AreUnseen}
 
-eq_true : (o : Ordering) → is_eq o ≡ true → o ≡ Equal
+pub eq_true : (o : Ordering) → is_eq o ≡ true → o ≡ Equal
 eq_true Less h = cc
 eq_true Equal h = refl
 eq_true Greater h = cc
@@ -43,7 +42,7 @@ same_key a b h = ap (λ (p : Place). p.key) (same_place (in_as a) (in_as b) h)
 abbrev named : Bool → ℕ → Key → NamedLsa
 named is_as_wide area key = record { is_as_wide = is_as_wide; area = record { 0 = area }; key = key }
 
-same_lsa : (a b : NamedLsa) → lsa_cmp a b ≡ Equal → a ≡ b
+pub same_lsa : (a b : NamedLsa) → lsa_cmp a b ≡ Equal → a ≡ b
 same_lsa a b h =
     let p = then_both (bool_cmp a.is_as_wide b.is_as_wide) _ h in
     let q = then_both (nat_cmp a.area.0 b.area.0) _ p.1 in

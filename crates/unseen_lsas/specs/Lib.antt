@@ -1,1 +1,4 @@
 pub mod Unseen
+pub mod Newer
+pub mod Texts
+pub mod steps

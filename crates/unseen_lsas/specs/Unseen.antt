@@ -1,5 +1,5 @@
 -- LSAs that are named by headers and shown by no file (RFC 2328, A.3.3, A.3.6).
-use Rattle.std.specs.Prelude.{◌≡◌, ◌&&◌, Bool, true, false, not, nat_lt, if◌then◌else◌, List, map, Option, None, Some}
+use Rattle.std.specs.Prelude.{◌≡◌, ◌&&◌, Bool, true, false, not, if◌then◌else◌, List, map, Option, None, Some}
 use Rattle.std.specs.List.{filter_map, flat_map, list_any}
 use Rattle.std.specs.List.Sorted.{IsStrictlySortedBy}
 use Rattle.std.specs.Ordering.{bool_cmp, nat_cmp, ordering_then, eq_by_cmp}
@@ -7,6 +7,7 @@ use Rattle.std.specs.declared.cmp.Ordering.{Ordering}
 use Rattle.lsa_codec.specs.declared.key.Key.{Key}
 use Rattle.lsa_instances.specs.declared.header.Header.{Header}
 use Rattle.lsa_instances.specs.declared.place.Place.{Place}
+use Rattle.lsa_instances.specs.Headers.{is_at_max_age}
 use Rattle.lsa_instances.specs.declared.place.Scope.{Scope}
 use Rattle.lsa_instances.specs.declared.place.Scope.TheVariants.{Area, AsWide}
 use Rattle.lsa_instances.specs.declared.sighting.Sighting.{Sighting}
@@ -26,9 +27,9 @@ named_at place = named_in place.scope place.key
 abbrev pub lsa_cmp : NamedLsa → NamedLsa → Ordering
 lsa_cmp a b = ordering_then (bool_cmp a.is_as_wide b.is_as_wide) (ordering_then (nat_cmp a.area.0 b.area.0) (key_cmp a.key b.key))
 
--- the LSA that a header names, unless it is at MaxAge (RFC 2328, B): then it flushes the LSA (14)
+-- the LSA that a header names, unless it is at MaxAge: then it flushes the LSA (14.1)
 abbrev pub named_by : Header → Option NamedLsa
-named_by header = if nat_lt header.age 3600 then Some (named_at header.place) else None
+named_by header = if is_at_max_age header then None else Some (named_at header.place)
 
 -- the LSA of which an instance is seen
 abbrev pub shown_by : {A : Type 0} → Sighting A → NamedLsa

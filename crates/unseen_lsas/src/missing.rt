@@ -11,7 +11,7 @@ use std::alloc::{AllocError, Allocator};
 use std::collections::BTreeSet;
 
 /// The LSAs, each once, in order.
-fn once<A: Allocator + Copy>(
+pub(crate) fn once<A: Allocator + Copy>(
     alloc: A,
     lsas: Vec<NamedLsa, A>,
 ) -> Result<BTreeSet<NamedLsa, A>, AllocError>
@@ -49,8 +49,8 @@ fn missing<A: Allocator + Copy>(
 }
 
 /// The LSAs that the headers of the files name, and of which no file shows an instance, each once,
-/// in order of scope and key. A header at MaxAge names none: it is that of an LSA that was flushed
-/// (RFC 2328, 14).
+/// in order of scope and key. A header at MaxAge names none, and one with DoNotAge below it does:
+/// see [`Header::is_at_max_age`](lsa_instances::Header::is_at_max_age).
 ///
 /// # Errors
 ///

@@ -1,14 +1,15 @@
 //! LSAs by their names alone.
 
-ghost use Rattle.std.specs.Prelude.{◌≡◌};
+ghost use Rattle.std.specs.Prelude.{◌≡◌, Some};
+ghost use Rattle.unseen_lsas.specs.Texts.{named_text};
 ghost use Rattle.unseen_lsas.specs.Unseen.{named_at};
 
 use lsa_codec::{AreaId, Key};
 use lsa_instances::{Place, Scope};
 use std::fmt;
 
-/// What names an LSA in the databases of a network: where it is flooded, and its key there. Areas
-/// stand before the whole AS.
+/// What names an LSA in the databases of a network: where it is flooded, and its key there (RFC
+/// 2328, 12.1). Areas stand before the whole AS.
 ///
 /// Its `Display` is a few words on one line, as `area 0.0.0.0 type 1 id 1.1.1.1 adv 1.1.1.1`,
 /// without an area for an LSA of AS scope.
@@ -16,7 +17,7 @@ use std::fmt;
 pub struct NamedLsa {
     /// Whether it is flooded in the whole AS.
     pub is_as_wide: bool,
-    /// The area where it is flooded; 0.0.0.0 for the whole AS.
+    /// The area where it is flooded, if that is one; else 0.0.0.0, which means nothing.
     pub area: AreaId,
     /// What names it there.
     pub key: Key,
@@ -41,6 +42,8 @@ pub(crate) fn named_at(place: Place) -> NamedLsa
 }
 
 impl fmt::Display for NamedLsa {
+    ghost output = { λ lsa. Some (named_text lsa) };
+
     fn fmt<W: fmt::Write>(&self, f: &mut fmt::Formatter<W>) -> fmt::Result {
         let NamedLsa {
             is_as_wide,

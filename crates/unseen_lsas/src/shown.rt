@@ -9,17 +9,14 @@ use lsa_instances::{Header, Sighting};
 use network_files::FileTold;
 use std::alloc::{AllocError, Allocator};
 
-/// The LS age of an LSA that is flushed from all databases, in seconds (RFC 2328, B).
-const MAX_AGE: u16 = 3600;
-
 /// The LSA, unless the header flushes it.
 fn named_by(header: &Header) -> Option<NamedLsa>
     ensures { result ≡ named_by header.now }
 {
-    if header.age < MAX_AGE {
-        Some(named_at(header.place))
-    } else {
+    if header.is_at_max_age() {
         None
+    } else {
+        Some(named_at(header.place))
     }
 }
 

@@ -1,0 +1,70 @@
+-- The words for what is missing in a file, or can not be used.
+use Rattle.std.specs.Prelude.{ℕ, List, [], ◌++◌, Option, Some, None, codes, decimal}
+use Rattle.lsa_codec.specs.declared.address.AreaId.{AreaId}
+use Rattle.lsa_codec.specs.declared.fault.LsaFault.{LsaFault}
+use Rattle.lsa_codec.specs.declared.fault.LsaFault.TheVariants as lsa
+use Rattle.lsa_codec.specs.declared.key.Key.{Key}
+use Rattle.lsa_codec.specs.Spelling.{address_text}
+use Rattle.lsa_instances.specs.Texts.{key_text}
+use Rattle.network_findings.specs.declared.hole.Hole.{Hole}
+use Rattle.network_findings.specs.declared.hole.Hole.TheVariants.{Frames, Cut, Walk, Refused, NoArea, Unreadable, Nssa}
+use Rattle.ospf_packets.specs.declared.odd.Odd.{Odd}
+use Rattle.ospf_packets.specs.declared.odd.Odd.TheVariants as odds
+use Rattle.snmp_walk.specs.declared.hole.Hole.TheVariants as walks
+use Rattle.snmp_walk.specs.declared.hole.RowFault.{RowFault}
+use Rattle.snmp_walk.specs.declared.hole.RowFault.TheVariants as rows
+
+-- an LSA that is refused
+abbrev pub lsa_name : LsaFault → List ℕ
+lsa_name lsa.Truncated = codes "RefusedLsa Truncated"
+lsa_name lsa.Length = codes "RefusedLsa Length"
+lsa_name lsa.BadType = codes "RefusedLsa BadType"
+lsa_name lsa.Body = codes "RefusedLsa Body"
+lsa_name lsa.Checksum = codes "RefusedLsa Checksum"
+lsa_name lsa.Mask = codes "RefusedLsa Mask"
+lsa_name lsa.RouterId = codes "RefusedLsa RouterId"
+lsa_name lsa.ZeroCost = codes "RefusedLsa ZeroCost"
+lsa_name lsa.OutOfMemory = codes "RefusedLsa OutOfMemory"
+
+-- why a frame, or an LSA in it, is not used
+abbrev pub odd_name : Odd → List ℕ
+odd_name odds.OtherLink = codes "OtherLink"
+odd_name odds.NotIpv4 = codes "NotIpv4"
+odd_name odds.NotOspf = codes "NotOspf"
+odd_name odds.Truncated = codes "Truncated"
+odd_name odds.BadLength = codes "BadLength"
+odd_name odds.MissingFragment = codes "MissingFragment"
+odd_name odds.OtherVersion = codes "OtherVersion"
+odd_name odds.BadChecksum = codes "BadChecksum"
+odd_name odds.OtherType = codes "OtherType"
+odd_name (odds.RefusedLsa fault) = lsa_name fault
+
+-- why a row of a walk tells no LSA
+abbrev pub row_name : RowFault → List ℕ
+row_name rows.Missing = codes "Missing"
+row_name rows.NotOctets = codes "NotOctets"
+row_name (rows.Refused fault) = lsa_name fault
+row_name rows.Longer = codes "Longer"
+row_name (rows.OtherKey key) = codes "OtherKey"
+row_name rows.NoArea = codes "NoArea"
+
+-- the area of a row, with a space behind it; nothing where the row has none
+abbrev pub area_text : Option AreaId → List ℕ
+area_text None = []
+area_text (Some area) = codes "area " ++ address_text area.0 ++ codes " "
+
+-- as `Missing area 0.0.0.1 type 1 id 4.4.4.4 adv 4.4.4.4`
+abbrev pub lsa_text : List ℕ → Option AreaId → Key → List ℕ
+lsa_text why area key = why ++ codes " " ++ area_text area ++ key_text key
+
+-- as `MissingFragment 3` or `Cut at 4711`
+abbrev pub hole_text : Hole → List ℕ
+hole_text (Frames odd count) = odd_name odd ++ codes " " ++ decimal count
+hole_text (Cut offset) = codes "Cut at " ++ decimal offset
+hole_text (Walk (walks.Row row fault)) = lsa_text (row_name fault) row.area row.key
+hole_text (Walk (walks.Kind area)) = codes "Kind area " ++ address_text area.0
+hole_text (Walk walks.Name) = codes "Name"
+hole_text (Refused key fault) = lsa_text (lsa_name fault) None key
+hole_text (NoArea key) = lsa_text (codes "NoArea") None key
+hole_text (Unreadable count) = codes "Unreadable " ++ decimal count
+hole_text (Nssa area) = codes "Nssa area " ++ address_text area.0

@@ -1,0 +1,69 @@
+-- LSAs of which a header is newer than the newest that is shown.
+use Rattle.std.proofs.Common.{◌≡◌, Bool, true, false, List, [], ◌∷◌, Option, Some, None, refl, sym, ap, subst, ◌∙◌}
+use Rattle.std.specs.Prelude.{not, ◌&&◌, ◌||◌, is_some, if◌then◌else◌}
+use Rattle.std.specs.BTreeMap.{BTreeMap, get}
+use Rattle.std.specs.BTreeSet.{BTreeSet, IsFromIterResult}
+use Rattle.std.specs.List.{filter_map, cons_option, list_any}
+use Rattle.std.specs.List.Sorted.{IsStrictlySortedBy}
+use Rattle.std.specs.Ordering.{eq_by_cmp}
+use Rattle.std.proofs.lemmas.List.Folds.{list_any-append}
+use Rattle.lsa_instances.specs.declared.header.Header.{Header}
+use Rattle.lsa_instances.specs.Headers.{is_at_max_age}
+use Rattle.network_files.specs.declared.telling.FileTold.{FileTold}
+use Rattle.unseen_lsas.specs.declared.named.NamedLsa.{NamedLsa}
+use Rattle.unseen_lsas.specs.declared.rank.Rank.{Rank}
+use Rattle.unseen_lsas.specs.Newer.{AreNewer, Instance, header_rank, headers_of, instance_named, is_newer, is_same_lsa, shown_of}
+use Rattle.unseen_lsas.specs.Unseen.{has, lsa_cmp, named_at}
+use Rattle.unseen_lsas.specs.steps.Newest.{AreNewest, all_newer, is_over, is_over_some, newer_by}
+use Rattle.unseen_lsas.proofs.OneMore.{and_false, and_true}
+
+over_some : (newest : Option Rank) (rank : Rank) → is_over_some newest rank ≡ (is_some newest && is_over newest rank)
+over_some None rank = refl
+over_some (Some known) rank = refl
+
+module _ (shown : List Instance) (newest : BTreeMap NamedLsa Rank) (known : AreNewest shown newest) where
+  newer_if : (one : Instance) → is_over_some (get lsa_cmp newest one.0) one.1 ≡ is_newer shown one
+  newer_if one =
+      over_some (get lsa_cmp newest one.0) one.1
+      ∙ ap (λ b. b && is_over (get lsa_cmp newest one.0) one.1) (known.which one.0)
+      ∙ ap (λ b. list_any (is_same_lsa one.0) shown && b) (known.over one.0 one.1)
+
+  module _ (lsa : NamedLsa) where
+    -- an instance of the LSA that is newer
+    abbrev is_one : Instance → Bool
+    is_one one = is_same_lsa lsa one && is_newer shown one
+
+    one_header : (one : Instance) (flushed over : Bool) (more : List NamedLsa) (others : List Instance) → over ≡ is_newer shown one
+        → has lsa more ≡ list_any is_one others
+        → has lsa (cons_option (if not flushed && over then Some one.0 else None) more)
+        ≡ list_any is_one (cons_option (if flushed then None else Some one) others)
+    one_header one true over more others e h = h
+    one_header one false true more others e h =
+        ap (λ b. is_same_lsa lsa one || b) h
+        ∙ ap (λ b. b || list_any is_one others) (sym (and_true (is_same_lsa lsa one)) ∙ ap (λ b. is_same_lsa lsa one && b) e)
+    one_header one false false more others e h =
+        h ∙ ap (λ b. b || list_any is_one others) (sym (and_false (is_same_lsa lsa one)) ∙ ap (λ b. is_same_lsa lsa one && b) e)
+
+    of_headers : (headers : List Header)
+        → has lsa (filter_map (newer_by (get lsa_cmp newest)) headers) ≡ list_any is_one (filter_map instance_named headers)
+    of_headers [] = refl
+    of_headers (header ∷ headers) =
+        let one : Instance = (named_at header.place, header_rank header) in
+        one_header one (is_at_max_age header) (is_over_some (get lsa_cmp newest (named_at header.place)) (header_rank header))
+        (filter_map (newer_by (get lsa_cmp newest)) headers) (filter_map instance_named headers) (newer_if one) (of_headers headers)
+
+    of_files : {A : Type 0} (files : List (FileTold A)) → has lsa (all_newer (get lsa_cmp newest) files) ≡ list_any is_one (headers_of files)
+    of_files [] = refl
+    of_files (file ∷ files) =
+        list_any-append (eq_by_cmp lsa_cmp lsa) (filter_map (newer_by (get lsa_cmp newest)) file.headers.items) (all_newer (get lsa_cmp newest) files)
+        ∙ ap (λ b. b || has lsa (all_newer (get lsa_cmp newest) files)) (of_headers file.headers.items)
+        ∙ ap (λ b. list_any is_one (filter_map instance_named file.headers.items) || b) (of_files files)
+        ∙ sym (list_any-append is_one (filter_map instance_named file.headers.items) (headers_of files))
+
+pub are_newer : {A : Type 0} (files : List (FileTold A)) (newest : BTreeMap NamedLsa Rank) (lsas : List NamedLsa) (set : BTreeSet NamedLsa) (left : List NamedLsa)
+    → AreNewest (shown_of files) newest → lsas ≡ all_newer (get lsa_cmp newest) files → IsFromIterResult lsa_cmp lsas set → left ≡ set.keys
+    → AreNewer (headers_of files) (shown_of files) left
+are_newer files newest lsas set left known all made e = record {
+  which = λ lsa. ap (has lsa) e ∙ made.0 lsa ∙ ap (has lsa) all ∙ of_files (shown_of files) newest known lsa files;
+  order = subst (λ l. IsStrictlySortedBy lsa_cmp l) (sym e) made.1;
+}

@@ -1,0 +1,159 @@
+//! LSAs of which a header names a newer instance than any that is shown.
+
+ghost use Rattle.std.specs.Prelude.{◌≡◌, ◌++◌, List, Some, IfOk, OnOk, map};
+ghost use Rattle.std.specs.BTreeMap.{get, Updates};
+ghost use Rattle.std.specs.List.{filter_map};
+ghost use Rattle.unseen_lsas.specs.Newer.{AreNewer, Instance, headers_of, of_sighting, shown_of};
+ghost use Rattle.unseen_lsas.specs.Unseen.{lsa_cmp};
+ghost use Rattle.unseen_lsas.specs.steps.Newest.{AreNewest, all_newer, is_newer_by, is_over_some};
+ghost use Rattle.unseen_lsas.specs.steps.Newest.{newer_by, newest_with};
+
+use crate::missing::once;
+use crate::named::{NamedLsa, named_at};
+use crate::rank::{Rank, header_rank, of_sighting};
+use lsa_instances::{Header, Sighting};
+use network_files::FileTold;
+use std::alloc::{AllocError, Allocator};
+use std::collections::{BTreeMap, BTreeSet};
+
+/// The newest instance that is shown of each LSA.
+type Newest<A> = BTreeMap<NamedLsa, Rank, A>;
+
+/// Adds an instance that is shown.
+fn put_shown<A: Allocator + Copy>(
+    newest: &mut Newest<A>,
+    lsa: NamedLsa,
+    rank: Rank,
+) -> Result<(), AllocError>
+    ensures { OnOk result (Updates lsa_cmp newest.old newest.new lsa
+        (Some (newest_with (get lsa_cmp newest.old lsa) rank))) }
+{
+    let newest_rank = match newest.get(&lsa) {
+        Some(known) if *known > rank => *known,
+        _ => rank,
+    };
+    newest.insert(lsa, newest_rank)?;
+    Ok(())
+}
+
+/// Adds the instances that a file shows.
+fn put_sightings<A: Allocator + Copy>(
+    newest: &mut Newest<A>,
+    sightings: &[Sighting<A>],
+) -> Result<(), AllocError>
+    ensures { OnOk result ((shown : List Instance) → AreNewest shown newest.old
+        → AreNewest (shown ++ map of_sighting sightings.now) newest.new) }
+{
+    for sighting in sightings {
+        let (lsa, rank) = of_sighting(sighting);
+        put_shown(newest, lsa, rank)?;
+    }
+    Ok(())
+}
+
+/// The newest instance that the files show of each LSA.
+fn newest_shown<A: Allocator + Copy>(
+    alloc: A,
+    files: &[FileTold<A>],
+) -> Result<Newest<A>, AllocError>
+    ensures { IfOk result (AreNewest (shown_of files.now)) }
+{
+    let mut newest = BTreeMap::new(alloc);
+    for file in files {
+        put_sightings(&mut newest, &file.sightings)?;
+    }
+    Ok(newest)
+}
+
+/// Whether an instance of the LSA is shown, and the newest is older than this one.
+fn is_over_some<A: Allocator + Copy>(newest: &Newest<A>, lsa: NamedLsa, rank: Rank) -> bool
+    ensures { result ≡ is_over_some (get lsa_cmp newest.now lsa) rank }
+{
+    match newest.get(&lsa) {
+        Some(shown) => *shown < rank,
+        None => false,
+    }
+}
+
+/// Whether a header is below MaxAge, an instance of its LSA is shown, and all that are shown are
+/// older.
+fn is_newer_by<A: Allocator + Copy>(newest: &Newest<A>, header: &Header) -> bool
+    ensures { result ≡ is_newer_by (get lsa_cmp newest.now) header.now }
+{
+    if header.is_at_max_age() {
+        false
+    } else {
+        is_over_some(newest, named_at(header.place), header_rank(header))
+    }
+}
+
+/// The LSA of a header that is newer than all that is shown of it.
+fn newer_by<A: Allocator + Copy>(newest: &Newest<A>, header: &Header) -> Option<NamedLsa>
+    ensures { result ≡ newer_by (get lsa_cmp newest.now) header.now }
+{
+    if is_newer_by(newest, header) {
+        Some(named_at(header.place))
+    } else {
+        None
+    }
+}
+
+/// The LSAs of which these headers are newer than all that is shown.
+fn newer_in<A: Allocator + Copy>(
+    alloc: A,
+    newest: &Newest<A>,
+    headers: &[Header],
+) -> Result<Vec<NamedLsa, A>, AllocError>
+    ensures { IfOk result (λ lsas. lsas.items
+        ≡ filter_map (newer_by (get lsa_cmp newest.now)) headers.now) }
+{
+    headers
+        .iter()
+        .filter_map(|header| newer_by(newest, header))
+        .collect(alloc)
+}
+
+/// The LSAs of which headers of the files are newer than all that is shown, one file after another.
+fn all_newer<A: Allocator + Copy>(
+    alloc: A,
+    newest: &Newest<A>,
+    files: &[FileTold<A>],
+) -> Result<Vec<NamedLsa, A>, AllocError>
+    ensures { IfOk result (λ lsas. lsas.items ≡ all_newer (get lsa_cmp newest.now) files.now) }
+{
+    let mut lsas = Vec::new(alloc);
+    for file in files {
+        lsas.append(&mut newer_in(alloc, newest, &file.headers)?)?;
+    }
+    Ok(lsas)
+}
+
+/// The LSAs of a set, in order.
+fn in_order<A: Allocator + Copy>(
+    alloc: A,
+    lsas: &BTreeSet<NamedLsa, A>,
+) -> Result<Vec<NamedLsa, A>, AllocError>
+    ensures { IfOk result (λ all. all.items ≡ lsas.now.keys) }
+{
+    lsas.iter().copied().collect(alloc)
+}
+
+/// The LSAs of which the files show instances, and a header below MaxAge that is newer than each of
+/// these (RFC 2328, 13.1, by sequence number, then by checksum), each once, in order of scope and
+/// key. An LSA that was announced again with a lower sequence number is none: the higher one is
+/// shown. A header at MaxAge names none: it flushes the LSA (RFC 2328, 14.1).
+///
+/// # Errors
+///
+/// A growth was refused.
+pub fn newer<A: Allocator + Copy>(
+    alloc: A,
+    files: &[FileTold<A>],
+) -> Result<Vec<NamedLsa, A>, AllocError>
+    ensures { IfOk result (λ lsas. AreNewer (headers_of files.now) (shown_of files.now)
+        lsas.items) }
+{
+    let newest = newest_shown(alloc, files)?;
+    let lsas = once(alloc, all_newer(alloc, &newest, files)?)?;
+    in_order(alloc, &lsas)
+}
