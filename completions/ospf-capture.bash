@@ -4,7 +4,7 @@ _ospf_capture() {
     COMPREPLY=()
     case $current in
         -*)
-            mapfile -t COMPREPLY < <(compgen -W "--out --keep-flushed --help --version" -- "$current")
+            mapfile -t COMPREPLY < <(compgen -W "--out --against --keep-flushed --help --version" -- "$current")
             ;;
         *)
             compopt -o filenames 2>/dev/null

@@ -3,16 +3,20 @@
 Small files of each format are cut everywhere, each of their octets is set to some other values, and fields that are
 lengths or counts to values that lie. Packets are changed too with their checksums made good again, so that what is tested
 behind the checksums is reached. The program must refuse exactly what the plain reader refuses, for the same fault at the
-same offset. Of what it reads it must tell the same number of LSAs and areas and each hole, and write the same dump.
+same offset. Of what it reads it must tell the same number of LSAs and areas, each hole, and what headers name, and write the same dump.
 """
 import os
 import pathlib
+import re
 import struct
 import tempfile
 
 import plain_captures
 from lying import ended, with_checksum, with_octet
 from plain_reader import number
+
+# The lines of areas without a kind, and of LSAs that headers name.
+LACK = re.compile("database: (NoKind|Unseen|Newer) ")
 
 # An AS-external-LSA of 10.9.0.0/16, with an external metric of the second type.
 EXTERNAL = with_checksum(bytes.fromhex(
@@ -89,6 +93,8 @@ def samples(make) -> list[bytes]:
         make.pcap(one, link=101, cut=20),
         raw(make, make.update(make.ONE, auth=2)),
         raw(make, make.hello(1, 0), make.update(SUMMARY, area=1)),
+        raw(make, make.update(make.ONE), make.description(make.issued(make.ONE, 0x80000001, 0xD55B), make.THREE),
+            make.acknowledgment(make.TWO, area=1, auth=2)),
         instances(make),
         walk(make),
         named(walk(make)),
@@ -191,8 +197,11 @@ def is_as_read(program: str, octets: bytes, folder: pathlib.Path) -> tuple[bool,
         dump = plain_captures.dump_of([told])
     except plain_captures.Refused as refused:
         return (status, said, error.decode(), left) == (3, b"", f"dump: {refused.fault}\n", None), False
+    lines = error.decode().splitlines()
+    lacks = plain_captures.unnamed([told]) + plain_captures.named([told])
     # There may be more holes, of the database.
-    is_told = set(holes) <= set(error.decode().splitlines()) and status in ((1,) if holes else (0, 1))
+    is_told = set(holes) <= set(lines) and [line for line in lines if LACK.match(line)] == lacks
+    is_told = is_told and status in ((1,) if holes or lacks else (0, 1))
     return is_told and (said.decode(), left) == (f"{file}: {told.line()}\n", dump), True
 
 

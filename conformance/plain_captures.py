@@ -29,7 +29,8 @@ class Odd(Exception):
 
 @dataclasses.dataclass
 class Sighting:
-    """An LSA in its scope, which is an area, or the AS where that is none; and its moment in nanoseconds since 1970."""
+    """An LSA in its scope, which is an area, or the AS where that is none; and its moment in nanoseconds since 1970.
+    Of the header of an LSA it has these 20 octets alone."""
 
     area: int | None
     seen: int | None
@@ -42,10 +43,12 @@ class Sighting:
 
 @dataclasses.dataclass
 class Told:
-    """What a file tells: LSAs, the kind of areas as `ordinary`, `stub` or `nssa`, and what is to be told besides."""
+    """What a file tells: LSAs, headers of LSAs, the kind of areas as `ordinary`, `stub` or `nssa`, and what is to be told
+    besides."""
 
     word: str
     sightings: list[Sighting] = dataclasses.field(default_factory=list)
+    headers: list[Sighting] = dataclasses.field(default_factory=list)
     kinds: list[tuple[int, str]] = dataclasses.field(default_factory=list)
     holes: list[str] = dataclasses.field(default_factory=list)
 
@@ -347,9 +350,9 @@ class Capture:
         elif octets[1] == 4:
             self.update(octets, lack, seen)
         elif octets[1] == 2:
-            self.headers(octets, 32, lack)
+            self.headers(octets, 32, lack, seen)
         elif octets[1] == 5:
-            self.headers(octets, 24, lack)
+            self.headers(octets, 24, lack, seen)
         elif octets[1] != 3:
             raise Odd("OtherType")
 
@@ -359,9 +362,14 @@ class Capture:
         kind = "ordinary" if octets[30] & 2 else "nssa" if octets[30] & 8 else "stub"
         self.told.kinds.append((number(octets[8:12]), kind))
 
-    def headers(self, octets: bytes, before: int, lack: str) -> None:
+    def headers(self, octets: bytes, before: int, lack: str, seen: int | None) -> None:
         """LSA headers, which fill the packet behind so many octets."""
-        if len(octets) < before or (len(octets) - before) % 20:
+        if len(octets) < before:
+            raise Odd(lack)
+        area = number(octets[8:12])
+        for at in range(before, len(octets) - 19, 20):
+            self.told.headers.append(Sighting(scope(octets[at + 3], area), seen, octets[at:at + 20]))
+        if (len(octets) - before) % 20:
             raise Odd(lack)
 
     def update(self, octets: bytes, lack: str, seen: int | None) -> None:
@@ -582,6 +590,34 @@ def newest(sightings: list[Sighting]) -> list[Sighting]:
         if standing:
             found.append(max(standing, key=lambda copy: instance(copy.lsa)))
     return found
+
+
+def unnamed(files: list[Told]) -> list[str]:
+    """The lines of the areas of LSAs that stand, but for the backbone, of which no kind is told."""
+    standing = newest([sighting for file in files for sighting in file.sightings])
+    areas = {sighting.area for sighting in standing} - {None, 0} - {area for file in files for area, _ in file.kinds}
+    return [f"database: NoKind area {address(area)}" for area in sorted(areas)]
+
+
+def words(place: tuple) -> str:
+    """What names an LSA, in the words of a line."""
+    is_as_wide, area, kind, name, router = place
+    key = f"type {kind} id {address(name)} adv {address(router)}"
+    return key if is_as_wide else f"area {address(area)} {key}"
+
+
+def named(files: list[Told]) -> list[str]:
+    """The lines of the LSAs that headers below MaxAge name: those that no file has, and those of which all that files
+    have is older, by sequence number and checksum."""
+    shown = collections.defaultdict(list)
+    for sighting in (sighting for file in files for sighting in file.sightings):
+        shown[sighting.place()].append(instance(sighting.lsa)[:2])
+    headers = [header for file in files for header in file.headers if not is_at_max_age(header.lsa)]
+    unseen = {header.place() for header in headers if header.place() not in shown}
+    newer = {header.place() for header in headers
+             if header.place() in shown and instance(header.lsa)[:2] > max(shown[header.place()])}
+    return [f"database: {what} {words(place)}" for what, places in (("Unseen", unseen), ("Newer", newer))
+            for place in sorted(places)]
 
 
 def dump_of(files: list[Told]) -> bytes:

@@ -2,4 +2,4 @@ pub mod Split
 pub mod Titles
 pub mod Marks
 pub mod Tellings
-pub mod Parts
+mod Singles

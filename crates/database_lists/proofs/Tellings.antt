@@ -9,8 +9,8 @@ use Rattle.database_lists.specs.declared.mark.Mark.{Mark}
 use Rattle.database_lists.specs.declared.told.Told.{Told}
 use Rattle.database_lists.specs.Headings.{mark_of, heading_after}
 use Rattle.database_lists.specs.Lines.{Line, is_line_feed, lines}
-use Rattle.database_lists.specs.Sorting.{has_heading}
-use Rattle.database_lists.specs.Telling.{told_by, told_in, is_heading}
+use Rattle.database_lists.specs.Sorting.{has_line}
+use Rattle.database_lists.specs.Telling.{told_by, told_in}
 
 -- ---- lines
 
@@ -55,33 +55,29 @@ told_last before after all heading mark line here e m added h =
     sym (append-nil after) ∙ ap (λ (rest : List Told). after ++ rest) (sym (nothing (heading_after heading mark)))
     ∙ told_next before after all heading (heading_after heading mark) mark line here [] e m added refl h
 
--- ---- whether it is a list
+-- ---- whether a line of this kind stands there
 
-heading_step : (line : Line) (others : List Line) → has_heading (line ∷ others) ≡ (is_heading (mark_of line) || has_heading others)
-unfolding has_heading
-heading_step line others = refl
+module _ (test : Line → Bool) (line : Line) (here : List Line) where
+  step_any : (others : List Line) → has_line test (line ∷ others) ≡ (test line || has_line test others)
+  unfolding has_line
+  step_any others = refl
 
-heading_at : (line : Line) (here others : List Line) (mark : Mark) → here ≡ line ∷ others → mark ≡ mark_of line
-    → has_heading here ≡ (is_heading mark || has_heading others)
-heading_at line here others mark e m =
-    ap has_heading e ∙ heading_step line others ∙ ap (λ (x : Mark). is_heading x || has_heading others) (sym m)
+  line_at : (others : List Line) → here ≡ line ∷ others → has_line test here ≡ (test line || has_line test others)
+  line_at others e = ap (has_line test) e ∙ step_any others
 
-pub heading_here : (line : Line) (here others : List Line) (mark : Mark) → here ≡ line ∷ others → mark ≡ mark_of line → is_heading mark ≡ true
-    → has_heading here ≡ true
-heading_here line here others mark e m h = heading_at line here others mark e m ∙ ap (λ (b : Bool). b || has_heading others) h
+  pub line_here : (others : List Line) → here ≡ line ∷ others → test line ≡ true → has_line test here ≡ true
+  line_here others e h = line_at others e ∙ ap (λ (b : Bool). b || has_line test others) h
 
-pub heading_later : (line : Line) (here others : List Line) (mark : Mark) → here ≡ line ∷ others → mark ≡ mark_of line → is_heading mark ≡ false
-    → has_heading here ≡ has_heading others
-heading_later line here others mark e m h = heading_at line here others mark e m ∙ ap (λ (b : Bool). b || has_heading others) h
+  pub line_later : (others : List Line) → here ≡ line ∷ others → test line ≡ false → has_line test here ≡ has_line test others
+  line_later others e h = line_at others e ∙ ap (λ (b : Bool). b || has_line test others) h
 
-or_false : (b : Bool) → (b || false) ≡ b
-or_false true = refl
-or_false false = refl
+  or_false : (b : Bool) → (b || false) ≡ b
+  or_false true = refl
+  or_false false = refl
 
-no_heading : has_heading [] ≡ false
-unfolding has_heading
-no_heading = refl
+  no_line : has_line test [] ≡ false
+  unfolding has_line
+  no_line = refl
 
-pub heading_last : (line : Line) (here : List Line) (mark : Mark) → here ≡ line ∷ [] → mark ≡ mark_of line → has_heading here ≡ is_heading mark
-heading_last line here mark e m =
-    heading_at line here [] mark e m ∙ ap (λ (b : Bool). is_heading mark || b) no_heading ∙ or_false (is_heading mark)
+  pub line_last : here ≡ line ∷ [] → has_line test here ≡ test line
+  line_last e = line_at [] e ∙ ap (λ (b : Bool). test line || b) no_line ∙ or_false (test line)

@@ -1,5 +1,6 @@
 -- Lines that name where the rows below them belong.
 use Rattle.std.specs.Prelude.{ℕ, Bool, true, false, ◌||◌, List, [], ◌∷◌, Option, Some, None, option_map, if◌then◌else◌}
+use Rattle.lsa_codec.specs.LsTypes.{router_lsa, network_lsa, summary_lsa, asbr_summary_lsa, external_lsa, as_opaque_lsa}
 use Rattle.lsa_codec.specs.declared.address.AreaId.{AreaId}
 use Rattle.printed_databases.specs.Headings.{area_of}
 use Rattle.printed_databases.specs.Labels.{first_word}
@@ -14,6 +15,7 @@ use Rattle.database_lists.specs.declared.mark.Mark.TheVariants as marks
 use Rattle.database_lists.specs.declared.title.Title.{Title}
 use Rattle.database_lists.specs.Labels.{behind_label, begins_with}
 use Rattle.database_lists.specs.Lines.{Line}
+use Rattle.database_lists.specs.LsTypes.{nssa_lsa, link_opaque_lsa, area_opaque_lsa}
 
 -- ---- FRR: a table for each LS type (RFC 2328, 12.1.3; RFC 3101 for type 7; RFC 5250 for the types 9 to 11)
 
@@ -22,8 +24,10 @@ title kind label = record { kind = kind; label = label }
 
 abbrev pub titles : List Title
 titles =
-    title 1 label.Router ∷ title 2 label.Network ∷ title 3 label.Summary ∷ title 4 label.AsbrSummary ∷ title 5 label.External
-    ∷ title 7 label.Nssa ∷ title 9 label.LinkOpaque ∷ title 10 label.AreaOpaque ∷ title 11 label.AsOpaque ∷ []
+    title router_lsa label.Router ∷ title network_lsa label.Network ∷ title summary_lsa label.Summary
+    ∷ title asbr_summary_lsa label.AsbrSummary ∷ title external_lsa label.External ∷ title nssa_lsa label.Nssa
+    ∷ title link_opaque_lsa label.LinkOpaque ∷ title area_opaque_lsa label.AreaOpaque ∷ title as_opaque_lsa label.AsOpaque
+    ∷ []
 
 -- the area that is named behind a title, if one is: none where nothing stands there
 abbrev pub area_behind : Line → Option (Option AreaId)
@@ -51,8 +55,28 @@ area_section line = do
   found ← first_word behind
   option_map (λ address. headings.Section (Some (record { 0 = address }))) (address_of found.0)
 
+abbrev pub is_bare : Line → Bool
+is_bare [] = true
+is_bare (word ∷ line) = false
+
+abbrev pub is_one_word : Line → Bool
+is_one_word [] = false
+is_one_word (word ∷ line) = is_bare line
+
+-- a line begins with a label, and what stands behind it is of this kind
+abbrev pub is_followed : (Line → Bool) → Option Line → Bool
+is_followed test None = false
+is_followed test (Some behind) = test behind
+
+-- nothing stands behind `Global`, and behind `Link` the name of an interface alone
+abbrev pub is_global : Line → Bool
+is_global line = is_followed is_bare (behind_label label.Global line)
+
+abbrev pub is_link : Line → Bool
+is_link line = is_followed is_one_word (behind_label label.Link line)
+
 abbrev pub bare_section : Line → Option Heading
-bare_section line = if begins_with label.Global line || begins_with label.Link line then Some (headings.Section None) else None
+bare_section line = if is_global line || is_link line then Some (headings.Section None) else None
 
 unfoldable pub section_in : Line → Option Heading
 section_in line = or_else (area_section line) (bare_section line)

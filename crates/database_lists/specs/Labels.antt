@@ -26,6 +26,7 @@ text_of label.TypeColumns = codes "Type LS ID Router"
 text_of label.Printer = codes "OSPF Router with ID"
 text_of label.Bird = codes "BIRD"
 text_of label.States = codes "States"
+text_of label.Age = codes "LS age:"
 
 -- the words behind these, where the line begins with these
 unfoldable pub behind_words : List Word → Line → Option Line

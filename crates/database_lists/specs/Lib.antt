@@ -1,8 +1,10 @@
 pub mod Lines
 pub mod Labels
+pub mod LsTypes
 pub mod Headings
 pub mod Rows
 pub mod Telling
 pub mod Sorting
 pub mod Comparing
-pub mod steps
+pub mod Once
+pub mod Texts

@@ -1,11 +1,13 @@
 -- What a list tells, sorted out.
-use Rattle.std.specs.Prelude.{ℕ, Bool, List, Option, Some, None}
+use Rattle.std.specs.Prelude.{ℕ, Bool, not, ◌&&◌, List, Option, Some, None}
 use Rattle.std.specs.List.{list_any}
 use Rattle.lsa_instances.specs.declared.header.Header.{Header}
 use Rattle.database_lists.specs.declared.hole.Hole.{Hole}
+use Rattle.database_lists.specs.declared.label.Label.TheVariants as label
 use Rattle.database_lists.specs.declared.told.Told.{Told}
 use Rattle.database_lists.specs.declared.told.Told.TheVariants as tells
 use Rattle.database_lists.specs.Headings.{mark_of}
+use Rattle.database_lists.specs.Labels.{begins_with}
 use Rattle.database_lists.specs.Lines.{Line, lines}
 use Rattle.database_lists.specs.Telling.{is_heading, told_in}
 
@@ -21,9 +23,18 @@ hole_of (tells.Hole hole) = Some hole
 abbrev pub told_of : List ℕ → List Told
 told_of text = told_in None (lines text)
 
--- a text is a list where one of its lines is a heading, though no row may stand below it
-unfoldable pub has_heading : List Line → Bool
-has_heading these = list_any (λ line. is_heading (mark_of line)) these
+-- the heading of rows
+abbrev pub is_title : Line → Bool
+is_title line = is_heading (mark_of line)
 
+-- the first line of an LSA that is printed whole, as by `show ip ospf database router`
+abbrev pub is_detail : Line → Bool
+is_detail line = begins_with label.Age line
+
+-- one of these lines is of this kind
+unfoldable pub has_line : (Line → Bool) → List Line → Bool
+has_line test these = list_any test these
+
+-- a text is a list where one of its lines is a heading, though no row may stand below it, and no LSA is printed whole
 abbrev pub is_list : List ℕ → Bool
-is_list text = has_heading (lines text)
+is_list text = has_line is_title (lines text) && not (has_line is_detail (lines text))

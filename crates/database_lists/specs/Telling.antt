@@ -1,5 +1,6 @@
 -- What the lines of a list tell.
-use Rattle.std.specs.Prelude.{Bool, true, false, List, [], ◌∷◌, ◌++◌, Option, Some, None}
+use Rattle.std.specs.Prelude.{Bool, true, false, ◌==◌, List, [], ◌∷◌, ◌++◌, Option, Some, None, if◌then◌else◌}
+use Rattle.std.specs.Option.{option_to_list}
 use Rattle.lsa_codec.specs.declared.address.AreaId.{AreaId}
 use Rattle.lsa_instances.specs.declared.place.Scope.{Scope}
 use Rattle.lsa_instances.specs.Order.{scope_told}
@@ -11,6 +12,7 @@ use Rattle.database_lists.specs.declared.row.Row.{Row}
 use Rattle.database_lists.specs.declared.told.Told.{Told}
 use Rattle.database_lists.specs.declared.told.Told.TheVariants as tells
 use Rattle.database_lists.specs.Lines.{Line}
+use Rattle.database_lists.specs.LsTypes.{link_opaque_lsa}
 use Rattle.database_lists.specs.Headings.{mark_of, heading_after}
 use Rattle.database_lists.specs.Rows.{row_under, area_under}
 
@@ -19,14 +21,18 @@ in_scope row None = tells.Hole (holes.NoArea row.key)
 in_scope row (Some scope) =
     tells.Header (record { place = record { scope = scope; key = row.key }; issue = row.issue; age = row.age })
 
--- the LSA is of the scope of its LS type in the area of the heading
-abbrev pub row_told : Option AreaId → Option Row → Told
-row_told area None = tells.Hole holes.Unreadable
-row_told area (Some row) = in_scope row (scope_told row.key.kind area)
+-- of the scope of a link (RFC 5250, 2): two links of an area may have LSAs of one key
+abbrev pub is_of_link : Row → Bool
+is_of_link row = row.key.kind == link_opaque_lsa
+
+-- the LSA is of the scope of its LS type in the area of the heading; one of the scope of a link tells nothing
+abbrev pub row_told : Option AreaId → Option Row → Option Told
+row_told area None = Some (tells.Hole holes.Unreadable)
+row_told area (Some row) = if is_of_link row then None else Some (in_scope row (scope_told row.key.kind area))
 
 abbrev pub row_below : Option Heading → Line → List Told
 row_below None line = []
-row_below (Some heading) line = row_told (area_under heading) (row_under heading line) ∷ []
+row_below (Some heading) line = option_to_list (row_told (area_under heading) (row_under heading line))
 
 -- a row tells its header; so does nothing else, but a heading that is not known is told too, since its rows are not read
 abbrev pub told_by : Option Heading → Line → Mark → List Told

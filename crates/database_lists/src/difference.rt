@@ -1,25 +1,24 @@
 //! How a database differs from the headers of a list.
 
-ghost use Rattle.std.specs.Prelude.{◌≡◌, Ok, IfOk, IfErr};
-ghost use Rattle.std.specs.BTreeMap.{get};
-ghost use Rattle.std.specs.List.{filter_map};
-ghost use Rattle.lsdb.specs.Lists.{Lists};
-ghost use Rattle.lsdb.specs.Loading.{IsFirstFault, loaded};
+ghost use Rattle.std.specs.Prelude.{◌≡◌, IfOk, Some, option_map};
 ghost use Rattle.lsdb.specs.Places.{lists_of};
-ghost use Rattle.database_lists.specs.Comparing.{issue_cmp, is_flushed, change_by, change_of, differences, spot_cmp, spot_of};
-ghost use Rattle.database_lists.specs.steps.Compared.{difference_in};
+ghost use Rattle.database_lists.specs.Comparing.{issue_cmp, issue_of, scope_section, lsa_of, absent, beside_same, change_of, difference_of, differences};
+ghost use Rattle.database_lists.specs.Texts.{change_text, difference_text};
 
-use crate::held::{Held, held_by, issue_at};
+use byteorder::{BigEndian, ByteOrder};
+use lsa_codec::{Key, Lsa};
 use lsa_instances::{Header, Issue, Place, Scope};
-use lsdb::{Database, DumpFault, DumpFaultKind};
+use lsdb::{Database, Section};
 use std::alloc::{AllocError, Allocator};
 use std::cmp::Ordering;
 use std::fmt;
 
 /// What a list has, beside what a database has of the same LSA.
-#[derive(Clone, Copy, Debug, PartialEq, Eq)]
+///
+/// Its `Display` is its name, as `Missing`.
+#[derive(Clone, Copy, Debug, PartialEq, Eq, PartialOrd, Ord)]
 pub enum Change {
-    /// The database has no instance of it.
+    /// The database has no instance of it, or has the same one at MaxAge.
     Missing,
     /// The list's instance is newer.
     Newer,
@@ -30,8 +29,9 @@ pub enum Change {
 /// An LSA that a list has otherwise than a database.
 ///
 /// Its `Display` is a few words on one line, as
-/// `Missing area 0.0.0.1 type 1 id 4.4.4.4 adv 4.4.4.4`.
-#[derive(Clone, Copy, Debug, PartialEq, Eq)]
+/// `Missing area 0.0.0.1 type 1 id 4.4.4.4 adv 4.4.4.4`. Differences are ordered by what the list
+/// has, then by place.
+#[derive(Clone, Copy, Debug, PartialEq, Eq, PartialOrd, Ord)]
 pub struct Difference {
     /// What the list has.
     pub change: Change,
@@ -39,24 +39,27 @@ pub struct Difference {
     pub place: Place,
 }
 
-/// The name of a change.
-fn change_name(change: Change) -> &'static str {
-    match change {
-        Change::Missing => "Missing",
-        Change::Newer => "Newer",
-        Change::Older => "Older",
+impl fmt::Display for Change {
+    ghost output = { λ change. Some (change_text change) };
+
+    fn fmt<W: fmt::Write>(&self, f: &mut fmt::Formatter<W>) -> fmt::Result {
+        match self {
+            Change::Missing => write!(f, "Missing"),
+            Change::Newer => write!(f, "Newer"),
+            Change::Older => write!(f, "Older"),
+        }
     }
 }
 
 impl fmt::Display for Difference {
+    ghost output = { λ difference. Some (difference_text difference) };
+
     fn fmt<W: fmt::Write>(&self, f: &mut fmt::Formatter<W>) -> fmt::Result {
-        let name = change_name(self.change);
-        let kind = self.place.key.kind;
-        let id = self.place.key.id;
-        let adv = self.place.key.adv;
+        let change = self.change;
+        let Key { kind, id, adv } = self.place.key;
         match self.place.scope {
-            Scope::Area(area) => write!(f, "{name} area {area} type {kind} id {id} adv {adv}"),
-            Scope::AsWide => write!(f, "{name} type {kind} id {id} adv {adv}"),
+            Scope::Area(area) => write!(f, "{change} area {area} type {kind} id {id} adv {adv}"),
+            Scope::AsWide => write!(f, "{change} type {kind} id {id} adv {adv}"),
         }
     }
 }
@@ -69,68 +72,93 @@ fn compare_issues(a: Issue, b: Issue) -> Ordering
     sequence.then(a.checksum.cmp(&b.checksum))
 }
 
-/// Whether the LSA was flushed: its age is MaxAge (RFC 2328, 14.1).
-fn is_flushed(header: Header) -> bool
-    ensures { result ≡ is_flushed header }
+/// Which instance an LSA is.
+fn issue_of<A: Allocator + Copy>(lsa: &Lsa<A>) -> Issue
+    ensures { result ≡ issue_of lsa.now }
 {
-    header.age & 0x7fff >= 3600
+    Issue {
+        sequence: BigEndian::read_u32(&lsa.bytes()[12..]),
+        checksum: BigEndian::read_u16(&lsa.bytes()[16..]),
+    }
 }
 
-/// What an order of instances means.
-fn change_by(order: Ordering) -> Option<Change>
-    ensures { result ≡ change_by order }
+/// The section of a scope.
+fn scope_section(scope: Scope) -> Section
+    ensures { result ≡ scope_section scope }
 {
-    match order {
+    match scope {
+        Scope::Area(area) => Section::Area(area),
+        Scope::AsWide => Section::AsWide,
+    }
+}
+
+/// The LSA at a place of a database, if there is one.
+fn lsa_of<A: Allocator + Copy>(database: &Database<A>, place: Place) -> Option<&Lsa<A>>
+    ensures { option_map (λ lsa. lsa.now) result ≡ lsa_of (lists_of database.now) place }
+{
+    let slot = database.find(scope_section(place.scope), place.key)?;
+    database.get(slot)
+}
+
+/// What the list has where no router has the LSA in use. One that was flushed in the list is not
+/// missing (RFC 2328, 14.1).
+fn absent(header: Header) -> Option<Change>
+    ensures { result ≡ absent header }
+{
+    if header.is_at_max_age() {
+        None
+    } else {
+        Some(Change::Missing)
+    }
+}
+
+/// What the list has beside the same instance.
+fn beside_same<A: Allocator + Copy>(header: Header, lsa: &Lsa<A>) -> Option<Change>
+    ensures { result ≡ beside_same header lsa.now }
+{
+    if lsa.at_max_age() {
+        absent(header)
+    } else {
+        None
+    }
+}
+
+/// What the list has, beside the LSA that a database has.
+fn change_from<A: Allocator + Copy>(header: Header, lsa: &Lsa<A>) -> Option<Change>
+    ensures { result ≡ change_of header (Some lsa.now) }
+{
+    match compare_issues(header.issue, issue_of(lsa)) {
         Ordering::Less => Some(Change::Older),
-        Ordering::Equal => None,
+        Ordering::Equal => beside_same(header, lsa),
         Ordering::Greater => Some(Change::Newer),
     }
 }
 
-/// What the list has, beside the instance that a database has.
-fn change_of(header: Header, issue: Option<Issue>) -> Option<Change>
-    ensures { result ≡ change_of header issue }
+/// What the list has, beside the LSA that a database has, if it has one.
+fn change_of<A: Allocator + Copy>(header: Header, lsa: Option<&Lsa<A>>) -> Option<Change>
+    ensures { result ≡ change_of header (option_map (λ lsa. lsa.now) lsa.entry) }
 {
-    match issue {
-        Some(issue) => change_by(compare_issues(header.issue, issue)),
-        None => {
-            if is_flushed(header) {
-                None
-            } else {
-                Some(Change::Missing)
-            }
-        }
+    match lsa {
+        Some(lsa) => change_from(header, lsa),
+        None => absent(header),
     }
 }
 
 /// How a database differs from a header.
-fn difference_in<A: Allocator + Copy>(held: &Held<A>, header: Header) -> Option<Difference>
-    ensures { result ≡ difference_in (λ spot. get spot_cmp held.now spot) header }
+fn difference_of<A: Allocator + Copy>(database: &Database<A>, header: Header) -> Option<Difference>
+    ensures { result ≡ difference_of (lists_of database.now) header }
 {
     let place = header.place;
-    let change = change_of(header, issue_at(held, place))?;
+    let change = change_of(header, lsa_of(database, place))?;
     Some(Difference { change, place })
-}
-
-/// How a database differs from each of the headers.
-fn all_differences<A: Allocator + Copy>(
-    alloc: A,
-    held: &Held<A>,
-    headers: &[Header],
-) -> Result<Vec<Difference, A>, AllocError>
-    ensures { IfOk result (λ found. found.items
-        ≡ filter_map (difference_in (λ spot. get spot_cmp held.now spot)) headers.now) }
-{
-    headers
-        .iter()
-        .filter_map(|header| difference_in(held, *header))
-        .collect(alloc)
 }
 
 /// How a database differs from the headers of a list, in their order: what it has not, and what is
 /// newer or older in the list (RFC 2328, 13.1, by sequence number and checksum alone). An LSA that
-/// is flushed in the list is not missing, and what the list has not is not told. It takes the time
-/// of a sort. The only error is want of memory.
+/// it has at MaxAge is missing where the list has the same instance below that, since no router
+/// uses the one at MaxAge. An LSA that is flushed in the list is not missing, and what the list has
+/// not is not told. For each header it takes steps in the number of areas and in the logarithm of
+/// the number of LSAs. The only error is want of memory.
 pub fn differences<A: Allocator + Copy>(
     alloc: A,
     database: &Database<A>,
@@ -138,31 +166,8 @@ pub fn differences<A: Allocator + Copy>(
 ) -> Result<Vec<Difference, A>, AllocError>
     ensures { IfOk result (λ found. found.items ≡ differences (lists_of database.now) headers.now) }
 {
-    let held = held_by(alloc, database)?;
-    all_differences(alloc, &held, headers)
-}
-
-/// How the database whose dump the octets are differs from the headers of a list, as
-/// [`differences`] answers it.
-///
-/// # Errors
-///
-/// Those of [`Database::load`].
-pub fn differences_of_dump<A: Allocator + Copy>(
-    alloc: A,
-    dump: &[u8],
-    headers: &[Header],
-) -> Result<Vec<Difference, A>, DumpFault>
-    ensures differences { IfOk result (λ found. (db : Lists) × ((loaded dump.now ≡ Ok db)
-        × (found.items ≡ differences db headers.now))) }
-    ensures fault { IfErr result (λ fault. IsFirstFault fault (loaded dump.now)) }
-{
-    let database = Database::load(alloc, dump)?;
-    match differences(alloc, &database, headers) {
-        Ok(found) => Ok(found),
-        Err(_) => Err(DumpFault {
-            offset: 0,
-            kind: DumpFaultKind::OutOfMemory,
-        }),
-    }
+    headers
+        .iter()
+        .filter_map(|header| difference_of(database, *header))
+        .collect(alloc)
 }

@@ -9,7 +9,7 @@ use thiserror::Error;
 /// Why a text is not read as a list.
 #[derive(Clone, Copy, Debug, PartialEq, Eq, Error)]
 pub enum ListFault {
-    /// No line of it is a heading of a list.
+    /// No line of it is a heading of a list, or an LSA is printed whole (a line `LS age:`).
     #[error("NotAList")]
     NotAList,
     /// Memory ran out.

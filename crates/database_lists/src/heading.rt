@@ -5,10 +5,10 @@ ghost use Rattle.std.specs.List.{slice_split};
 ghost use Rattle.printed_databases.specs.Words.{words};
 ghost use Rattle.printed_databases.specs.Headings.{area_of};
 ghost use Rattle.printed_databases.specs.Rules.{or_else};
-ghost use Rattle.database_lists.specs.Headings.{titles, area_behind, table_as, table_among, area_section, bare_section, section_in};
+ghost use Rattle.database_lists.specs.Headings.{titles, area_behind, table_as, table_among, area_section, is_bare, is_global, is_link, bare_section, section_in};
 ghost use Rattle.database_lists.specs.Rows.{area_under};
 
-use crate::label::{Label, begins_with, behind_label};
+use crate::label::{Label, behind_label};
 use crate::line::cut_at;
 use crate::title::{TITLES, Title};
 use lsa_codec::AreaId;
@@ -43,10 +43,7 @@ fn area_of(word: &[u8]) -> Option<AreaId>
         Some((name, _)) => name,
         None => word,
     };
-    match address_of(name) {
-        Some(address) => Some(AreaId(address)),
-        None => None,
-    }
+    address_of(name).map(AreaId)
 }
 
 /// The area that is named behind a title, if one is.
@@ -95,6 +92,36 @@ fn area_section(line: &[u8]) -> Option<Heading>
     Some(Heading::Section(Some(AreaId(address))))
 }
 
+/// Whether nothing stands here.
+fn is_bare(line: &[u8]) -> bool
+    ensures { result ≡ is_bare (words line.now) }
+{
+    next_word(line).is_none()
+}
+
+/// Whether this is the heading of the whole AS.
+fn is_global(line: &[u8]) -> bool
+    ensures { result ≡ is_global (words line.now) }
+{
+    match behind_label(Label::Global, line) {
+        Some(behind) => is_bare(behind),
+        None => false,
+    }
+}
+
+/// Whether this is the heading of a link.
+fn is_link(line: &[u8]) -> bool
+    ensures { result ≡ is_link (words line.now) }
+{
+    let Some(behind) = behind_label(Label::Link, line) else {
+        return false;
+    };
+    match next_word(behind) {
+        Some((_interface, others)) => is_bare(others),
+        None => false,
+    }
+}
+
 /// The section that begins here.
 #[tactic(auto, unfolding(crate::specs::Headings::section_in))]
 fn section_in(line: &[u8]) -> Option<Heading>
@@ -103,7 +130,7 @@ fn section_in(line: &[u8]) -> Option<Heading>
     if let Some(section) = area_section(line) {
         return Some(section);
     }
-    if begins_with(Label::Global, line) || begins_with(Label::Link, line) {
+    if is_global(line) || is_link(line) {
         return Some(Heading::Section(None));
     }
     None

@@ -1,5 +1,8 @@
 //! What can not be compared of a list.
 
+ghost use Rattle.std.specs.Prelude.{Some};
+ghost use Rattle.database_lists.specs.Texts.{hole_text};
+
 use lsa_codec::Key;
 use std::fmt;
 
@@ -15,12 +18,12 @@ pub enum Hole {
 }
 
 impl fmt::Display for Hole {
+    ghost output = { λ hole. Some (hole_text hole) };
+
     fn fmt<W: fmt::Write>(&self, f: &mut fmt::Formatter<W>) -> fmt::Result {
         match *self {
             Hole::NoArea(key) => {
-                let kind = key.kind;
-                let id = key.id;
-                let adv = key.adv;
+                let Key { kind, id, adv } = key;
                 write!(f, "NoArea type {kind} id {id} adv {adv}")
             }
             Hole::Unreadable => write!(f, "Unreadable"),

@@ -47,6 +47,8 @@ pub(crate) enum Label {
     Bird,
     /// The last word of most titles.
     States,
+    /// Before the LS age of an LSA that is printed whole.
+    Age,
 }
 
 /// The words of a label.
@@ -74,6 +76,7 @@ fn text_of(label: Label) -> &'static [u8]
         Label::Printer => b"OSPF Router with ID",
         Label::Bird => b"BIRD",
         Label::States => b"States",
+        Label::Age => b"LS age:",
     }
 }
 

@@ -11,6 +11,7 @@ mod line;
 
 // Headings and rows.
 mod heading;
+mod ls_type;
 mod mark;
 mod row;
 mod title;
@@ -23,14 +24,14 @@ mod told;
 
 // What a database has.
 mod difference;
-mod held;
-mod spot;
+mod once;
 
-pub use difference::{Change, Difference, differences, differences_of_dump};
+// What is told of a list, in words.
+mod lines;
+
+pub use difference::{Change, Difference, differences};
 pub use fault::ListFault;
 pub use hole::Hole;
-pub use list::{Headers, read_list};
+pub use lines::list_lines;
+pub use list::{PrintedList, read_list};
 pub use lsa_instances::{Header, Issue};
-
-#[cfg(test)]
-mod tests;

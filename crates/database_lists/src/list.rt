@@ -3,11 +3,13 @@
 ghost use Rattle.std.specs.Prelude.{◌≡◌, IfOk, IfErr, ◌⊎◌, true, false};
 ghost use Rattle.std.specs.List.{filter_map};
 ghost use Rattle.database_lists.specs.declared.fault.ListFault.TheVariants as faults;
+ghost use Rattle.printed_databases.specs.Words.{words};
 ghost use Rattle.database_lists.specs.Lines.{lines};
-ghost use Rattle.database_lists.specs.Sorting.{header_of, hole_of, told_of, has_heading, is_list};
+ghost use Rattle.database_lists.specs.Sorting.{header_of, hole_of, told_of, has_line, is_title, is_detail, is_list};
 
 use crate::fault::ListFault;
 use crate::hole::Hole;
+use crate::label::{Label, begins_with};
 use crate::line::cut_at;
 use crate::mark::mark_of;
 use crate::told::{Told, tellings};
@@ -16,7 +18,7 @@ use std::alloc::{AllocError, Allocator, Global};
 
 /// What a list tells, in the order of its lines.
 #[derive(Debug, Drop)]
-pub struct Headers<A: Allocator = Global> {
+pub struct PrintedList<A: Allocator = Global> {
     /// The headers, as often as rows tell them.
     pub headers: Vec<Header, A>,
     /// What can not be compared.
@@ -57,18 +59,53 @@ fn holes_of<A: Allocator + Copy>(alloc: A, told: &[Told]) -> Result<Vec<Hole, A>
     told.iter().filter_map(|one| hole_of(*one)).collect(alloc)
 }
 
-/// Whether one of the lines is a heading.
-fn is_list(text: &[u8]) -> bool
-    ensures { result ≡ is_list text.now }
+/// Whether a line is the heading of rows.
+fn is_title(line: &[u8]) -> bool
+    ensures { result ≡ is_title (words line.now) }
+{
+    mark_of(line).is_heading()
+}
+
+/// Whether one of the lines is the heading of rows.
+fn has_title(text: &[u8]) -> bool
+    ensures { result ≡ has_line is_title (lines text.now) }
 {
     let mut rest = text;
     while let Some((line, behind)) = cut_at(rest, b'\n') {
-        if mark_of(line).is_heading() {
+        if is_title(line) {
             return true;
         }
         rest = behind;
     }
-    mark_of(rest).is_heading()
+    is_title(rest)
+}
+
+/// Whether a line is the first of an LSA that is printed whole.
+fn is_detail(line: &[u8]) -> bool
+    ensures { result ≡ is_detail (words line.now) }
+{
+    begins_with(Label::Age, line)
+}
+
+/// Whether an LSA is printed whole.
+fn has_detail(text: &[u8]) -> bool
+    ensures { result ≡ has_line is_detail (lines text.now) }
+{
+    let mut rest = text;
+    while let Some((line, behind)) = cut_at(rest, b'\n') {
+        if is_detail(line) {
+            return true;
+        }
+        rest = behind;
+    }
+    is_detail(rest)
+}
+
+/// Whether one of the lines is the heading of rows, and no LSA is printed whole.
+fn is_list(text: &[u8]) -> bool
+    ensures { result ≡ is_list text.now }
+{
+    has_title(text) && !has_detail(text)
 }
 
 /// Reads a list: what FRR prints for `show ip ospf database`, or BIRD for `show ospf lsadb`.
@@ -76,8 +113,8 @@ fn is_list(text: &[u8]) -> bool
 ///
 /// # Errors
 ///
-/// No line is a heading of a list, or memory ran out.
-pub fn read_list<A: Allocator + Copy>(alloc: A, text: &[u8]) -> Result<Headers<A>, ListFault>
+/// No line is a heading of a list, or an LSA is printed whole; or memory ran out.
+pub fn read_list<A: Allocator + Copy>(alloc: A, text: &[u8]) -> Result<PrintedList<A>, ListFault>
     ensures headers { IfOk result (λ list. list.headers.items
         ≡ filter_map header_of (told_of text.now)) }
     ensures holes { IfOk result (λ list. list.holes.items ≡ filter_map hole_of (told_of text.now)) }
@@ -91,5 +128,5 @@ pub fn read_list<A: Allocator + Copy>(alloc: A, text: &[u8]) -> Result<Headers<A
     let told = tellings(alloc, text)?;
     let headers = headers_of(alloc, &told)?;
     let holes = holes_of(alloc, &told)?;
-    Ok(Headers { headers, holes })
+    Ok(PrintedList { headers, holes })
 }

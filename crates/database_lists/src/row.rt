@@ -2,8 +2,8 @@
 
 ghost use Rattle.std.specs.Prelude.{◌≡◌, ◌≤◌, IfSome, option_map};
 ghost use Rattle.printed_databases.specs.Words.{words};
-ghost use Rattle.printed_databases.specs.Numbers.{number_up_to, hex_up_to, address_of};
-ghost use Rattle.database_lists.specs.Rows.{marked_up_to, value_of, table_row, section_row, row_under};
+ghost use Rattle.printed_databases.specs.Numbers.{number_up_to, address_of};
+ghost use Rattle.database_lists.specs.Rows.{hex_of, marked_hex_of, value_of, table_row, section_row, row_under};
 
 use crate::heading::Heading;
 use lsa_codec::{Addr, Key, RouterId};
@@ -21,14 +21,27 @@ pub(crate) struct Row {
     pub(crate) age: u16,
 }
 
-/// The number that a word spells in hexadecimal behind `0x`, where it is at most `max`.
-#[tactic(auto, unfolding(crate::specs::Rows::marked_up_to))]
-fn marked_up_to(max: u32, word: &[u8]) -> Option<u32>
-    ensures value { result ≡ marked_up_to max word.now }
+/// The number that a word spells in hexadecimal with so many digits, where it is at most `max`.
+#[tactic(auto, unfolding(crate::specs::Rows::hex_of))]
+fn hex_of(count: usize, max: u32, word: &[u8]) -> Option<u32>
+    ensures value { result ≡ hex_of count max word.now }
+    ensures bound { IfSome result (λ n. n ≤ max) }
+{
+    if word.len() != count {
+        return None;
+    }
+    hex_up_to(max, word)
+}
+
+/// The number that a word spells in hexadecimal with so many digits behind `0x`, where it is at
+/// most `max`.
+#[tactic(auto, unfolding(crate::specs::Rows::marked_hex_of))]
+fn marked_hex_of(count: usize, max: u32, word: &[u8]) -> Option<u32>
+    ensures value { result ≡ marked_hex_of count max word.now }
     ensures bound { IfSome result (λ n. n ≤ max) }
 {
     match word {
-        [b'0', b'x', digits @ ..] => hex_up_to(max, digits),
+        [b'0', b'x', digits @ ..] => hex_of(count, max, digits),
         _ => None,
     }
 }
@@ -54,26 +67,27 @@ fn number_in(max: u32, line: &[u8]) -> Option<(u32, &[u8])>
     Some((number, rest))
 }
 
-/// The hexadecimal number that stands here, where it is at most `max`, and what stands behind it.
-fn hex_in(max: u32, line: &[u8]) -> Option<(u32, &[u8])>
+/// The number of so many hexadecimal digits that stands here, where it is at most `max`, and what
+/// stands behind it.
+fn hex_in(count: usize, max: u32, line: &[u8]) -> Option<(u32, &[u8])>
     ensures value { option_map (λ found. (found.0, words found.1.now)) result
-        ≡ value_of (hex_up_to max) (words line.now) }
+        ≡ value_of (hex_of count max) (words line.now) }
     ensures bound { IfSome result (λ found. found.0 ≤ max) }
 {
     let (word, rest) = next_word(line)?;
-    let number = hex_up_to(max, word)?;
+    let number = hex_of(count, max, word)?;
     Some((number, rest))
 }
 
-/// The hexadecimal number that stands here behind `0x`, where it is at most `max`, and what stands
-/// behind it.
-fn marked_in(max: u32, line: &[u8]) -> Option<(u32, &[u8])>
+/// The number of so many hexadecimal digits that stands here behind `0x`, where it is at most
+/// `max`, and what stands behind it.
+fn marked_in(count: usize, max: u32, line: &[u8]) -> Option<(u32, &[u8])>
     ensures value { option_map (λ found. (found.0, words found.1.now)) result
-        ≡ value_of (marked_up_to max) (words line.now) }
+        ≡ value_of (marked_hex_of count max) (words line.now) }
     ensures bound { IfSome result (λ found. found.0 ≤ max) }
 {
     let (word, rest) = next_word(line)?;
-    let number = marked_up_to(max, word)?;
+    let number = marked_hex_of(count, max, word)?;
     Some((number, rest))
 }
 
@@ -85,8 +99,8 @@ fn table_row(kind: u8, line: &[u8]) -> Option<Row>
     let (id, rest) = address_in(line)?;
     let (adv, rest) = address_in(rest)?;
     let (age, rest) = number_in(0xffff, rest)?;
-    let (sequence, rest) = marked_in(0xffff_ffff, rest)?;
-    let (checksum, _) = marked_in(0xffff, rest)?;
+    let (sequence, rest) = marked_in(8, 0xffff_ffff, rest)?;
+    let (checksum, _) = marked_in(4, 0xffff, rest)?;
     let key = Key {
         kind,
         id: Addr(id),
@@ -105,12 +119,12 @@ fn table_row(kind: u8, line: &[u8]) -> Option<Row>
 fn section_row(line: &[u8]) -> Option<Row>
     ensures { result ≡ section_row (words line.now) }
 {
-    let (kind, rest) = hex_in(0xff, line)?;
+    let (kind, rest) = hex_in(4, 0xff, line)?;
     let (id, rest) = address_in(rest)?;
     let (adv, rest) = address_in(rest)?;
-    let (sequence, rest) = hex_in(0xffff_ffff, rest)?;
+    let (sequence, rest) = hex_in(8, 0xffff_ffff, rest)?;
     let (age, rest) = number_in(0xffff, rest)?;
-    let (checksum, _) = hex_in(0xffff, rest)?;
+    let (checksum, _) = hex_in(4, 0xffff, rest)?;
     let key = Key {
         kind: kind as u8,
         id: Addr(id),

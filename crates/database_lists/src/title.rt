@@ -4,7 +4,10 @@ ghost use Rattle.std.specs.Prelude.{◌≡◌};
 ghost use Rattle.database_lists.specs.Headings.{titles};
 
 use crate::label::Label;
-use lsa_codec::{ASBR_SUMMARY_LSA, EXTERNAL_LSA, NETWORK_LSA, ROUTER_LSA, SUMMARY_LSA};
+use crate::ls_type::{AREA_OPAQUE_LSA, LINK_OPAQUE_LSA, NSSA_LSA};
+use lsa_codec::{
+    AS_OPAQUE_LSA, ASBR_SUMMARY_LSA, EXTERNAL_LSA, NETWORK_LSA, ROUTER_LSA, SUMMARY_LSA,
+};
 
 /// The title of a table.
 #[derive(Clone, Copy)]
@@ -38,19 +41,19 @@ pub(crate) const TITLES: &[Title] = &[
         label: Label::External,
     },
     Title {
-        kind: 7,
+        kind: NSSA_LSA,
         label: Label::Nssa,
     },
     Title {
-        kind: 9,
+        kind: LINK_OPAQUE_LSA,
         label: Label::LinkOpaque,
     },
     Title {
-        kind: 10,
+        kind: AREA_OPAQUE_LSA,
         label: Label::AreaOpaque,
     },
     Title {
-        kind: 11,
+        kind: AS_OPAQUE_LSA,
         label: Label::AsOpaque,
     },
 ];

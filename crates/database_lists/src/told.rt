@@ -9,6 +9,7 @@ ghost use Rattle.database_lists.specs.Telling.{in_scope, row_told, told_by, told
 use crate::heading::Heading;
 use crate::hole::Hole;
 use crate::line::cut_at;
+use crate::ls_type::LINK_OPAQUE_LSA;
 use crate::mark::{Mark, mark_of};
 use crate::row::{Row, row_under};
 use lsa_codec::AreaId;
@@ -24,14 +25,11 @@ pub(crate) enum Told {
     Hole(Hole),
 }
 
-/// What a row tells under the heading of an area, or of none.
-fn row_told(area: Option<AreaId>, row: Option<Row>) -> Told
-    ensures { result ≡ row_told area row }
+/// What a row tells of an LSA of this scope, or of none.
+fn in_scope(row: Row, scope: Option<Scope>) -> Told
+    ensures { result ≡ in_scope row scope }
 {
-    let Some(row) = row else {
-        return Told::Hole(Hole::Unreadable);
-    };
-    match Scope::of(row.key.kind, area) {
+    match scope {
         None => Told::Hole(Hole::NoArea(row.key)),
         Some(scope) => Told::Header(Header {
             place: Place {
@@ -42,6 +40,20 @@ fn row_told(area: Option<AreaId>, row: Option<Row>) -> Told
             age: row.age,
         }),
     }
+}
+
+/// What a row tells under the heading of an area, or of none. One of an LSA of the scope of a link
+/// tells nothing.
+fn row_told(area: Option<AreaId>, row: Option<Row>) -> Option<Told>
+    ensures { result ≡ row_told area row }
+{
+    let Some(row) = row else {
+        return Some(Told::Hole(Hole::Unreadable));
+    };
+    if row.key.kind == LINK_OPAQUE_LSA {
+        return None;
+    }
+    Some(in_scope(row, Scope::of(row.key.kind, area)))
 }
 
 /// Adds what a line tells.
@@ -60,7 +72,9 @@ fn tell<A: Allocator + Copy>(
             Ok(())
         }
         (Mark::Row, Some(heading)) => {
-            told.push(row_told(heading.area(), row_under(heading, line)))?;
+            if let Some(one) = row_told(heading.area(), row_under(heading, line)) {
+                told.push(one)?;
+            }
             Ok(())
         }
         _ => Ok(()),

@@ -7,7 +7,7 @@ use Rattle.clap.specs.Simple.{HasMatchesOf}
 use Rattle.clap.proofs.WalkLemmas.{first_value-rows, raw_values-rows}
 use Rattle.clap.specs.declared.parser.matches.ArgMatches.{ArgMatches}
 use Rattle.ospf_capture.specs.declared.arguments.Options.{Options}
-use Rattle.ospf_capture.specs.CommandLine.{IsGiven, flushed_of, kept_where, ospf_capture, out_of, files_of}
+use Rattle.ospf_capture.specs.CommandLine.{IsGiven, against_of, flushed_of, kept_where, ospf_capture, out_of, files_of}
 use Rattle.ospf_capture.specs.steps.FoundFiles.{IsRead, values_in}
 
 out-matches : (words : List Text) (m : ArgMatches) → HasMatchesOf ospf_capture words m → first_value (found_of m) (codes "out") ≡ out_of words
@@ -19,6 +19,11 @@ unfolding files_of
 files-matches words m has =
     ap (λ found. unwrap_or found []) (raw_values-rows (found_of m) (codes "files") ∙ ap (all_of (codes "files")) (has refl).0)
 
+against-matches : (words : List Text) (m : ArgMatches) → HasMatchesOf ospf_capture words m → values_in (found_of m) (codes "against") ≡ against_of words
+unfolding against_of
+against-matches words m has =
+    ap (λ found. unwrap_or found []) (raw_values-rows (found_of m) (codes "against") ∙ ap (all_of (codes "against")) (has refl).0)
+
 flushed-matches : (words : List Text) (m : ArgMatches) → HasMatchesOf ospf_capture words m
     → kept_where (count_of (codes "keep-flushed") (rows_of (found_of m))) ≡ flushed_of words
 unfolding flushed_of
@@ -28,5 +33,6 @@ pub IsGiven-from_read : (words : List Text) (m : ArgMatches) (o : Options) → H
 IsGiven-from_read words m o has read = record {
   out = read.out ∙ out-matches words m has;
   flushed = read.flushed ∙ flushed-matches words m has;
+  against = read.against ∙ against-matches words m has;
   files = read.files ∙ files-matches words m has;
 }

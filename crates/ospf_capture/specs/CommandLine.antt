@@ -10,6 +10,10 @@ use Rattle.ospf_capture.specs.declared.arguments.Options.{Options}
 abbrev pub out_rule : Rule
 out_rule = record (new_rule (codes "out")) { long = Some (codes "out"); action = Some Set; value_names = 1 }
 
+-- the option `--against LIST`, once or more
+abbrev pub against_rule : Rule
+against_rule = record (new_rule (codes "against")) { long = Some (codes "against"); action = Some Append; value_names = 1 }
+
 -- the option `--keep-flushed`, once or more
 abbrev pub keep_rule : Rule
 keep_rule = record (new_rule (codes "keep-flushed")) { long = Some (codes "keep-flushed"); action = Some Count }
@@ -22,9 +26,13 @@ files_rule = record (new_rule (codes "files")) { action = Some Append; value_nam
 abbrev pub with_version : App → App
 with_version app = record app { top = record app.top { has_version = true } }
 
--- `ospf-capture [--out DUMP] [--keep-flushed] FILE..`, and `--version`
+-- the program's name, and `--version`
+abbrev pub bare : App
+bare = with_version (new_app (codes "ospf-capture"))
+
+-- `ospf-capture [--out DUMP] [--against LIST] [--keep-flushed] FILE..`, and `--version`
 abbrev pub ospf_capture : App
-ospf_capture = with_rule (with_rule (with_rule (with_version (new_app (codes "ospf-capture"))) out_rule) keep_rule) files_rule
+ospf_capture = with_rule (with_rule (with_rule (with_rule bare out_rule) against_rule) keep_rule) files_rule
 
 -- the value that clap gives `--out` for these words
 unfoldable pub out_of : List Text → Option Text
@@ -37,6 +45,10 @@ kept_where count = if nat_lt 0 count then Kept else LeftOut
 unfoldable pub flushed_of : List Text → FlushedLsas
 flushed_of words = kept_where (count_of (codes "keep-flushed") (matches_of ospf_capture words))
 
+-- the words that clap takes for lists
+unfoldable pub against_of : List Text → List Text
+against_of words = unwrap_or (all_of (codes "against") (matches_of ospf_capture words)) []
+
 -- the words that clap takes for files
 unfoldable pub files_of : List Text → List Text
 files_of words = unwrap_or (all_of (codes "files") (matches_of ospf_capture words)) []
@@ -45,4 +57,5 @@ files_of words = unwrap_or (all_of (codes "files") (matches_of ospf_capture word
 pub record IsGiven (words : List Text) (o : Options) : Type 0 where
   pub out : option_map (λ name. name.now) o.out ≡ out_of words
   pub flushed : o.flushed ≡ flushed_of words
+  pub against : map (λ name. name.now) o.against.items ≡ against_of words
   pub files : map (λ name. name.now) o.files.items ≡ files_of words

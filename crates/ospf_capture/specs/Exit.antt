@@ -3,6 +3,8 @@ use Rattle.std.specs.Prelude.{ℕ, List, [], ◌++◌, Option, Some, None, codes
 use Rattle.std.specs.Borrow.{Bor}
 use Rattle.capture_files.specs.declared.fault.CaptureFault.{CaptureFault}
 use Rattle.capture_files.specs.declared.fault.CaptureFault.TheVariants as captures
+use Rattle.database_lists.specs.declared.fault.ListFault.{ListFault}
+use Rattle.database_lists.specs.declared.fault.ListFault.TheVariants as lists
 use Rattle.network_dump.specs.declared.fault.RunFault.{RunFault}
 use Rattle.network_dump.specs.declared.fault.RunFault.TheVariants as runs
 use Rattle.network_files.specs.declared.fault.FileFault.{FileFault}
@@ -12,7 +14,9 @@ use Rattle.sighted_database.specs.declared.fault.JoinFault.TheVariants as joins
 use Rattle.ospf_capture.specs.declared.fault.ExitFault.{ExitFault}
 use Rattle.ospf_capture.specs.declared.fault.ExitFault.TheVariants.{File, Join, Output, Memory}
 use Rattle.ospf_capture.specs.declared.fault.FileEnd.{FileEnd}
-use Rattle.ospf_capture.specs.declared.fault.FileEnd.TheVariants.{Open, Read, Write, TooLarge, Refused}
+use Rattle.ospf_capture.specs.declared.fault.FileEnd.TheVariants.{Open, Read, Write, TooLarge, Refused, NotAList}
+use Rattle.streams.specs.declared.reading.ReadFault.{ReadFault}
+use Rattle.streams.specs.declared.reading.ReadFault.TheVariants as reads
 
 -- ---- faults of a run
 
@@ -34,6 +38,17 @@ named name (runs.Join fault) = Join fault
 named name runs.Write = Memory
 named name runs.OutOfMemory = Memory
 
+-- ---- faults of lists
+
+abbrev pub unread : Bor (List ℕ) → ReadFault → ExitFault
+unread name reads.Failed = File name Read
+unread name reads.TooLarge = File name TooLarge
+unread name reads.OutOfMemory = Memory
+
+abbrev pub unlisted : Bor (List ℕ) → ListFault → ExitFault
+unlisted name lists.NotAList = File name NotAList
+unlisted name lists.OutOfMemory = Memory
+
 -- ---- status
 
 abbrev pub capture_status : CaptureFault → ℕ
@@ -54,6 +69,7 @@ file_status Read = 4
 file_status Write = 4
 file_status TooLarge = 4
 file_status (Refused fault) = refusal_status fault
+file_status NotAList = 3
 
 abbrev pub join_status : JoinFault → ℕ
 join_status joins.OutOfMemory = 5
@@ -121,6 +137,7 @@ file_text name Read = name ++ codes ": Read\n"
 file_text name Write = name ++ codes ": Write\n"
 file_text name TooLarge = name ++ codes ": TooLarge\n"
 file_text name (Refused fault) = refused_text name fault
+file_text name NotAList = name ++ codes ": NotAList\n"
 
 abbrev pub join_text : JoinFault → List ℕ
 join_text joins.MisplacedLsa = codes "dump: MisplacedLsa\n"

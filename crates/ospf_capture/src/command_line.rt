@@ -3,8 +3,8 @@
 ghost use Rattle.std.specs.Prelude.{◌≡◌, false, [], codes, map, string_bytes, IfOk, IfErr, OnOk};
 ghost use Rattle.clap.specs.Words.{app_of, count_of, fault_of, found_of, new_app};
 ghost use Rattle.clap.specs.Words.{rows_of, rule_of};
-ghost use Rattle.ospf_capture.specs.CommandLine.{files_rule, keep_rule, ospf_capture, out_rule};
-ghost use Rattle.ospf_capture.specs.CommandLine.{kept_where, with_version, IsGiven};
+ghost use Rattle.ospf_capture.specs.CommandLine.{against_rule, files_rule, keep_rule, out_rule};
+ghost use Rattle.ospf_capture.specs.CommandLine.{kept_where, ospf_capture, with_version, IsGiven};
 ghost use Rattle.ospf_capture.specs.steps.FoundFiles.{IsRead, values_in};
 ghost use Rattle.ospf_capture.specs.OptionsFaults.{IsRefusal};
 
@@ -39,6 +39,7 @@ fn command<'a>(alloc: Global) -> Result<Command<'a>, AllocError>
 {
     named_command(alloc)?
         .arg(out_option(alloc))?
+        .arg(against_option(alloc))?
         .arg(keep_option(alloc))?
         .arg(file_words(alloc))
 }
@@ -67,6 +68,18 @@ fn out_option<'a>(alloc: Global) -> Arg<'a>
         .value_name("DUMP")
         .help("Where to write the dump")
         .action(ArgAction::Set)
+}
+
+/// The option `--against LIST`, as often as there are lists.
+fn against_option<'a>(alloc: Global) -> Arg<'a>
+    ensures rule { rule_of result ≡ against_rule }
+    ensures local { result.global ≡ false }
+{
+    Arg::new(alloc, "against")
+        .long("against")
+        .value_name("LIST")
+        .help("A list of another router's LSAs to compare the dump with; may be given again")
+        .action(ArgAction::Append)
 }
 
 /// The option `--keep-flushed`.
@@ -99,7 +112,8 @@ fn named_files<'a>(alloc: Global, matches: &ArgMatches<'a>) -> Result<Options<'a
     Ok(Options {
         out: matches.get_str("out"),
         flushed: flushed_lsas(matches),
-        files: file_names(alloc, matches)?,
+        against: names_of(alloc, matches, "against")?,
+        files: names_of(alloc, matches, "files")?,
     })
 }
 
@@ -115,12 +129,16 @@ fn flushed_lsas(matches: &ArgMatches<'_>) -> FlushedLsas
     }
 }
 
-/// The words that clap found for the files.
-fn file_names<'a>(alloc: Global, matches: &ArgMatches<'a>) -> Result<Vec<&'a str>, AllocError>
+/// The words that clap found for an argument; none where it is not given.
+fn names_of<'a>(
+    alloc: Global,
+    matches: &ArgMatches<'a>,
+    id: &str,
+) -> Result<Vec<&'a str>, AllocError>
     ensures { IfOk result (λ names.
-        map (λ name. name.now) names.items ≡ values_in (found_of matches.now) (codes "files")) }
+        map (λ name. name.now) names.items ≡ values_in (found_of matches.now) id.now) }
 {
-    match matches.get_strs("files") {
+    match matches.get_strs(id) {
         None => Ok(Vec::new(alloc)),
         Some(words) => Vec::from_slice(alloc, words),
     }

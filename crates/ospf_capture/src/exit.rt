@@ -34,6 +34,7 @@ fn file_status(end: FileEnd) -> u8
     match end {
         FileEnd::Open | FileEnd::Read | FileEnd::Write | FileEnd::TooLarge => 4,
         FileEnd::Refused(fault) => refusal_status(fault),
+        FileEnd::NotAList => 3,
     }
 }
 
@@ -148,6 +149,7 @@ fn file_line<A: Allocator + Copy>(
         FileEnd::Write => format!(in alloc; "{name}: Write\n"),
         FileEnd::TooLarge => format!(in alloc; "{name}: TooLarge\n"),
         FileEnd::Refused(fault) => refused_line(alloc, name, fault),
+        FileEnd::NotAList => format!(in alloc; "{name}: NotAList\n"),
     }
 }
 

@@ -1,12 +1,14 @@
 //! Why the program ends with status 3, 4 or 5.
 
 ghost use Rattle.std.specs.Prelude.{◌≡◌};
-ghost use Rattle.ospf_capture.specs.Exit.{index_of, named};
+ghost use Rattle.ospf_capture.specs.Exit.{index_of, named, unlisted, unread};
 
+use database_lists::ListFault;
 use network_dump::RunFault;
 use network_files::FileFault;
 use sighted_database::JoinFault;
 use std::alloc::{AllocError, AllocFailed};
+use streams::ReadFault;
 
 /// What is wrong with a file.
 #[derive(Clone, Copy, Debug, PartialEq, Eq)]
@@ -21,6 +23,8 @@ pub(crate) enum FileEnd {
     TooLarge,
     /// What lies in it is refused.
     Refused(FileFault),
+    /// It is to be a list of LSA headers, and is none.
+    NotAList,
 }
 
 /// Why the program ends with status 3, 4 or 5.
@@ -59,6 +63,27 @@ pub(crate) fn named(name: &str, fault: RunFault) -> ExitFault<'_>
         RunFault::Refused(_, fault) => ExitFault::File(name, FileEnd::Refused(fault)),
         RunFault::Join(fault) => ExitFault::Join(fault),
         RunFault::Write | RunFault::OutOfMemory => ExitFault::Memory,
+    }
+}
+
+/// Why a list can not be read, with its name.
+pub(crate) fn unread(name: &str, fault: ReadFault) -> ExitFault<'_>
+    ensures { result ≡ unread name.entry fault }
+{
+    match fault {
+        ReadFault::Failed => ExitFault::File(name, FileEnd::Read),
+        ReadFault::TooLarge => ExitFault::File(name, FileEnd::TooLarge),
+        ReadFault::OutOfMemory => ExitFault::Memory,
+    }
+}
+
+/// Why a text is no list, with its name.
+pub(crate) fn unlisted(name: &str, fault: ListFault) -> ExitFault<'_>
+    ensures { result ≡ unlisted name.entry fault }
+{
+    match fault {
+        ListFault::NotAList => ExitFault::File(name, FileEnd::NotAList),
+        ListFault::OutOfMemory => ExitFault::Memory,
     }
 }
 

@@ -3,20 +3,24 @@
 ghost use Rattle.std.specs.Prelude.{◌≡◌, All, IfOk, false};
 ghost use Rattle.streams.specs.Watched.{has_failed};
 
+use crate::against::{against_lines, lists_of};
 use crate::arguments::Options;
 use crate::fault::{ExitFault, FileEnd, index_of, named};
 use crate::lacks::lack_lines;
 use crate::unseen::unseen_lines;
+use database_lists::PrintedList;
+use lsa_codec::AreaId;
+use lsdb::Database;
 use network_dump::{RunFault, run};
 use network_files::FileTold;
-use network_findings::{contradictions, file_line, holes_of};
+use network_findings::{areas_without_kind, contradictions, file_line, holes_of};
 use replaced_files::{ReplaceFault, replace_file};
 use std::fs::{self, File};
 use std::io::{self, Write};
 use streams::Watched;
 
 /// Opens a file.
-fn open_file<'a>(rt: &HostRuntime, name: &'a str) -> Result<File, ExitFault<'a>> {
+pub(crate) fn open_file<'a>(rt: &HostRuntime, name: &'a str) -> Result<File, ExitFault<'a>> {
     fs::open(rt, name).map_err(|_| ExitFault::File(name, FileEnd::Open))
 }
 
@@ -70,8 +74,8 @@ fn put_holes<'a>(
     Ok(())
 }
 
-/// The lines of what is to be told of all files besides.
-fn hole_lines<'a>(
+/// The lines of what is to be told of each file besides.
+fn file_lines<'a>(
     rt: &HostRuntime,
     names: &[&str],
     told: &[FileTold],
@@ -83,14 +87,62 @@ fn hole_lines<'a>(
     Ok(lines)
 }
 
-/// The lines of the areas whose kinds the files tell in two ways.
-fn area_lines<'a>(rt: &HostRuntime, told: &[FileTold]) -> Result<String, ExitFault<'a>> {
+/// The lines of the areas whose kinds the files tell in two ways, and of those in the dump whose
+/// kinds they do not tell.
+fn area_lines<'a>(
+    rt: &HostRuntime,
+    told: &[FileTold],
+    database: &Database,
+) -> Result<String, ExitFault<'a>> {
+    let both = contradictions(rt.alloc(), told)?;
+    let mut lines = lines_of_areas(rt, "BothKinds", &both)?;
+    let neither = areas_without_kind(rt.alloc(), database, told)?;
+    lines.push_str(lines_of_areas(rt, "NoKind", &neither)?.as_str())?;
+    Ok(lines)
+}
+
+/// The lines of areas, behind what is told of them.
+fn lines_of_areas<'a>(
+    rt: &HostRuntime,
+    what: &str,
+    areas: &[AreaId],
+) -> Result<String, ExitFault<'a>> {
     let mut lines = String::new(rt.alloc());
-    let areas = contradictions(rt.alloc(), told)?;
-    for area in &areas {
-        let line = format!(in rt.alloc(); "database: BothKinds area {area}\n")?;
+    for area in areas {
+        let line = format!(in rt.alloc(); "database: {what} area {area}\n")?;
         lines.push_str(line.as_str())?;
     }
+    Ok(lines)
+}
+
+/// The lines of what is to be told of the files besides, and of what they tell together.
+fn hole_lines<'a>(
+    rt: &HostRuntime,
+    names: &[&str],
+    told: &[FileTold],
+    database: &Database,
+) -> Result<String, ExitFault<'a>> {
+    let mut lines = file_lines(rt, names, told)?;
+    lines.push_str(area_lines(rt, told, database)?.as_str())?;
+    lines.push_str(unseen_lines(rt, told)?.as_str())?;
+    Ok(lines)
+}
+
+/// The database of the dump that all files make.
+fn database_of<'a>(rt: &HostRuntime, dump: &[u8]) -> Result<Database, ExitFault<'a>> {
+    // It is the dump of a joined database, so that memory alone can be wanting.
+    Database::load(rt.alloc(), dump).map_err(|_| ExitFault::Memory)
+}
+
+/// The lines of what a database lacks: by its own LSAs, and beside the lists of other routers.
+fn missing_lines<'a>(
+    rt: &HostRuntime,
+    against: &[&str],
+    lists: &[PrintedList],
+    database: &Database,
+) -> Result<String, ExitFault<'a>> {
+    let mut lines = lack_lines(rt, database)?;
+    lines.push_str(against_lines(rt, against, lists, database)?.as_str())?;
     Ok(lines)
 }
 
@@ -102,8 +154,8 @@ fn write_dump<'a>(rt: &HostRuntime, path: &'a str, dump: &[u8]) -> Result<(), Ex
     })
 }
 
-/// Reads the files, tells what each gave and what is missing, and writes the dump to its file. The
-/// answer is whether nothing was missing.
+/// Reads the lists and the files, tells what each file gave and what is missing, and writes the
+/// dump to its file. The answer is whether nothing was missing.
 ///
 /// The dump is written only once all files are read and joined, and the lines are told.
 pub(crate) fn make_dump<'a>(
@@ -112,24 +164,24 @@ pub(crate) fn make_dump<'a>(
 ) -> Result<bool, ExitFault<'a>> {
     let names = options.files.as_slice();
     let mut files = opened(rt, names)?;
+    let lists = lists_of(rt, options.against.as_slice())?;
     let mut dump = Watched::new(Vec::new(rt.alloc()));
     let told = run(rt.alloc(), options.flushed, &mut files, &mut dump).map_err(|fault| told_of(
         names, fault,
     ))?;
     let dump = dump.into_inner();
-    let lacks = lack_lines(rt, dump.as_slice())?;
+    let database = database_of(rt, dump.as_slice())?;
+    let missing = missing_lines(rt, options.against.as_slice(), &lists, &database)?;
     let gifts = gift_lines(rt, names, &told)?;
-    let mut holes = hole_lines(rt, names, &told)?;
-    holes.push_str(area_lines(rt, &told)?.as_str())?;
-    holes.push_str(unseen_lines(rt, &told)?.as_str())?;
+    let holes = hole_lines(rt, names, &told, &database)?;
     io::writer(rt)
         .write_all(gifts.as_bytes())
         .map_err(|_| ExitFault::Output)?;
     // Where standard error takes no line, the status alone tells.
     let _ = rt.stderr().write_all(holes.as_bytes());
-    let _ = rt.stderr().write_all(lacks.as_bytes());
+    let _ = rt.stderr().write_all(missing.as_bytes());
     if let Some(path) = options.out {
         write_dump(rt, path, dump.as_slice())?;
     }
-    Ok(holes.is_empty() && lacks.is_empty())
+    Ok(holes.is_empty() && missing.is_empty())
 }

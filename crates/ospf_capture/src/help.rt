@@ -16,7 +16,9 @@ The first two have the LSAs octet for octet; printed ones are made anew from the
 
 A line of standard output tells what each file gave, and a line of standard error what is
 missing in it or can not be used. Lines that begin with `database:` tell what all files together
-lack. Of the instances of an LSA the newest goes into the dump. An LSA that was flushed and
+lack. With --against each difference from a list of another router is told behind the list's
+name; a list is what FRR prints for `show ip ospf database`, or BIRD for `show ospf lsadb`.
+Of the instances of an LSA the newest goes into the dump. An LSA that was flushed and
 not announced again is left out; with --keep-flushed it stays, at MaxAge, and counts for nothing.
 The dump replaces its file only once it is whole.
 

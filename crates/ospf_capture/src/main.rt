@@ -5,6 +5,7 @@
 //! the files that the command line names, tells what each gave, and writes the dump.
 #![tactic(auto)]
 
+mod against;
 mod arguments;
 mod command_line;
 mod exit;

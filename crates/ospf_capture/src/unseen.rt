@@ -1,19 +1,17 @@
-//! LSAs whose headers the files show, and none of them the LSA.
+//! LSAs that headers name: those that no file shows, and those that the files show older.
+
+ghost use Rattle.std.specs.Prelude.{IfOk};
+ghost use Rattle.std.specs.String.{string_bytes};
+ghost use Rattle.unseen_lsas.specs.Texts.{AreLines};
 
 use crate::fault::ExitFault;
 use network_files::FileTold;
-use unseen_lsas::unseen;
+use unseen_lsas::header_lines;
 
-/// The lines of the LSAs that headers name and no file shows.
-pub(crate) fn unseen_lines<'a>(
-    rt: &HostRuntime,
-    told: &[FileTold],
-) -> Result<String, ExitFault<'a>> {
-    let mut lines = String::new(rt.alloc());
-    let lsas = unseen(rt.alloc(), told)?;
-    for lsa in &lsas {
-        let line = format!(in rt.alloc(); "database: Unseen {lsa}\n")?;
-        lines.push_str(line.as_str())?;
-    }
-    Ok(lines)
+/// The lines of the LSAs that headers name and no file shows, and of those of which a header names
+/// a newer instance than any that is shown.
+pub(crate) fn unseen_lines<'a>(rt: &HostRuntime, told: &[FileTold]) -> Result<String, ExitFault<'a>>
+    ensures { IfOk result (λ lines. AreLines told.now (string_bytes lines)) }
+{
+    Ok(header_lines(rt.alloc(), told)?)
 }

@@ -13,4 +13,5 @@ values_in found id = unwrap_or (option_map raw_values (matched_of found id)) []
 pub record IsRead (found : Found) (o : Options) : Type 0 where
   pub out : option_map (λ name. name.now) o.out ≡ first_value found (codes "out")
   pub flushed : o.flushed ≡ kept_where (count_of (codes "keep-flushed") (rows_of found))
+  pub against : map (λ name. name.now) o.against.items ≡ values_in found (codes "against")
   pub files : map (λ name. name.now) o.files.items ≡ values_in found (codes "files")

@@ -1,0 +1,69 @@
+-- What is told of a list, in words: a line for each hole of it, and for each difference.
+use Rattle.std.specs.Prelude.{◌≡◌, ℕ, Bool, true, false, ◌==◌, List, [], ◌++◌, count_by, codes, decimal, flat_map, if◌then◌else◌}
+use Rattle.lsa_codec.specs.declared.key.Key.{Key}
+use Rattle.lsa_codec.specs.Spelling.{address_text}
+use Rattle.lsa_instances.specs.declared.header.Header.{Header}
+use Rattle.lsa_instances.specs.declared.place.Scope.{Scope}
+use Rattle.lsa_instances.specs.declared.place.Scope.TheVariants as scopes
+use Rattle.lsdb.specs.Lists.{Lists}
+use Rattle.database_lists.specs.declared.difference.Change.{Change}
+use Rattle.database_lists.specs.declared.difference.Change.TheVariants as changes
+use Rattle.database_lists.specs.declared.difference.Difference.{Difference}
+use Rattle.database_lists.specs.declared.hole.Hole.{Hole}
+use Rattle.database_lists.specs.declared.hole.Hole.TheVariants as holes
+use Rattle.database_lists.specs.Comparing.{differences}
+use Rattle.database_lists.specs.Once.{AreOnce}
+
+-- ---- words
+
+-- what names an LSA in its scope (RFC 2328, 12.1)
+abbrev pub key_text : Key → List ℕ
+key_text key = codes "type " ++ decimal key.kind ++ codes " id " ++ address_text key.id.0 ++ codes " adv " ++ address_text key.adv.0
+
+-- the area, with a space behind it; nothing for the whole AS
+abbrev pub scope_text : Scope → List ℕ
+scope_text (scopes.Area area) = codes "area " ++ address_text area.0 ++ codes " "
+scope_text scopes.AsWide = []
+
+abbrev pub change_text : Change → List ℕ
+change_text changes.Missing = codes "Missing"
+change_text changes.Newer = codes "Newer"
+change_text changes.Older = codes "Older"
+
+-- as `Missing area 0.0.0.1 type 1 id 4.4.4.4 adv 4.4.4.4`
+abbrev pub difference_text : Difference → List ℕ
+difference_text one = change_text one.change ++ codes " " ++ scope_text one.place.scope ++ key_text one.place.key
+
+abbrev pub hole_text : Hole → List ℕ
+hole_text (holes.NoArea key) = codes "NoArea " ++ key_text key
+hole_text holes.Unreadable = codes "Unreadable"
+
+-- ---- lines, each with its end, behind the name of the list
+
+abbrev pub line_of : List ℕ → List ℕ → List ℕ
+line_of name words = name ++ codes ": " ++ words ++ codes "\n"
+
+-- the line of a hole that has a key
+abbrev pub keyed_line : List ℕ → Hole → List ℕ
+keyed_line name (holes.NoArea key) = line_of name (hole_text (holes.NoArea key))
+keyed_line name holes.Unreadable = []
+
+abbrev pub is_unreadable : Hole → Bool
+is_unreadable (holes.NoArea key) = false
+is_unreadable holes.Unreadable = true
+
+-- how many lines of the list are not read, where there is one
+abbrev pub unread_line : List ℕ → ℕ → List ℕ
+unread_line name count = if count == 0 then [] else line_of name (codes "Unreadable " ++ decimal count)
+
+abbrev pub hole_lines : List ℕ → List Hole → List ℕ
+hole_lines name these = flat_map (keyed_line name) these ++ unread_line name (count_by is_unreadable these)
+
+abbrev pub difference_line : List ℕ → Difference → List ℕ
+difference_line name one = line_of name (difference_text one)
+
+-- the holes of the list, and then how the database differs from its headers, each difference once
+pub record AreLines (name : List ℕ) (db : Lists) (headers : List Header) (these : List Hole) (lines : List ℕ) : Type 0 where
+  pub found : List Difference
+  pub once : AreOnce (differences db headers) found
+  pub spelled : lines ≡ hole_lines name these ++ flat_map (difference_line name) found

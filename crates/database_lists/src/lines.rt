@@ -1,0 +1,123 @@
+//! What is told of a list, in lines.
+
+ghost use Rattle.std.specs.Prelude.{◌≡◌, ◌++◌, List, IfOk, OnOk, count_by, flat_map};
+ghost use Rattle.std.specs.String.{string_bytes};
+ghost use Rattle.lsdb.specs.Places.{lists_of};
+ghost use Rattle.database_lists.specs.declared.difference.Difference.{Difference as AnyDifference};
+ghost use Rattle.database_lists.specs.Once.{AreOnce};
+ghost use Rattle.database_lists.specs.Texts.{difference_line, hole_lines, is_unreadable, keyed_line, unread_line, AreLines};
+
+use crate::difference::{Difference, differences};
+use crate::hole::Hole;
+use crate::list::PrintedList;
+use crate::once::each_once;
+use lsdb::Database;
+use std::alloc::{AllocError, Allocator};
+
+/// Adds the line of a hole that has a key.
+fn push_keyed<A: Allocator + Copy>(
+    text: &mut String<A>,
+    name: &str,
+    hole: Hole,
+) -> Result<(), AllocError>
+    ensures { OnOk result (string_bytes text.new
+        ≡ string_bytes text.old ++ keyed_line name.now hole) }
+{
+    match hole {
+        Hole::NoArea(_) => write!(text, "{name}: {hole}\n"),
+        Hole::Unreadable => Ok(()),
+    }
+}
+
+/// Adds the lines of the holes that have a key.
+fn push_all_keyed<A: Allocator + Copy>(
+    text: &mut String<A>,
+    name: &str,
+    holes: &[Hole],
+) -> Result<(), AllocError>
+    ensures { OnOk result (string_bytes text.new
+        ≡ string_bytes text.old ++ flat_map (keyed_line name.now) holes.now) }
+{
+    for hole in holes {
+        push_keyed(text, name, *hole)?;
+    }
+    Ok(())
+}
+
+/// Whether a line of the list is not read.
+fn is_unreadable(hole: Hole) -> bool
+    ensures { result ≡ is_unreadable hole }
+{
+    match hole {
+        Hole::NoArea(_) => false,
+        Hole::Unreadable => true,
+    }
+}
+
+/// Adds how many lines of the list are not read, where there is one.
+fn push_unread<A: Allocator + Copy>(
+    text: &mut String<A>,
+    name: &str,
+    holes: &[Hole],
+) -> Result<(), AllocError>
+    ensures { OnOk result (string_bytes text.new
+        ≡ string_bytes text.old ++ unread_line name.now (count_by is_unreadable holes.now)) }
+{
+    let count = holes.iter().filter(|hole| is_unreadable(**hole)).count();
+    if count == 0 {
+        return Ok(());
+    }
+    write!(text, "{name}: Unreadable {count}\n")
+}
+
+/// Adds the lines of differences.
+fn push_differences<A: Allocator + Copy>(
+    text: &mut String<A>,
+    name: &str,
+    found: &[Difference],
+) -> Result<(), AllocError>
+    ensures { OnOk result (string_bytes text.new
+        ≡ string_bytes text.old ++ flat_map (difference_line name.now) found.now) }
+{
+    for difference in found {
+        write!(text, "{name}: {difference}\n")?;
+    }
+    Ok(())
+}
+
+/// The lines of the holes of a list, and of the differences from it, each once.
+fn lines_of<A: Allocator + Copy>(
+    alloc: A,
+    name: &str,
+    found: Vec<Difference, A>,
+    holes: &[Hole],
+) -> Result<String<A>, AllocError>
+    ensures { IfOk result (λ text. (once : List AnyDifference) × (AreOnce found.items once
+        × (string_bytes text ≡ hole_lines name.now holes.now
+        ++ flat_map (difference_line name.now) once))) }
+{
+    let once = each_once(alloc, found)?;
+    let mut text = String::new(alloc);
+    push_all_keyed(&mut text, name, holes)?;
+    push_unread(&mut text, name, holes)?;
+    push_differences(&mut text, name, &once)?;
+    Ok(text)
+}
+
+/// The lines of what is to be told of a list, beside a database, each behind the name of the list:
+/// what can not be compared, and then how the database differs from the headers, as
+/// [`differences`](crate::differences) answers it; each difference once, however often the list
+/// has the header. As `r4.txt: Missing area 0.0.0.1 type 1 id 4.4.4.4 adv 4.4.4.4`. It takes the
+/// time of a sort. The only error is want of memory.
+pub fn list_lines<A: Allocator + Copy>(
+    alloc: A,
+    name: &str,
+    database: &Database<A>,
+    list: &PrintedList<A>,
+) -> Result<String<A>, AllocError>
+    ensures { IfOk result (λ text. AreLines name.now (lists_of database.now)
+        list.now.headers.items list.now.holes.items (string_bytes text)) }
+{
+    let found = differences(alloc, database, &list.headers)?;
+    lines_of(alloc, name, found, &list.holes)
+}

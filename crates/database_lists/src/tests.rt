@@ -1,4 +1,0 @@
-mod differences;
-mod growths;
-mod lists;
-mod pieces;

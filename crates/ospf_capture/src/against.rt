@@ -1,0 +1,45 @@
+//! Lists of the LSAs of other routers, beside the dump.
+
+use crate::fault::{ExitFault, unlisted, unread};
+use crate::files::open_file;
+use database_lists::{PrintedList, list_lines, read_list};
+use lsdb::Database;
+use network_dump::LONGEST_FILE;
+use streams::{Watched, read_whole};
+
+/// Opens a list, and reads it.
+fn list_of<'a>(rt: &HostRuntime, name: &'a str) -> Result<PrintedList, ExitFault<'a>> {
+    let mut file = Watched::new(open_file(rt, name)?);
+    let octets = read_whole(rt.alloc(), &mut file, LONGEST_FILE).map_err(|fault| unread(
+        name, fault,
+    ))?;
+    read_list(rt.alloc(), &octets).map_err(|fault| unlisted(name, fault))
+}
+
+/// Opens each list, and reads it.
+pub(crate) fn lists_of<'a>(
+    rt: &HostRuntime,
+    names: &[&'a str],
+) -> Result<Vec<PrintedList>, ExitFault<'a>> {
+    let mut lists = Vec::new(rt.alloc());
+    for name in names {
+        let list = list_of(rt, *name)?;
+        lists.push(list)?;
+    }
+    Ok(lists)
+}
+
+/// The lines of what the lists have otherwise than a database.
+pub(crate) fn against_lines<'a>(
+    rt: &HostRuntime,
+    names: &[&str],
+    lists: &[PrintedList],
+    database: &Database,
+) -> Result<String, ExitFault<'a>> {
+    let mut lines = String::new(rt.alloc());
+    for (name, list) in names.iter().zip(lists) {
+        let told = list_lines(rt.alloc(), *name, database, list)?;
+        lines.push_str(told.as_str())?;
+    }
+    Ok(lines)
+}
