@@ -3,5 +3,7 @@
 mod calls;
 mod layers;
 mod network;
+mod octets;
 mod readers;
+mod refusals;
 mod texts;

@@ -13,6 +13,3 @@ mod line;
 
 pub use laws::{line_laws, session_laws};
 pub use line::{edit_line, put_line};
-
-#[cfg(test)]
-mod tests;

@@ -1,8 +1,8 @@
-//! Graphs, trees, hops and routes with few growths. Each function lends a call what it wants with
-//! ample memory, and calls it twice: with so many growths, and then with ample memory again.
+//! Graphs, trees and hops with few growths. Each function lends a call what it wants with ample
+//! memory, and calls it twice: with so many growths, and then with ample memory again.
 
-use super::calls::{Answer, Answers};
 use super::network::{database_of, graph_of};
+use super::refusals::Answer;
 use super::texts::{graph_text, hops_text, tree_text};
 use area_graph::{Graph, GraphFault};
 use lsa_codec::{AreaId, RouterId};
@@ -12,6 +12,9 @@ use samples::R1;
 use spf::{Meter, SpfFault, Tree};
 use std::alloc::{AllocError, Global};
 use std::test::*;
+
+/// What a call answers with so many growths, and what the same call answers then.
+type Answers = (Answer, Answer);
 
 /// The text of a graph that was built.
 fn of_graph(alloc: Global, graph: Result<Graph<&Rationed>, GraphFault>) -> Result<Answer, Fail> {

@@ -1,8 +1,8 @@
 //! Lines of edits, read and written.
 
-use crate::{edit_line, put_line};
 use edit_script::Edit;
 use lsa_codec::{AreaId, RouterId};
+use session_text::{edit_line, put_line};
 use std::test::*;
 
 const COST: Edit = Edit::Cost {

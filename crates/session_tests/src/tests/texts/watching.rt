@@ -1,10 +1,10 @@
 //! Readers and writers that remember whether they have failed.
 
 use super::text::{NEVER, TEXT};
-use crate::{Watched, write_whole};
 use samples::{Failing, FailsOnce, Sink, Source};
 use std::io::ErrorKind;
 use std::test::Fail;
+use streams::{Watched, write_whole};
 
 #[test]
 fn watches_a_reader(rt: HostRuntime) -> Result<(), Fail> {

@@ -1,9 +1,9 @@
 //! Whole texts that are read.
 
 use super::text::{NEVER, TEXT};
-use crate::{ReadFault, Watched, read_more, read_whole};
 use samples::{Source, Zeros};
 use std::test::Fail;
+use streams::{ReadFault, Watched, read_more, read_whole};
 
 #[test]
 fn reads_whole_texts_in_short_pieces(rt: HostRuntime) -> Result<(), Fail> {

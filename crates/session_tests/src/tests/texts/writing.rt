@@ -1,9 +1,9 @@
 //! Whole texts that are written.
 
 use super::text::{NEVER, TEXT};
-use crate::{Watched, WriteFault, write_whole};
 use samples::{Failing, Sink};
 use std::test::Fail;
+use streams::{Watched, WriteFault, write_whole};
 
 #[test]
 fn writes_whole_texts_in_short_pieces(rt: HostRuntime) -> Result<(), Fail> {

@@ -1,0 +1,5 @@
+//! Tests of what documents tell.
+
+mod growths;
+mod pieces;
+mod told;

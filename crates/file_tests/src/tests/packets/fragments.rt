@@ -1,0 +1,69 @@
+//! Datagrams that are put together, and fragments that are missing.
+
+use super::frames::{BACK, FRONT, MIDDLE, TWO_LSAS, UPDATE, whole, with};
+use capture_files::LinkType;
+use ospf_packets::{Odd, Packets, read_frames};
+use std::test::*;
+
+/// Whether both LSAs are told, and nothing is odd.
+fn is_whole(packets: &Packets) -> bool {
+    match packets.sightings.as_slice() {
+        [first, second] => {
+            let same = first.lsa.bytes() == &TWO_LSAS[62..134]
+                && second.lsa.bytes() == &TWO_LSAS[134..170];
+            same && packets.odd.is_empty()
+        }
+        _ => false,
+    }
+}
+
+/// Whether so many fragments are missing, nothing else is odd, and no LSA is told.
+fn is_missing(packets: &Packets, count: usize) -> bool {
+    let missing = packets.odd.iter().all(|odd| *odd == Odd::MissingFragment);
+    missing && packets.odd.len() == count && packets.sightings.is_empty()
+}
+
+#[test]
+fn fragments_are_put_together(rt: HostRuntime) -> Result<(), Fail> {
+    let alloc = rt.alloc();
+    let front = whole(LinkType::RAW, FRONT);
+    let middle = whole(LinkType::RAW, MIDDLE);
+    let back = whole(LinkType::RAW, BACK);
+    assert!(rt; is_whole(&read_frames(alloc, &[front, middle, back])?));
+    // A fragment that is seen twice.
+    assert!(rt; is_whole(&read_frames(alloc, &[front, middle, middle, back])?));
+    // A frame between fragments tells what it tells alone.
+    let update = whole(LinkType::ETHERNET, UPDATE);
+    let packets = read_frames(alloc, &[front, update, middle, back])?;
+    assert_eq!(rt; packets.sightings.len(), 3);
+    assert_eq!(rt; packets.odd.len(), 0);
+    Ok(())
+}
+
+#[test]
+fn missing_fragments_are_told(rt: HostRuntime) -> Result<(), Fail> {
+    let alloc = rt.alloc();
+    let front = whole(LinkType::RAW, FRONT);
+    let middle = whole(LinkType::RAW, MIDDLE);
+    let back = whole(LinkType::RAW, BACK);
+    assert!(rt; is_missing(&read_frames(alloc, &[front])?, 1));
+    assert!(rt; is_missing(&read_frames(alloc, &[front, middle])?, 1));
+    assert!(rt; is_missing(&read_frames(alloc, &[front, back])?, 2));
+    assert!(rt; is_missing(&read_frames(alloc, &[middle, back])?, 1));
+    assert!(rt; is_missing(&read_frames(alloc, &[back, middle, front])?, 3));
+    Ok(())
+}
+
+#[test]
+fn fragments_of_other_datagrams_are_others(rt: HostRuntime) -> Result<(), Fail> {
+    let alloc = rt.alloc();
+    let front = whole(LinkType::RAW, FRONT);
+    let middle = whole(LinkType::RAW, MIDDLE);
+    // Another source, destination, identification.
+    for place in [15, 19, 5] {
+        let other = with(alloc, BACK, place, 0x77)?;
+        let back = whole(LinkType::RAW, &other);
+        assert!(rt; is_missing(&read_frames(alloc, &[front, middle, back])?, 2));
+    }
+    Ok(())
+}

@@ -1,0 +1,3 @@
+//! Databases that sightings make.
+
+mod joined;

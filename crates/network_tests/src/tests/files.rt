@@ -1,0 +1,3 @@
+mod dumps;
+mod pieces;
+mod refusals;

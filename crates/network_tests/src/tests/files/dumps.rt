@@ -1,0 +1,89 @@
+//! The dump of files of one network.
+
+use super::pieces::{CAPTURE, DUMP, JSON, TEXT, WALK};
+use capture_files::End;
+use lsa_codec::AreaId;
+use lsa_instances::FlushedLsas;
+use network_files::{FileKind, FileTold, Oddities, dump_of_files, told_of};
+use sighted_database::ToldArea;
+use std::alloc::Global;
+use std::test::*;
+
+/// The dump that files with these octets make.
+fn dump_of(alloc: Global, files: &[&[u8]]) -> Result<Vec<u8>, Fail> {
+    let mut told: Vec<FileTold> = Vec::new(alloc);
+    for octets in files {
+        told.push(told_of(alloc, octets)?)?;
+    }
+    Ok(dump_of_files(alloc, FlushedLsas::LeftOut, &told)?)
+}
+
+#[test]
+fn a_capture_and_a_walk_of_one_network_give_one_dump(rt: HostRuntime) -> Result<(), Fail> {
+    let alloc = rt.alloc();
+    assert!(rt; FileKind::of(CAPTURE) == FileKind::Capture);
+    assert!(rt; FileKind::of(WALK) == FileKind::Walk);
+    let files: [&[u8]; 1] = [CAPTURE];
+    assert!(rt; dump_of(alloc, &files)?.as_slice() == DUMP);
+    let files: [&[u8]; 1] = [WALK];
+    assert!(rt; dump_of(alloc, &files)?.as_slice() == DUMP);
+    let files: [&[u8]; 2] = [WALK, CAPTURE];
+    assert!(rt; dump_of(alloc, &files)?.as_slice() == DUMP);
+    let files: [&[u8]; 3] = [CAPTURE, WALK, CAPTURE];
+    assert!(rt; dump_of(alloc, &files)?.as_slice() == DUMP);
+    Ok(())
+}
+
+#[test]
+fn a_printed_database_gives_the_same_dump_but_for_the_age(rt: HostRuntime) -> Result<(), Fail> {
+    let alloc = rt.alloc();
+    assert!(rt; FileKind::of(TEXT) == FileKind::Printed);
+    let files: [&[u8]; 1] = [TEXT];
+    let dump = dump_of(alloc, &files)?;
+    assert!(rt; dump.len() == DUMP.len() && dump.get(14) == Some(&33));
+    assert!(rt; dump[..14] == DUMP[..14] && dump[15..] == DUMP[15..]);
+    let files: [&[u8]; 2] = [TEXT, CAPTURE];
+    assert!(rt; dump_of(alloc, &files)?.as_slice() == DUMP);
+    Ok(())
+}
+
+#[test]
+fn a_document_gives_the_same_dump_but_for_the_age(rt: HostRuntime) -> Result<(), Fail> {
+    let alloc = rt.alloc();
+    assert!(rt; FileKind::of(JSON) == FileKind::Json);
+    let files: [&[u8]; 2] = [JSON, &CAPTURE[..118]];
+    let dump = dump_of(alloc, &files)?;
+    assert!(rt; dump.len() == DUMP.len() && dump.get(14) == Some(&33));
+    assert!(rt; dump[..14] == DUMP[..14] && dump[15..] == DUMP[15..]);
+    let files: [&[u8]; 2] = [JSON, CAPTURE];
+    assert!(rt; dump_of(alloc, &files)?.as_slice() == DUMP);
+    Ok(())
+}
+
+/// The capture without its last octet: the LSA is gone, and the kind of the area is there.
+#[test]
+fn a_cut_capture_tells_what_is_whole(rt: HostRuntime) -> Result<(), Fail> {
+    let alloc = rt.alloc();
+    let told = told_of(alloc, &CAPTURE[..243])?;
+    let stub = ToldArea {
+        id: AreaId(2),
+        is_stub: true,
+    };
+    assert_eq!(rt; told.sightings.len(), 0);
+    assert!(rt; told.areas.as_slice() == [stub].as_slice());
+    assert_eq!(rt; told.nssas.len(), 0);
+    assert!(rt; matches!(told.oddities, Oddities::Frames(_, End::Cut(118))));
+    Ok(())
+}
+
+#[test]
+fn an_nssa_is_told_and_is_no_stub_area(rt: HostRuntime) -> Result<(), Fail> {
+    let told = told_of(rt.alloc(), b".1.3.6.1.2.1.14.2.1.3.0.0.0.7 = INTEGER: 3\n")?;
+    let ordinary = ToldArea {
+        id: AreaId(7),
+        is_stub: false,
+    };
+    assert!(rt; told.areas.as_slice() == [ordinary].as_slice());
+    assert!(rt; told.nssas.as_slice() == [AreaId(7)].as_slice());
+    Ok(())
+}

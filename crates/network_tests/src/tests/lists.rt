@@ -1,0 +1,5 @@
+mod differences;
+mod growths;
+mod lines;
+mod lists;
+mod pieces;

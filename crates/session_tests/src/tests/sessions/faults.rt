@@ -1,0 +1,67 @@
+//! Octets that are no session.
+
+use super::octets::on_sample;
+use lsdb::{DumpFault, DumpFaultKind};
+use saved_sessions::open;
+use std::test::*;
+
+/// Octets behind the base of 99 octets, and the fault that is told of them.
+const FAULTS: &[(&[u8], usize, DumpFaultKind)] = &[
+    (b"\0", 99, DumpFaultKind::Truncated),
+    (b"\0\x01\0", 101, DumpFaultKind::Truncated),
+    (b"\x27\x11\0", 101, DumpFaultKind::Truncated),
+    (
+        b"\0\x01\0\x01cost 0.0.0.0 1.1.1.1 1 11\ncost 0.0.0.0 1.1.1.1 1 12",
+        129,
+        DumpFaultKind::Truncated,
+    ),
+    (
+        b"\0\x02\0\x01cost 0.0.0.0 1.1.1.1 1 11\ncost 0.0.0.0 1.1.1.1 1 12\n",
+        155,
+        DumpFaultKind::Truncated,
+    ),
+    (b"\x27\x11\0\0", 99, DumpFaultKind::BadHistory(10_000)),
+    (b"\x13\x88\x13\x89", 99, DumpFaultKind::BadHistory(10_000)),
+    (
+        b"\0\x01\0\x01xost 0.0.0.0 1.1.1.1 1 11\ncost 0.0.0.0 1.1.1.1 1 12\n",
+        103,
+        DumpFaultKind::BadHistory(0),
+    ),
+    (
+        b"\0\x01\0\x01cost 0.0.0.0  1.1.1.1 1 11\ncost 0.0.0.0 1.1.1.1 1 12\n",
+        103,
+        DumpFaultKind::BadHistory(0),
+    ),
+    (
+        b"\0\x01\0\x01cost 0.0.0.0 1.1.1.1 1 11\ncost 0.0.0.0 1.1.1.1 2 12\n",
+        129,
+        DumpFaultKind::BadHistory(1),
+    ),
+    (
+        b"\0\x01\0\x01cost 0.0.0.0 1.1.1.1 1 11\ncost 0.0.0.0 1.1.1.1 1 12\n\n",
+        155,
+        DumpFaultKind::TrailingBytes,
+    ),
+];
+
+#[test]
+fn tells_the_first_fault(rt: HostRuntime) -> Result<(), Fail> {
+    for (history, offset, kind) in FAULTS {
+        let octets = on_sample(rt.alloc(), *history)?;
+        let fault = open(rt.alloc(), &octets).err();
+        let (offset, kind) = (*offset, *kind);
+        assert_eq!(rt; fault, Some(DumpFault { offset, kind }));
+    }
+    Ok(())
+}
+
+#[test]
+fn tells_another_version(rt: HostRuntime) -> Result<(), Fail> {
+    let fault = open(rt.alloc(), b"OSWP\x03\0\0\0").err();
+    let version = DumpFault {
+        offset: 4,
+        kind: DumpFaultKind::BadVersion,
+    };
+    assert_eq!(rt; fault, Some(version));
+    Ok(())
+}

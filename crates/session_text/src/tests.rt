@@ -1,3 +1,0 @@
-//! Lines that are read and written.
-
-mod lines;
