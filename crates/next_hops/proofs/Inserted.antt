@@ -29,7 +29,7 @@ pub rising-sorted : (hops : List Hop) → IsSortedHops hops → hops ≡ rising 
 rising-sorted hops sorted = rising-is hop_cmp_total same_hop hops hops sorted (λ h. (λ i. i, λ i. i))
 
 -- the same hops in any order, repeated or not
-rising-same : (xs ys : List Hop) → ((h : Hop) → Contains xs h → Contains ys h)
+pub rising-same : (xs ys : List Hop) → ((h : Hop) → Contains xs h → Contains ys h)
     → ((h : Hop) → Contains ys h → Contains xs h) → rising hop_cmp xs ≡ rising hop_cmp ys
 rising-same xs ys there back =
     rising-is hop_cmp_total same_hop (rising hop_cmp xs) ys (IsSortedHops-rising xs)
@@ -113,16 +113,22 @@ searched hops hop (Err place) sorted within parted =
     ∙ ap (λ (hs : List Hop). insert_key hop_cmp hs hop) (rising-sorted hops sorted)
     ∙ rising-turned hops hop
 
+-- where a search finds no hop, those before the place come before it, and the others after it
+pub parted_by : (cmp : Hop → Hop → Ordering) → ((g h : Hop) → cmp g h ≡ hop_cmp g h)
+    → (hops : List Hop) (hop : Hop) (place : ℕ) → IsSortedHops hops → IsBinarySearchResult (λ y. cmp y hop) hops (Err place)
+    → AllWithin (λ y. hop_cmp y hop ≡ Less) hops 0 place × AllWithin (λ y. hop_cmp y hop ≡ Greater) hops place (length hops)
+parted_by cmp same hops hop place sorted parted =
+    let rise = comparisons_rise hops sorted hop in
+    let parts = parted (λ i j d le lt. let low = rise i j d le lt in
+    let at_i = ap (λ (o : Ordering). ordering_index o) (same (get_or hops i d) hop) in
+    let at_j = ap (λ (o : Ordering). ordering_index o) (same (get_or hops j d) hop) in
+    omega arith) in
+    (λ k d low high. sym (same (get_or hops k d) hop) ∙ parts.0 k d low high, λ k d low high. sym (same (get_or hops k d) hop) ∙ parts.1 k d low high)
+
 -- the same where the search compares by an order that is this one
 pub searched_by : (cmp : Hop → Hop → Ordering) → ((g h : Hop) → cmp g h ≡ hop_cmp g h)
     → (hops : List Hop) (hop : Hop) (r : Result ℕ ℕ) → IsSortedHops hops → IsSearchInRange r (length hops)
     → IsBinarySearchResult (λ y. cmp y hop) hops r
     → MatchResult r (λ i. hops ≡ rising hop_cmp (hops ++ hop ∷ [])) (λ place. insert hops place hop ≡ rising hop_cmp (hops ++ hop ∷ []))
 searched_by cmp same hops hop (Ok i) sorted within found = searched hops hop (Ok i) sorted within (λ d. sym (same (get_or hops i d) hop) ∙ found d)
-searched_by cmp same hops hop (Err place) sorted within parted =
-    searched hops hop (Err place) sorted within (λ rise.
-    let parts = parted (λ i j d le lt. let low = rise i j d le lt in
-    let at_i = ap (λ (o : Ordering). ordering_index o) (same (get_or hops i d) hop) in
-    let at_j = ap (λ (o : Ordering). ordering_index o) (same (get_or hops j d) hop) in
-    omega arith) in
-    (λ k d low high. sym (same (get_or hops k d) hop) ∙ parts.0 k d low high, λ k d low high. sym (same (get_or hops k d) hop) ∙ parts.1 k d low high))
+searched_by cmp same hops hop (Err place) sorted within parted = searched hops hop (Err place) sorted within (λ rise. parted_by cmp same hops hop place sorted parted)

@@ -6,4 +6,9 @@ pub mod Handing
 pub mod HopsOf
 mod SmallHops
 pub mod Sharing
+pub mod Keeping
+pub mod Adding
+pub mod Passages
+pub mod Tables
+pub mod Renumbering
 pub mod HopLemmas

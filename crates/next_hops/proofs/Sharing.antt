@@ -8,33 +8,41 @@ use Rattle.std.proofs.lemmas.List.Quantifiers.{position-Some}
 use Rattle.std.proofs.lemmas.Bool.{false≢true}
 use Rattle.std.proofs.lemmas.Option.{get_or_from_slice_get, slice_get-get_or, slice_get-map}
 use Rattle.std.proofs.lemmas.List.{get_or-map, length-append, length-map, map-append, take_more}
-use Rattle.std.proofs.lemmas.List.Elements.{All-head, All-tail}
+use Rattle.std.proofs.lemmas.List.Elements.{All-head, All-push, All-tail}
 use Rattle.std.proofs.Math.ListN.{get_or-append}
 use Rattle.std.specs.declared.vec.Vec.{Vec}
 use Rattle.next_hops.specs.declared.hop.Hop.{Hop}
+use Rattle.next_hops.specs.Hop.{IsSortedHops}
 use Rattle.next_hops.specs.steps.Shared.{Keeps, list_in, lists_in}
 
 module _ {A : Type 0} where
   pub Keeps-same : (lists : List (Vec Hop A)) → Keeps lists lists
-  Keeps-same lists = record { same = λ n lt. refl; no_less = omega arith; one_more = omega arith }
+  Keeps-same lists = record { same = λ n lt. refl; no_less = omega arith; sorted = λ s. s }
 
-  Keeps-put : (lists : List (Vec Hop A)) (list : Vec Hop A) → Keeps lists (lists ++ list ∷ [])
-  Keeps-put lists list = record {
+  pub Keeps-then : (a b c : List (Vec Hop A)) → Keeps a b → Keeps b c → Keeps a c
+  Keeps-then a b c one two = record {
+    same = λ n lt. two.same n (let le = one.no_less in omega arith) ∙ one.same n lt;
+    no_less = (let le = one.no_less in let more = two.no_less in omega arith);
+    sorted = λ s. two.sorted (one.sorted s);
+  }
+
+  pub Keeps-put : (lists : List (Vec Hop A)) (list : Vec Hop A) → IsSortedHops list.items → Keeps lists (lists ++ list ∷ [])
+  Keeps-put lists list in_order = record {
     same = λ n lt.
         ap (λ (xs : List (List Hop)). get_or xs n []) (map-append (λ x. x.items) lists (list ∷ []))
         ∙ get_or-append (map (λ x. x.items) lists) (list.items ∷ []) [] n (within n lt);
     no_less = (let e = length-append lists (list ∷ []) in omega arith);
-    one_more = (let e = length-append lists (list ∷ []) in omega arith);
+    sorted = λ s. All-push (λ (x : Vec Hop A). IsSortedHops x.items) lists list s in_order;
   }
     where
       within : (n : ℕ) → n < length lists → n < length (map (λ (x : Vec Hop A). x.items) lists)
       within n lt = subst (λ (m : ℕ). n < m) (sym (length-map lists (λ x. x.items))) lt
 
   -- a list that is put in unless it is there
-  pub Keeps-inserted : (is_there : Bool) (lists new : List (Vec Hop A)) (list : Vec Hop A)
+  pub Keeps-inserted : (is_there : Bool) (lists new : List (Vec Hop A)) (list : Vec Hop A) → IsSortedHops list.items
       → new ≡ (if is_there then lists else lists ++ list ∷ []) → Keeps lists new
-  Keeps-inserted true lists new list is = subst (λ (xs : List (Vec Hop A)). Keeps lists xs) (sym is) (Keeps-same lists)
-  Keeps-inserted false lists new list is = subst (λ (xs : List (Vec Hop A)). Keeps lists xs) (sym is) (Keeps-put lists list)
+  Keeps-inserted true lists new list in_order is = subst (λ (xs : List (Vec Hop A)). Keeps lists xs) (sym is) (Keeps-same lists)
+  Keeps-inserted false lists new list in_order is = subst (λ (xs : List (Vec Hop A)). Keeps lists xs) (sym is) (Keeps-put lists list in_order)
 
   lists_in-kept : (old new : List (Vec Hop A)) → Keeps old new → (numbers : List ℕ)
       → All (λ n. n < length old) numbers → lists_in new numbers ≡ lists_in old numbers
@@ -53,15 +61,15 @@ module _ {A : Type 0} where
       ∙ ap (λ (hops : List Hop). take i lists ++ hops ∷ []) next
       ∙ sym (take_more lists i [] more)
 
--- lists whose hops are equal one by one are the same
-pub pointwise-same : (eq : Hop → Hop → Bool) → ((g h : Hop) → eq g h ≡ true → g ≡ h) → (xs ys : List Hop) → pointwise eq xs ys ≡ true → xs ≡ ys
+-- lists whose items are equal one by one are the same
+pub pointwise-same : {T : Type 0} (eq : T → T → Bool) → ((x y : T) → eq x y ≡ true → x ≡ y) → (xs ys : List T) → pointwise eq xs ys ≡ true → xs ≡ ys
 pointwise-same eq exact [] [] h = refl
 pointwise-same eq exact [] (y ∷ ys) h = absurd (false≢true h)
 pointwise-same eq exact (x ∷ xs) [] h = absurd (false≢true h)
-pointwise-same eq exact (x ∷ xs) (y ∷ ys) h = by_test (eq x y) refl (λ rest. pointwise-same eq exact xs ys rest) h
+pointwise-same {T} eq exact (x ∷ xs) (y ∷ ys) h = by_test (eq x y) refl (λ rest. pointwise-same eq exact xs ys rest) h
   where
     by_test : (b : Bool) → eq x y ≡ b → (pointwise eq xs ys ≡ true → xs ≡ ys) → (b && pointwise eq xs ys) ≡ true → (x ∷ xs) ≡ (y ∷ ys)
-    by_test true is tails rest = ap (λ (g : Hop). g ∷ xs) (exact x y is) ∙ ap (λ (gs : List Hop). y ∷ gs) (tails rest)
+    by_test true is tails rest = ap (λ (z : T). z ∷ xs) (exact x y is) ∙ ap (λ (zs : List T). y ∷ zs) (tails rest)
     by_test false is tails rest = absurd (false≢true rest)
 
 module _ {A : Type 0} where

@@ -1,18 +1,19 @@
 //! The hops of each vertex of an area.
 
-ghost use Rattle.std.specs.Prelude.{◌≡◌, ◌<◌, ◌≤◌, [], length, replicate, map, All, IfOk};
+ghost use Rattle.std.specs.Prelude.{◌≡◌, ◌<◌, ◌≤◌, length, All, IfOk};
 ghost use Rattle.area_graph.specs.declared.vertex.Vertex.{Vertex};
 ghost use Rattle.spf.specs.Distances.{IsTreeOf};
 ghost use Rattle.next_hops.specs.Hop.{IsSortedHops};
 ghost use Rattle.next_hops.specs.FirstHops.{AreHopsOf, hops_at, table_of};
-ghost use Rattle.next_hops.specs.steps.Shared.{lists_in};
+ghost use Rattle.next_hops.specs.steps.Shared.{AreSorted, AreWithin, lists_in};
+ghost use Rattle.next_hops.specs.steps.Table.{IsWhole, hops_so_far};
 
 use crate::hop::Hop;
-use crate::list::HopList;
 use crate::passing::pass_on;
-use crate::shared::{DistinctLists, number_of};
+use crate::renumbered::Renumbered;
+use crate::shared::DistinctLists;
+use crate::table::HopTable;
 use area_graph::Graph;
-use indexmap::IndexSet;
 use spf::Tree;
 use std::alloc::{AllocError, Allocator, Global};
 use std::marker::Model;
@@ -23,7 +24,7 @@ use std::marker::Model;
 /// It takes two octets for each vertex, and each list that some vertex has once.
 #[derive(Drop)]
 pub struct Hops<A: Allocator = Global> {
-    lists: DistinctLists<A>,
+    lists: Vec<Vec<Hop, A>, A>,
     numbers: Vec<u16, A>,
 }
 
@@ -35,10 +36,10 @@ impl<A: Allocator> Model for Hops<A> {
 
     ghost Value = { List (List Hop) };
 
-    ghost view = { λ hops. lists_in hops.lists.keys hops.numbers.items };
+    ghost view = { λ hops. lists_in hops.lists.items hops.numbers.items };
 
     ghost invariant = { λ hops.
-        All (λ list. IsSortedHops list) (lists_in hops.lists.keys hops.numbers.items) };
+        All (λ list. IsSortedHops list) (lists_in hops.lists.items hops.numbers.items) };
 }
 
 impl<A: Allocator + Copy> Hops<A> {
@@ -59,25 +60,30 @@ impl<A: Allocator + Copy> Hops<A> {
             (λ hops. (root : Vertex) → IsTreeOf graph.now root tree.now
             → AreHopsOf graph.now root hops) }
     {
-        let lists = pass_all(alloc, graph, tree)?;
-        Hops::sharing(alloc, &lists)
+        let mut table = pass_all(alloc, graph, tree)?;
+        let numbers = table.numbers(alloc)?;
+        Hops::renumbering(alloc, &table.lists, &numbers)
     }
 
-    /// The same lists, of which equal ones are kept once.
-    fn sharing(alloc: A, lists: &[HopList<A>]) -> Result<Hops<A>, AllocError>
-        requires few { length lists.now ≤ 8192 }
-        requires sorted { All (λ list. IsSortedHops list) lists.now }
-        ensures { IfOk result (λ hops. hops ≡ lists.now) }
+    /// The lists with these numbers, under new numbers: those that others have are let go.
+    fn renumbering(
+        alloc: A,
+        lists: &DistinctLists<A>,
+        numbers: &[usize],
+    ) -> Result<Hops<A>, AllocError>
+        requires few { length numbers.now ≤ 8192 }
+        requires within { AreWithin lists.now.keys numbers.now }
+        requires sorted { AreSorted lists.now.keys }
+        ensures { IfOk result (λ hops. hops ≡ lists_in lists.now.keys numbers.now) }
     {
-        let mut distinct = IndexSet::new(alloc);
-        let mut numbers = Vec::with_capacity(alloc, lists.len())?;
-        for list in lists {
-            let number = number_of(alloc, list.as_slice(), &mut distinct)?;
-            numbers.push(number as u16)?;
+        let mut renumbered = Renumbered::new(alloc, lists)?;
+        let mut short = Vec::with_capacity(alloc, numbers.len())?;
+        for number in numbers {
+            short.push(renumbered.number_of(alloc, *number, lists)?)?;
         }
         Ok(Hops {
-            lists: distinct,
-            numbers,
+            lists: renumbered.lists,
+            numbers: short,
         })
     }
 
@@ -88,7 +94,7 @@ impl<A: Allocator + Copy> Hops<A> {
         ensures sorted { IsSortedHops result.now }
     {
         let number = usize::from(self.numbers[index]);
-        match self.lists.get_index(number) {
+        match self.lists.get(number) {
             Some(list) => list,
             None => &[],
         }
@@ -101,35 +107,23 @@ fn pass_all<A: Allocator + Copy>(
     alloc: A,
     graph: &Graph<A>,
     tree: &Tree<A>,
-) -> Result<Vec<HopList<A>, A>, AllocError>
+) -> Result<HopTable<A>, AllocError>
     requires tree { (root : Vertex) × IsTreeOf graph.now root tree.now }
-    ensures sized { IfOk result (λ lists. length lists.items ≡ length graph.now.vertices) }
-    ensures few { IfOk result (λ lists. length lists.items ≤ 8192) }
-    ensures sorted { IfOk result (λ lists. All (λ list. IsSortedHops list) lists.items) }
+    ensures sized { IfOk result
+        (λ hops. length (hops_so_far hops) ≡ length graph.now.vertices) }
+    ensures few { IfOk result (λ hops. length (hops_so_far hops) ≤ 8192) }
+    ensures whole { IfOk result (λ hops. IsWhole hops) }
+    ensures sorted { IfOk result (λ hops. All (λ list. IsSortedHops list) (hops_so_far hops)) }
     ensures table { IfOk result
-        (λ lists. (root : Vertex) → IsTreeOf graph.now root tree.now
-        → lists.items ≡ table_of graph.now root) }
+        (λ hops. (root : Vertex) → IsTreeOf graph.now root tree.now
+        → hops_so_far hops ≡ table_of graph.now root) }
     ensures paths { IfOk result
-        (λ lists. (root : Vertex) → IsTreeOf graph.now root tree.now
-        → AreHopsOf graph.now root lists.items) }
+        (λ hops. (root : Vertex) → IsTreeOf graph.now root tree.now
+        → AreHopsOf graph.now root (hops_so_far hops)) }
 {
-    let mut lists = empty_lists(alloc, graph.len())?;
+    let mut table = HopTable::new(alloc, graph.len())?;
     for from in tree.order() {
-        pass_on(alloc, graph, tree, usize::from(*from), &mut lists)?;
+        pass_on(alloc, graph, tree, usize::from(*from), &mut table)?;
     }
-    Ok(lists)
-}
-
-/// So many lists without hops.
-fn empty_lists<A: Allocator + Copy>(
-    alloc: A,
-    count: usize,
-) -> Result<Vec<HopList<A>, A>, AllocError>
-    ensures { IfOk result (λ lists. lists.items ≡ replicate count []) }
-{
-    let mut lists = Vec::with_capacity(alloc, count)?;
-    for _ in 0..count {
-        lists.push(HopList::new(alloc)?)?;
-    }
-    Ok(lists)
+    Ok(table)
 }

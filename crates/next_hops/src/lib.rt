@@ -4,13 +4,18 @@
 //! first hops of all paths of least cost from the calculating router.
 #![tactic(auto)]
 
+mod handed;
 mod hop;
 mod hops;
+mod joins;
 mod laws;
 mod list;
+mod passage;
 mod passing;
+mod renumbered;
 mod shared;
 mod storage;
+mod table;
 
 pub use hop::Hop;
 pub use hops::Hops;

@@ -1,14 +1,15 @@
 //! Hops handed from a vertex to the ends of its edges.
 
-ghost use Rattle.std.specs.Prelude.{◌≡◌, ◌<◌, length, OnOk};
+ghost use Rattle.std.specs.Prelude.{◌≡◌, ◌<◌, length, IfOk, OnOk};
 ghost use Rattle.std.specs.Bool.{OnTrue, OnFalse};
 ghost use Rattle.next_hops.specs.FirstHops.{hops_at};
-ghost use Rattle.next_hops.specs.steps.Passing.{Grows, IsExtended, IsPassed, IsPassedFrom, IsTight, arc_of, first_at};
+ghost use Rattle.next_hops.specs.steps.Passing.{IsExtended, IsPassed, IsPassedFrom, IsTight, arc_of, first_at};
+ghost use Rattle.next_hops.specs.steps.Table.{GoOn, Hands, IsKept, IsWhole, Stays, hops_so_far, kept_list};
 
 use crate::hop::Hop;
-use crate::list::HopList;
+use crate::passage::Passage;
+use crate::table::HopTable;
 use area_graph::{Edge, Graph};
-use lsa_codec::Addr;
 use spf::Tree;
 use std::alloc::{AllocError, Allocator};
 
@@ -37,62 +38,114 @@ fn first_hop<A: Allocator + Copy>(graph: &Graph<A>, edge: &Edge) -> Hop
     }
 }
 
-/// Adds the hop of an edge out of the root to the vertex at its end.
+/// Hands the hop of an edge out of the root to the vertex at its end.
 fn pass_first<A: Allocator + Copy>(
+    alloc: A,
     graph: &Graph<A>,
     tree: &Tree<A>,
     from: usize,
     edge: &Edge,
-    lists: &mut [HopList<A>],
+    table: &mut HopTable<A>,
 ) -> Result<(), AllocError>
-    requires sized { length lists.old ≡ length graph.now.vertices }
+    requires sized { length (hops_so_far table.old) ≡ length graph.now.vertices }
     requires to { edge.now.to < length graph.now.vertices }
+    requires whole { IsWhole table.old }
     ensures { OnOk result
-        (Grows (λ i h. (i ≡ edge.now.to) × (from ≡ tree.now.root)
-        × (first_at graph.now edge.now.to edge.now.link_data ≡ h)) lists.old lists.new) }
+        (Hands (λ i h. (i ≡ edge.now.to) × (from ≡ tree.now.root)
+        × (first_at graph.now edge.now.to edge.now.link_data ≡ h)) table.old table.new) }
 {
     if from != tree.root() {
         return Ok(());
     }
-    lists[edge.to].add(first_hop(graph, edge))
+    let number = table.number_of(alloc, &[first_hop(graph, edge)])?;
+    table.hand(alloc, number, edge.to)
 }
 
-/// Adds hops, each over one more edge, to the vertex at its end.
-fn pass_hops<A: Allocator + Copy>(
-    hops: &[Hop],
-    edge: &Edge,
-    lists: &mut [HopList<A>],
-) -> Result<(), AllocError>
-    requires { edge.now.to < length lists.old }
-    ensures { OnOk result
-        (Grows (λ i h. (i ≡ edge.now.to) × IsExtended hops.now edge.now.link_data h)
-        lists.old lists.new) }
+/// A vertex that hands on its hops: the number of their list, and how they go on.
+#[derive(Clone, Copy)]
+struct Source {
+    vertex: usize,
+    number: usize,
+    passage: Passage,
+}
+
+/// A vertex as the source of its hops.
+fn source_of<A: Allocator + Copy>(
+    alloc: A,
+    vertex: usize,
+    table: &mut HopTable<A>,
+) -> Result<Source, AllocError>
+    requires vertex { vertex < length (hops_so_far table.old) }
+    requires whole { IsWhole table.old }
+    ensures vertex { IfOk result (λ source. source.vertex ≡ vertex) }
+    ensures within { IfOk result (λ source. IsKept table.new source.number) }
+    ensures hops { IfOk result (λ source. kept_list table.new source.number
+        ≡ hops_at (hops_so_far table.old) vertex) }
+    ensures passage { IfOk result (λ source. GoOn source.passage
+        (kept_list table.new source.number)) }
+    ensures stays { OnOk result (Stays table.old table.new) }
 {
-    lists[edge.to].join_extended(hops, edge.link_data)
+    let number = table.settle(alloc, vertex)?;
+    let passage = Passage::of(table.list(number));
+    Ok(Source {
+        vertex,
+        number,
+        passage,
+    })
+}
+
+/// Hands hops, each over one more edge, to the vertex at its end.
+fn pass_hops<A: Allocator + Copy>(
+    alloc: A,
+    source: &Source,
+    edge: &Edge,
+    table: &mut HopTable<A>,
+) -> Result<(), AllocError>
+    requires number { IsKept table.old source.now.number }
+    requires passage { GoOn source.now.passage (kept_list table.old source.now.number) }
+    requires to { edge.now.to < length (hops_so_far table.old) }
+    requires whole { IsWhole table.old }
+    ensures { OnOk result
+        (Hands (λ i h. (i ≡ edge.now.to)
+        × IsExtended (kept_list table.old source.now.number) edge.now.link_data h)
+        table.old table.new) }
+{
+    match source.passage {
+        Passage::Empty => Ok(()),
+        Passage::Unchanged => table.hand(alloc, source.number, edge.to),
+        Passage::Extended => {
+            let number = table.extended(alloc, source.number, edge.link_data)?;
+            table.hand(alloc, number, edge.to)
+        }
+    }
 }
 
 /// Hands the hops of a vertex over one edge, where that is the last of a path of least cost.
 fn pass_edge<A: Allocator + Copy>(
+    alloc: A,
     graph: &Graph<A>,
     tree: &Tree<A>,
-    from: usize,
+    source: &Source,
     edge: &Edge,
-    hops: &[Hop],
-    lists: &mut [HopList<A>],
+    table: &mut HopTable<A>,
 ) -> Result<(), AllocError>
-    requires sized { length lists.old ≡ length graph.now.vertices }
+    requires sized { length (hops_so_far table.old) ≡ length graph.now.vertices }
     requires measured { length tree.now.distances ≡ length graph.now.vertices }
-    requires from { from < length graph.now.vertices }
+    requires from { source.now.vertex < length graph.now.vertices }
     requires to { edge.now.to < length graph.now.vertices }
+    requires number { IsKept table.old source.now.number }
+    requires passage { GoOn source.now.passage (kept_list table.old source.now.number) }
+    requires whole { IsWhole table.old }
     ensures { OnOk result
-        (Grows (λ i h. (i ≡ edge.now.to) × IsPassed graph.now tree.now hops.now
-        (arc_of from edge.now) h) lists.old lists.new) }
+        (Hands (λ i h. (i ≡ edge.now.to)
+        × IsPassed graph.now tree.now (kept_list table.old source.now.number)
+        (arc_of source.now.vertex edge.now) h) table.old table.new) }
 {
-    if !is_tight(tree, from, edge) {
+    if !is_tight(tree, source.vertex, edge) {
         return Ok(());
     }
-    pass_first(graph, tree, from, edge, lists)?;
-    pass_hops(hops, edge, lists)
+    pass_first(alloc, graph, tree, source.vertex, edge, table)?;
+    pass_hops(alloc, source, edge, table)
 }
 
 /// Hands the hops of a vertex over each edge out of it that is the last of a path of least cost.
@@ -101,19 +154,19 @@ pub(crate) fn pass_on<A: Allocator + Copy>(
     graph: &Graph<A>,
     tree: &Tree<A>,
     from: usize,
-    lists: &mut [HopList<A>],
+    table: &mut HopTable<A>,
 ) -> Result<(), AllocError>
-    requires sized { length lists.old ≡ length graph.now.vertices }
+    requires sized { length (hops_so_far table.old) ≡ length graph.now.vertices }
     requires measured { length tree.now.distances ≡ length graph.now.vertices }
     requires from { from < length graph.now.vertices }
+    requires whole { IsWhole table.old }
     ensures { OnOk result
-        (Grows (λ i h. IsPassedFrom graph.now tree.now (hops_at lists.old from) from i h)
-        lists.old lists.new) }
+        (Hands (λ i h. IsPassedFrom graph.now tree.now (hops_at (hops_so_far table.old) from)
+        from i h) table.old table.new) }
 {
-    let own = lists[from].clone_of(alloc)?;
-    let hops = own.as_slice();
+    let source = source_of(alloc, from, table)?;
     for edge in graph.edges(from) {
-        pass_edge(graph, tree, from, edge, hops, lists)?;
+        pass_edge(alloc, graph, tree, &source, edge, table)?;
     }
     Ok(())
 }

@@ -1,6 +1,7 @@
 //! Lists of hops that many vertices share: equal lists are kept once.
 
 ghost use Rattle.std.specs.Prelude.{◌≡◌, ◌<◌, length, IfSome, IfOk, OnOk};
+ghost use Rattle.next_hops.specs.Hop.{IsSortedHops};
 ghost use Rattle.next_hops.specs.steps.Shared.{Keeps, list_in};
 
 use crate::hop::Hop;
@@ -11,6 +12,16 @@ use std::hash::{BuildHasherDefault, FoldHasher};
 
 /// Lists of hops, no two of them equal. The number of a list is its place.
 pub(crate) type DistinctLists<A> = IndexSet<Vec<Hop, A>, BuildHasherDefault<FoldHasher>, A>;
+
+/// The list with a number. It is empty where there is none.
+pub(crate) fn list_at<A: Allocator + Copy>(lists: &DistinctLists<A>, number: usize) -> &[Hop]
+    ensures { result.now ≡ list_in lists.now.keys number }
+{
+    match lists.get_index(number) {
+        Some(list) => list,
+        None => &[],
+    }
+}
 
 /// The number of the list of these hops, if it is there.
 fn find<A: Allocator + Copy>(hops: &[Hop], lists: &DistinctLists<A>) -> Option<usize>
@@ -27,6 +38,7 @@ fn put<A: Allocator + Copy>(
     hops: &[Hop],
     lists: &mut DistinctLists<A>,
 ) -> Result<usize, AllocError>
+    requires { IsSortedHops hops.now }
     ensures within { IfOk result (λ n. n < length lists.new.keys) }
     ensures list { IfOk result (λ n. list_in lists.new.keys n ≡ hops.now) }
     ensures keeps { OnOk result (Keeps lists.old.keys lists.new.keys) }
@@ -42,6 +54,7 @@ pub(crate) fn number_of<A: Allocator + Copy>(
     hops: &[Hop],
     lists: &mut DistinctLists<A>,
 ) -> Result<usize, AllocError>
+    requires { IsSortedHops hops.now }
     ensures within { IfOk result (λ n. n < length lists.new.keys) }
     ensures list { IfOk result (λ n. list_in lists.new.keys n ≡ hops.now) }
     ensures keeps { OnOk result (Keeps lists.old.keys lists.new.keys) }

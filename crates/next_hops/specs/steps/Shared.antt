@@ -1,7 +1,9 @@
 -- Lists of hops that are kept once, and named by number.
-use Rattle.std.specs.Prelude.{◌≡◌, ℕ, ◌<◌, ◌≤◌, ◌+◌, List, [], map, length, slice_index_or}
+use Rattle.std.specs.Prelude.{◌≡◌, ℕ, ◌<◌, ◌≤◌, List, [], All, Contains, map, flat_map, length, slice_index_or}
 use Rattle.std.specs.declared.vec.Vec.{Vec}
+use Rattle.area_graph.specs.Rising.{rising}
 use Rattle.next_hops.specs.declared.hop.Hop.{Hop}
+use Rattle.next_hops.specs.Hop.{IsSortedHops, hop_cmp}
 
 module _ {A : Type 0} where
   -- the list with a number
@@ -12,8 +14,32 @@ module _ {A : Type 0} where
   abbrev pub lists_in : List (Vec Hop A) → List ℕ → List (List Hop)
   lists_in lists numbers = map (λ n. list_in lists n) numbers
 
-  -- each list of the old ones has its number still, and there is at most one more
+  -- the hops of the lists with these numbers
+  abbrev pub hops_in : List (Vec Hop A) → List ℕ → List Hop
+  hops_in lists numbers = flat_map (λ n. list_in lists n) numbers
+
+  -- each of these numbers is that of a list
+  abbrev pub AreWithin : List (Vec Hop A) → List ℕ → Type 0
+  AreWithin lists numbers = All (λ n. n < length lists) numbers
+
+  abbrev pub AreSorted : List (Vec Hop A) → Type 0
+  AreSorted lists = All (λ list. IsSortedHops list.items) lists
+
+  -- each list of the old ones has its number still, and none that is new is out of order
   pub record Keeps (old new : List (Vec Hop A)) : Type 0 where
     pub same : (n : ℕ) → n < length old → list_in new n ≡ list_in old n
     pub no_less : length old ≤ length new
-    pub one_more : length new ≤ length old + 1
+    pub sorted : AreSorted old → AreSorted new
+
+  -- the list with this number has all hops of those with these numbers
+  pub record IsJoin (lists : List (Vec Hop A)) (numbers : List ℕ) (n : ℕ) : Type 0 where
+    pub parts : AreWithin lists numbers
+    pub within : n < length lists
+    pub hops : list_in lists n ≡ rising hop_cmp (hops_in lists numbers)
+
+  abbrev pub AreJoins : List (Vec Hop A) → List (Vec ℕ A × ℕ) → Type 0
+  AreJoins lists joins = All (λ e. IsJoin lists e.0.items e.1) joins
+
+  -- the join of these numbers is known, and has the number n
+  abbrev pub HasJoin : List (Vec ℕ A × ℕ) → List ℕ → ℕ → Type 0
+  HasJoin joins numbers n = (key : Vec ℕ A) × (key.items ≡ numbers) × Contains joins (key, n)

@@ -1,4 +1,6 @@
-use Rattle.std.proofs.Common.{◌∙◌, sym}
+use Rattle.std.proofs.Common.{◌∙◌, List, sym, subst}
+use Rattle.next_hops.specs.declared.hop.Hop.{Hop}
+use Rattle.next_hops.specs.Hop.{IsSortedHops}
 use Rattle.next_hops.proofs.Sharing.{Keeps-inserted, list_in-at, pointwise-same}
 use Rattle.next_hops.proofs.shared.put.Goals as goal
 
@@ -12,4 +14,5 @@ returns-clause-list g c =
 
 pub returns-clause-keeps : goal.returns-clause-keeps
 returns-clause-keeps g c =
-    Keeps-inserted _ c.args.lists.now.keys c.insert_full.new.self.keys c.in_ok-from_slice.field-0 c.in_ok-number.ensures.keys
+    Keeps-inserted _ c.args.lists.now.keys c.insert_full.new.self.keys c.in_ok-from_slice.field-0
+    (subst (λ (hops : List Hop). IsSortedHops hops) (sym c.in_ok-from_slice.ensures.items) c.requires) c.in_ok-number.ensures.keys
