@@ -9,6 +9,8 @@ pub mod RuleOutcomes
 pub mod CarriedPlans
 pub mod NamedLsas
 pub mod Searches
+pub mod WantedKeys
+pub mod Candidates
 pub mod RulesCarriedOut
 pub mod FatesByPlace
 pub mod FailureFates

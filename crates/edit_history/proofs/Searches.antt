@@ -13,7 +13,7 @@ use Rattle.lsdb.specs.Lists.{SectionLsas, Lists, has_key, is_section, lsas_of}
 use Rattle.lsdb.specs.Places.{Place, Places, SectionPlaces, item_at, slot_at, place_in, full, lists_of, lsas_in, lsas_or_none, places_in}
 use Rattle.lsdb.specs.Places.{places_or_none, IsFirstPlace, IsNamed, IsPlaceOf}
 use Rattle.edit_history.specs.Effect.{is_in_section}
-use Rattle.edit_history.specs.steps.Plans.{IsFirstLsa, passes, slot_of}
+use Rattle.edit_history.specs.steps.Plans.{IsFirstLsa, slot_of}
 use Rattle.edit_history.proofs.NamedLsas.{same_place}
 
 -- ---- any and first
@@ -83,43 +83,6 @@ place_there d section i p e = by_item (item_at d section) e where
   by_item : (o : Option SectionPlaces) → item_at (places_or_none o) i ≡ Some p → place_in o i ≡ Some p
   by_item None e = absurd cc
   by_item (Some s) e = e
-
-place_hit : (test : List ℕ → Bool) (p : Place) (rest : List Place) → passes test (Some p) ≡ true → (p ≡ find test (full (p ∷ rest))) × IsSome p
-place_hit test None rest pass = absurd cc
-place_hit test (Some x) rest pass = (sym (ap (λ b. cond b (Some x) (find test (full rest))) pass), refl)
-
-place_miss : (test : List ℕ → Bool) (p : Place) (rest : List Place) → passes test (Some p) ≡ false
-    → find test (full (p ∷ rest)) ≡ find test (full rest)
-place_miss test None rest fail = refl
-place_miss test (Some x) rest fail = ap (λ b. cond b (Some x) (find test (full rest))) fail
-
-pub first_hit : (test : List ℕ → Bool) (d : Places) (section i : ℕ) (b : Bool) → i < length (places_in d section)
-    → b ≡ passes test (slot_at d (slot_of section i)) → b ≡ true
-    → find test (full (drop i (places_in d section))) ≡ find test (full (places_in d section))
-    → IsFirstPlace d section test (slot_of section i)
-first_hit test d section i b lt is yes' same =
-    let ps = places_in d section in
-    let h = here ps i (suc i) lt refl in
-    let there = place_there d section i h.item h.at in
-    let hit = place_hit test h.item (drop (suc i) ps) (sym (is ∙ ap (passes test) there) ∙ yes') in
-    let found : h.item ≡ find test (lsas_in d section) = hit.0 ∙ ap (λ (qs : List Place). find test (full qs)) (sym h.rest) ∙ same
-    ∙ ap (find test) (sym (lsas_full d section)) in
-    record { same = refl; held = there ∙ ap Some found; found = subst IsSome found hit.1 }
-
-pub first_miss : (test : List ℕ → Bool) (d : Places) (section i j : ℕ) (b : Bool) → i < length (places_in d section) → j ≡ suc i
-    → b ≡ passes test (slot_at d (slot_of section i)) → b ≡ false
-    → find test (full (drop i (places_in d section))) ≡ find test (full (places_in d section))
-    → find test (full (drop j (places_in d section))) ≡ find test (full (places_in d section))
-first_miss test d section i j b lt e is no' same =
-    let ps = places_in d section in
-    let h = here ps i j lt e in
-    let there = place_there d section i h.item h.at in
-    sym (ap (λ (qs : List Place). find test (full qs)) h.rest ∙ place_miss test h.item (drop j ps) (sym (is ∙ ap (passes test) there) ∙ no')) ∙ same
-
-pub first_none : (test : List ℕ → Bool) (d : Places) (section i : ℕ) → length (places_in d section) ≤ i
-    → find test (full (drop i (places_in d section))) ≡ find test (full (places_in d section)) → find test (lsas_in d section) ≡ None
-first_none test d section i end same =
-    ap (find test) (lsas_full d section) ∙ sym same ∙ ap (λ (qs : List Place). find test (full qs)) (drop_all i (places_in d section) end)
 
 -- ---- a section by its name
 

@@ -1,4 +1,5 @@
 -- Steps of the code, which no public contract cites.
 pub mod Plans
+pub mod Searching
 pub mod Failing
 pub mod Passing

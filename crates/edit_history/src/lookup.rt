@@ -7,12 +7,13 @@ ghost use Rattle.lsdb.specs.declared.section.Section.TheVariants.{Area};
 ghost use Rattle.lsdb.specs.Lists.{is_section, has_key, lsas_of};
 ghost use Rattle.lsdb.specs.Places.{item_at, slot_at, lists_of, lsas_in, IsFirstPlace, IsNamed};
 ghost use Rattle.edit_history.specs.declared.fault.EditFault.TheVariants.{NoArea, NoRouter};
-ghost use Rattle.edit_history.specs.Effect.{router_lsa_of, has_router, prefix_of, is_prefix, is_originated_for};
+ghost use Rattle.edit_history.specs.Effect.{router_lsa_of, has_router, prefix_of, is_network, is_prefix, is_originated_for};
 ghost use Rattle.edit_history.specs.steps.Plans.{IsFirstLsa, is_wanted, passes};
+ghost use Rattle.edit_history.specs.steps.Searching.{HaveKeysBetween, is_wanted_by_key, last_addr_of, lesser, may_have};
 
 use crate::fault::EditFault;
 use lsa_codec::{Addr, AreaId, EXTERNAL_LSA, Key, Lsa, NETWORK_LSA, Prefix, RouterId, SUMMARY_LSA};
-use lsdb::{Database, Section, SlotId};
+use lsdb::{Database, KeyAt, Section, SlotId};
 use std::alloc::Allocator;
 
 /// An LSA that is looked for by more than its key.
@@ -27,6 +28,28 @@ pub(crate) enum Wanted {
 }
 
 impl Wanted {
+    /// The least and the greatest key that an LSA may have that is looked for.
+    fn key_range(&self) -> (Key, Key)
+        ensures { HaveKeysBetween (is_wanted self.now) result.0 result.1 }
+    {
+        match *self {
+            Wanted::Network(network) => network_keys(network),
+            Wanted::Summary(router, prefix) => prefix_keys(SUMMARY_LSA, router, prefix),
+            Wanted::External(router, prefix) => prefix_keys(EXTERNAL_LSA, router, prefix),
+        }
+    }
+
+    /// Whether an LSA with this key may be one that is looked for: its router may have made one.
+    fn may_have(&self, key: Key) -> bool
+        ensures { result ≡ may_have self.now key }
+    {
+        match *self {
+            Wanted::Network(_network) => true,
+            Wanted::Summary(router, _prefix) => key.adv == router,
+            Wanted::External(router, _prefix) => key.adv == router,
+        }
+    }
+
     /// Whether an LSA is one that is looked for.
     fn is_met_by<A: Allocator + Copy>(&self, lsa: &Lsa<A>) -> bool
         ensures { result ≡ is_wanted self.now lsa.now }
@@ -45,6 +68,47 @@ impl Wanted {
             ),
         }
     }
+}
+
+/// The least and the greatest key of the network-LSAs of a network, whose Link State ID is the
+/// address of its Designated Router (RFC 2328, 12.1.4): any router may have made them.
+fn network_keys(network: Addr) -> (Key, Key)
+    ensures { HaveKeysBetween (is_network network) result.0 result.1 }
+{
+    let least = Key {
+        kind: NETWORK_LSA,
+        id: network,
+        adv: RouterId(0),
+    };
+    let greatest = Key {
+        adv: RouterId(u32::MAX),
+        ..least
+    };
+    (least, greatest)
+}
+
+/// The last address of a prefix, in which all bits past its length are 1.
+fn last_addr(prefix: Prefix) -> Addr
+    ensures { result.0 ≡ last_addr_of prefix }
+{
+    Addr(prefix.addr().0 + (u32::MAX - prefix.mask()))
+}
+
+/// The least and the greatest key of the LSAs of a type that a router originated for a prefix:
+/// the Link State ID is an address of the prefix (RFC 2328, 12.1.4 and appendix E).
+fn prefix_keys(kind: u8, router: RouterId, prefix: Prefix) -> (Key, Key)
+    ensures { HaveKeysBetween (is_originated_for kind router prefix) result.0 result.1 }
+{
+    let least = Key {
+        kind,
+        id: prefix.addr(),
+        adv: router,
+    };
+    let greatest = Key {
+        id: last_addr(prefix),
+        ..least
+    };
+    (least, greatest)
 }
 
 /// The prefix of a summary-LSA of type 3 or of an AS-external-LSA. Others have none.
@@ -174,7 +238,35 @@ fn is_wanted_at<A: Allocator + Copy>(database: &Database<A>, slot: SlotId, wante
     wanted.is_met_by(lsa)
 }
 
-/// The place of the first LSA of a section that is looked for, by the section's number.
+/// Whether an LSA that is looked for stands at the place that is noted of a key. Where the key
+/// tells that it is another, its place is not looked at.
+fn is_wanted_by_key<A: Allocator + Copy>(
+    database: &Database<A>,
+    section: usize,
+    noted: &KeyAt,
+    wanted: &Wanted,
+) -> bool
+    ensures { result ≡ is_wanted_by_key wanted.now database.now section noted.now }
+{
+    let slot = SlotId {
+        section,
+        index: noted.index,
+    };
+    wanted.may_have(noted.key) && is_wanted_at(database, slot, wanted)
+}
+
+/// The lesser of two indices, where there is a first.
+fn lesser(first: Option<usize>, second: usize) -> usize
+    ensures { result ≡ lesser first second }
+{
+    match first {
+        Some(first) => first.min(second),
+        None => second,
+    }
+}
+
+/// The place of the first LSA of a section that is looked for, by the section's number. It looks
+/// at the places of the LSAs whose keys may be theirs, and not at the others.
 fn first_in<A: Allocator + Copy>(
     database: &Database<A>,
     section: usize,
@@ -184,13 +276,17 @@ fn first_in<A: Allocator + Copy>(
     ensures { MatchOption result (find (is_wanted wanted.now) (lsas_in database.now section) ≡ None)
         (IsFirstPlace database.now section (is_wanted wanted.now)) }
 {
-    for index in 0..database.place_count(section) {
-        let slot = SlotId { section, index };
-        if is_wanted_at(database, slot, wanted) {
-            return Some(slot);
+    let (least, greatest) = wanted.key_range();
+    let mut first = None;
+    for noted in database.keys_between(section, least, greatest) {
+        if is_wanted_by_key(database, section, noted, wanted) {
+            first = Some(lesser(first, noted.index));
         }
     }
-    None
+    let Some(index) = first else {
+        return None;
+    };
+    Some(SlotId { section, index })
 }
 
 /// The first LSA of a section that is looked for, and its place.

@@ -1,6 +1,7 @@
 -- The keys noted beside the places: what is found by it, and what an exchange of one place leaves of it.
-use Rattle.std.proofs.Common.{◌≡◌, ℕ, zero, suc, ◌+◌, ◌-◌, ◌<◌, ◌≤◌, Bool, true, false, cond, List, [], ◌∷◌, ◌++◌, length, get_or, set, Option, Some, None, Result, Ok, Err, IfOk, IfErr, refl, sym, ap, subst, ◌∙◌, arith, length-append, ◌⊎◌, inl, inr, ⊎_elim}
-use Rattle.std.specs.Prelude.{IsSome}
+use Rattle.std.proofs.Common.{◌≡◌, ℕ, zero, suc, ◌+◌, ◌^◌, ◌<◌, ◌≤◌, Bool, true, false, cond, List, [], ◌∷◌, ◌++◌, length, take, get_or, set, Option, Some, None, Result, Ok, Err, IfOk, IfErr, refl, sym, ap, subst, ◌∙◌, arith, length-append, ◌⊎◌, inl, inr, ⊎_elim}
+use Rattle.std.specs.Prelude.{All, IsSome}
+use Rattle.std.proofs.lemmas.List.Elements.{All-nil, All-cons, All-head, All-tail, All-append}
 use Rattle.std.specs.List.{find}
 use Rattle.std.specs.Result.{result_ok}
 use Rattle.lsa_codec.specs.declared.key.Key.{Key}
@@ -9,7 +10,12 @@ use Rattle.lsdb.specs.declared.keyed_places.KeyAt.{KeyAt}
 use Rattle.lsdb.specs.Lists.{same_key, has_key}
 use Rattle.lsdb.specs.Places.{Place, item_at, put_place, full}
 use Rattle.lsdb.specs.steps.OnePlace.{place_has_key, IsFirstIndex}
-use Rattle.lsdb.specs.steps.NotedKeys.{noted_index, AreApart, AreNoted, IsKeyed, IsFoundAt, IsGapFor, Notes}
+use Rattle.lsdb.specs.steps.NotedKeys.{noted_index, AreApart, AreNoted, FitSection, IsKeyed, IsFoundAt, IsGapFor, Notes}
+use Rattle.lsdb.specs.declared.counts.LsaCounts.{LsaCounts}
+use Rattle.lsdb.specs.Counts.{counts_of}
+use Rattle.lsdb.specs.KeyRanges.{HaveWidths}
+use Rattle.lsdb.specs.steps.Counting.{CanAdd, CanTake, with_counts, without_counts}
+use Rattle.lsdb.proofs.CountedLsas.{counts_at, counts_fit, counts_put, full_more}
 use Rattle.lsdb.proofs.KeyLemmas.{same_key_true}
 use Rattle.lsdb.proofs.NotedKeys.{laws, noted_at, none_noted_in_gap}
 use Rattle.lsdb.proofs.KeysFrom.{one_place}
@@ -154,35 +160,29 @@ noted ps n v lsa key keys new lt is named apart notes sound = record {
       absurd (let no' : true ≡ false = sym itself ∙ other in cc))
       (λ h. sound.whole i x h) (place_after v ps n i x at)
 
--- ---- counting
+-- ---- widths
 
-full_first : (p : Place) (ps : List Place) → length (full (p ∷ ps)) ≡ length (full (p ∷ [])) + length (full ps)
-full_first None ps = omega arith
-full_first (Some x) ps = omega arith
+widths_put : (ps : List Place) (n : ℕ) (x : Place) → All HaveWidths (full ps) → All HaveWidths (full (x ∷ [])) → All HaveWidths (full (put_place x ps n))
+widths_put [] n x h here = h
+widths_put (None ∷ ps) zero None h here = h
+widths_put (None ∷ ps) zero (Some y) h here = All-cons HaveWidths y (full ps) (All-head HaveWidths y [] here) h
+widths_put (Some z ∷ ps) zero None h here = All-tail HaveWidths z (full ps) h
+widths_put (Some z ∷ ps) zero (Some y) h here = All-cons HaveWidths y (full ps) (All-head HaveWidths y [] here) (All-tail HaveWidths z (full ps) h)
+widths_put (None ∷ ps) (suc n) x h here = widths_put ps n x h here
+widths_put (Some z ∷ ps) (suc n) x h here =
+    All-cons HaveWidths z (full (put_place x ps n)) (All-head HaveWidths z (full ps) h) (widths_put ps n x (All-tail HaveWidths z (full ps) h) here)
 
-pub full_few : (ps : List Place) → length (full ps) ≤ length ps
-full_few [] = omega arith
-full_few (None ∷ ps) = omega (arith, full_few ps)
-full_few (Some x ∷ ps) = omega (arith, full_few ps)
+pub no_widths : (p : Place) → p ≡ None → All HaveWidths (full (p ∷ []))
+no_widths p is = rw is (All-nil HaveWidths)
 
-pub full_at : (ps : List Place) (n : ℕ) (p : Place) → item_at ps n ≡ Some p → length (full (p ∷ [])) ≤ length (full ps)
-full_at [] n p at = absurd cc
-full_at (q ∷ ps) zero p at =
-    let same : q ≡ p = cc in
-    omega (arith, full_first q ps, ap (λ (r : Place). length (full (r ∷ []))) same)
-full_at (q ∷ ps) (suc n) p at = omega (arith, full_first q ps, full_at ps n p at)
+pub own_widths : (p : Place) (lsa : List ℕ) → p ≡ Some lsa → HaveWidths lsa → All HaveWidths (full (p ∷ []))
+own_widths p lsa is wide = rw is (All-cons HaveWidths lsa [] wide (All-nil HaveWidths))
 
-lsas_put : (ps : List Place) (n : ℕ) (old x : Place) → item_at ps n ≡ Some old
-    → length (full (put_place x ps n)) + length (full (old ∷ [])) ≡ length (full ps) + length (full (x ∷ []))
-lsas_put [] n old x at = absurd cc
-lsas_put (p ∷ ps) zero old x at =
-    let same : p ≡ old = cc in
-    omega (arith, full_first p ps, full_first x ps, ap (λ (r : Place). length (full (r ∷ []))) same)
-lsas_put (p ∷ ps) (suc n) old x at = omega (arith, full_first p ps, full_first p (put_place x ps n), lsas_put ps n old x at)
-
-lsas_after : (ps : List Place) (n : ℕ) (old x : Place) → item_at ps n ≡ Some old
-    → length (full (put_place x ps n)) ≡ length (full ps) - length (full (old ∷ [])) + length (full (x ∷ []))
-lsas_after ps n old x at = omega (arith, lsas_put ps n old x at, full_at ps n old at)
+pub widths_more : (ps : List Place) (i : ℕ) (p : Place) → i < length ps → p ≡ get_or ps i p → All HaveWidths (full (take i ps))
+    → All HaveWidths (full (p ∷ [])) → All HaveWidths (full (take (i + 1) ps))
+widths_more ps i p lt here so_far one =
+    subst (λ (xs : List (List ℕ)). All HaveWidths xs) (sym (full_more ps i p lt here))
+    (All-append HaveWidths (full (take i ps)) (full (p ∷ [])) so_far one)
 
 -- ---- as it is written in memory
 
@@ -219,24 +219,38 @@ set_read [] n x r lt is = absurd (omega arith)
 set_read (p ∷ ps) zero x r lt is = is
 set_read (p ∷ ps) (suc n) x r lt is = set_read ps n x r (omega arith) is
 
--- y stood there, x stands there now, and is read as r
-pub keyed_set : (ps : List Place) (n : ℕ) (y x r : Place) (keys : List KeyAt) (room before count less more : ℕ) → AreNoted (put_place x ps n) keys
-    → length ps ≤ before → room ≡ before → n < length ps → item_at ps n ≡ Some y → r ≡ get_or (set ps n x) n r → count ≡ length (full ps)
-    → less ≡ length (full (y ∷ [])) → more ≡ length (full (r ∷ [])) → IsKeyed (set ps n x) keys room (count - less + more)
-keyed_set ps n y x r keys room before count less more sound few same lt at is counted gone come = record {
-  sound = subst (λ (l : List Place). AreNoted l keys) (sym (place_set x ps n)) sound;
-  fits = omega (arith, ap length (place_set x ps n), count_after x ps n, few, same);
-  counted =
-      omega (
-        arith,
-        ap (λ (l : List Place). length (full l)) (place_set x ps n),
-        lsas_after ps n y x at,
-        counted,
-        gone,
-        come,
-        ap (λ (p : Place). length (full (p ∷ []))) (set_read ps n x r lt is),
-      );
-}
+-- y stood there
+pub taken : (ps : List Place) (n : ℕ) (y : Place) (old gone : LsaCounts) → item_at ps n ≡ Some y → old ≡ counts_of (full ps)
+    → gone ≡ counts_of (full (y ∷ [])) → CanTake old gone
+taken ps n y old gone at counted went = rw (counted, went) (counts_at ps n y y at)
+
+-- and x stands there now, and is read as r
+module _ (ps : List Place) (n : ℕ) (y x r : Place) (lt : n < length ps) (at : item_at ps n ≡ Some y) (is : r ≡ get_or (set ps n x) n r) where
+  pub added : (old others gone come : LsaCounts) → old ≡ counts_of (full ps) → gone ≡ counts_of (full (y ∷ [])) → others ≡ without_counts old gone
+      → come ≡ counts_of (full (r ∷ [])) → FitSection (put_place x ps n) → CanAdd others come
+  added old others gone come counted went left came sound =
+      rw (left, counted, went, came, set_read ps n x r lt is) (counts_fit ps n y x at sound)
+
+  pub keyed_set : (keys : List KeyAt) (room before : ℕ) (old others gone come new : LsaCounts) → AreNoted (put_place x ps n) keys
+      → length ps ≤ before → room ≡ before → old ≡ counts_of (full ps) → gone ≡ counts_of (full (y ∷ [])) → others ≡ without_counts old gone
+      → come ≡ counts_of (full (r ∷ [])) → new ≡ with_counts others come → All HaveWidths (full ps) → All HaveWidths (full (x ∷ []))
+      → IsKeyed (set ps n x) keys room new
+  keyed_set keys room before old others gone come new sound few same counted went left came now wide wide_here = record {
+    sound = subst (λ (l : List Place). AreNoted l keys) (sym (place_set x ps n)) sound;
+    widths =
+        subst (λ (l : List Place). All HaveWidths (full l)) (sym (place_set x ps n))
+        (widths_put ps n x wide wide_here);
+    fits = omega (arith, ap length (place_set x ps n), count_after x ps n, few, same);
+    counted =
+        rw (now, left, counted, went, came, set_read ps n x r lt is)
+        (sym (counts_put ps n y x at) ∙ ap (λ (l : List Place). counts_of (full l)) (sym (place_set x ps n)));
+  }
+
+-- nothing was opened
+pub keyed_kept : (ps qs : List Place) (keys new : List KeyAt) (room : ℕ) (counts : LsaCounts) → qs ≡ ps → new ≡ keys → length ps ≤ room
+    → AreNoted ps keys → All HaveWidths (full ps) → counts ≡ counts_of (full ps) → IsKeyed qs new room counts
+keyed_kept ps qs keys new room counts places noted fits sound wide counted =
+    rw (places, noted) (record { sound = sound; fits = fits; widths = wide; counted = counted })
 
 opened : (ps : List Place) (i : ℕ) (lsa : List ℕ) → item_at (ps ++ None ∷ []) i ≡ Some (Some lsa) → item_at ps i ≡ Some (Some lsa)
 opened [] zero lsa at = absurd cc
@@ -244,10 +258,11 @@ opened [] (suc i) lsa at = absurd cc
 opened (p ∷ ps) zero lsa at = at
 opened (p ∷ ps) (suc i) lsa at = opened ps i lsa at
 
-pub keyed_open : (ps qs : List Place) (keys : List KeyAt) (room count : ℕ) → qs ≡ ps ++ None ∷ [] → length ps + 1 ≤ room → AreNoted ps keys
-    → count ≡ length (full ps) → IsKeyed qs keys room count
-keyed_open ps qs keys room count is few sound counted = record {
+pub keyed_open : (ps qs : List Place) (keys : List KeyAt) (room : ℕ) (counts : LsaCounts) → qs ≡ ps ++ None ∷ [] → length ps + 1 ≤ room → AreNoted ps keys
+    → All HaveWidths (full ps) → counts ≡ counts_of (full ps) → IsKeyed qs keys room counts
+keyed_open ps qs keys room counts is few sound wide counted = record {
   sound = record { rising = sound.rising; whole = λ i lsa at. sound.whole i lsa (opened ps i lsa (sym (ap (λ (l : List Place). item_at l i) is) ∙ at)) };
   fits = omega (arith, ap length is, length-append ps (None ∷ []), few);
-  counted = counted ∙ sym (ap (λ (l : List Place). length (full l)) is ∙ ap length (full-skip ps));
+  widths = subst (λ (xs : List (List ℕ)). All HaveWidths xs) (sym (ap (λ (l : List Place). full l) is ∙ full-skip ps)) wide;
+  counted = counted ∙ sym (ap (λ (l : List Place). counts_of (full l)) is ∙ ap counts_of (full-skip ps));
 }

@@ -7,9 +7,10 @@ use Rattle.std.specs.Prelude.{All}
 use Rattle.std.proofs.lemmas.List.Elements.{All-head, All-tail}
 use Rattle.lsdb.specs.Lists.{IsSection}
 use Rattle.lsdb.specs.Places.{Place, Places, SectionPlaces, update_at, item_at, put_place, put, place_in, slot_at, open_at, full, section_of, lists_of}
-use Rattle.lsdb.specs.steps.NotedKeys.{AreApart}
+use Rattle.lsdb.specs.steps.NotedKeys.{FitSection}
 use Rattle.lsdb.specs.declared.database.Head.{Head}
 use Rattle.lsdb.specs.steps.View.{head_of, section_places_of, places_of}
+use Rattle.lsdb.proofs.Walked.{section_few}
 
 pub section_set : {A : Type 0}
     → (f : SectionPlaces → SectionPlaces) (ss : List (SectionOf A)) (i : ℕ) (old t : SectionOf A)
@@ -99,18 +100,22 @@ slot_within {A} [] section i old some h = absurd (search rules)
 slot_within {A} (s ∷ ss) zero i old some h = subst (λ (o : SectionOf A). i < length o.places) (sym h) (place_within s.places i some)
 slot_within {A} (s ∷ ss) (suc section) i old some h = slot_within ss section i old some h
 
--- in a database no two LSAs of a section have one key
-pub slot_apart : {A : Type 0} → (ss : List (SectionOf A)) (slot : SlotId) (old : SectionOf A) (v : Place)
+-- what stands in a section of a database
+section_fits : (s : SectionPlaces) → IsSection (section_of s) → FitSection s.places
+section_fits s sound = record { accepted = sound.accepted; few = section_few (section_of s) sound; apart = sound.keys.distinct }
+
+pub slot_fits : {A : Type 0} → (ss : List (SectionOf A)) (slot : SlotId) (old : SectionOf A) (v : Place)
     → IsSome (slot_at (places_of ss) slot) → old ≡ get_or ss slot.section old
-    → All IsSection (lists_of (put (places_of ss) slot v)) → AreApart (put_place v old.places slot.index)
-slot_apart {A} ss slot old v some h sound = apart_in ss slot.section slot.index old v some h sound where
-  apart_in : {A : Type 0} → (ss : List (SectionOf A)) (section i : ℕ) (old : SectionOf A) (v : Place)
+    → All IsSection (lists_of (put (places_of ss) slot v)) → FitSection (put_place v old.places slot.index)
+slot_fits {A} ss slot old v some h sound = fits_in ss slot.section slot.index old v some h sound where
+  fits_in : {A : Type 0} → (ss : List (SectionOf A)) (section i : ℕ) (old : SectionOf A) (v : Place)
       → IsSome (place_in (item_at (places_of ss) section) i) → old ≡ get_or ss section old
-      → All IsSection (lists_of (put (places_of ss) (record { section = section; index = i }) v)) → AreApart (put_place v old.places i)
-  apart_in {A} [] section i old v some h sound = absurd (search rules)
-  apart_in {A} (s ∷ ss) zero i old v some h sound =
-      let first = All-head IsSection (record { area = option_map head_of s.area; lsas = full (put_place v s.places i) }) (lists_of (places_of ss)) sound in
-      subst (λ (o : SectionOf A). AreApart (put_place v o.places i)) (sym h) first.keys.distinct
-  apart_in {A} (s ∷ ss) (suc section) i old v some h sound =
-      apart_in ss section i old v some h
+      → All IsSection (lists_of (put (places_of ss) (record { section = section; index = i }) v)) → FitSection (put_place v old.places i)
+  fits_in {A} [] section i old v some h sound = absurd (search rules)
+  fits_in {A} (s ∷ ss) zero i old v some h sound =
+      let new : SectionPlaces = record { area = option_map head_of s.area; places = put_place v s.places i } in
+      let first = All-head IsSection (section_of new) (lists_of (places_of ss)) sound in
+      subst (λ (o : SectionOf A). FitSection (put_place v o.places i)) (sym h) (section_fits new first)
+  fits_in {A} (s ∷ ss) (suc section) i old v some h sound =
+      fits_in ss section i old v some h
       (All-tail IsSection (section_of (section_places_of s)) (lists_of (put (places_of ss) (record { section = section; index = i }) v)) sound)

@@ -3,12 +3,15 @@ use Rattle.std.proofs.Common.{◌≡◌, ℕ, zero, suc, ◌-◌, ◌<◌, ◌�
 use Rattle.std.proofs.Common.{rules, length-drop}
 use Rattle.std.specs.Prelude.{All, IsSome}
 use Rattle.std.proofs.lemmas.List.{length-map, take_all}
-use Rattle.std.proofs.lemmas.List.Elements.{All-head, All-tail}
+use Rattle.std.proofs.lemmas.List.Elements.{All-nil, All-head, All-tail}
+use Rattle.lsa_codec.specs.Accepted.{IsAccepted}
 use Rattle.lsa_codec.specs.Key.{key_of}
 use Rattle.lsdb.specs.declared.database.SectionOf.{SectionOf}
+use Rattle.lsdb.specs.Counts.{AreFew, counts_of}
 use Rattle.lsdb.specs.Lists.{AreaHead, SectionLsas, Lists, IsSection, limit_of, lsas_or_none}
 use Rattle.lsdb.specs.Places.{Place, item_at, full, lists_of, lsas_in}
 use Rattle.lsdb.specs.steps.View.{places_of}
+use Rattle.lsdb.proofs.CountedLsas.{counts_few}
 use Rattle.lsdb.proofs.Searching.{turn}
 
 -- the first full place, and the places behind it
@@ -32,7 +35,7 @@ section_seen {A} (t ∷ ss) (suc section) s places some h e = section_seen ss se
 
 -- ---- their number
 
-section_few : (s : SectionLsas) → IsSection s → length s.lsas ≤ 65535
+pub section_few : (s : SectionLsas) → IsSection s → length s.lsas ≤ 65535
 section_few s h = omega (arith, length-map s.lsas key_of, h.keys.few, limit_most s.area) where
   limit_most : (area : Option AreaHead) → limit_of area ≤ 65535
   limit_most None = omega arith
@@ -42,3 +45,10 @@ pub few_at : (db : Lists) (section : ℕ) → All IsSection db → length (lsas_
 few_at [] section h = omega arith
 few_at (s ∷ db) zero h = section_few s (All-head IsSection s db h)
 few_at (s ∷ db) (suc section) h = few_at db section (All-tail IsSection s db h)
+
+pub counts_few_at : (db : Lists) (section : ℕ) → All IsSection db → AreFew 65535 (counts_of (lsas_or_none (item_at db section)))
+counts_few_at [] section h = counts_few [] (All-nil IsAccepted) (omega arith)
+counts_few_at (s ∷ db) zero h =
+    let one = All-head IsSection s db h in
+    counts_few s.lsas one.accepted (section_few s one)
+counts_few_at (s ∷ db) (suc section) h = counts_few_at db section (All-tail IsSection s db h)

@@ -3,3 +3,4 @@ pub mod View
 pub mod Reading
 pub mod OnePlace
 pub mod NotedKeys
+pub mod Counting

@@ -1,24 +1,29 @@
 //! The places of one section, and where each key stands.
 
-ghost use Rattle.std.specs.Prelude.{◌≡◌, ◌<◌, ◌≤◌, ◌++◌, None, [], ◌∷◌, Some, length, OnOk, OnErr, IfOk, IfErr, true, MatchOption, vec_capacity};
+ghost use Rattle.std.specs.Prelude.{◌≡◌, ◌<◌, ◌≤◌, ◌++◌, None, [], ◌∷◌, Some, length, OnOk, OnErr, IfOk, IfErr, true, MatchOption, vec_capacity, All};
 ghost use Rattle.std.specs.List.{find};
+ghost use Rattle.lsa_codec.specs.Key.{key_of};
+ghost use Rattle.lsdb.specs.Counts.{counts_of};
+ghost use Rattle.lsdb.specs.KeyRanges.{AreKeysBetween, HaveWidths};
 ghost use Rattle.lsdb.specs.Lists.{has_key};
 ghost use Rattle.lsdb.specs.Places.{full, item_at, put_place};
 ghost use Rattle.lsdb.specs.steps.OnePlace.{place_has_key, IsFirstIndex};
-ghost use Rattle.lsdb.specs.steps.NotedKeys.{AreApart, AreNoted, IsFoundAt, IsGapFor, IsRising, Notes, keys_from};
+ghost use Rattle.lsdb.specs.steps.NotedKeys.{AreApart, AreNoted, FitSection, IsFoundAt, IsGapFor, IsPartBetween, IsRising, Notes, keys_from};
 
 use crate::copy::copy_of_places;
-use crate::lsas::Lsas;
+use crate::counts::LsaCounts;
 use lsa_codec::{Key, Lsa};
 use std::alloc::{AllocError, Allocator};
 use std::marker::Model;
 use std::mem;
 
 /// A key, and the index of the place at which its LSA was put last.
-#[derive(Clone, Copy)]
-struct KeyAt {
-    key: Key,
-    index: usize,
+#[derive(Clone, Copy, Debug)]
+pub struct KeyAt {
+    /// The key.
+    pub key: Key,
+    /// The index among the section's places. The LSA may have gone since, and another stand there.
+    pub index: usize,
 }
 
 /// The places of one section, and beside them where each key stands, so that an LSA is found by
@@ -28,8 +33,8 @@ pub(crate) struct KeyedPlaces<A: Allocator> {
     places: Vec<Option<Lsa<A>>, A>,
     /// In rising order of the keys. The key of an LSA that is gone stays until its room is wanted.
     keys: Vec<KeyAt, A>,
-    /// How many of the places have an LSA.
-    count: usize,
+    /// What the LSAs count.
+    counts: LsaCounts,
 }
 
 impl<A: Allocator> Model for KeyedPlaces<A> {
@@ -42,22 +47,24 @@ impl<A: Allocator> Model for KeyedPlaces<A> {
 
     ghost view = { λ p. p.places.items };
 
-    ghost invariant = { λ p. IsKeyed p.places.items p.keys.items (vec_capacity p.keys) p.count };
+    ghost invariant = { λ p. IsKeyed p.places.items p.keys.items (vec_capacity p.keys)
+        p.counts };
 }
 
 impl<A: Allocator + Copy> KeyedPlaces<A> {
     /// These places, of whose LSAs no two have one key. The error is want of memory.
     pub(crate) fn of(alloc: A, places: Vec<Option<Lsa<A>>, A>) -> Result<KeyedPlaces<A>, AllocError>
-        requires { AreApart places.items }
+        requires apart { AreApart places.items }
+        requires few { length places.items ≤ 65535 }
         ensures { IfOk result (λ keyed. keyed ≡ places.items) }
     {
         let mut keys = Vec::with_capacity(alloc, places.len())?;
         fill(&mut keys, &places);
-        let count = Lsas::of(&places).count();
+        let counts = LsaCounts::of_places(&places);
         Ok(KeyedPlaces {
             places,
             keys,
-            count,
+            counts,
         })
     }
 
@@ -68,11 +75,11 @@ impl<A: Allocator + Copy> KeyedPlaces<A> {
         &self.places
     }
 
-    /// How many of the places have an LSA. It does not go through them.
-    pub(crate) fn count(&self) -> usize
-        ensures { result ≡ length (full self.now) }
+    /// What the LSAs count. It does not go through them.
+    pub(crate) fn counts(&self) -> LsaCounts
+        ensures { result ≡ counts_of (full self.now) }
     {
-        self.count
+        self.counts
     }
 
     /// The index of the place with the LSA of a key; `None` where no place has it. It takes no
@@ -88,19 +95,27 @@ impl<A: Allocator + Copy> KeyedPlaces<A> {
         has_key(place, key).then_some(index)
     }
 
+    /// The noted keys from one key to another, both included, in their order. It takes no memory.
+    pub(crate) fn keys_between(&self, low: Key, high: Key) -> &[KeyAt]
+        ensures { AreKeysBetween self.now low high result.now }
+    {
+        noted_between(&self.keys, low, high)
+    }
+
     /// Exchanges what stands at one place, and nothing else. It takes no memory.
     pub(crate) fn swap(&mut self, index: usize, place: &mut Option<Lsa<A>>)
         requires within { index < length self.old }
-        requires apart { AreApart (put_place place.old self.old index) }
+        requires sound { FitSection (put_place place.old self.old index) }
         ensures put { self.new ≡ put_place place.old self.old index }
         ensures place { item_at self.old index ≡ Some place.new }
     {
         mem::swap(&mut self.places[index], place);
-        self.count = self.count - lsa_count(place) + lsa_count(&self.places[index]);
+        let others = self.counts.without(LsaCounts::of_place(place));
+        self.counts = others.with(LsaCounts::of_place(&self.places[index]));
         let Some(lsa) = &self.places[index] else {
             return;
         };
-        let key = lsa.key();
+        let key = key_of(lsa);
         if has_key(place, key) {
             return;
         }
@@ -119,7 +134,7 @@ impl<A: Allocator + Copy> KeyedPlaces<A> {
         Ok(KeyedPlaces {
             places,
             keys,
-            count: self.count,
+            counts: self.counts,
         })
     }
 
@@ -136,6 +151,14 @@ impl<A: Allocator + Copy> KeyedPlaces<A> {
     }
 }
 
+/// The key of an LSA. It is a value of its type, so its fields have their widths.
+fn key_of<A: Allocator + Copy>(lsa: &Lsa<A>) -> Key
+    ensures key { result ≡ key_of lsa.now }
+    ensures widths { HaveWidths lsa.now }
+{
+    lsa.key()
+}
+
 /// Whether an LSA with this key stands at a place.
 fn has_key<A: Allocator + Copy>(place: &Option<Lsa<A>>, key: Key) -> bool
     ensures { result ≡ place_has_key key place.now }
@@ -146,16 +169,6 @@ fn has_key<A: Allocator + Copy>(place: &Option<Lsa<A>>, key: Key) -> bool
     }
 }
 
-/// How many LSAs stand at a place: one, or none.
-fn lsa_count<A: Allocator + Copy>(place: &Option<Lsa<A>>) -> usize
-    ensures { result ≡ length (full (place.now ∷ [])) }
-{
-    match place {
-        Some(_) => 1,
-        None => 0,
-    }
-}
-
 /// Where a key stands, or else where it is to be inserted.
 fn search(keys: &[KeyAt], key: Key) -> Result<usize, usize>
     requires { IsRising keys.now }
@@ -163,6 +176,17 @@ fn search(keys: &[KeyAt], key: Key) -> Result<usize, usize>
     ensures absent { IfErr result (IsGapFor keys.now key) }
 {
     keys.binary_search_by_key(&key, |noted| noted.key)
+}
+
+/// The noted keys from one key to another, both included. It takes two binary searches.
+fn noted_between(keys: &[KeyAt], low: Key, high: Key) -> &[KeyAt]
+    requires { IsRising keys.now }
+    ensures { IsPartBetween keys.now low high result.now }
+{
+    let start = keys.partition_point(|noted| noted.key < low);
+    let rest = &keys[start..];
+    let end = rest.partition_point(|noted| noted.key <= high);
+    &rest[..end]
 }
 
 /// Notes at which place the LSA of a key stands now, and answers whether it did: where the key is
@@ -190,6 +214,7 @@ fn fill<A: Allocator + Copy>(keys: &mut Vec<KeyAt, A>, places: &[Option<Lsa<A>>]
     requires apart { AreApart places.now }
     requires fits { length places.now ≤ vec_capacity keys.old }
     ensures sound { AreNoted places.now keys.new.items }
+    ensures widths { All HaveWidths (full places.now) }
     ensures room { vec_capacity keys.new ≡ vec_capacity keys.old }
 {
     put_keys(keys, places);
@@ -200,13 +225,14 @@ fn fill<A: Allocator + Copy>(keys: &mut Vec<KeyAt, A>, places: &[Option<Lsa<A>>]
 fn put_keys<A: Allocator + Copy>(keys: &mut Vec<KeyAt, A>, places: &[Option<Lsa<A>>])
     requires { length places.now ≤ vec_capacity keys.old }
     ensures keys { keys.new.items ≡ keys_from 0 places.now }
+    ensures widths { All HaveWidths (full places.now) }
     ensures room { vec_capacity keys.new ≡ vec_capacity keys.old }
 {
     keys.clear();
     for index in 0..places.len() {
         if let Some(lsa) = &places[index] {
             keys.push_reserved(KeyAt {
-                key: lsa.key(),
+                key: key_of(lsa),
                 index,
             });
         }

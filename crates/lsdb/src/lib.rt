@@ -12,6 +12,7 @@
 
 mod base;
 mod copy;
+mod counts;
 mod cursor;
 mod database;
 mod dump;
@@ -29,8 +30,10 @@ mod section;
 mod slot;
 
 pub use base::base_laws;
+pub use counts::LsaCounts;
 pub use database::Database;
 pub use fault::{DumpFault, DumpFaultKind};
+pub use keyed_places::KeyAt;
 pub use laws::slot_laws;
 pub use limits::{LONGEST_DUMP, LONGEST_SESSION, MOST_AREAS, MOST_LSAS_OF_AREA, MOST_LSAS_OF_AS};
 pub use load::text_laws;

@@ -1,9 +1,11 @@
 //! The lists that the full places make: areas, and the LSAs of each section.
 
 ghost use Rattle.std.specs.Prelude.{◌≡◌, ◌<◌, ◌≤◌, Some, IsSome, length, slice_get, option_map};
+ghost use Rattle.lsdb.specs.Counts.{AreFew, counts_of};
 ghost use Rattle.lsdb.specs.Lists.{id_and_kind, lsas_of, areas_of};
 ghost use Rattle.lsdb.specs.Places.{item_at, head_or_none, lists_of, lsas_in};
 
+use crate::counts::LsaCounts;
 use crate::database::Database;
 use crate::lsas::Lsas;
 use crate::section::Section;
@@ -63,13 +65,23 @@ impl<A: Allocator + Copy> Database<A> {
         }
     }
 
-    /// How many LSAs a section has, by the section's number. They are counted as they come and
-    /// go, so it does not go through them.
+    /// What the LSAs of a section count, by the section's number: how many they are, and what
+    /// virtual links leave in them. They are counted as they come and go, so it does not go
+    /// through them.
+    pub fn counts_in(&self, section: usize) -> LsaCounts
+        requires { IsSome (item_at (lists_of self.now) section) }
+        ensures counts { result ≡ counts_of (lsas_in self.now section) }
+        ensures few { AreFew 65535 result }
+    {
+        self.sections[section].places.counts()
+    }
+
+    /// How many LSAs a section has, by the section's number. It does not go through the LSAs.
     pub fn count_in(&self, section: usize) -> usize
         requires { IsSome (item_at (lists_of self.now) section) }
         ensures { result ≡ length (lsas_in self.now section) }
     {
-        self.sections[section].places.count()
+        self.counts_in(section).lsas
     }
 
     /// How many LSAs a section has; 0 where there is no such section. It does not go through the

@@ -2,11 +2,13 @@
 
 ghost use Rattle.std.specs.Prelude.{◌≡◌, None, IsSome, MatchOption, option_map};
 ghost use Rattle.std.specs.List.{find};
+ghost use Rattle.lsdb.specs.KeyRanges.{AreKeysBetween};
 ghost use Rattle.lsdb.specs.Lists.{is_head_of, is_section, has_key, lsas_of};
-ghost use Rattle.lsdb.specs.Places.{item_at, lists_of, lsas_in, IsFirstPlace, IsNamed, IsPlaceOf};
+ghost use Rattle.lsdb.specs.Places.{item_at, lists_of, lsas_in, places_in, IsFirstPlace, IsNamed, IsPlaceOf};
 ghost use Rattle.lsdb.specs.steps.View.{head_of};
 
 use crate::database::{Database, Head};
+use crate::keyed_places::KeyAt;
 use crate::section::Section;
 use crate::slot::SlotId;
 use lsa_codec::Key;
@@ -37,6 +39,17 @@ impl<A: Allocator + Copy> Database<A> {
             return None;
         };
         Some(SlotId { section, index })
+    }
+
+    /// The keys that are noted of a section from `low` to `high`, both included, in their order,
+    /// by the section's number. Among them is the key of each LSA there, with the index of its
+    /// place; but also keys of LSAs that have gone, so what stands at a place is to be looked at.
+    /// It takes no memory, and its steps are in the logarithm of the number of keys.
+    pub fn keys_between(&self, section: usize, low: Key, high: Key) -> &[KeyAt]
+        requires { IsSome (item_at self.now section) }
+        ensures { AreKeysBetween (places_in self.now section) low high result.now }
+    {
+        self.sections[section].places.keys_between(low, high)
     }
 
     /// The place of the LSA with a key in a section; `None` where the section has no such LSA,

@@ -1,24 +1,23 @@
 -- The keys of a section's LSAs, each noted with the index of a place, and kept beside the places.
-use Rattle.std.specs.Prelude.{◌≡◌, ◌<◌, ◌≤◌, ℕ, suc, cond, List, [], ◌∷◌, length, map, Option, Some, None, slice_index_or}
-use Rattle.std.specs.Map.{keys_of, lookup}
-use Rattle.std.specs.List.Sorted.{IsStrictlySortedBy}
+use Rattle.std.specs.Prelude.{◌≡◌, ◌<◌, ◌≤◌, ℕ, suc, true, cond, List, [], ◌∷◌, length, map, Option, Some, None, slice_index_or, All, Contains}
+use Rattle.std.specs.Map.{lookup}
 use Rattle.std.specs.declared.cmp.Ordering.TheVariants.{Less}
 use Rattle.lsa_codec.specs.declared.key.Key.{Key}
 use Rattle.lsa_codec.specs.Key.{key_of}
 use Rattle.lsa_codec.specs.Order.{key_cmp}
+use Rattle.lsa_codec.specs.Accepted.{IsAccepted}
+use Rattle.lsdb.specs.declared.counts.LsaCounts.{LsaCounts}
 use Rattle.lsdb.specs.declared.keyed_places.KeyAt.{KeyAt}
+use Rattle.lsdb.specs.Counts.{counts_of}
+use Rattle.lsdb.specs.KeyRanges.{is_between, HaveWidths}
+pub use Rattle.lsdb.specs.KeyRanges.{pairs_of, IsRising}
+use Rattle.lsdb.specs.Limits.{most_lsas_of_as}
 use Rattle.lsdb.specs.Lists.{same_key, AreDistinct}
 use Rattle.lsdb.specs.Places.{Place, item_at, full}
-
-abbrev pub pairs_of : List KeyAt → List (Key × ℕ)
-pairs_of keys = map (λ noted. (noted.key, noted.index)) keys
 
 -- the index that is noted of a key
 abbrev pub noted_index : List KeyAt → Key → Option ℕ
 noted_index keys key = lookup (same_key key) (pairs_of keys)
-
-abbrev pub IsRising : List KeyAt → Type 0
-IsRising keys = IsStrictlySortedBy key_cmp (keys_of (pairs_of keys))
 
 -- no two of the LSAs have one key
 abbrev pub AreApart : List Place → Type 0
@@ -29,11 +28,18 @@ pub record AreNoted (places : List Place) (keys : List KeyAt) : Type 0 where
   pub rising : IsRising keys
   pub whole : (i : ℕ) (lsa : List ℕ) → item_at places i ≡ Some (Some lsa) → noted_index keys (key_of lsa) ≡ Some i
 
--- and there is room for a key of each place, and the LSAs are counted
-pub record IsKeyed (places : List Place) (keys : List KeyAt) (room count : ℕ) : Type 0 where
+-- and there is room for a key of each place, the keys have their widths, and the LSAs are counted
+pub record IsKeyed (places : List Place) (keys : List KeyAt) (room : ℕ) (counts : LsaCounts) : Type 0 where
   pub sound : AreNoted places keys
   pub fits : length places ≤ room
-  pub counted : count ≡ length (full places)
+  pub widths : All HaveWidths (full places)
+  pub counted : counts ≡ counts_of (full places)
+
+-- LSAs that are accepted, no more of them than a section may have, and no two with one key
+pub record FitSection (places : List Place) : Type 0 where
+  pub accepted : All IsAccepted (full places)
+  pub few : length (full places) ≤ most_lsas_of_as
+  pub apart : AreApart places
 
 -- each LSA's key with the index of its place, in order of the places, of which the first has index n
 abbrev pub keys_from : ℕ → List Place → List KeyAt
@@ -56,3 +62,9 @@ pub record IsGapFor (keys : List KeyAt) (key : Key) (at : ℕ) : Type 0 where
 pub record Notes (old new : List KeyAt) (key : Key) (index : ℕ) : Type 0 where
   pub rising : IsRising new
   pub noted : (q : Key) → noted_index new q ≡ cond (same_key key q) (Some index) (noted_index old q)
+
+-- of noted keys those from one key to another
+pub record IsPartBetween (keys : List KeyAt) (low high : Key) (part : List KeyAt) : Type 0 where
+  pub rising : IsRising part
+  pub within : All (λ noted. is_between low high noted.key ≡ true) part
+  pub whole : (noted : KeyAt) → Contains keys noted → is_between low high noted.key ≡ true → Contains part noted

@@ -1,4 +1,4 @@
-use Rattle.std.proofs.Common.{[], ◌∷◌, ◌++◌, ◌∙◌, ap, sym, subst, map, List, ℕ, ◌≡◌, ◌≢◌, option_map}
+use Rattle.std.proofs.Common.{[], ◌∷◌, Some, length, length-append, arith, ◌++◌, ◌∙◌, ap, sym, subst, map, List, ℕ, ◌≡◌, ◌≢◌, option_map}
 use Rattle.std.specs.Prelude.{AllPairs}
 use Rattle.lsa_codec.specs.Key.{key_of}
 use Rattle.lsdb.proofs.SectionText.{apart_push}
@@ -42,6 +42,7 @@ loop-preserved g c =
           rw pushed
           (keys_push c.loop.keys c.insert.new.self seen c.in_ok-lsa.lsa c.key.result c.loop.invariant.keys c.key.ensures c.in_ok-insert.ensures.updates);
       apart = subst (λ (xs : List (List ℕ)). AllPairs (λ a b. a ≢ b) (map key_of xs)) (sym pushed) (apart_push seen c.in_ok-lsa.lsa c.loop.invariant.apart new);
+      few = omega (arith, ap length c.in_ok-push.ensures.items, length-append c.loop.places.items (Some c.in_ok-lsa.lsa ∷ []), c.loop.invariant.few);
     }
 
 pub returns-clause-lsas : goal.returns-clause-lsas

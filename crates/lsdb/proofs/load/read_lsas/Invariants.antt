@@ -1,4 +1,4 @@
-use Rattle.std.proofs.Common.{◌≡◌, ◌-◌, [], option_map}
+use Rattle.std.proofs.Common.{◌≡◌, ◌≤◌, ◌-◌, [], length, option_map}
 use Rattle.lsdb.specs.Places.{full}
 use Rattle.lsdb.specs.steps.NotedKeys.{AreApart}
 use Rattle.lsdb.specs.steps.View.{head_of}
@@ -13,4 +13,5 @@ invariant-loop g l = record {
       (at_of l.at) ≡ lsas_from (option_map head_of l.area) l.count [] (at_of l.start);
   keys : HasKeys l.keys (full l.places.items);
   apart : AreApart l.places.items;
+  few : length l.places.items ≤ l.counter;
 }

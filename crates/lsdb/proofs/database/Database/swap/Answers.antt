@@ -3,7 +3,7 @@ use Rattle.std.specs.Prelude.{IsSome}
 use Rattle.lsdb.specs.Places.{Places, put, slot_at, lists_of}
 use Rattle.lsdb.specs.Lists.{IsDatabase}
 use Rattle.lsdb.specs.steps.View.{places_of}
-use Rattle.lsdb.proofs.Seen.{swap_put, swap_read, slot_within, slot_apart}
+use Rattle.lsdb.proofs.Seen.{swap_put, swap_read, slot_within, slot_fits}
 use Rattle.lsdb.proofs.DumpLength.{kept_put, size_moved, place_fits}
 use Rattle.lsdb.proofs.database.Database.swap.Goals as goal
 
@@ -12,10 +12,10 @@ swap-requires-clause-within g c =
     slot_within c.self.inside.sections.items c.args.slot.section c.args.slot.index c.index_mut-section.result.now
     (rw c.self.view_is c.requires.exists) c.index_mut-section.ensures.value
 
-pub swap-requires-clause-apart : goal.swap-requires-clause-apart
-swap-requires-clause-apart g c =
+pub swap-requires-clause-sound : goal.swap-requires-clause-sound
+swap-requires-clause-sound g c =
     let sound : IsDatabase (lists_of (put (places_of c.self.inside.sections.items) c.args.slot c.args.place.now)) = rw c.self.view_is c.requires.sound in
-    slot_apart c.self.inside.sections.items c.args.slot c.index_mut-section.result.now c.args.place.now
+    slot_fits c.self.inside.sections.items c.args.slot c.index_mut-section.result.now c.args.place.now
     (rw c.self.view_is c.requires.exists) c.index_mut-section.ensures.value sound.sections
 
 pub returns-clause-put : goal.returns-clause-put

@@ -1,8 +1,15 @@
-use Rattle.std.proofs.Common.{length, ap, arith, inl}
-use Rattle.lsdb.specs.Places.{full}
-use Rattle.lsdb.proofs.KeyedPlaceLists.{full_few}
+use Rattle.std.proofs.Common.{◌∙◌, List, length, ap, subst, sym, arith}
+use Rattle.std.specs.Prelude.{All}
+use Rattle.lsdb.specs.Counts.{counts_of}
+use Rattle.lsdb.specs.KeyRanges.{HaveWidths}
+use Rattle.lsdb.specs.Places.{Place, full}
+use Rattle.lsdb.specs.steps.NotedKeys.{AreNoted}
 use Rattle.lsdb.proofs.keyed_places.KeyedPlaces.of.Goals as goal
 
-pub count-count-requires-clause-fits : goal.count-count-requires-clause-fits
-count-count-requires-clause-fits g c =
-    inl (omega (arith, full_few c.args.places.items, ap length c.of.ensures, ap (λ ps. length (full ps)) c.deref-2.ensures.value, c.args.places.small))
+pub invariant_of-result : goal.invariant_of-result
+invariant_of-result g c = record {
+  sound = subst (λ (ps : List Place). AreNoted ps c.fill.new.keys.items) c.deref.ensures.value c.fill.ensures.sound;
+  fits = omega (arith, c.fill.ensures.room, c.in_ok-keys.ensures.exact, c.len.ensures);
+  widths = subst (λ (ps : List Place). All HaveWidths (full ps)) c.deref.ensures.value c.fill.ensures.widths;
+  counted = c.of_places-counts.ensures ∙ ap (λ (ps : List Place). counts_of (full ps)) c.deref-2.ensures.value;
+}

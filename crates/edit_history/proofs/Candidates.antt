@@ -1,0 +1,156 @@
+-- The first LSA that is looked for, among the keys of a range.
+use Rattle.std.proofs.Common.{◌≡◌, ℕ, zero, suc, ◌+◌, ◌<◌, ◌≤◌, min, Bool, true, false, cond, List, [], ◌∷◌, length, take, get_or, Option, Some, None, refl, sym, ap, ◌∙◌, subst, arith, ⊎_elim}
+use Rattle.std.specs.Prelude.{All, IfSome, IsSome, IsSomeAnd}
+use Rattle.std.specs.List.{find}
+use Rattle.std.proofs.lemmas.Bool.{and_from, and_parts, cases_lt}
+use Rattle.std.proofs.lemmas.List.{take_more}
+use Rattle.std.proofs.lemmas.List.Elements.{All-append, All-contains, All-cons, All-nil}
+use Rattle.lsa_codec.specs.declared.key.Key.{Key}
+use Rattle.lsa_codec.specs.Key.{key_of}
+use Rattle.lsdb.specs.declared.keyed_places.KeyAt.{KeyAt}
+use Rattle.lsdb.specs.KeyRanges.{AreKeysBetween}
+use Rattle.lsdb.specs.Places.{Place, Places, SectionPlaces, item_at, slot_at, place_in, full, lsas_in, places_in, places_or_none, IsFirstPlace}
+use Rattle.edit_history.specs.declared.lookup.Wanted.{Wanted}
+use Rattle.edit_history.specs.steps.Plans.{is_wanted, passes, slot_of}
+use Rattle.edit_history.specs.steps.Searching.{HaveKeysBetween, is_wanted_by_key, lesser}
+use Rattle.edit_history.proofs.Searches.{lsas_full, place_there}
+use Rattle.edit_history.proofs.WantedKeys.{has_marked_key}
+
+-- ---- the least place that passes is the first
+
+first_is : (test : List ℕ → Bool) (ps : List Place) (m : ℕ) (lsa : List ℕ) → item_at ps m ≡ Some (Some lsa) → test lsa ≡ true
+    → ((i : ℕ) (x : List ℕ) → i < m → item_at ps i ≡ Some (Some x) → test x ≡ false) → find test (full ps) ≡ Some lsa
+first_is test [] m lsa at pass before = absurd cc
+first_is test (None ∷ ps) zero lsa at pass before = absurd cc
+first_is test (Some x ∷ ps) zero lsa at pass before =
+    let same : x ≡ lsa = cc in
+    ap (λ (y : List ℕ). cond (test y) (Some y) (find test (full ps))) same ∙ ap (λ b. cond b (Some lsa) (find test (full ps))) pass
+first_is test (None ∷ ps) (suc m) lsa at pass before = first_is test ps m lsa at pass (λ i x lt there. before (suc i) x (omega arith) there)
+first_is test (Some x ∷ ps) (suc m) lsa at pass before =
+    ap (λ b. cond b (Some x) (find test (full ps))) (before 0 x (omega arith) refl)
+    ∙ first_is test ps m lsa at pass (λ i y lt there. before (suc i) y (omega arith) there)
+
+none_is : (test : List ℕ → Bool) (ps : List Place) → ((i : ℕ) (x : List ℕ) → item_at ps i ≡ Some (Some x) → test x ≡ false) → find test (full ps) ≡ None
+none_is test [] h = refl
+none_is test (None ∷ ps) h = none_is test ps (λ i x at. h (suc i) x at)
+none_is test (Some x ∷ ps) h =
+    ap (λ b. cond b (Some x) (find test (full ps))) (h 0 x refl) ∙ none_is test ps (λ i y at. h (suc i) y at)
+
+record Passed (test : List ℕ → Bool) (place : Option Place) : Type 0 where
+  lsa : List ℕ
+  is : place ≡ Some (Some lsa)
+  pass : test lsa ≡ true
+
+passed : (test : List ℕ → Bool) (place : Option Place) → passes test place ≡ true → Passed test place
+passed test None pass = absurd cc
+passed test (Some None) pass = absurd cc
+passed test (Some (Some lsa)) pass = record { lsa = lsa; is = refl; pass = pass }
+
+there_place : (d : Places) (section i : ℕ) (p : Place) → slot_at d (slot_of section i) ≡ Some p → item_at (places_in d section) i ≡ Some p
+there_place d section i p e = by_item (item_at d section) e where
+  by_item : (o : Option SectionPlaces) → place_in o i ≡ Some p → item_at (places_or_none o) i ≡ Some p
+  by_item None e = absurd cc
+  by_item (Some s) e = e
+
+by_truth : (b : Bool) → (b ≡ true → ⊥) → b ≡ false
+by_truth true h = absurd (h refl)
+by_truth false h = refl
+
+-- ---- candidates, one after another
+
+abbrev IsUpTo : Option ℕ → ℕ → Type 0
+IsUpTo first i = IsSomeAnd first (λ m. m ≤ i)
+
+abbrev stands_at : Wanted → Places → ℕ → ℕ → Bool
+stands_at w d section i = passes (is_wanted w) (slot_at d (slot_of section i))
+
+abbrev Comes : Wanted → Places → ℕ → Option ℕ → KeyAt → Type 0
+Comes w d section first noted = is_wanted_by_key w d section noted ≡ true → IsUpTo first noted.index
+
+-- the least index of those noted at which an LSA stands that is looked for
+pub record IsLeast (w : Wanted) (d : Places) (section : ℕ) (keys : List KeyAt) (first : Option ℕ) : Type 0 where
+  pub stands : IfSome first (λ m. passes (is_wanted w) (slot_at d (slot_of section m)) ≡ true)
+  pub least : All (λ noted. is_wanted_by_key w d section noted ≡ true → IsSomeAnd first (λ m. m ≤ noted.index)) keys
+
+pub none_yet : (w : Wanted) (d : Places) (section : ℕ) → IsLeast w d section [] None
+none_yet w d section = record { stands = tt; least = All-nil (Comes w d section None) }
+
+lesser_first : (first : Option ℕ) (index i : ℕ) → IsUpTo first i → lesser first index ≤ i
+lesser_first None index i h = absurd h
+lesser_first (Some m) index i h = omega (arith, h)
+
+lesser_second : (first : Option ℕ) (index : ℕ) → lesser first index ≤ index
+lesser_second None index = omega arith
+lesser_second (Some m) index = omega arith
+
+lesser_stands : (P : ℕ → Type 0) (first : Option ℕ) (index : ℕ) → IfSome first P → P index → P (lesser first index)
+lesser_stands P None index before here = here
+lesser_stands P (Some m) index before here = ⊎_elim
+    (λ lt. subst P (let e : m ≡ min m index = omega arith in e) before)
+    (λ ge. subst P (let e : index ≡ min m index = omega arith in e) here)
+    (cases_lt m index)
+
+all_still : (P Q : KeyAt → Type 0) (keys : List KeyAt) → ((e : KeyAt) → P e → Q e) → All P keys → All Q keys
+all_still P Q keys step h k d within = step (get_or keys k d) (h k d within)
+
+module _ (w : Wanted) (d : Places) (section : ℕ) (keys : List KeyAt) (i : ℕ) (e : KeyAt) (first : Option ℕ)
+    (lt : i < length keys) (so_far : IsLeast w d section (take i keys) first) where
+  abbrev noted : KeyAt
+  noted = get_or keys i e
+
+  all_more : (P : KeyAt → Type 0) → All P (take i keys) → P noted → All P (take (i + 1) keys)
+  all_more P before one =
+      subst (λ (es : List KeyAt). All P es) (sym (take_more keys i e lt))
+      (All-append P (take i keys) (noted ∷ []) before (All-cons P noted [] one (All-nil P)))
+
+  pub least_hit : (new : ℕ) → new ≡ lesser first (get_or keys i e).index → is_wanted_by_key w d section (get_or keys i e) ≡ true
+      → IsLeast w d section (take (i + 1) keys) (Some new)
+  least_hit new is hit = rw is (record {
+    stands = lesser_stands (λ m. stands_at w d section m ≡ true) first noted.index so_far.stands (and_parts _ _ hit).1;
+    least =
+        all_more (Comes w d section (Some (lesser first noted.index)))
+        (all_still (Comes w d section first) (Comes w d section (Some (lesser first noted.index))) (take i keys)
+        (λ other comes there. lesser_first first noted.index other.index (comes there)) so_far.least)
+        (λ _. lesser_second first noted.index);
+  })
+
+  pub least_miss : is_wanted_by_key w d section (get_or keys i e) ≡ false → IsLeast w d section (take (i + 1) keys) first
+  least_miss miss = record {
+    stands = so_far.stands;
+    least = all_more (Comes w d section first) so_far.least (λ there. absurd (let no' : true ≡ false = sym there ∙ miss in cc));
+  }
+
+-- ---- all of them
+
+module _ (w : Wanted) (d : Places) (section : ℕ) (low high : Key) (keys : List KeyAt) (first : Option ℕ)
+    (keyed : AreKeysBetween (places_in d section) low high keys) (covered : HaveKeysBetween (is_wanted w) low high)
+    (found : IsLeast w d section keys first) where
+  -- an LSA that is looked for stands no further in front than the one that was found
+  up_to : (i : ℕ) (lsa : List ℕ) → item_at (places_in d section) i ≡ Some (Some lsa) → is_wanted w lsa ≡ true → IsUpTo first i
+  up_to i lsa at pass =
+      let there : stands_at w d section i ≡ true = ap (passes (is_wanted w)) (place_there d section i (Some lsa) at) ∙ pass in
+      let contained = keyed.whole i lsa at (covered lsa (keyed.widths i lsa at) pass) in
+      All-contains (Comes w d section first) keys (record { key = key_of lsa; index = i }) found.least contained
+      (and_from _ _ (has_marked_key w lsa pass) there)
+
+  pub none_first : first ≡ None → find (is_wanted w) (lsas_in d section) ≡ None
+  none_first is =
+      ap (find (is_wanted w)) (lsas_full d section)
+      ∙ none_is (is_wanted w) (places_in d section)
+      (λ i x at. by_truth (is_wanted w x) (λ pass. subst (λ (o : Option ℕ). IsUpTo o i) is (up_to i x at pass)))
+
+  pub first_place : (m : ℕ) → first ≡ Some m → IsFirstPlace d section (is_wanted w) (slot_of section m)
+  first_place m is =
+      let has = passed (is_wanted w) (slot_at d (slot_of section m)) (subst (λ (o : Option ℕ). IfSome o (λ k. stands_at w d section k ≡ true)) is found.stands) in
+      let at = there_place d section m (Some has.lsa) has.is in
+      let one : find (is_wanted w) (lsas_in d section) ≡ Some has.lsa =
+      ap (find (is_wanted w)) (lsas_full d section)
+      ∙ first_is (is_wanted w) (places_in d section) m has.lsa at has.pass
+      (λ i x lt there. by_truth (is_wanted w x) (λ pass.
+      let le : m ≤ i = subst (λ (o : Option ℕ). IsUpTo o i) is (up_to i x there pass) in
+      absurd (omega arith))) in
+      record { same = refl; held = has.is ∙ ap (λ (o : Place). Some o) (sym one); found = some_is (find (is_wanted w) (lsas_in d section)) has.lsa one }
+    where
+      some_is : (o : Option (List ℕ)) (x : List ℕ) → o ≡ Some x → IsSome o
+      some_is None x e = absurd cc
+      some_is (Some y) x e = refl

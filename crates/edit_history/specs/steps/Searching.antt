@@ -1,0 +1,34 @@
+-- Where LSAs that are looked for by more than their keys stand among the keys.
+use Rattle.std.specs.Prelude.{◌≡◌, ℕ, ◌+◌, ◌-◌, ◌^◌, min, Bool, true, ◌&&◌, ◌==◌, List, Option, Some, None}
+use Rattle.lsa_codec.specs.declared.key.Key.{Key}
+use Rattle.lsa_codec.specs.Key.{key_of}
+use Rattle.lsa_codec.specs.Prefix.{Net, mask_of_len}
+use Rattle.lsdb.specs.declared.keyed_places.KeyAt.{KeyAt}
+use Rattle.lsdb.specs.KeyRanges.{HaveWidths, is_between}
+use Rattle.lsdb.specs.Places.{Places, slot_at}
+use Rattle.edit_history.specs.declared.lookup.Wanted.{Wanted}
+use Rattle.edit_history.specs.declared.lookup.Wanted.TheVariants as wanted
+use Rattle.edit_history.specs.steps.Plans.{is_wanted, passes, slot_of}
+
+-- each LSA that passes a test has a key from one to another
+abbrev pub HaveKeysBetween : (List ℕ → Bool) → Key → Key → Type 0
+HaveKeysBetween test low high = (lsa : List ℕ) → HaveWidths lsa → test lsa ≡ true → is_between low high (key_of lsa) ≡ true
+
+-- the last address of a prefix: its address, and all bits past its length 1
+abbrev pub last_addr_of : Net → ℕ
+last_addr_of net = net.addr.0 + (2 ^ 32 - 1 - mask_of_len net.len)
+
+-- whether an LSA with this key may be one that is looked for: its router may have made one
+abbrev pub may_have : Wanted → Key → Bool
+may_have (wanted.Network network) key = true
+may_have (wanted.Summary router prefix) key = key.adv.0 == router.0
+may_have (wanted.External router prefix) key = key.adv.0 == router.0
+
+-- whether an LSA that is looked for stands at the place that is noted of a key
+abbrev pub is_wanted_by_key : Wanted → Places → ℕ → KeyAt → Bool
+is_wanted_by_key w d section noted = may_have w noted.key && passes (is_wanted w) (slot_at d (slot_of section noted.index))
+
+-- the lesser of two indices, where there is a first
+abbrev pub lesser : Option ℕ → ℕ → ℕ
+lesser None second = second
+lesser (Some first) second = min first second

@@ -1,0 +1,36 @@
+-- The keys of a section's LSAs in order, and those from one key to another.
+use Rattle.std.specs.Prelude.{◌≡◌, ◌^◌, ◌<◌, ◌&&◌, ℕ, Bool, true, List, map, Some, All, Contains}
+use Rattle.std.specs.Map.{keys_of}
+use Rattle.std.specs.List.Sorted.{IsStrictlySortedBy}
+use Rattle.std.specs.Ordering.{is_le}
+use Rattle.lsa_codec.specs.declared.key.Key.{Key}
+use Rattle.lsa_codec.specs.Fields.{kind_of, link_state_id_of, advertising_router_of}
+use Rattle.lsa_codec.specs.Key.{key_of}
+use Rattle.lsa_codec.specs.Order.{key_cmp}
+use Rattle.lsdb.specs.declared.keyed_places.KeyAt.{KeyAt}
+use Rattle.lsdb.specs.Places.{Place, item_at}
+
+abbrev pub pairs_of : List KeyAt → List (Key × ℕ)
+pairs_of keys = map (λ noted. (noted.key, noted.index)) keys
+
+-- each key is less than those behind it
+abbrev pub IsRising : List KeyAt → Type 0
+IsRising keys = IsStrictlySortedBy key_cmp (keys_of (pairs_of keys))
+
+-- from one key to another, both included
+abbrev pub is_between : Key → Key → Key → Bool
+is_between low high key = is_le (key_cmp low key) && is_le (key_cmp key high)
+
+-- the fields of an LSA that make its key have 8, 32 and 32 bits (RFC 2328, A.4.1)
+pub record HaveWidths (lsa : List ℕ) : Type 0 where
+  pub kind : kind_of lsa < 2 ^ 8
+  pub id : link_state_id_of lsa < 2 ^ 32
+  pub adv : advertising_router_of lsa < 2 ^ 32
+
+-- keys of a section from one key to another, among them that of each LSA there, with the index of its place
+pub record AreKeysBetween (places : List Place) (low high : Key) (keys : List KeyAt) : Type 0 where
+  pub rising : IsRising keys
+  pub within : All (λ noted. is_between low high noted.key ≡ true) keys
+  pub whole : (index : ℕ) (lsa : List ℕ) → item_at places index ≡ Some (Some lsa) → is_between low high (key_of lsa) ≡ true
+      → Contains keys (record { key = key_of lsa; index = index })
+  pub widths : (index : ℕ) (lsa : List ℕ) → item_at places index ≡ Some (Some lsa) → HaveWidths lsa
