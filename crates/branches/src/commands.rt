@@ -1,6 +1,6 @@
 //! The commands of a script, executed on one planner.
 
-ghost use Rattle.std.specs.Prelude.{◌≡◌, ◌++◌, IfOk, OnOk, OnErr, IsOk, false, filter_map, flat_map, length, option_to_list};
+ghost use Rattle.std.specs.Prelude.{◌≡◌, ◌++◌, IfOk, OnOk, OnErr, IsOk, false, filter_map, flat_map, length, option_map, option_to_list};
 ghost use Rattle.std.specs.String.{string_bytes};
 ghost use Rattle.edit_history.specs.Session.{state, edited};
 ghost use Rattle.routing_table.specs.Routers.{attached_routers};
@@ -15,6 +15,7 @@ use lsa_codec::RouterId;
 use recalculate::{Planner, Table, TableFault};
 use routing_table::routers_are_attached;
 use std::alloc::{AllocError, Allocator};
+use std::rc::Rc;
 use table_report::push_table;
 
 /// Executes one command on a planner. An error is want of memory, and then the session is as it
@@ -84,12 +85,14 @@ fn table_now<A: Allocator + Copy>(
     }
 }
 
-/// The routing table of a router in the loaded database, if it is attached to an area there.
+/// The routing table of a router in the loaded database, if it is attached to an area there. The
+/// planner keeps it too.
 fn table_before<A: Allocator + Copy>(
     planner: &mut Planner<A>,
     router: RouterId,
-) -> Result<Option<Table<A>>, AllocError>
-    ensures table { IfOk result (λ table. table ≡ table_in planner.old.session.base router) }
+) -> Result<Option<Rc<Table<A>, A>>, AllocError>
+    ensures table { IfOk result (λ table. option_map (λ shared. shared.value) table
+        ≡ table_in planner.old.session.base router) }
     ensures kept { planner.new.session ≡ planner.old.session }
 {
     match planner.kept_base_table(router) {

@@ -11,6 +11,7 @@ use lsa_codec::{Decimal, RouterId};
 use recalculate::{Info, Table, TableFault};
 use std::alloc::{AllocError, Allocator, Global};
 use std::marker::Model;
+use std::rc::Rc;
 use table_report::{push_compare, push_table};
 
 /// Why a command is refused. A refused command changes nothing.
@@ -42,8 +43,8 @@ pub enum Reply<A: Allocator = Global> {
     Compare {
         /// The router.
         router: RouterId,
-        /// Its table in the loaded database.
-        before: Table<A>,
+        /// Its table in the loaded database, which the branch keeps for the next one.
+        before: Rc<Table<A>, A>,
         /// Its table now; one without routes, where it is attached to no area now.
         now: Table<A>,
     },

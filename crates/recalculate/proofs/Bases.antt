@@ -1,13 +1,21 @@
--- The database that a session began at: no step changes it, and it is that of the session with all edits taken back.
-use Rattle.std.proofs.Common.{◌≡◌, ℕ, ◌-◌, Bool, true, false, [], ◌∷◌, ◌++◌, take, length, Result, Ok, Err}
-use Rattle.std.proofs.Common.{sym, ap, arith}
+-- The database that a session began at: no step changes it, and it is that of the session with all edits taken back. Tables of it
+-- that are kept.
+use Rattle.std.proofs.Common.{◌≡◌, ℕ, ◌-◌, Bool, true, false, List, [], ◌∷◌, ◌++◌, take, length, Result, Ok, Err, Option, Some, IfSome}
+use Rattle.std.proofs.Common.{◌∙◌, sym, ap, arith, subst}
 use Rattle.std.specs.Prelude.{cond, nat_lt}
-use Rattle.lsdb.specs.Lists.{Lists}
+use Rattle.lsa_codec.specs.declared.address.RouterId.{RouterId}
+use Rattle.lsdb.specs.Lists.{AreaHead, Lists}
+use Rattle.area_routes.specs.Attached.{attached_areas}
 use Rattle.edit_script.specs.declared.edit.Edit.{Edit}
 use Rattle.edit_history.specs.declared.fault.EditFault.{EditFault}
 use Rattle.edit_history.specs.declared.fault.EditFault.TheVariants.{HistoryFull}
 use Rattle.edit_history.specs.Effect.{effect}
 use Rattle.edit_history.specs.Session.{Session, accepted, after_edits, edited, most_edits, moved_back, state}
+use Rattle.routing_table.specs.AreasTrees.{AreasTrees, AreOfDatabase, routers_of}
+use Rattle.routing_table.specs.KeptTrees.{IsWithin, KeptRouters, TreeSet, areas_without_tree, is_kept}
+use Rattle.routing_table.specs.Tables.{TableValue, results_in, routes_from, table_by, table_in}
+use Rattle.recalculate.specs.Calls.{Stayed}
+use Rattle.recalculate.specs.Planning.{IsTableOver, KeepsTrees, PlannerValue}
 
 -- an edit that was accepted leaves it
 pub edited_base : (s t : Session) (e : Edit) → edited s e ≡ Ok t → t.base ≡ s.base
@@ -24,3 +32,52 @@ pub all_back : (s : Session) → state (moved_back (length s.done) s) ≡ s.base
 all_back s =
     let none : length s.done - length s.done ≡ 0 = omega arith in
     ap (λ (n : ℕ). after_edits s.base (take n s.done)) none
+
+-- ---- tables of it
+
+named_by : (db : Lists) (router : RouterId) (areas : List AreaHead) (table : TableValue) → table_by db router areas ≡ Some table → table.router ≡ router
+named_by db router [] table h = absurd cc
+named_by db router (area ∷ areas) table h =
+    let is : record { router = router; routes = routes_from db router (results_in db router (area ∷ areas)) } ≡ table = cc in
+    sym (ap (λ (t : TableValue). t.router) is)
+
+named : (db : Lists) (router : RouterId) (table : TableValue) → table_in db router ≡ Some table → table.router ≡ router
+unfolding table_in
+named db router table h = named_by db router (attached_areas db router) table h
+
+-- a table that was made over trees that are kept may be kept itself
+pub may_be_kept : (db : Lists) (router : RouterId) (kept : KeptRouters) (table : TableValue) → table_in db router ≡ Some table
+    → areas_without_tree (is_kept kept) router (attached_areas db router) ≡ [] → IsTableOver db kept table.router table
+may_be_kept db router kept table shows trees =
+    subst (λ (r : RouterId). IsTableOver db kept r table) (sym (named db router table shows)) (record { shows = shows; trees = trees })
+
+-- the table that is kept, where it is that of a router
+pub kept_of : (db : Lists) (kept : KeptRouters) (router : RouterId) (table : TableValue) → table.router ≡ router
+    → IsTableOver db kept table.router table → IsTableOver db kept router table
+kept_of db kept router table same over = subst (λ (r : RouterId). IsTableOver db kept r table) same over
+
+-- what is kept of it stays so in each session that began at it
+pub goes_on : (s t : Session) (trees after first_trees : AreasTrees) (first_table : Option TableValue) → t.base ≡ s.base
+    → AreOfDatabase (state t) after → KeepsTrees s trees first_trees first_table → KeepsTrees t after first_trees first_table
+goes_on s t trees after first_trees first_table base now keeps = record {
+  now = now;
+  beginning = subst (λ (db : Lists). AreOfDatabase db first_trees) (sym base) keeps.beginning;
+  table = subst (λ (db : Lists). IfSome first_table (λ table. IsTableOver db (routers_of first_trees) table.router table)) (sym base) keeps.table;
+}
+
+-- a table over it is kept, or none, in place of the one that was kept
+pub keeps_other : (s t : Session) (trees first_trees after : AreasTrees) (before table : Option TableValue) → t ≡ s → AreOfDatabase s.base after
+    → IfSome table (λ table. IsTableOver s.base (routers_of after) table.router table) → KeepsTrees s trees first_trees before → KeepsTrees t trees after table
+keeps_other s t trees first_trees after before table same beginning over keeps =
+    subst (λ (u : Session). KeepsTrees u trees after table) (sym same) (record { now = keeps.now; beginning = beginning; table = over })
+
+-- ---- what a planner shows after it was asked for one
+
+pub first_keeps : (p q : PlannerValue) (after : TreeSet) → p ≡ q → IsWithin (is_kept p.first_kept) after → IsWithin (is_kept q.first_kept) after
+first_keeps p q after same keeps = subst (λ (v : PlannerValue). IsWithin (is_kept v.first_kept) after) same keeps
+
+pub stayed : (p q after : PlannerValue) → p ≡ q → after.session ≡ p.session → after.kept ≡ p.kept → Stayed q after
+stayed p q after same session kept = record {
+  session = session ∙ ap (λ (v : PlannerValue). v.session) same;
+  keeps = λ area router there. subst (λ (k : KeptRouters). is_kept k area router ≡ true) (sym (kept ∙ ap (λ (v : PlannerValue). v.kept) same)) there;
+}

@@ -1,20 +1,15 @@
 //! What a session counts.
 
-ghost use Rattle.std.specs.Prelude.{◌≡◌, ◌≤◌, ◌*◌, length};
-ghost use Rattle.std.specs.List.{count_by, sum_by};
-ghost use Rattle.lsdb.specs.Lists.{areas_of};
+ghost use Rattle.std.specs.Prelude.{◌≡◌};
+ghost use Rattle.lsdb.specs.Counts.{counts_of};
 ghost use Rattle.lsdb.specs.Places.{lists_of};
 ghost use Rattle.routing_table.specs.AreaLsas.{area_lsas};
 ghost use Rattle.edit_history.specs.Session.{start};
-ghost use Rattle.recalculate.specs.Counts.{has_bit_v, info_of, is_virtual, virtual_links};
+ghost use Rattle.recalculate.specs.Counts.{info_of};
 
 use crate::planner::Planner;
-use lsa_codec::{Link, LinkKind, Lsa};
-use lsdb::{Database, Lsas, Section};
+use lsdb::{Database, LsaCounts, Section};
 use std::alloc::Allocator;
-
-/// Bit V of a router-LSA, of an endpoint of virtual links (RFC 2328, A.4.2).
-const BIT_V: u8 = 4;
 
 /// What a session counts: the areas and LSAs of its database, what virtual links leave in them,
 /// and its edits. An LSA counts at any age.
@@ -54,105 +49,37 @@ impl<A: Allocator + Copy> Planner<A> {
 pub(crate) fn beginning_of<A: Allocator + Copy>(database: &Database<A>) -> Info
     ensures { result ≡ info_of (start (lists_of database.now)) }
 {
+    let counts = area_counts(database);
     Info {
         areas: database.area_count(),
-        lsas: lsas(database),
+        lsas: counts.lsas,
         as_lsas: database.count(Section::AsWide),
-        vbits: vbits(database),
-        vlinks: vlinks(database),
+        vbits: counts.virtual_ends,
+        vlinks: counts.virtual_links,
         done: 0,
         undone: 0,
     }
 }
 
-/// How many LSAs all areas have.
-fn lsas<A: Allocator + Copy>(database: &Database<A>) -> usize
-    ensures { result ≡ length (area_lsas (lists_of database.now)) }
+/// What the LSAs of all areas count. It goes through the areas, and not through their LSAs.
+fn area_counts<A: Allocator + Copy>(database: &Database<A>) -> LsaCounts
+    ensures { result ≡ counts_of (area_lsas (lists_of database.now)) }
 {
-    // For its limits: the count fits.
+    // For its limits: the counts fit.
     database.known();
-    let mut count = 0;
-    for i in 0..database.area_count() {
-        let (area, _is_stub) = database.area(i);
-        count += database.count(Section::Area(area));
+    let mut lsas = 0;
+    let mut virtual_ends = 0;
+    let mut virtual_links = 0;
+    // The areas are the first sections, in the same order.
+    for section in 0..database.area_count() {
+        let counts = database.counts_in(section);
+        lsas += counts.lsas;
+        virtual_ends += counts.virtual_ends;
+        virtual_links += counts.virtual_links;
     }
-    count
-}
-
-/// How many router-LSAs of all areas have bit V.
-fn vbits<A: Allocator + Copy>(database: &Database<A>) -> usize
-    ensures { result ≡ count_by has_bit_v (area_lsas (lists_of database.now)) }
-{
-    // For its limits: the count fits.
-    database.known();
-    let mut count = 0;
-    for i in 0..database.area_count() {
-        let (area, _is_stub) = database.area(i);
-        count += vbits_among(database.lsas(Section::Area(area)));
+    LsaCounts {
+        lsas,
+        virtual_ends,
+        virtual_links,
     }
-    count
-}
-
-/// How many virtual links the router-LSAs of all areas describe.
-fn vlinks<A: Allocator + Copy>(database: &Database<A>) -> usize
-    ensures { result ≡ sum_by virtual_links (area_lsas (lists_of database.now)) }
-{
-    // For its limits: the count fits.
-    database.known();
-    let mut count = 0;
-    for i in 0..database.area_count() {
-        let (area, _is_stub) = database.area(i);
-        count += vlinks_among(database.lsas(Section::Area(area)));
-    }
-    count
-}
-
-/// How many LSAs are router-LSAs with bit V.
-fn vbits_among<A: Allocator + Copy>(lsas: Lsas<'_, A>) -> usize
-    requires { length lsas ≤ 65535 }
-    ensures count { result ≡ count_by has_bit_v lsas.entry }
-    ensures few { result ≤ 65535 }
-{
-    lsas.filter(|lsa| has_bit_v(lsa)).count()
-}
-
-/// How many virtual links LSAs describe.
-fn vlinks_among<A: Allocator + Copy>(lsas: Lsas<'_, A>) -> usize
-    requires { length lsas ≤ 65535 }
-    ensures count { result ≡ sum_by virtual_links lsas.entry }
-    ensures few { result ≤ 65535 * 65535 }
-{
-    let mut count = 0;
-    for lsa in lsas {
-        count += virtual_links(lsa);
-    }
-    count
-}
-
-/// Whether an LSA is a router-LSA with bit V.
-fn has_bit_v<A: Allocator + Copy>(lsa: &Lsa<A>) -> bool
-    ensures { result ≡ has_bit_v lsa.now }
-{
-    match lsa.router() {
-        Some(router) => router.flags() & BIT_V != 0,
-        None => false,
-    }
-}
-
-/// How many virtual links an LSA describes.
-fn virtual_links<A: Allocator + Copy>(lsa: &Lsa<A>) -> usize
-    ensures count { result ≡ virtual_links lsa.now }
-    ensures few { result ≤ 65535 }
-{
-    match lsa.router() {
-        Some(router) => router.links().filter(is_virtual).count(),
-        None => 0,
-    }
-}
-
-/// Whether a link is a virtual link.
-fn is_virtual(link: &Link) -> bool
-    ensures { result ≡ is_virtual link.now.kind }
-{
-    matches!(link.kind, LinkKind::Virtual)
 }

@@ -1,5 +1,7 @@
 //! A session of edits.
 
+ghost use Rattle.std.specs.Prelude.{◌≡◌, IfOk};
+
 use crate::counts::Info;
 use crate::study::Study;
 use crate::touched::{drop_done, drop_undone};
@@ -11,6 +13,7 @@ use routing_table::{KeptTrees, Table, TableFault, routers};
 use spf::Meter;
 use std::alloc::{AllocError, Allocator, Global};
 use std::marker::Model;
+use std::rc::Rc;
 
 /// A link state database, the edits that led to it from the one that was loaded, and those that
 /// were undone since.
@@ -18,16 +21,18 @@ use std::marker::Model;
 /// It is seen as its session, which is the loaded database, the edits done and the edits undone, as
 /// how many trees it has calculated, and as which of them it keeps for further tables, of its
 /// database and of the loaded one. After any calls its database is the effect of the done edits, in
-/// order, on the loaded one.
+/// order, on the loaded one. A table of the loaded database that it keeps is not seen.
 #[derive(Drop)]
 pub struct Planner<A: Allocator = Global> {
     study: Study<A>,
     trees: KeptTrees<A>,
     first_trees: KeptTrees<A>,
+    first_table: Option<Rc<Table<A>, A>>,
     meter: Meter,
 }
 
 impl<A: Allocator> Model for Planner<A> {
+    ghost use Rattle.std.specs.Prelude.{option_map};
     ghost use Rattle.routing_table.specs.AreasTrees.{routers_of};
     ghost use Rattle.recalculate.specs.Planning.{KeepsTrees, PlannerValue};
 
@@ -40,11 +45,12 @@ impl<A: Allocator> Model for Planner<A> {
       first_kept = routers_of p.first_trees;
     } };
 
-    ghost invariant = { λ p. KeepsTrees p.study p.trees p.first_trees };
+    ghost invariant = { λ p. KeepsTrees p.study p.trees p.first_trees
+        (option_map (λ table. table.value) p.first_table) };
 }
 
 impl<A: Allocator + Copy> Planner<A> {
-    ghost use Rattle.std.specs.Prelude.{◌≡◌, ◌≢◌, ◌≤◌, ◌↔◌, ◌+◌, ◌++◌, [], Ok, Err, Some, length, IsOk, OnOk, OnErr, IfOk, IfErr, IsErrOf};
+    ghost use Rattle.std.specs.Prelude.{◌≡◌, ◌≢◌, ◌≤◌, ◌↔◌, ◌+◌, ◌++◌, [], Ok, Err, Some, length, IsOk, OnOk, OnErr, IfOk, IfErr, IfSome, IsErrOf};
     ghost use Rattle.lsdb.specs.BaseText.{base_text};
     ghost use Rattle.lsdb.specs.Lists.{IsDatabase};
     ghost use Rattle.lsdb.specs.Places.{lists_of};
@@ -54,6 +60,7 @@ impl<A: Allocator + Copy> Planner<A> {
     ghost use Rattle.edit_history.specs.Effect.{edit_touches};
     ghost use Rattle.recalculate.specs.Calls.{CarriedOut, Stayed};
     ghost use Rattle.recalculate.specs.Counts.{info_of};
+    ghost use Rattle.recalculate.specs.Planning.{IsTableOver};
     ghost use Rattle.routing_table.specs.Counting.{counted_by, CountsAtMost};
     ghost use Rattle.routing_table.specs.KeptTrees.{IsWithin, areas_without_tree, is_kept, less_touched};
     ghost use Rattle.recalculate.specs.Reached.{IsReached};
@@ -74,6 +81,7 @@ impl<A: Allocator + Copy> Planner<A> {
             study: Study::new(alloc, database),
             trees: KeptTrees::new(alloc),
             first_trees: KeptTrees::new(alloc),
+            first_table: None,
             meter: Meter::new(),
         }
     }
@@ -261,16 +269,20 @@ impl<A: Allocator + Copy> Planner<A> {
         self.study.base_table(router, &mut self.meter)
     }
 
-    /// The routing table of a router in the database that the session began at. In each area that
-    /// the router is attached to there its tree is calculated, unless it is kept, and then it is
-    /// kept until the planner is dropped, since no edit changes that database. The session and the
-    /// trees of its own database stay as they are, also after an error.
+    /// The routing table of a router in the database that the session began at. The one that was
+    /// asked for last is kept, and answered again without a calculation. Any other is made: in
+    /// each area that the router is attached to there its tree is calculated, unless it is kept,
+    /// and then it is kept until the planner is dropped, since no edit changes that database. The
+    /// session and the trees of its own database stay as they are, also after an error.
     ///
     /// # Errors
     ///
-    /// As those of [`table`](Planner::table), for that database.
-    pub fn kept_base_table(&mut self, router: RouterId) -> Result<Table<A>, TableFault>
-        ensures table { IfOk result (λ table. table_in self.old.session.base router ≡ Some table) }
+    /// As those of [`table`](Planner::table), for that database. The table that was kept may be
+    /// gone then.
+    #[tactic(auto, using(crate::proofs::Bases::keeps_other))]
+    pub fn kept_base_table(&mut self, router: RouterId) -> Result<Rc<Table<A>, A>, TableFault>
+        ensures table { IfOk result
+            (λ table. table_in self.old.session.base router ≡ Some table.value) }
         ensures fault { IfErr result (FaultMeans (table_in self.old.session.base router)) }
         ensures session { self.new.session ≡ self.old.session }
         ensures kept { self.new.kept ≡ self.old.kept }
@@ -285,8 +297,27 @@ impl<A: Allocator + Copy> Planner<A> {
         ensures keeps { IsWithin (is_kept self.old.first_kept) (is_kept self.new.first_kept) }
         ensures step { Stayed self.old self.new }
     {
-        self.study
-            .base_table_over(router, &mut self.first_trees, &mut self.meter)
+        if let Some(table) = self.first_table_of(router) {
+            return Ok(table.clone()?);
+        }
+        self.first_table = None;
+        let table = self
+            .study
+            .base_table_over(router, &mut self.first_trees, &mut self.meter)?;
+        let table = shared(self.study.database().alloc(), table)?;
+        self.first_table = Some(table.clone()?);
+        Ok(table)
+    }
+
+    /// The table that is kept of the database that the session began at, if it is that of a router.
+    fn first_table_of(&self, router: RouterId) -> Option<&Rc<Table<A>, A>>
+        ensures { IfSome result (λ table. IsTableOver self.now.session.base self.now.first_kept
+            router table.now.value) }
+    {
+        match &self.first_table {
+            Some(table) if table.router() == router => Some(table),
+            _ => None,
+        }
     }
 
     /// What the session counted at its beginning, before all edits. The session stays as it is, and
@@ -316,5 +347,15 @@ impl<A: Allocator + Copy> Planner<A> {
         ensures kept { self.new ≡ self.old }
     {
         self.study.dump_base()
+    }
+}
+
+/// A table that several may hold, without a copy of it.
+fn shared<A: Allocator + Copy>(alloc: A, table: Table<A>) -> Result<Rc<Table<A>, A>, AllocError>
+    ensures { IfOk result (λ shared. shared.value ≡ table) }
+{
+    match Rc::new(alloc, table) {
+        Ok(shared) => Ok(shared),
+        Err(_table) => Err(AllocError),
     }
 }

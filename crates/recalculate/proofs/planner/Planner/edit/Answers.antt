@@ -1,12 +1,10 @@
-use Rattle.std.proofs.Common.{◌∙◌, sym, ap, subst}
+use Rattle.std.proofs.Common.{◌∙◌, ap, subst, option_map}
 use Rattle.edit_history.specs.Effect.{edit_touches}
-use Rattle.lsdb.specs.Lists.{Lists}
 use Rattle.edit_history.specs.Session.{edit, state}
 use Rattle.recalculate.specs.Calls.{CarriedOut}
-use Rattle.routing_table.specs.AreasTrees.{AreOfDatabase}
 use Rattle.routing_table.specs.KeptTrees.{less_touched}
 use Rattle.recalculate.specs.Planning.{PlannerValue}
-use Rattle.recalculate.proofs.Bases.{edited_base}
+use Rattle.recalculate.proofs.Bases.{edited_base, goes_on}
 use Rattle.recalculate.proofs.CallsSpare.{carries_out, edit_taken, shown, took}
 use Rattle.recalculate.proofs.Touches.{edited_kept, one_done}
 use Rattle.recalculate.proofs.planner.Planner.edit.Goals as goal
@@ -15,12 +13,13 @@ pub drop_done-requires : goal.drop_done-requires
 drop_done-requires g c = one_done c.self.inside.study c.edit.new.self c.args.edit.now c.in_ok-edit.ensures.ok
 
 pub invariant_of-self-2 : goal.invariant_of-self-2
-invariant_of-self-2 g c = record {
-  now = (edited_kept c.self.inside.trees c.drop_done.new.trees c.self.inside.study c.edit.new.self c.self.invariant.now
-      c.args.edit.now c.in_ok-edit.ensures.reached c.in_ok-edit.ensures.ok c.drop_done.ensures).graphs;
-  beginning = subst (λ (db : Lists). AreOfDatabase db c.self.inside.first_trees) (sym (edited_base c.self.inside.study c.edit.new.self c.args.edit.now c.in_ok-edit.ensures.ok))
-      c.self.invariant.beginning;
-}
+invariant_of-self-2 g c =
+    goes_on c.self.inside.study c.edit.new.self c.self.inside.trees c.drop_done.new.trees c.self.inside.first_trees
+    (option_map (λ table. table.value) c.self.inside.first_table)
+    (edited_base c.self.inside.study c.edit.new.self c.args.edit.now c.in_ok-edit.ensures.ok)
+    (edited_kept c.self.inside.trees c.drop_done.new.trees c.self.inside.study c.edit.new.self c.self.invariant.now
+    c.args.edit.now c.in_ok-edit.ensures.reached c.in_ok-edit.ensures.ok c.drop_done.ensures).graphs
+    c.self.invariant
 
 pub returns-clause-kept : goal.returns-clause-kept
 returns-clause-kept g c =

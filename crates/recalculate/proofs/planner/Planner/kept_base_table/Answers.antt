@@ -1,10 +1,37 @@
-use Rattle.std.proofs.Common.{subst}
+use Rattle.std.proofs.Common.{◌∙◌, refl, sym, subst}
 use Rattle.routing_table.specs.AreasTrees.{routers_of}
-use Rattle.routing_table.specs.KeptTrees.{IsWithin, is_kept}
-use Rattle.recalculate.specs.Planning.{PlannerValue}
+use Rattle.routing_table.specs.KeptTrees.{is_kept}
+use Rattle.routing_table.specs.Tables.{TableValue}
+use Rattle.recalculate.specs.Planning.{IsTableOver}
+use Rattle.recalculate.proofs.Bases.{first_keeps, keeps_other, may_be_kept, stayed}
 use Rattle.recalculate.proofs.planner.Planner.kept_base_table.Goals as goal
 
+pub returns-in_err-table-clause-keeps : goal.returns-in_err-table-clause-keeps
+returns-in_err-table-clause-keeps g c = first_keeps _ _ (is_kept (routers_of c.base_table_over.new.trees)) c.self.view_is c.base_table_over.ensures.keeps
+
+pub returns-in_err-table-2-clause-keeps : goal.returns-in_err-table-2-clause-keeps
+returns-in_err-table-2-clause-keeps g c = first_keeps _ _ (is_kept (routers_of c.base_table_over.new.trees)) c.self.view_is c.base_table_over.ensures.keeps
+
+pub returns-in_err-table-2-clause-step : goal.returns-in_err-table-2-clause-step
+returns-in_err-table-2-clause-step g c = stayed _ _ _ c.self.view_is c.base_table_over.ensures.session refl
+
+pub returns-in_err-clone-2-clause-keeps : goal.returns-in_err-clone-2-clause-keeps
+returns-in_err-clone-2-clause-keeps g c = first_keeps _ _ (is_kept (routers_of c.base_table_over.new.trees)) c.self.view_is c.base_table_over.ensures.keeps
+
+pub returns-in_err-clone-2-clause-step : goal.returns-in_err-clone-2-clause-step
+returns-in_err-clone-2-clause-step g c = stayed _ _ _ c.self.view_is c.base_table_over.ensures.session refl
+
 pub returns-clause-keeps : goal.returns-clause-keeps
-returns-clause-keeps g c =
-    subst (λ (p : PlannerValue). IsWithin (is_kept p.first_kept) (is_kept (routers_of c.base_table_over.new.trees))) c.self.view_is
-    c.base_table_over.ensures.keeps
+returns-clause-keeps g c = first_keeps _ _ (is_kept (routers_of c.base_table_over.new.trees)) c.self.view_is c.base_table_over.ensures.keeps
+
+pub returns-clause-step : goal.returns-clause-step
+returns-clause-step g c = stayed _ _ _ c.self.view_is c.base_table_over.ensures.session refl
+
+pub invariant_of-self-2 : goal.invariant_of-self-2
+invariant_of-self-2 g c =
+    let over : TableValue → Type 0 = λ table. IsTableOver c.self.inside.study.base (routers_of c.base_table_over.new.trees) table.router table in
+    keeps_other _ _ _ _ _ _ _ c.base_table_over.ensures.session c.base_table_over.ensures.graphs
+    (subst over (sym c.in_ok-table-2.ensures ∙ sym c.in_ok-clone-2.ensures.cases)
+    (may_be_kept c.self.inside.study.base c.args.router (routers_of c.base_table_over.new.trees) c.in_ok-table.table
+    c.in_ok-table.ensures.table c.in_ok-table.ensures.kept))
+    c.self.invariant

@@ -1,21 +1,20 @@
-use Rattle.std.proofs.Common.{◌∙◌, refl, sym, ap, subst}
-use Rattle.lsdb.specs.Lists.{Lists}
+use Rattle.std.proofs.Common.{◌∙◌, refl, sym, ap, subst, option_map}
 use Rattle.edit_history.specs.Session.{Session, redo, redo_touches}
 use Rattle.recalculate.specs.Calls.{CarriedOut}
-use Rattle.routing_table.specs.AreasTrees.{AreOfDatabase}
 use Rattle.routing_table.specs.KeptTrees.{less_touched}
 use Rattle.recalculate.specs.Planning.{PlannerValue}
+use Rattle.recalculate.proofs.Bases.{goes_on}
 use Rattle.recalculate.proofs.CallsSpare.{carries_out, shown, redo_taken}
 use Rattle.recalculate.proofs.Touches.{redone_kept}
 use Rattle.recalculate.proofs.planner.Planner.redo.Goals as goal
 
 pub invariant_of-self-2 : goal.invariant_of-self-2
-invariant_of-self-2 g c = record {
-  now = (redone_kept c.self.inside.trees c.drop_done.new.trees c.self.inside.study c.redo.new.self c.self.invariant.now c.args.count
-      c.redo.ensures.reached (c.in_ok-redo.ensures.ok.0 refl) c.in_ok-redo.ensures.session c.drop_done.ensures).graphs;
-  beginning = subst (λ (db : Lists). AreOfDatabase db c.self.inside.first_trees) (sym (ap (λ (s : Session). s.base) c.in_ok-redo.ensures.session))
-      c.self.invariant.beginning;
-}
+invariant_of-self-2 g c =
+    goes_on c.self.inside.study c.redo.new.self c.self.inside.trees c.drop_done.new.trees c.self.inside.first_trees
+    (option_map (λ table. table.value) c.self.inside.first_table) (ap (λ (s : Session). s.base) c.in_ok-redo.ensures.session)
+    (redone_kept c.self.inside.trees c.drop_done.new.trees c.self.inside.study c.redo.new.self c.self.invariant.now c.args.count
+    c.redo.ensures.reached (c.in_ok-redo.ensures.ok.0 refl) c.in_ok-redo.ensures.session c.drop_done.ensures).graphs
+    c.self.invariant
 
 pub returns-clause-kept : goal.returns-clause-kept
 returns-clause-kept g c =
