@@ -24,8 +24,6 @@
 ghost use Rattle.std.specs.Prelude.{◌≡◌, ◌≤◌};
 
 mod ration;
-#[cfg(test)]
-mod tests;
 
 use ration::Ration;
 use std::alloc::{AllocError, Allocator, Global};

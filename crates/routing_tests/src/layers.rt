@@ -1,13 +1,11 @@
-//! What is built on databases, layer by layer, for areas and routers that are named by numbers.
+//! What is built on databases, layer by layer, for routers that are named by numbers.
 
 ghost use Rattle.std.specs.Prelude.{◌≡◌, length, IfOk};
-ghost use Rattle.lsdb.specs.Places.{lists_of};
 ghost use Rattle.area_graph.specs.declared.vertex.Vertex.TheVariants.{Router};
 ghost use Rattle.next_hops.specs.FirstHops.{table_of};
-ghost use Rattle.routing_tests.specs.Layers.{result_in, results_in, IsBackboneOf};
+ghost use Rattle.routing_tests.specs.Layers.{IsBackboneOf};
 
 use area_graph::Graph;
-use area_routes::AreaResult;
 use lsa_codec::{AreaId, RouterId};
 use lsdb::Database;
 use next_hops::Hops;
@@ -35,37 +33,4 @@ pub fn hops_from<A: Allocator + Copy>(
 {
     let tree = Tree::build(alloc, graph, RouterId(root), &mut Meter::new())?;
     Ok(Hops::build(alloc, graph, &tree)?)
-}
-
-/// What an area gives to a router.
-pub fn result_of<A: Allocator + Copy>(
-    alloc: A,
-    database: &Database<A>,
-    area: u32,
-    root: u32,
-) -> Result<AreaResult<A>, Fail>
-    ensures { IfOk result (λ given. given ≡ result_in (lists_of database.now) root area) }
-{
-    let area = AreaId(area);
-    let graph = Graph::build(alloc, database, area)?;
-    let tree = Tree::build(alloc, &graph, RouterId(root), &mut Meter::new())?;
-    let hops = Hops::build(alloc, &graph, &tree)?;
-    Ok(AreaResult::build(alloc, database, area, &graph, &tree, &hops)?)
-}
-
-/// What areas give to a router.
-pub fn results_of<A: Allocator + Copy>(
-    alloc: A,
-    database: &Database<A>,
-    areas: &[u32],
-    root: u32,
-) -> Result<Vec<AreaResult<A>, A>, Fail>
-    ensures { IfOk result
-        (λ results. results.items ≡ results_in (lists_of database.now) root areas.now) }
-{
-    let mut results = Vec::new(alloc);
-    for area in areas {
-        results.push(result_of(alloc, database, *area, root)?)?;
-    }
-    Ok(results)
 }

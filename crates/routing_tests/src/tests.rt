@@ -16,7 +16,6 @@ mod trees;
 // What an area gives, and routes.
 mod attached;
 mod best_ways;
-mod growths;
 
 // Which entry of an AS boundary router counts.
 mod preferred;

@@ -13,8 +13,6 @@ mod link;
 mod list;
 mod lsa;
 mod ring;
-#[cfg(test)]
-mod tests;
 mod text;
 
 pub use doubles::{Failing, FailsOnce, Sink, Source, Zeros};

@@ -118,8 +118,9 @@ fn a_refused_place_changes_nothing(rt: HostRuntime) -> Result<(), Fail> {
 /// then makes it.
 fn growths_of_room(alloc: Global) -> Result<u64, Fail> {
     for growths in 0..MANY {
-        let rationed = Rationed::new(alloc, growths);
+        let rationed = Rationed::new(alloc, u64::MAX);
         let mut history = History::new(&rationed);
+        rationed.leave(growths);
         let refused = history.reserve().is_err();
         if !refused {
             return Ok(growths);
@@ -127,6 +128,8 @@ fn growths_of_room(alloc: Global) -> Result<u64, Fail> {
         if history.done() != 0 || history.undone() != 0 || rationed.left() != 0 {
             return Err("the history has changed")?;
         }
+        rationed.leave(u64::MAX);
+        history.reserve()?;
     }
     Err("room")?
 }

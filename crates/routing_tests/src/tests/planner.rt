@@ -58,7 +58,7 @@ fn is_of_dump<A: Allocator + Copy>(
 
 /// Asks for a table, and tells whether it is refused. A table that is not that of a fresh planner
 /// of the dumped database is a failure.
-pub(super) fn is_table_refused<A: Allocator + Copy>(
+fn is_table_refused<A: Allocator + Copy>(
     planner: &mut Planner<A>,
     alloc: Global,
     router: RouterId,
@@ -225,7 +225,7 @@ fn runs_at_the_beginning(alloc: Global) -> Result<(u64, u64, u64), Fail> {
     let again = planner.kept_base_table(RouterId(R1))?;
     let second = planner.runs();
     let fresh = planner.base_table(RouterId(R1))?;
-    for table in [&again, &fresh] {
+    for table in [again.as_ref(), &fresh] {
         if !same_routes(before.routes().as_slice(), table.routes().as_slice()) {
             return Err(Fail::from("another table"));
         }

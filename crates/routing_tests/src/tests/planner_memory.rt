@@ -1,10 +1,8 @@
-//! Planners and their memory: growths that are counted, and what comes while growths are refused
-//! and after it.
+//! Planners and their memory: growths that are counted, and what comes while growths are refused.
 
-use super::planner::{is_table_refused, planner_of};
+use super::planner::planner_of;
 use edit_history::{EditFault, RedoFault, UndoFault};
 use edit_script::Edit;
-use linked_list_allocator::LocalHeap;
 use lsa_codec::{Addr, AreaId, Lsa, Prefix, RouterId};
 use lsdb::Section;
 use rationed::Rationed;
@@ -89,35 +87,28 @@ fn a_second_table_asks_for_fewer_growths(rt: HostRuntime) -> Result<(), Fail> {
     Ok(())
 }
 
-/// The octets of a heap.
-const HEAP: usize = 65_536;
-
-/// Whether a table is refused while so many octets of the planner's heap are taken.
-fn is_refused(planner: &mut Planner<&LocalHeap>, heap: &LocalHeap, octets: usize) -> bool {
-    let _taken: Result<Vec<u8, &LocalHeap>, AllocError> = Vec::with_capacity(heap, octets);
-    planner.table(RouterId(R1)).is_err()
-}
-
-/// The same for a planner without trees, and whether the table that follows, which is right, is
-/// refused, once they are free.
-fn refused_and_then(alloc: Global, octets: usize) -> Result<(bool, bool), Fail> {
-    let heap = LocalHeap::new(alloc, HEAP)?;
-    let mut planner = with_costs(&heap, SAMPLE, 7..8)?;
-    let refused = is_refused(&mut planner, &heap, octets);
-    let then = is_table_refused(&mut planner, alloc, RouterId(R1))?;
-    Ok((refused, then))
+/// The growths of a table of a router in the database of the beginning.
+fn growths_at_the_beginning(
+    planner: &mut Planner<&Rationed>,
+    rationed: &Rationed,
+    router: u32,
+) -> Result<u64, Fail> {
+    let before = rationed.left();
+    let _table = planner.kept_base_table(RouterId(router))?;
+    Ok(before.saturating_sub(rationed.left()))
 }
 
 #[test]
-fn tables_after_a_refused_growth_are_right(rt: HostRuntime) -> Result<(), Fail> {
-    let mut refusals = 0u32;
-    for step in 0..250usize {
-        let octets = HEAP - 256 * step;
-        let (refused, then) = refused_and_then(rt.alloc(), octets)?;
-        assert!(rt; !then, "{octets} octets taken");
-        refusals = refusals.saturating_add(u32::from(refused));
-    }
-    assert!(rt; 5 < refusals && refusals < 200, "{refusals} refused");
+fn a_second_table_of_the_beginning_asks_for_no_growth(rt: HostRuntime) -> Result<(), Fail> {
+    let rationed = Rationed::new(rt.alloc(), u64::MAX);
+    let mut planner = planner_of(&rationed, SAMPLE)?;
+    assert!(rt; growths_at_the_beginning(&mut planner, &rationed, R1)? > 0);
+    planner.edit(&cost(7))?;
+    assert_eq!(rt; growths_at_the_beginning(&mut planner, &rationed, R1)?, 0);
+    planner.undo(1)?;
+    assert_eq!(rt; growths_at_the_beginning(&mut planner, &rationed, R1)?, 0);
+    assert!(rt; growths_at_the_beginning(&mut planner, &rationed, R2)? > 0);
+    assert!(rt; growths_at_the_beginning(&mut planner, &rationed, R1)? > 0);
     Ok(())
 }
 

@@ -52,7 +52,7 @@ info
 const ON_SAVED: &[u8] =
     b"info\nredo 1\nundo 2\nadd-stub 0.0.0.0 1.1.1.1 10.9.0.0/16 3\ntables\n@1 redo 1\n@1 info\n";
 
-/// The same, on the dump of two areas.
+/// The same and `refresh`, which rewrites a summary-LSA of 1.1.1.1, on the dump of two areas.
 const ON_TWO_AREAS: &[u8] = b"cost 0.0.0.0 1.1.1.1 1 11
 add-stub 0.0.0.1 1.1.1.1 10.9.0.0/16 3
 drop-link 0.0.0.1 1.1.1.1 2
@@ -60,6 +60,7 @@ summary 0.0.0.0 2.2.2.2 10.20.0.0/16 16777215
 add-summary 0.0.0.1 3.3.3.3 10.8.0.0/16 7
 add-external 3.3.3.3 10.30.0.0/16 2 5 0.0.0.0 0
 drop-external 3.3.3.3 10.30.0.0/16
+refresh
 table 1.1.1.1
 fail-link 0.0.0.1 1.1.1.1 3.3.3.3
 fail-net 0.0.0.0 10.5.0.3
@@ -76,6 +77,7 @@ info
 @1 add-summary 0.0.0.1 3.3.3.3 10.8.0.0/16 7
 @1 add-external 3.3.3.3 10.30.0.0/16 2 5 0.0.0.0 0
 @1 drop-external 3.3.3.3 10.30.0.0/16
+@1 refresh
 @1 table 1.1.1.1
 @1 fail-link 0.0.0.1 1.1.1.1 3.3.3.3
 @1 fail-net 0.0.0.0 10.5.0.3

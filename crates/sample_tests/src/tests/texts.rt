@@ -1,7 +1,7 @@
 //! Dumps that are made from texts.
 
 use super::made::NETWORK_LSA;
-use crate::{SAMPLE, TextFault, dump_of_text};
+use samples::{SAMPLE, TextFault, dump_of_text};
 use std::test::*;
 
 #[test]

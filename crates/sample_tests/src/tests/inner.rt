@@ -1,7 +1,7 @@
 //! What the inner allocator is asked for, and what it gets back.
 
-use crate::Rationed;
 use linked_list_allocator::LocalHeap;
+use rationed::Rationed;
 use std::alloc::AllocError;
 
 /// The inner allocator is a heap that tells how many bytes are handed out.

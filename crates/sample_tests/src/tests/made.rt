@@ -1,6 +1,6 @@
 //! LSAs and dumps that are made from fields.
 
-use crate::{LsaList, MASK_16, R1, R2, R3, SAMPLE, dump_of, to_router, to_stub};
+use samples::{LsaList, MASK_16, R1, R2, R3, SAMPLE, dump_of, to_router, to_stub};
 use std::test::*;
 
 /// The network-LSA of 10.5.0.3 by 3.3.3.3, which lists 1.1.1.1 and its originator.

@@ -1,6 +1,6 @@
 //! Growths that are granted, counted and refused.
 
-use crate::Rationed;
+use rationed::Rationed;
 use std::alloc::{AllocError, Allocator};
 
 /// More pushes than the tests' growths need: a list doubles.

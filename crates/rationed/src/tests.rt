@@ -1,4 +1,0 @@
-//! What no contract says of the count and of the inner allocator.
-
-mod counting;
-mod inner;

@@ -1,4 +1,0 @@
-//! What is made is what is written elsewhere octet by octet.
-
-mod made;
-mod texts;
