@@ -1,93 +1,74 @@
--- Links back that are added to a set.
-use Rattle.std.proofs.Common.{◌≡◌, ℕ, ◌+◌, ◌<◌, ◌≤◌, eqb, ltb, Bool, true, false, cond, ◌&&◌, ◌||◌, List, [], ◌∷◌, length, take, get_or, refl, sym, ap, ◌∙◌}
-use Rattle.std.proofs.Common.{arith, ⊎_elim}
+-- The vertices that rows name, in order.
+use Rattle.std.proofs.Common.{◌≡◌, ℕ, ◌+◌, ◌<◌, ◌≤◌, ◌||◌, eqb, subst, Bool, true, false, List, [], ◌∷◌, ◌++◌, length, map, get_or, refl, sym, ap, ◌∙◌, arith, ⊎_elim}
+use Rattle.std.proofs.Common.{Result, Ok, Err}
+use Rattle.std.specs.Prelude.{MatchResult, is_ok}
 use Rattle.std.specs.List.{list_any}
-use Rattle.std.specs.HashSet.{HashSet, Updates}
-use Rattle.std.proofs.lemmas.Bool.{eqb-true, eqb-false, cases_lt, lt-ltb, le-ltb}
-use Rattle.std.proofs.lemmas.List.{take_more}
-use Rattle.std.proofs.lemmas.List.Folds.{list_any-append}
+use Rattle.std.specs.List.Sorted.{IsBinarySearchResult, IsNonDecreasing, IsPermutation, IsSearchInRange}
+use Rattle.std.specs.Ordering.{nat_cmp}
+use Rattle.std.proofs.lemmas.Bool.{cases_lt, cases_eq, eq-eqb, ne_eqb}
+use Rattle.std.proofs.lemmas.Grind.{get_or_default_zero}
+use Rattle.std.proofs.lemmas.List.{get_or_append_left, get_or_push, length_push, map_push, length-map}
+use Rattle.std.proofs.lemmas.List.Folds.{list_any_at, list_any_none}
+use Rattle.std.proofs.lemmas.List.Sorted.{list_any-IsPermutation, searched}
 use Rattle.area_graph.specs.declared.edge.Edge.{Edge}
-use Rattle.area_graph.specs.declared.back_links.BackLink.{BackLink}
-use Rattle.area_graph.specs.steps.Naming.{row_in, names_in}
-use Rattle.area_graph.specs.steps.BackLinks.{same_back_link, is_long, has, AddsLink, AddsLinks, AddsLong, AreLongBelow, AreBackLinks}
+use Rattle.area_graph.specs.steps.Naming.{names_in, row_in}
+use Rattle.area_graph.specs.steps.BackLinks.{AreBackLinks, AreTargets, HasTargets, HaveTargets, targets_of}
 
-both : (a b c o : Bool) → ((a && c) || ((a && b) || o)) ≡ ((a && (b || (c || false))) || o)
-both true true true o = refl
-both true true false o = refl
-both true false true o = refl
-both true false false o = refl
-both false b c o = refl
+-- a short row has none
+pub none_of_short : (row : List Edge) (targets : List ℕ) → length row ≤ 16 → HasTargets row targets
+none_of_short row targets short = λ long. absurd (omega arith)
 
-none : (a : Bool) → false ≡ (a && false)
-none true = refl
-none false = refl
+-- ---- one row more
 
-abbrev here : List (List Edge) → ℕ → ℕ → Bool
-here rows j k = is_long (row_in rows k) && names_in rows k j
+pub no_rows : (rows : List (List Edge)) → HaveTargets 0 rows []
+no_rows rows = record { each = refl; here = λ i lt. absurd (omega arith) }
 
-below_next : (i n : ℕ) → eqb n i ≡ false → ltb i n ≡ ltb i (n + 1)
-below_next i n other =
-    ⊎_elim (λ lt. lt-ltb i n lt ∙ sym (lt-ltb i (n + 1) (omega arith)))
-    (λ ge. ⊎_elim (λ gt. le-ltb i n ge ∙ sym (le-ltb i (n + 1) (omega arith)))
-    (λ le. absurd (eqb-false n i other (omega arith))) (cases_lt n i))
-    (cases_lt i n)
+module _ (rows : List (List Edge)) (n : ℕ) (old : List (List ℕ)) (row : List Edge) (one : List ℕ)
+    (before : HaveTargets n rows old) (at : row ≡ row_in rows n) (has : HasTargets row one) where
+  pub one_more : (new : List (List ℕ)) → new ≡ old ++ one ∷ [] → HaveTargets (n + 1) rows new
+  one_more new is = record {
+    each = ap length is ∙ length_push old one ∙ ap (λ k. k + 1) before.each;
+    here = λ i lt. ⊎_elim
+        (λ (less : i < n). subst (λ ts. HasTargets (row_in rows i) ts) (let within : i < length old = omega (arith, before.each) in
+        sym (ap (λ ts. get_or ts i []) is ∙ get_or_append_left old (one ∷ []) [] i within)) (before.here i less))
+        (λ (ge : n ≤ i). (let same : n ≡ i = omega arith in
+        subst (λ ts. HasTargets (row_in rows i) ts) (sym (ap (λ ts. get_or ts i []) is ∙ get_or_push old one [] i (before.each ∙ same)))
+        (subst (λ k. HasTargets (row_in rows k) one) same (subst (λ r. HasTargets r one) at has))))
+        (cases_lt i n);
+  }
 
-module _ {S : Type 0} where
-  pub link_added : (of named : ℕ) (old new : HashSet BackLink S) → Updates same_back_link old new (record { of = of; named = named }) true
-      → AddsLink of named old new
-  link_added of named old new updates i j = updates.0 (record { of = i; named = j }) ∙ by (eqb of i && eqb named j)
-    where
-      by : (b : Bool) → cond b true (has old i j) ≡ (b || has old i j)
-      by true = refl
-      by false = refl
+-- ---- a vertex among those that a row names
 
-  pub links_nothing : (of : ℕ) (old : HashSet BackLink S) → AddsLinks of [] old old
-  links_nothing of old i j = ap (λ t. t || has old i j) (none (eqb of i))
+module _ (targets : List ℕ) (vertex : ℕ) where
+  pub among : (i : ℕ) → i < length targets → get_or targets i 0 ≡ vertex → list_any (λ t. eqb t vertex) targets ≡ true
+  among i lt is = list_any_at (λ t. eqb t vertex) targets i 0 lt (eq-eqb _ _ is)
 
-  -- the links back of one more edge
-  pub links_more : (of : ℕ) (row : List Edge) (i : ℕ) (d : Edge) (old mid new : HashSet BackLink S) → i < length row
-      → AddsLinks of (take i row) old mid → AddsLink of (get_or row i d).to mid new → AddsLinks of (take (i + 1) row) old new
-  links_more of row n d old mid new lt a b i j =
-      let named : Edge → Bool = λ f. eqb f.to j in
-      let e = get_or row n d in
-      b i j ∙ ap (λ t. (eqb of i && eqb e.to j) || t) (a i j)
-      ∙ both (eqb of i) (list_any named (take n row)) (eqb e.to j) (has old i j)
-      ∙ ap (λ t. (eqb of i && t) || has old i j) (sym (ap (list_any named) (take_more row n d lt) ∙ list_any-append named (take n row) (e ∷ [])))
+  pub not_among : (place : ℕ) → ((k : ℕ) → k < place → get_or targets k 0 < vertex)
+      → ((k : ℕ) → place ≤ k → k < length targets → vertex < get_or targets k 0) → list_any (λ t. eqb t vertex) targets ≡ false
+  not_among place below above =
+      list_any_none (λ t. eqb t vertex) targets
+      (λ k d lt. ⊎_elim
+      (λ less. ne_eqb _ _ (λ e. absurd (let b = below k less in let z : get_or targets k d ≡ get_or targets k 0 = get_or_default_zero targets k d lt in omega arith)))
+      (λ ge. ne_eqb _ _ (λ e. absurd (let a = above k ge lt in let z : get_or targets k d ≡ get_or targets k 0 = get_or_default_zero targets k d lt in omega arith)))
+      (cases_lt k place))
 
-  pub links_whole : (of : ℕ) (row : List Edge) (old new : HashSet BackLink S) → 16 < length row → AddsLinks of row old new → AddsLong of row old new
-  links_whole of row old new lt a i j =
-      let long = lt-ltb 16 (length row) lt in
-      a i j ∙ ap (λ t. (eqb of i && (t && list_any (λ e. eqb e.to j) row)) || has old i j) (sym long)
+any_targets : (row : List Edge) (vertex : ℕ) → list_any (λ t. eqb t vertex) (targets_of row) ≡ list_any (λ e. eqb e.to vertex) row
+any_targets [] vertex = refl
+any_targets (e ∷ es) vertex = ap (λ b. eqb e.to vertex || b) (any_targets es vertex)
 
-  pub links_short : (of : ℕ) (row : List Edge) (old : HashSet BackLink S) → length row ≤ 16 → AddsLong of row old old
-  links_short of row old le i j =
-      let short = le-ltb 16 (length row) le in
-      ap (λ t. t || has old i j) (none (eqb of i)) ∙ ap (λ t. (eqb of i && (t && list_any (λ e. eqb e.to j) row)) || has old i j) (sym short)
+-- what is among the vertices that a long row names
+pub named_among : (row : List Edge) (targets : List ℕ) (vertex : ℕ) → AreTargets row targets
+    → list_any (λ t. eqb t vertex) targets ≡ list_any (λ e. eqb e.to vertex) row
+named_among row targets vertex are =
+    sym (list_any-IsPermutation (λ t. eqb t vertex) (targets_of row) targets are.same) ∙ any_targets row vertex
 
-  -- one more row
-  pub long_more : (rows : List (List Edge)) (n : ℕ) (old new : HashSet BackLink S) → AreLongBelow n rows old → AddsLong n (row_in rows n) old new
-      → AreLongBelow (n + 1) rows new
-  long_more rows n old new a b i j =
-      b i j ∙ ap (λ t. (eqb n i && here rows j n) || t) (a i j) ∙ by (eqb n i) refl
-    where
-      or_false : (x : Bool) → (x || false) ≡ x
-      or_false true = refl
-      or_false false = refl
-
-      by : (b : Bool) → eqb n i ≡ b → ((b && here rows j n) || (ltb i n && here rows j i)) ≡ (ltb i (n + 1) && here rows j i)
-      by true is =
-          let same : n ≡ i = eqb-true n i is in
-          ap (λ t. here rows j n || (t && here rows j i)) (le-ltb i n (omega arith)) ∙ or_false (here rows j n) ∙ ap (here rows j) same
-          ∙ ap (λ t. t && here rows j i) (sym (lt-ltb i (n + 1) (omega arith)))
-      by false is = ap (λ t. t && here rows j i) (below_next i n is)
-
-  -- no set, and no rows
-  pub long_none : (rows : List (List Edge)) (links : HashSet BackLink S) → ((i j : ℕ) → has links i j ≡ false) → AreLongBelow 0 rows links
-  long_none rows links none i j = none i j ∙ ap (λ t. t && (is_long (row_in rows i) && names_in rows i j)) (sym (le-ltb i 0 (omega arith)))
-
-  -- what the set has of a long row
-  pub long_has : (rows : List (List Edge)) (links : HashSet BackLink S) → AreBackLinks rows links → (i j : ℕ) → i < length rows
-      → 16 < length (row_in rows i) → has links i j ≡ names_in rows i j
-  long_has rows links are i j lt long =
-      are.long i j ∙ ap (λ t. t && (is_long (row_in rows i) && names_in rows i j)) (lt-ltb i (length rows) lt)
-      ∙ ap (λ t. t && names_in rows i j) (lt-ltb 16 (length (row_in rows i)) long)
+-- what a binary search says
+pub found_among : (targets : List ℕ) (vertex : ℕ) (r : Result ℕ ℕ) → IsNonDecreasing targets → IsSearchInRange r (length targets)
+    → IsBinarySearchResult (λ y. nat_cmp y vertex) targets r → (found : Bool) → found ≡ is_ok r → found ≡ list_any (λ t. eqb t vertex) targets
+found_among targets vertex r up within search found is = by r refl (searched targets vertex r search (λ i j le lt. up i j 0 le lt))
+  where
+    by : (s : Result ℕ ℕ) → r ≡ s → MatchResult s (λ i. (i < length targets) × (get_or targets i 0 ≡ vertex))
+        (λ i. (i ≤ length targets) × ((k : ℕ) → k < i → get_or targets k 0 < vertex)
+        × ((k : ℕ) → i ≤ k → k < length targets → vertex < get_or targets k 0)) → found ≡ list_any (λ t. eqb t vertex) targets
+    by (Ok i) e m = is ∙ ap is_ok e ∙ sym (among targets vertex i m.0 m.1)
+    by (Err i) e m = is ∙ ap is_ok e ∙ sym (not_among targets vertex i m.1 m.2)

@@ -21,3 +21,5 @@ pub mod JoinLemmas
 pub mod OverLemmas
 pub mod UsedLemmas
 pub mod GraphLemmas
+pub mod ByKey
+pub mod InUseLemmas

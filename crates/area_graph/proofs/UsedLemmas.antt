@@ -20,7 +20,7 @@ use Rattle.area_graph.proofs.AreaLemmas.{number_in, number_of_vertex, kind_of_ve
 abbrev IsHighest : List (List ℕ) → List ℕ → Type 0
 IsHighest live lsa = In live lsa × (list_any (is_outranked_by lsa) live ≡ false)
 
-false_from_not : (b : Bool) → not b ≡ true → b ≡ false
+pub false_from_not : (b : Bool) → not b ≡ true → b ≡ false
 false_from_not false h = refl
 false_from_not true h = absurd (true≢false (sym h))
 
@@ -49,12 +49,12 @@ one_adv live a b ta tb ka kb id =
     (λ ge. ⊎_elim (λ lt. absurd (not_below live b a tb ta.0 kb ka id lt)) (λ le. omega arith) (cases_lt (advertising_router_of b) (advertising_router_of a)))
     (cases_lt (advertising_router_of a) (advertising_router_of b))
 
-origin_of : (a : List ℕ) → IsAccepted a → kind_of a ≡ 1 → link_state_id_of a ≡ advertising_router_of a
+pub origin_of : (a : List ℕ) → IsAccepted a → kind_of a ≡ 1 → link_state_id_of a ≡ advertising_router_of a
 origin_of a accepted one =
     eqb-true _ _ (subst (λ b. (not b || eqb (link_state_id_of a) (advertising_router_of a)) ≡ true) (eq-eqb (kind_of a) 1 one) accepted.origin)
 
 -- a router-LSA or a network-LSA
-kind_cases : (lsa : List ℕ) → is_vertex_lsa lsa ≡ true → (is_router_lsa lsa ≡ true) ⊎ ((is_router_lsa lsa ≡ false) × (is_network_lsa lsa ≡ true))
+pub kind_cases : (lsa : List ℕ) → is_vertex_lsa lsa ≡ true → (is_router_lsa lsa ≡ true) ⊎ ((is_router_lsa lsa ≡ false) × (is_network_lsa lsa ≡ true))
 kind_cases lsa h = by (is_router_lsa lsa) refl (and_parts (is_live lsa) (is_router_lsa lsa || is_network_lsa lsa) h).1
   where
     by : (b : Bool) → is_router_lsa lsa ≡ b → (b || is_network_lsa lsa) ≡ true

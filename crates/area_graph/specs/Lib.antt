@@ -5,6 +5,7 @@ pub mod Rising
 pub mod AllPaths
 pub mod Topology
 pub mod Area
+pub mod InUse
 pub mod AreaEdges
 pub mod Joins
 pub mod Rows

@@ -4,3 +4,4 @@ pub mod Spans
 pub mod Naming
 pub mod Drafts
 pub mod BackLinks
+pub mod KeyRange

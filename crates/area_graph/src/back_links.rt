@@ -1,29 +1,21 @@
 //! Links back: an edge is there only where the other end names the vertex too (RFC 2328, 16.1).
 
-ghost use Rattle.std.specs.Prelude.{◌≡◌, true, ◌<◌, length, All, OnOk, IfOk};
-ghost use Rattle.std.specs.HashSet.{Updates};
+ghost use Rattle.std.specs.Prelude.{◌≡◌, ◌==◌, ◌<◌, length, map, All, IfOk};
+ghost use Rattle.std.specs.List.{list_any};
+ghost use Rattle.std.specs.List.Sorted.{IsNonDecreasing};
 ghost use Rattle.area_graph.specs.steps.Naming.{names_in, row_in};
 ghost use Rattle.area_graph.specs.steps.Drafts.{AreWithin};
-ghost use Rattle.area_graph.specs.steps.BackLinks.{same_back_link, has, AddsLink, AddsLinks, AddsLong, AreLongBelow};
+ghost use Rattle.area_graph.specs.steps.BackLinks.{HasTargets, HaveTargets, targets_of};
 
 use crate::edge::Edge;
 use crate::rows::Rows;
 use std::alloc::{AllocError, Allocator};
-use std::collections::HashSet;
-use std::hash::{BuildHasherDefault, FoldHasher};
 use std::marker::Model;
 
-/// One vertex names another, and so links back to it: their numbers.
-#[derive(Clone, Copy, Debug, PartialEq, Eq, Hash)]
-pub(crate) struct BackLink {
-    of: usize,
-    named: usize,
-}
+/// The numbers of vertices that a row names, in rising order.
+type Targets<A> = Vec<usize, A>;
 
-/// Links back, each of which is found by a hash.
-pub(crate) type LinkSet<A> = HashSet<BackLink, BuildHasherDefault<FoldHasher>, A>;
-
-/// How many edges are looked through; those of longer rows are found by a hash.
+/// How many edges are looked through; in longer rows a vertex is found by a binary search.
 const SHORT_ROW: usize = 16;
 
 /// Which vertices name which others, by their numbers. Contracts see it as a row for each vertex:
@@ -31,11 +23,12 @@ const SHORT_ROW: usize = 16;
 #[derive(Drop)]
 pub(crate) struct BackLinks<A: Allocator> {
     naming: Rows<A>,
-    long: LinkSet<A>,
+    /// Those that each row names, if it is long.
+    targets: Vec<Targets<A>, A>,
 }
 
 impl<A: Allocator> Model for BackLinks<A> {
-    ghost use Rattle.std.specs.Prelude.{List, length};
+    ghost use Rattle.std.specs.Prelude.{List, map};
     ghost use Rattle.area_graph.specs.declared.edge.Edge.{Edge as AnyEdge};
     ghost use Rattle.area_graph.specs.steps.BackLinks.{AreBackLinks};
 
@@ -43,72 +36,54 @@ impl<A: Allocator> Model for BackLinks<A> {
 
     ghost view = { λ b. b.naming };
 
-    ghost invariant = { λ b. AreBackLinks b.naming b.long };
+    ghost invariant = { λ b. AreBackLinks b.naming (map (λ row. row.items) b.targets.items) };
 }
 
-fn insert<A: Allocator + Copy>(
-    links: &mut LinkSet<A>,
-    back_link: BackLink,
-) -> Result<(), AllocError>
-    ensures { OnOk result (Updates same_back_link links.old links.new back_link true) }
+/// The vertices that a row names, in the order of the row.
+fn targets_of<A: Allocator + Copy>(alloc: A, row: &[Edge]) -> Result<Targets<A>, AllocError>
+    ensures { IfOk result (λ targets. targets.items ≡ targets_of row.now) }
 {
-    links.insert(back_link)?;
-    Ok(())
-}
-
-fn add_link<A: Allocator + Copy>(
-    links: &mut LinkSet<A>,
-    of: usize,
-    named: usize,
-) -> Result<(), AllocError>
-    ensures { OnOk result (AddsLink of named links.old links.new) }
-{
-    insert(links, BackLink { of, named })
-}
-
-/// Adds the links back of a vertex to those to which these edges lead.
-fn add_links<A: Allocator + Copy>(
-    links: &mut LinkSet<A>,
-    of: usize,
-    row: &[Edge],
-) -> Result<(), AllocError>
-    ensures { OnOk result (AddsLinks of row.now links.old links.new) }
-{
+    let mut targets = Vec::with_capacity(alloc, row.len())?;
     for edge in row {
-        add_link(links, of, edge.to)?;
+        targets.push(edge.to)?;
     }
-    Ok(())
+    Ok(targets)
 }
 
-/// Adds the links back of a vertex, if its row is long.
-fn add_long<A: Allocator + Copy>(
-    links: &mut LinkSet<A>,
-    of: usize,
-    row: &[Edge],
-) -> Result<(), AllocError>
-    ensures { OnOk result (AddsLong of row.now links.old links.new) }
+/// The vertices that a row names, in rising order, if it is long.
+fn sorted_targets<A: Allocator + Copy>(alloc: A, row: &[Edge]) -> Result<Targets<A>, AllocError>
+    ensures { IfOk result (λ targets. HasTargets row.now targets.items) }
 {
     if row.len() <= SHORT_ROW {
-        return Ok(());
+        return Ok(Vec::new(alloc));
     }
-    add_links(links, of, row)
+    let mut targets = targets_of(alloc, row)?;
+    // The links of a router mostly stand in an order, and then this takes one pass.
+    targets.sort()?;
+    Ok(targets)
 }
 
-/// The links back of those vertices whose rows are long.
-fn long_links<A: Allocator + Copy>(alloc: A, naming: &Rows<A>) -> Result<LinkSet<A>, AllocError>
-    ensures { IfOk result (AreLongBelow (length naming.now) naming.now) }
+/// The vertices that each row names, in rising order, if it is long.
+fn targets_of_rows<A: Allocator + Copy>(
+    alloc: A,
+    naming: &Rows<A>,
+) -> Result<Vec<Targets<A>, A>, AllocError>
+    ensures { IfOk result (λ targets. HaveTargets (length naming.now) naming.now
+        (map (λ row. row.items) targets.items)) }
 {
-    let mut links = HashSet::new(alloc);
+    let mut targets = Vec::with_capacity(alloc, naming.len())?;
     for of in 0..naming.len() {
-        add_long(&mut links, of, naming.row(of))?;
+        targets.push(sorted_targets(alloc, naming.row(of))?)?;
     }
-    Ok(links)
+    Ok(targets)
 }
 
-fn has<A: Allocator + Copy>(links: &LinkSet<A>, of: usize, named: usize) -> bool
-    ensures { result ≡ has links.now of named }
+/// Whether a vertex is among some, which stand in rising order.
+fn is_among(targets: &[usize], vertex: usize) -> bool
+    requires { IsNonDecreasing targets.now }
+    ensures { result ≡ list_any (λ target. target == vertex) targets.now }
 {
-    links.contains(&BackLink { of, named })
+    targets.binary_search(&vertex).is_ok()
 }
 
 impl<A: Allocator + Copy> BackLinks<A> {
@@ -117,8 +92,8 @@ impl<A: Allocator + Copy> BackLinks<A> {
         requires { AreWithin (length naming) naming }
         ensures { IfOk result (λ back_links. back_links ≡ naming) }
     {
-        let long = long_links(alloc, &naming)?;
-        Ok(BackLinks { naming, long })
+        let targets = targets_of_rows(alloc, &naming)?;
+        Ok(BackLinks { naming, targets })
     }
 
     /// How many vertices there are.
@@ -146,7 +121,7 @@ impl<A: Allocator + Copy> BackLinks<A> {
         if row.len() <= SHORT_ROW {
             row.iter().any(|edge| edge.to == other)
         } else {
-            has(&self.long, of, other)
+            is_among(&self.targets[of], other)
         }
     }
 }

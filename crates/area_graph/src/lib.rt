@@ -12,6 +12,7 @@ mod vertex;
 
 // The LSAs that make it.
 mod back_links;
+mod by_key;
 mod naming;
 mod numbers;
 mod ranks;
@@ -26,6 +27,7 @@ mod rows;
 // What holds of the definitions.
 mod laws;
 
+pub use by_key::lsa_of_vertex;
 pub use edge::Edge;
 pub use fault::GraphFault;
 pub use graph::Graph;

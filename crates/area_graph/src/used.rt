@@ -25,7 +25,7 @@ impl<'a, A: Allocator> Model for VertexLsa<'a, A> {
 }
 
 impl<'a, A: Allocator + Copy> VertexLsa<'a, A> {
-    fn of(lsa: &'a Lsa<A>) -> VertexLsa<'a, A>
+    pub(crate) fn of(lsa: &'a Lsa<A>) -> VertexLsa<'a, A>
         ensures { result ≡ lsa.now }
     {
         VertexLsa { lsa }
@@ -51,7 +51,8 @@ pub(crate) fn vertex_of<A: Allocator + Copy>(lsa: &Lsa<A>) -> Vertex
     }
 }
 
-fn is_vertex_lsa<A: Allocator + Copy>(lsa: &Lsa<A>) -> bool
+/// Whether it is the LSA of a vertex: a router-LSA or network-LSA below MaxAge.
+pub(crate) fn is_vertex_lsa<A: Allocator + Copy>(lsa: &Lsa<A>) -> bool
     ensures { result ≡ is_vertex_lsa lsa.now }
 {
     let kind = lsa.key().kind;

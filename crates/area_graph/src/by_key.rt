@@ -1,0 +1,88 @@
+//! The LSA in use of a vertex, found by its key.
+
+ghost use Rattle.std.specs.Prelude.{◌≡◌, Some, true, IsSome, IfSome};
+ghost use Rattle.lsdb.specs.Places.{item_at, slot_at, lsas_in};
+ghost use Rattle.area_graph.specs.declared.vertex.Vertex.TheVariants.{Network};
+ghost use Rattle.area_graph.specs.Area.{is_vertex_lsa, vertex_of};
+ghost use Rattle.area_graph.specs.InUse.{IsLsaOf};
+ghost use Rattle.area_graph.specs.steps.KeyRange.{HasKeysBetween};
+
+use crate::used::{VertexLsa, is_vertex_lsa, vertex_of};
+use crate::vertex::Vertex;
+use lsa_codec::{Addr, Key, NETWORK_LSA, RouterId};
+use lsdb::{Database, SlotId};
+use std::alloc::Allocator;
+
+/// The least and the greatest key that the network-LSA of a network may have: any router may have
+/// originated it (RFC 2328, 12.1.4).
+fn network_keys(network: Addr) -> (Key, Key)
+    ensures { HasKeysBetween (Network network) result.0 result.1 }
+{
+    let least = Key {
+        kind: NETWORK_LSA,
+        id: network,
+        adv: RouterId(0),
+    };
+    let greatest = Key {
+        adv: RouterId(u32::MAX),
+        ..least
+    };
+    (least, greatest)
+}
+
+/// The least and the greatest key that the LSA of a vertex may have. A router's has one key alone
+/// (RFC 2328, 12.1.4).
+fn key_range(vertex: Vertex) -> (Key, Key)
+    ensures { HasKeysBetween vertex result.0 result.1 }
+{
+    match vertex {
+        Vertex::Router(router) => (Key::of_router(router), Key::of_router(router)),
+        Vertex::Network(network) => network_keys(network),
+    }
+}
+
+/// The LSA at a place, if it is below MaxAge and that of a vertex.
+fn live_at<A: Allocator + Copy>(
+    database: &Database<A>,
+    slot: SlotId,
+    vertex: Vertex,
+) -> Option<VertexLsa<'_, A>>
+    ensures at { IfSome result (λ lsa. slot_at database.now slot ≡ Some (Some lsa)) }
+    ensures live { IfSome result (λ lsa. is_vertex_lsa lsa ≡ true) }
+    ensures vertex { IfSome result (λ lsa. vertex_of lsa ≡ vertex) }
+{
+    let Some(lsa) = database.get(slot) else {
+        return None;
+    };
+    if !is_vertex_lsa(lsa) || vertex_of(lsa) != vertex {
+        return None;
+    }
+    Some(VertexLsa::of(lsa))
+}
+
+/// The LSA in use of a vertex of an area's graph, found by its key in the area's section, which is
+/// given by its number. `None` where the area has no such LSA, and where it may have several: more
+/// than one router may have originated network-LSAs of one Link State ID.
+///
+/// It takes no memory, and its steps are in the logarithm of the number of the section's LSAs.
+pub fn lsa_of_vertex<A: Allocator + Copy>(
+    database: &Database<A>,
+    section: usize,
+    vertex: Vertex,
+) -> Option<VertexLsa<'_, A>>
+    requires { IsSome (item_at database.now section) }
+    ensures { IfSome result (λ lsa. IsLsaOf (lsas_in database.now section) vertex lsa) }
+{
+    // For its LSAs: they are accepted.
+    database.known();
+    let (least, greatest) = key_range(vertex);
+    let keys = database.keys_between(section, least, greatest);
+    if keys.len() != 1 {
+        return None;
+    }
+    let slot = SlotId {
+        section,
+        index: keys[0].index,
+    };
+    live_at(database, slot, vertex)
+}
