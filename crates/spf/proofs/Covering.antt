@@ -9,7 +9,7 @@ use Rattle.spf.specs.declared.queue.Candidate.{Candidate}
 use Rattle.spf.specs.steps.Relaxation.{IsAtMost}
 use Rattle.spf.specs.Candidates.{candidate_at}
 use Rattle.spf.proofs.Keys.{distance_from_key}
-use Rattle.spf.proofs.Searching.{IsQueued}
+use Rattle.spf.specs.steps.Search.{IsQueued}
 use Rattle.spf.proofs.Taking.{queue_cases, settled_below}
 use Rattle.spf.proofs.Settling.{Settles, settled_at, stays, next_at, settled_cases, next_small, first_key}
 
@@ -37,7 +37,7 @@ module _ (t : Topology) (root : ℕ) (ds : List (Option ℕ)) (order : List ℕ)
     from_next arc from same =
         ⊎_elim
         (λ some. inl (low_where_settled (get_or (settled_at ds next) e.to None) refl some same))
-        (λ there. inr (candidate_at t (next.distance + e.cost) e.to, there, refl, (let le : next.distance + e.cost ≤ d + e.cost = omega arith in le)))
+        (λ there. inr (there.0, there.1, there.2, (let low : there.0.distance ≤ next.distance + e.cost = there.3 in let le : there.0.distance ≤ d + e.cost = omega arith in le)))
         (s.pushes.all e arc from)
 
     low_still : (o : Option ℕ) → get_or ds e.to None ≡ o → IsAtMost o (d + e.cost) → IsAtMost (get_or (settled_at ds next) e.to None) (d + e.cost)

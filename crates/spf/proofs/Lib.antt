@@ -3,6 +3,7 @@ pub mod Closing
 pub mod Relaxing
 pub mod Keys
 pub mod Pushing
+pub mod Nearest
 pub mod Searching
 pub mod Taking
 pub mod Settling

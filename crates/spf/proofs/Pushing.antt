@@ -9,7 +9,7 @@ use Rattle.area_graph.specs.declared.edge.Edge.{Edge}
 use Rattle.area_graph.specs.Topology.{Topology, row_at}
 use Rattle.spf.specs.declared.queue.Candidate.{Candidate}
 use Rattle.spf.specs.Candidates.{candidate_at}
-use Rattle.spf.specs.steps.Search.{PushesEdge, PushesNeighbours}
+use Rattle.spf.specs.steps.Search.{Adds, IsQueued, PushesEdge, PushesNeighbours}
 use Rattle.std.specs.Prelude.{MatchOption}
 use Rattle.spf.proofs.Closing.{arc_from}
 
@@ -42,7 +42,7 @@ module _ {X : Type 0} (x : X) (xs ys : List X) (p : IsPermutation (x ∷ xs) ys)
 pub record PushesRow (t : Topology) (distance : ℕ) (ds : List (Option ℕ)) (row : List Edge) (old new : List Candidate) : Type 0 where
   pub kept : (c : Candidate) → Contains old c → Contains new c
   pub only : (c : Candidate) → Contains new c → Contains old c ⊎ ((o : Edge) × Contains row o × (c ≡ candidate_at t (distance + o.cost) o.to))
-  pub all : All (λ (o : Edge). IsSome (get_or ds o.to None) ⊎ Contains new (candidate_at t (distance + o.cost) o.to)) row
+  pub all : All (λ (o : Edge). IsSome (get_or ds o.to None) ⊎ IsQueued new o.to (distance + o.cost)) row
 
 module _ (t : Topology) (distance : ℕ) (ds : List (Option ℕ)) where
   pub PushesRow-none : (old : List Candidate) → PushesRow t distance ds [] old old
@@ -57,7 +57,15 @@ module _ (t : Topology) (distance : ℕ) (ds : List (Option ℕ)) where
     PushesRow-skip settled = record {
       kept = before.kept;
       only = only_wider;
-      all = All-push (λ (x : Edge). IsSome (get_or ds x.to None) ⊎ Contains mid (candidate_at t (distance + x.cost) x.to)) row o before.all (inl settled);
+      all = All-push (λ (x : Edge). IsSome (get_or ds x.to None) ⊎ IsQueued mid x.to (distance + x.cost)) row o before.all (inl settled);
+    }
+
+    -- an edge to a vertex that has a candidate which is no farther
+    pub PushesRow-beaten : IsQueued mid o.to (distance + o.cost) → PushesRow t distance ds (row ++ o ∷ []) old mid
+    PushesRow-beaten queued = record {
+      kept = before.kept;
+      only = only_wider;
+      all = All-push (λ (x : Edge). IsSome (get_or ds x.to None) ⊎ IsQueued mid x.to (distance + x.cost)) row o before.all (inr queued);
     }
 
     -- an edge whose candidate is pushed
@@ -67,12 +75,12 @@ module _ (t : Topology) (distance : ℕ) (ds : List (Option ℕ)) where
       only = λ c h.
           ⊎_elim (λ same. inr (o, Contains-push row o, sym same)) (λ there. only_wider c there)
           (Contains-pushed_cases (candidate_at t (distance + o.cost) o.to) mid new p c h);
-      all = All-push (λ (x : Edge). IsSome (get_or ds x.to None) ⊎ Contains new (candidate_at t (distance + x.cost) x.to)) row o
-          (All-weaker (λ (x : Edge). IsSome (get_or ds x.to None) ⊎ Contains mid (candidate_at t (distance + x.cost) x.to))
-          (λ (x : Edge). IsSome (get_or ds x.to None) ⊎ Contains new (candidate_at t (distance + x.cost) x.to))
-          (λ x h. ⊎_elim (λ settled. inl settled) (λ there. inr
-          (Contains-pushed (candidate_at t (distance + o.cost) o.to) mid new p (candidate_at t (distance + x.cost) x.to) there)) h) row before.all)
-          (inr (Contains-pushed_one (candidate_at t (distance + o.cost) o.to) mid new p));
+      all = All-push (λ (x : Edge). IsSome (get_or ds x.to None) ⊎ IsQueued new x.to (distance + x.cost)) row o
+          (All-weaker (λ (x : Edge). IsSome (get_or ds x.to None) ⊎ IsQueued mid x.to (distance + x.cost))
+          (λ (x : Edge). IsSome (get_or ds x.to None) ⊎ IsQueued new x.to (distance + x.cost))
+          (λ x h. ⊎_elim (λ settled. inl settled) (λ q. inr
+          (q.0, Contains-pushed (candidate_at t (distance + o.cost) o.to) mid new p q.0 q.1, q.2, q.3)) h) row before.all)
+          (inr (candidate_at t (distance + o.cost) o.to, Contains-pushed_one (candidate_at t (distance + o.cost) o.to) mid new p, refl, (let le : distance + o.cost ≤ distance + o.cost = omega arith in le)));
     }
 
     -- an edge of the row
@@ -80,8 +88,9 @@ module _ (t : Topology) (distance : ℕ) (ds : List (Option ℕ)) where
     PushesRow-edge h = by_end (get_or ds o.to None) refl h
       where
         by_end : (d : Option ℕ) → get_or ds o.to None ≡ d → MatchOption d
-            (IsPermutation (candidate_at t (distance + o.cost) o.to ∷ mid) new) (λ _. new ≡ mid) → PushesRow t distance ds (row ++ o ∷ []) old new
-        by_end None is p = PushesRow-push p
+            (Adds (candidate_at t (distance + o.cost) o.to) mid new) (λ _. new ≡ mid) → PushesRow t distance ds (row ++ o ∷ []) old new
+        by_end None is adds = ⊎_elim (λ p. PushesRow-push p)
+            (λ same. subst (λ (xs : List Candidate). PushesRow t distance ds (row ++ o ∷ []) old xs) (sym same.0) (PushesRow-beaten same.1)) adds
         by_end (Some d) is same = subst (λ (xs : List Candidate). PushesRow t distance ds (row ++ o ∷ []) old xs)
             (sym same) (PushesRow-skip (ap (λ (x : Option ℕ). is_some x) is))
 
@@ -93,7 +102,7 @@ module _ (t : Topology) (distance : ℕ) (ds : List (Option ℕ)) where
     only = λ c h. ⊎_elim (λ there. inl there) (λ q. inr (arc_from from q.0, q.1, refl, q.2)) (p.only c h);
     all = λ e arc is.
         let o : Edge = record { to = e.to; cost = e.cost; link_data = e.link_data } in
-        All-contains (λ (x : Edge). IsSome (get_or ds x.to None) ⊎ Contains new (candidate_at t (distance + x.cost) x.to))
+        All-contains (λ (x : Edge). IsSome (get_or ds x.to None) ⊎ IsQueued new x.to (distance + x.cost))
         (row_at t from) o p.all (subst (λ (n : ℕ). Contains (row_at t n) o) is arc);
   }
 
@@ -102,6 +111,7 @@ pub PushesEdge-count : (t : Topology) (o : Edge) (distance : ℕ) (ds : List (Op
     → PushesEdge t o distance ds old new → length new ≤ length old + 1
 PushesEdge-count t o distance ds old new h = by_end (get_or ds o.to None) h
   where
-    by_end : (d : Option ℕ) → MatchOption d (IsPermutation (candidate_at t (distance + o.cost) o.to ∷ old) new) (λ _. new ≡ old) → length new ≤ length old + 1
-    by_end None p = let e = length_permutation (candidate_at t (distance + o.cost) o.to ∷ old) new p in omega arith
+    by_end : (d : Option ℕ) → MatchOption d (Adds (candidate_at t (distance + o.cost) o.to) old new) (λ _. new ≡ old) → length new ≤ length old + 1
+    by_end None adds = ⊎_elim (λ p. (let e = length_permutation (candidate_at t (distance + o.cost) o.to ∷ old) new p in omega arith))
+        (λ same. (let e = ap (λ (xs : List Candidate). length xs) same.0 in omega arith)) adds
     by_end (Some d) same = let e = ap (λ (xs : List Candidate). length xs) same in omega arith

@@ -7,7 +7,7 @@ use Rattle.area_graph.specs.Topology.{Topology, IsTopology, IsArc}
 use Rattle.spf.specs.declared.queue.Candidate.{Candidate}
 use Rattle.spf.specs.steps.Relaxation.{IsAtMost, Bounded, reached_count, Sound, Closed}
 use Rattle.spf.specs.Candidates.{candidate_at}
-use Rattle.spf.specs.steps.Search.{IsSettled}
+use Rattle.spf.specs.steps.Search.{IsQueued, IsSettled}
 use Rattle.spf.proofs.Keys.{key, key_at, Less-from_key}
 use Rattle.spf.proofs.Pushing.{Contains-pushed_one, Contains-pushed_cases}
 use Rattle.spf.proofs.Reached.{some_of, within_some}
@@ -18,10 +18,6 @@ pub record IsCandidate (t : Topology) (root : ℕ) (ds : List (Option ℕ)) (c :
   pub within : c.index < length t.vertices
   pub kind : c ≡ candidate_at t c.distance c.index
   pub small : c.distance ≤ 65535 * reached_count ds
-
--- a candidate to this vertex, at this distance or less
-abbrev pub IsQueued : List Candidate → ℕ → ℕ → Type 0
-IsQueued queue i d = (c : Candidate) × Contains queue c × (c.index ≡ i) × (c.distance ≤ d)
 
 -- one vertex stands before another by their distances
 abbrev pub IsKeyBelow : Topology → List (Option ℕ) → ℕ → ℕ → Type 0

@@ -5,8 +5,9 @@ ghost use Rattle.area_graph.specs.Topology.{IsTopology};
 ghost use Rattle.spf.specs.Candidates.{candidate_at};
 ghost use Rattle.spf.specs.steps.Search.{PushesEdge, PushesNeighbours, SettlesOne, SettlesNew, IsSettled};
 
+use crate::candidates::CandidateList;
 use crate::distances::DistanceTable;
-use crate::queue::{Candidate, Queue};
+use crate::queue::Candidate;
 use area_graph::{Edge, Graph};
 use std::alloc::{AllocError, Allocator};
 
@@ -22,13 +23,14 @@ fn candidate<A: Allocator + Copy>(graph: &Graph<A>, distance: u32, index: usize)
     }
 }
 
-/// Adds a candidate for the vertex that an edge leads to, unless that vertex is settled.
+/// Adds a candidate for the vertex that an edge leads to, unless that vertex is settled, or has a
+/// candidate that is no farther.
 fn push_edge<A: Allocator + Copy>(
     graph: &Graph<A>,
     edge: Edge,
     distance: u32,
     distances: &DistanceTable<A>,
-    queue: &mut Queue<A>,
+    queue: &mut CandidateList<A>,
 ) -> Result<(), AllocError>
     requires sized { length distances.now ≡ length graph.now.vertices }
     requires target { edge.to < length graph.now.vertices }
@@ -41,13 +43,13 @@ fn push_edge<A: Allocator + Copy>(
     Ok(())
 }
 
-/// Adds a candidate for each edge out of a vertex to one that isn't settled.
+/// Adds candidates for the edges out of a vertex to those that aren't settled.
 fn push_neighbours<A: Allocator + Copy>(
     graph: &Graph<A>,
     from: usize,
     distance: u32,
     distances: &DistanceTable<A>,
-    queue: &mut Queue<A>,
+    queue: &mut CandidateList<A>,
 ) -> Result<(), AllocError>
     requires sized { length distances.now ≡ length graph.now.vertices }
     requires from { from < length graph.now.vertices }
@@ -68,7 +70,7 @@ fn settle_one<A: Allocator + Copy>(
     next: Candidate,
     distances: &mut DistanceTable<A>,
     order: &mut Vec<u16, A>,
-    queue: &mut Queue<A>,
+    queue: &mut CandidateList<A>,
 ) -> Result<(), AllocError>
     requires sized { length distances.old ≡ length graph.now.vertices }
     requires within { next.index < length graph.now.vertices }
@@ -89,7 +91,7 @@ fn settle_new<A: Allocator + Copy>(
     next: Candidate,
     distances: &mut DistanceTable<A>,
     order: &mut Vec<u16, A>,
-    queue: &mut Queue<A>,
+    queue: &mut CandidateList<A>,
 ) -> Result<(), AllocError>
     requires sized { length distances.old ≡ length graph.now.vertices }
     requires within { next.index < length graph.now.vertices }
@@ -119,7 +121,7 @@ pub(crate) fn settle_all<A: Allocator + Copy>(
     requires unordered { order.old.items ≡ [] }
     ensures { OnOk result (IsSettled graph.now root distances.new order.new.items) }
 {
-    let mut queue = Queue::new(alloc);
+    let mut queue = CandidateList::new(alloc, graph.len())?;
     queue.push(candidate(graph, 0, root))?;
     while let Some(next) = queue.pop() {
         settle_new(graph, next, distances, order, &mut queue)?;

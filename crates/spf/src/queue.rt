@@ -1,6 +1,6 @@
 //! The candidate list (RFC 2328, 16.1): vertices that may be the next to be settled.
 
-ghost use Rattle.std.specs.Prelude.{◌≡◌, [], ◌∷◌, IfSome, IfNone, OnOk, IsPermutation, All, false};
+ghost use Rattle.std.specs.Prelude.{◌≡◌, [], ◌∷◌, IfSome, IfNone, OnOk, OnErr, IsPermutation, All, false};
 ghost use Rattle.std.specs.Ordering.{is_lt};
 ghost use Rattle.spf.specs.Candidates.{candidate_cmp};
 
@@ -51,7 +51,8 @@ impl<A: Allocator + Copy> Queue<A> {
 
     /// Adds a candidate.
     pub(crate) fn push(&mut self, candidate: Candidate) -> Result<(), AllocError>
-        ensures { OnOk result (IsPermutation (candidate ∷ self.old) self.new) }
+        ensures added { OnOk result (IsPermutation (candidate ∷ self.old) self.new) }
+        ensures same { OnErr result (self.new ≡ self.old) }
     {
         self.heap.push(Reverse(candidate))?;
         Ok(())

@@ -1,5 +1,5 @@
 -- The steps of Dijkstra's algorithm (RFC 2328, 16.1).
-use Rattle.std.specs.Prelude.{◌≡◌, ℕ, ◌+◌, ◌<◌, ◌^◌, List, [], ◌∷◌, ◌++◌, Contains, IsSome, IsPermutation, Option, None, Some, slice_index_or, slice_set, length, AllPairs, ◌⊎◌, MatchOption}
+use Rattle.std.specs.Prelude.{◌≡◌, ◌≢◌, ℕ, ◌+◌, ◌<◌, ◌≤◌, ◌^◌, List, [], ◌∷◌, ◌++◌, Contains, IsSome, IsPermutation, Option, None, Some, slice_index_or, slice_set, length, AllPairs, ◌⊎◌, MatchOption}
 use Rattle.area_graph.specs.declared.edge.Edge.{Edge}
 use Rattle.area_graph.specs.Paths.{DirectedEdge}
 use Rattle.area_graph.specs.Topology.{Topology, IsArc}
@@ -7,16 +7,31 @@ use Rattle.spf.specs.declared.queue.Candidate.{Candidate}
 use Rattle.spf.specs.Candidates.{candidate_at, IsEarlier}
 use Rattle.spf.specs.steps.Relaxation.{Bounded, Sound, Closed}
 
--- new is old, with a candidate for the vertex that an edge leads to, unless that vertex is settled
-abbrev pub PushesEdge : Topology → Edge → ℕ → List (Option ℕ) → List Candidate → List Candidate → Type 0
-PushesEdge t edge distance ds old new =
-    MatchOption (slice_index_or ds edge.to None) (IsPermutation (candidate_at t (distance + edge.cost) edge.to ∷ old) new) (λ _. new ≡ old)
+-- a candidate to this vertex, at this distance or less
+abbrev pub IsQueued : List Candidate → ℕ → ℕ → Type 0
+IsQueued queue i d = (c : Candidate) × Contains queue c × (c.index ≡ i) × (c.distance ≤ d)
 
--- new is old, with a candidate for each edge out of a vertex to one that isn't settled
+-- what is noted where no candidate to a vertex waits
+abbrev pub no_distance : ℕ
+no_distance = 4294967295
+
+-- where a distance is noted of a vertex, a candidate to it is there that is no farther
+abbrev pub AreNearest : List ℕ → List Candidate → Type 0
+AreNearest nearest queue = (i : ℕ) → slice_index_or nearest i no_distance ≢ no_distance → IsQueued queue i (slice_index_or nearest i no_distance)
+
+-- new is old, with a candidate, unless one to its vertex is there that is no farther
+abbrev pub Adds : Candidate → List Candidate → List Candidate → Type 0
+Adds c old new = IsPermutation (c ∷ old) new ⊎ ((new ≡ old) × IsQueued old c.index c.distance)
+
+-- new is old, with a candidate for the vertex that an edge leads to, unless that vertex is settled, or has one that is no farther
+abbrev pub PushesEdge : Topology → Edge → ℕ → List (Option ℕ) → List Candidate → List Candidate → Type 0
+PushesEdge t edge distance ds old new = MatchOption (slice_index_or ds edge.to None) (Adds (candidate_at t (distance + edge.cost) edge.to) old new) (λ _. new ≡ old)
+
+-- new is old, with candidates for edges out of a vertex: each leads to one that is settled or queued
 pub record PushesNeighbours (t : Topology) (from distance : ℕ) (ds : List (Option ℕ)) (old new : List Candidate) : Type 0 where
   pub kept : (c : Candidate) → Contains old c → Contains new c
   pub only : (c : Candidate) → Contains new c → Contains old c ⊎ ((e : DirectedEdge ℕ) × IsArc t e × (e.from ≡ from) × (c ≡ candidate_at t (distance + e.cost) e.to))
-  pub all : (e : DirectedEdge ℕ) → IsArc t e → e.from ≡ from → IsSome (slice_index_or ds e.to None) ⊎ Contains new (candidate_at t (distance + e.cost) e.to)
+  pub all : (e : DirectedEdge ℕ) → IsArc t e → e.from ≡ from → IsSome (slice_index_or ds e.to None) ⊎ IsQueued new e.to (distance + e.cost)
 
 -- the vertex of a candidate has its distance, stands last in the order, and its neighbours are pushed
 pub record SettlesOne (t : Topology) (next : Candidate) (ds : List (Option ℕ)) (order : List ℕ) (queue : List Candidate) (ds' : List (Option ℕ)) (order' : List ℕ) (queue' : List Candidate) : Type 0 where

@@ -6,8 +6,8 @@ use Rattle.std.proofs.lemmas.List.Sorted.{IsPermutation-map}
 use Rattle.spf.specs.declared.queue.Candidate.{Candidate}
 use Rattle.spf.proofs.queue.Queue.push.Goals as goal
 
-pub returns : goal.returns
-returns g c =
+pub returns-clause-added : goal.returns-clause-added
+returns-clause-added g c =
     let moved : IsPermutation (c.args.candidate ∷ map (λ (x : Reverse Candidate). x.0) (heap_items c.self.inside.heap))
     (map (λ (x : Reverse Candidate). x.0) (heap_items c.push.new.self)) =
     IsPermutation-map (λ (x : Reverse Candidate). x.0) _ _ c.in_ok-push.ensures.permutation in
