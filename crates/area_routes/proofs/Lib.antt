@@ -25,3 +25,4 @@ pub mod Pairs
 pub mod EntriesOnce
 pub mod SameGraphLemmas
 pub mod WayLemmas
+pub mod Borderless

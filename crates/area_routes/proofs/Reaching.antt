@@ -1,8 +1,10 @@
 -- Vertices that are reached: the step of the loop that collects them, and the distances and hops of an area.
-use Rattle.std.proofs.Common.{◌≡◌, ℕ, ◌+◌, ◌<◌, List, [], ◌∷◌, ◌++◌, map, take, get_or, length, Option, Some, sym, ap, ◌∙◌}
+use Rattle.std.proofs.Common.{◌≡◌, ℕ, ◌+◌, ◌<◌, List, [], ◌∷◌, ◌++◌, map, take, get_or, length, Option, None, Some, sym, ap, ◌∙◌}
 use Rattle.std.proofs.Math.Path.{fun_ext}
 use Rattle.std.specs.List.{filter_map, cons_option}
-use Rattle.std.proofs.lemmas.List.{take_more}
+use Rattle.std.specs.Option.{option_map}
+use Rattle.std.proofs.lemmas.Option.{get_or_from_slice_get, slice_get_within}
+use Rattle.std.proofs.lemmas.List.{get_or-map, length-map, take_more}
 use Rattle.std.proofs.lemmas.Simd.{map-map}
 use Rattle.lsa_codec.specs.declared.address.RouterId.{RouterId}
 use Rattle.area_graph.specs.declared.vertex.Vertex.{Vertex}
@@ -21,6 +23,7 @@ use Rattle.lsa_codec.specs.declared.address.AreaId.{AreaId}
 use Rattle.std.specs.List.{slice_get}
 use Rattle.area_routes.specs.Reached.{ReachedValue, reached_by}
 use Rattle.area_routes.specs.AreaResults.{AreOf, result_of_reached, area_result}
+use Rattle.area_routes.specs.steps.ReachedVertices.{FitGraph}
 use Rattle.area_routes.proofs.AddsLemmas.{filter_map_adds}
 
 -- one more item of a list, with what there is of it
@@ -69,3 +72,27 @@ result_of_reached-area area lsas root t tree hops are us is rs found =
     (found d h (distances_by_lsa lsas root t tree hops are ∙ ap (λ (ls : List (List ℕ)). map (λ l. d (vertex_of l)) ls) (sym is))
     (hops_by_lsa lsas root t tree hops are ∙ ap (λ (ls : List (List ℕ)). map (λ l. h (vertex_of l)) ls) (sym is))
     ∙ ap (λ (ls : List (List ℕ)). filter_map (reached_by d h) ls) is)
+
+-- graph, tree and hops of an area fit
+pub fits : (lsas : List (List ℕ)) (root : RouterId) (t : Topology) (tree : Distances) (hops : List (List Hop)) → AreOf lsas root t tree hops
+    → FitGraph lsas t tree hops
+fits lsas root t tree hops are =
+    let us = used lsas in
+    let vertices : length t.vertices ≡ length us = ap (λ (vs : List Vertex). length vs) are.of_area.vertices ∙ length-map us vertex_of in
+    record {
+      vertices = are.of_area.vertices;
+      shape = are.of_area.shape;
+      a_distance_each = ap (λ (ds : List (Option ℕ)). length ds) (distances_by_lsa lsas root t tree hops are) ∙ length-map us _ ∙ sym vertices;
+      hops_each = ap (λ (hs : List (List Hop)). length hs) (hops_by_lsa lsas root t tree hops are) ∙ length-map us _ ∙ sym vertices;
+    }
+
+-- an LSA whose vertex has no distance is not reached
+pub not_reached : (distance : Vertex → Option ℕ) (first : Vertex → List Hop) (lsas : List (List ℕ)) (distances : List (Option ℕ))
+    → distances ≡ map (λ l. distance (vertex_of l)) lsas → (i : ℕ) (lsa : List ℕ) → slice_get lsas i ≡ Some lsa → None ≡ get_or distances i None
+    → None ≡ reached_by distance first lsa
+not_reached distance first lsas distances is i lsa at none =
+    let lt : i < length lsas = slice_get_within lsas i lsa at in
+    let here : get_or distances i None ≡ distance (vertex_of lsa) =
+    ap (λ (ds : List (Option ℕ)). get_or ds i None) is ∙ get_or-map (λ l. distance (vertex_of l)) lsas i lsa None lt
+    ∙ ap (λ (l : List ℕ). distance (vertex_of l)) (get_or_from_slice_get lsas i lsa lsa at) in
+    ap (λ (o : Option ℕ). option_map (λ d. record { lsa = lsa; distance = d; hops = first (vertex_of lsa) }) o) (none ∙ here)

@@ -19,9 +19,9 @@ use Rattle.std.proofs.lemmas.Option.{slice_get-get_or}
 use Rattle.area_routes.specs.Best.{ways_of}
 use Rattle.area_routes.specs.Candidate.{Candidate}
 use Rattle.area_routes.specs.Values.{WayValue}
-use Rattle.area_routes.specs.steps.Merge.{candidate_cmp, fresh, is_last, merge}
+use Rattle.area_routes.specs.steps.Merge.{candidate_cmp, contender_cmp, first_hop, fresh, is_last, merge}
 use Rattle.area_routes.proofs.Merging.{HasWays, all_ways, ways_push}
-use Rattle.area_routes.proofs.OrderLemmas.{rank_total}
+use Rattle.area_routes.proofs.OrderLemmas.{hop_total, rank_total}
 
 -- ---- lists and their last elements
 
@@ -252,15 +252,18 @@ module _ {K : Type 0} {R : K → K → Ordering} (o : IsTotalOrder R) (exact : C
 -- ---- candidates in order
 
 module _ {K : Type 0} {R : K → K → Ordering} (o : IsTotalOrder R) where
-  pub candidate_total : IsTotalOrder (candidate_cmp R)
+  candidate_total : IsTotalOrder (candidate_cmp R)
   candidate_total = then_total (on_total (λ c. c.key) o) (on_total (λ c. c.rank) rank_total)
+
+  pub contender_total : IsTotalOrder (contender_cmp R)
+  contender_total = then_total candidate_total (on_total (λ c. first_hop c.hops) hop_total)
 
   keys_up_to : (k : K) (cs : List (Candidate K)) → AllByRecursion (λ c. is_gt (R c.key k) ≡ false) cs → UpTo R k (map (λ c. c.key) cs)
   keys_up_to k [] a = tt
   keys_up_to k (c ∷ cs) a = (a.0, keys_up_to k cs a.1)
 
   -- the key of none stands behind that of one that comes later
-  pub up_to : (all : List (Candidate K)) (i : ℕ) (x : Candidate K) → IsSorted (candidate_cmp R) all → i < length all → x ≡ get_or all i x
+  pub up_to : (all : List (Candidate K)) (i : ℕ) (x : Candidate K) → IsSorted (contender_cmp R) all → i < length all → x ≡ get_or all i x
       → UpTo R x.key (map (λ c. c.key) (take i all))
   up_to all i x up l e =
       keys_up_to x.key (take i all) (recursion_from_All (λ c. is_gt (R c.key x.key) ≡ false) (take i all)
@@ -268,9 +271,10 @@ module _ {K : Type 0} {R : K → K → Ordering} (o : IsTotalOrder R) where
       let within : k < i = omega (arith, below, length-take i all) in
       let same : get_or all k d ≡ get_or (take i all) k d = sym (get_or-take i all k d within) in
       let here : get_or all i d ≡ x = get_or_default all i d x l ∙ sym e in
-      let far : is_lt (candidate_cmp R (get_or all i d) (get_or all k d)) ≡ false =
-      sorted_far (λ a b. is_lt (candidate_cmp R a b)) (ranks_by candidate_total (λ a. a)) all up k i d (omega arith) l in
-      let not_less : is_lt (R (get_or all i d).key (get_or all k d).key) ≡ false = first_not_less _ _ far in
+      let far : is_lt (contender_cmp R (get_or all i d) (get_or all k d)) ≡ false =
+      sorted_far (λ a b. is_lt (contender_cmp R a b)) (ranks_by contender_total (λ a. a)) all up k i d (omega arith) l in
+      let not_less : is_lt (R (get_or all i d).key (get_or all k d).key) ≡ false =
+      first_not_less _ _ (first_not_less (candidate_cmp R (get_or all i d) (get_or all k d)) _ far) in
       let apart : is_gt (R (get_or all k d).key (get_or all i d).key) ≡ false =
       ap is_gt (o.antisymm (get_or all k d).key (get_or all i d).key) ∙ gt_back (R (get_or all i d).key (get_or all k d).key) ∙ not_less in
       let P : Candidate K → Type 0 = λ z. is_gt (R z.key x.key) ≡ false in

@@ -8,7 +8,7 @@ ghost use Rattle.next_hops.specs.Hop.{extended};
 ghost use Rattle.area_routes.specs.Best.{ways_of, Gathers};
 ghost use Rattle.area_routes.specs.Candidate.{Candidate};
 ghost use Rattle.area_routes.specs.Values.{WayValue};
-ghost use Rattle.area_routes.specs.steps.Merge.{candidate_cmp, is_last, merge};
+ghost use Rattle.area_routes.specs.steps.Merge.{contender_cmp, is_last, merge};
 
 use crate::contender::Contender;
 use crate::rank::Rank;
@@ -118,12 +118,13 @@ impl<'a, K: Ord + Copy + Drop, A: Allocator + Copy> BestWays<'a, K, A> {
     }
 }
 
-/// The candidates in order of their destinations, and those of one from the best on.
+/// The candidates in order of their destinations, and those of one from the best on, equal ones by
+/// their first hops.
 fn sorted<'a, K: Ord + Copy + Drop, A: Allocator + Copy>(
     candidates: Vec<Contender<'a, K>, A>,
 ) -> Result<Vec<Contender<'a, K>, A>, AllocError>
     ensures same { IfOk result (λ sorted. IsPermutation candidates.entry.items sorted.items) }
-    ensures order { IfOk result (λ sorted. IsSorted (candidate_cmp K.cmp) sorted.items) }
+    ensures order { IfOk result (λ sorted. IsSorted (contender_cmp K.cmp) sorted.items) }
 {
     let mut candidates = candidates;
     candidates.sort_by(|a, b| a.compare(b))?;
@@ -136,7 +137,7 @@ fn ways_in_order<K: Ord + Copy + Drop, A: Allocator + Copy>(
     candidates: &[Contender<'_, K>],
 ) -> Result<Vec<(K, Way<A>), A>, AllocError>
     requires exact { CmpEqualImpliesEq K.cmp }
-    requires order { IsSorted (candidate_cmp K.cmp) candidates.now }
+    requires order { IsSorted (contender_cmp K.cmp) candidates.now }
     ensures ways { IfOk result (λ ways. ways.items ≡ ways_of K.cmp candidates.now) }
     ensures sorted { IfOk result (λ ways. IsStrictlySortedBy K.cmp (keys_of ways.items)) }
 {

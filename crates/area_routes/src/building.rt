@@ -5,11 +5,14 @@ ghost use Rattle.lsa_codec.specs.declared.address.RouterId.{RouterId as AnyRoute
 ghost use Rattle.lsdb.specs.declared.section.Section.TheVariants.{Area};
 ghost use Rattle.lsdb.specs.Lists.{lsas_of};
 ghost use Rattle.lsdb.specs.Places.{lists_of};
+ghost use Rattle.area_graph.specs.Area.{used};
 ghost use Rattle.area_routes.specs.AreaResults.{AreOf, area_result, result_of_reached};
 ghost use Rattle.area_routes.specs.steps.Growing.{nothing_of, with_offers, with_entries};
+ghost use Rattle.area_routes.specs.steps.ReachedVertices.{AreReached, FitGraph};
 
 use crate::area_result::AreaResult;
 use crate::entry::{EntryKind, RouterEntry};
+use crate::few_reached::few_reached;
 use crate::networks::add_networks;
 use crate::offer::Offer;
 use crate::reached::{Reached, reached_vertices};
@@ -21,6 +24,27 @@ use lsdb::{Database, Section};
 use next_hops::{HopList, Hops};
 use spf::Tree;
 use std::alloc::{AllocError, Allocator};
+
+/// The vertices of an area that a tree reaches, in the order of their numbers.
+fn reached_in<'a, A: Allocator + Copy>(
+    alloc: A,
+    database: &'a Database<A>,
+    area: AreaId,
+    graph: &Graph<A>,
+    tree: &Tree<A>,
+    hops: &'a Hops<A>,
+) -> Result<Vec<Reached<'a, A>, A>, AllocError>
+    requires { FitGraph (lsas_of (Area area) (lists_of database.now)) graph.now tree.now hops.now }
+    ensures { IfOk result
+        (λ reached. AreReached (used (lsas_of (Area area) (lists_of database.now)))
+        tree.now.distances hops.now reached.items) }
+{
+    if let Some(reached) = few_reached(alloc, database, area, graph, tree, hops)? {
+        return Ok(reached);
+    }
+    let lsas = used_lsas(alloc, database.lsas(Section::Area(area)))?;
+    reached_vertices(alloc, &lsas, tree, hops)
+}
 
 impl<A: Allocator + Copy> AreaResult<A> {
     /// Nothing yet.
@@ -124,8 +148,7 @@ impl<A: Allocator + Copy> AreaResult<A> {
         let Vertex::Router(root) = graph.vertex(tree.root()) else {
             unreachable!()
         };
-        let lsas = used_lsas(alloc, database.lsas(Section::Area(area)))?;
-        let reached = reached_vertices(alloc, &lsas, tree, hops)?;
+        let reached = reached_in(alloc, database, area, graph, tree, hops)?;
         AreaResult::of_reached(alloc, area, root, &reached)
     }
 }

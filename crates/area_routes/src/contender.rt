@@ -1,11 +1,12 @@
 //! Candidates for destinations, which borrow their next hops.
 
 ghost use Rattle.std.specs.Prelude.{◌≡◌};
-ghost use Rattle.area_routes.specs.steps.Merge.{candidate_cmp};
+ghost use Rattle.next_hops.specs.Hop.{hop_cmp};
+ghost use Rattle.area_routes.specs.steps.Merge.{candidate_cmp, contender_cmp, first_hop};
 
 use crate::rank::Rank;
 use lsa_codec::{Addr, AreaId};
-use next_hops::Hop;
+use next_hops::{Hop, hop_order};
 use std::cmp::Ordering;
 use std::marker::Model;
 
@@ -40,10 +41,43 @@ impl<'a, K> Model for Contender<'a, K> {
 }
 
 impl<'a, K: Ord + Copy> Contender<'a, K> {
-    /// Compares two candidates: by their destinations, and then by their ranks.
-    pub(crate) fn compare(&self, other: &Contender<'a, K>) -> Ordering
+    /// The first of its next hops, as it is where the way goes on; `Connected` where it has none.
+    fn first_hop(&self) -> Hop
+        ensures { result ≡ first_hop self.now.hops }
+    {
+        let Some(hop) = self.hops.first() else {
+            return Hop::Connected;
+        };
+        match self.onward {
+            Some(address) => hop.extended(address),
+            None => *hop,
+        }
+    }
+
+    /// Compares two candidates by their first hops.
+    fn compare_first_hops(&self, other: &Contender<'a, K>) -> Ordering
+        ensures { result ≡ hop_cmp (first_hop self.now.hops) (first_hop other.now.hops) }
+    {
+        hop_order();
+        self.first_hop().cmp(&other.first_hop())
+    }
+
+    /// Compares two candidates by their destinations, and then by their ranks.
+    fn compare_ways(&self, other: &Contender<'a, K>) -> Ordering
         ensures { result ≡ candidate_cmp K.cmp self.now other.now }
     {
         self.key.cmp(&other.key).then(self.rank.cmp(&other.rank))
+    }
+
+    /// Compares two candidates: by their destinations, and then by their ranks. Equal ones are
+    /// compared by their first hops, so that a list of hops to which theirs are joined in this
+    /// order mostly grows at its end.
+    pub(crate) fn compare(&self, other: &Contender<'a, K>) -> Ordering
+        ensures { result ≡ contender_cmp K.cmp self.now other.now }
+    {
+        match self.compare_ways(other) {
+            Ordering::Equal => self.compare_first_hops(other),
+            order => order,
+        }
     }
 }

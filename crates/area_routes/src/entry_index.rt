@@ -1,6 +1,6 @@
 //! Router entries by their routers.
 
-ghost use Rattle.std.specs.Prelude.{◌≡◌, ◌++◌, ◌∷◌, [], List, IfOk, OnOk};
+ghost use Rattle.std.specs.Prelude.{◌≡◌, ◌++◌, ◌∷◌, [], true, List, IfOk, OnOk};
 ghost use Rattle.std.specs.Map.{lookup};
 ghost use Rattle.std.specs.Option.{option_copied};
 ghost use Rattle.std.specs.Ordering.{eq_by_cmp};
@@ -60,6 +60,13 @@ impl<'a, A: Allocator + Copy> EntryIndex<'a, A> {
             insert_entry(&mut by_router, entry, kind)?;
         }
         Ok(EntryIndex { by_router })
+    }
+
+    /// Whether there is no entry of the kind.
+    pub(crate) fn is_empty(&self) -> bool
+        ensures { result ≡ true → self.now ≡ [] }
+    {
+        self.by_router.is_empty()
     }
 
     /// The entry of a router.

@@ -1,9 +1,10 @@
 //! The result of an area with its entries by router.
 
-ghost use Rattle.std.specs.Prelude.{◌≡◌, ◌<◌, ◌^◌, IfOk, IfSome};
+ghost use Rattle.std.specs.Prelude.{◌≡◌, ◌<◌, ◌^◌, true, IfOk, IfSome};
 ghost use Rattle.std.specs.Option.{option_copied};
 ghost use Rattle.area_routes.specs.Inter.{border_of, has_asbr};
 ghost use Rattle.area_routes.specs.Values.{ResultBelow};
+ghost use Rattle.area_routes.specs.steps.EntryIndex.{IsBorderless};
 
 use crate::area_result::AreaResult;
 use crate::entry::{EntryKind, RouterEntry};
@@ -58,6 +59,13 @@ impl<'a, A: Allocator + Copy> IndexedArea<'a, A> {
         ensures below { IfSome result (λ e. e.now.cost < 2 ^ 33) }
     {
         self.borders.get(router)
+    }
+
+    /// Whether no router of the area is an area border router, so that no summary-LSA gives a way.
+    pub(crate) fn is_borderless(&self) -> bool
+        ensures { result ≡ true → IsBorderless self.now }
+    {
+        self.borders.is_empty()
     }
 
     /// Whether a router is an AS boundary router of the area.

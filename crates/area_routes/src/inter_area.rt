@@ -80,6 +80,9 @@ fn inter_routes<A: Allocator + Copy>(
     ensures { IfOk result (λ routes. routes
         ≡ inter_routes router area.now intra.now lsas.entry) }
 {
+    if area.is_borderless() {
+        return Ok(InsideRoutes::new(alloc));
+    }
     let mut ways = BestWays::new(alloc);
     for lsa in lsas {
         add_network_candidate(&mut ways, lsa, router, area, intra)?;
@@ -100,6 +103,9 @@ fn inter_entries<A: Allocator + Copy>(
         ≡ inter_entries router area.now lsas.entry) }
     ensures small { IfOk result (λ entries. EntriesBelow (2 ^ 34) entries.items) }
 {
+    if area.is_borderless() {
+        return Ok(Vec::new(alloc));
+    }
     let mut ways = BestWays::new(alloc);
     for lsa in lsas {
         add_asbr_candidate(&mut ways, lsa, router, area)?;

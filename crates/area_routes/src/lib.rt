@@ -26,6 +26,7 @@ mod way;
 mod attached;
 mod building;
 mod choice;
+mod few_reached;
 mod networks;
 mod reached;
 mod router_entries;

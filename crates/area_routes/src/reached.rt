@@ -74,7 +74,7 @@ impl<'a, A: Allocator + Copy> Reached<'a, A> {
 }
 
 /// The vertex of an LSA, where the tree reaches it.
-fn reached_at<'a, A: Allocator + Copy>(
+pub(crate) fn reached_at<'a, A: Allocator + Copy>(
     lsa: &VertexLsa<'a, A>,
     tree: &Tree<A>,
     hops: &'a Hops<A>,

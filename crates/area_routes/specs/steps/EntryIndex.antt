@@ -1,11 +1,11 @@
 -- Entries of one kind by their routers.
-use Rattle.std.specs.Prelude.{◌≡◌, ◌^◌, List}
+use Rattle.std.specs.Prelude.{◌≡◌, ◌^◌, List, None}
 use Rattle.std.specs.Map.{lookup}
 use Rattle.std.specs.Ordering.{eq_by_cmp}
 use Rattle.lsa_codec.specs.declared.address.RouterId.{RouterId}
 use Rattle.area_routes.specs.declared.entry.EntryKind.{EntryKind}
 use Rattle.area_routes.specs.declared.entry.EntryKind.TheVariants.{Border, AsbrIntra}
-use Rattle.area_routes.specs.Inter.{find_entry}
+use Rattle.area_routes.specs.Inter.{border_of, find_entry}
 use Rattle.lsa_codec.specs.Order.{router_cmp}
 use Rattle.area_routes.specs.Values.{AreaResultValue, EntryValue, ResultBelow}
 
@@ -18,3 +18,7 @@ pub record IsIndexed (result : AreaResultValue) (borders asbrs : List (RouterId 
   pub below : ResultBelow (2 ^ 33) result
   pub borders_of : IsIndexOf Border result.entries borders
   pub asbrs_of : IsIndexOf AsbrIntra result.entries asbrs
+
+-- no router of the area is an area border router
+abbrev pub IsBorderless : AreaResultValue → Type 0
+IsBorderless area = (router : RouterId) → border_of area.entries router ≡ None

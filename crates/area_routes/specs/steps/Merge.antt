@@ -12,11 +12,17 @@ use Rattle.area_graph.specs.Rising.{rising}
 use Rattle.area_routes.specs.Values.{WayValue}
 use Rattle.lsa_codec.specs.declared.address.AreaId.{AreaId}
 use Rattle.next_hops.specs.declared.hop.Hop.{Hop}
+use Rattle.next_hops.specs.declared.hop.Hop.TheVariants.{Connected}
 
 -- the hops of a way that goes on to an address, or does not
 abbrev pub going_on : Option Addr → List Hop → List Hop
 going_on None hops = hops
 going_on (Some address) hops = map (λ hop. extended hop address) hops
+
+-- the first of a way's hops; `Connected` where it has none
+abbrev pub first_hop : List Hop → Hop
+first_hop [] = Connected
+first_hop (hop ∷ hops) = hop
 
 -- areas with one more
 abbrev pub add_area : List AreaId → Option AreaId → List AreaId
@@ -40,6 +46,10 @@ module _ {K : Type 0} where
     -- by the destination, and then by the rank
     abbrev pub candidate_cmp : Candidate K → Candidate K → Ordering
     candidate_cmp a b = ordering_then (R a.key b.key) (rank_cmp a.rank b.rank)
+
+    -- the same, and of equal ones by their first hops
+    abbrev pub contender_cmp : Candidate K → Candidate K → Ordering
+    contender_cmp a b = ordering_then (candidate_cmp a b) (hop_cmp (first_hop a.hops) (first_hop b.hops))
 
     -- whether the last of these ways leads to the key
     abbrev pub is_last : List (K × WayValue) → K → Bool

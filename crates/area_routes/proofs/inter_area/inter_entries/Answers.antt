@@ -11,6 +11,7 @@ use Rattle.area_routes.specs.Inter.{asbr_candidate, asbr_entry}
 use Rattle.area_routes.specs.Values.{EntriesBelow}
 use Rattle.area_routes.proofs.Costs.{asbrs_below, entries_below}
 use Rattle.area_routes.proofs.AddsLemmas.{filter_map_adds}
+use Rattle.area_routes.proofs.Borderless.{no_entries}
 use Rattle.area_routes.proofs.inter_area.inter_entries.Goals as goal
 
 pub loop-lsa-preserved : goal.loop-lsa-preserved
@@ -42,3 +43,7 @@ returns-clause-small g c =
     (λ x h. subst (EntriesBelow (2 ^ 34)) (sym (h ∙ ap (map (asbr_entry c.area.result)) ways))
     (entries_below (2 ^ 34) c.area.result cs (asbrs_below c.args.router c.args.area.now c.requires lsas)))
     c.entries.ensures
+
+pub returns-then-is_borderless-clause-entries : goal.returns-then-is_borderless-clause-entries
+returns-then-is_borderless-clause-entries g c =
+    c.new.ensures.items ∙ no_entries c.args.router c.args.area.now (c.is_borderless.ensures c.if-is_borderless.true) c.args.lsas

@@ -8,6 +8,7 @@ use Rattle.area_routes.specs.Candidate.{Candidate}
 use Rattle.area_routes.specs.Inter.{network_candidate}
 use Rattle.area_routes.proofs.Costs.{networks_below}
 use Rattle.area_routes.proofs.AddsLemmas.{filter_map_adds}
+use Rattle.area_routes.proofs.Borderless.{no_routes}
 use Rattle.area_routes.proofs.inter_area.inter_routes.Goals as goal
 
 pub loop-lsa-preserved : goal.loop-lsa-preserved
@@ -32,3 +33,7 @@ returns g c =
     let f = network_candidate c.args.router c.args.area.now c.args.intra.now in
     let P : List (List ℕ) → Type 0 = λ lsas. Gathers (filter_map f lsas) c.loop-lsa.ways in
     c.from_routes.ensures ∙ c.in_ok-into_routes.ensures.routes (filter_map f c.args.lsas) (subst P seen.0 c.loop-lsa.invariant)
+
+pub returns-then-is_borderless : goal.returns-then-is_borderless
+returns-then-is_borderless g c =
+    c.new.ensures ∙ no_routes c.args.router c.args.area.now (c.is_borderless.ensures c.if-is_borderless.true) c.args.intra.now c.args.lsas
