@@ -123,12 +123,17 @@ pub fn reply_text<A: Allocator + Copy>(
     Ok(text.into_bytes())
 }
 
+/// For so many octets of a reply room is made at once; most replies are no longer.
+const SHORT_REPLY: usize = 32;
+
 /// The mark of a branch before a reply: `@0 `.
 pub(crate) fn mark<A: Allocator + Copy>(alloc: A, branch: u8) -> Result<String<A>, AllocError>
     ensures { IfOk result (λ text. string_bytes text ≡ mark_of branch) }
 {
     let branch = Decimal(u64::from(branch));
-    format!(in alloc; "@{branch} ")
+    let mut text = String::with_capacity(alloc, SHORT_REPLY)?;
+    write!(text, "@{branch} ")?;
+    Ok(text)
 }
 
 /// Adds the text of a reply behind the mark of its branch.
@@ -160,9 +165,26 @@ fn push_refusal<A: Allocator + Copy>(text: &mut String<A>, why: Refusal) -> Resu
         (string_bytes text.new ≡ string_bytes text.old
         ++ (codes "refused " ++ refusal_code why ++ codes " " ++ refusal_name why ++ codes "\n")) }
 {
-    let code = why.code();
-    let name = why.name();
-    write!(text, "refused {code} {name}\n")
+    push_told(text, "refused ", why.code(), why.name())
+}
+
+/// Adds a word, and behind it a code, a name and a line feed. Pieces are added as they are, which
+/// takes less time than formatting them.
+fn push_told<A: Allocator + Copy>(
+    text: &mut String<A>,
+    word: &str,
+    code: &str,
+    name: &str,
+) -> Result<(), AllocError>
+    ensures { OnOk result
+        (string_bytes text.new ≡ string_bytes text.old
+        ++ (word.now ++ code.now ++ codes " " ++ name.now ++ codes "\n")) }
+{
+    text.push_str(word)?;
+    text.push_str(code)?;
+    text.push_str(" ")?;
+    text.push_str(name)?;
+    text.push_str("\n")
 }
 
 /// Adds `tables COUNT`.
@@ -249,8 +271,7 @@ pub fn script_text<A: Allocator + Copy>(
 ) -> Result<Vec<u8, A>, AllocError>
     ensures { IfOk result (λ text. text.items ≡ script_text fault) }
 {
-    let code = fault.code();
-    let name = fault.name();
-    let text = format!(in alloc; "script {code} {name}\n")?;
+    let mut text = String::with_capacity(alloc, SHORT_REPLY)?;
+    push_told(&mut text, "script ", fault.code(), fault.name())?;
     Ok(text.into_bytes())
 }
