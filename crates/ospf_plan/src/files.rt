@@ -7,7 +7,7 @@ ghost use Rattle.ospf_plan.specs.Exit.{not_replaced};
 use crate::arguments::Options;
 use crate::fault::{ExitFault, FileArg};
 use replaced_files::{ReplaceFault, replace_file};
-use std::io::Read;
+use std::io::{BufWriter, Read, Write};
 use std::{fs, io};
 use streams::Watched;
 use whole_run::{RunFault, SAMPLE, Summary, run};
@@ -49,7 +49,7 @@ fn run_script<R: Read + Drop, S: Read + Drop>(
 ) -> Result<Summary, ExitFault> {
     let mut dump = Watched::new(dump);
     let mut script = Watched::new(script);
-    let mut replies = Watched::new(io::writer(rt));
+    let mut replies = Watched::new(buffered(rt, io::writer(rt))?);
     let mut out = memory_for(rt, &options.out);
     let mut save = memory_for(rt, &options.save);
     let alloc = rt.alloc();
@@ -66,9 +66,30 @@ fn run_script<R: Read + Drop, S: Read + Drop>(
         return Err(ExitFault::Run(RunFault::OutOfMemory));
     }
     let summary = ended.map_err(ExitFault::Run)?;
+    end_replies(replies.into_inner())?;
     write_named(rt, &options.out, out, FileArg::Out)?;
     write_named(rt, &options.save, save, FileArg::Save)?;
     Ok(summary)
+}
+
+/// For so many octets of replies there is room before they are written.
+const REPLY_ROOM: usize = 65_536;
+
+/// A writer that hands on many replies at once. Where a run ends before they are flushed, those
+/// that are left are written as it is dropped.
+fn buffered<W: Write + Drop>(rt: &HostRuntime, writer: W) -> Result<BufWriter<W>, ExitFault> {
+    match BufWriter::with_capacity(rt.alloc(), REPLY_ROOM, writer) {
+        Ok(replies) => Ok(replies),
+        Err(_) => Err(ExitFault::Run(RunFault::OutOfMemory)),
+    }
+}
+
+/// Sees to it that all replies are written.
+fn end_replies<W: Write + Drop>(replies: BufWriter<W>) -> Result<(), ExitFault> {
+    match replies.into_inner() {
+        Ok(_writer) => Ok(()),
+        Err(_) => Err(ExitFault::Run(RunFault::Write)),
+    }
 }
 
 /// A writer to memory, where a file is named.
