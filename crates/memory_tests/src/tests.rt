@@ -3,7 +3,5 @@
 mod calls;
 mod layers;
 mod network;
-mod octets;
 mod readers;
-mod refusals;
 mod texts;

@@ -19,7 +19,3 @@ mod best_ways;
 
 // Which entry of an AS boundary router counts.
 mod preferred;
-
-// Planners.
-mod planner;
-mod planner_memory;

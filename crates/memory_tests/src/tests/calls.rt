@@ -1,7 +1,7 @@
 //! Calls that answer something new: each of their growths refused in turn.
 
 use super::layers;
-use super::refusals::{Growing, Seen, growths_of};
+use crate::{Growing, Seen, growths_of};
 use rationed::Rationed;
 use std::alloc::Global;
 use std::test::*;
@@ -17,10 +17,6 @@ enum Call {
 const CALLS: &[Call] = &[Call::Graph, Call::Tree, Call::Hops];
 
 impl Growing for Call {
-    fn lent(&self, alloc: Global, _rationed: &Rationed) -> Result<Vec<u8>, Fail> {
-        Ok(Vec::new(alloc))
-    }
-
     fn seen(&self, alloc: Global, rationed: &Rationed, growths: u64) -> Result<Seen, Fail> {
         let (first, then) = match self {
             Call::Graph => layers::graph(alloc, rationed, growths)?,

@@ -2,8 +2,8 @@
 //! memory, and calls it twice: with so many growths, and then with ample memory again.
 
 use super::network::{database_of, graph_of};
-use super::refusals::Answer;
 use super::texts::{graph_text, hops_text, tree_text};
+use crate::Answer;
 use area_graph::{Graph, GraphFault};
 use lsa_codec::{AreaId, RouterId};
 use next_hops::Hops;

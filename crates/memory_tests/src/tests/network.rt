@@ -1,7 +1,7 @@
 //! What is built on the network. These functions have no clauses, so that the prover knows nothing
 //! of what they answer.
 
-use super::octets::NETWORK;
+use crate::NETWORK;
 use area_graph::Graph;
 use lsa_codec::AreaId;
 use lsdb::Database;

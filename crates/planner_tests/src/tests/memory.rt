@@ -1,6 +1,6 @@
 //! Planners and their memory: growths that are counted, and what comes while growths are refused.
 
-use super::planner::planner_of;
+use super::tables::planner_of;
 use edit_history::{EditFault, RedoFault, UndoFault};
 use edit_script::Edit;
 use lsa_codec::{Addr, AreaId, Lsa, Prefix, RouterId};

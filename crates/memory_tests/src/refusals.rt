@@ -1,0 +1,103 @@
+//! Calls whose growths are refused, each in turn.
+
+ghost use Rattle.std.specs.Prelude.{◌≡◌, ◌<◌, [], IfOk};
+
+use rationed::Rationed;
+use std::alloc::Global;
+use std::test::Fail;
+
+/// An answer, as octets that say all of it. `None` stands for want of memory.
+pub type Answer = Option<Vec<u8>>;
+
+/// What was seen of a call that had only so many growths.
+#[derive(Drop)]
+pub struct Seen {
+    /// What it answered.
+    pub first: Answer,
+    /// What the same call answered after that, with ample memory.
+    pub then: Answer,
+    /// What it was lent, before the first call, as octets that say all of it.
+    pub before: Vec<u8>,
+    /// The same, between the two calls.
+    pub between: Vec<u8>,
+}
+
+impl Seen {
+    /// What was seen of a call that is lent nothing that it can change, but for the meter of a
+    /// tree, of which a test of its own tells.
+    pub fn of_answers(alloc: Global, first: Answer, then: Answer) -> Seen
+        ensures first { result.first ≡ first }
+        ensures then { result.then ≡ then }
+        ensures before { result.before.items ≡ [] }
+        ensures between { result.between.items ≡ [] }
+    {
+        Seen {
+            first,
+            then,
+            before: Vec::new(alloc),
+            between: Vec::new(alloc),
+        }
+    }
+}
+
+/// A call that may ask for growths.
+pub trait Growing {
+    /// Makes the call with so many growths, on what it is lent with ample memory, and makes the
+    /// same call then with ample memory.
+    fn seen(&self, alloc: Global, rationed: &Rationed, growths: u64) -> Result<Seen, Fail>;
+
+    /// Whether it may answer want of memory after it has changed what it was lent, as it does where
+    /// memory suffices.
+    fn may_be_done(&self) -> bool {
+        false
+    }
+}
+
+/// What is seen of a call with so many growths.
+fn seen_with<G: Growing>(alloc: Global, call: &G, growths: u64) -> Result<Seen, Fail> {
+    let rationed = Rationed::new(alloc, u64::MAX);
+    call.seen(alloc, &rationed, growths)
+}
+
+/// What is wrong with a call that answered want of memory, if anything is.
+fn wrong_refusal<G: Growing>(call: &G, seen: &Seen, ample: &Seen) -> Option<&'static str> {
+    let stays = seen.between == seen.before;
+    if !stays && !(call.may_be_done() && seen.between == ample.between) {
+        Some("something else after a refusal")
+    } else if seen.then != ample.first {
+        Some("another answer after a refusal")
+    } else {
+        None
+    }
+}
+
+/// How many growths are refused in turn.
+const MANY: u64 = 10_000;
+
+/// With how many growths a call answers as with ample memory. With fewer it answers want of memory,
+/// what it was lent is as before, and the same call then answers as with ample memory. Where it may
+/// be done already, what it was lent may be as after the call too.
+///
+/// # Errors
+///
+/// The call does otherwise, or answers want of memory with each number of growths below 10,000. No
+/// clause can say so.
+pub fn growths_of<G: Growing>(alloc: Global, call: &G) -> Result<u64, Fail>
+    ensures { IfOk result (λ growths. growths < 10000) }
+{
+    let ample = seen_with(alloc, call, u64::MAX)?;
+    for growths in 0..MANY {
+        let seen = seen_with(alloc, call, growths)?;
+        if seen.first.is_some() {
+            return if seen.first == ample.first && seen.between == ample.between {
+                Ok(growths)
+            } else {
+                Err("another answer")?
+            };
+        }
+        if let Some(wrong) = wrong_refusal(call, &seen, &ample) {
+            return Err(wrong)?;
+        }
+    }
+    Err("no answer with 10,000 growths")?
+}

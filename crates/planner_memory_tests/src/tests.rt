@@ -1,0 +1,11 @@
+//! Calls whose growths are refused, each in turn.
+
+// What the calls are made on, and what they answer.
+mod answers;
+mod network;
+
+// The calls.
+mod branch_calls;
+mod planner_calls;
+mod route_calls;
+mod text_calls;

@@ -1,0 +1,199 @@
+//! Calls of branches, of which branch 0 has one edit done and one undone.
+
+use super::answers::of_octets;
+use super::network::database_of;
+use branches::{Branches, reply_text};
+use edit_script::{Command, parse};
+use memory_tests::{Answer, Growing, Seen, growths_of};
+use rationed::Rationed;
+use std::alloc::{AllocError, Global};
+use std::test::*;
+
+/// What is called. The first command in a branch, 1, is made where no other branch but 0 was
+/// named. Branch 1 is named before each other call.
+#[derive(Clone, Copy, Debug)]
+enum Call {
+    StepEdit,
+    StepTable,
+    StepTables,
+    StepCompare,
+    StepFirst,
+    StepFirstTables,
+    AnswerEdit,
+    AnswerTable,
+    AnswerTables,
+    AnswerCompare,
+    AnswerInfo,
+    AnswerFirst,
+    AnswerFirstTables,
+    Dump,
+    DumpNamed,
+    DumpUnnamed,
+    Save,
+}
+
+const CALLS: &[Call] = &[
+    Call::StepEdit,
+    Call::StepTable,
+    Call::StepTables,
+    Call::StepCompare,
+    Call::StepFirst,
+    Call::StepFirstTables,
+    Call::AnswerEdit,
+    Call::AnswerTable,
+    Call::AnswerTables,
+    Call::AnswerCompare,
+    Call::AnswerInfo,
+    Call::AnswerFirst,
+    Call::AnswerFirstTables,
+    Call::Dump,
+    Call::DumpNamed,
+    Call::DumpUnnamed,
+    Call::Save,
+];
+
+/// The line that a call carries out.
+fn line_of(call: Call) -> &'static str {
+    match call {
+        Call::StepTable | Call::AnswerTable => "table 1.1.1.1",
+        Call::StepTables | Call::AnswerTables => "tables",
+        Call::StepCompare | Call::AnswerCompare => "compare 1.1.1.1",
+        Call::AnswerInfo => "info",
+        Call::StepFirst | Call::AnswerFirst => "@1 cost 0.0.0.0 1.1.1.1 1 7",
+        Call::StepFirstTables | Call::AnswerFirstTables => "@1 tables",
+        _ => "cost 0.0.0.0 1.1.1.1 1 7",
+    }
+}
+
+/// What stands before each call, in branch 0.
+const BEFORE: &[&str] = &[
+    "cost 0.0.0.0 1.1.1.1 1 11",
+    "cost 0.0.0.0 1.1.1.1 1 12",
+    "undo 1",
+];
+
+/// The same in branch 1.
+const NAMED: &[&str] = &["@1 cost 0.0.0.0 1.1.1.1 1 13"];
+
+/// Carries lines out.
+pub(super) fn carry_out(branches: &mut Branches<&Rationed>, lines: &[&str]) -> Result<(), Fail> {
+    for line in lines {
+        let (branch, command) = parse(line.as_bytes())?;
+        let _reply = branches.step(branch, &command)?;
+    }
+    Ok(())
+}
+
+/// Carries out what stands before a call.
+fn prepare(branches: &mut Branches<&Rationed>, call: Call) -> Result<(), Fail> {
+    carry_out(branches, BEFORE)?;
+    match call {
+        Call::StepFirst | Call::StepFirstTables => Ok(()),
+        Call::AnswerFirst | Call::AnswerFirstTables => Ok(()),
+        _ => carry_out(branches, NAMED),
+    }
+}
+
+/// The session of branch 0, saved, and the dump of each branch and what it counts.
+fn octets_of(alloc: Global, branches: &mut Branches<&Rationed>) -> Result<Vec<u8>, Fail> {
+    let mut octets = Vec::from_slice(alloc, &branches.save()?)?;
+    for branch in 0..8 {
+        octets.extend_from_slice(&branches.dump(branch)?)?;
+        octets.extend_from_slice(&branches.answer(branch, &Command::Info)?.text)?;
+    }
+    Ok(octets)
+}
+
+/// The text of the reply to the line of a call, carried out by `step`. There is ample memory for
+/// the text, and from then on.
+fn stepped<'a>(
+    alloc: Global,
+    rationed: &'a Rationed,
+    branches: &mut Branches<&'a Rationed>,
+    call: Call,
+) -> Result<Answer, Fail> {
+    let (branch, command) = parse(line_of(call).as_bytes())?;
+    let Ok(reply) = branches.step(branch, &command) else {
+        return Ok(None);
+    };
+    rationed.leave(u64::MAX);
+    of_octets(alloc, reply_text(rationed, branch, &reply))
+}
+
+/// The text of the reply to the line of a call, carried out by `answer`.
+fn answered(alloc: Global, branches: &mut Branches<&Rationed>, call: Call) -> Result<Answer, Fail> {
+    let (branch, command) = parse(line_of(call).as_bytes())?;
+    match branches.answer(branch, &command) {
+        Ok(answer) => of_octets(alloc, Ok(answer.text)),
+        Err(AllocError) => Ok(None),
+    }
+}
+
+/// Whether a call is one of `answer`.
+fn is_answered(call: Call) -> bool {
+    match call {
+        Call::AnswerEdit | Call::AnswerTable | Call::AnswerTables | Call::AnswerCompare => true,
+        Call::AnswerInfo | Call::AnswerFirst | Call::AnswerFirstTables => true,
+        _ => false,
+    }
+}
+
+/// What a call answers.
+fn answer_of<'a>(
+    alloc: Global,
+    rationed: &'a Rationed,
+    branches: &mut Branches<&'a Rationed>,
+    call: Call,
+) -> Result<Answer, Fail> {
+    match call {
+        Call::Dump => of_octets(alloc, branches.dump(0)),
+        Call::DumpNamed => of_octets(alloc, branches.dump(1)),
+        Call::DumpUnnamed => of_octets(alloc, branches.dump(2)),
+        Call::Save => of_octets(alloc, branches.save()),
+        call if is_answered(call) => answered(alloc, branches, call),
+        call => stepped(alloc, rationed, branches, call),
+    }
+}
+
+/// What is seen of a call of branches.
+fn seen_on<'a>(
+    alloc: Global,
+    rationed: &'a Rationed,
+    branches: &mut Branches<&'a Rationed>,
+    call: Call,
+    growths: u64,
+) -> Result<Seen, Fail> {
+    prepare(branches, call)?;
+    let before = octets_of(alloc, branches)?;
+    rationed.leave(growths);
+    let first = answer_of(alloc, rationed, branches, call)?;
+    rationed.leave(u64::MAX);
+    let between = octets_of(alloc, branches)?;
+    let then = answer_of(alloc, rationed, branches, call)?;
+    Ok(Seen {
+        first,
+        then,
+        before,
+        between,
+    })
+}
+
+impl Growing for Call {
+    fn seen(&self, alloc: Global, rationed: &Rationed, growths: u64) -> Result<Seen, Fail> {
+        let mut branches = Branches::new(rationed, database_of(rationed)?);
+        seen_on(alloc, rationed, &mut branches, *self, growths)
+    }
+
+    fn may_be_done(&self) -> bool {
+        is_answered(*self)
+    }
+}
+
+#[test]
+fn each_growth_of_a_call_refused(rt: HostRuntime) -> Result<(), Fail> {
+    for call in CALLS {
+        let growths = growths_of(rt.alloc(), call)?;
+        assert!(rt; 0 < growths, "{call:?}");
+    }
+    Ok(())
+}

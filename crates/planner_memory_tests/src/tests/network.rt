@@ -1,0 +1,28 @@
+//! What is made on the network. These functions have no clauses, so that the prover knows nothing
+//! of what they answer.
+
+use edit_script::Edit;
+use lsa_codec::{AreaId, RouterId};
+use lsdb::Database;
+use memory_tests::NETWORK;
+use rationed::Rationed;
+use samples::R1;
+use std::test::*;
+
+/// The router of the tables, which is attached to both areas.
+pub(super) const ROUTER: RouterId = RouterId(R1);
+
+/// The database of the network.
+pub(super) fn database_of(rationed: &Rationed) -> Result<Database<&Rationed>, Fail> {
+    Ok(Database::load(rationed, NETWORK)?)
+}
+
+/// Another cost of the link of 1.1.1.1 to the network 10.5.0.2.
+pub(super) fn cost(metric: u16) -> Edit {
+    Edit::Cost {
+        area: AreaId(0),
+        router: ROUTER,
+        link: 1,
+        metric,
+    }
+}

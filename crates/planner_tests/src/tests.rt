@@ -1,0 +1,4 @@
+//! What planners do, on small networks.
+
+mod memory;
+mod tables;
