@@ -1,6 +1,7 @@
 //! Links back: an edge is there only where the other end names the vertex too (RFC 2328, 16.1).
 
-ghost use Rattle.std.specs.Prelude.{◌≡◌, ◌==◌, ◌<◌, length, map, All, IfOk};
+ghost use Rattle.std.specs.Prelude.{◌≡◌, ◌==◌, ◌<◌, true, length, map, All, IfOk};
+ghost use Rattle.std.specs.Bool.{OnTrue};
 ghost use Rattle.std.specs.List.{list_any};
 ghost use Rattle.std.specs.List.Sorted.{IsNonDecreasing};
 ghost use Rattle.area_graph.specs.steps.Naming.{names_in, row_in};
@@ -78,12 +79,33 @@ fn targets_of_rows<A: Allocator + Copy>(
     Ok(targets)
 }
 
-/// Whether a vertex is among some, which stand in rising order.
-fn is_among(targets: &[usize], vertex: usize) -> bool
+/// Whether a vertex is found at an index.
+fn is_at(targets: &[usize], index: usize, vertex: usize) -> bool
+    ensures { OnTrue result (list_any (λ target. target == vertex) targets.now ≡ true) }
+{
+    match targets.get(index) {
+        Some(target) => *target == vertex,
+        None => false,
+    }
+}
+
+/// Whether a vertex is found among some, which stand in rising order.
+fn is_found(targets: &[usize], vertex: usize) -> bool
     requires { IsNonDecreasing targets.now }
     ensures { result ≡ list_any (λ target. target == vertex) targets.now }
 {
     targets.binary_search(&vertex).is_ok()
+}
+
+/// Whether a vertex is among some, which stand in rising order. Where they are all vertices, or all
+/// but one, it stands at its own number or one before, so these are looked at first.
+fn is_among(targets: &[usize], vertex: usize) -> bool
+    requires { IsNonDecreasing targets.now }
+    ensures { result ≡ list_any (λ target. target == vertex) targets.now }
+{
+    is_at(targets, vertex, vertex)
+        || is_at(targets, vertex.saturating_sub(1), vertex)
+        || is_found(targets, vertex)
 }
 
 impl<A: Allocator + Copy> BackLinks<A> {

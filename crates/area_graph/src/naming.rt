@@ -1,13 +1,13 @@
 //! Which vertices the LSAs of an area name: those that a router's links lead to, and the routers
 //! that a network lists (RFC 2328, 16.1).
 
-ghost use Rattle.std.specs.Prelude.{◌≡◌, ◌++◌, [], map, filter_map, OnOk, IfOk};
+ghost use Rattle.std.specs.Prelude.{◌≡◌, ◌≢◌, ◌++◌, [], map, filter_map, AllPairs, OnOk, IfOk};
 ghost use Rattle.std.specs.List.{cons_option};
 ghost use Rattle.area_graph.specs.AreaEdges.{target_of};
 ghost use Rattle.area_graph.specs.steps.Naming.{edge_to, linked, listed, naming};
 
 use crate::edge::Edge;
-use crate::numbers::{Vertices, number_of};
+use crate::numbers::{Vertices, number_near};
 use crate::rows::Rows;
 use crate::used::VertexLsa;
 use crate::vertex::Vertex;
@@ -25,16 +25,18 @@ fn target_of(link: Link) -> Option<Vertex>
     }
 }
 
-/// An edge to a vertex, if it has a number.
+/// An edge to a vertex, if it has a number. It is looked for at one number first.
 fn edge_to<A: Allocator + Copy>(
     vertices: &Vertices<A>,
+    near: usize,
     target: Vertex,
     cost: u16,
     link_data: Addr,
 ) -> Option<Edge>
+    requires { AllPairs (λ v w. v ≢ w) vertices.now.keys }
     ensures { result ≡ edge_to vertices.now.keys target cost link_data }
 {
-    let to = number_of(vertices, target)?;
+    let to = number_near(vertices, near, target)?;
     Some(Edge {
         to,
         cost,
@@ -43,17 +45,33 @@ fn edge_to<A: Allocator + Copy>(
 }
 
 /// The edge over a link of a router, whether or not the other end links back.
-fn linked<A: Allocator + Copy>(vertices: &Vertices<A>, link: Link) -> Option<Edge>
+fn linked<A: Allocator + Copy>(vertices: &Vertices<A>, near: usize, link: Link) -> Option<Edge>
+    requires { AllPairs (λ v w. v ≢ w) vertices.now.keys }
     ensures { result ≡ linked vertices.now.keys link }
 {
-    edge_to(vertices, target_of(link)?, link.metric, link.link_data)
+    let target = target_of(link)?;
+    edge_to(vertices, near, target, link.metric, link.link_data)
 }
 
 /// An edge from a network to a router that it lists.
-fn listed<A: Allocator + Copy>(vertices: &Vertices<A>, router: RouterId) -> Option<Edge>
+fn listed<A: Allocator + Copy>(
+    vertices: &Vertices<A>,
+    near: usize,
+    router: RouterId,
+) -> Option<Edge>
+    requires { AllPairs (λ v w. v ≢ w) vertices.now.keys }
     ensures { result ≡ listed vertices.now.keys router }
 {
-    edge_to(vertices, Vertex::Router(router), 0, Addr(0))
+    edge_to(vertices, near, Vertex::Router(router), 0, Addr(0))
+}
+
+/// The number behind that to which the last edge of a row leads: many LSAs name vertices in the
+/// order of their LSAs.
+fn next_number(row: &[Edge]) -> usize {
+    match row.last() {
+        Some(edge) => edge.to.saturating_add(1),
+        None => 0,
+    }
 }
 
 /// Adds an edge, if there is one.
@@ -75,11 +93,12 @@ fn add_linked<A: Allocator + Copy>(
     vertices: &Vertices<A>,
     links: Links<'_>,
 ) -> Result<(), AllocError>
+    requires { AllPairs (λ v w. v ≢ w) vertices.now.keys }
     ensures { OnOk result
         (row.new.items ≡ row.old.items ++ filter_map (linked vertices.now.keys) links.entry) }
 {
     for link in links {
-        add_any(row, linked(vertices, link))?;
+        add_any(row, linked(vertices, next_number(row), link))?;
     }
     Ok(())
 }
@@ -90,11 +109,12 @@ fn add_listed<A: Allocator + Copy>(
     vertices: &Vertices<A>,
     routers: Attached<'_>,
 ) -> Result<(), AllocError>
+    requires { AllPairs (λ v w. v ≢ w) vertices.now.keys }
     ensures { OnOk result
         (row.new.items ≡ row.old.items ++ filter_map (listed vertices.now.keys) routers.entry) }
 {
     for router in routers {
-        add_any(row, listed(vertices, router))?;
+        add_any(row, listed(vertices, next_number(row), router))?;
     }
     Ok(())
 }
@@ -105,6 +125,7 @@ fn add_naming<A: Allocator + Copy>(
     vertices: &Vertices<A>,
     lsa: &Lsa<A>,
 ) -> Result<(), AllocError>
+    requires { AllPairs (λ v w. v ≢ w) vertices.now.keys }
     ensures { OnOk result (row.new.items ≡ row.old.items ++ naming vertices.now.keys lsa.now) }
 {
     if let Some(router) = lsa.router() {
@@ -122,6 +143,7 @@ pub(crate) fn naming_rows<A: Allocator + Copy>(
     vertices: &Vertices<A>,
     lsas: &[VertexLsa<'_, A>],
 ) -> Result<Rows<A>, AllocError>
+    requires { AllPairs (λ v w. v ≢ w) vertices.now.keys }
     ensures { IfOk result (λ rows. rows ≡ map (naming vertices.now.keys) lsas.now) }
 {
     let mut rows = Rows::with_capacity(alloc, lsas.len())?;

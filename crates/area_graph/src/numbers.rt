@@ -26,6 +26,21 @@ pub(crate) fn number_of<A: Allocator + Copy>(
     vertices.get_index_of(&vertex)
 }
 
+/// The number of a vertex, which is looked for at one number first.
+pub(crate) fn number_near<A: Allocator + Copy>(
+    vertices: &Vertices<A>,
+    near: usize,
+    vertex: Vertex,
+) -> Option<usize>
+    requires { AllPairs (λ v w. v ≢ w) vertices.now.keys }
+    ensures { result ≡ position (is_same vertex) vertices.now.keys }
+{
+    match vertices.get_index(near) {
+        Some(other) if *other == vertex => Some(near),
+        _ => number_of(vertices, vertex),
+    }
+}
+
 fn add_vertex<A: Allocator + Copy>(
     vertices: &mut Vertices<A>,
     vertex: Vertex,

@@ -24,6 +24,12 @@ new-requires g c =
     ∙ length-map c.deref-2.result.now vertex_of)
     c.in_ok-naming.ensures
 
+pub naming_rows-requires : goal.naming_rows-requires
+naming_rows-requires g c =
+    subst (λ (vs : List Vertex). AllPairs (λ v w. v ≢ w) vs)
+    (sym (c.in_ok-vertices.ensures ∙ ap (map vertex_of) (c.deref.ensures.value ∙ c.in_ok-used.ensures)))
+    (vertices_distinct c.args.lsas c.requires.accepted c.requires.distinct)
+
 pub new-requires-2 : goal.new-requires-2
 new-requires-2 g c =
     subst (λ (vs : List Vertex). AllPairs (λ v w. v ≢ w) vs)
