@@ -3,7 +3,7 @@ use Rattle.std.proofs.Common.{ℕ, List, ◌∙◌, subst, ◌⊎◌}
 use Rattle.next_hops.specs.declared.hop.Hop.{Hop}
 use Rattle.next_hops.specs.declared.table.HopTable.{HopTable}
 use Rattle.next_hops.specs.steps.Passing.{Grows}
-use Rattle.next_hops.specs.steps.Table.{Hands, IsWhole, Stays, hops_so_far}
+use Rattle.next_hops.specs.steps.Table.{Hands, Stays, hops_so_far}
 use Rattle.next_hops.proofs.Growing.{Grows-same, Grows-then}
 use Rattle.next_hops.proofs.Sharing.{Keeps-then}
 

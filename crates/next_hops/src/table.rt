@@ -135,6 +135,23 @@ impl<A: Allocator + Copy> HopTable<A> {
         Ok(number)
     }
 
+    /// The number of the list of a vertex's hops, where that of no hops is known.
+    fn settle_or(&mut self, alloc: A, index: usize, none: usize) -> Result<usize, AllocError>
+        requires index { index < length (hops_so_far self.old) }
+        requires whole { IsWhole self.old }
+        requires within { IsKept self.old none }
+        requires none { kept_list self.old none ≡ [] }
+        ensures within { IfOk result (λ n. IsKept self.new n) }
+        ensures list { IfOk result (λ n. kept_list self.new n
+            ≡ hops_at (hops_so_far self.old) index) }
+        ensures stays { OnOk result (Stays self.old self.new) }
+    {
+        match self.vertices[index] {
+            Handed::Nothing => Ok(none),
+            _ => self.settle(alloc, index),
+        }
+    }
+
     /// The numbers of the lists of all vertices' hops.
     pub(crate) fn numbers(&mut self, alloc: A) -> Result<Vec<usize, A>, AllocError>
         requires { IsWhole self.old }
@@ -143,9 +160,11 @@ impl<A: Allocator + Copy> HopTable<A> {
             (λ numbers. lists_in self.new.lists.keys numbers.items ≡ hops_so_far self.old) }
         ensures stays { OnOk result (Stays self.old self.new) }
     {
+        // Most vertices of a tree may not be reached.
+        let none = self.number_of(alloc, &[])?;
         let mut numbers = Vec::with_capacity(alloc, self.vertices.len())?;
         for index in 0..self.vertices.len() {
-            numbers.push(self.settle(alloc, index)?)?;
+            numbers.push(self.settle_or(alloc, index, none)?)?;
         }
         Ok(numbers)
     }
