@@ -14,6 +14,7 @@ pub mod Candidates
 pub mod RulesCarriedOut
 pub mod FatesByPlace
 pub mod FailureFates
+pub mod OtherRouters
 pub mod FailureRules
 pub mod RoomForLsas
 pub mod Additions

@@ -1,4 +1,4 @@
-use Rattle.std.proofs.Common.{◌≡◌, ◌+◌, true, false, sym, ◌∙◌, subst, arith, rules}
+use Rattle.std.proofs.Common.{◌≡◌, ◌+◌, true, false, refl, sym, ◌∙◌, subst, arith, rules}
 use Rattle.std.proofs.lemmas.Result.{err_from_is_err_and}
 use Rattle.edit_script.specs.declared.edit.Edit.TheVariants.{FailRouter}
 use Rattle.edit_history.specs.declared.fault.EditFault.{EditFault}
@@ -17,22 +17,19 @@ returns-then-not-has_router-clause-refused g c =
     let none : c.has_router.result ≡ false = search rules in
     router_none c.args.database.now c.args.router (sym c.has_router.ensures ∙ none)
 
-pub section_name-section-requires : goal.section_name-section-requires
-section_name-section-requires g c = exists_at c.args.database.now c.loop-number.number (omega arith)
-
-pub add_swaps-requires : goal.add_swaps-requires
-add_swaps-requires g c = exists_at c.args.database.now c.loop-number.number (omega arith)
+pub add_swaps_of_router-requires : goal.add_swaps_of_router-requires
+add_swaps_of_router-requires g c = exists_at c.args.database.now c.loop-number.number (omega arith)
 
 pub loop-number-preserved : goal.loop-number-preserved
 loop-number-preserved g c =
-    section_turn (λ head. router_fate c.args.router) c.args.database.now c.loop-number.number (c.loop-number.number + 1) c.section_name-section.result _ _ _
-    (omega arith) (omega arith) c.section_name-section.ensures c.in_ok-add_swaps.ensures.swaps c.loop-number.invariant
+    section_turn (λ head. router_fate c.args.router) c.args.database.now c.loop-number.number (c.loop-number.number + 1) _ _ _ _
+    (omega arith) (omega arith) refl c.in_ok-add_swaps_of_router.ensures.swaps c.loop-number.invariant
 
-pub returns-in_err-add_swaps-clause-refused : goal.returns-in_err-add_swaps-clause-refused
-returns-in_err-add_swaps-clause-refused g c =
+pub returns-in_err-add_swaps_of_router-clause-refused : goal.returns-in_err-add_swaps_of_router-clause-refused
+returns-in_err-add_swaps_of_router-clause-refused g c =
     let gave = err_from_is_err_and c.from_residual.result c.from_residual.ensures.1 in
     let there : c.has_router.result ≡ true = search rules in
-    rw (gave.1, gave.2) (subst (λ (e : EditFault). IsRefused c.args.database.now (FailRouter c.args.router) e) (sym c.in_err-add_swaps.ensures.memory)
+    rw (gave.1, gave.2) (subst (λ (e : EditFault). IsRefused c.args.database.now (FailRouter c.args.router) e) (sym c.in_err-add_swaps_of_router.ensures.memory)
     (no_memory c.args.database.now (FailRouter c.args.router) _
     (router_ruled c.args.database.now c.args.router (sym c.has_router.ensures ∙ there))))
 
