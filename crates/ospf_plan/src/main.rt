@@ -18,6 +18,7 @@ use clap::Error;
 use command_line::options;
 use exit::exit_line;
 use fault::ExitFault;
+use std::alloc::Global;
 use std::io::{ErrorKind, Write};
 use std::process::ExitCode;
 use std::{env, io};
@@ -43,8 +44,21 @@ fn words(rt: &HostRuntime) -> io::Result<Vec<String>> {
     Ok(env::args(rt)?.collect::<Vec<String>>(rt.alloc())?)
 }
 
+/// A block that is taken and given back, in octets.
+const BLOCK: usize = 8 << 20;
+
+/// Takes a block of memory and gives it back. By its size the C library's allocator then goes: it
+/// gives less memory than twice as much back to the kernel, which would clear it anew for the lists
+/// of each table.
+fn keep_heap(alloc: Global) {
+    // Where there is no block, the program is slower and does the same.
+    let mut block: Vec<u8> = Vec::new(alloc);
+    let _ = block.reserve(BLOCK);
+}
+
 /// Runs the script on the dump.
 fn plan(rt: &HostRuntime, given: &Options) -> ExitCode {
+    keep_heap(rt.alloc());
     match files::run_files(rt, given) {
         Ok(_summary) => ExitCode::SUCCESS,
         Err(fault) => end(rt, &fault),
