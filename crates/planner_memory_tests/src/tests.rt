@@ -7,5 +7,6 @@ mod network;
 // The calls.
 mod branch_calls;
 mod planner_calls;
+mod readers;
 mod route_calls;
 mod text_calls;

@@ -6,7 +6,8 @@ use lsa_codec::{AreaId, RouterId};
 use lsdb::Database;
 use memory_tests::NETWORK;
 use rationed::Rationed;
-use samples::R1;
+use samples::{LsaList, R1, dump_of};
+use std::alloc::Global;
 use std::test::*;
 
 /// The router of the tables, which is attached to both areas.
@@ -15,6 +16,19 @@ pub(super) const ROUTER: RouterId = RouterId(R1);
 /// The database of the network.
 pub(super) fn database_of(rationed: &Rationed) -> Result<Database<&Rationed>, Fail> {
     Ok(Database::load(rationed, NETWORK)?)
+}
+
+/// The database of an area with 24 routers without links, of which a tree reaches one.
+pub(super) fn lonely_database_of(
+    alloc: Global,
+    rationed: &Rationed,
+) -> Result<Database<&Rationed>, Fail> {
+    let mut routers = LsaList::new(alloc);
+    for number in 0..24 {
+        routers.router_of(1, R1.wrapping_add(number), 0, &[])?;
+    }
+    let dump = dump_of(alloc, &[(0, routers)], &LsaList::new(alloc))?;
+    Ok(Database::load(rationed, &dump)?)
 }
 
 /// Another cost of the link of 1.1.1.1 to the network 10.5.0.2.

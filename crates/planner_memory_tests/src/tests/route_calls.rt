@@ -7,7 +7,7 @@ ghost use Rattle.lsdb.specs.Places.{lists_of};
 ghost use Rattle.area_routes.specs.AreaResults.{AreOf};
 
 use super::answers::{of_routers, of_table_of};
-use super::network::{ROUTER, database_of};
+use super::network::{ROUTER, database_of, lonely_database_of};
 use area_graph::Graph;
 use area_routes::{
     AreaResult, InsideRoutes, InterResult, Offer, Route, RouterEntry, Routes, inter, intra,
@@ -27,6 +27,7 @@ use std::test::*;
 #[derive(Clone, Copy, Debug)]
 enum Call {
     Area,
+    AreaOfFew,
     Intra,
     Inter,
     Externals,
@@ -36,6 +37,7 @@ enum Call {
 
 const CALLS: &[Call] = &[
     Call::Area,
+    Call::AreaOfFew,
     Call::Intra,
     Call::Inter,
     Call::Externals,
@@ -148,14 +150,14 @@ fn area_with<'a>(
 
 /// What the calls are lent.
 #[derive(Drop)]
-struct Lent<'a> {
-    database: Database<&'a Rationed>,
+pub(super) struct Lent<'a> {
+    pub(super) database: Database<&'a Rationed>,
     results: Vec<AreaResult<&'a Rationed>, &'a Rationed>,
-    intra: InsideRoutes<&'a Rationed>,
-    inter: InterResult<&'a Rationed>,
+    pub(super) intra: InsideRoutes<&'a Rationed>,
+    pub(super) inter: InterResult<&'a Rationed>,
 }
 
-fn lend(rationed: &Rationed) -> Result<Lent<'_>, Fail> {
+pub(super) fn lend(rationed: &Rationed) -> Result<Lent<'_>, Fail> {
     let database = database_of(rationed)?;
     let results = results_of(rationed, &database, ROUTER, &mut Meter::new())?;
     let intra = intra(rationed, &results)?;
@@ -220,6 +222,14 @@ fn seen_on<'a>(
 ) -> Result<Seen, Fail> {
     let (first, then) = match call {
         Call::Area => area_with(alloc, rationed, &lent.database, growths)?,
+        Call::AreaOfFew => {
+            area_with(
+                alloc,
+                rationed,
+                &lonely_database_of(alloc, rationed)?,
+                growths,
+            )?
+        }
         _ => answers_with(alloc, rationed, lent, call, growths)?,
     };
     Ok(Seen::of_answers(alloc, first, then))
