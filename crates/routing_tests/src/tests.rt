@@ -7,10 +7,6 @@ mod texts;
 // Graphs, trees and hops.
 mod graphs;
 mod hop_lists;
-mod plain_hops;
-mod ring;
-mod ring_distances;
-mod ring_hops;
 mod trees;
 
 // What an area gives, and routes.

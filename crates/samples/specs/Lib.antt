@@ -3,5 +3,4 @@ pub mod Fletcher
 pub mod Lsas
 pub mod Dumps
 pub mod Known
-pub mod Rings
 pub mod Doubles

@@ -12,7 +12,6 @@ mod known;
 mod link;
 mod list;
 mod lsa;
-mod ring;
 mod text;
 
 pub use doubles::{Failing, FailsOnce, Sink, Source, Zeros};
@@ -20,5 +19,4 @@ pub use known::{MASK_16, R1, R2, R3, R4, SAMPLE, network_of_three};
 pub use link::{RouterLink, to_network, to_router, to_stub};
 pub use list::{LsaList, dump_of};
 pub use lsa::Header;
-pub use ring::{RING_ROUTERS, add_ring_networks, ring_network, ring_router};
 pub use text::{TextFault, dump_of_text};

@@ -1,7 +1,6 @@
 //! Graphs and trees that tests build. These functions have no clauses, so that the prover knows
 //! nothing of what they answer, and the tests are proved soon.
 
-use crate::layers::graph_of;
 use area_graph::{Graph, GraphFault};
 use lsa_codec::{AreaId, RouterId};
 use lsdb::Database;
@@ -9,6 +8,12 @@ use samples::{SAMPLE, network_of_three};
 use spf::{Meter, SpfFault, Tree, distances_by_rounds};
 use std::alloc::{Allocator, Global};
 use std::test::*;
+
+/// The graph of area 0.0.0.0.
+fn graph_of<A: Allocator + Copy>(alloc: A, dump: &[u8]) -> Result<Graph<A>, Fail> {
+    let database = Database::load(alloc, dump)?;
+    Ok(Graph::build(alloc, &database, AreaId(0))?)
+}
 
 /// The graph of the sample.
 pub(super) fn sample_graph<A: Allocator + Copy>(alloc: A) -> Result<Graph<A>, Fail> {

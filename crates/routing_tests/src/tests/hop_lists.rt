@@ -62,17 +62,26 @@ fn keeps_hops_in_order(rt: HostRuntime) -> Result<(), Fail> {
     Ok(())
 }
 
+/// Hops that are few enough to lie in place.
+const SHORT: &[Hop] = &[LINK, GATEWAY];
+
+/// Those that are joined to them first.
+const MORE: &[Hop] = &[GATEWAY, ATTACHED, Hop::Connected];
+
+/// The first and the second in order.
+const JOINED: &[Hop] = &[Hop::Connected, LINK, ATTACHED, GATEWAY];
+
+/// Those that are joined to them then.
+const REST: &[Hop] = &[FAR, NEAR];
+
 /// A short list lies in place, and one of more hops elsewhere.
 #[test]
 fn joins_and_clones(rt: HostRuntime) -> Result<(), Fail> {
-    let mut list = added(rt.alloc(), &[LINK, GATEWAY])?;
-    let short = clone_and_join(rt.alloc(), &mut list, &[GATEWAY, ATTACHED, Hop::Connected])?;
-    assert_eq!(rt; short.as_slice(), [LINK, GATEWAY].as_slice());
-    let short = clone_and_join(rt.alloc(), &mut list, &[FAR, NEAR])?;
-    assert_eq!(rt;
-        short.as_slice(),
-        [Hop::Connected, LINK, ATTACHED, GATEWAY].as_slice()
-    );
+    let mut list = added(rt.alloc(), SHORT)?;
+    let short = clone_and_join(rt.alloc(), &mut list, MORE)?;
+    assert_eq!(rt; short.as_slice(), SHORT);
+    let short = clone_and_join(rt.alloc(), &mut list, REST)?;
+    assert_eq!(rt; short.as_slice(), JOINED);
     let long = clone_and_join(rt.alloc(), &mut list, &[])?;
     assert_eq!(rt; long.as_slice(), SORTED);
     assert_eq!(rt; list.as_slice(), SORTED);
