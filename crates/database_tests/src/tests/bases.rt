@@ -15,9 +15,12 @@ fn loads_and_dumps_the_base_of_a_session(rt: HostRuntime) -> Result<(), Fail> {
     Ok(())
 }
 
+/// A database without areas and LSAs, which is no session.
+const DATABASE: &[u8] = b"OSWP\x01\0\0\0";
+
 #[test]
 fn tells_the_version_of_a_base(rt: HostRuntime) -> Result<(), Fail> {
-    let fault = Database::load_base(rt.alloc(), b"OSWP\x01\0\0\0").err();
+    let fault = Database::load_base(rt.alloc(), DATABASE).err();
     let version = DumpFault {
         offset: 4,
         kind: DumpFaultKind::BadVersion,

@@ -44,7 +44,7 @@ pub(super) fn tree_text(alloc: Global, tree: &Tree<&Rationed>) -> Result<String,
 /// Adds hops.
 fn push_hops(text: &mut String, hops: &[Hop]) -> Result<(), Fail> {
     for hop in hops {
-        write!(text, " {hop:?}")?;
+        write!(text, " {hop}")?;
     }
     Ok(())
 }

@@ -1,7 +1,6 @@
 //! Readers and writers that fail at each octet in turn.
 
-use super::outcome::{run_whole, run_without_out};
-use crate::outcome::Outcome;
+use super::outcome::{Outcome, run_whole, run_without_out};
 use lsdb::{DumpFault, DumpFaultKind};
 use samples::{Failing, Sink, Source, Zeros};
 use std::alloc::Global;

@@ -1,8 +1,7 @@
 //! Whole runs in which each growth is refused in turn.
 
 use super::dumps::{NETWORK, SAVED, TWO_AREAS};
-use super::outcome::run_whole;
-use crate::outcome::Outcome;
+use super::outcome::{Outcome, run_whole};
 use rationed::Rationed;
 use std::alloc::Global;
 use std::test::*;

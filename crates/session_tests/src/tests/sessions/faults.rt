@@ -55,9 +55,12 @@ fn tells_the_first_fault(rt: HostRuntime) -> Result<(), Fail> {
     Ok(())
 }
 
+/// Octets of a version that there is not.
+const OF_VERSION_3: &[u8] = b"OSWP\x03\0\0\0";
+
 #[test]
 fn tells_another_version(rt: HostRuntime) -> Result<(), Fail> {
-    let fault = open(rt.alloc(), b"OSWP\x03\0\0\0").err();
+    let fault = open(rt.alloc(), OF_VERSION_3).err();
     let version = DumpFault {
         offset: 4,
         kind: DumpFaultKind::BadVersion,
