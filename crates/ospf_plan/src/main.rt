@@ -44,8 +44,9 @@ fn words(rt: &HostRuntime) -> io::Result<Vec<String>> {
     Ok(env::args(rt)?.collect::<Vec<String>>(rt.alloc())?)
 }
 
-/// A block that is taken and given back, in octets.
-const BLOCK: usize = 8 << 20;
+/// A block that is taken and given back, in octets: the C library goes by the size of one of up to
+/// 32 MiB.
+const BLOCK: usize = 31 << 20;
 
 /// Takes a block of memory and gives it back. By its size the C library's allocator then goes: it
 /// gives less memory than twice as much back to the kernel, which would clear it anew for the lists
