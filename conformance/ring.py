@@ -34,6 +34,10 @@ def network(place: int) -> int:
     return 0x0A050001 + (place // 4 % NETWORKS << 8)
 
 
+LANS = {network(4 * number) for number in range(NETWORKS)}
+KINDS = ["connected", "link", "attached", "gateway"]
+
+
 def costs(place: int, is_equal: bool) -> tuple[int, int]:
     """The costs of the links to the next place and back."""
     return (1, 2 if place % 5 == 0 else 1) if is_equal else (1 + place % 3, 1 + place % 4)
@@ -101,10 +105,6 @@ def hops(graph: dict[int, list[Edge]], root: int, near: dict[int, int]) -> dict[
         for behind, _, address in tight(other):
             give((3, data, address), behind)
     return found
-
-
-LANS = {network(4 * number) for number in range(NETWORKS)}
-KINDS = ["connected", "link", "attached", "gateway"]
 
 
 def hop_text(hop: Hop) -> str:
