@@ -22,7 +22,7 @@ use Rattle.area_graph.specs.steps.Naming.{edge_to_some, linked, listed, naming}
 use Rattle.area_graph.specs.steps.Drafts.{arc_of, edge_of, out_of, is_network_at, arc_back, both_arcs, both_ways}
 use Rattle.area_graph.proofs.MemberLemmas.{In, Some-same}
 use Rattle.area_graph.proofs.AllPathsLemmas.{same_from_is_same, is_same-from}
-use Rattle.area_graph.proofs.VertexLemmas.{found, has_number, missing, at_one_place}
+use Rattle.area_graph.proofs.VertexNumbers.{found, has_number, missing, at_one_place}
 
 -- ---- lists
 

@@ -35,12 +35,12 @@ use Rattle.area_graph.specs.Graphs.{IsGraphOf, AreOfArea}
 use Rattle.area_graph.proofs.MemberLemmas.{In, In-from_Contains, Contains-from_In, list_all-In, Some-same, In-filter, filter-In, In-filter_map}
 use Rattle.area_graph.proofs.MemberLemmas.{filter_map-In, map-by_place}
 use Rattle.area_graph.proofs.AllPathsLemmas.{same_from_is_same, is_same-from}
-use Rattle.area_graph.proofs.VertexLemmas.{found, has_number}
-use Rattle.area_graph.proofs.OnceLemmas.{Contains-each_once, each_once-In, each_once-distinct}
+use Rattle.area_graph.proofs.VertexNumbers.{found, has_number}
+use Rattle.area_graph.proofs.EachOnce.{Contains-each_once, each_once-In, each_once-distinct}
 use Rattle.area_graph.proofs.JoinLemmas.{Contains-area_edges}
-use Rattle.area_graph.proofs.OverLemmas.{ends, over_lsas-outs}
+use Rattle.area_graph.proofs.EdgesOver.{ends, over_lsas-outs}
 use Rattle.area_graph.proofs.Arcs.{arc_between, rows_same}
-use Rattle.area_graph.proofs.ArcLemmas.{links_back, arcs_are}
+use Rattle.area_graph.proofs.ArcMembers.{links_back, arcs_are}
 use Rattle.area_graph.proofs.UsedLemmas.{used_accepted, used_few}
 use Rattle.area_graph.proofs.EdgeLemmas.{distance_of-edges}
 

@@ -6,7 +6,7 @@ use Rattle.std.proofs.lemmas.Option.{slice_get-get_or}
 use Rattle.area_graph.specs.declared.vertex.Vertex.{Vertex}
 use Rattle.area_graph.specs.Area.{used, vertex_of}
 use Rattle.area_graph.specs.InUse.{IsLsaOf}
-use Rattle.area_graph.proofs.VertexLemmas.{at_one_place}
+use Rattle.area_graph.proofs.VertexNumbers.{at_one_place}
 
 pub lsa_at_number : (lsas : List (List ℕ)) → AllPairs (λ v w. v ≢ w) (map vertex_of (used lsas)) → (vertex : Vertex) (lsa : List ℕ) → IsLsaOf lsas vertex lsa
     → (i : ℕ) → slice_get (map vertex_of (used lsas)) i ≡ Some vertex → slice_get (used lsas) i ≡ Some lsa

@@ -1,4 +1,4 @@
-pub mod OrderLemmas
+pub mod RankOrders
 pub mod RisingLemmas
 pub mod Rises
 pub mod LeastLemmas

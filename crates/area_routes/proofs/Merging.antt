@@ -30,7 +30,7 @@ use Rattle.area_routes.specs.declared.rank.Rank.{Rank}
 use Rattle.area_routes.proofs.LookupLemmas.{lookup_entries, same_entries, sorted_entries}
 use Rattle.area_routes.proofs.LeastLemmas.{least_push, below_all}
 use Rattle.lsa_codec.proofs.OrderLemmas.{area_exact, area_total}
-use Rattle.area_routes.proofs.OrderLemmas.{hop_exact, hop_total, rank_total}
+use Rattle.area_routes.proofs.RankOrders.{hop_exact, hop_total, rank_total}
 use Rattle.area_routes.proofs.RisingLemmas.{rising_append, sorted_rising, any_rising}
 
 module _ {K : Type 0} where

@@ -21,7 +21,7 @@ use Rattle.area_routes.specs.Candidate.{Candidate}
 use Rattle.area_routes.specs.Values.{WayValue}
 use Rattle.area_routes.specs.steps.Merge.{candidate_cmp, contender_cmp, first_hop, fresh, is_last, merge}
 use Rattle.area_routes.proofs.Merging.{HasWays, all_ways, ways_push}
-use Rattle.area_routes.proofs.OrderLemmas.{hop_total, rank_total}
+use Rattle.area_routes.proofs.RankOrders.{hop_total, rank_total}
 
 -- ---- lists and their last elements
 

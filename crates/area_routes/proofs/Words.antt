@@ -24,7 +24,7 @@ use Rattle.area_routes.proofs.LookupLemmas.{same_entries}
 use Rattle.area_routes.proofs.LeastLemmas.{not_below}
 use Rattle.area_routes.proofs.Merging.{lookup_ways, sorted_ways}
 use Rattle.lsa_codec.proofs.OrderLemmas.{area_exact, area_total}
-use Rattle.area_routes.proofs.OrderLemmas.{hop_exact, hop_total, rank_exact, rank_total}
+use Rattle.area_routes.proofs.RankOrders.{hop_exact, hop_total, rank_exact, rank_total}
 use Rattle.area_routes.proofs.RisingLemmas.{any_rising, same_sorted, sorted_rising}
 
 module _ {X : Type 0} where

@@ -1,4 +1,4 @@
-use Rattle.area_graph.proofs.BackLinkLemmas.{found_among}
+use Rattle.area_graph.proofs.BackLinkSearch.{found_among}
 use Rattle.area_graph.proofs.back_links.is_found.Goals as goal
 
 pub returns : goal.returns

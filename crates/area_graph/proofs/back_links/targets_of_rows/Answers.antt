@@ -1,6 +1,6 @@
 use Rattle.std.proofs.Common.{◌∙◌, ap, map, []}
 use Rattle.std.proofs.lemmas.List.{map_push}
-use Rattle.area_graph.proofs.BackLinkLemmas.{no_rows, one_more}
+use Rattle.area_graph.proofs.BackLinkSearch.{no_rows, one_more}
 use Rattle.area_graph.proofs.back_links.targets_of_rows.Goals as goal
 
 pub loop-of-preserved : goal.loop-of-preserved

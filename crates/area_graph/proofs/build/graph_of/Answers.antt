@@ -8,7 +8,7 @@ use Rattle.area_graph.specs.Area.{vertex_of}
 use Rattle.area_graph.specs.steps.Drafts.{IsDraft}
 use Rattle.area_graph.specs.Graphs.{IsGraphOf}
 use Rattle.area_graph.proofs.GraphLemmas.{built}
-use Rattle.area_graph.proofs.NamingLemmas.{rows_within}
+use Rattle.area_graph.proofs.NamedRows.{rows_within}
 use Rattle.area_graph.proofs.UsedLemmas.{vertices_distinct}
 use Rattle.area_graph.proofs.build.graph_of.Goals as goal
 

@@ -1,6 +1,6 @@
 use Rattle.std.proofs.Common.{◌∙◌, ap, length, get_or, [], map, ◌+◌}
 use Rattle.std.proofs.lemmas.List.{length_push}
-use Rattle.area_graph.proofs.DraftLemmas.{empty_push}
+use Rattle.area_graph.proofs.DraftSteps.{empty_push}
 use Rattle.area_graph.proofs.draft.empty_rows.Goals as goal
 
 pub loop-preserved : goal.loop-preserved

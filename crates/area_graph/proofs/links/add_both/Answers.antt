@@ -2,7 +2,7 @@ use Rattle.std.proofs.Common.{◌∙◌, sym, ap, List}
 use Rattle.std.proofs.lemmas.Result.{on_ok_weaker}
 use Rattle.area_graph.specs.declared.vertex.Vertex.{Vertex}
 use Rattle.area_graph.specs.steps.Drafts.{arc_of, is_network_at}
-use Rattle.area_graph.proofs.AddsLemmas.{Adds-one_way, Adds-both_ways}
+use Rattle.area_graph.proofs.AddedEdges.{Adds-one_way, Adds-both_ways}
 use Rattle.area_graph.proofs.links.add_both.Goals as goal
 
 pub returns-then-not-is_network-clause-edges : goal.returns-then-not-is_network-clause-edges

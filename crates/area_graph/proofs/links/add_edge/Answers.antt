@@ -1,7 +1,7 @@
 use Rattle.std.proofs.Common.{◌∙◌, sym}
 use Rattle.std.proofs.lemmas.Result.{on_ok_weaker}
 use Rattle.area_graph.specs.steps.Drafts.{arc_of}
-use Rattle.area_graph.proofs.AddsLemmas.{adds_not_returned, adds_returned}
+use Rattle.area_graph.proofs.AddedEdges.{adds_not_returned, adds_returned}
 use Rattle.area_graph.proofs.links.add_edge.Goals as goal
 
 pub returns-then-not-names-clause-edges : goal.returns-then-not-names-clause-edges

@@ -1,7 +1,7 @@
 use Rattle.std.proofs.Common.{◌∙◌, subst, List}
 use Rattle.area_graph.specs.declared.vertex.Vertex.{Vertex}
 use Rattle.area_graph.specs.steps.Drafts.{Adds, row_arcs}
-use Rattle.area_graph.proofs.AddsLemmas.{arcs_more}
+use Rattle.area_graph.proofs.AddedEdges.{arcs_more}
 use Rattle.area_graph.proofs.links.add_edges.Goals as goal
 
 pub loop-from-preserved : goal.loop-from-preserved

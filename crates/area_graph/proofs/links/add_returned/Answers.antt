@@ -1,8 +1,8 @@
 use Rattle.std.proofs.Common.{◌∙◌, subst, List, [], ◌∷◌}
 use Rattle.area_graph.specs.declared.vertex.Vertex.{Vertex}
 use Rattle.area_graph.specs.steps.Drafts.{Adds, arc_of, returned_arcs}
-use Rattle.area_graph.proofs.AddsLemmas.{returned_more}
-use Rattle.area_graph.proofs.OnceLemmas.{no_edge, edge_at}
+use Rattle.area_graph.proofs.AddedEdges.{returned_more}
+use Rattle.area_graph.proofs.EachOnce.{no_edge, edge_at}
 use Rattle.area_graph.proofs.links.add_returned.Goals as goal
 
 pub loop-edge-preserved : goal.loop-edge-preserved

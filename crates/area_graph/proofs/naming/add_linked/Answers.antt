@@ -1,7 +1,7 @@
 use Rattle.std.proofs.Common.{◌∙◌, ap, ◌++◌, []}
 use Rattle.std.specs.List.{cons_option}
 use Rattle.area_graph.specs.steps.Naming.{linked}
-use Rattle.area_graph.proofs.NamingLemmas.{more_of}
+use Rattle.area_graph.proofs.NamedRows.{more_of}
 use Rattle.area_graph.proofs.naming.add_linked.Goals as goal
 
 pub loop-link-preserved : goal.loop-link-preserved

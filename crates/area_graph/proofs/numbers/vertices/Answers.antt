@@ -2,7 +2,7 @@ use Rattle.std.proofs.Common.{◌∙◌, ap}
 use Rattle.area_graph.specs.Area.{vertex_of}
 use Rattle.area_graph.specs.Vertex.{is_same}
 use Rattle.indexmap.specs.IndexSet.{insert_key}
-use Rattle.area_graph.proofs.VertexLemmas.{vertices_more}
+use Rattle.area_graph.proofs.VertexNumbers.{vertices_more}
 use Rattle.area_graph.proofs.numbers.vertices.Goals as goal
 
 pub loop-lsa-preserved : goal.loop-lsa-preserved

@@ -1,6 +1,6 @@
 use Rattle.std.proofs.Common.{sym, ◌∙◌}
 use Rattle.std.proofs.lemmas.Result.{on_ok_weaker}
-use Rattle.area_graph.proofs.RankLemmas.{rank_set}
+use Rattle.area_graph.proofs.Outranking.{rank_set}
 use Rattle.area_graph.proofs.ranks.rank.Goals as goal
 
 pub returns : goal.returns

@@ -2,7 +2,7 @@ use Rattle.std.proofs.Common.{sym, ap, ◌∙◌, List}
 use Rattle.indexmap.specs.IndexSet.{insert_key}
 use Rattle.area_graph.specs.declared.edge.Edge.{Edge}
 use Rattle.area_graph.specs.Rows.{same_edge}
-use Rattle.area_graph.proofs.OnceLemmas.{each_once-more, no_edge, edge_at}
+use Rattle.area_graph.proofs.EachOnce.{each_once-more, no_edge, edge_at}
 use Rattle.area_graph.proofs.rows.edge_set.Goals as goal
 
 pub loop-edge-preserved : goal.loop-edge-preserved

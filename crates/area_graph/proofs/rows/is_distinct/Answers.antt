@@ -1,5 +1,5 @@
 use Rattle.std.proofs.Common.{sym, ◌∙◌, take}
-use Rattle.area_graph.proofs.OnceLemmas.{distinct-more, other_way, no_edge, edge_at}
+use Rattle.area_graph.proofs.EachOnce.{distinct-more, other_way, no_edge, edge_at}
 use Rattle.area_graph.proofs.rows.is_distinct.Goals as goal
 
 pub loop-index-preserved : goal.loop-index-preserved

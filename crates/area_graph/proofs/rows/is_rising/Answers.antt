@@ -1,5 +1,5 @@
 use Rattle.std.proofs.Common.{arith}
-use Rattle.area_graph.proofs.OnceLemmas.{rise_more, rising_whole}
+use Rattle.area_graph.proofs.EachOnce.{rise_more, rising_whole}
 use Rattle.area_graph.proofs.rows.is_rising.Goals as goal
 
 pub loop-index-init : goal.loop-index-init

@@ -1,5 +1,5 @@
 use Rattle.std.proofs.Common.{◌<◌}
-use Rattle.area_graph.proofs.OnceLemmas.{RiseBelow}
+use Rattle.area_graph.proofs.EachOnce.{RiseBelow}
 use Rattle.area_graph.proofs.rows.is_rising.Given as goal
 
 abbrev pub invariant-loop-index : goal.invariant-loop-index

@@ -1,7 +1,7 @@
 use Rattle.std.proofs.Common.{◌∙◌, ap, not, sym, ◌++◌, ◌∷◌, [], List, ℕ}
 use Rattle.std.specs.List.{list_any}
 use Rattle.area_graph.specs.Area.{is_outranked_by}
-use Rattle.area_graph.proofs.RankLemmas.{outranked_by_rank, keep_more, skip_more}
+use Rattle.area_graph.proofs.Outranking.{outranked_by_rank, keep_more, skip_more}
 use Rattle.area_graph.proofs.used.highest.Goals as goal
 use Rattle.area_graph.proofs.used.highest.Goals.{then-not-is_outranked+in_ok-push, else-not-is_outranked}
 

@@ -1,4 +1,4 @@
-use Rattle.area_routes.proofs.OrderLemmas.{rank_exact, rank_total}
+use Rattle.area_routes.proofs.RankOrders.{rank_exact, rank_total}
 use Rattle.area_routes.proofs.laws.rank_order.Goals as goal
 
 pub returns-clause-total : goal.returns-clause-total

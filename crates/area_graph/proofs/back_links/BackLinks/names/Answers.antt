@@ -3,7 +3,7 @@ use Rattle.std.specs.List.{list_any}
 use Rattle.std.proofs.lemmas.List.{get_or-map, length-map}
 use Rattle.area_graph.specs.declared.edge.Edge.{Edge}
 use Rattle.area_graph.specs.steps.Naming.{names_in, row_in}
-use Rattle.area_graph.proofs.BackLinkLemmas.{named_among}
+use Rattle.area_graph.proofs.BackLinkSearch.{named_among}
 use Rattle.area_graph.proofs.back_links.BackLinks.names.Goals as goal
 
 pub returns-else-row-le-SHORT_ROW : goal.returns-else-row-le-SHORT_ROW

@@ -1,7 +1,7 @@
 use Rattle.std.proofs.Common.{subst}
 use Rattle.std.proofs.lemmas.Result.{on_ok_weaker}
 use Rattle.area_graph.specs.steps.Drafts.{IsDraft}
-use Rattle.area_graph.proofs.DraftLemmas.{adds_one}
+use Rattle.area_graph.proofs.DraftSteps.{adds_one}
 use Rattle.area_graph.proofs.draft.Draft.add.Goals as goal
 
 pub returns-clause-edges : goal.returns-clause-edges

@@ -2,7 +2,7 @@ use Rattle.std.proofs.Common.{◌∙◌, ap, subst, sym, ◌<◌, length}
 use Rattle.std.proofs.lemmas.Result.{on_ok_weaker, on_err_weaker}
 use Rattle.area_graph.specs.Topology.{Topology}
 use Rattle.area_graph.specs.steps.Drafts.{with_edge}
-use Rattle.area_graph.proofs.DraftLemmas.{draft_set, draft_same, draft_kept, ok_or_err}
+use Rattle.area_graph.proofs.DraftSteps.{draft_set, draft_same, draft_kept, ok_or_err}
 use Rattle.area_graph.proofs.draft.Draft.insert.Goals as goal
 
 pub returns-clause-added : goal.returns-clause-added

@@ -1,6 +1,6 @@
 use Rattle.std.proofs.Common.{◌∙◌}
 use Rattle.std.proofs.lemmas.List.{length-map}
-use Rattle.area_graph.proofs.DraftLemmas.{empty_draft}
+use Rattle.area_graph.proofs.DraftSteps.{empty_draft}
 use Rattle.area_graph.proofs.draft.Draft.new.Goals as goal
 
 pub invariant_of-result : goal.invariant_of-result

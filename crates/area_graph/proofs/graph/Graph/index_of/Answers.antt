@@ -1,7 +1,7 @@
 use Rattle.std.proofs.Common.{◌≡◌, subst}
 use Rattle.std.specs.Prelude.{IfSome, slice_get, Some}
 use Rattle.area_graph.specs.Topology.{Topology}
-use Rattle.area_graph.proofs.VertexLemmas.{number_found}
+use Rattle.area_graph.proofs.VertexNumbers.{number_found}
 use Rattle.area_graph.proofs.graph.Graph.index_of.Goals as goal
 
 pub returns-clause-number : goal.returns-clause-number

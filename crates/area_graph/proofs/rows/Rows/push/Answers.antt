@@ -1,7 +1,7 @@
 use Rattle.std.proofs.Common.{◌≡◌, rules, vec_len, ap, ◌∙◌, ◌++◌, ◌∷◌, [], List, length}
 use Rattle.area_graph.specs.declared.edge.Edge.{Edge}
 use Rattle.area_graph.specs.steps.Spans.{rows_at}
-use Rattle.area_graph.proofs.SpanLemmas.{rows_at-push}
+use Rattle.area_graph.proofs.Spanning.{rows_at-push}
 use Rattle.area_graph.proofs.rows.Rows.push.Goals as goal
 
 pub returns : goal.returns

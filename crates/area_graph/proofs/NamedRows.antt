@@ -18,7 +18,7 @@ use Rattle.area_graph.specs.Area.{is_router_lsa, is_network_lsa}
 use Rattle.area_graph.specs.AreaEdges.{target_of}
 use Rattle.area_graph.specs.steps.Naming.{edge_to_some, linked, listed, naming, row_in}
 use Rattle.area_graph.specs.steps.Drafts.{AreWithin}
-use Rattle.area_graph.proofs.VertexLemmas.{found}
+use Rattle.area_graph.proofs.VertexNumbers.{found}
 
 -- ---- one more item
 

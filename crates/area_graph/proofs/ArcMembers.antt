@@ -22,7 +22,7 @@ use Rattle.area_graph.specs.steps.Drafts.{arc_of, is_network_at, both_arcs, retu
 use Rattle.area_graph.specs.steps.Drafts.{returned, over_lsas}
 use Rattle.area_graph.proofs.MemberLemmas.{In-list_any, list_any-In, Some-same}
 use Rattle.area_graph.proofs.AllPathsLemmas.{same_from_is_same, is_same-from}
-use Rattle.area_graph.proofs.VertexLemmas.{found, at_one_place}
+use Rattle.area_graph.proofs.VertexNumbers.{found, at_one_place}
 use Rattle.area_graph.proofs.Arcs.{filter-filter_map, flat_map-filter_map, at_map, map_at, In-at, at-In, arc_between, between, network_at, no_ways, ways}
 use Rattle.area_graph.proofs.Arcs.{any_naming, arcs_over}
 
