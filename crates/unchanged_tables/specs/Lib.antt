@@ -1,0 +1,2 @@
+pub mod Slack
+pub mod Steady
