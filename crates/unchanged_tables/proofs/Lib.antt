@@ -1,0 +1,3 @@
+mod SteadyResults
+mod SteadySections
+mod SteadyTables
