@@ -1,3 +1,4 @@
 mod SteadyResults
 mod SteadySections
 mod SteadyTables
+mod TreeDistances

@@ -5,6 +5,10 @@
 //! and so the table stay, and no tree has to be calculated to know it.
 #![tactic(auto)]
 
+mod deciding;
+mod distances;
 mod laws;
+mod steady;
 
+pub use deciding::is_unchanged;
 pub use laws::steady_changes_leave_tables;
