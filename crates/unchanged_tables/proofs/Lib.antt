@@ -2,3 +2,4 @@ mod SteadyResults
 mod SteadySections
 mod SteadyTables
 mod TreeDistances
+mod OneLsa

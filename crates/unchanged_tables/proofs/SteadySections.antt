@@ -126,7 +126,7 @@ as_wide router None olds news wide steady = steady
 as_wide router (Some area) olds news wide steady = absurd (true≢false (sym wide))
 
 -- what is found has passed the test
-passed : {X : Type 0} (p : X → Bool) (xs : List X) (x : X) → find p xs ≡ Some x → p x ≡ true
+pub passed : {X : Type 0} (p : X → Bool) (xs : List X) (x : X) → find p xs ≡ Some x → p x ≡ true
 passed p [] x h = cc
 passed {X} p (y ∷ ys) x h = by (p y) refl h (passed p ys x)
   where
