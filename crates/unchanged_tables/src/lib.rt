@@ -7,4 +7,4 @@
 
 mod laws;
 
-pub use laws::steady_changes_leave_tables;
+pub use laws::steady_changes_leave_results;
