@@ -1,1 +1,3 @@
 pub mod SteadyPaths
+pub mod SteadyLists
+pub mod SteadyEdges
