@@ -1,3 +1,4 @@
 pub mod SteadyPaths
 pub mod SteadyLists
 pub mod SteadyEdges
+pub mod SteadyResults
