@@ -1,5 +1,5 @@
 -- Steady changes of an area's LSAs leave its edges as they are, but for slack ones.
-use Rattle.std.proofs.Common.{◌≡◌, ℕ, ◌+◌, ◌<◌, ◌≤◌, Bool, true, false, cond, not, eqb, ltb, List, [], map, Option, None, Some, refl, sym, ap, ◌∙◌}
+use Rattle.std.proofs.Common.{◌≡◌, ℕ, ◌+◌, ◌<◌, ◌≤◌, Bool, true, cond, not, eqb, ltb, List, [], map, Option, None, Some, refl, sym, ap, ◌∙◌}
 use Rattle.std.proofs.Common.{subst, arith, ◌⊎◌, inl, inr, ⊎_elim}
 use Rattle.std.specs.Prelude.{◌&&◌, ◌||◌, IfSome, IsSomeAnd}
 use Rattle.std.specs.List.{AllZip, Contains, filter, filter_map, flat_map, list_any}
@@ -15,7 +15,7 @@ use Rattle.area_graph.specs.declared.vertex.Vertex.TheVariants.{Router, Network}
 use Rattle.area_graph.specs.Vertex.{is_same, is_network}
 use Rattle.area_graph.specs.Paths.{DirectedEdge}
 use Rattle.area_graph.specs.AllPaths.{distance_of}
-use Rattle.area_graph.specs.Area.{is_live, is_network_lsa, is_outranked_by, is_router_lsa, is_vertex_lsa, used, vertex_lsas, vertex_of}
+use Rattle.area_graph.specs.Area.{is_network_lsa, is_outranked_by, is_router_lsa, is_vertex_lsa, used, vertex_lsas, vertex_of}
 use Rattle.area_graph.specs.AreaEdges.{area_edges, back, edge_over, edges_over, is_returned, named_by, names, router_edges, router_links, target_by, target_of}
 use Rattle.area_graph.proofs.AllPathsLemmas.{IsDistance-distance_of}
 use Rattle.area_graph.proofs.MemberLemmas.{Contains-from_In, In-from_Contains, Some-same}

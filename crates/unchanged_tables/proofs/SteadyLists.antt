@@ -1,6 +1,5 @@
 -- Two lists whose members are related place by place: their filtered and mapped lists are so, or are the same.
 use Rattle.std.proofs.Common.{◌≡◌, Bool, true, false, cond, List, [], ◌∷◌, ◌++◌, map, Option, None, Some, refl, sym, ap, ◌∙◌, subst, inl, inr}
-use Rattle.std.proofs.Common.{true≢false}
 use Rattle.std.specs.Prelude.{◌||◌}
 use Rattle.std.specs.List.{AllZip, cons_option, filter, filter_map, flat_map, list_any}
 use Rattle.area_graph.proofs.MemberLemmas.{In}

@@ -10,7 +10,6 @@ use Rattle.area_graph.proofs.PathLemmas.{HasPathOfCost-push}
 use Rattle.area_graph.proofs.RisingLemmas.{Contains-rising, rising-is, rising-pairs}
 use Rattle.next_hops.specs.declared.hop.Hop.{Hop}
 use Rattle.next_hops.specs.FirstHops.{IsHopTo, NothingFree, first_hop, hops_of}
-use Rattle.next_hops.specs.Hop.{hop_cmp}
 use Rattle.next_hops.proofs.HopLemmas.{Contains-hops_of, hop_cmp_total, same_hop}
 
 -- a path of least cost can go over this edge

@@ -2,7 +2,7 @@
 use Rattle.std.proofs.Common.{◌≡◌, ℕ, ◌+◌, Bool, true, false, cond, not, eqb, List, [], ◌∷◌, ◌++◌, map, Option, None, Some, refl, sym, ap, ◌∙◌, subst, arith}
 use Rattle.std.proofs.Common.{◌⊎◌, inl, inr}
 use Rattle.std.specs.Prelude.{◌&&◌, IsSomeAnd}
-use Rattle.std.specs.List.{All, AllZip, filter, filter_map, flat_map}
+use Rattle.std.specs.List.{All, AllZip}
 use Rattle.std.specs.Option.{option_map}
 use Rattle.std.proofs.lemmas.Bool.{eqb-true}
 use Rattle.lsa_codec.specs.declared.address.AreaId.{AreaId}
@@ -11,7 +11,7 @@ use Rattle.lsa_codec.specs.declared.link.Link.{Link}
 use Rattle.lsa_codec.specs.declared.link.LinkKind.{LinkKind}
 use Rattle.lsa_codec.specs.declared.link.LinkKind.TheVariants.{PointToPoint, Transit, Stub, Virtual, Other}
 use Rattle.lsa_codec.specs.Accepted.{IsAccepted}
-use Rattle.lsa_codec.specs.Fields.{kind_of, link_state_id_of}
+use Rattle.lsa_codec.specs.Fields.{kind_of}
 use Rattle.lsa_codec.specs.Links.{is_stub, stub_net}
 use Rattle.lsa_codec.specs.Prefix.{Net, is_mask, len_of_mask, masked}
 use Rattle.area_graph.specs.declared.vertex.Vertex.{Vertex}
@@ -25,15 +25,15 @@ use Rattle.next_hops.specs.declared.hop.Hop.{Hop}
 use Rattle.next_hops.specs.declared.hop.Hop.TheVariants.{Connected}
 use Rattle.next_hops.specs.FirstHops.{hops_of}
 use Rattle.area_routes.specs.AreaResults.{area_result, result_of_reached}
-use Rattle.area_routes.specs.Entries.{area_entries, bit_b, bit_e, entries_of, flags_of, has_bit}
-use Rattle.area_routes.specs.Networks.{network_offers, networks, chosen, network_offer}
+use Rattle.area_routes.specs.Entries.{bit_b, bit_e, entries_of, has_bit}
+use Rattle.area_routes.specs.Networks.{network_offers, chosen, network_offer}
 use Rattle.area_routes.specs.Reached.{ReachedValue, reached_by, reached_from}
-use Rattle.area_routes.specs.Stubs.{stub_hops, stub_offer, stub_offers, stubs_of}
-use Rattle.area_routes.specs.Values.{AreaResultValue, EntryValue, OfferValue}
+use Rattle.area_routes.specs.Stubs.{stub_hops, stub_offer, stubs_of}
+use Rattle.area_routes.specs.Values.{EntryValue, OfferValue}
 use Rattle.area_routes.specs.declared.entry.EntryKind.{EntryKind}
 use Rattle.area_routes.specs.declared.entry.EntryKind.TheVariants.{Border, AsbrIntra}
 use Rattle.area_routes.proofs.OverAllPathsLemmas.{NothingFree-area}
-use Rattle.unchanged_tables.specs.Slack.{AreSteadyLsas, DistanceOf, IsSlack, IsSlackLink, IsSteadyLink, IsSteadyLsa}
+use Rattle.unchanged_tables.specs.Slack.{AreSteadyLsas, DistanceOf, IsSlack, IsSlackLink, IsSteadyLink}
 use Rattle.unchanged_tables.specs.Steady.{distances_from}
 use Rattle.unchanged_tables.proofs.SteadyEdges.{IsAlike, IsSteady, alike, are_steady_edges, same_vertex, steady_edges, steady_links, steady_used}
 use Rattle.unchanged_tables.proofs.SteadyLists.{AreBoth, same-filter, same-filter_map, same-flat_map, zip-filter_map}
@@ -152,7 +152,8 @@ module _ (before : DistanceOf) (root : RouterId) where
       by (inl p) = ap (entries_of area root) (same_reached x y s p)
       by (inr r) = let t = stays x y s in λ i. entries area (t.kind i) (t.id i) (r.flags i) (s.distance i) (s.hops i)
 
-  same_result : (area : AreaId) (rs ss : List ReachedValue) → AllZip (IsSteadyReached before) rs ss → result_of_reached area root ss ≡ result_of_reached area root rs
+  same_result : (area : AreaId) (rs ss : List ReachedValue) → AllZip (IsSteadyReached before) rs ss
+      → result_of_reached area root ss ≡ result_of_reached area root rs
   same_result area rs ss steady =
       let offers = same_offers rs ss steady in
       let stubs = same-flat_map (IsSteadyReached before) (stubs_of root) (stubs_of root) same_stubs rs ss steady in
