@@ -1,3 +1,6 @@
+mod SteadyPaths
+mod SteadyLists
+mod SteadyEdges
 mod SteadyResults
 mod SteadySections
 mod SteadyTables

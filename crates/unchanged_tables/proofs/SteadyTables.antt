@@ -122,7 +122,7 @@ module _ (router : RouterId) (olds news : Lists) (was : IsDatabase olds) (is : I
           → result_in news router head ≡ result_in olds router head
       by (inl changes) =
           steady_result (record { 0 = head.id }) router (lsas_of (Area (record { 0 = head.id })) olds) (lsas_of (Area (record { 0 = head.id })) news)
-          (are_of_area (record { 0 = head.id }) olds was) (are_of_area (record { 0 = head.id }) news is) changes
+          (are_of_area (record { 0 = head.id }) olds was).accepted (are_of_area (record { 0 = head.id }) news is).accepted changes
       by (inr (apart, elsewhere)) = absurd (true≢false (sym attached ∙ apart))
 
   results_stay : results_in news router (attached_areas olds router) ≡ results_in olds router (attached_areas olds router)

@@ -11,4 +11,4 @@ mod laws;
 mod steady;
 
 pub use deciding::is_unchanged;
-pub use laws::steady_changes_leave_tables;
+pub use laws::{steady_changes_leave_results, steady_changes_leave_tables};
