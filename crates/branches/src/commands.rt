@@ -1,6 +1,6 @@
 //! The commands of a script, executed on one planner.
 
-ghost use Rattle.std.specs.Prelude.{◌≡◌, ◌++◌, IfOk, OnOk, OnErr, IsOk, false, filter_map, flat_map, length, option_map, option_to_list};
+ghost use Rattle.std.specs.Prelude.{◌≡◌, ◌++◌, [], IfOk, OnOk, OnErr, IsOk, false, filter_map, flat_map, length, option_map, option_to_list};
 ghost use Rattle.std.specs.String.{string_bytes};
 ghost use Rattle.edit_history.specs.Session.{state, edited};
 ghost use Rattle.routing_table.specs.Routers.{attached_routers};
@@ -85,6 +85,23 @@ fn table_now<A: Allocator + Copy>(
     }
 }
 
+/// The routing table of a router now, if it is attached to an area. It may be the very one that the
+/// planner keeps of the loaded database.
+fn shared_table_now<A: Allocator + Copy>(
+    planner: &mut Planner<A>,
+    router: RouterId,
+) -> Result<Option<Rc<Table<A>, A>>, AllocError>
+    ensures table { IfOk result (λ table. option_map (λ shared. shared.value) table
+        ≡ table_in (state planner.old.session) router) }
+    ensures kept { planner.new.session ≡ planner.old.session }
+{
+    match planner.shared_table(router) {
+        Ok(table) => Ok(Some(table)),
+        Err(TableFault::NoRouter) => Ok(None),
+        Err(TableFault::OutOfMemory) => Err(AllocError),
+    }
+}
+
 /// The routing table of a router in the loaded database, if it is attached to an area there. The
 /// planner keeps it too.
 fn table_before<A: Allocator + Copy>(
@@ -114,7 +131,7 @@ fn table<A: Allocator + Copy>(
         (λ reply. said_by reply ≡ table_reply (table_in (state planner.old.session) router)) }
     ensures kept { planner.new.session ≡ planner.old.session }
 {
-    Ok(match table_now(planner, router)? {
+    Ok(match shared_table_now(planner, router)? {
         Some(table) => Reply::Table(table),
         None => Reply::Refused(NO_ROUTER),
     })
@@ -227,6 +244,19 @@ fn push_if_there<A: Allocator + Copy>(
     }
 }
 
+/// The table without routes.
+fn empty_table<A: Allocator + Copy>(
+    alloc: A,
+    router: RouterId,
+) -> Result<Rc<Table<A>, A>, AllocError>
+    ensures { IfOk result (λ table. table.value ≡ record { router = router; routes = [] }) }
+{
+    match Rc::new(alloc, Table::empty(alloc, router)) {
+        Ok(table) => Ok(table),
+        Err(_table) => Err(AllocError),
+    }
+}
+
 /// The reply to `compare`.
 fn compare<A: Allocator + Copy>(
     alloc: A,
@@ -241,9 +271,9 @@ fn compare<A: Allocator + Copy>(
     let Some(before) = table_before(planner, router)? else {
         return Ok(Reply::Refused(NO_ROUTER));
     };
-    let now = match table_now(planner, router)? {
+    let now = match shared_table_now(planner, router)? {
         Some(table) => table,
-        None => Table::empty(alloc, router),
+        None => empty_table(alloc, router)?,
     };
     Ok(Reply::Compare {
         router,

@@ -34,8 +34,8 @@ pub enum Reply<A: Allocator = Global> {
     Done,
     /// The command was refused, and nothing has changed.
     Refused(Refusal),
-    /// The routing table of a router.
-    Table(Table<A>),
+    /// The routing table of a router, which the branch may keep for the next one.
+    Table(Rc<Table<A>, A>),
     /// The routing tables of all routers that are attached to an area, in rising order of their
     /// IDs.
     Tables(Vec<Table<A>, A>),
@@ -45,8 +45,9 @@ pub enum Reply<A: Allocator = Global> {
         router: RouterId,
         /// Its table in the loaded database, which the branch keeps for the next one.
         before: Rc<Table<A>, A>,
-        /// Its table now; one without routes, where it is attached to no area now.
-        now: Table<A>,
+        /// Its table now, the very same where nothing has changed; one without routes, where it is
+        /// attached to no area now.
+        now: Rc<Table<A>, A>,
     },
     /// What the session counts.
     Info(Info),
