@@ -1,6 +1,6 @@
 //! The commands of a script, executed on one planner.
 
-ghost use Rattle.std.specs.Prelude.{◌≡◌, ◌++◌, [], IfOk, OnOk, OnErr, IsOk, false, filter_map, flat_map, length, option_map, option_to_list};
+ghost use Rattle.std.specs.Prelude.{◌≡◌, ◌++◌, IfOk, OnOk, OnErr, IsOk, false, filter_map, flat_map, length, option_map, option_to_list};
 ghost use Rattle.std.specs.String.{string_bytes};
 ghost use Rattle.edit_history.specs.Session.{state, edited};
 ghost use Rattle.routing_table.specs.Routers.{attached_routers};
@@ -244,19 +244,6 @@ fn push_if_there<A: Allocator + Copy>(
     }
 }
 
-/// The table without routes.
-fn empty_table<A: Allocator + Copy>(
-    alloc: A,
-    router: RouterId,
-) -> Result<Rc<Table<A>, A>, AllocError>
-    ensures { IfOk result (λ table. table.value ≡ record { router = router; routes = [] }) }
-{
-    match Rc::new(alloc, Table::empty(alloc, router)) {
-        Ok(table) => Ok(table),
-        Err(_table) => Err(AllocError),
-    }
-}
-
 /// The reply to `compare`.
 fn compare<A: Allocator + Copy>(
     alloc: A,
@@ -271,9 +258,15 @@ fn compare<A: Allocator + Copy>(
     let Some(before) = table_before(planner, router)? else {
         return Ok(Reply::Refused(NO_ROUTER));
     };
-    let now = match shared_table_now(planner, router)? {
+    if planner.is_unchanged(router) {
+        return Ok(Reply::Unchanged {
+            router,
+            table: before,
+        });
+    }
+    let now = match table_now(planner, router)? {
         Some(table) => table,
-        None => empty_table(alloc, router)?,
+        None => Table::empty(alloc, router),
     };
     Ok(Reply::Compare {
         router,

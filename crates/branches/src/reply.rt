@@ -12,7 +12,7 @@ use recalculate::{Info, Table, TableFault};
 use std::alloc::{AllocError, Allocator, Global};
 use std::marker::Model;
 use std::rc::Rc;
-use table_report::{push_compare, push_table};
+use table_report::{push_compare, push_no_change, push_table};
 
 /// Why a command is refused. A refused command changes nothing.
 #[derive(Clone, Copy, Debug, PartialEq, Eq)]
@@ -45,9 +45,15 @@ pub enum Reply<A: Allocator = Global> {
         router: RouterId,
         /// Its table in the loaded database, which the branch keeps for the next one.
         before: Rc<Table<A>, A>,
-        /// Its table now, the very same where nothing has changed; one without routes, where it is
-        /// attached to no area now.
-        now: Rc<Table<A>, A>,
+        /// Its table now; one without routes, where it is attached to no area now.
+        now: Table<A>,
+    },
+    /// The comparison of a router's table that the edits leave as it was in the loaded database.
+    Unchanged {
+        /// The router.
+        router: RouterId,
+        /// Its table, in the loaded database and now.
+        table: Rc<Table<A>, A>,
     },
     /// What the session counts.
     Info(Info),
@@ -156,6 +162,7 @@ fn push_said<A: Allocator + Copy>(
             before,
             now,
         } => push_compare(alloc, text, *router, before, now),
+        Reply::Unchanged { router, table: _ } => push_no_change(text, *router),
         Reply::Info(info) => push_info(text, info),
     }
 }
