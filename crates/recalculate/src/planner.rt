@@ -355,8 +355,8 @@ impl<A: Allocator + Copy> Planner<A> {
         ensures kept { self.new.kept ≡ self.old.kept }
         ensures step { Stayed self.old self.new }
     {
-        let is_again = matches!(self.asked, Some(asked) if asked == router);
-        if is_again && self.study.done() == 1 {
+        let last = self.asked;
+        if self.study.done() == 1 && last.is_some_and(|last| last == router) {
             // Where it can not be made, the table is calculated in the session's database alone.
             let _ = self.kept_base_table(router);
         }
