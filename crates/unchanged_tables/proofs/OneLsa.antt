@@ -18,7 +18,7 @@ use Rattle.routing_table.specs.Tables.{table_in}
 use Rattle.routing_table.proofs.MapLemmas.{if_found}
 use Rattle.unchanged_tables.specs.ByTree.{IsOf, TreeIn, distances_by}
 use Rattle.unchanged_tables.specs.Slack.{DistanceOf, IsSteadyLsa}
-use Rattle.unchanged_tables.specs.Steady.{AreSteady, AreSteadyIn, IsElsewhere, IsSteadySection, distances_from, is_foreign}
+use Rattle.unchanged_tables.specs.Steady.{AreSteady, AreSteadyIn, IsElsewhere, IsSteadySection, distances_from}
 use Rattle.unchanged_tables.proofs.SteadySections.{IsSteadyArea, elsewhere_live, passed}
 use Rattle.unchanged_tables.proofs.SteadyTables.{table_stays}
 use Rattle.unchanged_tables.proofs.TreeDistances.{tree_distances}
@@ -112,10 +112,10 @@ module _ (d : Places) (slot : SlotId) (router : RouterId) (before after : List �
       table_stays router (lists_of (put d slot (Some before))) (lists_of d) was is changed
 
   -- in an area that the router is not attached to
-  pub elsewhere_unchanged : is_attached (lists_of d) area router ≡ false → is_foreign router before ≡ true → is_foreign router after ≡ true
+  pub elsewhere_unchanged : is_attached (lists_of d) area router ≡ false → IsElsewhere router before after
       → table_in (lists_of d) router ≡ table_in (lists_of (put d slot (Some before))) router
-  elsewhere_unchanged apart old new =
-      let elsewhere = one_changed (IsElsewhere router) (λ lsa. inl refl) front back before after (inr (old, new)) in
+  elsewhere_unchanged apart change =
+      let elsewhere = one_changed (IsElsewhere router) (λ lsa. inl refl) front back before after change in
       let live : has_live_router_lsa router news ≡ false =
       sym (ap (λ (o : Option SectionLsas). has_live_router_lsa router (lsas_or_none o)) found_new) ∙ apart in
       area_unchanged (inr (sym (elsewhere_live router olds news elsewhere) ∙ live, elsewhere))
