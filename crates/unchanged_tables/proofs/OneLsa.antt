@@ -1,5 +1,5 @@
 -- The routing table of a router stays through a change of one LSA, where the LSA is steady or foreign.
-use Rattle.std.proofs.Common.{◌≡◌, ⊎_elim, ℕ, zero, suc, Bool, true, false, List, [], ◌∷◌, ◌++◌, length, Option, Some, None, refl, sym, ap, ◌∙◌, subst, inl, inr, true≢false}
+use Rattle.std.proofs.Common.{◌≡◌, ℕ, true, false, List, [], ◌∷◌, ◌++◌, length, Option, Some, None, refl, sym, ap, ◌∙◌, subst, inl, inr, true≢false}
 use Rattle.std.specs.Prelude.{slice_get}
 use Rattle.std.specs.List.{AllZip, cons_option, find}
 use Rattle.lsa_codec.specs.declared.address.AreaId.{AreaId}
@@ -17,8 +17,8 @@ use Rattle.routing_table.specs.AreasTrees.{AreOfDatabase, AreasTrees, trees_at}
 use Rattle.routing_table.specs.Tables.{table_in}
 use Rattle.routing_table.proofs.MapLemmas.{if_found}
 use Rattle.unchanged_tables.specs.ByTree.{IsOf, TreeIn, distances_by}
-use Rattle.unchanged_tables.specs.Slack.{AreSteadyLsas, DistanceOf, IsSteadyLsa}
-use Rattle.unchanged_tables.specs.Steady.{AreSteady, AreSteadyIn, IsElsewhere, IsSteadySection, distances_from, is_foreign}
+use Rattle.unchanged_tables.specs.Slack.{DistanceOf, IsSteadyLsa}
+use Rattle.unchanged_tables.specs.Steady.{AreSteady, AreSteadyIn, IsElsewhere, IsSteadySection, distances_from}
 use Rattle.unchanged_tables.proofs.SteadySections.{IsSteadyArea, elsewhere_live, passed}
 use Rattle.unchanged_tables.proofs.SteadyTables.{table_stays}
 use Rattle.unchanged_tables.proofs.TreeDistances.{tree_distances}
@@ -104,16 +104,18 @@ module _ (d : Places) (slot : SlotId) (router : RouterId) (before after : List �
         area = refl;
         lsas = of_area router head.id w.area olds news (passed (is_section (Area area)) (lists_of d) t found_new) steady;
       } in
-      let all : AreSteady router (w.low ++ s ∷ w.high) (w.low ++ t ∷ w.high) = one_changed (IsSteadySection router) (section_same router) w.low w.high s t one in
+      let all : AreSteady router (w.low ++ s ∷ w.high) (w.low ++ t ∷ w.high) =
+      one_changed (IsSteadySection router) (section_same router) w.low w.high s t one in
       let changed : AreSteady router (lists_of (put d slot (Some before))) (lists_of d) =
-      subst (λ (db : Lists). AreSteady router db (lists_of d)) (sym w.after) (subst (λ (db : Lists). AreSteady router (w.low ++ s ∷ w.high) db) (sym w.before) all) in
+      subst (λ (db : Lists). AreSteady router db (lists_of d)) (sym w.after)
+      (subst (λ (db : Lists). AreSteady router (w.low ++ s ∷ w.high) db) (sym w.before) all) in
       table_stays router (lists_of (put d slot (Some before))) (lists_of d) was is changed
 
   -- in an area that the router is not attached to
-  pub elsewhere_unchanged : is_attached (lists_of d) area router ≡ false → is_foreign router before ≡ true → is_foreign router after ≡ true
+  pub elsewhere_unchanged : is_attached (lists_of d) area router ≡ false → IsElsewhere router before after
       → table_in (lists_of d) router ≡ table_in (lists_of (put d slot (Some before))) router
-  elsewhere_unchanged apart old new =
-      let elsewhere = one_changed (IsElsewhere router) (λ lsa. inl refl) front back before after (inr (old, new)) in
+  elsewhere_unchanged apart change =
+      let elsewhere = one_changed (IsElsewhere router) (λ lsa. inl refl) front back before after change in
       let live : has_live_router_lsa router news ≡ false =
       sym (ap (λ (o : Option SectionLsas). has_live_router_lsa router (lsas_or_none o)) found_new) ∙ apart in
       area_unchanged (inr (sym (elsewhere_live router olds news elsewhere) ∙ live, elsewhere))
@@ -123,9 +125,10 @@ module _ (d : Places) (slot : SlotId) (router : RouterId) (before after : List �
       → trees_at trees area ≡ Some kept → IsOf kept.graph router t → IsSteadyLsa (distances_by t) before after
       → table_in (lists_of d) router ≡ table_in (lists_of (put d slot (Some before))) router
   steady_unchanged trees kept t all found of steady =
-      let graph : IsGraphOf (lsas_of (Area area) (lists_of (put d slot (Some before)))) kept.graph =
-      if_found (λ (k : AreaTreesValue). IsGraphOf (lsas_of (Area area) (lists_of (put d slot (Some before)))) k.graph) (trees_at trees area) kept found (all area) in
+      let there : List (List ℕ) = lsas_of (Area area) (lists_of (put d slot (Some before))) in
+      let graph : IsGraphOf there kept.graph = if_found (λ (k : AreaTreesValue). IsGraphOf there k.graph) (trees_at trees area) kept found (all area) in
       let whole : IsGraphOf olds kept.graph = subst (λ (o : Option SectionLsas). IsGraphOf (lsas_or_none o) kept.graph) found_old graph in
       let distances : distances_by t ≡ distances_from router olds = tree_distances olds kept.graph router t whole of in
-      let changes : IsSteadyLsa (distances_from router olds) before after = subst (λ (distance : DistanceOf). IsSteadyLsa distance before after) distances steady in
+      let changes : IsSteadyLsa (distances_from router olds) before after =
+      subst (λ (distance : DistanceOf). IsSteadyLsa distance before after) distances steady in
       area_unchanged (inl (one_changed _ (λ lsa. inl refl) front back before after (inr changes)))

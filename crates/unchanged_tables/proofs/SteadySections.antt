@@ -1,7 +1,7 @@
 -- The sections of a database before and after steady changes: areas, live router-LSAs, and the LSAs of areas and of AS scope.
-use Rattle.std.proofs.Common.{◌≡◌, ◌⊎◌, ℕ, Bool, true, false, cond, eqb, not, List, [], ◌∷◌, Option, Some, None, refl, sym, ap, ◌∙◌, subst, inl, inr}
-use Rattle.std.proofs.Common.{⊎_elim, true≢false}
-use Rattle.std.specs.Prelude.{◌||◌, ◌&&◌}
+use Rattle.std.proofs.Common.{◌≡◌, ◌⊎◌, ℕ, Bool, true, false, cond, not, List, [], ◌∷◌, Option, Some, None, refl, sym, ap, ◌∙◌, subst, inl, inr}
+use Rattle.std.proofs.Common.{true≢false}
+use Rattle.std.specs.Prelude.{◌||◌}
 use Rattle.std.specs.List.{AllZip, cons_option, filter, find}
 use Rattle.std.specs.Option.{option_map_or}
 use Rattle.std.proofs.lemmas.Bool.{and_parts, eqb-true}
@@ -160,6 +160,6 @@ as_wide_stays router olds news steady = by (find (is_section AsWide) olds) (find
 pub attached_stay : (router : RouterId) (olds news : Lists) → AreSteady router olds news → attached_areas news router ≡ attached_areas olds router
 attached_stay router olds news steady =
     let alike : (area : AreaHead) → has_live_router_lsa router (lsas_of (Area (record { 0 = area.id })) news)
-        ≡ has_live_router_lsa router (lsas_of (Area (record { 0 = area.id })) olds) =
+    ≡ has_live_router_lsa router (lsas_of (Area (record { 0 = area.id })) olds) =
     λ area. live_stays router _ _ (area_steady router (record { 0 = area.id }) olds news steady) in
     λ i. filter (λ area. alike area i) (areas_stay router olds news steady i)

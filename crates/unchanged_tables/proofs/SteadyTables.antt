@@ -1,5 +1,5 @@
 -- The routing table of a router stays through steady changes of the database.
-use Rattle.std.proofs.Common.{◌≡◌, ◌⊎◌, ℕ, Bool, true, false, cond, eqb, not, List, [], ◌∷◌, ◌++◌, map, Option, Some, None, refl, sym, ap, ◌∙◌, subst, inl, inr, true≢false}
+use Rattle.std.proofs.Common.{◌≡◌, ◌⊎◌, ℕ, Bool, true, false, cond, not, List, [], ◌∷◌, ◌++◌, map, Option, Some, None, refl, sym, ap, ◌∙◌, inl, inr, true≢false}
 use Rattle.std.specs.Prelude.{◌||◌, ◌&&◌, ◌==◌, if◌then◌else◌, nat_lt}
 use Rattle.std.specs.List.{AllZip, cons_option, filter, filter_map, list_any}
 use Rattle.std.specs.Option.{option_and_then, option_map}
@@ -10,19 +10,19 @@ use Rattle.lsa_codec.specs.Fields.{kind_of}
 use Rattle.lsa_codec.specs.Order.{router_cmp}
 use Rattle.lsa_codec.specs.Prefix.{Net}
 use Rattle.lsa_codec.specs.Views.{ls_infinity, metric_of}
-use Rattle.lsdb.specs.declared.section.Section.TheVariants.{Area, AsWide}
-use Rattle.lsdb.specs.Lists.{AreaHead, IsDatabase, Lists, areas_of, has_key, lsas_of}
+use Rattle.lsdb.specs.declared.section.Section.TheVariants.{Area}
+use Rattle.lsdb.specs.Lists.{AreaHead, IsDatabase, Lists, areas_of, lsas_of}
 use Rattle.area_graph.specs.Area.{is_live, is_network_lsa, is_router_lsa}
 use Rattle.area_graph.proofs.GraphLemmas.{are_of_area}
-use Rattle.area_routes.specs.Attached.{attached_areas, has_live_router_lsa, is_attached}
+use Rattle.area_routes.specs.Attached.{attached_areas, is_attached}
 use Rattle.area_routes.specs.Best.{ways_of}
 use Rattle.area_routes.specs.Candidate.{Candidate}
-use Rattle.area_routes.specs.Inter.{asbr_candidate, asbr_entry, asbr_told, border_of, by_border, candidate_to, entries_by, entries_of_all, examined, inter_entries, inter_of, inter_routes, is_summary}
-use Rattle.area_routes.specs.Inter.{is_usable, network_candidate, network_told, originator_of, routes_by, same_router, usable_metric}
+use Rattle.area_routes.specs.Inter.{asbr_candidate, asbr_entry, asbr_told, border_of, by_border, candidate_to, entries_by, entries_of_all, examined}
+use Rattle.area_routes.specs.Inter.{inter_entries, inter_of, inter_routes, is_summary, network_candidate, network_told, originator_of, routes_by, same_router}
 use Rattle.area_routes.specs.Intra.{intra_of}
 use Rattle.area_routes.specs.Routes.{routes_of}
 use Rattle.area_routes.specs.Values.{AreaResultValue, EntryValue, InterValue, RouteValue}
-use Rattle.external_routes.specs.External.{external_candidate, external_candidates, externals_of}
+use Rattle.external_routes.specs.External.{external_candidate, externals_of}
 use Rattle.routing_table.specs.Preferring.{preferring}
 use Rattle.routing_table.specs.Tables.{inside, inter_result, result_in, results_in, routes_from, table_by, table_in}
 use Rattle.unchanged_tables.specs.Slack.{DistanceOf, IsSteadyLsa}
@@ -87,8 +87,7 @@ module _ (router : RouterId) (area : AreaResultValue) where
   no_candidate : {K : Type 0} (lsa : List ℕ) (key : Option K) → is_summary lsa ≡ false → option_and_then (candidate_to router area lsa) key ≡ None
   no_candidate lsa None h = refl
   no_candidate lsa (Some key) h =
-      ap (λ b. option_and_then (λ metric. option_map (by_border key area.area metric)
-      (border_of area.entries (originator_of lsa)))
+      ap (λ b. option_and_then (λ metric. option_map (by_border key area.area metric) (border_of area.entries (originator_of lsa)))
       (if b && (is_live lsa && (nat_lt (metric_of lsa) ls_infinity && not (same_router (originator_of lsa) router))) then Some (metric_of lsa) else None)) h
 
   module _ (olds news : List (List ℕ)) (tells : AllZip TellsTheSame olds news) where
@@ -99,8 +98,7 @@ module _ (router : RouterId) (area : AreaResultValue) where
 
     entries_told : inter_entries router area news ≡ inter_entries router area olds
     entries_told =
-        ap (λ (cs : List (Candidate RouterId)). map (asbr_entry area.area)
-        (ways_of router_cmp cs))
+        ap (λ (cs : List (Candidate RouterId)). map (asbr_entry area.area) (ways_of router_cmp cs))
         (told_same (asbr_candidate router area) (λ lsa h. no_candidate lsa (asbr_told router area lsa) h) olds news tells)
 
 -- ---- the table
@@ -110,7 +108,8 @@ map_passed : {X Y : Type 0} (p : X → Bool) (f g : X → Y) → ((x : X) → p 
 map_passed p f g same [] = refl
 map_passed {X} p f g same (x ∷ xs) = by (p x) refl (map_passed p f g same xs)
   where
-    by : (b : Bool) → p x ≡ b → map f (filter p xs) ≡ map g (filter p xs) → map f (cond b (x ∷ filter p xs) (filter p xs)) ≡ map g (cond b (x ∷ filter p xs) (filter p xs))
+    by : (b : Bool) → p x ≡ b → map f (filter p xs) ≡ map g (filter p xs)
+        → map f (cond b (x ∷ filter p xs) (filter p xs)) ≡ map g (cond b (x ∷ filter p xs) (filter p xs))
     by true e rest = λ i. same x e i ∷ rest i
     by false e rest = rest
 
@@ -127,7 +126,8 @@ module _ (router : RouterId) (olds news : Lists) (was : IsDatabase olds) (is : I
 
   results_stay : results_in news router (attached_areas olds router) ≡ results_in olds router (attached_areas olds router)
   results_stay =
-      map_passed (λ (area : AreaHead). is_attached olds (record { 0 = area.id }) router) (result_in news router) (result_in olds router) result_stays (areas_of olds)
+      map_passed (λ (area : AreaHead). is_attached olds (record { 0 = area.id }) router)
+      (result_in news router) (result_in olds router) result_stays (areas_of olds)
 
   tells : (area : AreaId) → AllZip TellsTheSame (lsas_of (Area area) olds) (lsas_of (Area area) news)
   tells area = area_tells router (lsas_of (Area area) olds) (lsas_of (Area area) news) (area_steady router area olds news steady)

@@ -6,7 +6,7 @@ ghost use Rattle.lsdb.specs.Lists.{IsDatabase};
 ghost use Rattle.lsdb.specs.Places.{lists_of, put};
 ghost use Rattle.routing_table.specs.AreasTrees.{AreOfDatabase};
 ghost use Rattle.routing_table.specs.Tables.{table_in};
-ghost use Rattle.unchanged_tables.specs.Steady.{is_foreign};
+ghost use Rattle.unchanged_tables.specs.Steady.{IsElsewhere, is_foreign};
 
 use crate::distances::DistancesFrom;
 use crate::steady::is_steady_lsa;
@@ -22,6 +22,13 @@ fn is_foreign<A: Allocator + Copy>(router: RouterId, lsa: &Lsa<A>) -> bool
 {
     let key = lsa.key();
     (key.kind == ROUTER_LSA || key.kind == NETWORK_LSA) && key != Key::of_router(router)
+}
+
+/// Whether two LSAs are such LSAs.
+fn are_foreign<A: Allocator + Copy>(router: RouterId, before: &Lsa<A>, after: &Lsa<A>) -> bool
+    ensures { OnTrue result (IsElsewhere router before.now after.now) }
+{
+    is_foreign(router, before) && is_foreign(router, after)
 }
 
 /// Whether the routing table of a router is known to be the same before and after a change of one
@@ -52,7 +59,7 @@ pub fn is_unchanged<A: Allocator + Copy>(
         return false;
     };
     if !is_attached(database, area, router) {
-        return is_foreign(router, before) && is_foreign(router, after);
+        return are_foreign(router, before, after);
     }
     let Some(kept) = trees.in_area(area) else {
         return false;

@@ -78,7 +78,8 @@ fn are_steady_links<A: Allocator + Copy>(
     mut olds: Links<'_>,
     mut news: Links<'_>,
 ) -> bool
-    ensures { OnTrue result (AllZip (IsSteadyLink (distances_by distances.now) from) olds.entry news.entry) }
+    ensures { OnTrue result (AllZip (IsSteadyLink (distances_by distances.now) from)
+        olds.entry news.entry) }
 {
     while let Some(old) = olds.next() {
         let Some(new) = news.next() else {

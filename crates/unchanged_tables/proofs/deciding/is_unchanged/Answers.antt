@@ -1,4 +1,4 @@
-use Rattle.std.proofs.Common.{◌≡◌, Bool, true, sym, ◌∙◌, subst}
+use Rattle.std.proofs.Common.{◌≡◌, Bool, true, sym, subst}
 use Rattle.std.specs.Bool.{OnTrue}
 use Rattle.lsdb.specs.Lists.{AreaHead}
 use Rattle.unchanged_tables.proofs.OneLsa.{elsewhere_unchanged, steady_unchanged}
@@ -8,12 +8,11 @@ use Rattle.unchanged_tables.proofs.deciding.is_unchanged.Goals as goal
 told : (b : Bool) {P : Type 0} → OnTrue b P → b ≡ true → P
 told b {P} tells passes = subst (λ (t : Bool). OnTrue t P) passes tells
 
-pub returns-then-is_foreign : goal.returns-then-is_foreign
-returns-then-is_foreign g c = λ holds.
+pub returns-then-not-is_attached : goal.returns-then-not-is_attached
+returns-then-not-is_attached g c = λ holds.
     let head : AreaHead = record { id = c.area-is_stub.result.0.0; is_stub = c.area-is_stub.result.1 } in
     elsewhere_unchanged c.args.database.now c.args.slot c.args.router c.args.before.now c.in-Some.after.now head c.known.ensures c.requires.sound
-    c.in-Some.ensures c.area-is_stub.ensures (sym c.is_attached.ensures ∙ c.if-not-is_attached.true) c.if-is_foreign.ensures
-    (told _ c.is_foreign-then-is_foreign.ensures holds)
+    c.in-Some.ensures c.area-is_stub.ensures (sym c.if-not-is_attached.ensures) (told _ c.are_foreign.ensures holds)
 
 pub returns : goal.returns
 returns g c = λ holds.
