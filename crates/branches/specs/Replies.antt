@@ -36,9 +36,10 @@ pub data Said : Type 0 where
 abbrev pub said_by : {A : Type 0} → Reply A → Said
 said_by reply.Done = done
 said_by (reply.Refused why) = refused why
-said_by (reply.Table t) = table t
+said_by (reply.Table t) = table t.value
 said_by (reply.Tables ts) = tables ts.items
 said_by (reply.Compare router before now) = compared router before.value now
+said_by (reply.Unchanged router table) = compared router table.value table.value
 said_by (reply.Info info) = counted info
 
 -- ---- one command

@@ -85,6 +85,23 @@ fn table_now<A: Allocator + Copy>(
     }
 }
 
+/// The routing table of a router now, if it is attached to an area. It may be the very one that the
+/// planner keeps of the loaded database.
+fn shared_table_now<A: Allocator + Copy>(
+    planner: &mut Planner<A>,
+    router: RouterId,
+) -> Result<Option<Rc<Table<A>, A>>, AllocError>
+    ensures table { IfOk result (λ table. option_map (λ shared. shared.value) table
+        ≡ table_in (state planner.old.session) router) }
+    ensures kept { planner.new.session ≡ planner.old.session }
+{
+    match planner.shared_table(router) {
+        Ok(table) => Ok(Some(table)),
+        Err(TableFault::NoRouter) => Ok(None),
+        Err(TableFault::OutOfMemory) => Err(AllocError),
+    }
+}
+
 /// The routing table of a router in the loaded database, if it is attached to an area there. The
 /// planner keeps it too.
 fn table_before<A: Allocator + Copy>(
@@ -114,7 +131,7 @@ fn table<A: Allocator + Copy>(
         (λ reply. said_by reply ≡ table_reply (table_in (state planner.old.session) router)) }
     ensures kept { planner.new.session ≡ planner.old.session }
 {
-    Ok(match table_now(planner, router)? {
+    Ok(match shared_table_now(planner, router)? {
         Some(table) => Reply::Table(table),
         None => Reply::Refused(NO_ROUTER),
     })
@@ -241,6 +258,12 @@ fn compare<A: Allocator + Copy>(
     let Some(before) = table_before(planner, router)? else {
         return Ok(Reply::Refused(NO_ROUTER));
     };
+    if planner.is_unchanged(router) {
+        return Ok(Reply::Unchanged {
+            router,
+            table: before,
+        });
+    }
     let now = match table_now(planner, router)? {
         Some(table) => table,
         None => Table::empty(alloc, router),

@@ -12,7 +12,7 @@ use recalculate::{Info, Table, TableFault};
 use std::alloc::{AllocError, Allocator, Global};
 use std::marker::Model;
 use std::rc::Rc;
-use table_report::{push_compare, push_table};
+use table_report::{push_compare, push_no_change, push_table};
 
 /// Why a command is refused. A refused command changes nothing.
 #[derive(Clone, Copy, Debug, PartialEq, Eq)]
@@ -34,8 +34,8 @@ pub enum Reply<A: Allocator = Global> {
     Done,
     /// The command was refused, and nothing has changed.
     Refused(Refusal),
-    /// The routing table of a router.
-    Table(Table<A>),
+    /// The routing table of a router, which the branch may keep for the next one.
+    Table(Rc<Table<A>, A>),
     /// The routing tables of all routers that are attached to an area, in rising order of their
     /// IDs.
     Tables(Vec<Table<A>, A>),
@@ -47,6 +47,13 @@ pub enum Reply<A: Allocator = Global> {
         before: Rc<Table<A>, A>,
         /// Its table now; one without routes, where it is attached to no area now.
         now: Table<A>,
+    },
+    /// The comparison of a router's table that the edits leave as it was in the loaded database.
+    Unchanged {
+        /// The router.
+        router: RouterId,
+        /// Its table, in the loaded database and now.
+        table: Rc<Table<A>, A>,
     },
     /// What the session counts.
     Info(Info),
@@ -155,6 +162,7 @@ fn push_said<A: Allocator + Copy>(
             before,
             now,
         } => push_compare(alloc, text, *router, before, now),
+        Reply::Unchanged { router, table: _ } => push_no_change(text, *router),
         Reply::Info(info) => push_info(text, info),
     }
 }

@@ -83,6 +83,13 @@ impl<A: Allocator + Copy> History<A> {
         &self.records
     }
 
+    /// The records of the done edits, in order.
+    pub(crate) fn done_records(&self) -> &[Record<A>]
+        ensures { reverse result.now ≡ self.now.lists.past }
+    {
+        &self.records[..self.cursor]
+    }
+
     /// One edit back.
     fn step_back(&mut self, database: &mut Database<A>)
         requires linked { Links database.old self.old.lists }

@@ -7,6 +7,7 @@
 #![tactic(auto)]
 
 mod applying;
+mod change;
 mod failures;
 mod fault;
 mod history;
@@ -21,6 +22,7 @@ mod refreshing;
 mod swap;
 
 pub use applying::apply;
+pub use change::Change;
 pub use fault::{EditFault, RedoFault, UndoFault};
 pub use history::History;
 pub use laws::{

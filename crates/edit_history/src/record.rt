@@ -1,6 +1,6 @@
 //! The record of an edit that was carried out.
 
-ghost use Rattle.std.specs.Prelude.{◌≡◌, length};
+ghost use Rattle.std.specs.Prelude.{◌≡◌, ◌∷◌, [], IfSome, length};
 ghost use Rattle.edit_history.specs.Exchange.{CanDo, CanUndo, done_places, done_swaps, undone_places, redone, undone, touches};
 
 use crate::swap::{Swap, do_swaps, undo_swaps};
@@ -55,6 +55,16 @@ impl<A: Allocator + Copy> Record<A> {
         ensures { result ≡ length self.now.swaps }
     {
         self.swaps.len()
+    }
+
+    /// The swap of the edit, where it is one alone.
+    pub(crate) fn only_swap(&self) -> Option<&Swap<A>>
+        ensures { IfSome result (λ swap. self.now.swaps ≡ swap.now ∷ []) }
+    {
+        match self.swaps.as_slice() {
+            [swap] => Some(swap),
+            _ => None,
+        }
     }
 
     /// Whether a router-LSA or network-LSA of the area was among them: those that make up the

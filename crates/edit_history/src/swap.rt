@@ -1,6 +1,6 @@
 //! One place that an edit changes, and what the database lacks of it.
 
-ghost use Rattle.std.specs.Prelude.{◌≡◌, ◌∷◌, [], IsSome, IfOk};
+ghost use Rattle.std.specs.Prelude.{◌≡◌, ◌∷◌, [], IsSome, IfSome, IfOk, Some};
 ghost use Rattle.lsdb.specs.Lists.{IsDatabase};
 ghost use Rattle.lsdb.specs.Places.{put, slot_at, lists_of};
 ghost use Rattle.edit_history.specs.Effect.{is_of_graph};
@@ -41,6 +41,20 @@ impl<A: Allocator + Copy> Swap<A> {
             kind,
             other,
         }
+    }
+
+    /// The place.
+    pub(crate) fn slot(&self) -> SlotId
+        ensures { result ≡ self.now.slot }
+    {
+        self.slot
+    }
+
+    /// The LSA that the database lacks, if it lacks one.
+    pub(crate) fn other(&self) -> Option<&Lsa<A>>
+        ensures { IfSome result (λ lsa. self.now.other ≡ Some lsa.now) }
+    {
+        self.other.as_ref()
     }
 
     /// Whether it changes the graph of an area: a router-LSA or network-LSA of it (RFC 2328, 16.1).

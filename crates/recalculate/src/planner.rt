@@ -21,13 +21,15 @@ use std::rc::Rc;
 /// It is seen as its session, which is the loaded database, the edits done and the edits undone, as
 /// how many trees it has calculated, and as which of them it keeps for further tables, of its
 /// database and of the loaded one. After any calls its database is the effect of the done edits, in
-/// order, on the loaded one. A table of the loaded database that it keeps is not seen.
+/// order, on the loaded one. A table of the loaded database that it keeps is not seen, nor which
+/// router's table was asked for last.
 #[derive(Drop)]
 pub struct Planner<A: Allocator = Global> {
     study: Study<A>,
     trees: KeptTrees<A>,
     first_trees: KeptTrees<A>,
     first_table: Option<Rc<Table<A>, A>>,
+    asked: Option<RouterId>,
     meter: Meter,
 }
 
@@ -50,7 +52,7 @@ impl<A: Allocator> Model for Planner<A> {
 }
 
 impl<A: Allocator + Copy> Planner<A> {
-    ghost use Rattle.std.specs.Prelude.{◌≡◌, ◌≢◌, ◌≤◌, ◌↔◌, ◌+◌, ◌++◌, [], Ok, Err, Some, length, IsOk, OnOk, OnErr, IfOk, IfErr, IfSome, IsErrOf};
+    ghost use Rattle.std.specs.Prelude.{◌≡◌, ◌≢◌, ◌≤◌, ◌↔◌, ◌+◌, ◌++◌, [], Ok, Err, Some, length, true, IsOk, OnOk, OnErr, IfOk, IfErr, IfSome, IsErrOf};
     ghost use Rattle.lsdb.specs.BaseText.{base_text};
     ghost use Rattle.lsdb.specs.Lists.{IsDatabase};
     ghost use Rattle.lsdb.specs.Places.{lists_of};
@@ -82,6 +84,7 @@ impl<A: Allocator + Copy> Planner<A> {
             trees: KeptTrees::new(alloc),
             first_trees: KeptTrees::new(alloc),
             first_table: None,
+            asked: None,
             meter: Meter::new(),
         }
     }
@@ -307,6 +310,69 @@ impl<A: Allocator + Copy> Planner<A> {
         let table = shared(self.study.database().alloc(), table)?;
         self.first_table = Some(table.clone()?);
         Ok(table)
+    }
+
+    /// Whether a router's table in the session's database is sure to be that in the database that
+    /// the session began at, as far as that is known without a tree: no edit is done, or one alone,
+    /// which changed the metrics of links of one router, and by the router's trees that are kept no
+    /// path of least cost leads over these links, before or after it; or which changed LSAs of
+    /// another area. It takes no memory.
+    pub fn is_unchanged(&self, router: RouterId) -> bool
+        ensures { result ≡ true → table_in (state self.now.session) router
+            ≡ table_in self.now.session.base router }
+    {
+        self.study.is_unchanged(router, &self.first_trees)
+    }
+
+    /// The routing table of a router in the session's database, as [`table`](Planner::table) gives
+    /// it. Where it is sure to be the one in the database that the session began at, and that is
+    /// kept, it is answered without a calculation. A table that is asked for twice in a row, while
+    /// one edit is done, is calculated in that database too, so that it may be answered so from
+    /// then on. The session stays as it is, also after an error.
+    ///
+    /// # Errors
+    ///
+    /// As those of [`table`](Planner::table).
+    pub fn shared_table(&mut self, router: RouterId) -> Result<Rc<Table<A>, A>, TableFault>
+        ensures table { IfOk result
+            (λ table. table_in (state self.old.session) router ≡ Some table.value) }
+        ensures fault { IfErr result (FaultMeans (table_in (state self.old.session) router)) }
+        ensures session { self.new.session ≡ self.old.session }
+        ensures step { Stayed self.old self.new }
+    {
+        self.ask(router);
+        if let Some(table) = self.unchanged_table(router) {
+            return Ok(table.clone()?);
+        }
+        let table = self.table(router)?;
+        Ok(shared(self.study.database().alloc(), table)?)
+    }
+
+    /// Notes that a router's table is asked for, and keeps its table of the beginning where it is
+    /// asked for twice in a row while one edit is done.
+    fn ask(&mut self, router: RouterId)
+        ensures session { self.new.session ≡ self.old.session }
+        ensures kept { self.new.kept ≡ self.old.kept }
+        ensures step { Stayed self.old self.new }
+    {
+        let last = self.asked;
+        if self.study.done() == 1 && last.is_some_and(|last| last == router) {
+            // Where it can not be made, the table is calculated in the session's database alone.
+            let _ = self.kept_base_table(router);
+        }
+        self.asked = Some(router);
+    }
+
+    /// The table that is kept of the database that the session began at, if it is that of a router,
+    /// and is sure to be its table now.
+    fn unchanged_table(&self, router: RouterId) -> Option<&Rc<Table<A>, A>>
+        ensures { IfSome result (λ table. table_in (state self.now.session) router
+            ≡ Some table.now.value) }
+    {
+        match self.first_table_of(router) {
+            Some(table) if self.is_unchanged(router) => Some(table),
+            _ => None,
+        }
     }
 
     /// The table that is kept of the database that the session began at, if it is that of a router.

@@ -9,6 +9,7 @@ use routing_table::{KeptTrees, Table, TableFault, table_from, table_of};
 use spf::Meter;
 use std::alloc::{AllocError, Allocator};
 use std::marker::Model;
+use unchanged_tables::is_unchanged;
 
 /// The edits that may be done at a time.
 const MOST_EDITS: usize = 10_000;
@@ -33,7 +34,7 @@ impl<A: Allocator> Model for Study<A> {
 }
 
 impl<A: Allocator + Copy> Study<A> {
-    ghost use Rattle.std.specs.Prelude.{◌≡◌, ◌≢◌, ◌≤◌, ◌↔◌, ◌+◌, ◌++◌, [], Ok, Err, Some, length, IsOk, OnOk, OnErr, IfOk, IfErr, IsErrOf};
+    ghost use Rattle.std.specs.Prelude.{◌≡◌, ◌≢◌, ◌≤◌, ◌↔◌, ◌+◌, ◌++◌, [], Ok, Err, Some, length, true, IsOk, OnOk, OnErr, IfOk, IfErr, IsErrOf};
     ghost use Rattle.lsdb.specs.BaseText.{base_text};
     ghost use Rattle.lsdb.specs.Lists.{IsDatabase};
     ghost use Rattle.lsdb.specs.Places.{lists_of};
@@ -153,6 +154,31 @@ impl<A: Allocator + Copy> Study<A> {
         ensures few { length self.now.done + length self.now.undone ≤ most_edits }
     {
         self.history.records()
+    }
+
+    /// Whether no edit is done, so that the database is the one that was loaded.
+    fn is_at_beginning(&self) -> bool
+        ensures { result ≡ true → state self.now ≡ self.now.base }
+    {
+        self.done() == 0
+    }
+
+    /// Whether a router's table is sure to be the one in the loaded database, of which these trees
+    /// are: no edit is done, or one whose change of one LSA leaves the table as it is. It takes no
+    /// memory.
+    pub(crate) fn is_unchanged(&self, router: RouterId, trees: &KeptTrees<A>) -> bool
+        requires { AreOfDatabase self.now.base trees.now }
+        ensures { result ≡ true → table_in (state self.now) router ≡ table_in self.now.base router }
+    {
+        if self.is_at_beginning() {
+            return true;
+        }
+        match self.history.only_change() {
+            Some(change) => {
+                is_unchanged(trees, &self.database, router, change.slot, change.before)
+            }
+            None => false,
+        }
     }
 
     /// The routing table of a router over trees of the database that are kept. Those of the router

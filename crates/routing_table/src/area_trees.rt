@@ -1,6 +1,6 @@
 //! The trees of one area.
 
-ghost use Rattle.std.specs.Prelude.{◌≡◌, true, [], Contains, IfOk, OnOk};
+ghost use Rattle.std.specs.Prelude.{◌≡◌, true, [], Contains, IfOk, IfSome, OnOk};
 ghost use Rattle.std.specs.Bool.{OnFalse, OnTrue};
 ghost use Rattle.lsa_codec.specs.declared.address.RouterId.{RouterId as AnyRouter};
 ghost use Rattle.lsdb.specs.declared.section.Section.TheVariants.{Area};
@@ -9,6 +9,7 @@ ghost use Rattle.lsdb.specs.Places.{lists_of};
 ghost use Rattle.area_graph.specs.declared.vertex.Vertex.TheVariants.{Router};
 ghost use Rattle.area_graph.specs.Graphs.{IsGraphOf};
 ghost use Rattle.area_routes.specs.AreaResults.{area_result};
+ghost use Rattle.spf.specs.Distances.{IsTreeOf};
 ghost use Rattle.routing_table.specs.AreaTrees.{has_tree, missing};
 ghost use Rattle.routing_table.specs.Counting.{counted_by, CountsAtMost};
 
@@ -96,6 +97,21 @@ impl<A: Allocator + Copy> AreaTrees<A> {
             Some(_) => true,
             None => false,
         }
+    }
+
+    /// The graph. It takes no memory.
+    pub fn graph(&self) -> &Graph<A>
+        ensures { result.now ≡ self.now.graph }
+    {
+        &self.graph
+    }
+
+    /// The tree of a router, if it is there. It takes no memory.
+    pub fn tree(&self, router: RouterId) -> Option<&Tree<A>>
+        ensures { IfSome result (λ tree. IsTreeOf self.now.graph (Router router) tree.now) }
+    {
+        let kept = self.trees.get(&router)?;
+        Some(&kept.tree)
     }
 
     /// What the area gives to a router whose tree is there.

@@ -1,6 +1,6 @@
 //! The trees of all areas that are kept from table to table.
 
-ghost use Rattle.std.specs.Prelude.{◌≡◌, ◌≢◌, true, [], Contains, IsSome, IsSomeAnd, IfOk, OnOk, OnErr, length, option_map};
+ghost use Rattle.std.specs.Prelude.{◌≡◌, ◌≢◌, true, [], Some, None, Contains, IsSome, IsSomeAnd, MatchOption, IfOk, OnOk, OnErr, length, option_map};
 ghost use Rattle.lsa_codec.specs.declared.address.AreaId.{AreaId as AnyArea};
 ghost use Rattle.lsa_codec.specs.declared.address.RouterId.{RouterId as AnyRouter};
 ghost use Rattle.lsdb.specs.declared.section.Section.TheVariants.{Area};
@@ -50,6 +50,14 @@ impl<A: Allocator + Copy> KeptTrees<A> {
         KeptTrees {
             areas: BTreeMap::new(alloc),
         }
+    }
+
+    /// The graph and the trees of an area, if they are there. It takes no memory.
+    pub fn in_area(&self, area: AreaId) -> Option<&AreaTrees<A>>
+        ensures { MatchOption result (trees_at self.now area ≡ None)
+            (λ trees. trees_at self.now area ≡ Some trees.now) }
+    {
+        self.areas.get(&area)
     }
 
     /// Whether a router is attached to an area, as [`is_attached`] answers it, but without going

@@ -1,3 +1,4 @@
+pub mod NoChange
 pub mod Ascii
 pub mod Joined
 pub mod Differing

@@ -6,6 +6,7 @@ ghost use Rattle.std.specs.String.{string_bytes};
 ghost use Rattle.area_graph.specs.Rising.{rising};
 ghost use Rattle.lsa_codec.specs.Order.{prefix_cmp};
 ghost use Rattle.area_routes.specs.Routes.{nets, route_to};
+ghost use Rattle.routing_table.specs.Tables.{TableValue};
 ghost use Rattle.table_report.specs.Comparing.{change, changes, compare_text};
 ghost use Rattle.table_report.specs.Texts.{line_of, lines_text};
 
@@ -201,4 +202,20 @@ pub fn push_compare<A: Allocator + Copy>(
     let count = lines.len();
     write!(text, "compare {router} {count}\n")?;
     push_lines(text, &lines)
+}
+
+/// Adds the text of a comparison of a router's table with itself: `compare 1.1.1.1 0`.
+///
+/// # Errors
+///
+/// Memory ran out. A part of the text may have been added.
+pub fn push_no_change<A: Allocator + Copy>(
+    text: &mut String<A>,
+    router: RouterId,
+) -> Result<(), AllocError>
+    ensures { OnOk result ((table : TableValue) → string_bytes text.new
+        ≡ string_bytes text.old ++ compare_text router table table) }
+{
+    let count: usize = 0;
+    write!(text, "compare {router} {count}\n")
 }

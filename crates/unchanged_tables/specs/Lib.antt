@@ -1,0 +1,3 @@
+pub mod ByTree
+pub mod Slack
+pub mod Steady

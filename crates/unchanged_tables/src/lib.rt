@@ -1,0 +1,14 @@
+//! Routing tables that changes of metrics leave as they are (RFC 2328, 16.1).
+//!
+//! A metric of a router-LSA counts for a router's table only where its link lies on a path of least
+//! cost from the router, before or after the change. Where none does, the distances, the next hops
+//! and so the table stay, and no tree has to be calculated to know it.
+#![tactic(auto)]
+
+mod deciding;
+mod distances;
+mod laws;
+mod steady;
+
+pub use deciding::is_unchanged;
+pub use laws::{steady_changes_leave_results, steady_changes_leave_tables};
