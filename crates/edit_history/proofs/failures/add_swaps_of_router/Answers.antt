@@ -23,5 +23,6 @@ pub returns-clause-swaps : goal.returns-clause-swaps
 returns-clause-swaps g c =
     found_end c.args.router c.args.number c.section_name-section.result (in_section c.args.database.now c.args.number)
     c.places_of_router-place-items.result.now c.loop-place.place-index _ _ (omega arith) c.loop-place.invariant
-    ∙ ap (λ (name : Section). c.args.swaps.now.items ++ section_swaps (router_fate c.args.router) c.args.number name 0 (places_in c.args.database.now c.args.number))
+    ∙ ap (λ (name : Section).
+    c.args.swaps.now.items ++ section_swaps (router_fate c.args.router) c.args.number name 0 (places_in c.args.database.now c.args.number))
     c.section_name-section.ensures

@@ -53,7 +53,8 @@ without-others-requires g c =
     let within : c.args.index < length c.self.inside.places.items = rw c.self.view_is c.requires.within in
     let before : item_at c.self.inside.places.items c.args.index ≡ Some c.swap.new.y =
     read_is c.self.inside.places.items c.args.index c.swap.new.y c.index_mut.result.now within c.index_mut.ensures.value c.swap.ensures.y_after in
-    taken c.self.inside.places.items c.args.index c.swap.new.y c.self.inside.counts c.of_place.result before c.self.invariant.keyed.counted c.of_place.ensures.counts
+    taken c.self.inside.places.items c.args.index c.swap.new.y c.self.inside.counts c.of_place.result before
+    c.self.invariant.keyed.counted c.of_place.ensures.counts
 
 pub with-self-inside-requires : goal.with-self-inside-requires
 with-self-inside-requires g c =
@@ -127,7 +128,8 @@ invariant_of-self-then-not-note g c =
           c.fill.new.keys.items _ _ c.self.inside.counts c.without-others.result c.of_place.result c.of_place-2.result _
           (subst (λ (ps : List Place). AreNoted ps c.fill.new.keys.items)
           (c.deref-then-not-note.ensures.value ∙ place_set c.swap.new.x c.self.inside.places.items c.args.index) c.fill.ensures.sound)
-          c.self.invariant.keyed.fits (c.fill.ensures.room ∙ c.note.ensures.room) c.self.invariant.keyed.counted c.of_place.ensures.counts c.without-others.ensures
+          c.self.invariant.keyed.fits (c.fill.ensures.room ∙ c.note.ensures.room) c.self.invariant.keyed.counted
+          c.of_place.ensures.counts c.without-others.ensures
           c.of_place-2.ensures.counts c.with-self-inside.ensures c.self.invariant.keyed.widths
           (own_widths c.swap.new.x c.in-Some.lsa some c.key_of-key.ensures.widths);
       routers =
@@ -151,9 +153,11 @@ invariant_of-self-else-not-note g c =
       keyed =
           keyed_set c.self.inside.places.items c.args.index c.swap.new.y c.swap.new.x c.index.result.now within before c.index.ensures
           c.note.new.keys.items _ _ c.self.inside.counts c.without-others.result c.of_place.result c.of_place-2.result _
-          (noted c.self.inside.places.items c.args.index c.swap.new.x c.in-Some.lsa c.key_of-key.result c.self.inside.keys.items c.note.new.keys.items within some
+          (noted c.self.inside.places.items c.args.index c.swap.new.x c.in-Some.lsa c.key_of-key.result c.self.inside.keys.items c.note.new.keys.items
+          within some
           c.key_of-key.ensures.key apart (c.note.ensures.noted c.if-not-note.false) c.self.invariant.keyed.sound)
-          c.self.invariant.keyed.fits c.note.ensures.room c.self.invariant.keyed.counted c.of_place.ensures.counts c.without-others.ensures c.of_place-2.ensures.counts
+          c.self.invariant.keyed.fits c.note.ensures.room c.self.invariant.keyed.counted c.of_place.ensures.counts c.without-others.ensures
+          c.of_place-2.ensures.counts
           c.with-self-inside.ensures c.self.invariant.keyed.widths (own_widths c.swap.new.x c.in-Some.lsa some c.key_of-key.ensures.widths);
       routers =
           subst (λ (ps : List Place). IsIndexed ps c.note_place.new.self.noted.items (vec_capacity c.note_place.new.self.noted))
