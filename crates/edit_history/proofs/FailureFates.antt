@@ -26,7 +26,6 @@ use Rattle.edit_history.specs.Rules.{Fate, Fates, stays, removed, by_fates, with
 use Rattle.edit_history.specs.Effect.{is_network, cut, link_fate, net_fate, router_fate}
 use Rattle.edit_history.specs.Exchange.{SwapData}
 use Rattle.edit_history.specs.steps.Plans.{slot_of, swap_for, section_swaps, swaps_from, place_swap}
-use Rattle.edit_history.specs.steps.Failing.{AreOfOthers}
 use Rattle.edit_history.proofs.Keys.{found_passes, head_before, head_after, name_is}
 use Rattle.edit_history.proofs.Searches.{here, place_there}
 use Rattle.edit_history.proofs.RulesCarriedOut.{CarriesOutRule}
@@ -74,16 +73,6 @@ pub no_swaps : (section : ℕ) (name : Section) (i : ℕ) (ps : List Place) → 
 no_swaps section name i [] = refl
 no_swaps section name i (None ∷ ps) = no_swaps section name (suc i) ps
 no_swaps section name i (Some x ∷ ps) = no_swaps section name (suc i) ps
-
--- no swaps where all LSAs are of other routers
-pub none_of_others : (router : RouterId) (section : ℕ) (name : Section) (i : ℕ) (ps : List Place) → AreOfOthers router ps
-    → section_swaps (router_fate router) section name i ps ≡ []
-none_of_others router section name i [] others = refl
-none_of_others router section name i (None ∷ ps) others = none_of_others router section name (suc i) ps (λ k x at. others (suc k) x at)
-none_of_others router section name i (Some x ∷ ps) others =
-    ap (λ (b : Bool). cons_option (swap_for (slot_of section i) name x (if b then removed else stays)) (section_swaps (router_fate router) section name (suc i) ps))
-    (others 0 x refl)
-    ∙ none_of_others router section name (suc i) ps (λ k y at. others (suc k) y at)
 
 abbrev fate_in : Bool → (List ℕ → Fate) → List ℕ → Fate
 fate_in b fate x = if b then fate x else stays
@@ -176,7 +165,7 @@ router_carried_out d router sound = fates_carried_out (λ head. router_fate rout
 
 -- ---- one place more, one section more
 
-swaps_at : (fate : List ℕ → Fate) (section : ℕ) (name : Section) (i : ℕ) (p : Place) (rest : List Place)
+pub swaps_at : (fate : List ℕ → Fate) (section : ℕ) (name : Section) (i : ℕ) (p : Place) (rest : List Place)
     → section_swaps fate section name i (p ∷ rest) ≡ option_to_list
     (place_swap fate (slot_of section i) name (Some p)) ++ section_swaps fate section name (suc i) rest
 swaps_at fate section name i None rest = refl

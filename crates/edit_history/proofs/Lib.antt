@@ -14,7 +14,7 @@ pub mod Candidates
 pub mod RulesCarriedOut
 pub mod FatesByPlace
 pub mod FailureFates
-pub mod OtherRouters
+pub mod RouterSwaps
 pub mod FailureRules
 pub mod RoomForLsas
 pub mod Additions

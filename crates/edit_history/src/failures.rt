@@ -1,7 +1,6 @@
 //! Failures: the links between two routers, a network, or a router goes.
 
-ghost use Rattle.std.specs.Prelude.{◌≡◌, ◌==◌, ◌++◌, IsSome, IfOk, IfErr, OnOk, option_to_list};
-ghost use Rattle.std.specs.Bool.{OnFalse};
+ghost use Rattle.std.specs.Prelude.{◌≡◌, ◌++◌, IsSome, IfOk, IfErr, OnOk, option_to_list};
 ghost use Rattle.std.specs.List.{list_any};
 ghost use Rattle.lsa_codec.specs.Fields.{kind_of};
 ghost use Rattle.lsa_codec.specs.Links.{links_of};
@@ -13,7 +12,7 @@ ghost use Rattle.edit_history.specs.declared.fault.EditFault.TheVariants.{OutOfM
 ghost use Rattle.edit_history.specs.Rules.{section_name};
 ghost use Rattle.edit_history.specs.Effect.{are_linked, link_fate, net_fate, router_fate};
 ghost use Rattle.edit_history.specs.steps.Plans.{swap_for, place_swap, section_swaps};
-ghost use Rattle.edit_history.specs.steps.Failing.{AreOfOthers, fate_by, shortened};
+ghost use Rattle.edit_history.specs.steps.Failing.{fate_by, shortened};
 ghost use Rattle.edit_history.specs.Applied.{Planned, IsRefused};
 
 use crate::fault::EditFault;
@@ -22,22 +21,8 @@ use crate::swap::Swap;
 use lsa_codec::{
     Addr, AreaId, Key, Link, LinkKind, Lsa, MakeFault, NETWORK_LSA, ROUTER_LSA, RouterId,
 };
-use lsdb::{Database, KeyAt, Section, SlotId};
+use lsdb::{Database, Section, SlotId};
 use std::alloc::Allocator;
-
-/// The least key.
-const LEAST_KEY: Key = Key {
-    kind: 0,
-    id: Addr(0),
-    adv: RouterId(0),
-};
-
-/// The greatest key.
-const GREATEST_KEY: Key = Key {
-    kind: u8::MAX,
-    id: Addr(u32::MAX),
-    adv: RouterId(u32::MAX),
-};
 
 /// What fails.
 #[derive(Clone, Copy)]
@@ -307,32 +292,8 @@ fn section_name<A: Allocator + Copy>(database: &Database<A>, number: usize) -> S
     }
 }
 
-/// Whether one of these keys tells a router's ID.
-fn is_told(keys: &[KeyAt], router: RouterId) -> bool
-    ensures { result ≡ list_any (λ noted. noted.key.adv.0 == router.0) keys.now }
-{
-    keys.iter().any(|noted| noted.key.adv == router)
-}
-
-/// Whether a router may have originated an LSA of a section, by the section's number: one of the
-/// keys that are noted of it tells its Router ID.
-fn may_advertise<A: Allocator + Copy>(
-    database: &Database<A>,
-    number: usize,
-    router: RouterId,
-) -> bool
-    requires { IsSome (item_at database.now number) }
-    ensures { OnFalse result
-        (AreOfOthers router (places_in database.now number)) }
-{
-    is_told(
-        database.keys_between(number, LEAST_KEY, GREATEST_KEY),
-        router,
-    )
-}
-
-/// Adds the swaps of the places of a section where a router goes, by the section's number. Most
-/// sections have no LSA of the router, and then none is looked at. The error is want of memory.
+/// Adds the swaps of the places of a section where a router goes, by the section's number. It looks
+/// at the places alone that are noted of the router. The error is want of memory.
 fn add_swaps_of_router<A: Allocator + Copy>(
     database: &Database<A>,
     number: usize,
@@ -347,11 +308,15 @@ fn add_swaps_of_router<A: Allocator + Copy>(
         (places_in database.now number)) }
     ensures memory { IfErr result (λ fault. fault ≡ OutOfMemory) }
 {
-    if !may_advertise(database, number, router) {
-        return Ok(());
-    }
     let section = section_name(database, number);
-    add_swaps(database, number, section, Failure::Router(router), swaps)
+    for place in database.places_of_router(number, router) {
+        let slot = SlotId {
+            section: number,
+            index: place.index as usize,
+        };
+        add_swap(database, slot, section, Failure::Router(router), swaps)?;
+    }
+    Ok(())
 }
 
 /// All LSAs that a router originated go, in all areas and those of AS scope.

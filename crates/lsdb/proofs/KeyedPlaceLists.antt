@@ -103,7 +103,7 @@ found_at ps keys key i (Some lsa) sound at has =
 -- ---- exchanging
 
 -- a place of the new ones is the one exchanged, or as before
-place_after : (v : Place) (ps : List Place) (n i : ℕ) (lsa : List ℕ) → item_at (put_place v ps n) i ≡ Some (Some lsa)
+pub place_after : (v : Place) (ps : List Place) (n i : ℕ) (lsa : List ℕ) → item_at (put_place v ps n) i ≡ Some (Some lsa)
     → ((i ≡ n) × (v ≡ Some lsa)) ⊎ (item_at ps i ≡ Some (Some lsa))
 place_after v [] n i lsa at = absurd cc
 place_after v (p ∷ ps) zero zero lsa at = inl (refl, (let e : v ≡ Some lsa = cc in e))
@@ -252,7 +252,7 @@ pub keyed_kept : (ps qs : List Place) (keys new : List KeyAt) (room : ℕ) (coun
 keyed_kept ps qs keys new room counts places noted fits sound wide counted =
     rw (places, noted) (record { sound = sound; fits = fits; widths = wide; counted = counted })
 
-opened : (ps : List Place) (i : ℕ) (lsa : List ℕ) → item_at (ps ++ None ∷ []) i ≡ Some (Some lsa) → item_at ps i ≡ Some (Some lsa)
+pub opened : (ps : List Place) (i : ℕ) (lsa : List ℕ) → item_at (ps ++ None ∷ []) i ≡ Some (Some lsa) → item_at ps i ≡ Some (Some lsa)
 opened [] zero lsa at = absurd cc
 opened [] (suc i) lsa at = absurd cc
 opened (p ∷ ps) zero lsa at = at

@@ -3,4 +3,5 @@ pub mod View
 pub mod Reading
 pub mod OnePlace
 pub mod NotedKeys
+pub mod RouterIndex
 pub mod Counting

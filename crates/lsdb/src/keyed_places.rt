@@ -7,12 +7,14 @@ ghost use Rattle.lsdb.specs.Counts.{counts_of};
 ghost use Rattle.lsdb.specs.KeyRanges.{AreKeysBetween, HaveWidths};
 ghost use Rattle.lsdb.specs.Lists.{has_key};
 ghost use Rattle.lsdb.specs.Places.{full, item_at, put_place};
+ghost use Rattle.lsdb.specs.RouterPlaces.{ArePlacesOfRouter};
 ghost use Rattle.lsdb.specs.steps.OnePlace.{place_has_key, IsFirstIndex};
 ghost use Rattle.lsdb.specs.steps.NotedKeys.{AreApart, AreNoted, FitSection, IsFoundAt, IsGapFor, IsPartBetween, IsRising, Notes, keys_from};
 
 use crate::copy::copy_of_places;
 use crate::counts::LsaCounts;
-use lsa_codec::{Key, Lsa};
+use crate::router_places::{PlaceOfRouter, RouterPlaces};
+use lsa_codec::{Key, Lsa, RouterId};
 use std::alloc::{AllocError, Allocator};
 use std::marker::Model;
 use std::mem;
@@ -26,13 +28,15 @@ pub struct KeyAt {
     pub index: usize,
 }
 
-/// The places of one section, and beside them where each key stands, so that an LSA is found by
-/// its key without going through the places. Contracts see the places.
+/// The places of one section, and beside them where each key and the LSAs of each router stand, so
+/// that these are found without going through the places. Contracts see the places.
 #[derive(Drop)]
 pub(crate) struct KeyedPlaces<A: Allocator> {
     places: Vec<Option<Lsa<A>>, A>,
     /// In rising order of the keys. The key of an LSA that is gone stays until its room is wanted.
     keys: Vec<KeyAt, A>,
+    /// At which places LSAs of each router stand.
+    routers: RouterPlaces<A>,
     /// What the LSAs count.
     counts: LsaCounts,
 }
@@ -44,11 +48,14 @@ impl<A: Allocator> Model for KeyedPlaces<A> {
     ghost Value = { List Place };
 
     ghost use Rattle.lsdb.specs.steps.NotedKeys.{IsKeyed};
+    ghost use Rattle.lsdb.specs.steps.RouterIndex.{IsIndexed};
 
     ghost view = { λ p. p.places.items };
 
-    ghost invariant = { λ p. IsKeyed p.places.items p.keys.items (vec_capacity p.keys)
-        p.counts };
+    ghost invariant = { λ p. record {
+      keyed : IsKeyed p.places.items p.keys.items (vec_capacity p.keys) p.counts;
+      routers : IsIndexed p.places.items p.routers.noted.items (vec_capacity p.routers.noted);
+    } };
 }
 
 impl<A: Allocator + Copy> KeyedPlaces<A> {
@@ -61,9 +68,11 @@ impl<A: Allocator + Copy> KeyedPlaces<A> {
         let mut keys = Vec::with_capacity(alloc, places.len())?;
         fill(&mut keys, &places);
         let counts = LsaCounts::of_places(&places);
+        let routers = RouterPlaces::of(alloc, &places)?;
         Ok(KeyedPlaces {
             places,
             keys,
+            routers,
             counts,
         })
     }
@@ -102,6 +111,13 @@ impl<A: Allocator + Copy> KeyedPlaces<A> {
         noted_between(&self.keys, low, high)
     }
 
+    /// The places that are noted of a router, in rising order of their indices. It takes no memory.
+    pub(crate) fn places_of_router(&self, router: RouterId) -> &[PlaceOfRouter]
+        ensures { ArePlacesOfRouter self.now router result.now }
+    {
+        self.routers.of_router(router)
+    }
+
     /// Exchanges what stands at one place, and nothing else. It takes no memory.
     pub(crate) fn swap(&mut self, index: usize, place: &mut Option<Lsa<A>>)
         requires within { index < length self.old }
@@ -112,6 +128,7 @@ impl<A: Allocator + Copy> KeyedPlaces<A> {
         mem::swap(&mut self.places[index], place);
         let others = self.counts.without(LsaCounts::of_place(place));
         self.counts = others.with(LsaCounts::of_place(&self.places[index]));
+        self.routers.note_place(&self.places, index);
         let Some(lsa) = &self.places[index] else {
             return;
         };
@@ -131,9 +148,11 @@ impl<A: Allocator + Copy> KeyedPlaces<A> {
         let places = copy_of_places(alloc, &self.places)?;
         let mut keys = Vec::with_capacity(alloc, places.len().max(self.keys.len()))?;
         keys.extend_from_slice(&self.keys)?;
+        let routers = self.routers.clone_of(alloc, places.len())?;
         Ok(KeyedPlaces {
             places,
             keys,
+            routers,
             counts: self.counts,
         })
     }
@@ -146,6 +165,7 @@ impl<A: Allocator + Copy> KeyedPlaces<A> {
     {
         let wanted = (self.places.len() + 1).saturating_sub(self.keys.len());
         self.keys.reserve(wanted)?;
+        self.routers.reserve_for(self.places.len() + 1)?;
         self.places.push(None)?;
         Ok(())
     }

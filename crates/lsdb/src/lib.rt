@@ -26,6 +26,7 @@ mod lookup;
 mod lsas;
 mod places;
 mod read;
+mod router_places;
 mod section;
 mod slot;
 
@@ -38,5 +39,6 @@ pub use laws::slot_laws;
 pub use limits::{LONGEST_DUMP, LONGEST_SESSION, MOST_AREAS, MOST_LSAS_OF_AREA, MOST_LSAS_OF_AS};
 pub use load::text_laws;
 pub use lsas::Lsas;
+pub use router_places::PlaceOfRouter;
 pub use section::Section;
 pub use slot::{SlotFault, SlotId};

@@ -5,13 +5,15 @@ ghost use Rattle.std.specs.List.{find};
 ghost use Rattle.lsdb.specs.KeyRanges.{AreKeysBetween};
 ghost use Rattle.lsdb.specs.Lists.{is_head_of, is_section, has_key, lsas_of};
 ghost use Rattle.lsdb.specs.Places.{item_at, lists_of, lsas_in, places_in, IsFirstPlace, IsNamed, IsPlaceOf};
+ghost use Rattle.lsdb.specs.RouterPlaces.{ArePlacesOfRouter};
 ghost use Rattle.lsdb.specs.steps.View.{head_of};
 
 use crate::database::{Database, Head};
 use crate::keyed_places::KeyAt;
+use crate::router_places::PlaceOfRouter;
 use crate::section::Section;
 use crate::slot::SlotId;
-use lsa_codec::Key;
+use lsa_codec::{Key, RouterId};
 use std::alloc::Allocator;
 
 impl<A: Allocator + Copy> Database<A> {
@@ -50,6 +52,17 @@ impl<A: Allocator + Copy> Database<A> {
         ensures { AreKeysBetween (places_in self.now section) low high result.now }
     {
         self.sections[section].places.keys_between(low, high)
+    }
+
+    /// The places that are noted of a router in a section, in rising order of their indices, by the
+    /// section's number. Among them is that of each LSA there with this Advertising Router; but
+    /// also places of such LSAs that have gone, so what stands there is to be looked at. It takes
+    /// no memory, and its steps are in the logarithm of the number of places.
+    pub fn places_of_router(&self, section: usize, router: RouterId) -> &[PlaceOfRouter]
+        requires { IsSome (item_at self.now section) }
+        ensures { ArePlacesOfRouter (places_in self.now section) router result.now }
+    {
+        self.sections[section].places.places_of_router(router)
     }
 
     /// The place of the LSA with a key in a section; `None` where the section has no such LSA,

@@ -100,10 +100,11 @@ fn growths_of_opening(alloc: Global, dump: &[u8]) -> Result<u64, Fail> {
     Err("a place")?
 }
 
-/// A list of LSAs that was loaded has room for a power of two, and its index for each of them.
+/// A list of LSAs that was loaded has room for a power of two, and both its indexes for each of
+/// them.
 #[test]
 fn a_refused_place_changes_nothing(rt: HostRuntime) -> Result<(), Fail> {
-    for (lsas, growths) in [(7, 1), (8, 2), (16, 2)] {
+    for (lsas, growths) in [(7, 2), (8, 3), (16, 3)] {
         let dump = area_of(rt.alloc(), lsas)?;
         assert_eq!(rt;
             growths_of_opening(rt.alloc(), &dump)?,

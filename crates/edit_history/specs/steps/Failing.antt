@@ -1,13 +1,10 @@
 -- What becomes of LSAs where something fails, by what fails.
-use Rattle.std.specs.Prelude.{◌≡◌, ◌==◌, false, List, ℕ, Option, Some, None, Result, Ok, Err}
-use Rattle.lsa_codec.specs.declared.address.RouterId.{RouterId}
-use Rattle.lsa_codec.specs.Fields.{advertising_router_of}
+use Rattle.std.specs.Prelude.{List, ℕ, Option, Some, None, Result, Ok, Err}
 use Rattle.lsa_codec.specs.LsTypes.{router_lsa}
 use Rattle.lsa_codec.specs.declared.fault.MakeFault.{MakeFault}
 use Rattle.lsa_codec.specs.declared.fault.MakeFault.TheVariants as make
 use Rattle.lsdb.specs.declared.section.Section.{Section}
 use Rattle.lsdb.specs.declared.slot.SlotId.{SlotId}
-use Rattle.lsdb.specs.Places.{Place, item_at}
 use Rattle.edit_history.specs.declared.failures.Failure.{Failure}
 use Rattle.edit_history.specs.declared.failures.Failure.TheVariants.{Links, Network, Router}
 use Rattle.edit_history.specs.declared.fault.EditFault.{EditFault}
@@ -21,10 +18,6 @@ abbrev pub fate_by : Failure → List ℕ → Fate
 fate_by (Links router neighbor) lsa = link_fate router neighbor lsa
 fate_by (Network network) lsa = net_fate network lsa
 fate_by (Router router) lsa = router_fate router lsa
-
--- no LSA at these places is one of the router's
-abbrev pub AreOfOthers : RouterId → List Place → Type 0
-AreOfOthers router places = (index : ℕ) (lsa : List ℕ) → item_at places index ≡ Some (Some lsa) → (advertising_router_of lsa == router.0) ≡ false
 
 -- the swap of a router-LSA for a shorter one; none where no link goes
 abbrev pub shortened : SlotId → Section → Result (List ℕ) MakeFault → Result (Option SwapData) EditFault

@@ -13,13 +13,13 @@ use Rattle.lsdb.proofs.keyed_places.KeyedPlaces.find.Goals as goal
 pub returns-in_err-at : goal.returns-in_err-at
 returns-in_err-at g c =
     rw c.from_residual.ensures (subst (λ (ps : List Place). find (has_key c.args.key) (full ps) ≡ None) c.self.view_is
-    (missing_by_search c.self.inside.places.items c.self.inside.keys.items c.args.key c.search.result c.self.invariant.sound c.in_err-at.ensures.value
+    (missing_by_search c.self.inside.places.items c.self.inside.keys.items c.args.key c.search.result c.self.invariant.keyed.sound c.in_err-at.ensures.value
     (subst (λ (keys : List KeyAt). IfErr c.search.result (IsGapFor keys c.args.key)) c.deref.ensures.value c.search.ensures.absent)))
 
 pub returns-in_err-place : goal.returns-in_err-place
 returns-in_err-place g c =
     rw c.from_residual-in_err-place.ensures (subst (λ (ps : List Place). find (has_key c.args.key) (full ps) ≡ None) c.self.view_is
-    (missing_beyond c.self.inside.places.items c.self.inside.keys.items c.args.key c.in_ok-at.at c.index.result.now c.self.invariant.sound
+    (missing_beyond c.self.inside.places.items c.self.inside.keys.items c.args.key c.in_ok-at.at c.index.result.now c.self.invariant.keyed.sound
     (found_by_search c.self.inside.keys.items c.args.key c.search.result c.in_ok-at.at c.in_ok-at.ensures.value
     (subst (λ (keys : List KeyAt). IfOk c.search.result (IsFoundAt keys c.args.key)) c.deref.ensures.value c.search.ensures.found))
     c.index.ensures
@@ -33,15 +33,17 @@ pub returns : goal.returns
 returns g c =
     let at : item_at c.self.inside.places.items c.index.result.now.index ≡ Some c.in_ok-place.place.now =
     subst (λ (ps : List Place). item_at ps c.index.result.now.index ≡ Some c.in_ok-place.place.now) c.deref-2.ensures.value
-    (read c.deref-2.result.now c.index.result.now.index c.in_ok-place.place.now (ltb-true _ _ (sym c.in_ok-place.ensures.lookup.0)) c.in_ok-place.ensures.lookup.1) in
+    (read c.deref-2.result.now c.index.result.now.index c.in_ok-place.place.now (ltb-true _ _ (sym c.in_ok-place.ensures.lookup.0))
+    c.in_ok-place.ensures.lookup.1) in
     rw c.then_some.ensures (by_test _ _ c.has_key.result c.index.result.now.index
     (λ has.
     subst (λ (ps : List Place). IsFirstIndex ps (has_key c.args.key) c.index.result.now.index) c.self.view_is
-    (found_at c.self.inside.places.items c.self.inside.keys.items c.args.key c.index.result.now.index c.in_ok-place.place.now c.self.invariant.sound at
+    (found_at c.self.inside.places.items c.self.inside.keys.items c.args.key c.index.result.now.index c.in_ok-place.place.now c.self.invariant.keyed.sound at
     (sym c.has_key.ensures ∙ has)))
     (λ other.
     subst (λ (ps : List Place). find (has_key c.args.key) (full ps) ≡ None) c.self.view_is
-    (missing_other c.self.inside.places.items c.self.inside.keys.items c.args.key c.in_ok-at.at c.index.result.now c.in_ok-place.place.now c.self.invariant.sound
+    (missing_other c.self.inside.places.items c.self.inside.keys.items c.args.key c.in_ok-at.at c.index.result.now c.in_ok-place.place.now
+    c.self.invariant.keyed.sound
     (found_by_search c.self.inside.keys.items c.args.key c.search.result c.in_ok-at.at c.in_ok-at.ensures.value
     (subst (λ (keys : List KeyAt). IfOk c.search.result (IsFoundAt keys c.args.key)) c.deref.ensures.value c.search.ensures.found))
     c.index.ensures at

@@ -9,6 +9,6 @@ use Rattle.lsdb.proofs.keyed_places.KeyedPlaces.keys_between.Goals as goal
 pub returns : goal.returns
 returns g c =
     subst (λ (ps : List Place). AreKeysBetween ps c.args.low c.args.high c.noted_between.result.now) c.self.view_is
-    (keys_between c.self.inside.places.items c.self.inside.keys.items c.noted_between.result.now c.args.low c.args.high c.self.invariant.sound
-    c.self.invariant.widths
+    (keys_between c.self.inside.places.items c.self.inside.keys.items c.noted_between.result.now c.args.low c.args.high c.self.invariant.keyed.sound
+    c.self.invariant.keyed.widths
     (subst (λ (keys : List KeyAt). IsPartBetween keys c.args.low c.args.high c.noted_between.result.now) c.deref.ensures.value c.noted_between.ensures))

@@ -1,9 +1,11 @@
-use Rattle.std.proofs.Common.{◌≡◌, ◌∙◌, ◌<◌, ap, arith, sym, subst, List, [], ◌∷◌, Some, None, length, refl}
+use Rattle.std.proofs.Common.{◌≡◌, ◌∙◌, ◌<◌, ap, sym, subst, List, Some, None, length, refl, vec_capacity}
 use Rattle.lsdb.specs.Places.{Place, item_at, put_place}
 use Rattle.lsdb.specs.steps.OnePlace.{place_has_key}
 use Rattle.lsdb.specs.steps.NotedKeys.{AreApart, AreNoted, FitSection}
+use Rattle.lsdb.specs.steps.RouterIndex.{IsIndexed}
 use Rattle.lsdb.proofs.Seen.{place_set}
 use Rattle.lsdb.proofs.KeyedPlaceLists.{put_is, read_is, set_read, keyed_set, emptied, rewritten, noted, taken, added, no_widths, own_widths}
+use Rattle.lsdb.proofs.RouterPlaceLists.{exchanged}
 use Rattle.lsdb.proofs.keyed_places.KeyedPlaces.swap.Goals as goal
 
 pub returns-in_default-clause-put : goal.returns-in_default-clause-put
@@ -51,7 +53,8 @@ without-others-requires g c =
     let within : c.args.index < length c.self.inside.places.items = rw c.self.view_is c.requires.within in
     let before : item_at c.self.inside.places.items c.args.index ≡ Some c.swap.new.y =
     read_is c.self.inside.places.items c.args.index c.swap.new.y c.index_mut.result.now within c.index_mut.ensures.value c.swap.ensures.y_after in
-    taken c.self.inside.places.items c.args.index c.swap.new.y c.self.inside.counts c.of_place.result before c.self.invariant.counted c.of_place.ensures.counts
+    taken c.self.inside.places.items c.args.index c.swap.new.y c.self.inside.counts c.of_place.result before
+    c.self.invariant.keyed.counted c.of_place.ensures.counts
 
 pub with-self-inside-requires : goal.with-self-inside-requires
 with-self-inside-requires g c =
@@ -59,7 +62,7 @@ with-self-inside-requires g c =
     let before : item_at c.self.inside.places.items c.args.index ≡ Some c.swap.new.y =
     read_is c.self.inside.places.items c.args.index c.swap.new.y c.index_mut.result.now within c.index_mut.ensures.value c.swap.ensures.y_after in
     added c.self.inside.places.items c.args.index c.swap.new.y c.swap.new.x c.index.result.now within before c.index.ensures
-    c.self.inside.counts c.without-others.result c.of_place.result c.of_place-2.result c.self.invariant.counted c.of_place.ensures.counts
+    c.self.inside.counts c.without-others.result c.of_place.result c.of_place-2.result c.self.invariant.keyed.counted c.of_place.ensures.counts
     c.without-others.ensures c.of_place-2.ensures.counts
     (subst (λ (ps : List Place). FitSection ps)
     (sym (put_is c.self.inside.places.items c.args.self.now c.args.index c.swap.new.x c.args.place.now c.swap.ensures.x_after c.self.view_is)
@@ -73,11 +76,17 @@ invariant_of-self g c =
     read_is c.self.inside.places.items c.args.index c.swap.new.y c.index_mut.result.now within c.index_mut.ensures.value c.swap.ensures.y_after in
     let none : c.swap.new.x ≡ None =
     sym (set_read c.self.inside.places.items c.args.index c.swap.new.x c.index-2.result.now within c.index-2.ensures) ∙ c.in_default.is in
-    keyed_set c.self.inside.places.items c.args.index c.swap.new.y c.swap.new.x c.index.result.now within before c.index.ensures
-    c.self.inside.keys.items _ _ c.self.inside.counts c.without-others.result c.of_place.result c.of_place-2.result _
-    (emptied c.self.inside.places.items c.args.index c.swap.new.x c.self.inside.keys.items none c.self.invariant.sound)
-    c.self.invariant.fits refl c.self.invariant.counted c.of_place.ensures.counts c.without-others.ensures c.of_place-2.ensures.counts
-    c.with-self-inside.ensures c.self.invariant.widths (no_widths c.swap.new.x none)
+    record {
+      keyed =
+          keyed_set c.self.inside.places.items c.args.index c.swap.new.y c.swap.new.x c.index.result.now within before c.index.ensures
+          c.self.inside.keys.items _ _ c.self.inside.counts c.without-others.result c.of_place.result c.of_place-2.result _
+          (emptied c.self.inside.places.items c.args.index c.swap.new.x c.self.inside.keys.items none c.self.invariant.keyed.sound)
+          c.self.invariant.keyed.fits refl c.self.invariant.keyed.counted c.of_place.ensures.counts c.without-others.ensures c.of_place-2.ensures.counts
+          c.with-self-inside.ensures c.self.invariant.keyed.widths (no_widths c.swap.new.x none);
+      routers =
+          subst (λ (ps : List Place). IsIndexed ps c.note_place.new.self.noted.items (vec_capacity c.note_place.new.self.noted))
+          c.deref.ensures.value c.note_place.ensures;
+    }
 
 pub invariant_of-self-then-has_key : goal.invariant_of-self-then-has_key
 invariant_of-self-then-has_key g c =
@@ -86,17 +95,23 @@ invariant_of-self-then-has_key g c =
     sym (set_read c.self.inside.places.items c.args.index c.swap.new.x c.index-2.result.now within c.index-2.ensures) ∙ c.in-Some.is in
     let before : item_at c.self.inside.places.items c.args.index ≡ Some c.swap.new.y =
     read_is c.self.inside.places.items c.args.index c.swap.new.y c.index_mut.result.now within c.index_mut.ensures.value c.swap.ensures.y_after in
-    keyed_set c.self.inside.places.items c.args.index c.swap.new.y c.swap.new.x c.index.result.now within before c.index.ensures
-    c.self.inside.keys.items _ _ c.self.inside.counts c.without-others.result c.of_place.result c.of_place-2.result _
-    (rewritten c.self.inside.places.items c.args.index c.swap.new.y c.swap.new.x c.in-Some.lsa c.self.inside.keys.items before some
-    (sym (ap (λ key. place_has_key key c.swap.new.y) c.key_of-key.ensures.key) ∙ sym c.has_key.ensures ∙ c.if-has_key.true) c.self.invariant.sound)
-    c.self.invariant.fits refl c.self.invariant.counted c.of_place.ensures.counts c.without-others.ensures c.of_place-2.ensures.counts
-    c.with-self-inside.ensures c.self.invariant.widths (own_widths c.swap.new.x c.in-Some.lsa some c.key_of-key.ensures.widths)
+    record {
+      keyed =
+          keyed_set c.self.inside.places.items c.args.index c.swap.new.y c.swap.new.x c.index.result.now within before c.index.ensures
+          c.self.inside.keys.items _ _ c.self.inside.counts c.without-others.result c.of_place.result c.of_place-2.result _
+          (rewritten c.self.inside.places.items c.args.index c.swap.new.y c.swap.new.x c.in-Some.lsa c.self.inside.keys.items before some
+          (sym (ap (λ key. place_has_key key c.swap.new.y) c.key_of-key.ensures.key) ∙ sym c.has_key.ensures ∙ c.if-has_key.true) c.self.invariant.keyed.sound)
+          c.self.invariant.keyed.fits refl c.self.invariant.keyed.counted c.of_place.ensures.counts c.without-others.ensures c.of_place-2.ensures.counts
+          c.with-self-inside.ensures c.self.invariant.keyed.widths (own_widths c.swap.new.x c.in-Some.lsa some c.key_of-key.ensures.widths);
+      routers =
+          subst (λ (ps : List Place). IsIndexed ps c.note_place.new.self.noted.items (vec_capacity c.note_place.new.self.noted))
+          c.deref.ensures.value c.note_place.ensures;
+    }
 
 pub fill-requires-clause-apart : goal.fill-requires-clause-apart
 fill-requires-clause-apart g c =
     subst (λ (ps : List Place). AreApart ps)
-    (sym (c.deref.ensures.value
+    (sym (c.deref-then-not-note.ensures.value
     ∙ put_is c.self.inside.places.items c.args.self.now c.args.index c.swap.new.x c.args.place.now c.swap.ensures.x_after c.self.view_is))
     c.requires.sound.apart
 
@@ -107,13 +122,20 @@ invariant_of-self-then-not-note g c =
     sym (set_read c.self.inside.places.items c.args.index c.swap.new.x c.index-2.result.now within c.index-2.ensures) ∙ c.in-Some.is in
     let before : item_at c.self.inside.places.items c.args.index ≡ Some c.swap.new.y =
     read_is c.self.inside.places.items c.args.index c.swap.new.y c.index_mut.result.now within c.index_mut.ensures.value c.swap.ensures.y_after in
-    keyed_set c.self.inside.places.items c.args.index c.swap.new.y c.swap.new.x c.index.result.now within before c.index.ensures
-    c.fill.new.keys.items _ _ c.self.inside.counts c.without-others.result c.of_place.result c.of_place-2.result _
-    (subst (λ (ps : List Place). AreNoted ps c.fill.new.keys.items)
-    (c.deref.ensures.value ∙ place_set c.swap.new.x c.self.inside.places.items c.args.index) c.fill.ensures.sound)
-    c.self.invariant.fits (c.fill.ensures.room ∙ c.note.ensures.room) c.self.invariant.counted c.of_place.ensures.counts c.without-others.ensures
-    c.of_place-2.ensures.counts c.with-self-inside.ensures c.self.invariant.widths
-    (own_widths c.swap.new.x c.in-Some.lsa some c.key_of-key.ensures.widths)
+    record {
+      keyed =
+          keyed_set c.self.inside.places.items c.args.index c.swap.new.y c.swap.new.x c.index.result.now within before c.index.ensures
+          c.fill.new.keys.items _ _ c.self.inside.counts c.without-others.result c.of_place.result c.of_place-2.result _
+          (subst (λ (ps : List Place). AreNoted ps c.fill.new.keys.items)
+          (c.deref-then-not-note.ensures.value ∙ place_set c.swap.new.x c.self.inside.places.items c.args.index) c.fill.ensures.sound)
+          c.self.invariant.keyed.fits (c.fill.ensures.room ∙ c.note.ensures.room) c.self.invariant.keyed.counted
+          c.of_place.ensures.counts c.without-others.ensures
+          c.of_place-2.ensures.counts c.with-self-inside.ensures c.self.invariant.keyed.widths
+          (own_widths c.swap.new.x c.in-Some.lsa some c.key_of-key.ensures.widths);
+      routers =
+          subst (λ (ps : List Place). IsIndexed ps c.note_place.new.self.noted.items (vec_capacity c.note_place.new.self.noted))
+          c.deref.ensures.value c.note_place.ensures;
+    }
 
 pub invariant_of-self-else-not-note : goal.invariant_of-self-else-not-note
 invariant_of-self-else-not-note g c =
@@ -127,9 +149,22 @@ invariant_of-self-else-not-note g c =
     (sym (sym (place_set c.swap.new.x c.self.inside.places.items c.args.index)
     ∙ put_is c.self.inside.places.items c.args.self.now c.args.index c.swap.new.x c.args.place.now c.swap.ensures.x_after c.self.view_is))
     c.requires.sound.apart in
-    keyed_set c.self.inside.places.items c.args.index c.swap.new.y c.swap.new.x c.index.result.now within before c.index.ensures
-    c.note.new.keys.items _ _ c.self.inside.counts c.without-others.result c.of_place.result c.of_place-2.result _
-    (noted c.self.inside.places.items c.args.index c.swap.new.x c.in-Some.lsa c.key_of-key.result c.self.inside.keys.items c.note.new.keys.items within some
-    c.key_of-key.ensures.key apart (c.note.ensures.noted c.if-not-note.false) c.self.invariant.sound)
-    c.self.invariant.fits c.note.ensures.room c.self.invariant.counted c.of_place.ensures.counts c.without-others.ensures c.of_place-2.ensures.counts
-    c.with-self-inside.ensures c.self.invariant.widths (own_widths c.swap.new.x c.in-Some.lsa some c.key_of-key.ensures.widths)
+    record {
+      keyed =
+          keyed_set c.self.inside.places.items c.args.index c.swap.new.y c.swap.new.x c.index.result.now within before c.index.ensures
+          c.note.new.keys.items _ _ c.self.inside.counts c.without-others.result c.of_place.result c.of_place-2.result _
+          (noted c.self.inside.places.items c.args.index c.swap.new.x c.in-Some.lsa c.key_of-key.result c.self.inside.keys.items c.note.new.keys.items
+          within some
+          c.key_of-key.ensures.key apart (c.note.ensures.noted c.if-not-note.false) c.self.invariant.keyed.sound)
+          c.self.invariant.keyed.fits c.note.ensures.room c.self.invariant.keyed.counted c.of_place.ensures.counts c.without-others.ensures
+          c.of_place-2.ensures.counts
+          c.with-self-inside.ensures c.self.invariant.keyed.widths (own_widths c.swap.new.x c.in-Some.lsa some c.key_of-key.ensures.widths);
+      routers =
+          subst (λ (ps : List Place). IsIndexed ps c.note_place.new.self.noted.items (vec_capacity c.note_place.new.self.noted))
+          c.deref.ensures.value c.note_place.ensures;
+    }
+
+pub note_place-requires-clause-others : goal.note_place-requires-clause-others
+note_place-requires-clause-others g c =
+    exchanged c.self.inside.places.items c.deref.result.now c.args.index c.swap.new.x c.self.inside.routers.noted.items
+    (vec_capacity c.self.inside.routers.noted) c.deref.ensures.value c.self.invariant.routers

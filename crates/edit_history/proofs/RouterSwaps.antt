@@ -1,0 +1,163 @@
+-- The swaps of the places that are noted of a router are those of all places of the section.
+use Rattle.std.proofs.Common.{◌≡◌, ℕ, zero, suc, ◌+◌, ◌-◌, ◌<◌, ◌≤◌, Bool, true, false, List, [], ◌∷◌, ◌++◌, length, drop, get_or, append_assoc, drop-cons, eqb, Option, Some, None, refl, sym, ap, ◌∙◌, subst, arith, ⊎_elim}
+use Rattle.std.specs.Prelude.{All, AllPairs, Contains, option_to_list, if◌then◌else◌, ◌==◌}
+use Rattle.std.specs.List.{cons_option}
+use Rattle.std.proofs.lemmas.Bool.{cases_eq, ne_eqb}
+use Rattle.std.proofs.lemmas.List.{append-nil, drop_all}
+use Rattle.std.proofs.lemmas.List.Elements.{All-contains, All-cons, All-head, All-tail}
+use Rattle.lsa_codec.specs.declared.address.RouterId.{RouterId}
+use Rattle.lsa_codec.specs.Fields.{advertising_router_of}
+use Rattle.lsdb.specs.declared.router_places.PlaceOfRouter.{PlaceOfRouter}
+use Rattle.lsdb.specs.declared.section.Section.{Section}
+use Rattle.lsdb.specs.Places.{Place, Places, SectionPlaces, item_at, place_in, places_in, places_or_none, slot_at}
+use Rattle.lsdb.specs.RouterPlaces.{router_place, ArePlacesOfRouter}
+use Rattle.lsdb.proofs.ListLemmas.{pairs_head, pairs_tail}
+use Rattle.edit_history.specs.Rules.{Fate, stays, removed}
+use Rattle.edit_history.specs.Effect.{router_fate}
+use Rattle.edit_history.specs.Exchange.{SwapData}
+use Rattle.edit_history.specs.steps.Plans.{slot_of, swap_for, section_swaps, place_swap}
+use Rattle.edit_history.proofs.FailureFates.{swaps_at}
+
+-- ---- places in rising order, from index n on
+
+-- all of a router's LSAs at these places, of which the first has index n, are at places that are noted
+record Covers (router : RouterId) (n : ℕ) (ps : List Place) (found : List PlaceOfRouter) : Type 0 where
+  rising : AllPairs (λ a b. a.index < b.index) found
+  from : All (λ q. n ≤ q.index) found
+  whole : (k : ℕ) (lsa : List ℕ) → item_at ps k ≡ Some (Some lsa) → advertising_router_of lsa ≡ router.0 → Contains found (router_place (n + k) lsa)
+
+moved : (found : List PlaceOfRouter) (i j : ℕ) (lsa : List ℕ) → i ≡ j → Contains found (router_place i lsa) → Contains found (router_place j lsa)
+moved found i j lsa e has = subst (λ (k : ℕ). Contains found (router_place k lsa)) e has
+
+-- the first place is not noted
+passed : (router : RouterId) (n : ℕ) (p : Place) (ps : List Place) (found : List PlaceOfRouter) → Covers router n (p ∷ ps) found
+    → All (λ q. suc n ≤ q.index) found → Covers router (suc n) ps found
+passed router n p ps found covers behind = record {
+  rising = covers.rising;
+  from = behind;
+  whole = λ k lsa at own. moved found (n + suc k) (suc n + k) lsa (omega arith) (covers.whole (suc k) lsa at own);
+}
+
+in_tail : (q : PlaceOfRouter) (qs : List PlaceOfRouter) (p : PlaceOfRouter) → q.index < p.index → Contains (q ∷ qs) p → Contains qs p
+in_tail q qs p less (zero, within, is) = absurd (omega (arith, ap (λ (r : PlaceOfRouter). r.index) is))
+in_tail q qs p less (suc k, within, is) = (k, omega arith, is)
+
+-- the first place is noted
+taken : (router : RouterId) (n : ℕ) (p : Place) (ps : List Place) (q : PlaceOfRouter) (qs : List PlaceOfRouter) → q.index ≡ n
+    → Covers router n (p ∷ ps) (q ∷ qs) → Covers router (suc n) ps qs
+taken router n p ps q qs here' covers =
+    let behind = pairs_head (λ (a b : PlaceOfRouter). a.index < b.index) q qs covers.rising in
+    record {
+      rising = pairs_tail (λ (a b : PlaceOfRouter). a.index < b.index) q qs covers.rising;
+      from = λ k d lt. omega (arith, behind k d lt);
+      whole = λ k lsa at own.
+          moved qs (n + suc k) (suc n + k) lsa (omega arith)
+          (in_tail q qs (router_place (n + suc k) lsa) (omega arith) (covers.whole (suc k) lsa at own));
+    }
+
+all_behind : (n : ℕ) (q : PlaceOfRouter) (qs : List PlaceOfRouter) → suc n ≤ q.index → All (λ r. q.index < r.index) qs → All (λ r. suc n ≤ r.index) (q ∷ qs)
+all_behind n q qs far later = All-cons (λ (r : PlaceOfRouter). suc n ≤ r.index) q qs far (λ k d lt. omega (arith, later k d lt))
+
+-- ---- the swaps of noted places
+
+abbrev pub found_swaps : RouterId → ℕ → Section → (ℕ → Option Place) → List PlaceOfRouter → List SwapData
+found_swaps router section name look [] = []
+found_swaps router section name look (q ∷ qs) =
+    option_to_list (place_swap (router_fate router) (slot_of section q.index) name (look q.index)) ++ found_swaps router section name look qs
+
+-- what stands at the places, of which the first has index n
+abbrev Shows : (ℕ → Option Place) → ℕ → List Place → Type 0
+Shows look n ps = (k : ℕ) → look (n + k) ≡ item_at ps k
+
+module _ (router : RouterId) (section : ℕ) (name : Section) (look : ℕ → Option Place) where
+  not_own : (n : ℕ) (p : Place) (ps : List Place) → ((x : List ℕ) → p ≡ Some x → (advertising_router_of x == router.0) ≡ false)
+      → section_swaps (router_fate router) section name n (p ∷ ps) ≡ section_swaps (router_fate router) section name (suc n) ps
+  not_own n None ps other = refl
+  not_own n (Some x) ps other =
+      let rest : List SwapData = section_swaps (router_fate router) section name (suc n) ps in
+      ap (λ (b : Bool). cons_option (swap_for (slot_of section n) name x (if b then removed else stays)) rest) (other x refl)
+
+  other_router : (n : ℕ) (p : Place) (ps : List Place) (found : List PlaceOfRouter) (x : List ℕ) → Covers router n (p ∷ ps) found
+      → All (λ q. suc n ≤ q.index) found → p ≡ Some x → (advertising_router_of x == router.0) ≡ false
+  other_router n p ps found x covers behind is =
+      ne_eqb (advertising_router_of x) router.0 (λ own.
+      absurd (let far = All-contains (λ (q : PlaceOfRouter). suc n ≤ q.index) found (router_place (n + 0) x) behind
+      (covers.whole 0 x (ap (λ (o : Place). Some o) is) own) in omega arith))
+
+  beyond : (n : ℕ) (found : List PlaceOfRouter) → Shows look n [] → All (λ q. n ≤ q.index) found → found_swaps router section name look found ≡ []
+  beyond n [] shows from = refl
+  beyond n (q ∷ qs) shows from =
+      let first : n ≤ q.index = All-head (λ (p : PlaceOfRouter). n ≤ p.index) q qs from in
+      let number : q.index ≡ n + (q.index - n) = omega arith in
+      let none : look q.index ≡ None = ap look number ∙ shows (q.index - n) in
+      let rest : List SwapData = found_swaps router section name look qs in
+      ap (λ (o : Option Place). option_to_list (place_swap (router_fate router) (slot_of section q.index) name o) ++ rest) none
+      ∙ beyond n qs shows (All-tail (λ (p : PlaceOfRouter). n ≤ p.index) q qs from)
+
+  next : (n : ℕ) (p : Place) (ps : List Place) → Shows look n (p ∷ ps) → Shows look (suc n) ps
+  next n p ps shows k = ap look (let e : suc n + k ≡ n + suc k = omega arith in e) ∙ shows (suc k)
+
+  swaps_from_index : (n : ℕ) (ps : List Place) (found : List PlaceOfRouter) → Shows look n ps → Covers router n ps found
+      → found_swaps router section name look found ≡ section_swaps (router_fate router) section name n ps
+  swaps_from_index n [] found shows covers = beyond n found shows covers.from
+  swaps_from_index n (p ∷ ps) [] shows covers =
+      let behind : All (λ (q : PlaceOfRouter). suc n ≤ q.index) [] = λ k d lt. absurd (omega arith) in
+      swaps_from_index (suc n) ps [] (next n p ps shows) (passed router n p ps [] covers behind)
+      ∙ sym (not_own n p ps (λ x is. other_router n p ps [] x covers behind is))
+  swaps_from_index n (p ∷ ps) (q ∷ qs) shows covers = ⊎_elim
+      (λ same.
+      let stands : look q.index ≡ Some p = ap look (let e : q.index ≡ n + 0 = omega arith in e) ∙ shows 0 in
+      let rest : List SwapData = found_swaps router section name look qs in
+      ap (λ (o : Option Place). option_to_list (place_swap (router_fate router) (slot_of section q.index) name o) ++ rest) stands
+      ∙ ap (λ (k : ℕ). option_to_list (place_swap (router_fate router) (slot_of section k) name (Some p)) ++ rest) same
+      ∙ ap (λ (ss : List SwapData). option_to_list (place_swap (router_fate router) (slot_of section n) name (Some p)) ++ ss)
+      (swaps_from_index (suc n) ps qs (next n p ps shows) (taken router n p ps q qs same covers))
+      ∙ sym (swaps_at (router_fate router) section name n p ps))
+      (λ other.
+      let first : n ≤ q.index = All-head (λ (r : PlaceOfRouter). n ≤ r.index) q qs covers.from in
+      let far : suc n ≤ q.index = omega arith in
+      let later = pairs_head (λ (a b : PlaceOfRouter). a.index < b.index) q qs covers.rising in
+      let behind : All (λ (r : PlaceOfRouter). suc n ≤ r.index) (q ∷ qs) = all_behind n q qs far later in
+      swaps_from_index (suc n) ps (q ∷ qs) (next n p ps shows) (passed router n p ps (q ∷ qs) covers behind)
+      ∙ sym (not_own n p ps (λ x is. other_router n p ps (q ∷ qs) x covers behind is)))
+      (cases_eq q.index n)
+
+-- ---- a loop over the noted places of a section
+
+slot_is : (d : Places) (section i : ℕ) → slot_at d (slot_of section i) ≡ item_at (places_in d section) i
+slot_is d section i = by_item (item_at d section) where
+  by_item : (o : Option SectionPlaces) → place_in o i ≡ item_at (places_or_none o) i
+  by_item None = refl
+  by_item (Some s) = refl
+
+abbrev pub in_section : Places → ℕ → ℕ → Option Place
+in_section d section i = slot_at d (slot_of section i)
+
+pub found_all : (router : RouterId) (d : Places) (section : ℕ) (name : Section) (found : List PlaceOfRouter)
+    → ArePlacesOfRouter (places_in d section) router found
+    → found_swaps router section name (in_section d section) found ≡ section_swaps (router_fate router) section name 0 (places_in d section)
+found_all router d section name found noted =
+    swaps_from_index router section name (in_section d section) 0 (places_in d section) found
+    (λ k. ap (in_section d section) (let e : 0 + k ≡ k = omega arith in e) ∙ slot_is d section k)
+    (record {
+      rising = noted.rising;
+      from = λ k d lt. omega arith;
+      whole = λ k lsa at own. moved found k (0 + k) lsa (omega arith) (noted.whole k lsa at own);
+    })
+
+pub found_turn : (router : RouterId) (section : ℕ) (name : Section) (look : ℕ → Option Place) (found : List PlaceOfRouter) (i j : ℕ) (d : PlaceOfRouter)
+    (old new total : List SwapData) → i < length found → j ≡ suc i
+    → let q : PlaceOfRouter = get_or found i d in new ≡ old ++ option_to_list (place_swap (router_fate router) (slot_of section q.index) name (look q.index))
+    → old ++ found_swaps router section name look (drop i found) ≡ total → new ++ found_swaps router section name look (drop j found) ≡ total
+found_turn router section name look found i j d old new total lt e pushed so_far =
+    let q : PlaceOfRouter = get_or found i d in
+    let rest : List SwapData = found_swaps router section name look (drop j found) in
+    let one : List SwapData = option_to_list (place_swap (router_fate router) (slot_of section q.index) name (look q.index)) in
+    let front : drop i found ≡ q ∷ drop j found = drop-cons found i d lt ∙ ap (λ (k : ℕ). q ∷ drop k found) (sym e) in
+    ap (λ (ss : List SwapData). ss ++ rest) pushed ∙ append_assoc old one rest
+    ∙ sym (ap (λ (qs : List PlaceOfRouter). old ++ found_swaps router section name look qs) front) ∙ so_far
+
+pub found_end : (router : RouterId) (section : ℕ) (name : Section) (look : ℕ → Option Place) (found : List PlaceOfRouter) (i : ℕ) (swaps total : List SwapData)
+    → length found ≤ i → swaps ++ found_swaps router section name look (drop i found) ≡ total → swaps ≡ total
+found_end router section name look found i swaps total end so_far =
+    sym (ap (λ (qs : List PlaceOfRouter). swaps ++ found_swaps router section name look qs) (drop_all i found end) ∙ append-nil swaps) ∙ so_far

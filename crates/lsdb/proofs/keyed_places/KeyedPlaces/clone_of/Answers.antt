@@ -1,0 +1,24 @@
+use Rattle.std.proofs.Common.{◌≡◌, ◌∙◌, ◌++◌, List, length, ap, arith, vec_len, rules}
+use Rattle.lsdb.specs.declared.keyed_places.KeyAt.{KeyAt}
+use Rattle.lsdb.specs.Places.{Place}
+use Rattle.lsdb.proofs.KeyedPlaceLists.{keyed_kept}
+use Rattle.lsdb.proofs.RouterPlaceLists.{indexed_kept}
+use Rattle.lsdb.proofs.keyed_places.KeyedPlaces.clone_of.Goals as goal
+
+pub invariant_of-result : goal.invariant_of-result
+invariant_of-result g c =
+    let places : List Place = c.self.inside.places.items in
+    let copied : c.in_ok-places.places.items ≡ places = c.in_ok-places.ensures ∙ c.deref.ensures.value in
+    let noted : c.extend_from_slice.new.self.items ≡ c.self.inside.keys.items =
+    c.in_ok-extend_from_slice.ensures.items
+    ∙ ap (λ (keys : List KeyAt). keys ++ c.deref-2.result.now) c.in_ok-keys.ensures.items ∙ c.deref-2.ensures.value in
+    let sized : vec_len c.in_ok-places.places ≡ length c.in_ok-places.places.items = search rules in
+    record {
+      keyed =
+          keyed_kept places c.in_ok-places.places.items c.self.inside.keys.items c.extend_from_slice.new.self.items _ c.self.inside.counts copied noted
+          (omega (arith, sized, ap length copied, c.len.ensures, c.max.ensures, c.in_ok-keys.ensures.exact, c.extend_from_slice.ensures.capacity))
+          c.self.invariant.keyed.sound c.self.invariant.keyed.widths c.self.invariant.keyed.counted;
+      routers =
+          indexed_kept places c.in_ok-places.places.items c.self.inside.routers.noted.items c.in_ok-routers.routers.noted.items _ _ copied
+          c.in_ok-routers.ensures.same (omega (arith, sized, ap length copied, c.len-3.ensures, c.in_ok-routers.ensures.room)) c.self.invariant.routers;
+    }
