@@ -1,43 +1,40 @@
--- The orders are total, and tell all values apart.
+-- For the crates above too: the orders of this crate are total, and tell all values apart.
 use Rattle.std.proofs.Common.{◌≡◌, ℕ, refl, ap, List}
 use Rattle.std.specs.Cmp.{IsTotalOrder}
 use Rattle.std.specs.Cmp.Lexicographic.{slice_cmp}
-use Rattle.std.specs.Ordering.{nat_cmp, bool_cmp, ordering_then}
-use Rattle.std.specs.declared.cmp.Ordering.{Ordering}
-use Rattle.std.specs.declared.cmp.Ordering.TheVariants.{Less, Equal, Greater}
+use Rattle.std.specs.Ordering.{nat_cmp, bool_cmp}
+use Rattle.std.specs.declared.cmp.Ordering.TheVariants.{Equal}
 use Rattle.std.proofs.lemmas.Cmp.{nat_cmp_total, nat_list_cmp_total, on_total, then_total, back_total}
 use Rattle.std.specs.Cmp.{bool_cmp_total}
 use Rattle.std.proofs.lemmas.Map.Lookups.{exact_unsigned, exact_bytes}
 use Rattle.lsa_codec.specs.declared.address.AreaId.{AreaId}
-use Rattle.lsa_codec.specs.declared.key.Key.{Key}
-use Rattle.lsa_codec.specs.Fields.{checksum_of}
 use Rattle.lsa_codec.specs.Key.{is_at_max_age}
+use Rattle.lsa_codec.specs.Order.{key_cmp}
+use Rattle.lsa_codec.proofs.OrderLemmas.{key_exact, key_total, then_both}
+use Rattle.lsa_instances.specs.declared.header.Issue.{Issue}
 use Rattle.lsa_instances.specs.declared.place.Place.{Place}
 use Rattle.lsa_instances.specs.declared.place.Scope.{Scope}
 use Rattle.lsa_instances.specs.declared.place.Scope.TheVariants.{Area, AsWide}
 use Rattle.lsa_instances.specs.declared.sighting.Sighting.{Sighting}
-use Rattle.lsa_instances.specs.Instance.{instance_cmp, signed_sequence_of, seconds_of}
-use Rattle.lsa_instances.specs.Order.{scope_number, area_of, scope_cmp, key_cmp, place_cmp, place_of, sighting_cmp}
+use Rattle.lsa_instances.specs.Instance.{instance_cmp, issue_cmp, issue_of, seconds_of, signed}
+use Rattle.lsa_instances.specs.Order.{scope_number, area_of, scope_cmp, place_cmp, place_of}
+use Rattle.lsa_instances.specs.steps.SightingOrder.{sighting_cmp}
 
-pub then_both : (r s : Ordering) → ordering_then r s ≡ Equal → (r ≡ Equal) × (s ≡ Equal)
-then_both Less s h = cc
-then_both Equal s h = (refl, h)
-then_both Greater s h = cc
+pub issue_total : IsTotalOrder issue_cmp
+issue_total = then_total (on_total (λ (i : Issue). signed i.sequence) nat_cmp_total) (on_total (λ (i : Issue). i.checksum) nat_cmp_total)
 
 pub instance_total : IsTotalOrder instance_cmp
 instance_total =
-    then_total (on_total signed_sequence_of nat_cmp_total)
-    (then_total (on_total checksum_of nat_cmp_total)
+    then_total (on_total issue_of issue_total)
     (then_total (on_total is_at_max_age bool_cmp_total)
-    (then_total (back_total (on_total seconds_of nat_cmp_total)) nat_list_cmp_total)))
+    (then_total (back_total (on_total seconds_of nat_cmp_total)) nat_list_cmp_total))
 
 pub instance_exact : (a b : List ℕ) → instance_cmp a b ≡ Equal → a ≡ b
 instance_exact a b h =
-    let p = then_both (nat_cmp (signed_sequence_of a) (signed_sequence_of b)) _ h in
-    let q = then_both (nat_cmp (checksum_of a) (checksum_of b)) _ p.1 in
-    let r = then_both (bool_cmp (is_at_max_age a) (is_at_max_age b)) _ q.1 in
-    let s = then_both (nat_cmp (seconds_of b) (seconds_of a)) (slice_cmp nat_cmp a b) r.1 in
-    exact_bytes a b s.1
+    let p = then_both (issue_cmp (issue_of a) (issue_of b)) _ h in
+    let q = then_both (bool_cmp (is_at_max_age a) (is_at_max_age b)) _ p.1 in
+    let r = then_both (nat_cmp (seconds_of b) (seconds_of a)) (slice_cmp nat_cmp a b) q.1 in
+    exact_bytes a b r.1
 
 pub scope_total : IsTotalOrder scope_cmp
 scope_total = then_total (on_total scope_number nat_cmp_total) (on_total area_of nat_cmp_total)
@@ -48,21 +45,6 @@ scope_exact (Area a) (Area b) h =
 scope_exact AsWide AsWide h = refl
 scope_exact (Area a) AsWide h = cc
 scope_exact AsWide (Area b) h = cc
-
-key_total : IsTotalOrder key_cmp
-key_total =
-    then_total (on_total (λ (k : Key). k.kind) nat_cmp_total)
-    (then_total (on_total (λ (k : Key). k.id.0) nat_cmp_total) (on_total (λ (k : Key). k.adv.0) nat_cmp_total))
-
-key_exact : (a b : Key) → key_cmp a b ≡ Equal → a ≡ b
-key_exact a b h =
-    let p = then_both (nat_cmp a.kind b.kind) _ h in
-    let q = then_both (nat_cmp a.id.0 b.id.0) (nat_cmp a.adv.0 b.adv.0) p.1 in
-    λ i. record {
-      kind = exact_unsigned a.kind b.kind p.0 i;
-      id = record { 0 = exact_unsigned a.id.0 b.id.0 q.0 i };
-      adv = record { 0 = exact_unsigned a.adv.0 b.adv.0 q.1 i };
-    }
 
 pub place_total : IsTotalOrder place_cmp
 place_total = then_total (on_total (λ (p : Place). p.scope) scope_total) (on_total (λ (p : Place). p.key) key_total)
