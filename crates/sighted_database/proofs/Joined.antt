@@ -14,11 +14,11 @@ use Rattle.lsdb.proofs.ListLemmas.{all_map}
 use Rattle.lsdb.specs.Limits.{longest_dump}
 use Rattle.lsdb.specs.Lists.{AreHeads, IsDatabase, IsSection, Lists, heads_of, size}
 use Rattle.sighted_database.proofs.Heads.{are_heads, none_passes, sound_section}
-use Rattle.sighted_database.specs.declared.area.ToldArea.{ToldArea}
+use Rattle.lsa_instances.specs.declared.area.ToldArea.{ToldArea}
 use Rattle.sighted_database.specs.declared.fault.JoinFault.TheVariants.{TooLong}
 use Rattle.sighted_database.specs.Joining.{AreScopes, head, section}
 use Rattle.sighted_database.specs.Limits.{fault_of, is_misplaced, is_overfull}
-use Rattle.sighted_database.specs.Steps.{HaveRisingKeys, IsWide}
+use Rattle.sighted_database.specs.steps.Scopes.{HaveRisingKeys, IsWide}
 
 pub if_both : {X Y : Type 0} (r : Result X Y) (P Q S : X → Type 0) → ((x : X) → P x → Q x → S x) → IfOk r P → IfOk r Q → IfOk r S
 if_both (Ok x) P Q S f p q = f x p q

@@ -1,14 +1,15 @@
--- Steps of the code, which no public contract cites.
+-- Steps towards the scopes of a database and their sections.
 use Rattle.std.specs.Prelude.{◌≡◌, ◌<◌, ◌^◌, ◌-◌, Bool, true, Option, None, Some, length, slice_get, List, [], ◌∷◌, ◌++◌, map, All, AllPairs, Contains}
 use Rattle.std.specs.Ordering.{is_lt}
 use Rattle.std.specs.declared.cmp.Ordering.TheVariants.{Less}
 use Rattle.lsa_codec.specs.Key.{key_of}
+use Rattle.lsa_codec.specs.Order.{key_cmp}
 use Rattle.lsa_instances.specs.declared.place.Scope.{Scope}
 use Rattle.lsa_instances.specs.declared.place.Scope.TheVariants.{Area, AsWide}
 use Rattle.lsa_instances.specs.declared.sighting.Sighting.{Sighting}
 use Rattle.lsa_instances.specs.Newest.{lsas_of_scope}
-use Rattle.lsa_instances.specs.Order.{scope_cmp, area_of, key_cmp}
-use Rattle.sighted_database.specs.declared.area.ToldArea.{ToldArea}
+use Rattle.lsa_instances.specs.Order.{scope_cmp, area_of}
+use Rattle.lsa_instances.specs.declared.area.ToldArea.{ToldArea}
 
 -- the scopes that are told, in any order, some of them often
 abbrev pub scopes_told : {A : Type 0} → List ToldArea → List (Sighting A) → List Scope

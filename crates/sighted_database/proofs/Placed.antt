@@ -8,12 +8,12 @@ use Rattle.lsa_codec.specs.Accepted.{IsAccepted}
 use Rattle.lsa_instances.specs.declared.sighting.Sighting.{Sighting}
 use Rattle.sighted_database.specs.Limits.{is_misplaced}
 
-pub record IsSound {A : Type 0} (x : Sighting A) : Type 0 where
+pub record IsPlaced {A : Type 0} (x : Sighting A) : Type 0 where
   pub placed : is_misplaced x ≡ false
   pub accepted : IsAccepted x.lsa
 
-pub all_placed : {A : Type 0} (xs : List (Sighting A)) → All IsSound xs → list_any is_misplaced xs ≡ false
-all_placed xs h = list_any_none is_misplaced xs (All-weaker IsSound (λ x. is_misplaced x ≡ false) (λ x s. s.placed) xs h)
+pub all_placed : {A : Type 0} (xs : List (Sighting A)) → All IsPlaced xs → list_any is_misplaced xs ≡ false
+all_placed xs h = list_any_none is_misplaced xs (All-weaker IsPlaced (λ x. is_misplaced x ≡ false) (λ x s. s.placed) xs h)
 
-pub all_accepted : {A : Type 0} (xs : List (Sighting A)) → All IsSound xs → All (λ x. IsAccepted x.lsa) xs
-all_accepted xs h = All-weaker IsSound (λ x. IsAccepted x.lsa) (λ x s. s.accepted) xs h
+pub all_accepted : {A : Type 0} (xs : List (Sighting A)) → All IsPlaced xs → All (λ x. IsAccepted x.lsa) xs
+all_accepted xs h = All-weaker IsPlaced (λ x. IsAccepted x.lsa) (λ x s. s.accepted) xs h
