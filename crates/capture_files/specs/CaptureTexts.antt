@@ -16,9 +16,9 @@ abbrev pub packet_of : Frame → Packet
 packet_of frame = record { link = frame.link; seen = frame.seen; octets = frame.octets.now; original = frame.original }
 
 -- the frames of a file, and how it ends
-pub record Told : Type 0 where
+pub record CaptureText : Type 0 where
   pub packets : List Packet
   pub end : End
 
-abbrev pub told_of : {A : Type 0} → Capture A → Told
-told_of capture = record { packets = map packet_of capture.frames.items; end = capture.end }
+abbrev pub capture_text : {A : Type 0} → Capture A → CaptureText
+capture_text capture = record { packets = map packet_of capture.frames.items; end = capture.end }
