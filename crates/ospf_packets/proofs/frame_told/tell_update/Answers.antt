@@ -1,7 +1,7 @@
 use Rattle.std.proofs.Common.{◌++◌, ap, ◌∙◌, arith}
 use Rattle.std.proofs.lemmas.Result.{on_ok_weaker}
 use Rattle.ospf_packets.proofs.Fronts.{updated}
-use Rattle.ospf_packets.proofs.telling.tell_update.Goals as goal
+use Rattle.ospf_packets.proofs.frame_told.tell_update.Goals as goal
 
 pub returns : goal.returns
 returns g c =

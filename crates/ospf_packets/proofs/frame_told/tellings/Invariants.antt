@@ -1,7 +1,7 @@
 use Rattle.std.proofs.Common.{◌≡◌, ◌++◌, map, take, drop}
-use Rattle.capture_files.specs.Told.{packet_of}
-use Rattle.ospf_packets.specs.Telling.{told_behind, told_in}
-use Rattle.ospf_packets.proofs.telling.tellings.Given as goal
+use Rattle.capture_files.specs.CaptureTexts.{packet_of}
+use Rattle.ospf_packets.specs.FramesTold.{told_behind, told_in}
+use Rattle.ospf_packets.proofs.frame_told.tellings.Given as goal
 
 abbrev pub invariant-loop-index : goal.invariant-loop-index
 invariant-loop-index g l =

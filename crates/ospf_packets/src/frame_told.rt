@@ -1,24 +1,23 @@
 //! What a frame tells.
 
 ghost use Rattle.std.specs.Prelude.{◌≡◌, ◌≤◌, ◌++◌, length, map, IfOk, OnOk};
-ghost use Rattle.capture_files.specs.Told.{packet_of};
+ghost use Rattle.capture_files.specs.CaptureTexts.{packet_of};
 ghost use Rattle.ospf_packets.specs.Datagrams.{datagram_text};
 ghost use Rattle.ospf_packets.specs.Fragments.{datagram_of, joined, has_front};
 ghost use Rattle.ospf_packets.specs.Packets.{packet_text, ospf_of};
-ghost use Rattle.ospf_packets.specs.Telling.{flooded, hello_told, update_told, told_by_type, packet_told, joined_told, later_told, frame_told, told_in};
+ghost use Rattle.ospf_packets.specs.FramesTold.{flooded, hello_told, update_told, told_by_type, packet_told, joined_told, later_told, frame_told, told_in};
 
 use crate::datagram::Datagram;
 use crate::field::u32_at;
 use crate::fragment::{datagram_of, first_few, has_front, joined, last_few};
 use crate::header::{BEFORE_HEADERS, tell_headers_behind};
 use crate::hello::{OPTIONS, SHORTEST_HELLO, kind_by_options};
-use crate::kind::AreaTold;
 use crate::odd::Odd;
 use crate::packet::{PACKET_HEADER, Packet, lack, ospf_of};
 use crate::update::{Flooded, tell_lsas};
 use capture_files::Frame;
 use lsa_codec::AreaId;
-use lsa_instances::{Header, Sighting};
+use lsa_instances::{Header, Sighting, ToldArea};
 use std::alloc::{AllocError, Allocator};
 
 /// How many octets an update packet has before its LSAs.
@@ -26,11 +25,11 @@ const UPDATE_HEADER: usize = 28;
 
 /// What a frame tells.
 #[derive(Debug, Drop)]
-pub(crate) enum Told<A: Allocator> {
+pub(crate) enum FrameTold<A: Allocator> {
     /// An LSA.
     Lsa(Sighting<A>),
     /// The kind of an area.
-    Kind(AreaTold),
+    Kind(ToldArea),
     /// The header of an LSA, which stands without its body.
     Header(Header),
     /// What is odd of it.
@@ -51,33 +50,33 @@ fn flooded(seen: Option<u64>, packet: Packet<'_>) -> Flooded
 
 /// Adds what a Hello packet tells.
 fn tell_hello<A: Allocator + Copy>(
-    told: &mut Vec<Told<A>, A>,
+    told: &mut Vec<FrameTold<A>, A>,
     by: Flooded,
     packet: &[u8],
 ) -> Result<(), AllocError>
     ensures { OnOk result (told.new.items ≡ told.old.items ++ hello_told by packet.now) }
 {
     if packet.len() < SHORTEST_HELLO {
-        told.push(Told::Odd(lack(by.whole)))?;
+        told.push(FrameTold::Odd(lack(by.whole)))?;
         return Ok(());
     }
-    let area = by.area;
+    let id = by.area;
     let kind = kind_by_options(packet[OPTIONS]);
-    told.push(Told::Kind(AreaTold { area, kind }))?;
+    told.push(FrameTold::Kind(ToldArea { id, kind }))?;
     Ok(())
 }
 
 /// Adds what a Link State Update packet tells.
 fn tell_update<A: Allocator + Copy>(
     alloc: A,
-    told: &mut Vec<Told<A>, A>,
+    told: &mut Vec<FrameTold<A>, A>,
     by: Flooded,
     packet: &[u8],
 ) -> Result<(), AllocError>
     ensures { OnOk result (told.new.items ≡ told.old.items ++ update_told by packet.now) }
 {
     if packet.len() < UPDATE_HEADER {
-        told.push(Told::Odd(lack(by.whole)))?;
+        told.push(FrameTold::Odd(lack(by.whole)))?;
         return Ok(());
     }
     let count = u32_at(packet, 24);
@@ -87,7 +86,7 @@ fn tell_update<A: Allocator + Copy>(
 /// Adds what a packet of this type tells.
 fn tell_by_type<A: Allocator + Copy>(
     alloc: A,
-    told: &mut Vec<Told<A>, A>,
+    told: &mut Vec<FrameTold<A>, A>,
     by: Flooded,
     kind: u8,
     packet: &[u8],
@@ -101,7 +100,7 @@ fn tell_by_type<A: Allocator + Copy>(
         3 => Ok(()),
         5 => tell_headers_behind(told, by, PACKET_HEADER, packet),
         _ => {
-            told.push(Told::Odd(Odd::OtherType))?;
+            told.push(FrameTold::Odd(Odd::OtherType))?;
             Ok(())
         }
     }
@@ -110,7 +109,7 @@ fn tell_by_type<A: Allocator + Copy>(
 /// Adds what the packet tells that a datagram has as its payload, all of it or what is at hand.
 fn tell_packet<A: Allocator + Copy>(
     alloc: A,
-    told: &mut Vec<Told<A>, A>,
+    told: &mut Vec<FrameTold<A>, A>,
     seen: Option<u64>,
     whole: bool,
     payload: &[u8],
@@ -124,7 +123,7 @@ fn tell_packet<A: Allocator + Copy>(
             tell_by_type(alloc, told, by, packet.octets[1], packet.octets)
         }
         Err(odd) => {
-            told.push(Told::Odd(odd))?;
+            told.push(FrameTold::Odd(odd))?;
             Ok(())
         }
     }
@@ -134,7 +133,7 @@ fn tell_packet<A: Allocator + Copy>(
 /// behind it.
 fn tell_joined<A: Allocator + Copy>(
     alloc: A,
-    told: &mut Vec<Told<A>, A>,
+    told: &mut Vec<FrameTold<A>, A>,
     seen: Option<u64>,
     first: Datagram<'_>,
     behind: &[Frame<'_>],
@@ -145,7 +144,7 @@ fn tell_joined<A: Allocator + Copy>(
     match joined(alloc, first, behind)? {
         Some(payload) => tell_packet(alloc, told, seen, true, &payload),
         None => {
-            told.push(Told::Odd(Odd::MissingFragment))?;
+            told.push(FrameTold::Odd(Odd::MissingFragment))?;
             Ok(())
         }
     }
@@ -153,7 +152,7 @@ fn tell_joined<A: Allocator + Copy>(
 
 /// Adds what a fragment tells that does not begin its datagram.
 fn tell_later<A: Allocator + Copy>(
-    told: &mut Vec<Told<A>, A>,
+    told: &mut Vec<FrameTold<A>, A>,
     fragment: Datagram<'_>,
     before: &[Frame<'_>],
 ) -> Result<(), AllocError>
@@ -161,16 +160,16 @@ fn tell_later<A: Allocator + Copy>(
         ++ later_told (has_front (datagram_text fragment.entry) (map packet_of before.now))) }
 {
     if !has_front(fragment, before) {
-        told.push(Told::Odd(Odd::MissingFragment))?;
+        told.push(FrameTold::Odd(Odd::MissingFragment))?;
     }
     Ok(())
 }
 
 /// Adds what a frame tells between others.
-#[tactic(auto, unfolding(crate::specs::Telling::frame_told))]
+#[tactic(auto, unfolding(crate::specs::FramesTold::frame_told))]
 fn tell_frame<A: Allocator + Copy>(
     alloc: A,
-    told: &mut Vec<Told<A>, A>,
+    told: &mut Vec<FrameTold<A>, A>,
     before: &[Frame<'_>],
     frame: &Frame<'_>,
     behind: &[Frame<'_>],
@@ -189,18 +188,18 @@ fn tell_frame<A: Allocator + Copy>(
             tell_packet(alloc, told, frame.seen, datagram.whole, datagram.payload)
         }
         Err(odd) => {
-            told.push(Told::Odd(odd))?;
+            told.push(FrameTold::Odd(odd))?;
             Ok(())
         }
     }
 }
 
 /// What each frame tells, one after another.
-#[tactic(auto, using(crate::proofs::Tellings::told_next, crate::proofs::Tellings::told_all))]
+#[tactic(auto, using(crate::proofs::FramesTold::told_next, crate::proofs::FramesTold::told_all))]
 pub(crate) fn tellings<A: Allocator + Copy>(
     alloc: A,
     frames: &[Frame<'_>],
-) -> Result<Vec<Told<A>, A>, AllocError>
+) -> Result<Vec<FrameTold<A>, A>, AllocError>
     ensures { IfOk result (λ told. told.items ≡ told_in (map packet_of frames.now)) }
 {
     let mut told = Vec::new(alloc);
