@@ -3,12 +3,12 @@ use Rattle.std.specs.Prelude.{Bool, true, false, Option, Some, None}
 use Rattle.lsa_instances.specs.declared.sighting.Sighting.{Sighting}
 use Rattle.snmp_walk.specs.declared.hole.Hole.{Hole}
 use Rattle.snmp_walk.specs.declared.hole.Hole.TheVariants as holes
-use Rattle.snmp_walk.specs.declared.kind.AreaTold.{AreaTold}
-use Rattle.snmp_walk.specs.declared.told.Told.{Told}
-use Rattle.snmp_walk.specs.declared.told.Told.TheVariants as tells
+use Rattle.lsa_instances.specs.declared.area.ToldArea.{ToldArea}
+use Rattle.snmp_walk.specs.declared.object_told.ObjectTold.{ObjectTold}
+use Rattle.snmp_walk.specs.declared.object_told.ObjectTold.TheVariants as tells
 
 module _ {A : Type 0} where
-  abbrev pub sighting_of : Told A → Option (Sighting A)
+  abbrev pub sighting_of : ObjectTold A → Option (Sighting A)
   sighting_of (tells.Lsa row sighting) = Some sighting
   sighting_of (tells.Kind area) = None
   sighting_of (tells.Hole hole) = None
@@ -16,7 +16,7 @@ module _ {A : Type 0} where
   sighting_of tells.Nothing = None
   sighting_of tells.Foreign = None
 
-  abbrev pub kind_of : Told A → Option AreaTold
+  abbrev pub kind_of : ObjectTold A → Option ToldArea
   kind_of (tells.Lsa row sighting) = None
   kind_of (tells.Kind area) = Some area
   kind_of (tells.Hole hole) = None
@@ -24,7 +24,7 @@ module _ {A : Type 0} where
   kind_of tells.Nothing = None
   kind_of tells.Foreign = None
 
-  abbrev pub hole_of : Told A → Option Hole
+  abbrev pub hole_of : ObjectTold A → Option Hole
   hole_of (tells.Lsa row sighting) = None
   hole_of (tells.Kind area) = None
   hole_of (tells.Hole hole) = Some hole
@@ -33,7 +33,7 @@ module _ {A : Type 0} where
   hole_of tells.Foreign = None
 
   -- whether it is of the OSPF-MIB; of a name that can not be read nobody knows
-  abbrev pub is_of_mib : Told A → Bool
+  abbrev pub is_of_mib : ObjectTold A → Bool
   is_of_mib (tells.Lsa row sighting) = true
   is_of_mib (tells.Kind area) = true
   is_of_mib (tells.Hole (holes.Row row fault)) = true

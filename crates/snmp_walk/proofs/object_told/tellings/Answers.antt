@@ -1,8 +1,8 @@
 use Rattle.std.proofs.Common.{◌+◌, ◌++◌, ap, ◌∙◌, drop, arith}
-use Rattle.snmp_walk.specs.Telling.{told_behind}
+use Rattle.snmp_walk.specs.steps.LinesTold.{told_behind}
 use Rattle.snmp_walk.proofs.Values.{rest_at}
-use Rattle.snmp_walk.proofs.Tellings.{later_told, told_next}
-use Rattle.snmp_walk.proofs.told.tellings.Goals as goal
+use Rattle.snmp_walk.proofs.ObjectsTold.{later_told, told_next}
+use Rattle.snmp_walk.proofs.object_told.tellings.Goals as goal
 
 pub loop-index-preserved : goal.loop-index-preserved
 loop-index-preserved g c =

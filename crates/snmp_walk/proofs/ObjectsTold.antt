@@ -5,12 +5,13 @@ use Rattle.std.specs.List.{cons_option}
 use Rattle.std.proofs.Math.Seq.{drop-cons}
 use Rattle.std.proofs.lemmas.List.{drop_all, append-nil}
 use Rattle.std.proofs.lemmas.Bool.{cases_Bool}
-use Rattle.snmp_walk.specs.declared.told.Told.{Told}
+use Rattle.snmp_walk.specs.declared.object_told.ObjectTold.{ObjectTold}
 use Rattle.snmp_walk.specs.Objects.{Object, object_at, later_objects}
-use Rattle.snmp_walk.specs.Telling.{told_by, told_object, told_at, told_behind, told_in}
+use Rattle.snmp_walk.specs.ObjectsTold.{told_by, told_in}
+use Rattle.snmp_walk.specs.steps.LinesTold.{told_object, told_at, told_behind}
 
 -- what the later objects tell
-unfoldable pub later_told : {A : Type 0} → List ℕ → List (Told A)
+unfoldable pub later_told : {A : Type 0} → List ℕ → List (ObjectTold A)
 later_told text = map told_by (later_objects text)
 
 with_object : {A : Type 0} (object : Option Object) (others : List Object) → told_object {A = A} object ++ map told_by others ≡ map told_by (cons_option object others)
@@ -30,7 +31,7 @@ step {A} octet text =
       | false ↦ refl
     ]
 
-pub told_next : {A : Type 0} (told : List (Told A)) (text all : List ℕ) (i : ℕ) → i < length text
+pub told_next : {A : Type 0} (told : List (ObjectTold A)) (text all : List ℕ) (i : ℕ) → i < length text
     → told ++ later_told (drop i text) ≡ told_in all → (told ++ told_behind (drop i text)) ++ later_told (drop (i + 1) text) ≡ told_in all
 told_next {A} told text all i lt e =
     let cut : drop i text ≡ get_or text i 0 ∷ drop (i + 1) text = rw (add-one, drop-cons text i 0) refl in
@@ -43,7 +44,7 @@ later_nil : {A : Type 0} → later_told {A = A} [] ≡ []
 unfolding later_told later_objects
 later_nil = refl
 
-pub told_all : {A : Type 0} (told : List (Told A)) (text all : List ℕ) (i : ℕ) → length text ≤ i
+pub told_all : {A : Type 0} (told : List (ObjectTold A)) (text all : List ℕ) (i : ℕ) → length text ≤ i
     → told ++ later_told (drop i text) ≡ told_in all → told ≡ told_in all
 told_all told text all i le e =
     sym (append-nil told) ∙ ap (λ t. told ++ t) (sym later_nil) ∙ ap (λ t. told ++ later_told t) (sym (drop_all i text le)) ∙ e
