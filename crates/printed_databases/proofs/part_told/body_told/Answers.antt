@@ -2,8 +2,8 @@ use Rattle.std.proofs.Common.{◌++◌, ap, ◌∙◌}
 use Rattle.std.proofs.lemmas.Result.{IfOk-weaker}
 use Rattle.lsa_codec.specs.Decoding.{decoded}
 use Rattle.printed_databases.specs.Making.{header_octets}
-use Rattle.printed_databases.specs.Telling.{key_of, decoded_told, made_told}
-use Rattle.printed_databases.proofs.told.body_told.Goals as goal
+use Rattle.printed_databases.specs.PartsTold.{key_of, decoded_told, made_told}
+use Rattle.printed_databases.proofs.part_told.body_told.Goals as goal
 
 pub returns-in-Some : goal.returns-in-Some
 returns-in-Some g c =

@@ -1,8 +1,8 @@
 use Rattle.std.proofs.Common.{ℕ, List, ◌++◌, ap, ◌∙◌}
 use Rattle.std.proofs.lemmas.Result.{IfOk-weaker}
 use Rattle.lsa_codec.specs.Decoding.{decoded}
-use Rattle.printed_databases.specs.Telling.{key_of, decoded_told}
-use Rattle.printed_databases.proofs.told.made_told.Goals as goal
+use Rattle.printed_databases.specs.PartsTold.{key_of, decoded_told}
+use Rattle.printed_databases.proofs.part_told.made_told.Goals as goal
 
 pub returns : goal.returns
 returns g c =

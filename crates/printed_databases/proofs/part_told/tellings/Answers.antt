@@ -1,6 +1,6 @@
 use Rattle.printed_databases.specs.Words.{words}
-use Rattle.printed_databases.proofs.Tellings.{told_next, told_end}
-use Rattle.printed_databases.proofs.told.tellings.Goals as goal
+use Rattle.printed_databases.proofs.PartsTold.{told_next, told_end}
+use Rattle.printed_databases.proofs.part_told.tellings.Goals as goal
 
 pub loop-word-preserved : goal.loop-word-preserved
 loop-word-preserved g c =

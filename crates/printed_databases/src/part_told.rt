@@ -5,27 +5,27 @@ ghost use Rattle.printed_databases.specs.Words.{words};
 ghost use Rattle.printed_databases.specs.Bodies.{body_in};
 ghost use Rattle.printed_databases.specs.Fields.{header_in};
 ghost use Rattle.printed_databases.specs.Making.{header_octets};
-ghost use Rattle.printed_databases.specs.Telling.{key_of, in_scope, decoded_told, made_told, header_told, kinds_at, lsas_at, told_in};
+ghost use Rattle.printed_databases.specs.PartsTold.{key_of, in_scope, decoded_told, made_told, header_told, kinds_at, lsas_at, told_in};
 ghost use Rattle.lsa_codec.specs.Decoding.{decoded};
 ghost use Rattle.lsa_instances.specs.Order.{scope_told};
 
 use crate::body::body_in;
 use crate::header::{Header, header_in, header_octets};
+use crate::heading::{area_at, heading_at};
 use crate::hole::Hole;
-use crate::kind::{AreaTold, area_at, heading_at};
 use crate::label::{Label, behind_label};
 use crate::text::next_word;
 use lsa_codec::{AreaId, Key, Lsa, LsaFault};
-use lsa_instances::{Scope, Sighting};
+use lsa_instances::{Scope, Sighting, ToldArea};
 use std::alloc::{AllocError, Allocator};
 
 /// What a part of a text tells.
 #[derive(Debug, Drop)]
-pub enum Told<A: Allocator> {
+pub enum PartTold<A: Allocator> {
     /// The LSA that the printed fields make.
     Lsa(Sighting<A>),
     /// The kind of the area of a heading.
-    Kind(AreaTold),
+    Kind(ToldArea),
     /// What is printed of an LSA, and tells none.
     Hole(Hole),
 }
@@ -42,12 +42,12 @@ fn key_of(header: Header) -> Key
 }
 
 /// An LSA, in its scope.
-fn in_scope<A: Allocator + Copy>(area: Option<AreaId>, key: Key, lsa: Lsa<A>) -> Told<A>
+fn in_scope<A: Allocator + Copy>(area: Option<AreaId>, key: Key, lsa: Lsa<A>) -> PartTold<A>
     ensures { result ≡ in_scope key lsa (scope_told key.kind area) }
 {
     match Scope::of(key.kind, area) {
-        None => Told::Hole(Hole::NoArea(key)),
-        Some(scope) => Told::Lsa(Sighting {
+        None => PartTold::Hole(Hole::NoArea(key)),
+        Some(scope) => PartTold::Lsa(Sighting {
             scope,
             seen: None,
             lsa,
@@ -61,13 +61,13 @@ fn octets_told<A: Allocator + Copy>(
     area: Option<AreaId>,
     key: Key,
     octets: &[u8],
-) -> Result<Told<A>, AllocError>
+) -> Result<PartTold<A>, AllocError>
     ensures { IfOk result (λ told. told ≡ decoded_told area key (decoded octets.now)) }
 {
     match Lsa::decode(alloc, octets) {
         Ok((lsa, _)) => Ok(in_scope(area, key, lsa)),
         Err(LsaFault::OutOfMemory) => Err(AllocError),
-        Err(fault) => Ok(Told::Hole(Hole::Refused(key, fault))),
+        Err(fault) => Ok(PartTold::Hole(Hole::Refused(key, fault))),
     }
 }
 
@@ -77,7 +77,7 @@ pub fn made_told<A: Allocator + Copy>(
     area: Option<AreaId>,
     header: Header,
     body: &[u8],
-) -> Result<Told<A>, AllocError>
+) -> Result<PartTold<A>, AllocError>
     ensures { IfOk result (λ told. told
         ≡ decoded_told area (key_of header) (decoded (header_octets header ++ body.now))) }
 {
@@ -92,12 +92,12 @@ fn body_told<A: Allocator + Copy>(
     area: Option<AreaId>,
     header: Header,
     text: &[u8],
-) -> Result<Told<A>, AllocError>
+) -> Result<PartTold<A>, AllocError>
     ensures { IfOk result (λ told. told ≡ made_told area header (body_in header (words text.now))) }
 {
     match body_in(alloc, header, text)? {
         Some(body) => made_told(alloc, area, header, &body),
-        None => Ok(Told::Hole(Hole::Unreadable)),
+        None => Ok(PartTold::Hole(Hole::Unreadable)),
     }
 }
 
@@ -106,23 +106,26 @@ fn header_told<A: Allocator + Copy>(
     alloc: A,
     area: Option<AreaId>,
     text: &[u8],
-) -> Result<Told<A>, AllocError>
+) -> Result<PartTold<A>, AllocError>
     ensures { IfOk result (λ told. told ≡ header_told area (header_in (words text.now))) }
 {
     match header_in(text) {
         Some((header, rest)) => body_told(alloc, area, header, rest),
-        None => Ok(Told::Hole(Hole::Unreadable)),
+        None => Ok(PartTold::Hole(Hole::Unreadable)),
     }
 }
 
 /// Adds the kind of the area that a heading here names, if one does.
-#[tactic(auto, unfolding(crate::specs::Telling::kinds_at))]
-fn tell_kind<A: Allocator + Copy>(told: &mut Vec<Told<A>, A>, text: &[u8]) -> Result<(), AllocError>
+#[tactic(auto, unfolding(crate::specs::PartsTold::kinds_at))]
+fn tell_kind<A: Allocator + Copy>(
+    told: &mut Vec<PartTold<A>, A>,
+    text: &[u8],
+) -> Result<(), AllocError>
     ensures { OnOk result (told.new.items ≡ told.old.items ++ kinds_at (words text.now)) }
 {
     match heading_at(text) {
         Some(area) => {
-            told.push(Told::Kind(area))?;
+            told.push(PartTold::Kind(area))?;
             Ok(())
         }
         None => Ok(()),
@@ -130,10 +133,10 @@ fn tell_kind<A: Allocator + Copy>(told: &mut Vec<Told<A>, A>, text: &[u8]) -> Re
 }
 
 /// Adds what the LSA tells that begins here, if one does.
-#[tactic(auto, unfolding(crate::specs::Telling::lsas_at))]
+#[tactic(auto, unfolding(crate::specs::PartsTold::lsas_at))]
 fn tell_lsa<A: Allocator + Copy>(
     alloc: A,
-    told: &mut Vec<Told<A>, A>,
+    told: &mut Vec<PartTold<A>, A>,
     area: Option<AreaId>,
     text: &[u8],
 ) -> Result<(), AllocError>
@@ -153,7 +156,7 @@ fn tell_lsa<A: Allocator + Copy>(
 pub(crate) fn tellings<A: Allocator + Copy>(
     alloc: A,
     text: &[u8],
-) -> Result<Vec<Told<A>, A>, AllocError>
+) -> Result<Vec<PartTold<A>, A>, AllocError>
     ensures { IfOk result (λ told. told.items ≡ told_in None (words text.now)) }
 {
     let mut told = Vec::new(alloc);

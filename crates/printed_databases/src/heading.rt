@@ -1,4 +1,4 @@
-//! Kinds of areas, as headings tell them.
+//! Headings: each names the area of the LSAs below it, and the kind of the area.
 
 ghost use Rattle.std.specs.Prelude.{◌≡◌};
 ghost use Rattle.printed_databases.specs.Words.{words};
@@ -8,26 +8,7 @@ use crate::label::{Label, behind_label, word_behind};
 use crate::number::address_of;
 use crate::text::cut_at;
 use lsa_codec::AreaId;
-
-/// What kind of area it is, by what a heading prints behind the area (RFC 2328, 3.6; RFC 3101).
-#[derive(Clone, Copy, Debug, PartialEq, Eq)]
-pub enum AreaKind {
-    /// Nothing is printed: AS-external-LSAs are flooded into the area.
-    Ordinary,
-    /// `[Stub]`: a stub area.
-    Stub,
-    /// `[NSSA]`: a not-so-stubby area.
-    Nssa,
-}
-
-/// The kind of an area, as a heading tells it.
-#[derive(Clone, Copy, Debug, PartialEq, Eq)]
-pub struct AreaTold {
-    /// The area.
-    pub area: AreaId,
-    /// What kind of area it is.
-    pub kind: AreaKind,
-}
+use lsa_instances::{AreaKind, ToldArea};
 
 /// The area that the word behind `(Area` names.
 fn area_of(word: &[u8]) -> Option<AreaId>
@@ -43,7 +24,7 @@ fn area_of(word: &[u8]) -> Option<AreaId>
     }
 }
 
-/// The kind of an area, by what stands behind it.
+/// The kind of an area, by the mark behind it: `[Stub]`, `[NSSA]`, or none.
 fn kind_in(text: &[u8]) -> AreaKind
     ensures { result ≡ kind_in (words text.now) }
 {
@@ -58,13 +39,13 @@ fn kind_in(text: &[u8]) -> AreaKind
 
 /// The area that a heading names here, and its kind.
 #[tactic(auto, unfolding(crate::specs::Headings::heading_at))]
-pub(crate) fn heading_at(text: &[u8]) -> Option<AreaTold>
+pub(crate) fn heading_at(text: &[u8]) -> Option<ToldArea>
     ensures { result ≡ heading_at (words text.now) }
 {
     let (word, rest) = word_behind(Label::Area, text)?;
-    let area = area_of(word)?;
-    Some(AreaTold {
-        area,
+    let id = area_of(word)?;
+    Some(ToldArea {
+        id,
         kind: kind_in(rest),
     })
 }

@@ -3,10 +3,10 @@ use Rattle.std.proofs.Common.{◌≡◌, Bool, true, false, List, [], ◌∷◌,
 use Rattle.std.specs.Prelude.{◌||◌}
 use Rattle.std.proofs.lemmas.List.{append-nil}
 use Rattle.lsa_codec.specs.declared.address.AreaId.{AreaId}
-use Rattle.printed_databases.specs.declared.told.Told.{Told}
+use Rattle.printed_databases.specs.declared.part_told.PartTold.{PartTold}
 use Rattle.printed_databases.specs.Words.{Word}
 use Rattle.printed_databases.specs.Headings.{area_at, begins_here, is_printed}
-use Rattle.printed_databases.specs.Telling.{kinds_at, lsas_at, told_at, told_in}
+use Rattle.printed_databases.specs.PartsTold.{kinds_at, lsas_at, told_at, told_in}
 
 module _ {A : Type 0} where
   step : (area : Option AreaId) (word : Word) (text : List Word)
@@ -14,15 +14,15 @@ module _ {A : Type 0} where
   unfolding told_in
   step area word text = refl
 
-  pub told_next : (before between after all : List (Told A)) (area next : Option AreaId) (here : List Word) (word : Word) (text : List Word)
+  pub told_next : (before between after all : List (PartTold A)) (area next : Option AreaId) (here : List Word) (word : Word) (text : List Word)
       → between ≡ before ++ kinds_at here → after ≡ between ++ lsas_at next here → next ≡ area_at area here → here ≡ word ∷ text
       → before ++ told_in area here ≡ all → after ++ told_in next text ≡ all
   told_next before between after all area next here word text kinds lsas same e h =
       let added : after ≡ before ++ told_at next here =
-      lsas ∙ ap (λ (x : List (Told A)). x ++ lsas_at next here) kinds ∙ append_assoc before (kinds_at here) (lsas_at next here) in
-      ap (λ (x : List (Told A)). x ++ told_in next text) added
+      lsas ∙ ap (λ (x : List (PartTold A)). x ++ lsas_at next here) kinds ∙ append_assoc before (kinds_at here) (lsas_at next here) in
+      ap (λ (x : List (PartTold A)). x ++ told_in next text) added
       ∙ append_assoc before (told_at next here) (told_in next text)
-      ∙ ap (λ (rest : List (Told A)). before ++ rest)
+      ∙ ap (λ (rest : List (PartTold A)). before ++ rest)
       (ap (λ (n : Option AreaId). told_at n here ++ told_in n text) same
       ∙ ap (λ (x : List Word). told_at (area_at area x) x ++ told_in (area_at area x) text) e ∙ sym (step area word text)
       ∙ ap (told_in area) (sym e))
@@ -32,10 +32,10 @@ module _ {A : Type 0} where
   unfolding told_in
   nothing area = refl
 
-  pub told_end : (before all : List (Told A)) (area : Option AreaId) (here : List Word) → here ≡ [] → before ++ told_in area here ≡ all
+  pub told_end : (before all : List (PartTold A)) (area : Option AreaId) (here : List Word) → here ≡ [] → before ++ told_in area here ≡ all
       → before ≡ all
   told_end before all area here e h =
-      sym (append-nil before) ∙ ap (λ (rest : List (Told A)). before ++ rest) (sym (nothing area) ∙ ap (told_in area) (sym e)) ∙ h
+      sym (append-nil before) ∙ ap (λ (rest : List (PartTold A)). before ++ rest) (sym (nothing area) ∙ ap (told_in area) (sym e)) ∙ h
 
 -- ---- whether it is printed
 
