@@ -1,7 +1,7 @@
 use Rattle.std.proofs.Common.{◌≡◌, ◌++◌, drop}
 use Rattle.json.specs.Value.{items_view}
-use Rattle.printed_json.specs.Telling.{lsas_in}
-use Rattle.printed_json.proofs.told.with_lsas.Given as goal
+use Rattle.printed_json.specs.DocumentsTold.{lsas_in}
+use Rattle.printed_json.proofs.document_told.with_lsas.Given as goal
 
 abbrev pub invariant-lsas : goal.invariant-lsas
 invariant-lsas g l =

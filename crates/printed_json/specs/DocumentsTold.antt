@@ -8,10 +8,10 @@ use Rattle.printed_databases.specs.declared.header.Header.{Header}
 use Rattle.printed_databases.specs.declared.hole.Hole.TheVariants as holes
 use Rattle.printed_databases.specs.declared.ls_type.LsType.{LsType}
 use Rattle.printed_databases.specs.declared.ls_type.LsType.TheVariants as types
-use Rattle.printed_databases.specs.declared.told.Told.{Told}
-use Rattle.printed_databases.specs.declared.told.Told.TheVariants as tells
+use Rattle.printed_databases.specs.declared.part_told.PartTold.{PartTold}
+use Rattle.printed_databases.specs.declared.part_told.PartTold.TheVariants as tells
 use Rattle.printed_databases.specs.Numbers.{address_of}
-use Rattle.printed_databases.specs.Telling.{made_told}
+use Rattle.printed_databases.specs.PartsTold.{made_told}
 use Rattle.printed_databases.specs.Words.{Word}
 use Rattle.printed_json.specs.Members.{members_at}
 use Rattle.printed_json.specs.Header.{header_in}
@@ -30,56 +30,56 @@ abbrev pub area_named : List ℕ → Option AreaId
 area_named name = option_map (λ address. record { 0 = address }) (address_of name)
 
 module _ {A : Type 0} where
-  abbrev pub header_told : Option AreaId → Json → Option Header → Told A
+  abbrev pub header_told : Option AreaId → Json → Option Header → PartTold A
   header_told area json None = tells.Hole holes.Unreadable
   header_told area json (Some header) = made_told area header (body_in header json)
 
   -- what the object tells of an LSA of this type, in this area
-  abbrev pub lsa_told : LsType → Option AreaId → Json → Told A
+  abbrev pub lsa_told : LsType → Option AreaId → Json → PartTold A
   lsa_told ls_type area json = header_told area json (header_in ls_type json)
 
   -- what the LSAs of an area tell, one after another
-  unfoldable pub lsas_in : LsType → Option AreaId → Items → List (Told A)
+  unfoldable pub lsas_in : LsType → Option AreaId → Items → List (PartTold A)
   lsas_in ls_type area no_items = []
   lsas_in ls_type area (item json items) = lsa_told ls_type area json ∷ lsas_in ls_type area items
 
-  abbrev pub items_told : LsType → Option AreaId → Option Items → List (Told A)
+  abbrev pub items_told : LsType → Option AreaId → Option Items → List (PartTold A)
   items_told ls_type area None = tells.Hole holes.Unreadable ∷ []
   items_told ls_type area (Some items) = lsas_in ls_type area items
 
   -- what the array of the LSAs of an area tells
-  abbrev pub array_told : LsType → Option AreaId → Json → List (Told A)
+  abbrev pub array_told : LsType → Option AreaId → Json → List (PartTold A)
   array_told ls_type area json = items_told ls_type area (as_array json)
 
   -- what areas tell, in the order of the text: each is a member, named by its Area ID
-  unfoldable pub areas_in : LsType → Members → List (Told A)
+  unfoldable pub areas_in : LsType → Members → List (PartTold A)
   areas_in ls_type no_members = []
   areas_in ls_type (member name json members) = array_told ls_type (area_named name) json ++ areas_in ls_type members
 
-  abbrev pub members_told : LsType → Option Members → List (Told A)
+  abbrev pub members_told : LsType → Option Members → List (PartTold A)
   members_told ls_type None = tells.Hole holes.Unreadable ∷ []
   members_told ls_type (Some members) = areas_in ls_type members
 
-  abbrev pub areas_told : LsType → Json → List (Told A)
+  abbrev pub areas_told : LsType → Json → List (PartTold A)
   areas_told ls_type json = members_told ls_type (members_at (codes "areas") json)
 
   -- what the database of the LSAs of this type tells; AS-external-LSAs are of no area
-  abbrev pub database_told : LsType → Json → List (Told A)
+  abbrev pub database_told : LsType → Json → List (PartTold A)
   database_told types.Router json = areas_told types.Router json
   database_told types.Network json = areas_told types.Network json
   database_told types.Summary json = areas_told types.Summary json
   database_told types.AsbrSummary json = areas_told types.AsbrSummary json
   database_told types.External json = array_told types.External None json
 
-  abbrev pub found_told : LsType → Option Json → List (Told A)
+  abbrev pub found_told : LsType → Option Json → List (PartTold A)
   found_told ls_type None = []
   found_told ls_type (Some database) = database_told ls_type database
 
   -- what the document tells of the LSAs of this type
-  abbrev pub told_of : LsType → Json → List (Told A)
+  abbrev pub told_of : LsType → Json → List (PartTold A)
   told_of ls_type json = found_told ls_type (get (database_name ls_type) json)
 
-  unfoldable pub told_in : Json → List (Told A)
+  unfoldable pub told_in : Json → List (PartTold A)
   told_in json =
       told_of types.Router json ++ told_of types.Network json ++ told_of types.Summary json ++ told_of types.AsbrSummary json
       ++ told_of types.External json

@@ -2,9 +2,9 @@
 
 ghost use Rattle.std.specs.Prelude.{◌≡◌, ◌++◌, IfOk};
 ghost use Rattle.json.specs.Value.{value_view, items_view, members_view};
-ghost use Rattle.printed_databases.specs.Telling.{made_told};
+ghost use Rattle.printed_databases.specs.PartsTold.{made_told};
 ghost use Rattle.printed_json.specs.Bodies.{body_in};
-ghost use Rattle.printed_json.specs.Telling.{database_name, area_named, lsa_told, lsas_in, array_told, areas_in, areas_told, database_told, told_of, told_in, has_database};
+ghost use Rattle.printed_json.specs.DocumentsTold.{database_name, area_named, lsa_told, lsas_in, array_told, areas_in, areas_told, database_told, told_of, told_in, has_database};
 
 use crate::body::body_in;
 use crate::header::header_in;
@@ -12,7 +12,7 @@ use crate::member::{items_of, members_at};
 use json::Value;
 use lsa_codec::AreaId;
 use printed_databases::fields::{Header, LsType};
-use printed_databases::{Hole, Told, address_of, made_told};
+use printed_databases::{Hole, PartTold, address_of, made_told};
 use std::alloc::{AllocError, Allocator};
 
 /// The name of the database of the LSAs of this type.
@@ -44,13 +44,13 @@ fn header_told<A: Allocator + Copy>(
     area: Option<AreaId>,
     header: Header,
     json: &Value<'_, A>,
-) -> Result<Told<A>, AllocError>
+) -> Result<PartTold<A>, AllocError>
     ensures { IfOk result (λ told. told ≡ made_told area header (body_in header
         (value_view json.now))) }
 {
     match body_in(alloc, header, json)? {
         Some(body) => made_told(alloc, area, header, &body),
-        None => Ok(Told::Hole(Hole::Unreadable)),
+        None => Ok(PartTold::Hole(Hole::Unreadable)),
     }
 }
 
@@ -60,23 +60,23 @@ fn lsa_told<A: Allocator + Copy>(
     ls_type: LsType,
     area: Option<AreaId>,
     json: &Value<'_, A>,
-) -> Result<Told<A>, AllocError>
+) -> Result<PartTold<A>, AllocError>
     ensures { IfOk result (λ told. told ≡ lsa_told ls_type area (value_view json.now)) }
 {
     match header_in(ls_type, json) {
         Some(header) => header_told(alloc, area, header, json),
-        None => Ok(Told::Hole(Hole::Unreadable)),
+        None => Ok(PartTold::Hole(Hole::Unreadable)),
     }
 }
 
 /// What was told, and behind it what the LSAs of an area tell.
 fn with_lsas<'a, A: Allocator + Copy>(
     alloc: A,
-    mut told: Vec<Told<A>, A>,
+    mut told: Vec<PartTold<A>, A>,
     ls_type: LsType,
     area: Option<AreaId>,
     items: &[Value<'a, A>],
-) -> Result<Vec<Told<A>, A>, AllocError>
+) -> Result<Vec<PartTold<A>, A>, AllocError>
     ensures { IfOk result (λ all. all.items
         ≡ told.items ++ lsas_in ls_type area (items_view items.now)) }
 {
@@ -89,18 +89,18 @@ fn with_lsas<'a, A: Allocator + Copy>(
 /// What was told, and behind it what the array of the LSAs of an area tells.
 fn with_array<A: Allocator + Copy>(
     alloc: A,
-    mut told: Vec<Told<A>, A>,
+    mut told: Vec<PartTold<A>, A>,
     ls_type: LsType,
     area: Option<AreaId>,
     json: &Value<'_, A>,
-) -> Result<Vec<Told<A>, A>, AllocError>
+) -> Result<Vec<PartTold<A>, A>, AllocError>
     ensures { IfOk result (λ all. all.items
         ≡ told.items ++ array_told ls_type area (value_view json.now)) }
 {
     match items_of(json) {
         Some(items) => with_lsas(alloc, told, ls_type, area, items),
         None => {
-            told.push(Told::Hole(Hole::Unreadable))?;
+            told.push(PartTold::Hole(Hole::Unreadable))?;
             Ok(told)
         }
     }
@@ -109,10 +109,10 @@ fn with_array<A: Allocator + Copy>(
 /// What was told, and behind it what the areas tell that these members are.
 fn with_areas<'a, A: Allocator + Copy>(
     alloc: A,
-    mut told: Vec<Told<A>, A>,
+    mut told: Vec<PartTold<A>, A>,
     ls_type: LsType,
     members: &[(&'a str, Value<'a, A>)],
-) -> Result<Vec<Told<A>, A>, AllocError>
+) -> Result<Vec<PartTold<A>, A>, AllocError>
     ensures { IfOk result (λ all. all.items
         ≡ told.items ++ areas_in ls_type (members_view members.now)) }
 {
@@ -126,17 +126,17 @@ fn with_areas<'a, A: Allocator + Copy>(
 /// What was told, and behind it what a database tells that has areas.
 fn with_all_areas<A: Allocator + Copy>(
     alloc: A,
-    mut told: Vec<Told<A>, A>,
+    mut told: Vec<PartTold<A>, A>,
     ls_type: LsType,
     json: &Value<'_, A>,
-) -> Result<Vec<Told<A>, A>, AllocError>
+) -> Result<Vec<PartTold<A>, A>, AllocError>
     ensures { IfOk result (λ all. all.items
         ≡ told.items ++ areas_told ls_type (value_view json.now)) }
 {
     match members_at("areas", json) {
         Some(members) => with_areas(alloc, told, ls_type, members),
         None => {
-            told.push(Told::Hole(Hole::Unreadable))?;
+            told.push(PartTold::Hole(Hole::Unreadable))?;
             Ok(told)
         }
     }
@@ -145,10 +145,10 @@ fn with_all_areas<A: Allocator + Copy>(
 /// What was told, and behind it what the database of the LSAs of this type tells.
 fn with_database<A: Allocator + Copy>(
     alloc: A,
-    told: Vec<Told<A>, A>,
+    told: Vec<PartTold<A>, A>,
     ls_type: LsType,
     json: &Value<'_, A>,
-) -> Result<Vec<Told<A>, A>, AllocError>
+) -> Result<Vec<PartTold<A>, A>, AllocError>
     ensures { IfOk result (λ all. all.items
         ≡ told.items ++ database_told ls_type (value_view json.now)) }
 {
@@ -163,10 +163,10 @@ fn with_database<A: Allocator + Copy>(
 /// What was told, and behind it what the document tells of the LSAs of this type.
 fn with_type<A: Allocator + Copy>(
     alloc: A,
-    told: Vec<Told<A>, A>,
+    told: Vec<PartTold<A>, A>,
     ls_type: LsType,
     json: &Value<'_, A>,
-) -> Result<Vec<Told<A>, A>, AllocError>
+) -> Result<Vec<PartTold<A>, A>, AllocError>
     ensures { IfOk result (λ all. all.items
         ≡ told.items ++ told_of ls_type (value_view json.now)) }
 {
@@ -180,7 +180,7 @@ fn with_type<A: Allocator + Copy>(
 pub(crate) fn tellings<A: Allocator + Copy>(
     alloc: A,
     json: &Value<'_, A>,
-) -> Result<Vec<Told<A>, A>, AllocError>
+) -> Result<Vec<PartTold<A>, A>, AllocError>
     ensures { IfOk result (λ told. told.items ≡ told_in (value_view json.now)) }
 {
     let told = with_type(alloc, Vec::new(alloc), LsType::Router, json)?;

@@ -1,7 +1,7 @@
 use Rattle.std.proofs.Common.{◌≡◌, ◌++◌, drop}
 use Rattle.json.specs.Value.{members_view}
-use Rattle.printed_json.specs.Telling.{areas_in}
-use Rattle.printed_json.proofs.told.with_areas.Given as goal
+use Rattle.printed_json.specs.DocumentsTold.{areas_in}
+use Rattle.printed_json.proofs.document_told.with_areas.Given as goal
 
 abbrev pub invariant-areas : goal.invariant-areas
 invariant-areas g l =

@@ -1,5 +1,5 @@
-use Rattle.printed_json.proofs.Tellings.{lsas_next, lsas_end}
-use Rattle.printed_json.proofs.told.with_lsas.Goals as goal
+use Rattle.printed_json.proofs.DocumentsTold.{lsas_next, lsas_end}
+use Rattle.printed_json.proofs.document_told.with_lsas.Goals as goal
 
 pub lsas-preserved : goal.lsas-preserved
 lsas-preserved g c =

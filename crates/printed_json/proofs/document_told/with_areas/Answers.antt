@@ -1,9 +1,9 @@
 use Rattle.std.proofs.Common.{Option, ◌++◌, ap, ◌∙◌}
 use Rattle.json.specs.Value.{value_view}
 use Rattle.lsa_codec.specs.declared.address.AreaId.{AreaId}
-use Rattle.printed_json.specs.Telling.{array_told}
-use Rattle.printed_json.proofs.Tellings.{areas_next, areas_end}
-use Rattle.printed_json.proofs.told.with_areas.Goals as goal
+use Rattle.printed_json.specs.DocumentsTold.{array_told}
+use Rattle.printed_json.proofs.DocumentsTold.{areas_next, areas_end}
+use Rattle.printed_json.proofs.document_told.with_areas.Goals as goal
 
 pub areas-preserved : goal.areas-preserved
 areas-preserved g c =
