@@ -1,7 +1,7 @@
 //! What a file tells.
 
 ghost use Rattle.std.specs.Prelude.{IfOk, IfErr};
-ghost use Rattle.network_files.specs.Telling.{IsToldOf, IsRefusalOf};
+ghost use Rattle.network_files.specs.FilesTold.{IsToldOf, IsRefusalOf};
 
 use crate::capture::told_of_capture;
 use crate::document::told_of_json;
@@ -10,11 +10,9 @@ use crate::kind::FileKind;
 use crate::printed::told_of_text;
 use crate::walk::told_of_walk;
 use capture_files::End;
-use lsa_codec::AreaId;
-use lsa_instances::{Header, Sighting};
+use lsa_instances::{Header, Sighting, ToldArea};
 use ospf_packets::Odd;
 use printed_databases::Hole as TextHole;
-use sighted_database::ToldArea;
 use snmp_walk::Hole;
 use std::alloc::{Allocator, Global};
 
@@ -36,10 +34,8 @@ pub enum Oddities<A: Allocator = Global> {
 pub struct FileTold<A: Allocator = Global> {
     /// The LSAs, octet for octet.
     pub sightings: Vec<Sighting<A>, A>,
-    /// The areas whose kind is told, as often as it is; a not-so-stubby area is no stub area here.
+    /// The areas whose kind is told, as often as it is.
     pub areas: Vec<ToldArea, A>,
-    /// The areas that are told to be not-so-stubby (RFC 3101).
-    pub nssas: Vec<AreaId, A>,
     /// The headers of LSAs that stand without their bodies, in the packets of a capture.
     pub headers: Vec<Header, A>,
     /// What can not be used, or is missing.

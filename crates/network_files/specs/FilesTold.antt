@@ -1,149 +1,79 @@
 -- What a file tells.
-use Rattle.std.specs.Prelude.{◌≡◌, ◌≢◌, ℕ, Bool, true, false, List, [], map, Option, Some, None, option_map}
+use Rattle.std.specs.Prelude.{◌≡◌, ◌≢◌, ℕ, true, false, List, [], Some, None, option_map}
 use Rattle.std.specs.List.{filter_map, list_any}
 use Rattle.std.specs.Str.{IsUtf8}
 use Rattle.capture_files.specs.declared.fault.CaptureFault.TheVariants as captures
 use Rattle.capture_files.specs.declared.frame.End.{End}
 use Rattle.capture_files.specs.Captures.{IsCapture, IsCaptureFault}
-use Rattle.capture_files.specs.Told.{Packet, Told}
+use Rattle.capture_files.specs.CaptureTexts.{Packet, CaptureText}
 use Rattle.json.specs.Json.{Json, document}
-use Rattle.lsa_codec.specs.declared.address.AreaId.{AreaId}
+use Rattle.lsa_instances.specs.declared.area.ToldArea.{ToldArea}
 use Rattle.lsa_instances.specs.declared.header.Header.{Header}
 use Rattle.lsa_instances.specs.declared.sighting.Sighting.{Sighting}
 use Rattle.network_files.specs.declared.fault.FileFault.{FileFault}
 use Rattle.network_files.specs.declared.fault.FileFault.TheVariants as faults
 use Rattle.network_files.specs.declared.kind.FileKind.{FileKind}
 use Rattle.network_files.specs.declared.kind.FileKind.TheVariants as kinds
-use Rattle.network_files.specs.declared.telling.FileTold.{FileTold}
-use Rattle.network_files.specs.declared.telling.Oddities.{Oddities}
-use Rattle.network_files.specs.declared.telling.Oddities.TheVariants.{Frames, Rows, Texts, Documents}
+use Rattle.network_files.specs.declared.file_told.FileTold.{FileTold}
+use Rattle.network_files.specs.declared.file_told.Oddities.{Oddities}
+use Rattle.network_files.specs.declared.file_told.Oddities.TheVariants.{Frames, Rows, Texts, Documents}
 use Rattle.network_files.specs.Kinds.{kind_of}
-use Rattle.ospf_packets.specs.declared.kind.AreaKind.{AreaKind as HelloKind}
-use Rattle.ospf_packets.specs.declared.kind.AreaKind.TheVariants as hello
-use Rattle.ospf_packets.specs.declared.kind.AreaTold.{AreaTold as HelloTold}
 use Rattle.ospf_packets.specs.declared.odd.Odd.{Odd}
 use Rattle.ospf_packets.specs.Sorting as packets
-use Rattle.ospf_packets.specs.Telling.{told_in as told_in_frames}
+use Rattle.ospf_packets.specs.FramesTold.{told_in as told_in_frames}
 use Rattle.printed_databases.specs.declared.hole.Hole.{Hole as TextHole}
-use Rattle.printed_databases.specs.declared.kind.AreaKind.{AreaKind as HeadingKind}
-use Rattle.printed_databases.specs.declared.kind.AreaKind.TheVariants as heading
-use Rattle.printed_databases.specs.declared.kind.AreaTold.{AreaTold as HeadingTold}
 use Rattle.printed_databases.specs.Sorting as prints
-use Rattle.printed_databases.specs.Telling.{told_in as told_in_words}
+use Rattle.printed_databases.specs.PartsTold.{told_in as told_in_words}
 use Rattle.printed_databases.specs.Words.{words}
-use Rattle.printed_json.specs.Telling.{told_in as told_in_json, has_database}
-use Rattle.sighted_database.specs.declared.area.ToldArea.{ToldArea}
-use Rattle.snmp_walk.specs.declared.kind.AreaKind.{AreaKind as RowKind}
-use Rattle.snmp_walk.specs.declared.kind.AreaKind.TheVariants as column
-use Rattle.snmp_walk.specs.declared.kind.AreaTold.{AreaTold as RowTold}
+use Rattle.printed_json.specs.DocumentsTold.{told_in as told_in_json, has_database}
 use Rattle.snmp_walk.specs.Missing.{AreHoles}
-use Rattle.snmp_walk.specs.Telling.{told_in as told_in_walk}
-use Rattle.snmp_walk.specs.Walks as walks
-
--- ---- kinds of areas
-
--- by the Options of a Hello packet
-abbrev pub is_stub_by_hello : HelloKind → Bool
-is_stub_by_hello hello.Ordinary = false
-is_stub_by_hello hello.Stub = true
-is_stub_by_hello hello.Nssa = false
-
-abbrev pub area_by_hello : HelloTold → ToldArea
-area_by_hello told = record { id = told.area; is_stub = is_stub_by_hello told.kind }
-
-abbrev pub nssa_with : HelloKind → AreaId → Option AreaId
-nssa_with hello.Ordinary area = None
-nssa_with hello.Stub area = None
-nssa_with hello.Nssa area = Some area
-
--- a not-so-stubby area
-abbrev pub nssa_by_hello : HelloTold → Option AreaId
-nssa_by_hello told = nssa_with told.kind told.area
-
--- by ospfImportAsExtern of a walk
-abbrev pub is_stub_by_row : RowKind → Bool
-is_stub_by_row column.Ordinary = false
-is_stub_by_row column.Stub = true
-is_stub_by_row column.Nssa = false
-
-abbrev pub area_by_row : RowTold → ToldArea
-area_by_row told = record { id = told.area; is_stub = is_stub_by_row told.kind }
-
-abbrev pub nssa_in : RowKind → AreaId → Option AreaId
-nssa_in column.Ordinary area = None
-nssa_in column.Stub area = None
-nssa_in column.Nssa area = Some area
-
-abbrev pub nssa_by_row : RowTold → Option AreaId
-nssa_by_row told = nssa_in told.kind told.area
-
--- by the heading of an area in what a router prints
-abbrev pub is_stub_by_heading : HeadingKind → Bool
-is_stub_by_heading heading.Ordinary = false
-is_stub_by_heading heading.Stub = true
-is_stub_by_heading heading.Nssa = false
-
-abbrev pub area_by_heading : HeadingTold → ToldArea
-area_by_heading told = record { id = told.area; is_stub = is_stub_by_heading told.kind }
-
-abbrev pub nssa_under : HeadingKind → AreaId → Option AreaId
-nssa_under heading.Ordinary area = None
-nssa_under heading.Stub area = None
-nssa_under heading.Nssa area = Some area
-
-abbrev pub nssa_by_heading : HeadingTold → Option AreaId
-nssa_by_heading told = nssa_under told.kind told.area
+use Rattle.snmp_walk.specs.ObjectsTold.{told_in as told_in_walk}
+use Rattle.snmp_walk.specs.Sorting as walks
 
 -- ---- what is told
 
--- LSAs, areas and their kinds, which of them are not-so-stubby, and headers of LSAs, each in the order of the file
-pub record Telling (A : Type 0) : Type 0 where
+-- LSAs, areas and their kinds, and headers of LSAs, each in the order of the file
+pub record Content (A : Type 0) : Type 0 where
   pub sightings : List (Sighting A)
   pub areas : List ToldArea
-  pub nssas : List AreaId
   pub headers : List Header
 
-abbrev pub telling_of : {A : Type 0} → FileTold A → Telling A
-telling_of file = record {
+abbrev pub content_of : {A : Type 0} → FileTold A → Content A
+content_of file = record {
   sightings = file.sightings.items;
   areas = file.areas.items;
-  nssas = file.nssas.items;
   headers = file.headers.items;
 }
 
 -- a capture tells what its frames tell
-abbrev pub told_by_frames : {A : Type 0} → List Packet → Telling A
+abbrev pub told_by_frames : {A : Type 0} → List Packet → Content A
 told_by_frames {A} frames = record {
   sightings = filter_map packets.sighting_of (told_in_frames frames);
-  areas = map area_by_hello (filter_map (packets.kind_of {A = A}) (told_in_frames frames));
-  nssas = filter_map nssa_by_hello (filter_map (packets.kind_of {A = A}) (told_in_frames frames));
+  areas = filter_map (packets.kind_of {A = A}) (told_in_frames frames);
   headers = filter_map (packets.header_of {A = A}) (told_in_frames frames);
 }
 
 -- a walk tells what its objects tell
-abbrev pub told_by_walk : {A : Type 0} → List ℕ → Telling A
+abbrev pub told_by_walk : {A : Type 0} → List ℕ → Content A
 told_by_walk {A} text = record {
   sightings = filter_map walks.sighting_of (told_in_walk text);
-  areas = map area_by_row (filter_map (walks.kind_of {A = A}) (told_in_walk text));
-  nssas = filter_map nssa_by_row (filter_map (walks.kind_of {A = A}) (told_in_walk text));
+  areas = filter_map (walks.kind_of {A = A}) (told_in_walk text);
   headers = [];
 }
 
 -- what a router prints tells what its headings and its LSAs tell, without a moment
-abbrev pub told_by_text : {A : Type 0} → List ℕ → Telling A
+abbrev pub told_by_text : {A : Type 0} → List ℕ → Content A
 told_by_text {A} text = record {
   sightings = filter_map prints.sighting_of (told_in_words None (words text));
-  areas = map area_by_heading (filter_map (prints.kind_of {A = A}) (told_in_words None (words text)));
-  nssas = filter_map nssa_by_heading (filter_map (prints.kind_of {A = A}) (told_in_words None (words text)));
+  areas = filter_map (prints.kind_of {A = A}) (told_in_words None (words text));
   headers = [];
 }
 
 -- what a router prints in JSON tells what the LSAs of its document tell
-abbrev pub told_by_json : {A : Type 0} → Json → Telling A
+abbrev pub told_by_json : {A : Type 0} → Json → Content A
 told_by_json {A} json = record {
   sightings = filter_map prints.sighting_of (told_in_json json);
-  areas = map area_by_heading (filter_map (prints.kind_of {A = A}) (told_in_json json));
-  nssas = filter_map nssa_by_heading (filter_map (prints.kind_of {A = A}) (told_in_json json));
+  areas = filter_map (prints.kind_of {A = A}) (told_in_json json);
   headers = [];
 }
 
@@ -181,36 +111,26 @@ module _ {A : Type 0} where
 -- ---- files
 
 pub record IsToldByCapture {A : Type 0} (octets : List ℕ) (file : FileTold A) : Type 0 where
-  pub capture : Told
+  pub capture : CaptureText
   pub read : IsCapture octets capture
-  pub telling : telling_of file ≡ told_by_frames capture.packets
+  pub content : content_of file ≡ told_by_frames capture.packets
   pub odd : AreOddFrames (filter_map (packets.odd_of {A = A}) (told_in_frames capture.packets)) capture.end file.oddities
 
 pub record IsToldByWalk {A : Type 0} (octets : List ℕ) (file : FileTold A) : Type 0 where
-  pub telling : telling_of file ≡ told_by_walk octets
+  pub content : content_of file ≡ told_by_walk octets
   pub odd : AreOddRows octets file.oddities
   pub read : list_any (walks.is_of_mib {A = A}) (told_in_walk octets) ≡ true
 
 pub record IsToldByText {A : Type 0} (octets : List ℕ) (file : FileTold A) : Type 0 where
-  pub telling : telling_of file ≡ told_by_text octets
+  pub content : content_of file ≡ told_by_text octets
   pub odd : AreOddTexts (filter_map (prints.hole_of {A = A}) (told_in_words None (words octets))) file.oddities
-
--- the file is a document in JSON that has a database, and these are its LSAs, kinds of areas and what tells none
-pub record IsPrintedBy {A : Type 0} (octets : List ℕ) (sightings : List (Sighting A)) (kinds : List HeadingTold) (holes : List TextHole) : Type 0 where
-  pub json : Json
-  pub spelled : IsUtf8 octets
-  pub read : document octets ≡ Some json
-  pub database : has_database json ≡ true
-  pub lsas : sightings ≡ filter_map prints.sighting_of (told_in_json json)
-  pub areas : kinds ≡ filter_map (prints.kind_of {A = A}) (told_in_json json)
-  pub odd : holes ≡ filter_map (prints.hole_of {A = A}) (told_in_json json)
 
 pub record IsToldByJson {A : Type 0} (octets : List ℕ) (file : FileTold A) : Type 0 where
   pub json : Json
   pub spelled : IsUtf8 octets
   pub read : document octets ≡ Some json
   pub database : has_database json ≡ true
-  pub telling : telling_of file ≡ told_by_json json
+  pub content : content_of file ≡ told_by_json json
   pub odd : AreOddDocuments (filter_map (prints.hole_of {A = A}) (told_in_json json)) file.oddities
 
 abbrev pub IsToldAs : {A : Type 0} → FileKind → List ℕ → FileTold A → Type 0
