@@ -4,21 +4,20 @@ ghost use Rattle.std.specs.Prelude.{◌≡◌, ◌++◌, IfOk, OnOk, None};
 ghost use Rattle.lsa_instances.specs.Order.{scope_told};
 ghost use Rattle.printed_databases.specs.Words.{words};
 ghost use Rattle.database_lists.specs.Lines.{lines};
-ghost use Rattle.database_lists.specs.Telling.{in_scope, row_told, told_by, told_in};
+ghost use Rattle.database_lists.specs.LinesTold.{in_scope, row_told, told_by, told_in};
 
 use crate::heading::Heading;
 use crate::hole::Hole;
 use crate::line::cut_at;
-use crate::ls_type::LINK_OPAQUE_LSA;
-use crate::mark::{Mark, mark_of};
+use crate::line_kind::{LineKind, line_kind_of};
 use crate::row::{Row, row_under};
 use lsa_codec::AreaId;
-use lsa_instances::{Header, Place, Scope};
+use lsa_instances::{Header, LINK_OPAQUE_LSA, Place, Scope};
 use std::alloc::{AllocError, Allocator};
 
 /// What a line tells.
 #[derive(Clone, Copy, Debug)]
-pub(crate) enum Told {
+pub(crate) enum LineTold {
     /// A header.
     Header(Header),
     /// That there is none.
@@ -26,12 +25,12 @@ pub(crate) enum Told {
 }
 
 /// What a row tells of an LSA of this scope, or of none.
-fn in_scope(row: Row, scope: Option<Scope>) -> Told
+fn in_scope(row: Row, scope: Option<Scope>) -> LineTold
     ensures { result ≡ in_scope row scope }
 {
     match scope {
-        None => Told::Hole(Hole::NoArea(row.key)),
-        Some(scope) => Told::Header(Header {
+        None => LineTold::Hole(Hole::NoArea(row.key)),
+        Some(scope) => LineTold::Header(Header {
             place: Place {
                 scope,
                 key: row.key,
@@ -44,11 +43,11 @@ fn in_scope(row: Row, scope: Option<Scope>) -> Told
 
 /// What a row tells under the heading of an area, or of none. One of an LSA of the scope of a link
 /// tells nothing.
-fn row_told(area: Option<AreaId>, row: Option<Row>) -> Option<Told>
+fn row_told(area: Option<AreaId>, row: Option<Row>) -> Option<LineTold>
     ensures { result ≡ row_told area row }
 {
     let Some(row) = row else {
-        return Some(Told::Hole(Hole::Unreadable));
+        return Some(LineTold::Hole(Hole::Unreadable));
     };
     if row.key.kind == LINK_OPAQUE_LSA {
         return None;
@@ -58,20 +57,20 @@ fn row_told(area: Option<AreaId>, row: Option<Row>) -> Option<Told>
 
 /// Adds what a line tells.
 fn tell<A: Allocator + Copy>(
-    told: &mut Vec<Told, A>,
+    told: &mut Vec<LineTold, A>,
     heading: Option<Heading>,
     line: &[u8],
-    mark: Mark,
+    line_kind: LineKind,
 ) -> Result<(), AllocError>
     ensures { OnOk result (told.new.items
-        ≡ told.old.items ++ told_by heading (words line.now) mark) }
+        ≡ told.old.items ++ told_by heading (words line.now) line_kind) }
 {
-    match (mark, heading) {
-        (Mark::Foreign, _) => {
-            told.push(Told::Hole(Hole::Unreadable))?;
+    match (line_kind, heading) {
+        (LineKind::Foreign, _) => {
+            told.push(LineTold::Hole(Hole::Unreadable))?;
             Ok(())
         }
-        (Mark::Row, Some(heading)) => {
+        (LineKind::Row, Some(heading)) => {
             if let Some(one) = row_told(heading.area(), row_under(heading, line)) {
                 told.push(one)?;
             }
@@ -85,18 +84,18 @@ fn tell<A: Allocator + Copy>(
 pub(crate) fn tellings<A: Allocator + Copy>(
     alloc: A,
     text: &[u8],
-) -> Result<Vec<Told, A>, AllocError>
+) -> Result<Vec<LineTold, A>, AllocError>
     ensures { IfOk result (λ told. told.items ≡ told_in None (lines text.now)) }
 {
     let mut told = Vec::new(alloc);
     let mut heading = None;
     let mut rest = text;
     while let Some((line, behind)) = cut_at(rest, b'\n') {
-        let mark = mark_of(line);
-        tell(&mut told, heading, line, mark)?;
-        heading = mark.heading_after(heading);
+        let line_kind = line_kind_of(line);
+        tell(&mut told, heading, line, line_kind)?;
+        heading = line_kind.heading_after(heading);
         rest = behind;
     }
-    tell(&mut told, heading, rest, mark_of(rest))?;
+    tell(&mut told, heading, rest, line_kind_of(rest))?;
     Ok(told)
 }

@@ -2,8 +2,8 @@
 
 ghost use Rattle.std.specs.Prelude.{◌≡◌};
 ghost use Rattle.printed_databases.specs.Words.{words};
-ghost use Rattle.database_lists.specs.Headings.{is_columns, is_idle, is_start, is_heading_word, has_heading_word, mark_of, heading_after};
-ghost use Rattle.database_lists.specs.Telling.{is_heading};
+ghost use Rattle.database_lists.specs.Headings.{is_columns, is_idle, is_start, is_heading_word, has_heading_word, line_kind_of, heading_after};
+ghost use Rattle.database_lists.specs.LinesTold.{is_heading};
 
 use crate::heading::{Heading, heading_in};
 use crate::label::{Label, begins_with};
@@ -11,7 +11,7 @@ use printed_databases::next_word;
 
 /// What a line is to those below it.
 #[derive(Clone, Copy)]
-pub(crate) enum Mark {
+pub(crate) enum LineKind {
     /// The heading of rows.
     Heading(Heading),
     /// A router or a program names itself: another list may begin.
@@ -24,12 +24,12 @@ pub(crate) enum Mark {
     Row,
 }
 
-impl Mark {
+impl LineKind {
     /// Whether it is a heading.
     pub(crate) fn is_heading(self) -> bool
         ensures { result ≡ is_heading self }
     {
-        matches!(self, Mark::Heading(_))
+        matches!(self, LineKind::Heading(_))
     }
 
     /// The heading that the next line stands under.
@@ -37,9 +37,9 @@ impl Mark {
         ensures { result ≡ heading_after heading self }
     {
         match self {
-            Mark::Heading(next) => Some(next),
-            Mark::Start | Mark::Foreign => None,
-            Mark::Idle | Mark::Row => heading,
+            LineKind::Heading(next) => Some(next),
+            LineKind::Start | LineKind::Foreign => None,
+            LineKind::Idle | LineKind::Row => heading,
         }
     }
 }
@@ -83,22 +83,22 @@ fn has_heading_word(line: &[u8]) -> bool
 }
 
 /// What a line is to those below it.
-#[tactic(auto, unfolding(crate::specs::Headings::mark_of))]
-pub(crate) fn mark_of(line: &[u8]) -> Mark
-    ensures { result ≡ mark_of (words line.now) }
+#[tactic(auto, unfolding(crate::specs::Headings::line_kind_of))]
+pub(crate) fn line_kind_of(line: &[u8]) -> LineKind
+    ensures { result ≡ line_kind_of (words line.now) }
 {
     if is_idle(line) {
-        return Mark::Idle;
+        return LineKind::Idle;
     }
     if let Some(heading) = heading_in(line) {
-        return Mark::Heading(heading);
+        return LineKind::Heading(heading);
     }
     if is_start(line) {
-        return Mark::Start;
+        return LineKind::Start;
     }
     if has_heading_word(line) {
-        Mark::Foreign
+        LineKind::Foreign
     } else {
-        Mark::Row
+        LineKind::Row
     }
 }

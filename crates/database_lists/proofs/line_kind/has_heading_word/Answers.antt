@@ -1,7 +1,7 @@
 use Rattle.std.proofs.Common.{◌∙◌, sym}
 use Rattle.printed_databases.specs.Words.{words}
-use Rattle.database_lists.proofs.Marks.{word_here, word_later, word_nowhere}
-use Rattle.database_lists.proofs.mark.has_heading_word.Goals as goal
+use Rattle.database_lists.proofs.LineKinds.{word_here, word_later, word_nowhere}
+use Rattle.database_lists.proofs.line_kind.has_heading_word.Goals as goal
 
 pub returns-then-is_heading_word : goal.returns-then-is_heading_word
 returns-then-is_heading_word c =

@@ -5,12 +5,12 @@ use Rattle.std.specs.List.{slice_split}
 use Rattle.std.proofs.lemmas.List.{append-nil}
 use Rattle.printed_databases.specs.Words.{words}
 use Rattle.database_lists.specs.declared.heading.Heading.{Heading}
-use Rattle.database_lists.specs.declared.mark.Mark.{Mark}
-use Rattle.database_lists.specs.declared.told.Told.{Told}
-use Rattle.database_lists.specs.Headings.{mark_of, heading_after}
+use Rattle.database_lists.specs.declared.line_kind.LineKind.{LineKind}
+use Rattle.database_lists.specs.declared.line_told.LineTold.{LineTold}
+use Rattle.database_lists.specs.Headings.{line_kind_of, heading_after}
 use Rattle.database_lists.specs.Lines.{Line, is_line_feed, lines}
 use Rattle.database_lists.specs.Sorting.{has_line}
-use Rattle.database_lists.specs.Telling.{told_by, told_in}
+use Rattle.database_lists.specs.LinesTold.{told_by, told_in}
 
 -- ---- lines
 
@@ -26,34 +26,34 @@ last_line text line e = ap (map words) e
 -- ---- what they tell
 
 step : (heading : Option Heading) (line : Line) (others : List Line)
-    → told_in heading (line ∷ others) ≡ told_by heading line (mark_of line) ++ told_in (heading_after heading (mark_of line)) others
+    → told_in heading (line ∷ others) ≡ told_by heading line (line_kind_of line) ++ told_in (heading_after heading (line_kind_of line)) others
 unfolding told_in
 step heading line others = refl
 
-by_mark : (heading : Option Heading) (mark : Mark) (line : Line) (here others : List Line) → here ≡ line ∷ others → mark ≡ mark_of line
-    → told_by heading line mark ++ told_in (heading_after heading mark) others ≡ told_in heading here
-by_mark heading mark line here others e m =
-    ap (λ (x : Mark). told_by heading line x ++ told_in (heading_after heading x) others) m ∙ sym (step heading line others)
+by_line_kind : (heading : Option Heading) (line_kind : LineKind) (line : Line) (here others : List Line) → here ≡ line ∷ others → line_kind ≡ line_kind_of line
+    → told_by heading line line_kind ++ told_in (heading_after heading line_kind) others ≡ told_in heading here
+by_line_kind heading line_kind line here others e m =
+    ap (λ (x : LineKind). told_by heading line x ++ told_in (heading_after heading x) others) m ∙ sym (step heading line others)
     ∙ ap (told_in heading) (sym e)
 
-pub told_next : (before after all : List Told) (heading next : Option Heading) (mark : Mark) (line : Line) (here others : List Line)
-    → here ≡ line ∷ others → mark ≡ mark_of line → after ≡ before ++ told_by heading line mark → next ≡ heading_after heading mark
+pub told_next : (before after all : List LineTold) (heading next : Option Heading) (line_kind : LineKind) (line : Line) (here others : List Line)
+    → here ≡ line ∷ others → line_kind ≡ line_kind_of line → after ≡ before ++ told_by heading line line_kind → next ≡ heading_after heading line_kind
     → before ++ told_in heading here ≡ all → after ++ told_in next others ≡ all
-told_next before after all heading next mark line here others e m added n h =
-    ap (λ (x : List Told). x ++ told_in next others) added ∙ append_assoc before (told_by heading line mark) (told_in next others)
-    ∙ ap (λ (rest : List Told). before ++ rest)
-    (ap (λ (x : Option Heading). told_by heading line mark ++ told_in x others) n ∙ by_mark heading mark line here others e m)
+told_next before after all heading next line_kind line here others e m added n h =
+    ap (λ (x : List LineTold). x ++ told_in next others) added ∙ append_assoc before (told_by heading line line_kind) (told_in next others)
+    ∙ ap (λ (rest : List LineTold). before ++ rest)
+    (ap (λ (x : Option Heading). told_by heading line line_kind ++ told_in x others) n ∙ by_line_kind heading line_kind line here others e m)
     ∙ h
 
 nothing : (heading : Option Heading) → told_in heading [] ≡ []
 unfolding told_in
 nothing heading = refl
 
-pub told_last : (before after all : List Told) (heading : Option Heading) (mark : Mark) (line : Line) (here : List Line)
-    → here ≡ line ∷ [] → mark ≡ mark_of line → after ≡ before ++ told_by heading line mark → before ++ told_in heading here ≡ all → after ≡ all
-told_last before after all heading mark line here e m added h =
-    sym (append-nil after) ∙ ap (λ (rest : List Told). after ++ rest) (sym (nothing (heading_after heading mark)))
-    ∙ told_next before after all heading (heading_after heading mark) mark line here [] e m added refl h
+pub told_last : (before after all : List LineTold) (heading : Option Heading) (line_kind : LineKind) (line : Line) (here : List Line)
+    → here ≡ line ∷ [] → line_kind ≡ line_kind_of line → after ≡ before ++ told_by heading line line_kind → before ++ told_in heading here ≡ all → after ≡ all
+told_last before after all heading line_kind line here e m added h =
+    sym (append-nil after) ∙ ap (λ (rest : List LineTold). after ++ rest) (sym (nothing (heading_after heading line_kind)))
+    ∙ told_next before after all heading (heading_after heading line_kind) line_kind line here [] e m added refl h
 
 -- ---- whether a line of this kind stands there
 
