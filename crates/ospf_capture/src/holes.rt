@@ -5,7 +5,7 @@ use database_holes::holes_of;
 use lsdb::Database;
 
 /// The lines of what a database lacks, and of what the planner leaves out of it.
-pub(crate) fn lack_lines<'a>(
+pub(crate) fn database_hole_lines<'a>(
     rt: &HostRuntime,
     database: &Database,
 ) -> Result<String, ExitFault<'a>> {
