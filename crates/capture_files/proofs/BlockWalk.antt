@@ -3,7 +3,7 @@ use Rattle.std.proofs.Common.{◌≡◌, ℕ, ◌+◌, ◌≤◌, List, [], ◌�
 use Rattle.std.proofs.Common.{refl, sym, ap, ◌∙◌, subst, ◌⊎◌, inl, inr}
 use Rattle.std.proofs.lemmas.List.{drop-drop}
 use Rattle.capture_files.specs.declared.block.Lie.{Lie}
-use Rattle.capture_files.specs.Told.{Told}
+use Rattle.capture_files.specs.CaptureTexts.{CaptureText}
 use Rattle.capture_files.specs.Pcap.{end_at}
 use Rattle.capture_files.specs.Pcapng.{State, start, next, AreBlocks, Reaches, IsPcapng, LiesIn}
 use Rattle.capture_files.proofs.Records.{same_offset, same_told}
@@ -63,12 +63,12 @@ same_place file t u a b h k x y =
     let both = same_blocks start file h.blocks k.blocks t u (drop a file) (drop b file) h.whole k.whole x y in
     (both.0, same_offset file a b h.within k.within both.1)
 
-pub one_told : (file : List ℕ) (a b : Told) → IsPcapng file a → IsPcapng file b → a ≡ b
+pub one_told : (file : List ℕ) (a b : CaptureText) → IsPcapng file a → IsPcapng file b → a ≡ b
 one_told file a b h k =
     let both = same_place file h.last k.last h.offset k.offset h.reached k.reached (inl h.stopped) (inl k.stopped) in
     same_told a b (h.packets ∙ ap (λ (s : State). s.packets) both.0 ∙ sym k.packets) (h.ended ∙ ap (end_at file) both.1 ∙ sym k.ended)
 
-pub never_both : (file : List ℕ) (a : Told) (offset : ℕ) (lie : Lie) → IsPcapng file a → LiesIn file offset lie → ⊥
+pub never_both : (file : List ℕ) (a : CaptureText) (offset : ℕ) (lie : Lie) → IsPcapng file a → LiesIn file offset lie → ⊥
 never_both file a offset lie h k =
     let both = same_place file h.last k.last h.offset offset h.reached k.reached (inl h.stopped) (inr (lie, k.lying)) in
     let here : next h.last (drop h.offset file) ≡ next k.last (drop offset file) =

@@ -6,7 +6,7 @@ use Rattle.capture_files.specs.declared.fault.CaptureFault.{CaptureFault}
 use Rattle.capture_files.specs.declared.fault.CaptureFault.TheVariants.{CapturedLength}
 use Rattle.capture_files.specs.declared.frame.End.{End}
 use Rattle.capture_files.specs.declared.pcap.Form.{Form}
-use Rattle.capture_files.specs.Told.{Packet, Told}
+use Rattle.capture_files.specs.CaptureTexts.{Packet, CaptureText}
 use Rattle.capture_files.specs.Pcap.{header, lies, record_of, end_at, AreRecords, IsPcap, LiesAt, IsPcapFault}
 
 -- ---- as they are read
@@ -74,12 +74,12 @@ same_offset file a b p q e = omega (arith, ap length e, length-drop a file, leng
 same_form : (file : List ℕ) (f g : Form) → header file ≡ Ok f → header file ≡ Ok g → g ≡ f
 same_form file f g h k = let same : ◌≡◌ {A = Result Form CaptureFault} (Ok f) (Ok g) = sym h ∙ k in cc
 
-pub same_told : (a b : Told) → a.packets ≡ b.packets → a.end ≡ b.end → a ≡ b
+pub same_told : (a b : CaptureText) → a.packets ≡ b.packets → a.end ≡ b.end → a ≡ b
 same_told a b packets end =
     ap (λ (ps : List Packet). record { packets = ps; end = a.end }) packets
     ∙ ap (λ (e : End). record { packets = b.packets; end = e }) end
 
-pub one_told : (file : List ℕ) (a b : Told) → IsPcap file a → IsPcap file b → a ≡ b
+pub one_told : (file : List ℕ) (a b : CaptureText) → IsPcap file a → IsPcap file b → a ≡ b
 one_told file a b h k =
     let form : k.form ≡ h.form = same_form file h.form k.form h.headed k.headed in
     let records : AreRecords h.form (drop 24 file) b.packets (drop k.offset file) =
@@ -92,7 +92,7 @@ one_told file a b h k =
     let end : a.end ≡ b.end = h.ended ∙ ap (end_at file) offset ∙ sym k.ended in
     same_told a b both.0 end
 
-pub never_both : (file : List ℕ) (a : Told) (offset : ℕ) → IsPcap file a → LiesAt file offset → ⊥
+pub never_both : (file : List ℕ) (a : CaptureText) (offset : ℕ) → IsPcap file a → LiesAt file offset → ⊥
 never_both file a offset h k =
     let form : k.form ≡ h.form = same_form file h.form k.form h.headed k.headed in
     let records : AreRecords h.form (drop 24 file) k.packets (drop offset file) =

@@ -1,16 +1,16 @@
 -- Capture files of either format.
 use Rattle.std.specs.Prelude.{ℕ, Bool, true, false, List}
 use Rattle.capture_files.specs.declared.fault.CaptureFault.{CaptureFault}
-use Rattle.capture_files.specs.Told.{Told}
+use Rattle.capture_files.specs.CaptureTexts.{CaptureText}
 use Rattle.capture_files.specs.Pcap.{IsPcap, IsPcapFault}
 use Rattle.capture_files.specs.Pcapng.{has_section, IsPcapng, IsPcapngFault}
 
 -- of the pcapng format where the file begins with a Section Header Block, else of the pcap format
-abbrev pub IsOfFormat : Bool → List ℕ → Told → Type 0
+abbrev pub IsOfFormat : Bool → List ℕ → CaptureText → Type 0
 IsOfFormat true file told = IsPcapng file told
 IsOfFormat false file told = IsPcap file told
 
-abbrev pub IsCapture : List ℕ → Told → Type 0
+abbrev pub IsCapture : List ℕ → CaptureText → Type 0
 IsCapture file told = IsOfFormat (has_section file) file told
 
 abbrev pub IsFaultOfFormat : Bool → List ℕ → CaptureFault → Type 0

@@ -1,8 +1,9 @@
 pub mod Fields
-pub mod Told
+pub mod CaptureTexts
 pub mod Pcap
 pub mod Blocks
 pub mod Interfaces
 pub mod Parts
 pub mod Pcapng
 pub mod Captures
+pub mod steps

@@ -3,39 +3,31 @@ use Rattle.std.specs.Prelude.{ℕ, ◌+◌, ◌*◌, ◌==◌, nat_lt, min, if�
 use Rattle.capture_files.specs.declared.block.Lie.{Lie}
 use Rattle.capture_files.specs.declared.block.Lie.TheVariants.{BlockLength, SectionVersion, BlockCaptured, NoInterface}
 use Rattle.capture_files.specs.declared.interface.Interface.{Interface}
-use Rattle.capture_files.specs.declared.part.Part.{Part}
-use Rattle.capture_files.specs.declared.part.Part.TheVariants as parts
 use Rattle.capture_files.specs.Fields.{number_at}
-use Rattle.capture_files.specs.Told.{Packet, packet_of}
+use Rattle.capture_files.specs.CaptureTexts.{Packet}
 use Rattle.capture_files.specs.Blocks.{BlockText, kind_of, section_header}
 use Rattle.capture_files.specs.Interfaces.{moment_of, interface_of}
 
 -- a new section, an interface of it, a packet, or something else
-pub data Telling : Type 0 where
-  section : Telling
-  interface : Interface → Telling
-  packet : Packet → Telling
-  other : Telling
-
-abbrev pub telling_of : Part → Telling
-telling_of parts.Section = section
-telling_of (parts.Described i) = interface i
-telling_of (parts.Captured frame) = packet (packet_of frame)
-telling_of parts.Other = other
+pub data Content : Type 0 where
+  section : Content
+  interface : Interface → Content
+  packet : Packet → Content
+  other : Content
 
 -- the number in the n octets at an offset of the block
 abbrev pub field : ℕ → ℕ → BlockText → ℕ
 field n offset block = number_at block.order n offset block.octets
 
 -- 4.1: version 1 of the format
-abbrev pub section_told : BlockText → Result Telling Lie
+abbrev pub section_told : BlockText → Result Content Lie
 section_told block =
     if nat_lt (length block.octets) 28 then Err BlockLength
     else if field 2 12 block == 1 then Ok section
     else Err SectionVersion
 
 -- 4.2
-abbrev pub interface_told : BlockText → Result Telling Lie
+abbrev pub interface_told : BlockText → Result Content Lie
 interface_told block = if nat_lt (length block.octets) 20 then Err BlockLength else Ok (interface (interface_of block))
 
 -- 4.3: the time stamp has its upper half first
@@ -50,14 +42,14 @@ enhanced_packet i block = record {
   original = field 4 24 block;
 }
 
-abbrev pub enhanced_on : Option Interface → BlockText → Result Telling Lie
+abbrev pub enhanced_on : Option Interface → BlockText → Result Content Lie
 enhanced_on None block = Err NoInterface
 enhanced_on (Some i) block =
     if nat_lt (field 4 24 block) (field 4 20 block) then Err BlockCaptured
     else if nat_lt (length block.octets) (32 + field 4 20 block) then Err BlockCaptured
     else Ok (packet (enhanced_packet i block))
 
-abbrev pub enhanced_told : List Interface → BlockText → Result Telling Lie
+abbrev pub enhanced_told : List Interface → BlockText → Result Content Lie
 enhanced_told interfaces block =
     if nat_lt (length block.octets) 32 then Err BlockLength
     else enhanced_on (slice_get interfaces (field 4 8 block)) block
@@ -74,18 +66,18 @@ simple_packet i block = record {
   original = field 4 8 block;
 }
 
-abbrev pub simple_on : Option Interface → BlockText → Result Telling Lie
+abbrev pub simple_on : Option Interface → BlockText → Result Content Lie
 simple_on None block = Err NoInterface
 simple_on (Some i) block =
     if nat_lt (length block.octets) (16 + simple_captured i block) then Err BlockCaptured
     else Ok (packet (simple_packet i block))
 
-abbrev pub simple_told : List Interface → BlockText → Result Telling Lie
+abbrev pub simple_told : List Interface → BlockText → Result Content Lie
 simple_told interfaces block =
     if nat_lt (length block.octets) 16 then Err BlockLength else simple_on (slice_get interfaces 0) block
 
 -- what a block tells, by its type; blocks of other types are passed over
-unfoldable pub told_by : List Interface → BlockText → Result Telling Lie
+unfoldable pub told_by : List Interface → BlockText → Result Content Lie
 told_by interfaces block =
     if kind_of block == section_header then section_told block
     else if kind_of block == 1 then interface_told block

@@ -13,7 +13,7 @@ use Rattle.capture_files.specs.declared.pcap.Form.{Form}
 use Rattle.capture_files.specs.declared.pcap.Fraction.{Fraction}
 use Rattle.capture_files.specs.declared.pcap.Fraction.TheVariants.{Micro, Nano}
 use Rattle.capture_files.specs.Fields.{number_at}
-use Rattle.capture_files.specs.Told.{Packet, Told}
+use Rattle.capture_files.specs.CaptureTexts.{Packet, CaptureText}
 
 -- ---- the header of the file
 
@@ -105,7 +105,7 @@ abbrev pub end_at : List ℕ → ℕ → End
 end_at file offset = if offset == length file then Whole else Cut offset
 
 -- the file has a header, and behind it whole records of these packets up to an offset, at which no whole record stands
-pub record IsPcap (file : List ℕ) (told : Told) : Type 0 where
+pub record IsPcap (file : List ℕ) (told : CaptureText) : Type 0 where
   pub form : Form
   pub offset : ℕ
   pub headed : header file ≡ Ok form

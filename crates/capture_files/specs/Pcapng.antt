@@ -11,10 +11,10 @@ use Rattle.capture_files.specs.declared.order.Order.TheVariants.{Big}
 use Rattle.capture_files.specs.declared.reading.Reading.{Reading}
 use Rattle.std.specs.Prelude.{map}
 use Rattle.capture_files.specs.Fields.{number_at}
-use Rattle.capture_files.specs.Told.{Packet, Told, packet_of}
+use Rattle.capture_files.specs.CaptureTexts.{Packet, CaptureText, packet_of}
 use Rattle.capture_files.specs.Pcap.{end_at}
 use Rattle.capture_files.specs.Blocks.{BlockText, section_header, first_block}
-use Rattle.capture_files.specs.Parts.{Telling, section, interface, packet, other, told_by}
+use Rattle.capture_files.specs.Parts.{Content, section, interface, packet, other, told_by}
 
 -- between two blocks: the byte order and the interfaces of the section, and the packets of the file so far
 pub record State : Type 0 where
@@ -31,13 +31,13 @@ abbrev pub start : State
 start = record { order = Big; interfaces = []; packets = [] }
 
 -- behind a block in this byte order; a new section has no interface yet
-abbrev pub after : State → Order → Telling → State
+abbrev pub after : State → Order → Content → State
 after s order section = record { order = order; interfaces = []; packets = s.packets }
 after s order (interface i) = record { order = order; interfaces = s.interfaces ++ i ∷ []; packets = s.packets }
 after s order (packet p) = record { order = order; interfaces = s.interfaces; packets = s.packets ++ p ∷ [] }
 after s order other = record { order = order; interfaces = s.interfaces; packets = s.packets }
 
-abbrev pub past : State → BlockText → Result Telling Lie → Result (Option (State × ℕ)) Lie
+abbrev pub past : State → BlockText → Result Content Lie → Result (Option (State × ℕ)) Lie
 past s block (Err lie) = Err lie
 past s block (Ok telling) = Ok (Some (after s block.order telling, length block.octets))
 
@@ -67,7 +67,7 @@ abbrev pub has_section : List ℕ → Bool
 has_section file = if nat_lt (length file) 4 then false else number_at Big 4 0 file == section_header
 
 -- the packets of the whole blocks up to an offset, at which no whole block stands
-pub record IsPcapng (file : List ℕ) (told : Told) : Type 0 where
+pub record IsPcapng (file : List ℕ) (told : CaptureText) : Type 0 where
   pub last : State
   pub offset : ℕ
   pub headed : has_section file ≡ true
@@ -89,11 +89,6 @@ fault_at lies.BlockLength offset = faults.BlockLength offset
 fault_at lies.SectionVersion offset = faults.SectionVersion offset
 fault_at lies.BlockCaptured offset = faults.CapturedLength offset
 fault_at lies.NoInterface offset = faults.NoInterface offset
-
--- memory ran out, or a block at this offset has a lie
-abbrev pub IsStop : ℕ → Result (Option (State × ℕ)) Lie → CaptureFault → Type 0
-IsStop offset found fault =
-    (fault ≡ faults.OutOfMemory) ⊎ ((lie : Lie) × ((fault ≡ fault_at lie offset) × (found ≡ Err lie)))
 
 -- why a file is refused; memory can run out with any file
 abbrev pub IsPcapngFault : List ℕ → CaptureFault → Type 0

@@ -1,7 +1,7 @@
 //! Files of either format.
 
 ghost use Rattle.std.specs.Prelude.{IfOk, IfErr};
-ghost use Rattle.capture_files.specs.Told.{told_of};
+ghost use Rattle.capture_files.specs.CaptureTexts.{capture_text};
 ghost use Rattle.capture_files.specs.Captures.{IsCapture, IsCaptureFault};
 
 use crate::fault::CaptureFault;
@@ -21,7 +21,7 @@ pub fn read_capture<A: Allocator + Copy>(
     alloc: A,
     file: &[u8],
 ) -> Result<Capture<'_, A>, CaptureFault>
-    ensures told { IfOk result (λ capture. IsCapture file.now (told_of capture)) }
+    ensures told { IfOk result (λ capture. IsCapture file.now (capture_text capture)) }
     ensures fault { IfErr result (λ fault. IsCaptureFault file.now fault) }
 {
     if has_section(file) {

@@ -2,7 +2,7 @@
 
 ghost use Rattle.std.specs.Prelude.{◌≡◌, ℕ, List};
 ghost use Rattle.capture_files.specs.declared.block.Lie.{Lie};
-ghost use Rattle.capture_files.specs.Told.{Told};
+ghost use Rattle.capture_files.specs.CaptureTexts.{CaptureText};
 ghost use Rattle.capture_files.specs.Pcap.{IsPcap, LiesAt};
 ghost use Rattle.capture_files.specs.Pcapng.{IsPcapng, LiesIn};
 
@@ -11,8 +11,8 @@ ghost use Rattle.capture_files.specs.Pcapng.{IsPcapng, LiesIn};
 ///
 /// The function does nothing: its contract is the law.
 pub fn one_reading_of_pcap()
-    ensures one { (file : List ℕ) (a b : Told) → IsPcap file a → IsPcap file b → a ≡ b }
-    ensures refused { (file : List ℕ) (told : Told) (offset : ℕ) → IsPcap file told
+    ensures one { (file : List ℕ) (a b : CaptureText) → IsPcap file a → IsPcap file b → a ≡ b }
+    ensures refused { (file : List ℕ) (told : CaptureText) (offset : ℕ) → IsPcap file told
         → LiesAt file offset → ⊥ }
     ensures first { (file : List ℕ) (m n : ℕ) → LiesAt file m → LiesAt file n → m ≡ n }
 {}
@@ -22,9 +22,9 @@ pub fn one_reading_of_pcap()
 ///
 /// The function does nothing: its contract is the law.
 pub fn one_reading_of_pcapng()
-    ensures one { (file : List ℕ) (a b : Told) → IsPcapng file a → IsPcapng file b → a ≡ b }
-    ensures refused { (file : List ℕ) (told : Told) (offset : ℕ) (lie : Lie) → IsPcapng file told
-        → LiesIn file offset lie → ⊥ }
+    ensures one { (file : List ℕ) (a b : CaptureText) → IsPcapng file a → IsPcapng file b → a ≡ b }
+    ensures refused { (file : List ℕ) (told : CaptureText) (offset : ℕ) (lie : Lie)
+        → IsPcapng file told → LiesIn file offset lie → ⊥ }
     ensures first { (file : List ℕ) (m n : ℕ) (x y : Lie) → LiesIn file m x → LiesIn file n y
         → (m ≡ n) × (x ≡ y) }
 {}

@@ -2,7 +2,8 @@
 
 ghost use Rattle.std.specs.Prelude.{◌≡◌, ◌≤◌, ◌+◌, length, Ok, Err, Some, None, MatchResult, slice_get};
 ghost use Rattle.capture_files.specs.Blocks.{block_text};
-ghost use Rattle.capture_files.specs.Parts.{telling_of, section_told, interface_told, stamp_of, enhanced_on, enhanced_told, simple_captured, simple_on, simple_told, told_by};
+ghost use Rattle.capture_files.specs.Parts.{section_told, interface_told, stamp_of, enhanced_on, enhanced_told, simple_captured, simple_on, simple_told, told_by};
+ghost use Rattle.capture_files.specs.steps.BlockContents.{content_of};
 
 use crate::block::{Block, Lie, SECTION_HEADER};
 use crate::field::{u16_at, u32_at};
@@ -36,7 +37,7 @@ pub(crate) enum Part<'a> {
 fn section_told(block: Block<'_>) -> Result<Part<'_>, Lie>
     requires { 12 ≤ length block.octets.now }
     ensures { MatchResult result
-        (λ part. section_told (block_text block.entry) ≡ Ok (telling_of part))
+        (λ part. section_told (block_text block.entry) ≡ Ok (content_of part))
         (λ lie. section_told (block_text block.entry) ≡ Err lie) }
 {
     if block.octets.len() < 28 {
@@ -52,7 +53,7 @@ fn section_told(block: Block<'_>) -> Result<Part<'_>, Lie>
 fn interface_told(block: Block<'_>) -> Result<Part<'_>, Lie>
     requires { 12 ≤ length block.octets.now }
     ensures { MatchResult result
-        (λ part. interface_told (block_text block.entry) ≡ Ok (telling_of part))
+        (λ part. interface_told (block_text block.entry) ≡ Ok (content_of part))
         (λ lie. interface_told (block_text block.entry) ≡ Err lie) }
 {
     if block.octets.len() < 20 {
@@ -75,7 +76,7 @@ fn stamp_of(block: Block<'_>) -> u64
 fn enhanced_on(interface: Option<Interface>, block: Block<'_>) -> Result<Part<'_>, Lie>
     requires { 32 ≤ length block.octets.now }
     ensures { MatchResult result
-        (λ part. enhanced_on interface (block_text block.entry) ≡ Ok (telling_of part))
+        (λ part. enhanced_on interface (block_text block.entry) ≡ Ok (content_of part))
         (λ lie. enhanced_on interface (block_text block.entry) ≡ Err lie) }
 {
     let Some(interface) = interface else {
@@ -109,7 +110,7 @@ fn interface_at(interfaces: &[Interface], number: u32) -> Option<Interface>
 fn enhanced_told<'a>(interfaces: &[Interface], block: Block<'a>) -> Result<Part<'a>, Lie>
     requires { 12 ≤ length block.octets.now }
     ensures { MatchResult result
-        (λ part. enhanced_told interfaces.now (block_text block.entry) ≡ Ok (telling_of part))
+        (λ part. enhanced_told interfaces.now (block_text block.entry) ≡ Ok (content_of part))
         (λ lie. enhanced_told interfaces.now (block_text block.entry) ≡ Err lie) }
 {
     if block.octets.len() < 32 {
@@ -136,7 +137,7 @@ fn simple_captured(interface: Interface, block: Block<'_>) -> u32
 fn simple_on(interface: Option<Interface>, block: Block<'_>) -> Result<Part<'_>, Lie>
     requires { 16 ≤ length block.octets.now }
     ensures { MatchResult result
-        (λ part. simple_on interface (block_text block.entry) ≡ Ok (telling_of part))
+        (λ part. simple_on interface (block_text block.entry) ≡ Ok (content_of part))
         (λ lie. simple_on interface (block_text block.entry) ≡ Err lie) }
 {
     let Some(interface) = interface else {
@@ -158,7 +159,7 @@ fn simple_on(interface: Option<Interface>, block: Block<'_>) -> Result<Part<'_>,
 fn simple_told<'a>(interfaces: &[Interface], block: Block<'a>) -> Result<Part<'a>, Lie>
     requires { 12 ≤ length block.octets.now }
     ensures { MatchResult result
-        (λ part. simple_told interfaces.now (block_text block.entry) ≡ Ok (telling_of part))
+        (λ part. simple_told interfaces.now (block_text block.entry) ≡ Ok (content_of part))
         (λ lie. simple_told interfaces.now (block_text block.entry) ≡ Err lie) }
 {
     if block.octets.len() < 16 {
@@ -172,7 +173,7 @@ fn simple_told<'a>(interfaces: &[Interface], block: Block<'a>) -> Result<Part<'a
 pub(crate) fn told_by<'a>(interfaces: &[Interface], block: Block<'a>) -> Result<Part<'a>, Lie>
     requires { 12 ≤ length block.octets.now }
     ensures { MatchResult result
-        (λ part. told_by interfaces.now (block_text block.entry) ≡ Ok (telling_of part))
+        (λ part. told_by interfaces.now (block_text block.entry) ≡ Ok (content_of part))
         (λ lie. told_by interfaces.now (block_text block.entry) ≡ Err lie) }
 {
     match u32_at(block.order, block.octets, 0) {

@@ -1,7 +1,7 @@
 //! Files of the pcap format (draft-ietf-opsawg-pcap).
 
 ghost use Rattle.std.specs.Prelude.{◌≡◌, ◌≤◌, ◌<◌, ◌+◌, ◌*◌, length, map, drop, option_map, Ok, Err, Some, None, false, true, IfOk, IfErr, IfSome};
-ghost use Rattle.capture_files.specs.Told.{packet_of, told_of};
+ghost use Rattle.capture_files.specs.CaptureTexts.{packet_of, capture_text};
 ghost use Rattle.capture_files.specs.Pcap.{fraction_of, signature_in, signature_of, header, length_of_fraction, moment_of, lies, record_of, end_at, AreRecords, LiesAt, IsPcap, IsPcapFault};
 
 use crate::fault::CaptureFault;
@@ -210,7 +210,7 @@ pub(crate) fn end_at(file: &[u8], offset: usize) -> End
 /// the offset of the first record that says that more octets were captured than there were or than
 /// a capture has, and `OutOfMemory`.
 pub fn read_pcap<A: Allocator + Copy>(alloc: A, file: &[u8]) -> Result<Capture<'_, A>, CaptureFault>
-    ensures told { IfOk result (λ capture. IsPcap file.now (told_of capture)) }
+    ensures told { IfOk result (λ capture. IsPcap file.now (capture_text capture)) }
     ensures fault { IfErr result (λ fault. IsPcapFault file.now fault) }
 {
     let form = header(file)?;

@@ -2,9 +2,9 @@
 
 ghost use Rattle.std.specs.Prelude.{◌≡◌, ◌≤◌, ◌<◌, ◌+◌, length, drop, Ok, Err, Some, None, true, IfOk, IfErr, OnOk, MatchOption};
 ghost use Rattle.capture_files.specs.declared.fault.CaptureFault.TheVariants as faults;
-ghost use Rattle.capture_files.specs.Told.{told_of};
-ghost use Rattle.capture_files.specs.Parts.{telling_of};
-ghost use Rattle.capture_files.specs.Pcapng.{state_of, after, next, has_section, fault_at, Reaches, IsStop, IsPcapng, IsPcapngFault};
+ghost use Rattle.capture_files.specs.CaptureTexts.{capture_text};
+ghost use Rattle.capture_files.specs.Pcapng.{state_of, after, next, has_section, fault_at, Reaches, IsPcapng, IsPcapngFault};
+ghost use Rattle.capture_files.specs.steps.BlockContents.{content_of, IsStop};
 
 use crate::block::{Lie, SECTION_HEADER, first_block};
 use crate::fault::CaptureFault;
@@ -46,7 +46,7 @@ fn add<'a, A: Allocator + Copy>(
     part: Part<'a>,
 ) -> Result<(), CaptureFault>
     ensures added { OnOk result
-        (state_of reading.new ≡ after (state_of reading.old) order (telling_of part.entry)) }
+        (state_of reading.new ≡ after (state_of reading.old) order (content_of part.entry)) }
     ensures memory { IfErr result (λ fault. fault ≡ faults.OutOfMemory) }
 {
     reading.order = order;
@@ -125,7 +125,7 @@ pub fn read_pcapng<A: Allocator + Copy>(
     alloc: A,
     file: &[u8],
 ) -> Result<Capture<'_, A>, CaptureFault>
-    ensures told { IfOk result (λ capture. IsPcapng file.now (told_of capture)) }
+    ensures told { IfOk result (λ capture. IsPcapng file.now (capture_text capture)) }
     ensures fault { IfErr result (λ fault. IsPcapngFault file.now fault) }
 {
     if !has_section(file) {

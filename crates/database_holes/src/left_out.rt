@@ -2,12 +2,14 @@
 
 ghost use Rattle.std.specs.Prelude.{◌≡◌, ◌≤◌, ◌++◌, length, IfOk, OnOk, filter};
 ghost use Rattle.std.specs.List.{count_by, flat_map};
+ghost use Rattle.lsdb.specs.Counts.{has_bit_v, is_virtual};
 ghost use Rattle.lsdb.specs.Lists.{lsas_of};
 ghost use Rattle.lsdb.specs.Places.{lists_of};
-ghost use Rattle.database_holes.specs.LeftOut.{is_nssa, is_opaque, is_virtual_end, is_virtual, virtual_links, left_out, all_left_out};
+ghost use Rattle.database_holes.specs.LeftOut.{is_nssa, is_opaque, virtual_links, left_out, all_left_out};
 
 use crate::hole::{Feature, Hole};
-use lsa_codec::{Link, LinkKind, Links, Lsa};
+use lsa_codec::{AS_OPAQUE_LSA, Link, LinkKind, Links, Lsa};
+use lsa_instances::{LINK_OPAQUE_LSA, NSSA_LSA};
 use lsdb::{Database, Lsas, Section};
 use std::alloc::{AllocError, Allocator};
 
@@ -15,7 +17,7 @@ use std::alloc::{AllocError, Allocator};
 fn is_nssa<A: Allocator + Copy>(lsa: &Lsa<A>) -> bool
     ensures { result ≡ is_nssa lsa.now }
 {
-    lsa.key().kind == 7
+    lsa.key().kind == NSSA_LSA
 }
 
 /// Whether it is an opaque LSA.
@@ -23,12 +25,12 @@ fn is_opaque<A: Allocator + Copy>(lsa: &Lsa<A>) -> bool
     ensures { result ≡ is_opaque lsa.now }
 {
     let kind = lsa.key().kind;
-    9 <= kind && kind <= 11
+    LINK_OPAQUE_LSA <= kind && kind <= AS_OPAQUE_LSA
 }
 
 /// Whether it is a router-LSA with bit V.
-fn is_virtual_end<A: Allocator + Copy>(lsa: &Lsa<A>) -> bool
-    ensures { result ≡ is_virtual_end lsa.now }
+fn has_bit_v<A: Allocator + Copy>(lsa: &Lsa<A>) -> bool
+    ensures { result ≡ has_bit_v lsa.now }
 {
     match lsa.router() {
         Some(router) => router.flags() & 4 != 0,
@@ -38,7 +40,7 @@ fn is_virtual_end<A: Allocator + Copy>(lsa: &Lsa<A>) -> bool
 
 /// Whether it is a virtual link.
 fn is_virtual(link: Link) -> bool
-    ensures { result ≡ is_virtual link }
+    ensures { result ≡ is_virtual link.kind }
 {
     matches!(link.kind, LinkKind::Virtual)
 }
@@ -48,7 +50,8 @@ fn virtual_among<A: Allocator + Copy>(
     alloc: A,
     links: Links<'_>,
 ) -> Result<Vec<Link, A>, AllocError>
-    ensures { IfOk result (λ found. found.items ≡ filter is_virtual links.entry) }
+    ensures { IfOk result (λ found. found.items
+        ≡ filter (λ link. is_virtual link.kind) links.entry) }
 {
     links.filter(|link| is_virtual(*link)).collect(alloc)
 }
@@ -96,9 +99,9 @@ fn opaque_count<A: Allocator + Copy>(lsas: Lsas<'_, A>) -> usize
 /// How many LSAs are router-LSAs with bit V.
 fn virtual_ends<A: Allocator + Copy>(lsas: Lsas<'_, A>) -> usize
     requires { length lsas ≤ 65535 }
-    ensures { result ≡ count_by is_virtual_end lsas.entry }
+    ensures { result ≡ count_by has_bit_v lsas.entry }
 {
-    lsas.filter(|lsa| is_virtual_end(*lsa)).count()
+    lsas.filter(|lsa| has_bit_v(*lsa)).count()
 }
 
 /// Adds what is left out so often, where it is.

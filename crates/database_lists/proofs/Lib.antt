@@ -1,5 +1,5 @@
 pub mod Split
 pub mod Titles
-pub mod Marks
-pub mod Tellings
+pub mod LineKinds
+pub mod LinesTold
 mod Singles

@@ -1,37 +1,21 @@
 -- How a database differs from the headers of a list (RFC 2328, 13.1).
-use Rattle.std.specs.Prelude.{ℕ, bit_xor, List, Option, Some, None, option_map, if◌then◌else◌}
+use Rattle.std.specs.Prelude.{ℕ, List, Option, Some, None, option_map, if◌then◌else◌}
 use Rattle.std.specs.List.{filter_map, find}
-use Rattle.std.specs.Ordering.{nat_cmp, ordering_then}
 use Rattle.std.specs.declared.cmp.Ordering.{Ordering}
 use Rattle.std.specs.declared.cmp.Ordering.TheVariants as orders
-use Rattle.lsa_codec.specs.Fields.{checksum_of}
 use Rattle.lsa_codec.specs.Key.{is_at_max_age}
 use Rattle.lsa_instances.specs.declared.header.Header.{Header}
-use Rattle.lsa_instances.specs.declared.header.Issue.{Issue}
 use Rattle.lsa_instances.specs.declared.place.Place.{Place}
 use Rattle.lsa_instances.specs.declared.place.Scope.{Scope}
 use Rattle.lsa_instances.specs.declared.place.Scope.TheVariants as scopes
 use Rattle.lsa_instances.specs.Headers as headers
-use Rattle.lsa_instances.specs.Instance.{sequence_of}
+use Rattle.lsa_instances.specs.Instance.{issue_cmp, issue_of}
 use Rattle.lsdb.specs.declared.section.Section.{Section}
 use Rattle.lsdb.specs.declared.section.Section.TheVariants as sections
 use Rattle.lsdb.specs.Lists.{Lists, has_key, lsas_of}
 use Rattle.database_lists.specs.declared.difference.Change.{Change}
 use Rattle.database_lists.specs.declared.difference.Change.TheVariants as changes
 use Rattle.database_lists.specs.declared.difference.Difference.{Difference}
-
--- ---- which of two instances is newer
-
--- a sequence number as a signed number of 32 bits, counted from the least of them: the top bit changed
-abbrev pub signed : ℕ → ℕ
-signed sequence = bit_xor sequence 0x8000_0000
-
--- `Greater` where the first is newer: by LS sequence number, then by LS checksum
-abbrev pub issue_cmp : Issue → Issue → Ordering
-issue_cmp a b = ordering_then (nat_cmp (signed a.sequence) (signed b.sequence)) (nat_cmp a.checksum b.checksum)
-
-abbrev pub issue_of : List ℕ → Issue
-issue_of lsa = record { sequence = sequence_of lsa; checksum = checksum_of lsa }
 
 -- ---- what a database has
 

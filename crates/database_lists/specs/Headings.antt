@@ -10,12 +10,12 @@ use Rattle.database_lists.specs.declared.heading.Heading.{Heading}
 use Rattle.database_lists.specs.declared.heading.Heading.TheVariants as headings
 use Rattle.database_lists.specs.declared.label.Label.{Label}
 use Rattle.database_lists.specs.declared.label.Label.TheVariants as label
-use Rattle.database_lists.specs.declared.mark.Mark.{Mark}
-use Rattle.database_lists.specs.declared.mark.Mark.TheVariants as marks
+use Rattle.database_lists.specs.declared.line_kind.LineKind.{LineKind}
+use Rattle.database_lists.specs.declared.line_kind.LineKind.TheVariants as kinds
 use Rattle.database_lists.specs.declared.title.Title.{Title}
 use Rattle.database_lists.specs.Labels.{behind_label, begins_with}
 use Rattle.database_lists.specs.Lines.{Line}
-use Rattle.database_lists.specs.LsTypes.{nssa_lsa, link_opaque_lsa, area_opaque_lsa}
+use Rattle.lsa_instances.specs.LsTypes.{nssa_lsa, link_opaque_lsa, area_opaque_lsa}
 
 -- ---- FRR: a table for each LS type (RFC 2328, 12.1.3; RFC 3101 for type 7; RFC 5250 for the types 9 to 11)
 
@@ -103,20 +103,20 @@ unfoldable pub has_heading_word : Line → Bool
 has_heading_word [] = false
 has_heading_word (word ∷ line) = is_heading_word (word ∷ line) || has_heading_word line
 
-abbrev pub no_heading : Line → Mark
-no_heading line = if is_start line then marks.Start else if has_heading_word line then marks.Foreign else marks.Row
+abbrev pub no_heading : Line → LineKind
+no_heading line = if is_start line then kinds.Start else if has_heading_word line then kinds.Foreign else kinds.Row
 
-abbrev pub by_heading : Line → Option Heading → Mark
-by_heading line (Some heading) = marks.Heading heading
+abbrev pub by_heading : Line → Option Heading → LineKind
+by_heading line (Some heading) = kinds.Heading heading
 by_heading line None = no_heading line
 
-unfoldable pub mark_of : Line → Mark
-mark_of line = if is_idle line then marks.Idle else by_heading line (or_else (table_among titles line) (section_in line))
+unfoldable pub line_kind_of : Line → LineKind
+line_kind_of line = if is_idle line then kinds.Idle else by_heading line (or_else (table_among titles line) (section_in line))
 
 -- the heading that the next line stands under
-abbrev pub heading_after : Option Heading → Mark → Option Heading
-heading_after heading (marks.Heading next) = Some next
-heading_after heading marks.Start = None
-heading_after heading marks.Foreign = None
-heading_after heading marks.Idle = heading
-heading_after heading marks.Row = heading
+abbrev pub heading_after : Option Heading → LineKind → Option Heading
+heading_after heading (kinds.Heading next) = Some next
+heading_after heading kinds.Start = None
+heading_after heading kinds.Foreign = None
+heading_after heading kinds.Idle = heading
+heading_after heading kinds.Row = heading

@@ -1,9 +1,8 @@
 pub mod Lines
 pub mod Labels
-pub mod LsTypes
 pub mod Headings
 pub mod Rows
-pub mod Telling
+pub mod LinesTold
 pub mod Sorting
 pub mod Comparing
 pub mod Once

@@ -4,28 +4,28 @@ use Rattle.std.specs.List.{list_any}
 use Rattle.lsa_instances.specs.declared.header.Header.{Header}
 use Rattle.database_lists.specs.declared.hole.Hole.{Hole}
 use Rattle.database_lists.specs.declared.label.Label.TheVariants as label
-use Rattle.database_lists.specs.declared.told.Told.{Told}
-use Rattle.database_lists.specs.declared.told.Told.TheVariants as tells
-use Rattle.database_lists.specs.Headings.{mark_of}
+use Rattle.database_lists.specs.declared.line_told.LineTold.{LineTold}
+use Rattle.database_lists.specs.declared.line_told.LineTold.TheVariants as tells
+use Rattle.database_lists.specs.Headings.{line_kind_of}
 use Rattle.database_lists.specs.Labels.{begins_with}
 use Rattle.database_lists.specs.Lines.{Line, lines}
-use Rattle.database_lists.specs.Telling.{is_heading, told_in}
+use Rattle.database_lists.specs.LinesTold.{is_heading, told_in}
 
-abbrev pub header_of : Told → Option Header
+abbrev pub header_of : LineTold → Option Header
 header_of (tells.Header header) = Some header
 header_of (tells.Hole hole) = None
 
-abbrev pub hole_of : Told → Option Hole
+abbrev pub hole_of : LineTold → Option Hole
 hole_of (tells.Header header) = None
 hole_of (tells.Hole hole) = Some hole
 
 -- what a text tells
-abbrev pub told_of : List ℕ → List Told
+abbrev pub told_of : List ℕ → List LineTold
 told_of text = told_in None (lines text)
 
 -- the heading of rows
 abbrev pub is_title : Line → Bool
-is_title line = is_heading (mark_of line)
+is_title line = is_heading (line_kind_of line)
 
 -- the first line of an LSA that is printed whole, as by `show ip ospf database router`
 abbrev pub is_detail : Line → Bool

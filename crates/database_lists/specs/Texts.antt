@@ -1,10 +1,7 @@
 -- What is told of a list, in words: a line for each hole of it, and for each difference.
 use Rattle.std.specs.Prelude.{◌≡◌, ℕ, Bool, true, false, ◌==◌, List, [], ◌++◌, count_by, codes, decimal, flat_map, if◌then◌else◌}
-use Rattle.lsa_codec.specs.declared.key.Key.{Key}
-use Rattle.lsa_codec.specs.Spelling.{address_text}
 use Rattle.lsa_instances.specs.declared.header.Header.{Header}
-use Rattle.lsa_instances.specs.declared.place.Scope.{Scope}
-use Rattle.lsa_instances.specs.declared.place.Scope.TheVariants as scopes
+use Rattle.lsa_instances.specs.Texts.{key_text, place_text}
 use Rattle.lsdb.specs.Lists.{Lists}
 use Rattle.database_lists.specs.declared.difference.Change.{Change}
 use Rattle.database_lists.specs.declared.difference.Change.TheVariants as changes
@@ -16,15 +13,6 @@ use Rattle.database_lists.specs.Once.{AreOnce}
 
 -- ---- words
 
--- what names an LSA in its scope (RFC 2328, 12.1)
-abbrev pub key_text : Key → List ℕ
-key_text key = codes "type " ++ decimal key.kind ++ codes " id " ++ address_text key.id.0 ++ codes " adv " ++ address_text key.adv.0
-
--- the area, with a space behind it; nothing for the whole AS
-abbrev pub scope_text : Scope → List ℕ
-scope_text (scopes.Area area) = codes "area " ++ address_text area.0 ++ codes " "
-scope_text scopes.AsWide = []
-
 abbrev pub change_text : Change → List ℕ
 change_text changes.Missing = codes "Missing"
 change_text changes.Newer = codes "Newer"
@@ -32,7 +20,7 @@ change_text changes.Older = codes "Older"
 
 -- as `Missing area 0.0.0.1 type 1 id 4.4.4.4 adv 4.4.4.4`
 abbrev pub difference_text : Difference → List ℕ
-difference_text one = change_text one.change ++ codes " " ++ scope_text one.place.scope ++ key_text one.place.key
+difference_text one = change_text one.change ++ codes " " ++ place_text one.place
 
 abbrev pub hole_text : Hole → List ℕ
 hole_text (holes.NoArea key) = codes "NoArea " ++ key_text key

@@ -2,12 +2,11 @@
 
 ghost use Rattle.std.specs.Prelude.{◌≡◌, IfOk, Some, option_map};
 ghost use Rattle.lsdb.specs.Places.{lists_of};
-ghost use Rattle.database_lists.specs.Comparing.{issue_cmp, issue_of, scope_section, lsa_of, absent, beside_same, change_of, difference_of, differences};
+ghost use Rattle.database_lists.specs.Comparing.{scope_section, lsa_of, absent, beside_same, change_of, difference_of, differences};
 ghost use Rattle.database_lists.specs.Texts.{change_text, difference_text};
 
-use byteorder::{BigEndian, ByteOrder};
-use lsa_codec::{Key, Lsa};
-use lsa_instances::{Header, Issue, Place, Scope};
+use lsa_codec::Lsa;
+use lsa_instances::{Header, Issue, Place, Scope, compare_issues};
 use lsdb::{Database, Section};
 use std::alloc::{AllocError, Allocator};
 use std::cmp::Ordering;
@@ -55,30 +54,8 @@ impl fmt::Display for Difference {
     ghost output = { λ difference. Some (difference_text difference) };
 
     fn fmt<W: fmt::Write>(&self, f: &mut fmt::Formatter<W>) -> fmt::Result {
-        let change = self.change;
-        let Key { kind, id, adv } = self.place.key;
-        match self.place.scope {
-            Scope::Area(area) => write!(f, "{change} area {area} type {kind} id {id} adv {adv}"),
-            Scope::AsWide => write!(f, "{change} type {kind} id {id} adv {adv}"),
-        }
-    }
-}
-
-/// Compares two instances of one LSA: `Greater` where the first is newer, whatever their ages.
-fn compare_issues(a: Issue, b: Issue) -> Ordering
-    ensures { result ≡ issue_cmp a b }
-{
-    let sequence = (a.sequence ^ 0x8000_0000).cmp(&(b.sequence ^ 0x8000_0000));
-    sequence.then(a.checksum.cmp(&b.checksum))
-}
-
-/// Which instance an LSA is.
-fn issue_of<A: Allocator + Copy>(lsa: &Lsa<A>) -> Issue
-    ensures { result ≡ issue_of lsa.now }
-{
-    Issue {
-        sequence: BigEndian::read_u32(&lsa.bytes()[12..]),
-        checksum: BigEndian::read_u16(&lsa.bytes()[16..]),
+        let Difference { change, place } = *self;
+        write!(f, "{change} {place}")
     }
 }
 
@@ -127,7 +104,7 @@ fn beside_same<A: Allocator + Copy>(header: Header, lsa: &Lsa<A>) -> Option<Chan
 fn change_from<A: Allocator + Copy>(header: Header, lsa: &Lsa<A>) -> Option<Change>
     ensures { result ≡ change_of header (Some lsa.now) }
 {
-    match compare_issues(header.issue, issue_of(lsa)) {
+    match compare_issues(header.issue, Issue::of(lsa)) {
         Ordering::Less => Some(Change::Older),
         Ordering::Equal => beside_same(header, lsa),
         Ordering::Greater => Some(Change::Newer),

@@ -11,16 +11,15 @@ mod line;
 
 // Headings and rows.
 mod heading;
-mod ls_type;
-mod mark;
+mod line_kind;
 mod row;
 mod title;
 
 // What is told.
 mod fault;
 mod hole;
+mod line_told;
 mod list;
-mod told;
 
 // What a database has.
 mod difference;

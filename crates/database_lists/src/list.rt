@@ -11,8 +11,8 @@ use crate::fault::ListFault;
 use crate::hole::Hole;
 use crate::label::{Label, begins_with};
 use crate::line::cut_at;
-use crate::mark::mark_of;
-use crate::told::{Told, tellings};
+use crate::line_kind::line_kind_of;
+use crate::line_told::{LineTold, tellings};
 use lsa_instances::Header;
 use std::alloc::{AllocError, Allocator, Global};
 
@@ -26,34 +26,37 @@ pub struct PrintedList<A: Allocator = Global> {
 }
 
 /// The header that is told.
-fn header_of(told: Told) -> Option<Header>
+fn header_of(told: LineTold) -> Option<Header>
     ensures { result ≡ header_of told }
 {
     match told {
-        Told::Header(header) => Some(header),
-        Told::Hole(_) => None,
+        LineTold::Header(header) => Some(header),
+        LineTold::Hole(_) => None,
     }
 }
 
 /// The hole that is told.
-fn hole_of(told: Told) -> Option<Hole>
+fn hole_of(told: LineTold) -> Option<Hole>
     ensures { result ≡ hole_of told }
 {
     match told {
-        Told::Header(_) => None,
-        Told::Hole(hole) => Some(hole),
+        LineTold::Header(_) => None,
+        LineTold::Hole(hole) => Some(hole),
     }
 }
 
 /// The headers.
-fn headers_of<A: Allocator + Copy>(alloc: A, told: &[Told]) -> Result<Vec<Header, A>, AllocError>
+fn headers_of<A: Allocator + Copy>(
+    alloc: A,
+    told: &[LineTold],
+) -> Result<Vec<Header, A>, AllocError>
     ensures { IfOk result (λ headers. headers.items ≡ filter_map header_of told.now) }
 {
     told.iter().filter_map(|one| header_of(*one)).collect(alloc)
 }
 
 /// The holes.
-fn holes_of<A: Allocator + Copy>(alloc: A, told: &[Told]) -> Result<Vec<Hole, A>, AllocError>
+fn holes_of<A: Allocator + Copy>(alloc: A, told: &[LineTold]) -> Result<Vec<Hole, A>, AllocError>
     ensures { IfOk result (λ holes. holes.items ≡ filter_map hole_of told.now) }
 {
     told.iter().filter_map(|one| hole_of(*one)).collect(alloc)
@@ -63,7 +66,7 @@ fn holes_of<A: Allocator + Copy>(alloc: A, told: &[Told]) -> Result<Vec<Hole, A>
 fn is_title(line: &[u8]) -> bool
     ensures { result ≡ is_title (words line.now) }
 {
-    mark_of(line).is_heading()
+    line_kind_of(line).is_heading()
 }
 
 /// Whether one of the lines is the heading of rows.

@@ -4,10 +4,10 @@ ghost use Rattle.std.specs.Prelude.{◌≡◌};
 ghost use Rattle.database_lists.specs.Headings.{titles};
 
 use crate::label::Label;
-use crate::ls_type::{AREA_OPAQUE_LSA, LINK_OPAQUE_LSA, NSSA_LSA};
 use lsa_codec::{
     AS_OPAQUE_LSA, ASBR_SUMMARY_LSA, EXTERNAL_LSA, NETWORK_LSA, ROUTER_LSA, SUMMARY_LSA,
 };
+use lsa_instances::{AREA_OPAQUE_LSA, LINK_OPAQUE_LSA, NSSA_LSA};
 
 /// The title of a table.
 #[derive(Clone, Copy)]

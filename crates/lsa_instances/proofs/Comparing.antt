@@ -15,9 +15,10 @@ use Rattle.lsa_codec.specs.Key.{is_at_max_age}
 use Rattle.lsa_instances.specs.declared.place.Place.{Place}
 use Rattle.lsa_instances.specs.declared.sighting.Sighting.{Sighting}
 use Rattle.lsa_instances.specs.Instance.{instance_cmp}
-use Rattle.lsa_instances.specs.Order.{place_cmp, place_of, sighting_cmp}
+use Rattle.lsa_instances.specs.Order.{place_cmp, place_of}
+use Rattle.lsa_instances.specs.steps.SightingOrder.{sighting_cmp}
 use Rattle.lsa_instances.specs.Newest.{second, is_after, flushes, is_flushed}
-use Rattle.lsa_instances.proofs.Orders.{instance_total, place_total}
+use Rattle.lsa_instances.proofs.OrderLemmas.{instance_total, place_total}
 
 -- ---- orderings
 

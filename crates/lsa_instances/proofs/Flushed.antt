@@ -16,10 +16,11 @@ use Rattle.lsa_instances.specs.declared.flush.Flush.{Flush}
 use Rattle.lsa_instances.specs.declared.place.Place.{Place}
 use Rattle.lsa_instances.specs.declared.sighting.Sighting.{Sighting}
 use Rattle.lsa_instances.specs.Instance.{instance_cmp}
-use Rattle.lsa_instances.specs.Order.{place_cmp, place_of, sighting_cmp}
+use Rattle.lsa_instances.specs.Order.{place_cmp, place_of}
+use Rattle.lsa_instances.specs.steps.SightingOrder.{sighting_cmp}
 use Rattle.lsa_instances.specs.Newest.{second, is_after, began_after, flushes, is_flushed}
-use Rattle.lsa_instances.specs.Flushing.{is_stopped, latest, last_with, flush_after}
-use Rattle.lsa_instances.proofs.Orders.{place_exact, place_total}
+use Rattle.lsa_instances.specs.steps.Flushing.{is_stopped, latest, last_with, flush_after}
+use Rattle.lsa_instances.proofs.OrderLemmas.{place_exact, place_total}
 use Rattle.lsa_instances.proofs.Comparing.{Behind, any_append, eq_true, grown, later_instance, later_place, less_from, no_flush}
 
 or_true : (b : Bool) → true ≡ (b || true)

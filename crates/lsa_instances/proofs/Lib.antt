@@ -1,4 +1,4 @@
-pub mod Orders
+pub mod OrderLemmas
 pub mod Rule
 pub mod Comparing
 pub mod Looking
@@ -10,4 +10,3 @@ pub mod Standing
 pub mod SameValuesLemmas
 pub mod Unique
 pub mod Rising
-pub mod PlaceLemmas

@@ -17,10 +17,11 @@ use Rattle.lsa_instances.specs.declared.keeping.FlushedLsas.{FlushedLsas}
 use Rattle.lsa_instances.specs.declared.keeping.FlushedLsas.TheVariants.{Kept, LeftOut}
 use Rattle.lsa_instances.specs.declared.sighting.Sighting.{Sighting}
 use Rattle.lsa_instances.specs.Instance.{instance_cmp}
-use Rattle.lsa_instances.specs.Order.{place_cmp, place_of, sighting_cmp}
+use Rattle.lsa_instances.specs.Order.{place_cmp, place_of}
+use Rattle.lsa_instances.specs.steps.SightingOrder.{sighting_cmp}
 use Rattle.lsa_instances.specs.Newest.{AreNewest, IsCovered, IsNewest, IsNoNewer, flushes, is_flushed, is_left_out, standing_cmp}
-use Rattle.lsa_instances.specs.Flushing.{is_of, is_last}
-use Rattle.lsa_instances.proofs.Orders.{instance_exact, instance_total, place_exact}
+use Rattle.lsa_instances.specs.steps.Flushing.{is_of, is_last}
+use Rattle.lsa_instances.proofs.OrderLemmas.{instance_exact, instance_total, place_exact}
 use Rattle.lsa_instances.proofs.Comparing.{eq_true, less_from, tie, equal_places, any_of, any_append, no_earlier, flushed_later, lasting_first, both_flushed, split_last, never_less, above_less, later_place, later_instance, flushes_itself, lasting_is_live, grown, Behind}
 
 module _ {A : Type 0} where

@@ -9,13 +9,14 @@ use Rattle.std.proofs.lemmas.Cmp.{tied_itself}
 use Rattle.std.proofs.lemmas.List.Elements.{All-head, All-map, All-tail, filter_passes}
 use Rattle.std.proofs.lemmas.List.Kept.{AllPairs-cons, AllPairs-filter}
 use Rattle.lsa_codec.specs.Key.{key_of}
+use Rattle.lsa_codec.specs.Order.{key_cmp}
 use Rattle.lsa_instances.specs.declared.keeping.FlushedLsas.{FlushedLsas}
 use Rattle.lsa_instances.specs.declared.place.Scope.{Scope}
 use Rattle.lsa_instances.specs.declared.sighting.Sighting.{Sighting}
-use Rattle.lsa_instances.specs.Order.{key_cmp, place_cmp, place_of, scope_cmp}
+use Rattle.lsa_instances.specs.Order.{place_cmp, place_of, scope_cmp}
 use Rattle.lsa_instances.specs.Newest.{AreNewest, is_of_scope, lsas_of_scope}
 use Rattle.lsa_instances.proofs.Comparing.{eq_true}
-use Rattle.lsa_instances.proofs.Orders.{scope_exact, scope_total}
+use Rattle.lsa_instances.proofs.OrderLemmas.{scope_exact, scope_total}
 use Rattle.lsa_instances.proofs.SameValuesLemmas.{pairs_head, pairs_tail}
 
 second_decides : (r s : Ordering) → r ≡ Equal → ordering_then r s ≡ Less → s ≡ Less

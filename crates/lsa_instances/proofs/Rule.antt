@@ -21,6 +21,9 @@ first r s h = rw h refl
 second : (r s : Ordering) → r ≡ Equal → s ≡ Greater → ordering_then r s ≡ Greater
 second r s h k = rw h k
 
+tied : (r s : Ordering) → r ≡ Equal → s ≡ Equal → ordering_then r s ≡ Equal
+tied r s h k = rw h k
+
 flag : (a b : Bool) → a ≡ true → b ≡ false → bool_cmp a b ≡ Greater
 flag a b h k = rw (h, k) refl
 
@@ -31,10 +34,10 @@ alike true false h = cc
 alike false true h = cc
 
 pub extends : (a b : List ℕ) → IsNewerByRule a b → instance_cmp a b ≡ Greater
-extends a b (inl sequence) = first _ _ (above _ _ sequence)
-extends a b (inr (sequence, inl checksum)) = second _ _ (same _ _ sequence) (first _ _ (above _ _ checksum))
+extends a b (inl sequence) = first _ _ (first _ _ (above _ _ sequence))
+extends a b (inr (sequence, inl checksum)) = first _ _ (second _ _ (same _ _ sequence) (above _ _ checksum))
 extends a b (inr (sequence, inr (checksum, inl aged))) =
-    second _ _ (same _ _ sequence) (second _ _ (same _ _ checksum) (first _ _ (flag _ _ aged.0 aged.1)))
+    second _ _ (tied _ _ (same _ _ sequence) (same _ _ checksum)) (first _ _ (flag _ _ aged.0 aged.1))
 extends a b (inr (sequence, inr (checksum, inr younger))) =
-    second _ _ (same _ _ sequence) (second _ _ (same _ _ checksum)
-    (second _ _ (alike _ _ younger.0) (first _ _ (older _ _ younger.1))))
+    second _ _ (tied _ _ (same _ _ sequence) (same _ _ checksum))
+    (second _ _ (alike _ _ younger.0) (first _ _ (older _ _ younger.1)))

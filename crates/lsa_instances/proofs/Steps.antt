@@ -16,11 +16,12 @@ use Rattle.lsa_instances.specs.declared.flush.Flush.{Flush}
 use Rattle.lsa_instances.specs.declared.keeping.FlushedLsas.{FlushedLsas}
 use Rattle.lsa_instances.specs.declared.keeping.FlushedLsas.TheVariants.{Kept, LeftOut}
 use Rattle.lsa_instances.specs.declared.sighting.Sighting.{Sighting}
-use Rattle.lsa_instances.specs.Order.{place_cmp, place_of, sighting_cmp}
+use Rattle.lsa_instances.specs.Order.{place_cmp, place_of}
+use Rattle.lsa_instances.specs.steps.SightingOrder.{sighting_cmp}
 use Rattle.lsa_instances.specs.Newest.{AreNewest, IsNewest, flushes, is_flushed, is_left_out}
-use Rattle.lsa_instances.specs.Flushing.{flush_so_far, is_flush_of, is_flushed_so_far, is_last, is_last_flush, is_of, is_stopped, newest_after}
-use Rattle.lsa_instances.specs.Flushing.{with_first, with_flushed, without_flush}
-use Rattle.lsa_instances.proofs.Orders.{place_exact, sighting_total}
+use Rattle.lsa_instances.specs.steps.Flushing.{flush_so_far, is_flush_of, is_flushed_so_far, is_last, is_last_flush, is_of, is_stopped, newest_after}
+use Rattle.lsa_instances.specs.steps.Flushing.{with_first, with_flushed, without_flush}
+use Rattle.lsa_instances.proofs.OrderLemmas.{place_exact, sighting_total}
 use Rattle.lsa_instances.proofs.Comparing.{Behind, eq_true, equal_places, grown}
 use Rattle.lsa_instances.proofs.Looking.{IsBehind, absent, behind_live, front_absent, kept, max_age_flushed}
 use Rattle.lsa_instances.proofs.Comparing.{no_flush}

@@ -12,7 +12,7 @@ use Rattle.lsa_instances.specs.declared.sighting.Sighting.{Sighting}
 use Rattle.lsa_instances.specs.Order.{place_cmp, place_of}
 use Rattle.lsa_instances.specs.Newest.{AreNewest, IsCovered, IsNewest, IsNoNewer, is_flushed, place_and_octets}
 use Rattle.lsa_instances.proofs.Comparing.{tie}
-use Rattle.lsa_instances.proofs.Orders.{instance_exact, instance_total, place_total}
+use Rattle.lsa_instances.proofs.OrderLemmas.{instance_exact, instance_total, place_total}
 use Rattle.lsa_instances.proofs.SameValuesLemmas.{same_values}
 
 -- where neither stands before the other, both or none were flushed, and neither is newer

@@ -5,14 +5,26 @@ use Rattle.std.specs.Ordering.{nat_cmp, bool_cmp, ordering_then}
 use Rattle.std.specs.declared.cmp.Ordering.{Ordering}
 use Rattle.lsa_codec.specs.Fields.{age_of, checksum_of, number_at}
 use Rattle.lsa_codec.specs.Key.{is_at_max_age}
+use Rattle.lsa_instances.specs.declared.header.Issue.{Issue}
 
 -- LS sequence number
 abbrev pub sequence_of : List ℕ → ℕ
 sequence_of lsa = number_at 4 12 lsa
 
--- the sequence number as a signed number of 32 bits, counted from the least of them: the top bit changed
+-- a sequence number as a signed number of 32 bits, counted from the least of them: the top bit changed (12.1.6)
+abbrev pub signed : ℕ → ℕ
+signed sequence = bit_xor sequence 0x8000_0000
+
 abbrev pub signed_sequence_of : List ℕ → ℕ
-signed_sequence_of lsa = bit_xor (sequence_of lsa) 0x8000_0000
+signed_sequence_of lsa = signed (sequence_of lsa)
+
+-- which instance it is, but for its age
+abbrev pub issue_of : List ℕ → Issue
+issue_of lsa = record { sequence = sequence_of lsa; checksum = checksum_of lsa }
+
+-- `Greater` where the first is newer, whatever the ages: by sequence number, then by checksum
+abbrev pub issue_cmp : Issue → Issue → Ordering
+issue_cmp a b = ordering_then (nat_cmp (signed a.sequence) (signed b.sequence)) (nat_cmp a.checksum b.checksum)
 
 -- the LS age in seconds, without the bit DoNotAge
 abbrev pub seconds_of : List ℕ → ℕ
@@ -23,10 +35,9 @@ seconds_of lsa = bit_and (age_of lsa) 0x7fff
 -- checksum allows, the octets decide
 abbrev pub instance_cmp : List ℕ → List ℕ → Ordering
 instance_cmp a b =
-    ordering_then (nat_cmp (signed_sequence_of a) (signed_sequence_of b))
-    (ordering_then (nat_cmp (checksum_of a) (checksum_of b))
+    ordering_then (issue_cmp (issue_of a) (issue_of b))
     (ordering_then (bool_cmp (is_at_max_age a) (is_at_max_age b))
-    (ordering_then (nat_cmp (seconds_of b) (seconds_of a)) (slice_cmp nat_cmp a b))))
+    (ordering_then (nat_cmp (seconds_of b) (seconds_of a)) (slice_cmp nat_cmp a b)))
 
 -- the rule in the words of the RFC: newer by sequence number, or at the same by checksum, or at the same alone at
 -- MaxAge, or at the same by an age that is less by more than 15 minutes (MaxAgeDiff)

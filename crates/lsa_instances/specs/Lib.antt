@@ -1,6 +1,8 @@
+pub mod Areas
+pub mod LsTypes
+pub mod Headers
 pub mod Instance
 pub mod Order
-pub mod Headers
 pub mod Texts
 pub mod Newest
-pub mod Flushing
+pub mod steps

@@ -3,9 +3,9 @@
 ghost use Rattle.std.specs.Prelude.{◌≡◌, IfOk, OnOk, IsPermutation};
 ghost use Rattle.std.specs.List.Sorted.{IsSorted};
 ghost use Rattle.lsa_instances.specs.Newest.{AreNewest};
-ghost use Rattle.lsa_instances.specs.Flushing.{flush_so_far, is_last, is_last_flush, newest_after};
-ghost use Rattle.lsa_instances.specs.Flushing.{with_first, without_flush};
-ghost use Rattle.lsa_instances.specs.Order.{sighting_cmp};
+ghost use Rattle.lsa_instances.specs.steps.Flushing.{flush_so_far, is_last, is_last_flush, newest_after};
+ghost use Rattle.lsa_instances.specs.steps.Flushing.{with_first, without_flush};
+ghost use Rattle.lsa_instances.specs.steps.SightingOrder.{sighting_cmp};
 
 use crate::flush::{Flush, flush_after, is_stopped};
 use crate::keeping::FlushedLsas;

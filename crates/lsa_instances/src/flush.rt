@@ -2,7 +2,7 @@
 
 ghost use Rattle.std.specs.Prelude.{◌≡◌, Some};
 ghost use Rattle.lsa_instances.specs.Newest.{began_after};
-ghost use Rattle.lsa_instances.specs.Flushing.{is_stopped, latest, flush_after};
+ghost use Rattle.lsa_instances.specs.steps.Flushing.{is_stopped, latest, flush_after};
 
 use crate::order::compare_places;
 use crate::place::Place;

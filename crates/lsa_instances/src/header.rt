@@ -2,8 +2,13 @@
 
 ghost use Rattle.std.specs.Prelude.{◌≡◌};
 ghost use Rattle.lsa_instances.specs.Headers.{is_at_max_age};
+ghost use Rattle.lsa_instances.specs.Instance.{issue_cmp, issue_of};
 
 use crate::place::Place;
+use byteorder::{BigEndian, ByteOrder};
+use lsa_codec::Lsa;
+use std::alloc::Allocator;
+use std::cmp::Ordering;
 
 /// Which instance of an LSA it is, but for its age.
 #[derive(Clone, Copy, Debug, PartialEq, Eq)]
@@ -12,6 +17,27 @@ pub struct Issue {
     pub sequence: u32,
     /// The LS checksum.
     pub checksum: u16,
+}
+
+impl Issue {
+    /// Which instance an LSA is.
+    pub fn of<A: Allocator + Copy>(lsa: &Lsa<A>) -> Issue
+        ensures { result ≡ issue_of lsa.now }
+    {
+        Issue {
+            sequence: BigEndian::read_u32(&lsa.bytes()[12..]),
+            checksum: BigEndian::read_u16(&lsa.bytes()[16..]),
+        }
+    }
+}
+
+/// Compares two instances of one LSA, whatever their ages: `Greater` where the first is newer, by
+/// LS sequence number, which is signed, then by LS checksum (RFC 2328, 13.1).
+pub fn compare_issues(a: Issue, b: Issue) -> Ordering
+    ensures { result ≡ issue_cmp a b }
+{
+    let sequence = (a.sequence ^ 0x8000_0000).cmp(&(b.sequence ^ 0x8000_0000));
+    sequence.then(a.checksum.cmp(&b.checksum))
 }
 
 /// The header of an LSA, but for the options and the length.

@@ -6,6 +6,7 @@ ghost use Rattle.std.specs.Cmp.{IsTotalOrder};
 ghost use Rattle.std.specs.Ordering.{is_gt};
 ghost use Rattle.std.specs.declared.cmp.Ordering.TheVariants.{Equal, Greater, Less};
 ghost use Rattle.lsa_codec.specs.Key.{is_at_max_age, key_of};
+ghost use Rattle.lsa_codec.specs.Order.{key_cmp};
 ghost use Rattle.lsa_instances.specs.declared.keeping.FlushedLsas.{FlushedLsas as Flushed};
 ghost use Rattle.lsa_instances.specs.declared.keeping.FlushedLsas.TheVariants.{Kept, LeftOut};
 ghost use Rattle.lsa_instances.specs.declared.place.Scope.{Scope as AnyScope};
@@ -13,7 +14,7 @@ ghost use Rattle.lsa_instances.specs.declared.sighting.Sighting.{Sighting as Any
 ghost use Rattle.lsa_instances.specs.Instance.{instance_cmp, IsNewerByRule};
 ghost use Rattle.lsa_instances.specs.Newest.{AreNewest, AreSame, IsNewest, is_flushed};
 ghost use Rattle.lsa_instances.specs.Newest.{lsas_of_scope, place_and_octets};
-ghost use Rattle.lsa_instances.specs.Order.{key_cmp, place_of};
+ghost use Rattle.lsa_instances.specs.Order.{place_of};
 
 use std::alloc::Allocator;
 

@@ -7,19 +7,23 @@
 //! sightings there are, and not on their order.
 #![tactic(auto)]
 
+mod area;
 mod choice;
 mod flush;
 mod header;
 mod keeping;
 mod laws;
+mod ls_type;
 mod order;
 mod place;
 mod sighting;
 
+pub use area::{AreaKind, ToldArea};
 pub use choice::newest;
-pub use header::{Header, Issue};
+pub use header::{Header, Issue, compare_issues};
 pub use keeping::FlushedLsas;
 pub use laws::{flushed_lsas, instance_order, keys_rise, newest_in_any_order};
+pub use ls_type::{AREA_OPAQUE_LSA, LINK_OPAQUE_LSA, NSSA_LSA};
 pub use order::compare_instances;
-pub use place::{Place, Scope};
+pub use place::{Place, Scope, has_as_scope};
 pub use sighting::Sighting;

@@ -1,30 +1,18 @@
 //! The order of instances, and the order in which sightings are looked through.
 
 ghost use Rattle.std.specs.Prelude.{◌≡◌};
-ghost use Rattle.lsa_codec.specs.Fields.{age_of, checksum_of};
-ghost use Rattle.lsa_instances.specs.Instance.{instance_cmp, signed_sequence_of, seconds_of};
-ghost use Rattle.lsa_instances.specs.Order.{place_cmp, sighting_cmp};
+ghost use Rattle.lsa_codec.specs.Fields.{age_of};
+ghost use Rattle.lsa_instances.specs.Instance.{instance_cmp, seconds_of};
+ghost use Rattle.lsa_instances.specs.Order.{place_cmp};
+ghost use Rattle.lsa_instances.specs.steps.SightingOrder.{sighting_cmp};
 
+use crate::header::{Issue, compare_issues};
 use crate::place::Place;
 use crate::sighting::Sighting;
 use byteorder::{BigEndian, ByteOrder};
 use lsa_codec::Lsa;
 use std::alloc::Allocator;
 use std::cmp::Ordering;
-
-/// The LS sequence number, counted from the least of the signed numbers (RFC 2328, 12.1.6).
-fn signed_sequence_of<A: Allocator + Copy>(lsa: &Lsa<A>) -> u32
-    ensures { result ≡ signed_sequence_of lsa.now }
-{
-    BigEndian::read_u32(&lsa.bytes()[12..]) ^ 0x8000_0000
-}
-
-/// The LS checksum.
-fn checksum_of<A: Allocator + Copy>(lsa: &Lsa<A>) -> u16
-    ensures { result ≡ checksum_of lsa.now }
-{
-    BigEndian::read_u16(&lsa.bytes()[16..])
-}
 
 /// The LS age, in seconds, without the bit DoNotAge (RFC 1793, 2.2).
 fn seconds_of<A: Allocator + Copy>(lsa: &Lsa<A>) -> u16
@@ -38,12 +26,11 @@ fn seconds_of<A: Allocator + Copy>(lsa: &Lsa<A>) -> u16
 pub fn compare_instances<A: Allocator + Copy>(a: &Lsa<A>, b: &Lsa<A>) -> Ordering
     ensures { result ≡ instance_cmp a.now b.now }
 {
-    let sequence = signed_sequence_of(a).cmp(&signed_sequence_of(b));
-    let checksum = checksum_of(a).cmp(&checksum_of(b));
+    let issue = compare_issues(Issue::of(a), Issue::of(b));
     let max_age = a.at_max_age().cmp(&b.at_max_age());
     let youth = seconds_of(b).cmp(&seconds_of(a));
     let octets = a.bytes().cmp(b.bytes());
-    sequence.then(checksum.then(max_age.then(youth.then(octets))))
+    issue.then(max_age.then(youth.then(octets)))
 }
 
 /// Compares two places: by scope, then by key.

@@ -1,10 +1,10 @@
 //! What tells LSAs apart.
 
 ghost use Rattle.std.specs.Prelude.{◌≡◌, Some};
-ghost use Rattle.lsa_instances.specs.Order.{scope_told};
+ghost use Rattle.lsa_instances.specs.Order.{has_as_scope, scope_in, scope_told};
 ghost use Rattle.lsa_instances.specs.Texts.{place_text};
 
-use lsa_codec::{AreaId, Key};
+use lsa_codec::{AS_OPAQUE_LSA, AreaId, EXTERNAL_LSA, Key};
 use std::fmt;
 
 /// The flooding scope of an LSA: one area, or the whole AS (RFC 2328, 13; RFC 5250, 2). Areas are
@@ -17,14 +17,34 @@ pub enum Scope {
     AsWide,
 }
 
+/// Whether LSAs of this LS type have AS scope: AS-external-LSAs, and opaque LSAs of type 11
+/// (RFC 2328, 3.6; RFC 5250, 2).
+pub fn has_as_scope(kind: u8) -> bool
+    ensures { result ≡ has_as_scope kind }
+{
+    kind == EXTERNAL_LSA || kind == AS_OPAQUE_LSA
+}
+
 impl Scope {
+    /// The scope of an LSA of this LS type that is flooded in an area: the whole AS, where its type
+    /// has AS scope, else the area.
+    pub fn in_area(area: AreaId, kind: u8) -> Scope
+        ensures { result ≡ scope_in area kind }
+    {
+        if has_as_scope(kind) {
+            Scope::AsWide
+        } else {
+            Scope::Area(area)
+        }
+    }
+
     /// The scope of an LSA of this LS type that a file tells in an area, or outside of all areas:
-    /// the whole AS for the types 5 and 11, else the area. `None` where it needs an area and has
-    /// none.
+    /// the whole AS, where its type has AS scope, else the area. `None` where it needs an area and
+    /// has none.
     pub fn of(kind: u8, area: Option<AreaId>) -> Option<Scope>
         ensures { result ≡ scope_told kind area }
     {
-        if kind == 5 || kind == 11 {
+        if has_as_scope(kind) {
             return Some(Scope::AsWide);
         }
         area.map(Scope::Area)

@@ -7,9 +7,10 @@ use Rattle.std.proofs.lemmas.List.{drop-drop, drop-set-lt, get_or-drop, map-appe
 use Rattle.std.proofs.lemmas.List.Elements.{All-set}
 use Rattle.network_dump.specs.declared.fault.RunFault.{RunFault}
 use Rattle.network_dump.specs.declared.fault.RunFault.TheVariants.{Read, TooLarge, Refused, Join, Write, OutOfMemory}
-use Rattle.network_dump.specs.Runs.{AreTold, IsFileEnd, IsInputEnd, IsReadEnd, known}
-use Rattle.network_files.specs.declared.telling.FileTold.{FileTold}
-use Rattle.network_files.specs.Telling.{IsToldOf}
+use Rattle.network_dump.specs.Runs.{AreTold, IsFileEnd, IsInputEnd, known}
+use Rattle.network_dump.specs.steps.Inputs.{IsReadEnd}
+use Rattle.network_files.specs.declared.file_told.FileTold.{FileTold}
+use Rattle.network_files.specs.FilesTold.{IsToldOf}
 use Rattle.streams.specs.declared.watch.Watched.{Watched}
 use Rattle.streams.specs.Watched.{has_failed, inner_of}
 

@@ -5,9 +5,9 @@ use Rattle.lsa_instances.specs.declared.keeping.FlushedLsas.{FlushedLsas}
 use Rattle.network_dump.specs.declared.fault.RunFault.{RunFault}
 use Rattle.network_dump.specs.declared.fault.RunFault.TheVariants.{Read, TooLarge, Refused, Join, Write, OutOfMemory}
 use Rattle.network_files.specs.declared.fault.FileFault.TheVariants as files
-use Rattle.network_files.specs.declared.telling.FileTold.{FileTold}
+use Rattle.network_files.specs.declared.file_told.FileTold.{FileTold}
 use Rattle.network_files.specs.Dumps.{IsDump, IsJoinFault}
-use Rattle.network_files.specs.Telling.{IsToldOf, IsRefusalOf}
+use Rattle.network_files.specs.FilesTold.{IsToldOf, IsRefusalOf}
 use Rattle.sighted_database.specs.declared.fault.JoinFault.TheVariants as joins
 use Rattle.streams.specs.declared.watch.Watched.{Watched}
 use Rattle.streams.specs.Watched.{inner_of}
@@ -61,15 +61,6 @@ IsDumpEnd flushed told Write = ⊥
 IsDumpEnd flushed told OutOfMemory = Unit {0}
 
 -- ---- the run
-
--- the files can not all be read
-abbrev pub IsReadEnd : (A : Type 0) → List (Option (List ℕ)) → RunFault → Type 0
-IsReadEnd A known (Read file) = IsInputEnd A known (Read file)
-IsReadEnd A known (TooLarge file) = IsInputEnd A known (TooLarge file)
-IsReadEnd A known (Refused file fault) = IsInputEnd A known (Refused file fault)
-IsReadEnd A known (Join fault) = ⊥
-IsReadEnd A known Write = ⊥
-IsReadEnd A known OutOfMemory = Unit {0}
 
 -- all files tell something, and then this holds
 abbrev pub AfterAll : (A : Type 0) → List (Option (List ℕ)) → (List (FileTold A) → Type 0) → Type 0

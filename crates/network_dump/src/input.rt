@@ -3,8 +3,9 @@
 ghost use Rattle.std.specs.Prelude.{◌≡◌, ◌≢◌, ◌↔◌, ℕ, All, IfErr, IfOk, IfSome, OnOk, false, true};
 ghost use Rattle.streams.specs.Watched.{inner_of, has_failed};
 ghost use Rattle.streams.specs.WholeText.{ConsumesAtMost};
-ghost use Rattle.network_files.specs.Telling.{IsToldOf};
-ghost use Rattle.network_dump.specs.Runs.{AreTold, IsFileEnd, IsReadEnd, known};
+ghost use Rattle.network_files.specs.FilesTold.{IsToldOf};
+ghost use Rattle.network_dump.specs.Runs.{AreTold, IsFileEnd, known};
+ghost use Rattle.network_dump.specs.steps.Inputs.{IsReadEnd};
 
 use crate::fault::RunFault;
 use network_files::{FileFault, FileTold, told_of};

@@ -5,9 +5,9 @@ use Rattle.lsa_instances.specs.declared.keeping.FlushedLsas.{FlushedLsas}
 use Rattle.lsa_instances.specs.declared.sighting.Sighting.{Sighting}
 use Rattle.lsdb.specs.Lists.{Lists, IsDatabase}
 use Rattle.lsdb.specs.Text.{text}
-use Rattle.network_files.specs.declared.telling.FileTold.{FileTold}
+use Rattle.network_files.specs.declared.file_told.FileTold.{FileTold}
 use Rattle.network_files.specs.Dumps.{sightings_of, areas_of, IsDump, IsJoinFault}
-use Rattle.sighted_database.specs.declared.area.ToldArea.{ToldArea}
+use Rattle.lsa_instances.specs.declared.area.ToldArea.{ToldArea}
 use Rattle.sighted_database.specs.declared.fault.JoinFault.{JoinFault}
 use Rattle.sighted_database.specs.declared.fault.JoinFault.TheVariants.{OutOfMemory}
 use Rattle.sighted_database.specs.Joining.{Joining, joined}

@@ -7,24 +7,24 @@ use Rattle.capture_files.specs.declared.fault.CaptureFault.TheVariants as captur
 use Rattle.capture_files.specs.Captures.{IsOfFormat, IsFaultOfFormat}
 use Rattle.capture_files.specs.Pcap.{IsPcap, IsPcapFault, LiesAt}
 use Rattle.capture_files.specs.Pcapng.{IsPcapng, IsPcapngFault, has_section}
-use Rattle.capture_files.specs.Told.{Told}
+use Rattle.capture_files.specs.CaptureTexts.{CaptureText}
 use Rattle.network_files.proofs.Documents.{no_lack}
 use Rattle.network_files.specs.declared.fault.FileFault.{FileFault}
 use Rattle.network_files.specs.declared.fault.FileFault.TheVariants as faults
 use Rattle.network_files.specs.declared.kind.FileKind.{FileKind}
 use Rattle.network_files.specs.declared.kind.FileKind.TheVariants.{Capture, Json, Printed, Walk}
-use Rattle.network_files.specs.declared.telling.FileTold.{FileTold}
-use Rattle.network_files.specs.Telling.{IsToldAs, IsRefusalAs}
+use Rattle.network_files.specs.declared.file_told.FileTold.{FileTold}
+use Rattle.network_files.specs.FilesTold.{IsToldAs, IsRefusalAs}
 use Rattle.std.specs.Prelude.{Result, Ok, Err}
 
 not_both : {X E : Type 0} (r : Result X E) (x : X) (e : E) → r ≡ Ok x → r ≡ Err e → ⊥
 not_both r x e a b = true≢false (ap is_ok (sym a ∙ b))
 
 -- what is read so is not refused, but for want of memory
-abbrev pub IsNotRefused : (List ℕ → CaptureFault → Type 0) → (List ℕ → Told → Type 0) → Type 0
-IsNotRefused IsFault IsRead = (file : List ℕ) (told : Told) (fault : CaptureFault) → IsRead file told → IsFault file fault → fault ≢ captures.OutOfMemory → ⊥
+abbrev pub IsNotRefused : (List ℕ → CaptureFault → Type 0) → (List ℕ → CaptureText → Type 0) → Type 0
+IsNotRefused IsFault IsRead = (file : List ℕ) (told : CaptureText) (fault : CaptureFault) → IsRead file told → IsFault file fault → fault ≢ captures.OutOfMemory → ⊥
 
-module _ (pcap : (file : List ℕ) (told : Told) (offset : ℕ) → IsPcap file told → LiesAt file offset → ⊥)
+module _ (pcap : (file : List ℕ) (told : CaptureText) (offset : ℕ) → IsPcap file told → LiesAt file offset → ⊥)
     (pcapng : IsNotRefused IsPcapngFault IsPcapng) where
   no_fault_of_pcap : IsNotRefused IsPcapFault IsPcap
   no_fault_of_pcap file told captures.OutOfMemory a b n = n refl

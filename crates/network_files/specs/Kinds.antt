@@ -7,7 +7,7 @@ use Rattle.network_files.specs.declared.kind.FileKind.{FileKind}
 use Rattle.network_files.specs.declared.kind.FileKind.TheVariants.{Capture, Json, Printed, Walk}
 use Rattle.printed_databases.specs.Headings.{is_printed}
 use Rattle.printed_databases.specs.Words.{words}
-use Rattle.printed_json.specs.Telling.{is_printed_json}
+use Rattle.printed_json.specs.DocumentsTold.{is_printed_json}
 
 -- the file begins with a Section Header Block, or with a magic number of the pcap format in one of the byte orders
 abbrev pub is_capture : List ℕ → Bool

@@ -1,3 +1,4 @@
 pub mod Kinds
-pub mod Telling
+pub mod FilesTold
 pub mod Dumps
+pub mod steps

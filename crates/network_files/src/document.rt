@@ -1,18 +1,18 @@
 //! What a router prints in JSON tells.
 
 ghost use Rattle.std.specs.Prelude.{◌≡◌, IfOk, IfErr};
-ghost use Rattle.network_files.specs.Telling.{IsToldByJson, IsRefusalOfJson, IsPrintedBy};
+ghost use Rattle.network_files.specs.FilesTold.{IsToldByJson, IsRefusalOfJson};
+ghost use Rattle.network_files.specs.steps.Documents.{IsReadAs};
 
 use crate::fault::FileFault;
-use crate::printed::{areas_of, nssas_of};
-use crate::telling::{FileTold, Oddities};
+use crate::file_told::{FileTold, Oddities};
 use printed_databases::Printed;
 use printed_json::{JsonFault, read_printed_json};
 use std::alloc::Allocator;
 
 /// What the document tells.
 fn printed_of<A: Allocator + Copy>(alloc: A, octets: &[u8]) -> Result<Printed<A>, FileFault>
-    ensures printed { IfOk result (λ printed. IsPrintedBy octets.now printed.sightings.items
+    ensures printed { IfOk result (λ printed. IsReadAs octets.now printed.sightings.items
         printed.kinds.items printed.holes.items) }
     ensures fault { IfErr result (λ fault. IsRefusalOfJson octets.now fault) }
 {
@@ -39,8 +39,7 @@ pub(crate) fn told_of_json<A: Allocator + Copy>(
     } = printed_of(alloc, octets)?;
     Ok(FileTold {
         sightings,
-        areas: areas_of(alloc, &kinds)?,
-        nssas: nssas_of(alloc, &kinds)?,
+        areas: kinds,
         headers: Vec::new(alloc),
         oddities: Oddities::Documents(holes),
     })

@@ -3,9 +3,9 @@
 ghost use Rattle.std.specs.Prelude.{◌≡◌, ◌++◌, IfOk, IfErr, OnOk};
 ghost use Rattle.network_files.specs.Dumps.{sightings_of, areas_of, IsDump, IsJoinFault};
 
-use crate::telling::FileTold;
-use lsa_instances::{FlushedLsas, Sighting};
-use sighted_database::{JoinFault, ToldArea, join};
+use crate::file_told::FileTold;
+use lsa_instances::{FlushedLsas, Sighting, ToldArea};
+use sighted_database::{JoinFault, join};
 use std::alloc::{AllocError, Allocator};
 
 /// Adds copies of sightings.

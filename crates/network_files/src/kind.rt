@@ -6,7 +6,7 @@ ghost use Rattle.capture_files.specs.Pcap.{fraction_of};
 ghost use Rattle.network_files.specs.Kinds.{is_capture, kind_of};
 ghost use Rattle.printed_databases.specs.Headings.{is_printed};
 ghost use Rattle.printed_databases.specs.Words.{words};
-ghost use Rattle.printed_json.specs.Telling.{is_printed_json};
+ghost use Rattle.printed_json.specs.DocumentsTold.{is_printed_json};
 
 use byteorder::{BigEndian, ByteOrder, LittleEndian};
 use printed_databases::is_printed;

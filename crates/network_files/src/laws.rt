@@ -5,9 +5,9 @@ ghost use Rattle.lsa_instances.specs.Newest.{AreSame};
 ghost use Rattle.lsa_instances.specs.declared.keeping.FlushedLsas.{FlushedLsas as Flushed};
 ghost use Rattle.network_files.specs.declared.fault.FileFault.{FileFault as AnyFault};
 ghost use Rattle.network_files.specs.declared.fault.FileFault.TheVariants as faults;
-ghost use Rattle.network_files.specs.declared.telling.FileTold.{FileTold as AnyFile};
+ghost use Rattle.network_files.specs.declared.file_told.FileTold.{FileTold as AnyFile};
 ghost use Rattle.network_files.specs.Dumps.{IsDump};
-ghost use Rattle.network_files.specs.Telling.{IsRefusalOf, IsToldOf, telling_of};
+ghost use Rattle.network_files.specs.FilesTold.{IsRefusalOf, IsToldOf, content_of};
 
 use capture_files::{one_reading_of_pcap, one_reading_of_pcapng};
 use sighted_database::joined_in_any_order;
@@ -19,7 +19,7 @@ use std::alloc::Allocator;
 /// The function does nothing: its contract is the law.
 pub fn one_telling_of_a_file<A: Allocator>()
     ensures same { (octets : List ℕ) (one two : AnyFile A) → IsToldOf octets one
-        → IsToldOf octets two → telling_of one ≡ telling_of two }
+        → IsToldOf octets two → content_of one ≡ content_of two }
 
     // A file that tells something is refused for want of memory alone.
     ensures refused { (octets : List ℕ) (file : AnyFile A) (fault : AnyFault) → IsToldOf octets file

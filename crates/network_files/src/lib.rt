@@ -11,14 +11,14 @@ mod capture;
 mod document;
 mod dump;
 mod fault;
+mod file_told;
 mod kind;
 mod laws;
 mod printed;
-mod telling;
 mod walk;
 
 pub use dump::dump_of_files;
 pub use fault::FileFault;
+pub use file_told::{FileTold, Oddities, told_of};
 pub use kind::FileKind;
 pub use laws::{files_in_any_order, one_telling_of_a_file};
-pub use telling::{FileTold, Oddities, told_of};

@@ -1,1 +1,1 @@
-mod Both
+mod AreaSets

@@ -7,7 +7,7 @@ use Rattle.lsa_codec.specs.declared.address.AreaId.{AreaId}
 use Rattle.lsa_codec.specs.Order.{area_cmp}
 use Rattle.lsa_instances.specs.declared.place.Scope.{Scope}
 use Rattle.lsa_instances.specs.declared.place.Scope.TheVariants.{Area, AsWide}
-use Rattle.network_files.specs.declared.telling.FileTold.{FileTold}
+use Rattle.network_files.specs.declared.file_told.FileTold.{FileTold}
 
 abbrev pub area_in : Scope → Option AreaId
 area_in (Area id) = Some id

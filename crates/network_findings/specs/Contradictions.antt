@@ -4,13 +4,14 @@ use Rattle.std.specs.List.{filter_map}
 use Rattle.std.specs.List.Sorted.{IsStrictlySortedBy}
 use Rattle.lsa_codec.specs.declared.address.AreaId.{AreaId}
 use Rattle.lsa_codec.specs.Order.{area_cmp}
+use Rattle.lsa_instances.specs.Areas.{is_stub_kind}
 use Rattle.network_findings.specs.Areas.{has}
-use Rattle.sighted_database.specs.declared.area.ToldArea.{ToldArea}
+use Rattle.lsa_instances.specs.declared.area.ToldArea.{ToldArea}
 
 -- the area, where it is told to be a stub area, or to be none
 abbrev pub id_told : Bool → ToldArea → Option AreaId
-id_told true area = if area.is_stub then Some area.id else None
-id_told false area = if area.is_stub then None else Some area.id
+id_told true area = if is_stub_kind area.kind then Some area.id else None
+id_told false area = if is_stub_kind area.kind then None else Some area.id
 
 -- the areas that are told to be stub areas and to be none, each once, in order
 pub record AreContradictions (areas : List ToldArea) (both : List AreaId) : Type 0 where

@@ -5,12 +5,15 @@ use Rattle.capture_files.specs.declared.frame.End.{End}
 use Rattle.capture_files.specs.declared.frame.End.TheVariants as ends
 use Rattle.lsa_codec.specs.declared.address.AreaId.{AreaId}
 use Rattle.lsa_codec.specs.declared.fault.LsaFault.TheVariants as lsa
+use Rattle.lsa_instances.specs.declared.area.AreaKind.{AreaKind}
+use Rattle.lsa_instances.specs.declared.area.AreaKind.TheVariants as kinds
+use Rattle.lsa_instances.specs.declared.area.ToldArea.{ToldArea}
 use Rattle.network_findings.specs.declared.hole.Hole.{Hole}
 use Rattle.network_findings.specs.declared.hole.Hole.TheVariants.{Frames, Cut, Walk, Refused, NoArea, Unreadable, Nssa}
 use Rattle.network_findings.specs.Areas.{AreOnce}
-use Rattle.network_files.specs.declared.telling.FileTold.{FileTold}
-use Rattle.network_files.specs.declared.telling.Oddities.{Oddities}
-use Rattle.network_files.specs.declared.telling.Oddities.TheVariants as oddities
+use Rattle.network_files.specs.declared.file_told.FileTold.{FileTold}
+use Rattle.network_files.specs.declared.file_told.Oddities.{Oddities}
+use Rattle.network_files.specs.declared.file_told.Oddities.TheVariants as oddities
 use Rattle.ospf_packets.specs.declared.odd.Odd.{Odd}
 use Rattle.ospf_packets.specs.declared.odd.Odd.TheVariants.{OtherLink, NotIpv4, NotOspf, Truncated, BadLength, MissingFragment, OtherVersion, BadChecksum, OtherType, RefusedLsa}
 use Rattle.printed_databases.specs.declared.hole.Hole.{Hole as TextHole}
@@ -87,8 +90,17 @@ oddity_holes (oddities.Rows rows) = map Walk rows.items
 oddity_holes (oddities.Texts printed) = text_holes printed.items
 oddity_holes (oddities.Documents printed) = text_holes printed.items
 
+abbrev pub nssa_of_kind : AreaKind → AreaId → Option AreaId
+nssa_of_kind kinds.Ordinary area = None
+nssa_of_kind kinds.Stub area = None
+nssa_of_kind kinds.Nssa area = Some area
+
+-- the area, where it is told to be not-so-stubby
+abbrev pub nssa_told : ToldArea → Option AreaId
+nssa_told area = nssa_of_kind area.kind area.id
+
 -- all of it, and behind it the not-so-stubby areas, each once, in rising order
 pub record AreHoles {A : Type 0} (file : FileTold A) (holes : List Hole) : Type 0 where
   pub nssas : List AreaId
-  pub once : AreOnce file.nssas.items nssas
+  pub once : AreOnce (filter_map nssa_told file.areas.items) nssas
   pub told : holes ≡ oddity_holes file.oddities ++ map Nssa nssas

@@ -1,9 +1,9 @@
 -- What a file gave, as a line.
 use Rattle.std.specs.Prelude.{◌≡◌, ℕ, List, ◌++◌, codes, decimal, length}
 use Rattle.lsa_codec.specs.declared.address.AreaId.{AreaId}
-use Rattle.network_files.specs.declared.telling.FileTold.{FileTold}
-use Rattle.network_files.specs.declared.telling.Oddities.{Oddities}
-use Rattle.network_files.specs.declared.telling.Oddities.TheVariants.{Frames, Rows, Texts, Documents}
+use Rattle.network_files.specs.declared.file_told.FileTold.{FileTold}
+use Rattle.network_files.specs.declared.file_told.Oddities.{Oddities}
+use Rattle.network_files.specs.declared.file_told.Oddities.TheVariants.{Frames, Rows, Texts, Documents}
 use Rattle.network_findings.specs.Areas.{AreOnce, areas_told}
 
 -- the word for the kind of a file

@@ -1,8 +1,9 @@
 -- Areas of a database of which no file tells the kind (RFC 2328, 3.6).
-use Rattle.std.specs.Prelude.{◌&&◌, ◌==◌, Bool, filter, not, List, map}
+use Rattle.std.specs.Prelude.{◌&&◌, Bool, filter, not, List, map}
 use Rattle.lsa_codec.specs.declared.address.AreaId.{AreaId}
+use Rattle.lsa_codec.specs.Areas.{is_backbone}
 use Rattle.lsdb.specs.Lists.{Lists, areas_of}
-use Rattle.sighted_database.specs.declared.area.ToldArea.{ToldArea}
+use Rattle.lsa_instances.specs.declared.area.ToldArea.{ToldArea}
 use Rattle.network_findings.specs.Areas.{has}
 
 abbrev pub ids_of : List ToldArea → List AreaId
@@ -14,4 +15,4 @@ areas_in db = map (λ area. record { 0 = area.id }) (areas_of db)
 
 -- those, but for the backbone, of which no kind is told
 abbrev pub without_kind : List ToldArea → List AreaId → List AreaId
-without_kind kinds areas = filter (λ id. not (id.0 == 0) && not (has id (ids_of kinds))) areas
+without_kind kinds areas = filter (λ id. not (is_backbone id) && not (has id (ids_of kinds))) areas

@@ -7,9 +7,8 @@ ghost use Rattle.lsa_codec.specs.Order.{area_cmp};
 ghost use Rattle.network_findings.specs.Areas.{area_in, areas_told};
 
 use lsa_codec::AreaId;
-use lsa_instances::{Scope, Sighting};
+use lsa_instances::{Scope, Sighting, ToldArea};
 use network_files::FileTold;
-use sighted_database::ToldArea;
 use std::alloc::{AllocError, Allocator};
 use std::collections::BTreeSet;
 

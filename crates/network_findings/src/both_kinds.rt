@@ -8,8 +8,8 @@ ghost use Rattle.network_files.specs.Dumps.{areas_of};
 ghost use Rattle.network_findings.specs.Contradictions.{AreContradictions, id_told};
 
 use lsa_codec::AreaId;
+use lsa_instances::ToldArea;
 use network_files::FileTold;
-use sighted_database::ToldArea;
 use std::alloc::{AllocError, Allocator};
 use std::collections::BTreeSet;
 
@@ -17,7 +17,7 @@ use std::collections::BTreeSet;
 fn id_told(is_stub: bool, area: ToldArea) -> Option<AreaId>
     ensures { result ≡ id_told is_stub area }
 {
-    if area.is_stub == is_stub {
+    if area.kind.is_stub() == is_stub {
         Some(area.id)
     } else {
         None

@@ -6,12 +6,13 @@ ghost use Rattle.lsa_codec.specs.declared.address.AreaId.{AreaId as AnyAreaId};
 ghost use Rattle.network_findings.specs.declared.hole.Hole.TheVariants.{Nssa, Walk};
 ghost use Rattle.network_findings.specs.Areas.{AreOnce};
 ghost use Rattle.network_findings.specs.Holes.{AreHoles, counted, end_holes, frame_holes, is_unreadable};
-ghost use Rattle.network_findings.specs.Holes.{keyed, number_of, oddity_holes, text_holes, unread};
+ghost use Rattle.network_findings.specs.Holes.{keyed, nssa_told, number_of, oddity_holes, text_holes, unread};
 
 use crate::areas::once;
 use crate::hole::Hole;
 use capture_files::End;
 use lsa_codec::{AreaId, LsaFault};
+use lsa_instances::{AreaKind, ToldArea};
 use network_files::{FileTold, Oddities};
 use ospf_packets::Odd;
 use printed_databases::Hole as TextHole;
@@ -186,13 +187,27 @@ fn oddity_holes<A: Allocator + Copy>(
     }
 }
 
-/// The same areas, in memory of their own.
-fn copied<A: Allocator + Copy>(alloc: A, areas: &[AreaId]) -> Result<Vec<AreaId, A>, AllocError>
-    ensures { IfOk result (λ copy. copy.items ≡ areas.now) }
+/// The area, if it is told to be not-so-stubby.
+fn nssa_told(area: ToldArea) -> Option<AreaId>
+    ensures { result ≡ nssa_told area }
 {
-    let mut copy = Vec::new(alloc);
-    copy.extend_from_slice(areas)?;
-    Ok(copy)
+    match area.kind {
+        AreaKind::Ordinary | AreaKind::Stub => None,
+        AreaKind::Nssa => Some(area.id),
+    }
+}
+
+/// The areas that are told to be not-so-stubby, as often as they are.
+fn nssas_told<A: Allocator + Copy>(
+    alloc: A,
+    areas: &[ToldArea],
+) -> Result<Vec<AreaId, A>, AllocError>
+    ensures { IfOk result (λ nssas. nssas.items ≡ filter_map nssa_told areas.now) }
+{
+    areas
+        .iter()
+        .filter_map(|area| nssa_told(*area))
+        .collect(alloc)
 }
 
 /// A hole for each of these areas.
@@ -206,11 +221,11 @@ fn nssas_in<A: Allocator + Copy>(
 }
 
 /// The not-so-stubby areas, each once, in rising order.
-fn nssa_holes<A: Allocator + Copy>(alloc: A, areas: &[AreaId]) -> Result<Vec<Hole, A>, AllocError>
+fn nssa_holes<A: Allocator + Copy>(alloc: A, areas: &[ToldArea]) -> Result<Vec<Hole, A>, AllocError>
     ensures { IfOk result (λ holes. (ids : List AnyAreaId)
-        × (AreOnce areas.now ids × (holes.items ≡ map Nssa ids))) }
+        × (AreOnce (filter_map nssa_told areas.now) ids × (holes.items ≡ map Nssa ids))) }
 {
-    let all = copied(alloc, areas)?;
+    let all = nssas_told(alloc, areas)?;
     let ids = once(alloc, all)?;
     nssas_in(alloc, &ids)
 }
@@ -228,7 +243,7 @@ pub fn holes_of<A: Allocator + Copy>(
     ensures { IfOk result (λ holes. AreHoles file.now holes.items) }
 {
     let mut holes = oddity_holes(alloc, &file.oddities)?;
-    let nssas = nssa_holes(alloc, &file.nssas)?;
+    let nssas = nssa_holes(alloc, &file.areas)?;
     holes.extend_from_slice(&nssas)?;
     Ok(holes)
 }

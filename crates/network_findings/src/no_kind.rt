@@ -1,7 +1,8 @@
 //! Areas of which no file tells the kind.
 
-ghost use Rattle.std.specs.Prelude.{◌≡◌, ◌&&◌, ◌==◌, IfOk, filter, not};
+ghost use Rattle.std.specs.Prelude.{◌≡◌, ◌&&◌, IfOk, filter, not};
 ghost use Rattle.std.specs.BTreeSet.{contains};
+ghost use Rattle.lsa_codec.specs.Areas.{is_backbone};
 ghost use Rattle.lsa_codec.specs.Order.{area_cmp};
 ghost use Rattle.lsdb.specs.Places.{lists_of};
 ghost use Rattle.network_files.specs.Dumps.{areas_of};
@@ -48,11 +49,11 @@ fn without<A: Allocator + Copy>(
     others: &BTreeSet<AreaId, A>,
 ) -> Result<Vec<AreaId, A>, AllocError>
     ensures { IfOk result (λ left. left.items
-        ≡ filter (λ id. not (id.0 == 0) && not (contains area_cmp others.now id)) ids.now) }
+        ≡ filter (λ id. not (is_backbone id) && not (contains area_cmp others.now id)) ids.now) }
 {
     ids.iter()
         .copied()
-        .filter(|id| id.0 != 0 && !others.contains(id))
+        .filter(|id| id.0 != AreaId::BACKBONE.0 && !others.contains(id))
         .collect(alloc)
 }
 

@@ -6,7 +6,7 @@ ghost use Rattle.streams.specs.Watched.{has_failed};
 use crate::against::{against_lines, lists_of};
 use crate::arguments::Options;
 use crate::fault::{ExitFault, FileEnd, index_of, named};
-use crate::lacks::lack_lines;
+use crate::holes::database_hole_lines;
 use crate::unseen::unseen_lines;
 use database_lists::PrintedList;
 use lsa_codec::AreaId;
@@ -46,7 +46,7 @@ fn told_of<'a>(names: &[&'a str], fault: RunFault) -> ExitFault<'a> {
 }
 
 /// The lines of what each file gave.
-fn gift_lines<'a>(
+fn file_lines<'a>(
     rt: &HostRuntime,
     names: &[&str],
     told: &[FileTold],
@@ -75,7 +75,7 @@ fn put_holes<'a>(
 }
 
 /// The lines of what is to be told of each file besides.
-fn file_lines<'a>(
+fn file_hole_lines<'a>(
     rt: &HostRuntime,
     names: &[&str],
     told: &[FileTold],
@@ -122,7 +122,7 @@ fn hole_lines<'a>(
     told: &[FileTold],
     database: &Database,
 ) -> Result<String, ExitFault<'a>> {
-    let mut lines = file_lines(rt, names, told)?;
+    let mut lines = file_hole_lines(rt, names, told)?;
     lines.push_str(area_lines(rt, told, database)?.as_str())?;
     lines.push_str(unseen_lines(rt, told)?.as_str())?;
     Ok(lines)
@@ -141,7 +141,7 @@ fn missing_lines<'a>(
     lists: &[PrintedList],
     database: &Database,
 ) -> Result<String, ExitFault<'a>> {
-    let mut lines = lack_lines(rt, database)?;
+    let mut lines = database_hole_lines(rt, database)?;
     lines.push_str(against_lines(rt, against, lists, database)?.as_str())?;
     Ok(lines)
 }
@@ -172,10 +172,10 @@ pub(crate) fn make_dump<'a>(
     let dump = dump.into_inner();
     let database = database_of(rt, dump.as_slice())?;
     let missing = missing_lines(rt, options.against.as_slice(), &lists, &database)?;
-    let gifts = gift_lines(rt, names, &told)?;
+    let given = file_lines(rt, names, &told)?;
     let holes = hole_lines(rt, names, &told, &database)?;
     io::writer(rt)
-        .write_all(gifts.as_bytes())
+        .write_all(given.as_bytes())
         .map_err(|_| ExitFault::Output)?;
     // Where standard error takes no line, the status alone tells.
     let _ = rt.stderr().write_all(holes.as_bytes());

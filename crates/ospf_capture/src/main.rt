@@ -12,7 +12,7 @@ mod exit;
 mod fault;
 mod files;
 mod help;
-mod lacks;
+mod holes;
 mod unseen;
 
 use arguments::{Options, OptionsFault};

@@ -6,7 +6,7 @@ use Rattle.lsa_codec.specs.Fields.{number_at}
 use Rattle.ospf_packets.specs.declared.update.Flooded.{Flooded}
 use Rattle.ospf_packets.specs.Checksums.{sum_of_words, has_checksum, is_checksum_good}
 use Rattle.ospf_packets.specs.Packets.{lack}
-use Rattle.ospf_packets.specs.Telling.{is_odd, update_told}
+use Rattle.ospf_packets.specs.FramesTold.{is_odd, update_told}
 use Rattle.ospf_packets.specs.Updates.{lsas_told}
 use Rattle.ospf_packets.proofs.Slices.{rest_at}
 

@@ -5,7 +5,7 @@ use Rattle.std.proofs.Common.{Option, Some, None, refl, sym, ap, ◌∙◌, add-
 use Rattle.std.proofs.Math.Seq.{drop-cons}
 use Rattle.std.proofs.lemmas.List.{drop_all}
 use Rattle.capture_files.specs.declared.frame.Frame.{Frame}
-use Rattle.capture_files.specs.Told.{packet_of}
+use Rattle.capture_files.specs.CaptureTexts.{packet_of}
 use Rattle.std.specs.Prelude.{◌||◌}
 use Rattle.ospf_packets.specs.Datagrams.{DatagramText}
 use Rattle.ospf_packets.specs.Fragments.{datagram_of, with_fragment, or_onward, joined, leads_to, has_front}

@@ -2,7 +2,7 @@ pub mod Tags
 pub mod Words
 pub mod Slices
 pub mod Lsas
-pub mod Tellings
+pub mod FramesTold
 pub mod Fronts
 pub mod Headers
 mod Joins

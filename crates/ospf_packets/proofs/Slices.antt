@@ -2,7 +2,7 @@
 use Rattle.std.proofs.Common.{◌≡◌, ℕ, ◌-◌, List, length, map, min, take, drop, sym, ap, ◌∙◌, arith}
 use Rattle.std.proofs.lemmas.List.{take_all, length-drop, take_min, take-map, drop-map, length-map}
 use Rattle.capture_files.specs.declared.frame.Frame.{Frame}
-use Rattle.capture_files.specs.Told.{packet_of}
+use Rattle.capture_files.specs.CaptureTexts.{packet_of}
 use Rattle.ospf_packets.specs.Fragments.{last_few, first_few}
 
 -- what stands from an index on, as the code takes it

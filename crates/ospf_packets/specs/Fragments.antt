@@ -2,7 +2,7 @@
 use Rattle.std.specs.Prelude.{ℕ, ◌+◌, ◌-◌, ◌==◌, ◌&&◌, Bool, false, not, nat_lt, if◌then◌else◌}
 use Rattle.std.specs.Prelude.{List, [], ◌∷◌, ◌++◌, length, take, drop, Option, Some, None, Result, Ok, Err}
 use Rattle.std.specs.List.{list_any}
-use Rattle.capture_files.specs.Told.{Packet}
+use Rattle.capture_files.specs.CaptureTexts.{Packet}
 use Rattle.ospf_packets.specs.declared.odd.Odd.{Odd}
 use Rattle.ospf_packets.specs.Datagrams.{DatagramText, ipv4_of}
 use Rattle.ospf_packets.specs.Links.{link_payload}

@@ -6,11 +6,11 @@ use Rattle.lsa_codec.specs.declared.address.AreaId.{AreaId}
 use Rattle.lsa_codec.specs.Fields.{number_at, age_of, kind_of, checksum_of}
 use Rattle.lsa_codec.specs.Key.{key_of}
 use Rattle.lsa_instances.specs.declared.header.Header.{Header}
-use Rattle.ospf_packets.specs.declared.telling.Told.{Told}
-use Rattle.ospf_packets.specs.declared.telling.Told.TheVariants as tells
+use Rattle.lsa_instances.specs.Order.{scope_in}
+use Rattle.ospf_packets.specs.declared.frame_told.FrameTold.{FrameTold}
+use Rattle.ospf_packets.specs.declared.frame_told.FrameTold.TheVariants as tells
 use Rattle.ospf_packets.specs.declared.update.Flooded.{Flooded}
 use Rattle.ospf_packets.specs.Packets.{lack}
-use Rattle.ospf_packets.specs.Updates.{scope_in}
 
 -- the header at the front, of an LSA that is flooded in an area
 abbrev pub header_in : AreaId → List ℕ → Header
@@ -22,22 +22,22 @@ header_in area octets = record {
 
 module _ {A : Type 0} where
   -- the header behind so many others
-  abbrev pub header_told : AreaId → List ℕ → ℕ → Told A
+  abbrev pub header_told : AreaId → List ℕ → ℕ → FrameTold A
   header_told area octets n = tells.Header (header_in area (drop (20 * n) octets))
 
   -- as many as there is room for
-  abbrev pub whole_headers : AreaId → List ℕ → List (Told A)
+  abbrev pub whole_headers : AreaId → List ℕ → List (FrameTold A)
   whole_headers area octets = map (header_told area octets) (range_with_len 0 (length octets / 20))
 
   -- fewer octets than a header has are left
-  abbrev pub left_over : Bool → List ℕ → List (Told A)
+  abbrev pub left_over : Bool → List ℕ → List (FrameTold A)
   left_over whole octets = if length octets % 20 == 0 then [] else tells.Odd (lack whole) ∷ []
 
-  abbrev pub headers_told : Flooded → List ℕ → List (Told A)
+  abbrev pub headers_told : Flooded → List ℕ → List (FrameTold A)
   headers_told by octets = whole_headers by.area octets ++ left_over by.whole octets
 
   -- what a packet tells that has headers behind so many octets
-  abbrev pub headers_behind : ℕ → Flooded → List ℕ → List (Told A)
+  abbrev pub headers_behind : ℕ → Flooded → List ℕ → List (FrameTold A)
   headers_behind before by packet =
       if nat_lt (length packet) before then tells.Odd (lack by.whole) ∷ []
       else headers_told by (drop before packet)

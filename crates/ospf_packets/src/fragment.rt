@@ -1,7 +1,7 @@
 //! Datagrams that are put together of their fragments (RFC 791, 3.2).
 
 ghost use Rattle.std.specs.Prelude.{◌≡◌, map, option_map, Ok, Err, MatchResult, IfOk};
-ghost use Rattle.capture_files.specs.Told.{packet_of};
+ghost use Rattle.capture_files.specs.CaptureTexts.{packet_of};
 ghost use Rattle.ospf_packets.specs.Datagrams.{datagram_text};
 ghost use Rattle.ospf_packets.specs.Fragments.{is_cut, datagram_of, is_same, goes_on, with_fragment, joined, leads_to, has_front, last_few, first_few};
 

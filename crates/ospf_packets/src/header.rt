@@ -5,11 +5,11 @@ ghost use Rattle.std.specs.Prelude.{◌≡◌, ◌≤◌, ◌++◌, length, OnOk
 ghost use Rattle.ospf_packets.specs.Headers.{header_in, whole_headers, left_over, headers_told, headers_behind};
 
 use crate::field::{u16_at, u32_at};
+use crate::frame_told::FrameTold;
 use crate::packet::lack;
-use crate::telling::Told;
-use crate::update::{Flooded, LSA_HEADER, scope_in};
+use crate::update::{Flooded, LSA_HEADER};
 use lsa_codec::{Addr, AreaId, Key, RouterId};
-use lsa_instances::{Header, Issue, Place};
+use lsa_instances::{Header, Issue, Place, Scope};
 use std::alloc::{AllocError, Allocator};
 
 /// How many octets a Database Description packet has before its LSA headers.
@@ -28,7 +28,7 @@ fn header_in(area: AreaId, octets: &[u8]) -> Header
     };
     Header {
         place: Place {
-            scope: scope_in(area, kind),
+            scope: Scope::in_area(area, kind),
             key,
         },
         issue: Issue {
@@ -41,7 +41,7 @@ fn header_in(area: AreaId, octets: &[u8]) -> Header
 
 /// Adds the LSA headers that stand one behind the other, those that are whole.
 fn tell_whole_headers<A: Allocator + Copy>(
-    told: &mut Vec<Told<A>, A>,
+    told: &mut Vec<FrameTold<A>, A>,
     area: AreaId,
     octets: &[u8],
 ) -> Result<(), AllocError>
@@ -49,14 +49,14 @@ fn tell_whole_headers<A: Allocator + Copy>(
 {
     for index in 0..octets.len() / LSA_HEADER {
         let header = header_in(area, &octets[LSA_HEADER * index..]);
-        told.push(Told::Header(header))?;
+        told.push(FrameTold::Header(header))?;
     }
     Ok(())
 }
 
 /// Adds what octets tell that are to be filled by LSA headers.
 fn tell_headers<A: Allocator + Copy>(
-    told: &mut Vec<Told<A>, A>,
+    told: &mut Vec<FrameTold<A>, A>,
     by: Flooded,
     octets: &[u8],
 ) -> Result<(), AllocError>
@@ -64,14 +64,14 @@ fn tell_headers<A: Allocator + Copy>(
 {
     tell_whole_headers(told, by.area, octets)?;
     if octets.len() % LSA_HEADER != 0 {
-        told.push(Told::Odd(lack(by.whole)))?;
+        told.push(FrameTold::Odd(lack(by.whole)))?;
     }
     Ok(())
 }
 
 /// Adds what a packet tells that has LSA headers behind so many octets.
 pub(crate) fn tell_headers_behind<A: Allocator + Copy>(
-    told: &mut Vec<Told<A>, A>,
+    told: &mut Vec<FrameTold<A>, A>,
     by: Flooded,
     before: usize,
     packet: &[u8],
@@ -80,7 +80,7 @@ pub(crate) fn tell_headers_behind<A: Allocator + Copy>(
         ≡ told.old.items ++ headers_behind before by packet.now) }
 {
     if packet.len() < before {
-        told.push(Told::Odd(lack(by.whole)))?;
+        told.push(FrameTold::Odd(lack(by.whole)))?;
         return Ok(());
     }
     tell_headers(told, by, &packet[before..])

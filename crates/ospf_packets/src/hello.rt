@@ -3,7 +3,7 @@
 ghost use Rattle.std.specs.Prelude.{◌≡◌};
 ghost use Rattle.ospf_packets.specs.Hellos.{kind_by_options};
 
-use crate::kind::AreaKind;
+use lsa_instances::AreaKind;
 
 /// Where the Options of a Hello packet stand.
 pub(crate) const OPTIONS: usize = 30;

@@ -11,16 +11,14 @@ mod checksum;
 mod datagram;
 mod field;
 mod fragment;
+mod frame_told;
 mod header;
 mod hello;
-mod kind;
 mod link;
 mod odd;
 mod packet;
 mod packets;
-mod telling;
 mod update;
 
-pub use kind::{AreaKind, AreaTold};
 pub use odd::Odd;
 pub use packets::{Packets, read_frames};

@@ -2,15 +2,14 @@
 
 ghost use Rattle.std.specs.Prelude.{◌≡◌, IfOk, map};
 ghost use Rattle.std.specs.List.{filter_map};
-ghost use Rattle.capture_files.specs.Told.{packet_of};
+ghost use Rattle.capture_files.specs.CaptureTexts.{packet_of};
 ghost use Rattle.ospf_packets.specs.Sorting.{sighting_of, kind_of, header_of, odd_of};
-ghost use Rattle.ospf_packets.specs.Telling.{told_in};
+ghost use Rattle.ospf_packets.specs.FramesTold.{told_in};
 
-use crate::kind::AreaTold;
+use crate::frame_told::{FrameTold, tellings};
 use crate::odd::Odd;
-use crate::telling::{Told, tellings};
 use capture_files::Frame;
-use lsa_instances::{Header, Sighting};
+use lsa_instances::{Header, Sighting, ToldArea};
 use std::alloc::{AllocError, Allocator, Global};
 
 /// What frames tell, in their order.
@@ -19,7 +18,7 @@ pub struct Packets<A: Allocator = Global> {
     /// The LSAs of Link State Update packets, octet for octet.
     pub sightings: Vec<Sighting<A>, A>,
     /// The kinds of areas, one for each Hello packet.
-    pub kinds: Vec<AreaTold, A>,
+    pub kinds: Vec<ToldArea, A>,
     /// The LSA headers of Database Description and Link State Acknowledgment packets.
     pub headers: Vec<Header, A>,
     /// What is odd: at most one for each frame, and one for each LSA that is refused.
@@ -27,54 +26,60 @@ pub struct Packets<A: Allocator = Global> {
 }
 
 /// The LSA that is told.
-fn sighting_of<A: Allocator + Copy>(told: Told<A>) -> Option<Sighting<A>>
+fn sighting_of<A: Allocator + Copy>(told: FrameTold<A>) -> Option<Sighting<A>>
     ensures { result ≡ sighting_of told }
 {
     match told {
-        Told::Lsa(sighting) => Some(sighting),
+        FrameTold::Lsa(sighting) => Some(sighting),
         _ => None,
     }
 }
 
 /// The kind of an area that is told.
-fn kind_of<A: Allocator + Copy>(told: &Told<A>) -> Option<AreaTold>
+fn kind_of<A: Allocator + Copy>(told: &FrameTold<A>) -> Option<ToldArea>
     ensures { result ≡ kind_of told.now }
 {
     match told {
-        Told::Kind(area) => Some(*area),
+        FrameTold::Kind(area) => Some(*area),
         _ => None,
     }
 }
 
 /// The header that is told.
-fn header_of<A: Allocator + Copy>(told: &Told<A>) -> Option<Header>
+fn header_of<A: Allocator + Copy>(told: &FrameTold<A>) -> Option<Header>
     ensures { result ≡ header_of told.now }
 {
     match told {
-        Told::Header(header) => Some(*header),
+        FrameTold::Header(header) => Some(*header),
         _ => None,
     }
 }
 
 /// What is odd.
-fn odd_of<A: Allocator + Copy>(told: &Told<A>) -> Option<Odd>
+fn odd_of<A: Allocator + Copy>(told: &FrameTold<A>) -> Option<Odd>
     ensures { result ≡ odd_of told.now }
 {
     match told {
-        Told::Odd(odd) => Some(*odd),
+        FrameTold::Odd(odd) => Some(*odd),
         _ => None,
     }
 }
 
 /// The kinds of areas.
-fn kinds_of<A: Allocator + Copy>(alloc: A, told: &[Told<A>]) -> Result<Vec<AreaTold, A>, AllocError>
+fn kinds_of<A: Allocator + Copy>(
+    alloc: A,
+    told: &[FrameTold<A>],
+) -> Result<Vec<ToldArea, A>, AllocError>
     ensures { IfOk result (λ kinds. kinds.items ≡ filter_map kind_of told.now) }
 {
     told.iter().filter_map(|item| kind_of(item)).collect(alloc)
 }
 
 /// The headers.
-fn headers_of<A: Allocator + Copy>(alloc: A, told: &[Told<A>]) -> Result<Vec<Header, A>, AllocError>
+fn headers_of<A: Allocator + Copy>(
+    alloc: A,
+    told: &[FrameTold<A>],
+) -> Result<Vec<Header, A>, AllocError>
     ensures { IfOk result (λ headers. headers.items ≡ filter_map header_of told.now) }
 {
     told.iter()
@@ -83,7 +88,7 @@ fn headers_of<A: Allocator + Copy>(alloc: A, told: &[Told<A>]) -> Result<Vec<Hea
 }
 
 /// All that is odd.
-fn odds_of<A: Allocator + Copy>(alloc: A, told: &[Told<A>]) -> Result<Vec<Odd, A>, AllocError>
+fn odds_of<A: Allocator + Copy>(alloc: A, told: &[FrameTold<A>]) -> Result<Vec<Odd, A>, AllocError>
     ensures { IfOk result (λ odd. odd.items ≡ filter_map odd_of told.now) }
 {
     told.iter().filter_map(|item| odd_of(item)).collect(alloc)
@@ -92,7 +97,7 @@ fn odds_of<A: Allocator + Copy>(alloc: A, told: &[Told<A>]) -> Result<Vec<Odd, A
 /// The LSAs.
 fn sightings_of<A: Allocator + Copy>(
     alloc: A,
-    told: Vec<Told<A>, A>,
+    told: Vec<FrameTold<A>, A>,
 ) -> Result<Vec<Sighting<A>, A>, AllocError>
     ensures { IfOk result (λ sightings. sightings.items ≡ filter_map sighting_of told.items) }
 {

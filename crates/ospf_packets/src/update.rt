@@ -1,12 +1,12 @@
 //! The LSAs of Link State Update packets (RFC 2328, A.3.5).
 
 ghost use Rattle.std.specs.Prelude.{◌≡◌, ◌≤◌, ◌++◌, length, Ok, Err, MatchResult, IfOk, OnOk};
-ghost use Rattle.ospf_packets.specs.Updates.{lsa_length, scope_in, lsa_told, lsas_told};
+ghost use Rattle.ospf_packets.specs.Updates.{lsa_length, lsa_told, lsas_told};
 
 use crate::field::u16_at;
+use crate::frame_told::FrameTold;
 use crate::odd::Odd;
 use crate::packet::lack;
-use crate::telling::Told;
 use lsa_codec::{AreaId, Lsa, LsaFault};
 use lsa_instances::{Scope, Sighting};
 use std::alloc::{AllocError, Allocator};
@@ -43,33 +43,22 @@ fn lsa_length(whole: bool, octets: &[u8]) -> Result<usize, Odd>
     Ok(size)
 }
 
-/// The scope of an LSA of this LS type that is flooded in an area.
-pub(crate) fn scope_in(area: AreaId, kind: u8) -> Scope
-    ensures { result ≡ scope_in area kind }
-{
-    if kind == 5 || kind == 11 {
-        Scope::AsWide
-    } else {
-        Scope::Area(area)
-    }
-}
-
 /// An LSA, or why its octets are none.
 fn lsa_told<A: Allocator + Copy>(
     alloc: A,
     by: Flooded,
     octets: &[u8],
-) -> Result<Told<A>, AllocError>
+) -> Result<FrameTold<A>, AllocError>
     ensures { IfOk result (λ told. told ≡ lsa_told by octets.now) }
 {
     match Lsa::decode(alloc, octets) {
-        Ok((lsa, _)) => Ok(Told::Lsa(Sighting {
-            scope: scope_in(by.area, lsa.key().kind),
+        Ok((lsa, _)) => Ok(FrameTold::Lsa(Sighting {
+            scope: Scope::in_area(by.area, lsa.key().kind),
             seen: by.seen,
             lsa,
         })),
         Err(LsaFault::OutOfMemory) => Err(AllocError),
-        Err(fault) => Ok(Told::Odd(Odd::RefusedLsa(fault))),
+        Err(fault) => Ok(FrameTold::Odd(Odd::RefusedLsa(fault))),
     }
 }
 
@@ -77,7 +66,7 @@ fn lsa_told<A: Allocator + Copy>(
 #[tactic(auto, using(crate::proofs::Lsas::one_more, crate::proofs::Lsas::stopped, crate::proofs::Lsas::all_told))]
 pub(crate) fn tell_lsas<A: Allocator + Copy>(
     alloc: A,
-    told: &mut Vec<Told<A>, A>,
+    told: &mut Vec<FrameTold<A>, A>,
     by: Flooded,
     count: u32,
     octets: &[u8],
@@ -92,7 +81,7 @@ pub(crate) fn tell_lsas<A: Allocator + Copy>(
                 rest = &rest[size..];
             }
             Err(odd) => {
-                told.push(Told::Odd(odd))?;
+                told.push(FrameTold::Odd(odd))?;
                 return Ok(());
             }
         }

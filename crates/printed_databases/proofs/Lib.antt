@@ -2,7 +2,7 @@ pub mod Split
 pub mod Digits
 pub mod Hex
 pub mod Reading
-pub mod Tellings
+pub mod PartsTold
 pub mod PrintedNumbers
 pub mod PrintedLabels
 pub mod PrintedFields

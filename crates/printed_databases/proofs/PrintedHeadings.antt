@@ -12,17 +12,17 @@ use Rattle.std.proofs.lemmas.List.Elements.{All-nil, All-cons, All-append}
 use Rattle.std.proofs.lemmas.List.Splits.{slice_split_none, slice_split_at}
 use Rattle.lsa_codec.specs.declared.address.AreaId.{AreaId}
 use Rattle.lsa_codec.specs.Spelling.{address_text}
-use Rattle.printed_databases.specs.declared.kind.AreaKind.{AreaKind}
-use Rattle.printed_databases.specs.declared.kind.AreaKind.TheVariants as kinds
-use Rattle.printed_databases.specs.declared.kind.AreaTold.{AreaTold}
+use Rattle.lsa_instances.specs.declared.area.AreaKind.{AreaKind}
+use Rattle.lsa_instances.specs.declared.area.AreaKind.TheVariants as kinds
+use Rattle.lsa_instances.specs.declared.area.ToldArea.{ToldArea}
 use Rattle.printed_databases.specs.declared.label.Label.TheVariants as label
-use Rattle.printed_databases.specs.declared.told.Told.{Told}
-use Rattle.printed_databases.specs.declared.told.Told.TheVariants as tells
+use Rattle.printed_databases.specs.declared.part_told.PartTold.{PartTold}
+use Rattle.printed_databases.specs.declared.part_told.PartTold.TheVariants as tells
 use Rattle.printed_databases.specs.Words.{Word, words}
 use Rattle.printed_databases.specs.Numbers.{address_of}
 use Rattle.printed_databases.specs.Labels.{text_of, behind_words, behind_label}
 use Rattle.printed_databases.specs.Headings.{first_part, area_of, kind_in, heading_at, area_named, area_at}
-use Rattle.printed_databases.specs.Telling.{kind_from, kinds_at, lsas_at, told_in}
+use Rattle.printed_databases.specs.PartsTold.{kind_from, kinds_at, lsas_at, told_in}
 use Rattle.printed_databases.specs.Printing.{label_words, said}
 use Rattle.printed_databases.specs.PrintingTexts.{area_words, heading_words}
 use Rattle.printed_databases.proofs.PrintedNumbers.{own, address_again}
@@ -85,8 +85,8 @@ kind_nssa rest =
 
 -- ---- the heading
 
-abbrev told_kind : AreaId → AreaKind → AreaTold
-told_kind area kind = record { area = area; kind = kind }
+abbrev told_kind : AreaId → AreaKind → ToldArea
+told_kind area kind = record { id = area; kind = kind }
 
 area_label : label_words label.Area ≡ codes "(Area" ∷ []
 unfolding words text_of
@@ -120,10 +120,10 @@ module _ {A : Type 0} where
       (kinds_at here ++ lsas_at (area_at before here) (first ∷ word ∷ rest)) ++ told_in (area_at before here) (word ∷ rest)) (sym laid)
       ∙ ap (λ (next : Option AreaId). (kinds_at text ++ lsas_at next (first ∷ word ∷ rest)) ++ told_in next (word ∷ rest))
       (area_begun before word area rest h)
-      ∙ ap (λ (lsas : List (Told A)). (kinds_at text ++ lsas) ++ told_in (Some area) (word ∷ rest))
+      ∙ ap (λ (lsas : List (PartTold A)). (kinds_at text ++ lsas) ++ told_in (Some area) (word ∷ rest))
       (no_lsas (Some area) (first ∷ word ∷ rest) (age_first first (word ∷ rest) refl))
-      ∙ ap (λ (kinds : List (Told A)). (kinds ++ []) ++ told_in (Some area) (word ∷ rest)) (kind_here word area rest h)
-      ∙ ap (λ (told : List (Told A)). tells.Kind (told_kind area (kind_in rest)) ∷ told) ((of_word word p).quiet (Some area) rest)
+      ∙ ap (λ (kinds : List (PartTold A)). (kinds ++ []) ++ told_in (Some area) (word ∷ rest)) (kind_here word area rest h)
+      ∙ ap (λ (told : List (PartTold A)). tells.Kind (told_kind area (kind_in rest)) ∷ told) ((of_word word p).quiet (Some area) rest)
 
   told_as : (before : Option AreaId) (area : AreaId) (kind : AreaKind) (rest : List Word) → area.0 < 2 ^ 32 → kind_in rest ≡ kinds.Ordinary
       → told_in {A = A} before (area_words kind (address_text area.0) ++ rest) ≡ tells.Kind (told_kind area kind) ∷ told_in (Some area) rest
@@ -138,15 +138,15 @@ module _ {A : Type 0} where
       ap (told_in before) (append_assoc (said label.Area word) mark rest)
       ∙ area_told before word area (mark ++ rest) (area_alone area h) (plain_start word (start_address area.0))
       ∙ ap (λ (kind : AreaKind). tells.Kind (told_kind area kind) ∷ told_in (Some area) (mark ++ rest)) (kind_stub rest)
-      ∙ ap (λ (told : List (Told A)). tells.Kind (told_kind area kinds.Stub) ∷ told) ((of_label label.Stub refl).quiet (Some area) rest)
+      ∙ ap (λ (told : List (PartTold A)). tells.Kind (told_kind area kinds.Stub) ∷ told) ((of_label label.Stub refl).quiet (Some area) rest)
   told_as before area kinds.Nssa rest h none =
       let word = address_text area.0 in
       let mark = label_words label.Nssa in
       ap (told_in before) (append_assoc (said label.Area word) mark rest)
       ∙ area_told before word area (mark ++ rest) (area_alone area h) (plain_start word (start_address area.0))
       ∙ ap (λ (kind : AreaKind). tells.Kind (told_kind area kind) ∷ told_in (Some area) (mark ++ rest)) (kind_nssa rest)
-      ∙ ap (λ (told : List (Told A)). tells.Kind (told_kind area kinds.Nssa) ∷ told) ((of_label label.Nssa refl).quiet (Some area) rest)
+      ∙ ap (λ (told : List (PartTold A)). tells.Kind (told_kind area kinds.Nssa) ∷ told) ((of_label label.Nssa refl).quiet (Some area) rest)
 
-  pub heading_told : (before : Option AreaId) (told : AreaTold) (rest : List Word) → told.area.0 < 2 ^ 32 → kind_in rest ≡ kinds.Ordinary
-      → told_in {A = A} before (heading_words told ++ rest) ≡ tells.Kind told ∷ told_in (Some told.area) rest
-  heading_told before told rest h none = told_as before told.area told.kind rest h none
+  pub heading_told : (before : Option AreaId) (told : ToldArea) (rest : List Word) → told.id.0 < 2 ^ 32 → kind_in rest ≡ kinds.Ordinary
+      → told_in {A = A} before (heading_words told ++ rest) ≡ tells.Kind told ∷ told_in (Some told.id) rest
+  heading_told before told rest h none = told_as before told.id told.kind rest h none

@@ -11,7 +11,7 @@ use Rattle.printed_databases.specs.Words.{Word}
 use Rattle.printed_databases.specs.Labels.{behind_label}
 use Rattle.printed_databases.specs.Bodies.{body_in}
 use Rattle.printed_databases.specs.Making.{header_octets}
-use Rattle.printed_databases.specs.Telling.{key_of, in_scope, decoded_told, made_told, header_told, lsa_from, lsas_at}
+use Rattle.printed_databases.specs.PartsTold.{key_of, in_scope, decoded_told, made_told, header_told, lsa_from, lsas_at}
 use Rattle.printed_databases.specs.Printing.{printed_octet, label_words, said, Beside, flags_words, name_words, issue_words, seal_words, header_words, HeaderFits}
 use Rattle.printed_databases.specs.PrintingBodies.{Body, body_words, lsa_words, body_octets, BodyFits}
 use Rattle.printed_databases.proofs.PrintedLabels.{label_again}

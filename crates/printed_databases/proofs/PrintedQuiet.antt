@@ -12,12 +12,12 @@ use Rattle.std.proofs.lemmas.Slice.Eq.{bytes_eq-Decides}
 use Rattle.lsa_codec.specs.declared.address.AreaId.{AreaId}
 use Rattle.lsa_codec.specs.Spelling.{address_text}
 use Rattle.printed_databases.specs.declared.label.Label.TheVariants as label
-use Rattle.printed_databases.specs.declared.told.Told.{Told}
+use Rattle.printed_databases.specs.declared.part_told.PartTold.{PartTold}
 use Rattle.printed_databases.specs.Words.{Word, words}
 use Rattle.printed_databases.specs.Rules.{◌>>=◌}
 use Rattle.printed_databases.specs.Labels.{text_of, behind_words, behind_label, first_word, word_behind}
 use Rattle.printed_databases.specs.Headings.{area_named, heading_at, area_at}
-use Rattle.printed_databases.specs.Telling.{kinds_at, lsa_from, lsas_at, told_in}
+use Rattle.printed_databases.specs.PartsTold.{kinds_at, lsa_from, lsas_at, told_in}
 use Rattle.printed_databases.specs.Printing.{printed_digit, printed_hex}
 use Rattle.printed_databases.specs.PrintingTexts.{IsPlain}
 use Rattle.printed_databases.proofs.PrintedNumbers.{own}
@@ -64,12 +64,12 @@ module _ {A : Type 0} where
   no_heading area word text h =
       step area word text
       ∙ ap (λ (next : Option AreaId). (kinds_at (word ∷ text) ++ lsas_at next (word ∷ text)) ++ told_in next text) (area_kept area (word ∷ text) h)
-      ∙ ap (λ (kinds : List (Told A)). (kinds ++ lsas_at area (word ∷ text)) ++ told_in area text) (no_kinds (word ∷ text) h)
+      ∙ ap (λ (kinds : List (PartTold A)). (kinds ++ lsas_at area (word ∷ text)) ++ told_in area text) (no_kinds (word ∷ text) h)
 
   pub nothing : (area : Option AreaId) (word : Word) (text : List Word) → behind_label label.Area (word ∷ text) ≡ None
       → behind_label label.Age (word ∷ text) ≡ None → told_in {A = A} area (word ∷ text) ≡ told_in area text
   nothing area word text h k =
-      no_heading area word text h ∙ ap (λ (told : List (Told A)). told ++ told_in area text) (no_lsas area (word ∷ text) k)
+      no_heading area word text h ∙ ap (λ (told : List (PartTold A)). told ++ told_in area text) (no_lsas area (word ∷ text) k)
 
 -- ---- words at which nothing begins, whatever stands behind them
 

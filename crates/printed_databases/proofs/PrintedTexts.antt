@@ -18,13 +18,13 @@ use Rattle.printed_databases.specs.declared.ls_type.LsType.TheVariants as types
 use Rattle.printed_databases.specs.declared.router.Link.{Link}
 use Rattle.printed_databases.specs.declared.router.LinkType.{LinkType}
 use Rattle.printed_databases.specs.declared.router.LinkType.TheVariants as links
-use Rattle.printed_databases.specs.declared.told.Told.{Told}
+use Rattle.printed_databases.specs.declared.part_told.PartTold.{PartTold}
 use Rattle.printed_databases.specs.Words.{Word, words}
 use Rattle.printed_databases.specs.Labels.{text_of}
 use Rattle.printed_databases.specs.Fields.{type_label, id_label}
 use Rattle.printed_databases.specs.Bodies.{link_label, link_id_label, data_label}
 use Rattle.printed_databases.specs.Making.{header_octets}
-use Rattle.printed_databases.specs.Telling.{key_of, in_scope, lsas_at, told_in}
+use Rattle.printed_databases.specs.PartsTold.{key_of, in_scope, lsas_at, told_in}
 use Rattle.printed_databases.specs.Printing.{printed_hex, printed_octet, printed_mask, label_words, said, Beside, names_of_bits, flags_words, name_words, issue_words, seal_words, header_words, HeaderFits}
 use Rattle.printed_databases.specs.PrintingBodies.{link_words, LinkFits, attached_words, metric_type_label, Body, of_router, of_network, of_summary, of_external, body_words, lsa_words, body_octets, BodyFits}
 use Rattle.printed_databases.specs.PrintingTexts.{IsPlain, ArePlain}
@@ -274,8 +274,8 @@ module _ {A : Type 0} where
       ap (told_in area) laid
       ∙ no_heading area (codes "LS") (codes "age:" ∷ behind) (area_none (codes "LS") (codes "age:" ∷ behind) refl)
       ∙ ap (λ (here : List Word). lsas_at area here ++ told_in area (codes "age:" ∷ behind)) (sym laid)
-      ∙ ap (λ (told : List (Told A)). told ++ told_in area (codes "age:" ∷ behind)) (accepted_again area beside header body rest lsa fits body_fits e)
-      ∙ ap (λ (told : List (Told A)). one ∷ told)
+      ∙ ap (λ (told : List (PartTold A)). told ++ told_in area (codes "age:" ∷ behind)) (accepted_again area beside header body rest lsa fits body_fits e)
+      ∙ ap (λ (told : List (PartTold A)). one ∷ told)
       ((of_word (codes "age:") (plain (codes "age:") refl refl)).quiet area behind ∙ quiet_behind area beside header body rest h fits body_fits)
 
   pub word_told : (area : Option AreaId) (word : Word) (rest : List Word) → IsPlain word → told_in {A = A} area (word ∷ rest) ≡ told_in area rest

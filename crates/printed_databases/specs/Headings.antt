@@ -3,9 +3,9 @@ use Rattle.std.specs.Prelude.{◌==◌, if◌then◌else◌, Bool, false, ◌||�
 use Rattle.std.specs.List.{slice_split}
 use Rattle.std.specs.Option.{is_some}
 use Rattle.lsa_codec.specs.declared.address.AreaId.{AreaId}
-use Rattle.printed_databases.specs.declared.kind.AreaKind.{AreaKind}
-use Rattle.printed_databases.specs.declared.kind.AreaKind.TheVariants as kinds
-use Rattle.printed_databases.specs.declared.kind.AreaTold.{AreaTold}
+use Rattle.lsa_instances.specs.declared.area.AreaKind.{AreaKind}
+use Rattle.lsa_instances.specs.declared.area.AreaKind.TheVariants as kinds
+use Rattle.lsa_instances.specs.declared.area.ToldArea.{ToldArea}
 use Rattle.printed_databases.specs.declared.label.Label.TheVariants as label
 use Rattle.printed_databases.specs.Words.{Word}
 use Rattle.printed_databases.specs.Rules.{◌>>=◌}
@@ -27,11 +27,11 @@ kind_in text =
     if is_some (behind_label label.Nssa text) then kinds.Nssa else kinds.Ordinary
 
 -- the area that a heading names here, and its kind
-unfoldable pub heading_at : List Word → Option AreaTold
+unfoldable pub heading_at : List Word → Option ToldArea
 heading_at text = do
   found ← word_behind label.Area text
   area ← area_of found.0
-  Some (record { area = area; kind = kind_in found.1 })
+  Some (record { id = area; kind = kind_in found.1 })
 
 abbrev pub area_named : Option AreaId → Option (Word × List Word) → Option AreaId
 area_named area None = area

@@ -9,5 +9,5 @@ pub mod PrintingBodies
 pub mod PrintingTexts
 pub mod Making
 pub mod Headings
-pub mod Telling
+pub mod PartsTold
 pub mod Sorting

@@ -1,16 +1,17 @@
 -- The octets that the printed fields of a header make (RFC 2328, A.4.1).
 use Rattle.std.specs.Prelude.{ℕ, List, ◌∷◌, ◌++◌}
 use Rattle.std.specs.Int.{w16, w32, to_be_bytes}
+use Rattle.lsa_codec.specs.LsTypes.{router_lsa, network_lsa, summary_lsa, asbr_summary_lsa, external_lsa}
 use Rattle.printed_databases.specs.declared.header.Header.{Header}
 use Rattle.printed_databases.specs.declared.ls_type.LsType.{LsType}
 use Rattle.printed_databases.specs.declared.ls_type.LsType.TheVariants as types
 
 abbrev pub type_code : LsType → ℕ
-type_code types.Router = 1
-type_code types.Network = 2
-type_code types.Summary = 3
-type_code types.AsbrSummary = 4
-type_code types.External = 5
+type_code types.Router = router_lsa
+type_code types.Network = network_lsa
+type_code types.Summary = summary_lsa
+type_code types.AsbrSummary = asbr_summary_lsa
+type_code types.External = external_lsa
 
 -- with the checksum and the length that were printed
 abbrev pub header_octets : Header → List ℕ

@@ -1,9 +1,9 @@
 -- How an FRR router prints headings and LSAs one behind another, as words.
 use Rattle.std.specs.Prelude.{◌≢◌, List, [], ◌∷◌, ◌++◌, codes}
 use Rattle.lsa_codec.specs.Spelling.{address_text}
-use Rattle.printed_databases.specs.declared.kind.AreaKind.{AreaKind}
-use Rattle.printed_databases.specs.declared.kind.AreaKind.TheVariants as kinds
-use Rattle.printed_databases.specs.declared.kind.AreaTold.{AreaTold}
+use Rattle.lsa_instances.specs.declared.area.AreaKind.{AreaKind}
+use Rattle.lsa_instances.specs.declared.area.AreaKind.TheVariants as kinds
+use Rattle.lsa_instances.specs.declared.area.ToldArea.{ToldArea}
 use Rattle.printed_databases.specs.declared.label.Label.TheVariants as label
 use Rattle.printed_databases.specs.Words.{Word}
 use Rattle.printed_databases.specs.Printing.{Beside, label_words, said}
@@ -23,5 +23,5 @@ area_words kinds.Stub address = said label.Area address ++ label_words label.Stu
 area_words kinds.Nssa address = said label.Area address ++ label_words label.Nssa
 
 -- the area that a heading names, and the kind of the area, before a closing parenthesis (41)
-abbrev pub heading_words : AreaTold → List Word
-heading_words told = area_words told.kind (address_text told.area.0)
+abbrev pub heading_words : ToldArea → List Word
+heading_words told = area_words told.kind (address_text told.id.0)

@@ -2,22 +2,22 @@
 use Rattle.std.specs.Prelude.{Option, Some, None}
 use Rattle.lsa_instances.specs.declared.sighting.Sighting.{Sighting}
 use Rattle.printed_databases.specs.declared.hole.Hole.{Hole}
-use Rattle.printed_databases.specs.declared.kind.AreaTold.{AreaTold}
-use Rattle.printed_databases.specs.declared.told.Told.{Told}
-use Rattle.printed_databases.specs.declared.told.Told.TheVariants as tells
+use Rattle.lsa_instances.specs.declared.area.ToldArea.{ToldArea}
+use Rattle.printed_databases.specs.declared.part_told.PartTold.{PartTold}
+use Rattle.printed_databases.specs.declared.part_told.PartTold.TheVariants as tells
 
 module _ {A : Type 0} where
-  abbrev pub sighting_of : Told A → Option (Sighting A)
+  abbrev pub sighting_of : PartTold A → Option (Sighting A)
   sighting_of (tells.Lsa sighting) = Some sighting
   sighting_of (tells.Kind area) = None
   sighting_of (tells.Hole hole) = None
 
-  abbrev pub kind_of : Told A → Option AreaTold
+  abbrev pub kind_of : PartTold A → Option ToldArea
   kind_of (tells.Lsa sighting) = None
   kind_of (tells.Kind area) = Some area
   kind_of (tells.Hole hole) = None
 
-  abbrev pub hole_of : Told A → Option Hole
+  abbrev pub hole_of : PartTold A → Option Hole
   hole_of (tells.Lsa sighting) = None
   hole_of (tells.Kind area) = None
   hole_of (tells.Hole hole) = Some hole

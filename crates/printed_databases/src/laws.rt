@@ -6,15 +6,15 @@ ghost use Rattle.lsa_codec.specs.declared.address.AreaId.{AreaId};
 ghost use Rattle.lsa_codec.specs.Decoding.{decoded};
 ghost use Rattle.lsa_instances.specs.Order.{scope_told};
 ghost use Rattle.printed_databases.specs.declared.header.Header.{Header};
-ghost use Rattle.printed_databases.specs.declared.kind.AreaKind.TheVariants as kinds;
-ghost use Rattle.printed_databases.specs.declared.kind.AreaTold.{AreaTold};
-ghost use Rattle.printed_databases.specs.declared.told.Told.TheVariants as tells;
+ghost use Rattle.lsa_instances.specs.declared.area.AreaKind.TheVariants as kinds;
+ghost use Rattle.lsa_instances.specs.declared.area.ToldArea.{ToldArea};
+ghost use Rattle.printed_databases.specs.declared.part_told.PartTold.TheVariants as tells;
 ghost use Rattle.printed_databases.specs.Words.{Word, is_blank, words};
 ghost use Rattle.printed_databases.specs.Fields.{header_in};
 ghost use Rattle.printed_databases.specs.Bodies.{body_in};
 ghost use Rattle.printed_databases.specs.Making.{header_octets};
 ghost use Rattle.printed_databases.specs.Headings.{kind_in};
-ghost use Rattle.printed_databases.specs.Telling.{in_scope, key_of, told_in};
+ghost use Rattle.printed_databases.specs.PartsTold.{in_scope, key_of, told_in};
 ghost use Rattle.printed_databases.specs.Printing.{Beside, BesideFits, HeaderFits, IsWord, header_words};
 ghost use Rattle.printed_databases.specs.PrintingBodies.{Body, BodyFits, body_octets, body_words, lsa_words};
 ghost use Rattle.printed_databases.specs.PrintingTexts.{ArePlain, IsPlain, heading_words};
@@ -62,10 +62,10 @@ pub fn printed_lsas_are_told<A: Allocator>()
         → BodyFits header body → decoded (header_octets header ++ body_octets body) ≡ Ok lsa
         → told_in {A = A} area (lsa_words beside header body ++ rest)
         ≡ in_scope (key_of header) lsa (scope_told (key_of header).kind area) ∷ told_in area rest }
-    ensures heading { (before : Option AreaId) (told : AreaTold) (rest : List Word)
-        → told.area.0 < 2 ^ 32 → kind_in rest ≡ kinds.Ordinary
+    ensures heading { (before : Option AreaId) (told : ToldArea) (rest : List Word)
+        → told.id.0 < 2 ^ 32 → kind_in rest ≡ kinds.Ordinary
         → told_in {A = A} before (heading_words told ++ rest)
-        ≡ tells.Kind told ∷ told_in (Some told.area) rest }
+        ≡ tells.Kind told ∷ told_in (Some told.id) rest }
     ensures word { (area : Option AreaId) (word : Word) (rest : List Word) → IsPlain word
         → told_in {A = A} area (word ∷ rest) ≡ told_in area rest }
 {}

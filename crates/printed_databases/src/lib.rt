@@ -16,24 +16,23 @@ mod body;
 mod external;
 pub mod fields;
 mod header;
+mod heading;
 mod ls_type;
 mod network;
 mod router;
 mod summary;
 // What is told.
 mod hole;
-mod kind;
 mod laws;
+mod part_told;
 mod printed;
-mod told;
 
 pub use hole::Hole;
-pub use kind::{AreaKind, AreaTold};
 pub use laws::{
     printed_bodies_are_read, printed_headers_are_read, printed_lsas_are_told,
     printed_words_are_read,
 };
 pub use number::{address_of, hex_up_to, number_up_to};
+pub use part_told::{PartTold, made_told};
 pub use printed::{Printed, is_printed, read_printed, sorted};
 pub use text::next_word;
-pub use told::{Told, made_told};

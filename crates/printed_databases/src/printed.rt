@@ -4,15 +4,14 @@ ghost use Rattle.std.specs.Prelude.{◌≡◌, IfOk, None};
 ghost use Rattle.std.specs.List.{filter_map};
 ghost use Rattle.printed_databases.specs.Headings.{begins_here, is_printed};
 ghost use Rattle.printed_databases.specs.Sorting.{sighting_of, kind_of, hole_of};
-ghost use Rattle.printed_databases.specs.Telling.{told_in};
+ghost use Rattle.printed_databases.specs.PartsTold.{told_in};
 ghost use Rattle.printed_databases.specs.Words.{words};
 
 use crate::hole::Hole;
-use crate::kind::AreaTold;
 use crate::label::{Label, behind_label};
+use crate::part_told::{PartTold, tellings};
 use crate::text::next_word;
-use crate::told::{Told, tellings};
-use lsa_instances::Sighting;
+use lsa_instances::{Sighting, ToldArea};
 use std::alloc::{AllocError, Allocator, Global};
 
 /// What a router prints tells, in the order of the text.
@@ -22,50 +21,53 @@ pub struct Printed<A: Allocator = Global> {
     /// printed; a text has no time stamps.
     pub sightings: Vec<Sighting<A>, A>,
     /// The kinds of areas, as often as headings tell them.
-    pub kinds: Vec<AreaTold, A>,
+    pub kinds: Vec<ToldArea, A>,
     /// What tells no LSA.
     pub holes: Vec<Hole, A>,
 }
 
 /// The LSA that is told.
-fn sighting_of<A: Allocator + Copy>(told: Told<A>) -> Option<Sighting<A>>
+fn sighting_of<A: Allocator + Copy>(told: PartTold<A>) -> Option<Sighting<A>>
     ensures { result ≡ sighting_of told }
 {
     match told {
-        Told::Lsa(sighting) => Some(sighting),
+        PartTold::Lsa(sighting) => Some(sighting),
         _ => None,
     }
 }
 
 /// The kind of an area that is told.
-fn kind_of<A: Allocator + Copy>(told: &Told<A>) -> Option<AreaTold>
+fn kind_of<A: Allocator + Copy>(told: &PartTold<A>) -> Option<ToldArea>
     ensures { result ≡ kind_of told.now }
 {
     match told {
-        Told::Kind(area) => Some(*area),
+        PartTold::Kind(area) => Some(*area),
         _ => None,
     }
 }
 
 /// The hole that is told.
-fn hole_of<A: Allocator + Copy>(told: &Told<A>) -> Option<Hole>
+fn hole_of<A: Allocator + Copy>(told: &PartTold<A>) -> Option<Hole>
     ensures { result ≡ hole_of told.now }
 {
     match told {
-        Told::Hole(hole) => Some(*hole),
+        PartTold::Hole(hole) => Some(*hole),
         _ => None,
     }
 }
 
 /// The kinds of areas.
-fn kinds_of<A: Allocator + Copy>(alloc: A, told: &[Told<A>]) -> Result<Vec<AreaTold, A>, AllocError>
+fn kinds_of<A: Allocator + Copy>(
+    alloc: A,
+    told: &[PartTold<A>],
+) -> Result<Vec<ToldArea, A>, AllocError>
     ensures { IfOk result (λ kinds. kinds.items ≡ filter_map kind_of told.now) }
 {
     told.iter().filter_map(|one| kind_of(one)).collect(alloc)
 }
 
 /// The holes.
-fn holes_of<A: Allocator + Copy>(alloc: A, told: &[Told<A>]) -> Result<Vec<Hole, A>, AllocError>
+fn holes_of<A: Allocator + Copy>(alloc: A, told: &[PartTold<A>]) -> Result<Vec<Hole, A>, AllocError>
     ensures { IfOk result (λ holes. holes.items ≡ filter_map hole_of told.now) }
 {
     told.iter().filter_map(|one| hole_of(one)).collect(alloc)
@@ -74,7 +76,7 @@ fn holes_of<A: Allocator + Copy>(alloc: A, told: &[Told<A>]) -> Result<Vec<Hole,
 /// The LSAs.
 fn sightings_of<A: Allocator + Copy>(
     alloc: A,
-    told: Vec<Told<A>, A>,
+    told: Vec<PartTold<A>, A>,
 ) -> Result<Vec<Sighting<A>, A>, AllocError>
     ensures { IfOk result (λ sightings. sightings.items ≡ filter_map sighting_of told.items) }
 {
@@ -86,7 +88,7 @@ fn sightings_of<A: Allocator + Copy>(
 /// What is told, sorted out. The only error is want of memory.
 pub fn sorted<A: Allocator + Copy>(
     alloc: A,
-    told: Vec<Told<A>, A>,
+    told: Vec<PartTold<A>, A>,
 ) -> Result<Printed<A>, AllocError>
     ensures sightings { IfOk result (λ printed. printed.sightings.items
         ≡ filter_map sighting_of told.items) }

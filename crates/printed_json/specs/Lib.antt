@@ -2,4 +2,4 @@ pub mod Members
 pub mod Options
 pub mod Header
 pub mod Bodies
-pub mod Telling
+pub mod DocumentsTold

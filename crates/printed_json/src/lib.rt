@@ -18,9 +18,9 @@ mod network;
 mod router;
 mod summary;
 // What is told.
+mod document_told;
 mod fault;
 mod printed;
-mod told;
 
 pub use fault::JsonFault;
 pub use printed::{is_printed_json, read_printed_json};

@@ -8,10 +8,10 @@ ghost use Rattle.json.specs.Value.{value_view};
 ghost use Rattle.printed_databases.specs.Sorting.{sighting_of, kind_of, hole_of};
 ghost use Rattle.printed_databases.specs.Words.{words};
 ghost use Rattle.printed_json.specs.declared.fault.JsonFault.TheVariants as faults;
-ghost use Rattle.printed_json.specs.Telling.{told_in, has_database, is_printed_json};
+ghost use Rattle.printed_json.specs.DocumentsTold.{told_in, has_database, is_printed_json};
 
+use crate::document_told::{has_database, tellings};
 use crate::fault::JsonFault;
-use crate::told::{has_database, tellings};
 use json::{Error, Scratch, Value};
 use printed_databases::{Printed, next_word, sorted};
 use std::alloc::{AllocError, Allocator};

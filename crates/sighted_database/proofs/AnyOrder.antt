@@ -7,19 +7,21 @@ use Rattle.std.specs.declared.cmp.Ordering.TheVariants.{Less}
 use Rattle.std.proofs.lemmas.List.{map-id}
 use Rattle.std.proofs.lemmas.List.Elements.{All-contains, All-weaker}
 use Rattle.lsa_codec.specs.declared.address.AreaId.{AreaId}
+use Rattle.lsa_codec.specs.Areas.{is_backbone}
 use Rattle.lsa_instances.specs.declared.keeping.FlushedLsas.{FlushedLsas}
 use Rattle.lsa_instances.specs.declared.place.Place.{Place}
 use Rattle.lsa_instances.specs.declared.place.Scope.{Scope}
 use Rattle.lsa_instances.specs.declared.place.Scope.TheVariants.{Area, AsWide}
 use Rattle.lsa_instances.specs.declared.sighting.Sighting.{Sighting}
+use Rattle.lsa_instances.specs.Areas.{is_stub_kind}
 use Rattle.lsa_instances.specs.Newest.{AreSame, is_of_scope, lsas_of_scope, place_and_octets}
 use Rattle.lsa_instances.specs.Order.{scope_cmp}
+use Rattle.lsa_instances.proofs.OrderLemmas.{scope_total}
 use Rattle.lsa_instances.proofs.SameLemmas.{any_same}
 use Rattle.lsa_instances.proofs.SameValuesLemmas.{same_values}
 use Rattle.lsdb.specs.Lists.{AreaHead}
-use Rattle.sighted_database.specs.declared.area.ToldArea.{ToldArea}
+use Rattle.lsa_instances.specs.declared.area.ToldArea.{ToldArea}
 use Rattle.sighted_database.specs.Joining.{AreScopes, IsTold, Joining, head, is_stub, joined, section}
-use Rattle.sighted_database.proofs.Rising.{scope_total}
 use Rattle.sighted_database.proofs.ScopesTold.{from_map, in_map}
 
 abbrev Before : Scope → Scope → Type 0
@@ -29,11 +31,11 @@ never_both : (a b : Scope) → Before a b → Before b a → ⊥
 never_both a b p q = let e = scope_total.antisymm a b in absurd (cc)
 
 module _ (areas others : List ToldArea) (same : AreSame areas others) where
-  same_stub : (id : ℕ) → is_stub areas id ≡ is_stub others id
-  same_stub id = ap (λ b. not (id == 0) && b) (any_same (λ area. area.is_stub && (area.id.0 == id)) areas others same)
+  same_stub : (id : AreaId) → is_stub areas id ≡ is_stub others id
+  same_stub id = ap (λ b. not (is_backbone id) && b) (any_same (λ area. is_stub_kind area.kind && (area.id.0 == id.0)) areas others same)
 
   same_head : (scope : Scope) → head areas scope ≡ head others scope
-  same_head (Area id) = ap (λ b. let h : AreaHead = record { id = id.0; is_stub = b } in Some h) (same_stub id.0)
+  same_head (Area id) = ap (λ b. let h : AreaHead = record { id = id.0; is_stub = b } in Some h) (same_stub id)
   same_head AsWide = refl
 
 -- what a database keeps of a sighting

@@ -1,32 +1,34 @@
 -- The heads of the sections, and the LSAs of each section.
 use Rattle.std.proofs.Common.{◌≡◌, ℕ, ◌≤◌, ◌<◌, Bool, true, false, cond, ltb, eqb, refl, sym, ◌∙◌, ap, List, [], ◌∷◌, length, get_or, map, arith}
 use Rattle.std.specs.Prelude.{All, AllPairs, Contains, ◌≢◌}
-use Rattle.std.specs.Cmp.{IsTotalOrder}
 use Rattle.std.specs.List.{filter, list_any}
 use Rattle.std.specs.Ordering.{nat_cmp, is_eq}
 use Rattle.std.specs.declared.cmp.Ordering.{Ordering}
 use Rattle.std.specs.declared.cmp.Ordering.TheVariants.{Less, Equal, Greater}
 use Rattle.std.proofs.lemmas.Bool.{both_ways, false_from_ne_true, ltb-false, ltb-true, not-false}
-use Rattle.std.proofs.lemmas.Cmp.{nat_cmp_total, on_total, then_total, tied_itself}
+use Rattle.std.proofs.lemmas.Cmp.{tied_itself}
 use Rattle.std.proofs.lemmas.List.{get_or-map, get_or_default, length-map}
 use Rattle.std.proofs.lemmas.List.Elements.{All-filter, All-map, All-weaker, filter_passes}
 use Rattle.std.proofs.lemmas.List.Folds.{list_any-from_Any}
 use Rattle.std.proofs.lemmas.List.Kept.{AllPairs-cons}
 use Rattle.lsa_codec.specs.Accepted.{IsAccepted}
 use Rattle.lsa_codec.specs.Key.{key_of}
+use Rattle.lsa_codec.specs.Order.{key_cmp}
+use Rattle.lsa_codec.proofs.OrderLemmas.{key_total}
+use Rattle.lsa_codec.specs.declared.address.AreaId.{AreaId}
 use Rattle.lsa_codec.specs.declared.key.Key.{Key}
 use Rattle.lsa_instances.specs.declared.place.Scope.{Scope}
 use Rattle.lsa_instances.specs.declared.place.Scope.TheVariants.{Area, AsWide}
 use Rattle.lsa_instances.specs.declared.sighting.Sighting.{Sighting}
 use Rattle.lsa_instances.specs.Newest.{is_of_scope, lsas_of_scope}
-use Rattle.lsa_instances.specs.Order.{key_cmp, scope_cmp}
+use Rattle.lsa_instances.specs.Order.{scope_cmp}
 use Rattle.lsdb.proofs.ListLemmas.{pairs_head, pairs_tail}
 use Rattle.lsdb.specs.Lists.{AreHeads, HasWideId, IsBefore, IsOrdinaryBackbone, IsSection, is_as_wide, is_in_scope}
-use Rattle.sighted_database.proofs.Rising.{scope_exact}
-use Rattle.sighted_database.specs.declared.area.ToldArea.{ToldArea}
+use Rattle.lsa_instances.proofs.OrderLemmas.{scope_exact}
+use Rattle.lsa_instances.specs.declared.area.ToldArea.{ToldArea}
 use Rattle.sighted_database.specs.Joining.{head, is_stub, section}
 use Rattle.sighted_database.specs.Limits.{is_misplaced, is_overfull}
-use Rattle.sighted_database.specs.Steps.{HaveRisingKeys, IsWide}
+use Rattle.sighted_database.specs.steps.Scopes.{HaveRisingKeys, IsWide}
 
 -- ---- lists
 
@@ -63,7 +65,7 @@ module _ (areas : List ToldArea) where
   before AsWide AsWide h = absurd cc
 
   ordinary : (s : Scope) → IsOrdinaryBackbone (head areas s)
-  ordinary (Area id) = λ e. ap (is_stub areas) e
+  ordinary (Area id) = λ e. ap (λ (n : ℕ). let backbone : AreaId = record { 0 = n } in is_stub areas backbone) e
   ordinary AsWide = tt
 
   pub are_heads : (scopes : List Scope) → length scopes ≤ 65 → All IsWide scopes → AllPairs (λ a b. scope_cmp a b ≡ Less) scopes
@@ -82,11 +84,6 @@ module _ (areas : List ToldArea) where
   }
 
 -- ---- one section
-
-key_total : IsTotalOrder key_cmp
-key_total =
-    then_total (on_total (λ (k : Key). k.kind) nat_cmp_total)
-    (then_total (on_total (λ (k : Key). k.id.0) nat_cmp_total) (on_total (λ (k : Key). k.adv.0) nat_cmp_total))
 
 apart : (a b : Key) → key_cmp a b ≡ Less → a ≢ b
 apart a b h e =

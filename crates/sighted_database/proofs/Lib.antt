@@ -1,9 +1,9 @@
 mod Growing
-mod Sound
+mod Placed
 mod Counted
 mod Sections
 mod Rising
 mod ScopesTold
 mod AnyOrder
 mod Heads
-mod Whole
+mod Joined

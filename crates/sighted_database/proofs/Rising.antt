@@ -1,34 +1,20 @@
 -- Scopes in order, each once.
 use Rattle.std.proofs.Common.{◌≡◌, ℕ, ◌-◌, ◌<◌, ◌⊎◌, inl, inr, true, false, refl, sym, ◌∙◌, ap, subst, List, [], ◌∷◌, ◌++◌, length, get_or, take, Some, arith}
 use Rattle.std.specs.Prelude.{All, Contains, slice_get}
-use Rattle.std.specs.Cmp.{IsTotalOrder}
 use Rattle.std.specs.List.Sorted.{IsSorted}
 use Rattle.std.specs.Ordering.{is_lt, ordering_reverse}
 use Rattle.std.specs.declared.cmp.Ordering.{Ordering}
 use Rattle.std.specs.declared.cmp.Ordering.TheVariants.{Less, Equal, Greater}
 use Rattle.std.proofs.lemmas.Bool.{both_ways}
-use Rattle.std.proofs.lemmas.Cmp.{nat_cmp_total, on_total, then_total}
 use Rattle.std.proofs.lemmas.List.{get_or-take, get_or_default, length-take}
 use Rattle.std.proofs.lemmas.List.Elements.{All-contains, All-push, All-weaker, Contains-append_left, Contains-push}
 use Rattle.std.proofs.lemmas.List.Quantifiers.{all_pairs_push}
 use Rattle.std.proofs.lemmas.List.Sorted.{ranks_by, sorted_far}
-use Rattle.std.proofs.lemmas.Map.Lookups.{exact_unsigned}
 use Rattle.std.proofs.lemmas.Option.{slice_get-get_or, slice_get_cases}
-use Rattle.lsa_codec.specs.declared.address.AreaId.{AreaId}
 use Rattle.lsa_instances.specs.declared.place.Scope.{Scope}
-use Rattle.lsa_instances.specs.declared.place.Scope.TheVariants.{Area, AsWide}
-use Rattle.lsa_instances.specs.Order.{scope_number, area_of, scope_cmp}
-use Rattle.sighted_database.specs.Steps.{AreOnce, IsWide, is_after, is_behind}
-
-pub scope_total : IsTotalOrder scope_cmp
-scope_total = then_total (on_total scope_number nat_cmp_total) (on_total area_of nat_cmp_total)
-
-pub scope_exact : (a b : Scope) → scope_cmp a b ≡ Equal → a ≡ b
-scope_exact (Area a) (Area b) h =
-    ap (λ (n : ℕ). let id : AreaId = record { 0 = n } in Area id) (exact_unsigned a.0 b.0 h)
-scope_exact AsWide AsWide h = refl
-scope_exact (Area a) AsWide h = cc
-scope_exact AsWide (Area b) h = cc
+use Rattle.lsa_instances.specs.Order.{scope_cmp}
+use Rattle.lsa_instances.proofs.OrderLemmas.{scope_exact, scope_total}
+use Rattle.sighted_database.specs.steps.Scopes.{AreOnce, IsWide, is_after, is_behind}
 
 less_is : (o : Ordering) → is_lt o ≡ true → o ≡ Less
 less_is Less h = refl

@@ -9,9 +9,9 @@ use Rattle.std.proofs.lemmas.Option.{slice_get_cases}
 use Rattle.lsa_instances.specs.declared.place.Scope.{Scope}
 use Rattle.lsa_instances.specs.declared.place.Scope.TheVariants.{Area, AsWide}
 use Rattle.lsa_instances.specs.declared.sighting.Sighting.{Sighting}
-use Rattle.sighted_database.specs.declared.area.ToldArea.{ToldArea}
+use Rattle.lsa_instances.specs.declared.area.ToldArea.{ToldArea}
 use Rattle.sighted_database.specs.Joining.{AreScopes, IsTold}
-use Rattle.sighted_database.specs.Steps.{AreOnce, scopes_told}
+use Rattle.sighted_database.specs.steps.Scopes.{AreOnce, scopes_told}
 
 pub in_map : {X Y : Type 0} (f : X → Y) (xs : List X) (k : ℕ) (d : X) → k < length xs → Contains (map f xs) (f (get_or xs k d))
 in_map f xs k d l = (k, omega (arith, l, length-map xs f), get_or-map f xs k d (f (get_or xs k d)) l)

@@ -1,28 +1,31 @@
 -- The database that sightings make: of each LSA the newest instance, in the section of its scope; flushed LSAs are left out
 -- or kept.
-use Rattle.std.specs.Prelude.{◌≡◌, ◌⊎◌, Bool, ℕ, List, map, All, AllPairs, Contains, Option, None, Some, ◌==◌, ◌&&◌, not}
+use Rattle.std.specs.Prelude.{◌≡◌, ◌⊎◌, Bool, List, map, All, AllPairs, Contains, Option, None, Some, ◌==◌, ◌&&◌, not}
 use Rattle.std.specs.List.{Any, list_any}
 use Rattle.std.specs.declared.cmp.Ordering.TheVariants.{Less}
+use Rattle.lsa_codec.specs.declared.address.AreaId.{AreaId}
+use Rattle.lsa_codec.specs.Areas.{is_backbone}
+use Rattle.lsa_instances.specs.declared.area.ToldArea.{ToldArea}
 use Rattle.lsa_instances.specs.declared.keeping.FlushedLsas.{FlushedLsas}
 use Rattle.lsa_instances.specs.declared.place.Scope.{Scope}
 use Rattle.lsa_instances.specs.declared.place.Scope.TheVariants.{Area, AsWide}
 use Rattle.lsa_instances.specs.declared.sighting.Sighting.{Sighting}
+use Rattle.lsa_instances.specs.Areas.{is_stub_kind}
 use Rattle.lsa_instances.specs.Newest.{AreNewest, lsas_of_scope}
 use Rattle.lsa_instances.specs.Order.{scope_cmp}
 use Rattle.lsdb.specs.Lists.{AreaHead, SectionLsas, Lists}
-use Rattle.sighted_database.specs.declared.area.ToldArea.{ToldArea}
 
 -- whether a file tells that the area is a stub area
-abbrev pub any_stub : List ToldArea → ℕ → Bool
-any_stub areas id = list_any (λ area. area.is_stub && (area.id.0 == id)) areas
+abbrev pub any_stub : List ToldArea → AreaId → Bool
+any_stub areas id = list_any (λ area. is_stub_kind area.kind && (area.id.0 == id.0)) areas
 
 -- the backbone is no stub area, whatever is told (RFC 2328, 3.6)
-abbrev pub is_stub : List ToldArea → ℕ → Bool
-is_stub areas id = not (id == 0) && any_stub areas id
+abbrev pub is_stub : List ToldArea → AreaId → Bool
+is_stub areas id = not (is_backbone id) && any_stub areas id
 
 -- an area and its kind; none for the LSAs of AS scope
 abbrev pub head : List ToldArea → Scope → Option AreaHead
-head areas (Area id) = Some (record { id = id.0; is_stub = is_stub areas id.0 })
+head areas (Area id) = Some (record { id = id.0; is_stub = is_stub areas id })
 head areas AsWide = None
 
 abbrev pub section : {A : Type 0} → List ToldArea → List (Sighting A) → Scope → SectionLsas

@@ -1,3 +1,3 @@
 pub mod Joining
 pub mod Limits
-pub mod Steps
+pub mod steps

@@ -4,24 +4,20 @@ ghost use Rattle.std.specs.Prelude.{◌≡◌};
 ghost use Rattle.sighted_database.specs.Joining.{any_stub, is_stub};
 
 use lsa_codec::AreaId;
-
-/// An area that a file tells, and whether it tells that the area is a stub area (RFC 2328, 3.6).
-#[derive(Clone, Copy, Debug, PartialEq, Eq)]
-pub struct ToldArea {
-    pub id: AreaId,
-    pub is_stub: bool,
-}
+use lsa_instances::ToldArea;
 
 /// Whether a file tells that the area is a stub area. The backbone is none, whatever is told.
-pub(crate) fn is_stub(areas: &[ToldArea], id: u32) -> bool
+pub(crate) fn is_stub(areas: &[ToldArea], id: AreaId) -> bool
     ensures { result ≡ is_stub areas.now id }
 {
-    id != 0 && any_stub(areas, id)
+    id.0 != AreaId::BACKBONE.0 && any_stub(areas, id)
 }
 
 /// Whether the area is told to be a stub area.
-fn any_stub(areas: &[ToldArea], id: u32) -> bool
+fn any_stub(areas: &[ToldArea], id: AreaId) -> bool
     ensures { result ≡ any_stub areas.now id }
 {
-    areas.iter().any(|area| area.is_stub && area.id.0 == id)
+    areas
+        .iter()
+        .any(|area| area.kind.is_stub() && area.id.0 == id.0)
 }

@@ -6,14 +6,13 @@ ghost use Rattle.lsdb.specs.Places.{lists_of};
 ghost use Rattle.lsdb.specs.Text.{text};
 ghost use Rattle.sighted_database.specs.Joining.{AreScopes, Joining, joined, section};
 ghost use Rattle.sighted_database.specs.Limits.{fault_of};
-ghost use Rattle.sighted_database.specs.Steps.{IsWide, HaveRisingKeys};
+ghost use Rattle.sighted_database.specs.steps.Scopes.{IsWide, HaveRisingKeys};
 ghost use Rattle.sighted_database.specs.declared.fault.JoinFault.TheVariants.{OutOfMemory};
 
-use crate::area::ToldArea;
 use crate::fault::JoinFault;
 use crate::scopes::scopes;
 use crate::section::{any_misplaced, text_of};
-use lsa_instances::{FlushedLsas, Scope, Sighting, keys_rise, newest};
+use lsa_instances::{FlushedLsas, Scope, Sighting, ToldArea, keys_rise, newest};
 use lsdb::{Database, LONGEST_DUMP, MOST_AREAS, text_laws};
 use std::alloc::Allocator;
 

@@ -4,7 +4,7 @@ ghost use Rattle.std.specs.Prelude.{◌≡◌, IsPermutation, List};
 ghost use Rattle.lsa_instances.specs.Newest.{AreSame};
 ghost use Rattle.lsa_instances.specs.declared.keeping.FlushedLsas.{FlushedLsas as Flushed};
 ghost use Rattle.lsa_instances.specs.declared.sighting.Sighting.{Sighting as AnySighting};
-ghost use Rattle.sighted_database.specs.declared.area.ToldArea.{ToldArea as AnyArea};
+ghost use Rattle.lsa_instances.specs.declared.area.ToldArea.{ToldArea as AnyArea};
 ghost use Rattle.sighted_database.specs.Joining.{Joining, joined};
 
 use lsa_instances::newest_in_any_order;

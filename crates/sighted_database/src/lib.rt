@@ -13,7 +13,6 @@ mod laws;
 mod scopes;
 mod section;
 
-pub use area::ToldArea;
 pub use fault::JoinFault;
 pub use joining::join;
 pub use laws::joined_in_any_order;

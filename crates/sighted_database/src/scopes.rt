@@ -5,10 +5,9 @@ ghost use Rattle.std.specs.List.Sorted.{IsSorted};
 ghost use Rattle.lsa_instances.specs.Order.{scope_cmp};
 ghost use Rattle.lsa_instances.specs.declared.place.Scope.TheVariants.{Area};
 ghost use Rattle.sighted_database.specs.Joining.{AreScopes};
-ghost use Rattle.sighted_database.specs.Steps.{scopes_told, AreOnce, IsWide, is_behind};
+ghost use Rattle.sighted_database.specs.steps.Scopes.{scopes_told, AreOnce, IsWide, is_behind};
 
-use crate::area::ToldArea;
-use lsa_instances::{Scope, Sighting};
+use lsa_instances::{Scope, Sighting, ToldArea};
 use std::alloc::{AllocError, Allocator};
 use std::cmp::Ordering;
 

@@ -11,11 +11,10 @@ ghost use Rattle.sighted_database.specs.Joining.{head, section};
 ghost use Rattle.sighted_database.specs.Limits.{is_misplaced, is_overfull};
 ghost use Rattle.sighted_database.specs.declared.fault.JoinFault.TheVariants.{OutOfMemory, TooManyLsas};
 
-use crate::area::{ToldArea, is_stub};
+use crate::area::is_stub;
 use crate::fault::JoinFault;
 use crate::scopes::compare_scopes;
-use lsa_codec::{AS_OPAQUE_LSA, EXTERNAL_LSA};
-use lsa_instances::{Scope, Sighting};
+use lsa_instances::{Scope, Sighting, ToldArea, has_as_scope};
 use lsdb::{MOST_LSAS_OF_AREA, MOST_LSAS_OF_AS};
 use std::alloc::{AllocError, Allocator};
 
@@ -26,8 +25,7 @@ const START: &[u8] = b"OSWP\x01";
 fn is_misplaced<A: Allocator + Copy>(sighting: &Sighting<A>) -> bool
     ensures { result ≡ is_misplaced sighting.now }
 {
-    let kind = sighting.lsa.key().kind;
-    let has_as_scope = kind == EXTERNAL_LSA || kind == AS_OPAQUE_LSA;
+    let has_as_scope = has_as_scope(sighting.lsa.key().kind);
     match sighting.scope {
         Scope::Area(_) => has_as_scope,
         Scope::AsWide => !has_as_scope,
@@ -97,7 +95,7 @@ fn put_head<A: Allocator + Copy>(
         return Ok(());
     };
     out.extend_from_slice(&id.0.to_be_bytes())?;
-    out.push(if is_stub(areas, id.0) { 1 } else { 0 })?;
+    out.push(if is_stub(areas, id) { 1 } else { 0 })?;
     Ok(())
 }
 

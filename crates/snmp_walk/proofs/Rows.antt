@@ -1,46 +1,30 @@
 -- Sets of rows: what is in one and not in another.
-use Rattle.std.proofs.Common.{◌≡◌, ℕ, Bool, true, false, List, Option, Some, None, refl, sym, ap, subst, ◌∙◌}
+use Rattle.std.proofs.Common.{◌≡◌, true, List, Option, Some, None, refl, sym, ap, subst, ◌∙◌}
 use Rattle.std.specs.Prelude.{not, filter, ◌&&◌}
 use Rattle.std.specs.BTreeSet.{BTreeSet, IsFromIterResult, contains}
 use Rattle.std.specs.List.Sorted.{IsStrictlySortedBy}
 use Rattle.std.specs.Option.{option_cmp}
-use Rattle.std.specs.Ordering.{nat_cmp, ordering_then, is_eq, eq_by_cmp}
+use Rattle.std.specs.Ordering.{is_eq, eq_by_cmp}
 use Rattle.std.specs.declared.cmp.Ordering.{Ordering}
 use Rattle.std.specs.declared.cmp.Ordering.TheVariants.{Less, Equal, Greater}
 use Rattle.std.proofs.lemmas.List.Kept.{IsStrictlySortedBy-filter}
-use Rattle.std.proofs.lemmas.Map.Lookups.{exact_unsigned}
 use Rattle.std.proofs.lemmas.Map.Views.{any-filter_same}
 use Rattle.lsa_codec.specs.declared.address.AreaId.{AreaId}
-use Rattle.lsa_codec.specs.declared.key.Key.{Key}
-use Rattle.lsa_instances.specs.Order.{key_cmp}
+use Rattle.lsa_codec.specs.Order.{area_cmp, key_cmp}
+use Rattle.lsa_codec.proofs.OrderLemmas.{area_exact, key_exact, then_both}
 use Rattle.snmp_walk.specs.declared.row.Row.{Row}
-use Rattle.snmp_walk.specs.Missing.{area_cmp, row_cmp, has, AreMissing}
+use Rattle.snmp_walk.specs.Missing.{row_cmp, has, AreMissing}
 
-then_both : (r s : Ordering) → ordering_then r s ≡ Equal → (r ≡ Equal) × (s ≡ Equal)
-then_both Less s h = cc
-then_both Equal s h = (refl, h)
-then_both Greater s h = cc
-
-key_exact : (a b : Key) → key_cmp a b ≡ Equal → a ≡ b
-key_exact a b h =
-    let p = then_both (nat_cmp a.kind b.kind) _ h in
-    let q = then_both (nat_cmp a.id.0 b.id.0) (nat_cmp a.adv.0 b.adv.0) p.1 in
-    λ i. record {
-      kind = exact_unsigned a.kind b.kind p.0 i;
-      id = record { 0 = exact_unsigned a.id.0 b.id.0 q.0 i };
-      adv = record { 0 = exact_unsigned a.adv.0 b.adv.0 q.1 i };
-    }
-
-area_exact : (a b : Option AreaId) → option_cmp area_cmp a b ≡ Equal → a ≡ b
-area_exact None None h = refl
-area_exact None (Some b) h = cc
-area_exact (Some a) None h = cc
-area_exact (Some a) (Some b) h = ap (λ (n : ℕ). let id : AreaId = record { 0 = n } in Some id) (exact_unsigned a.0 b.0 h)
+area_of_row_exact : (a b : Option AreaId) → option_cmp area_cmp a b ≡ Equal → a ≡ b
+area_of_row_exact None None h = refl
+area_of_row_exact None (Some b) h = cc
+area_of_row_exact (Some a) None h = cc
+area_of_row_exact (Some a) (Some b) h = ap (λ (id : AreaId). Some id) (area_exact a b h)
 
 row_exact : (a b : Row) → row_cmp a b ≡ Equal → a ≡ b
 row_exact a b h =
     let p = then_both (option_cmp area_cmp a.area b.area) (key_cmp a.key b.key) h in
-    λ i. record { area = area_exact a.area b.area p.0 i; key = key_exact a.key b.key p.1 i }
+    λ i. record { area = area_of_row_exact a.area b.area p.0 i; key = key_exact a.key b.key p.1 i }
 
 eq_true : (o : Ordering) → is_eq o ≡ true → o ≡ Equal
 eq_true Less h = cc

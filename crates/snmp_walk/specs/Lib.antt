@@ -4,6 +4,7 @@ pub mod Names
 pub mod Subjects
 pub mod Values
 pub mod Printing
-pub mod Telling
-pub mod Walks
+pub mod ObjectsTold
+pub mod Sorting
 pub mod Missing
+pub mod steps

@@ -1,23 +1,18 @@
 -- The rows of which a walk has other columns and not the octets: it was cut.
-use Rattle.std.specs.Prelude.{◌≡◌, ◌&&◌, ℕ, Bool, not, List, ◌++◌, map, Option, Some, None}
+use Rattle.std.specs.Prelude.{◌≡◌, ◌&&◌, Bool, not, List, ◌++◌, map, Option, Some, None}
 use Rattle.std.specs.List.{filter_map, list_any}
 use Rattle.std.specs.List.Sorted.{IsStrictlySortedBy}
 use Rattle.std.specs.Option.{option_cmp}
-use Rattle.std.specs.Ordering.{nat_cmp, ordering_then, eq_by_cmp}
+use Rattle.std.specs.Ordering.{ordering_then, eq_by_cmp}
 use Rattle.std.specs.declared.cmp.Ordering.{Ordering}
-use Rattle.lsa_codec.specs.declared.address.AreaId.{AreaId}
-use Rattle.lsa_codec.specs.declared.key.Key.{Key}
-use Rattle.lsa_instances.specs.Order.{key_cmp}
+use Rattle.lsa_codec.specs.Order.{area_cmp, key_cmp}
 use Rattle.snmp_walk.specs.declared.hole.Hole.{Hole}
 use Rattle.snmp_walk.specs.declared.hole.Hole.TheVariants as holes
 use Rattle.snmp_walk.specs.declared.hole.RowFault.TheVariants.{Missing}
 use Rattle.snmp_walk.specs.declared.row.Row.{Row}
-use Rattle.snmp_walk.specs.declared.told.Told.{Told}
-use Rattle.snmp_walk.specs.declared.told.Told.TheVariants as tells
-use Rattle.snmp_walk.specs.Walks.{hole_of}
-
-abbrev pub area_cmp : AreaId → AreaId → Ordering
-area_cmp a b = nat_cmp a.0 b.0
+use Rattle.snmp_walk.specs.declared.object_told.ObjectTold.{ObjectTold}
+use Rattle.snmp_walk.specs.declared.object_told.ObjectTold.TheVariants as tells
+use Rattle.snmp_walk.specs.Sorting.{hole_of}
 
 -- by area, with none before all, and then by key
 abbrev pub row_cmp : Row → Row → Ordering
@@ -34,7 +29,7 @@ pub record AreMissing (columns octets rows : List Row) : Type 0 where
 
 module _ {A : Type 0} where
   -- the row of another column than that of the octets
-  abbrev pub column_row : Told A → Option Row
+  abbrev pub column_row : ObjectTold A → Option Row
   column_row (tells.Lsa row sighting) = None
   column_row (tells.Kind area) = None
   column_row (tells.Hole hole) = None
@@ -43,7 +38,7 @@ module _ {A : Type 0} where
   column_row tells.Foreign = None
 
   -- the row whose octets are there, be they an LSA or not
-  abbrev pub octets_row : Told A → Option Row
+  abbrev pub octets_row : ObjectTold A → Option Row
   octets_row (tells.Lsa row sighting) = Some row
   octets_row (tells.Kind area) = None
   octets_row (tells.Hole (holes.Row row fault)) = Some row
@@ -57,7 +52,7 @@ abbrev pub missing_row : Row → Hole
 missing_row row = holes.Row row Missing
 
 -- what objects tell in the order of the walk, and behind that the rows without octets
-pub record AreHoles {A : Type 0} (told : List (Told A)) (all : List Hole) : Type 0 where
+pub record AreHoles {A : Type 0} (told : List (ObjectTold A)) (all : List Hole) : Type 0 where
   pub rows : List Row
   pub missing : AreMissing (filter_map column_row told) (filter_map octets_row told) rows
   pub whole : all ≡ filter_map hole_of told ++ map missing_row rows

@@ -3,8 +3,8 @@ use Rattle.std.specs.Prelude.{ℕ, ◌==◌, not, Bool, true, false, List, [], �
 use Rattle.std.specs.List.{list_all}
 use Rattle.hex.specs.Hex.{decode_of}
 use Rattle.hex.specs.declared.error.FromHexError.{FromHexError}
-use Rattle.snmp_walk.specs.declared.kind.AreaKind.{AreaKind}
-use Rattle.snmp_walk.specs.declared.kind.AreaKind.TheVariants.{Ordinary, Stub, Nssa}
+use Rattle.lsa_instances.specs.declared.area.AreaKind.{AreaKind}
+use Rattle.lsa_instances.specs.declared.area.AreaKind.TheVariants.{Ordinary, Stub, Nssa}
 use Rattle.snmp_walk.specs.Text.{is_blank, behind, first_word}
 use Rattle.snmp_walk.specs.Names.{◌>>=◌}
 

@@ -6,21 +6,19 @@
 
 mod fault;
 mod hole;
-mod kind;
 mod laws;
 mod missing;
 mod name;
 mod object;
+mod object_told;
 mod row;
 mod subject;
 mod text;
-mod told;
 mod value;
 mod walk;
 
 pub use fault::WalkFault;
 pub use hole::{Hole, RowFault};
-pub use kind::{AreaKind, AreaTold};
 pub use laws::printed_octets_are_read;
 pub use row::Row;
 pub use walk::{Walk, read_walk};

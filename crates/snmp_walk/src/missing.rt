@@ -6,28 +6,28 @@ ghost use Rattle.std.specs.List.{filter_map};
 ghost use Rattle.snmp_walk.specs.Missing.{row_cmp, column_row, octets_row, missing_row, AreMissing};
 
 use crate::hole::{Hole, RowFault};
+use crate::object_told::ObjectTold;
 use crate::row::Row;
-use crate::told::Told;
 use std::alloc::{AllocError, Allocator};
 use std::collections::BTreeSet;
 
 /// The row of another column than that of the octets.
-fn column_row<A: Allocator + Copy>(told: &Told<A>) -> Option<Row>
+fn column_row<A: Allocator + Copy>(told: &ObjectTold<A>) -> Option<Row>
     ensures { result ≡ column_row told.now }
 {
     match told {
-        Told::Row(row) => Some(*row),
+        ObjectTold::Row(row) => Some(*row),
         _ => None,
     }
 }
 
 /// The row whose octets are there, be they an LSA or not.
-fn octets_row<A: Allocator + Copy>(told: &Told<A>) -> Option<Row>
+fn octets_row<A: Allocator + Copy>(told: &ObjectTold<A>) -> Option<Row>
     ensures { result ≡ octets_row told.now }
 {
     match told {
-        Told::Lsa(row, _) => Some(*row),
-        Told::Hole(Hole::Row(row, _)) => Some(*row),
+        ObjectTold::Lsa(row, _) => Some(*row),
+        ObjectTold::Hole(Hole::Row(row, _)) => Some(*row),
         _ => None,
     }
 }
@@ -35,7 +35,7 @@ fn octets_row<A: Allocator + Copy>(told: &Told<A>) -> Option<Row>
 /// The rows of which there are other columns.
 fn columns_of<A: Allocator + Copy>(
     alloc: A,
-    told: &[Told<A>],
+    told: &[ObjectTold<A>],
 ) -> Result<BTreeSet<Row, A>, AllocError>
     ensures { IfOk result (λ rows. IsFromIterResult row_cmp (filter_map column_row told.now) rows) }
 {
@@ -47,7 +47,7 @@ fn columns_of<A: Allocator + Copy>(
 /// The rows whose octets are there.
 fn octets_of<A: Allocator + Copy>(
     alloc: A,
-    told: &[Told<A>],
+    told: &[ObjectTold<A>],
 ) -> Result<BTreeSet<Row, A>, AllocError>
     ensures { IfOk result (λ rows. IsFromIterResult row_cmp (filter_map octets_row told.now) rows) }
 {
@@ -74,7 +74,7 @@ fn without<A: Allocator + Copy>(
 /// The rows that have other columns and no octets, each once, in order.
 pub(crate) fn rows_missing<A: Allocator + Copy>(
     alloc: A,
-    told: &[Told<A>],
+    told: &[ObjectTold<A>],
 ) -> Result<Vec<Row, A>, AllocError>
     ensures { IfOk result (λ rows. AreMissing
         (filter_map column_row told.now)

@@ -5,9 +5,9 @@ ghost use Rattle.std.specs.List.{list_all};
 ghost use Rattle.snmp_walk.specs.Text.{is_blank, first_word};
 ghost use Rattle.snmp_walk.specs.Values.{is_end_of_view, pairs_of, quoted_behind, string_in, octets_in, kind_named, kind_in};
 
-use crate::kind::AreaKind;
 use crate::text::{is_blank, word_len};
 use hex::FromHexError;
+use lsa_instances::AreaKind;
 use std::alloc::{AllocError, Allocator};
 
 /// Whether this stands in place of a value where the agent shows no more objects.

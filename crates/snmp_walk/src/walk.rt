@@ -4,15 +4,14 @@ ghost use Rattle.std.specs.Prelude.{◌≡◌, IfOk, IfErr, ◌⊎◌, true, fal
 ghost use Rattle.std.specs.List.{filter_map, list_any};
 ghost use Rattle.snmp_walk.specs.declared.fault.WalkFault.TheVariants as faults;
 ghost use Rattle.snmp_walk.specs.Missing.{AreHoles};
-ghost use Rattle.snmp_walk.specs.Telling.{told_in};
-ghost use Rattle.snmp_walk.specs.Walks.{sighting_of, kind_of, hole_of, is_of_mib};
+ghost use Rattle.snmp_walk.specs.ObjectsTold.{told_in};
+ghost use Rattle.snmp_walk.specs.Sorting.{sighting_of, kind_of, hole_of, is_of_mib};
 
 use crate::fault::WalkFault;
 use crate::hole::Hole;
-use crate::kind::AreaTold;
 use crate::missing::{add_missing, rows_missing};
-use crate::told::{Told, tellings};
-use lsa_instances::Sighting;
+use crate::object_told::{ObjectTold, tellings};
+use lsa_instances::{Sighting, ToldArea};
 use std::alloc::{AllocError, Allocator, Global};
 
 /// What a walk tells, in the order of the walk.
@@ -21,61 +20,64 @@ pub struct Walk<A: Allocator = Global> {
     /// The LSAs, octet for octet; a walk has no time stamps.
     pub sightings: Vec<Sighting<A>, A>,
     /// The kinds of areas.
-    pub kinds: Vec<AreaTold, A>,
+    pub kinds: Vec<ToldArea, A>,
     /// What is missing, or can not be used.
     pub holes: Vec<Hole, A>,
 }
 
 /// The LSA that an object tells.
-fn sighting_of<A: Allocator + Copy>(told: Told<A>) -> Option<Sighting<A>>
+fn sighting_of<A: Allocator + Copy>(told: ObjectTold<A>) -> Option<Sighting<A>>
     ensures { result ≡ sighting_of told }
 {
     match told {
-        Told::Lsa(_, sighting) => Some(sighting),
+        ObjectTold::Lsa(_, sighting) => Some(sighting),
         _ => None,
     }
 }
 
 /// The kind of an area that an object tells.
-fn kind_of<A: Allocator + Copy>(told: &Told<A>) -> Option<AreaTold>
+fn kind_of<A: Allocator + Copy>(told: &ObjectTold<A>) -> Option<ToldArea>
     ensures { result ≡ kind_of told.now }
 {
     match told {
-        Told::Kind(area) => Some(*area),
+        ObjectTold::Kind(area) => Some(*area),
         _ => None,
     }
 }
 
 /// The hole that an object tells.
-fn hole_of<A: Allocator + Copy>(told: &Told<A>) -> Option<Hole>
+fn hole_of<A: Allocator + Copy>(told: &ObjectTold<A>) -> Option<Hole>
     ensures { result ≡ hole_of told.now }
 {
     match told {
-        Told::Hole(hole) => Some(*hole),
+        ObjectTold::Hole(hole) => Some(*hole),
         _ => None,
     }
 }
 
 /// Whether it is of the OSPF-MIB; of a name that can not be read nobody knows.
-fn is_of_mib<A: Allocator + Copy>(told: &Told<A>) -> bool
+fn is_of_mib<A: Allocator + Copy>(told: &ObjectTold<A>) -> bool
     ensures { result ≡ is_of_mib told.now }
 {
     match told {
-        Told::Foreign => false,
-        Told::Hole(Hole::Name) => false,
+        ObjectTold::Foreign => false,
+        ObjectTold::Hole(Hole::Name) => false,
         _ => true,
     }
 }
 
 /// Whether an object of the OSPF-MIB is among them.
-fn is_walk<A: Allocator + Copy>(told: &[Told<A>]) -> bool
+fn is_walk<A: Allocator + Copy>(told: &[ObjectTold<A>]) -> bool
     ensures { result ≡ list_any is_of_mib told.now }
 {
     told.iter().any(|object| is_of_mib(object))
 }
 
 /// The kinds of areas.
-fn kinds_of<A: Allocator + Copy>(alloc: A, told: &[Told<A>]) -> Result<Vec<AreaTold, A>, AllocError>
+fn kinds_of<A: Allocator + Copy>(
+    alloc: A,
+    told: &[ObjectTold<A>],
+) -> Result<Vec<ToldArea, A>, AllocError>
     ensures { IfOk result (λ kinds. kinds.items ≡ filter_map kind_of told.now) }
 {
     told.iter()
@@ -84,7 +86,10 @@ fn kinds_of<A: Allocator + Copy>(alloc: A, told: &[Told<A>]) -> Result<Vec<AreaT
 }
 
 /// The holes that objects tell.
-fn holes_of<A: Allocator + Copy>(alloc: A, told: &[Told<A>]) -> Result<Vec<Hole, A>, AllocError>
+fn holes_of<A: Allocator + Copy>(
+    alloc: A,
+    told: &[ObjectTold<A>],
+) -> Result<Vec<Hole, A>, AllocError>
     ensures { IfOk result (λ holes. holes.items ≡ filter_map hole_of told.now) }
 {
     told.iter()
@@ -95,7 +100,7 @@ fn holes_of<A: Allocator + Copy>(alloc: A, told: &[Told<A>]) -> Result<Vec<Hole,
 /// The LSAs.
 fn sightings_of<A: Allocator + Copy>(
     alloc: A,
-    told: Vec<Told<A>, A>,
+    told: Vec<ObjectTold<A>, A>,
 ) -> Result<Vec<Sighting<A>, A>, AllocError>
     ensures { IfOk result (λ sightings. sightings.items ≡ filter_map sighting_of told.items) }
 {

@@ -2,16 +2,16 @@
 use Rattle.std.proofs.Common.{◌≡◌, Bool, true, false, List, [], ◌∷◌, ◌++◌, Option, Some, None, refl, sym, ap, subst, ◌∙◌}
 use Rattle.std.specs.Prelude.{not, ◌&&◌, ◌||◌, is_some, if◌then◌else◌}
 use Rattle.std.specs.BTreeMap.{BTreeMap, get, Updates}
-use Rattle.std.specs.Cmp.{IsTotalOrder}
 use Rattle.std.specs.List.{list_all, list_any}
 use Rattle.std.specs.Ordering.{eq_by_cmp, is_gt, is_lt, ordering_reverse}
 use Rattle.std.specs.declared.cmp.Ordering.{Ordering}
 use Rattle.std.specs.declared.cmp.Ordering.TheVariants.{Less, Equal, Greater}
-use Rattle.std.proofs.lemmas.Cmp.{nat_cmp_total, on_total, then_total}
 use Rattle.std.proofs.lemmas.List.Folds.{list_all-append, list_any-append}
+use Rattle.lsa_instances.specs.Instance.{issue_cmp}
+use Rattle.lsa_instances.proofs.OrderLemmas.{issue_total}
 use Rattle.unseen_lsas.specs.declared.named.NamedLsa.{NamedLsa}
-use Rattle.unseen_lsas.specs.declared.rank.Rank.{Rank}
-use Rattle.unseen_lsas.specs.Newer.{Instance, is_other_or_older, is_same_lsa, rank_cmp}
+use Rattle.lsa_instances.specs.declared.header.Issue.{Issue}
+use Rattle.unseen_lsas.specs.Newer.{Instance, is_other_or_older, is_same_lsa}
 use Rattle.unseen_lsas.specs.Unseen.{lsa_cmp}
 use Rattle.unseen_lsas.specs.steps.Newest.{AreNewest, is_over, newest_with}
 use Rattle.unseen_lsas.proofs.Sets.{eq_true, same_lsa}
@@ -32,10 +32,6 @@ pub and_false : (a : Bool) → (a && false) ≡ false
 and_false true = refl
 and_false false = refl
 
-rank_total : IsTotalOrder rank_cmp
-rank_total =
-    then_total (on_total (λ (r : Rank). r.sequence) nat_cmp_total) (on_total (λ (r : Rank). r.checksum) nat_cmp_total)
-
 -- ---- of two instances the newer one
 
 less : (o : Ordering) → is_lt o ≡ true → o ≡ Less
@@ -49,40 +45,40 @@ greater Less h = cc
 greater Equal h = cc
 
 -- what is older than an older one
-older_still : (known rank other : Rank) → rank_cmp known rank ≡ Greater → rank_cmp known other ≡ Less → rank_cmp rank other ≡ Less
-older_still known rank other h k = rank_total.trans rank known other (rank_total.antisymm rank known ∙ ap ordering_reverse h) k
+older_still : (known issue other : Issue) → issue_cmp known issue ≡ Greater → issue_cmp known other ≡ Less → issue_cmp issue other ≡ Less
+older_still known issue other h k = issue_total.trans issue known other (issue_total.antisymm issue known ∙ ap ordering_reverse h) k
 
 -- at a newer one, or at the same
-up_to : (known rank other : Rank) → is_gt (rank_cmp known rank) ≡ false → rank_cmp rank other ≡ Less → rank_cmp known other ≡ Less
-up_to known rank other h k = by (rank_cmp known rank) refl h
+up_to : (known issue other : Issue) → is_gt (issue_cmp known issue) ≡ false → issue_cmp issue other ≡ Less → issue_cmp known other ≡ Less
+up_to known issue other h k = by (issue_cmp known issue) refl h
   where
-    by : (o : Ordering) → rank_cmp known rank ≡ o → is_gt o ≡ false → rank_cmp known other ≡ Less
-    by Less e f = rank_total.trans known rank other e k
-    by Equal e f = rank_total.congr known rank other e ∙ k
+    by : (o : Ordering) → issue_cmp known issue ≡ o → is_gt o ≡ false → issue_cmp known other ≡ Less
+    by Less e f = issue_total.trans known issue other e k
+    by Equal e f = issue_total.congr known issue other e ∙ k
     by Greater e f = cc
 
 -- the newer of two is older than what both are older than
-newer_of_two : (known rank other : Rank)
-    → is_lt (rank_cmp (if is_gt (rank_cmp known rank) then known else rank) other) ≡ (is_lt (rank_cmp known other) && is_lt (rank_cmp rank other))
-newer_of_two known rank other = by (is_gt (rank_cmp known rank)) refl
+newer_of_two : (known issue other : Issue)
+    → is_lt (issue_cmp (if is_gt (issue_cmp known issue) then known else issue) other) ≡ (is_lt (issue_cmp known other) && is_lt (issue_cmp issue other))
+newer_of_two known issue other = by (is_gt (issue_cmp known issue)) refl
   where
-    first : (b : Bool) → is_lt (rank_cmp known other) ≡ b → is_gt (rank_cmp known rank) ≡ true → b ≡ (b && is_lt (rank_cmp rank other))
+    first : (b : Bool) → is_lt (issue_cmp known other) ≡ b → is_gt (issue_cmp known issue) ≡ true → b ≡ (b && is_lt (issue_cmp issue other))
     first false e h = refl
-    first true e h = sym (ap is_lt (older_still known rank other (greater _ h) (less _ e)))
+    first true e h = sym (ap is_lt (older_still known issue other (greater _ h) (less _ e)))
 
-    second : (b : Bool) → is_lt (rank_cmp rank other) ≡ b → is_gt (rank_cmp known rank) ≡ false → b ≡ (is_lt (rank_cmp known other) && b)
-    second false e h = sym (and_false (is_lt (rank_cmp known other)))
-    second true e h = sym (ap (λ o. is_lt o && true) (up_to known rank other h (less _ e)))
+    second : (b : Bool) → is_lt (issue_cmp issue other) ≡ b → is_gt (issue_cmp known issue) ≡ false → b ≡ (is_lt (issue_cmp known other) && b)
+    second false e h = sym (and_false (is_lt (issue_cmp known other)))
+    second true e h = sym (ap (λ o. is_lt o && true) (up_to known issue other h (less _ e)))
 
-    by : (b : Bool) → is_gt (rank_cmp known rank) ≡ b
-        → is_lt (rank_cmp (if b then known else rank) other) ≡ (is_lt (rank_cmp known other) && is_lt (rank_cmp rank other))
-    by true h = first (is_lt (rank_cmp known other)) refl h
-    by false h = second (is_lt (rank_cmp rank other)) refl h
+    by : (b : Bool) → is_gt (issue_cmp known issue) ≡ b
+        → is_lt (issue_cmp (if b then known else issue) other) ≡ (is_lt (issue_cmp known other) && is_lt (issue_cmp issue other))
+    by true h = first (is_lt (issue_cmp known other)) refl h
+    by false h = second (is_lt (issue_cmp issue other)) refl h
 
-over_both : (known : Option Rank) (rank other : Rank)
-    → is_over (Some (newest_with known rank)) other ≡ (is_over known other && is_lt (rank_cmp rank other))
-over_both None rank other = refl
-over_both (Some known) rank other = newer_of_two known rank other
+over_both : (known : Option Issue) (issue other : Issue)
+    → is_over (Some (newest_with known issue)) other ≡ (is_over known other && is_lt (issue_cmp issue other))
+over_both None issue other = refl
+over_both (Some known) issue other = newer_of_two known issue other
 
 -- ---- the same LSA
 
@@ -103,13 +99,13 @@ flip a b = by (eq_by_cmp lsa_cmp a b) (eq_by_cmp lsa_cmp b a) refl refl
 
 -- ---- one more
 
-module _ (shown : List Instance) (old new : BTreeMap NamedLsa Rank) (one : Instance) (known : AreNewest shown old)
+module _ (shown : List Instance) (old new : BTreeMap NamedLsa Issue) (one : Instance) (known : AreNewest shown old)
     (put : Updates lsa_cmp old new one.0 (Some (newest_with (get lsa_cmp old one.0) one.1))) where
   -- whether an instance is shown of an LSA, and what all that are shown are older than
   abbrev IsTold : NamedLsa → Type 0
   IsTold lsa =
       (is_some (get lsa_cmp new lsa) ≡ list_any (is_same_lsa lsa) (shown ++ one ∷ []))
-      × ((rank : Rank) → is_over (get lsa_cmp new lsa) rank ≡ list_all (is_other_or_older lsa rank) (shown ++ one ∷ []))
+      × ((issue : Issue) → is_over (get lsa_cmp new lsa) issue ≡ list_all (is_other_or_older lsa issue) (shown ++ one ∷ []))
 
   -- of this LSA
   here : eq_by_cmp lsa_cmp one.0 one.0 ≡ true → IsTold one.0
@@ -118,13 +114,13 @@ module _ (shown : List Instance) (old new : BTreeMap NamedLsa Rank) (one : Insta
         ∙ sym (or_true (list_any (is_same_lsa one.0) shown))
         ∙ sym (ap (λ b. list_any (is_same_lsa one.0) shown || (b || false)) self)
         ∙ sym (list_any-append (is_same_lsa one.0) shown (one ∷ [])),
-    λ rank.
-        ap (λ o. is_over o rank) put.1
-        ∙ over_both (get lsa_cmp old one.0) one.1 rank
-        ∙ ap (λ b. b && is_lt (rank_cmp one.1 rank)) (known.over one.0 rank)
-        ∙ sym (ap (λ b. list_all (is_other_or_older one.0 rank) shown && b) (and_true (is_lt (rank_cmp one.1 rank))))
-        ∙ sym (ap (λ b. list_all (is_other_or_older one.0 rank) shown && ((not b || is_lt (rank_cmp one.1 rank)) && true)) self)
-        ∙ sym (list_all-append (is_other_or_older one.0 rank) shown (one ∷ [])),
+    λ issue.
+        ap (λ o. is_over o issue) put.1
+        ∙ over_both (get lsa_cmp old one.0) one.1 issue
+        ∙ ap (λ b. b && is_lt (issue_cmp one.1 issue)) (known.over one.0 issue)
+        ∙ sym (ap (λ b. list_all (is_other_or_older one.0 issue) shown && b) (and_true (is_lt (issue_cmp one.1 issue))))
+        ∙ sym (ap (λ b. list_all (is_other_or_older one.0 issue) shown && ((not b || is_lt (issue_cmp one.1 issue)) && true)) self)
+        ∙ sym (list_all-append (is_other_or_older one.0 issue) shown (one ∷ [])),
   )
 
   -- of another
@@ -136,12 +132,12 @@ module _ (shown : List Instance) (old new : BTreeMap NamedLsa Rank) (one : Insta
             ∙ sym (or_false (list_any (is_same_lsa lsa) shown))
             ∙ sym (ap (λ b. list_any (is_same_lsa lsa) shown || (b || false)) away)
             ∙ sym (list_any-append (is_same_lsa lsa) shown (one ∷ [])),
-        λ rank.
-            ap (λ o. is_over o rank) (put.2 lsa apart)
-            ∙ known.over lsa rank
-            ∙ sym (and_true (list_all (is_other_or_older lsa rank) shown))
-            ∙ sym (ap (λ b. list_all (is_other_or_older lsa rank) shown && ((not b || is_lt (rank_cmp one.1 rank)) && true)) away)
-            ∙ sym (list_all-append (is_other_or_older lsa rank) shown (one ∷ [])),
+        λ issue.
+            ap (λ o. is_over o issue) (put.2 lsa apart)
+            ∙ known.over lsa issue
+            ∙ sym (and_true (list_all (is_other_or_older lsa issue) shown))
+            ∙ sym (ap (λ b. list_all (is_other_or_older lsa issue) shown && ((not b || is_lt (issue_cmp one.1 issue)) && true)) away)
+            ∙ sym (list_all-append (is_other_or_older lsa issue) shown (one ∷ [])),
       )
 
   told : (lsa : NamedLsa) → IsTold lsa
@@ -154,4 +150,4 @@ module _ (shown : List Instance) (old new : BTreeMap NamedLsa Rank) (one : Insta
       by false h = other lsa h
 
   pub one_more : AreNewest (shown ++ one ∷ []) new
-  one_more = record { which = λ lsa. let t = told lsa in t.0; over = λ lsa rank. let t = told lsa in t.1 rank }
+  one_more = record { which = λ lsa. let t = told lsa in t.0; over = λ lsa issue. let t = told lsa in t.1 issue }

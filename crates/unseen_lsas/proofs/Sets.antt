@@ -3,17 +3,14 @@ use Rattle.std.proofs.Common.{◌≡◌, true, false, List, refl, sym, ap, subst
 use Rattle.std.specs.Prelude.{not, filter, ◌&&◌, Bool, ℕ}
 use Rattle.std.specs.BTreeSet.{BTreeSet, IsFromIterResult, contains}
 use Rattle.std.specs.List.Sorted.{IsStrictlySortedBy}
-use Rattle.std.specs.Ordering.{bool_cmp, nat_cmp, ordering_then, is_eq, eq_by_cmp}
+use Rattle.std.specs.Ordering.{bool_cmp, nat_cmp, is_eq, eq_by_cmp}
 use Rattle.std.specs.declared.cmp.Ordering.{Ordering}
 use Rattle.std.specs.declared.cmp.Ordering.TheVariants.{Less, Equal, Greater}
 use Rattle.std.proofs.lemmas.List.Kept.{IsStrictlySortedBy-filter}
 use Rattle.std.proofs.lemmas.Map.Lookups.{exact_unsigned}
 use Rattle.std.proofs.lemmas.Map.Views.{any-filter_same}
 use Rattle.lsa_codec.specs.declared.key.Key.{Key}
-use Rattle.lsa_instances.proofs.PlaceLemmas.{same_place}
-use Rattle.lsa_instances.specs.declared.place.Place.{Place}
-use Rattle.lsa_instances.specs.declared.place.Scope.TheVariants.{AsWide}
-use Rattle.lsa_instances.specs.Order.{key_cmp}
+use Rattle.lsa_codec.proofs.OrderLemmas.{key_exact, then_both}
 use Rattle.unseen_lsas.specs.declared.named.NamedLsa.{NamedLsa}
 use Rattle.unseen_lsas.specs.Unseen.{has, lsa_cmp, AreUnseen}
 
@@ -22,22 +19,11 @@ eq_true Less h = cc
 eq_true Equal h = refl
 eq_true Greater h = cc
 
-then_both : (r s : Ordering) → ordering_then r s ≡ Equal → (r ≡ Equal) × (s ≡ Equal)
-then_both Less s h = cc
-then_both Equal s h = (refl, h)
-then_both Greater s h = cc
-
 same_bool : (a b : Bool) → bool_cmp a b ≡ Equal → a ≡ b
 same_bool false false h = refl
 same_bool true true h = refl
 same_bool false true h = cc
 same_bool true false h = cc
-
-abbrev in_as : Key → Place
-in_as key = record { scope = AsWide; key = key }
-
-same_key : (a b : Key) → key_cmp a b ≡ Equal → a ≡ b
-same_key a b h = ap (λ (p : Place). p.key) (same_place (in_as a) (in_as b) h)
 
 abbrev named : Bool → ℕ → Key → NamedLsa
 named is_as_wide area key = record { is_as_wide = is_as_wide; area = record { 0 = area }; key = key }
@@ -48,7 +34,7 @@ same_lsa a b h =
     let q = then_both (nat_cmp a.area.0 b.area.0) _ p.1 in
     ap (λ (wide : Bool). named wide a.area.0 a.key) (same_bool a.is_as_wide b.is_as_wide p.0)
     ∙ ap (λ (area : ℕ). named b.is_as_wide area a.key) (exact_unsigned a.area.0 b.area.0 q.0)
-    ∙ ap (λ (key : Key). named b.is_as_wide b.area.0 key) (same_key a.key b.key q.1)
+    ∙ ap (λ (key : Key). named b.is_as_wide b.area.0 key) (key_exact a.key b.key q.1)
 
 pub left_over : (all shown : List NamedLsa) (these others : BTreeSet NamedLsa) (left : List NamedLsa) → IsFromIterResult lsa_cmp all these
     → IsFromIterResult lsa_cmp shown others → left ≡ filter (λ lsa. not (contains lsa_cmp others lsa)) these.keys → AreUnseen all shown left

@@ -1,47 +1,28 @@
 -- LSAs of which headers name a newer instance than any that is shown (RFC 2328, 13.1).
-use Rattle.std.specs.Prelude.{◌≡◌, ◌&&◌, ◌||◌, ℕ, Bool, not, bit_xor, if◌then◌else◌, List, map, Option, None, Some}
+use Rattle.std.specs.Prelude.{◌≡◌, ◌&&◌, ◌||◌, Bool, not, if◌then◌else◌, List, map, Option, None, Some}
 use Rattle.std.specs.List.{filter_map, flat_map, list_all, list_any}
 use Rattle.std.specs.List.Sorted.{IsStrictlySortedBy}
-use Rattle.std.specs.Ordering.{nat_cmp, ordering_then, eq_by_cmp, is_lt}
-use Rattle.std.specs.declared.cmp.Ordering.{Ordering}
-use Rattle.lsa_codec.specs.Fields.{checksum_of}
+use Rattle.std.specs.Ordering.{eq_by_cmp, is_lt}
 use Rattle.lsa_instances.specs.declared.header.Header.{Header}
+use Rattle.lsa_instances.specs.declared.header.Issue.{Issue}
 use Rattle.lsa_instances.specs.declared.sighting.Sighting.{Sighting}
 use Rattle.lsa_instances.specs.Headers.{is_at_max_age}
-use Rattle.lsa_instances.specs.Instance.{sequence_of}
-use Rattle.network_files.specs.declared.telling.FileTold.{FileTold}
+use Rattle.lsa_instances.specs.Instance.{issue_cmp, issue_of}
+use Rattle.network_files.specs.declared.file_told.FileTold.{FileTold}
 use Rattle.unseen_lsas.specs.declared.named.NamedLsa.{NamedLsa}
-use Rattle.unseen_lsas.specs.declared.rank.Rank.{Rank}
 use Rattle.unseen_lsas.specs.Unseen.{has, lsa_cmp, named_at, shown_by}
-
--- a sequence number as a signed number of 32 bits, counted from the least of them: the top bit changed (12.1.6)
-abbrev pub signed : ℕ → ℕ
-signed sequence = bit_xor sequence 0x8000_0000
-
-abbrev pub ranked : ℕ → ℕ → Rank
-ranked sequence checksum = record { sequence = signed sequence; checksum = checksum }
-
--- `Less` where the first is older: by LS sequence number, then by LS checksum
-abbrev pub rank_cmp : Rank → Rank → Ordering
-rank_cmp a b = ordering_then (nat_cmp a.sequence b.sequence) (nat_cmp a.checksum b.checksum)
 
 -- an instance of an LSA, but for its age
 abbrev pub Instance : Type 0
-Instance = NamedLsa × Rank
-
-abbrev pub header_rank : Header → Rank
-header_rank header = ranked header.issue.sequence header.issue.checksum
+Instance = NamedLsa × Issue
 
 -- the instance that a header names, unless it is at MaxAge: then it flushes the LSA (14.1)
 abbrev pub instance_named : Header → Option Instance
-instance_named header = if is_at_max_age header then None else Some (named_at header.place, header_rank header)
-
-abbrev pub lsa_rank : List ℕ → Rank
-lsa_rank lsa = ranked (sequence_of lsa) (checksum_of lsa)
+instance_named header = if is_at_max_age header then None else Some (named_at header.place, header.issue)
 
 -- the instance that is seen, at whatever age
 abbrev pub of_sighting : {A : Type 0} → Sighting A → Instance
-of_sighting seen = (shown_by seen, lsa_rank seen.lsa)
+of_sighting seen = (shown_by seen, issue_of seen.lsa)
 
 -- of all files, one after another
 abbrev pub headers_of : {A : Type 0} → List (FileTold A) → List Instance
@@ -54,8 +35,8 @@ abbrev pub is_same_lsa : NamedLsa → Instance → Bool
 is_same_lsa lsa other = eq_by_cmp lsa_cmp lsa other.0
 
 -- of another LSA, or older
-abbrev pub is_other_or_older : NamedLsa → Rank → Instance → Bool
-is_other_or_older lsa rank other = not (is_same_lsa lsa other) || is_lt (rank_cmp other.1 rank)
+abbrev pub is_other_or_older : NamedLsa → Issue → Instance → Bool
+is_other_or_older lsa issue other = not (is_same_lsa lsa other) || is_lt (issue_cmp other.1 issue)
 
 -- an instance of the LSA is shown, and each that is shown is older
 abbrev pub is_newer : List Instance → Instance → Bool

@@ -2,7 +2,7 @@
 use Rattle.std.specs.Prelude.{◌≡◌, ℕ, List, ◌++◌, codes, flat_map, if◌then◌else◌}
 use Rattle.lsa_codec.specs.Spelling.{address_text}
 use Rattle.lsa_instances.specs.Texts.{key_text}
-use Rattle.network_files.specs.declared.telling.FileTold.{FileTold}
+use Rattle.network_files.specs.declared.file_told.FileTold.{FileTold}
 use Rattle.unseen_lsas.specs.declared.named.NamedLsa.{NamedLsa}
 use Rattle.unseen_lsas.specs.Newer.{AreNewer, headers_of, shown_of}
 use Rattle.unseen_lsas.specs.Unseen.{AreUnseen, all_named, all_shown}

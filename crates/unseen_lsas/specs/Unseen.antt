@@ -5,14 +5,15 @@ use Rattle.std.specs.List.Sorted.{IsStrictlySortedBy}
 use Rattle.std.specs.Ordering.{bool_cmp, nat_cmp, ordering_then, eq_by_cmp}
 use Rattle.std.specs.declared.cmp.Ordering.{Ordering}
 use Rattle.lsa_codec.specs.declared.key.Key.{Key}
+use Rattle.lsa_codec.specs.Order.{key_cmp}
 use Rattle.lsa_instances.specs.declared.header.Header.{Header}
 use Rattle.lsa_instances.specs.declared.place.Place.{Place}
 use Rattle.lsa_instances.specs.Headers.{is_at_max_age}
 use Rattle.lsa_instances.specs.declared.place.Scope.{Scope}
 use Rattle.lsa_instances.specs.declared.place.Scope.TheVariants.{Area, AsWide}
 use Rattle.lsa_instances.specs.declared.sighting.Sighting.{Sighting}
-use Rattle.lsa_instances.specs.Order.{key_cmp, place_of}
-use Rattle.network_files.specs.declared.telling.FileTold.{FileTold}
+use Rattle.lsa_instances.specs.Order.{place_of}
+use Rattle.network_files.specs.declared.file_told.FileTold.{FileTold}
 use Rattle.unseen_lsas.specs.declared.named.NamedLsa.{NamedLsa}
 
 -- the LSA with a key, where LSAs of a scope are flooded

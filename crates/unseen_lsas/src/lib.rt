@@ -11,7 +11,6 @@ mod lines;
 mod missing;
 mod named;
 mod newest;
-mod rank;
 mod shown;
 
 pub use lines::header_lines;

@@ -10,29 +10,36 @@ ghost use Rattle.unseen_lsas.specs.steps.Newest.{newer_by, newest_with};
 
 use crate::missing::once;
 use crate::named::{NamedLsa, named_at};
-use crate::rank::{Rank, header_rank, of_sighting};
-use lsa_instances::{Header, Sighting};
+use crate::shown::shown_by;
+use lsa_instances::{Header, Issue, Sighting, compare_issues};
 use network_files::FileTold;
 use std::alloc::{AllocError, Allocator};
 use std::collections::{BTreeMap, BTreeSet};
 
 /// The newest instance that is shown of each LSA.
-type Newest<A> = BTreeMap<NamedLsa, Rank, A>;
+type Newest<A> = BTreeMap<NamedLsa, Issue, A>;
+
+/// The instance that is seen, behind its LSA.
+fn of_sighting<A: Allocator + Copy>(sighting: &Sighting<A>) -> (NamedLsa, Issue)
+    ensures { result ≡ of_sighting sighting.now }
+{
+    (shown_by(sighting), Issue::of(&sighting.lsa))
+}
 
 /// Adds an instance that is shown.
 fn put_shown<A: Allocator + Copy>(
     newest: &mut Newest<A>,
     lsa: NamedLsa,
-    rank: Rank,
+    issue: Issue,
 ) -> Result<(), AllocError>
     ensures { OnOk result (Updates lsa_cmp newest.old newest.new lsa
-        (Some (newest_with (get lsa_cmp newest.old lsa) rank))) }
+        (Some (newest_with (get lsa_cmp newest.old lsa) issue))) }
 {
-    let newest_rank = match newest.get(&lsa) {
-        Some(known) if *known > rank => *known,
-        _ => rank,
+    let newest_issue = match newest.get(&lsa) {
+        Some(known) if compare_issues(*known, issue).is_gt() => *known,
+        _ => issue,
     };
-    newest.insert(lsa, newest_rank)?;
+    newest.insert(lsa, newest_issue)?;
     Ok(())
 }
 
@@ -45,8 +52,8 @@ fn put_sightings<A: Allocator + Copy>(
         → AreNewest (shown ++ map of_sighting sightings.now) newest.new) }
 {
     for sighting in sightings {
-        let (lsa, rank) = of_sighting(sighting);
-        put_shown(newest, lsa, rank)?;
+        let (lsa, issue) = of_sighting(sighting);
+        put_shown(newest, lsa, issue)?;
     }
     Ok(())
 }
@@ -66,11 +73,11 @@ fn newest_shown<A: Allocator + Copy>(
 }
 
 /// Whether an instance of the LSA is shown, and the newest is older than this one.
-fn is_over_some<A: Allocator + Copy>(newest: &Newest<A>, lsa: NamedLsa, rank: Rank) -> bool
-    ensures { result ≡ is_over_some (get lsa_cmp newest.now lsa) rank }
+fn is_over_some<A: Allocator + Copy>(newest: &Newest<A>, lsa: NamedLsa, issue: Issue) -> bool
+    ensures { result ≡ is_over_some (get lsa_cmp newest.now lsa) issue }
 {
     match newest.get(&lsa) {
-        Some(shown) => *shown < rank,
+        Some(shown) => compare_issues(*shown, issue).is_lt(),
         None => false,
     }
 }
@@ -83,7 +90,7 @@ fn is_newer_by<A: Allocator + Copy>(newest: &Newest<A>, header: &Header) -> bool
     if header.is_at_max_age() {
         false
     } else {
-        is_over_some(newest, named_at(header.place), header_rank(header))
+        is_over_some(newest, named_at(header.place), header.issue)
     }
 }
 

@@ -21,7 +21,7 @@ fn named_by(header: &Header) -> Option<NamedLsa>
 }
 
 /// The LSA of which this is an instance.
-fn shown_by<A: Allocator + Copy>(sighting: &Sighting<A>) -> NamedLsa
+pub(crate) fn shown_by<A: Allocator + Copy>(sighting: &Sighting<A>) -> NamedLsa
     ensures { result ≡ shown_by sighting.now }
 {
     named_at(sighting.place())

@@ -1,7 +1,7 @@
 use Rattle.std.proofs.Common.{sym}
 use Rattle.std.proofs.lemmas.List.{map_push}
 use Rattle.std.proofs.lemmas.Result.{err_from_is_err_and}
-use Rattle.capture_files.specs.Told.{packet_of}
+use Rattle.capture_files.specs.CaptureTexts.{packet_of}
 use Rattle.capture_files.proofs.Records.{next_record, lie_told}
 use Rattle.capture_files.proofs.pcap.read_records.Goals as goal
 

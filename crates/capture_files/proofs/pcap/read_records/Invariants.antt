@@ -1,5 +1,5 @@
 use Rattle.std.proofs.Common.{◌≤◌, ◌-◌, length, drop, map}
-use Rattle.capture_files.specs.Told.{packet_of}
+use Rattle.capture_files.specs.CaptureTexts.{packet_of}
 use Rattle.capture_files.specs.Pcap.{AreRecords}
 use Rattle.capture_files.proofs.pcap.read_records.Given as goal
 

@@ -2,7 +2,7 @@ use Rattle.std.proofs.Common.{◌∙◌, sym}
 use Rattle.printed_databases.specs.Words.{words}
 use Rattle.database_lists.specs.Lines.{lines}
 use Rattle.database_lists.specs.Sorting.{is_title}
-use Rattle.database_lists.proofs.Tellings.{first_line, last_line, line_here, line_later, line_last}
+use Rattle.database_lists.proofs.LinesTold.{first_line, last_line, line_here, line_later, line_last}
 use Rattle.database_lists.proofs.list.has_title.Goals as goal
 
 pub returns-then-is_title : goal.returns-then-is_title

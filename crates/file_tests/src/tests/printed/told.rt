@@ -6,8 +6,8 @@ use super::pieces::{
     TYPE_2_OCTETS,
 };
 use lsa_codec::{AreaId, LsaFault};
-use lsa_instances::Scope;
-use printed_databases::{AreaKind, AreaTold, Hole, is_printed, read_printed};
+use lsa_instances::{AreaKind, Scope, ToldArea};
+use printed_databases::{Hole, is_printed, read_printed};
 use std::alloc::Global;
 use std::test::*;
 
@@ -89,16 +89,16 @@ fn a_heading_tells_the_kind_of_its_area(rt: HostRuntime) -> Result<(), Fail> {
         Net Link States (Area 0.0.0.0)\n",
     )?;
     let kinds = [
-        AreaTold {
-            area: AreaId(2),
+        ToldArea {
+            id: AreaId(2),
             kind: AreaKind::Stub,
         },
-        AreaTold {
-            area: AreaId(7),
+        ToldArea {
+            id: AreaId(7),
             kind: AreaKind::Nssa,
         },
-        AreaTold {
-            area: AreaId(0),
+        ToldArea {
+            id: AreaId(0),
             kind: AreaKind::Ordinary,
         },
     ];

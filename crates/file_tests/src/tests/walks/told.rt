@@ -2,8 +2,7 @@
 
 use super::pieces::{DEFAULT, EXTERNAL, NETWORK, NUMERIC, told};
 use lsa_codec::AreaId;
-use lsa_instances::Scope;
-use snmp_walk::{AreaKind, AreaTold};
+use lsa_instances::{AreaKind, Scope, ToldArea};
 use std::alloc::Global;
 use std::test::*;
 
@@ -44,12 +43,12 @@ fn the_words_of_the_mib_are_read(rt: HostRuntime) -> Result<(), Fail> {
 fn kinds_of_areas_are_told(rt: HostRuntime) -> Result<(), Fail> {
     let text: &[u8] = b".1.3.6.1.2.1.14.2.1.3.0.0.0.1 = INTEGER: 1\n\
         OSPF-MIB::ospfImportAsExtern.0.0.0.2 = INTEGER: importNoExternal(2)\n";
-    let ordinary = AreaTold {
-        area: AreaId(1),
+    let ordinary = ToldArea {
+        id: AreaId(1),
         kind: AreaKind::Ordinary,
     };
-    let stub = AreaTold {
-        area: AreaId(2),
+    let stub = ToldArea {
+        id: AreaId(2),
         kind: AreaKind::Stub,
     };
     let walk = told(rt.alloc(), text)?;

@@ -2,7 +2,7 @@ use Rattle.std.proofs.Common.{◌≡◌, ◌+◌, ◌<◌, ◌∙◌, sym, ap, s
 use Rattle.std.specs.List.Sorted.{IsSorted}
 use Rattle.std.proofs.lemmas.List.{take_more}
 use Rattle.lsa_instances.specs.declared.sighting.Sighting.{Sighting}
-use Rattle.lsa_instances.specs.Order.{sighting_cmp}
+use Rattle.lsa_instances.specs.steps.SightingOrder.{sighting_cmp}
 use Rattle.lsa_instances.proofs.Comparing.{Behind}
 use Rattle.lsa_instances.proofs.Steps.{behind, looked_at}
 use Rattle.lsa_instances.proofs.choice.newest_of_sorted.Goals as goal

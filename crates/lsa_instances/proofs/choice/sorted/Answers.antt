@@ -1,8 +1,8 @@
 use Rattle.std.proofs.Common.{◌≡◌, ap, rules}
 use Rattle.std.specs.Ordering.{is_lt}
 use Rattle.std.proofs.lemmas.List.Sorted.{answers_always, ranks_by}
-use Rattle.lsa_instances.specs.Order.{sighting_cmp}
-use Rattle.lsa_instances.proofs.Orders.{sighting_total}
+use Rattle.lsa_instances.specs.steps.SightingOrder.{sighting_cmp}
+use Rattle.lsa_instances.proofs.OrderLemmas.{sighting_total}
 use Rattle.lsa_instances.proofs.choice.sorted.Goals as goal
 
 pub returns-clause-order : goal.returns-clause-order

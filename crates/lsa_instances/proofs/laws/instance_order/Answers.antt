@@ -1,4 +1,4 @@
-use Rattle.lsa_instances.proofs.Orders.{instance_total, instance_exact}
+use Rattle.lsa_instances.proofs.OrderLemmas.{instance_total, instance_exact}
 use Rattle.lsa_instances.proofs.Rule.{extends}
 use Rattle.lsa_instances.proofs.laws.instance_order.Goals as goal
 

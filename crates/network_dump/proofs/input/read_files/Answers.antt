@@ -1,7 +1,8 @@
 use Rattle.std.proofs.Common.{◌≡◌, ◌<◌, ap, refl, false, get_or, length, Err, arith, rules}
 use Rattle.std.proofs.lemmas.List.Elements.{All-set}
 use Rattle.streams.specs.Watched.{has_failed}
-use Rattle.network_dump.specs.Runs.{IsReadEnd, known}
+use Rattle.network_dump.specs.Runs.{known}
+use Rattle.network_dump.specs.steps.Inputs.{IsReadEnd}
 use Rattle.network_dump.proofs.Inputs.{IfErr-same, read_end, rest_more, told_more, unfailed_by_err, unfailed_by_ok}
 use Rattle.network_dump.proofs.input.read_files.Goals as goal
 

@@ -1,5 +1,5 @@
 use Rattle.std.proofs.lemmas.Result.{IfOk-weaker}
-use Rattle.network_findings.proofs.Both.{in_both}
+use Rattle.network_findings.proofs.AreaSets.{in_both}
 use Rattle.network_findings.proofs.both_kinds.both_told.Goals as goal
 
 pub returns : goal.returns

@@ -2,7 +2,7 @@ use Rattle.std.proofs.Common.{ap, ◌∙◌}
 use Rattle.std.proofs.lemmas.Result.{IfOk-weaker}
 use Rattle.network_files.specs.Dumps.{areas_of}
 use Rattle.network_findings.specs.NoKind.{without_kind}
-use Rattle.network_findings.proofs.Both.{those_left}
+use Rattle.network_findings.proofs.AreaSets.{those_left}
 use Rattle.network_findings.proofs.no_kind.areas_without_kind.Goals as goal
 
 pub returns : goal.returns

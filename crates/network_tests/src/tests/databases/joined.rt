@@ -2,8 +2,8 @@
 //! the sequence numbers 80000003 and 80000004, and an AS-external-LSA of 10.255.0.5.
 
 use lsa_codec::{AreaId, Lsa};
-use lsa_instances::{FlushedLsas, Scope, Sighting};
-use sighted_database::{JoinFault, ToldArea, join};
+use lsa_instances::{AreaKind, FlushedLsas, Scope, Sighting, ToldArea};
+use sighted_database::{JoinFault, join};
 use std::alloc::Global;
 use std::test::*;
 
@@ -52,7 +52,7 @@ fn sections_stand_in_order(rt: HostRuntime) -> Result<(), Fail> {
     add(&mut told, alloc, Scope::Area(AreaId(0)), OLDER)?;
     let stub = ToldArea {
         id: AreaId(1),
-        is_stub: true,
+        kind: AreaKind::Stub,
     };
     let dump = join(alloc, FlushedLsas::LeftOut, told, &[stub])?.dump()?;
     let head: &[u8] = b"OSWP\x01\x02\0\0\0\0\0\0\x01";

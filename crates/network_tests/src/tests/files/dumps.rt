@@ -3,9 +3,8 @@
 use super::pieces::{CAPTURE, DUMP, JSON, TEXT, WALK};
 use capture_files::End;
 use lsa_codec::AreaId;
-use lsa_instances::FlushedLsas;
+use lsa_instances::{AreaKind, FlushedLsas, ToldArea};
 use network_files::{FileKind, FileTold, Oddities, dump_of_files, told_of};
-use sighted_database::ToldArea;
 use std::alloc::Global;
 use std::test::*;
 
@@ -67,11 +66,10 @@ fn a_cut_capture_tells_what_is_whole(rt: HostRuntime) -> Result<(), Fail> {
     let told = told_of(alloc, &CAPTURE[..243])?;
     let stub = ToldArea {
         id: AreaId(2),
-        is_stub: true,
+        kind: AreaKind::Stub,
     };
     assert_eq!(rt; told.sightings.len(), 0);
     assert!(rt; told.areas.as_slice() == [stub].as_slice());
-    assert_eq!(rt; told.nssas.len(), 0);
     assert!(rt; matches!(told.oddities, Oddities::Frames(_, End::Cut(118))));
     Ok(())
 }
@@ -79,11 +77,11 @@ fn a_cut_capture_tells_what_is_whole(rt: HostRuntime) -> Result<(), Fail> {
 #[test]
 fn an_nssa_is_told_and_is_no_stub_area(rt: HostRuntime) -> Result<(), Fail> {
     let told = told_of(rt.alloc(), b".1.3.6.1.2.1.14.2.1.3.0.0.0.7 = INTEGER: 3\n")?;
-    let ordinary = ToldArea {
+    let nssa = ToldArea {
         id: AreaId(7),
-        is_stub: false,
+        kind: AreaKind::Nssa,
     };
-    assert!(rt; told.areas.as_slice() == [ordinary].as_slice());
-    assert!(rt; told.nssas.as_slice() == [AreaId(7)].as_slice());
+    assert!(rt; told.areas.as_slice() == [nssa].as_slice());
+    assert!(rt; !nssa.kind.is_stub());
     Ok(())
 }

@@ -1,5 +1,5 @@
 use Rattle.std.proofs.Common.{◌≡◌, map, drop}
-use Rattle.capture_files.specs.Told.{packet_of}
+use Rattle.capture_files.specs.CaptureTexts.{packet_of}
 use Rattle.ospf_packets.specs.Datagrams.{datagram_text}
 use Rattle.ospf_packets.specs.Fragments.{joined}
 use Rattle.ospf_packets.proofs.fragment.joined.Given as goal

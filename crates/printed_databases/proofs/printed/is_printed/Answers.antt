@@ -1,6 +1,6 @@
 use Rattle.std.proofs.Common.{◌∙◌, sym}
 use Rattle.printed_databases.specs.Words.{words}
-use Rattle.printed_databases.proofs.Tellings.{printed_here, printed_later, printed_nowhere}
+use Rattle.printed_databases.proofs.PartsTold.{printed_here, printed_later, printed_nowhere}
 use Rattle.printed_databases.proofs.printed.is_printed.Goals as goal
 
 pub returns-then-begins_here : goal.returns-then-begins_here

@@ -3,7 +3,7 @@ use Rattle.lsdb.specs.Limits.{longest_dump}
 use Rattle.lsdb.specs.Lists.{IsDatabase, Lists, size}
 use Rattle.lsdb.specs.Places.{lists_of}
 use Rattle.sighted_database.specs.Joining.{section}
-use Rattle.sighted_database.proofs.Whole.{if_both, is_database, too_long}
+use Rattle.sighted_database.proofs.Joined.{if_both, is_database, too_long}
 use Rattle.sighted_database.proofs.joining.database_of.Goals as goal
 
 pub returns-then-len-gt-LONGEST_DUMP-clause-fault : goal.returns-then-len-gt-LONGEST_DUMP-clause-fault

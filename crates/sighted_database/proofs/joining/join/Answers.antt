@@ -4,8 +4,8 @@ use Rattle.lsa_instances.specs.declared.sighting.Sighting.{Sighting}
 use Rattle.sighted_database.specs.declared.fault.JoinFault.TheVariants.{OutOfMemory}
 use Rattle.sighted_database.specs.Joining.{Joining, joined}
 use Rattle.sighted_database.specs.Limits.{fault_of}
-use Rattle.sighted_database.specs.Steps.{HaveRisingKeys}
-use Rattle.sighted_database.proofs.Whole.{joining_of}
+use Rattle.sighted_database.specs.steps.Scopes.{HaveRisingKeys}
+use Rattle.sighted_database.proofs.Joined.{joining_of}
 use Rattle.sighted_database.proofs.joining.join.Goals as goal
 
 pub database_of-requires-clause-rising : goal.database_of-requires-clause-rising

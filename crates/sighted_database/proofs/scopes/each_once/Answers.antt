@@ -2,7 +2,7 @@ use Rattle.std.proofs.Common.{◌≡◌, ◌<◌, ◌∙◌, sym, ap, true, fals
 use Rattle.std.proofs.lemmas.List.{get_or_default}
 use Rattle.lsa_instances.specs.declared.place.Scope.{Scope}
 use Rattle.lsa_instances.specs.declared.place.Scope.TheVariants.{Area}
-use Rattle.sighted_database.specs.Steps.{AreOnce, is_behind}
+use Rattle.sighted_database.specs.steps.Scopes.{AreOnce, is_behind}
 use Rattle.sighted_database.proofs.Growing.{item_more}
 use Rattle.sighted_database.proofs.Rising.{known, new, reaches}
 use Rattle.sighted_database.proofs.scopes.each_once.Goals.{then-is_behind+in_ok-push, else-is_behind}

@@ -1,5 +1,5 @@
 use Rattle.std.proofs.Common.{take}
-use Rattle.sighted_database.specs.Steps.{AreOnce}
+use Rattle.sighted_database.specs.steps.Scopes.{AreOnce}
 use Rattle.sighted_database.proofs.scopes.each_once.Given as goal
 
 abbrev pub invariant-loop-scope : goal.invariant-loop-scope

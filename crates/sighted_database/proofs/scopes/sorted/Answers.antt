@@ -2,7 +2,7 @@ use Rattle.std.proofs.Common.{◌≡◌, ap, rules}
 use Rattle.std.specs.Ordering.{is_lt}
 use Rattle.std.proofs.lemmas.List.Sorted.{answers_always, ranks_by}
 use Rattle.lsa_instances.specs.Order.{scope_cmp}
-use Rattle.sighted_database.proofs.Rising.{scope_total}
+use Rattle.lsa_instances.proofs.OrderLemmas.{scope_total}
 use Rattle.sighted_database.proofs.scopes.sorted.Goals as goal
 
 pub returns-clause-order : goal.returns-clause-order

@@ -1,7 +1,7 @@
 use Rattle.std.proofs.Common.{◌≡◌, ℕ, ◌+◌, ◌<◌, ◌∷◌, [], ◌++◌, List, length, map, take, get_or, sym, ap, subst, ◌∙◌}
 use Rattle.std.proofs.lemmas.List.{flat_map_more, take_more}
 use Rattle.lsa_instances.specs.declared.sighting.Sighting.{Sighting}
-use Rattle.network_files.specs.declared.telling.FileTold.{FileTold}
+use Rattle.network_files.specs.declared.file_told.FileTold.{FileTold}
 use Rattle.unseen_lsas.specs.Newer.{of_sighting, shown_of}
 use Rattle.unseen_lsas.specs.steps.Newest.{AreNewest}
 use Rattle.unseen_lsas.proofs.newest.newest_shown.Goals as goal

@@ -1,0 +1,22 @@
+-- Steps towards what the blocks of a section tell.
+use Rattle.std.specs.Prelude.{◌≡◌, ◌⊎◌, ℕ, Option, Result, Err}
+use Rattle.capture_files.specs.declared.block.Lie.{Lie}
+use Rattle.capture_files.specs.declared.fault.CaptureFault.{CaptureFault}
+use Rattle.capture_files.specs.declared.fault.CaptureFault.TheVariants as faults
+use Rattle.capture_files.specs.declared.part.Part.{Part}
+use Rattle.capture_files.specs.declared.part.Part.TheVariants as parts
+use Rattle.capture_files.specs.CaptureTexts.{packet_of}
+use Rattle.capture_files.specs.Parts.{Content, section, interface, packet, other}
+use Rattle.capture_files.specs.Pcapng.{State, fault_at}
+
+-- what a block that is read tells
+abbrev pub content_of : Part → Content
+content_of parts.Section = section
+content_of (parts.Described i) = interface i
+content_of (parts.Captured frame) = packet (packet_of frame)
+content_of parts.Other = other
+
+-- memory ran out, or a block at this offset has a lie
+abbrev pub IsStop : ℕ → Result (Option (State × ℕ)) Lie → CaptureFault → Type 0
+IsStop offset found fault =
+    (fault ≡ faults.OutOfMemory) ⊎ ((lie : Lie) × ((fault ≡ fault_at lie offset) × (found ≡ Err lie)))

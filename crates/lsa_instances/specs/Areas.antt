@@ -1,0 +1,9 @@
+-- Kinds of areas (RFC 2328, 3.6; RFC 3101).
+use Rattle.std.specs.Prelude.{Bool, true, false}
+use Rattle.lsa_instances.specs.declared.area.AreaKind.{AreaKind}
+use Rattle.lsa_instances.specs.declared.area.AreaKind.TheVariants.{Ordinary, Stub, Nssa}
+
+abbrev pub is_stub_kind : AreaKind → Bool
+is_stub_kind Ordinary = false
+is_stub_kind Stub = true
+is_stub_kind Nssa = false

@@ -1,0 +1,38 @@
+//! Areas, as files tell them.
+
+ghost use Rattle.std.specs.Prelude.{◌≡◌};
+ghost use Rattle.lsa_instances.specs.Areas.{is_stub_kind};
+
+use lsa_codec::AreaId;
+
+/// What kind of area it is (RFC 2328, 3.6; RFC 3101).
+#[derive(Clone, Copy, Debug, PartialEq, Eq)]
+pub enum AreaKind {
+    /// AS-external-LSAs are flooded into the area.
+    Ordinary,
+    /// A stub area: they are not.
+    Stub,
+    /// A not-so-stubby area: they are not, and its routers originate NSSA-LSAs in their place.
+    Nssa,
+}
+
+impl AreaKind {
+    /// Whether it is that of a stub area.
+    pub fn is_stub(self) -> bool
+        ensures { result ≡ is_stub_kind self }
+    {
+        match self {
+            AreaKind::Ordinary | AreaKind::Nssa => false,
+            AreaKind::Stub => true,
+        }
+    }
+}
+
+/// An area of which a file tells the kind.
+#[derive(Clone, Copy, Debug, PartialEq, Eq)]
+pub struct ToldArea {
+    /// The area.
+    pub id: AreaId,
+    /// What kind of area it is.
+    pub kind: AreaKind,
+}

@@ -1,0 +1,19 @@
+//! What the database that all files make lacks, as far as its own LSAs tell.
+
+use crate::fault::ExitFault;
+use database_holes::holes_of;
+use lsdb::Database;
+
+/// The lines of what a database lacks, and of what the planner leaves out of it.
+pub(crate) fn database_hole_lines<'a>(
+    rt: &HostRuntime,
+    database: &Database,
+) -> Result<String, ExitFault<'a>> {
+    let holes = holes_of(rt.alloc(), database)?;
+    let mut lines = String::new(rt.alloc());
+    for hole in &holes {
+        let line = format!(in rt.alloc(); "database: {hole}\n")?;
+        lines.push_str(line.as_str())?;
+    }
+    Ok(lines)
+}

@@ -1,0 +1,62 @@
+//! Headings: each names the area of the LSAs below it, and the kind of the area.
+
+ghost use Rattle.std.specs.Prelude.{◌≡◌};
+ghost use Rattle.printed_databases.specs.Words.{words};
+ghost use Rattle.printed_databases.specs.Headings.{area_of, kind_in, heading_at, area_at};
+
+use crate::label::{Label, behind_label, word_behind};
+use crate::number::address_of;
+use crate::text::cut_at;
+use lsa_codec::AreaId;
+use lsa_instances::{AreaKind, ToldArea};
+
+/// The area that the word behind `(Area` names.
+fn area_of(word: &[u8]) -> Option<AreaId>
+    ensures { result ≡ area_of word.now }
+{
+    let name = match cut_at(word, b')') {
+        Some((name, _)) => name,
+        None => word,
+    };
+    match address_of(name) {
+        Some(address) => Some(AreaId(address)),
+        None => None,
+    }
+}
+
+/// The kind of an area, by the mark behind it: `[Stub]`, `[NSSA]`, or none.
+fn kind_in(text: &[u8]) -> AreaKind
+    ensures { result ≡ kind_in (words text.now) }
+{
+    if behind_label(Label::Stub, text).is_some() {
+        return AreaKind::Stub;
+    }
+    if behind_label(Label::Nssa, text).is_some() {
+        return AreaKind::Nssa;
+    }
+    AreaKind::Ordinary
+}
+
+/// The area that a heading names here, and its kind.
+#[tactic(auto, unfolding(crate::specs::Headings::heading_at))]
+pub(crate) fn heading_at(text: &[u8]) -> Option<ToldArea>
+    ensures { result ≡ heading_at (words text.now) }
+{
+    let (word, rest) = word_behind(Label::Area, text)?;
+    let id = area_of(word)?;
+    Some(ToldArea {
+        id,
+        kind: kind_in(rest),
+    })
+}
+
+/// The area that a heading here begins, else the area that was begun before.
+#[tactic(auto, unfolding(crate::specs::Headings::area_at))]
+pub(crate) fn area_at(area: Option<AreaId>, text: &[u8]) -> Option<AreaId>
+    ensures { result ≡ area_at area (words text.now) }
+{
+    match word_behind(Label::Area, text) {
+        Some((word, _)) => area_of(word),
+        None => area,
+    }
+}
