@@ -359,7 +359,7 @@ def falling_keys() -> tuple[bytes, Scripts]:
         "branches": [f"@{branch} {line}" for line in adds[:2400] for branch in range(8)],
         "drop_default": as_long_as_may_be([f"drop-external {TWO} 0.0.0.0/0", "undo 1"]),
         "no_default": as_long_as_may_be([f"drop-external {ONE} 0.0.0.0/0"]),
-        "fail_router_long": as_long_as_may_be([f"fail-router {TWO}", "undo 1"]),
+        "fail_router": undone([f"fail-router {TWO}"], 200),
     }
 
 
