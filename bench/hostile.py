@@ -19,6 +19,7 @@ Link = tuple[int, int, int, int]
 Scripts = dict[str, list[str]]
 
 MOST_LINKS, MOST_LSAS, MOST_AS_LSAS = 5459, 8192, 65_535
+LONGEST_SCRIPT = 1_048_576
 R1, R2, R3 = 0x01010101, 0x02020202, 0x03030303
 ONE, TWO = dotted(R1), dotted(R2)
 
@@ -46,6 +47,11 @@ def dump_of(areas: list[list[bytes]], externals: list[bytes] = []) -> bytes:
     for ident, lsas in enumerate(areas):
         parts += [struct.pack(">IBH", ident, 0, len(lsas)), *lsas]
     return b"".join([*parts, struct.pack(">H", len(externals)), *externals])
+
+
+def as_long_as_may_be(lines: list[str]) -> list[str]:
+    """The lines again and again, as often as they fit into a script of 1,048,576 octets."""
+    return lines * (LONGEST_SCRIPT // sum(len(line) + 1 for line in lines))
 
 
 def undone(lines: list[str], times: int) -> list[str]:
@@ -101,6 +107,7 @@ def hub() -> tuple[bytes, Scripts]:
         "table": [f"table {ONE}", f"table {far}", f"table {TWO}"] * 5,
         "cost_table": [line for cost in range(1, 41) for line in (f"cost 0.0.0.0 {ONE} 5459 {cost}", f"table {ONE}")],
         "fail_router": undone([f"fail-router {ONE}", f"fail-router {far}"], 100),
+        "fail_router_long": as_long_as_may_be([f"fail-router {far}", "undo 1"]),
         "branches": [line for branch in range(8) for line in (f"@{branch} cost 0.0.0.0 {ONE} 1 7", f"@{branch} table {far}")] * 4,
     }
 
@@ -164,7 +171,7 @@ def one_stub_network() -> tuple[bytes, Scripts]:
 
 
 def one_summary() -> tuple[bytes, Scripts]:
-    """4,000 area border routers at one distance, each with a summary-LSA of the same prefix and of the same AS boundary
+    """2,729 area border routers at one distance, each with a summary-LSA of the same prefix and of the same AS boundary
     router."""
     size = 2730
     lsas = star(size, flags=1)
@@ -217,6 +224,9 @@ def one_external() -> tuple[bytes, Scripts]:
         "drop_first": undone([f"drop-external {dotted(R1 + 1000)} 64.0.0.0/8"], 1000),
         "drop_all": [f"drop-external {dotted(R1 + 1)} 64.0.0.0/8"] * 60,
         "fail_router": undone([f"fail-router {dotted(R1 + 1)}"], 100),
+        "drop_default": as_long_as_may_be([f"drop-external {dotted(R1 + 1000)} 0.0.0.0/0"]),
+        "drop_first_long": as_long_as_may_be([f"drop-external {dotted(R1 + 1000)} 64.0.0.0/8", "undo 1"]),
+        "fail_router_long": as_long_as_may_be([f"fail-router {dotted(R1 + 1)}", "undo 1"]),
     }
 
 
@@ -312,6 +322,8 @@ def many_lsas() -> tuple[bytes, Scripts]:
         "cost": [f"cost 0.0.0.63 {ONE} 1 {cost}" for cost in range(1, 3001)],
         "cost_table": [line for cost in range(1, 101) for line in (f"cost 0.0.0.63 {ONE} 1 {cost}", f"table {ONE}")],
         "fail_router": undone([f"fail-router {last}"], 500),
+        "fail_router_long": as_long_as_may_be([f"fail-router {last}", "undo 1"]),
+        "fail_routers_long": as_long_as_may_be([f"fail-router {ONE}", "undo 1"]),
         "add_stub": undone([f"add-stub 0.0.0.63 {last} 10.0.0.0/8 1"], 2000),
         "add_external": undone([f"add-external {last} 10.0.0.0/8 1 1 0.0.0.0 0"], 2000),
         "refresh": ["refresh"] * 300,
@@ -327,6 +339,27 @@ def same_keys() -> tuple[bytes, Scripts]:
         "table": [f"table {ONE}"],
         "adds": [f"drop-external {TWO} {dotted(0xF0000000 - (place << 12))}/20" for place in range(5000)] + ["undo 5000"],
         "drop_last": undone([f"drop-external {TWO} {dotted(0xF0000000 - (65_534 << 12) & 0xFFFFFFFF)}/20"], 1000),
+        "drop_default": as_long_as_may_be([f"drop-external {TWO} 0.0.0.0/0"]),
+        "drop_default_of_none": as_long_as_may_be([f"drop-external {ONE} 0.0.0.0/0"]),
+    }
+
+
+def falling_keys() -> tuple[bytes, Scripts]:
+    """55,535 AS-external-LSAs of one router: as many more as a branch may add, each with a Link State ID before all others;
+    and a default route that comes last of the LSAs, so that its prefix covers all and is that of one alone."""
+    count = MOST_AS_LSAS - 10_000
+    externals = [external(0x80000000 + 256 * place, R2, 24, 20) for place in range(count - 1)] + [external(0xFFFFFFFF, R2, 0, 20)]
+    adds = [f"add-external {TWO} {dotted(0x40000000 - 256 * place)}/24 2 7 0.0.0.0 0" for place in range(10_000)]
+    drops = [f"drop-external {TWO} {dotted(0x40000000 - 256 * place)}/24" for place in range(10_000)]
+    return dump_of([pair()], externals), {
+        "add": [*adds, "info", "undo 10000", "redo 10000", "undo 10000"],
+        "add_undone": undone(adds, 1),
+        "add_twice": [*adds, "undo 10000", *adds[:9000], "undo 9000"],
+        "add_and_drop": [line for pair_of in zip(adds[:5000], drops) for line in pair_of] + ["undo 10000"],
+        "branches": [f"@{branch} {line}" for line in adds[:2400] for branch in range(8)],
+        "drop_default": as_long_as_may_be([f"drop-external {TWO} 0.0.0.0/0", "undo 1"]),
+        "no_default": as_long_as_may_be([f"drop-external {ONE} 0.0.0.0/0"]),
+        "fail_router": undone([f"fail-router {TWO}"], 200),
     }
 
 
@@ -365,7 +398,7 @@ def star_tables() -> tuple[bytes, Scripts]:
 
 
 def areas_of_one() -> tuple[bytes, Scripts]:
-    """A router in 64 areas, which have the same 5,000 stub networks at the same cost."""
+    """A router in 40 areas, which have the same 5,000 stub networks at the same cost."""
     stubs = [(3, 0x14000000 + 256 * place, mask(24), 1) for place in range(5000)]
     areas = [[router(R1, [(1, R2, ident, 10)]), router(R2, [(1, R1, 1, 10), *stubs], 1)] for ident in range(40)]
     return dump_of(areas), {
@@ -395,7 +428,7 @@ NETWORKS = {
     for made in (
         parallel, identical, two_way, hub, mesh, decreasing, lan, same_lan, lans_of_one_prefix, one_stub_network,
         one_summary, strange_summaries, summaries_of_one, boundary_routers, one_external, forward_to_hosts,
-        forward_past_hosts, nested, one_edit, many_lsas, same_keys, chain_behind_equal_ways, layers, lonely, star_tables,
+        forward_past_hosts, nested, one_edit, many_lsas, same_keys, falling_keys, chain_behind_equal_ways, layers, lonely, star_tables,
         areas_of_one, borders,
     )
 }

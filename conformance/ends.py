@@ -18,6 +18,7 @@ SAMPLE = bytes.fromhex(
 
 COST = b"cost 0.0.0.0 1.1.1.1 1 65535\n"
 INFO = b"@0 info areas 1 lsas 2 as 0 vbits 0 vlinks 0 done 1 undone 0\n"
+NO_EDITS = b"@0 info areas 1 lsas 2 as 0 vbits 0 vlinks 0 done 0 undone 0\n"
 USAGE = "\n\nUsage: ospf-plan [OPTIONS]\n\nFor more information, try '--help'.\n"
 
 
@@ -35,9 +36,12 @@ class End:
     error: str = ""
     replies: bytes | None = b""
     stdin: bytes | None = b""
+    # Whether zeros without end follow on standard input.
+    is_endless: bool = False
+    # Where standard output goes, as `output_to` has it. A file gets a part of the replies, from their beginning.
     stdout: str = "pipe"
-    # Whether standard error takes no line, so that the status alone tells.
-    is_silent: bool = False
+    # The same of standard error; where it is no pipe, the status alone tells.
+    stderr: str = "pipe"
     # What must stand in the file `out` of the folder; `None` where there may be no such file.
     out: bytes | None = None
     # The same of the file `saved`.
@@ -97,6 +101,12 @@ ENDS = [
     End("an empty script and /dev/full as standard output", "", 0, stdout="full"),
     End("standard input closed, and a script", "--script FOLDER/script --out FOLDER/out", 0, replies=b"@0 ok\n",
         stdin=None, out=EDITED),
+    End("standard input closed, a dump and a script", "--dump FOLDER/dump --script FOLDER/script --out FOLDER/out", 0,
+        replies=b"@0 ok\n", stdin=None, out=EDITED),
+    End("standard error closed", "--dump FOLDER/dump --out FOLDER/out --save FOLDER/saved", 0, replies=b"@0 ok\n",
+        stdin=COST, stderr="closed", out=EDITED, saved=SESSION),
+    End("standard input and standard error closed, and a script", "--script FOLDER/script --out FOLDER/out", 0,
+        replies=b"@0 ok\n", stdin=None, stderr="closed", out=EDITED),
     End("--dump alone", "--dump FOLDER/edited", 0, replies=EDITED_TABLE, stdin=TABLE),
     End("--script alone", "--script FOLDER/script", 0, replies=b"@0 ok\n"),
     End("--out alone", "--out FOLDER/out", 0, replies=b"@0 ok\n", stdin=COST, out=EDITED),
@@ -151,8 +161,10 @@ ENDS = [
         "error: a value is required for '--save <FILE>' but none was supplied\n\n"
         "For more information, try '--help'.\n"),
     End("a word that is no text", "--dump \udcff", 2, "error: an argument is not UTF-8 text\n"),
-    End("a word that is no text, and nobody hears", "--dump \udcff", 2, is_silent=True),
-    End("an option that is not there, and nobody hears", "--frob", 2, is_silent=True),
+    End("a word that is no text, and nobody hears", "--dump \udcff", 2, stderr="full"),
+    End("a word that is no text, and standard error closed", "--dump \udcff", 2, stderr="closed"),
+    End("an option that is not there, and standard error closed", "--frob", 2, stderr="closed"),
+    End("an option that is not there, and nobody hears", "--frob", 2, stderr="full"),
     # ---- 3: the dump is refused
     End("an octet behind the dump", "--dump FOLDER/long --out FOLDER/out", 3, "dump: L4 TrailingBytes at 99\n"),
     End("a refused dump before a script that can not be read", "--dump FOLDER/long --script FOLDER", 3,
@@ -161,11 +173,20 @@ ENDS = [
         "dump: L3 Truncated at 97\n"),
     End("an empty dump", "--dump /dev/null", 3, "dump: L3 Truncated at 0\n"),
     End("an endless dump", "--dump /dev/zero", 3, "dump: L13 TooLarge at 0\n"),
+    End("an endless dump on standard input", "--dump /dev/stdin --script FOLDER/script --out FOLDER/out", 3,
+        "dump: L13 TooLarge at 0\n", stdin=SAMPLE, is_endless=True),
+    End("an endless session on standard input", "--dump /dev/stdin --script FOLDER/script --out FOLDER/out", 3,
+        "dump: L13 TooLarge at 0\n", stdin=BASE, is_endless=True),
+    End("an endless session on standard input, and a file as --save", "--dump /dev/stdin --save FOLDER/saved", 3,
+        "dump: L13 TooLarge at 0\n", stdin=SESSION, is_endless=True, before=SESSION, saved=SESSION),
     End("a refused dump, and a file as --save", "--dump FOLDER/long --save FOLDER/saved", 3,
         "dump: L4 TrailingBytes at 99\n", before=SESSION, saved=SESSION),
     End("a saved session that was cut, as --save", "--dump FOLDER/saved --save FOLDER/saved", 3,
         "dump: L3 Truncated at 103\n", before=SESSION[:-1], saved=SESSION[:-1]),
-    End("a refused dump, and nobody hears", "--dump FOLDER/long --out FOLDER/out", 3, is_silent=True),
+    End("a refused dump, and nobody hears", "--dump FOLDER/long --out FOLDER/out", 3, stderr="full"),
+    End("a refused dump, and standard error closed", "--dump FOLDER/long --out FOLDER/out", 3, stderr="closed"),
+    End("a refused dump that is --out too, and standard error closed", "--dump FOLDER/saved --out FOLDER/saved", 3,
+        stderr="closed", before=SESSION[:-1], saved=SESSION[:-1]),
     # ---- 4: a file can not be opened, read or written
     End("no such dump", "--dump FOLDER/none --out FOLDER/out", 4, "file: Open dump\n"),
     End("no such dump and no such script", "--dump FOLDER/none --script FOLDER/none", 4, "file: Open dump\n"),
@@ -190,8 +211,18 @@ ENDS = [
     End("standard input closed", "--out FOLDER/out", 4, "file: Read\n", stdin=None),
     End("standard input closed, and a file as --save", "--save FOLDER/saved", 4, "file: Read\n", stdin=None,
         before=b"a study", saved=b"a study"),
-    End("standard input closed, and nobody hears", "--out FOLDER/out", 4, stdin=None, is_silent=True),
+    End("standard input closed, and nobody hears", "--out FOLDER/out", 4, stdin=None, stderr="full"),
+    End("standard input closed, and a dump", "--dump FOLDER/dump --out FOLDER/out", 4, "file: Read\n", stdin=None),
+    End("standard input closed, and a dump that is a script too", "--dump FOLDER/saved --out FOLDER/out", 4, "file: Read\n",
+        stdin=None, before=SESSION, saved=SESSION),
+    End("standard input closed, a dump, and a file as --save", "--dump FOLDER/dump --save FOLDER/saved", 4, "file: Read\n",
+        stdin=None, before=b"a study", saved=b"a study"),
+    End("standard input and standard error closed, and a dump", "--dump FOLDER/dump --out FOLDER/out", 4, stdin=None,
+        stderr="closed"),
+    End("standard input and standard output closed, and a dump", "--dump FOLDER/dump --out FOLDER/out", 4, "file: Read\n",
+        stdin=None, stdout="closed"),
     End("an endless script", "--script /dev/zero --out FOLDER/out", 4, "file: TooLarge\n"),
+    End("an endless script on standard input", "--out FOLDER/out", 4, "file: TooLarge\n", stdin=COST, is_endless=True),
     End("a script of 1,048,577 octets", "--out FOLDER/out", 4, "file: TooLarge\n", stdin=COMMENTS + b"#"),
     End("a script of 1,048,577 octets, and a file as --save", "--save FOLDER/saved", 4, "file: TooLarge\n",
         stdin=COMMENTS + b"#", before=b"a study", saved=b"a study"),
@@ -224,14 +255,28 @@ ENDS = [
         "file: Write\n", stdout="closed"),
     End("standard output closed, and --save", "--save FOLDER/saved", 4, "file: Write\n", stdin=COST,
         stdout="closed"),
+    End("no such dump, and standard error closed", "--dump FOLDER/none --out FOLDER/out", 4, stderr="closed"),
+    End("no such folder for --save, and standard error closed", "--save FOLDER/none/saved --out FOLDER/out", 4,
+        replies=b"@0 ok\n", stdin=COST, stderr="closed", out=EDITED),
+    End("/dev/full as --out, and standard error closed", "--out /dev/full --save FOLDER/saved", 4, replies=b"@0 ok\n",
+        stdin=COST, stderr="closed", before=b"a study", saved=b"a study"),
+    End("standard output and standard error closed", "--save FOLDER/saved", 4, stdin=COST, stdout="closed", stderr="closed",
+        before=b"a study", saved=b"a study"),
+    End("a file as standard output that fills up", "--out FOLDER/out --save FOLDER/saved", 4, "file: Write\n",
+        stdin=b"info\n" * 100_000, replies=NO_EDITS * 100_000, stdout="file", room=1_000_000, before=b"a study",
+        saved=b"a study"),
+    End("a file as standard output without room for the first line", "--out FOLDER/out", 4, "file: Write\n", stdin=b"info\n",
+        replies=NO_EDITS, stdout="file", room=10),
+    End("a file as standard output without room for the last octet", "--out FOLDER/out", 4, "file: Write\n",
+        stdin=b"info\n" * 100_000, replies=NO_EDITS * 100_000, stdout="file", room=100_000 * len(NO_EDITS) - 1),
     End("a pipe that nobody reads, and nobody hears", "--save FOLDER/saved", 4, stdin=COST, stdout="unread",
-        is_silent=True),
+        stderr="full"),
     # ---- 5: want of memory
     End("a large dump and little memory", "--dump FOLDER/large", 5, "memory: OutOfMemory\n", memory=16 << 20),
     End("a large dump and little memory, and a file as --save", "--dump FOLDER/large --save FOLDER/saved", 5,
         "memory: OutOfMemory\n", memory=16 << 20, before=b"a study", saved=b"a study"),
     End("a large dump and little memory, and nobody hears", "--dump FOLDER/large", 5, memory=16 << 20,
-        is_silent=True),
+        stderr="full"),
 ]
 
 
@@ -257,8 +302,10 @@ def make_files(folder: pathlib.Path, case: End) -> None:
         (folder / "out").write_bytes(COST)
 
 
-def standard_output(kind: str) -> int:
-    """A file descriptor for the program to write to; `PIPE` where these checks read it."""
+def output_to(kind: str, folder: pathlib.Path) -> int:
+    """A file descriptor for the program to write to; `PIPE` where these checks read it, or where it is to be closed."""
+    if kind == "file":
+        return os.open(folder / "replies", os.O_WRONLY | os.O_CREAT, 0o644)
     if kind == "full":
         return os.open("/dev/full", os.O_WRONLY)
     if kind == "head":
@@ -280,6 +327,8 @@ def before_run(case: End):
             os.close(1)
         if case.stdin is None:
             os.close(0)
+        if case.stderr == "closed":
+            os.close(2)
         if case.room is not None:
             resource.setrlimit(resource.RLIMIT_FSIZE, (case.room, case.room))
             signal.signal(signal.SIGXFSZ, signal.SIG_DFL if case.is_ended else signal.SIG_IGN)
@@ -302,7 +351,14 @@ def built(program: str) -> str:
 def ended(case: End, program: str, folder: pathlib.Path, stdout: int, stderr: int) -> subprocess.CompletedProcess:
     """The run of a case."""
     words = [program] + [word.replace("FOLDER", str(folder)) for word in case.words.split()]
-    how = {"input": case.stdin, "stdout": stdout, "stderr": stderr, "timeout": 120, "preexec_fn": before_run(case)}
+    how = {"stdout": stdout, "stderr": stderr, "timeout": 120, "preexec_fn": before_run(case)}
+    if case.is_endless:
+        (folder / "front").write_bytes(case.stdin)
+        with subprocess.Popen(["cat", str(folder / "front"), "/dev/zero"], stdout=subprocess.PIPE) as endless:
+            run = subprocess.run(words, stdin=endless.stdout, **how)
+            endless.kill()
+            return run
+    how["input"] = case.stdin
     if not case.as_nobody:
         return subprocess.run(words, **how)
     # The program may lie where not everyone may go, so it is opened here.
@@ -316,14 +372,15 @@ def ended(case: End, program: str, folder: pathlib.Path, stdout: int, stderr: in
 def differences(case: End, program: str, folder: pathlib.Path) -> list[str]:
     shutil.rmtree(folder, ignore_errors=True)
     folder.mkdir()
-    if case.as_nobody:
-        # What may not be opened is the file, and not the folder that it lies in.
-        folder.parent.chmod(0o711)
-        folder.chmod(0o755)
     make_files(folder, case)
-    stdout = standard_output(case.stdout)
-    stderr = standard_output("full" if case.is_silent else "pipe")
+    stdout = output_to(case.stdout, folder)
+    stderr = output_to(case.stderr, folder)
+    if case.as_nobody:
+        # The folder takes no new file. Otherwise what may not be opened is the file, and not the folder that it lies in.
+        folder.parent.chmod(0o711)
+        folder.chmod(0o555)
     run = ended(case, program, folder, stdout, stderr)
+    folder.chmod(0o755)
     for stream in {stdout, stderr} - {subprocess.PIPE}:
         os.close(stream)
     found = []
@@ -332,6 +389,8 @@ def differences(case: End, program: str, folder: pathlib.Path) -> list[str]:
     if run.stderr is not None and run.stderr.decode() != case.error:
         found.append(f"standard error {run.stderr.decode()!r}")
     if case.stdout == "pipe" and run.stdout != case.replies:
+        found.append("replies")
+    if case.stdout == "file" and not case.replies.startswith((folder / "replies").read_bytes()):
         found.append("replies")
     out = folder / "out"
     if (out.read_bytes() if out.exists() else None) != case.out:

@@ -15,6 +15,7 @@ MANY = 0x0B000000
 POINT_TO_POINT, STUB = 1, 3
 MOST_LINKS, MOST_LSAS, MOST_AS_LSAS, MOST_AREAS = 5459, 8192, 65_535, 64
 LONGEST_DUMP, LONGEST_LSA = 16_777_216, 65_535
+MOST_EDITS = 10_000
 
 # Link ID, Link Data, type and metric of a link.
 Link = tuple[int, int, int, int]
@@ -207,6 +208,84 @@ def equal_ways(count: int) -> Case:
     ])
 
 
+def originators(count: int) -> Case:
+    """So many area border routers at one distance, each with a summary-LSA of the same prefix: each is a next hop."""
+    borders = [MANY + place for place in range(count)]
+    lsas = [router(R1, [(ident, 0x0A000000 + place, POINT_TO_POINT, 10) for place, ident in enumerate(borders)])]
+    lsas += [router(ident, [(R1, 1, POINT_TO_POINT, 10)], flags=1) for ident in borders]
+    lsas += [summary(0x14000000, 0xFF000000, ident, 7) for ident in borders]
+
+    def at_1(cost: int, places: list[int]) -> Exchange:
+        hops = ",".join(f"link:{dotted(0x0A000000 + place)}" for place in places)
+        return table("1.1.1.1", [f"20.0.0.0/8 inter {cost} 0 0.0.0.0 {hops}"])
+
+    places, last = list(range(count)), dotted(borders[-1])
+    return run_of(dump_of([lsas], []), [
+        at_1(17, places), ("cost 0.0.0.0 1.1.1.1 7 11", "ok"), at_1(17, places[:6] + places[7:]), ("refresh", "ok"),
+        (f"summary 0.0.0.0 {last} 20.0.0.0/8 6", "ok"), at_1(16, places[-1:]), (f"summary 0.0.0.0 {last} 20.0.0.0/8 8", "ok"),
+        at_1(17, places[:6] + places[7:-1]), (f"fail-router {last}", "ok"), at_1(17, places[:6] + places[7:-1]),
+        ("undo 5", "ok"), at_1(17, places),
+    ])
+
+
+# Hosts of one router in `forwards`.
+HOSTS = 5457
+
+
+def forwards(count: int) -> Case:
+    """Networks outside the AS, of both types of metric, each with a forwarding address that is a host with a route of its
+    own: the stub networks of 32 bits of routers with so many of them."""
+    hosts = [0x30000000 + 3 * place for place in range(count)]
+    behind = [MANY + place for place in range(-(-count // HOSTS))]
+    lsas = [router(R1, [(ident, 0x0A000000 + place, POINT_TO_POINT, 10) for place, ident in enumerate(behind)])]
+    for place, ident in enumerate(behind):
+        own = [(host, 0xFFFFFFFF, STUB, 1 + host % 7) for host in hosts[HOSTS * place:HOSTS * (place + 1)]]
+        lsas.append(router(ident, [(R1, 1, POINT_TO_POINT, 10), *own], flags=2))
+    as_wide = [
+        external(0x40000000 + 256 * place, behind[0], place % 2 << 31 | 1 + place % 1000, hosts[place * 7 % count])
+        for place in range(count)
+    ]
+
+    def ways(nearest: int) -> list[str]:
+        """The lines where the link to the first of the routers has this cost."""
+        def way(host: int) -> tuple[int, str]:
+            place = (host - 0x30000000) // 3 // HOSTS
+            return (nearest if place == 0 else 10) + 1 + host % 7, f"link:{dotted(0x0A000000 + place)}"
+
+        lines = [f"{dotted(host)}/32 intra {way(host)[0]} 0 0.0.0.0 {way(host)[1]}" for host in hosts]
+        for place in range(count):
+            (inside, hop), metric = way(hosts[place * 7 % count]), 1 + place % 1000
+            costs = f"ext2 {inside} {metric}" if place % 2 else f"ext1 {inside + metric} 0"
+            lines.append(f"{dotted(0x40000000 + 256 * place)}/24 {costs} - {hop}")
+        return lines
+
+    near = table("1.1.1.1", ways(10))
+    return run_of(dump_of([lsas], as_wide), [
+        near, ("cost 0.0.0.0 1.1.1.1 1 30", "ok"), table("1.1.1.1", ways(30)), ("undo 1", "ok"), near
+    ])
+
+
+def edits(count: int) -> Case:
+    """So many edits of one summary-LSA, the last of an area that has nearly as many: all are undone, and done again."""
+    told = count * 4 // 5
+    lsas = [
+        router(R1, [(R2, 0x0A000001, POINT_TO_POINT, 10)]),
+        router(R2, [(R1, 0x0A000002, POINT_TO_POINT, 10)], flags=1),
+        *(summary(0x14000000 + 256 * place, 0xFFFFFF00, R2, 1 + place % 1000) for place in range(told)),
+    ]
+    nets = [dotted(0x14000000 + 256 * place) for place in range(told)]
+    lines = [f"{net}/24 inter {11 + place % 1000} 0 0.0.0.0 link:10.0.0.1" for place, net in enumerate(nets)]
+    full, undo, redo = table("1.1.1.1", lines), (f"undo {count}", "ok"), (f"redo {count}", "ok")
+    changed = table("1.1.1.1", [*lines[:-1], f"{nets[-1]}/24 inter {10 + count} 0 0.0.0.0 link:10.0.0.1"])
+    metrics = [(f"summary 0.0.0.0 2.2.2.2 {nets[-1]}/24 {metric}", "ok") for metric in range(1, count + 1)]
+    more = [("refresh", "refused E12 HistoryFull")] if count == MOST_EDITS else []
+    info = f"info areas 1 lsas {told + 2} as 0 vbits 0 vlinks 0 done {count} undone 0"
+    return run_of(dump_of([lsas], []), [
+        full, *metrics, ("info", info), *more, changed, undo, full, redo, changed, *[("undo 1", "ok")] * count, full,
+        ("undo 1", "refused U1 NothingToUndo"),
+    ])
+
+
 # Each network, the size at which it meets a limit, and what there is so many of.
 NETWORKS: list[tuple[Callable[[int], Case], int, str]] = [
     (chain, MOST_LSAS, "routers in a chain"),
@@ -216,6 +295,9 @@ NETWORKS: list[tuple[Callable[[int], Case], int, str]] = [
     (links, MOST_LINKS, "links of one router"),
     (parallel, MOST_LINKS, "parallel links"),
     (equal_ways, 4000, "ways of equal cost"),
+    (originators, MOST_LSAS // 2 - 1, "originators of one prefix"),
+    (forwards, 12 * HOSTS, "forwarding addresses that are hosts"),
+    (edits, MOST_EDITS, "edits of one LSA"),
 ]
 
 

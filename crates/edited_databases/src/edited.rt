@@ -40,6 +40,7 @@ pub fn apply_and_push<A: Allocator + Copy>(
     history.reserve()?;
     let record = apply(database, edit)?;
     history.push(record);
+    // That the edit left a database is what its link to the history asks for.
     database.known();
     Ok(())
 }
@@ -60,6 +61,7 @@ pub fn edited<A: Allocator + Copy>(
 {
     let mut database = Database::load(alloc, dump)?;
     let mut history = History::new(alloc);
+    // That it is a database is what its link to the empty history asks for.
     database.known();
     for line in lines {
         let edit = edit_of(line)?;

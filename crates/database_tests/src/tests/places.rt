@@ -159,6 +159,7 @@ fn seen_without(database: &mut Database, slot: SlotId) -> (usize, usize, bool)
     ensures { database.new ≡ database.old }
 {
     let mut place: Option<Lsa> = None;
+    // That it is a database has to hold after each of the two swaps.
     database.known();
     database.swap(slot, &mut place);
     let seen = (

@@ -53,6 +53,7 @@ fn takes_no_memory(alloc: Global, line: &str, changed: usize) -> Result<bool, Fa
     let mut database = Database::load(&rationed, NETS)?;
     let mut record = apply(&mut database, &edit)?;
     let is_told = record.edit() == edit && record.len() == changed && rationed.left() == 0;
+    // That the edit left a database is what going and coming asks for.
     database.known();
     Ok(goes_and_comes(alloc, &mut database, &mut record, line)? && is_told)
 }
