@@ -19,20 +19,20 @@ use Rattle.edit_script.specs.declared.command.Command.TheVariants as command
 use Rattle.edit_history.specs.declared.fault.EditFault.{EditFault}
 use Rattle.edit_history.specs.declared.fault.EditFault.TheVariants.{HistoryFull}
 use Rattle.edit_history.specs.Effect.{effect}
-use Rattle.edit_history.specs.Session.{Session, edited, accepted, start, state, most_edits, moved_back, moved_on}
+use Rattle.edit_history.specs.Session.{Session, edited, accepted, accepted_or, start, state, most_edits, moved_back, moved_on}
 use Rattle.recalculate.specs.Planning.{PlannerValue}
 use Rattle.branches.specs.Branches.{all_begin, resumed, Named, Sessions, sessions_by, sessions_of, named_by, with_session, session_or_begin, HaveOneBase}
 use Rattle.branches.specs.steps.Planners.{has_planner}
-use Rattle.branches.specs.Replies.{Said, reply_to, after, unless_refused}
+use Rattle.branches.specs.Replies.{Said, reply_to, after}
 
 -- ---- a command leaves the base
 
-accepted_base : (s : Session) (e : Edit) (r : Result Lists EditFault) → (unless_refused s (accepted s e r)).base ≡ s.base
+accepted_base : (s : Session) (e : Edit) (r : Result Lists EditFault) → (accepted_or s (accepted s e r)).base ≡ s.base
 accepted_base s e (Ok db) = refl
 accepted_base s e (Err fault) = refl
 
 edited_base : (s : Session) (e : Edit) (r : Result Lists EditFault) (room : Bool)
-    → (unless_refused s (cond room (accepted s e r) (Err HistoryFull))).base ≡ s.base
+    → (accepted_or s (cond room (accepted s e r) (Err HistoryFull))).base ≡ s.base
 edited_base s e r true = accepted_base s e r
 edited_base s e r false = refl
 
@@ -55,7 +55,7 @@ after_base s (command.Compare router) = refl
 after_base s command.Info = refl
 
 pub edited_keeps_base : (s t : Session) (e : Edit) → edited s e ≡ Ok t → t.base ≡ s.base
-edited_keeps_base s t e is = ap (λ r. (unless_refused s r).base) (sym is) ∙ after_base s (command.Edit e)
+edited_keeps_base s t e is = ap (λ r. (accepted_or s r).base) (sym is) ∙ after_base s (command.Edit e)
 
 -- ---- branches at their beginning
 

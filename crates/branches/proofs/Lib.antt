@@ -1,3 +1,4 @@
 pub mod BranchSessions
 pub mod AllTables
 pub mod RefusedCommands
+pub mod AcceptedEdits

@@ -4,11 +4,11 @@ use Rattle.std.specs.Prelude.{nat_le}
 use Rattle.edit_script.specs.declared.command.Command.{Command}
 use Rattle.edit_script.specs.declared.command.Command.TheVariants as command
 use Rattle.edit_history.specs.declared.fault.EditFault.{EditFault}
-use Rattle.edit_history.specs.Session.{Session, edited, moved_back, moved_on}
+use Rattle.edit_history.specs.Session.{Session, accepted_or, edited, moved_back, moved_on}
 use Rattle.branches.specs.declared.reply.Refusal.{Refusal}
-use Rattle.branches.specs.Replies.{done, refused, reply_to, after, edit_reply, unless_refused, is_refusal}
+use Rattle.branches.specs.Replies.{done, refused, reply_to, after, edit_reply, is_refusal}
 
-refused_edit : (s : Session) (r : Result Session EditFault) → is_refusal (edit_reply r) ≡ true → unless_refused s r ≡ s
+refused_edit : (s : Session) (r : Result Session EditFault) → is_refusal (edit_reply r) ≡ true → accepted_or s r ≡ s
 refused_edit s (Ok t) is = absurd cc
 refused_edit s (Err fault) is = refl
 

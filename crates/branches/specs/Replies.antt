@@ -9,7 +9,7 @@ use Rattle.edit_history.specs.declared.fault.EditFault.{EditFault}
 use Rattle.edit_history.specs.declared.fault.UndoFault.TheVariants.{NothingToUndo}
 use Rattle.edit_history.specs.declared.fault.RedoFault.TheVariants.{NothingToRedo}
 use Rattle.edit_history.specs.Fault.{code_of as edit_code, name_of as edit_name}
-use Rattle.edit_history.specs.Session.{Session, state, edited, moved_back, moved_on}
+use Rattle.edit_history.specs.Session.{Session, state, accepted_or, edited, moved_back, moved_on}
 use Rattle.routing_table.specs.declared.table.TableFault.TheVariants.{NoRouter}
 use Rattle.recalculate.specs.declared.counts.Info.{Info}
 use Rattle.routing_table.specs.Fault.{code_of as table_code, name_of as table_name}
@@ -72,13 +72,9 @@ reply_to s command.Tables = tables (filter_map (table_in (state s)) (attached_ro
 reply_to s (command.Compare router) = compare_reply router (table_in s.base router) (table_in (state s) router)
 reply_to s command.Info = counted (info_of s)
 
-abbrev pub unless_refused : Session → Result Session EditFault → Session
-unless_refused s (Ok after) = after
-unless_refused s (Err fault) = s
-
 -- the session after a command; a refused one leaves it as it is, and so does one that only asks
 abbrev pub after : Session → Command → Session
-after s (command.Edit edit) = unless_refused s (edited s edit)
+after s (command.Edit edit) = accepted_or s (edited s edit)
 after s (command.Undo k) = if nat_le k (length s.done) then moved_back k s else s
 after s (command.Redo k) = if nat_le k (length s.undone) then moved_on k s else s
 after s (command.Table router) = s
@@ -94,7 +90,7 @@ is_refusal (tables ts) = false
 is_refusal (compared router before now) = false
 is_refusal (counted info) = false
 
--- commands that take no memory in a branch that was named before
+-- the commands that may take memory; the others take none, in whatever branch
 abbrev pub takes_memory : Command → Bool
 takes_memory (command.Edit edit) = true
 takes_memory (command.Undo k) = false

@@ -2,11 +2,11 @@
 
 ghost use Rattle.std.specs.Prelude.{◌≡◌, ◌++◌, IfOk, OnOk, OnErr, IsOk, false, filter_map, flat_map, length, option_map, option_to_list};
 ghost use Rattle.std.specs.String.{string_bytes};
-ghost use Rattle.edit_history.specs.Session.{state, edited};
+ghost use Rattle.edit_history.specs.Session.{accepted_or, state, edited};
 ghost use Rattle.routing_table.specs.Routers.{attached_routers};
 ghost use Rattle.routing_table.specs.Tables.{table_in};
 ghost use Rattle.table_report.specs.Texts.{table_text};
-ghost use Rattle.branches.specs.Replies.{reply_text, reply_to, after, takes_memory, said_by, compare_reply, edit_reply, or_empty, table_reply, tables, unless_refused};
+ghost use Rattle.branches.specs.Replies.{reply_text, reply_to, after, takes_memory, said_by, compare_reply, edit_reply, or_empty, table_reply, tables};
 
 use crate::reply::{Refusal, Reply, mark, push_tables_head};
 use edit_history::EditFault;
@@ -58,7 +58,7 @@ fn execute_edit<A: Allocator + Copy>(
     ensures reply { IfOk result
         (λ reply. said_by reply ≡ edit_reply (edited planner.old.session edit.now)) }
     ensures session { OnOk result
-        (planner.new.session ≡ unless_refused planner.old.session
+        (planner.new.session ≡ accepted_or planner.old.session
         (edited planner.old.session edit.now)) }
     ensures base { planner.new.session.base ≡ planner.old.session.base }
     ensures kept { OnErr result (planner.new.session ≡ planner.old.session) }
@@ -208,6 +208,8 @@ fn routers_with_table<A: Allocator + Copy>(
         (λ routers. length (filter_map (table_in (state planner.now.session)) routers.items)
         ≡ length routers.items) }
 {
+    // By this law each of the routers is attached to an area of a valid database, so has a table;
+    // and the planner's database is a valid one.
     routers_are_attached();
     planner.database().known();
     planner.routers()

@@ -69,9 +69,9 @@ pub struct Answer<A: Allocator = Global> {
 }
 
 impl<A: Allocator> Model for Answer<A> {
-    ghost use Rattle.branches.specs.Replies.{Answer as Told};
+    ghost use Rattle.branches.specs.Replies.{Answer as AnswerValue};
 
-    ghost Value = { Told };
+    ghost Value = { AnswerValue };
 
     ghost view = { λ a. record { text = a.text.items; refused = a.refused } };
 }

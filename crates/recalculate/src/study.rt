@@ -293,6 +293,7 @@ impl<A: Allocator + Copy> Study<A> {
     {
         let done = self.undo_all();
         let database = self.database();
+        // It does nothing: it says that the database is a valid one.
         database.known();
         let dump = database.dump_base();
         self.redo_all(done);

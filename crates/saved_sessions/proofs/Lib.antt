@@ -8,3 +8,4 @@ pub mod LinesAgain
 pub mod SessionAgain
 pub mod SessionTaken
 pub mod CanSave
+pub mod OpenedEdits

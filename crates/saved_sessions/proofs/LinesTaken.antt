@@ -41,7 +41,7 @@ found line at (Some e) x h =
       after = ap (λ (p : Edit × At). p.1) (sym same);
     }
 
-done_is : (line : ℕ) (at : At) (r : Result Session EditFault) (t : Session) → edit_done line at r ≡ Ok t → r ≡ Ok t
+pub done_is : (line : ℕ) (at : At) (r : Result Session EditFault) (t : Session) → edit_done line at r ≡ Ok t → r ≡ Ok t
 done_is line at (Ok s) t h = let same : s ≡ t = cc in ap (λ (x : Session). Ok x) same
 done_is line at (Err f) t h = absurd cc
 

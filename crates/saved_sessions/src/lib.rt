@@ -13,6 +13,6 @@ mod opening;
 mod read;
 mod saving;
 
-pub use laws::sessions_open_again;
+pub use laws::{opened_sessions_refuse_no_edit, sessions_open_again};
 pub use opening::{begins_session, open};
 pub use saving::save;

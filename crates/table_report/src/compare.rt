@@ -68,6 +68,7 @@ fn line_of<A: Allocator + Copy>(alloc: A, route: &Route<A>) -> Result<String<A>,
 pub(crate) fn are_same_hops(before: &[Hop], now: &[Hop]) -> bool
     ensures { result ≡ true → before.now ≡ now.now }
 {
+    // The law says that hops that `==` finds equal are the same.
     hop_equality();
     before == now
 }
