@@ -233,6 +233,7 @@ impl<A: Allocator + Copy> History<A> {
         ensures { self.new.lists ≡ record { past = latest ∷ self.old.lists.past; future = [] } }
     {
         self.records.truncate(self.cursor);
+        // Room was reserved for it, so no memory is wanted, and this does not fail.
         let _ = self.records.push(latest);
         self.cursor += 1;
     }

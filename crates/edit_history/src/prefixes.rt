@@ -99,6 +99,7 @@ fn plan_new<A: Allocator + Copy>(
     let Ok(slot) = database.open_slot(section) else {
         return Err(EditFault::OutOfMemory);
     };
+    // Room was made for one, so no memory is wanted, and this does not fail.
     let _ = swaps.push(Swap::new(slot, section, kind, Some(lsa)));
     Ok(swaps)
 }

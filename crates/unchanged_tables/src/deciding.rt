@@ -50,6 +50,7 @@ pub fn is_unchanged<A: Allocator + Copy>(
     ensures { result ≡ true → table_in (lists_of database.now) router
         ≡ table_in (lists_of (put database.now slot (Some before.now))) router }
 {
+    // For what holds of its areas: their IDs differ.
     database.known();
     if slot.section >= database.area_count() {
         return false;
