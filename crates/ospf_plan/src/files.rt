@@ -12,9 +12,16 @@ use std::{fs, io};
 use streams::Watched;
 use whole_run::{RunFault, SAMPLE, Summary, run};
 
+/// A folder that is there on every system.
+const ROOT: &str = "/";
+
 /// Opens the inputs, runs, and writes the dump and the session that the script leaves to their
 /// files.
 pub(crate) fn run_files(rt: &HostRuntime, options: &Options) -> Result<Summary, ExitFault> {
+    // A file that is opened gets the least free descriptor. So where standard input is closed, this
+    // folder gets its place, and not the dump: reading the script then fails, as it should. Else it
+    // gets another one, which nobody reads; where it is not opened, nothing is lost by it.
+    let _place = fs::open(rt, ROOT);
     match &options.dump {
         None => run_on_dump(rt, options, SAMPLE),
         Some(path) => {

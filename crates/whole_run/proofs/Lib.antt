@@ -3,3 +3,4 @@ pub mod ScriptLines
 pub mod KnownInputs
 pub mod BranchesApart
 pub mod ReadOctets
+pub mod AcceptedEdits

@@ -15,6 +15,7 @@ use Rattle.edit_script.specs.declared.fault.ScriptFault.TheVariants.{Empty, Unkn
 use Rattle.edit_script.specs.Line.{meaning}
 use Rattle.branches.specs.Branches.{Sessions}
 use Rattle.branches.specs.Replies.{Answer}
+use Rattle.whole_run.specs.Inputs.{longest_script}
 use Rattle.whole_run.specs.Run.{answer_to, after_line, answers, sessions_after, lines_of, text_of}
 use Rattle.whole_run.specs.WholeRun.{refused_count}
 
@@ -118,11 +119,11 @@ few_lines script = omega (
 )
 
 -- one more answer can be counted
-pub commands_room : (s now : Sessions) (script : List ℕ) (count : ℕ) (left : List (List ℕ)) → length script ≤ 1048576
+pub commands_room : (s now : Sessions) (script : List ℕ) (count : ℕ) (left : List (List ℕ)) → length script ≤ longest_script
     → count + length (answers now left) ≡ length (answers s (lines_of script)) → count + 1 < 2 ^ 64
 commands_room s now script count left small e = omega (arith, few_answers s (lines_of script), few_lines script)
 
-pub refused_room : (s now : Sessions) (script : List ℕ) (count : ℕ) (left : List (List ℕ)) → length script ≤ 1048576
+pub refused_room : (s now : Sessions) (script : List ℕ) (count : ℕ) (left : List (List ℕ)) → length script ≤ longest_script
     → count + refused_count (answers now left) ≡ refused_count (answers s (lines_of script)) → count + 1 < 2 ^ 64
 refused_room s now script count left small e =
     omega (arith, few_answers s (lines_of script), few_lines script, count_by-le-length (λ (a : Answer). a.refused) (answers s (lines_of script)))

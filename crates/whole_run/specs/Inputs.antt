@@ -19,3 +19,7 @@ IsRefusedDump known fault = (fault.kind ≢ kind.OutOfMemory) × IfSome known (�
 abbrev pub most_read : Option (List ℕ) → ℕ
 most_read None = longest_session + 1
 most_read (Some bytes) = most_octets bytes + 1
+
+-- a script may have so many octets: 2^20
+abbrev pub longest_script : ℕ
+longest_script = 1048576

@@ -2,7 +2,7 @@
 use Rattle.std.specs.Prelude.{◌≡◌, ℕ, List, length, count_by, Option, None, Some, IfSome}
 use Rattle.streams.specs.WholeText.{IsLonger}
 use Rattle.branches.specs.Replies.{Answer}
-use Rattle.whole_run.specs.Inputs.{IsAccepted, IsRefusedDump}
+use Rattle.whole_run.specs.Inputs.{IsAccepted, IsRefusedDump, longest_script}
 use Rattle.whole_run.specs.declared.script.Summary.{Summary}
 use Rattle.whole_run.specs.declared.fault.RunFault.{RunFault}
 use Rattle.whole_run.specs.declared.fault.RunFault.TheVariants.{Dump, Read, Write, TooLarge, OutOfMemory}
@@ -26,7 +26,7 @@ abbrev pub MayEndRun : Option (List ℕ) → Option (List ℕ) → RunFault → 
 MayEndRun dump script (Dump fault) = IsRefusedDump dump fault
 MayEndRun dump script Read = Unit {0}
 MayEndRun dump script Write = IfSome dump IsAccepted
-MayEndRun dump script TooLarge = IfSome dump IsAccepted × IsLonger script 1048576
+MayEndRun dump script TooLarge = IfSome dump IsAccepted × IsLonger script longest_script
 MayEndRun dump script OutOfMemory = Unit {0}
 
 -- faults that come before the first reply

@@ -9,7 +9,7 @@ ghost use Rattle.lsdb.specs.Loading.{IsFirstFault};
 ghost use Rattle.saved_sessions.specs.Opening.{opened};
 ghost use Rattle.branches.specs.Branches.{sessions_of};
 ghost use Rattle.whole_run.specs.Run.{begun};
-ghost use Rattle.whole_run.specs.Inputs.{IsAccepted, most_read};
+ghost use Rattle.whole_run.specs.Inputs.{IsAccepted, longest_script, most_read};
 ghost use Rattle.whole_run.specs.steps.Reading.{IsDumpEnd, IsScriptEnd, IsTooLong, most_behind};
 
 use crate::fault::RunFault;
@@ -120,13 +120,13 @@ pub(crate) fn read_script<A: Allocator + Copy, S: Read>(
 ) -> Result<Vec<u8, A>, RunFault>
     requires { has_failed script.old ≡ false }
     ensures whole { IfOk result (λ text. IsAll (S.remaining (inner_of script.old)) text.items) }
-    ensures within { IfOk result (λ text. vec_len text ≤ SCRIPT_LIMIT) }
+    ensures within { IfOk result (λ text. vec_len text ≤ longest_script) }
     ensures at_end { OnOk result (IsAtEnd (S.remaining (inner_of script.new))) }
     ensures fault { IfErr result
-        (IsScriptEnd (IsLonger (S.remaining (inner_of script.old)) SCRIPT_LIMIT)) }
+        (IsScriptEnd (IsLonger (S.remaining (inner_of script.old)) longest_script)) }
     ensures failed { (result ≡ Err RunFault.Read) ↔ (has_failed script.new ≡ true) }
     ensures bounded { ConsumesAtMost (S.remaining (inner_of script.old))
-        (S.remaining (inner_of script.new)) 1048577 }
+        (S.remaining (inner_of script.new)) (longest_script + 1) }
 {
     match read_whole(alloc, script, SCRIPT_LIMIT) {
         Ok(text) => Ok(text),

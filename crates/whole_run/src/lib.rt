@@ -15,7 +15,7 @@ mod sample;
 mod script;
 
 pub use fault::RunFault;
-pub use laws::branches_are_apart;
+pub use laws::{branches_are_apart, runs_refuse_no_edit};
 pub use running::run;
 pub use sample::SAMPLE;
 pub use script::Summary;

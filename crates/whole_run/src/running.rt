@@ -1,7 +1,7 @@
 //! The whole run: a dump and a script are read, and the replies are written, and the dump and the
 //! session that the script leaves.
 
-ghost use Rattle.std.specs.Prelude.{◌≡◌, ◌≢◌, ◌↔◌, ◌||◌, ◌<◌, ◌≤◌, length, false, true, is_some, OnOk, IfOk, IfErr, IfSome, IsErr};
+ghost use Rattle.std.specs.Prelude.{◌≡◌, ◌≢◌, ◌↔◌, ◌||◌, ◌<◌, ◌≤◌, ◌+◌, length, false, true, is_some, OnOk, IfOk, IfErr, IfSome, IsErr};
 ghost use Rattle.std.specs.Io.KnownBytes.{Appends, Keeps, IsAtEnd};
 ghost use Rattle.streams.specs.Watched.{inner_of, has_failed};
 ghost use Rattle.streams.specs.WholeText.{AppendsPrefix, ConsumesAtMost};
@@ -9,7 +9,7 @@ ghost use Rattle.saved_sessions.specs.Opening.{opened};
 ghost use Rattle.whole_run.specs.Run.{run_answers, run_text, final_dump, final_session};
 ghost use Rattle.whole_run.specs.Streams.{contents_of, has_any_failed};
 ghost use Rattle.whole_run.specs.WholeRun.{IfBoth, IsSummaryOf, MayEndRun, IsBeforeReplies};
-ghost use Rattle.whole_run.specs.Inputs.{IsAccepted, most_read};
+ghost use Rattle.whole_run.specs.Inputs.{IsAccepted, longest_script, most_read};
 
 use crate::fault::RunFault;
 use crate::inputs::{read_branches, read_script};
@@ -72,7 +72,7 @@ pub fn run<A: Allocator + Copy, R: Read, S: Read, W: Write, D: Write, E: Write>(
     // When each fault comes.
     ensures accepted { OnOk result (IfSome (R.remaining (inner_of dump.old)) IsAccepted) }
     ensures within { OnOk result
-        (IfSome (S.remaining (inner_of script.old)) (λ script. length script ≤ 1048576)) }
+        (IfSome (S.remaining (inner_of script.old)) (λ script. length script ≤ longest_script)) }
     ensures faults { IfErr result
         (MayEndRun (R.remaining (inner_of dump.old)) (S.remaining (inner_of script.old))) }
     ensures read { (result ≡ Err RunFault.Read)
@@ -99,7 +99,7 @@ pub fn run<A: Allocator + Copy, R: Read, S: Read, W: Write, D: Write, E: Write>(
     ensures dump_bounded { ConsumesAtMost (R.remaining (inner_of dump.old))
         (R.remaining (inner_of dump.new)) (most_read (R.remaining (inner_of dump.old))) }
     ensures script_bounded { ConsumesAtMost (S.remaining (inner_of script.old))
-        (S.remaining (inner_of script.new)) 1048577 }
+        (S.remaining (inner_of script.new)) (longest_script + 1) }
 {
     let wanted = Wanted {
         dump: out.is_some(),
@@ -143,7 +143,7 @@ fn answer_all<A: Allocator + Copy, R: Read, S: Read, W: Write>(
         (run_text bytes script)) }
     ensures accepted { OnOk result (IfSome (R.remaining (inner_of dump.old)) IsAccepted) }
     ensures within { OnOk result
-        (IfSome (S.remaining (inner_of script.old)) (λ script. length script ≤ 1048576)) }
+        (IfSome (S.remaining (inner_of script.old)) (λ script. length script ≤ longest_script)) }
     ensures faults { IfErr result
         (MayEndRun (R.remaining (inner_of dump.old)) (S.remaining (inner_of script.old))) }
     ensures read { (result ≡ Err RunFault.Read)
@@ -158,7 +158,7 @@ fn answer_all<A: Allocator + Copy, R: Read, S: Read, W: Write>(
     ensures dump_bounded { ConsumesAtMost (R.remaining (inner_of dump.old))
         (R.remaining (inner_of dump.new)) (most_read (R.remaining (inner_of dump.old))) }
     ensures script_bounded { ConsumesAtMost (S.remaining (inner_of script.old))
-        (S.remaining (inner_of script.new)) 1048577 }
+        (S.remaining (inner_of script.new)) (longest_script + 1) }
 {
     let mut branches = read_branches(alloc, dump)?;
     let text = read_script(alloc, script)?;

@@ -5,6 +5,7 @@ ghost use Rattle.std.specs.Io.KnownBytes.{Appends};
 ghost use Rattle.streams.specs.Watched.{inner_of, has_failed};
 ghost use Rattle.streams.specs.WholeText.{AppendsPrefix};
 ghost use Rattle.edit_script.specs.Line.{meaning};
+ghost use Rattle.whole_run.specs.Inputs.{longest_script};
 ghost use Rattle.whole_run.specs.Run.{answer_to, after_line, answers, sessions_after, lines_of, text_of};
 ghost use Rattle.branches.specs.Branches.{sessions_of};
 ghost use Rattle.whole_run.specs.WholeRun.{refused_count};
@@ -95,7 +96,7 @@ pub(crate) fn answer_script<A: Allocator + Copy, W: Write>(
     replies: &mut Watched<W>,
 ) -> Result<Summary, RunFault>
     requires open { has_failed replies.old ≡ false }
-    requires size { length script.now ≤ 1048576 }
+    requires size { length script.now ≤ longest_script }
     ensures whole { OnOk result
         (Appends (W.contents (inner_of replies.old)) (W.contents (inner_of replies.new))
         (text_of (answers (sessions_of branches.old) (lines_of script.now)))) }

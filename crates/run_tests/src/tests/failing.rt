@@ -1,6 +1,6 @@
 //! Readers and writers that fail at each octet in turn.
 
-use super::outcome::{Outcome, run_whole, run_without_out};
+use super::outcome::{Outcome, run_given, run_whole, run_without_out};
 use lsdb::{DumpFault, DumpFaultKind};
 use samples::{Failing, Sink, Source, Zeros};
 use std::alloc::Global;
@@ -8,13 +8,28 @@ use std::io::Write;
 use std::test::*;
 use whole_run::{RunFault, SAMPLE, Summary};
 
-/// An edit, lines without reply, a line that is no command, a refused edit and a refused undo, and
-/// an undo.
-const SCRIPT: &[u8] =
-    b"cost 0.0.0.0 1.1.1.1 1 65535\n# note\n\nfrob\ncost 0.0.0.0 1.1.1.1 1 0\nundo 2\nundo 1";
+/// An edit, lines without reply, a line that is no command, a table and a comparison, whose replies
+/// have two lines each, a refused edit and a refused undo, and an undo.
+const SCRIPT: &[u8] = b"cost 0.0.0.0 1.1.1.1 1 65535
+# note
 
-const REPLIES: &[u8] =
-    b"@0 ok\nscript S2 UnknownWord\n@0 refused E4 ZeroCost\n@0 refused U1 NothingToUndo\n@0 ok\n";
+frob
+table 1.1.1.1
+compare 1.1.1.1
+cost 0.0.0.0 1.1.1.1 1 0
+undo 2
+undo 1";
+
+const REPLIES: &[u8] = b"@0 ok
+script S2 UnknownWord
+@0 table 1.1.1.1 1
+10.2.0.0/16 intra 65540 0 0.0.0.0 link:10.0.0.1
+@0 compare 1.1.1.1 1
+~ 10.2.0.0/16 intra 65540 0 0.0.0.0 link:10.0.0.1 was intra 15 0 0.0.0.0 link:10.0.0.1
+@0 refused E4 ZeroCost
+@0 refused U1 NothingToUndo
+@0 ok
+";
 
 /// The session that SCRIPT leaves of the sample, saved: no edit is done, and one is undone.
 const LEFT: &[u8] = &[
@@ -53,7 +68,7 @@ fn run_to<W: Write, D: Write, E: Write>(
 }
 
 const SUMMARY: Summary = Summary {
-    commands: 5,
+    commands: 7,
     refused: 3,
 };
 
@@ -200,6 +215,34 @@ fn the_flush_of_the_saved_session_fails(rt: HostRuntime) -> Result<(), Fail> {
     assert_eq!(rt; ended.result, Err(RunFault::Write));
     assert_eq!(rt; ended.out.stream.as_slice(), SAMPLE);
     assert_eq!(rt; ended.save.stream.taken.as_slice(), LEFT);
+    Ok(())
+}
+
+/// The writer that fails at its flush, and the one that does not, either way round.
+const ONE_FLUSH_FAILS: [(Failing, Failing); 2] = [
+    (Failing::FlushErrs, Failing::WriteErrs),
+    (Failing::WriteErrs, Failing::FlushErrs),
+];
+
+#[test]
+fn a_flush_fails_where_the_dump_alone_is_asked_for(rt: HostRuntime) -> Result<(), Fail> {
+    for (replies, out) in ONE_FLUSH_FAILS {
+        let replies = sink(rt.alloc(), NEVER, replies);
+        let out = Some(sink(rt.alloc(), NEVER, out));
+        let result = run_given(rt.alloc(), SAMPLE, SCRIPT, replies, out, None::<Sink>);
+        assert_eq!(rt; result, Err(RunFault::Write));
+    }
+    Ok(())
+}
+
+#[test]
+fn a_flush_fails_where_the_session_alone_is_asked_for(rt: HostRuntime) -> Result<(), Fail> {
+    for (replies, save) in ONE_FLUSH_FAILS {
+        let replies = sink(rt.alloc(), NEVER, replies);
+        let save = Some(sink(rt.alloc(), NEVER, save));
+        let result = run_given(rt.alloc(), SAMPLE, SCRIPT, replies, None::<Sink>, save);
+        assert_eq!(rt; result, Err(RunFault::Write));
+    }
     Ok(())
 }
 

@@ -16,6 +16,7 @@ drop-link 0.0.0.0 3.3.3.3 2
 add-stub 0.0.0.0 1.1.1.1 10.9.0.0/16 3
 add-summary 0.0.0.0 3.3.3.3 10.8.0.0/16 7
 summary 0.0.0.0 3.3.3.3 10.8.0.0/16 9
+refresh
 add-external 3.3.3.3 10.30.0.0/16 1 5 10.5.0.77 0
 add-external 3.3.3.3 10.31.0.0/16 1 5 10.30.0.1 0
 table 1.1.1.1
@@ -33,6 +34,7 @@ info
 @1 add-stub 0.0.0.0 1.1.1.1 10.9.0.0/16 3
 @1 add-summary 0.0.0.0 3.3.3.3 10.8.0.0/16 7
 @1 summary 0.0.0.0 3.3.3.3 10.8.0.0/16 9
+@1 refresh
 @1 add-external 3.3.3.3 10.30.0.0/16 1 5 10.5.0.77 0
 @1 add-external 3.3.3.3 10.31.0.0/16 1 5 10.30.0.1 0
 @1 table 1.1.1.1
@@ -51,7 +53,7 @@ info
 const ON_SAVED: &[u8] =
     b"info\nredo 1\nundo 2\nadd-stub 0.0.0.0 1.1.1.1 10.9.0.0/16 3\ntables\n@1 redo 1\n@1 info\n";
 
-/// The same and `refresh`, which rewrites a summary-LSA of 1.1.1.1, on the dump of two areas.
+/// The same, where `refresh` rewrites a summary-LSA of 1.1.1.1, on the dump of two areas.
 const ON_TWO_AREAS: &[u8] = b"cost 0.0.0.0 1.1.1.1 1 11
 add-stub 0.0.0.1 1.1.1.1 10.9.0.0/16 3
 drop-link 0.0.0.1 1.1.1.1 2

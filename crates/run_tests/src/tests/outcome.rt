@@ -1,7 +1,8 @@
 //! Whole runs, with all that their callers see. These functions have no clauses, so that the prover
 //! sees those of a run once, and not in each test.
 
-ghost use Rattle.std.specs.Prelude.{◌≡◌, true, is_some};
+ghost use Rattle.std.specs.Prelude.{◌≡◌, true, false, is_some};
+ghost use Rattle.whole_run.specs.Streams.{has_any_failed};
 
 use std::alloc::Allocator;
 use std::io::{Read, Write};
@@ -122,4 +123,38 @@ pub(super) fn run_without_out<A: Allocator + Copy, R: Read, S: Read, W: Write>(
         script: finished(script),
         replies: finished(replies),
     }
+}
+
+/// A writer of a run, where one is given.
+fn watched_given<T>(stream: Option<T>) -> Option<Watched<T>>
+    ensures { has_any_failed result ≡ false }
+{
+    match stream {
+        Some(stream) => Some(Watched::new(stream)),
+        None => None,
+    }
+}
+
+/// What a run answers, with writers of the dump and of the session where they are given.
+pub(super) fn run_given<A: Allocator + Copy, R: Read, S: Read, W: Write, D: Write, E: Write>(
+    alloc: A,
+    dump: R,
+    script: S,
+    replies: W,
+    out: Option<D>,
+    save: Option<E>,
+) -> Result<Summary, RunFault> {
+    let mut dump = Watched::new(dump);
+    let mut script = Watched::new(script);
+    let mut replies = Watched::new(replies);
+    let mut out = watched_given(out);
+    let mut save = watched_given(save);
+    run(
+        alloc,
+        &mut dump,
+        &mut script,
+        &mut replies,
+        &mut out,
+        &mut save,
+    )
 }
