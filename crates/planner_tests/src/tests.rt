@@ -2,3 +2,4 @@
 
 mod memory;
 mod tables;
+mod unchanged;

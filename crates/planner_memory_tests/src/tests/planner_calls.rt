@@ -26,6 +26,7 @@ enum Call {
     TableAfterRedo,
     BaseTable,
     KeptBaseTable,
+    SharedTable,
 }
 
 const CALLS: &[Call] = &[
@@ -40,6 +41,7 @@ const CALLS: &[Call] = &[
     Call::TableAfterRedo,
     Call::BaseTable,
     Call::KeptBaseTable,
+    Call::SharedTable,
 ];
 
 /// What a planner counts, its dump and its session, saved.
@@ -130,6 +132,10 @@ fn answer_of<'a>(
         Call::Routers => of_routers(alloc, planner.routers()),
         Call::BaseTable => of_table(alloc, rationed, planner.base_table(ROUTER)),
         Call::KeptBaseTable => match planner.kept_base_table(ROUTER) {
+            Ok(table) => of_made_table(alloc, rationed, &table),
+            Err(fault) => of_fault(fault),
+        },
+        Call::SharedTable => match planner.shared_table(ROUTER) {
             Ok(table) => of_made_table(alloc, rationed, &table),
             Err(fault) => of_fault(fault),
         },

@@ -75,7 +75,7 @@ fn is_table_refused<A: Allocator + Copy>(
 
 /// Carries a line of a script out, and tells whether it is refused. `tables` asks for the routers
 /// alone, and `compare` for a table of the database of the beginning.
-fn is_refused(planner: &mut Planner, alloc: Global, line: &str) -> Result<bool, Fail> {
+pub(super) fn is_refused(planner: &mut Planner, alloc: Global, line: &str) -> Result<bool, Fail> {
     let (_, command) = parse(line.as_bytes())?;
     Ok(match command {
         Command::Edit(edit) => planner.edit(&edit).is_err(),

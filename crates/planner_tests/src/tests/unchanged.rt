@@ -1,0 +1,55 @@
+//! Of which edits a planner knows without a calculation that they leave a table as it was.
+
+use super::tables::{is_refused, planner_of};
+use lsa_codec::RouterId;
+use samples::{LsaList, to_router, to_stub};
+use std::alloc::Global;
+use std::test::*;
+
+/// Three routers, each with a link to both others: 0.0.0.1 and 0.0.0.3 reach each other over
+/// 0.0.0.2 for 2, and straight for 10. 0.0.0.4 stands alone.
+fn triangle(alloc: Global) -> Result<Vec<u8>, Fail> {
+    let mut list = LsaList::new(alloc);
+    let stub = to_stub(0x0a01_0000, 0xffff_0000, 5);
+    list.router(1, &[to_router(2, 12, 1), to_router(3, 13, 10), stub])?;
+    list.router(2, &[to_router(1, 21, 1), to_router(3, 23, 1)])?;
+    list.router(3, &[to_router(1, 31, 10), to_router(2, 32, 1)])?;
+    list.router(4, &[])?;
+    Ok(list.dump()?)
+}
+
+/// A router, an edit, and whether it is known to leave the router's table: the straight way between
+/// 0.0.0.1 and 0.0.0.3 counts from a cost of 2 on, and a way out of a router that is reached last
+/// for no other.
+const EDITS: &[(u32, &str, bool)] = &[
+    (1, "cost 0.0.0.0 0.0.0.1 2 9", true),
+    (1, "cost 0.0.0.0 0.0.0.1 2 3", true),
+    (1, "cost 0.0.0.0 0.0.0.1 2 2", false),
+    (1, "cost 0.0.0.0 0.0.0.1 1 2", false),
+    (1, "cost 0.0.0.0 0.0.0.1 3 6", false),
+    (3, "cost 0.0.0.0 0.0.0.1 1 9", true),
+    (3, "cost 0.0.0.0 0.0.0.2 1 9", false),
+    (2, "cost 0.0.0.0 0.0.0.3 1 1", true),
+    (4, "cost 0.0.0.0 0.0.0.3 1 1", true),
+    (1, "fail-router 0.0.0.3", false),
+];
+
+/// The first edit of which it is told otherwise, if there is one.
+fn first_told_otherwise(alloc: Global) -> Result<Option<&'static str>, Fail> {
+    let dump = triangle(alloc)?;
+    for (router, line, is_known) in EDITS {
+        let mut planner = planner_of(alloc, &dump)?;
+        let _table = planner.kept_base_table(RouterId(*router))?;
+        let _refused = is_refused(&mut planner, alloc, line)?;
+        if planner.is_unchanged(RouterId(*router)) != *is_known {
+            return Ok(Some(*line));
+        }
+    }
+    Ok(None)
+}
+
+#[test]
+fn knows_tables_that_an_edit_leaves(rt: HostRuntime) -> Result<(), Fail> {
+    assert_eq!(rt; first_told_otherwise(rt.alloc())?, None);
+    Ok(())
+}
