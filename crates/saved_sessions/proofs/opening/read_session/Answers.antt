@@ -1,11 +1,12 @@
 use Rattle.std.proofs.Common.{◌≡◌, ◌≤◌, Ok, take, length, subst, sym, ap, ◌∙◌, arith}
+use Rattle.std.proofs.lemmas.Result.{err_from_is_err_and}
 use Rattle.lsdb.specs.BaseText.{base_text}
 use Rattle.lsdb.specs.Lists.{Lists}
 use Rattle.edit_history.specs.Session.{Session}
 use Rattle.saved_sessions.specs.Opening.{session_loaded}
 use Rattle.saved_sessions.specs.steps.Reading.{Fails}
 use Rattle.saved_sessions.proofs.SessionTaken.{session_is}
-use Rattle.saved_sessions.proofs.Trailing.{trailing}
+use Rattle.saved_sessions.proofs.Trailing.{history_ends, trailing}
 use Rattle.saved_sessions.proofs.opening.read_session.Goals as goal
 
 pub returns-clause-spelled : goal.returns-clause-spelled
@@ -24,3 +25,12 @@ returns-then-end-bytes-clause-session g c =
     (trailing c.args.bytes.now (base, c.in_ok-base.octets) c.read_history.new.planner.session c.in_ok-end.end
     (c.in_ok-base.ensures.found ∙ ap (λ (s : Session). Ok (s.base, c.in_ok-base.octets)) (sym c.new-planner.ensures.session))
     c.in_ok-end.ensures.session c.if-end-bytes.true)
+
+-- the error is that of the edits
+pub returns-in_err-end-clause-session : goal.returns-in_err-end-clause-session
+returns-in_err-end-clause-session g c =
+    let base : Lists = c.new-planner.result.session.base in
+    let gave = err_from_is_err_and c.from_residual-in_err-end.result c.from_residual-in_err-end.ensures.1 in
+    rw (gave.1, gave.2) (history_ends c.in_err-end.field-0.0 c.args.bytes.now (base, c.in_ok-base.octets)
+    (c.in_ok-base.ensures.found ∙ ap (λ (s : Session). Ok (s.base, c.in_ok-base.octets)) (sym c.new-planner.ensures.session))
+    c.in_err-end.ensures.session)
