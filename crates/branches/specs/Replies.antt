@@ -39,7 +39,7 @@ said_by (reply.Refused why) = refused why
 said_by (reply.Table t) = table t.value
 said_by (reply.Tables ts) = tables ts.items
 said_by (reply.Compare router before now) = compared router before.value now
-said_by (reply.Unchanged router table) = compared router table.value table.value
+said_by (reply.Unchanged router t) = compared router t.value t.value
 said_by (reply.Info info) = counted info
 
 -- ---- one command

@@ -3,8 +3,8 @@
 /// What the program is.
 pub(crate) const ABOUT: &str = "A what-if planner for OSPF";
 
-/// The version of the program, and the kit that it was proved with, as `rt version` prints it.
-pub(crate) const VERSION: &str = "0.9.0, proved with rattle-kit-13f logic dac8208d650f15bf";
+/// The version of the program, and the logic that it was proved in, as `rt version` prints it.
+pub(crate) const VERSION: &str = "0.9.0, proved in the Rattle logic dac8208d650f15bf";
 
 /// The commands of a script with their arguments, and an example.
 pub(crate) const COMMANDS: &str = "Commands, each on a line of the script:

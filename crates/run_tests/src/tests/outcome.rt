@@ -136,7 +136,14 @@ fn watched_given<T>(stream: Option<T>) -> Option<Watched<T>>
 }
 
 /// What a run answers, with writers of the dump and of the session where they are given.
-pub(super) fn run_given<A: Allocator + Copy, R: Read, S: Read, W: Write, D: Write, E: Write>(
+pub(super) fn run_given<
+    A: Allocator + Copy,
+    R: Read + Drop,
+    S: Read + Drop,
+    W: Write + Drop,
+    D: Write + Drop,
+    E: Write + Drop,
+>(
     alloc: A,
     dump: R,
     script: S,
