@@ -58,6 +58,18 @@ fn reaches_the_sample(rt: HostRuntime) -> Result<(), Fail> {
     Ok(())
 }
 
+/// The distances in the network of three routers from the first one: of its routers, and of its
+/// network.
+const BY_ROUNDS: &[Option<u64>] = &[Some(0), Some(10), Some(5), Some(10)];
+
+#[test]
+fn measures_by_rounds(rt: HostRuntime) -> Result<(), Fail> {
+    let graph = three_graph(rt.alloc())?;
+    let distances = by_rounds(rt.alloc(), &graph, R1)?;
+    assert_eq!(rt; distances.as_slice(), BY_ROUNDS);
+    Ok(())
+}
+
 #[test]
 fn reaches_a_network_before_a_router(rt: HostRuntime) -> Result<(), Fail> {
     let graph = three_graph(rt.alloc())?;
