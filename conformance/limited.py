@@ -57,7 +57,7 @@ def tables() -> Run:
         replies=case.replies + case.replies.replace(b"@0", b"@1"),
         out=case.dump,
         saved=case.dump[:4] + b"\2" + case.dump[5:] + undone,
-        sizes=sizes(4, 13 / 12, 16),
+        sizes=sizes(4, 36 / 35, 30),
     )
 
 
@@ -85,5 +85,5 @@ def checks(program: str, folder: pathlib.Path):
             yield f"{run.name} in {size} octets of memory", [] if is_whole or is_part else ["status, replies or files"]
             lengths.add(len(replies))
         missing = [] if {0, len(run.replies)} <= lengths else ["the ends, none of the replies and all of them,"]
-        missing += [] if len(lengths) > 4 else ["how far the replies come"]
+        missing += [] if len(lengths) > 3 else ["how far the replies come"]
         yield f"memory of {run.name} that runs out at the beginning, in the middle and not at all", missing
