@@ -2,6 +2,7 @@ pub mod Reached
 pub mod Closing
 pub mod Relaxing
 pub mod Keys
+pub mod Numbers
 pub mod Pushing
 pub mod Nearest
 pub mod Searching

@@ -3,6 +3,7 @@
 ghost use Rattle.std.specs.Prelude.{◌≡◌, [], ◌∷◌, IfSome, IfNone, OnOk, OnErr, IsPermutation, All, false};
 ghost use Rattle.std.specs.Ordering.{is_lt};
 ghost use Rattle.spf.specs.Candidates.{candidate_cmp};
+ghost use Rattle.spf.specs.steps.Number.{candidate_in};
 
 use std::alloc::{AllocError, Allocator};
 use std::cmp::Reverse;
@@ -19,24 +20,45 @@ pub(crate) struct Candidate {
     pub(crate) index: u16,
 }
 
+/// The number of a candidate in the order: its parts one after another, and below them 15 bits that
+/// say nothing.
+fn number_of(candidate: Candidate) -> u64
+    ensures { candidate_in result ≡ candidate }
+{
+    let place = u64::from(candidate.is_router) * 65_536 + u64::from(candidate.index);
+    u64::from(candidate.distance) * 4_294_967_296 + place * 32_768
+}
+
+/// The candidate that has a number.
+fn candidate_of(number: u64) -> Candidate
+    ensures { result ≡ candidate_in number }
+{
+    Candidate {
+        distance: (number / 4_294_967_296) as u32,
+        is_router: number / 2_147_483_648 % 2 == 1,
+        index: (number / 32_768 % 65_536) as u16,
+    }
+}
+
 /// The candidates, of which the first in their order is taken next. A vertex may be there several
 /// times, once for each path that was found to it.
 #[derive(Drop)]
 pub(crate) struct Queue<A: Allocator> {
-    heap: BinaryHeap<Reverse<Candidate>, A>,
+    heap: BinaryHeap<Reverse<u64>, A>,
 }
 
 impl<A: Allocator> Model for Queue<A> {
     ghost use Rattle.std.specs.Prelude.{List, map};
     ghost use Rattle.std.specs.BinaryHeap.{heap_items, IsHeap};
+    ghost use Rattle.std.specs.Ordering.{nat_cmp};
     ghost use Rattle.spf.specs.declared.queue.Candidate.{Candidate};
-    ghost use Rattle.spf.specs.Candidates.{candidate_cmp};
+    ghost use Rattle.spf.specs.steps.Number.{candidate_in};
 
     ghost Value = { List Candidate };
 
-    ghost view = { λ q. map (λ x. x.0) (heap_items q.heap) };
+    ghost view = { λ q. map (λ x. candidate_in x.0) (heap_items q.heap) };
 
-    ghost invariant = { λ q. IsHeap (λ x y. candidate_cmp y.0 x.0) (heap_items q.heap) };
+    ghost invariant = { λ q. IsHeap (λ x y. nat_cmp y.0 x.0) (heap_items q.heap) };
 }
 
 impl<A: Allocator + Copy> Queue<A> {
@@ -54,7 +76,7 @@ impl<A: Allocator + Copy> Queue<A> {
         ensures added { OnOk result (IsPermutation (candidate ∷ self.old) self.new) }
         ensures same { OnErr result (self.new ≡ self.old) }
     {
-        self.heap.push(Reverse(candidate))?;
+        self.heap.push(Reverse(number_of(candidate)))?;
         Ok(())
     }
 
@@ -65,7 +87,7 @@ impl<A: Allocator + Copy> Queue<A> {
             (λ c. All (λ other. is_lt (candidate_cmp other c) ≡ false) self.new) }
         ensures none { IfNone result (self.old ≡ []) }
     {
-        let Reverse(candidate) = self.heap.pop()?;
-        Some(candidate)
+        let Reverse(number) = self.heap.pop()?;
+        Some(candidate_of(number))
     }
 }
