@@ -6,7 +6,7 @@ use Rattle.std.proofs.lemmas.Bool.{cases_eq, cases_lt}
 use Rattle.std.proofs.lemmas.List.{get_or-set_other, get_or-set_same, get_or-replicate, get_or_past, length-replicate, length-set}
 use Rattle.std.proofs.lemmas.List.Sorted.{Contains-permutation}
 use Rattle.spf.specs.declared.queue.Candidate.{Candidate}
-use Rattle.spf.specs.steps.Search.{Adds, AreNearest, IsQueued, no_distance}
+use Rattle.spf.specs.steps.Search.{AreNearest, IsQueued, no_distance}
 use Rattle.spf.proofs.Pushing.{Contains-cons_cases, Contains-pushed, Contains-pushed_one}
 
 abbrev noted_at : List ℕ → ℕ → ℕ
@@ -61,7 +61,3 @@ module _ (nearest : List ℕ) (c : Candidate) where
       (Contains-cons_cases c new q.0 (Contains-permutation old (c ∷ new) q.0 p q.1)) in
       (q.0, there, q.2, (let low : q.0.distance ≤ noted_at nearest i = q.3 in omega arith)))
       (cases_eq i c.index)
-
--- the first candidate of all
-pub adds_first : (c : Candidate) (new : List Candidate) → Adds c [] new → IsPermutation (c ∷ []) new
-adds_first c new adds = ⊎_elim (λ p. p) (λ same. absurd (let below : same.1.1.0 < 0 = same.1.1.1 in omega arith)) adds

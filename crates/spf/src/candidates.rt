@@ -1,9 +1,9 @@
-//! The candidate list (RFC 2328, 16.1) without candidates that another to the same vertex beats.
+//! The candidate list (RFC 2328, 16.1), which knows candidates that another to the same vertex beats.
 
-ghost use Rattle.std.specs.Prelude.{◌≡◌, ◌∷◌, [], IfOk, IfSome, IfNone, OnOk, IsPermutation, All, false, true, slice_set};
+ghost use Rattle.std.specs.Prelude.{◌≡◌, ◌<◌, ◌∷◌, [], IfOk, IfSome, IfNone, OnOk, IsPermutation, All, false, true, slice_set};
 ghost use Rattle.std.specs.Ordering.{is_lt};
 ghost use Rattle.spf.specs.Candidates.{candidate_cmp};
-ghost use Rattle.spf.specs.steps.Search.{Adds, IsQueued};
+ghost use Rattle.spf.specs.steps.Search.{IsQueued, no_distance};
 
 use crate::queue::{Candidate, Queue};
 use std::alloc::{AllocError, Allocator};
@@ -15,8 +15,8 @@ const NONE: u32 = u32::MAX;
 
 /// The candidates, of which the first in their order is taken next. Contracts see the list of them.
 ///
-/// A candidate is not added where one to its vertex waits that is no farther: its vertex is settled
-/// before it would be taken.
+/// A candidate need not be added where one to its vertex waits that is no farther: its vertex is
+/// settled before it would be taken.
 #[derive(Drop)]
 pub(crate) struct CandidateList<A: Allocator> {
     queue: Queue<A>,
@@ -57,23 +57,21 @@ impl<A: Allocator + Copy> CandidateList<A> {
         })
     }
 
-    /// Whether a candidate to the same vertex is sure to wait that is no farther.
-    fn is_beaten(&self, candidate: Candidate) -> bool
-        ensures { result ≡ true → IsQueued self.now candidate.index candidate.distance }
+    /// Whether a candidate to a vertex is sure to wait that is no farther than this.
+    pub(crate) fn is_beaten(&self, index: usize, distance: u32) -> bool
+        requires { distance < no_distance }
+        ensures { result ≡ true → IsQueued self.now index distance }
     {
-        match self.nearest.get(usize::from(candidate.index)) {
-            Some(distance) => *distance != NONE && *distance <= candidate.distance,
+        match self.nearest.get(index) {
+            Some(nearest) => *nearest <= distance,
             None => false,
         }
     }
 
-    /// Adds a candidate, unless one to its vertex waits that is no farther.
+    /// Adds a candidate.
     pub(crate) fn push(&mut self, candidate: Candidate) -> Result<(), AllocError>
-        ensures { OnOk result (Adds candidate self.old self.new) }
+        ensures { OnOk result (IsPermutation (candidate ∷ self.old) self.new) }
     {
-        if self.is_beaten(candidate) {
-            return Ok(());
-        }
         self.queue.push(candidate)?;
         let index = usize::from(candidate.index);
         note(&mut self.nearest, index, candidate.distance);

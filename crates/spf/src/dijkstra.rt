@@ -37,10 +37,12 @@ fn push_edge<A: Allocator + Copy>(
     requires small { distance < 2 ^ 31 }
     ensures { OnOk result (PushesEdge graph.now edge distance distances.now queue.old queue.new) }
 {
-    if distances.get(edge.to).is_none() {
-        queue.push(candidate(graph, distance + u32::from(edge.cost), edge.to))?;
+    let distance = distance + u32::from(edge.cost);
+    let is_settled = distances.get(edge.to).is_some();
+    if is_settled | queue.is_beaten(edge.to, distance) {
+        return Ok(());
     }
-    Ok(())
+    queue.push(candidate(graph, distance, edge.to))
 }
 
 /// Adds candidates for the edges out of a vertex to those that aren't settled.

@@ -3,7 +3,6 @@ use Rattle.std.specs.List.Sorted.{IsPermutation}
 use Rattle.spf.specs.declared.queue.Candidate.{Candidate}
 use Rattle.spf.specs.steps.Relaxation.{reached_count}
 use Rattle.spf.specs.Candidates.{candidate_at}
-use Rattle.spf.proofs.Nearest.{adds_first}
 use Rattle.spf.proofs.Reached.{reached_count-le}
 use Rattle.spf.proofs.Searching.{Searching, Searching-start, IsSettled-empty}
 use Rattle.spf.proofs.Stepping.{Searching-step, work-step}
@@ -13,8 +12,7 @@ use Rattle.spf.proofs.dijkstra.settle_all.Goals as goal
 pub loop-next-init : goal.loop-next-init
 loop-next-init g c =
     let pushed : IsPermutation (candidate_at c.args.graph.now 0 c.args.root ∷ []) c.push.new.self =
-    adds_first (candidate_at c.args.graph.now 0 c.args.root) c.push.new.self
-    (rw c.in_ok-queue.ensures at (rw c.candidate.ensures at c.in_ok-push.ensures)) in
+    rw c.in_ok-queue.ensures at (rw c.candidate.ensures at c.in_ok-push.ensures) in
     subst (λ (xs : List ℕ). Searching c.args.graph.now c.args.root c.args.distances.now xs c.push.new.self) (sym c.requires.unordered)
     (Searching-start c.args.graph.now c.args.root c.args.distances.now c.push.new.self c.requires.sized c.requires.root c.requires.unreached pushed)
 
