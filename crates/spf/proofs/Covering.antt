@@ -7,7 +7,6 @@ use Rattle.area_graph.specs.Paths.{DirectedEdge}
 use Rattle.area_graph.specs.Topology.{Topology, IsArc}
 use Rattle.spf.specs.declared.queue.Candidate.{Candidate}
 use Rattle.spf.specs.steps.Relaxation.{IsAtMost}
-use Rattle.spf.specs.Candidates.{candidate_at}
 use Rattle.spf.proofs.Keys.{distance_from_key}
 use Rattle.spf.specs.steps.Search.{IsQueued}
 use Rattle.spf.proofs.Taking.{queue_cases, settled_below}

@@ -1,12 +1,12 @@
 -- The distances that are noted of the vertices that wait.
-use Rattle.std.proofs.Common.{◌≡◌, ◌≢◌, ℕ, ◌<◌, ◌≤◌, List, [], ◌∷◌, length, get_or, set, replicate, refl, sym, ap, subst, ◌∙◌, arith, ⊎_elim}
+use Rattle.std.proofs.Common.{◌≡◌, ◌≢◌, ℕ, ◌≤◌, List, [], ◌∷◌, length, get_or, set, replicate, sym, ap, subst, ◌∙◌, arith, ⊎_elim}
 use Rattle.std.specs.List.{Contains}
 use Rattle.std.specs.List.Sorted.{IsPermutation}
 use Rattle.std.proofs.lemmas.Bool.{cases_eq, cases_lt}
 use Rattle.std.proofs.lemmas.List.{get_or-set_other, get_or-set_same, get_or-replicate, get_or_past, length-replicate, length-set}
 use Rattle.std.proofs.lemmas.List.Sorted.{Contains-permutation}
 use Rattle.spf.specs.declared.queue.Candidate.{Candidate}
-use Rattle.spf.specs.steps.Search.{AreNearest, IsQueued, no_distance}
+use Rattle.spf.specs.steps.Search.{AreNearest, no_distance}
 use Rattle.spf.proofs.Pushing.{Contains-cons_cases, Contains-pushed, Contains-pushed_one}
 
 abbrev noted_at : List ℕ → ℕ → ℕ

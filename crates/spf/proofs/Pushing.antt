@@ -1,5 +1,5 @@
 -- What pushing candidates adds to the queue.
-use Rattle.std.proofs.Common.{◌≡◌, ℕ, zero, suc, ◌+◌, ◌<◌, ◌≤◌, List, [], ◌∷◌, ◌++◌, length, get_or, Option, None, Some, IsSome, is_some, refl, sym}
+use Rattle.std.proofs.Common.{◌≡◌, ℕ, zero, suc, ◌+◌, ◌<◌, ◌≤◌, List, [], ◌∷◌, ◌++◌, length, get_or, Option, None, IsSome, refl, sym}
 use Rattle.std.proofs.Common.{ap, subst, arith, ◌⊎◌, inl, inr, ⊎_elim}
 use Rattle.std.specs.List.{All, Contains}
 use Rattle.std.specs.List.Sorted.{IsPermutation}
@@ -9,8 +9,7 @@ use Rattle.area_graph.specs.declared.edge.Edge.{Edge}
 use Rattle.area_graph.specs.Topology.{Topology, row_at}
 use Rattle.spf.specs.declared.queue.Candidate.{Candidate}
 use Rattle.spf.specs.Candidates.{candidate_at}
-use Rattle.spf.specs.steps.Search.{Adds, IsQueued, PushesEdge, PushesNeighbours}
-use Rattle.std.specs.Prelude.{MatchOption}
+use Rattle.spf.specs.steps.Search.{IsQueued, PushesEdge, PushesNeighbours}
 use Rattle.spf.proofs.Closing.{arc_from}
 
 -- what is in a list is its head or in its tail
@@ -85,14 +84,9 @@ module _ (t : Topology) (distance : ℕ) (ds : List (Option ℕ)) where
 
     -- an edge of the row
     pub PushesRow-edge : PushesEdge t o distance ds mid new → PushesRow t distance ds (row ++ o ∷ []) old new
-    PushesRow-edge h = by_end (get_or ds o.to None) refl h
-      where
-        by_end : (d : Option ℕ) → get_or ds o.to None ≡ d → MatchOption d
-            (Adds (candidate_at t (distance + o.cost) o.to) mid new) (λ _. new ≡ mid) → PushesRow t distance ds (row ++ o ∷ []) old new
-        by_end None is adds = ⊎_elim (λ p. PushesRow-push p)
-            (λ same. subst (λ (xs : List Candidate). PushesRow t distance ds (row ++ o ∷ []) old xs) (sym same.0) (PushesRow-beaten same.1)) adds
-        by_end (Some d) is same = subst (λ (xs : List Candidate). PushesRow t distance ds (row ++ o ∷ []) old xs)
-            (sym same) (PushesRow-skip (ap (λ (x : Option ℕ). is_some x) is))
+    PushesRow-edge h = ⊎_elim (λ p. PushesRow-push p)
+        (λ same. subst (λ (xs : List Candidate). PushesRow t distance ds (row ++ o ∷ []) old xs) (sym same.0)
+        (⊎_elim (λ settled. PushesRow-skip settled) (λ queued. PushesRow-beaten queued) same.1)) h
 
   -- the whole row of a vertex
   pub PushesNeighbours-row : (from : ℕ) (old new : List Candidate)
@@ -109,9 +103,6 @@ module _ (t : Topology) (distance : ℕ) (ds : List (Option ℕ)) where
 -- an edge adds at most one candidate
 pub PushesEdge-count : (t : Topology) (o : Edge) (distance : ℕ) (ds : List (Option ℕ)) (old new : List Candidate)
     → PushesEdge t o distance ds old new → length new ≤ length old + 1
-PushesEdge-count t o distance ds old new h = by_end (get_or ds o.to None) h
-  where
-    by_end : (d : Option ℕ) → MatchOption d (Adds (candidate_at t (distance + o.cost) o.to) old new) (λ _. new ≡ old) → length new ≤ length old + 1
-    by_end None adds = ⊎_elim (λ p. (let e = length_permutation (candidate_at t (distance + o.cost) o.to ∷ old) new p in omega arith))
-        (λ same. (let e = ap (λ (xs : List Candidate). length xs) same.0 in omega arith)) adds
-    by_end (Some d) same = let e = ap (λ (xs : List Candidate). length xs) same in omega arith
+PushesEdge-count t o distance ds old new h =
+    ⊎_elim (λ p. (let e = length_permutation (candidate_at t (distance + o.cost) o.to ∷ old) new p in omega arith))
+    (λ same. (let e = ap (λ (xs : List Candidate). length xs) same.0 in omega arith)) h

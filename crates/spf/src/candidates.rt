@@ -1,6 +1,6 @@
-//! The candidate list (RFC 2328, 16.1), which knows candidates that another to the same vertex beats.
+//! The candidate list (RFC 2328, 16.1), with the distances of the nearest candidates.
 
-ghost use Rattle.std.specs.Prelude.{◌≡◌, ◌<◌, ◌∷◌, [], IfOk, IfSome, IfNone, OnOk, IsPermutation, All, false, true, slice_set};
+ghost use Rattle.std.specs.Prelude.{◌≡◌, ◌≢◌, ◌∷◌, [], IfOk, IfSome, IfNone, OnOk, IsPermutation, All, false, true, slice_set};
 ghost use Rattle.std.specs.Ordering.{is_lt};
 ghost use Rattle.spf.specs.Candidates.{candidate_cmp};
 ghost use Rattle.spf.specs.steps.Search.{IsQueued, no_distance};
@@ -57,14 +57,14 @@ impl<A: Allocator + Copy> CandidateList<A> {
         })
     }
 
-    /// Whether a candidate to a vertex is sure to wait that is no farther than this.
-    pub(crate) fn is_beaten(&self, index: usize, distance: u32) -> bool
-        requires { distance < no_distance }
-        ensures { result ≡ true → IsQueued self.now index distance }
+    /// The distance of a candidate to a vertex that waits, and the greatest number of 32 bits where
+    /// none is known.
+    pub(crate) fn nearest(&self, index: usize) -> u32
+        ensures { result ≢ no_distance → IsQueued self.now index result }
     {
         match self.nearest.get(index) {
-            Some(nearest) => *nearest <= distance,
-            None => false,
+            Some(distance) => *distance,
+            None => NONE,
         }
     }
 

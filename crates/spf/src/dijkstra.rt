@@ -23,8 +23,8 @@ fn candidate<A: Allocator + Copy>(graph: &Graph<A>, distance: u32, index: usize)
     }
 }
 
-/// Adds a candidate for the vertex that an edge leads to, unless that vertex is settled, or has a
-/// candidate that is no farther.
+/// Adds a candidate for the vertex that an edge leads to, unless that vertex is settled and no
+/// farther, or has a candidate that is no farther.
 fn push_edge<A: Allocator + Copy>(
     graph: &Graph<A>,
     edge: Edge,
@@ -38,14 +38,15 @@ fn push_edge<A: Allocator + Copy>(
     ensures { OnOk result (PushesEdge graph.now edge distance distances.now queue.old queue.new) }
 {
     let distance = distance + u32::from(edge.cost);
-    let is_settled = distances.get(edge.to).is_some();
-    if is_settled | queue.is_beaten(edge.to, distance) {
+    let known = distances.number(edge.to).min(queue.nearest(edge.to));
+    if known <= distance {
         return Ok(());
     }
     queue.push(candidate(graph, distance, edge.to))
 }
 
-/// Adds candidates for the edges out of a vertex to those that aren't settled.
+/// Adds candidates for the edges out of a vertex, but for those to vertices that are known to be no
+/// farther.
 fn push_neighbours<A: Allocator + Copy>(
     graph: &Graph<A>,
     from: usize,

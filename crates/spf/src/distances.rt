@@ -46,6 +46,14 @@ impl<A: Allocator + Copy> DistanceTable<A> {
         }
     }
 
+    /// The distance of a vertex, and the greatest number of 32 bits where it is not reached.
+    pub(crate) fn number(&self, index: usize) -> u32
+        requires { index < length self.now }
+        ensures value { distance_in result ≡ slice_index_or self.now index None }
+    {
+        self.distances[index]
+    }
+
     /// Gives a vertex its distance.
     pub(crate) fn set(&mut self, index: usize, distance: u32)
         requires within { index < length self.old }

@@ -10,18 +10,18 @@ use std::cmp::Reverse;
 use std::collections::BinaryHeap;
 use std::marker::Model;
 
-/// A vertex, at the cost of some path to it. Its order is the order in which vertices are settled:
-/// less distance first, at equal distance a network before a router, then the lower number. It
-/// takes eight octets.
-#[derive(Clone, Copy, Debug, PartialEq, Eq, PartialOrd, Ord)]
+/// A vertex, at the cost of some path to it. Vertices are settled in this order of candidates: less
+/// distance first, at equal distance a network before a router, then the lower number.
+#[derive(Clone, Copy, Debug, PartialEq, Eq)]
 pub(crate) struct Candidate {
     pub(crate) distance: u32,
     pub(crate) is_router: bool,
     pub(crate) index: u16,
 }
 
-/// The number of a candidate in the order: its parts one after another, and below them 15 bits that
-/// say nothing.
+/// A number for a candidate: its parts one after another, and below them 15 bits that say nothing,
+/// so that each number of 64 bits stands for a candidate. The order of numbers is that of
+/// candidates.
 fn number_of(candidate: Candidate) -> u64
     ensures { candidate_in result ≡ candidate }
 {
@@ -29,7 +29,7 @@ fn number_of(candidate: Candidate) -> u64
     u64::from(candidate.distance) * 4_294_967_296 + place * 32_768
 }
 
-/// The candidate that has a number.
+/// The candidate that a number stands for.
 fn candidate_of(number: u64) -> Candidate
     ensures { result ≡ candidate_in number }
 {
@@ -40,8 +40,9 @@ fn candidate_of(number: u64) -> Candidate
     }
 }
 
-/// The candidates, of which the first in their order is taken next. A vertex may be there several
-/// times, once for each path that was found to it.
+/// The candidates, of which the first in their order is taken next, as numbers of eight octets,
+/// which are compared in one step. A vertex may be there several times, once for each path that was
+/// found to it.
 #[derive(Drop)]
 pub(crate) struct Queue<A: Allocator> {
     heap: BinaryHeap<Reverse<u64>, A>,

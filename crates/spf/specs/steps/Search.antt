@@ -19,13 +19,11 @@ no_distance = 4294967295
 abbrev pub AreNearest : List ℕ → List Candidate → Type 0
 AreNearest nearest queue = (i : ℕ) → slice_index_or nearest i no_distance ≢ no_distance → IsQueued queue i (slice_index_or nearest i no_distance)
 
--- new is old, with a candidate, unless one to its vertex is there that is no farther
-abbrev pub Adds : Candidate → List Candidate → List Candidate → Type 0
-Adds c old new = IsPermutation (c ∷ old) new ⊎ ((new ≡ old) × IsQueued old c.index c.distance)
-
--- new is old, with a candidate for the vertex that an edge leads to, unless that vertex is settled, or has one that is no farther
+-- new is old with a candidate for the vertex that an edge leads to; or it is old, and that vertex is settled or has one that is no farther
 abbrev pub PushesEdge : Topology → Edge → ℕ → List (Option ℕ) → List Candidate → List Candidate → Type 0
-PushesEdge t edge distance ds old new = MatchOption (slice_index_or ds edge.to None) (Adds (candidate_at t (distance + edge.cost) edge.to) old new) (λ _. new ≡ old)
+PushesEdge t edge distance ds old new =
+    IsPermutation (candidate_at t (distance + edge.cost) edge.to ∷ old) new
+    ⊎ ((new ≡ old) × (IsSome (slice_index_or ds edge.to None) ⊎ IsQueued old edge.to (distance + edge.cost)))
 
 -- new is old, with candidates for edges out of a vertex: each leads to one that is settled or queued
 pub record PushesNeighbours (t : Topology) (from distance : ℕ) (ds : List (Option ℕ)) (old new : List Candidate) : Type 0 where

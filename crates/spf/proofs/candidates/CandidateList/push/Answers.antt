@@ -1,5 +1,4 @@
 use Rattle.std.proofs.Common.{List, ℕ, ◌∙◌, ap, set, subst, sym}
-use Rattle.spf.specs.declared.queue.Candidate.{Candidate}
 use Rattle.spf.specs.steps.Search.{AreNearest}
 use Rattle.spf.proofs.Nearest.{note_pushed}
 use Rattle.spf.proofs.candidates.CandidateList.push.Goals as goal
