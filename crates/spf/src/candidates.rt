@@ -20,7 +20,8 @@ const NONE: u32 = u32::MAX;
 #[derive(Drop)]
 pub(crate) struct CandidateList<A: Allocator> {
     queue: Queue<A>,
-    /// By the vertices' numbers the distance of the nearest candidate that waits.
+    /// By the vertices' numbers the distance of a candidate that waits: of the nearest, if none is
+    /// added that is farther than another.
     nearest: Vec<u32, A>,
 }
 
