@@ -1,7 +1,7 @@
 -- Prefixes in order, and the lines for them.
-use Rattle.std.proofs.Common.{◌≡◌, ℕ, zero, suc, ◌+◌, ◌<◌, cond, List, [], ◌∷◌, ◌++◌, length, map, take, get_or, Option, None, Some, refl, sym, ap, subst, ◌∙◌}
-use Rattle.std.specs.Prelude.{◌&&◌, ◌==◌}
-use Rattle.std.specs.List.{AllByRecursion, filter_map, cons_option, slice_get}
+use Rattle.std.proofs.Common.{◌≡◌, ℕ, zero, suc, ◌+◌, ◌<◌, cond, Bool, true, false, List, [], ◌∷◌, ◌++◌, length, map, take, get_or, Option, None, Some, refl, sym, ap, subst, ◌∙◌}
+use Rattle.std.specs.Prelude.{◌&&◌, ◌||◌, ◌==◌}
+use Rattle.std.specs.List.{AllByRecursion, filter_map, cons_option, list_any, slice_get}
 use Rattle.std.specs.List.Sorted.{IsStrictlySortedBy}
 use Rattle.std.specs.Cmp.{unsigned_ties}
 use Rattle.std.specs.Ordering.{eq_by_cmp, is_eq, nat_cmp, ordering_reverse, ordering_then}
@@ -12,9 +12,12 @@ use Rattle.std.proofs.lemmas.List.{append-nil, map-append, take_more}
 use Rattle.std.proofs.lemmas.List.Elements.{filter_map-append}
 use Rattle.lsa_codec.specs.Prefix.{Net}
 use Rattle.lsa_codec.specs.Order.{prefix_cmp}
-use Rattle.lsa_codec.proofs.OrderLemmas.{prefix_total}
+use Rattle.lsa_codec.proofs.OrderLemmas.{prefix_exact, prefix_total}
 use Rattle.area_routes.specs.Routes.{AreSortedRoutes, nets, route_to}
 use Rattle.area_routes.specs.Values.{RouteValue}
+use Rattle.area_routes.proofs.RisingLemmas.{rising_is}
+use Rattle.area_graph.specs.Rising.{rising}
+use Rattle.std.proofs.lemmas.List.Folds.{list_any-append}
 
 -- ---- equal prefixes
 
@@ -27,6 +30,27 @@ pub same_prefix : (x y : Net) → ((x.addr.0 == y.addr.0) && (x.len == y.len)) �
 same_prefix x y =
     ap (λ b. b && (x.len == y.len)) (unsigned_ties x.addr.0 y.addr.0) ∙ ap (λ b. is_eq (nat_cmp x.addr.0 y.addr.0) && b) (unsigned_ties x.len y.len)
     ∙ sym (equal_then (nat_cmp x.addr.0 y.addr.0) (nat_cmp x.len y.len))
+
+equal_of : (o : Ordering) → is_eq o ≡ true → o ≡ Equal
+equal_of Less h = cc
+equal_of Equal h = refl
+equal_of Greater h = cc
+
+-- prefixes that `==` finds equal are the same
+pub prefix_same : (x y : Net) → ((x.addr.0 == y.addr.0) && (x.len == y.len)) ≡ true → x ≡ y
+prefix_same x y h = prefix_exact x y (equal_of (prefix_cmp x y) (sym (same_prefix x y) ∙ h))
+
+or_same : (b : Bool) → (b || b) ≡ b
+or_same true = refl
+or_same false = refl
+
+-- where both lists have the same prefixes, all prefixes are those of one of them
+pub same_nets : (before now : List RouteValue) → AreSortedRoutes before → nets before ≡ nets now → nets before ≡ rising prefix_cmp (nets (before ++ now))
+same_nets before now up same =
+    rising_is prefix_total prefix_exact (nets before) (nets (before ++ now)) up (λ q.
+    let has = list_any (eq_by_cmp prefix_cmp q) in
+    sym (ap has (map-append (λ (r : RouteValue). r.net) before now) ∙ list_any-append (eq_by_cmp prefix_cmp q) (nets before) (nets now)
+    ∙ ap (λ l. has (nets before) || has l) (sym same) ∙ or_same (has (nets before))))
 
 -- ---- the route at a place
 

@@ -11,8 +11,13 @@ use Rattle.next_hops.specs.Hop.{hop_text}
 use Rattle.routing_table.specs.Tables.{TableValue}
 use Rattle.area_routes.specs.Values.{RouteValue}
 use Rattle.table_report.specs.Texts.{area_text, headed, hops_text, kind_text, line_of, lines_text, rest_of, table_text}
-use Rattle.table_report.specs.steps.Parts.{paths_text, ways_text}
+use Rattle.table_report.specs.steps.Parts.{hop_after, paths_text, ways_text}
 use Rattle.table_report.specs.Comparing.{changes, compare_text}
+
+-- what holds of a call that went well
+pub on_ok : {T E P Q : Type 0} (result : Result T E) → (P → Q) → OnOk result P → OnOk result Q
+on_ok (Ok t) f p = f p
+on_ok (Err e) f p = p
 
 -- one more piece after those so far
 pub one_more : {X : Type 0} (f : X → List ℕ) (start : List ℕ) (xs : List X) (i : ℕ) (x : X) → i < length xs → x ≡ get_or xs i x
@@ -23,21 +28,27 @@ one_more f start xs i x lt is =
     (ap (λ l. flat_map f (take i xs) ++ l) (sym (append-nil (f x))) ∙ sym (flat_map-append f (take i xs) (x ∷ []))
     ∙ ap (λ y. flat_map f (take i xs ++ y ∷ [])) is ∙ ap (flat_map f) (sym (take_more xs i x lt)))
 
--- a hop after a comma
-abbrev pub hop_after : Hop → List ℕ
-hop_after hop = 44 ∷ hop_text hop
-
 -- the first hop, and each further one after a comma
 pub hops_joined : (first : Hop) (more : List Hop) → hop_text first ++ flat_map hop_after more ≡ hops_text (first ∷ more)
 hops_joined first [] = append-nil (hop_text first)
 hops_joined first (hop ∷ more) = ap (λ l. hop_text first ++ 44 ∷ l) (hops_joined hop more)
 
--- all hops
-pub all_hops : (start begun text : List ℕ) (first : Hop) (more hops : List Hop) (i : ℕ) → length more ≤ i → begun ≡ start ++ hop_text first
-    → text ≡ begun ++ flat_map hop_after (take i more) → hops ≡ first ∷ more → text ≡ start ++ hops_text hops
-all_hops start begun text first more hops i done begins so_far are =
-    so_far ∙ ap (λ l. begun ++ flat_map hop_after l) (take_all i more done) ∙ ap (λ l. l ++ flat_map hop_after more) begins
-    ∙ append_assoc start (hop_text first) (flat_map hop_after more) ∙ ap (λ l. start ++ l) (hops_joined first more) ∙ ap (λ l. start ++ hops_text l) (sym are)
+-- all further hops
+pub all_more : (start : List ℕ) (hops : List Hop) (i : ℕ) (text : List ℕ) → length hops ≤ i
+    → text ≡ start ++ flat_map hop_after (take i hops) → text ≡ start ++ flat_map hop_after hops
+all_more start hops i text done so_far = so_far ∙ ap (λ l. start ++ flat_map hop_after l) (take_all i hops done)
+
+-- an area, and all hops
+pub ways_joined : {T E : Type 0} (result : Result T E) (old begun new area : List ℕ) (first : Hop) (more hops : List Hop)
+    → begun ≡ old ++ (area ++ codes " " ++ hop_text first) → OnOk result (new ≡ begun ++ flat_map hop_after more)
+    → hops ≡ first ∷ more → OnOk result (new ≡ old ++ (area ++ codes " " ++ hops_text hops))
+ways_joined result old begun new area first more hops begins all are =
+    let front = area ++ codes " " in
+    let rest = flat_map hop_after more in
+    on_ok result
+    (λ pushed. pushed ∙ ap (λ l. l ++ rest) begins ∙ append_assoc old (front ++ hop_text first) rest
+    ∙ ap (λ l. old ++ l) (append_assoc front (hop_text first) rest ∙ ap (λ l. front ++ l) (hops_joined first more) ∙ ap (λ l. front ++ hops_text l) (sym are)))
+    all
 
 module _ {X : Type 0} (line : X → List ℕ) where
   -- a line with its end
@@ -102,11 +113,6 @@ pushed_is word router lines n old before text begins count all =
     all ∙ ap (λ l. l ++ lines_text lines) begins ∙ append_assoc old head (lines_text lines)
     ∙ ap (λ l. old ++ l) (headed_by word (address_text router.0) (decimal n) (lines_text lines)
     ∙ ap (λ k. word ++ codes " " ++ address_text router.0 ++ codes " " ++ decimal k ++ codes "\n" ++ lines_text lines) count)
-
--- what holds of a call that went well
-pub on_ok : {T E P Q : Type 0} (result : Result T E) → (P → Q) → OnOk result P → OnOk result Q
-on_ok (Ok t) f p = f p
-on_ok (Err e) f p = p
 
 pub table_text_is : (table : TableValue) → headed (codes "table") table.router (map line_of table.routes) ≡ table_text table
 unfolding table_text

@@ -5,7 +5,7 @@ ghost use Rattle.std.specs.Option.{option_copied};
 ghost use Rattle.std.specs.String.{string_bytes};
 ghost use Rattle.area_graph.specs.Rising.{rising};
 ghost use Rattle.lsa_codec.specs.Order.{prefix_cmp};
-ghost use Rattle.area_routes.specs.Routes.{nets, route_to};
+ghost use Rattle.area_routes.specs.Routes.{AreSortedRoutes, nets, route_to};
 ghost use Rattle.routing_table.specs.Tables.{TableValue};
 ghost use Rattle.table_report.specs.Comparing.{change, changes, compare_text};
 ghost use Rattle.table_report.specs.Texts.{line_of, lines_text};
@@ -19,13 +19,21 @@ use std::alloc::{AllocError, Allocator};
 
 /// The prefixes of routes.
 fn nets_of<A: Allocator + Copy>(alloc: A, routes: &Routes<A>) -> Result<Vec<Prefix, A>, AllocError>
-    ensures { IfOk result (λ found. found.items ≡ nets routes.now) }
+    ensures nets { IfOk result (λ found. found.items ≡ nets routes.now) }
+    ensures sorted { AreSortedRoutes routes.now }
 {
     let routes = routes.as_slice();
     routes.iter().map(|route| route.net).collect(alloc)
 }
 
-/// The prefixes of both lists of routes, in order, each once.
+/// Whether prefixes are the same.
+fn are_same_nets(before: &[Prefix], now: &[Prefix]) -> bool
+    ensures { result ≡ true → before.now ≡ now.now }
+{
+    before == now
+}
+
+/// The prefixes of both lists of routes, in order, each once. Most often both have the same ones.
 fn all_nets<A: Allocator + Copy>(
     alloc: A,
     before: &Routes<A>,
@@ -35,7 +43,11 @@ fn all_nets<A: Allocator + Copy>(
         (λ found. found.items ≡ rising prefix_cmp (nets (before.now ++ now.now))) }
 {
     let mut nets = nets_of(alloc, before)?;
-    nets.append(&mut nets_of(alloc, now)?)?;
+    let mut more = nets_of(alloc, now)?;
+    if are_same_nets(&nets, &more) {
+        return Ok(nets);
+    }
+    nets.append(&mut more)?;
     // Two lists in order: a stable sort merges them in one go.
     nets.sort()?;
     nets.dedup();

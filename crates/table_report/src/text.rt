@@ -7,6 +7,7 @@ ghost use Rattle.table_report.specs.steps.Parts.{ways_text};
 
 use crate::compare::{are_same_areas, are_same_hops};
 use crate::line::{push_line_with, push_ways};
+use crate::piece::ROOM;
 use area_routes::Route;
 use routing_table::Table;
 use std::alloc::{AllocError, Allocator};
@@ -25,6 +26,7 @@ fn write_ways<A: Allocator + Copy>(
     ways: &mut String<A>,
     before: Option<&Route<A>>,
     route: &Route<A>,
+    buffer: &mut [u8; ROOM],
 ) -> Result<(), AllocError>
     requires { IfSome before
         (λ before. string_bytes ways.old ≡ ways_text before.now ++ codes "\n") }
@@ -36,8 +38,8 @@ fn write_ways<A: Allocator + Copy>(
         return Ok(());
     }
     ways.clear();
-    push_ways(ways, route)?;
-    ways.push_str("\n")
+    push_ways(ways, route, buffer)?;
+    ways.push('\n')
 }
 
 /// Adds the lines of routes, each with its end.
@@ -49,10 +51,11 @@ fn push_lines<A: Allocator + Copy>(
         (string_bytes text.new ≡ string_bytes text.old ++ lines_text (map line_of routes.now)) }
 {
     let mut ways = String::new(*text.allocator());
+    let mut buffer = [0; ROOM];
     let mut before = None;
     for route in routes {
-        write_ways(&mut ways, before, route)?;
-        push_line_with(text, route, &ways)?;
+        write_ways(&mut ways, before, route, &mut buffer)?;
+        push_line_with(text, route, &ways, &mut buffer)?;
         before = Some(route);
     }
     Ok(())

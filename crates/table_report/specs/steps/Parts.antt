@@ -1,5 +1,7 @@
 -- The parts of the line of a route behind its prefix.
-use Rattle.std.specs.Prelude.{ℕ, List, ◌++◌, codes, decimal}
+use Rattle.std.specs.Prelude.{ℕ, List, ◌∷◌, ◌++◌, codes, decimal}
+use Rattle.next_hops.specs.declared.hop.Hop.{Hop}
+use Rattle.next_hops.specs.Hop.{hop_text}
 use Rattle.area_routes.specs.Values.{RouteValue}
 use Rattle.table_report.specs.Texts.{area_text, hops_text, kind_text}
 
@@ -10,3 +12,7 @@ paths_text r = kind_text r.kind ++ codes " " ++ decimal r.cost ++ codes " " ++ d
 -- the area and the hops
 abbrev pub ways_text : RouteValue → List ℕ
 ways_text r = area_text r.areas ++ codes " " ++ hops_text r.hops
+
+-- a hop after a comma
+abbrev pub hop_after : Hop → List ℕ
+hop_after hop = 44 ∷ hop_text hop

@@ -6,14 +6,21 @@ use Rattle.lsa_codec.specs.Order.{prefix_cmp}
 use Rattle.area_routes.specs.Routes.{nets}
 use Rattle.lsa_codec.proofs.OrderLemmas.{prefix_exact, prefix_total}
 use Rattle.area_routes.proofs.RisingLemmas.{dedup_rising}
-use Rattle.table_report.proofs.Differing.{same_prefix}
+use Rattle.table_report.proofs.Differing.{same_nets, same_prefix}
 use Rattle.table_report.proofs.compare.all_nets.Goals as goal
+
+pub returns-then-are_same_nets : goal.returns-then-are_same_nets
+returns-then-are_same_nets g c =
+    let before = c.in_ok-nets.ensures.nets in
+    let same = c.are_same_nets.ensures c.if-are_same_nets.true in
+    before ∙ same_nets c.args.before.now c.args.now.now c.nets_of.ensures.sorted
+    (sym before ∙ sym c.deref.ensures.value ∙ same ∙ c.deref-2.ensures.value ∙ c.in_ok-more.ensures.nets)
 
 pub returns : goal.returns
 returns g c =
     dedup_is _ _ _ c.dedup.ensures.filtered
     ∙ dedup_rising prefix_total prefix_exact same_prefix _ _ c.sort.ensures.permutation c.in_ok-sort.ensures.sorted
     ∙ ap (rising prefix_cmp)
-    (c.in_ok-append.ensures.items ∙ ap (λ l. l ++ c.in_ok-nets_of.field-0.items) c.in_ok-nets.ensures
-    ∙ ap (λ l. nets c.args.before.now ++ l) c.in_ok-nets_of.ensures
+    (c.in_ok-append.ensures.items ∙ ap (λ l. l ++ c.in_ok-more.more.items) c.in_ok-nets.ensures.nets
+    ∙ ap (λ l. nets c.args.before.now ++ l) c.in_ok-more.ensures.nets
     ∙ sym (map-append (λ r. r.net) c.args.before.now c.args.now.now))

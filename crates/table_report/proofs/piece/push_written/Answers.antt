@@ -6,4 +6,4 @@ pub from_utf8_unchecked-requires : goal.from_utf8_unchecked-requires
 from_utf8_unchecked-requires g c =
     let buffer = c.args.buffer.now in
     let start = c.args.start in
-    IsUtf8-from_ascii _ (rw (take_all (64 - start) (drop start buffer) (omega (arith, length-drop start buffer))) c.requires.ascii)
+    IsUtf8-from_ascii _ (rw (take_all (128 - start) (drop start buffer) (omega (arith, length-drop start buffer))) c.requires.ascii)

@@ -1,6 +1,0 @@
-use Rattle.table_report.proofs.piece.write_prefix.Goals as goal
-
-pub returns-clause-ascii : goal.returns-clause-ascii
-returns-clause-ascii c = λ ascii.
-    c.write_address.ensures.ascii (c.write_character-start-2.ensures.ascii
-    (c.write_octet-start.ensures.ascii (c.write_character-start.ensures.ascii ascii)))
