@@ -141,4 +141,4 @@ body_as types.External flags size text = option_map external_octets (external_in
 
 -- the octets behind this header, whose words stand here
 abbrev pub body_in : Header → List Word → Option (List ℕ)
-body_in header text = body_as header.name.ls_type header.flags header.seal.size text
+body_in header text = body_as header.name.ls_type header.flags header.checksum_and_length.size text
