@@ -12,6 +12,7 @@ use Rattle.area_routes.specs.Attached.{attached_areas}
 use Rattle.area_routes.specs.Inter.{entries_of_all}
 use Rattle.area_routes.specs.Intra.{intra_of}
 use Rattle.area_routes.specs.Values.{AreaResultValue, EntryValue, RouteValue}
+use Rattle.external_routes.specs.Summaries.{is_among}
 use Rattle.routing_table.specs.AreasTrees.{AreasTrees, AreOfDatabase}
 use Rattle.summary_metrics.specs.Refreshed.{id_of, results_of}
 use Rattle.summary_metrics.specs.Told.{AreTold, HasCosts, ToldValue, backbone_entries, backbone_lsas}
@@ -40,7 +41,7 @@ has_another area areas = list_any (λ a. not (a.0 == area.0)) areas
 
 -- whether this area and another one are among the areas of a router
 abbrev pub is_border_of : AreaId → List AreaId → Bool
-is_border_of area areas = list_any (λ a. a.0 == area.0) areas && has_another area areas
+is_border_of area areas = is_among area areas && has_another area areas
 
 -- routes, entries and costs are what these areas give
 pub record AreGiven (results : List AreaResultValue) (i : InsideValue) : Type 0 where

@@ -1,7 +1,7 @@
 -- The metrics that summary-LSAs are due, by costs in place of whole routes: the cost within the areas of the originator, and
 -- else the least over what the summary-LSAs of the backbone tell (RFC 2328, 12.4.3, 16.1 and 16.2).
 use Rattle.std.specs.Prelude.{◌≡◌, ℕ, ◌+◌, ◌<◌, ◌^◌, ◌++◌, ◌∷◌, nat_lt, List, [], Bool, true, false, ◌&&◌, ◌==◌, if◌then◌else◌, Option, None, Some, IfSome, map}
-use Rattle.std.specs.List.{filter, filter_map, list_any}
+use Rattle.std.specs.List.{filter, filter_map}
 use Rattle.std.specs.Option.{option_and_then, option_map, option_map_or, option_or}
 use Rattle.std.specs.Map.{lookup}
 use Rattle.std.specs.Ordering.{eq_by_cmp, nat_cmp}
@@ -23,7 +23,7 @@ use Rattle.area_routes.specs.Intra.{intra_of}
 use Rattle.area_routes.specs.Routes.{route_to}
 use Rattle.area_routes.specs.Values.{AreaResultValue, EntryValue, RouteValue}
 use Rattle.external_routes.specs.Choose.{preferred}
-use Rattle.external_routes.specs.Summaries.{asbr_of_summary, metric_for}
+use Rattle.external_routes.specs.Summaries.{asbr_of_summary, is_among, metric_for}
 use Rattle.summary_metrics.specs.declared.sources.Source.{Source}
 use Rattle.summary_metrics.specs.Refreshed.{results_of}
 
@@ -78,7 +78,7 @@ backbone_entries results = option_map_or (λ r. r.entries) (backbone results) []
 
 -- the cost of an intra-area route, and none where one of its paths leads through the area
 abbrev pub route_cost : AreaId → RouteValue → Option ℕ
-route_cost area r = if list_any (λ a. a.0 == area.0) r.areas then None else Some r.cost
+route_cost area r = if is_among area r.areas then None else Some r.cost
 
 -- the cost of an entry, and none where it is of the area
 abbrev pub entry_cost : AreaId → EntryValue → Option ℕ

@@ -4,45 +4,17 @@ ghost use Rattle.std.specs.Prelude.{◌≡◌, ◌≤◌, ◌==◌, true, not, i
 ghost use Rattle.lsa_codec.specs.Views.{ls_infinity, metric_of};
 ghost use Rattle.lsdb.specs.Places.{lists_of};
 ghost use Rattle.area_routes.specs.Inter.{originator_of};
-ghost use Rattle.external_routes.specs.Summaries.{asbr_of_summary, is_covered, is_stub_area};
-ghost use Rattle.external_routes.specs.Summaries.{metric_for};
+ghost use Rattle.external_routes.specs.Summaries.{is_covered};
 ghost use Rattle.summary_metrics.specs.Originators.{AreInside};
 ghost use Rattle.summary_metrics.specs.Refreshed.{results_of};
 ghost use Rattle.summary_metrics.specs.Told.{IsToldFor, cost_by_told, due_by_told};
 
 use crate::inside::Inside;
 use crate::sources::Told;
-use lsa_codec::{ASBR_SUMMARY_LSA, AreaId, LS_INFINITY, Lsa, RouterId};
+use external_routes::{asbr_of_summary, metric_for};
+use lsa_codec::{AreaId, LS_INFINITY, Lsa};
 use lsdb::Database;
 use std::alloc::Allocator;
-
-/// Whether an area of the database is a stub area (RFC 2328, 3.6).
-fn is_stub_area<A: Allocator + Copy>(database: &Database<A>, area: AreaId) -> bool
-    ensures { result ≡ is_stub_area (lists_of database.now) area }
-{
-    for i in 0..database.area_count() {
-        let (other, is_stub) = database.area(i);
-        if is_stub && other == area {
-            return true;
-        }
-    }
-    false
-}
-
-/// The AS boundary router that a summary-LSA of type 4 tells of, unless it stands in a stub area.
-fn asbr_of_summary<A: Allocator + Copy>(
-    database: &Database<A>,
-    area: AreaId,
-    lsa: &Lsa<A>,
-) -> Option<RouterId>
-    ensures { result ≡ asbr_of_summary (lists_of database.now) area lsa.now }
-{
-    let key = lsa.key();
-    if key.kind != ASBR_SUMMARY_LSA || is_stub_area(database, area) {
-        return None;
-    }
-    Some(RouterId(key.id.0))
-}
 
 /// The cost of what an LSA of an area tells of, where its originator announces that into the area.
 fn announced_cost<A: Allocator + Copy>(
@@ -64,17 +36,6 @@ fn announced_cost<A: Allocator + Copy>(
             let asbr = asbr_of_summary(database, area, lsa)?;
             known.asbr_cost(area, router, asbr, told)
         }
-    }
-}
-
-/// The metric for a cost: LSInfinity where the cost is that or more.
-fn metric_for(cost: u64) -> u32
-    ensures { result ≡ metric_for cost }
-{
-    if cost < u64::from(LS_INFINITY) {
-        cost as u32
-    } else {
-        LS_INFINITY
     }
 }
 

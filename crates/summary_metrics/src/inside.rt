@@ -1,7 +1,6 @@
 //! What the areas of a router give it.
 
-ghost use Rattle.std.specs.Prelude.{◌≡◌, ◌++◌, ◌==◌, IfOk, OnOk};
-ghost use Rattle.std.specs.List.{list_any};
+ghost use Rattle.std.specs.Prelude.{◌≡◌, ◌++◌, IfOk, OnOk};
 ghost use Rattle.lsdb.specs.Lists.{Lists};
 ghost use Rattle.area_routes.specs.Inter.{entries_of_all};
 ghost use Rattle.summary_metrics.specs.Originators.{AreGiven, AreInside};
@@ -12,7 +11,7 @@ ghost use Rattle.summary_metrics.specs.Told.{route_cost};
 use crate::border_costs::BorderCosts;
 use crate::sources::Told;
 use area_routes::{AreaResult, InsideRoutes, Route, RouterEntries, RouterEntry, intra};
-use external_routes::preferred;
+use external_routes::{is_among, preferred};
 use lsa_codec::{AreaId, Prefix, RouterId};
 use std::alloc::{AllocError, Allocator};
 use std::marker::Model;
@@ -61,13 +60,6 @@ fn all_entries<A: Allocator + Copy>(
         add_entries(alloc, &mut all, area)?;
     }
     Ok(all)
-}
-
-/// Whether the area is among these.
-fn is_among(area: AreaId, areas: &[AreaId]) -> bool
-    ensures { result ≡ list_any (λ a. a.0 == area.0) areas.now }
-{
-    areas.iter().any(|other| *other == area)
 }
 
 /// The cost of an intra-area route; none where one of its paths leads through the area.
