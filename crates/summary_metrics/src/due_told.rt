@@ -5,12 +5,12 @@ ghost use Rattle.lsa_codec.specs.Views.{ls_infinity, metric_of};
 ghost use Rattle.lsdb.specs.Places.{lists_of};
 ghost use Rattle.area_routes.specs.Inter.{originator_of};
 ghost use Rattle.external_routes.specs.Summaries.{is_covered};
-ghost use Rattle.summary_metrics.specs.Originators.{AreInside};
 ghost use Rattle.summary_metrics.specs.Refreshed.{results_of};
-ghost use Rattle.summary_metrics.specs.Told.{IsToldFor, cost_by_told, due_by_told};
+ghost use Rattle.summary_metrics.specs.Originators.{AreInside};
+ghost use Rattle.summary_metrics.specs.steps.AnnouncedCosts.{IsToldFor, cost_by_told, due_by_told};
 
 use crate::inside::Inside;
-use crate::sources::Told;
+use crate::sources::BackboneSummaries;
 use external_routes::{asbr_of_summary, metric_for};
 use lsa_codec::{AreaId, LS_INFINITY, Lsa};
 use lsdb::Database;
@@ -22,7 +22,7 @@ fn announced_cost<A: Allocator + Copy>(
     area: AreaId,
     lsa: &Lsa<A>,
     known: &Inside<A>,
-    told: &Option<Told<A>>,
+    told: &Option<BackboneSummaries<A>>,
 ) -> Option<u64>
     requires known { AreInside (lists_of database.now) (originator_of lsa.now) known.now }
     requires told { IsToldFor (lists_of database.now) area told.now }
@@ -45,7 +45,7 @@ fn due<A: Allocator + Copy>(
     area: AreaId,
     lsa: &Lsa<A>,
     known: &Inside<A>,
-    told: &Option<Told<A>>,
+    told: &Option<BackboneSummaries<A>>,
 ) -> u32
     requires known { AreInside (lists_of database.now) (originator_of lsa.now) known.now }
     requires told { IsToldFor (lists_of database.now) area told.now }
@@ -65,7 +65,7 @@ pub(crate) fn other_metric<A: Allocator + Copy>(
     area: AreaId,
     lsa: &Lsa<A>,
     known: &Inside<A>,
-    told: &Option<Told<A>>,
+    told: &Option<BackboneSummaries<A>>,
 ) -> Option<u32>
     requires covered { is_covered (lists_of database.now) area lsa.now ≡ true }
     requires known { AreInside (lists_of database.now) (originator_of lsa.now) known.now }
