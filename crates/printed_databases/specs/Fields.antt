@@ -1,5 +1,6 @@
 -- The fields of an LSA's header (RFC 2328, A.4.1) in the words that FRR prints of it.
 use Rattle.std.specs.Prelude.{ℕ, List, [], ◌∷◌, Option, Some, None}
+use Rattle.lsa_codec.specs.Accepted.{longest_lsa}
 use Rattle.printed_databases.specs.declared.header.AgeAndOptions.{AgeAndOptions}
 use Rattle.printed_databases.specs.declared.header.Header.{Header}
 use Rattle.printed_databases.specs.declared.header.Origination.{Origination}
@@ -86,7 +87,7 @@ origination_in text = do
 unfoldable pub checksum_and_length_in : Rule ChecksumAndLength
 checksum_and_length_in text = do
   checksum ← value_behind (marked_up_to 0xffff) label.Checksum text
-  size ← value_behind (number_up_to 0xffff) label.Length checksum.1
+  size ← value_behind (number_up_to longest_lsa) label.Length checksum.1
   Some (record { checksum = checksum.0; size = size.0 }, size.1)
 
 -- the header of the LSA whose words stand here

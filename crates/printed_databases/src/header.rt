@@ -10,7 +10,7 @@ use crate::label::{
     word_behind,
 };
 use crate::ls_type::LsType;
-use lsa_codec::{Addr, RouterId};
+use lsa_codec::{Addr, LONGEST_LSA, RouterId};
 
 /// How old the LSA is, and what its originator can do.
 #[derive(Clone, Copy)]
@@ -164,7 +164,7 @@ fn checksum_and_length_in(text: &[u8]) -> Option<(ChecksumAndLength, &[u8])>
         ≡ checksum_and_length_in (words text.now) }
 {
     let (checksum, rest) = marked_behind(0xffff, Label::Checksum, text)?;
-    let (size, rest) = number_behind(0xffff, Label::Length, rest)?;
+    let (size, rest) = number_behind(LONGEST_LSA as u32, Label::Length, rest)?;
     let checksum_and_length = ChecksumAndLength {
         checksum: checksum as u16,
         size: size as u16,

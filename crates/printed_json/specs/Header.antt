@@ -1,6 +1,7 @@
 -- The fields of an LSA's header (RFC 2328, A.4.1) in the object that FRR prints of it.
 use Rattle.std.specs.Prelude.{ℕ, codes, Option, Some}
 use Rattle.json.specs.Json.{Json}
+use Rattle.lsa_codec.specs.Accepted.{longest_lsa}
 use Rattle.printed_databases.specs.declared.header.AgeAndOptions.{AgeAndOptions}
 use Rattle.printed_databases.specs.declared.header.Header.{Header}
 use Rattle.printed_databases.specs.declared.header.Origination.{Origination}
@@ -35,7 +36,7 @@ origination_in json = do
 unfoldable pub checksum_and_length_in : Json → Option ChecksumAndLength
 checksum_and_length_in json = do
   checksum ← hex_at 0xffff (codes "checksum") json
-  size ← number_at 0xffff (codes "length") json
+  size ← number_at longest_lsa (codes "length") json
   Some (record { checksum = checksum; size = size })
 
 -- the header of an LSA of this type, which the database tells

@@ -7,7 +7,7 @@ ghost use Rattle.printed_json.specs.Header.{age_and_options_in, flags_in, origin
 use crate::member::{address_at, hex_at, number_at, text_at};
 use crate::options::options_of;
 use json::Value;
-use lsa_codec::{Addr, RouterId};
+use lsa_codec::{Addr, LONGEST_LSA, RouterId};
 use printed_databases::fields::{
     AgeAndOptions, ChecksumAndLength, Header, LsType, Name, Origination,
 };
@@ -55,7 +55,7 @@ fn checksum_and_length_in<A: Allocator>(json: &Value<'_, A>) -> Option<ChecksumA
     ensures { result ≡ checksum_and_length_in (value_view json.now) }
 {
     let checksum = hex_at(0xffff, "checksum", json)?;
-    let size = number_at(0xffff, "length", json)?;
+    let size = number_at(LONGEST_LSA as u32, "length", json)?;
     Some(ChecksumAndLength {
         checksum: checksum as u16,
         size: size as u16,
