@@ -73,14 +73,18 @@ six_of arguments = Err (miscount 6 arguments)
 
 -- ---- the edits, by their arguments
 
+-- the greatest number of 16 bits, as the number of a link and its metric have (RFC 2328, A.4.2)
+abbrev pub greatest_number16 : ℕ
+greatest_number16 = 65535
+
 -- cost AREA ROUTER LINK METRIC
 unfoldable pub cost_of : List Word → Result Edit ScriptFault
 cost_of arguments = do
   word ← four_of arguments
   area ← address word.0
   router ← address word.1
-  link ← number 65535 word.2
-  metric ← number 65535 word.3
+  link ← number greatest_number16 word.2
+  metric ← number greatest_number16 word.3
   Ok (Cost (record { 0 = area }) (record { 0 = router }) link metric)
 
 -- drop-link AREA ROUTER LINK
@@ -89,7 +93,7 @@ drop_link_of arguments = do
   word ← three_of arguments
   area ← address word.0
   router ← address word.1
-  link ← number 65535 word.2
+  link ← number greatest_number16 word.2
   Ok (DropLink (record { 0 = area }) (record { 0 = router }) link)
 
 -- fail-link AREA ROUTER NEIGHBOR
@@ -123,7 +127,7 @@ add_stub_of arguments = do
   area ← address word.0
   router ← address word.1
   prefix ← prefix word.2
-  metric ← number 65535 word.3
+  metric ← number greatest_number16 word.3
   Ok (AddStub (record { 0 = area }) (record { 0 = router }) prefix metric)
 
 -- summary AREA ROUTER PREFIX METRIC

@@ -4,13 +4,16 @@ ghost use Rattle.std.specs.Prelude.{◌≡◌, [], ◌∷◌, MatchResult};
 ghost use Rattle.lsa_codec.specs.Views.{ls_infinity};
 ghost use Rattle.edit_script.specs.Words.{words};
 ghost use Rattle.edit_script.specs.declared.fault.ScriptFault.TheVariants.{MissingWord};
-ghost use Rattle.edit_script.specs.Reading.{Gives, number, address, prefix, metric_type, none_of, one_of, two_of, three_of, four_of, six_of};
+ghost use Rattle.edit_script.specs.Reading.{Gives, greatest_number16, number, address, prefix, metric_type, none_of, one_of, two_of, three_of, four_of, six_of};
 
 use crate::arguments::{address_of, number_up_to, prefix_of};
 use crate::edit::MetricType;
 use crate::fault::ScriptFault;
 use crate::words::next_word;
 use lsa_codec::{LS_INFINITY, Metric, Prefix};
+
+/// The greatest number of 16 bits, as the number of a link and its metric have (RFC 2328, A.4.2).
+const GREATEST_NUMBER16: u32 = 65_535;
 
 // ---- one argument
 
@@ -23,9 +26,9 @@ pub(crate) fn number(max: u32, word: &[u8]) -> Result<u32, ScriptFault>
 
 /// The number of 16 bits that a word spells; else S5.
 pub(crate) fn number16(word: &[u8]) -> Result<u16, ScriptFault>
-    ensures { result ≡ number 65535 word.now }
+    ensures { result ≡ number greatest_number16 word.now }
 {
-    match number_up_to(65535, word) {
+    match number_up_to(GREATEST_NUMBER16, word) {
         Some(number) => Ok(number as u16),
         None => Err(ScriptFault::BadNumber),
     }

@@ -54,10 +54,14 @@ is_covered db area lsa = is_calculated db area lsa && borders db area (originato
 
 -- ---- the metrics
 
+-- whether an area is among these
+abbrev pub is_among : AreaId → List AreaId → Bool
+is_among area areas = list_any (λ a. a.0 == area.0) areas
+
 -- whether the originator announces a route into an area: no path of it leads through the area, and into the backbone it is
 -- an intra-area route
 abbrev pub is_announced_route : AreaId → RouteValue → Bool
-is_announced_route area r = not (list_any (λ a. a.0 == area.0) r.areas) && (not (is_backbone area) || is_intra r.kind)
+is_announced_route area r = not (is_among area r.areas) && (not (is_backbone area) || is_intra r.kind)
 
 -- whether the originator announces an entry of an AS boundary router into an area: likewise
 abbrev pub is_announced_entry : AreaId → EntryValue → Bool

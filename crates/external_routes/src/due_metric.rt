@@ -1,11 +1,10 @@
 //! The metrics that summary-LSAs are due.
 
-ghost use Rattle.std.specs.Prelude.{◌≡◌, ◌≤◌, ◌==◌};
-ghost use Rattle.std.specs.List.{list_any};
+ghost use Rattle.std.specs.Prelude.{◌≡◌, ◌≤◌};
 ghost use Rattle.lsa_codec.specs.Views.{ls_infinity};
 ghost use Rattle.lsdb.specs.Places.{lists_of};
 ghost use Rattle.external_routes.specs.Summaries.{announced_cost, asbr_of_summary, cost_of_asbr};
-ghost use Rattle.external_routes.specs.Summaries.{cost_of_net, due, is_announced_entry};
+ghost use Rattle.external_routes.specs.Summaries.{cost_of_net, due, is_among, is_announced_entry};
 ghost use Rattle.external_routes.specs.Summaries.{is_announced_route, metric_for};
 
 use crate::choose::preferred;
@@ -15,9 +14,10 @@ use lsa_codec::{ASBR_SUMMARY_LSA, AreaId, LS_INFINITY, Lsa, Prefix, RouterId};
 use lsdb::Database;
 use std::alloc::Allocator;
 
-/// Whether the area is among these.
-fn is_among(area: AreaId, areas: &[AreaId]) -> bool
-    ensures { result ≡ list_any (λ a. a.0 == area.0) areas.now }
+/// Whether an area is among these, as among those that the paths of a route lead through. It takes
+/// no memory.
+pub fn is_among(area: AreaId, areas: &[AreaId]) -> bool
+    ensures { result ≡ is_among area areas.now }
 {
     areas.iter().any(|other| *other == area)
 }
@@ -65,8 +65,9 @@ fn cost_of_asbr<A: Allocator + Copy>(
     }
 }
 
-/// The AS boundary router that a summary-LSA of type 4 tells of, unless it stands in a stub area.
-fn asbr_of_summary<A: Allocator + Copy>(
+/// The AS boundary router that a summary-LSA of type 4 tells of, unless it stands in a stub area,
+/// into which none is announced (RFC 2328, 12.4.3). It takes no memory.
+pub fn asbr_of_summary<A: Allocator + Copy>(
     database: &Database<A>,
     area: AreaId,
     lsa: &Lsa<A>,
@@ -96,8 +97,9 @@ fn announced_cost<A: Allocator + Copy>(
     }
 }
 
-/// The metric for a cost: LSInfinity where the cost is that or more.
-fn metric_for(cost: u64) -> u32
+/// The metric that a summary-LSA has for a cost: LSInfinity where the cost is that or more. It
+/// takes no memory.
+pub fn metric_for(cost: u64) -> u32
     ensures { result ≡ metric_for cost }
 {
     if cost < u64::from(LS_INFINITY) {

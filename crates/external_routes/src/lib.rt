@@ -24,5 +24,5 @@ mod routes;
 
 pub use choose::preferred;
 pub use coverage::{covered, is_calculated};
-pub use due_metric::due;
+pub use due_metric::{asbr_of_summary, due, is_among, metric_for};
 pub use routes::externals;

@@ -241,7 +241,7 @@ external_again header external rest h =
 of_summaries : (header : Header) (summary : Summary) (rest : List Word) → SummaryFits header summary
     → body_in header (summary_words summary ++ rest) ≡ Some (summary_octets summary)
 of_summaries header summary rest h =
-    let read_as : LsType → Option (List ℕ) = λ ls_type. body_as ls_type header.flags header.seal.size (summary_words summary ++ rest) in
+    let read_as : LsType → Option (List ℕ) = λ ls_type. body_as ls_type header.flags header.checksum_and_length.size (summary_words summary ++ rest) in
     let read : option_map summary_octets (summary_in (summary_words summary ++ rest)) ≡ Some (summary_octets summary) =
     ap (option_map summary_octets) (summary_again header summary rest h) in
     elim h.ls_type [
@@ -252,13 +252,13 @@ of_summaries header summary rest h =
 pub body_again : (header : Header) (body : Body) (rest : List Word) → BodyFits header body
     → body_in header (body_words body ++ rest) ≡ Some (body_octets body)
 body_again header (of_router flags links) rest h =
-    ap (λ (ls_type : LsType). body_as ls_type header.flags header.seal.size (router_words links ++ rest)) h.ls_type
+    ap (λ (ls_type : LsType). body_as ls_type header.flags header.checksum_and_length.size (router_words links ++ rest)) h.ls_type
     ∙ ap (λ (flags : Option ℕ). router_in flags (router_words links ++ rest)) h.bits
     ∙ router_again flags links rest h.each_link h.count
 body_again header (of_network len routers) rest h =
-    ap (λ (ls_type : LsType). body_as ls_type header.flags header.seal.size (network_words len routers ++ rest)) h.ls_type
-    ∙ network_again header.seal.size len routers rest h.size h.mask h.each_router
+    ap (λ (ls_type : LsType). body_as ls_type header.flags header.checksum_and_length.size (network_words len routers ++ rest)) h.ls_type
+    ∙ network_again header.checksum_and_length.size len routers rest h.size h.mask h.each_router
 body_again header (of_summary summary) rest h = of_summaries header summary rest h
 body_again header (of_external external) rest h =
-    ap (λ (ls_type : LsType). body_as ls_type header.flags header.seal.size (external_words external ++ rest)) h.ls_type
+    ap (λ (ls_type : LsType). body_as ls_type header.flags header.checksum_and_length.size (external_words external ++ rest)) h.ls_type
     ∙ ap (option_map external_octets) (external_again header external rest h)

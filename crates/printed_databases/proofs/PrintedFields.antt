@@ -2,11 +2,11 @@
 use Rattle.std.proofs.Common.{◌≡◌, ℕ, ◌/◌, ◌%◌, ◌^◌, ◌<◌, Bool, true, false, eqb, cond, List, [], ◌∷◌, ◌++◌, append_assoc, Option, Some, None, refl, sym, ap, subst, ◌∙◌, arith}
 use Rattle.std.specs.Prelude.{codes, decimal, IfSome}
 use Rattle.lsa_codec.specs.Spelling.{address_text}
-use Rattle.printed_databases.specs.declared.header.Front.{Front}
+use Rattle.printed_databases.specs.declared.header.AgeAndOptions.{AgeAndOptions}
 use Rattle.printed_databases.specs.declared.header.Header.{Header}
-use Rattle.printed_databases.specs.declared.header.Issue.{Issue}
+use Rattle.printed_databases.specs.declared.header.Origination.{Origination}
 use Rattle.printed_databases.specs.declared.header.Name.{Name}
-use Rattle.printed_databases.specs.declared.header.Seal.{Seal}
+use Rattle.printed_databases.specs.declared.header.ChecksumAndLength.{ChecksumAndLength}
 use Rattle.printed_databases.specs.declared.label.Label.TheVariants as label
 use Rattle.printed_databases.specs.declared.ls_type.LsType.{LsType}
 use Rattle.printed_databases.specs.declared.ls_type.LsType.TheVariants as types
@@ -14,8 +14,8 @@ use Rattle.printed_databases.specs.Words.{Word, words}
 use Rattle.printed_databases.specs.Rules.{◌>>=◌, or_else, first_of_all}
 use Rattle.printed_databases.specs.Numbers.{number_up_to, hex_up_to, marked_up_to, address_of}
 use Rattle.printed_databases.specs.Labels.{text_of, behind_words, behind_label, word_behind, value_behind}
-use Rattle.printed_databases.specs.Fields.{front_in, past, past_names, flags_or, flags_in, type_label, id_label, name_as, name_in, issue_in, seal_in, header_in}
-use Rattle.printed_databases.specs.Printing.{printed_hex, printed_octet, label_words, said, Beside, front_words, names_of_bits, flags_words, name_words, issue_words, seal_words, header_words, HeaderFits}
+use Rattle.printed_databases.specs.Fields.{age_and_options_in, past, past_names, flags_or, flags_in, type_label, id_label, name_as, name_in, origination_in, checksum_and_length_in, header_in}
+use Rattle.printed_databases.specs.Printing.{printed_hex, printed_octet, label_words, said, Beside, age_and_options_words, names_of_bits, flags_words, name_words, origination_words, checksum_and_length_words, header_words, HeaderFits}
 use Rattle.printed_databases.proofs.PrintedNumbers.{number_again, hex_again, marked_again, octet_again, address_again}
 use Rattle.printed_databases.proofs.PrintedLabels.{label_again, word_again, value_again}
 
@@ -32,20 +32,20 @@ behind_five a b c d e rest = append_assoc (a ++ b ++ c ++ d) e rest ∙ behind_f
 
 -- ---- LS age and options
 
-pub front_again : (beside : Beside) (front : Front) (rest : List Word) → front.age < 2 ^ 16 → front.options < 2 ^ 8
-    → front_in (front_words beside front ++ rest) ≡ Some (front, rest)
-unfolding front_in
-front_again beside front rest age options =
+pub age_and_options_again : (beside : Beside) (first : AgeAndOptions) (rest : List Word) → first.age < 2 ^ 16 → first.options < 2 ^ 8
+    → age_and_options_in (age_and_options_words beside first ++ rest) ≡ Some (first, rest)
+unfolding age_and_options_in
+age_and_options_again beside first rest age options =
     let flags = said label.LsFlags beside.ls_flags in
     let letters = said label.Letters beside.letters in
-    let opts = said label.Options (printed_octet front.options) in
-    let ages = said label.Age (decimal front.age) in
+    let opts = said label.Options (printed_octet first.options) in
+    let ages = said label.Age (decimal first.age) in
     simp (
       behind_four ages opts letters flags rest,
-      value_again (number_up_to 0xffff) label.Age (decimal front.age) front.age (opts ++ (letters ++ (flags ++ rest)))
-          (number_again 0xffff front.age (omega arith) (omega arith)),
-      value_again (marked_up_to 0xff) label.Options (printed_octet front.options) front.options (letters ++ (flags ++ rest))
-          (octet_again front.options options),
+      value_again (number_up_to 0xffff) label.Age (decimal first.age) first.age (opts ++ (letters ++ (flags ++ rest)))
+          (number_again 0xffff first.age (omega arith) (omega arith)),
+      value_again (marked_up_to 0xff) label.Options (printed_octet first.options) first.options (letters ++ (flags ++ rest))
+          (octet_again first.options options),
       word_again label.Letters beside.letters (flags ++ rest),
       word_again label.LsFlags beside.ls_flags rest,
     )
@@ -240,31 +240,31 @@ name_again name rest h =
 
 -- ---- the other fields
 
-pub issue_again : (issue : Issue) (rest : List Word) → issue.adv.0 < 2 ^ 32 → issue.sequence < 2 ^ 32
-    → issue_in (issue_words issue ++ rest) ≡ Some (issue, rest)
-unfolding issue_in
-issue_again issue rest adv sequence =
-    let adv_words = said label.AdvertisingRouter (address_text issue.adv.0) in
-    let sequence_words = said label.Sequence (printed_hex 8 issue.sequence) in
+pub origination_again : (origination : Origination) (rest : List Word) → origination.adv.0 < 2 ^ 32 → origination.sequence < 2 ^ 32
+    → origination_in (origination_words origination ++ rest) ≡ Some (origination, rest)
+unfolding origination_in
+origination_again origination rest adv sequence =
+    let adv_words = said label.AdvertisingRouter (address_text origination.adv.0) in
+    let sequence_words = said label.Sequence (printed_hex 8 origination.sequence) in
     simp (
       append_assoc adv_words sequence_words rest,
-      value_again address_of label.AdvertisingRouter (address_text issue.adv.0) issue.adv.0 (sequence_words ++ rest)
-          (address_again issue.adv.0 adv),
-      value_again (hex_up_to 0xffffffff) label.Sequence (printed_hex 8 issue.sequence) issue.sequence rest
-          (hex_again 7 0xffffffff issue.sequence (omega arith) (omega arith)),
+      value_again address_of label.AdvertisingRouter (address_text origination.adv.0) origination.adv.0 (sequence_words ++ rest)
+          (address_again origination.adv.0 adv),
+      value_again (hex_up_to 0xffffffff) label.Sequence (printed_hex 8 origination.sequence) origination.sequence rest
+          (hex_again 7 0xffffffff origination.sequence (omega arith) (omega arith)),
     )
 
-pub seal_again : (seal : Seal) (rest : List Word) → seal.checksum < 2 ^ 16 → seal.size < 2 ^ 16
-    → seal_in (seal_words seal ++ rest) ≡ Some (seal, rest)
-unfolding seal_in
-seal_again seal rest checksum size =
-    let checksum_words = said label.Checksum (48 ∷ 120 ∷ printed_hex 4 seal.checksum) in
-    let size_words = said label.Length (decimal seal.size) in
+pub checksum_and_length_again : (last : ChecksumAndLength) (rest : List Word) → last.checksum < 2 ^ 16 → last.size < 2 ^ 16
+    → checksum_and_length_in (checksum_and_length_words last ++ rest) ≡ Some (last, rest)
+unfolding checksum_and_length_in
+checksum_and_length_again last rest checksum size =
+    let checksum_words = said label.Checksum (48 ∷ 120 ∷ printed_hex 4 last.checksum) in
+    let size_words = said label.Length (decimal last.size) in
     simp (
       append_assoc checksum_words size_words rest,
-      value_again (marked_up_to 0xffff) label.Checksum (48 ∷ 120 ∷ printed_hex 4 seal.checksum) seal.checksum (size_words ++ rest)
-          (marked_again 3 0xffff seal.checksum (omega arith) (omega arith)),
-      value_again (number_up_to 0xffff) label.Length (decimal seal.size) seal.size rest (number_again 0xffff seal.size (omega arith) (omega arith)),
+      value_again (marked_up_to 0xffff) label.Checksum (48 ∷ 120 ∷ printed_hex 4 last.checksum) last.checksum (size_words ++ rest)
+          (marked_again 3 0xffff last.checksum (omega arith) (omega arith)),
+      value_again (number_up_to 0xffff) label.Length (decimal last.size) last.size rest (number_again 0xffff last.size (omega arith) (omega arith)),
     )
 
 -- ---- the whole header
@@ -273,23 +273,24 @@ pub header_again : (beside : Beside) (header : Header) (rest : List Word) → He
     → header_in (header_words beside header ++ rest) ≡ Some (header, rest)
 unfolding header_in
 header_again beside header rest h =
-    let seal = seal_words header.seal in
-    let issue = issue_words header.issue in
+    let last = checksum_and_length_words header.checksum_and_length in
+    let origination = origination_words header.origination in
     let name = name_words header.name in
     let flags = flags_words header.flags in
-    let front = front_words beside header.front in
-    let behind_flags : List Word = said label.Id (address_text header.name.id.0) ++ (label_words (id_label header.name.ls_type) ++ (issue ++ (seal ++ rest))) in
-    let type_first : name ++ (issue ++ (seal ++ rest)) ≡ label_words (type_label header.name.ls_type) ++ behind_flags =
+    let first = age_and_options_words beside header.age_and_options in
+    let behind_flags : List Word =
+    said label.Id (address_text header.name.id.0) ++ (label_words (id_label header.name.ls_type) ++ (origination ++ (last ++ rest))) in
+    let type_first : name ++ (origination ++ (last ++ rest)) ≡ label_words (type_label header.name.ls_type) ++ behind_flags =
     behind_three (label_words (type_label header.name.ls_type)) (said label.Id (address_text header.name.id.0)) (label_words (id_label header.name.ls_type))
-    (issue ++ (seal ++ rest)) in
-    let flags_read : flags_in (flags ++ (name ++ (issue ++ (seal ++ rest)))) ≡ (header.flags, name ++ (issue ++ (seal ++ rest))) =
+    (origination ++ (last ++ rest)) in
+    let flags_read : flags_in (flags ++ (name ++ (origination ++ (last ++ rest)))) ≡ (header.flags, name ++ (origination ++ (last ++ rest))) =
     subst (λ (text : List Word). flags_in (flags ++ text) ≡ (header.flags, text)) (sym type_first)
     (flags_again header.flags header.name.ls_type behind_flags h.flags) in
     simp (
-      behind_five front flags name issue seal rest,
-      front_again beside header.front (flags ++ (name ++ (issue ++ (seal ++ rest)))) h.age h.options,
+      behind_five first flags name origination last rest,
+      age_and_options_again beside header.age_and_options (flags ++ (name ++ (origination ++ (last ++ rest)))) h.age h.options,
       flags_read,
-      name_again header.name (issue ++ (seal ++ rest)) h.id,
-      issue_again header.issue (seal ++ rest) h.adv h.sequence,
-      seal_again header.seal rest h.checksum h.size,
+      name_again header.name (origination ++ (last ++ rest)) h.id,
+      origination_again header.origination (last ++ rest) h.adv h.sequence,
+      checksum_and_length_again header.checksum_and_length rest h.checksum h.size,
     )

@@ -12,7 +12,7 @@ use Rattle.printed_databases.specs.Labels.{behind_label}
 use Rattle.printed_databases.specs.Bodies.{body_in}
 use Rattle.printed_databases.specs.Making.{header_octets}
 use Rattle.printed_databases.specs.PartsTold.{key_of, in_scope, decoded_told, made_told, header_told, lsa_from, lsas_at}
-use Rattle.printed_databases.specs.Printing.{printed_octet, label_words, said, Beside, flags_words, name_words, issue_words, seal_words, header_words, HeaderFits}
+use Rattle.printed_databases.specs.Printing.{printed_octet, label_words, said, Beside, flags_words, name_words, origination_words, checksum_and_length_words, header_words, HeaderFits}
 use Rattle.printed_databases.specs.PrintingBodies.{Body, body_words, lsa_words, body_octets, BodyFits}
 use Rattle.printed_databases.proofs.PrintedLabels.{label_again}
 use Rattle.printed_databases.proofs.PrintedFields.{behind_four, behind_five, header_again}
@@ -21,22 +21,24 @@ use Rattle.printed_databases.proofs.PrintedBodies.{body_again}
 -- what is printed behind the label of the age
 abbrev pub behind_age : Beside → Header → List Word → List Word
 behind_age beside header rest =
-    (decimal header.front.age ∷ []) ++ (said label.Options (printed_octet header.front.options)
+    (decimal header.age_and_options.age ∷ []) ++ (said label.Options (printed_octet header.age_and_options.options)
     ++ (said label.Letters beside.letters ++ (said label.LsFlags beside.ls_flags
-    ++ (flags_words header.flags ++ (name_words header.name ++ (issue_words header.issue ++ (seal_words header.seal ++ rest)))))))
+    ++ (flags_words header.flags ++ (name_words header.name ++ (origination_words header.origination
+    ++ (checksum_and_length_words header.checksum_and_length ++ rest)))))))
 
 pub begins : (beside : Beside) (header : Header) (rest : List Word)
     → header_words beside header ++ rest ≡ label_words label.Age ++ behind_age beside header rest
 begins beside header rest =
-    let front = flags_words header.flags ++ (name_words header.name ++ (issue_words header.issue ++ (seal_words header.seal ++ rest))) in
-    let options = said label.Options (printed_octet header.front.options) in
+    let last = checksum_and_length_words header.checksum_and_length in
+    let fields = flags_words header.flags ++ (name_words header.name ++ (origination_words header.origination ++ (last ++ rest))) in
+    let options = said label.Options (printed_octet header.age_and_options.options) in
     let letters = said label.Letters beside.letters in
     let ls_flags = said label.LsFlags beside.ls_flags in
-    let age = decimal header.front.age in
-    behind_five (said label.Age age ++ options ++ letters ++ ls_flags) (flags_words header.flags) (name_words header.name) (issue_words header.issue)
-    (seal_words header.seal) rest
-    ∙ behind_four (said label.Age age) options letters ls_flags front
-    ∙ append_assoc (label_words label.Age) (age ∷ []) (options ++ (letters ++ (ls_flags ++ front)))
+    let age = decimal header.age_and_options.age in
+    behind_five (said label.Age age ++ options ++ letters ++ ls_flags) (flags_words header.flags) (name_words header.name)
+    (origination_words header.origination) last rest
+    ∙ behind_four (said label.Age age) options letters ls_flags fields
+    ∙ append_assoc (label_words label.Age) (age ∷ []) (options ++ (letters ++ (ls_flags ++ fields)))
 
 module _ {A : Type 0} where
   lsa_here : (area : Option AreaId) (beside : Beside) (header : Header) (rest : List Word) → HeaderFits header

@@ -8,9 +8,9 @@ use Rattle.lsa_codec.specs.Decoding.{decoded}
 use Rattle.lsa_codec.specs.Spelling.{address_text}
 use Rattle.lsa_instances.specs.Order.{scope_told}
 use Rattle.printed_databases.specs.declared.header.Header.{Header}
-use Rattle.printed_databases.specs.declared.header.Issue.{Issue}
+use Rattle.printed_databases.specs.declared.header.Origination.{Origination}
 use Rattle.printed_databases.specs.declared.header.Name.{Name}
-use Rattle.printed_databases.specs.declared.header.Seal.{Seal}
+use Rattle.printed_databases.specs.declared.header.ChecksumAndLength.{ChecksumAndLength}
 use Rattle.printed_databases.specs.declared.label.Label.{Label}
 use Rattle.printed_databases.specs.declared.label.Label.TheVariants as label
 use Rattle.printed_databases.specs.declared.ls_type.LsType.{LsType}
@@ -25,7 +25,7 @@ use Rattle.printed_databases.specs.Fields.{type_label, id_label}
 use Rattle.printed_databases.specs.Bodies.{link_label, link_id_label, data_label}
 use Rattle.printed_databases.specs.Making.{header_octets}
 use Rattle.printed_databases.specs.PartsTold.{key_of, in_scope, lsas_at, told_in}
-use Rattle.printed_databases.specs.Printing.{printed_hex, printed_octet, printed_mask, label_words, said, Beside, names_of_bits, flags_words, name_words, issue_words, seal_words, header_words, HeaderFits}
+use Rattle.printed_databases.specs.Printing.{printed_hex, printed_octet, printed_mask, label_words, said, Beside, names_of_bits, flags_words, name_words, origination_words, checksum_and_length_words, header_words, HeaderFits}
 use Rattle.printed_databases.specs.PrintingBodies.{link_words, LinkFits, attached_words, metric_type_label, Body, of_router, of_network, of_summary, of_external, body_words, lsa_words, body_octets, BodyFits}
 use Rattle.printed_databases.specs.PrintingTexts.{IsPlain, ArePlain}
 use Rattle.printed_databases.proofs.PrintedBodies.{All-head, All-tail}
@@ -185,16 +185,16 @@ module _ {A : Type 0} where
       both (both (of_label (type_label name.ls_type) (spoken_type name.ls_type)) (of_address label.Id name.id.0 refl))
       (of_label (id_label name.ls_type) (spoken_id name.ls_type))
 
-  of_issue : (issue : Issue) → Quiet A (issue_words issue)
+  of_origination : (origination : Origination) → Quiet A (origination_words origination)
   unfolding spoken
-  of_issue issue =
-      both (of_address label.AdvertisingRouter issue.adv.0 refl)
-      (of_said label.Sequence (printed_hex 8 issue.sequence) refl (plain_start (printed_hex 8 issue.sequence) (start_hex 7 issue.sequence)))
+  of_origination origination =
+      both (of_address label.AdvertisingRouter origination.adv.0 refl)
+      (of_said label.Sequence (printed_hex 8 origination.sequence) refl (plain_start (printed_hex 8 origination.sequence) (start_hex 7 origination.sequence)))
 
-  of_seal : (seal : Seal) → seal.size < 2 ^ 16 → Quiet A (seal_words seal)
+  of_checksum_and_length : (last : ChecksumAndLength) → last.size < 2 ^ 16 → Quiet A (checksum_and_length_words last)
   unfolding spoken
-  of_seal seal size =
-      both (of_marked label.Checksum (printed_hex 4 seal.checksum) refl) (of_number label.Length seal.size refl (omega arith))
+  of_checksum_and_length last size =
+      both (of_marked label.Checksum (printed_hex 4 last.checksum) refl) (of_number label.Length last.size refl (omega arith))
 
   of_link : (link : Link) → LinkFits link → Quiet A (link_words link)
   unfolding spoken
@@ -243,23 +243,24 @@ module _ {A : Type 0} where
   unfolding spoken
   quiet_behind area beside header body rest h fits body_fits =
       let tail5 = body_words body ++ rest in
-      let tail4 = seal_words header.seal ++ tail5 in
-      let tail3 = issue_words header.issue ++ tail4 in
+      let tail4 = checksum_and_length_words header.checksum_and_length ++ tail5 in
+      let tail3 = origination_words header.origination ++ tail4 in
       let tail2 = name_words header.name ++ tail3 in
       let tail1 = flags_words header.flags ++ tail2 in
       let flags = said label.LsFlags beside.ls_flags in
       let letters = said label.Letters beside.letters in
-      let options = said label.Options (printed_octet header.front.options) in
-      let age = decimal header.front.age in
-      (of_word age (plain_start age (start_decimal header.front.age (omega (arith, fits.age))))).quiet area (options ++ (letters ++ (flags ++ tail1)))
-      ∙ (of_marked label.Options (cond (ltb header.front.options 16) (printed_hex 1 header.front.options) (printed_hex 2 header.front.options)) refl).quiet
+      let first = header.age_and_options in
+      let options = said label.Options (printed_octet first.options) in
+      let age = decimal first.age in
+      (of_word age (plain_start age (start_decimal first.age (omega (arith, fits.age))))).quiet area (options ++ (letters ++ (flags ++ tail1)))
+      ∙ (of_marked label.Options (cond (ltb first.options 16) (printed_hex 1 first.options) (printed_hex 2 first.options)) refl).quiet
       area (letters ++ (flags ++ tail1))
       ∙ (of_said label.Letters beside.letters refl (plain_word beside.letters h.letters)).quiet area (flags ++ tail1)
       ∙ (of_said label.LsFlags beside.ls_flags refl (plain_word beside.ls_flags h.ls_flags)).quiet area tail1
       ∙ (of_flags header.flags).quiet area tail2
       ∙ (of_name header.name).quiet area tail3
-      ∙ (of_issue header.issue).quiet area tail4
-      ∙ (of_seal header.seal fits.size).quiet area tail5
+      ∙ (of_origination header.origination).quiet area tail4
+      ∙ (of_checksum_and_length header.checksum_and_length fits.size).quiet area tail5
       ∙ (of_body header body body_fits).quiet area rest
 
   pub lsa_told : (area : Option AreaId) (beside : Beside) (header : Header) (body : Body) (rest : List Word) (lsa : List ℕ) → ArePlain beside

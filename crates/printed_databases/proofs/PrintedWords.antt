@@ -11,11 +11,11 @@ use Rattle.std.proofs.lemmas.Bool.{and_parts, ne_eqb}
 use Rattle.std.proofs.lemmas.List.Elements.{All-nil, All-cons, All-append, filter-append}
 use Rattle.std.proofs.lemmas.List.Splits.{slice_split_none, slice_split-cons_yes, length-slice_split}
 use Rattle.lsa_codec.specs.Spelling.{address_text}
-use Rattle.printed_databases.specs.declared.header.Front.{Front}
+use Rattle.printed_databases.specs.declared.header.AgeAndOptions.{AgeAndOptions}
 use Rattle.printed_databases.specs.declared.header.Header.{Header}
-use Rattle.printed_databases.specs.declared.header.Issue.{Issue}
+use Rattle.printed_databases.specs.declared.header.Origination.{Origination}
 use Rattle.printed_databases.specs.declared.header.Name.{Name}
-use Rattle.printed_databases.specs.declared.header.Seal.{Seal}
+use Rattle.printed_databases.specs.declared.header.ChecksumAndLength.{ChecksumAndLength}
 use Rattle.printed_databases.specs.declared.label.Label.{Label}
 use Rattle.printed_databases.specs.declared.label.Label.TheVariants as label
 use Rattle.printed_databases.specs.declared.router.Link.{Link}
@@ -23,7 +23,7 @@ use Rattle.printed_databases.specs.Words.{Word, is_blank, is_nonempty, words}
 use Rattle.printed_databases.specs.Labels.{text_of}
 use Rattle.printed_databases.specs.Fields.{type_label, id_label}
 use Rattle.printed_databases.specs.Bodies.{link_label, link_id_label, data_label}
-use Rattle.printed_databases.specs.Printing.{IsWord, printed_digit, printed_hex, printed_octet, printed_mask, label_words, said, Beside, BesideFits, front_words, names_of_bits, flags_words, name_words, issue_words, seal_words, header_words, HeaderFits}
+use Rattle.printed_databases.specs.Printing.{IsWord, printed_digit, printed_hex, printed_octet, printed_mask, label_words, said, Beside, BesideFits, age_and_options_words, names_of_bits, flags_words, name_words, origination_words, checksum_and_length_words, header_words, HeaderFits}
 use Rattle.printed_databases.specs.PrintingBodies.{link_words, LinkFits, attached_words, metric_type_label, Body, of_router, of_network, of_summary, of_external, body_words, lsa_words, BodyFits}
 use Rattle.printed_databases.proofs.PrintedNumbers.{own}
 use Rattle.printed_databases.proofs.PrintedBodies.{All-head, All-tail}
@@ -210,10 +210,10 @@ of_flags : (flags : Option ℕ) → AreWords (flags_words flags)
 of_flags None = none
 of_flags (Some flags) = both (of_said label.Flags (printed_octet flags) (octet_word flags)) (of_names_or_none (eqb flags 0) flags)
 
-of_front : (beside : Beside) (front : Front) → BesideFits beside → front.age < 2 ^ 16 → AreWords (front_words beside front)
-of_front beside front h age =
-    both (both (both (of_said label.Age (decimal front.age) (decimal_word front.age (omega arith)))
-    (of_said label.Options (printed_octet front.options) (octet_word front.options)))
+of_age_and_options : (beside : Beside) (first : AgeAndOptions) → BesideFits beside → first.age < 2 ^ 16 → AreWords (age_and_options_words beside first)
+of_age_and_options beside first h age =
+    both (both (both (of_said label.Age (decimal first.age) (decimal_word first.age (omega arith)))
+    (of_said label.Options (printed_octet first.options) (octet_word first.options)))
     (of_said label.Letters beside.letters h.letters)) (of_said label.LsFlags beside.ls_flags h.ls_flags)
 
 of_name : (name : Name) → AreWords (name_words name)
@@ -221,20 +221,21 @@ of_name name =
     both (both (of_label (type_label name.ls_type)) (of_said label.Id (address_text name.id.0) (address_word name.id.0)))
     (of_label (id_label name.ls_type))
 
-of_issue : (issue : Issue) → AreWords (issue_words issue)
-of_issue issue =
-    both (of_said label.AdvertisingRouter (address_text issue.adv.0) (address_word issue.adv.0))
-    (of_said label.Sequence (printed_hex 8 issue.sequence) (hex_word 7 issue.sequence))
+of_origination : (origination : Origination) → AreWords (origination_words origination)
+of_origination origination =
+    both (of_said label.AdvertisingRouter (address_text origination.adv.0) (address_word origination.adv.0))
+    (of_said label.Sequence (printed_hex 8 origination.sequence) (hex_word 7 origination.sequence))
 
-of_seal : (seal : Seal) → seal.size < 2 ^ 16 → AreWords (seal_words seal)
-of_seal seal size =
-    both (of_said label.Checksum (48 ∷ 120 ∷ printed_hex 4 seal.checksum) (marked_word (printed_hex 4 seal.checksum) (hex_lacks 4 seal.checksum)))
-    (of_said label.Length (decimal seal.size) (decimal_word seal.size (omega arith)))
+of_checksum_and_length : (last : ChecksumAndLength) → last.size < 2 ^ 16 → AreWords (checksum_and_length_words last)
+of_checksum_and_length last size =
+    both (of_said label.Checksum (48 ∷ 120 ∷ printed_hex 4 last.checksum) (marked_word (printed_hex 4 last.checksum) (hex_lacks 4 last.checksum)))
+    (of_said label.Length (decimal last.size) (decimal_word last.size (omega arith)))
 
 of_header : (beside : Beside) (header : Header) → BesideFits beside → HeaderFits header → AreWords (header_words beside header)
 of_header beside header h fits =
-    both (both (both (both (of_front beside header.front h fits.age) (of_flags header.flags)) (of_name header.name)) (of_issue header.issue))
-    (of_seal header.seal fits.size)
+    both (both (both (both (of_age_and_options beside header.age_and_options h fits.age) (of_flags header.flags)) (of_name header.name))
+    (of_origination header.origination))
+    (of_checksum_and_length header.checksum_and_length fits.size)
 
 of_link : (link : Link) → LinkFits link → AreWords (link_words link)
 of_link link h =

@@ -3,6 +3,7 @@ use Rattle.std.specs.Prelude.{ℕ, ◌-◌, ◌/◌, option_map, Bool, true, fal
 use Rattle.std.specs.Int.{w16, w32, to_be_bytes}
 use Rattle.std.specs.List.{flat_map}
 use Rattle.lsa_codec.specs.Prefix.{mask_of_len}
+use Rattle.lsa_codec.specs.Views.{ls_infinity}
 use Rattle.printed_databases.specs.declared.external.External.{External}
 use Rattle.printed_databases.specs.declared.header.Header.{Header}
 use Rattle.printed_databases.specs.declared.label.Label.{Label}
@@ -92,7 +93,7 @@ network_in size text = do
 unfoldable pub summary_in : List Word → Option Summary
 summary_in text = do
   len ← value_behind mask_length label.Mask text
-  metric ← value_behind (number_up_to 0xffffff) label.Metric len.1
+  metric ← value_behind (number_up_to ls_infinity) label.Metric len.1
   Some (record { len = len.0; metric = metric.0 })
 
 -- the mask, and the metric of 24 bits behind an octet 0; there are no metrics for other TOS
@@ -118,7 +119,7 @@ unfoldable pub external_in : List Word → Option External
 external_in text = do
   len ← value_behind mask_length label.Mask text
   is_type2 ← metric_type_in len.1
-  metric ← value_behind (number_up_to 0xffffff) label.Metric is_type2.1
+  metric ← value_behind (number_up_to ls_infinity) label.Metric is_type2.1
   forward ← value_behind address_of label.Forward metric.1
   tag ← value_behind (number_up_to 0xffffffff) label.Tag forward.1
   Some (record { len = len.0; is_type2 = is_type2.0; metric = metric.0; forward = forward.0; tag = tag.0 })
@@ -141,4 +142,4 @@ body_as types.External flags size text = option_map external_octets (external_in
 
 -- the octets behind this header, whose words stand here
 abbrev pub body_in : Header → List Word → Option (List ℕ)
-body_in header text = body_as header.name.ls_type header.flags header.seal.size text
+body_in header text = body_as header.name.ls_type header.flags header.checksum_and_length.size text

@@ -1,10 +1,11 @@
 -- The fields of an LSA's header (RFC 2328, A.4.1) in the words that FRR prints of it.
 use Rattle.std.specs.Prelude.{ℕ, List, [], ◌∷◌, Option, Some, None}
-use Rattle.printed_databases.specs.declared.header.Front.{Front}
+use Rattle.lsa_codec.specs.Accepted.{longest_lsa}
+use Rattle.printed_databases.specs.declared.header.AgeAndOptions.{AgeAndOptions}
 use Rattle.printed_databases.specs.declared.header.Header.{Header}
-use Rattle.printed_databases.specs.declared.header.Issue.{Issue}
+use Rattle.printed_databases.specs.declared.header.Origination.{Origination}
 use Rattle.printed_databases.specs.declared.header.Name.{Name}
-use Rattle.printed_databases.specs.declared.header.Seal.{Seal}
+use Rattle.printed_databases.specs.declared.header.ChecksumAndLength.{ChecksumAndLength}
 use Rattle.printed_databases.specs.declared.label.Label.{Label}
 use Rattle.printed_databases.specs.declared.label.Label.TheVariants as label
 use Rattle.printed_databases.specs.declared.ls_type.LsType.{LsType}
@@ -16,8 +17,8 @@ use Rattle.printed_databases.specs.Labels.{behind_label, word_behind, value_behi
 
 -- LS age and options. Behind the number of the options stand a colon, their letters, and the LS flags, which are the
 -- router's own and no part of the LSA
-unfoldable pub front_in : Rule Front
-front_in text = do
+unfoldable pub age_and_options_in : Rule AgeAndOptions
+age_and_options_in text = do
   age ← value_behind (number_up_to 0xffff) label.Age text
   options ← value_behind (marked_up_to 0xff) label.Options age.1
   letters ← word_behind label.Letters options.1
@@ -76,24 +77,33 @@ abbrev pub name_in : Rule Name
 name_in text = first_of_all name_as ls_types text
 
 -- Advertising Router and LS sequence number
-unfoldable pub issue_in : Rule Issue
-issue_in text = do
+unfoldable pub origination_in : Rule Origination
+origination_in text = do
   adv ← value_behind address_of label.AdvertisingRouter text
   sequence ← value_behind (hex_up_to 0xffffffff) label.Sequence adv.1
   Some (record { adv = record { 0 = adv.0 }; sequence = sequence.0 }, sequence.1)
 
 -- LS checksum and length
-unfoldable pub seal_in : Rule Seal
-seal_in text = do
+unfoldable pub checksum_and_length_in : Rule ChecksumAndLength
+checksum_and_length_in text = do
   checksum ← value_behind (marked_up_to 0xffff) label.Checksum text
-  size ← value_behind (number_up_to 0xffff) label.Length checksum.1
+  size ← value_behind (number_up_to longest_lsa) label.Length checksum.1
   Some (record { checksum = checksum.0; size = size.0 }, size.1)
 
 -- the header of the LSA whose words stand here
 unfoldable pub header_in : Rule Header
 header_in text = do
-  front ← front_in text
-  name ← name_in (flags_in front.1).1
-  issue ← issue_in name.1
-  seal ← seal_in issue.1
-  Some (record { front = front.0; flags = (flags_in front.1).0; name = name.0; issue = issue.0; seal = seal.0 }, seal.1)
+  first ← age_and_options_in text
+  name ← name_in (flags_in first.1).1
+  origination ← origination_in name.1
+  last ← checksum_and_length_in origination.1
+  Some (
+    record {
+      age_and_options = first.0;
+      flags = (flags_in first.1).0;
+      name = name.0;
+      origination = origination.0;
+      checksum_and_length = last.0;
+    },
+    last.1,
+  )

@@ -16,6 +16,6 @@ type_code types.External = external_lsa
 -- with the checksum and the length that were printed
 abbrev pub header_octets : Header → List ℕ
 header_octets header =
-    to_be_bytes w16 header.front.age ++ header.front.options ∷ type_code header.name.ls_type ∷ to_be_bytes w32 header.name.id.0
-    ++ to_be_bytes w32 header.issue.adv.0 ++ to_be_bytes w32 header.issue.sequence ++ to_be_bytes w16 header.seal.checksum
-    ++ to_be_bytes w16 header.seal.size
+    to_be_bytes w16 header.age_and_options.age ++ header.age_and_options.options ∷ type_code header.name.ls_type ∷ to_be_bytes w32 header.name.id.0
+    ++ to_be_bytes w32 header.origination.adv.0 ++ to_be_bytes w32 header.origination.sequence ++ to_be_bytes w16 header.checksum_and_length.checksum
+    ++ to_be_bytes w16 header.checksum_and_length.size

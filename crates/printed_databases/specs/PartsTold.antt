@@ -21,7 +21,7 @@ use Rattle.printed_databases.specs.Making.{type_code, header_octets}
 
 -- what names an LSA with this header
 abbrev pub key_of : Header → Key
-key_of header = record { kind = type_code header.name.ls_type; id = header.name.id; adv = header.issue.adv }
+key_of header = record { kind = type_code header.name.ls_type; id = header.name.id; adv = header.origination.adv }
 
 module _ {A : Type 0} where
   abbrev pub in_scope : Key → List ℕ → Option Scope → PartTold A

@@ -1,11 +1,11 @@
 -- How an FRR router prints numbers, addresses, and the header of an LSA (RFC 2328, A.4.1), as words.
 use Rattle.std.specs.Prelude.{◌≡◌, ℕ, zero, suc, ◌+◌, ◌/◌, ◌%◌, ◌^◌, ◌<◌, ◌==◌, nat_lt, false, All, List, [], ◌∷◌, ◌++◌, length, Option, Some, None, IfSome, if◌then◌else◌, decimal}
 use Rattle.lsa_codec.specs.Spelling.{address_text}
-use Rattle.printed_databases.specs.declared.header.Front.{Front}
+use Rattle.printed_databases.specs.declared.header.AgeAndOptions.{AgeAndOptions}
 use Rattle.printed_databases.specs.declared.header.Header.{Header}
-use Rattle.printed_databases.specs.declared.header.Issue.{Issue}
+use Rattle.printed_databases.specs.declared.header.Origination.{Origination}
 use Rattle.printed_databases.specs.declared.header.Name.{Name}
-use Rattle.printed_databases.specs.declared.header.Seal.{Seal}
+use Rattle.printed_databases.specs.declared.header.ChecksumAndLength.{ChecksumAndLength}
 use Rattle.printed_databases.specs.declared.label.Label.{Label}
 use Rattle.printed_databases.specs.declared.label.Label.TheVariants as label
 use Rattle.printed_databases.specs.Words.{Word, is_blank, words}
@@ -55,9 +55,9 @@ pub record BesideFits (beside : Beside) : Type 0 where
   pub letters : IsWord beside.letters
   pub ls_flags : IsWord beside.ls_flags
 
-abbrev pub front_words : Beside → Front → List Word
-front_words beside front =
-    said label.Age (decimal front.age) ++ said label.Options (printed_octet front.options)
+abbrev pub age_and_options_words : Beside → AgeAndOptions → List Word
+age_and_options_words beside first =
+    said label.Age (decimal first.age) ++ said label.Options (printed_octet first.options)
     ++ said label.Letters beside.letters ++ said label.LsFlags beside.ls_flags
 
 -- the name of a bit, where it is 1
@@ -80,24 +80,24 @@ abbrev pub name_words : Name → List Word
 name_words name =
     label_words (type_label name.ls_type) ++ said label.Id (address_text name.id.0) ++ label_words (id_label name.ls_type)
 
-abbrev pub issue_words : Issue → List Word
-issue_words issue = said label.AdvertisingRouter (address_text issue.adv.0) ++ said label.Sequence (printed_hex 8 issue.sequence)
+abbrev pub origination_words : Origination → List Word
+origination_words origination = said label.AdvertisingRouter (address_text origination.adv.0) ++ said label.Sequence (printed_hex 8 origination.sequence)
 
-abbrev pub seal_words : Seal → List Word
-seal_words seal = said label.Checksum (48 ∷ 120 ∷ printed_hex 4 seal.checksum) ++ said label.Length (decimal seal.size)
+abbrev pub checksum_and_length_words : ChecksumAndLength → List Word
+checksum_and_length_words last = said label.Checksum (48 ∷ 120 ∷ printed_hex 4 last.checksum) ++ said label.Length (decimal last.size)
 
 abbrev pub header_words : Beside → Header → List Word
 header_words beside header =
-    front_words beside header.front ++ flags_words header.flags ++ name_words header.name ++ issue_words header.issue
-    ++ seal_words header.seal
+    age_and_options_words beside header.age_and_options ++ flags_words header.flags ++ name_words header.name ++ origination_words header.origination
+    ++ checksum_and_length_words header.checksum_and_length
 
 -- each field is within its width
 pub record HeaderFits (header : Header) : Type 0 where
-  pub age : header.front.age < 2 ^ 16
-  pub options : header.front.options < 2 ^ 8
+  pub age : header.age_and_options.age < 2 ^ 16
+  pub options : header.age_and_options.options < 2 ^ 8
   pub flags : IfSome header.flags (λ flags. flags < 2 ^ 8)
   pub id : header.name.id.0 < 2 ^ 32
-  pub adv : header.issue.adv.0 < 2 ^ 32
-  pub sequence : header.issue.sequence < 2 ^ 32
-  pub checksum : header.seal.checksum < 2 ^ 16
-  pub size : header.seal.size < 2 ^ 16
+  pub adv : header.origination.adv.0 < 2 ^ 32
+  pub sequence : header.origination.sequence < 2 ^ 32
+  pub checksum : header.checksum_and_length.checksum < 2 ^ 16
+  pub size : header.checksum_and_length.size < 2 ^ 16

@@ -93,7 +93,7 @@ pub record RouterFits (header : Header) (flags : ℕ) (links : List Link) : Type
 -- the header's length is that of the header, the mask and the attached routers
 pub record NetworkFits (header : Header) (len : ℕ) (routers : List ℕ) : Type 0 where
   pub ls_type : header.name.ls_type ≡ types.Network
-  pub size : header.seal.size ≡ 24 + 4 * length routers
+  pub size : header.checksum_and_length.size ≡ 24 + 4 * length routers
   pub mask : len ≤ 32
   pub each_router : All (λ router. router < 2 ^ 32) routers
 

@@ -51,7 +51,7 @@ pub(crate) fn body_in<A: Allocator + Copy>(
 {
     match header.name.ls_type {
         LsType::Router => router_in(alloc, header.flags, text),
-        LsType::Network => network_in(alloc, header.seal.size, text),
+        LsType::Network => network_in(alloc, header.checksum_and_length.size, text),
         LsType::Summary | LsType::AsbrSummary => summary_body(alloc, text),
         LsType::External => external_body(alloc, text),
     }

@@ -5,7 +5,7 @@ ghost use Rattle.printed_databases.specs.Words.{words};
 ghost use Rattle.printed_databases.specs.Bodies.{metric_type_in, external_in, external_octets};
 
 use crate::label::{Label, address_behind, behind_label, mask_behind, number_behind};
-use lsa_codec::mask_of_len;
+use lsa_codec::{LS_INFINITY, mask_of_len};
 
 /// What an AS-external-LSA has behind its header.
 #[derive(Clone, Copy)]
@@ -45,7 +45,7 @@ pub(crate) fn external_in(text: &[u8]) -> Option<External>
 {
     let (len, rest) = mask_behind(Label::Mask, text)?;
     let (is_type2, rest) = metric_type_in(rest)?;
-    let (metric, rest) = number_behind(0xff_ffff, Label::Metric, rest)?;
+    let (metric, rest) = number_behind(LS_INFINITY, Label::Metric, rest)?;
     let (forward, rest) = address_behind(Label::Forward, rest)?;
     let (tag, _) = number_behind(0xffff_ffff, Label::Tag, rest)?;
     Some(External {

@@ -2,7 +2,7 @@
 
 ghost use Rattle.std.specs.Prelude.{◌≡◌, option_map};
 ghost use Rattle.printed_databases.specs.Words.{words};
-ghost use Rattle.printed_databases.specs.Fields.{front_in, past_names, flags_in, ls_types, name_as, name_in, issue_in, seal_in, header_in};
+ghost use Rattle.printed_databases.specs.Fields.{age_and_options_in, past_names, flags_in, ls_types, name_as, name_in, origination_in, checksum_and_length_in, header_in};
 ghost use Rattle.printed_databases.specs.Making.{header_octets};
 
 use crate::label::{
@@ -10,11 +10,11 @@ use crate::label::{
     word_behind,
 };
 use crate::ls_type::LsType;
-use lsa_codec::{Addr, RouterId};
+use lsa_codec::{Addr, LONGEST_LSA, RouterId};
 
-/// What is printed first.
+/// How old the LSA is, and what its originator can do.
 #[derive(Clone, Copy)]
-pub struct Front {
+pub struct AgeAndOptions {
     /// LS age, in seconds.
     pub age: u16,
     /// Options.
@@ -30,18 +30,18 @@ pub struct Name {
     pub id: Addr,
 }
 
-/// Who issued the LSA, and which instance it is.
+/// Which router originated the LSA, and which instance of it that is (RFC 2328, 12.1).
 #[derive(Clone, Copy)]
-pub struct Issue {
+pub struct Origination {
     /// Advertising Router.
     pub adv: RouterId,
     /// LS sequence number.
     pub sequence: u32,
 }
 
-/// What the LSA is tested by.
+/// What the octets of the LSA are tested by.
 #[derive(Clone, Copy)]
-pub struct Seal {
+pub struct ChecksumAndLength {
     /// LS checksum.
     pub checksum: u16,
     /// Length, in octets.
@@ -52,16 +52,16 @@ pub struct Seal {
 #[derive(Clone, Copy)]
 pub struct Header {
     /// LS age and options.
-    pub front: Front,
+    pub age_and_options: AgeAndOptions,
     /// The octet of the bits V, E and B, which is printed of router-LSAs alone, among the fields of
     /// the header.
     pub flags: Option<u8>,
     /// LS type and Link State ID.
     pub name: Name,
     /// Advertising Router and LS sequence number.
-    pub issue: Issue,
+    pub origination: Origination,
     /// LS checksum and length.
-    pub seal: Seal,
+    pub checksum_and_length: ChecksumAndLength,
 }
 
 /// The LS types, in rising order.
@@ -74,20 +74,20 @@ const LS_TYPES: &[LsType] = &[
 ];
 
 /// LS age and options, and what stands behind the LS flags.
-#[tactic(auto, unfolding(crate::specs::Fields::front_in))]
-fn front_in(text: &[u8]) -> Option<(Front, &[u8])>
+#[tactic(auto, unfolding(crate::specs::Fields::age_and_options_in))]
+fn age_and_options_in(text: &[u8]) -> Option<(AgeAndOptions, &[u8])>
     ensures { option_map (λ found. (found.0, words found.1.now)) result
-        ≡ front_in (words text.now) }
+        ≡ age_and_options_in (words text.now) }
 {
     let (age, rest) = number_behind(0xffff, Label::Age, text)?;
     let (options, rest) = marked_behind(0xff, Label::Options, rest)?;
     let (_letters, rest) = word_behind(Label::Letters, rest)?;
     let (_ls_flags, rest) = word_behind(Label::LsFlags, rest)?;
-    let front = Front {
+    let age_and_options = AgeAndOptions {
         age: age as u16,
         options: options as u8,
     };
-    Some((front, rest))
+    Some((age_and_options, rest))
 }
 
 /// What stands behind the names of the bits V, E and B.
@@ -143,33 +143,33 @@ fn name_in(text: &[u8]) -> Option<(Name, &[u8])>
 }
 
 /// Advertising Router and LS sequence number, and what stands behind them.
-#[tactic(auto, unfolding(crate::specs::Fields::issue_in))]
-fn issue_in(text: &[u8]) -> Option<(Issue, &[u8])>
+#[tactic(auto, unfolding(crate::specs::Fields::origination_in))]
+fn origination_in(text: &[u8]) -> Option<(Origination, &[u8])>
     ensures { option_map (λ found. (found.0, words found.1.now)) result
-        ≡ issue_in (words text.now) }
+        ≡ origination_in (words text.now) }
 {
     let (adv, rest) = address_behind(Label::AdvertisingRouter, text)?;
     let (sequence, rest) = hex_behind(0xffff_ffff, Label::Sequence, rest)?;
-    let issue = Issue {
+    let origination = Origination {
         adv: RouterId(adv),
         sequence,
     };
-    Some((issue, rest))
+    Some((origination, rest))
 }
 
 /// LS checksum and length, and what stands behind them.
-#[tactic(auto, unfolding(crate::specs::Fields::seal_in))]
-fn seal_in(text: &[u8]) -> Option<(Seal, &[u8])>
+#[tactic(auto, unfolding(crate::specs::Fields::checksum_and_length_in))]
+fn checksum_and_length_in(text: &[u8]) -> Option<(ChecksumAndLength, &[u8])>
     ensures { option_map (λ found. (found.0, words found.1.now)) result
-        ≡ seal_in (words text.now) }
+        ≡ checksum_and_length_in (words text.now) }
 {
     let (checksum, rest) = marked_behind(0xffff, Label::Checksum, text)?;
-    let (size, rest) = number_behind(0xffff, Label::Length, rest)?;
-    let seal = Seal {
+    let (size, rest) = number_behind(LONGEST_LSA as u32, Label::Length, rest)?;
+    let checksum_and_length = ChecksumAndLength {
         checksum: checksum as u16,
         size: size as u16,
     };
-    Some((seal, rest))
+    Some((checksum_and_length, rest))
 }
 
 /// The header of the LSA whose words stand here, and what stands behind it.
@@ -178,17 +178,17 @@ pub(crate) fn header_in(text: &[u8]) -> Option<(Header, &[u8])>
     ensures { option_map (λ found. (found.0, words found.1.now)) result
         ≡ header_in (words text.now) }
 {
-    let (front, rest) = front_in(text)?;
+    let (age_and_options, rest) = age_and_options_in(text)?;
     let (flags, rest) = flags_in(rest);
     let (name, rest) = name_in(rest)?;
-    let (issue, rest) = issue_in(rest)?;
-    let (seal, rest) = seal_in(rest)?;
+    let (origination, rest) = origination_in(rest)?;
+    let (checksum_and_length, rest) = checksum_and_length_in(rest)?;
     let header = Header {
-        front,
+        age_and_options,
         flags,
         name,
-        issue,
-        seal,
+        origination,
+        checksum_and_length,
     };
     Some((header, rest))
 }
@@ -197,13 +197,13 @@ pub(crate) fn header_in(text: &[u8]) -> Option<(Header, &[u8])>
 pub fn header_octets(header: Header) -> [u8; 20]
     ensures { result ≡ header_octets header }
 {
-    let [a0, a1] = header.front.age.to_be_bytes();
+    let [a0, a1] = header.age_and_options.age.to_be_bytes();
     let [i0, i1, i2, i3] = header.name.id.0.to_be_bytes();
-    let [r0, r1, r2, r3] = header.issue.adv.0.to_be_bytes();
-    let [s0, s1, s2, s3] = header.issue.sequence.to_be_bytes();
-    let [c0, c1] = header.seal.checksum.to_be_bytes();
-    let [l0, l1] = header.seal.size.to_be_bytes();
-    let options = header.front.options;
+    let [r0, r1, r2, r3] = header.origination.adv.0.to_be_bytes();
+    let [s0, s1, s2, s3] = header.origination.sequence.to_be_bytes();
+    let [c0, c1] = header.checksum_and_length.checksum.to_be_bytes();
+    let [l0, l1] = header.checksum_and_length.size.to_be_bytes();
+    let options = header.age_and_options.options;
     let code = header.name.ls_type.code();
     [
         a0, a1, options, code, i0, i1, i2, i3, r0, r1, r2, r3, s0, s1, s2, s3, c0, c1, l0, l1,

@@ -37,7 +37,7 @@ fn key_of(header: Header) -> Key
     Key {
         kind: header.name.ls_type.code(),
         id: header.name.id,
-        adv: header.issue.adv,
+        adv: header.origination.adv,
     }
 }
 

@@ -5,7 +5,7 @@ ghost use Rattle.printed_databases.specs.Words.{words};
 ghost use Rattle.printed_databases.specs.Bodies.{summary_in, summary_octets};
 
 use crate::label::{Label, mask_behind, number_behind};
-use lsa_codec::mask_of_len;
+use lsa_codec::{LS_INFINITY, mask_of_len};
 
 /// What a summary-LSA has behind its header.
 #[derive(Clone, Copy)]
@@ -24,7 +24,7 @@ pub(crate) fn summary_in(text: &[u8]) -> Option<Summary>
     ensures metric { IfSome result (λ summary. summary.metric < 2 ^ 24) }
 {
     let (len, rest) = mask_behind(Label::Mask, text)?;
-    let (metric, _) = number_behind(0xff_ffff, Label::Metric, rest)?;
+    let (metric, _) = number_behind(LS_INFINITY, Label::Metric, rest)?;
     Some(Summary {
         len: len as u8,
         metric,

@@ -4,6 +4,7 @@ use Rattle.std.specs.Int.{w16, w32, to_be_bytes}
 use Rattle.std.specs.Str.{bytes_eq}
 use Rattle.json.specs.Json.{Json, Members, no_members, member}
 use Rattle.lsa_codec.specs.Prefix.{mask_of_len}
+use Rattle.lsa_codec.specs.Views.{ls_infinity}
 use Rattle.printed_databases.specs.declared.external.External.{External}
 use Rattle.printed_databases.specs.declared.header.Header.{Header}
 use Rattle.printed_databases.specs.declared.ls_type.LsType.{LsType}
@@ -85,7 +86,7 @@ network_in json = do
 unfoldable pub summary_in : Json → Option Summary
 summary_in json = do
   len ← number_at 32 (codes "networkMask") json
-  metric ← number_at 0xffffff (codes "tos0Metric") json
+  metric ← number_at ls_infinity (codes "tos0Metric") json
   Some (record { len = len; metric = metric })
 
 -- ---- AS-external-LSAs (A.4.5)
@@ -101,7 +102,7 @@ external_in json = do
   len ← number_at 32 (codes "networkMask") json
   name ← text_at (codes "metricType") json
   is_type2 ← is_type2_named name
-  metric ← number_at 0xffffff (codes "metric") json
+  metric ← number_at ls_infinity (codes "metric") json
   forward ← address_at (codes "forwardAddress") json
   tag ← number_at 0xffffffff (codes "externalRouteTag") json
   Some (record { len = len; is_type2 = is_type2; metric = metric; forward = forward; tag = tag })

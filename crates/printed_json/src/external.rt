@@ -6,6 +6,7 @@ ghost use Rattle.printed_json.specs.Bodies.{is_type2_named, external_in};
 
 use crate::member::{address_at, number_at, text_at};
 use json::Value;
+use lsa_codec::LS_INFINITY;
 use printed_databases::fields::External;
 use std::alloc::Allocator;
 
@@ -31,7 +32,7 @@ pub(crate) fn external_in<A: Allocator>(json: &Value<'_, A>) -> Option<External>
     let len = number_at(32, "networkMask", json)?;
     let name = text_at("metricType", json)?;
     let is_type2 = is_type2_named(name)?;
-    let metric = number_at(0xff_ffff, "metric", json)?;
+    let metric = number_at(LS_INFINITY, "metric", json)?;
     let forward = address_at("forwardAddress", json)?;
     let tag = number_at(0xffff_ffff, "externalRouteTag", json)?;
     Some(External {

@@ -2,24 +2,26 @@
 
 ghost use Rattle.std.specs.Prelude.{◌≡◌};
 ghost use Rattle.json.specs.Value.{value_view};
-ghost use Rattle.printed_json.specs.Header.{front_in, flags_in, issue_in, seal_in, header_in};
+ghost use Rattle.printed_json.specs.Header.{age_and_options_in, flags_in, origination_in, checksum_and_length_in, header_in};
 
 use crate::member::{address_at, hex_at, number_at, text_at};
 use crate::options::options_of;
 use json::Value;
-use lsa_codec::{Addr, RouterId};
-use printed_databases::fields::{Front, Header, Issue, LsType, Name, Seal};
+use lsa_codec::{Addr, LONGEST_LSA, RouterId};
+use printed_databases::fields::{
+    AgeAndOptions, ChecksumAndLength, Header, LsType, Name, Origination,
+};
 use std::alloc::Allocator;
 
 /// LS age and options.
-#[tactic(auto, unfolding(crate::specs::Header::front_in))]
-fn front_in<A: Allocator>(json: &Value<'_, A>) -> Option<Front>
-    ensures { result ≡ front_in (value_view json.now) }
+#[tactic(auto, unfolding(crate::specs::Header::age_and_options_in))]
+fn age_and_options_in<A: Allocator>(json: &Value<'_, A>) -> Option<AgeAndOptions>
+    ensures { result ≡ age_and_options_in (value_view json.now) }
 {
     let age = number_at(0xffff, "lsaAge", json)?;
     let letters = text_at("options", json)?;
     let options = options_of(letters.as_bytes())?;
-    Some(Front {
+    Some(AgeAndOptions {
         age: age as u16,
         options,
     })
@@ -35,26 +37,26 @@ fn flags_in<A: Allocator>(json: &Value<'_, A>) -> Option<u8>
 }
 
 /// Advertising Router and LS sequence number.
-#[tactic(auto, unfolding(crate::specs::Header::issue_in))]
-fn issue_in<A: Allocator>(json: &Value<'_, A>) -> Option<Issue>
-    ensures { result ≡ issue_in (value_view json.now) }
+#[tactic(auto, unfolding(crate::specs::Header::origination_in))]
+fn origination_in<A: Allocator>(json: &Value<'_, A>) -> Option<Origination>
+    ensures { result ≡ origination_in (value_view json.now) }
 {
     let adv = address_at("advertisingRouter", json)?;
     let sequence = hex_at(0xffff_ffff, "lsaSeqNumber", json)?;
-    Some(Issue {
+    Some(Origination {
         adv: RouterId(adv),
         sequence,
     })
 }
 
 /// LS checksum and length.
-#[tactic(auto, unfolding(crate::specs::Header::seal_in))]
-fn seal_in<A: Allocator>(json: &Value<'_, A>) -> Option<Seal>
-    ensures { result ≡ seal_in (value_view json.now) }
+#[tactic(auto, unfolding(crate::specs::Header::checksum_and_length_in))]
+fn checksum_and_length_in<A: Allocator>(json: &Value<'_, A>) -> Option<ChecksumAndLength>
+    ensures { result ≡ checksum_and_length_in (value_view json.now) }
 {
     let checksum = hex_at(0xffff, "checksum", json)?;
-    let size = number_at(0xffff, "length", json)?;
-    Some(Seal {
+    let size = number_at(LONGEST_LSA as u32, "length", json)?;
+    Some(ChecksumAndLength {
         checksum: checksum as u16,
         size: size as u16,
     })
@@ -65,18 +67,18 @@ fn seal_in<A: Allocator>(json: &Value<'_, A>) -> Option<Seal>
 pub(crate) fn header_in<A: Allocator>(ls_type: LsType, json: &Value<'_, A>) -> Option<Header>
     ensures { result ≡ header_in ls_type (value_view json.now) }
 {
-    let front = front_in(json)?;
+    let age_and_options = age_and_options_in(json)?;
     let id = address_at("linkStateId", json)?;
-    let issue = issue_in(json)?;
-    let seal = seal_in(json)?;
+    let origination = origination_in(json)?;
+    let checksum_and_length = checksum_and_length_in(json)?;
     Some(Header {
-        front,
+        age_and_options,
         flags: flags_in(json),
         name: Name {
             ls_type,
             id: Addr(id),
         },
-        issue,
-        seal,
+        origination,
+        checksum_and_length,
     })
 }

@@ -6,6 +6,7 @@ ghost use Rattle.printed_json.specs.Bodies.{summary_in};
 
 use crate::member::number_at;
 use json::Value;
+use lsa_codec::LS_INFINITY;
 use printed_databases::fields::Summary;
 use std::alloc::Allocator;
 
@@ -16,7 +17,7 @@ pub(crate) fn summary_in<A: Allocator>(json: &Value<'_, A>) -> Option<Summary>
     ensures mask { IfSome result (λ summary. summary.len ≤ 32) }
 {
     let len = number_at(32, "networkMask", json)?;
-    let metric = number_at(0xff_ffff, "tos0Metric", json)?;
+    let metric = number_at(LS_INFINITY, "tos0Metric", json)?;
     Some(Summary {
         len: len as u8,
         metric,

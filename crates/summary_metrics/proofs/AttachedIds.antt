@@ -10,8 +10,9 @@ use Rattle.lsdb.specs.Lists.{AreaHead, Lists, areas_of}
 use Rattle.area_routes.specs.Attached.{attached_areas, is_attached}
 use Rattle.external_routes.specs.Summaries.{borders, is_attached_elsewhere, is_head_of_area}
 use Rattle.routing_table.proofs.TableLemmas.{among_more, attached_among, joins}
-use Rattle.summary_metrics.specs.Originators.{ids_attached, is_border_of}
 use Rattle.summary_metrics.specs.Refreshed.{id_of}
+use Rattle.summary_metrics.specs.Originators.{ids_attached}
+use Rattle.summary_metrics.specs.steps.AnnouncedCosts.{is_border_of}
 use Rattle.summary_metrics.proofs.Several.{attached_here}
 
 -- ---- one area after another

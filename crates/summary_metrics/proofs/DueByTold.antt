@@ -27,7 +27,9 @@ use Rattle.external_routes.specs.Summaries.{asbr_of_summary, borders, cost_of_as
 use Rattle.routing_table.proofs.PreferenceLemmas.{route_all, route_preferring}
 use Rattle.summary_metrics.specs.Refreshed.{due_in, entries_inside, results_of, routes_inside}
 use Rattle.summary_metrics.specs.declared.sources.Source.{Source}
-use Rattle.summary_metrics.specs.Told.{asbr_cost, asbr_sources, backbone_entries, backbone_lsas, cost_over, due_by_told, else_told, entry_cost, net_cost, net_sources, route_cost, told_cost}
+use Rattle.summary_metrics.specs.BackboneSummaries.{backbone_lsas}
+use Rattle.summary_metrics.specs.Originators.{backbone_entries}
+use Rattle.summary_metrics.specs.steps.AnnouncedCosts.{asbr_cost, asbr_sources, cost_over, due_by_told, else_told, entry_cost, net_cost, net_sources, route_cost, told_cost}
 use Rattle.summary_metrics.proofs.IntoBackbone.{asbr_cost as asbr_into_backbone, entries_inter, net_cost as net_into_backbone, routes_inter}
 use Rattle.summary_metrics.proofs.IntraKinds.{all_intra}
 use Rattle.summary_metrics.proofs.Outside.{IsInside, is_outside, least_alike}

@@ -16,4 +16,3 @@ pub mod DueByTold
 pub mod KnownOriginators
 pub mod MoreTold
 pub mod MoreCosts
-pub mod AnyArea

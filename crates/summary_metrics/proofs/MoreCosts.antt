@@ -19,7 +19,8 @@ use Rattle.area_routes.specs.Inter.{border_of, same_kind, same_router}
 use Rattle.area_routes.specs.Values.{EntriesBelow, EntryValue}
 use Rattle.area_routes.proofs.LeastLemmas.{least_push}
 use Rattle.summary_metrics.specs.declared.sources.Source.{Source}
-use Rattle.summary_metrics.specs.Told.{CostsBelow, HasCosts, cost_from, cost_over, lesser_cost, told_cost, told_from}
+use Rattle.summary_metrics.specs.Originators.{HasCosts}
+use Rattle.summary_metrics.specs.steps.AnnouncedCosts.{CostsBelow, cost_from, cost_over, lesser_cost, told_cost, told_from}
 
 -- ---- one entry more
 

@@ -20,7 +20,8 @@ use Rattle.lsa_codec.proofs.OrderLemmas.{prefix_exact, router_exact}
 use Rattle.area_routes.specs.Inter.{named_router}
 use Rattle.routing_table.proofs.MapLemmas.{Puts}
 use Rattle.summary_metrics.specs.declared.sources.Source.{Source}
-use Rattle.summary_metrics.specs.Told.{AreSources, AreTold, ToldValue, asbr_named, is_at, is_telling, more_sources, source_of, sources, sources_or_none}
+use Rattle.summary_metrics.specs.BackboneSummaries.{AreSources, AreTold, BackboneSummariesValue, asbr_named, is_at, is_telling, source_of, sources, sources_or_none}
+use Rattle.summary_metrics.specs.steps.AnnouncedCosts.{more_sources}
 use Rattle.summary_metrics.proofs.ToldWays.{and_false}
 
 -- an LSA that tells nothing
@@ -95,7 +96,7 @@ module _ {K : Type 0} (R : K → K → Ordering) (exact : CmpEqualImpliesEq R) w
         by false h put =
             ap sources_or_none put ∙ all q ∙ sym (append-nil (before q)) ∙ sym (ap (λ b. before q ++ cond b (source_of lsa ∷ []) []) (at false h))
 
-module _ (lsas : List (List ℕ)) (lsa : List ℕ) (told : ToldValue) (all : AreTold lsas told) where
+module _ (lsas : List (List ℕ)) (lsa : List ℕ) (told : BackboneSummariesValue) (all : AreTold lsas told) where
   -- an LSA that tells nothing
   pub told_nothing : is_telling lsa ≡ false → AreTold (lsas ++ lsa ∷ []) told
   told_nothing none = record {

@@ -13,9 +13,9 @@ use Rattle.area_routes.specs.Values.{AreaResultValue}
 use Rattle.area_routes.proofs.SameGraphLemmas.{same_graph}
 use Rattle.routing_table.specs.AreaTrees.{AreaTreesValue}
 use Rattle.routing_table.specs.AreasTrees.{AreasTrees, AreOfDatabase, trees_at}
-use Rattle.summary_metrics.specs.Originators.{AreGiven, AreOf, OriginatorsValue}
 use Rattle.summary_metrics.specs.Refreshed.{id_of, refreshed_areas}
-use Rattle.summary_metrics.specs.Told.{ToldValue}
+use Rattle.summary_metrics.specs.BackboneSummaries.{BackboneSummariesValue}
+use Rattle.summary_metrics.specs.Originators.{AreGiven, AreOf, OriginatorsValue}
 use Rattle.summary_metrics.proofs.KnownOriginators.{Attached, Known, known_as}
 use Rattle.summary_metrics.proofs.Passes.{areas_kept, graph_kept}
 use Rattle.summary_metrics.proofs.SameGraphs.{HaveSameGraphs, areas_alike, results_alike}
@@ -46,7 +46,7 @@ module _ (db : Lists) (is : IsDatabase db) where
     told = tt;
   }
 
-  pub told_forgotten : (old : OriginatorsValue) (attached : Attached) (trees : AreasTrees) (inside : Known) (told : Option ToldValue)
+  pub told_forgotten : (old : OriginatorsValue) (attached : Attached) (trees : AreasTrees) (inside : Known) (told : Option BackboneSummariesValue)
       → known_as attached trees inside told ≡ old → AreOf db old → AreOf next (known_as attached trees inside None)
   told_forgotten old attached trees inside told is_old all =
       known_next (known_as attached trees inside told) (subst (λ (o : OriginatorsValue). AreOf db o) (sym is_old) all)

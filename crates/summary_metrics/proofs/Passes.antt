@@ -8,6 +8,7 @@ use Rattle.std.proofs.lemmas.List.Elements.{All-cons, All-head, All-nil, All-tai
 use Rattle.lsa_codec.specs.declared.address.AreaId.{AreaId}
 use Rattle.lsa_codec.specs.Accepted.{IsAccepted}
 use Rattle.lsa_codec.specs.Fields.{kind_of}
+use Rattle.lsa_codec.specs.LsTypes.{asbr_summary_lsa, network_lsa, router_lsa, summary_lsa}
 use Rattle.lsa_codec.specs.Originating.{with_metric}
 use Rattle.lsa_codec.specs.Views.{ls_infinity, metric_of}
 use Rattle.lsdb.specs.declared.section.Section.{Section}
@@ -69,15 +70,17 @@ module _ (db : Lists) (area : AreaId) where
           ap (λ c. metric_of (cond c (with_metric (due_in db area lsa) lsa) lsa)) (stale false h)
           ∙ (other_metric (due_in db area lsa) lsa old (stale_summary lsa (stale false h)) (due_small db area lsa)).metric
 
-  no_summary : (kind : ℕ) → (eqb kind 1 || eqb kind 2) ≡ true → (eqb kind 3 || eqb kind 4) ≡ false
-  no_summary kind h = by (eqb kind 1) refl
+  -- an LS type of router-LSAs or network-LSAs is none of summary-LSAs
+  no_summary : (kind : ℕ) → (eqb kind router_lsa || eqb kind network_lsa) ≡ true → (eqb kind summary_lsa || eqb kind asbr_summary_lsa) ≡ false
+  no_summary kind h = by (eqb kind router_lsa) refl
     where
-      at : (n : ℕ) → kind ≡ n → (eqb n 3 || eqb n 4) ≡ false → (eqb kind 3 || eqb kind 4) ≡ false
-      at n e f = ap (λ k. eqb k 3 || eqb k 4) e ∙ f
+      at : (n : ℕ) → kind ≡ n → (eqb n summary_lsa || eqb n asbr_summary_lsa) ≡ false
+          → (eqb kind summary_lsa || eqb kind asbr_summary_lsa) ≡ false
+      at n e f = ap (λ k. eqb k summary_lsa || eqb k asbr_summary_lsa) e ∙ f
 
-      by : (b : Bool) → eqb kind 1 ≡ b → (eqb kind 3 || eqb kind 4) ≡ false
-      by true e = at 1 (eqb-true kind 1 e) refl
-      by false e = at 2 (eqb-true kind 2 (sym (ap (λ b. b || eqb kind 2) e) ∙ h)) refl
+      by : (b : Bool) → eqb kind router_lsa ≡ b → (eqb kind summary_lsa || eqb kind asbr_summary_lsa) ≡ false
+      by true e = at router_lsa (eqb-true kind router_lsa e) refl
+      by false e = at network_lsa (eqb-true kind network_lsa (sym (ap (λ b. b || eqb kind network_lsa) e) ∙ h)) refl
 
   -- a router-LSA or network-LSA stays
   graph_lsa_stays : (lsa : List ℕ) → is_graph_lsa lsa ≡ true → refreshed_lsa db area lsa ≡ lsa
@@ -95,7 +98,7 @@ module _ (db : Lists) (area : AreaId) where
       f = refreshed_lsa db area
 
       same : is_graph_lsa (f lsa) ≡ is_graph_lsa lsa
-      same = ap (λ k. eqb k 1 || eqb k 2) (lsa_retold lsa (All-head IsAccepted lsa lsas all)).kind
+      same = ap (λ k. eqb k router_lsa || eqb k network_lsa) (lsa_retold lsa (All-head IsAccepted lsa lsas all)).kind
 
       by : (b : Bool) → is_graph_lsa lsa ≡ b → filter is_graph_lsa (map f lsas) ≡ filter is_graph_lsa lsas
           → cond (is_graph_lsa (f lsa)) (f lsa ∷ filter is_graph_lsa (map f lsas)) (filter is_graph_lsa (map f lsas))

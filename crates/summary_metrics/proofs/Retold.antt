@@ -6,7 +6,7 @@ use Rattle.lsa_codec.specs.declared.address.AreaId.{AreaId}
 use Rattle.lsa_codec.specs.declared.key.Key.{Key}
 use Rattle.lsa_codec.specs.Accepted.{IsAccepted}
 use Rattle.lsa_codec.specs.Fields.{kind_of}
-use Rattle.lsa_codec.specs.LsTypes.{asbr_summary_lsa, summary_lsa}
+use Rattle.lsa_codec.specs.LsTypes.{asbr_summary_lsa, external_lsa, summary_lsa}
 use Rattle.lsa_codec.specs.Making.{IsRewriteOf}
 use Rattle.lsa_codec.specs.Originating.{with_metric, HasOtherMetric}
 use Rattle.lsa_codec.specs.Views.{has_metric, ls_infinity, net_of_summary}
@@ -29,7 +29,7 @@ pub retold_same : (lsa : List ℕ) → IsRetold lsa lsa
 retold_same lsa = record { kind = refl; live = refl; originator = refl; named = refl; net = refl }
 
 has_a_metric : (lsa : List ℕ) → is_summary lsa ≡ true → has_metric (kind_of lsa) ≡ true
-has_a_metric lsa h = by (kind_of lsa == summary_lsa) (kind_of lsa == asbr_summary_lsa) (kind_of lsa == 5) h
+has_a_metric lsa h = by (kind_of lsa == summary_lsa) (kind_of lsa == asbr_summary_lsa) (kind_of lsa == external_lsa) h
   where
     by : (b c d : Bool) → (b || c) ≡ true → (b || c || d) ≡ true
     by true c d h = refl

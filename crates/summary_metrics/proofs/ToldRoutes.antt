@@ -28,7 +28,8 @@ use Rattle.area_routes.proofs.LookupLemmas.{entries_at, lookup_entries}
 use Rattle.area_routes.proofs.RisingLemmas.{any_rising}
 use Rattle.external_routes.specs.Choose.{is_asbr, is_intra, preference}
 use Rattle.external_routes.specs.Summaries.{is_announced_entry, is_announced_route}
-use Rattle.summary_metrics.specs.Told.{asbr_named, is_at, is_telling, source_of, sources, told_cost}
+use Rattle.summary_metrics.specs.BackboneSummaries.{asbr_named, is_at, is_telling, source_of, sources}
+use Rattle.summary_metrics.specs.steps.AnnouncedCosts.{told_cost}
 use Rattle.summary_metrics.proofs.ToldWays.{and_false, candidates, way_apart, way_cost}
 
 -- ---- ways in order of their keys

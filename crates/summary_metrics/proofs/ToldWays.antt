@@ -24,7 +24,8 @@ use Rattle.area_routes.specs.Inter.{border_of, by_border, candidate_to, is_summa
 use Rattle.area_routes.specs.Order.{rank_cmp}
 use Rattle.area_routes.specs.Values.{AreaResultValue, EntryValue, WayValue}
 use Rattle.area_routes.proofs.WayLemmas.{All-filter_map}
-use Rattle.summary_metrics.specs.Told.{cost_over, is_at, is_telling, source_of, sources, told_cost}
+use Rattle.summary_metrics.specs.BackboneSummaries.{is_at, is_telling, source_of, sources}
+use Rattle.summary_metrics.specs.steps.AnnouncedCosts.{cost_over, told_cost}
 
 pub and_false : (b : Bool) → (b && false) ≡ false
 and_false true = refl

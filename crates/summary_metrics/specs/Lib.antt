@@ -1,3 +1,4 @@
 pub mod Refreshed
-pub mod Told
+pub mod BackboneSummaries
 pub mod Originators
+pub mod steps

@@ -1,20 +1,20 @@
 -- What is known of the originators of summary-LSAs: their areas, the trees that were calculated for them, what their areas give,
 -- and what the backbone tells.
-use Rattle.std.specs.Prelude.{◌≡◌, ◌==◌, ◌&&◌, ℕ, Bool, not, List, Option, IfSome, map}
-use Rattle.std.specs.List.{list_any}
+use Rattle.std.specs.Prelude.{◌≡◌, ℕ, List, [], Option, IfSome, map}
+use Rattle.std.specs.Option.{option_map, option_map_or}
 use Rattle.std.specs.Map.{lookup}
 use Rattle.std.specs.Ordering.{eq_by_cmp}
 use Rattle.lsa_codec.specs.declared.address.AreaId.{AreaId}
 use Rattle.lsa_codec.specs.declared.address.RouterId.{RouterId}
 use Rattle.lsa_codec.specs.Order.{router_cmp}
 use Rattle.lsdb.specs.Lists.{Lists}
-use Rattle.area_routes.specs.Attached.{attached_areas}
-use Rattle.area_routes.specs.Inter.{entries_of_all}
+use Rattle.area_routes.specs.Inter.{backbone, border_of, entries_of_all}
 use Rattle.area_routes.specs.Intra.{intra_of}
 use Rattle.area_routes.specs.Values.{AreaResultValue, EntryValue, RouteValue}
+use Rattle.area_routes.specs.Attached.{attached_areas}
 use Rattle.routing_table.specs.AreasTrees.{AreasTrees, AreOfDatabase}
-use Rattle.summary_metrics.specs.Refreshed.{id_of, results_of}
-use Rattle.summary_metrics.specs.Told.{AreTold, HasCosts, ToldValue, backbone_entries, backbone_lsas}
+use Rattle.summary_metrics.specs.Refreshed.{results_of, id_of}
+use Rattle.summary_metrics.specs.BackboneSummaries.{AreTold, BackboneSummariesValue, backbone_lsas}
 
 -- the intra-area routes of a router, the router entries of its areas, and the costs of the area border routers of the backbone
 pub record InsideValue : Type 0 where
@@ -28,19 +28,19 @@ pub record OriginatorsValue : Type 0 where
   pub attached : List (RouterId × List AreaId)
   pub trees : AreasTrees
   pub inside : List (RouterId × InsideValue)
-  pub told : Option ToldValue
+  pub told : Option BackboneSummariesValue
 
 -- the IDs of the areas that a router is attached to
 abbrev pub ids_attached : Lists → RouterId → List AreaId
 ids_attached db router = map id_of (attached_areas db router)
 
--- whether an area other than this one is among some areas
-abbrev pub has_another : AreaId → List AreaId → Bool
-has_another area areas = list_any (λ a. not (a.0 == area.0)) areas
+-- the entries of the backbone
+abbrev pub backbone_entries : List AreaResultValue → List EntryValue
+backbone_entries results = option_map_or (λ r. r.entries) (backbone results) []
 
--- whether this area and another one are among the areas of a router
-abbrev pub is_border_of : AreaId → List AreaId → Bool
-is_border_of area areas = list_any (λ a. a.0 == area.0) areas && has_another area areas
+-- at each router there is the cost of its entry as an area border router
+abbrev pub HasCosts : List EntryValue → List (RouterId × ℕ) → Type 0
+HasCosts entries costs = (router : RouterId) → lookup (eq_by_cmp router_cmp router) costs ≡ option_map (λ e. e.cost) (border_of entries router)
 
 -- routes, entries and costs are what these areas give
 pub record AreGiven (results : List AreaResultValue) (i : InsideValue) : Type 0 where

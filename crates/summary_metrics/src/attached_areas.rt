@@ -1,11 +1,12 @@
 //! The areas that a router is attached to.
 
-ghost use Rattle.std.specs.Prelude.{◌≡◌, ◌==◌, IfOk};
-ghost use Rattle.std.specs.List.{list_any};
+ghost use Rattle.std.specs.Prelude.{◌≡◌, IfOk};
 ghost use Rattle.lsdb.specs.Places.{lists_of};
 ghost use Rattle.routing_table.specs.AreasTrees.{AreOfDatabase};
-ghost use Rattle.summary_metrics.specs.Originators.{has_another, ids_attached, is_border_of};
+ghost use Rattle.summary_metrics.specs.Originators.{ids_attached};
+ghost use Rattle.summary_metrics.specs.steps.AnnouncedCosts.{has_another, is_border_of};
 
+use external_routes::is_among;
 use lsa_codec::{AreaId, RouterId};
 use lsdb::Database;
 use routing_table::KeptTrees;
@@ -49,13 +50,6 @@ impl<A: Allocator + Copy> AttachedAreas<A> {
         Ok(AttachedAreas { areas })
     }
 
-    /// Whether an area is among them.
-    fn has(&self, area: AreaId) -> bool
-        ensures { result ≡ list_any (λ a. a.0 == area.0) self.now }
-    {
-        self.areas.iter().any(|other| *other == area)
-    }
-
     /// Whether an area other than this one is among them.
     fn has_another(&self, area: AreaId) -> bool
         ensures { result ≡ has_another area self.now }
@@ -67,6 +61,6 @@ impl<A: Allocator + Copy> AttachedAreas<A> {
     pub(crate) fn is_border_of(&self, area: AreaId) -> bool
         ensures { result ≡ is_border_of area self.now }
     {
-        self.has(area) && self.has_another(area)
+        is_among(area, self.areas.as_slice()) && self.has_another(area)
     }
 }

@@ -8,8 +8,8 @@ ghost use Rattle.lsa_codec.specs.Order.{router_cmp};
 ghost use Rattle.area_routes.specs.declared.entry.EntryKind.TheVariants.{Border};
 ghost use Rattle.area_routes.specs.Inter.{backbone, same_kind};
 ghost use Rattle.area_routes.specs.Values.{EntryValue};
-ghost use Rattle.summary_metrics.specs.Told.{HasCosts, backbone_entries, cost_from, lesser_cost};
-ghost use Rattle.summary_metrics.specs.Told.{told_from};
+ghost use Rattle.summary_metrics.specs.Originators.{HasCosts, backbone_entries};
+ghost use Rattle.summary_metrics.specs.steps.AnnouncedCosts.{cost_from, lesser_cost, told_from};
 
 use crate::sources::Source;
 use area_routes::{AreaResult, EntryKind, RouterEntry};
@@ -28,7 +28,7 @@ pub(crate) struct BorderCosts<A: Allocator> {
 impl<A: Allocator> Model for BorderCosts<A> {
     ghost use Rattle.std.specs.Prelude.{List, ℕ};
     ghost use Rattle.lsa_codec.specs.declared.address.RouterId.{RouterId};
-    ghost use Rattle.summary_metrics.specs.Told.{CostsBelow};
+    ghost use Rattle.summary_metrics.specs.steps.AnnouncedCosts.{CostsBelow};
 
     ghost Value = { List (RouterId × ℕ) };
 

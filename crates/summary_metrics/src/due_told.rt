@@ -4,45 +4,17 @@ ghost use Rattle.std.specs.Prelude.{◌≡◌, ◌≤◌, ◌==◌, true, not, i
 ghost use Rattle.lsa_codec.specs.Views.{ls_infinity, metric_of};
 ghost use Rattle.lsdb.specs.Places.{lists_of};
 ghost use Rattle.area_routes.specs.Inter.{originator_of};
-ghost use Rattle.external_routes.specs.Summaries.{asbr_of_summary, is_covered, is_stub_area};
-ghost use Rattle.external_routes.specs.Summaries.{metric_for};
-ghost use Rattle.summary_metrics.specs.Originators.{AreInside};
+ghost use Rattle.external_routes.specs.Summaries.{is_covered};
 ghost use Rattle.summary_metrics.specs.Refreshed.{results_of};
-ghost use Rattle.summary_metrics.specs.Told.{IsToldFor, cost_by_told, due_by_told};
+ghost use Rattle.summary_metrics.specs.Originators.{AreInside};
+ghost use Rattle.summary_metrics.specs.steps.AnnouncedCosts.{IsToldFor, cost_by_told, due_by_told};
 
 use crate::inside::Inside;
-use crate::sources::Told;
-use lsa_codec::{ASBR_SUMMARY_LSA, AreaId, LS_INFINITY, Lsa, RouterId};
+use crate::sources::BackboneSummaries;
+use external_routes::{asbr_of_summary, metric_for};
+use lsa_codec::{AreaId, LS_INFINITY, Lsa};
 use lsdb::Database;
 use std::alloc::Allocator;
-
-/// Whether an area of the database is a stub area (RFC 2328, 3.6).
-fn is_stub_area<A: Allocator + Copy>(database: &Database<A>, area: AreaId) -> bool
-    ensures { result ≡ is_stub_area (lists_of database.now) area }
-{
-    for i in 0..database.area_count() {
-        let (other, is_stub) = database.area(i);
-        if is_stub && other == area {
-            return true;
-        }
-    }
-    false
-}
-
-/// The AS boundary router that a summary-LSA of type 4 tells of, unless it stands in a stub area.
-fn asbr_of_summary<A: Allocator + Copy>(
-    database: &Database<A>,
-    area: AreaId,
-    lsa: &Lsa<A>,
-) -> Option<RouterId>
-    ensures { result ≡ asbr_of_summary (lists_of database.now) area lsa.now }
-{
-    let key = lsa.key();
-    if key.kind != ASBR_SUMMARY_LSA || is_stub_area(database, area) {
-        return None;
-    }
-    Some(RouterId(key.id.0))
-}
 
 /// The cost of what an LSA of an area tells of, where its originator announces that into the area.
 fn announced_cost<A: Allocator + Copy>(
@@ -50,7 +22,7 @@ fn announced_cost<A: Allocator + Copy>(
     area: AreaId,
     lsa: &Lsa<A>,
     known: &Inside<A>,
-    told: &Option<Told<A>>,
+    told: &Option<BackboneSummaries<A>>,
 ) -> Option<u64>
     requires known { AreInside (lists_of database.now) (originator_of lsa.now) known.now }
     requires told { IsToldFor (lists_of database.now) area told.now }
@@ -67,24 +39,13 @@ fn announced_cost<A: Allocator + Copy>(
     }
 }
 
-/// The metric for a cost: LSInfinity where the cost is that or more.
-fn metric_for(cost: u64) -> u32
-    ensures { result ≡ metric_for cost }
-{
-    if cost < u64::from(LS_INFINITY) {
-        cost as u32
-    } else {
-        LS_INFINITY
-    }
-}
-
 /// The metric that a summary-LSA of an area is due (RFC 2328, 12.4.3).
 fn due<A: Allocator + Copy>(
     database: &Database<A>,
     area: AreaId,
     lsa: &Lsa<A>,
     known: &Inside<A>,
-    told: &Option<Told<A>>,
+    told: &Option<BackboneSummaries<A>>,
 ) -> u32
     requires known { AreInside (lists_of database.now) (originator_of lsa.now) known.now }
     requires told { IsToldFor (lists_of database.now) area told.now }
@@ -104,7 +65,7 @@ pub(crate) fn other_metric<A: Allocator + Copy>(
     area: AreaId,
     lsa: &Lsa<A>,
     known: &Inside<A>,
-    told: &Option<Told<A>>,
+    told: &Option<BackboneSummaries<A>>,
 ) -> Option<u32>
     requires covered { is_covered (lists_of database.now) area lsa.now ≡ true }
     requires known { AreInside (lists_of database.now) (originator_of lsa.now) known.now }

@@ -1,18 +1,16 @@
 //! What the areas of a router give it.
 
-ghost use Rattle.std.specs.Prelude.{◌≡◌, ◌++◌, ◌==◌, IfOk, OnOk};
-ghost use Rattle.std.specs.List.{list_any};
+ghost use Rattle.std.specs.Prelude.{◌≡◌, ◌++◌, IfOk, OnOk};
 ghost use Rattle.lsdb.specs.Lists.{Lists};
 ghost use Rattle.area_routes.specs.Inter.{entries_of_all};
-ghost use Rattle.summary_metrics.specs.Originators.{AreGiven, AreInside};
 ghost use Rattle.summary_metrics.specs.Refreshed.{results_of};
-ghost use Rattle.summary_metrics.specs.Told.{IsToldFor, asbr_cost, entry_cost, net_cost};
-ghost use Rattle.summary_metrics.specs.Told.{route_cost};
+ghost use Rattle.summary_metrics.specs.Originators.{AreGiven, AreInside};
+ghost use Rattle.summary_metrics.specs.steps.AnnouncedCosts.{IsToldFor, asbr_cost, entry_cost, net_cost, route_cost};
 
 use crate::border_costs::BorderCosts;
-use crate::sources::Told;
+use crate::sources::BackboneSummaries;
 use area_routes::{AreaResult, InsideRoutes, Route, RouterEntries, RouterEntry, intra};
-use external_routes::preferred;
+use external_routes::{is_among, preferred};
 use lsa_codec::{AreaId, Prefix, RouterId};
 use std::alloc::{AllocError, Allocator};
 use std::marker::Model;
@@ -63,13 +61,6 @@ fn all_entries<A: Allocator + Copy>(
     Ok(all)
 }
 
-/// Whether the area is among these.
-fn is_among(area: AreaId, areas: &[AreaId]) -> bool
-    ensures { result ≡ list_any (λ a. a.0 == area.0) areas.now }
-{
-    areas.iter().any(|other| *other == area)
-}
-
 /// The cost of an intra-area route; none where one of its paths leads through the area.
 fn route_cost<A: Allocator + Copy>(area: AreaId, route: &Route<A>) -> Option<u64>
     ensures { result ≡ route_cost area route.now }
@@ -108,7 +99,7 @@ impl<A: Allocator + Copy> Inside<A> {
         area: AreaId,
         router: RouterId,
         net: Prefix,
-        told: &Option<Told<A>>,
+        told: &Option<BackboneSummaries<A>>,
     ) -> Option<u64>
         ensures { (db : Lists) → AreInside db router self.now → IsToldFor db area told.now
             → result ≡ net_cost db area router (results_of db router) net }
@@ -130,7 +121,7 @@ impl<A: Allocator + Copy> Inside<A> {
         area: AreaId,
         router: RouterId,
         asbr: RouterId,
-        told: &Option<Told<A>>,
+        told: &Option<BackboneSummaries<A>>,
     ) -> Option<u64>
         ensures { (db : Lists) → AreInside db router self.now → IsToldFor db area told.now
             → result ≡ asbr_cost db area router (results_of db router) asbr }

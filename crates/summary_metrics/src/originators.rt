@@ -9,14 +9,14 @@ ghost use Rattle.lsa_codec.specs.Views.{ls_infinity};
 ghost use Rattle.lsdb.specs.Lists.{IsDatabase, Lists};
 ghost use Rattle.lsdb.specs.Places.{lists_of};
 ghost use Rattle.external_routes.specs.Summaries.{borders};
-ghost use Rattle.summary_metrics.specs.Originators.{AreOf};
 ghost use Rattle.summary_metrics.specs.Refreshed.{refreshed_areas, stale_metric};
-ghost use Rattle.summary_metrics.specs.Told.{IsToldFor};
+ghost use Rattle.summary_metrics.specs.Originators.{AreOf};
+ghost use Rattle.summary_metrics.specs.steps.AnnouncedCosts.{IsToldFor};
 
 use crate::attached_areas::AttachedAreas;
 use crate::due_told::other_metric;
 use crate::inside::Inside;
-use crate::sources::Told;
+use crate::sources::BackboneSummaries;
 use external_routes::is_calculated;
 use lsa_codec::{AreaId, Lsa, RouterId};
 use lsdb::{Database, Section};
@@ -34,7 +34,7 @@ pub struct Originators<A: Allocator> {
     attached: BTreeMap<RouterId, AttachedAreas<A>, A>,
     trees: KeptTrees<A>,
     inside: BTreeMap<RouterId, Inside<A>, A>,
-    told: Option<Told<A>>,
+    told: Option<BackboneSummaries<A>>,
 }
 
 impl<A: Allocator> Model for Originators<A> {
@@ -125,7 +125,7 @@ impl<A: Allocator + Copy> Originators<A> {
             return Ok(());
         }
         let lsas = database.lsas(Section::Area(AreaId::BACKBONE));
-        self.told = Some(Told::of(alloc, lsas)?);
+        self.told = Some(BackboneSummaries::of(alloc, lsas)?);
         Ok(())
     }
 

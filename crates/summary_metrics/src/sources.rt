@@ -5,8 +5,8 @@ ghost use Rattle.std.specs.Prelude.{if◌then◌else◌};
 ghost use Rattle.std.specs.BTreeMap.{get, Updates};
 ghost use Rattle.lsa_codec.specs.Order.{prefix_cmp, router_cmp};
 ghost use Rattle.lsa_codec.specs.Views.{net_of_summary};
-ghost use Rattle.summary_metrics.specs.Told.{AreTold, asbr_named, is_telling, more_sources};
-ghost use Rattle.summary_metrics.specs.Told.{source_of, sources};
+ghost use Rattle.summary_metrics.specs.BackboneSummaries.{AreTold, asbr_named, is_telling, source_of, sources};
+ghost use Rattle.summary_metrics.specs.steps.AnnouncedCosts.{more_sources};
 
 use lsa_codec::{ASBR_SUMMARY_LSA, LS_INFINITY, Lsa, Prefix, RouterId};
 use lsdb::Lsas;
@@ -64,17 +64,17 @@ impl<A: Allocator + Copy> Sources<A> {
     }
 }
 
-/// What some LSAs tell of prefixes and of AS boundary routers.
+/// What the summary-LSAs of the backbone tell of prefixes and of AS boundary routers.
 #[derive(Drop)]
-pub(crate) struct Told<A: Allocator> {
+pub(crate) struct BackboneSummaries<A: Allocator> {
     nets: BTreeMap<Prefix, Sources<A>, A>,
     asbrs: BTreeMap<RouterId, Sources<A>, A>,
 }
 
-impl<A: Allocator> Model for Told<A> {
-    ghost use Rattle.summary_metrics.specs.Told.{ToldValue};
+impl<A: Allocator> Model for BackboneSummaries<A> {
+    ghost use Rattle.summary_metrics.specs.BackboneSummaries.{BackboneSummariesValue};
 
-    ghost Value = { ToldValue };
+    ghost Value = { BackboneSummariesValue };
 
     ghost view = { λ t. record { nets = t.nets.entries; asbrs = t.asbrs.entries } };
 }
@@ -128,7 +128,7 @@ fn add_source<K: Ord + Copy + Drop, A: Allocator + Copy>(
     Ok(())
 }
 
-impl<A: Allocator + Copy> Told<A> {
+impl<A: Allocator + Copy> BackboneSummaries<A> {
     /// Adds what an LSA tells, if it does.
     fn add(&mut self, alloc: A, lsa: &Lsa<A>) -> Result<(), AllocError>
         ensures { OnOk result ((lsas : List (List ℕ)) → AreTold lsas self.old
@@ -148,10 +148,10 @@ impl<A: Allocator + Copy> Told<A> {
     }
 
     /// What some LSAs tell.
-    pub(crate) fn of(alloc: A, lsas: Lsas<'_, A>) -> Result<Told<A>, AllocError>
+    pub(crate) fn of(alloc: A, lsas: Lsas<'_, A>) -> Result<BackboneSummaries<A>, AllocError>
         ensures { IfOk result (AreTold lsas.entry) }
     {
-        let mut told = Told {
+        let mut told = BackboneSummaries {
             nets: BTreeMap::new(alloc),
             asbrs: BTreeMap::new(alloc),
         };

@@ -1,7 +1,7 @@
 use Rattle.std.proofs.Common.{◌∷◌, [], ◌++◌, ◌^◌, List, take, sym, ap, subst, ◌∙◌}
 use Rattle.std.proofs.lemmas.List.{take_all, take_more}
 use Rattle.area_routes.specs.Values.{EntriesBelow, EntryValue}
-use Rattle.summary_metrics.specs.Told.{HasCosts}
+use Rattle.summary_metrics.specs.Originators.{HasCosts}
 use Rattle.summary_metrics.proofs.MoreCosts.{costs_below}
 use Rattle.summary_metrics.proofs.border_costs.BorderCosts.of_area.Goals as goal
 

@@ -1,5 +1,5 @@
 use Rattle.std.proofs.Common.{take}
-use Rattle.summary_metrics.specs.Told.{HasCosts}
+use Rattle.summary_metrics.specs.Originators.{HasCosts}
 use Rattle.summary_metrics.proofs.border_costs.BorderCosts.of_area.Given as goal
 
 -- the entries so far

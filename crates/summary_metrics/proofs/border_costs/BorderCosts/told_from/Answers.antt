@@ -1,6 +1,6 @@
 use Rattle.std.proofs.Common.{take, sym, ap, ◌∙◌}
 use Rattle.std.proofs.lemmas.List.{take_more}
-use Rattle.summary_metrics.specs.Told.{lesser_cost, told_from}
+use Rattle.summary_metrics.specs.steps.AnnouncedCosts.{lesser_cost, told_from}
 use Rattle.summary_metrics.proofs.MoreCosts.{told_push}
 use Rattle.summary_metrics.proofs.border_costs.BorderCosts.told_from.Goals as goal
 

@@ -1,5 +1,5 @@
 use Rattle.std.proofs.Common.{◌≡◌, take}
-use Rattle.summary_metrics.specs.Told.{told_from}
+use Rattle.summary_metrics.specs.steps.AnnouncedCosts.{told_from}
 use Rattle.summary_metrics.proofs.border_costs.BorderCosts.told_from.Given as goal
 
 -- the least over the sources so far

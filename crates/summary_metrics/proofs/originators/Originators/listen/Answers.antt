@@ -1,6 +1,6 @@
 use Rattle.std.proofs.Common.{ℕ, List, subst}
 use Rattle.lsdb.specs.Places.{lists_of}
-use Rattle.summary_metrics.specs.Told.{AreTold}
+use Rattle.summary_metrics.specs.BackboneSummaries.{AreTold}
 use Rattle.summary_metrics.proofs.KnownOriginators.{more_told}
 use Rattle.summary_metrics.proofs.originators.Originators.listen.Goals as goal
 

@@ -1,57 +1,40 @@
--- The metrics that summary-LSAs are due, by costs in place of whole routes: the cost within the areas of the originator, and
--- else the least over what the summary-LSAs of the backbone tell (RFC 2328, 12.4.3, 16.1 and 16.2).
-use Rattle.std.specs.Prelude.{◌≡◌, ℕ, ◌+◌, ◌<◌, ◌^◌, ◌++◌, ◌∷◌, nat_lt, List, [], Bool, true, false, ◌&&◌, ◌==◌, if◌then◌else◌, Option, None, Some, IfSome, map}
-use Rattle.std.specs.List.{filter, filter_map, list_any}
+-- The costs that area border routers announce in summary-LSAs, in place of whole routes: the cost within the areas of the
+-- originator, and else the least over what the summary-LSAs of the backbone tell (RFC 2328, 12.4.3, 16.1 and 16.2).
+use Rattle.std.specs.Prelude.{◌≡◌, ℕ, ◌+◌, ◌<◌, ◌^◌, ◌++◌, ◌∷◌, nat_lt, List, [], Bool, true, ◌&&◌, ◌==◌, if◌then◌else◌, Option, None, Some, IfSome, not}
+use Rattle.std.specs.List.{filter_map, list_any}
 use Rattle.std.specs.Option.{option_and_then, option_map, option_map_or, option_or}
 use Rattle.std.specs.Map.{lookup}
 use Rattle.std.specs.Ordering.{eq_by_cmp, nat_cmp}
-use Rattle.std.specs.declared.cmp.Ordering.{Ordering}
 use Rattle.lsa_codec.specs.Areas.{is_backbone}
-use Rattle.lsa_codec.specs.LsTypes.{asbr_summary_lsa}
 use Rattle.lsa_codec.specs.declared.address.AreaId.{AreaId}
 use Rattle.lsa_codec.specs.declared.address.RouterId.{RouterId}
-use Rattle.lsa_codec.specs.Fields.{kind_of}
 use Rattle.lsa_codec.specs.Order.{prefix_cmp, router_cmp}
 use Rattle.lsa_codec.specs.Prefix.{Net}
-use Rattle.lsa_codec.specs.Views.{ls_infinity, metric_of, net_of_summary}
-use Rattle.lsdb.specs.declared.section.Section.TheVariants.{Area}
-use Rattle.lsdb.specs.Lists.{Lists, lsas_of}
-use Rattle.area_graph.specs.Area.{is_live}
+use Rattle.lsa_codec.specs.Views.{ls_infinity, net_of_summary}
+use Rattle.lsdb.specs.Lists.{Lists}
 use Rattle.area_graph.specs.Least.{least}
-use Rattle.area_routes.specs.Inter.{backbone, border_of, entries_of_all, is_summary, named_router, originator_of, same_router}
+use Rattle.area_routes.specs.Inter.{border_of, entries_of_all, originator_of, same_router}
 use Rattle.area_routes.specs.Intra.{intra_of}
 use Rattle.area_routes.specs.Routes.{route_to}
 use Rattle.area_routes.specs.Values.{AreaResultValue, EntryValue, RouteValue}
 use Rattle.external_routes.specs.Choose.{preferred}
-use Rattle.external_routes.specs.Summaries.{asbr_of_summary, metric_for}
+use Rattle.external_routes.specs.Summaries.{asbr_of_summary, is_among, metric_for}
 use Rattle.summary_metrics.specs.declared.sources.Source.{Source}
 use Rattle.summary_metrics.specs.Refreshed.{results_of}
+use Rattle.summary_metrics.specs.BackboneSummaries.{AreTold, BackboneSummariesValue, asbr_named, backbone_lsas, sources, sources_or_none}
+use Rattle.summary_metrics.specs.Originators.{backbone_entries}
 
--- ---- what summary-LSAs tell
+-- ---- the areas of an originator
 
--- a live summary-LSA with a metric below LSInfinity
-abbrev pub is_telling : List ℕ → Bool
-is_telling lsa = is_summary lsa && (is_live lsa && nat_lt (metric_of lsa) ls_infinity)
+-- whether an area other than this one is among some areas
+abbrev pub has_another : AreaId → List AreaId → Bool
+has_another area areas = list_any (λ a. not (a.0 == area.0)) areas
 
-abbrev pub source_of : List ℕ → Source
-source_of lsa = record { originator = originator_of lsa; metric = metric_of lsa }
+-- whether this area and another one are among the areas of a router
+abbrev pub is_border_of : AreaId → List AreaId → Bool
+is_border_of area areas = is_among area areas && has_another area areas
 
--- the router that an LSA names, if it is a summary-LSA of type 4
-abbrev pub asbr_named : List ℕ → Option RouterId
-asbr_named lsa = if kind_of lsa == asbr_summary_lsa then Some (named_router lsa) else None
-
-module _ {K : Type 0} (R : K → K → Ordering) where
-  -- whether a key is there and is this one
-  abbrev pub is_at : K → Option K → Bool
-  is_at key o = option_map_or (eq_by_cmp R key) o false
-
-  -- those of some LSAs that tell of the key, each by what it tells of
-  abbrev pub sources : (List ℕ → Option K) → List (List ℕ) → K → List Source
-  sources key_of lsas key = map source_of (filter (λ lsa. is_telling lsa && is_at key (key_of lsa)) lsas)
-
--- the LSAs of the backbone
-abbrev pub backbone_lsas : Lists → List (List ℕ)
-backbone_lsas db = lsas_of (Area (record { 0 = 0 })) db
+-- ---- costs over what the backbone tells
 
 -- what the backbone tells of a prefix
 abbrev pub net_sources : Lists → Net → List Source
@@ -60,8 +43,6 @@ net_sources db net = sources prefix_cmp net_of_summary (backbone_lsas db) net
 -- what the backbone tells of an AS boundary router
 abbrev pub asbr_sources : Lists → RouterId → List Source
 asbr_sources db asbr = sources router_cmp asbr_named (backbone_lsas db) asbr
-
--- ---- costs
 
 module _ (router : RouterId) (entries : List EntryValue) where
   -- the cost to an originator, one of these area border routers, and its metric together; none of the router itself
@@ -72,13 +53,11 @@ module _ (router : RouterId) (entries : List EntryValue) where
   abbrev pub told_cost : List Source → Option ℕ
   told_cost all = least nat_cmp (filter_map cost_over all)
 
--- the entries of the backbone
-abbrev pub backbone_entries : List AreaResultValue → List EntryValue
-backbone_entries results = option_map_or (λ r. r.entries) (backbone results) []
+-- ---- costs that are announced
 
 -- the cost of an intra-area route, and none where one of its paths leads through the area
 abbrev pub route_cost : AreaId → RouteValue → Option ℕ
-route_cost area r = if list_any (λ a. a.0 == area.0) r.areas then None else Some r.cost
+route_cost area r = if is_among area r.areas then None else Some r.cost
 
 -- the cost of an entry, and none where it is of the area
 abbrev pub entry_cost : AreaId → EntryValue → Option ℕ
@@ -111,38 +90,16 @@ due_by_told db area lsa = option_map_or metric_for (cost_by_told db area (origin
 
 -- ---- what is kept of the backbone
 
--- what some LSAs tell, by prefixes and by AS boundary routers
-pub record ToldValue : Type 0 where
-  pub nets : List (Net × List Source)
-  pub asbrs : List (RouterId × List Source)
-
--- the sources at a key
-abbrev pub sources_or_none : Option (List Source) → List Source
-sources_or_none o = option_map_or (λ ss. ss) o []
-
 -- one source more
 abbrev pub more_sources : Option (List Source) → Source → List Source
 more_sources o source = sources_or_none o ++ source ∷ []
 
--- at each key there are its sources
-abbrev pub AreSources : {K : Type 0} → (K → K → Ordering) → (List ℕ → Option K) → List (List ℕ) → List (K × List Source) → Type 0
-AreSources {K} R key_of lsas entries = (key : K) → sources_or_none (lookup (eq_by_cmp R key) entries) ≡ sources R key_of lsas key
-
--- what these LSAs tell
-pub record AreTold (lsas : List (List ℕ)) (told : ToldValue) : Type 0 where
-  pub nets : AreSources prefix_cmp net_of_summary lsas told.nets
-  pub asbrs : AreSources router_cmp asbr_named lsas told.asbrs
-
 -- what the backbone tells, which may be missing where nothing is told into the area
-abbrev pub IsToldFor : Lists → AreaId → Option ToldValue → Type 0
+abbrev pub IsToldFor : Lists → AreaId → Option BackboneSummariesValue → Type 0
 IsToldFor db area None = is_backbone area ≡ true
 IsToldFor db area (Some told) = AreTold (backbone_lsas db) told
 
 -- ---- what is kept of area border routers
-
--- at each router there is the cost of its entry as an area border router
-abbrev pub HasCosts : List EntryValue → List (RouterId × ℕ) → Type 0
-HasCosts entries costs = (router : RouterId) → lookup (eq_by_cmp router_cmp router) costs ≡ option_map (λ e. e.cost) (border_of entries router)
 
 -- each cost is below 2^33
 abbrev pub CostsBelow : List (RouterId × ℕ) → Type 0
