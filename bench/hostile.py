@@ -359,6 +359,7 @@ def falling_keys() -> tuple[bytes, Scripts]:
         "branches": [f"@{branch} {line}" for line in adds[:2400] for branch in range(8)],
         "drop_default": as_long_as_may_be([f"drop-external {TWO} 0.0.0.0/0", "undo 1"]),
         "no_default": as_long_as_may_be([f"drop-external {ONE} 0.0.0.0/0"]),
+        "add_by_lower": [line.replace(TWO, ONE) for line in adds],
         "fail_router": undone([f"fail-router {TWO}"], 200),
     }
 
@@ -423,13 +424,77 @@ def borders() -> tuple[bytes, Scripts]:
     return dump_of(areas), {"refresh": ["refresh", "undo 1", f"cost 0.0.0.0 {ONE} 1 11", "refresh", "refresh"], "table": [f"table {ONE}"]}
 
 
+def pairs() -> tuple[bytes, Scripts]:
+    """4,096 pairs of routers in an area: no edit of one pair has to look at the others."""
+    ends = [R1 + 2 * place for place in range(MOST_LSAS // 2)]
+    lsas = [lsa for one in ends for lsa in (router(one, [(1, one + 1, 1, 10)]), router(one + 1, [(1, one, 2, 10)]))]
+    last = dotted(ends[-1])
+    return dump_of([lsas]), {
+        "fail_link": as_long_as_may_be([f"fail-link 0.0.0.0 {ONE} {dotted(R1 + 1)}", "undo 1"]),
+        "fail_link_last": as_long_as_may_be([f"fail-link 0.0.0.0 {dotted(ends[-1] + 1)} {last}", "undo 1"]),
+        "no_link": as_long_as_may_be([f"fail-link 0.0.0.0 {ONE} {last}"]),
+        "fail_router": as_long_as_may_be([f"fail-router {last}", "undo 1"]),
+        "drop_link": as_long_as_may_be([f"drop-link 0.0.0.0 {last} 1", "undo 1"]),
+    }
+
+
+def small_lan() -> tuple[bytes, Scripts]:
+    """A network of two routers among 5,400 others, and another one among 190 routers of 5,459 links to networks each."""
+    lan = [router(R2, [(2, 0x0B000001, 1, 10)]), router(R3, [(2, 0x0B000001, 2, 10)]), network(0x0B000001, R2, 8, [R2, R3])]
+    links = [(2, 0x0A000000 + place, place, 10) for place in range(MOST_LINKS)]
+    areas = [star(5400) + lan, [router(R1 + place, links) for place in range(190)] + lan]
+    return dump_of(areas), {
+        "fail_net": as_long_as_may_be(["fail-net 0.0.0.0 11.0.0.1", "undo 1"]),
+        "fail_net_of_many": undone(["fail-net 0.0.0.1 11.0.0.1"], 500),
+        "no_net": as_long_as_may_be(["fail-net 0.0.0.1 10.0.0.1"]),
+    }
+
+
+def many_areas() -> tuple[bytes, Scripts]:
+    """64 areas with a star of 100 routers each, which are in all of them."""
+    last = dotted(R1 + 5)
+    return dump_of([star(100, flags=3) for _ in range(64)]), {
+        "table": [f"table {ONE}"] * 400,
+        "no_table": ["table 9.9.9.9"] * 70_000,
+        "no_comparison": ["compare 9.9.9.9"] * 60_000,
+        "no_router": as_long_as_may_be(["fail-router 9.9.9.9"]),
+        "cost": as_long_as_may_be([f"cost 0.0.0.63 {last} 1 7", "undo 1"]),
+        "cost_refresh": [f"cost 0.0.0.63 {last} 1 7", "refresh", "undo 2"] * 30,
+        "add_external": as_long_as_may_be([f"add-external {last} 10.0.0.0/8 1 1 0.0.0.0 0", "undo 1"]),
+        "fail_router": as_long_as_may_be([f"fail-router {last}", "undo 1"]),
+    }
+
+
+def deep_history() -> tuple[bytes, Scripts]:
+    """10,000 edits in a star of 1,500 routers, whose tables in the loaded database are asked for; kept trees dropped by edits."""
+    edit = f"cost 0.0.0.0 {dotted(R1 + 7)} 1 11"
+    return dump_of([star(1500)]), {
+        "compare": [edit] * 10_000 + [f"compare {dotted(R1 + place)}" for place in range(300)],
+        "compare_two": [edit] * 10_000 + [f"compare {dotted(R1 + place % 2)}" for place in range(300)],
+        "undo_table": [edit] * 10_000 + ["undo 10000", f"table {ONE}", "redo 10000", f"table {ONE}"] * 30,
+        "kept_trees": ["tables"] + [edit, "undo 1"] * 10_000,
+    }
+
+
+def one_record() -> tuple[bytes, Scripts]:
+    """65,535 AS-external-LSAs that an edit removes at once."""
+    externals = [external(0x40000000 + 256 * place, R2, 24, 20) for place in range(MOST_AS_LSAS)]
+    lsas = [*star(3, flags=3), router(R2, [(1, R1, 1, 10)], 3)]
+    other = dotted(R1 + 1)
+    return dump_of([lsas], externals), {
+        "compare": [f"fail-router {TWO}"] + [f"compare {ONE}", f"compare {other}"] * 20,
+        "undo_redo": [f"fail-router {TWO}"] + ["undo 1", "redo 1"] * 300,
+        "branches": [f"@{branch} {line}" for line in (f"fail-router {TWO}", f"compare {ONE}") for branch in range(8)],
+    }
+
+
 NETWORKS = {
     f"hostile-{made.__name__.replace('_', '-')}": made
     for made in (
         parallel, identical, two_way, hub, mesh, decreasing, lan, same_lan, lans_of_one_prefix, one_stub_network,
         one_summary, strange_summaries, summaries_of_one, boundary_routers, one_external, forward_to_hosts,
         forward_past_hosts, nested, one_edit, many_lsas, same_keys, falling_keys, chain_behind_equal_ways, layers, lonely, star_tables,
-        areas_of_one, borders,
+        areas_of_one, borders, pairs, small_lan, many_areas, deep_history, one_record,
     )
 }
 

@@ -61,7 +61,7 @@ by_truth false h = refl
 abbrev IsUpTo : Option ℕ → ℕ → Type 0
 IsUpTo first i = IsSomeAnd first (λ m. m ≤ i)
 
-abbrev stands_at : Wanted → Places → ℕ → ℕ → Bool
+abbrev pub stands_at : Wanted → Places → ℕ → ℕ → Bool
 stands_at w d section i = passes (is_wanted w) (slot_at d (slot_of section i))
 
 abbrev Comes : Wanted → Places → ℕ → Option ℕ → KeyAt → Type 0
@@ -120,6 +120,33 @@ module _ (w : Wanted) (d : Places) (section : ℕ) (keys : List KeyAt) (i : ℕ)
     least = all_more (Comes w d section first) so_far.least (λ there. absurd (let no' : true ≡ false = sym there ∙ miss in cc));
   }
 
+-- ---- the first of a section
+
+-- an LSA stands here that is looked for, and none further in front
+pub first_at : (w : Wanted) (d : Places) (section m : ℕ) → passes (is_wanted w) (slot_at d (slot_of section m)) ≡ true
+    → ((i : ℕ) (x : List ℕ) → item_at (places_in d section) i ≡ Some (Some x) → is_wanted w x ≡ true → m ≤ i)
+    → IsFirstPlace d section (is_wanted w) (slot_of section m)
+first_at w d section m stands up_to =
+    let has = passed (is_wanted w) (slot_at d (slot_of section m)) stands in
+    let at = there_place d section m (Some has.lsa) has.is in
+    let one : find (is_wanted w) (lsas_in d section) ≡ Some has.lsa =
+    ap (find (is_wanted w)) (lsas_full d section)
+    ∙ first_is (is_wanted w) (places_in d section) m has.lsa at has.pass
+    (λ i x lt there. by_truth (is_wanted w x) (λ pass. let le : m ≤ i = up_to i x there pass in absurd (omega arith))) in
+    record { same = refl; held = has.is ∙ ap (λ (o : Place). Some o) (sym one); found = some_is (find (is_wanted w) (lsas_in d section)) has.lsa one }
+  where
+    some_is : (o : Option (List ℕ)) (x : List ℕ) → o ≡ Some x → IsSome o
+    some_is None x e = absurd cc
+    some_is (Some y) x e = refl
+
+-- no LSA is there that is looked for
+pub none_at : (w : Wanted) (d : Places) (section : ℕ)
+    → ((i : ℕ) (x : List ℕ) → item_at (places_in d section) i ≡ Some (Some x) → is_wanted w x ≡ true → ⊥)
+    → find (is_wanted w) (lsas_in d section) ≡ None
+none_at w d section none =
+    ap (find (is_wanted w)) (lsas_full d section)
+    ∙ none_is (is_wanted w) (places_in d section) (λ i x at. by_truth (is_wanted w x) (none i x at))
+
 -- ---- all of them
 
 module _ (w : Wanted) (d : Places) (section : ℕ) (low high : Key) (keys : List KeyAt) (first : Option ℕ)
@@ -134,23 +161,9 @@ module _ (w : Wanted) (d : Places) (section : ℕ) (low high : Key) (keys : List
       (and_from _ _ (has_marked_key w lsa pass) there)
 
   pub none_first : first ≡ None → find (is_wanted w) (lsas_in d section) ≡ None
-  none_first is =
-      ap (find (is_wanted w)) (lsas_full d section)
-      ∙ none_is (is_wanted w) (places_in d section)
-      (λ i x at. by_truth (is_wanted w x) (λ pass. subst (λ (o : Option ℕ). IsUpTo o i) is (up_to i x at pass)))
+  none_first is = none_at w d section (λ i x at pass. subst (λ (o : Option ℕ). IsUpTo o i) is (up_to i x at pass))
 
   pub first_place : (m : ℕ) → first ≡ Some m → IsFirstPlace d section (is_wanted w) (slot_of section m)
   first_place m is =
-      let has = passed (is_wanted w) (slot_at d (slot_of section m)) (subst (λ (o : Option ℕ). IfSome o (λ k. stands_at w d section k ≡ true)) is found.stands) in
-      let at = there_place d section m (Some has.lsa) has.is in
-      let one : find (is_wanted w) (lsas_in d section) ≡ Some has.lsa =
-      ap (find (is_wanted w)) (lsas_full d section)
-      ∙ first_is (is_wanted w) (places_in d section) m has.lsa at has.pass
-      (λ i x lt there. by_truth (is_wanted w x) (λ pass.
-      let le : m ≤ i = subst (λ (o : Option ℕ). IsUpTo o i) is (up_to i x there pass) in
-      absurd (omega arith))) in
-      record { same = refl; held = has.is ∙ ap (λ (o : Place). Some o) (sym one); found = some_is (find (is_wanted w) (lsas_in d section)) has.lsa one }
-    where
-      some_is : (o : Option (List ℕ)) (x : List ℕ) → o ≡ Some x → IsSome o
-      some_is None x e = absurd cc
-      some_is (Some y) x e = refl
+      first_at w d section m (subst (λ (o : Option ℕ). IfSome o (λ k. stands_at w d section k ≡ true)) is found.stands)
+      (λ i x at pass. subst (λ (o : Option ℕ). IsUpTo o i) is (up_to i x at pass))

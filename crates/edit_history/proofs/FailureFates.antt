@@ -22,7 +22,7 @@ use Rattle.lsdb.specs.Lists.{AreaHead, SectionLsas, IsBefore, IsDatabase, heads_
 use Rattle.lsdb.specs.Places.{Place, Places, SectionPlaces, item_at, slot_at, section_of, lists_of, places_in, places_or_none, head_or_none, IsNamed}
 use Rattle.lsdb.proofs.KeyLemmas.{same_key_true}
 use Rattle.lsdb.proofs.ListLemmas.{pairs_head, pairs_tail}
-use Rattle.edit_history.specs.Rules.{Fate, Fates, stays, removed, by_fates, within, section_name}
+use Rattle.edit_history.specs.Rules.{Fate, Fates, stays, by_fates, within, section_name}
 use Rattle.edit_history.specs.Effect.{is_network, cut, link_fate, net_fate, router_fate}
 use Rattle.edit_history.specs.Exchange.{SwapData}
 use Rattle.edit_history.specs.steps.Plans.{slot_of, swap_for, section_swaps, swaps_from, place_swap}
@@ -101,7 +101,7 @@ none_behind name fate head (s ∷ ss) k named behind =
     (not_in name fate s.area k s.places (head_after name head s.area named first))
     ∙ none_behind name fate head ss (suc k) named (All-tail (IsBefore head) s.area (heads_of (lists_of ss)) behind)
 
-before_item : (a : Option AreaHead) (d : Places) (i : ℕ) (t : SectionPlaces) → All (IsBefore a) (heads_of (lists_of d)) → item_at d i ≡ Some t
+pub before_item : (a : Option AreaHead) (d : Places) (i : ℕ) (t : SectionPlaces) → All (IsBefore a) (heads_of (lists_of d)) → item_at d i ≡ Some t
     → IsBefore a t.area
 before_item a [] i t all at = absurd cc
 before_item a (s ∷ ss) zero t all at =

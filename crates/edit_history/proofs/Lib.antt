@@ -14,6 +14,8 @@ pub mod Candidates
 pub mod RulesCarriedOut
 pub mod FatesByPlace
 pub mod FailureFates
+pub mod OfRouter
+pub mod PairSwaps
 pub mod RouterSwaps
 pub mod FailureRules
 pub mod RoomForLsas

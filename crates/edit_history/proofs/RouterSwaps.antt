@@ -1,5 +1,5 @@
 -- The swaps of the places that are noted of a router are those of all places of the section.
-use Rattle.std.proofs.Common.{◌≡◌, ℕ, zero, suc, ◌+◌, ◌-◌, ◌<◌, ◌≤◌, Bool, true, false, List, [], ◌∷◌, ◌++◌, length, drop, get_or, append_assoc, drop-cons, eqb, Option, Some, None, refl, sym, ap, ◌∙◌, subst, arith, ⊎_elim}
+use Rattle.std.proofs.Common.{◌≡◌, ℕ, zero, suc, ◌+◌, ◌-◌, ◌<◌, ◌≤◌, Bool, false, List, [], ◌∷◌, ◌++◌, length, drop, get_or, append_assoc, drop-cons, Option, Some, None, refl, sym, ap, ◌∙◌, subst, arith, ⊎_elim}
 use Rattle.std.specs.Prelude.{All, AllPairs, Contains, option_to_list, if◌then◌else◌, ◌==◌}
 use Rattle.std.specs.List.{cons_option}
 use Rattle.std.proofs.lemmas.Bool.{cases_eq, ne_eqb}
@@ -12,7 +12,7 @@ use Rattle.lsdb.specs.declared.section.Section.{Section}
 use Rattle.lsdb.specs.Places.{Place, Places, SectionPlaces, item_at, place_in, places_in, places_or_none, slot_at}
 use Rattle.lsdb.specs.RouterPlaces.{router_place, ArePlacesOfRouter}
 use Rattle.lsdb.proofs.ListLemmas.{pairs_head, pairs_tail}
-use Rattle.edit_history.specs.Rules.{Fate, stays, removed}
+use Rattle.edit_history.specs.Rules.{stays, removed}
 use Rattle.edit_history.specs.Effect.{router_fate}
 use Rattle.edit_history.specs.Exchange.{SwapData}
 use Rattle.edit_history.specs.steps.Plans.{slot_of, swap_for, section_swaps, place_swap}
@@ -124,7 +124,7 @@ module _ (router : RouterId) (section : ℕ) (name : Section) (look : ℕ → Op
 
 -- ---- a loop over the noted places of a section
 
-slot_is : (d : Places) (section i : ℕ) → slot_at d (slot_of section i) ≡ item_at (places_in d section) i
+pub slot_is : (d : Places) (section i : ℕ) → slot_at d (slot_of section i) ≡ item_at (places_in d section) i
 slot_is d section i = by_item (item_at d section) where
   by_item : (o : Option SectionPlaces) → place_in o i ≡ item_at (places_or_none o) i
   by_item None = refl

@@ -12,7 +12,7 @@ ghost use Rattle.edit_history.specs.declared.fault.EditFault.TheVariants.{OutOfM
 ghost use Rattle.edit_history.specs.Rules.{section_name};
 ghost use Rattle.edit_history.specs.Effect.{are_linked, link_fate, net_fate, router_fate};
 ghost use Rattle.edit_history.specs.steps.Plans.{swap_for, place_swap, section_swaps};
-ghost use Rattle.edit_history.specs.steps.Failing.{fate_by, shortened};
+ghost use Rattle.edit_history.specs.steps.Failing.{fate_by, in_order, pair_swaps, shortened};
 ghost use Rattle.edit_history.specs.Applied.{Planned, IsRefused};
 
 use crate::fault::EditFault;
@@ -204,6 +204,34 @@ fn swaps_in<A: Allocator + Copy>(
     Ok(swaps)
 }
 
+/// Two places, in the order in which they stand in their section.
+fn in_order(one: SlotId, other: SlotId) -> (SlotId, SlotId)
+    ensures { result ≡ in_order one other }
+{
+    if one.index <= other.index {
+        (one, other)
+    } else {
+        (other, one)
+    }
+}
+
+/// The swaps of two places, in their order. The error is want of memory.
+fn swaps_of_pair<A: Allocator + Copy>(
+    database: &Database<A>,
+    places: (SlotId, SlotId),
+    section: Section,
+    failure: Failure,
+) -> Result<Vec<Swap<A>, A>, EditFault>
+    ensures swaps { IfOk result
+        (λ v. v.items ≡ pair_swaps (fate_by failure) section database.now places) }
+    ensures memory { IfErr result (λ fault. fault ≡ OutOfMemory) }
+{
+    let mut swaps = Vec::new(database.alloc());
+    add_swap(database, places.0, section, failure, &mut swaps)?;
+    add_swap(database, places.1, section, failure, &mut swaps)?;
+    Ok(swaps)
+}
+
 /// Whether a link is a point-to-point link to a router.
 fn leads_to(link: Link, router: RouterId) -> bool
     ensures { result ≡ leads_to router link }
@@ -250,16 +278,23 @@ pub(crate) fn plan_fail_link<A: Allocator + Copy>(
 {
     // What is true of it has to hold after each swap too.
     database.known();
-    let number = area_section(database, area)?;
+    area_section(database, area)?;
     if router == neighbor {
         return Err(EditFault::SameRouter);
     }
-    let (_, lsa) = router_lsa_in(database, area, router)?;
-    let (_, other) = router_lsa_in(database, area, neighbor)?;
+    let (slot, lsa) = router_lsa_in(database, area, router)?;
+    let (other_slot, other) = router_lsa_in(database, area, neighbor)?;
     if !are_linked(router, neighbor, lsa, other) {
         return Err(EditFault::NoLink);
     }
-    swaps_in(database, number, area, Failure::Links(router, neighbor))
+    // No other LSA changes, so none is looked at.
+    let places = in_order(slot, other_slot);
+    swaps_of_pair(
+        database,
+        places,
+        Section::Area(area),
+        Failure::Links(router, neighbor),
+    )
 }
 
 /// The network-LSAs of a network go, and all links of router-LSAs to it.

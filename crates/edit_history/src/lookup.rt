@@ -1,6 +1,6 @@
 //! The LSAs that an edit names, or its refusal where there are none.
 
-ghost use Rattle.std.specs.Prelude.{◌≡◌, Some, None, Err, IsSome, MatchOption, IfOk, IfErr};
+ghost use Rattle.std.specs.Prelude.{◌≡◌, Some, None, Err, IsSome, MatchOption, IfSome, IfOk, IfErr};
 ghost use Rattle.std.specs.List.{find, list_any};
 ghost use Rattle.lsa_codec.specs.Key.{router_key};
 ghost use Rattle.lsdb.specs.declared.section.Section.TheVariants.{Area};
@@ -9,7 +9,7 @@ ghost use Rattle.lsdb.specs.Places.{item_at, slot_at, lists_of, lsas_in, IsFirst
 ghost use Rattle.edit_history.specs.declared.fault.EditFault.TheVariants.{NoArea, NoRouter};
 ghost use Rattle.edit_history.specs.Effect.{router_lsa_of, has_router, prefix_of, is_network, is_prefix, is_originated_for};
 ghost use Rattle.edit_history.specs.steps.Plans.{IsFirstLsa, is_wanted, passes};
-ghost use Rattle.edit_history.specs.steps.Searching.{HaveKeysBetween, is_wanted_by_key, last_addr_of, lesser, may_have};
+ghost use Rattle.edit_history.specs.steps.Searching.{AreOriginatedBy, HaveKeysBetween, is_wanted_by_key, last_addr_of, lesser, may_have};
 
 use crate::fault::EditFault;
 use lsa_codec::{Addr, AreaId, EXTERNAL_LSA, Key, Lsa, NETWORK_LSA, Prefix, RouterId, SUMMARY_LSA};
@@ -36,6 +36,17 @@ impl Wanted {
             Wanted::Network(network) => network_keys(network),
             Wanted::Summary(router, prefix) => prefix_keys(SUMMARY_LSA, router, prefix),
             Wanted::External(router, prefix) => prefix_keys(EXTERNAL_LSA, router, prefix),
+        }
+    }
+
+    /// The router that originated what is looked for, if it is one alone.
+    fn router(&self) -> Option<RouterId>
+        ensures { IfSome result (λ router. AreOriginatedBy router (is_wanted self.now)) }
+    {
+        match *self {
+            Wanted::Network(_network) => None,
+            Wanted::Summary(router, _prefix) => Some(router),
+            Wanted::External(router, _prefix) => Some(router),
         }
     }
 
@@ -267,7 +278,7 @@ fn lesser(first: Option<usize>, second: usize) -> usize
 
 /// The place of the first LSA of a section that is looked for, by the section's number. It looks
 /// at the places of the LSAs whose keys may be theirs, and not at the others.
-fn first_in<A: Allocator + Copy>(
+fn first_by_keys<A: Allocator + Copy>(
     database: &Database<A>,
     section: usize,
     wanted: &Wanted,
@@ -287,6 +298,67 @@ fn first_in<A: Allocator + Copy>(
         return None;
     };
     Some(SlotId { section, index })
+}
+
+/// The place of the first LSA of a section that is looked for, by the section's number, where the
+/// router is known that originated it. It looks at the places alone that are noted of the router,
+/// up to that LSA.
+fn first_of_router<A: Allocator + Copy>(
+    database: &Database<A>,
+    section: usize,
+    router: RouterId,
+    wanted: &Wanted,
+) -> Option<SlotId>
+    requires exists { IsSome (item_at database.now section) }
+    requires own { AreOriginatedBy router (is_wanted wanted.now) }
+    ensures { MatchOption result (find (is_wanted wanted.now) (lsas_in database.now section) ≡ None)
+        (IsFirstPlace database.now section (is_wanted wanted.now)) }
+{
+    for place in database.places_of_router(section, router) {
+        let slot = SlotId {
+            section,
+            index: place.index as usize,
+        };
+        if is_wanted_at(database, slot, wanted) {
+            return Some(slot);
+        }
+    }
+    None
+}
+
+/// Whether no more places are noted of a router than there are keys that an LSA may have that is
+/// looked for.
+fn are_fewer_of_router<A: Allocator + Copy>(
+    database: &Database<A>,
+    section: usize,
+    router: RouterId,
+    wanted: &Wanted,
+) -> bool
+    requires { IsSome (item_at database.now section) }
+{
+    let (least, greatest) = wanted.key_range();
+    let keys = database.keys_between(section, least, greatest);
+    database.places_of_router(section, router).len() <= keys.len()
+}
+
+/// The place of the first LSA of a section that is looked for, by the section's number. It looks
+/// at the fewer: the places of its router, or the LSAs whose keys may be its.
+fn first_in<A: Allocator + Copy>(
+    database: &Database<A>,
+    section: usize,
+    wanted: &Wanted,
+) -> Option<SlotId>
+    requires { IsSome (item_at database.now section) }
+    ensures { MatchOption result (find (is_wanted wanted.now) (lsas_in database.now section) ≡ None)
+        (IsFirstPlace database.now section (is_wanted wanted.now)) }
+{
+    let Some(router) = wanted.router() else {
+        return first_by_keys(database, section, wanted);
+    };
+    if are_fewer_of_router(database, section, router, wanted) {
+        return first_of_router(database, section, router, wanted);
+    }
+    first_by_keys(database, section, wanted)
 }
 
 /// The first LSA of a section that is looked for, and its place.

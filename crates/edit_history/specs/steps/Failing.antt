@@ -1,10 +1,11 @@
 -- What becomes of LSAs where something fails, by what fails.
-use Rattle.std.specs.Prelude.{List, ℕ, Option, Some, None, Result, Ok, Err}
+use Rattle.std.specs.Prelude.{List, ℕ, ◌++◌, nat_le, Option, Some, None, Result, Ok, Err, option_to_list, if◌then◌else◌}
 use Rattle.lsa_codec.specs.LsTypes.{router_lsa}
 use Rattle.lsa_codec.specs.declared.fault.MakeFault.{MakeFault}
 use Rattle.lsa_codec.specs.declared.fault.MakeFault.TheVariants as make
 use Rattle.lsdb.specs.declared.section.Section.{Section}
 use Rattle.lsdb.specs.declared.slot.SlotId.{SlotId}
+use Rattle.lsdb.specs.Places.{Places, slot_at}
 use Rattle.edit_history.specs.declared.failures.Failure.{Failure}
 use Rattle.edit_history.specs.declared.failures.Failure.TheVariants.{Links, Network, Router}
 use Rattle.edit_history.specs.declared.fault.EditFault.{EditFault}
@@ -12,6 +13,7 @@ use Rattle.edit_history.specs.declared.fault.EditFault.TheVariants.{OutOfMemory}
 use Rattle.edit_history.specs.Rules.{Fate}
 use Rattle.edit_history.specs.Effect.{link_fate, net_fate, router_fate}
 use Rattle.edit_history.specs.Exchange.{SwapData}
+use Rattle.edit_history.specs.steps.Plans.{place_swap}
 
 -- the fate of an LSA where this fails
 abbrev pub fate_by : Failure → List ℕ → Fate
@@ -26,3 +28,15 @@ shortened slot name (Err make.NoLink) = Ok None
 shortened slot name (Err make.ZeroCost) = Err OutOfMemory
 shortened slot name (Err make.TooLong) = Err OutOfMemory
 shortened slot name (Err make.OutOfMemory) = Err OutOfMemory
+
+-- two places of a section in their order
+abbrev pub in_order : SlotId → SlotId → SlotId × SlotId
+in_order one other = if nat_le one.index other.index then (one, other) else (other, one)
+
+-- the swap that carries a fate out at a place, if there is one
+abbrev pub swaps_at_place : (List ℕ → Fate) → Section → Places → SlotId → List SwapData
+swaps_at_place fate name d slot = option_to_list (place_swap fate slot name (slot_at d slot))
+
+-- those of two places
+abbrev pub pair_swaps : (List ℕ → Fate) → Section → Places → SlotId × SlotId → List SwapData
+pair_swaps fate name d places = swaps_at_place fate name d places.0 ++ swaps_at_place fate name d places.1

@@ -1,6 +1,8 @@
 -- Where LSAs that are looked for by more than their keys stand among the keys.
 use Rattle.std.specs.Prelude.{◌≡◌, ℕ, ◌+◌, ◌-◌, ◌^◌, min, Bool, true, ◌&&◌, ◌==◌, List, Option, Some, None}
 use Rattle.lsa_codec.specs.declared.key.Key.{Key}
+use Rattle.lsa_codec.specs.declared.address.RouterId.{RouterId}
+use Rattle.lsa_codec.specs.Fields.{advertising_router_of}
 use Rattle.lsa_codec.specs.Key.{key_of}
 use Rattle.lsa_codec.specs.Prefix.{Net, mask_of_len}
 use Rattle.lsdb.specs.declared.keyed_places.KeyAt.{KeyAt}
@@ -13,6 +15,10 @@ use Rattle.edit_history.specs.steps.Plans.{is_wanted, passes, slot_of}
 -- each LSA that passes a test has a key from one to another
 abbrev pub HaveKeysBetween : (List ℕ → Bool) → Key → Key → Type 0
 HaveKeysBetween test low high = (lsa : List ℕ) → HaveWidths lsa → test lsa ≡ true → is_between low high (key_of lsa) ≡ true
+
+-- one router originated each LSA that passes a test
+abbrev pub AreOriginatedBy : RouterId → (List ℕ → Bool) → Type 0
+AreOriginatedBy router test = (lsa : List ℕ) → test lsa ≡ true → advertising_router_of lsa ≡ router.0
 
 -- the last address of a prefix: its address, and all bits past its length 1
 abbrev pub last_addr_of : Net → ℕ

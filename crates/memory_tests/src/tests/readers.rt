@@ -1,9 +1,11 @@
 //! Calls that take no memory and answer nothing that could tell of want of it.
 
+ghost use Rattle.std.specs.Prelude.{◌≤◌};
+
 use super::network::{database_of, graph_of};
 use super::texts::{graph_text, hops_text, tree_text};
-use area_graph::Vertex;
-use lsa_codec::{AreaId, Lsa, RouterId};
+use area_graph::{Graph, Vertex};
+use lsa_codec::{Addr, AreaId, Lsa, Prefix, RouterId, is_mask, len_of_mask, mask_of_len};
 use lsdb::{Database, Section};
 use next_hops::Hops;
 use rationed::Rationed;
@@ -20,6 +22,7 @@ enum Call {
     Graph,
     Tree,
     Hops,
+    Masks,
 }
 
 const CALLS: &[Call] = &[
@@ -28,6 +31,7 @@ const CALLS: &[Call] = &[
     Call::Graph,
     Call::Tree,
     Call::Hops,
+    Call::Masks,
 ];
 
 /// The sections of the network, and one that it lacks.
@@ -55,6 +59,19 @@ fn push_section(
     Ok(())
 }
 
+/// Adds the LSAs of a section by their numbers in it.
+fn push_numbered(
+    text: &mut String,
+    database: &Database<&Rationed>,
+    section: Section,
+) -> Result<(), Fail> {
+    for index in 0..database.count(section) {
+        let key = database.lsa(section, index).key();
+        write!(text, " {index} {key:?}")?;
+    }
+    Ok(())
+}
+
 /// What a database has, by its readers.
 fn database_text(alloc: Global, database: &Database<&Rationed>) -> Result<String, Fail> {
     let size = database.size();
@@ -65,6 +82,7 @@ fn database_text(alloc: Global, database: &Database<&Rationed>) -> Result<String
     }
     for section in SECTIONS {
         push_section(&mut text, database, *section)?;
+        push_numbered(&mut text, database, *section)?;
     }
     Ok(text)
 }
@@ -144,11 +162,21 @@ fn read_database(
     }
 }
 
-/// What a graph has, and the numbers of two vertices.
+/// Adds which vertices of a graph are networks.
+fn push_networks(text: &mut String, graph: &Graph<&Rationed>) -> Result<(), Fail> {
+    for index in 0..graph.len() {
+        let is_network = graph.is_network(index);
+        write!(text, " {is_network}")?;
+    }
+    Ok(())
+}
+
+/// What a graph has, which vertices are networks, and the numbers of two.
 fn read_graph(alloc: Global, rationed: &Rationed, growths: u64) -> Result<String, Fail> {
     let graph = graph_of(rationed, &database_of(rationed)?)?;
     rationed.leave(growths);
     let mut text = graph_text(alloc, &graph)?;
+    push_networks(&mut text, &graph)?;
     let known = graph.index_of(Vertex::Router(RouterId(R2)));
     let absent = graph.index_of(Vertex::Router(RouterId(0)));
     write!(text, " {known:?} {absent:?}")?;
@@ -167,12 +195,36 @@ fn read_tree(alloc: Global, rationed: &Rationed, call: Call, growths: u64) -> Re
     }
 }
 
+/// What is told of a length, and of numbers by its mask.
+fn push_mask(text: &mut String, len: u8) -> Result<(), Fail>
+    requires { len ≤ 32 }
+{
+    let mask = mask_of_len(len);
+    let (back, gap) = (len_of_mask(mask), is_mask(mask ^ 1));
+    let prefix = Prefix::masked(Addr(R1), len);
+    let (whole, again) = (Prefix::new(Addr(R1), len), prefix.mask());
+    write!(text, " {mask} {back} {gap} {prefix:?} {whole:?} {again}")?;
+    Ok(())
+}
+
+/// What is told of masks and prefixes while so many growths are left. These calls get no
+/// allocator.
+fn read_masks(alloc: Global, rationed: &Rationed, growths: u64) -> Result<String, Fail> {
+    rationed.leave(growths);
+    let mut text = String::new(alloc);
+    for len in 0..33 {
+        push_mask(&mut text, len)?;
+    }
+    Ok(text)
+}
+
 /// What is read while so many growths are left.
 fn read(alloc: Global, rationed: &Rationed, call: Call, growths: u64) -> Result<String, Fail> {
     match call {
         Call::Database | Call::Lsas => read_database(alloc, rationed, call, growths),
         Call::Graph => read_graph(alloc, rationed, growths),
         Call::Tree | Call::Hops => read_tree(alloc, rationed, call, growths),
+        Call::Masks => read_masks(alloc, rationed, growths),
     }
 }
 

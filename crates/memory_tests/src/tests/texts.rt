@@ -29,7 +29,18 @@ pub(super) fn graph_text(alloc: Global, graph: &Graph<&Rationed>) -> Result<Stri
     Ok(text)
 }
 
-/// The vertices that a tree reaches, each with its distance.
+/// Adds the vertices that a tree reaches, by their turns, and that none comes behind them.
+fn push_settled(text: &mut String, tree: &Tree<&Rationed>) -> Result<(), Fail> {
+    for turn in 0..tree.order().len() {
+        let settled = tree.settled(turn);
+        write!(text, " {settled:?}")?;
+    }
+    let behind = tree.settled(tree.order().len());
+    write!(text, " {behind:?}")?;
+    Ok(())
+}
+
+/// The vertices that a tree reaches, each with its distance, and the same in turn.
 pub(super) fn tree_text(alloc: Global, tree: &Tree<&Rationed>) -> Result<String, Fail> {
     let root = tree.root();
     let mut text = format!(in alloc; "{root}")?;
@@ -38,6 +49,7 @@ pub(super) fn tree_text(alloc: Global, tree: &Tree<&Rationed>) -> Result<String,
         let distance = tree.distance(index);
         write!(text, " {index} {distance:?}")?;
     }
+    push_settled(&mut text, tree)?;
     Ok(text)
 }
 

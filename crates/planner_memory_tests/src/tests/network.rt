@@ -40,3 +40,12 @@ pub(super) fn cost(metric: u16) -> Edit {
         metric,
     }
 }
+
+/// An edit of a link that 1.1.1.1 has not.
+pub(super) fn no_link() -> Edit {
+    Edit::DropLink {
+        area: AreaId(0),
+        router: ROUTER,
+        link: 0,
+    }
+}

@@ -1,7 +1,7 @@
 //! Calls of a planner of which one edit is done and one undone.
 
 use super::answers::{of_fault, of_made_table, of_octets, of_routers, of_table, of_table_of};
-use super::network::{ROUTER, cost, database_of};
+use super::network::{ROUTER, cost, database_of, no_link};
 use edit_history::EditFault;
 use lsdb::Database;
 use memory_tests::{Answer, Growing, Seen, growths_of};
@@ -12,7 +12,7 @@ use std::alloc::{AllocError, Global};
 use std::test::*;
 
 /// What is called. Before a table after an edit, an undo or a redo there was a table, whose trees
-/// are kept but for those of the area that is touched.
+/// are kept but for those of the area that is touched. After a refused edit all are kept.
 #[derive(Clone, Copy, Debug)]
 enum Call {
     Edit,
@@ -24,6 +24,8 @@ enum Call {
     TableAfterEdit,
     TableAfterUndo,
     TableAfterRedo,
+    TableAfterRefusal,
+    EditThenTable,
     BaseTable,
     KeptBaseTable,
     SharedTable,
@@ -39,6 +41,8 @@ const CALLS: &[Call] = &[
     Call::TableAfterEdit,
     Call::TableAfterUndo,
     Call::TableAfterRedo,
+    Call::TableAfterRefusal,
+    Call::EditThenTable,
     Call::BaseTable,
     Call::KeptBaseTable,
     Call::SharedTable,
@@ -59,6 +63,14 @@ fn keep_trees(planner: &mut Planner<&Rationed>) -> Result<(), Fail> {
     Ok(())
 }
 
+/// Makes an edit that is refused. One that is carried out is a failure.
+fn refuse(planner: &mut Planner<&Rationed>) -> Result<(), Fail> {
+    match planner.edit(&no_link()) {
+        Ok(()) => Err("an edit of no link")?,
+        Err(_fault) => Ok(()),
+    }
+}
+
 /// Carries two edits out and takes one back, and then what stands before a call.
 fn prepare(planner: &mut Planner<&Rationed>, call: Call) -> Result<(), Fail> {
     planner.edit(&cost(11))?;
@@ -77,6 +89,11 @@ fn prepare(planner: &mut Planner<&Rationed>, call: Call) -> Result<(), Fail> {
             keep_trees(planner)?;
             planner.redo(1)?;
         }
+        Call::TableAfterRefusal => {
+            keep_trees(planner)?;
+            refuse(planner)?;
+        }
+        Call::EditThenTable => keep_trees(planner)?,
         _ => (),
     }
     Ok(())
@@ -117,6 +134,20 @@ fn of_table_now<'a>(
     Ok(answer)
 }
 
+/// The answer that is a table after an edit: none where the edit is refused for want of memory.
+/// There is ample memory for the table, which is that of the planner's database after a refusal
+/// too.
+fn of_edited_table<'a>(
+    alloc: Global,
+    rationed: &'a Rationed,
+    planner: &mut Planner<&'a Rationed>,
+) -> Result<Answer, Fail> {
+    let done = of_edit(alloc, planner.edit(&cost(7)))?;
+    rationed.leave(u64::MAX);
+    let table = of_table_now(alloc, rationed, planner)?;
+    Ok(done.and(table))
+}
+
 /// What a call answers.
 fn answer_of<'a>(
     alloc: Global,
@@ -126,6 +157,7 @@ fn answer_of<'a>(
 ) -> Result<Answer, Fail> {
     match call {
         Call::Edit => of_edit(alloc, planner.edit(&cost(7))),
+        Call::EditThenTable => of_edited_table(alloc, rationed, planner),
         Call::Dump => of_octets(alloc, planner.dump()),
         Call::DumpBase => of_octets(alloc, planner.dump_base()),
         Call::Base => of_database(alloc, rationed, planner.base()),

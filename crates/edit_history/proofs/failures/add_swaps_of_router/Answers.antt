@@ -1,4 +1,4 @@
-use Rattle.std.proofs.Common.{◌≡◌, ◌∙◌, ◌++◌, ◌+◌, List, ap, arith}
+use Rattle.std.proofs.Common.{◌∙◌, ◌++◌, ◌+◌, List, ap, arith}
 use Rattle.lsdb.specs.declared.section.Section.{Section}
 use Rattle.lsdb.specs.Places.{places_in}
 use Rattle.edit_history.specs.Effect.{router_fate}

@@ -2,8 +2,8 @@ use Rattle.std.proofs.Common.{◌+◌, ℕ, List, Option, take, subst, sym, ◌�
 use Rattle.std.proofs.lemmas.List.{take_all}
 use Rattle.lsdb.specs.declared.keyed_places.KeyAt.{KeyAt}
 use Rattle.edit_history.proofs.Candidates.{IsLeast, least_hit, least_miss, none_first, first_place}
-use Rattle.edit_history.proofs.lookup.first_in.Goals.{then-is_wanted_by_key, else-is_wanted_by_key}
-use Rattle.edit_history.proofs.lookup.first_in.Goals as goal
+use Rattle.edit_history.proofs.lookup.first_by_keys.Goals.{then-is_wanted_by_key, else-is_wanted_by_key}
+use Rattle.edit_history.proofs.lookup.first_by_keys.Goals as goal
 
 pub loop-noted-preserved : goal.loop-noted-preserved
 loop-noted-preserved g c = elim c.if-is_wanted_by_key.branch [
