@@ -4,12 +4,15 @@ pub mod Rises
 pub mod LeastLemmas
 pub mod LookupLemmas
 pub mod Merging
+pub mod OneArea
 pub mod AddsLemmas
 pub mod Runs
 pub mod Words
 pub mod Reordered
 pub mod Gathering
+pub mod StubOffers
 pub mod Reaching
+pub mod AreaOffers
 pub mod Beaten
 pub mod Bounds
 pub mod Sorted

@@ -19,10 +19,9 @@ use Rattle.spf.proofs.TreeLemmas.{distances-are}
 use Rattle.next_hops.specs.declared.hop.Hop.{Hop}
 use Rattle.next_hops.specs.FirstHops.{hops_of}
 use Rattle.next_hops.proofs.HopLemmas.{hops_of-edges}
-use Rattle.lsa_codec.specs.declared.address.AreaId.{AreaId}
 use Rattle.std.specs.List.{slice_get}
-use Rattle.area_routes.specs.Reached.{ReachedValue, reached_by}
-use Rattle.area_routes.specs.AreaResults.{AreOf, result_of_reached, area_result}
+use Rattle.area_routes.specs.Reached.{ReachedValue, reached_by, reached_from}
+use Rattle.area_routes.specs.AreaResults.{AreOf}
 use Rattle.area_routes.specs.steps.ReachedVertices.{FitGraph}
 use Rattle.area_routes.proofs.AddsLemmas.{filter_map_adds}
 
@@ -57,21 +56,15 @@ hops_by_lsa lsas root t tree hops are =
 pub one_root : (vs : List Vertex) (i j : ℕ) (a b : RouterId) → i ≡ j → slice_get vs i ≡ Some (Router a) → slice_get vs j ≡ Some (Router b) → a ≡ b
 one_root vs i j a b e p q = cc
 
--- what the vertices give that are found by distance and hops is what the area gives
-pub result_of_reached-area : (area : AreaId) (lsas : List (List ℕ)) (root : RouterId) (t : Topology)
-    (tree : Distances) (hops : List (List Hop)) → AreOf lsas root t tree hops
-    → (us : List (List ℕ)) → us ≡ used lsas → (rs : List ReachedValue)
-    → ((distance : Vertex → Option ℕ) (first : Vertex → List Hop) → tree.distances ≡ map (λ l. distance (vertex_of l)) us
-    → hops ≡ map (λ l. first (vertex_of l)) us → rs ≡ filter_map (reached_by distance first) us)
-    → result_of_reached area root rs ≡ area_result area lsas root
-unfolding area_result
-result_of_reached-area area lsas root t tree hops are us is rs found =
-    let d : Vertex → Option ℕ = λ v. distance_of (area_edges (used lsas)) (Router root) v in
-    let h : Vertex → List Hop = λ v. hops_of (area_edges (used lsas)) (Router root) v in
-    ap (λ (xs : List ReachedValue). result_of_reached area root xs)
-    (found d h (distances_by_lsa lsas root t tree hops are ∙ ap (λ (ls : List (List ℕ)). map (λ l. d (vertex_of l)) ls) (sym is))
-    (hops_by_lsa lsas root t tree hops are ∙ ap (λ (ls : List (List ℕ)). map (λ l. h (vertex_of l)) ls) (sym is))
-    ∙ ap (λ (ls : List (List ℕ)). filter_map (reached_by d h) ls) is)
+-- the vertices that are found by distance and hops are those that are reached
+pub reached_from-area : (lsas : List (List ℕ)) (root : RouterId) (t : Topology) (tree : Distances) (hops : List (List Hop)) → AreOf lsas root t tree hops
+    → (rs : List ReachedValue)
+    → ((distance : Vertex → Option ℕ) (first : Vertex → List Hop) → tree.distances ≡ map (λ l. distance (vertex_of l)) (used lsas)
+    → hops ≡ map (λ l. first (vertex_of l)) (used lsas) → rs ≡ filter_map (reached_by distance first) (used lsas))
+    → rs ≡ reached_from root (used lsas)
+reached_from-area lsas root t tree hops are rs found =
+    found (λ v. distance_of (area_edges (used lsas)) (Router root) v) (λ v. hops_of (area_edges (used lsas)) (Router root) v)
+    (distances_by_lsa lsas root t tree hops are) (hops_by_lsa lsas root t tree hops are)
 
 -- graph, tree and hops of an area fit
 pub fits : (lsas : List (List ℕ)) (root : RouterId) (t : Topology) (tree : Distances) (hops : List (List Hop)) → AreOf lsas root t tree hops

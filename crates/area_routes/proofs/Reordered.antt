@@ -18,10 +18,8 @@ use Rattle.area_routes.specs.Order.{rank_cmp}
 use Rattle.area_routes.specs.Values.{WayValue}
 use Rattle.area_routes.proofs.Words.{only_ways, ways_are_best}
 
-module _ {K : Type 0} {R : K → K → Ordering} (o : IsTotalOrder R) (exact : CmpEqualImpliesEq R) (cs ds : List (Candidate K)) (moved : IsPermutation cs ds) where
-  any : (p : Candidate K → Bool) → list_any p cs ≡ list_any p ds
-  any p = list_any-IsPermutation p cs ds moved
-
+module _ {K : Type 0} {R : K → K → Ordering} (o : IsTotalOrder R) (exact : CmpEqualImpliesEq R) (cs ds : List (Candidate K))
+    (any : (p : Candidate K → Bool) → list_any p cs ≡ list_any p ds) where
   best : (key : K) (w : Option WayValue) → MatchOption w (list_any (is_candidate_to R key) ds ≡ false) (IsBestWay R ds key)
       → MatchOption w (list_any (is_candidate_to R key) cs ≡ false) (IsBestWay R cs key)
   best key None h = any (is_candidate_to R key) ∙ h
@@ -34,7 +32,12 @@ module _ {K : Type 0} {R : K → K → Ordering} (o : IsTotalOrder R) (exact : C
     hops_rise = h.hops_rise;
   }
 
-  pub reordered : ways_of R ds ≡ ways_of R cs
-  reordered =
+  -- where each test passes on one of the former just where it does on one of the latter
+  pub same_tests : ways_of R ds ≡ ways_of R cs
+  same_tests =
       let all = ways_are_best o exact ds in
       only_ways o exact cs (ways_of R ds) (record { keys_rise = all.keys_rise; at_key = λ key. best key _ (all.at_key key) })
+
+pub reordered : {K : Type 0} {R : K → K → Ordering} → IsTotalOrder R → CmpEqualImpliesEq R → (cs ds : List (Candidate K)) → IsPermutation cs ds
+    → ways_of R ds ≡ ways_of R cs
+reordered o exact cs ds moved = same_tests o exact cs ds (λ p. list_any-IsPermutation p cs ds moved)

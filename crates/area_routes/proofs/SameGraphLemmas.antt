@@ -2,6 +2,7 @@
 use Rattle.std.proofs.Common.{◌≡◌, ℕ, Bool, true, false, cond, List, [], ◌∷◌, filter, map, Option, Some, refl, sym, ap, ◌∙◌, subst, eqb}
 use Rattle.std.specs.Prelude.{◌↔◌, ◌&&◌, ◌||◌}
 use Rattle.std.specs.List.{Contains, filter_map, find}
+use Rattle.std.specs.List.Sorted.{IsPermutation}
 use Rattle.std.specs.Option.{option_map_or}
 use Rattle.std.proofs.lemmas.Bool.{and_parts}
 use Rattle.lsa_codec.specs.declared.address.RouterId.{RouterId}
@@ -14,6 +15,8 @@ use Rattle.area_graph.specs.Graphs.{IsGraphOf}
 use Rattle.area_graph.specs.Rows.{each_once, is_out_of, numbered, row_of, rows_of, same_edge}
 use Rattle.area_graph.specs.Topology.{Topology, IsEdge}
 use Rattle.area_routes.specs.Attached.{has_live_router_lsa}
+use Rattle.area_routes.specs.declared.stub_links.StubLink.{StubLink}
+use Rattle.area_routes.specs.StubLinks.{AreStubLinksOf, stub_links_from}
 
 -- a router-LSA or a network-LSA
 abbrev pub is_graph_lsa : List ℕ → Bool
@@ -60,6 +63,9 @@ module _ (lsas others : List (List ℕ)) (same : filter is_graph_lsa lsas ≡ fi
       ap (λ (o : Option (List ℕ)). option_map_or is_live o false)
       (sym (find_filtered keyed is_graph_lsa (keyed_is_graph router) lsas) ∙ ap (find keyed) same
       ∙ find_filtered keyed is_graph_lsa (keyed_is_graph router) others)
+
+  pub same_stub_links : (links : List StubLink) → AreStubLinksOf lsas links → AreStubLinksOf others links
+  same_stub_links links are = subst (λ us. IsPermutation (stub_links_from 0 us) links) same_used are
 
   same_rows : rows_of lsas ≡ rows_of others
   unfolding row_of

@@ -12,12 +12,13 @@ use Rattle.next_hops.specs.FirstHops.{table_of}
 use Rattle.area_routes.specs.Values.{AreaResultValue}
 use Rattle.area_routes.specs.Reached.{ReachedValue, reached_from}
 use Rattle.area_routes.specs.Networks.{network_offers}
+use Rattle.area_routes.specs.Offers.{best_offers}
 use Rattle.area_routes.specs.Stubs.{stub_offers}
 use Rattle.area_routes.specs.Entries.{area_entries}
 
 -- what the vertices that are reached give
 abbrev pub result_of_reached : AreaId → RouterId → List ReachedValue → AreaResultValue
-result_of_reached area root rs = record { area = area; offers = network_offers rs ++ stub_offers root rs; entries = area_entries area root rs }
+result_of_reached area root rs = record { area = area; offers = best_offers (network_offers rs ++ stub_offers root rs); entries = area_entries area root rs }
 
 -- what an area with these LSAs gives to a router
 unfoldable pub area_result : AreaId → List (List ℕ) → RouterId → AreaResultValue

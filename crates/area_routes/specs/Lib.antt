@@ -11,6 +11,8 @@ pub mod OverAllPaths
 pub mod Networks
 pub mod Choice
 pub mod Stubs
+pub mod StubLinks
+pub mod Offers
 pub mod Entries
 pub mod AreaResults
 pub mod Attached

@@ -5,3 +5,5 @@ pub mod Standings
 pub mod Merge
 pub mod EntryIndex
 pub mod KeptAreas
+pub mod StubCandidates
+pub mod OneArea

@@ -1,6 +1,7 @@
 //! What one area gives.
 
 ghost use Rattle.std.specs.Prelude.{◌≡◌, ◌^◌};
+ghost use Rattle.area_routes.specs.Offers.{AreSortedOffers};
 ghost use Rattle.area_routes.specs.Values.{ResultBelow};
 
 use crate::entry::RouterEntry;
@@ -23,6 +24,7 @@ pub struct AreaResult<A: Allocator = Global> {
 
 impl<A: Allocator> Model for AreaResult<A> {
     ghost use Rattle.std.specs.Prelude.{◌^◌};
+    ghost use Rattle.area_routes.specs.Offers.{AreSortedOffers};
     ghost use Rattle.area_routes.specs.Values.{AreaResultValue, ResultBelow};
 
     ghost Value = { AreaResultValue };
@@ -31,7 +33,8 @@ impl<A: Allocator> Model for AreaResult<A> {
         record { area = r.area; offers = r.offers.items; entries = r.entries.items } };
 
     ghost invariant = { λ r. ResultBelow (2 ^ 33)
-        (record { area = r.area; offers = r.offers.items; entries = r.entries.items }) };
+        (record { area = r.area; offers = r.offers.items; entries = r.entries.items })
+        × AreSortedOffers r.offers.items };
 }
 
 impl<A: Allocator + Copy> AreaResult<A> {
@@ -42,9 +45,10 @@ impl<A: Allocator + Copy> AreaResult<A> {
         self.area
     }
 
-    /// The ways to prefixes, several for one prefix included.
+    /// The ways to prefixes, one for each, in order of prefix.
     pub fn offers(&self) -> &[Offer<A>]
         ensures offers { result.now ≡ self.now.offers }
+        ensures sorted { AreSortedOffers self.now.offers }
         ensures below { ResultBelow (2 ^ 33) self.now }
     {
         self.offers.as_slice()

@@ -1,6 +1,6 @@
 //! The best ways to each destination, of any number of candidates.
 
-ghost use Rattle.std.specs.Prelude.{◌≡◌, ◌++◌, ◌∷◌, [], List, OnOk, IfOk, IsPermutation, Some, map};
+ghost use Rattle.std.specs.Prelude.{◌≡◌, ◌++◌, ◌∷◌, [], List, OnOk, OnErr, IfOk, IsPermutation, Some, map};
 ghost use Rattle.std.specs.List.Sorted.{IsSorted, IsStrictlySortedBy};
 ghost use Rattle.std.specs.Map.{keys_of};
 ghost use Rattle.std.proofs.lemmas.Map.Lookups.{CmpEqualImpliesEq};
@@ -100,6 +100,15 @@ impl<'a, K: Ord + Copy + Drop, A: Allocator + Copy> BestWays<'a, K, A> {
             hops,
             onward: Some(address),
         })?;
+        Ok(())
+    }
+
+    /// Adds a candidate, or leaves the others as they are.
+    pub(crate) fn push(&mut self, candidate: Contender<'a, K>) -> Result<(), AllocError>
+        ensures added { OnOk result (self.new ≡ self.old ++ candidate.entry ∷ []) }
+        ensures same { OnErr result (self.new ≡ self.old) }
+    {
+        self.candidates.push(candidate)?;
         Ok(())
     }
 

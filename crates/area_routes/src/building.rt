@@ -1,25 +1,34 @@
 //! Building what an area gives.
 
-ghost use Rattle.std.specs.Prelude.{◌≡◌, ◌<◌, ◌^◌, ◌∷◌, [], IfOk, OnOk};
+ghost use Rattle.std.specs.Prelude.{◌≡◌, ◌<◌, ◌^◌, ◌∷◌, ◌++◌, [], IfOk, OnOk, All, length, map};
+ghost use Rattle.lsa_codec.specs.Order.{prefix_cmp};
 ghost use Rattle.lsa_codec.specs.declared.address.RouterId.{RouterId as AnyRouter};
 ghost use Rattle.lsdb.specs.declared.section.Section.TheVariants.{Area};
 ghost use Rattle.lsdb.specs.Lists.{lsas_of};
 ghost use Rattle.lsdb.specs.Places.{lists_of};
 ghost use Rattle.area_graph.specs.Area.{used};
-ghost use Rattle.area_routes.specs.AreaResults.{AreOf, area_result, result_of_reached};
-ghost use Rattle.area_routes.specs.steps.Growing.{nothing_of, with_offers, with_entries};
+ghost use Rattle.area_routes.specs.AreaResults.{AreOf, area_result};
+ghost use Rattle.area_routes.specs.Best.{ways_of};
+ghost use Rattle.area_routes.specs.Networks.{network_offers};
+ghost use Rattle.area_routes.specs.Offers.{AreSortedOffers, offer_candidate, offer_of};
+ghost use Rattle.area_routes.specs.StubLinks.{AreStubLinksOf};
+ghost use Rattle.area_routes.specs.Values.{OffersBelow};
+ghost use Rattle.area_routes.specs.steps.Growing.{with_entries, without_entries};
+ghost use Rattle.area_routes.specs.steps.StubCandidates.{offers_over};
 ghost use Rattle.area_routes.specs.steps.ReachedVertices.{AreReached, FitGraph};
 
 use crate::area_result::AreaResult;
+use crate::area_ways::AreaWays;
 use crate::entry::{EntryKind, RouterEntry};
 use crate::few_reached::few_reached;
 use crate::networks::add_networks;
 use crate::offer::Offer;
 use crate::reached::{Reached, reached_vertices};
 use crate::router_entries::add_entries;
+use crate::stub_links::{StubLink, StubLinks};
 use crate::stubs::add_stubs;
 use area_graph::{Graph, Vertex, used_lsas};
-use lsa_codec::{AreaId, Prefix, RouterId};
+use lsa_codec::{AreaId, RouterId};
 use lsdb::{Database, Section};
 use next_hops::{HopList, Hops};
 use spf::Tree;
@@ -46,31 +55,41 @@ fn reached_in<'a, A: Allocator + Copy>(
     reached_vertices(alloc, &lsas, tree, hops)
 }
 
+/// What the area offers by the vertices that are reached, and by its stub links.
+fn offers_of<'a, A: Allocator + Copy>(
+    alloc: A,
+    root: RouterId,
+    reached: &[Reached<'a, A>],
+    tree: &Tree<A>,
+    hops: &'a Hops<A>,
+    links: &[StubLink],
+) -> Result<Vec<Offer<A>, A>, AllocError>
+    requires tree { All (λ link. link.vertex < length tree.now.distances) links.now }
+    requires hops { All (λ link. link.vertex < length hops.now) links.now }
+    ensures offers { IfOk result (λ offers. offers.items ≡ map offer_of (ways_of prefix_cmp
+        (map offer_candidate (network_offers reached.now)
+        ++ map offer_candidate (offers_over root tree.now.distances hops.now links.now)))) }
+    ensures below { IfOk result (λ offers. OffersBelow (2 ^ 33) offers.items) }
+    ensures sorted { IfOk result (λ offers. AreSortedOffers offers.items) }
+{
+    let mut ways = AreaWays::new(alloc);
+    add_networks(alloc, &mut ways, reached)?;
+    add_stubs(&mut ways, root, tree, hops, links)?;
+    ways.into_offers(alloc)
+}
+
 impl<A: Allocator + Copy> AreaResult<A> {
-    /// Nothing yet.
-    fn nothing_of(alloc: A, area: AreaId) -> AreaResult<A>
-        ensures { result ≡ nothing_of area }
+    /// These offers, and no entries yet.
+    fn without_entries(alloc: A, area: AreaId, offers: Vec<Offer<A>, A>) -> AreaResult<A>
+        requires below { OffersBelow (2 ^ 33) offers.items }
+        requires sorted { AreSortedOffers offers.items }
+        ensures { result ≡ without_entries area offers.items }
     {
         AreaResult {
             area,
-            offers: Vec::new(alloc),
+            offers,
             entries: Vec::new(alloc),
         }
-    }
-
-    /// Adds a way to a prefix.
-    pub(crate) fn offer(
-        &mut self,
-        net: Prefix,
-        cost: u64,
-        hops: HopList<A>,
-    ) -> Result<(), AllocError>
-        requires { cost < 2 ^ 33 }
-        ensures { OnOk result (self.new
-            ≡ with_offers self.old (record { net = net; cost = cost; hops = hops } ∷ [])) }
-    {
-        self.offers.push(Offer { net, cost, hops })?;
-        Ok(())
     }
 
     /// Adds the entry of a router.
@@ -101,32 +120,16 @@ impl<A: Allocator + Copy> AreaResult<A> {
         Ok(())
     }
 
-    /// What the vertices that are reached give.
-    fn of_reached(
-        alloc: A,
-        area: AreaId,
-        root: RouterId,
-        reached: &[Reached<'_, A>],
-    ) -> Result<AreaResult<A>, AllocError>
-        ensures { IfOk result (λ built. built ≡ result_of_reached area root reached.now) }
-    {
-        let mut built = AreaResult::nothing_of(alloc, area);
-        add_networks(alloc, &mut built, reached)?;
-        add_stubs(alloc, &mut built, root, reached)?;
-        add_entries(alloc, &mut built, root, reached)?;
-        Ok(built)
-    }
-
     /// What an area gives to the root of a tree (RFC 2328, 16.1). The graph must be that of the
     /// area, the tree one of this graph, and the hops those of this tree.
     ///
-    /// The offers are those of the networks that are reached, of several of one prefix the nearest
-    /// alone, or of those as near the one of the greatest Link State ID; and then those of the stub
-    /// links of the routers that are reached, at the router's distance and the link's metric
-    /// together. The entries are those of the other routers that are reached:
-    /// [`Border`](EntryKind::Border) where bit B of the router-LSA is set, and then
-    /// [`AsbrIntra`](EntryKind::AsbrIntra) where bit E is. Both stand in the order of the graph's
-    /// vertices.
+    /// The ways to prefixes are those of the networks that are reached, of several of one prefix
+    /// the nearest alone, or of those as near the one of the greatest Link State ID; and those over
+    /// the stub links of the routers that are reached, at the router's distance and the link's
+    /// metric together. The offers are the best of these, one for each prefix, in order of prefix.
+    /// The entries are those of the other routers that are reached, in the order of the graph's
+    /// vertices: [`Border`](EntryKind::Border) where bit B of the router-LSA is set, and then
+    /// [`AsbrIntra`](EntryKind::AsbrIntra) where bit E is.
     ///
     /// # Errors
     ///
@@ -138,9 +141,11 @@ impl<A: Allocator + Copy> AreaResult<A> {
         graph: &Graph<A>,
         tree: &Tree<A>,
         hops: &Hops<A>,
+        stubs: &StubLinks<A>,
     ) -> Result<AreaResult<A>, AllocError>
-        requires { (root : AnyRouter)
+        requires tree { (root : AnyRouter)
             × AreOf (lsas_of (Area area) (lists_of database.now)) root graph.now tree.now hops.now }
+        requires stubs { AreStubLinksOf (lsas_of (Area area) (lists_of database.now)) stubs.now }
         ensures { IfOk result (λ built. (root : AnyRouter)
             → AreOf (lsas_of (Area area) (lists_of database.now)) root graph.now tree.now hops.now
             → built ≡ area_result area (lsas_of (Area area) (lists_of database.now)) root) }
@@ -149,6 +154,9 @@ impl<A: Allocator + Copy> AreaResult<A> {
             unreachable!()
         };
         let reached = reached_in(alloc, database, area, graph, tree, hops)?;
-        AreaResult::of_reached(alloc, area, root, &reached)
+        let offers = offers_of(alloc, root, &reached, tree, hops, stubs.as_slice())?;
+        let mut built = AreaResult::without_entries(alloc, area, offers);
+        add_entries(alloc, &mut built, root, &reached)?;
+        Ok(built)
     }
 }

@@ -23,6 +23,7 @@ mod contender;
 mod way;
 
 // What an area gives.
+mod area_ways;
 mod attached;
 mod building;
 mod choice;
@@ -30,6 +31,7 @@ mod few_reached;
 mod networks;
 mod reached;
 mod router_entries;
+mod stub_links;
 mod stubs;
 
 // Routes within areas.
@@ -66,4 +68,5 @@ pub use offer::Offer;
 pub use rank::{PathType, Rank};
 pub use route::Route;
 pub use route_list::Routes;
+pub use stub_links::{StubLink, StubLinks};
 pub use way::Way;

@@ -8,7 +8,7 @@ ghost use Rattle.area_routes.specs.Networks.{networks, network_offers};
 ghost use Rattle.area_routes.specs.steps.Standings.{AreStandingsOf, is_behind, stands_before, standing_of, unbeaten};
 ghost use Rattle.area_routes.specs.steps.Growing.{with_offers};
 
-use crate::area_result::AreaResult;
+use crate::area_ways::AreaWays;
 use crate::reached::Reached;
 use lsa_codec::{Addr, Prefix};
 use std::alloc::{AllocError, Allocator};
@@ -94,14 +94,13 @@ fn best_standings<A: Allocator + Copy>(
 }
 
 /// Adds what a vertex offers, if it is the network that is chosen of those of its prefix.
-fn add_network<A: Allocator + Copy>(
-    alloc: A,
-    area: &mut AreaResult<A>,
+fn add_network<'a, A: Allocator + Copy>(
+    ways: &mut AreaWays<'a, A>,
     standings: &Standings<A>,
-    reached: &Reached<'_, A>,
+    reached: &Reached<'a, A>,
 ) -> Result<(), AllocError>
     ensures { OnOk result ((ns : List ReachedValue) → AreStandingsOf ns standings.now
-        → area.new ≡ with_offers area.old (unbeaten ns reached.now)) }
+        → ways.new ≡ with_offers ways.old (unbeaten ns reached.now)) }
 {
     let Some(net) = reached.net() else {
         return Ok(());
@@ -109,21 +108,21 @@ fn add_network<A: Allocator + Copy>(
     if is_behind(standings, net, standing_of(reached)) {
         return Ok(());
     }
-    area.offer(net, reached.distance(), reached.hop_list(alloc)?)
+    ways.add(net, reached.distance(), reached.hops())
 }
 
 /// Adds what the networks offer: of those of one prefix the nearest alone, and of several as near
 /// the one of the greatest Link State ID.
-pub(crate) fn add_networks<A: Allocator + Copy>(
+pub(crate) fn add_networks<'a, A: Allocator + Copy>(
     alloc: A,
-    area: &mut AreaResult<A>,
-    reached: &[Reached<'_, A>],
+    ways: &mut AreaWays<'a, A>,
+    reached: &[Reached<'a, A>],
 ) -> Result<(), AllocError>
-    ensures { OnOk result (area.new ≡ with_offers area.old (network_offers reached.now)) }
+    ensures { OnOk result (ways.new ≡ with_offers ways.old (network_offers reached.now)) }
 {
     let standings = best_standings(alloc, reached)?;
     for vertex in reached {
-        add_network(alloc, area, &standings, vertex)?;
+        add_network(ways, &standings, vertex)?;
     }
     Ok(())
 }

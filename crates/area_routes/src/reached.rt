@@ -52,6 +52,13 @@ impl<'a, A: Allocator + Copy> Reached<'a, A> {
         self.distance
     }
 
+    /// The next hops.
+    pub(crate) fn hops(&self) -> &'a [Hop]
+        ensures { result.now ≡ self.now.hops }
+    {
+        self.hops
+    }
+
     /// A list of the next hops.
     pub(crate) fn hop_list(&self, alloc: A) -> Result<HopList<A>, AllocError>
         ensures { IfOk result (λ hops. hops ≡ self.now.hops) }

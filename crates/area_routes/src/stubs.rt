@@ -1,15 +1,20 @@
 //! The stub networks that an area offers (RFC 2328, 16.1).
 
-ghost use Rattle.std.specs.Prelude.{◌≡◌, [], IfOk, OnOk};
+ghost use Rattle.std.specs.Prelude.{◌≡◌, ◌<◌, [], OnOk, All, length};
 ghost use Rattle.std.specs.List.{cons_option};
-ghost use Rattle.area_routes.specs.Stubs.{is_lsa_of, stub_hops, stub_offer, stubs_of, stub_offers};
+ghost use Rattle.area_routes.specs.Stubs.{is_lsa_of};
 ghost use Rattle.area_routes.specs.steps.Growing.{with_offers};
+ghost use Rattle.area_routes.specs.steps.StubCandidates.{hops_over, offer_over, offers_over};
 
-use crate::area_result::AreaResult;
-use crate::reached::Reached;
-use lsa_codec::{Link, Lsa, RouterId};
-use next_hops::{Hop, HopList};
+use crate::area_ways::AreaWays;
+use crate::stub_links::StubLink;
+use lsa_codec::{Lsa, RouterId};
+use next_hops::{Hop, Hops};
+use spf::Tree;
 use std::alloc::{AllocError, Allocator};
+
+/// The hops to a stub network of the calculating router.
+const CONNECTED: &[Hop] = &[Hop::Connected];
 
 /// Whether a router-LSA is that of this router.
 pub(crate) fn is_lsa_of<A: Allocator + Copy>(router: RouterId, lsa: &Lsa<A>) -> bool
@@ -18,70 +23,57 @@ pub(crate) fn is_lsa_of<A: Allocator + Copy>(router: RouterId, lsa: &Lsa<A>) -> 
     lsa.key().id.0 == router.0
 }
 
-/// The hops to a stub network of a router: those of the router, and for the calculating router's
-/// own `Connected` alone.
-fn stub_hops<A: Allocator + Copy>(
-    alloc: A,
+/// The hops to a stub network: those of its router, and for the calculating router's own
+/// `Connected` alone.
+fn hops_over<'a, A: Allocator + Copy>(
     root: RouterId,
-    reached: &Reached<'_, A>,
-) -> Result<HopList<A>, AllocError>
-    ensures { IfOk result (λ hops. hops ≡ stub_hops root reached.now) }
+    hops: &'a Hops<A>,
+    link: &StubLink,
+) -> &'a [Hop]
+    requires { link.now.vertex < length hops.now }
+    ensures { result.now ≡ hops_over root hops.now link.now }
 {
-    if !is_lsa_of(root, reached.lsa()) {
-        return reached.hop_list(alloc);
+    if link.router.0 == root.0 {
+        return CONNECTED;
     }
-    let mut hops = HopList::new(alloc)?;
-    hops.add(Hop::Connected)?;
-    Ok(hops)
+    hops.of(link.vertex)
 }
 
-/// Adds what a link of a router offers, which only stub links do.
-fn add_stub<A: Allocator + Copy>(
-    alloc: A,
-    area: &mut AreaResult<A>,
+/// Adds what a stub link offers, if its router is reached.
+fn add_stub<'a, A: Allocator + Copy>(
+    ways: &mut AreaWays<'a, A>,
     root: RouterId,
-    reached: &Reached<'_, A>,
-    link: Link,
+    tree: &Tree<A>,
+    hops: &'a Hops<A>,
+    link: &StubLink,
 ) -> Result<(), AllocError>
-    ensures { OnOk result (area.new
-        ≡ with_offers area.old (cons_option (stub_offer root reached.now link) [])) }
+    requires tree { link.now.vertex < length tree.now.distances }
+    requires hops { link.now.vertex < length hops.now }
+    ensures { OnOk result (ways.new ≡ with_offers ways.old
+        (cons_option (offer_over root tree.now.distances hops.now link.now) [])) }
 {
-    let Some(net) = link.net() else {
+    let Some(distance) = tree.distance(link.vertex) else {
         return Ok(());
     };
-    let cost = reached.distance() + u64::from(link.metric);
-    area.offer(net, cost, stub_hops(alloc, root, reached)?)
+    let cost = distance + u64::from(link.metric);
+    ways.add(link.net, cost, hops_over(root, hops, link))
 }
 
-/// Adds what the stub links of a vertex offer, which only routers have.
-fn add_stubs_of<A: Allocator + Copy>(
-    alloc: A,
-    area: &mut AreaResult<A>,
+/// Adds what stub links offer.
+pub(crate) fn add_stubs<'a, A: Allocator + Copy>(
+    ways: &mut AreaWays<'a, A>,
     root: RouterId,
-    reached: &Reached<'_, A>,
+    tree: &Tree<A>,
+    hops: &'a Hops<A>,
+    links: &[StubLink],
 ) -> Result<(), AllocError>
-    ensures { OnOk result (area.new ≡ with_offers area.old (stubs_of root reached.now)) }
+    requires tree { All (λ link. link.vertex < length tree.now.distances) links.now }
+    requires hops { All (λ link. link.vertex < length hops.now) links.now }
+    ensures { OnOk result (ways.new ≡ with_offers ways.old
+        (offers_over root tree.now.distances hops.now links.now)) }
 {
-    let Some(router) = reached.lsa().router() else {
-        return Ok(());
-    };
-    for link in router.links() {
-        add_stub(alloc, area, root, reached, link)?;
-    }
-    Ok(())
-}
-
-/// Adds what the stub links of all routers offer.
-pub(crate) fn add_stubs<A: Allocator + Copy>(
-    alloc: A,
-    area: &mut AreaResult<A>,
-    root: RouterId,
-    reached: &[Reached<'_, A>],
-) -> Result<(), AllocError>
-    ensures { OnOk result (area.new ≡ with_offers area.old (stub_offers root reached.now)) }
-{
-    for vertex in reached {
-        add_stubs_of(alloc, area, root, vertex)?;
+    for link in links {
+        add_stub(ways, root, tree, hops, link)?;
     }
     Ok(())
 }

@@ -11,14 +11,13 @@ use Rattle.lsa_codec.specs.declared.address.AreaId.{AreaId}
 use Rattle.lsa_codec.specs.declared.address.RouterId.{RouterId}
 use Rattle.lsdb.specs.declared.section.Section.TheVariants.{Area}
 use Rattle.lsdb.specs.Lists.{Lists, lsas_of}
-use Rattle.area_graph.specs.Graphs.{IsGraphOf}
 use Rattle.lsa_codec.specs.Order.{area_cmp, router_cmp}
 use Rattle.lsa_codec.proofs.OrderLemmas.{area_exact}
 use Rattle.edit_history.specs.Effect.{graph_lsas}
-use Rattle.routing_table.specs.AreaTrees.{AreaTreesValue, RouterTreeValue, has_tree}
+use Rattle.routing_table.specs.AreaTrees.{AreaTreesValue, IsAreaOf, RouterTreeValue, has_tree}
 use Rattle.routing_table.specs.AreasTrees.{AreasTrees, AreOfDatabase, routers_of, trees_at, trees_in}
 use Rattle.routing_table.specs.KeptTrees.{KeptRouters, is_kept, less_touched}
-use Rattle.area_routes.proofs.SameGraphLemmas.{same_graph}
+use Rattle.area_routes.proofs.SameGraphLemmas.{same_graph, same_stub_links}
 
 -- ---- what is shown of the trees
 
@@ -67,10 +66,13 @@ told_untouched is_touched (a ∷ areas) = by (is_touched a.0) (told_untouched is
     by false rest = ap (λ (l : KeptRouters). (a.0, keys_of a.1.trees) ∷ l) rest
 
 module _ (db after : Lists) (is_touched : AreaId → Bool) (stay : (area : AreaId) → is_touched area ≡ false → graph_lsas area after ≡ graph_lsas area db) where
-  of_area : (area : AreaId) (o : Option AreaTreesValue) → is_touched area ≡ false → IfSome o (λ kept. IsGraphOf (lsas_of (Area area) db) kept.graph)
-      → IfSome o (λ kept. IsGraphOf (lsas_of (Area area) after) kept.graph)
+  of_area : (area : AreaId) (o : Option AreaTreesValue) → is_touched area ≡ false → IfSome o (IsAreaOf (lsas_of (Area area) db))
+      → IfSome o (IsAreaOf (lsas_of (Area area) after))
   of_area area None apart h = tt
-  of_area area (Some kept) apart h = same_graph (lsas_of (Area area) db) (lsas_of (Area area) after) (sym (stay area apart)) kept.graph h
+  of_area area (Some kept) apart h = record {
+    graph = same_graph (lsas_of (Area area) db) (lsas_of (Area area) after) (sym (stay area apart)) kept.graph h.graph;
+    stubs = same_stub_links (lsas_of (Area area) db) (lsas_of (Area area) after) (sym (stay area apart)) kept.stubs h.stubs;
+  }
 
   pub untouched_stay : (areas : AreasTrees) → AreOfDatabase db areas → AreOfDatabase after (untouched is_touched areas)
   untouched_stay areas all area = by (is_touched area) refl
@@ -80,7 +82,7 @@ module _ (db after : Lists) (is_touched : AreaId → Bool) (stay : (area : AreaI
           lookup-filter-keys (eq_by_cmp area_cmp area) (λ a. not (is_touched a)) (not b)
           (λ a same. ap (λ x. not (is_touched x)) (sym (area_exact area a ((Equal-is (area_cmp area a)).0 same))) ∙ ap not e) areas
 
-      by : (b : Bool) → is_touched area ≡ b → IfSome (trees_at (untouched is_touched areas) area) (λ kept. IsGraphOf (lsas_of (Area area) after) kept.graph)
-      by true e = subst (λ o. IfSome o (λ kept. IsGraphOf (lsas_of (Area area) after) kept.graph)) (sym (keeps true e)) tt
-      by false e = subst (λ o. IfSome o (λ kept. IsGraphOf (lsas_of (Area area) after) kept.graph))
+      by : (b : Bool) → is_touched area ≡ b → IfSome (trees_at (untouched is_touched areas) area) (IsAreaOf (lsas_of (Area area) after))
+      by true e = subst (λ o. IfSome o (IsAreaOf (lsas_of (Area area) after))) (sym (keeps true e)) tt
+      by false e = subst (λ o. IfSome o (IsAreaOf (lsas_of (Area area) after)))
           (sym (keeps false e)) (of_area area (trees_at areas area) e (all area))

@@ -1,5 +1,5 @@
 -- Maps of the trees of all areas after one entry was put into them.
-use Rattle.std.proofs.Common.{◌≡◌, ◌≢◌, Bool, true, false, List, [], Option, Some, None, refl, sym, ap, ◌∙◌, subst, true≢false}
+use Rattle.std.proofs.Common.{◌≡◌, ◌≢◌, Bool, true, false, ℕ, List, [], Option, Some, None, refl, sym, ap, ◌∙◌, subst, true≢false}
 use Rattle.std.specs.Prelude.{is_some, IsSome, IsSomeAnd, IfSome}
 use Rattle.std.specs.Bool.{OnFalse, OnTrue}
 use Rattle.std.specs.Cmp.{unsigned_ties}
@@ -20,7 +20,9 @@ use Rattle.lsa_codec.specs.Order.{area_cmp, router_cmp}
 use Rattle.lsa_codec.proofs.OrderLemmas.{area_exact}
 use Rattle.area_routes.proofs.VertexLemmas.{attached_vertex}
 use Rattle.area_routes.specs.Attached.{is_attached}
-use Rattle.routing_table.specs.AreaTrees.{AreaTreesValue, has_tree}
+use Rattle.area_routes.specs.declared.stub_links.StubLink.{StubLink}
+use Rattle.area_routes.specs.StubLinks.{AreStubLinksOf}
+use Rattle.routing_table.specs.AreaTrees.{AreaTreesValue, IsAreaOf, has_tree, map_of}
 use Rattle.routing_table.proofs.MapLemmas.{Puts, if_found, put_all, put_here, put_other, put_passes, put_tells}
 use Rattle.routing_table.specs.AreasTrees.{AreasTrees, AreOfDatabase, trees_at, trees_in}
 use Rattle.routing_table.specs.KeptTrees.{IsWithin}
@@ -28,16 +30,17 @@ use Rattle.routing_table.specs.KeptTrees.{IsWithin}
 area_self : (area : AreaId) → eq_by_cmp area_cmp area area ≡ true
 area_self area = sym (unsigned_ties area.0 area.0) ∙ eq-eqb area.0 area.0 refl
 
-abbrev pub graph_at : Option AreaTreesValue → Option Topology
-graph_at o = option_map (λ trees. trees.graph) o
+-- graph and stub links
+abbrev pub area_at : Option AreaTreesValue → Option (Topology × List StubLink)
+area_at o = option_map map_of o
 
 abbrev has_at : RouterId → Option AreaTreesValue → Bool
 has_at root o = option_map_or (λ kept. has_tree kept root) o false
 
 module _ (old new : AreasTrees) (area : AreaId) (t : AreaTreesValue) (puts : Puts area_cmp old new area t) where
   -- the graph of an area came in
-  pub graphs_stay : (db : Lists) → IsGraphOf (lsas_of (Area area) db) t.graph → AreOfDatabase db old → AreOfDatabase db new
-  graphs_stay db is all = put_all area_cmp area_exact old new area t puts (λ a kept. IsGraphOf (lsas_of (Area a) db) kept.graph) is all
+  pub graphs_stay : (db : Lists) → IsAreaOf (lsas_of (Area area) db) t → AreOfDatabase db old → AreOfDatabase db new
+  graphs_stay db is all = put_all area_cmp area_exact old new area t puts (λ a kept. IsAreaOf (lsas_of (Area a) db) kept) is all
 
   pub no_tree_more : trees_at old area ≡ None → t.trees ≡ [] → (other : AreaId) (root : RouterId) → trees_in new other root ≡ trees_in old other root
   no_tree_more absent empty other root =
@@ -49,8 +52,9 @@ module _ (old new : AreasTrees) (area : AreaId) (t : AreaTreesValue) (puts : Put
 
   -- trees came in where there was a graph
   module _ (s : AreaTreesValue) (was : trees_at old area ≡ Some s) where
-    pub same_graphs : t.graph ≡ s.graph → (other : AreaId) → graph_at (trees_at new other) ≡ graph_at (trees_at old other)
-    same_graphs same other = put_tells area_cmp area_exact old new area t puts graph_at (ap (λ (g : Topology). Some g) same ∙ ap graph_at (sym was)) other
+    pub same_graphs : t.graph ≡ s.graph → t.stubs ≡ s.stubs → (other : AreaId) → area_at (trees_at new other) ≡ area_at (trees_at old other)
+    same_graphs graph stubs other =
+        put_tells area_cmp area_exact old new area t puts area_at ((λ i. Some (graph i, stubs i)) ∙ ap area_at (sym was)) other
 
     pub still_within : ((root : RouterId) → has_tree s root ≡ true → has_tree t root ≡ true) → IsWithin (trees_in old) (trees_in new)
     still_within keeps other root had =
@@ -64,14 +68,19 @@ module _ (old new : AreasTrees) (area : AreaId) (t : AreaTreesValue) (puts : Put
 
 -- ---- graphs of a database
 
-if_graph : (P : Topology → Type 0) (o p : Option AreaTreesValue) → graph_at o ≡ graph_at p → IfSome p (λ kept. P kept.graph) → IfSome o (λ kept. P kept.graph)
-if_graph P None p same h = tt
-if_graph P (Some x) None same h = absurd cc
-if_graph P (Some x) (Some y) same h = let is : x.graph ≡ y.graph = cc in subst P (sym is) h
+if_area : (lsas : List (List ℕ)) (o p : Option AreaTreesValue) → area_at o ≡ area_at p → IfSome p (IsAreaOf lsas) → IfSome o (IsAreaOf lsas)
+if_area lsas None p same h = tt
+if_area lsas (Some x) None same h = absurd cc
+if_area lsas (Some x) (Some y) same h =
+    let is : (x.graph, x.stubs) ≡ (y.graph, y.stubs) = cc in
+    record {
+      graph = subst (λ (a : Topology × List StubLink). IsGraphOf lsas a.0) (sym is) h.graph;
+      stubs = subst (λ (a : Topology × List StubLink). AreStubLinksOf lsas a.1) (sym is) h.stubs;
+    }
 
-pub of_same_graphs : (db : Lists) (old new : AreasTrees) → ((area : AreaId) → graph_at (trees_at new area) ≡ graph_at (trees_at old area))
+pub of_same_graphs : (db : Lists) (old new : AreasTrees) → ((area : AreaId) → area_at (trees_at new area) ≡ area_at (trees_at old area))
     → AreOfDatabase db old → AreOfDatabase db new
-of_same_graphs db old new same all area = if_graph (λ g. IsGraphOf (lsas_of (Area area) db) g) (trees_at new area) (trees_at old area) (same area) (all area)
+of_same_graphs db old new same all area = if_area (lsas_of (Area area) db) (trees_at new area) (trees_at old area) (same area) (all area)
 
 -- the graph of an area has the routers that are attached to it
 pub has_vertex : (db : Lists) (areas : AreasTrees) (area : AreaId) (router : RouterId) → IsDatabase db → AreOfDatabase db areas
@@ -79,11 +88,11 @@ pub has_vertex : (db : Lists) (areas : AreasTrees) (area : AreaId) (router : Rou
     → IsSome (trees_at areas area) → IsSomeAnd (trees_at areas area) (λ trees. Contains trees.graph.vertices (Router router))
 has_vertex db areas area router sound all attached there = by (trees_at areas area) there (all area)
   where
-    by : (o : Option AreaTreesValue) → IsSome o → IfSome o (λ kept. IsGraphOf (lsas_of (Area area) db) kept.graph)
+    by : (o : Option AreaTreesValue) → IsSome o → IfSome o (IsAreaOf (lsas_of (Area area) db))
         → IsSomeAnd o (λ trees. Contains trees.graph.vertices (Router router))
     by None some h = absurd (true≢false (sym some))
     by (Some kept) some h =
-        subst (λ (vs : List Vertex). Contains vs (Router router)) (sym h.vertices) ((attached_vertex db sound area router).0 attached)
+        subst (λ (vs : List Vertex). Contains vs (Router router)) (sym h.graph.vertices) ((attached_vertex db sound area router).0 attached)
 
 -- ---- what a look-up found
 
@@ -91,9 +100,9 @@ module _ (areas : AreasTrees) (area : AreaId) (kept : AreaTreesValue) (is : tree
   pub has_found : (router : RouterId) → trees_in areas area router ≡ true → has_tree kept router ≡ true
   has_found router has = ap (has_at router) (sym is) ∙ has
 
-pub graph_found : (db : Lists) (areas : AreasTrees) (area : AreaId) (kept : AreaTreesValue) → AreOfDatabase db areas
-    → trees_at areas area ≡ Some kept → IsGraphOf (lsas_of (Area area) db) kept.graph
-graph_found db areas area kept all is = if_found (λ k. IsGraphOf (lsas_of (Area area) db) k.graph) (trees_at areas area) kept is (all area)
+pub area_found : (db : Lists) (areas : AreasTrees) (area : AreaId) (kept : AreaTreesValue) → AreOfDatabase db areas
+    → trees_at areas area ≡ Some kept → IsAreaOf (lsas_of (Area area) db) kept
+area_found db areas area kept all is = if_found (λ k. IsAreaOf (lsas_of (Area area) db) k) (trees_at areas area) kept is (all area)
 
 pub vertex_found : (areas : AreasTrees) (area : AreaId) (router : RouterId) (kept : AreaTreesValue) → trees_at areas area ≡ Some kept
     → IsSomeAnd (trees_at areas area) (λ trees. Contains trees.graph.vertices (Router router)) → Contains kept.graph.vertices (Router router)

@@ -6,9 +6,8 @@ use Rattle.std.specs.Ordering.{eq_by_cmp}
 use Rattle.lsa_codec.specs.declared.address.AreaId.{AreaId}
 use Rattle.lsdb.specs.declared.section.Section.TheVariants.{Area}
 use Rattle.lsdb.specs.Lists.{Lists, lsas_of}
-use Rattle.area_graph.specs.Graphs.{IsGraphOf}
 use Rattle.lsa_codec.specs.Order.{area_cmp}
-use Rattle.routing_table.specs.AreaTrees.{AreaTreesValue, has_tree}
+use Rattle.routing_table.specs.AreaTrees.{AreaTreesValue, IsAreaOf, has_tree}
 use Rattle.routing_table.specs.KeptTrees.{KeptRouters, TreeSet}
 
 abbrev pub AreasTrees : Type 0
@@ -24,6 +23,6 @@ trees_in areas area router = option_map_or (λ kept. has_tree kept router) (tree
 abbrev pub routers_of : AreasTrees → KeptRouters
 routers_of areas = map (λ area. (area.0, keys_of area.1.trees)) areas
 
--- each graph is that of its area in the database
+-- each graph, with its stub links, is that of its area in the database
 abbrev pub AreOfDatabase : Lists → AreasTrees → Type 0
-AreOfDatabase db areas = (area : AreaId) → IfSome (trees_at areas area) (λ kept. IsGraphOf (lsas_of (Area area) db) kept.graph)
+AreOfDatabase db areas = (area : AreaId) → IfSome (trees_at areas area) (IsAreaOf (lsas_of (Area area) db))

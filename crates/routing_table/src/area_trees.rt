@@ -7,15 +7,14 @@ ghost use Rattle.lsdb.specs.declared.section.Section.TheVariants.{Area};
 ghost use Rattle.lsdb.specs.Lists.{lsas_of};
 ghost use Rattle.lsdb.specs.Places.{lists_of};
 ghost use Rattle.area_graph.specs.declared.vertex.Vertex.TheVariants.{Router};
-ghost use Rattle.area_graph.specs.Graphs.{IsGraphOf};
 ghost use Rattle.area_routes.specs.AreaResults.{area_result};
 ghost use Rattle.spf.specs.Distances.{IsTreeOf};
-ghost use Rattle.routing_table.specs.AreaTrees.{has_tree, missing};
+ghost use Rattle.routing_table.specs.AreaTrees.{IsAreaOf, has_tree, missing};
 ghost use Rattle.routing_table.specs.Counting.{counted_by, CountsAtMost};
 
 use crate::results::tree_of;
 use area_graph::{Graph, Vertex};
-use area_routes::AreaResult;
+use area_routes::{AreaResult, StubLinks};
 use lsa_codec::{AreaId, RouterId};
 use lsdb::Database;
 use next_hops::Hops;
@@ -39,10 +38,12 @@ impl<A: Allocator> Model for RouterTree<A> {
     ghost view = { λ t. record { tree = t.tree; hops = t.hops } };
 }
 
-/// The graph of an area, and the trees in it that were calculated, by their routers.
+/// The graph of an area, the stub links of its routers, and the trees in the graph that were
+/// calculated, by their routers.
 #[derive(Drop)]
 pub struct AreaTrees<A: Allocator> {
     graph: Graph<A>,
+    stubs: StubLinks<A>,
     trees: BTreeMap<RouterId, RouterTree<A>, A>,
 }
 
@@ -51,18 +52,19 @@ impl<A: Allocator> Model for AreaTrees<A> {
 
     ghost Value = { AreaTreesValue };
 
-    ghost view = { λ a. record { graph = a.graph; trees = a.trees.entries } };
+    ghost view = { λ a. record { graph = a.graph; stubs = a.stubs; trees = a.trees.entries } };
 
     ghost invariant = { λ a. AreTreesIn a.graph a.trees.entries };
 }
 
 impl<A: Allocator + Copy> AreaTrees<A> {
-    /// A graph without trees. It takes no memory.
-    pub fn new(alloc: A, graph: Graph<A>) -> AreaTrees<A>
-        ensures { result ≡ record { graph = graph; trees = [] } }
+    /// A graph with the stub links of its routers, and without trees. It takes no memory.
+    pub fn new(alloc: A, graph: Graph<A>, stubs: StubLinks<A>) -> AreaTrees<A>
+        ensures { result ≡ record { graph = graph; stubs = stubs; trees = [] } }
     {
         AreaTrees {
             graph,
+            stubs,
             trees: BTreeMap::new(alloc),
         }
     }
@@ -72,6 +74,7 @@ impl<A: Allocator + Copy> AreaTrees<A> {
     pub fn grow(&mut self, alloc: A, router: RouterId, meter: &mut Meter) -> Result<(), AllocError>
         requires { Contains self.old.graph.vertices (Router router) }
         ensures graph { self.new.graph ≡ self.old.graph }
+        ensures stubs { self.new.stubs ≡ self.old.stubs }
         ensures keeps { (other : AnyRouter) → has_tree self.old other ≡ true
             → has_tree self.new other ≡ true }
         ensures grown { OnOk result (has_tree self.new router ≡ true) }
@@ -122,7 +125,7 @@ impl<A: Allocator + Copy> AreaTrees<A> {
         area: AreaId,
         router: RouterId,
     ) -> Result<AreaResult<A>, AllocError>
-        requires graph { IsGraphOf (lsas_of (Area area) (lists_of database.now)) self.now.graph }
+        requires area { IsAreaOf (lsas_of (Area area) (lists_of database.now)) self.now }
         requires tree { has_tree self.now router ≡ true }
         ensures { IfOk result (λ given. given
             ≡ area_result area (lsas_of (Area area) (lists_of database.now)) router) }
@@ -130,6 +133,14 @@ impl<A: Allocator + Copy> AreaTrees<A> {
         let Some(kept) = self.trees.get(&router) else {
             unreachable!()
         };
-        AreaResult::build(alloc, database, area, &self.graph, &kept.tree, &kept.hops)
+        AreaResult::build(
+            alloc,
+            database,
+            area,
+            &self.graph,
+            &kept.tree,
+            &kept.hops,
+            &self.stubs,
+        )
     }
 }

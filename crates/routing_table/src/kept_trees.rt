@@ -9,7 +9,7 @@ ghost use Rattle.lsdb.specs.Places.{lists_of};
 ghost use Rattle.area_graph.specs.declared.vertex.Vertex.TheVariants.{Router};
 ghost use Rattle.area_routes.specs.AreaResults.{area_result};
 ghost use Rattle.area_routes.specs.Attached.{attached_areas, is_attached};
-ghost use Rattle.routing_table.specs.AreaTrees.{missing};
+ghost use Rattle.routing_table.specs.AreaTrees.{map_of, missing};
 ghost use Rattle.routing_table.specs.AreasTrees.{AreOfDatabase, trees_at, trees_in};
 ghost use Rattle.routing_table.specs.Counting.{counted_by, CountsAtMost};
 ghost use Rattle.routing_table.specs.KeptTrees.{areas_without_tree, IsWithin};
@@ -18,7 +18,7 @@ ghost use Rattle.routing_table.specs.Tables.{results_in};
 use crate::area_trees::AreaTrees;
 use crate::results::graph_of;
 use area_graph::{Graph, GraphFault};
-use area_routes::{AreaResult, is_attached};
+use area_routes::{AreaResult, StubLinks, is_attached};
 use lsa_codec::{AreaId, RouterId};
 use lsdb::Database;
 use spf::Meter;
@@ -94,7 +94,9 @@ impl<A: Allocator + Copy> KeptTrees<A> {
             Err(GraphFault::NoArea) => return Ok(()),
             Err(GraphFault::OutOfMemory) => return Err(AllocError),
         };
-        self.areas.insert(area, AreaTrees::new(alloc, graph))?;
+        let stubs = StubLinks::of(alloc, database, area)?;
+        self.areas
+            .insert(area, AreaTrees::new(alloc, graph, stubs))?;
         Ok(())
     }
 
@@ -131,7 +133,9 @@ impl<A: Allocator + Copy> KeptTrees<A> {
             return Ok(());
         }
         let graph = graph_of(alloc, database, area, router)?;
-        self.areas.insert(area, AreaTrees::new(alloc, graph))?;
+        let stubs = StubLinks::of(alloc, database, area)?;
+        self.areas
+            .insert(area, AreaTrees::new(alloc, graph, stubs))?;
         Ok(())
     }
 
@@ -147,8 +151,8 @@ impl<A: Allocator + Copy> KeptTrees<A> {
         requires { IsSomeAnd (trees_at self.old area)
             (λ trees. Contains trees.graph.vertices (Router router)) }
         ensures graphs { (other : AnyArea)
-            → option_map (λ trees. trees.graph) (trees_at self.new other)
-            ≡ option_map (λ trees. trees.graph) (trees_at self.old other) }
+            → option_map map_of (trees_at self.new other)
+            ≡ option_map map_of (trees_at self.old other) }
         ensures keeps { IsWithin (trees_in self.old) (trees_in self.new) }
         ensures others { (other : AnyArea) → other ≢ area → (root : AnyRouter)
             → trees_in self.new other root ≡ trees_in self.old other root }

@@ -13,7 +13,7 @@ ghost use Rattle.routing_table.specs.Tables.{results_in};
 ghost use Rattle.routing_table.specs.Counting.{counted_by, CountsAtMost};
 
 use area_graph::{Graph, GraphFault};
-use area_routes::{AreaResult, is_attached};
+use area_routes::{AreaResult, StubLinks, is_attached};
 use lsa_codec::{AreaId, RouterId};
 use lsdb::Database;
 use next_hops::Hops;
@@ -75,7 +75,8 @@ pub fn result_in<A: Allocator + Copy>(
     let graph = graph_of(alloc, database, area, router)?;
     let tree = tree_of(alloc, &graph, router, meter)?;
     let hops = Hops::build(alloc, &graph, &tree)?;
-    AreaResult::build(alloc, database, area, &graph, &tree, &hops)
+    let stubs = StubLinks::of(alloc, database, area)?;
+    AreaResult::build(alloc, database, area, &graph, &tree, &hops, &stubs)
 }
 
 /// What the areas give to which a router is attached, in rising order of their IDs. The meter

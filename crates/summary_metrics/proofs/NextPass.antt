@@ -8,10 +8,9 @@ use Rattle.lsa_codec.specs.declared.address.AreaId.{AreaId}
 use Rattle.lsa_codec.specs.Order.{router_cmp}
 use Rattle.lsdb.specs.declared.section.Section.TheVariants.{Area}
 use Rattle.lsdb.specs.Lists.{IsDatabase, Lists, lsas_of}
-use Rattle.area_graph.specs.Graphs.{IsGraphOf}
 use Rattle.area_routes.specs.Values.{AreaResultValue}
-use Rattle.area_routes.proofs.SameGraphLemmas.{same_graph}
-use Rattle.routing_table.specs.AreaTrees.{AreaTreesValue}
+use Rattle.area_routes.proofs.SameGraphLemmas.{same_graph, same_stub_links}
+use Rattle.routing_table.specs.AreaTrees.{AreaTreesValue, IsAreaOf}
 use Rattle.routing_table.specs.AreasTrees.{AreasTrees, AreOfDatabase, trees_at}
 use Rattle.summary_metrics.specs.Refreshed.{id_of, refreshed_areas}
 use Rattle.summary_metrics.specs.BackboneSummaries.{BackboneSummariesValue}
@@ -31,10 +30,12 @@ module _ (db : Lists) (is : IsDatabase db) where
   trees_next : (trees : AreasTrees) → AreOfDatabase db trees → AreOfDatabase next trees
   trees_next trees all area = by (trees_at trees area) (all area)
     where
-      by : (o : Option AreaTreesValue) → IfSome o (λ kept. IsGraphOf (lsas_of (Area area) db) kept.graph)
-          → IfSome o (λ kept. IsGraphOf (lsas_of (Area area) next) kept.graph)
+      by : (o : Option AreaTreesValue) → IfSome o (IsAreaOf (lsas_of (Area area) db)) → IfSome o (IsAreaOf (lsas_of (Area area) next))
       by None h = tt
-      by (Some kept) h = same_graph (lsas_of (Area area) db) (lsas_of (Area area) next) (sym (same.lsas area)) kept.graph h
+      by (Some kept) h = record {
+        graph = same_graph (lsas_of (Area area) db) (lsas_of (Area area) next) (sym (same.lsas area)) kept.graph h.graph;
+        stubs = same_stub_links (lsas_of (Area area) db) (lsas_of (Area area) next) (sym (same.lsas area)) kept.stubs h.stubs;
+      }
 
   known_next : (known : OriginatorsValue) → AreOf db known → AreOf next (known_as known.attached known.trees known.inside None)
   known_next known all = record {

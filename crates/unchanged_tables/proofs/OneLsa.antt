@@ -12,7 +12,7 @@ use Rattle.lsdb.proofs.AreaLemmas.{area_named}
 use Rattle.lsdb.proofs.PlaceLemmas.{between, section_with}
 use Rattle.area_graph.specs.Graphs.{IsGraphOf}
 use Rattle.area_routes.specs.Attached.{has_live_router_lsa, is_attached}
-use Rattle.routing_table.specs.AreaTrees.{AreaTreesValue}
+use Rattle.routing_table.specs.AreaTrees.{AreaTreesValue, IsAreaOf}
 use Rattle.routing_table.specs.AreasTrees.{AreOfDatabase, AreasTrees, trees_at}
 use Rattle.routing_table.specs.Tables.{table_in}
 use Rattle.routing_table.proofs.MapLemmas.{if_found}
@@ -126,8 +126,8 @@ module _ (d : Places) (slot : SlotId) (router : RouterId) (before after : List �
       → table_in (lists_of d) router ≡ table_in (lists_of (put d slot (Some before))) router
   steady_unchanged trees kept t all found of steady =
       let there : List (List ℕ) = lsas_of (Area area) (lists_of (put d slot (Some before))) in
-      let graph : IsGraphOf there kept.graph = if_found (λ (k : AreaTreesValue). IsGraphOf there k.graph) (trees_at trees area) kept found (all area) in
-      let whole : IsGraphOf olds kept.graph = subst (λ (o : Option SectionLsas). IsGraphOf (lsas_or_none o) kept.graph) found_old graph in
+      let here : IsAreaOf there kept = if_found (λ (k : AreaTreesValue). IsAreaOf there k) (trees_at trees area) kept found (all area) in
+      let whole : IsGraphOf olds kept.graph = subst (λ (o : Option SectionLsas). IsGraphOf (lsas_or_none o) kept.graph) found_old here.graph in
       let distances : distances_by t ≡ distances_from router olds = tree_distances olds kept.graph router t whole of in
       let changes : IsSteadyLsa (distances_from router olds) before after =
       subst (λ (distance : DistanceOf). IsSteadyLsa distance before after) distances steady in

@@ -27,6 +27,7 @@ use Rattle.next_hops.specs.FirstHops.{hops_of}
 use Rattle.area_routes.specs.AreaResults.{area_result, result_of_reached}
 use Rattle.area_routes.specs.Entries.{bit_b, bit_e, entries_of, has_bit}
 use Rattle.area_routes.specs.Networks.{network_offers, chosen, network_offer}
+use Rattle.area_routes.specs.Offers.{best_offers}
 use Rattle.area_routes.specs.Reached.{ReachedValue, reached_by, reached_from}
 use Rattle.area_routes.specs.Stubs.{stub_hops, stub_offer, stubs_of}
 use Rattle.area_routes.specs.Values.{EntryValue, OfferValue}
@@ -158,7 +159,7 @@ module _ (before : DistanceOf) (root : RouterId) where
       let offers = same_offers rs ss steady in
       let stubs = same-flat_map (IsSteadyReached before) (stubs_of root) (stubs_of root) same_stubs rs ss steady in
       let routers = same-flat_map (IsSteadyReached before) (entries_of area root) (entries_of area root) (same_entries area) rs ss steady in
-      λ i. record { area = area; offers = offers i ++ stubs i; entries = routers i }
+      λ i. record { area = area; offers = best_offers (offers i ++ stubs i); entries = routers i }
 
 -- ---- the whole
 

@@ -1,14 +1,18 @@
 -- What an area gives, with more added.
-use Rattle.std.specs.Prelude.{List, [], ◌++◌}
+use Rattle.std.specs.Prelude.{List, [], ◌++◌, map}
+use Rattle.lsa_codec.specs.Prefix.{Net}
 use Rattle.lsa_codec.specs.declared.address.AreaId.{AreaId}
+use Rattle.area_routes.specs.Candidate.{Candidate}
+use Rattle.area_routes.specs.Offers.{offer_candidate}
 use Rattle.area_routes.specs.Values.{AreaResultValue, EntryValue, OfferValue}
 
--- nothing
-abbrev pub nothing_of : AreaId → AreaResultValue
-nothing_of area = record { area = area; offers = []; entries = [] }
+-- candidates, and those of more ways to prefixes
+abbrev pub with_offers : List (Candidate Net) → List OfferValue → List (Candidate Net)
+with_offers cs more = cs ++ map offer_candidate more
 
-abbrev pub with_offers : AreaResultValue → List OfferValue → AreaResultValue
-with_offers r more = record { area = r.area; offers = r.offers ++ more; entries = r.entries }
+-- these offers, and no entries
+abbrev pub without_entries : AreaId → List OfferValue → AreaResultValue
+without_entries area offers = record { area = area; offers = offers; entries = [] }
 
 abbrev pub with_entries : AreaResultValue → List EntryValue → AreaResultValue
 with_entries r more = record { area = r.area; offers = r.offers; entries = r.entries ++ more }

@@ -10,7 +10,8 @@ use super::answers::{of_routers, of_table_of};
 use super::network::{ROUTER, database_of, lonely_database_of};
 use area_graph::Graph;
 use area_routes::{
-    AreaResult, InsideRoutes, InterResult, Offer, Route, RouterEntry, Routes, inter, intra,
+    AreaResult, InsideRoutes, InterResult, Offer, Route, RouterEntry, Routes, StubLinks, inter,
+    intra,
 };
 use external_routes::externals;
 use lsa_codec::AreaId;
@@ -110,6 +111,22 @@ fn of_inter(
     Ok(Some(text.into_bytes()))
 }
 
+/// What an area gives, by its stub links, which are found for it.
+fn area_by<'a>(
+    rationed: &'a Rationed,
+    database: &Database<&'a Rationed>,
+    area: AreaId,
+    graph: &Graph<&'a Rationed>,
+    tree: &Tree<&'a Rationed>,
+    hops: &Hops<&'a Rationed>,
+) -> Result<AreaResult<&'a Rationed>, AllocError>
+    requires { (root : AnyRouter)
+        × AreOf (lsas_of (Area area) (lists_of database.now)) root graph.now tree.now hops.now }
+{
+    let stubs = StubLinks::of(rationed, database, area)?;
+    AreaResult::build(rationed, database, area, graph, tree, hops, &stubs)
+}
+
 /// What an area gives with so many growths, and then with ample memory.
 fn area_on<'a>(
     alloc: Global,
@@ -125,10 +142,10 @@ fn area_on<'a>(
         × AreOf (lsas_of (Area area) (lists_of database.now)) root graph.now tree.now hops.now }
 {
     rationed.leave(growths);
-    let first = AreaResult::build(rationed, database, area, graph, tree, hops);
+    let first = area_by(rationed, database, area, graph, tree, hops);
     let first = of_area(alloc, first)?;
     rationed.leave(u64::MAX);
-    let then = AreaResult::build(rationed, database, area, graph, tree, hops);
+    let then = area_by(rationed, database, area, graph, tree, hops);
     Ok((first, of_area(alloc, then)?))
 }
 

@@ -24,15 +24,15 @@ returns g c =
     ap (λ (n : Net). is_behind (get prefix_cmp c.args.standings.now n) (standing_of r)) (sym is.1)
     ∙ ap (λ (s : Standing). is_behind (get prefix_cmp c.args.standings.now c.in-Some.net) s) (sym c.standing_of.ensures)
     ∙ sym c.is_behind.ensures ∙ c.if-is_behind.false in
-    let offered : record { net = c.in-Some.net; cost = c.distance.result; hops = c.in_ok-hop_list.field-0 } ≡ network_offer r =
-    ap (λ (n : Net). record { net = n; cost = c.distance.result; hops = c.in_ok-hop_list.field-0 }) is.1
-    ∙ ap (λ (d : ℕ). record { net = net_of_lsa r.lsa; cost = d; hops = c.in_ok-hop_list.field-0 }) c.distance.ensures.distance
-    ∙ ap (λ (hops : List Hop). record { net = net_of_lsa r.lsa; cost = r.distance; hops = hops }) c.in_ok-hop_list.ensures in
-    on_ok_weaker c.offer.result
+    let offered : record { net = c.in-Some.net; cost = c.distance.result; hops = c.hops.result.now } ≡ network_offer r =
+    ap (λ (n : Net). record { net = n; cost = c.distance.result; hops = c.hops.result.now }) is.1
+    ∙ ap (λ (d : ℕ). record { net = net_of_lsa r.lsa; cost = d; hops = c.hops.result.now }) c.distance.ensures.distance
+    ∙ ap (λ (hops : List Hop). record { net = net_of_lsa r.lsa; cost = r.distance; hops = hops }) c.hops.ensures in
+    on_ok_weaker c.add.result
     (λ new ns are.
     let all : unbeaten ns r ≡ network_offer r ∷ [] =
     ap (λ b. cond (b && not (list_any (λ m. beats m r) ns)) (network_offer r ∷ []) []) is.0
     ∙ ap (λ b. cond (not b) (network_offer r ∷ []) []) (are (net_of_lsa r.lsa) (standing_of r) ∙ ahead) in
-    new ∙ ap (λ (o : OfferValue). with_offers c.args.area.now (o ∷ [])) offered
-    ∙ sym (ap (λ (os : List OfferValue). with_offers c.args.area.now os) all))
-    c.offer.ensures
+    new ∙ ap (λ (o : OfferValue). with_offers c.args.ways.now (o ∷ [])) offered
+    ∙ sym (ap (λ (os : List OfferValue). with_offers c.args.ways.now os) all))
+    c.add.ensures

@@ -12,6 +12,6 @@ use Rattle.area_routes.proofs.networks.add_networks.Goals as goal
 pub returns : goal.returns
 returns g c =
     let rs = c.args.reached.now in
-    c.loop-vertex.invariant ∙ ap (λ (xs : List ReachedValue). with_offers c.args.area.now (flat_map (unbeaten (networks rs)) xs))
+    c.loop-vertex.invariant ∙ ap (λ (xs : List ReachedValue). with_offers c.args.ways.now (flat_map (unbeaten (networks rs)) xs))
     (take_all c.loop-vertex.vertex-index rs c.loop-vertex-test.false)
-    ∙ ap (λ (os : List OfferValue). with_offers c.args.area.now os) (unbeaten_offers (networks rs) rs)
+    ∙ ap (λ (os : List OfferValue). with_offers c.args.ways.now os) (unbeaten_offers (networks rs) rs)

@@ -6,4 +6,4 @@ use Rattle.area_routes.specs.steps.Growing.{with_offers}
 use Rattle.area_routes.proofs.networks.add_networks.Given as goal
 
 abbrev pub invariant-loop-vertex : goal.invariant-loop-vertex
-invariant-loop-vertex g l = l.area ≡ with_offers l.initial.area (flat_map (unbeaten (networks l.reached)) (take l.vertex-index l.reached))
+invariant-loop-vertex g l = l.ways ≡ with_offers l.initial.ways (flat_map (unbeaten (networks l.reached)) (take l.vertex-index l.reached))

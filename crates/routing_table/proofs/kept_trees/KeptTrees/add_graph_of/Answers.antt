@@ -2,8 +2,7 @@ use Rattle.std.proofs.Common.{◌∙◌, sym, ap, subst}
 use Rattle.lsdb.specs.declared.section.Section.TheVariants.{Area}
 use Rattle.lsdb.specs.Lists.{lsas_of}
 use Rattle.lsdb.specs.Places.{lists_of}
-use Rattle.area_graph.specs.Graphs.{IsGraphOf}
-use Rattle.routing_table.specs.AreaTrees.{AreaTreesValue}
+use Rattle.routing_table.specs.AreaTrees.{AreaTreesValue, IsAreaOf}
 use Rattle.routing_table.specs.AreasTrees.{AreasTrees, AreOfDatabase, trees_in}
 use Rattle.routing_table.proofs.MapLemmas.{none_found}
 use Rattle.routing_table.proofs.KeptMaps.{graphs_stay, no_tree_more}
@@ -16,8 +15,8 @@ returns-in_err-insert-clause-graphs g c =
 pub returns-clause-graphs : goal.returns-clause-graphs
 returns-clause-graphs g c =
     graphs_stay c.self.inside.areas.entries c.insert.new.self.entries c.args.area _ c.in_ok-insert.ensures.updates.0 (lists_of c.args.database.now)
-    (subst (λ (a : AreaTreesValue). IsGraphOf (lsas_of (Area c.args.area) (lists_of c.args.database.now)) a.graph)
-    (sym c.new.ensures) c.in-Ok.ensures.graph)
+    (subst (λ (a : AreaTreesValue). IsAreaOf (lsas_of (Area c.args.area) (lists_of c.args.database.now)) a)
+    (sym c.new.ensures) (record { graph = c.in-Ok.ensures.graph; stubs = c.in_ok-stubs.ensures }))
     (subst (λ (areas : AreasTrees). AreOfDatabase (lists_of c.args.database.now) areas) (sym c.self.view_is) c.requires)
 
 pub returns-clause-trees : goal.returns-clause-trees

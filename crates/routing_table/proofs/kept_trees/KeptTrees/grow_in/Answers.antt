@@ -1,7 +1,7 @@
 use Rattle.std.proofs.Common.{◌∙◌, sym, ap}
 use Rattle.routing_table.specs.AreasTrees.{AreasTrees, trees_at, trees_in}
 use Rattle.routing_table.proofs.MapLemmas.{some_found}
-use Rattle.routing_table.proofs.KeptMaps.{graph_at, other_areas, same_graphs, still_within, vertex_found}
+use Rattle.routing_table.proofs.KeptMaps.{area_at, other_areas, same_graphs, still_within, vertex_found}
 use Rattle.routing_table.proofs.kept_trees.KeptTrees.grow_in.Goals as goal
 
 pub grow-requires : goal.grow-requires
@@ -13,8 +13,8 @@ pub returns-clause-graphs : goal.returns-clause-graphs
 returns-clause-graphs g c = λ other.
     same_graphs c.self.inside.areas.entries _ c.args.area c.grow.new.self
     ((c.get_mut.follows.holds c.grow.new.self).3 (some_found (sym c.in-Some.ensures.value))).0
-    c.in-Some.trees.now (sym c.in-Some.ensures.value) c.grow.ensures.graph other
-    ∙ ap (λ (areas : AreasTrees). graph_at (trees_at areas other)) c.self.view_is
+    c.in-Some.trees.now (sym c.in-Some.ensures.value) c.grow.ensures.graph c.grow.ensures.stubs other
+    ∙ ap (λ (areas : AreasTrees). area_at (trees_at areas other)) c.self.view_is
 
 pub returns-clause-keeps : goal.returns-clause-keeps
 returns-clause-keeps g c = λ other root had.

@@ -1,0 +1,100 @@
+-- What one area offers is what the routes are of a router that is attached to it alone.
+use Rattle.std.proofs.Common.{◌≡◌, ℕ, ◌<◌, Bool, true, false, cond, List, [], ◌∷◌, ◌++◌, map, Option, None, Some, refl, sym, ap, ◌∙◌, subst}
+use Rattle.std.specs.List.{AllByRecursion, All, filter}
+use Rattle.std.specs.List.Sorted.{IsStrictlySortedBy}
+use Rattle.std.specs.Cmp.{Equal-is}
+use Rattle.std.specs.Map.{keys_of, lookup}
+use Rattle.std.specs.Ordering.{eq_by_cmp, is_eq}
+use Rattle.std.specs.declared.cmp.Ordering.TheVariants.{Less}
+use Rattle.std.proofs.lemmas.List.{append-nil}
+use Rattle.std.proofs.lemmas.List.Elements.{All-head, All-map, All-tail}
+use Rattle.std.proofs.lemmas.Simd.{map-map}
+use Rattle.lsa_codec.specs.declared.address.AreaId.{AreaId}
+use Rattle.lsa_codec.specs.Order.{prefix_cmp}
+use Rattle.lsa_codec.specs.Prefix.{Net}
+use Rattle.lsa_codec.proofs.OrderLemmas.{prefix_exact, prefix_total}
+use Rattle.next_hops.specs.Hop.{IsSortedHops}
+use Rattle.next_hops.proofs.HopLemmas.{rising-sorted}
+use Rattle.area_routes.specs.declared.rank.PathType.TheVariants.{Intra}
+use Rattle.area_routes.specs.Best.{way_of, way_to, ways_of}
+use Rattle.area_routes.specs.Candidate.{Candidate}
+use Rattle.area_routes.specs.Intra.{intra_candidate, intra_candidates, intra_of}
+use Rattle.area_routes.specs.Offers.{AreSortedOffers}
+use Rattle.area_routes.specs.Routes.{AreSortedRoutes, nets, route_of, routes_of}
+use Rattle.area_routes.specs.Values.{AreaResultValue, OfferValue, OffersBelow, RouteValue, RoutesBelow, WayValue}
+use Rattle.area_routes.specs.steps.Merge.{fresh}
+use Rattle.area_routes.specs.steps.OneArea.{intra_route}
+use Rattle.area_routes.proofs.Merging.{HasWays, all_ways, way_push}
+
+-- the prefixes of offers
+abbrev offered : List OfferValue → List Net
+offered os = map (λ o. o.net) os
+
+module _ (area : AreaId) where
+  pub nets_by : (os : List OfferValue) → nets (map (intra_route area) os) ≡ offered os
+  nets_by os = map-map (λ (r : RouteValue). r.net) (intra_route area) os
+
+  pub sorted_by : (os : List OfferValue) → AreSortedOffers os → AreSortedRoutes (map (intra_route area) os)
+  sorted_by os up = subst (λ (ks : List Net). IsStrictlySortedBy prefix_cmp ks) (sym (nets_by os)) up
+
+  pub below_by : (bound : ℕ) (os : List OfferValue) → OffersBelow bound os → RoutesBelow bound (map (intra_route area) os)
+  below_by bound os below = All-map (λ (r : RouteValue). r.cost < bound) (intra_route area) os below
+
+  -- the way by an offer
+  abbrev way : OfferValue → WayValue
+  way o = record { rank = record { path = Intra; cost2 = 0; class = 0; cost = o.cost }; areas = area ∷ []; hops = o.hops }
+
+  abbrev entry : OfferValue → Net × WayValue
+  entry o = (o.net, way o)
+
+  abbrev candidates : List OfferValue → List (Candidate Net)
+  candidates os = map (intra_candidate area) os
+
+  -- greater prefixes are others
+  none_for : (q k : Net) → q ≡ k → (os : List OfferValue) → AllByRecursion (λ n. prefix_cmp k n ≡ Less) (offered os)
+      → filter (λ c. eq_by_cmp prefix_cmp q c.key) (candidates os) ≡ []
+  none_for q k same [] a = refl
+  none_for q k same (o ∷ os) a =
+      ap (λ b. cond b (intra_candidate area o ∷ filter (λ c. eq_by_cmp prefix_cmp q c.key) (candidates os))
+      (filter (λ c. eq_by_cmp prefix_cmp q c.key) (candidates os)))
+      (ap (λ (n : Net). eq_by_cmp prefix_cmp n o.net) same ∙ ap is_eq a.0)
+      ∙ none_for q k same os a.1
+
+  -- the way of one candidate
+  alone : (o : OfferValue) → IsSortedHops o.hops → Some (way o) ≡ way_of (intra_candidate area o ∷ [])
+  alone o sorted =
+      (λ i. Some (record { rank = (way o).rank; areas = area ∷ []; hops = rising-sorted o.hops sorted i }))
+      ∙ sym (way_push [] (intra_candidate area o))
+
+  has_ways : (os : List OfferValue) → IsStrictlySortedBy prefix_cmp (offered os) → All (λ o. IsSortedHops o.hops) os
+      → HasWays prefix_cmp (candidates os) (map entry os)
+  unfolding IsStrictlySortedBy
+  has_ways [] up sorted q = refl
+  has_ways (o ∷ os) up sorted q = by (eq_by_cmp prefix_cmp q o.net) refl (has_ways os up.1 (All-tail (λ (x : OfferValue). IsSortedHops x.hops) o os sorted) q)
+    where
+      by : (b : Bool) → eq_by_cmp prefix_cmp q o.net ≡ b → lookup (eq_by_cmp prefix_cmp q) (map entry os) ≡ way_to prefix_cmp (candidates os) q
+          → cond b (Some (way o)) (lookup (eq_by_cmp prefix_cmp q) (map entry os))
+          ≡ way_of (cond b (intra_candidate area o ∷ filter (λ c. eq_by_cmp prefix_cmp q c.key) (candidates os))
+          (filter (λ c. eq_by_cmp prefix_cmp q c.key) (candidates os)))
+      by false e rest = rest
+      by true e rest =
+          let same = prefix_exact q o.net ((Equal-is (prefix_cmp q o.net)).0 e) in
+          alone o (All-head (λ (x : OfferValue). IsSortedHops x.hops) o os sorted)
+          ∙ ap (λ (cs : List (Candidate Net)). way_of (intra_candidate area o ∷ cs)) (sym (none_for q o.net same os up.0))
+
+  keys_by : (os : List OfferValue) → keys_of (map entry os) ≡ offered os
+  keys_by [] = refl
+  keys_by (o ∷ os) = ap (λ (ks : List Net). o.net ∷ ks) (keys_by os)
+
+  ways_by : (os : List OfferValue) → AreSortedOffers os → All (λ o. IsSortedHops o.hops) os → map entry os ≡ ways_of prefix_cmp (candidates os)
+  ways_by os up sorted =
+      all_ways prefix_total prefix_exact (map entry os) (candidates os)
+      (subst (λ (ks : List Net). IsStrictlySortedBy prefix_cmp ks) (sym (keys_by os)) up) (has_ways os up sorted)
+
+pub routes_of_one : (r : AreaResultValue) → AreSortedOffers r.offers → All (λ o. IsSortedHops o.hops) r.offers
+    → map (intra_route r.area) r.offers ≡ intra_of (r ∷ [])
+unfolding intra_of
+routes_of_one r up sorted =
+    sym (map-map route_of (entry r.area) r.offers)
+    ∙ ap (map route_of) (ways_by r.area r.offers up sorted)
+    ∙ ap routes_of (sym (append-nil (intra_candidates r)))
