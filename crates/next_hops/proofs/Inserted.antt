@@ -1,7 +1,7 @@
 -- Hops put at their places in a sorted list.
 use Rattle.std.proofs.Common.{◌≡◌, ℕ, zero, suc, ◌<◌, ◌≤◌, List, [], ◌∷◌, ◌++◌, length, get_or, refl, sym, ap, ◌∙◌, subst, arith, ⊎_elim, Result, Ok}
-use Rattle.std.proofs.Common.{Err, MatchResult}
-use Rattle.std.specs.Prelude.{◌↔◌}
+use Rattle.std.proofs.Common.{◌-◌, Err, MatchResult, Some}
+use Rattle.std.specs.Prelude.{◌↔◌, slice_get}
 use Rattle.std.specs.List.{AllWithin, Contains, insert}
 use Rattle.std.specs.List.Sorted.{IsNonDecreasingBy, IsBinarySearchResult, IsSearchInRange}
 use Rattle.std.specs.BTreeSet.{insert_key}
@@ -9,6 +9,7 @@ use Rattle.std.specs.Ordering.{match_ordering, ordering_index, ordering_reverse}
 use Rattle.std.specs.declared.cmp.Ordering.{Ordering}
 use Rattle.std.specs.declared.cmp.Ordering.TheVariants.{Less, Equal, Greater}
 use Rattle.std.proofs.lemmas.Bool.{cases_eq}
+use Rattle.std.proofs.lemmas.Option.{get_or_from_slice_get}
 use Rattle.std.proofs.lemmas.List.Elements.{Contains-append_left, Contains-append_right, Contains-append_cases}
 use Rattle.area_graph.specs.Rising.{rising}
 use Rattle.area_graph.proofs.RisingLemmas.{Contains-rising, rising-is, rising-pairs}
@@ -91,27 +92,60 @@ insert_is (y ∷ ys) (suc place) hop le below above =
     (λ k d low high. above (suc k) d (omega arith) (omega arith)))
     ∙ ap (λ (o : Ordering). match_ordering o (hop ∷ y ∷ ys) (y ∷ ys) (y ∷ insert_key hop_cmp ys hop)) (sym after)
 
+-- a hop that is put at a place between those that come before it and those that come after it
+put_between : (hops : List Hop) (hop : Hop) (place : ℕ) → IsSortedHops hops → place ≤ length hops → AllWithin (λ y. hop_cmp y hop ≡ Less) hops 0 place
+    → AllWithin (λ y. hop_cmp y hop ≡ Greater) hops place (length hops) → insert hops place hop ≡ rising hop_cmp (hops ++ hop ∷ [])
+put_between hops hop place sorted within below above =
+    insert_is hops place hop within below above
+    ∙ ap (λ (hs : List Hop). insert_key hop_cmp hs hop) (rising-sorted hops sorted)
+    ∙ rising-turned hops hop
+
+-- a hop that stands in the list already
+put_again : (hops : List Hop) (hop : Hop) → IsSortedHops hops → Contains hops hop → hops ≡ rising hop_cmp (hops ++ hop ∷ [])
+put_again hops hop sorted there =
+    rising-is hop_cmp_total same_hop hops (hops ++ hop ∷ []) sorted
+    (λ h. (
+      λ old. Contains-append_left hops (hop ∷ []) h old,
+      λ either. ⊎_elim (λ old. old) (λ one. only h one) (Contains-append_cases hops (hop ∷ []) h either),
+    ))
+  where
+    only : (h : Hop) → Contains (hop ∷ []) h → Contains hops h
+    only h (zero, low, is) = subst (λ (x : Hop). Contains hops x) is there
+    only h (suc k, low, is) = absurd (let k' : suc k < 1 = low in omega arith)
+
 -- what a search for a hop says of a sorted list: the hop is there, or it is to be put at the place
 searched : (hops : List Hop) (hop : Hop) (r : Result ℕ ℕ) → IsSortedHops hops
     → IsSearchInRange r (length hops) → IsBinarySearchResult (λ y. hop_cmp y hop) hops r
     → MatchResult r (λ i. hops ≡ rising hop_cmp (hops ++ hop ∷ [])) (λ place. insert hops place hop ≡ rising hop_cmp (hops ++ hop ∷ []))
-searched hops hop (Ok i) sorted within found =
-    let there : Contains hops hop = (i, within, same_hop (get_or hops i hop) hop (found hop)) in
-    rising-is hop_cmp_total same_hop hops (hops ++ hop ∷ []) sorted
-    (λ h. (
-      λ old. Contains-append_left hops (hop ∷ []) h old,
-      λ either. ⊎_elim (λ old. old)
-          (λ one. only h there one) (Contains-append_cases hops (hop ∷ []) h either),
-    ))
-  where
-    only : (h : Hop) → Contains hops hop → Contains (hop ∷ []) h → Contains hops h
-    only h there (zero, low, is) = subst (λ (x : Hop). Contains hops x) is there
-    only h there (suc k, low, is) = absurd (let k' : suc k < 1 = low in omega arith)
+searched hops hop (Ok i) sorted within found = put_again hops hop sorted (i, within, same_hop (get_or hops i hop) hop (found hop))
 searched hops hop (Err place) sorted within parted =
-    let parts = parted (comparisons_rise hops sorted hop) in
-    insert_is hops place hop within parts.0 parts.1
-    ∙ ap (λ (hs : List Hop). insert_key hop_cmp hs hop) (rising-sorted hops sorted)
-    ∙ rising-turned hops hop
+    let parts = parted (comparisons_rise hops sorted hop) in put_between hops hop place sorted within parts.0 parts.1
+
+-- where the last hop comes before another, that one is put behind all
+pub put_behind : (hops : List Hop) (hop last : Hop) → IsSortedHops hops → slice_get hops (length hops - 1) ≡ Some last → hop_cmp last hop ≡ Less
+    → insert hops (length hops) hop ≡ rising hop_cmp (hops ++ hop ∷ [])
+put_behind hops hop last sorted is before = put_between hops hop (length hops) sorted (omega arith) below (λ k d low high. absurd (omega arith))
+  where
+    below : AllWithin (λ y. hop_cmp y hop ≡ Less) hops 0 (length hops)
+    below k d low high =
+        let at_last : get_or hops (length hops - 1) d ≡ last = get_or_from_slice_get hops (length hops - 1) last d is in
+        let last_before : hop_cmp (get_or hops (length hops - 1) d) hop ≡ Less = ap (λ (h : Hop). hop_cmp h hop) at_last ∙ before in
+        ⊎_elim
+        (λ same. ap (λ (n : ℕ). hop_cmp (get_or hops n d) hop) same ∙ last_before)
+        (λ other. hop_cmp_total.trans (get_or hops k d) (get_or hops (length hops - 1) d) hop (sorted k (length hops - 1) d (omega arith) (omega arith)) last_before)
+        (cases_eq k (length hops - 1))
+
+-- the last hop stands in the list
+pub put_at_last : (hops : List Hop) (hop last : Hop) → IsSortedHops hops → slice_get hops (length hops - 1) ≡ Some last → hop_cmp last hop ≡ Equal
+    → hops ≡ rising hop_cmp (hops ++ hop ∷ [])
+put_at_last hops hop last sorted is same =
+    let some : 0 < length hops = any hops is in
+    put_again hops hop sorted
+    (length hops - 1, omega arith, get_or_from_slice_get hops (length hops - 1) hop hop (subst (λ (h : Hop). slice_get hops (length hops - 1) ≡ Some h) (same_hop last hop same) is))
+  where
+    any : (hs : List Hop) → slice_get hs (length hs - 1) ≡ Some last → 0 < length hs
+    any [] is = absurd (cc)
+    any (y ∷ ys) is = omega arith
 
 -- where a search finds no hop, those before the place come before it, and the others after it
 pub parted_by : (cmp : Hop → Hop → Ordering) → ((g h : Hop) → cmp g h ≡ hop_cmp g h)

@@ -85,7 +85,11 @@ impl<A: Allocator + Copy> Storage<A> {
         ensures ok { OnOk result (self.new ≡ insert self.old place hop) }
         ensures err { OnErr result (self.new ≡ self.old) }
     {
-        self.hops.insert(place, hop)?;
+        if place == self.hops.len() {
+            self.hops.push(hop)?;
+        } else {
+            self.hops.insert(place, hop)?;
+        }
         Ok(())
     }
 
