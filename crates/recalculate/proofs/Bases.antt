@@ -1,6 +1,6 @@
 -- The database that a session began at: no step changes it, and it is that of the session with all edits taken back. Tables of it
 -- that are kept.
-use Rattle.std.proofs.Common.{◌≡◌, ℕ, ◌-◌, Bool, true, false, List, [], ◌∷◌, ◌++◌, take, length, Result, Ok, Err, Option, Some, IfSome}
+use Rattle.std.proofs.Common.{◌≡◌, ℕ, ◌-◌, Bool, true, false, List, [], ◌∷◌, ◌++◌, take, length, Result, Ok, Err, Option, Some, None, IfSome}
 use Rattle.std.proofs.Common.{◌∙◌, sym, ap, arith, subst}
 use Rattle.std.specs.Prelude.{cond, nat_lt}
 use Rattle.lsa_codec.specs.declared.address.RouterId.{RouterId}
@@ -56,20 +56,39 @@ pub kept_of : (db : Lists) (kept : KeptRouters) (router : RouterId) (table : Tab
     → IsTableOver db kept table.router table → IsTableOver db kept router table
 kept_of db kept router table same over = subst (λ (r : RouterId). IsTableOver db kept r table) same over
 
--- what is kept of it stays so in each session that began at it
-pub goes_on : (s t : Session) (trees after first_trees : AreasTrees) (first_table : Option TableValue) → t.base ≡ s.base
-    → AreOfDatabase (state t) after → KeepsTrees s trees first_trees first_table → KeepsTrees t after first_trees first_table
-goes_on s t trees after first_trees first_table base now keeps = record {
+-- a table of the session's database may be kept as the last one
+pub may_be_last : (db : Lists) (router : RouterId) (table : TableValue) → table_in db router ≡ Some table → table_in db table.router ≡ Some table
+may_be_last db router table shows = subst (λ (r : RouterId). table_in db r ≡ Some table) (sym (named db router table shows)) shows
+
+-- the last table that is kept, where it is that of a router
+pub last_of : (db : Lists) (router : RouterId) (table : TableValue) → table.router ≡ router → table_in db table.router ≡ Some table
+    → table_in db router ≡ Some table
+last_of db router table same shows = subst (λ (r : RouterId). table_in db r ≡ Some table) same shows
+
+-- what is kept of it stays so in each session that began at it; a last table goes
+pub goes_on : (s t : Session) (trees after first_trees : AreasTrees) (first_table last_table : Option TableValue) → t.base ≡ s.base
+    → AreOfDatabase (state t) after → KeepsTrees s trees first_trees first_table last_table → KeepsTrees t after first_trees first_table None
+goes_on s t trees after first_trees first_table last_table base now keeps = record {
   now = now;
   beginning = subst (λ (db : Lists). AreOfDatabase db first_trees) (sym base) keeps.beginning;
   table = subst (λ (db : Lists). IfSome first_table (λ table. IsTableOver db (routers_of first_trees) table.router table)) (sym base) keeps.table;
+  last = tt;
 }
 
 -- a table over it is kept, or none, in place of the one that was kept
-pub keeps_other : (s t : Session) (trees first_trees after : AreasTrees) (before table : Option TableValue) → t ≡ s → AreOfDatabase s.base after
-    → IfSome table (λ table. IsTableOver s.base (routers_of after) table.router table) → KeepsTrees s trees first_trees before → KeepsTrees t trees after table
-keeps_other s t trees first_trees after before table same beginning over keeps =
-    subst (λ (u : Session). KeepsTrees u trees after table) (sym same) (record { now = keeps.now; beginning = beginning; table = over })
+pub keeps_other : (s t : Session) (trees first_trees after : AreasTrees) (before table last_table : Option TableValue) → t ≡ s
+    → AreOfDatabase s.base after → IfSome table (λ table. IsTableOver s.base (routers_of after) table.router table)
+    → KeepsTrees s trees first_trees before last_table → KeepsTrees t trees after table last_table
+keeps_other s t trees first_trees after before table last_table same beginning over keeps =
+    subst (λ (u : Session). KeepsTrees u trees after table last_table) (sym same)
+    (record { now = keeps.now; beginning = beginning; table = over; last = keeps.last })
+
+-- another table of the session's database, or none, is kept as the last one
+pub keeps_last : (s : Session) (trees first_trees : AreasTrees) (first_table before last_table : Option TableValue)
+    → IfSome last_table (λ table. table_in (state s) table.router ≡ Some table) → KeepsTrees s trees first_trees first_table before
+    → KeepsTrees s trees first_trees first_table last_table
+keeps_last s trees first_trees first_table before last_table last keeps =
+    record { now = keeps.now; beginning = keeps.beginning; table = keeps.table; last = last }
 
 -- ---- what a planner shows after it was asked for one
 

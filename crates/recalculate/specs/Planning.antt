@@ -21,9 +21,10 @@ pub record IsTableOver (db : Lists) (kept : KeptRouters) (router : RouterId) (ta
   pub shows : table_in db router ≡ Some table
   pub trees : areas_without_tree (is_kept kept) router (attached_areas db router) ≡ []
 
--- the trees that are kept are those of the session's database, and of the database that it began at; and if a table is kept, it is
--- one of the latter
-pub record KeepsTrees (s : Session) (trees first_trees : AreasTrees) (first_table : Option TableValue) : Type 0 where
+-- the trees that are kept are those of the session's database, and of the database that it began at; and if a table of the latter
+-- is kept, or a last table, that is one of the session's database, they are tables there
+pub record KeepsTrees (s : Session) (trees first_trees : AreasTrees) (first_table last_table : Option TableValue) : Type 0 where
   pub now : AreOfDatabase (state s) trees
   pub beginning : AreOfDatabase s.base first_trees
   pub table : IfSome first_table (λ table. IsTableOver s.base (routers_of first_trees) table.router table)
+  pub last : IfSome last_table (λ table. table_in (state s) table.router ≡ Some table)

@@ -21,14 +21,15 @@ use std::rc::Rc;
 /// It is seen as its session, which is the loaded database, the edits done and the edits undone, as
 /// how many trees it has calculated, and as which of them it keeps for further tables, of its
 /// database and of the loaded one. After any calls its database is the effect of the done edits, in
-/// order, on the loaded one. A table of the loaded database that it keeps is not seen, nor which
-/// router's table was asked for last.
+/// order, on the loaded one. The tables that it keeps, one of the loaded database and the last one
+/// of its own, are not seen, nor which router's table was asked for last.
 #[derive(Drop)]
 pub struct Planner<A: Allocator = Global> {
     study: Study<A>,
     trees: KeptTrees<A>,
     first_trees: KeptTrees<A>,
     first_table: Option<Rc<Table<A>, A>>,
+    last_table: Option<Rc<Table<A>, A>>,
     asked: Option<RouterId>,
     meter: Meter,
 }
@@ -48,7 +49,8 @@ impl<A: Allocator> Model for Planner<A> {
     } };
 
     ghost invariant = { λ p. KeepsTrees p.study p.trees p.first_trees
-        (option_map (λ table. table.value) p.first_table) };
+        (option_map (λ table. table.value) p.first_table)
+        (option_map (λ table. table.value) p.last_table) };
 }
 
 impl<A: Allocator + Copy> Planner<A> {
@@ -84,6 +86,7 @@ impl<A: Allocator + Copy> Planner<A> {
             trees: KeptTrees::new(alloc),
             first_trees: KeptTrees::new(alloc),
             first_table: None,
+            last_table: None,
             asked: None,
             meter: Meter::new(),
         }
@@ -128,6 +131,7 @@ impl<A: Allocator + Copy> Planner<A> {
         ensures step { OnOk result (CarriedOut (edit_request edit.now) self.old self.new) }
     {
         self.study.edit(edit)?;
+        self.last_table = None;
         drop_done(&mut self.trees, &self.study, 1);
         Ok(())
     }
@@ -150,6 +154,7 @@ impl<A: Allocator + Copy> Planner<A> {
         ensures step { OnOk result (CarriedOut (undo_request count) self.old self.new) }
     {
         self.study.undo(count as usize)?;
+        self.last_table = None;
         drop_undone(&mut self.trees, &self.study, count as usize);
         Ok(())
     }
@@ -172,6 +177,7 @@ impl<A: Allocator + Copy> Planner<A> {
         ensures step { OnOk result (CarriedOut (redo_request count) self.old self.new) }
     {
         self.study.redo(count as usize)?;
+        self.last_table = None;
         drop_done(&mut self.trees, &self.study, count as usize);
         Ok(())
     }
@@ -325,10 +331,11 @@ impl<A: Allocator + Copy> Planner<A> {
     }
 
     /// The routing table of a router in the session's database, as [`table`](Planner::table) gives
-    /// it. Where it is sure to be the one in the database that the session began at, and that is
-    /// kept, it is answered without a calculation. A table that is asked for twice in a row, while
-    /// one edit is done, is calculated in that database too, so that it may be answered so from
-    /// then on. The session stays as it is, also after an error.
+    /// it. The last one that was made here is kept until an edit, undo or redo is accepted, and
+    /// answered again. Where the table is sure to be the one in the database that the session began
+    /// at, and that is kept, it is answered without a calculation too. A table that is asked for
+    /// twice in a row, while one edit is done, is calculated in that database, so that it may be
+    /// answered so from then on. The session stays as it is, also after an error.
     ///
     /// # Errors
     ///
@@ -340,12 +347,41 @@ impl<A: Allocator + Copy> Planner<A> {
         ensures session { self.new.session ≡ self.old.session }
         ensures step { Stayed self.old self.new }
     {
+        if let Some(table) = self.last_table_of(router) {
+            return Ok(table.clone()?);
+        }
         self.ask(router);
         if let Some(table) = self.unchanged_table(router) {
             return Ok(table.clone()?);
         }
+        self.new_table(router)
+    }
+
+    /// The routing table of a router in the session's database, made anew. It is kept, in place of
+    /// the one that was.
+    fn new_table(&mut self, router: RouterId) -> Result<Rc<Table<A>, A>, TableFault>
+        ensures table { IfOk result
+            (λ table. table_in (state self.old.session) router ≡ Some table.value) }
+        ensures fault { IfErr result (FaultMeans (table_in (state self.old.session) router)) }
+        ensures session { self.new.session ≡ self.old.session }
+        ensures step { Stayed self.old self.new }
+    {
+        self.last_table = None;
         let table = self.table(router)?;
-        Ok(shared(self.study.database().alloc(), table)?)
+        let table = shared(self.study.database().alloc(), table)?;
+        self.last_table = Some(table.clone()?);
+        Ok(table)
+    }
+
+    /// The table that is kept of the session's database, if it is that of a router.
+    fn last_table_of(&self, router: RouterId) -> Option<&Rc<Table<A>, A>>
+        ensures { IfSome result (λ table. table_in (state self.now.session) router
+            ≡ Some table.now.value) }
+    {
+        match &self.last_table {
+            Some(table) if table.router() == router => Some(table),
+            _ => None,
+        }
     }
 
     /// Notes that a router's table is asked for, and keeps its table of the beginning where it is

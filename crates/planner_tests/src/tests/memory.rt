@@ -70,6 +70,24 @@ fn growths_of_table(planner: &mut Planner<&Rationed>, rationed: &Rationed) -> Re
     Ok(before.saturating_sub(rationed.left()))
 }
 
+/// The growths of a table of 1.1.1.1 that is shared with the planner.
+fn growths_of_shared(planner: &mut Planner<&Rationed>, rationed: &Rationed) -> Result<u64, Fail> {
+    let before = rationed.left();
+    let _table = planner.shared_table(RouterId(R1))?;
+    Ok(before.saturating_sub(rationed.left()))
+}
+
+/// Whether a table that is asked for again takes no growth, and takes some behind an edit.
+fn is_kept_until_an_edit(alloc: Global) -> Result<(bool, bool), Fail> {
+    let rationed = Rationed::new(alloc, u64::MAX);
+    let mut planner = planner_of(&rationed, SAMPLE)?;
+    let _first = growths_of_shared(&mut planner, &rationed)?;
+    let again = growths_of_shared(&mut planner, &rationed)?;
+    planner.edit(&cost(7))?;
+    let behind = growths_of_shared(&mut planner, &rationed)?;
+    Ok((again == 0, behind > 0))
+}
+
 /// The growths of two tables of 1.1.1.1, one after the other, and the trees that they calculate.
 fn growths_of_two(alloc: Global) -> Result<(u64, u64, u64), Fail> {
     let rationed = Rationed::new(alloc, u64::MAX);
@@ -208,5 +226,11 @@ fn growths_of_a_cost(alloc: Global) -> Result<u64, Fail> {
 fn a_cost_grows_little(rt: HostRuntime) -> Result<(), Fail> {
     let growths = growths_of_a_cost(rt.alloc())?;
     assert!(rt; 0 < growths && growths <= 16, "{growths} growths");
+    Ok(())
+}
+
+#[test]
+fn a_shared_table_is_kept_until_an_edit(rt: HostRuntime) -> Result<(), Fail> {
+    assert_eq!(rt; is_kept_until_an_edit(rt.alloc())?, (true, true));
     Ok(())
 }

@@ -15,7 +15,7 @@ drop_done-requires g c = one_done c.self.inside.study c.edit.new.self c.args.edi
 pub invariant_of-self-2 : goal.invariant_of-self-2
 invariant_of-self-2 g c =
     goes_on c.self.inside.study c.edit.new.self c.self.inside.trees c.drop_done.new.trees c.self.inside.first_trees
-    (option_map (λ table. table.value) c.self.inside.first_table)
+    (option_map (λ table. table.value) c.self.inside.first_table) (option_map (λ table. table.value) c.self.inside.last_table)
     (edited_base c.self.inside.study c.edit.new.self c.args.edit.now c.in_ok-edit.ensures.ok)
     (edited_kept c.self.inside.trees c.drop_done.new.trees c.self.inside.study c.edit.new.self c.self.invariant.now
     c.args.edit.now c.in_ok-edit.ensures.reached c.in_ok-edit.ensures.ok c.drop_done.ensures).graphs

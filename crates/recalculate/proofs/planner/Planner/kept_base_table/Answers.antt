@@ -30,7 +30,7 @@ returns-clause-step g c = stayed _ _ _ c.self.view_is c.base_table_over.ensures.
 pub invariant_of-self-2 : goal.invariant_of-self-2
 invariant_of-self-2 g c =
     let over : TableValue → Type 0 = λ table. IsTableOver c.self.inside.study.base (routers_of c.base_table_over.new.trees) table.router table in
-    keeps_other _ _ _ _ _ _ _ c.base_table_over.ensures.session c.base_table_over.ensures.graphs
+    keeps_other _ _ _ _ _ _ _ _ c.base_table_over.ensures.session c.base_table_over.ensures.graphs
     (subst over (sym c.in_ok-table-2.ensures ∙ sym c.in_ok-clone-2.ensures.cases)
     (may_be_kept c.self.inside.study.base c.args.router (routers_of c.base_table_over.new.trees) c.in_ok-table.table
     c.in_ok-table.ensures.table c.in_ok-table.ensures.kept))

@@ -11,7 +11,7 @@ use Rattle.recalculate.proofs.planner.Planner.redo.Goals as goal
 pub invariant_of-self-2 : goal.invariant_of-self-2
 invariant_of-self-2 g c =
     goes_on c.self.inside.study c.redo.new.self c.self.inside.trees c.drop_done.new.trees c.self.inside.first_trees
-    (option_map (λ table. table.value) c.self.inside.first_table) (ap (λ (s : Session). s.base) c.in_ok-redo.ensures.session)
+    (option_map (λ table. table.value) c.self.inside.first_table) (option_map (λ table. table.value) c.self.inside.last_table) (ap (λ (s : Session). s.base) c.in_ok-redo.ensures.session)
     (redone_kept c.self.inside.trees c.drop_done.new.trees c.self.inside.study c.redo.new.self c.self.invariant.now c.args.count
     c.redo.ensures.reached (c.in_ok-redo.ensures.ok.0 refl) c.in_ok-redo.ensures.session c.drop_done.ensures).graphs
     c.self.invariant
