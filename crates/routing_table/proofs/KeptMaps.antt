@@ -22,7 +22,7 @@ use Rattle.area_routes.proofs.VertexLemmas.{attached_vertex}
 use Rattle.area_routes.specs.Attached.{is_attached}
 use Rattle.area_routes.specs.declared.stub_links.StubLink.{StubLink}
 use Rattle.area_routes.specs.StubLinks.{AreStubLinksOf}
-use Rattle.routing_table.specs.AreaTrees.{AreaTreesValue, IsAreaOf, has_tree, map_of}
+use Rattle.routing_table.specs.AreaTrees.{AreaTreesValue, IsAreaOf, has_tree, graph_and_stubs}
 use Rattle.routing_table.proofs.MapLemmas.{Puts, if_found, put_all, put_here, put_other, put_passes, put_tells}
 use Rattle.routing_table.specs.AreasTrees.{AreasTrees, AreOfDatabase, trees_at, trees_in}
 use Rattle.routing_table.specs.KeptTrees.{IsWithin}
@@ -32,7 +32,7 @@ area_self area = sym (unsigned_ties area.0 area.0) ∙ eq-eqb area.0 area.0 refl
 
 -- graph and stub links
 abbrev pub area_at : Option AreaTreesValue → Option (Topology × List StubLink)
-area_at o = option_map map_of o
+area_at o = option_map graph_and_stubs o
 
 abbrev has_at : RouterId → Option AreaTreesValue → Bool
 has_at root o = option_map_or (λ kept. has_tree kept root) o false

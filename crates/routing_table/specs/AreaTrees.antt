@@ -38,8 +38,8 @@ pub record IsAreaOf (lsas : List (List ℕ)) (kept : AreaTreesValue) : Type 0 wh
   pub stubs : AreStubLinksOf lsas kept.stubs
 
 -- the graph and the stub links
-abbrev pub map_of : AreaTreesValue → Topology × List StubLink
-map_of kept = (kept.graph, kept.stubs)
+abbrev pub graph_and_stubs : AreaTreesValue → Topology × List StubLink
+graph_and_stubs kept = (kept.graph, kept.stubs)
 
 abbrev pub has_tree : AreaTreesValue → RouterId → Bool
 has_tree kept router = is_some (lookup (eq_by_cmp router_cmp router) kept.trees)

@@ -9,7 +9,7 @@ ghost use Rattle.lsdb.specs.Places.{lists_of};
 ghost use Rattle.area_graph.specs.declared.vertex.Vertex.TheVariants.{Router};
 ghost use Rattle.area_routes.specs.AreaResults.{area_result};
 ghost use Rattle.area_routes.specs.Attached.{attached_areas, is_attached};
-ghost use Rattle.routing_table.specs.AreaTrees.{map_of, missing};
+ghost use Rattle.routing_table.specs.AreaTrees.{graph_and_stubs, missing};
 ghost use Rattle.routing_table.specs.AreasTrees.{AreOfDatabase, trees_at, trees_in};
 ghost use Rattle.routing_table.specs.Counting.{counted_by, CountsAtMost};
 ghost use Rattle.routing_table.specs.KeptTrees.{areas_without_tree, IsWithin};
@@ -151,8 +151,8 @@ impl<A: Allocator + Copy> KeptTrees<A> {
         requires { IsSomeAnd (trees_at self.old area)
             (λ trees. Contains trees.graph.vertices (Router router)) }
         ensures graphs { (other : AnyArea)
-            → option_map map_of (trees_at self.new other)
-            ≡ option_map map_of (trees_at self.old other) }
+            → option_map graph_and_stubs (trees_at self.new other)
+            ≡ option_map graph_and_stubs (trees_at self.old other) }
         ensures keeps { IsWithin (trees_in self.old) (trees_in self.new) }
         ensures others { (other : AnyArea) → other ≢ area → (root : AnyRouter)
             → trees_in self.new other root ≡ trees_in self.old other root }
