@@ -14,7 +14,7 @@ pub mod Candidates
 pub mod RulesCarriedOut
 pub mod FatesByPlace
 pub mod FailureFates
-pub mod OfRouter
+pub mod OfPrefix
 pub mod PairSwaps
 pub mod RouterSwaps
 pub mod FailureRules

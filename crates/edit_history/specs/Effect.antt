@@ -1,7 +1,7 @@
 -- The effect of an edit on a database: the first refusal, or the rule that it follows.
 use Rattle.std.specs.Prelude.{ℕ, ◌+◌, ◌==◌, ◌&&◌, ◌||◌, nat_le, nat_lt, Bool, true, false, List, length, filter, Option, Some, None, Result, Ok, Err, if◌then◌else◌}
 use Rattle.std.specs.List.{list_any, find}
-use Rattle.lsa_codec.specs.LsTypes.{router_lsa, network_lsa, summary_lsa, external_lsa}
+use Rattle.lsa_codec.specs.LsTypes.{router_lsa, network_lsa}
 use Rattle.lsa_codec.specs.declared.address.Addr.{Addr}
 use Rattle.lsa_codec.specs.declared.address.AreaId.{AreaId}
 use Rattle.lsa_codec.specs.declared.address.RouterId.{RouterId}
@@ -11,13 +11,13 @@ use Rattle.lsa_codec.specs.Fields.{kind_of, link_state_id_of, advertising_router
 use Rattle.lsa_codec.specs.Key.{key_of, router_key}
 use Rattle.lsa_codec.specs.Links.{links_of}
 use Rattle.lsa_codec.specs.Prefix.{Net}
-use Rattle.lsa_codec.specs.Views.{net_of_lsa}
 use Rattle.lsa_codec.specs.Making.{with_cost, without_link, without_links, leads_to, leads_to_net, with_stub}
 use Rattle.lsa_codec.specs.Originating.{with_metric, new_summary, new_external}
 use Rattle.lsdb.specs.declared.section.Section.{Section}
 use Rattle.lsdb.specs.declared.section.Section.TheVariants.{Area, AsWide}
 use Rattle.lsdb.specs.Limits.{longest_dump, most_lsas_of_area, most_lsas_of_as}
 use Rattle.lsdb.specs.Lists.{AreaHead, SectionLsas, Lists, is_section, has_key, lsas_of, size}
+use Rattle.lsdb.specs.PrefixPlaces.{prefix_of}
 use Rattle.edit_script.specs.declared.edit.Edit.{Edit}
 use Rattle.edit_script.specs.declared.edit.Edit.TheVariants.{Cost, DropLink, FailLink, FailNet, FailRouter, AddStub, Summary, AddSummary, AddExternal, DropExternal, Refresh}
 use Rattle.edit_script.specs.declared.edit.MetricType.{MetricType}
@@ -92,10 +92,6 @@ remaking db area router make = do
   lsa ← router_lsa_of db area router
   new ← made (make lsa)
   Ok (one_lsa (Area area) (router_key router) (rewritten new))
-
--- the prefix of a summary-LSA of type 3 or of an AS-external-LSA; others have none
-abbrev pub prefix_of : List ℕ → Option Net
-prefix_of lsa = if (kind_of lsa == summary_lsa) || (kind_of lsa == external_lsa) then Some (net_of_lsa lsa) else None
 
 abbrev pub is_prefix : Net → Option Net → Bool
 is_prefix net None = false

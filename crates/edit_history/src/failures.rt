@@ -4,6 +4,7 @@ ghost use Rattle.std.specs.Prelude.{◌≡◌, ◌++◌, IsSome, IfOk, IfErr, On
 ghost use Rattle.std.specs.List.{list_any};
 ghost use Rattle.lsa_codec.specs.Fields.{kind_of};
 ghost use Rattle.lsa_codec.specs.Links.{links_of};
+ghost use Rattle.lsa_codec.specs.LsTypes.{router_lsa};
 ghost use Rattle.lsa_codec.specs.Making.{leads_to};
 ghost use Rattle.lsdb.specs.declared.section.Section.TheVariants.{Area};
 ghost use Rattle.lsdb.specs.Places.{item_at, slot_at, places_in, head_or_none};
@@ -241,7 +242,7 @@ fn leads_to(link: Link, router: RouterId) -> bool
 
 /// Whether a router-LSA has a point-to-point link to a router.
 fn has_link_to<A: Allocator + Copy>(lsa: &Lsa<A>, router: RouterId) -> bool
-    requires { kind_of lsa.now ≡ 1 }
+    requires { kind_of lsa.now ≡ router_lsa }
     ensures { result ≡ list_any (leads_to router) (links_of lsa.now) }
 {
     let Some(view) = lsa.router() else {
@@ -257,8 +258,8 @@ fn are_linked<A: Allocator + Copy>(
     lsa: &Lsa<A>,
     other: &Lsa<A>,
 ) -> bool
-    requires one { kind_of lsa.now ≡ 1 }
-    requires two { kind_of other.now ≡ 1 }
+    requires one { kind_of lsa.now ≡ router_lsa }
+    requires two { kind_of other.now ≡ router_lsa }
     ensures { result ≡ are_linked router neighbor lsa.now other.now }
 {
     has_link_to(lsa, neighbor) || has_link_to(other, router)

@@ -6,14 +6,15 @@ ghost use Rattle.lsa_codec.specs.Key.{router_key};
 ghost use Rattle.lsdb.specs.declared.section.Section.TheVariants.{Area};
 ghost use Rattle.lsdb.specs.Lists.{is_section, has_key, lsas_of};
 ghost use Rattle.lsdb.specs.Places.{item_at, slot_at, lists_of, lsas_in, IsFirstPlace, IsNamed};
+ghost use Rattle.lsdb.specs.PrefixPlaces.{prefix_of};
 ghost use Rattle.edit_history.specs.declared.fault.EditFault.TheVariants.{NoArea, NoRouter};
-ghost use Rattle.edit_history.specs.Effect.{router_lsa_of, has_router, prefix_of, is_network, is_prefix, is_originated_for};
+ghost use Rattle.edit_history.specs.Effect.{router_lsa_of, has_router, is_network, is_prefix, is_originated_for};
 ghost use Rattle.edit_history.specs.steps.Plans.{IsFirstLsa, is_wanted, passes};
-ghost use Rattle.edit_history.specs.steps.Searching.{AreOriginatedBy, HaveKeysBetween, is_wanted_by_key, last_addr_of, lesser, may_have};
+ghost use Rattle.edit_history.specs.steps.Searching.{AreOriginatedFor, HaveKeysBetween, is_wanted_by_key, last_addr_of, lesser, may_have};
 
 use crate::fault::EditFault;
 use lsa_codec::{Addr, AreaId, EXTERNAL_LSA, Key, Lsa, NETWORK_LSA, Prefix, RouterId, SUMMARY_LSA};
-use lsdb::{Database, KeyAt, Section, SlotId};
+use lsdb::{Database, KeyAt, Section, SlotId, prefix_of};
 use std::alloc::Allocator;
 
 /// An LSA that is looked for by more than its key.
@@ -39,14 +40,16 @@ impl Wanted {
         }
     }
 
-    /// The router that originated what is looked for, if it is one alone.
-    fn router(&self) -> Option<RouterId>
-        ensures { IfSome result (λ router. AreOriginatedBy router (is_wanted self.now)) }
+    /// The router that originated what is looked for, and the prefix for which it did, if they are
+    /// one alone.
+    fn origin(&self) -> Option<(RouterId, Prefix)>
+        ensures { IfSome result
+            (λ origin. AreOriginatedFor origin.0 origin.1 (is_wanted self.now)) }
     {
         match *self {
             Wanted::Network(_network) => None,
-            Wanted::Summary(router, _prefix) => Some(router),
-            Wanted::External(router, _prefix) => Some(router),
+            Wanted::Summary(router, prefix) => Some((router, prefix)),
+            Wanted::External(router, prefix) => Some((router, prefix)),
         }
     }
 
@@ -120,19 +123,6 @@ fn prefix_keys(kind: u8, router: RouterId, prefix: Prefix) -> (Key, Key)
         ..least
     };
     (least, greatest)
-}
-
-/// The prefix of a summary-LSA of type 3 or of an AS-external-LSA. Others have none.
-fn prefix_of<A: Allocator + Copy>(lsa: &Lsa<A>) -> Option<Prefix>
-    ensures { result ≡ prefix_of lsa.now }
-{
-    if let Some(summary) = lsa.summary() {
-        return summary.net();
-    }
-    let Some(external) = lsa.external() else {
-        return None;
-    };
-    Some(external.net())
 }
 
 /// Whether an LSA has this prefix.
@@ -301,20 +291,21 @@ fn first_by_keys<A: Allocator + Copy>(
 }
 
 /// The place of the first LSA of a section that is looked for, by the section's number, where the
-/// router is known that originated it. It looks at the places alone that are noted of the router,
-/// up to that LSA.
-fn first_of_router<A: Allocator + Copy>(
+/// router is known that originated it, and the prefix. It looks at the places alone that are noted
+/// of both, up to that LSA.
+fn first_of_prefix<A: Allocator + Copy>(
     database: &Database<A>,
     section: usize,
     router: RouterId,
+    prefix: Prefix,
     wanted: &Wanted,
 ) -> Option<SlotId>
     requires exists { IsSome (item_at database.now section) }
-    requires own { AreOriginatedBy router (is_wanted wanted.now) }
+    requires own { AreOriginatedFor router prefix (is_wanted wanted.now) }
     ensures { MatchOption result (find (is_wanted wanted.now) (lsas_in database.now section) ≡ None)
         (IsFirstPlace database.now section (is_wanted wanted.now)) }
 {
-    for place in database.places_of_router(section, router) {
+    for place in database.places_of_prefix(section, router, prefix) {
         let slot = SlotId {
             section,
             index: place.index as usize,
@@ -326,23 +317,24 @@ fn first_of_router<A: Allocator + Copy>(
     None
 }
 
-/// Whether no more places are noted of a router than there are keys that an LSA may have that is
-/// looked for.
-fn are_fewer_of_router<A: Allocator + Copy>(
+/// Whether no more places are noted of a router and a prefix than there are keys that an LSA may
+/// have that is looked for.
+fn are_fewer_of_prefix<A: Allocator + Copy>(
     database: &Database<A>,
     section: usize,
     router: RouterId,
+    prefix: Prefix,
     wanted: &Wanted,
 ) -> bool
     requires { IsSome (item_at database.now section) }
 {
     let (least, greatest) = wanted.key_range();
     let keys = database.keys_between(section, least, greatest);
-    database.places_of_router(section, router).len() <= keys.len()
+    database.places_of_prefix(section, router, prefix).len() <= keys.len()
 }
 
 /// The place of the first LSA of a section that is looked for, by the section's number. It looks
-/// at the fewer: the places of its router, or the LSAs whose keys may be its.
+/// at the fewer: the places of its router and prefix, or the LSAs whose keys may be its.
 fn first_in<A: Allocator + Copy>(
     database: &Database<A>,
     section: usize,
@@ -352,11 +344,11 @@ fn first_in<A: Allocator + Copy>(
     ensures { MatchOption result (find (is_wanted wanted.now) (lsas_in database.now section) ≡ None)
         (IsFirstPlace database.now section (is_wanted wanted.now)) }
 {
-    let Some(router) = wanted.router() else {
+    let Some((router, prefix)) = wanted.origin() else {
         return first_by_keys(database, section, wanted);
     };
-    if are_fewer_of_router(database, section, router, wanted) {
-        return first_of_router(database, section, router, wanted);
+    if are_fewer_of_prefix(database, section, router, prefix, wanted) {
+        return first_of_prefix(database, section, router, prefix, wanted);
     }
     first_by_keys(database, section, wanted)
 }

@@ -1,6 +1,7 @@
 -- What LSAs count: how many they are, and what virtual links leave in them (RFC 2328, 15 and A.4.2).
 use Rattle.std.specs.Prelude.{ℕ, ◌*◌, ◌≤◌, Bool, true, false, ◌&&◌, ◌==◌, not, bit_and, if◌then◌else◌, List, length}
 use Rattle.std.specs.List.{count_by, sum_by}
+use Rattle.lsa_codec.specs.Accepted.{longest_lsa}
 use Rattle.lsa_codec.specs.declared.link.LinkKind.{LinkKind}
 use Rattle.lsa_codec.specs.declared.link.LinkKind.TheVariants.{PointToPoint, Transit, Stub, Virtual, Other}
 use Rattle.lsa_codec.specs.LsTypes.{router_lsa}
@@ -36,8 +37,8 @@ counts_of lsas = record {
   virtual_links = sum_by virtual_link_count lsas;
 }
 
--- no more than at most so many LSAs count, of which each has at most 65,535 octets
+-- no more than at most so many LSAs count, of which none is longer than an LSA may be
 pub record AreFew (most : ℕ) (counts : LsaCounts) : Type 0 where
   pub lsas : counts.lsas ≤ most
   pub virtual_ends : counts.virtual_ends ≤ most
-  pub virtual_links : counts.virtual_links ≤ most * 65535
+  pub virtual_links : counts.virtual_links ≤ most * longest_lsa

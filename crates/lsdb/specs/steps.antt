@@ -3,5 +3,7 @@ pub mod View
 pub mod Reading
 pub mod OnePlace
 pub mod NotedKeys
+pub mod PlaceIndex
 pub mod RouterIndex
+pub mod PrefixIndex
 pub mod Counting

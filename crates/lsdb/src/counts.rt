@@ -1,7 +1,9 @@
 //! What LSAs count: how many they are, and what virtual links leave in them.
 
 ghost use Rattle.std.specs.Prelude.{◌≡◌, ◌≤◌, length, [], ◌∷◌};
+ghost use Rattle.lsa_codec.specs.Accepted.{longest_lsa};
 ghost use Rattle.lsdb.specs.Counts.{AreFew, counts_of, has_bit_v, is_virtual, virtual_link_count};
+ghost use Rattle.lsdb.specs.Limits.{most_lsas_of_as};
 ghost use Rattle.lsdb.specs.Places.{full};
 ghost use Rattle.lsdb.specs.steps.Counting.{CanAdd, CanTake, with_counts, without_counts};
 
@@ -52,7 +54,7 @@ impl LsaCounts {
 
     /// The counts of the LSAs at places. It goes through them.
     pub(crate) fn of_places<A: Allocator + Copy>(places: &[Option<Lsa<A>>]) -> LsaCounts
-        requires { length places.now ≤ 65535 }
+        requires { length places.now ≤ most_lsas_of_as }
         ensures { result ≡ counts_of (full places.now) }
     {
         let mut counts = LsaCounts::none();
@@ -100,7 +102,7 @@ fn has_bit_v<A: Allocator + Copy>(lsa: &Lsa<A>) -> bool
 /// How many virtual links an LSA describes.
 fn virtual_link_count<A: Allocator + Copy>(lsa: &Lsa<A>) -> usize
     ensures count { result ≡ virtual_link_count lsa.now }
-    ensures few { result ≤ 65535 }
+    ensures few { result ≤ longest_lsa }
 {
     match lsa.router() {
         Some(router) => router.links().filter(is_virtual).count(),

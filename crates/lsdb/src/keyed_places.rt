@@ -5,16 +5,19 @@ ghost use Rattle.std.specs.List.{find};
 ghost use Rattle.lsa_codec.specs.Key.{key_of};
 ghost use Rattle.lsdb.specs.Counts.{counts_of};
 ghost use Rattle.lsdb.specs.KeyRanges.{AreKeysBetween, HaveWidths};
+ghost use Rattle.lsdb.specs.Limits.{most_lsas_of_as};
 ghost use Rattle.lsdb.specs.Lists.{has_key};
 ghost use Rattle.lsdb.specs.Places.{full, item_at, put_place};
+ghost use Rattle.lsdb.specs.PrefixPlaces.{ArePlacesOfPrefix};
 ghost use Rattle.lsdb.specs.RouterPlaces.{ArePlacesOfRouter};
 ghost use Rattle.lsdb.specs.steps.OnePlace.{place_has_key, IsFirstIndex};
 ghost use Rattle.lsdb.specs.steps.NotedKeys.{AreApart, AreNoted, FitSection, IsFoundAt, IsGapFor, IsPartBetween, IsRising, Notes, keys_from};
 
 use crate::copy::copy_of_places;
 use crate::counts::LsaCounts;
+use crate::prefix_places::{Origin, PlaceOfPrefix, PrefixPlaces};
 use crate::router_places::{PlaceOfRouter, RouterPlaces};
-use lsa_codec::{Key, Lsa, RouterId};
+use lsa_codec::{Key, Lsa, Prefix, RouterId};
 use std::alloc::{AllocError, Allocator};
 use std::marker::Model;
 use std::mem;
@@ -28,8 +31,9 @@ pub struct KeyAt {
     pub index: usize,
 }
 
-/// The places of one section, and beside them where each key and the LSAs of each router stand, so
-/// that these are found without going through the places. Contracts see the places.
+/// The places of one section, and beside them where each key and the LSAs of each router, and of
+/// each router for each prefix, stand, so that these are found without going through the places.
+/// Contracts see the places.
 #[derive(Drop)]
 pub(crate) struct KeyedPlaces<A: Allocator> {
     places: Vec<Option<Lsa<A>>, A>,
@@ -37,6 +41,8 @@ pub(crate) struct KeyedPlaces<A: Allocator> {
     keys: Vec<KeyAt, A>,
     /// At which places LSAs of each router stand.
     routers: RouterPlaces<A>,
+    /// At which places LSAs of each router for each prefix stand.
+    prefixes: PrefixPlaces<A>,
     /// What the LSAs count.
     counts: LsaCounts,
 }
@@ -48,13 +54,16 @@ impl<A: Allocator> Model for KeyedPlaces<A> {
     ghost Value = { List Place };
 
     ghost use Rattle.lsdb.specs.steps.NotedKeys.{IsKeyed};
-    ghost use Rattle.lsdb.specs.steps.RouterIndex.{IsIndexed};
+    ghost use Rattle.lsdb.specs.steps.PrefixIndex.{IsPrefixIndex};
+    ghost use Rattle.lsdb.specs.steps.RouterIndex.{IsRouterIndex};
 
     ghost view = { λ p. p.places.items };
 
     ghost invariant = { λ p. record {
       keyed : IsKeyed p.places.items p.keys.items (vec_capacity p.keys) p.counts;
-      routers : IsIndexed p.places.items p.routers.noted.items (vec_capacity p.routers.noted);
+      routers : IsRouterIndex p.places.items p.routers.noted.items (vec_capacity p.routers.noted);
+      prefixes : IsPrefixIndex p.places.items p.prefixes.noted.items
+          (vec_capacity p.prefixes.noted);
     } };
 }
 
@@ -62,17 +71,19 @@ impl<A: Allocator + Copy> KeyedPlaces<A> {
     /// These places, of whose LSAs no two have one key. The error is want of memory.
     pub(crate) fn of(alloc: A, places: Vec<Option<Lsa<A>>, A>) -> Result<KeyedPlaces<A>, AllocError>
         requires apart { AreApart places.items }
-        requires few { length places.items ≤ 65535 }
+        requires few { length places.items ≤ most_lsas_of_as }
         ensures { IfOk result (λ keyed. keyed ≡ places.items) }
     {
         let mut keys = Vec::with_capacity(alloc, places.len())?;
         fill(&mut keys, &places);
         let counts = LsaCounts::of_places(&places);
         let routers = RouterPlaces::of(alloc, &places)?;
+        let prefixes = PrefixPlaces::of(alloc, &places)?;
         Ok(KeyedPlaces {
             places,
             keys,
             routers,
+            prefixes,
             counts,
         })
     }
@@ -118,6 +129,15 @@ impl<A: Allocator + Copy> KeyedPlaces<A> {
         self.routers.of_router(router)
     }
 
+    /// The places that are noted of a router and a prefix, in rising order of their indices. It
+    /// takes no memory.
+    pub(crate) fn places_of_prefix(&self, router: RouterId, prefix: Prefix) -> &[PlaceOfPrefix]
+        ensures { ArePlacesOfPrefix self.now router prefix result.now }
+    {
+        let origin = Origin::new(router, prefix);
+        self.prefixes.of_origin(&origin)
+    }
+
     /// Exchanges what stands at one place, and nothing else. It takes no memory.
     pub(crate) fn swap(&mut self, index: usize, place: &mut Option<Lsa<A>>)
         requires within { index < length self.old }
@@ -129,6 +149,7 @@ impl<A: Allocator + Copy> KeyedPlaces<A> {
         let others = self.counts.without(LsaCounts::of_place(place));
         self.counts = others.with(LsaCounts::of_place(&self.places[index]));
         self.routers.note_place(&self.places, index);
+        self.prefixes.note_place(&self.places, index);
         let Some(lsa) = &self.places[index] else {
             return;
         };
@@ -149,10 +170,12 @@ impl<A: Allocator + Copy> KeyedPlaces<A> {
         let mut keys = Vec::with_capacity(alloc, places.len().max(self.keys.len()))?;
         keys.extend_from_slice(&self.keys)?;
         let routers = self.routers.clone_of(alloc, places.len())?;
+        let prefixes = self.prefixes.clone_of(alloc, places.len())?;
         Ok(KeyedPlaces {
             places,
             keys,
             routers,
+            prefixes,
             counts: self.counts,
         })
     }
@@ -166,6 +189,7 @@ impl<A: Allocator + Copy> KeyedPlaces<A> {
         let wanted = (self.places.len() + 1).saturating_sub(self.keys.len());
         self.keys.reserve(wanted)?;
         self.routers.reserve_for(self.places.len() + 1)?;
+        self.prefixes.reserve_for(self.places.len() + 1)?;
         self.places.push(None)?;
         Ok(())
     }

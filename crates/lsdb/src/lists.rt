@@ -2,6 +2,7 @@
 
 ghost use Rattle.std.specs.Prelude.{◌≡◌, ◌<◌, ◌≤◌, Some, IsSome, length, slice_get, option_map};
 ghost use Rattle.lsdb.specs.Counts.{AreFew, counts_of};
+ghost use Rattle.lsdb.specs.Limits.{most_lsas_of_as};
 ghost use Rattle.lsdb.specs.Lists.{id_and_kind, lsas_of, areas_of};
 ghost use Rattle.lsdb.specs.Places.{item_at, head_or_none, lists_of, lsas_in};
 
@@ -49,7 +50,7 @@ impl<A: Allocator + Copy> Database<A> {
     pub fn lsas_in(&self, section: usize) -> Lsas<'_, A>
         requires { IsSome (item_at (lists_of self.now) section) }
         ensures lsas { result ≡ lsas_in self.now section }
-        ensures few { length result ≤ 65535 }
+        ensures few { length result ≤ most_lsas_of_as }
     {
         Lsas::of(self.sections[section].places.as_slice())
     }
@@ -57,7 +58,7 @@ impl<A: Allocator + Copy> Database<A> {
     /// The LSAs of a section, in order; none where there is no such section.
     pub fn lsas(&self, section: Section) -> Lsas<'_, A>
         ensures lsas { result ≡ lsas_of section (lists_of self.now) }
-        ensures few { length result ≤ 65535 }
+        ensures few { length result ≤ most_lsas_of_as }
     {
         match self.index_of(section) {
             Some(index) => self.lsas_in(index),
@@ -71,7 +72,7 @@ impl<A: Allocator + Copy> Database<A> {
     pub fn counts_in(&self, section: usize) -> LsaCounts
         requires { IsSome (item_at (lists_of self.now) section) }
         ensures counts { result ≡ counts_of (lsas_in self.now section) }
-        ensures few { AreFew 65535 result }
+        ensures few { AreFew most_lsas_of_as result }
     {
         self.sections[section].places.counts()
     }

@@ -1,6 +1,7 @@
 //! Reading a dump.
 
 ghost use Rattle.std.specs.Prelude.{◌≡◌, ◌≤◌, length, [], Ok, Some, None, IfOk, IfErr, Result, option_map};
+ghost use Rattle.lsdb.specs.Limits.{most_lsas_of_as};
 ghost use Rattle.lsdb.specs.Lists.{is_in_scope, limit_of, Lists, IsDatabase, size};
 ghost use Rattle.lsdb.specs.Places.{full, section_of, lists_of};
 ghost use Rattle.lsdb.specs.steps.NotedKeys.{AreApart};
@@ -69,7 +70,7 @@ fn read_lsas<'a, A: Allocator + Copy>(
     ensures lsas { Gives (λ x. (full x.0.items, at_of x.1))
         result (lsas_from (option_map head_of area) count [] (at_of start.entry)) }
     ensures apart { IfOk result (λ x. AreApart x.0.items) }
-    ensures few { IfOk result (λ x. length x.0.items ≤ 65535) }
+    ensures few { IfOk result (λ x. length x.0.items ≤ most_lsas_of_as) }
 {
     let mut places = Vec::new(alloc);
     let mut keys = BTreeSet::new(alloc);

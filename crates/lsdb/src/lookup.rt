@@ -5,15 +5,17 @@ ghost use Rattle.std.specs.List.{find};
 ghost use Rattle.lsdb.specs.KeyRanges.{AreKeysBetween};
 ghost use Rattle.lsdb.specs.Lists.{is_head_of, is_section, has_key, lsas_of};
 ghost use Rattle.lsdb.specs.Places.{item_at, lists_of, lsas_in, places_in, IsFirstPlace, IsNamed, IsPlaceOf};
+ghost use Rattle.lsdb.specs.PrefixPlaces.{ArePlacesOfPrefix};
 ghost use Rattle.lsdb.specs.RouterPlaces.{ArePlacesOfRouter};
 ghost use Rattle.lsdb.specs.steps.View.{head_of};
 
 use crate::database::{Database, Head};
 use crate::keyed_places::KeyAt;
+use crate::prefix_places::PlaceOfPrefix;
 use crate::router_places::PlaceOfRouter;
 use crate::section::Section;
 use crate::slot::SlotId;
-use lsa_codec::{Key, RouterId};
+use lsa_codec::{Key, Prefix, RouterId};
 use std::alloc::Allocator;
 
 impl<A: Allocator + Copy> Database<A> {
@@ -63,6 +65,25 @@ impl<A: Allocator + Copy> Database<A> {
         ensures { ArePlacesOfRouter (places_in self.now section) router result.now }
     {
         self.sections[section].places.places_of_router(router)
+    }
+
+    /// The places that are noted of a router and a prefix in a section, in rising order of their
+    /// indices, by the section's number. Among them is that of each LSA there with this
+    /// Advertising Router and this prefix (`prefix_of`); but also places of such LSAs that have
+    /// gone, so what stands there is to be looked at. It takes no memory, and its steps are in the
+    /// logarithm of the number of places.
+    pub fn places_of_prefix(
+        &self,
+        section: usize,
+        router: RouterId,
+        prefix: Prefix,
+    ) -> &[PlaceOfPrefix]
+        requires { IsSome (item_at self.now section) }
+        ensures { ArePlacesOfPrefix (places_in self.now section) router prefix result.now }
+    {
+        self.sections[section]
+            .places
+            .places_of_prefix(router, prefix)
     }
 
     /// The place of the LSA with a key in a section; `None` where the section has no such LSA,

@@ -1,14 +1,15 @@
 //! The places of one section by the Advertising Routers of their LSAs.
 
 ghost use Rattle.std.specs.Prelude.{◌≡◌, ◌^◌, ◌<◌, ◌≤◌, true, length, OnOk, IfOk, vec_capacity};
-ghost use Rattle.lsdb.specs.RouterPlaces.{router_place};
-ghost use Rattle.lsdb.specs.steps.RouterIndex.{AreRising, IsIndexed, IsIndexedBut, IsPartOfRouter, NotesPlace, most_places, noted_from};
+ghost use Rattle.lsdb.specs.Limits.{most_lsas_of_as};
+ghost use Rattle.lsdb.specs.steps.PlaceIndex.{most_places, noted_from};
+ghost use Rattle.lsdb.specs.steps.RouterIndex.{AreRising, IsPartOfRouter, IsRouterIndex, IsRouterIndexBut, NotesPlace, router_at};
 
 use lsa_codec::{Lsa, RouterId};
 use std::alloc::{AllocError, Allocator};
 
 /// How many places can be told apart by an index of 32 bits.
-const MOST_PLACES: usize = 1 << 32;
+pub(crate) const MOST_PLACES: usize = 1 << 32;
 
 /// A router, and the index of a place at which an LSA was put that it originated.
 #[derive(Clone, Copy, Debug, PartialEq, Eq, PartialOrd, Ord)]
@@ -31,9 +32,9 @@ pub(crate) struct RouterPlaces<A: Allocator> {
 impl<A: Allocator + Copy> RouterPlaces<A> {
     /// Those of these places. The error is want of memory.
     pub(crate) fn of(alloc: A, places: &[Option<Lsa<A>>]) -> Result<RouterPlaces<A>, AllocError>
-        requires { length places.now ≤ 65535 }
+        requires { length places.now ≤ most_lsas_of_as }
         ensures { IfOk result
-            (λ routers. IsIndexed places.now routers.noted.items (vec_capacity routers.noted)) }
+            (λ routers. IsRouterIndex places.now routers.noted.items (vec_capacity routers.noted)) }
     {
         let mut noted = Vec::with_capacity(alloc, places.len())?;
         fill(&mut noted, places);
@@ -68,14 +69,14 @@ impl<A: Allocator + Copy> RouterPlaces<A> {
     /// Notes one of the places, at which something else stands now. It takes no memory.
     pub(crate) fn note_place(&mut self, places: &[Option<Lsa<A>>], index: usize)
         requires within { index < length places.now }
-        requires others { IsIndexedBut index places.now self.old.noted.items
+        requires others { IsRouterIndexBut index places.now self.old.noted.items
             (vec_capacity self.old.noted) }
-        ensures { IsIndexed places.now self.new.noted.items (vec_capacity self.new.noted) }
+        ensures { IsRouterIndex places.now self.new.noted.items (vec_capacity self.new.noted) }
     {
-        let Some(lsa) = &places[index] else {
+        let Some(place) = router_at(&places[index], index) else {
             return;
         };
-        if !note(&mut self.noted, router_place(lsa, index)) {
+        if !note(&mut self.noted, place) {
             fill(&mut self.noted, places);
         }
     }
@@ -89,15 +90,18 @@ impl<A: Allocator + Copy> RouterPlaces<A> {
     }
 }
 
-/// The place with that index, at which this LSA stands.
-fn router_place<A: Allocator + Copy>(lsa: &Lsa<A>, index: usize) -> PlaceOfRouter
+/// The place with that index, of the router whose LSA stands there, if one does.
+fn router_at<A: Allocator + Copy>(place: &Option<Lsa<A>>, index: usize) -> Option<PlaceOfRouter>
     requires { index < most_places }
-    ensures { result ≡ router_place index lsa.now }
+    ensures { result ≡ router_at index place.now }
 {
-    PlaceOfRouter {
+    let Some(lsa) = place else {
+        return None;
+    };
+    Some(PlaceOfRouter {
         adv: lsa.key().adv,
         index: index as u32,
-    }
+    })
 }
 
 /// Of places those of one router. It takes two binary searches.
@@ -105,9 +109,9 @@ fn part_of_router(noted: &[PlaceOfRouter], router: RouterId) -> &[PlaceOfRouter]
     requires { AreRising noted.now }
     ensures { IsPartOfRouter noted.now router result.now }
 {
-    let start = noted.partition_point(|place| place.adv.0 < router.0);
+    let start = noted.partition_point(|place| place.adv < router);
     let rest = &noted[start..];
-    let end = rest.partition_point(|place| place.adv.0 <= router.0);
+    let end = rest.partition_point(|place| place.adv <= router);
     &rest[..end]
 }
 
@@ -133,7 +137,7 @@ fn note<A: Allocator + Copy>(noted: &mut Vec<PlaceOfRouter, A>, place: PlaceOfRo
 fn fill<A: Allocator + Copy>(noted: &mut Vec<PlaceOfRouter, A>, places: &[Option<Lsa<A>>])
     requires fits { length places.now ≤ vec_capacity noted.old }
     requires narrow { length places.now ≤ most_places }
-    ensures { IsIndexed places.now noted.new.items (vec_capacity noted.new) }
+    ensures { IsRouterIndex places.now noted.new.items (vec_capacity noted.new) }
 {
     put_noted(noted, places);
     // Where the LSAs stand in the order of their routers, it looks at each once.
@@ -144,13 +148,13 @@ fn fill<A: Allocator + Copy>(noted: &mut Vec<PlaceOfRouter, A>, places: &[Option
 fn put_noted<A: Allocator + Copy>(noted: &mut Vec<PlaceOfRouter, A>, places: &[Option<Lsa<A>>])
     requires fits { length places.now ≤ vec_capacity noted.old }
     requires narrow { length places.now ≤ most_places }
-    ensures noted { noted.new.items ≡ noted_from 0 places.now }
+    ensures noted { noted.new.items ≡ noted_from router_at 0 places.now }
     ensures room { vec_capacity noted.new ≡ vec_capacity noted.old }
 {
     noted.clear();
     for index in 0..places.len() {
-        if let Some(lsa) = &places[index] {
-            noted.push_reserved(router_place(lsa, index));
+        if let Some(place) = router_at(&places[index], index) {
+            noted.push_reserved(place);
         }
     }
 }

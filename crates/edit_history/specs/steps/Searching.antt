@@ -8,6 +8,7 @@ use Rattle.lsa_codec.specs.Prefix.{Net, mask_of_len}
 use Rattle.lsdb.specs.declared.keyed_places.KeyAt.{KeyAt}
 use Rattle.lsdb.specs.KeyRanges.{HaveWidths, is_between}
 use Rattle.lsdb.specs.Places.{Places, slot_at}
+use Rattle.lsdb.specs.PrefixPlaces.{prefix_of}
 use Rattle.edit_history.specs.declared.lookup.Wanted.{Wanted}
 use Rattle.edit_history.specs.declared.lookup.Wanted.TheVariants as wanted
 use Rattle.edit_history.specs.steps.Plans.{is_wanted, passes, slot_of}
@@ -16,9 +17,9 @@ use Rattle.edit_history.specs.steps.Plans.{is_wanted, passes, slot_of}
 abbrev pub HaveKeysBetween : (List ℕ → Bool) → Key → Key → Type 0
 HaveKeysBetween test low high = (lsa : List ℕ) → HaveWidths lsa → test lsa ≡ true → is_between low high (key_of lsa) ≡ true
 
--- one router originated each LSA that passes a test
-abbrev pub AreOriginatedBy : RouterId → (List ℕ → Bool) → Type 0
-AreOriginatedBy router test = (lsa : List ℕ) → test lsa ≡ true → advertising_router_of lsa ≡ router.0
+-- one router originated each LSA that passes a test, and for one prefix
+abbrev pub AreOriginatedFor : RouterId → Net → (List ℕ → Bool) → Type 0
+AreOriginatedFor router net test = (lsa : List ℕ) → test lsa ≡ true → (advertising_router_of lsa ≡ router.0) × (prefix_of lsa ≡ Some net)
 
 -- the last address of a prefix: its address, and all bits past its length 1
 abbrev pub last_addr_of : Net → ℕ

@@ -3,7 +3,8 @@ use Rattle.std.specs.Prelude.{IsOk}
 use Rattle.std.specs.List.Sorted.{IsBinarySearchResult, IsSearchInRange}
 use Rattle.lsdb.specs.declared.router_places.PlaceOfRouter.{PlaceOfRouter}
 use Rattle.lsdb.specs.steps.RouterIndex.{NotesPlace, place_cmp}
-use Rattle.lsdb.proofs.RouterOrder.{searched}
+use Rattle.lsdb.proofs.RisingLists.{searched}
+use Rattle.lsdb.proofs.RouterIndexes.{place_total, place_exact}
 use Rattle.lsdb.proofs.router_places.note.Goals as goal
 
 where_ok : {T E : Type 0} (r : Result T E) (done old new : List PlaceOfRouter) → new ≡ cond (is_ok r) done old → IsOk r → new ≡ done
@@ -15,7 +16,7 @@ returns-clause-noted g c is =
     let ok = c.insert.ensures.succeeds (omega (arith, c.len.ensures, c.capacity.ensures, c.if-capacity-len.false)) in
     subst (λ (noted : List PlaceOfRouter). NotesPlace c.args.noted.now.items noted c.args.place)
     (sym (where_ok c.insert.result _ _ _ c.insert.ensures.items ok))
-    (searched c.args.noted.now.items c.args.place (Err c.in-Err.at) c.requires
+    (searched place_cmp place_total place_exact c.args.noted.now.items c.args.place (Err c.in-Err.at) c.requires
     (subst (λ (noted : List PlaceOfRouter). IsSearchInRange (Err c.in-Err.at) (length noted)) c.deref.ensures.value c.in-Err.ensures.bound)
     (subst (λ (noted : List PlaceOfRouter). IsBinarySearchResult (λ y. place_cmp y c.args.place) noted (Err c.in-Err.at)) c.deref.ensures.value
     c.in-Err.ensures.position))

@@ -1,11 +1,12 @@
 use Rattle.std.proofs.Common.{◌≤◌, length, vec_capacity}
-use Rattle.lsdb.specs.steps.RouterIndex.{most_places}
-use Rattle.lsdb.proofs.RouterPlaceLists.{NotedSoFar}
+use Rattle.lsdb.specs.steps.PlaceIndex.{most_places}
+use Rattle.lsdb.specs.steps.RouterIndex.{router_at}
+use Rattle.lsdb.proofs.PlaceIndexes.{NotedSoFar}
 use Rattle.lsdb.proofs.router_places.put_noted.Given as goal
 
 abbrev pub invariant-loop-index : goal.invariant-loop-index
 invariant-loop-index g l = record {
-  so_far : NotedSoFar l.places l.index l.noted.items;
+  so_far : NotedSoFar router_at l.places l.index l.noted.items;
   few : length l.noted.items ≤ l.index;
   room : length l.places ≤ vec_capacity l.noted;
   narrow : length l.places ≤ most_places;

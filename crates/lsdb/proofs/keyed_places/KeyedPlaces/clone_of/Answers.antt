@@ -2,7 +2,9 @@ use Rattle.std.proofs.Common.{◌≡◌, ◌∙◌, ◌++◌, List, length, ap, 
 use Rattle.lsdb.specs.declared.keyed_places.KeyAt.{KeyAt}
 use Rattle.lsdb.specs.Places.{Place}
 use Rattle.lsdb.proofs.KeyedPlaceLists.{keyed_kept}
-use Rattle.lsdb.proofs.RouterPlaceLists.{indexed_kept}
+use Rattle.lsdb.specs.steps.PrefixIndex as prefix
+use Rattle.lsdb.specs.steps.RouterIndex as router
+use Rattle.lsdb.proofs.PlaceIndexes.{indexed_kept}
 use Rattle.lsdb.proofs.keyed_places.KeyedPlaces.clone_of.Goals as goal
 
 pub invariant_of-result : goal.invariant_of-result
@@ -19,6 +21,11 @@ invariant_of-result g c =
           (omega (arith, sized, ap length copied, c.len.ensures, c.max.ensures, c.in_ok-keys.ensures.exact, c.extend_from_slice.ensures.capacity))
           c.self.invariant.keyed.sound c.self.invariant.keyed.widths c.self.invariant.keyed.counted;
       routers =
-          indexed_kept places c.in_ok-places.places.items c.self.inside.routers.noted.items c.in_ok-routers.routers.noted.items _ _ copied
-          c.in_ok-routers.ensures.same (omega (arith, sized, ap length copied, c.len-3.ensures, c.in_ok-routers.ensures.room)) c.self.invariant.routers;
+          indexed_kept router.place_cmp router.router_at places c.in_ok-places.places.items c.self.inside.routers.noted.items
+          c.in_ok-routers.routers.noted.items _ _ copied c.in_ok-routers.ensures.same
+          (omega (arith, sized, ap length copied, c.len-3.ensures, c.in_ok-routers.ensures.room)) c.self.invariant.routers;
+      prefixes =
+          indexed_kept prefix.place_cmp prefix.prefix_at places c.in_ok-places.places.items c.self.inside.prefixes.noted.items
+          c.in_ok-prefixes.prefixes.noted.items _ _ copied c.in_ok-prefixes.ensures.same
+          (omega (arith, sized, ap length copied, c.len-4.ensures, c.in_ok-prefixes.ensures.room)) c.self.invariant.prefixes;
     }

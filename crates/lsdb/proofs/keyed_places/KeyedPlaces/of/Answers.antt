@@ -4,7 +4,8 @@ use Rattle.lsdb.specs.Counts.{counts_of}
 use Rattle.lsdb.specs.KeyRanges.{HaveWidths}
 use Rattle.lsdb.specs.Places.{Place, full}
 use Rattle.lsdb.specs.steps.NotedKeys.{AreNoted}
-use Rattle.lsdb.specs.steps.RouterIndex.{IsIndexed}
+use Rattle.lsdb.specs.steps.PrefixIndex.{IsPrefixIndex}
+use Rattle.lsdb.specs.steps.RouterIndex.{IsRouterIndex}
 use Rattle.lsdb.proofs.keyed_places.KeyedPlaces.of.Goals as goal
 
 pub invariant_of-result : goal.invariant_of-result
@@ -16,6 +17,9 @@ invariant_of-result g c = record {
     counted = c.of_places-counts.ensures ∙ ap (λ (ps : List Place). counts_of (full ps)) c.deref-2.ensures.value;
   };
   routers =
-      subst (λ (ps : List Place). IsIndexed ps c.in_ok-routers.routers.noted.items (vec_capacity c.in_ok-routers.routers.noted))
+      subst (λ (ps : List Place). IsRouterIndex ps c.in_ok-routers.routers.noted.items (vec_capacity c.in_ok-routers.routers.noted))
       c.deref-3.ensures.value c.in_ok-routers.ensures;
+  prefixes =
+      subst (λ (ps : List Place). IsPrefixIndex ps c.in_ok-prefixes.prefixes.noted.items (vec_capacity c.in_ok-prefixes.prefixes.noted))
+      c.deref-4.ensures.value c.in_ok-prefixes.ensures;
 }

@@ -1,6 +1,8 @@
 use Rattle.std.proofs.Common.{◌≡◌, length, vec_len, arith, refl, rules}
 use Rattle.lsdb.proofs.KeyedPlaceLists.{keyed_kept, keyed_open}
-use Rattle.lsdb.proofs.RouterPlaceLists.{indexed_kept, indexed_open}
+use Rattle.lsdb.specs.steps.PrefixIndex as prefix
+use Rattle.lsdb.specs.steps.RouterIndex as router
+use Rattle.lsdb.proofs.PlaceIndexes.{indexed_kept, indexed_open}
 use Rattle.lsdb.proofs.keyed_places.KeyedPlaces.push_empty.Goals as goal
 
 pub invariant_of-self-2 : goal.invariant_of-self-2
@@ -21,9 +23,15 @@ invariant_of-self-2 g c =
           ))
           c.self.invariant.keyed.sound c.self.invariant.keyed.widths c.self.invariant.keyed.counted);
       routers =
-          indexed_open c.self.inside.places.items c.push.new.self.items c.self.inside.routers.noted.items c.reserve_for.new.self.noted.items _ _
-          c.in_ok-push.ensures.items c.reserve_for.ensures.same (omega (arith, sized, c.len-3.ensures, c.in_ok-reserve_for.ensures.room))
+          indexed_open router.place_cmp router.router_at (λ i. refl) c.self.inside.places.items c.push.new.self.items c.self.inside.routers.noted.items
+          c.reserve_for.new.self.noted.items _ _ c.in_ok-push.ensures.items c.reserve_for.ensures.same
+          (omega (arith, sized, c.len-3.ensures, c.in_ok-reserve_for.ensures.room))
           (omega (arith, sized, c.len-3.ensures, c.in_ok-reserve_for.ensures.narrow)) c.self.invariant.routers;
+      prefixes =
+          indexed_open prefix.place_cmp prefix.prefix_at (λ i. refl) c.self.inside.places.items c.push.new.self.items c.self.inside.prefixes.noted.items
+          c.reserve_for-2.new.self.noted.items _ _ c.in_ok-push.ensures.items c.reserve_for-2.ensures.same
+          (omega (arith, sized, c.len-4.ensures, c.in_ok-reserve_for-2.ensures.room))
+          (omega (arith, sized, c.len-4.ensures, c.in_ok-reserve_for-2.ensures.narrow)) c.self.invariant.prefixes;
     }
 
 pub invariant_of-self-in_err-push : goal.invariant_of-self-in_err-push
@@ -35,9 +43,13 @@ invariant_of-self-in_err-push g c =
           c.reserve.ensures.items (omega (arith, c.reserve.ensures.capacity, c.self.invariant.keyed.fits))
           c.self.invariant.keyed.sound c.self.invariant.keyed.widths c.self.invariant.keyed.counted;
       routers =
-          indexed_kept c.self.inside.places.items c.push.new.self.items c.self.inside.routers.noted.items c.reserve_for.new.self.noted.items _ _
-          c.in_err-push.ensures.items c.reserve_for.ensures.same
+          indexed_kept router.place_cmp router.router_at c.self.inside.places.items c.push.new.self.items c.self.inside.routers.noted.items
+          c.reserve_for.new.self.noted.items _ _ c.in_err-push.ensures.items c.reserve_for.ensures.same
           (omega (arith, c.reserve_for.ensures.kept, c.self.invariant.routers.fits)) c.self.invariant.routers;
+      prefixes =
+          indexed_kept prefix.place_cmp prefix.prefix_at c.self.inside.places.items c.push.new.self.items c.self.inside.prefixes.noted.items
+          c.reserve_for-2.new.self.noted.items _ _ c.in_err-push.ensures.items c.reserve_for-2.ensures.same
+          (omega (arith, c.reserve_for-2.ensures.kept, c.self.invariant.prefixes.fits)) c.self.invariant.prefixes;
     }
 
 pub invariant_of-self-in_err-reserve_for : goal.invariant_of-self-in_err-reserve_for
@@ -47,7 +59,24 @@ invariant_of-self-in_err-reserve_for g c = record {
       c.reserve.ensures.items (omega (arith, c.reserve.ensures.capacity, c.self.invariant.keyed.fits))
       c.self.invariant.keyed.sound c.self.invariant.keyed.widths c.self.invariant.keyed.counted;
   routers =
-      indexed_kept c.self.inside.places.items c.self.inside.places.items c.self.inside.routers.noted.items c.reserve_for.new.self.noted.items _ _
-      refl c.reserve_for.ensures.same
+      indexed_kept router.place_cmp router.router_at c.self.inside.places.items c.self.inside.places.items c.self.inside.routers.noted.items
+      c.reserve_for.new.self.noted.items _ _ refl c.reserve_for.ensures.same
       (omega (arith, c.reserve_for.ensures.kept, c.self.invariant.routers.fits)) c.self.invariant.routers;
+  prefixes = c.self.invariant.prefixes;
+}
+
+pub invariant_of-self-in_err-reserve_for-2 : goal.invariant_of-self-in_err-reserve_for-2
+invariant_of-self-in_err-reserve_for-2 g c = record {
+  keyed =
+      keyed_kept c.self.inside.places.items c.self.inside.places.items c.self.inside.keys.items _ _ c.self.inside.counts refl
+      c.reserve.ensures.items (omega (arith, c.reserve.ensures.capacity, c.self.invariant.keyed.fits))
+      c.self.invariant.keyed.sound c.self.invariant.keyed.widths c.self.invariant.keyed.counted;
+  routers =
+      indexed_kept router.place_cmp router.router_at c.self.inside.places.items c.self.inside.places.items c.self.inside.routers.noted.items
+      c.reserve_for.new.self.noted.items _ _ refl c.reserve_for.ensures.same
+      (omega (arith, c.reserve_for.ensures.kept, c.self.invariant.routers.fits)) c.self.invariant.routers;
+  prefixes =
+      indexed_kept prefix.place_cmp prefix.prefix_at c.self.inside.places.items c.self.inside.places.items c.self.inside.prefixes.noted.items
+      c.reserve_for-2.new.self.noted.items _ _ refl c.reserve_for-2.ensures.same
+      (omega (arith, c.reserve_for-2.ensures.kept, c.self.invariant.prefixes.fits)) c.self.invariant.prefixes;
 }

@@ -2,10 +2,13 @@ use Rattle.std.proofs.Common.{◌≡◌, ◌∙◌, ◌<◌, ap, sym, subst, Lis
 use Rattle.lsdb.specs.Places.{Place, item_at, put_place}
 use Rattle.lsdb.specs.steps.OnePlace.{place_has_key}
 use Rattle.lsdb.specs.steps.NotedKeys.{AreApart, AreNoted, FitSection}
-use Rattle.lsdb.specs.steps.RouterIndex.{IsIndexed}
+use Rattle.lsdb.specs.steps.PrefixIndex as prefix
+use Rattle.lsdb.specs.steps.PrefixIndex.{IsPrefixIndex}
+use Rattle.lsdb.specs.steps.RouterIndex as router
+use Rattle.lsdb.specs.steps.RouterIndex.{IsRouterIndex}
 use Rattle.lsdb.proofs.Seen.{place_set}
 use Rattle.lsdb.proofs.KeyedPlaceLists.{put_is, read_is, set_read, keyed_set, emptied, rewritten, noted, taken, added, no_widths, own_widths}
-use Rattle.lsdb.proofs.RouterPlaceLists.{exchanged}
+use Rattle.lsdb.proofs.PlaceIndexes.{exchanged}
 use Rattle.lsdb.proofs.keyed_places.KeyedPlaces.swap.Goals as goal
 
 pub returns-in_default-clause-put : goal.returns-in_default-clause-put
@@ -84,8 +87,11 @@ invariant_of-self g c =
           c.self.invariant.keyed.fits refl c.self.invariant.keyed.counted c.of_place.ensures.counts c.without-others.ensures c.of_place-2.ensures.counts
           c.with-self-inside.ensures c.self.invariant.keyed.widths (no_widths c.swap.new.x none);
       routers =
-          subst (λ (ps : List Place). IsIndexed ps c.note_place.new.self.noted.items (vec_capacity c.note_place.new.self.noted))
+          subst (λ (ps : List Place). IsRouterIndex ps c.note_place.new.self.noted.items (vec_capacity c.note_place.new.self.noted))
           c.deref.ensures.value c.note_place.ensures;
+      prefixes =
+          subst (λ (ps : List Place). IsPrefixIndex ps c.note_place-2.new.self.noted.items (vec_capacity c.note_place-2.new.self.noted))
+          c.deref-2.ensures.value c.note_place-2.ensures;
     }
 
 pub invariant_of-self-then-has_key : goal.invariant_of-self-then-has_key
@@ -104,8 +110,11 @@ invariant_of-self-then-has_key g c =
           c.self.invariant.keyed.fits refl c.self.invariant.keyed.counted c.of_place.ensures.counts c.without-others.ensures c.of_place-2.ensures.counts
           c.with-self-inside.ensures c.self.invariant.keyed.widths (own_widths c.swap.new.x c.in-Some.lsa some c.key_of-key.ensures.widths);
       routers =
-          subst (λ (ps : List Place). IsIndexed ps c.note_place.new.self.noted.items (vec_capacity c.note_place.new.self.noted))
+          subst (λ (ps : List Place). IsRouterIndex ps c.note_place.new.self.noted.items (vec_capacity c.note_place.new.self.noted))
           c.deref.ensures.value c.note_place.ensures;
+      prefixes =
+          subst (λ (ps : List Place). IsPrefixIndex ps c.note_place-2.new.self.noted.items (vec_capacity c.note_place-2.new.self.noted))
+          c.deref-2.ensures.value c.note_place-2.ensures;
     }
 
 pub fill-requires-clause-apart : goal.fill-requires-clause-apart
@@ -133,8 +142,11 @@ invariant_of-self-then-not-note g c =
           c.of_place-2.ensures.counts c.with-self-inside.ensures c.self.invariant.keyed.widths
           (own_widths c.swap.new.x c.in-Some.lsa some c.key_of-key.ensures.widths);
       routers =
-          subst (λ (ps : List Place). IsIndexed ps c.note_place.new.self.noted.items (vec_capacity c.note_place.new.self.noted))
+          subst (λ (ps : List Place). IsRouterIndex ps c.note_place.new.self.noted.items (vec_capacity c.note_place.new.self.noted))
           c.deref.ensures.value c.note_place.ensures;
+      prefixes =
+          subst (λ (ps : List Place). IsPrefixIndex ps c.note_place-2.new.self.noted.items (vec_capacity c.note_place-2.new.self.noted))
+          c.deref-2.ensures.value c.note_place-2.ensures;
     }
 
 pub invariant_of-self-else-not-note : goal.invariant_of-self-else-not-note
@@ -160,11 +172,19 @@ invariant_of-self-else-not-note g c =
           c.of_place-2.ensures.counts
           c.with-self-inside.ensures c.self.invariant.keyed.widths (own_widths c.swap.new.x c.in-Some.lsa some c.key_of-key.ensures.widths);
       routers =
-          subst (λ (ps : List Place). IsIndexed ps c.note_place.new.self.noted.items (vec_capacity c.note_place.new.self.noted))
+          subst (λ (ps : List Place). IsRouterIndex ps c.note_place.new.self.noted.items (vec_capacity c.note_place.new.self.noted))
           c.deref.ensures.value c.note_place.ensures;
+      prefixes =
+          subst (λ (ps : List Place). IsPrefixIndex ps c.note_place-2.new.self.noted.items (vec_capacity c.note_place-2.new.self.noted))
+          c.deref-2.ensures.value c.note_place-2.ensures;
     }
 
 pub note_place-requires-clause-others : goal.note_place-requires-clause-others
 note_place-requires-clause-others g c =
-    exchanged c.self.inside.places.items c.deref.result.now c.args.index c.swap.new.x c.self.inside.routers.noted.items
-    (vec_capacity c.self.inside.routers.noted) c.deref.ensures.value c.self.invariant.routers
+    exchanged router.place_cmp router.router_at c.self.inside.places.items c.deref.result.now c.args.index c.swap.new.x
+    c.self.inside.routers.noted.items (vec_capacity c.self.inside.routers.noted) c.deref.ensures.value c.self.invariant.routers
+
+pub note_place-requires-2-clause-others : goal.note_place-requires-2-clause-others
+note_place-requires-2-clause-others g c =
+    exchanged prefix.place_cmp prefix.prefix_at c.self.inside.places.items c.deref-2.result.now c.args.index c.swap.new.x
+    c.self.inside.prefixes.noted.items (vec_capacity c.self.inside.prefixes.noted) c.deref-2.ensures.value c.self.invariant.prefixes

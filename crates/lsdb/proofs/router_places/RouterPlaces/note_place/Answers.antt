@@ -1,8 +1,15 @@
-use Rattle.lsdb.proofs.RouterPlaceLists.{noted_there}
+use Rattle.std.proofs.Common.{◌∙◌, sym}
+use Rattle.lsdb.specs.steps.RouterIndex.{place_cmp, router_at}
+use Rattle.lsdb.proofs.PlaceIndexes.{none_there, noted_there}
 use Rattle.lsdb.proofs.router_places.RouterPlaces.note_place.Goals as goal
+
+pub returns-in_default : goal.returns-in_default
+returns-in_default g c =
+    none_there place_cmp router_at c.args.places.now c.args.index c.index-places-index.result c.args.self.now.noted.items _ c.requires.within
+    c.index-places-index.is (sym c.router_at.ensures ∙ c.in_default.is) c.requires.others
 
 pub returns-else-not-note : goal.returns-else-not-note
 returns-else-not-note g c =
-    noted_there c.args.places.now c.args.index c.index-places-index.result c.in-Some.lsa c.router_place.result c.args.self.now.noted.items
-    c.note.new.noted.items _ _ c.requires.within c.index-places-index.is c.in-Some.is c.router_place.ensures (c.note.ensures.noted c.if-not-note.false)
-    c.note.ensures.room c.requires.others
+    noted_there place_cmp router_at c.args.places.now c.args.index c.index-places-index.result c.in-Some.place c.args.self.now.noted.items
+    c.note.new.noted.items _ _ c.requires.within c.index-places-index.is (sym c.router_at.ensures ∙ c.in-Some.is)
+    (c.note.ensures.noted c.if-not-note.false) c.note.ensures.room c.requires.others

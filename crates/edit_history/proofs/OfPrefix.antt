@@ -1,5 +1,5 @@
--- The first LSA that is looked for, among the places that are noted of its router.
-use Rattle.std.proofs.Common.{◌≡◌, ℕ, ◌+◌, ◌<◌, ◌≤◌, Bool, true, false, List, [], ◌∷◌, length, take, get_or, Some, None, sym, ap, ◌∙◌, subst, arith, ⊎_elim}
+-- The first LSA that is looked for, among the places that are noted of its router and its prefix.
+use Rattle.std.proofs.Common.{◌≡◌, ℕ, ◌+◌, ◌<◌, ◌≤◌, Bool, true, false, List, [], ◌∷◌, length, take, get_or, Option, Some, None, ◌==◌, sym, ap, ◌∙◌, subst, arith, ⊎_elim}
 use Rattle.std.specs.Prelude.{All}
 use Rattle.std.specs.List.{find}
 use Rattle.std.proofs.lemmas.Bool.{and_parts, cases_lt, eqb-true}
@@ -7,68 +7,69 @@ use Rattle.std.proofs.lemmas.List.{take_more, get_or-take, get_or_default, lengt
 use Rattle.std.proofs.lemmas.List.Elements.{All-append, All-cons, All-nil}
 use Rattle.lsa_codec.specs.declared.address.RouterId.{RouterId}
 use Rattle.lsa_codec.specs.Prefix.{Net}
-use Rattle.lsdb.specs.declared.router_places.PlaceOfRouter.{PlaceOfRouter}
+use Rattle.lsdb.specs.declared.prefix_places.PlaceOfPrefix.{PlaceOfPrefix}
 use Rattle.lsdb.specs.Places.{Places, item_at, lsas_in, places_in, IsFirstPlace}
-use Rattle.lsdb.specs.RouterPlaces.{router_place, ArePlacesOfRouter}
+use Rattle.lsdb.specs.PrefixPlaces.{prefix_of, prefix_place, ArePlacesOfPrefix}
 use Rattle.edit_history.specs.declared.lookup.Wanted.{Wanted}
-use Rattle.edit_history.specs.Effect.{is_originated_for}
+use Rattle.edit_history.specs.Effect.{is_originated_for, is_prefix}
 use Rattle.edit_history.specs.steps.Plans.{is_wanted, passes, slot_of}
-use Rattle.edit_history.specs.steps.Searching.{AreOriginatedBy}
+use Rattle.edit_history.specs.steps.Searching.{AreOriginatedFor}
 use Rattle.edit_history.proofs.Candidates.{stands_at, first_at, none_at}
 use Rattle.edit_history.proofs.Searches.{place_there}
 
 -- at none of these places stands an LSA that is looked for
-abbrev pub NoneStands : Wanted → Places → ℕ → List PlaceOfRouter → Type 0
+abbrev pub NoneStands : Wanted → Places → ℕ → List PlaceOfPrefix → Type 0
 NoneStands w d section found = All (λ place. stands_at w d section place.index ≡ false) found
 
 pub none_first : (w : Wanted) (d : Places) (section : ℕ) → NoneStands w d section []
-none_first w d section = All-nil (λ (place : PlaceOfRouter). stands_at w d section place.index ≡ false)
+none_first w d section = All-nil (λ (place : PlaceOfPrefix). stands_at w d section place.index ≡ false)
 
-pub none_more : (w : Wanted) (d : Places) (section : ℕ) (found : List PlaceOfRouter) (i : ℕ) (e : PlaceOfRouter) → i < length found
+pub none_more : (w : Wanted) (d : Places) (section : ℕ) (found : List PlaceOfPrefix) (i : ℕ) (e : PlaceOfPrefix) → i < length found
     → NoneStands w d section (take i found) → stands_at w d section (get_or found i e).index ≡ false → NoneStands w d section (take (i + 1) found)
 none_more w d section found i e lt before miss =
-    let P : PlaceOfRouter → Type 0 = λ place. stands_at w d section place.index ≡ false in
-    subst (λ (es : List PlaceOfRouter). All P es) (sym (take_more found i e lt))
+    let P : PlaceOfPrefix → Type 0 = λ place. stands_at w d section place.index ≡ false in
+    subst (λ (es : List PlaceOfPrefix). All P es) (sym (take_more found i e lt))
     (All-append P (take i found) (get_or found i e ∷ []) before (All-cons P (get_or found i e) [] miss (All-nil P)))
 
--- ---- all places of the router
+-- ---- all places of the router and the prefix
 
 false_and_true : (b : Bool) → b ≡ false → b ≡ true → ⊥
 false_and_true b no' yes' = absurd (let e : false ≡ true = sym no' ∙ yes' in cc)
 
-module _ (w : Wanted) (d : Places) (section : ℕ) (router : RouterId) (found : List PlaceOfRouter)
-    (noted : ArePlacesOfRouter (places_in d section) router found) (own : AreOriginatedBy router (is_wanted w)) where
+module _ (w : Wanted) (d : Places) (section : ℕ) (router : RouterId) (net : Net) (found : List PlaceOfPrefix)
+    (noted : ArePlacesOfPrefix (places_in d section) router net found) (own : AreOriginatedFor router net (is_wanted w)) where
   -- an LSA that is looked for stands at a place that is noted
   record IsNoted (i : ℕ) : Type 0 where
     number : ℕ
     within : number < length found
-    is : (e : PlaceOfRouter) → (get_or found number e).index ≡ i
+    is : (e : PlaceOfPrefix) → (get_or found number e).index ≡ i
     stands : stands_at w d section i ≡ true
 
   noted_at : (i : ℕ) (x : List ℕ) → item_at (places_in d section) i ≡ Some (Some x) → is_wanted w x ≡ true → IsNoted i
   noted_at i x at pass =
-      let place : PlaceOfRouter = router_place i x in
-      let there = noted.whole i x at (own x pass) in
+      let place : PlaceOfPrefix = prefix_place i router net in
+      let origin = own x pass in
+      let there = noted.whole i x at origin.0 origin.1 in
       record {
         number = there.0;
         within = there.1;
-        is = λ e. ap (λ (p : PlaceOfRouter). p.index) (get_or_default found there.0 e place there.1 ∙ there.2);
+        is = λ e. ap (λ (p : PlaceOfPrefix). p.index) (get_or_default found there.0 e place there.1 ∙ there.2);
         stands = ap (passes (is_wanted w)) (place_there d section i (Some x) at) ∙ pass;
       }
 
   -- it is not among the first i, where none of them is looked for
-  behind : (i k : ℕ) (e : PlaceOfRouter) → NoneStands w d section (take i found) → k < length found
+  behind : (i k : ℕ) (e : PlaceOfPrefix) → NoneStands w d section (take i found) → k < length found
       → stands_at w d section (get_or found k e).index ≡ true → i ≤ k
   behind i k e before lt stands = ⊎_elim
       (λ less.
       let short : k < length (take i found) = omega (arith, length-take i found) in
       let miss : stands_at w d section (get_or found k e).index ≡ false =
-      subst (λ (p : PlaceOfRouter). stands_at w d section p.index ≡ false) (get_or-take i found k e less) (before k e short) in
+      subst (λ (p : PlaceOfPrefix). stands_at w d section p.index ≡ false) (get_or-take i found k e less) (before k e short) in
       absurd (false_and_true (stands_at w d section (get_or found k e).index) miss stands))
       (λ ge. ge)
       (cases_lt k i)
 
-  pub hit : (i : ℕ) (e : PlaceOfRouter) → i < length found → NoneStands w d section (take i found)
+  pub hit : (i : ℕ) (e : PlaceOfPrefix) → i < length found → NoneStands w d section (take i found)
       → stands_at w d section (get_or found i e).index ≡ true → IsFirstPlace d section (is_wanted w) (slot_of section (get_or found i e).index)
   hit i e lt before stands = first_at w d section (get_or found i e).index stands (λ j x at pass.
       let n = noted_at j x at pass in
@@ -82,12 +83,22 @@ module _ (w : Wanted) (d : Places) (section : ℕ) (router : RouterId) (found : 
   pub miss : (i : ℕ) → length found ≤ i → NoneStands w d section (take i found) → find (is_wanted w) (lsas_in d section) ≡ None
   miss i end before = none_at w d section (λ j x at pass.
       let n = noted_at j x at pass in
-      let e : PlaceOfRouter = router_place j x in
+      let e : PlaceOfPrefix = prefix_place j router net in
       let le : i ≤ n.number =
       behind i n.number e before n.within (subst (λ (k : ℕ). stands_at w d section k ≡ true) (sym (n.is e)) n.stands) in
       absurd (omega (arith, n.within)))
 
--- ---- what is looked for is originated by one router
+-- ---- what is looked for is originated by one router for one prefix
 
-pub by_router : (kind : ℕ) (router : RouterId) (net : Net) → AreOriginatedBy router (is_originated_for kind router net)
-by_router kind router net lsa pass = eqb-true _ _ (and_parts _ _ (and_parts _ _ pass).1).0
+same_prefix : (net : Net) (o : Option Net) → is_prefix net o ≡ true → o ≡ Some net
+same_prefix net None same = absurd cc
+same_prefix net (Some own) same =
+    let parts = and_parts (own.addr.0 == net.addr.0) (own.len == net.len) same in
+    let addr : own.addr.0 ≡ net.addr.0 = eqb-true _ _ parts.0 in
+    let len : own.len ≡ net.len = eqb-true _ _ parts.1 in
+    λ i. Some (record { addr = record { 0 = addr i }; len = len i })
+
+pub for_prefix : (kind : ℕ) (router : RouterId) (net : Net) → AreOriginatedFor router net (is_originated_for kind router net)
+for_prefix kind router net lsa pass =
+    let parts = and_parts _ _ (and_parts _ _ pass).1 in
+    (eqb-true _ _ parts.0, same_prefix net (prefix_of lsa) parts.1)
