@@ -38,13 +38,12 @@ impl<'a, A: Allocator> Model for AreaWays<'a, A> {
 }
 
 impl<'a, A: Allocator + Copy> AreaWays<'a, A> {
-    /// No ways.
-    pub(crate) fn new(alloc: A) -> AreaWays<'a, A>
-        ensures { result ≡ [] }
+    /// No ways, with room for so many.
+    pub(crate) fn with_capacity(alloc: A, count: usize) -> Result<AreaWays<'a, A>, AllocError>
+        ensures { IfOk result (λ ways. ways ≡ []) }
     {
-        AreaWays {
-            ways: BestWays::new(alloc),
-        }
+        let ways = BestWays::with_capacity(alloc, count)?;
+        Ok(AreaWays { ways })
     }
 
     /// Adds a way to a prefix.

@@ -50,6 +50,16 @@ impl<A: Allocator + Copy> AreaList<A> {
         }
     }
 
+    /// One area. It takes no memory.
+    pub(crate) fn of_one(alloc: A, area: AreaId) -> AreaList<A>
+        ensures { result ≡ area ∷ [] }
+    {
+        AreaList {
+            alloc,
+            kept: Kept::One([area]),
+        }
+    }
+
     /// The areas in rising order, each once.
     pub fn as_slice(&self) -> &[AreaId]
         ensures areas { result.now ≡ self.now }

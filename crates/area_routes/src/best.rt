@@ -46,6 +46,15 @@ impl<'a, K: Ord + Copy + Drop, A: Allocator + Copy> BestWays<'a, K, A> {
         }
     }
 
+    /// Of no candidates, with room for so many.
+    pub(crate) fn with_capacity(alloc: A, count: usize) -> Result<BestWays<'a, K, A>, AllocError>
+        ensures { IfOk result (λ ways. ways ≡ []) }
+    {
+        Ok(BestWays {
+            candidates: Vec::with_capacity(alloc, count)?,
+        })
+    }
+
     /// Takes a further candidate into account: a way to a destination, with what it is compared
     /// by, the area that it leads through if it stays in one, and its next hops.
     ///
@@ -150,7 +159,7 @@ fn ways_in_order<K: Ord + Copy + Drop, A: Allocator + Copy>(
     ensures ways { IfOk result (λ ways. ways.items ≡ ways_of K.cmp candidates.now) }
     ensures sorted { IfOk result (λ ways. IsStrictlySortedBy K.cmp (keys_of ways.items)) }
 {
-    let mut ways = Vec::new(alloc);
+    let mut ways = Vec::with_capacity(alloc, candidates.len())?;
     for candidate in candidates {
         if is_last(&ways, candidate.key) {
             merge_last(alloc, &mut ways, candidate)?;

@@ -72,7 +72,7 @@ fn offers_of<'a, A: Allocator + Copy>(
     ensures below { IfOk result (λ offers. OffersBelow (2 ^ 33) offers.items) }
     ensures sorted { IfOk result (λ offers. AreSortedOffers offers.items) }
 {
-    let mut ways = AreaWays::new(alloc);
+    let mut ways = AreaWays::with_capacity(alloc, links.len())?;
     add_networks(alloc, &mut ways, reached)?;
     add_stubs(&mut ways, root, tree, hops, links)?;
     ways.into_offers(alloc)

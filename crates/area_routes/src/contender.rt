@@ -1,12 +1,14 @@
 //! Candidates for destinations, which borrow their next hops.
 
-ghost use Rattle.std.specs.Prelude.{◌≡◌};
+ghost use Rattle.std.specs.Prelude.{◌≡◌, IfOk};
+ghost use Rattle.area_graph.specs.Rising.{rising};
 ghost use Rattle.next_hops.specs.Hop.{hop_cmp};
 ghost use Rattle.area_routes.specs.steps.Merge.{candidate_cmp, contender_cmp, first_hop};
 
 use crate::rank::Rank;
 use lsa_codec::{Addr, AreaId};
-use next_hops::{Hop, hop_order};
+use next_hops::{Hop, HopList, hop_order};
+use std::alloc::{AllocError, Allocator};
 use std::cmp::Ordering;
 use std::marker::Model;
 
@@ -40,6 +42,20 @@ impl<'a, K> Model for Contender<'a, K> {
     } };
 }
 
+impl<'a, K> Contender<'a, K> {
+    /// A list of its next hops, as they are where the way goes on.
+    pub(crate) fn hop_list<A: Allocator + Copy>(&self, alloc: A) -> Result<HopList<A>, AllocError>
+        ensures { IfOk result (λ hops. hops ≡ rising hop_cmp self.now.hops) }
+    {
+        let Some(address) = self.onward else {
+            return HopList::of(alloc, self.hops);
+        };
+        let mut hops = HopList::new(alloc)?;
+        hops.join_extended(self.hops, address)?;
+        Ok(hops)
+    }
+}
+
 impl<'a, K: Ord + Copy> Contender<'a, K> {
     /// The first of its next hops, as it is where the way goes on; `Connected` where it has none.
     fn first_hop(&self) -> Hop
@@ -66,7 +82,10 @@ impl<'a, K: Ord + Copy> Contender<'a, K> {
     fn compare_ways(&self, other: &Contender<'a, K>) -> Ordering
         ensures { result ≡ candidate_cmp K.cmp self.now other.now }
     {
-        self.key.cmp(&other.key).then(self.rank.cmp(&other.rank))
+        match self.key.cmp(&other.key) {
+            Ordering::Equal => self.rank.cmp(&other.rank),
+            order => order,
+        }
     }
 
     /// Compares two candidates: by their destinations, and then by their ranks. Equal ones are

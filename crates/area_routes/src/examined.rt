@@ -8,8 +8,8 @@ use crate::area_result::AreaResult;
 use lsa_codec::AreaId;
 use std::alloc::Allocator;
 
-/// The result of the backbone.
-fn backbone<A: Allocator + Copy>(results: &[AreaResult<A>]) -> Option<&AreaResult<A>>
+/// Of what areas give, that of the backbone (RFC 2328, 3.1).
+pub fn backbone<A: Allocator + Copy>(results: &[AreaResult<A>]) -> Option<&AreaResult<A>>
     ensures { option_copied result ≡ backbone results.now }
 {
     results.iter().find(|area| area.area() == AreaId::BACKBONE)

@@ -112,7 +112,7 @@ fn routes_by<A: Allocator + Copy>(
     ensures routes { IfOk result (λ routes. routes.items ≡ map (intra_route area) offers.now) }
     ensures hops { IfOk result (λ routes. All (λ o. IsSortedHops o.hops) offers.now) }
 {
-    let mut routes = Vec::new(alloc);
+    let mut routes = Vec::with_capacity(alloc, offers.len())?;
     for offer in offers {
         routes.push(route_by(alloc, area, offer)?)?;
     }
@@ -128,12 +128,10 @@ fn route_by<A: Allocator + Copy>(
     ensures route { IfOk result (λ route. route ≡ intra_route area offer.now) }
     ensures hops { IfOk result (λ _. IsSortedHops offer.now.hops) }
 {
-    let mut areas = AreaList::new(alloc);
-    areas.add(area)?;
     Ok(Route {
         net: offer.net,
         kind: PathType::Intra,
-        areas,
+        areas: AreaList::of_one(alloc, area),
         cost: offer.cost,
         cost2: 0,
         hops: offer.hops.clone_of(alloc)?,

@@ -56,6 +56,7 @@ pub use best::BestWays;
 pub use choice::network_choice;
 pub use entry::{EntryKind, RouterEntry};
 pub use entry_list::RouterEntries;
+pub use examined::backbone;
 pub use inside_routes::InsideRoutes;
 pub use inter_area::inter;
 pub use inter_result::InterResult;

@@ -63,9 +63,7 @@ impl<'a, A: Allocator + Copy> Reached<'a, A> {
     pub(crate) fn hop_list(&self, alloc: A) -> Result<HopList<A>, AllocError>
         ensures { IfOk result (λ hops. hops ≡ self.now.hops) }
     {
-        let mut hops = HopList::new(alloc)?;
-        hops.join(self.hops)?;
-        Ok(hops)
+        HopList::of(alloc, self.hops)
     }
 
     /// The prefix of a network; None for a router.

@@ -1,12 +1,13 @@
 //! The best ways to one destination.
 
-ghost use Rattle.std.specs.Prelude.{◌≡◌, OnOk, IfOk, Some};
-ghost use Rattle.area_routes.specs.steps.Merge.{fresh, merged, merge};
+ghost use Rattle.std.specs.Prelude.{◌≡◌, [], OnOk, IfOk, Some};
+ghost use Rattle.area_routes.specs.steps.Merge.{add_area, fresh, merged, merge};
 
 use crate::areas::AreaList;
 use crate::contender::Contender;
 use crate::laws::rank_order;
 use crate::rank::Rank;
+use lsa_codec::AreaId;
 use next_hops::HopList;
 use std::alloc::{AllocError, Allocator, Global};
 use std::cmp::Ordering;
@@ -43,13 +44,11 @@ impl<A: Allocator + Copy> Way<A> {
     pub(crate) fn of<K>(alloc: A, candidate: &Contender<'_, K>) -> Result<Way<A>, AllocError>
         ensures { IfOk result (λ way. way ≡ fresh candidate.now) }
     {
-        let mut way = Way {
+        Ok(Way {
             rank: candidate.rank,
-            areas: AreaList::new(alloc),
-            hops: HopList::new(alloc)?,
-        };
-        way.join(candidate)?;
-        Ok(way)
+            areas: areas_of(alloc, candidate.area),
+            hops: candidate.hop_list(alloc)?,
+        })
     }
 
     /// Adds the area and the hops of a candidate of the same rank.
@@ -80,5 +79,15 @@ impl<A: Allocator + Copy> Way<A> {
             Ordering::Greater => (),
         }
         Ok(())
+    }
+}
+
+/// The list of the area that a way leads through if it stays in one.
+fn areas_of<A: Allocator + Copy>(alloc: A, area: Option<AreaId>) -> AreaList<A>
+    ensures { result ≡ add_area [] area }
+{
+    match area {
+        Some(area) => AreaList::of_one(alloc, area),
+        None => AreaList::new(alloc),
     }
 }

@@ -72,6 +72,22 @@ impl<A: Allocator + Copy> Storage<A> {
         })
     }
 
+    /// These hops.
+    ///
+    /// # Errors
+    ///
+    /// Memory ran out, or a value would take half of the address space.
+    pub(crate) fn of(alloc: A, hops: &[Hop]) -> Result<Storage<A>, AllocError>
+        ensures { IfOk result (λ storage. storage ≡ hops.now) }
+    {
+        if !<A as HoldsHops>::fits() {
+            return Err(AllocError);
+        }
+        Ok(Storage {
+            hops: SmallVec::from_slice(alloc, hops)?,
+        })
+    }
+
     /// The hops.
     pub(crate) fn as_slice(&self) -> &[Hop]
         ensures { result.now ≡ self.now }

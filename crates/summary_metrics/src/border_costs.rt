@@ -2,18 +2,17 @@
 
 ghost use Rattle.std.specs.Prelude.{◌≡◌, ◌<◌, ◌^◌, ◌++◌, ◌∷◌, [], List, IfOk, IfSome, OnOk};
 ghost use Rattle.std.specs.Map.{lookup};
-ghost use Rattle.std.specs.Option.{option_copied};
 ghost use Rattle.std.specs.Ordering.{eq_by_cmp};
 ghost use Rattle.lsa_codec.specs.Order.{router_cmp};
 ghost use Rattle.area_routes.specs.declared.entry.EntryKind.TheVariants.{Border};
-ghost use Rattle.area_routes.specs.Inter.{backbone, same_kind};
+ghost use Rattle.area_routes.specs.Inter.{same_kind};
 ghost use Rattle.area_routes.specs.Values.{EntryValue};
 ghost use Rattle.summary_metrics.specs.Originators.{HasCosts, backbone_entries};
 ghost use Rattle.summary_metrics.specs.steps.AnnouncedCosts.{cost_from, lesser_cost, told_from};
 
 use crate::sources::Source;
-use area_routes::{AreaResult, EntryKind, RouterEntry};
-use lsa_codec::{AreaId, RouterId};
+use area_routes::{AreaResult, EntryKind, RouterEntry, backbone};
+use lsa_codec::RouterId;
 use std::alloc::{AllocError, Allocator};
 use std::collections::BTreeMap;
 use std::marker::Model;
@@ -35,13 +34,6 @@ impl<A: Allocator> Model for BorderCosts<A> {
     ghost view = { λ b. b.costs.entries };
 
     ghost invariant = { λ b. CostsBelow b.costs.entries };
-}
-
-/// What the backbone gives.
-fn backbone<A: Allocator + Copy>(results: &[AreaResult<A>]) -> Option<&AreaResult<A>>
-    ensures { option_copied result ≡ backbone results.now }
-{
-    results.iter().find(|area| area.area() == AreaId::BACKBONE)
 }
 
 /// Whether an entry is that of an area border router.

@@ -1,8 +1,7 @@
 //! What the areas of a router give it.
 
-ghost use Rattle.std.specs.Prelude.{◌≡◌, ◌++◌, IfOk, OnOk};
+ghost use Rattle.std.specs.Prelude.{◌≡◌, IfOk};
 ghost use Rattle.lsdb.specs.Lists.{Lists};
-ghost use Rattle.area_routes.specs.Inter.{entries_of_all};
 ghost use Rattle.summary_metrics.specs.Refreshed.{results_of};
 ghost use Rattle.summary_metrics.specs.Originators.{AreGiven, AreInside};
 ghost use Rattle.summary_metrics.specs.steps.AnnouncedCosts.{IsToldFor, asbr_cost, entry_cost, net_cost, route_cost};
@@ -32,35 +31,6 @@ impl<A: Allocator> Model for Inside<A> {
     ghost view = { λ i. record { routes = i.routes; entries = i.entries; borders = i.borders } };
 }
 
-/// Adds the entries of an area.
-fn add_entries<A: Allocator + Copy>(
-    alloc: A,
-    all: &mut RouterEntries<A>,
-    area: &AreaResult<A>,
-) -> Result<(), AllocError>
-    ensures { OnOk result (all.new ≡ all.old ++ area.now.entries) }
-{
-    let entries = area.entries();
-    for entry in entries {
-        all.push(entry.clone_of(alloc)?)?;
-    }
-    Ok(())
-}
-
-/// The entries of all areas, area by area.
-fn all_entries<A: Allocator + Copy>(
-    alloc: A,
-    results: &[AreaResult<A>],
-) -> Result<RouterEntries<A>, AllocError>
-    ensures { IfOk result (λ all. all ≡ entries_of_all results.now) }
-{
-    let mut all = RouterEntries::new(alloc);
-    for area in results {
-        add_entries(alloc, &mut all, area)?;
-    }
-    Ok(all)
-}
-
 /// The cost of an intra-area route; none where one of its paths leads through the area.
 fn route_cost<A: Allocator + Copy>(area: AreaId, route: &Route<A>) -> Option<u64>
     ensures { result ≡ route_cost area route.now }
@@ -88,7 +58,7 @@ impl<A: Allocator + Copy> Inside<A> {
     {
         Ok(Inside {
             routes: intra(alloc, results)?,
-            entries: all_entries(alloc, results)?,
+            entries: RouterEntries::of_all(alloc, results)?,
             borders: BorderCosts::of(alloc, results)?,
         })
     }

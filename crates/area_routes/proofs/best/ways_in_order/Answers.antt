@@ -32,7 +32,7 @@ loop-candidate-preserved g c =
     ])
 
 pub loop-candidate-init : goal.loop-candidate-init
-loop-candidate-init g c = subst (λ ws. Runs g.K.Ord.cmp [] ws) (sym c.new-ways.ensures.items) (begun g.K.Ord.cmp)
+loop-candidate-init g c = subst (λ ws. Runs g.K.Ord.cmp [] ws) (sym c.in_ok-ways.ensures.items) (begun g.K.Ord.cmp)
 
 pub returns-clause-ways : goal.returns-clause-ways
 returns-clause-ways g c =

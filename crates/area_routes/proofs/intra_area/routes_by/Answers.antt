@@ -10,7 +10,7 @@ use Rattle.area_routes.proofs.Bounds.{All-taken}
 use Rattle.area_routes.proofs.intra_area.routes_by.Goals as goal
 
 pub loop-offer-init : goal.loop-offer-init
-loop-offer-init g c = (c.new-routes.ensures.items, All-nil (λ (o : OfferValue). IsSortedHops o.hops))
+loop-offer-init g c = (c.in_ok-routes.ensures.items, All-nil (λ (o : OfferValue). IsSortedHops o.hops))
 
 pub loop-offer-preserved : goal.loop-offer-preserved
 loop-offer-preserved g c = (
