@@ -9,7 +9,7 @@ use Rattle.lsa_instances.specs.declared.place.Place.{Place}
 use Rattle.lsa_instances.specs.declared.place.Scope.{Scope}
 use Rattle.lsa_instances.specs.declared.place.Scope.TheVariants as scopes
 use Rattle.lsa_instances.specs.Headers as headers
-use Rattle.lsa_instances.specs.Instance.{issue_cmp, issue_of}
+use Rattle.lsa_instances.specs.Instance.{instance_id_cmp, instance_id_of}
 use Rattle.lsdb.specs.declared.section.Section.{Section}
 use Rattle.lsdb.specs.declared.section.Section.TheVariants as sections
 use Rattle.lsdb.specs.Lists.{Lists, has_key, lsas_of}
@@ -46,7 +46,7 @@ change_by header lsa orders.Greater = Some changes.Newer
 -- what the list has, beside the LSA that the database has, if it has one
 abbrev pub change_of : Header → Option (List ℕ) → Option Change
 change_of header None = absent header
-change_of header (Some lsa) = change_by header lsa (issue_cmp header.issue (issue_of lsa))
+change_of header (Some lsa) = change_by header lsa (instance_id_cmp header.instance (instance_id_of lsa))
 
 abbrev pub difference_of : Lists → Header → Option Difference
 difference_of db header =

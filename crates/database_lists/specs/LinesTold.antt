@@ -19,7 +19,7 @@ use Rattle.database_lists.specs.Rows.{row_under, area_under}
 abbrev pub in_scope : Row → Option Scope → LineTold
 in_scope row None = tells.Hole (holes.NoArea row.key)
 in_scope row (Some scope) =
-    tells.Header (record { place = record { scope = scope; key = row.key }; issue = row.issue; age = row.age })
+    tells.Header (record { place = record { scope = scope; key = row.key }; instance = row.instance; age = row.age })
 
 -- of the scope of a link (RFC 5250, 2): two links of an area may have LSAs of one key
 abbrev pub is_of_link : Row → Bool

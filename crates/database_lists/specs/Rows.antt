@@ -38,7 +38,7 @@ table_row kind line = do
   checksum ← value_of (marked_hex_of 4 0xffff) sequence.1
   Some (record {
     key = record { kind = kind; id = record { 0 = id.0 }; adv = record { 0 = adv.0 } };
-    issue = record { sequence = sequence.0; checksum = checksum.0 };
+    instance = record { sequence = sequence.0; checksum = checksum.0 };
     age = age.0;
   })
 
@@ -54,7 +54,7 @@ section_row line = do
   checksum ← value_of (hex_of 4 0xffff) age.1
   Some (record {
     key = record { kind = kind.0; id = record { 0 = id.0 }; adv = record { 0 = adv.0 } };
-    issue = record { sequence = sequence.0; checksum = checksum.0 };
+    instance = record { sequence = sequence.0; checksum = checksum.0 };
     age = age.0;
   })
 

@@ -6,7 +6,7 @@ ghost use Rattle.database_lists.specs.Comparing.{scope_section, lsa_of, absent, 
 ghost use Rattle.database_lists.specs.Texts.{change_text, difference_text};
 
 use lsa_codec::Lsa;
-use lsa_instances::{Header, Issue, Place, Scope, compare_issues};
+use lsa_instances::{Header, InstanceId, Place, Scope, compare_instance_ids};
 use lsdb::{Database, Section};
 use std::alloc::{AllocError, Allocator};
 use std::cmp::Ordering;
@@ -104,7 +104,7 @@ fn beside_same<A: Allocator + Copy>(header: Header, lsa: &Lsa<A>) -> Option<Chan
 fn change_from<A: Allocator + Copy>(header: Header, lsa: &Lsa<A>) -> Option<Change>
     ensures { result ≡ change_of header (Some lsa.now) }
 {
-    match compare_issues(header.issue, Issue::of(lsa)) {
+    match compare_instance_ids(header.instance, InstanceId::of(lsa)) {
         Ordering::Less => Some(Change::Older),
         Ordering::Equal => beside_same(header, lsa),
         Ordering::Greater => Some(Change::Newer),

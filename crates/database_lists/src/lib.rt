@@ -33,4 +33,4 @@ pub use fault::ListFault;
 pub use hole::Hole;
 pub use lines::list_lines;
 pub use list::{PrintedList, read_list};
-pub use lsa_instances::{Header, Issue};
+pub use lsa_instances::{Header, InstanceId};

@@ -35,7 +35,7 @@ fn in_scope(row: Row, scope: Option<Scope>) -> LineTold
                 scope,
                 key: row.key,
             },
-            issue: row.issue,
+            instance: row.instance,
             age: row.age,
         }),
     }

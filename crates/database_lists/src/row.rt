@@ -7,7 +7,7 @@ ghost use Rattle.database_lists.specs.Rows.{hex_of, marked_hex_of, value_of, tab
 
 use crate::heading::Heading;
 use lsa_codec::{Addr, Key, RouterId};
-use lsa_instances::Issue;
+use lsa_instances::InstanceId;
 use printed_databases::{address_of, hex_up_to, next_word, number_up_to};
 
 /// What a row has.
@@ -16,7 +16,7 @@ pub(crate) struct Row {
     /// LS type, Link State ID and Advertising Router.
     pub(crate) key: Key,
     /// LS sequence number and LS checksum.
-    pub(crate) issue: Issue,
+    pub(crate) instance: InstanceId,
     /// LS age, in seconds.
     pub(crate) age: u16,
 }
@@ -106,12 +106,12 @@ fn table_row(kind: u8, line: &[u8]) -> Option<Row>
         id: Addr(id),
         adv: RouterId(adv),
     };
-    let issue = Issue {
+    let instance = InstanceId {
         sequence,
         checksum: checksum as u16,
     };
     let age = age as u16;
-    Some(Row { key, issue, age })
+    Some(Row { key, instance, age })
 }
 
 /// A row of a section.
@@ -130,12 +130,12 @@ fn section_row(line: &[u8]) -> Option<Row>
         id: Addr(id),
         adv: RouterId(adv),
     };
-    let issue = Issue {
+    let instance = InstanceId {
         sequence,
         checksum: checksum as u16,
     };
     let age = age as u16;
-    Some(Row { key, issue, age })
+    Some(Row { key, instance, age })
 }
 
 /// The row that stands under a heading.

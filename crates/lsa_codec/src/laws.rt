@@ -15,6 +15,7 @@ ghost use Rattle.lsa_codec.specs.Fields.{kind_of};
 ghost use Rattle.lsa_codec.specs.Prefix.{Net, IsNet, is_mask, mask_of_len, len_of_mask};
 ghost use Rattle.lsa_codec.specs.Checksum.{is_checksum_good, with_checksum};
 ghost use Rattle.lsa_codec.specs.Links.{links_of, link_numbered, remetered, unplaced};
+ghost use Rattle.lsa_codec.specs.LsTypes.{router_lsa};
 ghost use Rattle.lsa_codec.specs.Accepted.{IsAccepted};
 ghost use Rattle.lsa_codec.specs.Decoding.{decoded};
 ghost use Rattle.lsa_codec.specs.Views.{has_metric};
@@ -47,10 +48,11 @@ pub fn made_checksum_is_good()
 /// The links after a removal are the kept ones in order, apart from the offsets at which they
 /// stand.
 pub fn links_after_removal()
-    ensures link { (k : ℕ) (lsa made : List ℕ) → IsAccepted lsa → kind_of lsa ≡ 1
+    ensures link { (k : ℕ) (lsa made : List ℕ) → IsAccepted lsa → kind_of lsa ≡ router_lsa
         → without_link k lsa ≡ Ok made
         → map unplaced (links_of made) ≡ map unplaced (remove (links_of lsa) (k - 1)) }
-    ensures links { (test : Link → Bool) (lsa made : List ℕ) → IsAccepted lsa → kind_of lsa ≡ 1
+    ensures links { (test : Link → Bool) (lsa made : List ℕ) → IsAccepted lsa
+        → kind_of lsa ≡ router_lsa
         → without_links test lsa ≡ Ok made
         → map unplaced (links_of made)
         ≡ map unplaced (filter (λ link. not (test link)) (links_of lsa)) }
@@ -58,7 +60,8 @@ pub fn links_after_removal()
 
 /// The links after another cost are the old ones, with the new metric in link `k`.
 pub fn links_after_cost()
-    ensures { (k metric : ℕ) (link : Link) (lsa made : List ℕ) → IsAccepted lsa → kind_of lsa ≡ 1
+    ensures { (k metric : ℕ) (link : Link) (lsa made : List ℕ) → IsAccepted lsa
+        → kind_of lsa ≡ router_lsa
         → metric < 2 ^ 16 → link_numbered k lsa ≡ Some link → with_cost k metric lsa ≡ Ok made
         → links_of made ≡ set (links_of lsa) (k - 1) (remetered link metric) }
 {}
@@ -66,20 +69,23 @@ pub fn links_after_cost()
 /// The links after a stub link is added are the old ones, at their offsets, and then that one,
 /// where the old LSA ended.
 pub fn links_after_stub()
-    ensures { (net : Net) (metric : ℕ) (lsa made : List ℕ) → IsAccepted lsa → kind_of lsa ≡ 1
+    ensures { (net : Net) (metric : ℕ) (lsa made : List ℕ) → IsAccepted lsa
+        → kind_of lsa ≡ router_lsa
         → net.addr.0 < 2 ^ 32 → metric < 2 ^ 16 → with_stub net metric lsa ≡ Ok made
         → links_of made ≡ links_of lsa ++ stub_link net metric (length lsa) ∷ [] }
 {}
 
 /// A router-LSA that is made from another keeps its LS age and its flags.
 pub fn router_makers_keep_age_and_flags()
-    ensures cost { (k metric : ℕ) (lsa made : List ℕ) → IsAccepted lsa → kind_of lsa ≡ 1
+    ensures cost { (k metric : ℕ) (lsa made : List ℕ) → IsAccepted lsa → kind_of lsa ≡ router_lsa
         → metric < 2 ^ 16 → with_cost k metric lsa ≡ Ok made → KeepsAgeAndFlags lsa made }
-    ensures link { (k : ℕ) (lsa made : List ℕ) → IsAccepted lsa → kind_of lsa ≡ 1
+    ensures link { (k : ℕ) (lsa made : List ℕ) → IsAccepted lsa → kind_of lsa ≡ router_lsa
         → without_link k lsa ≡ Ok made → KeepsAgeAndFlags lsa made }
-    ensures links { (test : Link → Bool) (lsa made : List ℕ) → IsAccepted lsa → kind_of lsa ≡ 1
+    ensures links { (test : Link → Bool) (lsa made : List ℕ) → IsAccepted lsa
+        → kind_of lsa ≡ router_lsa
         → without_links test lsa ≡ Ok made → KeepsAgeAndFlags lsa made }
-    ensures stub { (net : Net) (metric : ℕ) (lsa made : List ℕ) → IsAccepted lsa → kind_of lsa ≡ 1
+    ensures stub { (net : Net) (metric : ℕ) (lsa made : List ℕ) → IsAccepted lsa
+        → kind_of lsa ≡ router_lsa
         → with_stub net metric lsa ≡ Ok made → KeepsAgeAndFlags lsa made }
 {}
 
@@ -92,13 +98,15 @@ pub fn metric_alone_changes()
 /// An LSA that a maker makes from another is accepted and has the same key. It is no longer than
 /// the other, but where a stub link is added.
 pub fn makers_keep_the_key()
-    ensures cost { (k metric : ℕ) (lsa made : List ℕ) → IsAccepted lsa → kind_of lsa ≡ 1
+    ensures cost { (k metric : ℕ) (lsa made : List ℕ) → IsAccepted lsa → kind_of lsa ≡ router_lsa
         → metric < 2 ^ 16 → with_cost k metric lsa ≡ Ok made → IsRewriteOf lsa made }
-    ensures link { (k : ℕ) (lsa made : List ℕ) → IsAccepted lsa → kind_of lsa ≡ 1
+    ensures link { (k : ℕ) (lsa made : List ℕ) → IsAccepted lsa → kind_of lsa ≡ router_lsa
         → without_link k lsa ≡ Ok made → IsRewriteOf lsa made }
-    ensures links { (test : Link → Bool) (lsa made : List ℕ) → IsAccepted lsa → kind_of lsa ≡ 1
+    ensures links { (test : Link → Bool) (lsa made : List ℕ) → IsAccepted lsa
+        → kind_of lsa ≡ router_lsa
         → without_links test lsa ≡ Ok made → IsRewriteOf lsa made }
-    ensures stub { (net : Net) (metric : ℕ) (lsa made : List ℕ) → IsAccepted lsa → kind_of lsa ≡ 1
+    ensures stub { (net : Net) (metric : ℕ) (lsa made : List ℕ) → IsAccepted lsa
+        → kind_of lsa ≡ router_lsa
         → IsNet net → with_stub net metric lsa ≡ Ok made → IsExtensionOf lsa made }
     ensures metric { (metric : ℕ) (lsa : List ℕ) → IsAccepted lsa → has_metric (kind_of lsa) ≡ true
         → IsRewriteOf lsa (with_metric metric lsa) }

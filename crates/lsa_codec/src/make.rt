@@ -2,6 +2,7 @@
 
 ghost use Rattle.std.specs.Prelude.{◌≡◌, ◌+◌, ◌≤◌, ◌<◌, ◌^◌, length, IfOk, IfErr, Ok};
 ghost use Rattle.lsa_codec.specs.Fields.{kind_of};
+ghost use Rattle.lsa_codec.specs.LsTypes.{router_lsa};
 ghost use Rattle.lsa_codec.specs.Making.{with_cost, with_metric_of, IsMakeFaultOf, IsRewriteOf};
 
 use crate::checksum::set_checksum;
@@ -45,7 +46,7 @@ impl<A: Allocator + Copy> Lsa<A> {
     /// `NoLink` where there is no link `k`, then `ZeroCost` where the metric is 0 and link `k`
     /// leads to a router or to a transit network, then `OutOfMemory`.
     pub fn with_cost(&self, alloc: A, k: u16, metric: u16) -> Result<Lsa<A>, MakeFault>
-        requires router { kind_of self.now ≡ 1 }
+        requires router { kind_of self.now ≡ router_lsa }
         ensures made { IfOk result (λ lsa. with_cost k metric self.now ≡ Ok lsa) }
         ensures keeps { IfOk result (λ lsa. IsRewriteOf self.now lsa) }
         ensures fault { IfErr result (λ fault. IsMakeFaultOf fault (with_cost k metric self.now)) }

@@ -8,6 +8,7 @@ ghost use Rattle.lsa_codec.specs.Accepted.{IsAccepted};
 ghost use Rattle.lsa_codec.specs.declared.fault.MakeFault.TheVariants.{OutOfMemory};
 ghost use Rattle.lsa_codec.specs.Fields.{kind_of};
 ghost use Rattle.lsa_codec.specs.Links.{links_of, link_count, link_length, link_numbered, unplaced};
+ghost use Rattle.lsa_codec.specs.LsTypes.{router_lsa};
 ghost use Rattle.lsa_codec.specs.Making.{recounted, link_text, with_links, without_link, without_links, leads_to, leads_to_net, is_end_of, with_stub, stub_text, IsMakeFaultOf, IsRewriteOf, IsExtensionOf, IsLinkOf};
 
 use crate::address::{Addr, RouterId};
@@ -71,7 +72,7 @@ fn link_texts<A: Allocator + Copy>(
 impl<A: Allocator + Copy> Lsa<A> {
     /// The router-LSA with these of its links alone, in this order.
     fn with_links(&self, alloc: A, kept: &[Link]) -> Result<Lsa<A>, MakeFault>
-        requires router { kind_of self.now ≡ 1 }
+        requires router { kind_of self.now ≡ router_lsa }
         requires links { All (IsLinkOf self.now) kept.now }
         requires shorter { 24 + length (flat_map (link_text self.now) kept.now) ≤ length self.now }
         ensures made { IfOk result (λ lsa. lsa ≡ with_links kept.now self.now) }
@@ -85,7 +86,7 @@ impl<A: Allocator + Copy> Lsa<A> {
     /// The router-LSA without link `k`, counted from 1, and without its TOS metrics. For
     /// router-LSAs alone. Errors: `NoLink` where there is no link `k`, then `OutOfMemory`.
     pub fn without_link(&self, alloc: A, k: u16) -> Result<Lsa<A>, MakeFault>
-        requires router { kind_of self.now ≡ 1 }
+        requires router { kind_of self.now ≡ router_lsa }
         ensures made { IfOk result (λ lsa. without_link k self.now ≡ Ok lsa) }
         ensures keeps { IfOk result (λ lsa. IsRewriteOf self.now lsa) }
         ensures fault { IfErr result (λ fault. IsMakeFaultOf fault (without_link k self.now)) }
@@ -103,7 +104,7 @@ impl<A: Allocator + Copy> Lsa<A> {
     /// The router-LSA without its point-to-point links to a router. Virtual links to it stay. For
     /// router-LSAs alone. Errors: `NoLink` where it has no such link, then `OutOfMemory`.
     pub fn without_links_to(&self, alloc: A, router: RouterId) -> Result<Lsa<A>, MakeFault>
-        requires router { kind_of self.now ≡ 1 }
+        requires router { kind_of self.now ≡ router_lsa }
         ensures made { IfOk result (λ lsa. without_links (leads_to router) self.now ≡ Ok lsa) }
         ensures keeps { IfOk result (λ lsa. IsRewriteOf self.now lsa) }
         ensures fault { IfErr result (λ fault.
@@ -116,7 +117,7 @@ impl<A: Allocator + Copy> Lsa<A> {
     /// address. For router-LSAs alone. Errors: `NoLink` where it has no such link, then
     /// `OutOfMemory`.
     pub fn without_net_links(&self, alloc: A, addr: Addr) -> Result<Lsa<A>, MakeFault>
-        requires router { kind_of self.now ≡ 1 }
+        requires router { kind_of self.now ≡ router_lsa }
         ensures made { IfOk result (λ lsa. without_links (leads_to_net addr) self.now ≡ Ok lsa) }
         ensures keeps { IfOk result (λ lsa. IsRewriteOf self.now lsa) }
         ensures fault { IfErr result (λ fault.
@@ -127,7 +128,7 @@ impl<A: Allocator + Copy> Lsa<A> {
 
     /// The router-LSA without its links to a target.
     fn without_links(&self, alloc: A, target: Target) -> Result<Lsa<A>, MakeFault>
-        requires router { kind_of self.now ≡ 1 }
+        requires router { kind_of self.now ≡ router_lsa }
         ensures made { IfOk result (λ lsa. without_links (is_end_of target) self.now ≡ Ok lsa) }
         ensures keeps { IfOk result (λ lsa. IsRewriteOf self.now lsa) }
         ensures fault { IfErr result (λ fault.
@@ -147,7 +148,7 @@ impl<A: Allocator + Copy> Lsa<A> {
     /// without TOS metrics. For router-LSAs alone. Errors: `TooLong` where it would have more
     /// than 65,535 octets, then `OutOfMemory`.
     pub fn with_stub(&self, alloc: A, net: Prefix, metric: u16) -> Result<Lsa<A>, MakeFault>
-        requires router { kind_of self.now ≡ 1 }
+        requires router { kind_of self.now ≡ router_lsa }
         ensures made { IfOk result (λ lsa. with_stub net metric self.now ≡ Ok lsa) }
         ensures keeps { IfOk result (λ lsa. IsExtensionOf self.now lsa) }
         ensures fault { IfErr result

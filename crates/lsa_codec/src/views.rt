@@ -5,6 +5,7 @@ ghost use Rattle.std.specs.Prelude.{◌≡◌, ◌≢◌, ◌≤◌, ◌<◌, �
 ghost use Rattle.std.specs.Iterator.{YieldsFirst, item_count};
 ghost use Rattle.lsa_codec.specs.Fields.{kind_of, octet_at, mask_of};
 ghost use Rattle.lsa_codec.specs.Links.{links_of, link_count, link_numbered};
+ghost use Rattle.lsa_codec.specs.LsTypes.{asbr_summary_lsa, external_lsa, network_lsa, router_lsa, summary_lsa};
 ghost use Rattle.lsa_codec.specs.Prefix.{is_mask};
 ghost use Rattle.lsa_codec.specs.Accepted.{IsAccepted};
 ghost use Rattle.lsa_codec.specs.Views.{net_of_lsa, net_of_summary, routers_from, attached_of, has_metric, metric_of, is_type2_of, forward_of, tag_of};
@@ -28,13 +29,14 @@ pub struct RouterView<'a> {
 impl<'a> Model for RouterView<'a> {
     ghost use Rattle.std.specs.Prelude.{◌≡◌, List, ℕ};
     ghost use Rattle.lsa_codec.specs.Fields.{kind_of};
+    ghost use Rattle.lsa_codec.specs.LsTypes.{router_lsa};
     ghost use Rattle.lsa_codec.specs.Accepted.{IsAccepted};
 
     ghost Value = { List ℕ };
 
     ghost view = { λ v. v.lsa.now };
 
-    ghost invariant = { λ v. IsAccepted v.lsa.now × (kind_of v.lsa.now ≡ 1) };
+    ghost invariant = { λ v. IsAccepted v.lsa.now × (kind_of v.lsa.now ≡ router_lsa) };
 }
 
 /// A network-LSA, seen as its octets (RFC 2328, A.4.3).
@@ -66,6 +68,7 @@ pub struct SummaryView<'a> {
 impl<'a> Model for SummaryView<'a> {
     ghost use Rattle.std.specs.Prelude.{◌≡◌, ◌≤◌, length, List, ℕ, true};
     ghost use Rattle.lsa_codec.specs.Fields.{kind_of, mask_of};
+    ghost use Rattle.lsa_codec.specs.LsTypes.{summary_lsa};
     ghost use Rattle.lsa_codec.specs.Prefix.{is_mask};
 
     ghost Value = { List ℕ };
@@ -73,7 +76,7 @@ impl<'a> Model for SummaryView<'a> {
     ghost view = { λ v. v.lsa.now };
 
     ghost invariant = { λ v. (28 ≤ length v.lsa.now)
-        × (kind_of v.lsa.now ≡ 3 → is_mask (mask_of v.lsa.now) ≡ true) };
+        × (kind_of v.lsa.now ≡ summary_lsa → is_mask (mask_of v.lsa.now) ≡ true) };
 }
 
 /// An AS-external-LSA, seen as its octets (RFC 2328, A.4.5).
@@ -97,8 +100,8 @@ impl<'a> Model for ExternalView<'a> {
 impl<A: Allocator + Copy> Lsa<A> {
     /// The LSA as a router-LSA, where it is one, which is type 1.
     pub fn router(&self) -> Option<RouterView<'_>>
-        ensures { MatchOption result (kind_of self.now ≢ 1)
-            (λ view. (view ≡ self.now) × (kind_of self.now ≡ 1) × IsAccepted self.now) }
+        ensures { MatchOption result (kind_of self.now ≢ router_lsa)
+            (λ view. (view ≡ self.now) × (kind_of self.now ≡ router_lsa) × IsAccepted self.now) }
     {
         let lsa = self.bytes();
         if lsa[3] != ROUTER_LSA {
@@ -109,8 +112,8 @@ impl<A: Allocator + Copy> Lsa<A> {
 
     /// The LSA as a network-LSA, where it is one, which is type 2.
     pub fn network(&self) -> Option<NetworkView<'_>>
-        ensures { MatchOption result (kind_of self.now ≢ 2)
-            (λ view. (view ≡ self.now) × (kind_of self.now ≡ 2)) }
+        ensures { MatchOption result (kind_of self.now ≢ network_lsa)
+            (λ view. (view ≡ self.now) × (kind_of self.now ≡ network_lsa)) }
     {
         let lsa = self.bytes();
         if lsa[3] != NETWORK_LSA {
@@ -121,7 +124,8 @@ impl<A: Allocator + Copy> Lsa<A> {
 
     /// The LSA as a summary-LSA, where it is one, which is type 3 or 4.
     pub fn summary(&self) -> Option<SummaryView<'_>>
-        ensures { MatchOption result ((kind_of self.now ≢ 3) × (kind_of self.now ≢ 4))
+        ensures { MatchOption result
+            ((kind_of self.now ≢ summary_lsa) × (kind_of self.now ≢ asbr_summary_lsa))
             (λ view. (view ≡ self.now) × (3 ≤ kind_of self.now) × (kind_of self.now ≤ 4)) }
     {
         let lsa = self.bytes();
@@ -133,8 +137,8 @@ impl<A: Allocator + Copy> Lsa<A> {
 
     /// The LSA as an AS-external-LSA, where it is one, which is type 5.
     pub fn external(&self) -> Option<ExternalView<'_>>
-        ensures { MatchOption result (kind_of self.now ≢ 5)
-            (λ view. (view ≡ self.now) × (kind_of self.now ≡ 5)) }
+        ensures { MatchOption result (kind_of self.now ≢ external_lsa)
+            (λ view. (view ≡ self.now) × (kind_of self.now ≡ external_lsa)) }
     {
         let lsa = self.bytes();
         if lsa[3] != EXTERNAL_LSA {

@@ -11,27 +11,27 @@ use Rattle.lsa_codec.specs.declared.address.AreaId.{AreaId}
 use Rattle.lsa_codec.specs.Key.{is_at_max_age}
 use Rattle.lsa_codec.specs.Order.{key_cmp}
 use Rattle.lsa_codec.proofs.OrderLemmas.{key_exact, key_total, then_both}
-use Rattle.lsa_instances.specs.declared.header.Issue.{Issue}
+use Rattle.lsa_instances.specs.declared.header.InstanceId.{InstanceId}
 use Rattle.lsa_instances.specs.declared.place.Place.{Place}
 use Rattle.lsa_instances.specs.declared.place.Scope.{Scope}
 use Rattle.lsa_instances.specs.declared.place.Scope.TheVariants.{Area, AsWide}
 use Rattle.lsa_instances.specs.declared.sighting.Sighting.{Sighting}
-use Rattle.lsa_instances.specs.Instance.{instance_cmp, issue_cmp, issue_of, seconds_of, signed}
+use Rattle.lsa_instances.specs.Instance.{instance_cmp, instance_id_cmp, instance_id_of, seconds_of, signed}
 use Rattle.lsa_instances.specs.Order.{scope_number, area_of, scope_cmp, place_cmp, place_of}
 use Rattle.lsa_instances.specs.steps.SightingOrder.{sighting_cmp}
 
-pub issue_total : IsTotalOrder issue_cmp
-issue_total = then_total (on_total (λ (i : Issue). signed i.sequence) nat_cmp_total) (on_total (λ (i : Issue). i.checksum) nat_cmp_total)
+pub instance_id_total : IsTotalOrder instance_id_cmp
+instance_id_total = then_total (on_total (λ (i : InstanceId). signed i.sequence) nat_cmp_total) (on_total (λ (i : InstanceId). i.checksum) nat_cmp_total)
 
 pub instance_total : IsTotalOrder instance_cmp
 instance_total =
-    then_total (on_total issue_of issue_total)
+    then_total (on_total instance_id_of instance_id_total)
     (then_total (on_total is_at_max_age bool_cmp_total)
     (then_total (back_total (on_total seconds_of nat_cmp_total)) nat_list_cmp_total))
 
 pub instance_exact : (a b : List ℕ) → instance_cmp a b ≡ Equal → a ≡ b
 instance_exact a b h =
-    let p = then_both (issue_cmp (issue_of a) (issue_of b)) _ h in
+    let p = then_both (instance_id_cmp (instance_id_of a) (instance_id_of b)) _ h in
     let q = then_both (bool_cmp (is_at_max_age a) (is_at_max_age b)) _ p.1 in
     let r = then_both (nat_cmp (seconds_of b) (seconds_of a)) (slice_cmp nat_cmp a b) q.1 in
     exact_bytes a b r.1

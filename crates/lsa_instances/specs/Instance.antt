@@ -5,7 +5,7 @@ use Rattle.std.specs.Ordering.{nat_cmp, bool_cmp, ordering_then}
 use Rattle.std.specs.declared.cmp.Ordering.{Ordering}
 use Rattle.lsa_codec.specs.Fields.{age_of, checksum_of, number_at}
 use Rattle.lsa_codec.specs.Key.{is_at_max_age}
-use Rattle.lsa_instances.specs.declared.header.Issue.{Issue}
+use Rattle.lsa_instances.specs.declared.header.InstanceId.{InstanceId}
 
 -- LS sequence number
 abbrev pub sequence_of : List ℕ → ℕ
@@ -19,12 +19,12 @@ abbrev pub signed_sequence_of : List ℕ → ℕ
 signed_sequence_of lsa = signed (sequence_of lsa)
 
 -- which instance it is, but for its age
-abbrev pub issue_of : List ℕ → Issue
-issue_of lsa = record { sequence = sequence_of lsa; checksum = checksum_of lsa }
+abbrev pub instance_id_of : List ℕ → InstanceId
+instance_id_of lsa = record { sequence = sequence_of lsa; checksum = checksum_of lsa }
 
 -- `Greater` where the first is newer, whatever the ages: by sequence number, then by checksum
-abbrev pub issue_cmp : Issue → Issue → Ordering
-issue_cmp a b = ordering_then (nat_cmp (signed a.sequence) (signed b.sequence)) (nat_cmp a.checksum b.checksum)
+abbrev pub instance_id_cmp : InstanceId → InstanceId → Ordering
+instance_id_cmp a b = ordering_then (nat_cmp (signed a.sequence) (signed b.sequence)) (nat_cmp a.checksum b.checksum)
 
 -- the LS age in seconds, without the bit DoNotAge
 abbrev pub seconds_of : List ℕ → ℕ
@@ -35,7 +35,7 @@ seconds_of lsa = bit_and (age_of lsa) 0x7fff
 -- checksum allows, the octets decide
 abbrev pub instance_cmp : List ℕ → List ℕ → Ordering
 instance_cmp a b =
-    ordering_then (issue_cmp (issue_of a) (issue_of b))
+    ordering_then (instance_id_cmp (instance_id_of a) (instance_id_of b))
     (ordering_then (bool_cmp (is_at_max_age a) (is_at_max_age b))
     (ordering_then (nat_cmp (seconds_of b) (seconds_of a)) (slice_cmp nat_cmp a b)))
 

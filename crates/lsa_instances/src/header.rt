@@ -2,7 +2,7 @@
 
 ghost use Rattle.std.specs.Prelude.{◌≡◌};
 ghost use Rattle.lsa_instances.specs.Headers.{is_at_max_age};
-ghost use Rattle.lsa_instances.specs.Instance.{issue_cmp, issue_of};
+ghost use Rattle.lsa_instances.specs.Instance.{instance_id_cmp, instance_id_of};
 
 use crate::place::Place;
 use byteorder::{BigEndian, ByteOrder};
@@ -12,19 +12,19 @@ use std::cmp::Ordering;
 
 /// Which instance of an LSA it is, but for its age.
 #[derive(Clone, Copy, Debug, PartialEq, Eq)]
-pub struct Issue {
+pub struct InstanceId {
     /// The LS sequence number; it counts as a signed number (RFC 2328, 12.1.6).
     pub sequence: u32,
     /// The LS checksum.
     pub checksum: u16,
 }
 
-impl Issue {
+impl InstanceId {
     /// Which instance an LSA is.
-    pub fn of<A: Allocator + Copy>(lsa: &Lsa<A>) -> Issue
-        ensures { result ≡ issue_of lsa.now }
+    pub fn of<A: Allocator + Copy>(lsa: &Lsa<A>) -> InstanceId
+        ensures { result ≡ instance_id_of lsa.now }
     {
-        Issue {
+        InstanceId {
             sequence: BigEndian::read_u32(&lsa.bytes()[12..]),
             checksum: BigEndian::read_u16(&lsa.bytes()[16..]),
         }
@@ -33,8 +33,8 @@ impl Issue {
 
 /// Compares two instances of one LSA, whatever their ages: `Greater` where the first is newer, by
 /// LS sequence number, which is signed, then by LS checksum (RFC 2328, 13.1).
-pub fn compare_issues(a: Issue, b: Issue) -> Ordering
-    ensures { result ≡ issue_cmp a b }
+pub fn compare_instance_ids(a: InstanceId, b: InstanceId) -> Ordering
+    ensures { result ≡ instance_id_cmp a b }
 {
     let sequence = (a.sequence ^ 0x8000_0000).cmp(&(b.sequence ^ 0x8000_0000));
     sequence.then(a.checksum.cmp(&b.checksum))
@@ -46,7 +46,7 @@ pub struct Header {
     /// Where the LSA is flooded, and what names it there.
     pub place: Place,
     /// Which instance it is.
-    pub issue: Issue,
+    pub instance: InstanceId,
     /// The LS age, in seconds; its top bit is DoNotAge (RFC 1793, 2.2).
     pub age: u16,
 }

@@ -20,7 +20,7 @@ mod sighting;
 
 pub use area::{AreaKind, ToldArea};
 pub use choice::newest;
-pub use header::{Header, Issue, compare_issues};
+pub use header::{Header, InstanceId, compare_instance_ids};
 pub use keeping::FlushedLsas;
 pub use laws::{flushed_lsas, instance_order, keys_rise, newest_in_any_order};
 pub use ls_type::{AREA_OPAQUE_LSA, LINK_OPAQUE_LSA, NSSA_LSA};

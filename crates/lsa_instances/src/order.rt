@@ -6,7 +6,7 @@ ghost use Rattle.lsa_instances.specs.Instance.{instance_cmp, seconds_of};
 ghost use Rattle.lsa_instances.specs.Order.{place_cmp};
 ghost use Rattle.lsa_instances.specs.steps.SightingOrder.{sighting_cmp};
 
-use crate::header::{Issue, compare_issues};
+use crate::header::{InstanceId, compare_instance_ids};
 use crate::place::Place;
 use crate::sighting::Sighting;
 use byteorder::{BigEndian, ByteOrder};
@@ -26,11 +26,11 @@ fn seconds_of<A: Allocator + Copy>(lsa: &Lsa<A>) -> u16
 pub fn compare_instances<A: Allocator + Copy>(a: &Lsa<A>, b: &Lsa<A>) -> Ordering
     ensures { result ≡ instance_cmp a.now b.now }
 {
-    let issue = compare_issues(Issue::of(a), Issue::of(b));
+    let instance = compare_instance_ids(InstanceId::of(a), InstanceId::of(b));
     let max_age = a.at_max_age().cmp(&b.at_max_age());
     let youth = seconds_of(b).cmp(&seconds_of(a));
     let octets = a.bytes().cmp(b.bytes());
-    issue.then(max_age.then(youth.then(octets)))
+    instance.then(max_age.then(youth.then(octets)))
 }
 
 /// Compares two places: by scope, then by key.

@@ -16,7 +16,7 @@ use Rattle.ospf_packets.specs.Packets.{lack}
 abbrev pub header_in : AreaId → List ℕ → Header
 header_in area octets = record {
   place = record { scope = scope_in area (kind_of octets); key = key_of octets };
-  issue = record { sequence = number_at 4 12 octets; checksum = checksum_of octets };
+  instance = record { sequence = number_at 4 12 octets; checksum = checksum_of octets };
   age = age_of octets;
 }
 

@@ -9,7 +9,7 @@ use crate::frame_told::FrameTold;
 use crate::packet::lack;
 use crate::update::{Flooded, LSA_HEADER};
 use lsa_codec::{Addr, AreaId, Key, RouterId};
-use lsa_instances::{Header, Issue, Place, Scope};
+use lsa_instances::{Header, InstanceId, Place, Scope};
 use std::alloc::{AllocError, Allocator};
 
 /// How many octets a Database Description packet has before its LSA headers.
@@ -31,7 +31,7 @@ fn header_in(area: AreaId, octets: &[u8]) -> Header
             scope: Scope::in_area(area, kind),
             key,
         },
-        issue: Issue {
+        instance: InstanceId {
             sequence: u32_at(octets, 12),
             checksum: u16_at(octets, 16),
         },

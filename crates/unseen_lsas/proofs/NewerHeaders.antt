@@ -11,17 +11,17 @@ use Rattle.lsa_instances.specs.declared.header.Header.{Header}
 use Rattle.lsa_instances.specs.Headers.{is_at_max_age}
 use Rattle.network_files.specs.declared.file_told.FileTold.{FileTold}
 use Rattle.unseen_lsas.specs.declared.named.NamedLsa.{NamedLsa}
-use Rattle.lsa_instances.specs.declared.header.Issue.{Issue}
+use Rattle.lsa_instances.specs.declared.header.InstanceId.{InstanceId}
 use Rattle.unseen_lsas.specs.Newer.{AreNewer, Instance, headers_of, instance_named, is_newer, is_same_lsa, shown_of}
 use Rattle.unseen_lsas.specs.Unseen.{has, lsa_cmp, named_at}
 use Rattle.unseen_lsas.specs.steps.Newest.{AreNewest, all_newer, is_over, is_over_some, newer_by}
 use Rattle.unseen_lsas.proofs.OneMore.{and_false, and_true}
 
-over_some : (newest : Option Issue) (issue : Issue) → is_over_some newest issue ≡ (is_some newest && is_over newest issue)
-over_some None issue = refl
-over_some (Some known) issue = refl
+over_some : (newest : Option InstanceId) (instance : InstanceId) → is_over_some newest instance ≡ (is_some newest && is_over newest instance)
+over_some None instance = refl
+over_some (Some known) instance = refl
 
-module _ (shown : List Instance) (newest : BTreeMap NamedLsa Issue) (known : AreNewest shown newest) where
+module _ (shown : List Instance) (newest : BTreeMap NamedLsa InstanceId) (known : AreNewest shown newest) where
   newer_if : (one : Instance) → is_over_some (get lsa_cmp newest one.0) one.1 ≡ is_newer shown one
   newer_if one =
       over_some (get lsa_cmp newest one.0) one.1
@@ -48,8 +48,8 @@ module _ (shown : List Instance) (newest : BTreeMap NamedLsa Issue) (known : Are
         → has lsa (filter_map (newer_by (get lsa_cmp newest)) headers) ≡ list_any is_one (filter_map instance_named headers)
     of_headers [] = refl
     of_headers (header ∷ headers) =
-        let one : Instance = (named_at header.place, header.issue) in
-        one_header one (is_at_max_age header) (is_over_some (get lsa_cmp newest (named_at header.place)) header.issue)
+        let one : Instance = (named_at header.place, header.instance) in
+        one_header one (is_at_max_age header) (is_over_some (get lsa_cmp newest (named_at header.place)) header.instance)
         (filter_map (newer_by (get lsa_cmp newest)) headers) (filter_map instance_named headers) (newer_if one) (of_headers headers)
 
     of_files : {A : Type 0} (files : List (FileTold A)) → has lsa (all_newer (get lsa_cmp newest) files) ≡ list_any is_one (headers_of files)
@@ -60,7 +60,8 @@ module _ (shown : List Instance) (newest : BTreeMap NamedLsa Issue) (known : Are
         ∙ ap (λ b. list_any is_one (filter_map instance_named file.headers.items) || b) (of_files files)
         ∙ sym (list_any-append is_one (filter_map instance_named file.headers.items) (headers_of files))
 
-pub are_newer : {A : Type 0} (files : List (FileTold A)) (newest : BTreeMap NamedLsa Issue) (lsas : List NamedLsa) (set : BTreeSet NamedLsa) (left : List NamedLsa)
+pub are_newer : {A : Type 0} (files : List (FileTold A)) (newest : BTreeMap NamedLsa InstanceId)
+    → (lsas : List NamedLsa) (set : BTreeSet NamedLsa) (left : List NamedLsa)
     → AreNewest (shown_of files) newest → lsas ≡ all_newer (get lsa_cmp newest) files → IsFromIterResult lsa_cmp lsas set → left ≡ set.keys
     → AreNewer (headers_of files) (shown_of files) left
 are_newer files newest lsas set left known all made e = record {

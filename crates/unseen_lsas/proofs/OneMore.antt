@@ -7,10 +7,10 @@ use Rattle.std.specs.Ordering.{eq_by_cmp, is_gt, is_lt, ordering_reverse}
 use Rattle.std.specs.declared.cmp.Ordering.{Ordering}
 use Rattle.std.specs.declared.cmp.Ordering.TheVariants.{Less, Equal, Greater}
 use Rattle.std.proofs.lemmas.List.Folds.{list_all-append, list_any-append}
-use Rattle.lsa_instances.specs.Instance.{issue_cmp}
-use Rattle.lsa_instances.proofs.OrderLemmas.{issue_total}
+use Rattle.lsa_instances.specs.Instance.{instance_id_cmp}
+use Rattle.lsa_instances.proofs.OrderLemmas.{instance_id_total}
 use Rattle.unseen_lsas.specs.declared.named.NamedLsa.{NamedLsa}
-use Rattle.lsa_instances.specs.declared.header.Issue.{Issue}
+use Rattle.lsa_instances.specs.declared.header.InstanceId.{InstanceId}
 use Rattle.unseen_lsas.specs.Newer.{Instance, is_other_or_older, is_same_lsa}
 use Rattle.unseen_lsas.specs.Unseen.{lsa_cmp}
 use Rattle.unseen_lsas.specs.steps.Newest.{AreNewest, is_over, newest_with}
@@ -45,40 +45,45 @@ greater Less h = cc
 greater Equal h = cc
 
 -- what is older than an older one
-older_still : (known issue other : Issue) → issue_cmp known issue ≡ Greater → issue_cmp known other ≡ Less → issue_cmp issue other ≡ Less
-older_still known issue other h k = issue_total.trans issue known other (issue_total.antisymm issue known ∙ ap ordering_reverse h) k
+older_still : (known instance other : InstanceId) → instance_id_cmp known instance ≡ Greater → instance_id_cmp known other ≡ Less
+    → instance_id_cmp instance other ≡ Less
+older_still known instance other h k = instance_id_total.trans instance known other (instance_id_total.antisymm instance known ∙ ap ordering_reverse h) k
 
 -- at a newer one, or at the same
-up_to : (known issue other : Issue) → is_gt (issue_cmp known issue) ≡ false → issue_cmp issue other ≡ Less → issue_cmp known other ≡ Less
-up_to known issue other h k = by (issue_cmp known issue) refl h
+up_to : (known instance other : InstanceId) → is_gt (instance_id_cmp known instance) ≡ false → instance_id_cmp instance other ≡ Less
+    → instance_id_cmp known other ≡ Less
+up_to known instance other h k = by (instance_id_cmp known instance) refl h
   where
-    by : (o : Ordering) → issue_cmp known issue ≡ o → is_gt o ≡ false → issue_cmp known other ≡ Less
-    by Less e f = issue_total.trans known issue other e k
-    by Equal e f = issue_total.congr known issue other e ∙ k
+    by : (o : Ordering) → instance_id_cmp known instance ≡ o → is_gt o ≡ false → instance_id_cmp known other ≡ Less
+    by Less e f = instance_id_total.trans known instance other e k
+    by Equal e f = instance_id_total.congr known instance other e ∙ k
     by Greater e f = cc
 
 -- the newer of two is older than what both are older than
-newer_of_two : (known issue other : Issue)
-    → is_lt (issue_cmp (if is_gt (issue_cmp known issue) then known else issue) other) ≡ (is_lt (issue_cmp known other) && is_lt (issue_cmp issue other))
-newer_of_two known issue other = by (is_gt (issue_cmp known issue)) refl
+newer_of_two : (known instance other : InstanceId)
+    → is_lt (instance_id_cmp (if is_gt (instance_id_cmp known instance) then known else instance) other)
+    ≡ (is_lt (instance_id_cmp known other) && is_lt (instance_id_cmp instance other))
+newer_of_two known instance other = by (is_gt (instance_id_cmp known instance)) refl
   where
-    first : (b : Bool) → is_lt (issue_cmp known other) ≡ b → is_gt (issue_cmp known issue) ≡ true → b ≡ (b && is_lt (issue_cmp issue other))
+    first : (b : Bool) → is_lt (instance_id_cmp known other) ≡ b → is_gt (instance_id_cmp known instance) ≡ true
+        → b ≡ (b && is_lt (instance_id_cmp instance other))
     first false e h = refl
-    first true e h = sym (ap is_lt (older_still known issue other (greater _ h) (less _ e)))
+    first true e h = sym (ap is_lt (older_still known instance other (greater _ h) (less _ e)))
 
-    second : (b : Bool) → is_lt (issue_cmp issue other) ≡ b → is_gt (issue_cmp known issue) ≡ false → b ≡ (is_lt (issue_cmp known other) && b)
-    second false e h = sym (and_false (is_lt (issue_cmp known other)))
-    second true e h = sym (ap (λ o. is_lt o && true) (up_to known issue other h (less _ e)))
+    second : (b : Bool) → is_lt (instance_id_cmp instance other) ≡ b → is_gt (instance_id_cmp known instance) ≡ false
+        → b ≡ (is_lt (instance_id_cmp known other) && b)
+    second false e h = sym (and_false (is_lt (instance_id_cmp known other)))
+    second true e h = sym (ap (λ o. is_lt o && true) (up_to known instance other h (less _ e)))
 
-    by : (b : Bool) → is_gt (issue_cmp known issue) ≡ b
-        → is_lt (issue_cmp (if b then known else issue) other) ≡ (is_lt (issue_cmp known other) && is_lt (issue_cmp issue other))
-    by true h = first (is_lt (issue_cmp known other)) refl h
-    by false h = second (is_lt (issue_cmp issue other)) refl h
+    by : (b : Bool) → is_gt (instance_id_cmp known instance) ≡ b
+        → is_lt (instance_id_cmp (if b then known else instance) other) ≡ (is_lt (instance_id_cmp known other) && is_lt (instance_id_cmp instance other))
+    by true h = first (is_lt (instance_id_cmp known other)) refl h
+    by false h = second (is_lt (instance_id_cmp instance other)) refl h
 
-over_both : (known : Option Issue) (issue other : Issue)
-    → is_over (Some (newest_with known issue)) other ≡ (is_over known other && is_lt (issue_cmp issue other))
-over_both None issue other = refl
-over_both (Some known) issue other = newer_of_two known issue other
+over_both : (known : Option InstanceId) (instance other : InstanceId)
+    → is_over (Some (newest_with known instance)) other ≡ (is_over known other && is_lt (instance_id_cmp instance other))
+over_both None instance other = refl
+over_both (Some known) instance other = newer_of_two known instance other
 
 -- ---- the same LSA
 
@@ -99,13 +104,13 @@ flip a b = by (eq_by_cmp lsa_cmp a b) (eq_by_cmp lsa_cmp b a) refl refl
 
 -- ---- one more
 
-module _ (shown : List Instance) (old new : BTreeMap NamedLsa Issue) (one : Instance) (known : AreNewest shown old)
+module _ (shown : List Instance) (old new : BTreeMap NamedLsa InstanceId) (one : Instance) (known : AreNewest shown old)
     (put : Updates lsa_cmp old new one.0 (Some (newest_with (get lsa_cmp old one.0) one.1))) where
   -- whether an instance is shown of an LSA, and what all that are shown are older than
   abbrev IsTold : NamedLsa → Type 0
   IsTold lsa =
       (is_some (get lsa_cmp new lsa) ≡ list_any (is_same_lsa lsa) (shown ++ one ∷ []))
-      × ((issue : Issue) → is_over (get lsa_cmp new lsa) issue ≡ list_all (is_other_or_older lsa issue) (shown ++ one ∷ []))
+      × ((instance : InstanceId) → is_over (get lsa_cmp new lsa) instance ≡ list_all (is_other_or_older lsa instance) (shown ++ one ∷ []))
 
   -- of this LSA
   here : eq_by_cmp lsa_cmp one.0 one.0 ≡ true → IsTold one.0
@@ -114,13 +119,13 @@ module _ (shown : List Instance) (old new : BTreeMap NamedLsa Issue) (one : Inst
         ∙ sym (or_true (list_any (is_same_lsa one.0) shown))
         ∙ sym (ap (λ b. list_any (is_same_lsa one.0) shown || (b || false)) self)
         ∙ sym (list_any-append (is_same_lsa one.0) shown (one ∷ [])),
-    λ issue.
-        ap (λ o. is_over o issue) put.1
-        ∙ over_both (get lsa_cmp old one.0) one.1 issue
-        ∙ ap (λ b. b && is_lt (issue_cmp one.1 issue)) (known.over one.0 issue)
-        ∙ sym (ap (λ b. list_all (is_other_or_older one.0 issue) shown && b) (and_true (is_lt (issue_cmp one.1 issue))))
-        ∙ sym (ap (λ b. list_all (is_other_or_older one.0 issue) shown && ((not b || is_lt (issue_cmp one.1 issue)) && true)) self)
-        ∙ sym (list_all-append (is_other_or_older one.0 issue) shown (one ∷ [])),
+    λ instance.
+        ap (λ o. is_over o instance) put.1
+        ∙ over_both (get lsa_cmp old one.0) one.1 instance
+        ∙ ap (λ b. b && is_lt (instance_id_cmp one.1 instance)) (known.over one.0 instance)
+        ∙ sym (ap (λ b. list_all (is_other_or_older one.0 instance) shown && b) (and_true (is_lt (instance_id_cmp one.1 instance))))
+        ∙ sym (ap (λ b. list_all (is_other_or_older one.0 instance) shown && ((not b || is_lt (instance_id_cmp one.1 instance)) && true)) self)
+        ∙ sym (list_all-append (is_other_or_older one.0 instance) shown (one ∷ [])),
   )
 
   -- of another
@@ -132,12 +137,12 @@ module _ (shown : List Instance) (old new : BTreeMap NamedLsa Issue) (one : Inst
             ∙ sym (or_false (list_any (is_same_lsa lsa) shown))
             ∙ sym (ap (λ b. list_any (is_same_lsa lsa) shown || (b || false)) away)
             ∙ sym (list_any-append (is_same_lsa lsa) shown (one ∷ [])),
-        λ issue.
-            ap (λ o. is_over o issue) (put.2 lsa apart)
-            ∙ known.over lsa issue
-            ∙ sym (and_true (list_all (is_other_or_older lsa issue) shown))
-            ∙ sym (ap (λ b. list_all (is_other_or_older lsa issue) shown && ((not b || is_lt (issue_cmp one.1 issue)) && true)) away)
-            ∙ sym (list_all-append (is_other_or_older lsa issue) shown (one ∷ [])),
+        λ instance.
+            ap (λ o. is_over o instance) (put.2 lsa apart)
+            ∙ known.over lsa instance
+            ∙ sym (and_true (list_all (is_other_or_older lsa instance) shown))
+            ∙ sym (ap (λ b. list_all (is_other_or_older lsa instance) shown && ((not b || is_lt (instance_id_cmp one.1 instance)) && true)) away)
+            ∙ sym (list_all-append (is_other_or_older lsa instance) shown (one ∷ [])),
       )
 
   told : (lsa : NamedLsa) → IsTold lsa
@@ -150,4 +155,4 @@ module _ (shown : List Instance) (old new : BTreeMap NamedLsa Issue) (one : Inst
       by false h = other lsa h
 
   pub one_more : AreNewest (shown ++ one ∷ []) new
-  one_more = record { which = λ lsa. let t = told lsa in t.0; over = λ lsa issue. let t = told lsa in t.1 issue }
+  one_more = record { which = λ lsa. let t = told lsa in t.0; over = λ lsa instance. let t = told lsa in t.1 instance }

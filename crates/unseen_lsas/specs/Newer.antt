@@ -4,25 +4,25 @@ use Rattle.std.specs.List.{filter_map, flat_map, list_all, list_any}
 use Rattle.std.specs.List.Sorted.{IsStrictlySortedBy}
 use Rattle.std.specs.Ordering.{eq_by_cmp, is_lt}
 use Rattle.lsa_instances.specs.declared.header.Header.{Header}
-use Rattle.lsa_instances.specs.declared.header.Issue.{Issue}
+use Rattle.lsa_instances.specs.declared.header.InstanceId.{InstanceId}
 use Rattle.lsa_instances.specs.declared.sighting.Sighting.{Sighting}
 use Rattle.lsa_instances.specs.Headers.{is_at_max_age}
-use Rattle.lsa_instances.specs.Instance.{issue_cmp, issue_of}
+use Rattle.lsa_instances.specs.Instance.{instance_id_cmp, instance_id_of}
 use Rattle.network_files.specs.declared.file_told.FileTold.{FileTold}
 use Rattle.unseen_lsas.specs.declared.named.NamedLsa.{NamedLsa}
 use Rattle.unseen_lsas.specs.Unseen.{has, lsa_cmp, named_at, shown_by}
 
 -- an instance of an LSA, but for its age
 abbrev pub Instance : Type 0
-Instance = NamedLsa × Issue
+Instance = NamedLsa × InstanceId
 
 -- the instance that a header names, unless it is at MaxAge: then it flushes the LSA (14.1)
 abbrev pub instance_named : Header → Option Instance
-instance_named header = if is_at_max_age header then None else Some (named_at header.place, header.issue)
+instance_named header = if is_at_max_age header then None else Some (named_at header.place, header.instance)
 
 -- the instance that is seen, at whatever age
 abbrev pub of_sighting : {A : Type 0} → Sighting A → Instance
-of_sighting seen = (shown_by seen, issue_of seen.lsa)
+of_sighting seen = (shown_by seen, instance_id_of seen.lsa)
 
 -- of all files, one after another
 abbrev pub headers_of : {A : Type 0} → List (FileTold A) → List Instance
@@ -35,8 +35,8 @@ abbrev pub is_same_lsa : NamedLsa → Instance → Bool
 is_same_lsa lsa other = eq_by_cmp lsa_cmp lsa other.0
 
 -- of another LSA, or older
-abbrev pub is_other_or_older : NamedLsa → Issue → Instance → Bool
-is_other_or_older lsa issue other = not (is_same_lsa lsa other) || is_lt (issue_cmp other.1 issue)
+abbrev pub is_other_or_older : NamedLsa → InstanceId → Instance → Bool
+is_other_or_older lsa instance other = not (is_same_lsa lsa other) || is_lt (instance_id_cmp other.1 instance)
 
 -- an instance of the LSA is shown, and each that is shown is older
 abbrev pub is_newer : List Instance → Instance → Bool

@@ -11,35 +11,35 @@ ghost use Rattle.unseen_lsas.specs.steps.Newest.{newer_by, newest_with};
 use crate::missing::once;
 use crate::named::{NamedLsa, named_at};
 use crate::shown::shown_by;
-use lsa_instances::{Header, Issue, Sighting, compare_issues};
+use lsa_instances::{Header, InstanceId, Sighting, compare_instance_ids};
 use network_files::FileTold;
 use std::alloc::{AllocError, Allocator};
 use std::collections::{BTreeMap, BTreeSet};
 
 /// The newest instance that is shown of each LSA.
-type Newest<A> = BTreeMap<NamedLsa, Issue, A>;
+type Newest<A> = BTreeMap<NamedLsa, InstanceId, A>;
 
 /// The instance that is seen, behind its LSA.
-fn of_sighting<A: Allocator + Copy>(sighting: &Sighting<A>) -> (NamedLsa, Issue)
+fn of_sighting<A: Allocator + Copy>(sighting: &Sighting<A>) -> (NamedLsa, InstanceId)
     ensures { result ≡ of_sighting sighting.now }
 {
-    (shown_by(sighting), Issue::of(&sighting.lsa))
+    (shown_by(sighting), InstanceId::of(&sighting.lsa))
 }
 
 /// Adds an instance that is shown.
 fn put_shown<A: Allocator + Copy>(
     newest: &mut Newest<A>,
     lsa: NamedLsa,
-    issue: Issue,
+    instance: InstanceId,
 ) -> Result<(), AllocError>
     ensures { OnOk result (Updates lsa_cmp newest.old newest.new lsa
-        (Some (newest_with (get lsa_cmp newest.old lsa) issue))) }
+        (Some (newest_with (get lsa_cmp newest.old lsa) instance))) }
 {
-    let newest_issue = match newest.get(&lsa) {
-        Some(known) if compare_issues(*known, issue).is_gt() => *known,
-        _ => issue,
+    let newest_instance = match newest.get(&lsa) {
+        Some(known) if compare_instance_ids(*known, instance).is_gt() => *known,
+        _ => instance,
     };
-    newest.insert(lsa, newest_issue)?;
+    newest.insert(lsa, newest_instance)?;
     Ok(())
 }
 
@@ -52,8 +52,8 @@ fn put_sightings<A: Allocator + Copy>(
         → AreNewest (shown ++ map of_sighting sightings.now) newest.new) }
 {
     for sighting in sightings {
-        let (lsa, issue) = of_sighting(sighting);
-        put_shown(newest, lsa, issue)?;
+        let (lsa, instance) = of_sighting(sighting);
+        put_shown(newest, lsa, instance)?;
     }
     Ok(())
 }
@@ -73,11 +73,15 @@ fn newest_shown<A: Allocator + Copy>(
 }
 
 /// Whether an instance of the LSA is shown, and the newest is older than this one.
-fn is_over_some<A: Allocator + Copy>(newest: &Newest<A>, lsa: NamedLsa, issue: Issue) -> bool
-    ensures { result ≡ is_over_some (get lsa_cmp newest.now lsa) issue }
+fn is_over_some<A: Allocator + Copy>(
+    newest: &Newest<A>,
+    lsa: NamedLsa,
+    instance: InstanceId,
+) -> bool
+    ensures { result ≡ is_over_some (get lsa_cmp newest.now lsa) instance }
 {
     match newest.get(&lsa) {
-        Some(shown) => compare_issues(*shown, issue).is_lt(),
+        Some(shown) => compare_instance_ids(*shown, instance).is_lt(),
         None => false,
     }
 }
@@ -90,7 +94,7 @@ fn is_newer_by<A: Allocator + Copy>(newest: &Newest<A>, header: &Header) -> bool
     if header.is_at_max_age() {
         false
     } else {
-        is_over_some(newest, named_at(header.place), header.issue)
+        is_over_some(newest, named_at(header.place), header.instance)
     }
 }
 

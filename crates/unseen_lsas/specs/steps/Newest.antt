@@ -6,40 +6,40 @@ use Rattle.std.specs.Option.{is_some}
 use Rattle.std.specs.Ordering.{is_gt, is_lt}
 use Rattle.lsa_instances.specs.declared.header.Header.{Header}
 use Rattle.lsa_instances.specs.Headers.{is_at_max_age}
-use Rattle.lsa_instances.specs.Instance.{issue_cmp}
+use Rattle.lsa_instances.specs.Instance.{instance_id_cmp}
 use Rattle.network_files.specs.declared.file_told.FileTold.{FileTold}
 use Rattle.unseen_lsas.specs.declared.named.NamedLsa.{NamedLsa}
-use Rattle.lsa_instances.specs.declared.header.Issue.{Issue}
+use Rattle.lsa_instances.specs.declared.header.InstanceId.{InstanceId}
 use Rattle.unseen_lsas.specs.Newer.{Instance, is_other_or_older, is_same_lsa}
 use Rattle.unseen_lsas.specs.Unseen.{lsa_cmp, named_at}
 
 -- the newest, with one more instance
-abbrev pub newest_with : Option Issue → Issue → Issue
-newest_with None issue = issue
-newest_with (Some known) issue = if is_gt (issue_cmp known issue) then known else issue
+abbrev pub newest_with : Option InstanceId → InstanceId → InstanceId
+newest_with None instance = instance
+newest_with (Some known) instance = if is_gt (instance_id_cmp known instance) then known else instance
 
 -- all that are shown are older
-abbrev pub is_over : Option Issue → Issue → Bool
-is_over None issue = true
-is_over (Some known) issue = is_lt (issue_cmp known issue)
+abbrev pub is_over : Option InstanceId → InstanceId → Bool
+is_over None instance = true
+is_over (Some known) instance = is_lt (instance_id_cmp known instance)
 
 -- some are shown, and all of them are older
-abbrev pub is_over_some : Option Issue → Issue → Bool
-is_over_some None issue = false
-is_over_some (Some known) issue = is_lt (issue_cmp known issue)
+abbrev pub is_over_some : Option InstanceId → InstanceId → Bool
+is_over_some None instance = false
+is_over_some (Some known) instance = is_lt (instance_id_cmp known instance)
 
 -- there is a newest instance of each LSA that is shown, and it is older than what all that are shown are older than
-pub record AreNewest (shown : List Instance) (newest : BTreeMap NamedLsa Issue) : Type 0 where
+pub record AreNewest (shown : List Instance) (newest : BTreeMap NamedLsa InstanceId) : Type 0 where
   pub which : (lsa : NamedLsa) → is_some (get lsa_cmp newest lsa) ≡ list_any (is_same_lsa lsa) shown
-  pub over : (lsa : NamedLsa) (issue : Issue) → is_over (get lsa_cmp newest lsa) issue ≡ list_all (is_other_or_older lsa issue) shown
+  pub over : (lsa : NamedLsa) (instance : InstanceId) → is_over (get lsa_cmp newest lsa) instance ≡ list_all (is_other_or_older lsa instance) shown
 
 -- below MaxAge, and newer than the newest
-abbrev pub is_newer_by : (NamedLsa → Option Issue) → Header → Bool
-is_newer_by newest header = not (is_at_max_age header) && is_over_some (newest (named_at header.place)) header.issue
+abbrev pub is_newer_by : (NamedLsa → Option InstanceId) → Header → Bool
+is_newer_by newest header = not (is_at_max_age header) && is_over_some (newest (named_at header.place)) header.instance
 
 -- the LSA of a header that is newer than the newest
-abbrev pub newer_by : (NamedLsa → Option Issue) → Header → Option NamedLsa
+abbrev pub newer_by : (NamedLsa → Option InstanceId) → Header → Option NamedLsa
 newer_by newest header = if is_newer_by newest header then Some (named_at header.place) else None
 
-abbrev pub all_newer : {A : Type 0} → (NamedLsa → Option Issue) → List (FileTold A) → List NamedLsa
+abbrev pub all_newer : {A : Type 0} → (NamedLsa → Option InstanceId) → List (FileTold A) → List NamedLsa
 all_newer newest files = flat_map (λ file. filter_map (newer_by newest) file.headers.items) files
