@@ -11,6 +11,7 @@ mod views;
 
 // Databases.
 mod bases;
+mod noted;
 mod places;
 
 // Scripts.

@@ -3,19 +3,28 @@
 use edit_script::ScriptFault;
 use lsa_codec::{Addr, AreaId, Decimal, LsaFault, MakeFault, Metric, Prefix, RouterId};
 use lsdb::{DumpFault, DumpFaultKind, SlotFault};
+use std::alloc::{AllocError, Global};
+use std::fmt::Display;
 use std::test::*;
+
+/// Whether a value is printed so.
+fn is_printed<T: Display>(alloc: Global, value: &T, text: &str) -> Result<bool, AllocError> {
+    let printed = format!(in alloc; "{value}")?;
+    Ok(printed.as_str() == text)
+}
+
+/// Numbers and their texts.
+const NUMBERS: &[(u64, &str)] = &[
+    (0, "0"),
+    (9, "9"),
+    (10, "10"),
+    (18446744073709551615, "18446744073709551615"),
+];
 
 #[test]
 fn prints_numbers(rt: HostRuntime) -> Result<(), Fail> {
-    let numbers: &[(u64, &str)] = &[
-        (0, "0"),
-        (9, "9"),
-        (10, "10"),
-        (18446744073709551615, "18446744073709551615"),
-    ];
-    for (number, text) in numbers {
-        let printed = format!(in rt.alloc(); "{}", Decimal(*number))?;
-        assert_eq!(rt; printed.as_str(), *text);
+    for (number, text) in NUMBERS {
+        assert!(rt; is_printed(rt.alloc(), &Decimal(*number), text)?, "{text}");
     }
     Ok(())
 }
@@ -24,113 +33,109 @@ fn prints_numbers(rt: HostRuntime) -> Result<(), Fail> {
 fn prints_names_and_prefixes(rt: HostRuntime) -> Result<(), Fail> {
     let prefix = Prefix::new(Addr(0x0a070000), 16).ok_or("a prefix")?;
     let metric = Metric::new(16777215).ok_or("a metric")?;
-    let router = RouterId(0xc0a80009);
-    let area = AreaId(10);
-    let addr = Addr(0xff640100);
-    let text = format!(in rt.alloc(); "{router} {area} {addr} {prefix} {metric}")?;
-    assert_eq!(rt;
-        text.as_str(),
-        "192.168.0.9 0.0.0.10 255.100.1.0 10.7.0.0/16 16777215"
-    );
+    let alloc = rt.alloc();
+    assert!(rt; is_printed(alloc, &RouterId(0xc0a80009), "192.168.0.9")?);
+    assert!(rt; is_printed(alloc, &AreaId(10), "0.0.0.10")?);
+    assert!(rt; is_printed(alloc, &Addr(0xff640100), "255.100.1.0")?);
+    assert!(rt; is_printed(alloc, &prefix, "10.7.0.0/16")?);
+    assert!(rt; is_printed(alloc, &metric, "16777215")?);
     Ok(())
 }
+
+/// The faults of octets, and their names.
+const LSA_FAULTS: &[(LsaFault, &str)] = &[
+    (LsaFault::Truncated, "Truncated"),
+    (LsaFault::Length, "Length"),
+    (LsaFault::BadType, "BadType"),
+    (LsaFault::Body, "Body"),
+    (LsaFault::Checksum, "Checksum"),
+    (LsaFault::Mask, "Mask"),
+    (LsaFault::RouterId, "RouterId"),
+    (LsaFault::ZeroCost, "ZeroCost"),
+    (LsaFault::OutOfMemory, "OutOfMemory"),
+];
 
 #[test]
 fn names_the_faults_of_octets(rt: HostRuntime) -> Result<(), Fail> {
-    let faults: &[(LsaFault, &str)] = &[
-        (LsaFault::Truncated, "Truncated"),
-        (LsaFault::Length, "Length"),
-        (LsaFault::BadType, "BadType"),
-        (LsaFault::Body, "Body"),
-        (LsaFault::Checksum, "Checksum"),
-        (LsaFault::Mask, "Mask"),
-        (LsaFault::RouterId, "RouterId"),
-        (LsaFault::ZeroCost, "ZeroCost"),
-        (LsaFault::OutOfMemory, "OutOfMemory"),
-    ];
-    for (fault, text) in faults {
-        let printed = format!(in rt.alloc(); "{fault}")?;
-        assert_eq!(rt; printed.as_str(), *text);
+    for (fault, text) in LSA_FAULTS {
+        assert!(rt; is_printed(rt.alloc(), fault, text)?, "{text}");
     }
     Ok(())
 }
+
+/// The faults of making, and their names.
+const MAKE_FAULTS: &[(MakeFault, &str)] = &[
+    (MakeFault::NoLink, "NoLink"),
+    (MakeFault::ZeroCost, "ZeroCost"),
+    (MakeFault::TooLong, "TooLong"),
+    (MakeFault::OutOfMemory, "OutOfMemory"),
+];
 
 #[test]
 fn names_the_faults_of_making(rt: HostRuntime) -> Result<(), Fail> {
-    let faults: &[(MakeFault, &str)] = &[
-        (MakeFault::NoLink, "NoLink"),
-        (MakeFault::ZeroCost, "ZeroCost"),
-        (MakeFault::TooLong, "TooLong"),
-        (MakeFault::OutOfMemory, "OutOfMemory"),
-    ];
-    for (fault, text) in faults {
-        let printed = format!(in rt.alloc(); "{fault}")?;
-        assert_eq!(rt; printed.as_str(), *text);
+    for (fault, text) in MAKE_FAULTS {
+        assert!(rt; is_printed(rt.alloc(), fault, text)?, "{text}");
     }
     Ok(())
 }
+
+/// Faults of dumps, and how they are shown.
+const DUMP_FAULTS: &[(usize, DumpFaultKind, &str)] = &[
+    (99, DumpFaultKind::TrailingBytes, "L4 TrailingBytes at 99"),
+    (
+        13,
+        DumpFaultKind::Lsa(LsaFault::ZeroCost),
+        "L9 Lsa ZeroCost at 13",
+    ),
+    (129, DumpFaultKind::BadHistory(1), "L15 BadHistory 1 at 129"),
+];
 
 #[test]
 fn shows_faults(rt: HostRuntime) -> Result<(), Fail> {
-    let alloc = rt.alloc();
-    let fault = DumpFault {
-        offset: 99,
-        kind: DumpFaultKind::TrailingBytes,
-    };
+    for (offset, kind, text) in DUMP_FAULTS {
+        let (offset, kind) = (*offset, *kind);
+        let fault = DumpFault { offset, kind };
+        assert!(rt; is_printed(rt.alloc(), &fault, text)?, "{text}");
+    }
+    let zero_cost = DumpFaultKind::Lsa(LsaFault::ZeroCost);
     assert_eq!(rt;
-        format!(in alloc; "{fault}")?.as_str(),
-        "L4 TrailingBytes at 99"
-    );
-    let fault = DumpFault {
-        offset: 13,
-        kind: DumpFaultKind::Lsa(LsaFault::ZeroCost),
-    };
-    assert_eq!(rt;
-        format!(in alloc; "{fault}")?.as_str(),
-        "L9 Lsa ZeroCost at 13"
-    );
-    assert_eq!(rt; fault.kind.code(), "L9");
-    assert_eq!(rt; fault.kind.name(), "Lsa ZeroCost");
-    let fault = DumpFault {
-        offset: 129,
-        kind: DumpFaultKind::BadHistory(1),
-    };
-    assert_eq!(rt;
-        format!(in alloc; "{fault}")?.as_str(),
-        "L15 BadHistory 1 at 129"
+        (zero_cost.code(), zero_cost.name()),
+        ("L9", "Lsa ZeroCost")
     );
     Ok(())
 }
 
+/// The faults of places, and their names.
+const SLOT_FAULTS: &[(SlotFault, &str)] = &[
+    (SlotFault::NoArea, "NoArea"),
+    (SlotFault::OutOfMemory, "OutOfMemory"),
+];
+
 #[test]
 fn names_the_faults_of_slots(rt: HostRuntime) -> Result<(), Fail> {
-    let faults: &[(SlotFault, &str)] = &[
-        (SlotFault::NoArea, "NoArea"),
-        (SlotFault::OutOfMemory, "OutOfMemory"),
-    ];
-    for (fault, text) in faults {
-        let printed = format!(in rt.alloc(); "{fault}")?;
-        assert_eq!(rt; printed.as_str(), *text);
+    for (fault, text) in SLOT_FAULTS {
+        assert!(rt; is_printed(rt.alloc(), fault, text)?, "{text}");
     }
     Ok(())
 }
 
+/// The faults of lines, their codes and their names.
+const SCRIPT_FAULTS: &[(ScriptFault, &str, &str)] = &[
+    (ScriptFault::Empty, "S1", "Empty"),
+    (ScriptFault::UnknownWord, "S2", "UnknownWord"),
+    (ScriptFault::MissingWord, "S3", "MissingWord"),
+    (ScriptFault::ExtraWord, "S4", "ExtraWord"),
+    (ScriptFault::BadNumber, "S5", "BadNumber"),
+    (ScriptFault::BadAddress, "S6", "BadAddress"),
+    (ScriptFault::BadPrefix, "S7", "BadPrefix"),
+    (ScriptFault::BadBranch, "S8", "BadBranch"),
+];
+
 #[test]
 fn names_the_faults_of_lines(rt: HostRuntime) -> Result<(), Fail> {
-    let faults = [
-        (ScriptFault::Empty, "S1", "Empty"),
-        (ScriptFault::UnknownWord, "S2", "UnknownWord"),
-        (ScriptFault::MissingWord, "S3", "MissingWord"),
-        (ScriptFault::ExtraWord, "S4", "ExtraWord"),
-        (ScriptFault::BadNumber, "S5", "BadNumber"),
-        (ScriptFault::BadAddress, "S6", "BadAddress"),
-        (ScriptFault::BadPrefix, "S7", "BadPrefix"),
-        (ScriptFault::BadBranch, "S8", "BadBranch"),
-    ];
-    for (fault, code, name) in faults {
-        assert_eq!(rt; fault.code(), code);
-        assert_eq!(rt; fault.name(), name);
-        assert_eq!(rt; format!(in rt.alloc(); "{fault}")?.as_str(), name);
+    for (fault, code, name) in SCRIPT_FAULTS {
+        assert_eq!(rt; (fault.code(), fault.name()), (*code, *name));
+        assert!(rt; is_printed(rt.alloc(), fault, name)?, "{name}");
     }
     Ok(())
 }

@@ -17,79 +17,119 @@ const BIG: &[u8] =
     b"\xa1\xb2\xc3\xd4\x00\x02\x00\x04\0\0\0\0\0\0\0\0\x00\x04\x00\x00\x00\x00\x00\x71\
     \x00\x00\x00\x01\x00\x00\x00\x02\x00\x00\x00\x01\x00\x00\x00\x01x";
 
-/// How many frames a file has, and how it ends.
+/// What a frame tells: its link, its moment, its octets, and how many it had on the link.
+type Told<'a> = (LinkType, Option<u64>, &'a [u8], u32);
+
+/// The frames of `LITTLE`.
+const LITTLE_FRAMES: &[Told<'_>] = &[
+    (
+        LinkType::ETHERNET,
+        Some(1_795_401_980_630_265_671),
+        b"abc",
+        3,
+    ),
+    (
+        LinkType::ETHERNET,
+        Some(1_795_401_980_630_265_671),
+        b"de",
+        70,
+    ),
+];
+
+/// The frame of `BIG`.
+const BIG_FRAMES: &[Told<'_>] = &[(LinkType::LINUX_SLL, Some(1_000_002_000), b"x", 1)];
+
+/// How many frames a file has, and how it ends. This and [`has_frames`] have no clauses, so that
+/// the prover reads those of the call once, and not in each test.
 fn read(alloc: Global, file: &[u8]) -> Result<(usize, End), CaptureFault> {
     let capture = read_pcap(alloc, file)?;
     Ok((capture.frames.len(), capture.end))
 }
 
-#[test]
-fn frames_of_the_lower_order_in_nanoseconds(rt: HostRuntime) -> Result<(), Fail> {
-    let capture = read_pcap(rt.alloc(), LITTLE)?;
-    assert_eq!(rt; capture.end, End::Whole);
-    assert_eq!(rt; capture.frames.len(), 2);
-    if let [first, second] = capture.frames.as_slice() {
-        assert_eq!(rt; first.link, LinkType::ETHERNET);
-        assert_eq!(rt; first.seen, Some(1_795_401_980_630_265_671));
-        assert_eq!(rt; first.octets, b"abc".as_slice());
-        assert_eq!(rt; first.original, 3);
-        assert_eq!(rt; second.octets, b"de".as_slice());
-        assert_eq!(rt; second.original, 70);
+/// Whether a file ends whole, with frames that tell this.
+fn has_frames(alloc: Global, file: &[u8], frames: &[Told<'_>]) -> Result<bool, CaptureFault> {
+    let capture = read_pcap(alloc, file)?;
+    for (frame, told) in capture.frames.iter().zip(frames.iter()) {
+        if (frame.link, frame.seen, frame.octets, frame.original) != *told {
+            return Ok(false);
+        }
     }
-    Ok(())
+    Ok(capture.end == End::Whole && capture.frames.len() == frames.len())
 }
 
 #[test]
-fn frames_of_the_higher_order_in_microseconds(rt: HostRuntime) -> Result<(), Fail> {
-    let capture = read_pcap(rt.alloc(), BIG)?;
-    assert_eq!(rt; capture.end, End::Whole);
-    assert_eq!(rt; capture.frames.len(), 1);
-    if let [only] = capture.frames.as_slice() {
-        assert_eq!(rt; only.link, LinkType::LINUX_SLL);
-        assert_eq!(rt; only.seen, Some(1_000_002_000));
-        assert_eq!(rt; only.octets, b"x".as_slice());
-    }
-    Ok(())
+fn frames_of_the_lower_order_in_nanoseconds(rt: HostRuntime) {
+    assert_eq!(rt; has_frames(rt.alloc(), LITTLE, LITTLE_FRAMES), Ok(true));
 }
+
+#[test]
+fn frames_of_the_higher_order_in_microseconds(rt: HostRuntime) {
+    assert_eq!(rt; has_frames(rt.alloc(), BIG, BIG_FRAMES), Ok(true));
+}
+
+/// How long the front of `LITTLE` is, how many frames it has, and how it ends.
+const CUTS: &[(usize, usize, End)] = &[
+    (24, 0, End::Whole),
+    (25, 0, End::Cut(24)),
+    (42, 0, End::Cut(24)),
+    (43, 1, End::Whole),
+    (60, 1, End::Cut(43)),
+    (61, 2, End::Whole),
+];
 
 #[test]
 fn a_file_that_was_cut_is_read_to_its_last_whole_record(rt: HostRuntime) -> Result<(), Fail> {
-    let alloc = rt.alloc();
-    assert_eq!(rt; read(alloc, &LITTLE[..24]), Ok((0, End::Whole)));
-    assert_eq!(rt; read(alloc, &LITTLE[..25]), Ok((0, End::Cut(24))));
-    assert_eq!(rt; read(alloc, &LITTLE[..42]), Ok((0, End::Cut(24))));
-    assert_eq!(rt; read(alloc, &LITTLE[..43]), Ok((1, End::Whole)));
-    assert_eq!(rt; read(alloc, &LITTLE[..60]), Ok((1, End::Cut(43))));
-    assert_eq!(rt; read(alloc, LITTLE), Ok((2, End::Whole)));
+    for (size, frames, end) in CUTS {
+        let front = LITTLE.get(..*size).ok_or("a front")?;
+        assert_eq!(rt; read(rt.alloc(), front), Ok((*frames, *end)), "{size}");
+    }
+    assert_eq!(rt; LITTLE.len(), 61);
     Ok(())
 }
 
+/// The header of a file of version 3.4.
+const OTHER_VERSION: &[u8] =
+    b"\xa1\xb2\xc3\xd4\x00\x03\x00\x04\0\0\0\0\0\0\0\0\x00\x04\x00\x00\x00\x00\x00\x01";
+
+/// One octet less than the header of `BIG`.
+const SHORT: &[u8] =
+    b"\xa1\xb2\xc3\xd4\x00\x02\x00\x04\0\0\0\0\0\0\0\0\x00\x04\x00\x00\x00\x00\x00";
+
+/// A record that is longer than its frame was.
+const LONGER: &[u8] =
+    b"\xa1\xb2\xc3\xd4\x00\x02\x00\x04\0\0\0\0\0\0\0\0\x00\x04\x00\x00\x00\x00\x00\x01\
+    \x00\x00\x00\x01\x00\x00\x00\x02\x00\x00\x00\x02\x00\x00\x00\x01xy";
+
+/// A record that is longer than a file may have.
+const HUGE: &[u8] =
+    b"\xa1\xb2\xc3\xd4\x00\x02\x00\x04\0\0\0\0\0\0\0\0\x00\x04\x00\x00\x00\x00\x00\x01\
+    \x00\x00\x00\x01\x00\x00\x00\x02\x00\x04\x00\x01\x00\x04\x00\x01xy";
+
+/// Files, and what they are refused for.
+const REFUSED: &[(&[u8], CaptureFault)] = &[
+    (b"", CaptureFault::NotACapture),
+    (b"\xa1\xb2\xc3", CaptureFault::NotACapture),
+    (b"OSWP and more than a header", CaptureFault::NotACapture),
+    (SHORT, CaptureFault::ShortHeader),
+    (OTHER_VERSION, CaptureFault::Version),
+];
+
+/// Files whose captured lengths lie, and what they are refused for.
+const LENGTHS_THAT_LIE: &[(&[u8], CaptureFault)] = &[
+    (LONGER, CaptureFault::CapturedLength(24)),
+    (HUGE, CaptureFault::CapturedLength(24)),
+];
+
 #[test]
-fn files_that_are_refused(rt: HostRuntime) -> Result<(), Fail> {
-    let alloc = rt.alloc();
-    assert_eq!(rt; read(alloc, b""), Err(CaptureFault::NotACapture));
-    assert_eq!(rt;
-        read(alloc, b"\xa1\xb2\xc3"),
-        Err(CaptureFault::NotACapture)
-    );
-    assert_eq!(rt;
-        read(alloc, b"OSWP and more than a header"),
-        Err(CaptureFault::NotACapture)
-    );
-    assert_eq!(rt; read(alloc, &BIG[..23]), Err(CaptureFault::ShortHeader));
-    let other = b"\xa1\xb2\xc3\xd4\x00\x03\x00\x04\0\0\0\0\0\0\0\0\x00\x04\x00\x00\x00\x00\x00\x01";
-    assert_eq!(rt; read(alloc, other), Err(CaptureFault::Version));
-    Ok(())
+fn files_that_are_refused(rt: HostRuntime) {
+    for (file, fault) in REFUSED {
+        assert_eq!(rt; read(rt.alloc(), file), Err(*fault));
+    }
 }
 
 #[test]
-fn captured_lengths_that_lie(rt: HostRuntime) -> Result<(), Fail> {
-    let alloc = rt.alloc();
-    let above = b"\xa1\xb2\xc3\xd4\x00\x02\x00\x04\0\0\0\0\0\0\0\0\x00\x04\x00\x00\x00\x00\x00\x01\
-        \x00\x00\x00\x01\x00\x00\x00\x02\x00\x00\x00\x02\x00\x00\x00\x01xy";
-    assert_eq!(rt; read(alloc, above), Err(CaptureFault::CapturedLength(24)));
-    let huge = b"\xa1\xb2\xc3\xd4\x00\x02\x00\x04\0\0\0\0\0\0\0\0\x00\x04\x00\x00\x00\x00\x00\x01\
-        \x00\x00\x00\x01\x00\x00\x00\x02\x00\x04\x00\x01\x00\x04\x00\x01xy";
-    assert_eq!(rt; read(alloc, huge), Err(CaptureFault::CapturedLength(24)));
-    Ok(())
+fn captured_lengths_that_lie(rt: HostRuntime) {
+    for (file, fault) in LENGTHS_THAT_LIE {
+        assert_eq!(rt; read(rt.alloc(), file), Err(*fault));
+    }
 }

@@ -24,66 +24,89 @@ const BIG: &[u8] = b"\x0a\x0d\x0d\x0a\0\0\0\x1c\x1a\x2b\x3c\x4d\0\x01\0\0\
     \0\0\0\x01\0\0\0\x14\0\x65\0\0\0\0\0\x02\0\0\0\x14\
     \0\0\0\x03\0\0\0\x14\0\0\0\x07xy\0\0\0\0\0\x14";
 
-/// How many frames a file has, and how it ends.
+/// What a frame tells: its link, its moment, its octets, and how many it had on the link.
+type Told<'a> = (LinkType, Option<u64>, &'a [u8], u32);
+
+/// The frames of `LITTLE`.
+const LITTLE_FRAMES: &[Told<'_>] = &[
+    (LinkType::ETHERNET, Some(5_000_000_007_000), b"abc", 5),
+    (LinkType::LINUX_SLL, Some(5_000_000_007), b"de", 2),
+];
+
+/// The frame of `BIG`.
+const BIG_FRAMES: &[Told<'_>] = &[(LinkType::RAW, None, b"xy", 7)];
+
+/// How many frames a file has, and how it ends. This and [`has_frames`] have no clauses, so that
+/// the prover reads those of the call once, and not in each test.
 fn read(alloc: Global, file: &[u8]) -> Result<(usize, End), CaptureFault> {
     let capture = read_capture(alloc, file)?;
     Ok((capture.frames.len(), capture.end))
 }
 
-#[test]
-fn frames_of_two_interfaces_with_their_units(rt: HostRuntime) -> Result<(), Fail> {
-    let capture = read_capture(rt.alloc(), LITTLE)?;
-    assert_eq!(rt; capture.end, End::Whole);
-    assert_eq!(rt; capture.frames.len(), 2);
-    if let [first, second] = capture.frames.as_slice() {
-        assert_eq!(rt; first.link, LinkType::ETHERNET);
-        assert_eq!(rt; first.seen, Some(5_000_000_007_000));
-        assert_eq!(rt; first.octets, b"abc".as_slice());
-        assert_eq!(rt; first.original, 5);
-        assert_eq!(rt; second.link, LinkType::LINUX_SLL);
-        assert_eq!(rt; second.seen, Some(5_000_000_007));
-        assert_eq!(rt; second.octets, b"de".as_slice());
+/// Whether a file ends whole, with frames that tell this.
+fn has_frames(alloc: Global, file: &[u8], frames: &[Told<'_>]) -> Result<bool, CaptureFault> {
+    let capture = read_capture(alloc, file)?;
+    for (frame, told) in capture.frames.iter().zip(frames.iter()) {
+        if (frame.link, frame.seen, frame.octets, frame.original) != *told {
+            return Ok(false);
+        }
     }
-    Ok(())
+    Ok(capture.end == End::Whole && capture.frames.len() == frames.len())
 }
 
 #[test]
-fn a_simple_packet_of_the_higher_order(rt: HostRuntime) -> Result<(), Fail> {
-    let capture = read_capture(rt.alloc(), BIG)?;
-    assert_eq!(rt; capture.end, End::Whole);
-    assert_eq!(rt; capture.frames.len(), 1);
-    if let [only] = capture.frames.as_slice() {
-        assert_eq!(rt; only.link, LinkType::RAW);
-        assert_eq!(rt; only.seen, None);
-        assert_eq!(rt; only.octets, b"xy".as_slice());
-        assert_eq!(rt; only.original, 7);
-    }
-    Ok(())
+fn frames_of_two_interfaces_with_their_units(rt: HostRuntime) {
+    assert_eq!(rt; has_frames(rt.alloc(), LITTLE, LITTLE_FRAMES), Ok(true));
 }
+
+#[test]
+fn a_simple_packet_of_the_higher_order(rt: HostRuntime) {
+    assert_eq!(rt; has_frames(rt.alloc(), BIG, BIG_FRAMES), Ok(true));
+}
+
+/// How long the front of `LITTLE` is, how many frames it has, and how it ends.
+const CUTS: &[(usize, usize, End)] = &[
+    (11, 0, End::Cut(0)),
+    (28, 0, End::Whole),
+    (83, 0, End::Cut(48)),
+    (84, 1, End::Whole),
+    (171, 1, End::Cut(136)),
+];
 
 #[test]
 fn a_file_that_was_cut_is_read_to_its_last_whole_block(rt: HostRuntime) -> Result<(), Fail> {
-    let alloc = rt.alloc();
-    assert_eq!(rt; read(alloc, &LITTLE[..11]), Ok((0, End::Cut(0))));
-    assert_eq!(rt; read(alloc, &LITTLE[..28]), Ok((0, End::Whole)));
-    assert_eq!(rt; read(alloc, &LITTLE[..83]), Ok((0, End::Cut(48))));
-    assert_eq!(rt; read(alloc, &LITTLE[..84]), Ok((1, End::Whole)));
-    assert_eq!(rt; read(alloc, &LITTLE[..171]), Ok((1, End::Cut(136))));
+    for (size, frames, end) in CUTS {
+        let front = LITTLE.get(..*size).ok_or("a front")?;
+        assert_eq!(rt; read(rt.alloc(), front), Ok((*frames, *end)), "{size}");
+    }
     Ok(())
 }
 
+/// A section of a byte order that there is not.
+const STRANGER: &[u8] = b"\x0a\x0d\x0d\x0a\x1c\0\0\0\x4d\x3c\x2b\x1b\x01\0\0\0";
+
+/// A section of 8 octets.
+const SHORT: &[u8] = b"\x0a\x0d\x0d\x0a\0\0\0\x08\x1a\x2b\x3c\x4d";
+
+/// A section whose two lengths differ.
+const TWOFOLD: &[u8] = b"\x0a\x0d\x0d\x0a\0\0\0\x1c\x1a\x2b\x3c\x4d\0\x01\0\0\
+    \xff\xff\xff\xff\xff\xff\xff\xff\0\0\0\x20";
+
+/// A packet in a section without interfaces.
+const WITHOUT: &[u8] = b"\x0a\x0d\x0d\x0a\0\0\0\x1c\x1a\x2b\x3c\x4d\0\x01\0\0\
+    \xff\xff\xff\xff\xff\xff\xff\xff\0\0\0\x1c\0\0\0\x03\0\0\0\x10\0\0\0\0\0\0\0\x10";
+
+/// Blocks that lie, and what the file is refused for.
+const REFUSED: &[(&[u8], CaptureFault)] = &[
+    (STRANGER, CaptureFault::ByteOrder(0)),
+    (SHORT, CaptureFault::BlockLength(0)),
+    (TWOFOLD, CaptureFault::BlockLength(0)),
+    (WITHOUT, CaptureFault::NoInterface(28)),
+];
+
 #[test]
-fn blocks_that_lie(rt: HostRuntime) -> Result<(), Fail> {
-    let alloc = rt.alloc();
-    let stranger = b"\x0a\x0d\x0d\x0a\x1c\0\0\0\x4d\x3c\x2b\x1b\x01\0\0\0";
-    assert_eq!(rt; read(alloc, stranger), Err(CaptureFault::ByteOrder(0)));
-    let short = b"\x0a\x0d\x0d\x0a\0\0\0\x08\x1a\x2b\x3c\x4d";
-    assert_eq!(rt; read(alloc, short), Err(CaptureFault::BlockLength(0)));
-    let twofold = b"\x0a\x0d\x0d\x0a\0\0\0\x1c\x1a\x2b\x3c\x4d\0\x01\0\0\
-        \xff\xff\xff\xff\xff\xff\xff\xff\0\0\0\x20";
-    assert_eq!(rt; read(alloc, twofold), Err(CaptureFault::BlockLength(0)));
-    let without = b"\x0a\x0d\x0d\x0a\0\0\0\x1c\x1a\x2b\x3c\x4d\0\x01\0\0\
-        \xff\xff\xff\xff\xff\xff\xff\xff\0\0\0\x1c\0\0\0\x03\0\0\0\x10\0\0\0\0\0\0\0\x10";
-    assert_eq!(rt; read(alloc, without), Err(CaptureFault::NoInterface(28)));
-    Ok(())
+fn blocks_that_lie(rt: HostRuntime) {
+    for (file, fault) in REFUSED {
+        assert_eq!(rt; read(rt.alloc(), file), Err(*fault));
+    }
 }

@@ -1,7 +1,7 @@
 //! What lists tell, and which texts are none.
 
 use super::pieces::{OF_LINKS, SECTIONS, STUB_AREA, TABLES, WHOLE_LSA};
-use database_lists::{Header, Hole, Issue, ListFault, read_list};
+use database_lists::{Header, Hole, InstanceId, ListFault, read_list};
 use lsa_codec::{Addr, AreaId, Key, RouterId};
 use lsa_instances::{Place, Scope};
 use std::alloc::Global;
@@ -24,7 +24,7 @@ fn header(
     };
     Header {
         place: Place { scope, key },
-        issue: Issue { sequence, checksum },
+        instance: InstanceId { sequence, checksum },
         age,
     }
 }
