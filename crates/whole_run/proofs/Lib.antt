@@ -1,5 +1,6 @@
 pub mod FirstLine
 pub mod ScriptLines
+mod EndedRuns
 pub mod KnownInputs
 pub mod BranchesApart
 pub mod ReadOctets
