@@ -4,3 +4,4 @@ pub mod KnownInputs
 pub mod BranchesApart
 pub mod ReadOctets
 pub mod AcceptedEdits
+pub mod FailedReads
