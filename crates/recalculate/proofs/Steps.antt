@@ -1,5 +1,5 @@
 -- The steps of a session, by the database and the history that show it.
-use Rattle.std.proofs.Common.{◌≡◌, ◌<◌, ◌≤◌, List, [], ◌∷◌, ◌++◌, length, Result, Ok, Err, sym, ap, ◌∙◌, subst, arith, ltb}
+use Rattle.std.proofs.Common.{◌≡◌, ◌<◌, ◌≤◌, List, [], ◌∷◌, ◌++◌, length, Result, Ok, Err, None, sym, ap, ◌∙◌, subst, arith, ltb}
 use Rattle.std.specs.Prelude.{reverse}
 use Rattle.std.proofs.lemmas.Bool.{lt-ltb, le-ltb, cond-true, cond-false}
 use Rattle.lsdb.specs.Lists.{Lists, IsDatabase}
@@ -14,15 +14,16 @@ use Rattle.edit_history.specs.Journal.{HistoryData, Links, origin}
 use Rattle.edit_history.specs.Session.{Session, session_of, edits_of, edited, accepted, state, most_edits}
 use Rattle.edit_history.proofs.HistoryLemmas.{done_len, reverse_cons}
 use Rattle.edit_history.proofs.HistoryLemmas.{state_is, recorded}
-use Rattle.recalculate.specs.Reached.{LinksFew}
+use Rattle.recalculate.specs.Reached.{IsStudied}
 
 start_links : (d : Places) (h : HistoryData) → IsDatabase (lists_of d) → h ≡ record { past = []; future = [] } → Links d h
 start_links d h sound e = subst (λ (k : HistoryData). Links d k) (sym e) (record { sound = sound; back = tt; on = tt })
 
-pub start_few : (d : Places) (h : HistoryData) → IsDatabase (lists_of d) → h ≡ record { past = []; future = [] } → LinksFew d h
-start_few d h sound e = record {
+pub start_studied : (d : Places) (h : HistoryData) → IsDatabase (lists_of d) → h ≡ record { past = []; future = [] } → IsStudied d h None
+start_studied d h sound e = record {
   links = start_links d h sound e;
   few = omega (arith, ap (λ (k : HistoryData). length k.past) e, ap (λ (k : HistoryData). length k.future) e);
+  loaded = tt;
 }
 
 abbrev pub answer : Session → Result Session EditFault

@@ -1,6 +1,6 @@
 -- Sessions that a planner can show.
-use Rattle.std.specs.Prelude.{◌≡◌, ◌≤◌, ◌+◌, length}
-use Rattle.lsdb.specs.Places.{Places}
+use Rattle.std.specs.Prelude.{◌≡◌, ◌≤◌, ◌+◌, length, Option, IfSome}
+use Rattle.lsdb.specs.Places.{Places, lists_of}
 use Rattle.edit_history.specs.Journal.{HistoryData, Links}
 use Rattle.edit_history.specs.Session.{Session, most_edits, session_of}
 
@@ -12,7 +12,9 @@ pub record IsReached (s : Session) : Type 0 where
   pub links : Links places history
   pub shows : session_of places history ≡ s
 
--- a history that led to a database, with no more edits, done and undone, than may be done
-pub record LinksFew (d : Places) (h : HistoryData) : Type 0 where
+-- a history that led to a database, with no more edits, done and undone, than may be done; and the copy of the database that it
+-- began at, if there is one
+pub record IsStudied (d : Places) (h : HistoryData) (copy : Option Places) : Type 0 where
   pub links : Links d h
   pub few : length h.past + length h.future ≤ most_edits
+  pub loaded : IfSome copy (λ places. lists_of places ≡ (session_of d h).base)

@@ -1,10 +1,12 @@
 //! A planner: a link state database with the edits that are done on it, and those that were undone.
 #![tactic(auto)]
 
+mod copying;
 mod counts;
 mod laws;
 mod planner;
 mod study;
+mod tables;
 mod touched;
 
 pub use counts::Info;

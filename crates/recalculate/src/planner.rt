@@ -22,7 +22,8 @@ use std::rc::Rc;
 /// how many trees it has calculated, and as which of them it keeps for further tables, of its
 /// database and of the loaded one. After any calls its database is the effect of the done edits, in
 /// order, on the loaded one. The tables that it keeps, one of the loaded database and the last one
-/// of its own, are not seen, nor which router's table was asked for last.
+/// of its own, are not seen, nor which router's table was asked for last, nor whether it holds a
+/// copy of the loaded database.
 #[derive(Drop)]
 pub struct Planner<A: Allocator = Global> {
     study: Study<A>,

@@ -1,11 +1,13 @@
 //! A database under its edits.
 
+use crate::copying::takes_longer_than_a_copy;
 use crate::counts::{Info, beginning_of};
+use crate::tables::table_over;
 use edit_history::{EditFault, History, Record, RedoFault, UndoFault, apply};
 use edit_script::Edit;
 use lsa_codec::{AreaId, RouterId};
 use lsdb::Database;
-use routing_table::{KeptTrees, Table, TableFault, table_from, table_of};
+use routing_table::{KeptTrees, Table, TableFault, table_of};
 use spf::Meter;
 use std::alloc::{AllocError, Allocator};
 use std::marker::Model;
@@ -16,25 +18,32 @@ const MOST_EDITS: usize = 10_000;
 
 /// A link state database, the edits that led to it from the one that was loaded, and those that
 /// were undone since. Contracts see it as its session.
+///
+/// It may hold a copy of the loaded database, which no edit changes. Then no edit is taken back for
+/// a table of that database.
 #[derive(Drop)]
 pub(crate) struct Study<A: Allocator> {
     database: Database<A>,
     history: History<A>,
+    loaded: Option<Database<A>>,
+    /// Whether many edits were taken back for a table of the loaded database. For the next one a
+    /// copy is made.
+    took_many_back: bool,
 }
 
 impl<A: Allocator> Model for Study<A> {
     ghost use Rattle.edit_history.specs.Session.{Session, session_of};
-    ghost use Rattle.recalculate.specs.Reached.{LinksFew};
+    ghost use Rattle.recalculate.specs.Reached.{IsStudied};
 
     ghost Value = { Session };
 
     ghost view = { λ s. session_of s.database s.history.lists };
 
-    ghost invariant = { λ s. LinksFew s.database s.history.lists };
+    ghost invariant = { λ s. IsStudied s.database s.history.lists s.loaded };
 }
 
 impl<A: Allocator + Copy> Study<A> {
-    ghost use Rattle.std.specs.Prelude.{◌≡◌, ◌≢◌, ◌≤◌, ◌↔◌, ◌+◌, ◌++◌, [], Ok, Err, Some, length, true, IsOk, OnOk, OnErr, IfOk, IfErr, IsErrOf};
+    ghost use Rattle.std.specs.Prelude.{◌≡◌, ◌≢◌, ◌≤◌, ◌↔◌, ◌+◌, ◌++◌, [], Ok, Err, Some, length, true, IsOk, OnOk, OnErr, IfOk, IfErr, IfSome, IsErrOf};
     ghost use Rattle.lsdb.specs.BaseText.{base_text};
     ghost use Rattle.lsdb.specs.Lists.{IsDatabase};
     ghost use Rattle.lsdb.specs.Places.{lists_of};
@@ -49,7 +58,7 @@ impl<A: Allocator + Copy> Study<A> {
     ghost use Rattle.routing_table.specs.Tables.{table_in, FaultMeans};
 
     /// The study of a database, without edits. It takes no memory.
-    #[tactic(auto, using(crate::proofs::Steps::start_few))]
+    #[tactic(auto, using(crate::proofs::Steps::start_studied))]
     pub(crate) fn new(alloc: A, database: Database<A>) -> Study<A>
         ensures { result ≡ start (lists_of database) }
     {
@@ -58,6 +67,8 @@ impl<A: Allocator + Copy> Study<A> {
         Study {
             database,
             history: History::new(alloc),
+            loaded: None,
+            took_many_back: false,
         }
     }
 
@@ -203,15 +214,12 @@ impl<A: Allocator + Copy> Study<A> {
             (attached_areas (state self.now) router) ≡ []) }
         ensures keeps { IsWithin (is_kept (routers_of trees.old)) (is_kept (routers_of trees.new)) }
     {
-        let database = self.database();
-        let alloc = database.alloc();
-        let results = trees.results_of(alloc, database, router, meter)?;
-        table_from(alloc, database, router, &results)
+        table_over(self.database(), router, trees, meter)
     }
 
     /// The routing table of a router over trees of the loaded database that are kept. Those of the
-    /// router that are not there are calculated and kept, and the meter counts them. All edits are
-    /// taken back for it, and carried out again.
+    /// router that are not there are calculated and kept, and the meter counts them. Where there is
+    /// no copy of that database, all edits are taken back for it, and carried out again.
     pub(crate) fn base_table_over(
         &mut self,
         router: RouterId,
@@ -233,14 +241,18 @@ impl<A: Allocator + Copy> Study<A> {
             (attached_areas self.old.base router) ≡ []) }
         ensures keeps { IsWithin (is_kept (routers_of trees.old)) (is_kept (routers_of trees.new)) }
     {
+        self.keep_loaded();
+        if let Some(loaded) = self.loaded() {
+            return table_over(loaded, router, trees, meter);
+        }
         let done = self.undo_all();
         let table = self.table_over(router, trees, meter);
         self.redo_all(done);
         table
     }
 
-    /// The routing table of a router in the loaded database, whose trees the meter counts. All
-    /// edits are taken back for it, and carried out again.
+    /// The routing table of a router in the loaded database, whose trees the meter counts. Where
+    /// there is no copy of that database, all edits are taken back for it, and carried out again.
     pub(crate) fn base_table(
         &mut self,
         router: RouterId,
@@ -255,11 +267,45 @@ impl<A: Allocator + Copy> Study<A> {
         ensures at_most { CountsAtMost (length (attached_areas self.old.base router))
             meter.old meter.new }
     {
+        if let Some(loaded) = self.loaded() {
+            return table_of(loaded.alloc(), loaded, router, meter);
+        }
         let done = self.undo_all();
         let database = self.database();
         let table = table_of(database.alloc(), database, router, meter);
         self.redo_all(done);
         table
+    }
+
+    /// The copy of the loaded database, if there is one.
+    fn loaded(&self) -> Option<&Database<A>>
+        ensures { IfSome result (λ loaded. lists_of loaded.now ≡ self.now.base) }
+    {
+        self.loaded.as_ref()
+    }
+
+    /// Makes a copy of the loaded database, where it takes longer to take all done edits back, and
+    /// that was done for a table before. Where memory runs out there is none.
+    fn keep_loaded(&mut self)
+        ensures { self.new ≡ self.old }
+    {
+        if self.loaded.is_some() || !self.takes_long_back() {
+            return;
+        }
+        if !self.took_many_back {
+            self.took_many_back = true;
+            return;
+        }
+        if let Ok(copy) = self.base() {
+            self.loaded = Some(copy);
+        }
+    }
+
+    /// Whether it takes longer to take all done edits back, and to carry them out again, than to
+    /// copy the database.
+    fn takes_long_back(&self) -> bool {
+        let edits = &self.history.records()[..self.history.done()];
+        takes_longer_than_a_copy(edits, &self.database)
     }
 
     /// What the loaded database counts. All edits are taken back for it, and carried out again.
@@ -273,11 +319,15 @@ impl<A: Allocator + Copy> Study<A> {
         info
     }
 
-    /// A copy of the loaded database. All edits are taken back for it, and carried out again.
+    /// A copy of the loaded database. Where there is none yet, all edits are taken back for it, and
+    /// carried out again.
     pub(crate) fn base(&mut self) -> Result<Database<A>, AllocError>
         ensures base { IfOk result (λ database. lists_of database ≡ self.old.base) }
         ensures kept { self.new ≡ self.old }
     {
+        if let Some(loaded) = self.loaded() {
+            return loaded.clone_of();
+        }
         let done = self.undo_all();
         let copy = self.database().clone_of();
         self.redo_all(done);

@@ -1,9 +1,8 @@
 -- What a run is answered, from what was read of its inputs.
-use Rattle.std.proofs.Common.{◌≡◌, ◌∙◌, Bool, true, false, true≢false, ap, sym, subst, refl, ℕ, List, [], length, Option, None, Some, Ok, Err, inl, inr}
+use Rattle.std.proofs.Common.{◌≡◌, ◌∙◌, true, ap, sym, subst, refl, ℕ, List, [], Option, None, Some, Ok, Err, inl, inr}
 use Rattle.std.specs.Prelude.{IfSome, IfErr, Result, is_some}
 use Rattle.std.specs.Io.KnownBytes.{Appends, Keeps}
 use Rattle.std.proofs.KnownBytes.{Appends-nil, Appends-kept}
-use Rattle.std.proofs.lemmas.Bool.{cond_below}
 use Rattle.lsdb.specs.declared.fault.DumpFault.{DumpFault}
 use Rattle.lsdb.specs.declared.fault.DumpFaultKind.TheVariants as kind
 use Rattle.lsdb.specs.Text.{text}
@@ -14,7 +13,7 @@ use Rattle.edit_history.specs.Session.{state}
 use Rattle.branches.specs.Branches.{Sessions}
 use Rattle.branches.specs.Replies.{Answer}
 use Rattle.whole_run.specs.Run.{answers, answers_from, sessions_after, dump_after, session_after, lines_of, begun, text_of, run_answers, run_text, final_dump, final_session}
-use Rattle.streams.specs.WholeText.{IsAll, IsLonger, AppendsPrefix}
+use Rattle.streams.specs.WholeText.{IsAll, AppendsPrefix}
 use Rattle.streams.specs.declared.watch.Watched.{Watched}
 use Rattle.streams.specs.Watched.{inner_of}
 use Rattle.whole_run.specs.Streams.{contents_of}

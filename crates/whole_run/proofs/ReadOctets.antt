@@ -1,5 +1,5 @@
 -- What is read of the octets of a dump: all of them, or one past those that it may have.
-use Rattle.std.proofs.Common.{◌≡◌, ℕ, ◌+◌, ◌-◌, ◌<◌, ◌≤◌, Bool, true, false, cond, ltb, List, [], ◌∷◌, ◌++◌, length, Option, None, Some, Result, Ok, Err}
+use Rattle.std.proofs.Common.{◌≡◌, ℕ, ◌+◌, ◌-◌, ◌<◌, ◌≤◌, Bool, true, false, cond, ltb, List, [], ◌∷◌, ◌++◌, length, Option, None, Some, Result, Err}
 use Rattle.std.proofs.Common.{refl, sym, ap, subst, ◌∙◌, arith}
 use Rattle.std.specs.Prelude.{IfSome}
 use Rattle.std.specs.Io.KnownBytes.{Consumes}
@@ -13,7 +13,7 @@ use Rattle.lsdb.specs.Loading.{loaded}
 use Rattle.lsdb.specs.BaseLoading.{begins_session, most_octets, base_loaded}
 use Rattle.edit_history.specs.Session.{Session}
 use Rattle.saved_sessions.specs.Opening.{dump_loaded, opened, session_loaded}
-use Rattle.streams.specs.WholeText.{ConsumesAtMost, IsLonger, ReadsBehind}
+use Rattle.streams.specs.WholeText.{ConsumesAtMost, ReadsBehind}
 use Rattle.whole_run.specs.Inputs.{most_read}
 use Rattle.whole_run.specs.steps.Reading.{IsTooLong, most_behind}
 

@@ -6,12 +6,15 @@ use lsa_codec::{AreaId, RouterId};
 use lsdb::Database;
 use memory_tests::NETWORK;
 use rationed::Rationed;
-use samples::{LsaList, R1, dump_of};
+use samples::{LsaList, R1, R2, dump_of};
 use std::alloc::Global;
 use std::test::*;
 
 /// The router of the tables, which is attached to both areas.
 pub(super) const ROUTER: RouterId = RouterId(R1);
+
+/// Another router of the backbone.
+pub(super) const OTHER: RouterId = RouterId(R2);
 
 /// The database of the network.
 pub(super) fn database_of(rationed: &Rationed) -> Result<Database<&Rationed>, Fail> {

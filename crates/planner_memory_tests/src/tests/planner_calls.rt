@@ -1,8 +1,9 @@
 //! Calls of a planner of which one edit is done and one undone.
 
 use super::answers::{of_fault, of_made_table, of_octets, of_routers, of_table, of_table_of};
-use super::network::{ROUTER, cost, database_of, no_link};
+use super::network::{OTHER, ROUTER, cost, database_of, no_link};
 use edit_history::EditFault;
+use lsa_codec::RouterId;
 use lsdb::Database;
 use memory_tests::{Answer, Growing, Seen, growths_of};
 use rationed::Rationed;
@@ -12,7 +13,8 @@ use std::alloc::{AllocError, Global};
 use std::test::*;
 
 /// What is called. Before a table after an edit, an undo or a redo there was a table, whose trees
-/// are kept but for those of the area that is touched. After a refused edit all are kept.
+/// are kept but for those of the area that is touched. After a refused edit all are kept. A second
+/// table of the loaded database is made over a copy of it, where many edits are done.
 #[derive(Clone, Copy, Debug)]
 enum Call {
     Edit,
@@ -28,6 +30,9 @@ enum Call {
     EditThenTable,
     BaseTable,
     KeptBaseTable,
+    CopyForBaseTable,
+    BaseTableOverCopy,
+    BaseOfCopy,
     SharedTable,
 }
 
@@ -45,6 +50,9 @@ const CALLS: &[Call] = &[
     Call::EditThenTable,
     Call::BaseTable,
     Call::KeptBaseTable,
+    Call::CopyForBaseTable,
+    Call::BaseTableOverCopy,
+    Call::BaseOfCopy,
     Call::SharedTable,
 ];
 
@@ -60,6 +68,15 @@ fn octets_of(alloc: Global, planner: &mut Planner<&Rationed>) -> Result<Vec<u8>,
 /// Makes a table, whose trees are kept.
 fn keep_trees(planner: &mut Planner<&Rationed>) -> Result<(), Fail> {
     let _table = planner.table(ROUTER)?;
+    Ok(())
+}
+
+/// Carries edits out until they are many for the network, and makes a table of a router of the
+/// loaded database. A second one makes a copy of that database.
+fn ask_for_base(planner: &mut Planner<&Rationed>, router: RouterId) -> Result<(), Fail> {
+    planner.edit(&cost(13))?;
+    planner.edit(&cost(14))?;
+    let _table = planner.kept_base_table(router)?;
     Ok(())
 }
 
@@ -94,6 +111,11 @@ fn prepare(planner: &mut Planner<&Rationed>, call: Call) -> Result<(), Fail> {
             refuse(planner)?;
         }
         Call::EditThenTable => keep_trees(planner)?,
+        Call::CopyForBaseTable => ask_for_base(planner, OTHER)?,
+        Call::BaseTableOverCopy | Call::BaseOfCopy => {
+            ask_for_base(planner, ROUTER)?;
+            ask_for_base(planner, OTHER)?;
+        }
         _ => (),
     }
     Ok(())
@@ -160,13 +182,14 @@ fn answer_of<'a>(
         Call::EditThenTable => of_edited_table(alloc, rationed, planner),
         Call::Dump => of_octets(alloc, planner.dump()),
         Call::DumpBase => of_octets(alloc, planner.dump_base()),
-        Call::Base => of_database(alloc, rationed, planner.base()),
+        Call::Base | Call::BaseOfCopy => of_database(alloc, rationed, planner.base()),
         Call::Routers => of_routers(alloc, planner.routers()),
         Call::BaseTable => of_table(alloc, rationed, planner.base_table(ROUTER)),
-        Call::KeptBaseTable => match planner.kept_base_table(ROUTER) {
-            Ok(table) => of_made_table(alloc, rationed, &table),
-            Err(fault) => of_fault(fault),
-        },
+        Call::KeptBaseTable | Call::CopyForBaseTable | Call::BaseTableOverCopy =>
+            match planner.kept_base_table(ROUTER) {
+                Ok(table) => of_made_table(alloc, rationed, &table),
+                Err(fault) => of_fault(fault),
+            },
         Call::SharedTable => match planner.shared_table(ROUTER) {
             Ok(table) => of_made_table(alloc, rationed, &table),
             Err(fault) => of_fault(fault),

@@ -130,6 +130,32 @@ fn a_second_table_of_the_beginning_asks_for_no_growth(rt: HostRuntime) -> Result
     Ok(())
 }
 
+/// The growths of a copy of the database of the beginning.
+fn growths_of_base(planner: &mut Planner<&Rationed>, rationed: &Rationed) -> Result<u64, Fail> {
+    let before = rationed.left();
+    let _base = planner.base()?;
+    Ok(before.saturating_sub(rationed.left()))
+}
+
+/// The growths of the second and the third table in the database of the beginning, after costs, and
+/// of a copy of that database. The third one is of the router of the first.
+fn growths_after_costs(alloc: Global, metrics: Range<u16>) -> Result<(u64, u64, u64), Fail> {
+    let rationed = Rationed::new(alloc, u64::MAX);
+    let mut planner = with_costs(&rationed, SAMPLE, metrics)?;
+    let _first = growths_at_the_beginning(&mut planner, &rationed, R1)?;
+    let second = growths_at_the_beginning(&mut planner, &rationed, R2)?;
+    let third = growths_at_the_beginning(&mut planner, &rationed, R1)?;
+    Ok((second, third, growths_of_base(&mut planner, &rationed)?))
+}
+
+#[test]
+fn the_second_table_of_the_beginning_makes_a_copy(rt: HostRuntime) -> Result<(), Fail> {
+    let (second, third, base) = growths_after_costs(rt.alloc(), 11..11)?;
+    let behind_edits = growths_after_costs(rt.alloc(), 11..14)?;
+    assert_eq!(rt; behind_edits, (second.saturating_add(base), third, base));
+    Ok(())
+}
+
 /// The router-LSA of 1.1.1.1 in the sample.
 const LOADED: &[u8] = &[
     0x00, 0x01, 0x02, 0x01, 1, 1, 1, 1, 1, 1, 1, 1, 0x80, 0, 0, 1, 0xd5, 0x5a, 0, 0x24, 0, 0, 0, 1,

@@ -5,7 +5,7 @@ use edit_script::{Command, parse};
 use lsa_codec::RouterId;
 use lsdb::Database;
 use recalculate::{Planner, Table};
-use samples::{R1, SAMPLE};
+use samples::{R1, R2, SAMPLE};
 use std::alloc::{Allocator, Global};
 use std::test::*;
 
@@ -236,5 +236,56 @@ fn runs_at_the_beginning(alloc: Global) -> Result<(u64, u64, u64), Fail> {
 #[test]
 fn keeps_the_trees_of_the_beginning(rt: HostRuntime) -> Result<(), Fail> {
     assert_eq!(rt; runs_at_the_beginning(rt.alloc())?, (1, 1, 2));
+    Ok(())
+}
+
+/// Whether a table of a router in the database of the beginning is that of a fresh planner of the
+/// sample, by trees that are kept and by others.
+fn is_of_beginning(planner: &mut Planner, alloc: Global, router: u32) -> Result<bool, Fail> {
+    let kept = planner.kept_base_table(RouterId(router))?;
+    let fresh = planner.base_table(RouterId(router))?;
+    Ok(is_of_dump(kept.as_ref(), alloc, SAMPLE)? && is_of_dump(&fresh, alloc, SAMPLE)?)
+}
+
+/// Whether the database of the beginning is still the sample: by tables of both routers, and by a
+/// copy of it.
+fn begins_at_the_sample(planner: &mut Planner, alloc: Global) -> Result<bool, Fail> {
+    let is_of_both = is_of_beginning(planner, alloc, R1)? && is_of_beginning(planner, alloc, R2)?;
+    Ok(is_of_both && planner.base()?.dump()?.as_slice() == SAMPLE)
+}
+
+/// Behind the first line many edits are done, of so few LSAs: the second table of the beginning
+/// makes a copy of that database.
+const OVER_A_COPY: &[&str] = &[
+    "cost 0.0.0.0 1.1.1.1 1 7",
+    "table 1.1.1.1",
+    "cost 0.0.0.0 1.1.1.1 1 8",
+    "table 1.1.1.1",
+    "undo 2",
+    "table 2.2.2.2",
+    "redo 1",
+    "table 1.1.1.1",
+    "fail-router 2.2.2.2",
+    "add-stub 0.0.0.0 1.1.1.1 10.7.0.0/16 1",
+    "table 1.1.1.1",
+];
+
+/// The place of the first line that is refused, or behind which the beginning is another.
+fn first_other_beginning(alloc: Global, lines: &[&'static str]) -> Result<Option<usize>, Fail> {
+    let mut planner = planner_of(alloc, SAMPLE)?;
+    let mut place: usize = 0;
+    for line in lines {
+        let refused = is_refused(&mut planner, alloc, line)?;
+        if refused || !begins_at_the_sample(&mut planner, alloc)? {
+            return Ok(Some(place));
+        }
+        place = place.wrapping_add(1);
+    }
+    Ok(None)
+}
+
+#[test]
+fn tables_over_a_copy_of_the_beginning_are_right(rt: HostRuntime) -> Result<(), Fail> {
+    assert_eq!(rt; first_other_beginning(rt.alloc(), OVER_A_COPY)?, None);
     Ok(())
 }

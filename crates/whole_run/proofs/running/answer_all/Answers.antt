@@ -2,8 +2,8 @@ use Rattle.std.proofs.lemmas.Result.{err_from_is_err_and}
 use Rattle.whole_run.specs.Run.{final_dump, final_session}
 use Rattle.streams.specs.Watched.{inner_of}
 use Rattle.streams.specs.WholeText.{IsAll}
+use Rattle.whole_run.proofs.FailedReads.{both_read, script_read}
 use Rattle.whole_run.proofs.KnownInputs.{if_written, if_prefix, if_counted, if_dump, if_session, if_nothing, is_left}
-use Rattle.whole_run.proofs.EndedRuns.{no_failed_read, no_read_failed}
 use Rattle.whole_run.proofs.running.answer_all.Goals as goal
 
 pub returns-in_err-text-clause-prefix : goal.returns-in_err-text-clause-prefix
@@ -44,8 +44,14 @@ returns-in_err-left-clause-prefix g c =
     let all : IsAll (g.S.Read.remaining (inner_of c.args.script.now)) c.as_slice.result.now = rw c.as_slice.ensures.value c.in_ok-text.ensures.whole in
     if_prefix _ _ _ _ _ _ c.in_ok-branches.ensures.loads all c.answer_script.ensures.prefix
 
+pub returns-in_err-text-clause-read : goal.returns-in_err-text-clause-read
+returns-in_err-text-clause-read g c =
+    let gave = err_from_is_err_and c.from_residual-in_err-text.result c.from_residual-in_err-text.ensures.1 in
+    rw (gave.1, gave.2) (script_read _ _ _ _ _ _ _ c.in_ok-branches.ensures.failed c.in_err-text.ensures.failed)
+
 pub returns-in_err-summary-clause-read : goal.returns-in_err-summary-clause-read
 returns-in_err-summary-clause-read g c =
     let gave = err_from_is_err_and c.from_residual-in_err-summary.result c.from_residual-in_err-summary.ensures.1 in
-    no_read_failed _ _ _ _ _ c.in_ok-branches.ensures.failed c.in_ok-text.ensures.failed
-    (no_failed_read c.in_err-summary.field-0.0 gave.0 _ _ c.in_err-summary.ensures.failed c.in_err-summary.ensures.memory gave.1 gave.2)
+    rw (gave.1, gave.2)
+    (both_read _ _ _ _ _ _ _ _ _ _ c.in_ok-branches.ensures.failed c.in_ok-text.ensures.failed c.in_err-summary.ensures.failed
+    c.in_err-summary.ensures.memory)

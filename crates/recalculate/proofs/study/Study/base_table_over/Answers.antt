@@ -8,4 +8,5 @@ use Rattle.recalculate.proofs.study.Study.base_table_over.Goals as goal
 pub returns-clause-graphs : goal.returns-clause-graphs
 returns-clause-graphs g c =
     subst (λ (db : Lists). AreOfDatabase db c.table_over-table.new.trees)
-    (ap (λ (s : Session). state s) c.undo_all-done.ensures.session ∙ all_back c.args.self.now) c.table_over-table.ensures.graphs
+    (ap (λ (s : Session). state s) c.undo_all-done.ensures.session ∙ all_back c.keep_loaded.new.self
+    ∙ ap (λ (s : Session). s.base) c.keep_loaded.ensures) c.table_over-table.ensures.graphs

@@ -1,5 +1,7 @@
-use Rattle.std.proofs.Common.{◌≡◌, length, refl, sym, ap, ◌∙◌, subst, arith}
+use Rattle.std.proofs.Common.{◌≡◌, IfSome, length, refl, sym, ap, ◌∙◌, subst, arith}
 use Rattle.std.proofs.lemmas.Result.{err_from_is_err_and}
+use Rattle.lsdb.specs.Lists.{Lists}
+use Rattle.lsdb.specs.Places.{lists_of}
 use Rattle.edit_history.specs.Journal.{HistoryData, Links}
 use Rattle.edit_history.specs.Session.{session_of, edited}
 use Rattle.edit_history.proofs.HistoryLemmas.{recorded}
@@ -24,10 +26,11 @@ pub invariant_of-self-2 : goal.invariant_of-self-2
 invariant_of-self-2 g c =
     let now : c.push.new.self.lists ≡ pushed c.in_ok-record.record c.self.inside.history.lists =
     c.push.ensures ∙ ap (pushed c.in_ok-record.record) c.reserve.ensures.lists in
+    let more =
+    recorded c.self.inside.database c.apply.new.database c.self.inside.history.lists c.args.edit.now
+    c.in_ok-record.record c.self.invariant.links c.known.ensures c.in_ok-record.ensures.applied in
     record {
-      links = subst (λ (h : HistoryData). Links c.apply.new.database h) (sym now)
-          (recorded c.self.inside.database c.apply.new.database c.self.inside.history.lists c.args.edit.now
-          c.in_ok-record.record c.self.invariant.links c.known.ensures c.in_ok-record.ensures.applied).links;
+      links = subst (λ (h : HistoryData). Links c.apply.new.database h) (sym now) more.links;
       few = omega (
         arith,
         ap (λ (h : HistoryData). length h.past) now,
@@ -35,6 +38,8 @@ invariant_of-self-2 g c =
         c.done.ensures,
         c.if-done-ge-MOST_EDITS.false,
       );
+      loaded = subst (λ (h : HistoryData). IfSome c.self.inside.loaded (λ places. lists_of places ≡ (session_of c.apply.new.database h).base)) (sym now)
+          (subst (λ (db : Lists). IfSome c.self.inside.loaded (λ places. lists_of places ≡ db)) (sym more.base) c.self.invariant.loaded);
     }
 
 pub returns-clause-ok : goal.returns-clause-ok
