@@ -206,7 +206,7 @@ impl<A: Allocator + Copy> Study<A> {
         let database = self.database();
         let alloc = database.alloc();
         let results = trees.results_of(alloc, database, router, meter)?;
-        table_from(alloc, database, router, &results)
+        table_from(alloc, database, router, results)
     }
 
     /// The routing table of a router over trees of the loaded database that are kept. Those of the
