@@ -36,7 +36,7 @@ use Rattle.area_routes.specs.Offers.{best_offers, offer_candidate, offer_of}
 use Rattle.area_routes.specs.Reached.{ReachedValue, reached_from}
 use Rattle.area_routes.specs.StubLinks.{AreStubLinksOf, stub_link, stub_links_from, stub_links_of}
 use Rattle.area_routes.specs.Stubs.{stub_offers}
-use Rattle.area_routes.specs.Values.{AreaResultValue, EntryValue, OfferValue}
+use Rattle.area_routes.specs.Values.{AreaResultValue, OfferValue}
 use Rattle.area_routes.specs.steps.StubCandidates.{offer_over, offers_over}
 use Rattle.area_routes.proofs.Bounds.{All-filter_map}
 use Rattle.area_routes.proofs.Reaching.{distances_by_lsa, hops_by_lsa}

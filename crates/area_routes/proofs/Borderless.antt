@@ -4,12 +4,10 @@ use Rattle.std.specs.List.{cons_option, filter_map}
 use Rattle.std.specs.Option.{option_and_then, option_map}
 use Rattle.lsa_codec.specs.declared.address.RouterId.{RouterId}
 use Rattle.lsa_codec.specs.Order.{router_cmp}
-use Rattle.lsa_codec.specs.Prefix.{Net}
 use Rattle.area_routes.specs.Best.{ways_of}
-use Rattle.area_routes.specs.Candidate.{Candidate}
 use Rattle.area_routes.specs.Inter.{asbr_candidate, asbr_entry, asbr_told, border_of, by_border, candidate_to, inter_entries, inter_routes, network_candidate, network_told, originator_of, usable_metric}
 use Rattle.area_routes.specs.Routes.{routes_of}
-use Rattle.area_routes.specs.Values.{AreaResultValue, RouteValue, WayValue}
+use Rattle.area_routes.specs.Values.{AreaResultValue, RouteValue}
 use Rattle.area_routes.specs.steps.EntryIndex.{IsBorderless}
 
 then_none : {X Y : Type 0} (f : X → Option Y) → ((x : X) → f x ≡ None) → (o : Option X) → option_and_then f o ≡ None

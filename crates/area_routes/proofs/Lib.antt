@@ -7,6 +7,7 @@ pub mod Merging
 pub mod OneArea
 pub mod AddsLemmas
 pub mod Runs
+pub mod Routed
 pub mod Words
 pub mod Reordered
 pub mod Gathering
@@ -29,3 +30,4 @@ pub mod EntriesOnce
 pub mod SameGraphLemmas
 pub mod WayLemmas
 pub mod Borderless
+pub mod Offerless

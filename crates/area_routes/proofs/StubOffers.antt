@@ -1,14 +1,11 @@
 -- What the stub links of an area offer is what the routers that are reached offer.
-use Rattle.std.proofs.Common.{◌≡◌, ℕ, ◌+◌, ◌<◌, List, [], ◌∷◌, ◌++◌, map, take, get_or, length, cond, Bool, Option, None, Some, refl, sym, ap, ◌∙◌, arith}
+use Rattle.std.proofs.Common.{◌≡◌, ℕ, ◌+◌, List, [], ◌∷◌, ◌++◌, length, cond, Option, None, Some, refl, sym, ap, ◌∙◌, arith}
 use Rattle.std.proofs.Common.{append_assoc}
 use Rattle.std.specs.Prelude.{eqb, suc}
-use Rattle.std.specs.List.{filter_map, flat_map, cons_option, slice_get, list_any}
-use Rattle.std.specs.List.Sorted.{IsPermutation}
+use Rattle.std.specs.List.{filter_map, flat_map, cons_option, slice_get}
 use Rattle.std.specs.Option.{option_map}
-use Rattle.std.proofs.lemmas.List.{append-nil, take_more}
+use Rattle.std.proofs.lemmas.List.{append-nil}
 use Rattle.std.proofs.lemmas.List.Elements.{filter_map-append}
-use Rattle.std.proofs.lemmas.List.Folds.{list_any-append}
-use Rattle.std.proofs.lemmas.List.Sorted.{list_any-IsPermutation}
 use Rattle.lsa_codec.specs.declared.address.RouterId.{RouterId}
 use Rattle.lsa_codec.specs.declared.link.Link.{Link}
 use Rattle.lsa_codec.specs.Fields.{link_state_id_of}
@@ -20,10 +17,9 @@ use Rattle.area_graph.specs.AreaEdges.{router_links}
 use Rattle.next_hops.specs.declared.hop.Hop.{Hop}
 use Rattle.next_hops.specs.declared.hop.Hop.TheVariants.{Connected}
 use Rattle.area_routes.specs.declared.stub_links.StubLink.{StubLink}
-use Rattle.area_routes.specs.Candidate.{Candidate}
-use Rattle.area_routes.specs.Reached.{ReachedValue, reached_by}
+use Rattle.area_routes.specs.Reached.{reached_by}
 use Rattle.area_routes.specs.StubLinks.{stub_link, stub_links_from, stub_links_of}
-use Rattle.area_routes.specs.Stubs.{stub_offer, stub_offers, stubs_of}
+use Rattle.area_routes.specs.Stubs.{stub_offer, stubs_of}
 use Rattle.area_routes.specs.Values.{OfferValue}
 
 -- ---- the links of one vertex more

@@ -1,5 +1,5 @@
 -- Intra-area routes (RFC 2328, 16.1).
-use Rattle.std.specs.Prelude.{List, Some, map}
+use Rattle.std.specs.Prelude.{List, [], ◌∷◌, Some, map}
 use Rattle.std.specs.List.{flat_map}
 use Rattle.lsa_codec.specs.declared.address.AreaId.{AreaId}
 use Rattle.lsa_codec.specs.Prefix.{Net}
@@ -19,3 +19,11 @@ intra_candidates r = map (intra_candidate r.area) r.offers
 -- to each prefix the least cost of the ways that all areas offer, with the areas and next hops of those that have it
 unfoldable pub intra_of : List AreaResultValue → List RouteValue
 intra_of results = routes_of (flat_map intra_candidates results)
+
+-- the route by an offer of the area, of a router that is attached to this area alone
+abbrev pub intra_route : AreaId → OfferValue → RouteValue
+intra_route area o = record { net = o.net; kind = Intra; areas = area ∷ []; cost = o.cost; cost2 = 0; hops = o.hops }
+
+-- what an area gives without the ways to prefixes
+abbrev pub without_offers : AreaResultValue → AreaResultValue
+without_offers r = record { area = r.area; offers = []; entries = r.entries }

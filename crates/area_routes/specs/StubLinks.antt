@@ -1,5 +1,5 @@
 -- The stub links of an area's routers (RFC 2328, 12.4.1 and A.4.2).
-use Rattle.std.specs.Prelude.{◌≡◌, ℕ, ◌+◌, List, [], ◌∷◌, ◌++◌, Option, IsPermutation}
+use Rattle.std.specs.Prelude.{ℕ, ◌+◌, List, [], ◌∷◌, ◌++◌, Option, IsPermutation}
 use Rattle.std.specs.List.{filter_map}
 use Rattle.std.specs.Option.{option_map}
 use Rattle.lsa_codec.specs.declared.link.Link.{Link}

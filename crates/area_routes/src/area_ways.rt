@@ -1,28 +1,115 @@
 //! Ways to prefixes within one area.
 
-ghost use Rattle.std.specs.Prelude.{◌≡◌, ◌<◌, ◌^◌, [], ◌∷◌, IfOk, OnOk, List, map};
+ghost use Rattle.std.specs.Prelude.{◌≡◌, ◌<◌, ◌^◌, [], ◌∷◌, ◌++◌, IfOk, OnOk, IsPermutation, List, Some, map};
+ghost use Rattle.std.specs.List.{All};
+ghost use Rattle.std.specs.List.Sorted.{IsSorted};
+ghost use Rattle.lsa_codec.specs.declared.address.AreaId.{AreaId as AnyArea};
 ghost use Rattle.lsa_codec.specs.Order.{prefix_cmp};
 ghost use Rattle.lsa_codec.specs.Prefix.{Net};
 ghost use Rattle.area_routes.specs.Best.{ways_of};
 ghost use Rattle.area_routes.specs.Offers.{AreSortedOffers, offer_of};
-ghost use Rattle.area_routes.specs.steps.Growing.{with_offers};
 ghost use Rattle.area_routes.specs.Values.{OffersBelow, WayValue};
+ghost use Rattle.area_routes.specs.steps.Growing.{with_offers};
+ghost use Rattle.area_routes.specs.steps.Merge.{contender_cmp, first_hop, fresh, is_last, merge};
+ghost use Rattle.area_routes.specs.steps.OneArea.{IsIntraRoute, offered, way_by};
 
-use crate::best::BestWays;
-use crate::contender::Contender;
-use crate::offer::Offer;
-use crate::rank::{PathType, Rank};
-use crate::way::Way;
-use lsa_codec::Prefix;
-use next_hops::Hop;
+use crate::areas::AreaList;
+use crate::rank::PathType;
+use crate::route::Route;
+use lsa_codec::{AreaId, Prefix};
+use next_hops::{Hop, HopList, hop_order};
 use std::alloc::{AllocError, Allocator};
+use std::cmp::Ordering;
 use std::marker::Model;
+
+/// A way to a prefix within one area, which borrows its next hops. Contracts see it as a candidate.
+#[derive(Drop)]
+pub(crate) struct AreaWay<'a> {
+    net: Prefix,
+    cost: u64,
+    hops: &'a [Hop],
+}
+
+impl<'a> Model for AreaWay<'a> {
+    ghost use Rattle.lsa_codec.specs.Prefix.{Net};
+    ghost use Rattle.area_routes.specs.Candidate.{Candidate};
+    ghost use Rattle.area_routes.specs.Offers.{offer_candidate};
+
+    ghost Value = { Candidate Net };
+
+    ghost view = { λ w. offer_candidate (record { net = w.net; cost = w.cost; hops = w.hops.now }) };
+}
+
+impl<'a> AreaWay<'a> {
+    /// The first of its next hops; `Connected` where it has none.
+    fn first_hop(&self) -> Hop
+        ensures { result ≡ first_hop self.now.hops }
+    {
+        match self.hops.first() {
+            Some(hop) => *hop,
+            None => Hop::Connected,
+        }
+    }
+
+    /// Compares two ways: by their prefixes, and then by their costs. Equal ones are compared by
+    /// their first hops, so that a list of hops to which theirs are joined in this order mostly
+    /// grows at its end.
+    fn compare(&self, other: &AreaWay<'a>) -> Ordering
+        ensures { result ≡ contender_cmp prefix_cmp self.now other.now }
+    {
+        hop_order();
+        match self.net.cmp(&other.net) {
+            Ordering::Equal => match self.cost.cmp(&other.cost) {
+                Ordering::Equal => self.first_hop().cmp(&other.first_hop()),
+                order => order,
+            },
+            order => order,
+        }
+    }
+
+    /// The route by this way, of a router that is attached to its area alone.
+    fn route<A: Allocator + Copy>(&self, alloc: A, area: AreaId) -> Result<Route<A>, AllocError>
+        ensures intra { IfOk result (IsIntraRoute area) }
+        ensures way { IfOk result (λ route. way_by route ≡ (self.now.key, fresh self.now)) }
+    {
+        Ok(Route {
+            net: self.net,
+            kind: PathType::Intra,
+            areas: AreaList::of_one(alloc, area),
+            cost: self.cost,
+            cost2: 0,
+            hops: HopList::of(alloc, self.hops)?,
+        })
+    }
+
+    /// Takes this way into account at the route by others to its prefix.
+    fn merge_into<A: Allocator + Copy>(
+        &self,
+        alloc: A,
+        route: &mut Route<A>,
+    ) -> Result<(), AllocError>
+        ensures intra { OnOk result ((area : AnyArea)
+            → IsIntraRoute area route.old → IsIntraRoute area route.new) }
+        ensures way { OnOk result (way_by route.new
+            ≡ (route.old.net, merge (Some (way_by route.old).1) self.now)) }
+    {
+        match self.cost.cmp(&route.cost) {
+            Ordering::Less => {
+                route.cost = self.cost;
+                route.hops = HopList::of(alloc, self.hops)?;
+            }
+            Ordering::Equal => route.hops.join(self.hops)?,
+            Ordering::Greater => (),
+        }
+        Ok(())
+    }
+}
 
 /// Ways to prefixes within one area, of which the best to each prefix are what the area offers.
 /// Contracts see them as candidates.
 #[derive(Drop)]
 pub(crate) struct AreaWays<'a, A: Allocator> {
-    ways: BestWays<'a, Prefix, A>,
+    ways: Vec<AreaWay<'a>, A>,
 }
 
 impl<'a, A: Allocator> Model for AreaWays<'a, A> {
@@ -32,9 +119,9 @@ impl<'a, A: Allocator> Model for AreaWays<'a, A> {
 
     ghost Value = { List (Candidate Net) };
 
-    ghost view = { λ w. w.ways };
+    ghost view = { λ w. w.ways.items };
 
-    ghost invariant = { λ w. All (λ c. c.rank.cost < 2 ^ 33) w.ways };
+    ghost invariant = { λ w. All (λ c. c.rank.cost < 2 ^ 33) w.ways.items };
 }
 
 impl<'a, A: Allocator + Copy> AreaWays<'a, A> {
@@ -42,7 +129,7 @@ impl<'a, A: Allocator + Copy> AreaWays<'a, A> {
     pub(crate) fn with_capacity(alloc: A, count: usize) -> Result<AreaWays<'a, A>, AllocError>
         ensures { IfOk result (λ ways. ways ≡ []) }
     {
-        let ways = BestWays::with_capacity(alloc, count)?;
+        let ways = Vec::with_capacity(alloc, count)?;
         Ok(AreaWays { ways })
     }
 
@@ -52,52 +139,82 @@ impl<'a, A: Allocator + Copy> AreaWays<'a, A> {
         ensures { OnOk result (self.new ≡ with_offers self.old
             (record { net = net; cost = cost; hops = hops.now } ∷ [])) }
     {
-        let rank = Rank {
-            path: PathType::Intra,
-            cost2: 0,
-            class: 0,
-            cost,
-        };
-        self.ways.push(Contender {
-            key: net,
-            rank,
-            area: None,
-            hops,
-            onward: None,
-        })
+        self.ways.push(AreaWay { net, cost, hops })?;
+        Ok(())
     }
 
-    /// What the area offers: to each prefix, in order, the ways of the least cost, joined.
-    pub(crate) fn into_offers(self, alloc: A) -> Result<Vec<Offer<A>, A>, AllocError>
-        ensures offers { IfOk result
-            (λ offers. offers.items ≡ map offer_of (ways_of prefix_cmp self.entry)) }
-        ensures below { IfOk result (λ offers. OffersBelow (2 ^ 33) offers.items) }
-        ensures sorted { IfOk result (λ offers. AreSortedOffers offers.items) }
+    /// What the area offers: to each prefix, in order, the ways of the least cost, joined; as
+    /// routes.
+    pub(crate) fn into_routes(self, alloc: A, area: AreaId) -> Result<Vec<Route<A>, A>, AllocError>
+        ensures offers { IfOk result (λ routes.
+            map offered routes.items ≡ map offer_of (ways_of prefix_cmp self.entry)) }
+        ensures intra { IfOk result (λ routes. All (IsIntraRoute area) routes.items) }
+        ensures below { IfOk result (λ routes. OffersBelow (2 ^ 33) (map offered routes.items)) }
+        ensures sorted { IfOk result (λ routes. AreSortedOffers (map offered routes.items)) }
     {
-        let ways = self.ways.into_list(alloc)?;
-        offers(alloc, ways)
+        routes_in_order(alloc, area, &sorted(self.ways)?)
     }
 }
 
-/// What the best way to a prefix offers.
-fn offer<A: Allocator + Copy>(net: Prefix, way: Way<A>) -> Offer<A>
-    ensures { result ≡ offer_of (net, way) }
+/// The ways in order of their prefixes, and those to one from the best on, equal ones by their
+/// first hops.
+fn sorted<'a, A: Allocator + Copy>(
+    ways: Vec<AreaWay<'a>, A>,
+) -> Result<Vec<AreaWay<'a>, A>, AllocError>
+    ensures same { IfOk result (λ sorted. IsPermutation ways.entry.items sorted.items) }
+    ensures order { IfOk result (λ sorted. IsSorted (contender_cmp prefix_cmp) sorted.items) }
 {
-    Offer {
-        net,
-        cost: way.rank.cost,
-        hops: way.hops,
-    }
+    let mut ways = ways;
+    ways.sort_by(|a, b| a.compare(b))?;
+    Ok(ways)
 }
 
-/// Such an offer for each way.
-fn offers<A: Allocator + Copy>(
+/// The routes by the best of ways that stand in order.
+fn routes_in_order<A: Allocator + Copy>(
     alloc: A,
-    ways: Vec<(Prefix, Way<A>), A>,
-) -> Result<Vec<Offer<A>, A>, AllocError>
-    ensures { IfOk result (λ offers. offers.items ≡ map offer_of ways.items) }
+    area: AreaId,
+    ways: &[AreaWay<'_>],
+) -> Result<Vec<Route<A>, A>, AllocError>
+    requires { IsSorted (contender_cmp prefix_cmp) ways.now }
+    ensures offers { IfOk result (λ routes.
+        map offered routes.items ≡ map offer_of (ways_of prefix_cmp ways.now)) }
+    ensures intra { IfOk result (λ routes. All (IsIntraRoute area) routes.items) }
 {
-    ways.into_iter()
-        .map(|(net, way)| offer(net, way))
-        .collect(alloc)
+    let mut routes = Vec::with_capacity(alloc, ways.len())?;
+    for way in ways {
+        if is_last(&routes, way.net) {
+            merge_last(alloc, &mut routes, way)?;
+        } else {
+            routes.push(way.route(alloc, area)?)?;
+        }
+    }
+    Ok(routes)
+}
+
+/// Whether the last of these routes leads to a prefix.
+fn is_last<A: Allocator + Copy>(routes: &[Route<A>], net: Prefix) -> bool
+    ensures { result ≡ is_last prefix_cmp (map way_by routes.now) net }
+{
+    match routes.last() {
+        Some(last) => last.net.cmp(&net).is_eq(),
+        None => false,
+    }
+}
+
+/// Takes a further way to the prefix of the last of these routes into account.
+fn merge_last<A: Allocator + Copy>(
+    alloc: A,
+    routes: &mut Vec<Route<A>, A>,
+    way: &AreaWay<'_>,
+) -> Result<(), AllocError>
+    ensures intra { OnOk result ((area : AnyArea)
+        → All (IsIntraRoute area) routes.old.items → All (IsIntraRoute area) routes.new.items) }
+    ensures ways { OnOk result ((before : List (Net × WayValue)) (net : Net) (best : WayValue)
+        → map way_by routes.old.items ≡ before ++ (net, best) ∷ []
+        → map way_by routes.new.items ≡ before ++ (net, merge (Some best) way.now) ∷ []) }
+{
+    if let Some(last) = routes.last_mut() {
+        way.merge_into(alloc, last)?;
+    }
+    Ok(())
 }

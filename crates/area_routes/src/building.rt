@@ -13,7 +13,8 @@ ghost use Rattle.area_routes.specs.Networks.{network_offers};
 ghost use Rattle.area_routes.specs.Offers.{AreSortedOffers, offer_candidate, offer_of};
 ghost use Rattle.area_routes.specs.StubLinks.{AreStubLinksOf};
 ghost use Rattle.area_routes.specs.Values.{OffersBelow};
-ghost use Rattle.area_routes.specs.steps.Growing.{with_entries, without_entries};
+ghost use Rattle.area_routes.specs.steps.Growing.{with_entries};
+ghost use Rattle.area_routes.specs.steps.OneArea.{IsIntraRoute, offered, result_by};
 ghost use Rattle.area_routes.specs.steps.StubCandidates.{offers_over};
 ghost use Rattle.area_routes.specs.steps.ReachedVertices.{AreReached, FitGraph};
 
@@ -22,8 +23,8 @@ use crate::area_ways::AreaWays;
 use crate::entry::{EntryKind, RouterEntry};
 use crate::few_reached::few_reached;
 use crate::networks::add_networks;
-use crate::offer::Offer;
 use crate::reached::{Reached, reached_vertices};
+use crate::route::Route;
 use crate::router_entries::add_entries;
 use crate::stub_links::{StubLink, StubLinks};
 use crate::stubs::add_stubs;
@@ -55,39 +56,42 @@ fn reached_in<'a, A: Allocator + Copy>(
     reached_vertices(alloc, &lsas, tree, hops)
 }
 
-/// What the area offers by the vertices that are reached, and by its stub links.
-fn offers_of<'a, A: Allocator + Copy>(
+/// What the area offers by the vertices that are reached, and by its stub links, as routes.
+fn routes_of<'a, A: Allocator + Copy>(
     alloc: A,
+    area: AreaId,
     root: RouterId,
     reached: &[Reached<'a, A>],
     tree: &Tree<A>,
     hops: &'a Hops<A>,
     links: &[StubLink],
-) -> Result<Vec<Offer<A>, A>, AllocError>
+) -> Result<Vec<Route<A>, A>, AllocError>
     requires tree { All (λ link. link.vertex < length tree.now.distances) links.now }
     requires hops { All (λ link. link.vertex < length hops.now) links.now }
-    ensures offers { IfOk result (λ offers. offers.items ≡ map offer_of (ways_of prefix_cmp
-        (map offer_candidate (network_offers reached.now)
+    ensures offers { IfOk result (λ routes. map offered routes.items
+        ≡ map offer_of (ways_of prefix_cmp (map offer_candidate (network_offers reached.now)
         ++ map offer_candidate (offers_over root tree.now.distances hops.now links.now)))) }
-    ensures below { IfOk result (λ offers. OffersBelow (2 ^ 33) offers.items) }
-    ensures sorted { IfOk result (λ offers. AreSortedOffers offers.items) }
+    ensures intra { IfOk result (λ routes. All (IsIntraRoute area) routes.items) }
+    ensures below { IfOk result (λ routes. OffersBelow (2 ^ 33) (map offered routes.items)) }
+    ensures sorted { IfOk result (λ routes. AreSortedOffers (map offered routes.items)) }
 {
     let mut ways = AreaWays::with_capacity(alloc, links.len())?;
     add_networks(alloc, &mut ways, reached)?;
     add_stubs(&mut ways, root, tree, hops, links)?;
-    ways.into_offers(alloc)
+    ways.into_routes(alloc, area)
 }
 
 impl<A: Allocator + Copy> AreaResult<A> {
-    /// These offers, and no entries yet.
-    fn without_entries(alloc: A, area: AreaId, offers: Vec<Offer<A>, A>) -> AreaResult<A>
-        requires below { OffersBelow (2 ^ 33) offers.items }
-        requires sorted { AreSortedOffers offers.items }
-        ensures { result ≡ without_entries area offers.items }
+    /// These routes, and no entries yet.
+    fn without_entries(alloc: A, area: AreaId, routes: Vec<Route<A>, A>) -> AreaResult<A>
+        requires below { OffersBelow (2 ^ 33) (map offered routes.items) }
+        requires sorted { AreSortedOffers (map offered routes.items) }
+        requires intra { All (IsIntraRoute area) routes.items }
+        ensures { result ≡ result_by area routes.items [] }
     {
         AreaResult {
             area,
-            offers,
+            routes,
             entries: Vec::new(alloc),
         }
     }
@@ -154,8 +158,8 @@ impl<A: Allocator + Copy> AreaResult<A> {
             unreachable!()
         };
         let reached = reached_in(alloc, database, area, graph, tree, hops)?;
-        let offers = offers_of(alloc, root, &reached, tree, hops, stubs.as_slice())?;
-        let mut built = AreaResult::without_entries(alloc, area, offers);
+        let routes = routes_of(alloc, area, root, &reached, tree, hops, stubs.as_slice())?;
+        let mut built = AreaResult::without_entries(alloc, area, routes);
         add_entries(alloc, &mut built, root, &reached)?;
         Ok(built)
     }

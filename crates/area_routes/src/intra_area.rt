@@ -1,19 +1,16 @@
 //! Intra-area routes.
 
-ghost use Rattle.std.specs.Prelude.{◌≡◌, [], ◌∷◌, ◌++◌, ◌^◌, List, All, OnOk, IfOk, map};
-ghost use Rattle.next_hops.specs.Hop.{IsSortedHops};
+ghost use Rattle.std.specs.Prelude.{◌≡◌, [], ◌∷◌, ◌++◌, ◌^◌, List, OnOk, IfOk, map};
 ghost use Rattle.lsa_codec.specs.Prefix.{Net};
 ghost use Rattle.area_routes.specs.Best.{Gathers};
 ghost use Rattle.area_routes.specs.Candidate.{Candidate};
-ghost use Rattle.area_routes.specs.Intra.{intra_candidate, intra_candidates, intra_of};
+ghost use Rattle.area_routes.specs.Intra.{intra_candidate, intra_candidates, intra_of, without_offers};
 ghost use Rattle.area_routes.specs.Values.{ResultBelow, RoutesBelow};
-ghost use Rattle.area_routes.specs.steps.OneArea.{intra_route};
+ghost use Rattle.area_routes.specs.steps.OneArea.{offered};
 
 use crate::area_result::AreaResult;
-use crate::areas::AreaList;
 use crate::best::BestWays;
 use crate::inside_routes::InsideRoutes;
-use crate::offer::Offer;
 use crate::rank::{PathType, Rank};
 use crate::route::Route;
 use crate::route_list::Routes;
@@ -36,25 +33,40 @@ pub fn intra<A: Allocator + Copy>(
     ensures routes { IfOk result (λ routes. routes ≡ intra_of results.now) }
     ensures small { IfOk result (λ routes. RoutesBelow (2 ^ 33) routes) }
 {
-    match results {
-        [area] => intra_of_one(alloc, area),
-        _ => intra_of_several(alloc, results),
-    }
-}
-
-/// The intra-area routes of a router that is attached to any number of areas.
-fn intra_of_several<A: Allocator + Copy>(
-    alloc: A,
-    results: &[AreaResult<A>],
-) -> Result<InsideRoutes<A>, AllocError>
-    ensures routes { IfOk result (λ routes. routes ≡ intra_of results.now) }
-    ensures small { IfOk result (λ routes. RoutesBelow (2 ^ 33) routes) }
-{
     let mut ways = BestWays::new(alloc);
     for area in results {
         add_intra_candidates(&mut ways, area)?;
     }
     Ok(InsideRoutes::from_routes(ways.into_routes(alloc)?))
+}
+
+/// The same. Where the results are those of one area, its routes are taken out of them: then no
+/// route is copied, and no memory is taken.
+///
+/// # Errors
+///
+/// Memory ran out.
+pub fn take_intra<A: Allocator + Copy>(
+    alloc: A,
+    results: &mut [AreaResult<A>],
+) -> Result<InsideRoutes<A>, AllocError>
+    ensures routes { IfOk result (λ routes. routes ≡ intra_of results.old) }
+    ensures small { IfOk result (λ routes. RoutesBelow (2 ^ 33) routes) }
+    ensures rest { map without_offers results.new ≡ map without_offers results.old }
+{
+    if results.len() != 1 {
+        return intra(alloc, results);
+    }
+    Ok(intra_of_one(alloc, &mut results[0]))
+}
+
+/// The intra-area routes of a router that is attached to one area, taken out of what that gives.
+fn intra_of_one<A: Allocator + Copy>(alloc: A, area: &mut AreaResult<A>) -> InsideRoutes<A>
+    ensures routes { result ≡ intra_of (area.old ∷ []) }
+    ensures small { RoutesBelow (2 ^ 33) result }
+    ensures rest { area.new ≡ without_offers area.old }
+{
+    InsideRoutes::from_routes(Routes::from_sorted(area.take_routes(alloc)))
 }
 
 /// Takes all ways that an area offers into account.
@@ -66,74 +78,27 @@ fn add_intra_candidates<'a, A: Allocator + Copy>(
         → Gathers (cs ++ intra_candidates area.now) ways.new) }
     ensures below { ResultBelow (2 ^ 33) area.now }
 {
-    let offers = area.offers();
-    for offer in offers {
-        add_intra_candidate(ways, area.area(), offer)?;
+    let routes = area.routes();
+    for route in routes {
+        add_intra_candidate(ways, area.area(), route)?;
     }
     Ok(())
 }
 
-/// Takes a way that an area offers into account.
+/// Takes a way that an area offers, as a route, into account.
 fn add_intra_candidate<'a, A: Allocator + Copy>(
     ways: &mut BestWays<'a, Prefix, A>,
     area: AreaId,
-    offer: &'a Offer<A>,
+    route: &'a Route<A>,
 ) -> Result<(), AllocError>
     ensures { OnOk result ((cs : List (Candidate Net)) → Gathers cs ways.old
-        → Gathers (cs ++ intra_candidate area offer.now ∷ []) ways.new) }
+        → Gathers (cs ++ intra_candidate area (offered route.now) ∷ []) ways.new) }
 {
     let rank = Rank {
         path: PathType::Intra,
         cost2: 0,
         class: 0,
-        cost: offer.cost,
+        cost: route.cost,
     };
-    ways.add_candidate(offer.net, rank, Some(area), offer.hops.as_slice())
-}
-
-/// The intra-area routes of a router that is attached to one area: what the area offers.
-fn intra_of_one<A: Allocator + Copy>(
-    alloc: A,
-    area: &AreaResult<A>,
-) -> Result<InsideRoutes<A>, AllocError>
-    ensures routes { IfOk result (λ routes. routes ≡ intra_of (area.now ∷ [])) }
-    ensures small { IfOk result (λ routes. RoutesBelow (2 ^ 33) routes) }
-{
-    let routes = routes_by(alloc, area.area(), area.offers())?;
-    Ok(InsideRoutes::from_routes(Routes::from_sorted(routes)))
-}
-
-/// A route by each offer of an area.
-fn routes_by<A: Allocator + Copy>(
-    alloc: A,
-    area: AreaId,
-    offers: &[Offer<A>],
-) -> Result<Vec<Route<A>, A>, AllocError>
-    ensures routes { IfOk result (λ routes. routes.items ≡ map (intra_route area) offers.now) }
-    ensures hops { IfOk result (λ routes. All (λ o. IsSortedHops o.hops) offers.now) }
-{
-    let mut routes = Vec::with_capacity(alloc, offers.len())?;
-    for offer in offers {
-        routes.push(route_by(alloc, area, offer)?)?;
-    }
-    Ok(routes)
-}
-
-/// The route by an offer of an area.
-fn route_by<A: Allocator + Copy>(
-    alloc: A,
-    area: AreaId,
-    offer: &Offer<A>,
-) -> Result<Route<A>, AllocError>
-    ensures route { IfOk result (λ route. route ≡ intra_route area offer.now) }
-    ensures hops { IfOk result (λ _. IsSortedHops offer.now.hops) }
-{
-    Ok(Route {
-        net: offer.net,
-        kind: PathType::Intra,
-        areas: AreaList::of_one(alloc, area),
-        cost: offer.cost,
-        cost2: 0,
-        hops: offer.hops.clone_of(alloc)?,
-    })
+    ways.add_candidate(route.net, rank, Some(area), route.hops.as_slice())
 }

@@ -12,7 +12,6 @@ mod entry;
 mod entry_list;
 mod inside_routes;
 mod inter_result;
-mod offer;
 mod rank;
 mod route;
 mod route_list;
@@ -60,12 +59,11 @@ pub use examined::backbone;
 pub use inside_routes::InsideRoutes;
 pub use inter_area::inter;
 pub use inter_result::InterResult;
-pub use intra_area::intra;
+pub use intra_area::{intra, take_intra};
 pub use laws::{
     attached_routers_are_vertices, entries_stand_once, rank_order, reached_over_all_paths,
     ways_are_best,
 };
-pub use offer::Offer;
 pub use rank::{PathType, Rank};
 pub use route::Route;
 pub use route_list::Routes;

@@ -1,14 +1,16 @@
 -- The table from its parts.
-use Rattle.std.proofs.Common.{◌≡◌, ℕ, true, List, [], ◌∷◌, length, Option, Some, Result, Ok, Err, IfOk, IfErr, OnErr, OnOk, inl, inr, zero, suc}
+use Rattle.std.proofs.Common.{◌≡◌, ℕ, true, List, [], ◌∷◌, ◌++◌, length, map, take, Option, Some, Result, Ok, Err, IfOk, IfErr, OnErr, OnOk, inl, inr, zero, suc}
 use Rattle.std.proofs.Common.{refl, sym, ap, ◌∙◌, subst, arith}
 use Rattle.std.specs.List.{slice_get}
+use Rattle.std.proofs.lemmas.List.{length-map, take-append-le, take_all}
 use Rattle.lsa_codec.specs.declared.address.RouterId.{RouterId}
 use Rattle.lsdb.specs.Lists.{AreaHead, Lists, areas_of}
 use Rattle.area_graph.proofs.MemberLemmas.{In, In-filter}
 use Rattle.area_routes.specs.Values.{AreaResultValue, InterValue, RouteValue}
-use Rattle.area_routes.specs.Intra.{intra_of}
+use Rattle.area_routes.specs.Intra.{intra_of, without_offers}
 use Rattle.area_routes.specs.Inter.{inter_of}
 use Rattle.area_routes.specs.Attached.{attached_areas}
+use Rattle.area_routes.proofs.Offerless.{same_inter}
 use Rattle.external_routes.specs.External.{externals_of}
 use Rattle.routing_table.specs.declared.table.TableFault.{TableFault}
 use Rattle.routing_table.specs.declared.table.TableFault.TheVariants.{NoRouter, OutOfMemory}
@@ -30,6 +32,19 @@ module _ (db : Lists) (router : RouterId) (results : List AreaResultValue) where
       h ∙ ap (λ e. preferring inside e) d ∙ ap (λ s. preferring s (externals_of db router s inter.routers)) c ∙ ap (λ n. from_inter intra n) b
       ∙ ap (λ i. from_inter i (inter_of db router results i)) a
   if_routes items intra inside external inter (Err e) a b c d h = tt
+
+-- the routes between areas by results whose own routes were taken out
+pub inter_after : (db : Lists) (router : RouterId) (items old new now more : List AreaResultValue) (n : ℕ) (intra : List RouteValue)
+    → n ≡ length items → old ≡ items → map without_offers new ≡ map without_offers old → now ≡ take n (new ++ more)
+    → inter_of db router now intra ≡ inter_of db router items intra
+inter_after db router items old new now more n intra size given rest after =
+    let as_many : length new ≡ n =
+    sym (length-map new without_offers) ∙ ap (λ (rs : List AreaResultValue). length rs) rest ∙ length-map old without_offers
+    ∙ ap (λ (rs : List AreaResultValue). length rs) given ∙ sym size in
+    let left : now ≡ new = after ∙ take-append-le n new more (omega arith) ∙ take_all n new (omega arith) in
+    ap (λ (rs : List AreaResultValue). inter_of db router rs intra) left
+    ∙ same_inter db router intra new old rest
+    ∙ ap (λ (rs : List AreaResultValue). inter_of db router rs intra) given
 
 -- ---- the table
 

@@ -10,7 +10,7 @@ ghost use Rattle.routing_table.specs.Fault.{code_of, name_of};
 
 use crate::preference::{prefer, prefer_intra};
 use crate::results::results_of;
-use area_routes::{AreaResult, Routes, inter, intra};
+use area_routes::{AreaResult, Routes, inter, take_intra};
 use external_routes::externals;
 use lsa_codec::RouterId;
 use lsdb::Database;
@@ -125,7 +125,7 @@ pub fn table_of<A: Allocator + Copy>(
         meter.old meter.new }
 {
     let results = results_of(alloc, database, router, meter)?;
-    table_from(alloc, database, router, &results)
+    table_from(alloc, database, router, results)
 }
 
 /// The routing table of a router from what each area gives that it is attached to.
@@ -133,9 +133,9 @@ pub fn table_from<A: Allocator + Copy>(
     alloc: A,
     database: &Database<A>,
     router: RouterId,
-    results: &[AreaResult<A>],
+    results: Vec<AreaResult<A>, A>,
 ) -> Result<Table<A>, TableFault>
-    requires { results.now ≡ results_in (lists_of database.now) router
+    requires { results.items ≡ results_in (lists_of database.now) router
         (attached_areas (lists_of database.now) router) }
     ensures table { IfOk result (λ table. table_in (lists_of database.now) router ≡ Some table) }
     ensures fault { IfErr result (FaultMeans (table_in (lists_of database.now) router)) }
@@ -154,13 +154,14 @@ pub fn routes_from<A: Allocator + Copy>(
     alloc: A,
     database: &Database<A>,
     router: RouterId,
-    results: &[AreaResult<A>],
+    results: Vec<AreaResult<A>, A>,
 ) -> Result<Routes<A>, AllocError>
     ensures { IfOk result (λ routes. routes
-        ≡ routes_from (lists_of database.now) router results.now) }
+        ≡ routes_from (lists_of database.now) router results.items) }
 {
-    let intra = intra(alloc, results)?;
-    let inter = inter(alloc, database, router, results, &intra)?;
+    let mut results = results;
+    let intra = take_intra(alloc, &mut results)?;
+    let inter = inter(alloc, database, router, &results, &intra)?;
     let inside = prefer_intra(intra, inter.routes)?;
     let external = externals(alloc, database, router, &inside, &inter.routers)?;
     prefer(inside.into_routes(), external)

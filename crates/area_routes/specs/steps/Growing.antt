@@ -1,7 +1,6 @@
 -- What an area gives, with more added.
-use Rattle.std.specs.Prelude.{List, [], ◌++◌, map}
+use Rattle.std.specs.Prelude.{List, ◌++◌, map}
 use Rattle.lsa_codec.specs.Prefix.{Net}
-use Rattle.lsa_codec.specs.declared.address.AreaId.{AreaId}
 use Rattle.area_routes.specs.Candidate.{Candidate}
 use Rattle.area_routes.specs.Offers.{offer_candidate}
 use Rattle.area_routes.specs.Values.{AreaResultValue, EntryValue, OfferValue}
@@ -10,9 +9,6 @@ use Rattle.area_routes.specs.Values.{AreaResultValue, EntryValue, OfferValue}
 abbrev pub with_offers : List (Candidate Net) → List OfferValue → List (Candidate Net)
 with_offers cs more = cs ++ map offer_candidate more
 
--- these offers, and no entries
-abbrev pub without_entries : AreaId → List OfferValue → AreaResultValue
-without_entries area offers = record { area = area; offers = offers; entries = [] }
-
+-- what an area gives, with more entries
 abbrev pub with_entries : AreaResultValue → List EntryValue → AreaResultValue
 with_entries r more = record { area = r.area; offers = r.offers; entries = r.entries ++ more }

@@ -1,9 +1,32 @@
--- The routes of a router that is attached to one area.
-use Rattle.std.specs.Prelude.{List, [], ◌∷◌}
+-- What one area gives, by the routes of a router that is attached to it alone.
+use Rattle.std.specs.Prelude.{◌≡◌, ◌^◌, List, [], map}
+use Rattle.std.specs.List.{All}
 use Rattle.lsa_codec.specs.declared.address.AreaId.{AreaId}
+use Rattle.lsa_codec.specs.Prefix.{Net}
+use Rattle.next_hops.specs.Hop.{IsSortedHops}
 use Rattle.area_routes.specs.declared.rank.PathType.TheVariants.{Intra}
-use Rattle.area_routes.specs.Values.{OfferValue, RouteValue}
+use Rattle.area_routes.specs.Intra.{intra_route}
+use Rattle.area_routes.specs.Offers.{AreSortedOffers}
+use Rattle.area_routes.specs.Values.{AreaResultValue, EntryValue, OfferValue, ResultBelow, RouteValue, WayValue}
 
--- the route by an offer of the area
-abbrev pub intra_route : AreaId → OfferValue → RouteValue
-intra_route area o = record { net = o.net; kind = Intra; areas = area ∷ []; cost = o.cost; cost2 = 0; hops = o.hops }
+-- the offer that a route is by
+abbrev pub offered : RouteValue → OfferValue
+offered r = record { net = r.net; cost = r.cost; hops = r.hops }
+
+-- the way that a route is by, as that of candidates that lead through no area
+abbrev pub way_by : RouteValue → Net × WayValue
+way_by r = (r.net, record { rank = record { path = Intra; cost2 = 0; class = 0; cost = r.cost }; areas = []; hops = r.hops })
+
+-- a route of a router that is attached to the area alone
+pub record IsIntraRoute (area : AreaId) (r : RouteValue) : Type 0 where
+  pub route : r ≡ intra_route area (offered r)
+  pub hops : IsSortedHops r.hops
+
+-- what an area gives, by these routes
+abbrev pub result_by : AreaId → List RouteValue → List EntryValue → AreaResultValue
+result_by area routes entries = record { area = area; offers = map offered routes; entries = entries }
+
+pub record IsResultBy (area : AreaId) (routes : List RouteValue) (entries : List EntryValue) : Type 0 where
+  pub below : ResultBelow (2 ^ 33) (result_by area routes entries)
+  pub sorted : AreSortedOffers (map offered routes)
+  pub intra : All (IsIntraRoute area) routes

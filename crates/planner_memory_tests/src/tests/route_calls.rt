@@ -10,7 +10,7 @@ use super::answers::{of_routers, of_table_of};
 use super::network::{ROUTER, database_of, lonely_database_of};
 use area_graph::Graph;
 use area_routes::{
-    AreaResult, InsideRoutes, InterResult, Offer, Route, RouterEntry, Routes, StubLinks, inter,
+    AreaResult, InsideRoutes, InterResult, Route, RouterEntry, Routes, StubLinks, inter,
     intra,
 };
 use external_routes::externals;
@@ -46,15 +46,6 @@ const CALLS: &[Call] = &[
     Call::Routers,
 ];
 
-/// Adds ways to prefixes.
-fn push_offers(text: &mut String, offers: &[Offer<&Rationed>]) -> Result<(), Fail> {
-    for offer in offers {
-        let (net, cost, hops) = (offer.net, offer.cost, offer.hops.as_slice());
-        write!(text, " {net:?} {cost} {hops:?}")?;
-    }
-    Ok(())
-}
-
 /// Adds entries of routers.
 fn push_entries(text: &mut String, entries: &[RouterEntry<&Rationed>]) -> Result<(), Fail> {
     for entry in entries {
@@ -85,7 +76,7 @@ fn of_area(
     };
     let area = given.area();
     let mut text = format!(in alloc; "{area}")?;
-    push_offers(&mut text, given.offers())?;
+    push_routes(&mut text, given.routes())?;
     push_entries(&mut text, given.entries())?;
     Ok(Some(text.into_bytes()))
 }

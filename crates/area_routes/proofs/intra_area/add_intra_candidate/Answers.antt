@@ -5,6 +5,8 @@ use Rattle.area_routes.specs.declared.rank.PathType.TheVariants.{Intra}
 use Rattle.area_routes.specs.Best.{Gathers}
 use Rattle.area_routes.specs.Candidate.{Candidate}
 use Rattle.area_routes.specs.Intra.{intra_candidate}
+use Rattle.area_routes.specs.Values.{RouteValue}
+use Rattle.area_routes.specs.steps.OneArea.{offered}
 use Rattle.area_routes.proofs.intra_area.add_intra_candidate.Goals as goal
 
 pub returns : goal.returns
@@ -12,10 +14,10 @@ returns g c =
     let P : Candidate Net → Type 0 = λ x. OnOk c.add_candidate.result
     ((cs : List (Candidate Net)) → Gathers cs c.args.ways.now → Gathers (cs ++ x ∷ []) c.add_candidate.new.self) in
     let with_hops : List Hop → Candidate Net = λ hops. record {
-      key = c.offer.inside.net;
-      rank = record { path = Intra; cost2 = 0; class = 0; cost = c.offer.inside.cost };
+      key = c.route.inside.net;
+      rank = record { path = Intra; cost2 = 0; class = 0; cost = c.route.inside.cost };
       area =
           Some c.args.area;
       hops = hops;
     } in
-    subst P (ap with_hops c.as_slice.ensures.hops ∙ ap (intra_candidate c.args.area) c.offer.view_is) c.add_candidate.ensures
+    subst P (ap with_hops c.as_slice.ensures.hops ∙ ap (λ (r : RouteValue). intra_candidate c.args.area (offered r)) c.route.view_is) c.add_candidate.ensures

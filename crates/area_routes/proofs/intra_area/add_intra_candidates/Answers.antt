@@ -1,24 +1,29 @@
-use Rattle.std.proofs.Common.{◌++◌, ◌∷◌, [], List, map, subst}
+use Rattle.std.proofs.Common.{◌++◌, ◌∷◌, [], ◌∙◌, List, ap, map, subst}
 use Rattle.lsa_codec.specs.declared.address.AreaId.{AreaId}
+use Rattle.lsa_codec.specs.Prefix.{Net}
 use Rattle.area_routes.specs.Best.{Gathers}
+use Rattle.area_routes.specs.Candidate.{Candidate}
 use Rattle.area_routes.specs.Intra.{intra_candidate}
-use Rattle.area_routes.specs.Values.{OfferValue}
+use Rattle.area_routes.specs.Values.{RouteValue}
+use Rattle.area_routes.specs.steps.OneArea.{offered}
 use Rattle.area_routes.proofs.AddsLemmas.{adds_all, adds_more, map_adds}
+use Rattle.area_routes.proofs.OneArea.{candidates_by}
 use Rattle.area_routes.proofs.intra_area.add_intra_candidates.Goals as goal
 
-pub loop-offer-preserved : goal.loop-offer-preserved
-loop-offer-preserved g c =
-    let o = c.offer-item.result in
-    adds_more (map_adds (intra_candidate c.args.area.now.area)) (λ cs. Gathers cs c.args.ways.now)
-    (λ cs. Gathers cs c.loop-offer.ways) (λ cs. Gathers cs c.add_intra_candidate.new.ways)
-    c.offers-offers.result.now c.loop-offer.offer-index o c.loop-offer-test.true c.offer-item.is c.loop-offer.invariant
+pub loop-route-preserved : goal.loop-route-preserved
+loop-route-preserved g c =
+    let r = c.route-item.result in
+    adds_more (map_adds (λ (r : RouteValue). intra_candidate c.args.area.now.area (offered r))) (λ cs. Gathers cs c.args.ways.now)
+    (λ cs. Gathers cs c.loop-route.ways) (λ cs. Gathers cs c.add_intra_candidate.new.ways)
+    c.routes-routes.result.now c.loop-route.route-index r c.loop-route-test.true c.route-item.is c.loop-route.invariant
     (λ cs before.
-    let P : AreaId → Type 0 = λ area. Gathers (cs ++ intra_candidate area o ∷ []) c.add_intra_candidate.new.ways in
+    let P : AreaId → Type 0 = λ area. Gathers (cs ++ intra_candidate area (offered r) ∷ []) c.add_intra_candidate.new.ways in
     subst P c.area.ensures (c.in_ok-add_intra_candidate.ensures cs before))
 
 pub returns-clause-added : goal.returns-clause-added
 returns-clause-added g c = λ cs before.
-    let P : List OfferValue → Type 0 = λ offers. Gathers (cs ++ map (intra_candidate c.args.area.now.area) offers) c.loop-offer.ways in
-    subst P c.offers-offers.ensures.offers
-    (adds_all (map_adds (intra_candidate c.args.area.now.area)) (λ cs. Gathers cs c.args.ways.now) (λ cs. Gathers cs c.loop-offer.ways)
-    c.offers-offers.result.now c.loop-offer.offer-index c.loop-offer-test.false c.loop-offer.invariant cs before)
+    let by : RouteValue → Candidate Net = λ r. intra_candidate c.args.area.now.area (offered r) in
+    let P : List (Candidate Net) → Type 0 = λ more. Gathers (cs ++ more) c.loop-route.ways in
+    subst P (ap (map by) c.routes-routes.ensures.routes ∙ candidates_by c.args.area.now.area c.args.area.now.offers)
+    (adds_all (map_adds by) (λ cs. Gathers cs c.args.ways.now) (λ cs. Gathers cs c.loop-route.ways)
+    c.routes-routes.result.now c.loop-route.route-index c.loop-route-test.false c.loop-route.invariant cs before)

@@ -1,4 +1,4 @@
-use Rattle.std.proofs.Common.{◌≡◌, ℕ, ◌+◌, ◌<◌, ◌++◌, ◌∷◌, [], List, length, take, ap, sym, ◌∙◌, arith}
+use Rattle.std.proofs.Common.{◌≡◌, ℕ, ◌+◌, ◌++◌, ◌∷◌, [], List, length, take, ap, sym, ◌∙◌, arith}
 use Rattle.std.proofs.lemmas.List.{length-take, take_all, take_more}
 use Rattle.area_routes.specs.declared.stub_links.StubLink.{StubLink}
 use Rattle.area_routes.specs.StubLinks.{stub_links_from, stub_links_of}

@@ -4,7 +4,7 @@ use Rattle.area_routes.specs.declared.stub_links.StubLink.{StubLink}
 use Rattle.area_routes.specs.steps.Growing.{with_offers}
 use Rattle.area_routes.specs.steps.StubCandidates.{offer_over, offers_over}
 use Rattle.area_routes.proofs.AddsLemmas.{filter_map_adds}
-use Rattle.area_routes.proofs.Gathering.{offers_more, with_no_offers}
+use Rattle.area_routes.proofs.Gathering.{offers_more}
 use Rattle.area_routes.proofs.stubs.add_stubs.Goals as goal
 
 pub loop-link-preserved : goal.loop-link-preserved

@@ -3,7 +3,7 @@ use Rattle.std.specs.List.{All, flat_map}
 use Rattle.area_routes.specs.Best.{Gathers}
 use Rattle.area_routes.specs.Intra.{intra_candidates}
 use Rattle.area_routes.specs.Values.{ResultBelow}
-use Rattle.area_routes.proofs.intra_area.intra_of_several.Given as goal
+use Rattle.area_routes.proofs.intra_area.intra.Given as goal
 
 -- the ways have taken the offers of the areas so far into account, and these cost less than 2^33
 abbrev pub invariant-loop-area : goal.invariant-loop-area

@@ -10,7 +10,7 @@ use Rattle.area_routes.specs.Values.{AreaResultValue, ResultBelow, RoutesBelow}
 use Rattle.area_routes.proofs.Bounds.{All-flat_map, All-taken}
 use Rattle.area_routes.proofs.Made.{wider_routes}
 use Rattle.area_routes.proofs.AddsLemmas.{adds_step, flat_map_adds}
-use Rattle.area_routes.proofs.intra_area.intra_of_several.Goals as goal
+use Rattle.area_routes.proofs.intra_area.intra.Goals as goal
 
 pub loop-area-preserved : goal.loop-area-preserved
 loop-area-preserved g c = (
