@@ -4,7 +4,7 @@ pub mod Relaxing
 pub mod Keys
 pub mod Numbers
 pub mod Pushing
-pub mod Nearest
+pub mod Waiting
 pub mod Searching
 pub mod Taking
 pub mod Settling

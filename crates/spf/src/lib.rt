@@ -5,7 +5,6 @@
 //! program for the same distances, many times slower, which tests compare with it.
 #![tactic(auto)]
 
-mod candidates;
 mod dijkstra;
 mod distances;
 mod fault;
