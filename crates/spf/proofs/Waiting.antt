@@ -67,11 +67,14 @@ module _ (numbers : List ℕ) (k v : ℕ) where
   number_after : (i n : ℕ) → get_or (set numbers k v) i unreached ≡ n → n ≢ unreached
       → ((i ≡ k) × (n ≡ v)) ⊎ ((i ≢ k) × (get_or numbers i unreached ≡ n))
   number_after i n at some = ⊎_elim
-      (λ (same : i ≡ k). inl (same, (⊎_elim
-      (λ lt. (let here : get_or (set numbers k v) k unreached ≡ v = get_or-set_same numbers k v unreached lt in
-      let at' : get_or (set numbers k v) k unreached ≡ n = subst (λ j. get_or (set numbers k v) j unreached ≡ n) same at in cc))
-      (λ ge. absurd (some (sym at ∙ get_or_past (set numbers k v) i unreached (let n = length-set numbers k v in omega arith))))
-      (cases_lt k (length numbers)))))
+      (λ (same : i ≡ k). inl (
+        same,
+        (⊎_elim
+            (λ lt. (let here : get_or (set numbers k v) k unreached ≡ v = get_or-set_same numbers k v unreached lt in
+            let at' : get_or (set numbers k v) k unreached ≡ n = subst (λ j. get_or (set numbers k v) j unreached ≡ n) same at in cc))
+            (λ ge. absurd (some (sym at ∙ get_or_past (set numbers k v) i unreached (let n = length-set numbers k v in omega arith))))
+            (cases_lt k (length numbers))),
+      ))
       (λ other. inr (other, sym (get_or-set_other numbers k i v unreached other) ∙ at))
       (cases_eq i k)
 
@@ -86,9 +89,13 @@ module _ (numbers : List ℕ) (c : Candidate) where
 
   -- a candidate that waits for another vertex is among the rest
   among_rest : (rest : List Candidate) (i d : ℕ) → i ≢ c.index → IsQueued (c ∷ rest) i d → IsQueued rest i d
-  among_rest rest i d other q =
-      (q.0, ⊎_elim (λ one. absurd (other (sym (ap (λ (x : Candidate). x.index) one ∙ q.2)))) (λ there. there)
-      (Contains-cons_cases c rest q.0 q.1), q.2, q.3)
+  among_rest rest i d other q = (
+    q.0,
+    ⊎_elim (λ one. absurd (other (sym (ap (λ (x : Candidate). x.index) one ∙ q.2)))) (λ there. there)
+        (Contains-cons_cases c rest q.0 q.1),
+    q.2,
+    q.3,
+  )
 
   -- the vertex of a candidate gets its distance
   pub waiting_settled : (rest : List Candidate) → c.distance < 2 ^ 31 → AreWaiting numbers (c ∷ rest) → AreWaiting (set numbers c.index c.distance) rest

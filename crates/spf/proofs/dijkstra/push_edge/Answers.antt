@@ -38,5 +38,5 @@ returns-clause-waiting g c =
     let old = c.args.queue.now in
     let new = c.push.new.self in
     let one : Candidate = candidate_at c.args.graph.now (c.args.distance + c.from.result) c.args.edge.to in
-    let pushed : IsPermutation (one ∷ old) new = subst (λ (x : Candidate). IsPermutation (x ∷ old) new) c.candidate.ensures c.in_ok-push.ensures.added in
+    let pushed : IsPermutation (one ∷ old) new = subst (λ (x : Candidate). IsPermutation (x ∷ old) new) c.candidate.ensures c.in_ok-push.ensures in
     subst (λ (ns : List ℕ). AreWaiting ns new) (sym c.note.ensures) (waiting_pushed numbers one old new pushed c.requires.waiting)

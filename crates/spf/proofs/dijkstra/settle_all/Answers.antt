@@ -19,7 +19,7 @@ loop-next-init g c =
     let none : List ℕ = replicate (length t.vertices) unreached in
     let sized : length (settled_in none) ≡ length t.vertices = length-map none (λ n. distance_in n) ∙ length-replicate (length t.vertices) unreached in
     let pushed : IsPermutation (candidate_at t 0 c.args.root ∷ []) queue =
-    rw c.new-queue.ensures at (rw c.candidate.ensures at c.in_ok-push.ensures.added) in
+    rw c.new-queue.ensures at (rw c.candidate.ensures at c.in_ok-push.ensures) in
     record {
       search = subst (λ (ns : List ℕ). Searching t c.args.root (settled_in ns) c.args.order.now.items queue) (sym c.requires.unreached)
           (subst (λ (xs : List ℕ). Searching t c.args.root (settled_in none) xs queue) (sym c.requires.unordered)
