@@ -1,5 +1,5 @@
 -- Graphs with one more edge.
-use Rattle.std.proofs.Common.{◌≡◌, ◌≢◌, ℕ, zero, suc, ◌<◌, ◌^◌, eqb, Bool, true, false, cond, List, [], ◌∷◌, ◌++◌, map, length, get_or, set}
+use Rattle.std.proofs.Common.{◌≡◌, ◌≢◌, ℕ, zero, suc, ◌<◌, ◌≤◌, ◌^◌, eqb, Bool, true, false, cond, List, [], ◌∷◌, ◌++◌, map, length, get_or, set}
 use Rattle.std.proofs.Common.{refl, sym, ap, ◌∙◌, subst, arith, ◌⊎◌, inl, inr, ⊎_elim, true≢false}
 use Rattle.std.specs.List.{Contains, AllPairs}
 use Rattle.std.proofs.lemmas.List.Elements.{Contains-push_cases}
@@ -42,6 +42,7 @@ module _ (t : Topology) (draft : IsDraft t) (i : ℕ) (within : i < length t.ver
   pub draft_more : e.to < length t.vertices → e.cost < 2 ^ 16 → IsDraft (with_edge t i e)
   draft_more to cost = record {
     a_row_each = length-set t.rows i (row_at t i ++ e ∷ []) ∙ draft.a_row_each;
+    few = draft.few;
     distinct = draft.distinct;
     in_range = λ a arc. ⊎_elim (λ old. draft.in_range a old) (λ new. subst (λ n. n < length t.vertices) (sym (ap (λ (x : Edge). x.to) new)) to)
         (row_only a.from (record { to = a.to; cost = a.cost; link_data = a.link_data }) arc);
@@ -107,9 +108,11 @@ empty_push edges (r ∷ rows) row all is (suc i) = empty_push edges rows row (λ
 no_member : (f : Edge) → Contains {X = Edge} [] f → ⊥
 no_member f h = In-from_Contains [] f h
 
-pub empty_draft : (t : Topology) → length t.rows ≡ length t.vertices → AllPairs (λ v w. v ≢ w) t.vertices → ((i : ℕ) → row_at t i ≡ []) → IsDraft t
-empty_draft t sized distinct none = record {
+pub empty_draft : (t : Topology) → length t.rows ≡ length t.vertices → AllPairs (λ v w. v ≢ w) t.vertices → length t.vertices ≤ 8192
+    → ((i : ℕ) → row_at t i ≡ []) → IsDraft t
+empty_draft t sized distinct few none = record {
   a_row_each = sized;
+  few = few;
   distinct = distinct;
   in_range = λ a arc. absurd (no_member _ (subst (λ (r : List Edge). Contains r (record { to = a.to; cost = a.cost; link_data = a.link_data }))
       (none a.from) arc));

@@ -105,6 +105,12 @@ used_few lsas =
     let d = count_by-le-length is_vertex_lsa lsas in
     omega arith
 
+pub vertices_few : (lsas : List (List ℕ)) → length lsas ≤ 8192 → length (map vertex_of (used lsas)) ≤ 8192
+vertices_few lsas few =
+    let one = length-map (used lsas) vertex_of in
+    let two = used_few lsas in
+    omega arith
+
 used_pairs : (R : List ℕ → List ℕ → Type 0) (lsas : List (List ℕ)) → AllPairs R lsas → AllPairs R (used lsas)
 unfolding used
 used_pairs R lsas pairs = AllPairs-filter R (λ lsa. not (list_any (is_outranked_by lsa) (vertex_lsas lsas)))

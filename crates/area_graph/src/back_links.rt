@@ -46,7 +46,7 @@ fn targets_of<A: Allocator + Copy>(alloc: A, row: &[Edge]) -> Result<Targets<A>,
 {
     let mut targets = Vec::with_capacity(alloc, row.len())?;
     for edge in row {
-        targets.push(edge.to)?;
+        targets.push(usize::from(edge.to))?;
     }
     Ok(targets)
 }
@@ -141,7 +141,7 @@ impl<A: Allocator + Copy> BackLinks<A> {
     {
         let row = self.naming.row(of);
         if row.len() <= SHORT_ROW {
-            row.iter().any(|edge| edge.to == other)
+            row.iter().any(|edge| usize::from(edge.to) == other)
         } else {
             is_among(&self.targets[of], other)
         }

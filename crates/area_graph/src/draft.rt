@@ -1,13 +1,13 @@
 //! A graph to which edges are added.
 
-ghost use Rattle.std.specs.Prelude.{◌≡◌, ◌≢◌, ◌<◌, ◌^◌, ◌++◌, ◌∷◌, ℕ, [], length, map, slice_index_or, AllPairs, OnOk, OnErr, IfOk};
+ghost use Rattle.std.specs.Prelude.{◌≡◌, ◌≢◌, ◌<◌, ◌≤◌, ◌^◌, ◌++◌, ◌∷◌, ℕ, [], length, map, slice_index_or, AllPairs, OnOk, OnErr, IfOk};
 ghost use Rattle.area_graph.specs.Topology.{IsTopology, row_at};
 ghost use Rattle.area_graph.specs.Rows.{same_edge, each_once};
 ghost use Rattle.area_graph.specs.steps.Drafts.{Adds, arc_of, edges_once, is_network_at, with_edge};
 
 use crate::edge::Edge;
 use crate::graph::Graph;
-use crate::numbers::Vertices;
+use crate::numbers::{Vertices, networks_among};
 use crate::rows::Rows;
 use std::alloc::{AllocError, Allocator};
 use std::marker::Model;
@@ -72,7 +72,8 @@ fn rows_once<A: Allocator + Copy>(alloc: A, rows: &[Row<A>]) -> Result<Rows<A>, 
 impl<A: Allocator + Copy> Draft<A> {
     /// The graph of these vertices without edges.
     pub(crate) fn new(alloc: A, vertices: Vertices<A>) -> Result<Draft<A>, AllocError>
-        requires { AllPairs (λ v w. v ≢ w) vertices.keys }
+        requires distinct { AllPairs (λ v w. v ≢ w) vertices.keys }
+        requires few { length vertices.keys ≤ 8192 }
         ensures vertices { IfOk result (λ draft. draft.vertices ≡ vertices.keys) }
         ensures empty { IfOk result (λ draft. (i : ℕ) → row_at draft i ≡ []) }
     {
@@ -83,7 +84,8 @@ impl<A: Allocator + Copy> Draft<A> {
     /// Whether the vertex with a number is a transit network.
     pub(crate) fn is_network(&self, index: usize) -> bool
         requires { index < length self.now.vertices }
-        ensures { result ≡ is_network_at self.now.vertices index }
+        ensures kind { result ≡ is_network_at self.now.vertices index }
+        ensures few { length self.now.vertices ≤ 8192 }
     {
         self.vertices.as_slice()[index].is_network()
     }
@@ -116,8 +118,10 @@ impl<A: Allocator + Copy> Draft<A> {
         ensures { IfOk result (λ graph. graph ≡ edges_once self) }
     {
         let rows = rows_once(alloc, &self.rows)?;
+        let networks = networks_among(alloc, self.vertices.as_slice())?;
         Ok(Graph {
             vertices: self.vertices,
+            networks,
             rows,
         })
     }

@@ -19,17 +19,22 @@ use std::marker::Model;
 #[derive(Drop)]
 pub struct Graph<A: Allocator = Global> {
     pub(crate) vertices: Vertices<A>,
+    /// Of each vertex whether it is a transit network, in one octet: trees ask for it often.
+    pub(crate) networks: Vec<bool, A>,
     pub(crate) rows: Rows<A>,
 }
 
 impl<A: Allocator> Model for Graph<A> {
+    ghost use Rattle.std.specs.Prelude.{◌≡◌, map};
+    ghost use Rattle.area_graph.specs.Vertex.{is_network};
     ghost use Rattle.area_graph.specs.Topology.{Topology, IsTopology};
 
     ghost Value = { Topology };
 
     ghost view = { λ g. record { vertices = g.vertices.keys; rows = g.rows } };
 
-    ghost invariant = { λ g. IsTopology (record { vertices = g.vertices.keys; rows = g.rows }) };
+    ghost invariant = { λ g. IsTopology (record { vertices = g.vertices.keys; rows = g.rows })
+        × (g.networks.items ≡ map is_network g.vertices.keys) };
 }
 
 impl<A: Allocator + Copy> Graph<A> {
@@ -66,7 +71,7 @@ impl<A: Allocator + Copy> Graph<A> {
         ensures kind { option_map is_network (slice_get self.now.vertices index) ≡ Some result }
         ensures shape { IsTopology self.now }
     {
-        self.vertex(index).is_network()
+        self.networks[index]
     }
 
     /// The edges out of the vertex with a number, no two of them equal.

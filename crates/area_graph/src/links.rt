@@ -21,13 +21,14 @@ fn add_both<A: Allocator + Copy>(
         (Adds (both_arcs draft.old.vertices (arc_of from edge)) draft.old draft.new) }
 {
     draft.add(from, edge)?;
-    if !draft.is_network(edge.to) {
+    let to = edge.to as usize;
+    if !draft.is_network(to) {
         return Ok(());
     }
     draft.add(
-        edge.to,
+        to,
         Edge {
-            to: from,
+            to: from as u16,
             cost: 0,
             link_data: edge.link_data,
         },
@@ -49,7 +50,7 @@ fn add_edge<A: Allocator + Copy>(
         (Adds (returned_arcs draft.old.vertices back_links.now (arc_of from edge ∷ []))
         draft.old draft.new) }
 {
-    if !back_links.names(edge.to, from) {
+    if !back_links.names(edge.to as usize, from) {
         return Ok(());
     }
     add_both(draft, from, edge)

@@ -1,7 +1,7 @@
 //! Which vertices the LSAs of an area name: those that a router's links lead to, and the routers
 //! that a network lists (RFC 2328, 16.1).
 
-ghost use Rattle.std.specs.Prelude.{◌≡◌, ◌≢◌, ◌++◌, [], map, filter_map, AllPairs, OnOk, IfOk};
+ghost use Rattle.std.specs.Prelude.{◌≡◌, ◌≢◌, ◌≤◌, ◌++◌, [], length, map, filter_map, AllPairs, OnOk, IfOk};
 ghost use Rattle.std.specs.List.{cons_option};
 ghost use Rattle.area_graph.specs.AreaEdges.{target_of};
 ghost use Rattle.area_graph.specs.steps.Naming.{edge_to, linked, listed, naming};
@@ -33,12 +33,13 @@ fn edge_to<A: Allocator + Copy>(
     cost: u16,
     link_data: Addr,
 ) -> Option<Edge>
-    requires { AllPairs (λ v w. v ≢ w) vertices.now.keys }
+    requires distinct { AllPairs (λ v w. v ≢ w) vertices.now.keys }
+    requires few { length vertices.now.keys ≤ 8192 }
     ensures { result ≡ edge_to vertices.now.keys target cost link_data }
 {
     let to = number_near(vertices, near, target)?;
     Some(Edge {
-        to,
+        to: to as u16,
         cost,
         link_data,
     })
@@ -46,7 +47,8 @@ fn edge_to<A: Allocator + Copy>(
 
 /// The edge over a link of a router, whether or not the other end links back.
 fn linked<A: Allocator + Copy>(vertices: &Vertices<A>, near: usize, link: Link) -> Option<Edge>
-    requires { AllPairs (λ v w. v ≢ w) vertices.now.keys }
+    requires distinct { AllPairs (λ v w. v ≢ w) vertices.now.keys }
+    requires few { length vertices.now.keys ≤ 8192 }
     ensures { result ≡ linked vertices.now.keys link }
 {
     let target = target_of(link)?;
@@ -59,7 +61,8 @@ fn listed<A: Allocator + Copy>(
     near: usize,
     router: RouterId,
 ) -> Option<Edge>
-    requires { AllPairs (λ v w. v ≢ w) vertices.now.keys }
+    requires distinct { AllPairs (λ v w. v ≢ w) vertices.now.keys }
+    requires few { length vertices.now.keys ≤ 8192 }
     ensures { result ≡ listed vertices.now.keys router }
 {
     edge_to(vertices, near, Vertex::Router(router), 0, Addr(0))
@@ -69,7 +72,7 @@ fn listed<A: Allocator + Copy>(
 /// order of their LSAs.
 fn next_number(row: &[Edge]) -> usize {
     match row.last() {
-        Some(edge) => edge.to.saturating_add(1),
+        Some(edge) => usize::from(edge.to).saturating_add(1),
         None => 0,
     }
 }
@@ -93,7 +96,8 @@ fn add_linked<A: Allocator + Copy>(
     vertices: &Vertices<A>,
     links: Links<'_>,
 ) -> Result<(), AllocError>
-    requires { AllPairs (λ v w. v ≢ w) vertices.now.keys }
+    requires distinct { AllPairs (λ v w. v ≢ w) vertices.now.keys }
+    requires few { length vertices.now.keys ≤ 8192 }
     ensures { OnOk result
         (row.new.items ≡ row.old.items ++ filter_map (linked vertices.now.keys) links.entry) }
 {
@@ -109,7 +113,8 @@ fn add_listed<A: Allocator + Copy>(
     vertices: &Vertices<A>,
     routers: Attached<'_>,
 ) -> Result<(), AllocError>
-    requires { AllPairs (λ v w. v ≢ w) vertices.now.keys }
+    requires distinct { AllPairs (λ v w. v ≢ w) vertices.now.keys }
+    requires few { length vertices.now.keys ≤ 8192 }
     ensures { OnOk result
         (row.new.items ≡ row.old.items ++ filter_map (listed vertices.now.keys) routers.entry) }
 {
@@ -125,7 +130,8 @@ fn add_naming<A: Allocator + Copy>(
     vertices: &Vertices<A>,
     lsa: &Lsa<A>,
 ) -> Result<(), AllocError>
-    requires { AllPairs (λ v w. v ≢ w) vertices.now.keys }
+    requires distinct { AllPairs (λ v w. v ≢ w) vertices.now.keys }
+    requires few { length vertices.now.keys ≤ 8192 }
     ensures { OnOk result (row.new.items ≡ row.old.items ++ naming vertices.now.keys lsa.now) }
 {
     if let Some(router) = lsa.router() {
@@ -143,7 +149,8 @@ pub(crate) fn naming_rows<A: Allocator + Copy>(
     vertices: &Vertices<A>,
     lsas: &[VertexLsa<'_, A>],
 ) -> Result<Rows<A>, AllocError>
-    requires { AllPairs (λ v w. v ≢ w) vertices.now.keys }
+    requires distinct { AllPairs (λ v w. v ≢ w) vertices.now.keys }
+    requires few { length vertices.now.keys ≤ 8192 }
     ensures { IfOk result (λ rows. rows ≡ map (naming vertices.now.keys) lsas.now) }
 {
     let mut rows = Rows::with_capacity(alloc, lsas.len())?;

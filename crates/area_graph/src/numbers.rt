@@ -3,7 +3,7 @@
 ghost use Rattle.std.specs.Prelude.{◌≡◌, ◌≢◌, ◌<◌, length, map, position, OnOk, IfOk, IfSome, IfNone, Contains, AllPairs};
 ghost use Rattle.indexmap.specs.IndexSet.{insert_key};
 ghost use Rattle.area_graph.specs.Area.{vertex_of};
-ghost use Rattle.area_graph.specs.Vertex.{is_same};
+ghost use Rattle.area_graph.specs.Vertex.{is_network, is_same};
 
 use crate::used::{VertexLsa, vertex_of};
 use crate::vertex::Vertex;
@@ -33,7 +33,8 @@ pub(crate) fn number_near<A: Allocator + Copy>(
     vertex: Vertex,
 ) -> Option<usize>
     requires { AllPairs (λ v w. v ≢ w) vertices.now.keys }
-    ensures { result ≡ position (is_same vertex) vertices.now.keys }
+    ensures number { result ≡ position (is_same vertex) vertices.now.keys }
+    ensures within { IfSome result (λ i. i < length vertices.now.keys) }
 {
     match vertices.get_index(near) {
         Some(other) if *other == vertex => Some(near),
@@ -49,6 +50,20 @@ fn add_vertex<A: Allocator + Copy>(
 {
     vertices.insert(vertex)?;
     Ok(())
+}
+
+/// Of each vertex whether it is a transit network.
+pub(crate) fn networks_among<A: Allocator + Copy>(
+    alloc: A,
+    vertices: &[Vertex],
+) -> Result<Vec<bool, A>, AllocError>
+    ensures { IfOk result (λ networks. networks.items ≡ map is_network vertices.now) }
+{
+    let mut networks = Vec::with_capacity(alloc, vertices.len())?;
+    for vertex in vertices {
+        networks.push(vertex.is_network())?;
+    }
+    Ok(networks)
 }
 
 /// The vertices of LSAs, in their order.

@@ -12,8 +12,18 @@ use std::marker::Model;
 /// Where a row stands: from one place up to before another.
 #[derive(Clone, Copy)]
 struct Span {
-    start: usize,
-    end: usize,
+    start: u32,
+    end: u32,
+}
+
+/// A place among edges, of which there is room for fewer than 2^32.
+fn place(index: usize) -> Result<u32, AllocError>
+    ensures { IfOk result (λ place. place ≡ index) }
+{
+    match u32::try_from(index) {
+        Ok(place) => Ok(place),
+        Err(_) => Err(AllocError),
+    }
 }
 
 /// Rows of edges. Contracts see them as the list of the rows.
@@ -101,16 +111,16 @@ impl<A: Allocator + Copy> Rows<A> {
         ensures { result.now ≡ slice_index_or self.now index [] }
     {
         let span = self.spans[index];
-        &self.edges[span.start..span.end]
+        &self.edges[span.start as usize..span.end as usize]
     }
 
     /// Adds a row.
     pub(crate) fn push(&mut self, row: &[Edge]) -> Result<(), AllocError>
         ensures { OnOk result (self.new ≡ self.old ++ row.now ∷ []) }
     {
-        let start = self.edges.len();
+        let start = place(self.edges.len())?;
         self.edges.extend_from_slice(row)?;
-        let end = self.edges.len();
+        let end = place(self.edges.len())?;
         self.spans.push(Span { start, end })?;
         Ok(())
     }

@@ -2,9 +2,10 @@ pub mod Reached
 pub mod Closing
 pub mod Relaxing
 pub mod Keys
+pub mod Heaps
 pub mod Numbers
 pub mod Pushing
-pub mod Nearest
+pub mod Waiting
 pub mod Searching
 pub mod Taking
 pub mod Settling

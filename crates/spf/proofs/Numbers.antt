@@ -4,7 +4,6 @@ use Rattle.std.specs.Ordering.{is_lt, nat_cmp, bool_cmp, ordering_then}
 use Rattle.std.specs.declared.cmp.Ordering.TheVariants.{Equal, Greater}
 use Rattle.std.specs.Cmp.{nat_cmp_is}
 use Rattle.std.proofs.lemmas.Bool.{cases_eq}
-use Rattle.std.proofs.lemmas.Map.Keys.{ge_from_not_lt}
 use Rattle.spf.specs.Candidates.{candidate_cmp}
 use Rattle.spf.specs.steps.Number.{candidate_in}
 
@@ -35,8 +34,7 @@ by_parts d e i j x y bx by bi bj le =
     at_same same x (suc (suc y)) bx by le = absurd (omega arith)
 
 -- of two numbers the one that is no less stands for no earlier candidate
-pub candidate_in-order : (n m : ℕ) → is_lt (nat_cmp n m) ≡ false → is_lt (candidate_cmp (candidate_in n) (candidate_in m)) ≡ false
-candidate_in-order n m h =
-    let le : m ≤ n = ge_from_not_lt n m h in
+pub candidate_in-order : (n m : ℕ) → m ≤ n → is_lt (candidate_cmp (candidate_in n) (candidate_in m)) ≡ false
+candidate_in-order n m le =
     by_parts (n / 4294967296) (m / 4294967296) (n / 32768 % 65536) (m / 32768 % 65536) (n / 2147483648 % 2) (m / 2147483648 % 2)
     (omega arith) (omega arith) (omega arith) (omega arith) (omega arith)

@@ -1,4 +1,5 @@
 -- What the steps of the code do: only contracts within the crate cite these.
+pub mod Heap
 pub mod Number
 pub mod Relaxation
 pub mod Search

@@ -1,13 +1,13 @@
 //! Vertices settled in the order of their distances (Dijkstra's algorithm, RFC 2328, 16.1).
 
-ghost use Rattle.std.specs.Prelude.{◌≡◌, ℕ, ◌<◌, ◌≤◌, ◌+◌, ◌^◌, [], ◌∷◌, ◌++◌, length, slice_set, slice_index_or, OnOk, None, Some};
+ghost use Rattle.std.specs.Prelude.{◌≡◌, ℕ, ◌<◌, ◌≤◌, ◌+◌, ◌^◌, [], ◌∷◌, ◌++◌, length, replicate, OnOk};
 ghost use Rattle.area_graph.specs.Topology.{IsTopology};
 ghost use Rattle.spf.specs.Candidates.{candidate_at};
-ghost use Rattle.spf.specs.steps.Search.{PushesEdge, PushesNeighbours, SettlesOne, SettlesNew, IsSettled};
+ghost use Rattle.spf.specs.steps.Search.{IsNoneFarther, PushesEdge, PushesNeighbours, SettlesOne, SettlesNew, IsSettled};
+ghost use Rattle.spf.specs.steps.Table.{AreWaiting, settled_in, unreached};
 
-use crate::candidates::CandidateList;
 use crate::distances::DistanceTable;
-use crate::queue::Candidate;
+use crate::queue::{Candidate, Queue};
 use area_graph::{Edge, Graph};
 use std::alloc::{AllocError, Allocator};
 
@@ -18,7 +18,7 @@ fn candidate<A: Allocator + Copy>(graph: &Graph<A>, distance: u32, index: usize)
 {
     Candidate {
         distance,
-        is_router: !graph.vertex(index).is_network(),
+        is_router: !graph.is_network(index),
         index: index as u16,
     }
 }
@@ -29,20 +29,28 @@ fn push_edge<A: Allocator + Copy>(
     graph: &Graph<A>,
     edge: Edge,
     distance: u32,
-    distances: &DistanceTable<A>,
-    queue: &mut CandidateList<A>,
+    distances: &mut DistanceTable<A>,
+    queue: &mut Queue<A>,
 ) -> Result<(), AllocError>
-    requires sized { length distances.now ≡ length graph.now.vertices }
+    requires sized { length distances.old ≡ length graph.now.vertices }
     requires target { edge.to < length graph.now.vertices }
-    requires small { distance < 2 ^ 31 }
-    ensures { OnOk result (PushesEdge graph.now edge distance distances.now queue.old queue.new) }
+    requires small { distance < 2 ^ 30 }
+    requires order { IsNoneFarther (settled_in distances.old) distance }
+    requires waiting { AreWaiting distances.old queue.old }
+    ensures pushes { OnOk result
+        (PushesEdge graph.now edge distance (settled_in distances.old) queue.old queue.new) }
+    ensures sized { length distances.new ≡ length distances.old }
+    ensures settled { settled_in distances.new ≡ settled_in distances.old }
+    ensures waiting { OnOk result (AreWaiting distances.new queue.new) }
 {
     let distance = distance + u32::from(edge.cost);
-    let known = distances.number(edge.to).min(queue.nearest(edge.to));
-    if known <= distance {
+    let to = edge.to as usize;
+    if distances.least(to) <= distance {
         return Ok(());
     }
-    queue.push(candidate(graph, distance, edge.to))
+    distances.note(to, distance);
+    queue.push(candidate(graph, distance, to))?;
+    Ok(())
 }
 
 /// Adds candidates for the edges out of a vertex, but for those to vertices that are known to be no
@@ -51,15 +59,19 @@ fn push_neighbours<A: Allocator + Copy>(
     graph: &Graph<A>,
     from: usize,
     distance: u32,
-    distances: &DistanceTable<A>,
-    queue: &mut CandidateList<A>,
+    distances: &mut DistanceTable<A>,
+    queue: &mut Queue<A>,
 ) -> Result<(), AllocError>
-    requires sized { length distances.now ≡ length graph.now.vertices }
+    requires sized { length distances.old ≡ length graph.now.vertices }
     requires from { from < length graph.now.vertices }
-    requires small { distance < 2 ^ 31 }
+    requires small { distance < 2 ^ 30 }
+    requires order { IsNoneFarther (settled_in distances.old) distance }
+    requires waiting { AreWaiting distances.old queue.old }
     ensures pushes { OnOk result
-        (PushesNeighbours graph.now from distance distances.now queue.old queue.new) }
+        (PushesNeighbours graph.now from distance (settled_in distances.old) queue.old queue.new) }
     ensures count { OnOk result (length queue.new < length queue.old + 2 ^ 64) }
+    ensures settled { settled_in distances.new ≡ settled_in distances.old }
+    ensures waiting { OnOk result (AreWaiting distances.new queue.new) }
 {
     for &edge in graph.edges(from) {
         push_edge(graph, edge, distance, distances, queue)?;
@@ -73,19 +85,23 @@ fn settle_one<A: Allocator + Copy>(
     next: Candidate,
     distances: &mut DistanceTable<A>,
     order: &mut Vec<u16, A>,
-    queue: &mut CandidateList<A>,
+    queue: &mut Queue<A>,
 ) -> Result<(), AllocError>
     requires sized { length distances.old ≡ length graph.now.vertices }
     requires within { next.index < length graph.now.vertices }
-    requires small { next.distance < 2 ^ 31 }
-    ensures { OnOk result
-        (SettlesOne graph.now next distances.old order.old.items queue.old
-        distances.new order.new.items queue.new) }
+    requires small { next.distance < 2 ^ 30 }
+    requires order { IsNoneFarther (settled_in distances.old) next.distance }
+    requires waiting { AreWaiting distances.old (next ∷ queue.old) }
+    ensures settles { OnOk result
+        (SettlesOne graph.now next (settled_in distances.old) order.old.items queue.old
+        (settled_in distances.new) order.new.items queue.new) }
+    ensures waiting { OnOk result (AreWaiting distances.new queue.new) }
 {
-    let index = usize::from(next.index);
+    let index = next.index as usize;
     distances.set(index, next.distance);
     order.push(next.index)?;
-    push_neighbours(graph, index, next.distance, distances, queue)
+    push_neighbours(graph, index, next.distance, distances, queue)?;
+    Ok(())
 }
 
 /// Settles the vertex of a candidate, unless it is settled.
@@ -94,16 +110,19 @@ fn settle_new<A: Allocator + Copy>(
     next: Candidate,
     distances: &mut DistanceTable<A>,
     order: &mut Vec<u16, A>,
-    queue: &mut CandidateList<A>,
+    queue: &mut Queue<A>,
 ) -> Result<(), AllocError>
     requires sized { length distances.old ≡ length graph.now.vertices }
     requires within { next.index < length graph.now.vertices }
-    requires small { next.distance < 2 ^ 31 }
-    ensures { OnOk result
-        (SettlesNew graph.now next distances.old order.old.items queue.old
-        distances.new order.new.items queue.new) }
+    requires small { next.distance < 2 ^ 30 }
+    requires order { IsNoneFarther (settled_in distances.old) next.distance }
+    requires waiting { AreWaiting distances.old (next ∷ queue.old) }
+    ensures settles { OnOk result
+        (SettlesNew graph.now next (settled_in distances.old) order.old.items queue.old
+        (settled_in distances.new) order.new.items queue.new) }
+    ensures waiting { OnOk result (AreWaiting distances.new queue.new) }
 {
-    if distances.get(usize::from(next.index)).is_none() {
+    if distances.get(next.index as usize).is_none() {
         settle_one(graph, next, distances, order, queue)?;
     }
     Ok(())
@@ -117,14 +136,14 @@ pub(crate) fn settle_all<A: Allocator + Copy>(
     distances: &mut DistanceTable<A>,
     order: &mut Vec<u16, A>,
 ) -> Result<(), AllocError>
-    requires sized { length distances.old ≡ length graph.now.vertices }
+    requires unreached { distances.old ≡ replicate (length graph.now.vertices) unreached }
     requires root { root < length graph.now.vertices }
     requires shape { IsTopology graph.now }
-    requires unreached { (i : ℕ) → slice_index_or distances.old i None ≡ None }
     requires unordered { order.old.items ≡ [] }
-    ensures { OnOk result (IsSettled graph.now root distances.new order.new.items) }
+    ensures { OnOk result
+        (IsSettled graph.now root (settled_in distances.new) order.new.items) }
 {
-    let mut queue = CandidateList::new(alloc, graph.len())?;
+    let mut queue = Queue::new(alloc);
     queue.push(candidate(graph, 0, root))?;
     while let Some(next) = queue.pop() {
         settle_new(graph, next, distances, order, &mut queue)?;

@@ -1,13 +1,12 @@
 //! The candidate list (RFC 2328, 16.1): vertices that may be the next to be settled.
 
-ghost use Rattle.std.specs.Prelude.{◌≡◌, [], ◌∷◌, IfSome, IfNone, OnOk, OnErr, IsPermutation, All, false};
+ghost use Rattle.std.specs.Prelude.{◌≡◌, [], ◌∷◌, IfSome, IfNone, OnOk, IsPermutation, All, false};
 ghost use Rattle.std.specs.Ordering.{is_lt};
 ghost use Rattle.spf.specs.Candidates.{candidate_cmp};
 ghost use Rattle.spf.specs.steps.Number.{candidate_in};
 
+use crate::heap::{rise, sink};
 use std::alloc::{AllocError, Allocator};
-use std::cmp::Reverse;
-use std::collections::BinaryHeap;
 use std::marker::Model;
 
 /// A vertex, at the cost of some path to it. Vertices are settled in this order of candidates: less
@@ -45,21 +44,20 @@ fn candidate_of(number: u64) -> Candidate
 /// found to it.
 #[derive(Drop)]
 pub(crate) struct Queue<A: Allocator> {
-    heap: BinaryHeap<Reverse<u64>, A>,
+    numbers: Vec<u64, A>,
 }
 
 impl<A: Allocator> Model for Queue<A> {
     ghost use Rattle.std.specs.Prelude.{List, map};
-    ghost use Rattle.std.specs.BinaryHeap.{heap_items, IsHeap};
-    ghost use Rattle.std.specs.Ordering.{nat_cmp};
     ghost use Rattle.spf.specs.declared.queue.Candidate.{Candidate};
+    ghost use Rattle.spf.specs.steps.Heap.{IsHeap};
     ghost use Rattle.spf.specs.steps.Number.{candidate_in};
 
     ghost Value = { List Candidate };
 
-    ghost view = { λ q. map (λ x. candidate_in x.0) (heap_items q.heap) };
+    ghost view = { λ q. map (λ n. candidate_in n) q.numbers.items };
 
-    ghost invariant = { λ q. IsHeap (λ x y. nat_cmp y.0 x.0) (heap_items q.heap) };
+    ghost invariant = { λ q. IsHeap q.numbers.items };
 }
 
 impl<A: Allocator + Copy> Queue<A> {
@@ -68,16 +66,17 @@ impl<A: Allocator + Copy> Queue<A> {
         ensures { result ≡ [] }
     {
         Queue {
-            heap: BinaryHeap::new(alloc),
+            numbers: Vec::new(alloc),
         }
     }
 
     /// Adds a candidate.
     pub(crate) fn push(&mut self, candidate: Candidate) -> Result<(), AllocError>
-        ensures added { OnOk result (IsPermutation (candidate ∷ self.old) self.new) }
-        ensures same { OnErr result (self.new ≡ self.old) }
+        ensures { OnOk result (IsPermutation (candidate ∷ self.old) self.new) }
     {
-        self.heap.push(Reverse(number_of(candidate)))?;
+        let at = self.numbers.len();
+        self.numbers.push(number_of(candidate))?;
+        rise(&mut self.numbers, at);
         Ok(())
     }
 
@@ -88,7 +87,11 @@ impl<A: Allocator + Copy> Queue<A> {
             (λ c. All (λ other. is_lt (candidate_cmp other c) ≡ false) self.new) }
         ensures none { IfNone result (self.old ≡ []) }
     {
-        let Reverse(number) = self.heap.pop()?;
+        if self.numbers.is_empty() {
+            return None;
+        }
+        let number = self.numbers.swap_remove(0);
+        sink(&mut self.numbers);
         Some(candidate_of(number))
     }
 }

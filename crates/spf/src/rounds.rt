@@ -48,7 +48,7 @@ fn relax_from<A: Allocator + Copy>(
 {
     let mut changed = false;
     for edge in graph.edges(from) {
-        if improve(distances, edge.to, distance + u64::from(edge.cost)) {
+        if improve(distances, edge.to as usize, distance + u64::from(edge.cost)) {
             changed = true;
         }
     }

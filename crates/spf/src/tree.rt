@@ -29,13 +29,15 @@ pub struct Tree<A: Allocator = Global> {
 
 impl<A: Allocator> Model for Tree<A> {
     ghost use Rattle.spf.specs.Distances.{Distances, AreInRange};
+    ghost use Rattle.spf.specs.steps.Table.{settled_in};
 
     ghost Value = { Distances };
 
-    ghost view = { λ t. record { root = t.root; distances = t.distances; order = t.order.items } };
+    ghost view = { λ t.
+        record { root = t.root; distances = settled_in t.distances; order = t.order.items } };
 
     ghost invariant = { λ t. AreInRange
-        (record { root = t.root; distances = t.distances; order = t.order.items }) };
+        (record { root = t.root; distances = settled_in t.distances; order = t.order.items }) };
 }
 
 impl<A: Allocator + Copy> Tree<A> {

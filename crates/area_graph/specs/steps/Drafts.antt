@@ -1,5 +1,5 @@
 -- Graphs to which edges are added.
-use Rattle.std.specs.Prelude.{◌≡◌, ◌≢◌, ℕ, zero, suc, ◌<◌, ◌^◌, ◌==◌, Bool, false, if◌then◌else◌, List, [], ◌∷◌, ◌++◌, length, map, filter}
+use Rattle.std.specs.Prelude.{◌≡◌, ◌≢◌, ℕ, zero, suc, ◌<◌, ◌≤◌, ◌^◌, ◌==◌, Bool, false, if◌then◌else◌, List, [], ◌∷◌, ◌++◌, length, map, filter}
 use Rattle.std.specs.Prelude.{flat_map, All, AllPairs, slice_get, slice_set}
 use Rattle.std.specs.Option.{option_map, unwrap_or}
 use Rattle.area_graph.specs.declared.vertex.Vertex.{Vertex}
@@ -14,6 +14,7 @@ use Rattle.area_graph.specs.steps.Naming.{row_in, names_in}
 -- what holds of a graph while edges are added
 pub record IsDraft (t : Topology) : Type 0 where
   pub a_row_each : length t.rows ≡ length t.vertices
+  pub few : length t.vertices ≤ 8192
   pub distinct : AllPairs (λ v w. v ≢ w) t.vertices
   pub in_range : (e : DirectedEdge ℕ) → IsArc t e → e.to < length t.vertices
   pub cost_below : (e : DirectedEdge ℕ) → IsArc t e → e.cost < 2 ^ 16

@@ -1,5 +1,5 @@
 -- The steps of Dijkstra's algorithm (RFC 2328, 16.1).
-use Rattle.std.specs.Prelude.{◌≡◌, ◌≢◌, ℕ, ◌+◌, ◌<◌, ◌≤◌, ◌^◌, List, [], ◌∷◌, ◌++◌, Contains, IsSome, IsPermutation, Option, None, Some, slice_index_or, slice_set, length, AllPairs, ◌⊎◌, MatchOption}
+use Rattle.std.specs.Prelude.{◌≡◌, ℕ, ◌+◌, ◌<◌, ◌≤◌, ◌^◌, List, [], ◌∷◌, ◌++◌, Contains, IsSome, IsPermutation, Option, None, Some, slice_index_or, slice_set, length, AllPairs, ◌⊎◌, MatchOption}
 use Rattle.area_graph.specs.declared.edge.Edge.{Edge}
 use Rattle.area_graph.specs.Paths.{DirectedEdge}
 use Rattle.area_graph.specs.Topology.{Topology, IsArc}
@@ -11,13 +11,9 @@ use Rattle.spf.specs.steps.Relaxation.{Bounded, Sound, Closed}
 abbrev pub IsQueued : List Candidate → ℕ → ℕ → Type 0
 IsQueued queue i d = (c : Candidate) × Contains queue c × (c.index ≡ i) × (c.distance ≤ d)
 
--- what is noted where no candidate to a vertex waits
-abbrev pub no_distance : ℕ
-no_distance = 4294967295
-
--- where a distance is noted of a vertex, a candidate to it is there that is no farther
-abbrev pub AreNearest : List ℕ → List Candidate → Type 0
-AreNearest nearest queue = (i : ℕ) → slice_index_or nearest i no_distance ≢ no_distance → IsQueued queue i (slice_index_or nearest i no_distance)
+-- no vertex that is settled is farther
+abbrev pub IsNoneFarther : List (Option ℕ) → ℕ → Type 0
+IsNoneFarther ds distance = (i d : ℕ) → slice_index_or ds i None ≡ Some d → d ≤ distance
 
 -- new is old with a candidate for the vertex that an edge leads to; or it is old, and that vertex is settled or has one that is no farther
 abbrev pub PushesEdge : Topology → Edge → ℕ → List (Option ℕ) → List Candidate → List Candidate → Type 0

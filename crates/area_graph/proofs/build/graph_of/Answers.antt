@@ -1,4 +1,4 @@
-use Rattle.std.proofs.Common.{◌≢◌, ◌∙◌, sym, subst, ap, map, length, List, ℕ}
+use Rattle.std.proofs.Common.{◌≢◌, ◌≤◌, ◌∙◌, sym, subst, ap, map, length, List, ℕ}
 use Rattle.std.specs.List.{AllPairs}
 use Rattle.std.proofs.lemmas.List.{length-map}
 use Rattle.std.proofs.lemmas.Result.{IfOk-weaker}
@@ -9,7 +9,7 @@ use Rattle.area_graph.specs.steps.Drafts.{IsDraft}
 use Rattle.area_graph.specs.Graphs.{IsGraphOf}
 use Rattle.area_graph.proofs.GraphLemmas.{built}
 use Rattle.area_graph.proofs.NamedRows.{rows_within}
-use Rattle.area_graph.proofs.UsedLemmas.{vertices_distinct}
+use Rattle.area_graph.proofs.UsedLemmas.{vertices_distinct, vertices_few}
 use Rattle.area_graph.proofs.build.graph_of.Goals as goal
 
 pub vertices-requires : goal.vertices-requires
@@ -24,17 +24,29 @@ new-requires g c =
     ∙ length-map c.deref-2.result.now vertex_of)
     c.in_ok-naming.ensures
 
-pub naming_rows-requires : goal.naming_rows-requires
-naming_rows-requires g c =
+pub naming_rows-requires-clause-distinct : goal.naming_rows-requires-clause-distinct
+naming_rows-requires-clause-distinct g c =
     subst (λ (vs : List Vertex). AllPairs (λ v w. v ≢ w) vs)
     (sym (c.in_ok-vertices.ensures ∙ ap (map vertex_of) (c.deref.ensures.value ∙ c.in_ok-used.ensures)))
     (vertices_distinct c.args.lsas c.requires.accepted c.requires.distinct)
 
-pub new-requires-2 : goal.new-requires-2
-new-requires-2 g c =
+pub naming_rows-requires-clause-few : goal.naming_rows-requires-clause-few
+naming_rows-requires-clause-few g c =
+    subst (λ (vs : List Vertex). length vs ≤ 8192)
+    (sym (c.in_ok-vertices.ensures ∙ ap (map vertex_of) (c.deref.ensures.value ∙ c.in_ok-used.ensures)))
+    (vertices_few c.args.lsas c.requires.few)
+
+pub new-requires-2-clause-distinct : goal.new-requires-2-clause-distinct
+new-requires-2-clause-distinct g c =
     subst (λ (vs : List Vertex). AllPairs (λ v w. v ≢ w) vs)
     (sym (c.in_ok-vertices.ensures ∙ ap (map vertex_of) (c.deref.ensures.value ∙ c.in_ok-used.ensures)))
     (vertices_distinct c.args.lsas c.requires.accepted c.requires.distinct)
+
+pub new-requires-2-clause-few : goal.new-requires-2-clause-few
+new-requires-2-clause-few g c =
+    subst (λ (vs : List Vertex). length vs ≤ 8192)
+    (sym (c.in_ok-vertices.ensures ∙ ap (map vertex_of) (c.deref.ensures.value ∙ c.in_ok-used.ensures)))
+    (vertices_few c.args.lsas c.requires.few)
 
 pub into_graph-requires : goal.into_graph-requires
 into_graph-requires g c =

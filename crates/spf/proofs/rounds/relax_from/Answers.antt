@@ -23,6 +23,15 @@ improve-requires g c =
     let within : o.to < length c.args.graph.now.vertices = c.edges-edge-items.ensures.shape.in_range (arc_from c.args.from o) arc in
     omega arith
 
+pub overflow_add-distance : goal.overflow_add-distance
+overflow_add-distance g c =
+    let row = c.edges-edge-items.result.now in
+    let o = get_or row c.loop-edge.edge-index no_edge in
+    let arc : IsArc c.args.graph.now (arc_from c.args.from o) =
+    IsArc-row c.args.graph.now c.args.from c.loop-edge.edge-index row no_edge c.edges-edge-items.ensures.row c.loop-edge-test.true in
+    let small : o.cost < 2 ^ 16 = c.edges-edge-items.ensures.shape.cost_below (arc_from c.args.from o) arc in
+    omega arith
+
 pub loop-edge-preserved : goal.loop-edge-preserved
 loop-edge-preserved g c =
     let t = c.args.graph.now in

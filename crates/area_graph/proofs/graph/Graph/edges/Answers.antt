@@ -6,12 +6,12 @@ use Rattle.area_graph.proofs.graph.Graph.edges.Goals as goal
 pub row-requires : goal.row-requires
 row-requires g c =
     let within = subst (λ (t : Topology). c.args.index < length t.vertices) (sym c.self.view_is) c.requires in
-    let sized = c.self.invariant.a_row_each in
+    let sized = c.self.invariant.0.a_row_each in
     subst (λ n. c.args.index < n) (sym sized) within
 
 pub returns : goal.returns
 returns g c =
-    let shape = subst IsTopology c.self.view_is c.self.invariant in
+    let shape = subst IsTopology c.self.view_is c.self.invariant.0 in
     let row = c.row.ensures ∙ ap (λ (t : Topology). row_at t c.args.index) c.self.view_is in
     record {
       row = row;

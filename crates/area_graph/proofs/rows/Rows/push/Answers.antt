@@ -10,6 +10,6 @@ returns g c =
     let old_len : vec_len c.self.inside.edges ≡ length c.self.inside.edges.items = search rules in
     let new_len : vec_len c.extend_from_slice.new.self ≡ length c.extend_from_slice.new.self.items = search rules in
     (λ i. rows_at (edges i) (c.in_ok-push.ensures.items i))
-    ∙ rows_at-push c.self.inside.edges.items c.args.row.now c.self.inside.spans.items (record { start = c.len-start.result; end = c.len-end.result })
-    c.self.invariant (c.len-start.ensures ∙ old_len) (c.len-end.ensures ∙ new_len ∙ ap (λ (es : List Edge). length es) edges)
+    ∙ rows_at-push c.self.inside.edges.items c.args.row.now c.self.inside.spans.items (record { start = c.in_ok-start.start; end = c.in_ok-end.end })
+    c.self.invariant (c.in_ok-start.ensures ∙ c.len.ensures ∙ old_len) (c.in_ok-end.ensures ∙ c.len-2.ensures ∙ new_len ∙ ap (λ (es : List Edge). length es) edges)
     ∙ ap (λ (rows : List (List Edge)). rows ++ c.args.row.now ∷ []) c.self.view_is
