@@ -1,5 +1,6 @@
 //! Planners and their memory: growths that are counted, and what comes while growths are refused.
 
+use super::calls::{edit, redo, undo};
 use super::tables::planner_of;
 use edit_history::{EditFault, RedoFault, UndoFault};
 use edit_script::Edit;
@@ -30,7 +31,7 @@ fn with_costs<A: Allocator + Copy>(
 ) -> Result<Planner<A>, Fail> {
     let mut planner = planner_of(alloc, dump)?;
     for metric in metrics {
-        planner.edit(&cost(metric))?;
+        edit(&mut planner, &cost(metric))?;
     }
     Ok(planner)
 }
@@ -78,23 +79,36 @@ fn growths_of_shared(planner: &mut Planner<&Rationed>, rationed: &Rationed) -> R
 }
 
 /// Whether a table that is asked for again takes no growth, and takes some behind an edit.
-fn is_kept_until_an_edit(alloc: Global) -> Result<(bool, bool), Fail> {
-    let rationed = Rationed::new(alloc, u64::MAX);
-    let mut planner = planner_of(&rationed, SAMPLE)?;
-    let _first = growths_of_shared(&mut planner, &rationed)?;
-    let again = growths_of_shared(&mut planner, &rationed)?;
-    planner.edit(&cost(7))?;
-    let behind = growths_of_shared(&mut planner, &rationed)?;
+fn is_kept(planner: &mut Planner<&Rationed>, rationed: &Rationed) -> Result<(bool, bool), Fail> {
+    let _first = growths_of_shared(planner, rationed)?;
+    let again = growths_of_shared(planner, rationed)?;
+    edit(planner, &cost(7))?;
+    let behind = growths_of_shared(planner, rationed)?;
     Ok((again == 0, behind > 0))
 }
 
+/// The same on the sample.
+fn is_kept_until_an_edit(alloc: Global) -> Result<(bool, bool), Fail> {
+    let rationed = Rationed::new(alloc, u64::MAX);
+    let mut planner = planner_of(&rationed, SAMPLE)?;
+    is_kept(&mut planner, &rationed)
+}
+
 /// The growths of two tables of 1.1.1.1, one after the other, and the trees that they calculate.
+fn growths_twice(
+    planner: &mut Planner<&Rationed>,
+    rationed: &Rationed,
+) -> Result<(u64, u64, u64), Fail> {
+    let first = growths_of_table(planner, rationed)?;
+    let second = growths_of_table(planner, rationed)?;
+    Ok((first, second, planner.runs()))
+}
+
+/// The same on the star.
 fn growths_of_two(alloc: Global) -> Result<(u64, u64, u64), Fail> {
     let rationed = Rationed::new(alloc, u64::MAX);
     let mut planner = planner_of(&rationed, &star(alloc)?)?;
-    let first = growths_of_table(&mut planner, &rationed)?;
-    let second = growths_of_table(&mut planner, &rationed)?;
-    Ok((first, second, planner.runs()))
+    growths_twice(&mut planner, &rationed)
 }
 
 #[test]
@@ -116,17 +130,34 @@ fn growths_at_the_beginning(
     Ok(before.saturating_sub(rationed.left()))
 }
 
+/// The growths of tables at the beginning: of 1.1.1.1, of it behind an edit and behind its undo, of
+/// 2.2.2.2, and of 1.1.1.1 again.
+fn growths_of_five(
+    planner: &mut Planner<&Rationed>,
+    rationed: &Rationed,
+) -> Result<[u64; 5], Fail> {
+    let first = growths_at_the_beginning(planner, rationed, R1)?;
+    edit(planner, &cost(7))?;
+    let behind_edit = growths_at_the_beginning(planner, rationed, R1)?;
+    undo(planner, 1)?;
+    let behind_undo = growths_at_the_beginning(planner, rationed, R1)?;
+    let another = growths_at_the_beginning(planner, rationed, R2)?;
+    let again = growths_at_the_beginning(planner, rationed, R1)?;
+    Ok([first, behind_edit, behind_undo, another, again])
+}
+
+/// The same on the sample.
+fn growths_of_five_on_sample(alloc: Global) -> Result<[u64; 5], Fail> {
+    let rationed = Rationed::new(alloc, u64::MAX);
+    let mut planner = planner_of(&rationed, SAMPLE)?;
+    growths_of_five(&mut planner, &rationed)
+}
+
 #[test]
 fn a_second_table_of_the_beginning_asks_for_no_growth(rt: HostRuntime) -> Result<(), Fail> {
-    let rationed = Rationed::new(rt.alloc(), u64::MAX);
-    let mut planner = planner_of(&rationed, SAMPLE)?;
-    assert!(rt; growths_at_the_beginning(&mut planner, &rationed, R1)? > 0);
-    planner.edit(&cost(7))?;
-    assert_eq!(rt; growths_at_the_beginning(&mut planner, &rationed, R1)?, 0);
-    planner.undo(1)?;
-    assert_eq!(rt; growths_at_the_beginning(&mut planner, &rationed, R1)?, 0);
-    assert!(rt; growths_at_the_beginning(&mut planner, &rationed, R2)? > 0);
-    assert!(rt; growths_at_the_beginning(&mut planner, &rationed, R1)? > 0);
+    let [first, behind_edit, behind_undo, another, again] = growths_of_five_on_sample(rt.alloc())?;
+    assert!(rt; first > 0 && another > 0 && again > 0);
+    assert_eq!(rt; (behind_edit, behind_undo), (0, 0));
     Ok(())
 }
 
@@ -184,40 +215,54 @@ fn growths_of_costs(alloc: Global) -> Result<u64, Fail> {
 /// Whether ten edits, and no more, are taken back one by one.
 fn goes_back(planner: &mut Planner<&Rationed>) -> bool {
     for _ in 0..10 {
-        if planner.undo(1).is_err() {
+        if undo(planner, 1).is_err() {
             return false;
         }
     }
-    planner.undo(1) == Err(UndoFault::NothingToUndo) && has_first(planner, LOADED)
+    undo(planner, 1) == Err(UndoFault::NothingToUndo) && has_first(planner, LOADED)
 }
 
 /// Whether ten edits, and no more, are carried out again one by one.
 fn goes_on(planner: &mut Planner<&Rationed>) -> bool {
     for _ in 0..10 {
-        if planner.redo(1).is_err() {
+        if redo(planner, 1).is_err() {
             return false;
         }
     }
-    planner.redo(1) == Err(RedoFault::NothingToRedo) && has_first(planner, EDITED)
+    redo(planner, 1) == Err(RedoFault::NothingToRedo) && has_first(planner, EDITED)
 }
 
 /// Whether neither an edit nor a dump is had for want of memory, and the database stays.
 fn stays(planner: &mut Planner<&Rationed>) -> bool {
-    planner.edit(&cost(21)) == Err(EditFault::OutOfMemory)
+    edit(planner, &cost(21)) == Err(EditFault::OutOfMemory)
         && planner.dump().is_err()
         && has_first(planner, EDITED)
 }
 
+/// Whether ten edits are taken back at once.
+fn goes_back_at_once(planner: &mut Planner<&Rationed>) -> bool {
+    undo(planner, 10) == Ok(()) && has_first(planner, LOADED)
+}
+
+/// Whether ten edits stay, go and come where no growth is left.
+fn stays_and_goes(planner: &mut Planner<&Rationed>, rationed: &Rationed) -> bool {
+    rationed.left() == 0
+        && stays(planner)
+        && goes_back(planner)
+        && goes_on(planner)
+        && goes_back_at_once(planner)
+}
+
+/// Whether ten costs do so with the growths that they take alone.
+fn takes_no_growth(alloc: Global) -> Result<bool, Fail> {
+    let rationed = Rationed::new(alloc, growths_of_costs(alloc)?);
+    let mut planner = with_costs(&rationed, SAMPLE, 11..21)?;
+    Ok(stays_and_goes(&mut planner, &rationed))
+}
+
 #[test]
 fn undo_and_redo_while_each_growth_is_refused(rt: HostRuntime) -> Result<(), Fail> {
-    let rationed = Rationed::new(rt.alloc(), growths_of_costs(rt.alloc())?);
-    let mut planner = with_costs(&rationed, SAMPLE, 11..21)?;
-    assert_eq!(rt; rationed.left(), 0);
-    assert!(rt; stays(&mut planner));
-    assert!(rt; goes_back(&mut planner));
-    assert!(rt; goes_on(&mut planner));
-    assert_eq!(rt; planner.undo(10), Ok(()));
-    assert!(rt; has_first(&planner, LOADED));
+    assert!(rt; takes_no_growth(rt.alloc())?);
     Ok(())
 }
 
@@ -239,13 +284,18 @@ fn hundred_lsas(alloc: Global) -> Result<Vec<u8>, Fail> {
     Ok(dump)
 }
 
-/// For how many growths a cost asks on an area of 100 LSAs.
+/// For how many growths a cost asks.
+fn growths_of_cost(planner: &mut Planner<&Rationed>, counted: &Rationed) -> Result<u64, Fail> {
+    let before = counted.left();
+    edit(planner, &cost(7))?;
+    Ok(before.saturating_sub(counted.left()))
+}
+
+/// The same on an area of 100 LSAs.
 fn growths_of_a_cost(alloc: Global) -> Result<u64, Fail> {
     let counted = Rationed::new(alloc, u64::MAX);
     let mut planner = planner_of(&counted, &hundred_lsas(alloc)?)?;
-    let loaded = counted.left();
-    planner.edit(&cost(7))?;
-    Ok(loaded.saturating_sub(counted.left()))
+    growths_of_cost(&mut planner, &counted)
 }
 
 #[test]

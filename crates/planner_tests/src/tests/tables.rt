@@ -1,5 +1,6 @@
 //! Planners: how many trees their tables calculate, and that tables over kept trees are right.
 
+use super::calls::{edit, redo, undo};
 use area_routes::Route;
 use edit_script::{Command, parse};
 use lsa_codec::RouterId;
@@ -78,9 +79,9 @@ fn is_table_refused<A: Allocator + Copy>(
 pub(super) fn is_refused(planner: &mut Planner, alloc: Global, line: &str) -> Result<bool, Fail> {
     let (_, command) = parse(line.as_bytes())?;
     Ok(match command {
-        Command::Edit(edit) => planner.edit(&edit).is_err(),
-        Command::Undo(count) => planner.undo(count).is_err(),
-        Command::Redo(count) => planner.redo(count).is_err(),
+        Command::Edit(command) => edit(planner, &command).is_err(),
+        Command::Undo(count) => undo(planner, count).is_err(),
+        Command::Redo(count) => redo(planner, count).is_err(),
         Command::Table(router) => is_table_refused(planner, alloc, router)?,
         Command::Tables => planner.routers().is_err(),
         Command::Compare(router) => planner.base_table(router).is_err(),
@@ -95,16 +96,25 @@ pub(super) fn is_refused(planner: &mut Planner, alloc: Global, line: &str) -> Re
 type Step = (&'static str, bool, u64);
 
 /// The place of the first step that goes otherwise.
-fn first_otherwise(alloc: Global, dump: &[u8], steps: &[Step]) -> Result<Option<usize>, Fail> {
-    let mut planner = planner_of(alloc, dump)?;
+fn first_otherwise_of(
+    planner: &mut Planner,
+    alloc: Global,
+    steps: &[Step],
+) -> Result<Option<usize>, Fail> {
     let mut place: usize = 0;
     for (line, refused, runs) in steps {
-        if is_refused(&mut planner, alloc, line)? != *refused || planner.runs() != *runs {
+        if is_refused(planner, alloc, line)? != *refused || planner.runs() != *runs {
             return Ok(Some(place));
         }
         place = place.wrapping_add(1);
     }
     Ok(None)
+}
+
+/// The same of the planner of a dump.
+fn first_otherwise(alloc: Global, dump: &[u8], steps: &[Step]) -> Result<Option<usize>, Fail> {
+    let mut planner = planner_of(alloc, dump)?;
+    first_otherwise_of(&mut planner, alloc, steps)
 }
 
 /// An edit of a summary-LSA touches no area, and one of a router-LSA its own.
@@ -217,11 +227,10 @@ fn counts_the_trees_of_the_beginning(rt: HostRuntime) -> Result<(), Fail> {
 /// How many trees are calculated after each of three tables of the beginning: after the first,
 /// after one that follows an edit of the router's own area, and after one by trees that are not
 /// kept. Another table than the first is a failure.
-fn runs_at_the_beginning(alloc: Global) -> Result<(u64, u64, u64), Fail> {
-    let mut planner = planner_of(alloc, SAMPLE)?;
+fn runs_of_three(planner: &mut Planner, alloc: Global) -> Result<(u64, u64, u64), Fail> {
     let before = planner.kept_base_table(RouterId(R1))?;
     let first = planner.runs();
-    let _refused = is_refused(&mut planner, alloc, "fail-router 1.1.1.1")?;
+    let _refused = is_refused(planner, alloc, "fail-router 1.1.1.1")?;
     let again = planner.kept_base_table(RouterId(R1))?;
     let second = planner.runs();
     let fresh = planner.base_table(RouterId(R1))?;
@@ -231,6 +240,12 @@ fn runs_at_the_beginning(alloc: Global) -> Result<(u64, u64, u64), Fail> {
         }
     }
     Ok((first, second, planner.runs()))
+}
+
+/// The same on the sample.
+fn runs_at_the_beginning(alloc: Global) -> Result<(u64, u64, u64), Fail> {
+    let mut planner = planner_of(alloc, SAMPLE)?;
+    runs_of_three(&mut planner, alloc)
 }
 
 #[test]

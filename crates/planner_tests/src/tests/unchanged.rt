@@ -2,6 +2,7 @@
 
 use super::tables::{is_refused, planner_of};
 use lsa_codec::RouterId;
+use recalculate::Planner;
 use samples::{LsaList, to_router, to_stub};
 use std::alloc::Global;
 use std::test::*;
@@ -34,14 +35,29 @@ const EDITS: &[(u32, &str, bool)] = &[
     (1, "fail-router 0.0.0.3", false),
 ];
 
+/// Whether an edit is known to leave a router's table.
+fn is_known_of(
+    planner: &mut Planner,
+    alloc: Global,
+    router: RouterId,
+    line: &str,
+) -> Result<bool, Fail> {
+    let _table = planner.kept_base_table(router)?;
+    let _refused = is_refused(planner, alloc, line)?;
+    Ok(planner.is_unchanged(router))
+}
+
+/// The same of the planner of a dump.
+fn is_known(alloc: Global, dump: &[u8], router: RouterId, line: &str) -> Result<bool, Fail> {
+    let mut planner = planner_of(alloc, dump)?;
+    is_known_of(&mut planner, alloc, router, line)
+}
+
 /// The first edit of which it is told otherwise, if there is one.
 fn first_told_otherwise(alloc: Global) -> Result<Option<&'static str>, Fail> {
     let dump = triangle(alloc)?;
-    for (router, line, is_known) in EDITS {
-        let mut planner = planner_of(alloc, &dump)?;
-        let _table = planner.kept_base_table(RouterId(*router))?;
-        let _refused = is_refused(&mut planner, alloc, line)?;
-        if planner.is_unchanged(RouterId(*router)) != *is_known {
+    for (router, line, known) in EDITS {
+        if is_known(alloc, &dump, RouterId(*router), line)? != *known {
             return Ok(Some(*line));
         }
     }

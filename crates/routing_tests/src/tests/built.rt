@@ -10,7 +10,7 @@ use std::alloc::{Allocator, Global};
 use std::test::*;
 
 /// The graph of area 0.0.0.0.
-fn graph_of<A: Allocator + Copy>(alloc: A, dump: &[u8]) -> Result<Graph<A>, Fail> {
+pub(super) fn graph_of<A: Allocator + Copy>(alloc: A, dump: &[u8]) -> Result<Graph<A>, Fail> {
     let database = Database::load(alloc, dump)?;
     Ok(Graph::build(alloc, &database, AreaId(0))?)
 }
@@ -48,14 +48,4 @@ pub(super) fn by_rounds(
     root: u32,
 ) -> Result<Vec<Option<u64>>, SpfFault> {
     distances_by_rounds(alloc, graph, RouterId(root))
-}
-
-/// The vertices that a tree reaches, in their order, each with its distance.
-pub(super) fn reached(alloc: Global, tree: &Tree) -> Result<Vec<(usize, Option<u64>)>, Fail> {
-    let mut reached = Vec::new(alloc);
-    for index in tree.order() {
-        let index = usize::from(*index);
-        reached.push((index, tree.distance(index)))?;
-    }
-    Ok(reached)
 }

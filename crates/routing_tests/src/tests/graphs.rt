@@ -3,6 +3,7 @@
 use super::built::{graph_fault, sample_graph, three_graph};
 use area_graph::{Graph, GraphFault, Vertex};
 use lsa_codec::{Addr, RouterId};
+use samples::{R2, R4};
 use std::alloc::Global;
 use std::test::*;
 
@@ -16,12 +17,19 @@ fn network_at(graph: &Graph, address: u32) -> Option<usize> {
     graph.index_of(Vertex::Network(Addr(address)))
 }
 
+/// How many vertices a graph has, and the numbers of a router and of the network 10.5.0.3.
+fn numbers_of(graph: &Graph, router: u32) -> (usize, Option<usize>, Option<usize>) {
+    (
+        graph.len(),
+        router_at(graph, router),
+        network_at(graph, 0x0a05_0003),
+    )
+}
+
 #[test]
 fn tells_indices(rt: HostRuntime) -> Result<(), Fail> {
     let graph = sample_graph(rt.alloc())?;
-    assert_eq!(rt; graph.len(), 2);
-    assert_eq!(rt; router_at(&graph, 0x0202_0202), Some(1));
-    assert_eq!(rt; network_at(&graph, 0x0a05_0003), None);
+    assert_eq!(rt; numbers_of(&graph, R2), (2, Some(1), None));
     Ok(())
 }
 
@@ -39,8 +47,7 @@ fn networks_of(alloc: Global, graph: &Graph) -> Result<Vec<usize>, Fail> {
 #[test]
 fn tells_networks(rt: HostRuntime) -> Result<(), Fail> {
     let graph = three_graph(rt.alloc())?;
-    assert_eq!(rt; graph.len(), 4);
-    assert_eq!(rt; network_at(&graph, 0x0a05_0003), Some(3));
+    assert_eq!(rt; numbers_of(&graph, R4), (4, Some(2), Some(3)));
     assert_eq!(rt; networks_of(rt.alloc(), &graph)?.as_slice(), [3].as_slice());
     Ok(())
 }

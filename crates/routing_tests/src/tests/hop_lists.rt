@@ -49,11 +49,16 @@ fn added(alloc: Global, hops: &[Hop]) -> Result<HopList, Fail> {
     Ok(list)
 }
 
-/// A clone of a list, which is then joined with these hops.
-fn clone_and_join(alloc: Global, list: &mut HopList, hops: &[Hop]) -> Result<HopList, Fail> {
+/// Whether the clone of a list has these hops, also when others are then joined to the list.
+fn is_clone_so(
+    alloc: Global,
+    list: &mut HopList,
+    hops: &[Hop],
+    others: &[Hop],
+) -> Result<bool, Fail> {
     let clone = list.clone_of(alloc)?;
-    list.join(hops)?;
-    Ok(clone)
+    list.join(others)?;
+    Ok(clone.as_slice() == hops)
 }
 
 #[test]
@@ -74,16 +79,16 @@ const JOINED: &[Hop] = &[Hop::Connected, LINK, ATTACHED, GATEWAY];
 /// Those that are joined to them then.
 const REST: &[Hop] = &[FAR, NEAR];
 
+/// What a list has, and what is then joined to it.
+const JOINS: &[(&[Hop], &[Hop])] = &[(SHORT, MORE), (JOINED, REST), (SORTED, &[])];
+
 /// A short list lies in place, and one of more hops elsewhere.
 #[test]
 fn joins_and_clones(rt: HostRuntime) -> Result<(), Fail> {
     let mut list = added(rt.alloc(), SHORT)?;
-    let short = clone_and_join(rt.alloc(), &mut list, MORE)?;
-    assert_eq!(rt; short.as_slice(), SHORT);
-    let short = clone_and_join(rt.alloc(), &mut list, REST)?;
-    assert_eq!(rt; short.as_slice(), JOINED);
-    let long = clone_and_join(rt.alloc(), &mut list, &[])?;
-    assert_eq!(rt; long.as_slice(), SORTED);
+    for (hops, others) in JOINS {
+        assert!(rt; is_clone_so(rt.alloc(), &mut list, hops, others)?);
+    }
     assert_eq!(rt; list.as_slice(), SORTED);
     Ok(())
 }

@@ -1,60 +1,84 @@
 //! Trees of the two small areas.
 
-use super::built::{by_rounds, reached, sample_graph, three_graph, tree_of};
+use super::built::{by_rounds, graph_of, sample_graph, three_graph, tree_of};
 use area_graph::Graph;
 use rationed::Rationed;
-use samples::{R1, R3, R4};
-use spf::{Meter, SpfFault};
+use samples::{R1, R3, R4, SAMPLE, network_of_three};
+use spf::{Meter, SpfFault, Tree};
 use std::alloc::Global;
 use std::test::*;
 
+/// The root of a tree, and the vertices that it reaches behind it: the first, and the second.
+fn turns_of(tree: &Tree) -> (usize, Option<usize>, Option<usize>) {
+    (tree.root(), tree.settled(1), tree.settled(2))
+}
+
+/// The same of the tree of 1.1.1.1 in the sample.
+fn turns_in_sample(alloc: Global) -> Result<(usize, Option<usize>, Option<usize>), Fail> {
+    let graph = sample_graph(alloc)?;
+    let tree = tree_of(alloc, &graph, R1, &mut Meter::new())?;
+    Ok(turns_of(&tree))
+}
+
 #[test]
 fn tells_vertices_in_order(rt: HostRuntime) -> Result<(), Fail> {
-    let graph = sample_graph(rt.alloc())?;
-    let tree = tree_of(rt.alloc(), &graph, R1, &mut Meter::new())?;
-    assert_eq!(rt; tree.root(), 0);
-    assert_eq!(rt; tree.settled(1), Some(1));
-    assert_eq!(rt; tree.settled(2), None);
+    assert_eq!(rt; turns_in_sample(rt.alloc())?, (0, Some(1), None));
     Ok(())
 }
 
 /// A router of which the graph has no vertex.
 const ABSENT: u32 = 0x0909_0909;
 
+/// Why the sample has no tree of a router, how many trees are counted then, and why the plain
+/// program tells no distances.
+fn missed(alloc: Global, root: u32) -> Result<(Option<SpfFault>, u64, Option<SpfFault>), Fail> {
+    let graph = sample_graph(alloc)?;
+    let mut meter = Meter::new();
+    let fault = tree_of(alloc, &graph, root, &mut meter).err();
+    Ok((fault, meter.count(), by_rounds(alloc, &graph, root).err()))
+}
+
 #[test]
 fn misses_a_router(rt: HostRuntime) -> Result<(), Fail> {
-    let graph = sample_graph(rt.alloc())?;
-    let mut meter = Meter::new();
-    let fault = tree_of(rt.alloc(), &graph, ABSENT, &mut meter).err();
-    assert_eq!(rt; fault, Some(SpfFault::NoRouter));
-    assert_eq!(rt; meter.count(), 0);
-    let fault = by_rounds(rt.alloc(), &graph, ABSENT).err();
-    assert_eq!(rt; fault, Some(SpfFault::NoRouter));
+    let no_router = Some(SpfFault::NoRouter);
+    assert_eq!(rt; missed(rt.alloc(), ABSENT)?, (no_router, 0, no_router));
     Ok(())
 }
 
-/// The vertices that the tree of a root reaches, in their order, one a line: number and distance.
-fn reached_text(
-    alloc: Global,
-    graph: &Graph,
-    root: u32,
-    meter: &mut Meter,
-) -> Result<String, Fail> {
-    let tree = tree_of(alloc, graph, root, meter)?;
-    let mut text = String::new(alloc);
-    for (index, distance) in reached(alloc, &tree)? {
-        text.push_str(&format!(in alloc; "{index} {distance:?}\n")?)?;
+/// Adds the vertices that a tree reaches, in their order: number and distance.
+fn push_reached(text: &mut String, tree: &Tree) -> Result<(), Fail> {
+    for index in tree.order() {
+        let index = usize::from(*index);
+        let distance = tree.distance(index);
+        write!(text, "{index} {distance:?} ")?;
     }
+    Ok(())
+}
+
+/// The vertices that the trees of some roots reach, and how many trees are counted.
+fn reached_text(alloc: Global, graph: &Graph, roots: &[u32]) -> Result<String, Fail> {
+    let mut meter = Meter::new();
+    let mut text = String::new(alloc);
+    for root in roots {
+        let tree = tree_of(alloc, graph, *root, &mut meter)?;
+        push_reached(&mut text, &tree)?;
+        text.push_str("\n")?;
+    }
+    let count = meter.count();
+    write!(text, "{count} counted")?;
     Ok(text)
+}
+
+/// The same in the graph of a dump.
+fn reached_in(alloc: Global, dump: &[u8], roots: &[u32]) -> Result<String, Fail> {
+    let graph = graph_of(alloc, dump)?;
+    reached_text(alloc, &graph, roots)
 }
 
 #[test]
 fn reaches_the_sample(rt: HostRuntime) -> Result<(), Fail> {
-    let graph = sample_graph(rt.alloc())?;
-    let mut meter = Meter::new();
-    let found = reached_text(rt.alloc(), &graph, R1, &mut meter)?;
-    assert_eq!(rt; found.as_str(), "0 Some(0)\n1 Some(10)\n");
-    assert_eq!(rt; meter.count(), 1);
+    let found = reached_in(rt.alloc(), SAMPLE, &[R1])?;
+    assert_eq!(rt; found.as_str(), "0 Some(0) 1 Some(10) \n1 counted");
     Ok(())
 }
 
@@ -62,49 +86,58 @@ fn reaches_the_sample(rt: HostRuntime) -> Result<(), Fail> {
 /// network.
 const BY_ROUNDS: &[Option<u64>] = &[Some(0), Some(10), Some(5), Some(10)];
 
+/// The distances in the network of three routers by the plain program.
+fn rounds_of_three(alloc: Global, root: u32) -> Result<Vec<Option<u64>>, Fail> {
+    let graph = three_graph(alloc)?;
+    Ok(by_rounds(alloc, &graph, root)?)
+}
+
 #[test]
 fn measures_by_rounds(rt: HostRuntime) -> Result<(), Fail> {
-    let graph = three_graph(rt.alloc())?;
-    let distances = by_rounds(rt.alloc(), &graph, R1)?;
+    let distances = rounds_of_three(rt.alloc(), R1)?;
     assert_eq!(rt; distances.as_slice(), BY_ROUNDS);
     Ok(())
 }
 
 #[test]
 fn reaches_a_network_before_a_router(rt: HostRuntime) -> Result<(), Fail> {
-    let graph = three_graph(rt.alloc())?;
-    let mut meter = Meter::new();
-    for (root, expected) in [
-        (R1, "0 Some(0)\n2 Some(5)\n3 Some(10)\n1 Some(10)\n"),
-        (R3, "1 Some(0)\n3 Some(10)\n0 Some(10)\n2 Some(10)\n"),
-        (R4, "2 Some(0)\n3 Some(5)\n0 Some(5)\n1 Some(5)\n"),
-    ] {
-        let found = reached_text(rt.alloc(), &graph, root, &mut meter)?;
-        assert_eq!(rt; found.as_str(), expected);
-    }
-    assert_eq!(rt; meter.count(), 3);
+    let dump = network_of_three(rt.alloc())?;
+    let found = reached_in(rt.alloc(), &dump, &[R1, R3, R4])?;
+    let expected = "0 Some(0) 2 Some(5) 3 Some(10) 1 Some(10) \n\
+        1 Some(0) 3 Some(10) 0 Some(10) 2 Some(10) \n\
+        2 Some(0) 3 Some(5) 0 Some(5) 1 Some(5) \n\
+        3 counted";
+    assert_eq!(rt; found.as_str(), expected);
     Ok(())
 }
 
-/// Builds the tree of the sample with so many growths: those that are left before it and after it,
-/// why there is none, and how many trees were counted.
-fn rationed_tree(alloc: Global, growths: u64) -> Result<(u64, u64, Option<SpfFault>, u64), Fail> {
-    let rationed = Rationed::new(alloc, growths);
-    let graph = sample_graph(&rationed)?;
+/// What is seen of building a tree: the growths that are left before it and after it, why there is
+/// none, and how many trees are counted.
+type Seen = (u64, u64, Option<SpfFault>, u64);
+
+/// Builds the tree of 1.1.1.1 in a graph.
+fn rationed_tree<'a>(rationed: &'a Rationed, graph: &Graph<&'a Rationed>) -> Seen {
     let before = rationed.left();
     let mut meter = Meter::new();
-    let fault = tree_of(&rationed, &graph, R1, &mut meter).err();
-    Ok((before, rationed.left(), fault, meter.count()))
+    let fault = tree_of(rationed, graph, R1, &mut meter).err();
+    (before, rationed.left(), fault, meter.count())
+}
+
+/// The same in the sample, with so many growths.
+fn rationed_sample(alloc: Global, growths: u64) -> Result<Seen, Fail> {
+    let rationed = Rationed::new(alloc, growths);
+    let graph = sample_graph(&rationed)?;
+    Ok(rationed_tree(&rationed, &graph))
 }
 
 #[test]
 fn counts_where_memory_runs_out(rt: HostRuntime) -> Result<(), Fail> {
-    let (before, after, fault, _) = rationed_tree(rt.alloc(), u64::MAX)?;
+    let (before, after, fault, _) = rationed_sample(rt.alloc(), u64::MAX)?;
     assert_eq!(rt; fault, None);
     assert!(rt; after < before);
     let needed = u64::MAX.wrapping_sub(before);
     for more in 0..before.wrapping_sub(after) {
-        let (_, _, fault, count) = rationed_tree(rt.alloc(), needed.wrapping_add(more))?;
+        let (_, _, fault, count) = rationed_sample(rt.alloc(), needed.wrapping_add(more))?;
         assert_eq!(rt; fault, Some(SpfFault::OutOfMemory), "with {more} growths");
         assert_eq!(rt; count, 1, "with {more} growths");
     }

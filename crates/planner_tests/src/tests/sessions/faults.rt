@@ -1,8 +1,9 @@
 //! Octets that are no session.
 
 use super::octets::on_sample;
+use crate::tests::calls::opened;
 use lsdb::{DumpFault, DumpFaultKind};
-use saved_sessions::open;
+use std::alloc::Global;
 use std::test::*;
 
 /// Octets behind the base of 99 octets, and the fault that is told of them.
@@ -44,13 +45,18 @@ const FAULTS: &[(&[u8], usize, DumpFaultKind)] = &[
     ),
 ];
 
+/// Why the sample with these octets behind it is no session.
+fn fault_behind(alloc: Global, history: &[u8]) -> Result<Option<DumpFault>, Fail> {
+    let octets = on_sample(alloc, history)?;
+    Ok(opened(alloc, &octets).err())
+}
+
 #[test]
 fn tells_the_first_fault(rt: HostRuntime) -> Result<(), Fail> {
     for (history, offset, kind) in FAULTS {
-        let octets = on_sample(rt.alloc(), *history)?;
-        let fault = open(rt.alloc(), &octets).err();
         let (offset, kind) = (*offset, *kind);
-        assert_eq!(rt; fault, Some(DumpFault { offset, kind }));
+        let fault = Some(DumpFault { offset, kind });
+        assert_eq!(rt; fault_behind(rt.alloc(), history)?, fault);
     }
     Ok(())
 }
@@ -60,7 +66,7 @@ const OF_VERSION_3: &[u8] = b"OSWP\x03\0\0\0";
 
 #[test]
 fn tells_another_version(rt: HostRuntime) -> Result<(), Fail> {
-    let fault = open(rt.alloc(), OF_VERSION_3).err();
+    let fault = opened(rt.alloc(), OF_VERSION_3).err();
     let version = DumpFault {
         offset: 4,
         kind: DumpFaultKind::BadVersion,

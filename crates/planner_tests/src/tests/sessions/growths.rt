@@ -1,9 +1,10 @@
 //! Growths that are refused, each in turn.
 
 use super::octets::{HISTORY, on_sample};
+use crate::tests::calls::{opened, saved};
 use lsdb::{DumpFault, DumpFaultKind};
 use rationed::Rationed;
-use saved_sessions::{open, save};
+use recalculate::Planner;
 use std::alloc::Global;
 use std::test::*;
 
@@ -14,15 +15,20 @@ struct Growths {
     saving: u64,
 }
 
-fn growths_of(alloc: Global, octets: &[u8]) -> Result<Growths, Fail> {
-    let counted = Rationed::new(alloc, u64::MAX);
-    let mut planner = open(&counted, octets)?;
+/// The growths of a session that was opened, and those of saving it.
+fn growths_with(planner: &mut Planner<&Rationed>, counted: &Rationed) -> Result<Growths, Fail> {
     let opened = counted.left();
-    let _saved = save(&mut planner)?;
+    let _saved = saved(planner)?;
     Ok(Growths {
         opening: u64::MAX - opened,
         saving: opened.saturating_sub(counted.left()),
     })
+}
+
+fn growths_of(alloc: Global, octets: &[u8]) -> Result<Growths, Fail> {
+    let counted = Rationed::new(alloc, u64::MAX);
+    let mut planner = opened(&counted, octets)?;
+    growths_with(&mut planner, &counted)
 }
 
 /// Whether the session is not opened with so many growths.
@@ -32,15 +38,19 @@ fn is_not_opened(alloc: Global, octets: &[u8], growths: u64) -> bool {
         offset: 0,
         kind: DumpFaultKind::OutOfMemory,
     };
-    open(&rationed, octets).err() == Some(no_memory)
+    opened(&rationed, octets).err() == Some(no_memory)
+}
+
+/// Whether a session is not saved, and is then as it was.
+fn stays_unsaved(planner: &mut Planner<&Rationed>) -> bool {
+    saved(planner).is_err() && planner.done() == 1 && planner.undone() == 1
 }
 
 /// Whether the session is opened with so many growths, but not saved, and is then as it was.
 fn is_not_saved(alloc: Global, octets: &[u8], growths: u64) -> Result<bool, Fail> {
     let rationed = Rationed::new(alloc, growths);
-    let mut planner = open(&rationed, octets)?;
-    let is_refused = save(&mut planner).is_err();
-    Ok(is_refused && planner.done() == 1 && planner.undone() == 1)
+    let mut planner = opened(&rationed, octets)?;
+    Ok(stays_unsaved(&mut planner))
 }
 
 #[test]
