@@ -80,7 +80,7 @@ fn vertices_by_keys<'a, A: Allocator + Copy>(
 }
 
 /// How many LSAs are gone through in the time in which one is found by its key, about.
-const SCANNED: usize = 8;
+const SCANNED: usize = 16;
 
 /// The vertices of an area that a tree reaches, in the order of their numbers, if they are few
 /// beside the LSAs of the area, and the LSA of each is found by its key alone.
