@@ -1,9 +1,11 @@
 -- Heaps of numbers, the least first.
 use Rattle.std.proofs.Common.{◌≡◌, ◌≢◌, ℕ, zero, suc, ◌+◌, ◌*◌, ◌<◌, ◌≤◌, List, [], ◌∷◌, ◌++◌, length, get_or, ap, ◌∙◌, arith, ⊎_elim}
-use Rattle.std.specs.List.{swap}
+use Rattle.std.specs.List.{swap, swap_remove}
+use Rattle.std.specs.List.Sorted.{IsPermutation}
 use Rattle.std.proofs.lemmas.Bool.{cases_eq, cases_lt}
 use Rattle.std.proofs.lemmas.List.{get_or_append_left, length_push}
 use Rattle.std.proofs.lemmas.List.Edits.{length-swap, swapped_from_swap}
+use Rattle.std.proofs.lemmas.List.Sorted.{IsPermutation-cons, IsPermutation-swap_remove, IsPermutation-trans}
 use Rattle.spf.specs.steps.Heap.{above, IsHeap, RisesAt, SinksAt, IsLeast, IsLeastBelow}
 
 abbrev num : List ℕ → ℕ → ℕ
@@ -192,3 +194,9 @@ sinks_removed ns ms heap size same = record {
       let low : num ns (above k) ≤ num ns k = heap k pos (omega arith) in omega arith;
   below = λ k some pos lt place. absurd (omega arith);
 }
+
+-- the first is taken, and the others are moved
+pub popped : (ns : List ℕ) (n : ℕ) (ms : List ℕ) → 0 < length ns → n ≡ get_or ns 0 n → IsPermutation (swap_remove ns 0 n) ms → IsPermutation ns (n ∷ ms)
+popped ns n ms some is moved =
+    IsPermutation-trans ns (n ∷ swap_remove ns 0 n) (n ∷ ms) (IsPermutation-swap_remove ns 0 n some is)
+    (IsPermutation-cons n (swap_remove ns 0 n) ms moved)

@@ -4,11 +4,11 @@ use Rattle.std.specs.List.Sorted.{IsPermutation}
 use Rattle.std.specs.Ordering.{is_lt}
 use Rattle.std.proofs.lemmas.List.{get_or_default, with_items_is}
 use Rattle.std.proofs.lemmas.List.Elements.{All-map, All-tail, All-weaker}
-use Rattle.std.proofs.lemmas.List.Sorted.{All-permutation, IsPermutation-cons, IsPermutation-map, IsPermutation-swap_remove, IsPermutation-trans, length_permutation}
+use Rattle.std.proofs.lemmas.List.Sorted.{All-permutation, IsPermutation-map, length_permutation}
 use Rattle.spf.specs.declared.queue.Candidate.{Candidate}
 use Rattle.spf.specs.Candidates.{candidate_cmp}
 use Rattle.spf.specs.steps.Number.{candidate_in}
-use Rattle.spf.proofs.Heaps.{least_first}
+use Rattle.spf.proofs.Heaps.{least_first, popped}
 use Rattle.spf.proofs.Numbers.{candidate_in-order}
 use Rattle.spf.proofs.queue.Queue.pop.Goals as goal
 
@@ -23,9 +23,7 @@ returns-clause-taken g c =
     let as_many : length new ≡ vec.len = length_permutation c.deref_mut.result.now new c.sink.ensures.moves ∙ c.deref_mut.ensures.len in
     let moved : IsPermutation (swap_remove old 0 number) new =
     subst (λ (xs : List ℕ). IsPermutation xs new) (c.deref_mut.ensures.value ∙ c.swap_remove-number.ensures.items) c.sink.ensures.moves in
-    let taken : IsPermutation old (number ∷ new) =
-    IsPermutation-trans old (number ∷ swap_remove old 0 number) (number ∷ new)
-    (IsPermutation-swap_remove old 0 number some c.swap_remove-number.ensures.value) (IsPermutation-cons number (swap_remove old 0 number) new moved) in
+    let taken : IsPermutation old (number ∷ new) = popped old number new some c.swap_remove-number.ensures.value moved in
     subst (λ (xs : List ℕ). IsPermutation c.args.self.now (c.candidate_of.result ∷ map f xs)) (sym (with_items_is vec new as_many))
     (subst (λ (d : Candidate). IsPermutation c.args.self.now (d ∷ map f new)) (sym c.candidate_of.ensures)
     (subst (λ (xs : List Candidate). IsPermutation xs (candidate_in number ∷ map f new)) c.self.view_is (IsPermutation-map f old (number ∷ new) taken)))
@@ -41,9 +39,7 @@ returns-clause-first g c =
     let as_many : length new ≡ vec.len = length_permutation c.deref_mut.result.now new c.sink.ensures.moves ∙ c.deref_mut.ensures.len in
     let moved : IsPermutation (swap_remove old 0 number) new =
     subst (λ (xs : List ℕ). IsPermutation xs new) (c.deref_mut.ensures.value ∙ c.swap_remove-number.ensures.items) c.sink.ensures.moves in
-    let taken : IsPermutation old (number ∷ new) =
-    IsPermutation-trans old (number ∷ swap_remove old 0 number) (number ∷ new)
-    (IsPermutation-swap_remove old 0 number some c.swap_remove-number.ensures.value) (IsPermutation-cons number (swap_remove old 0 number) new moved) in
+    let taken : IsPermutation old (number ∷ new) = popped old number new some c.swap_remove-number.ensures.value moved in
     let top : number ≡ get_or old 0 0 = c.swap_remove-number.ensures.value ∙ get_or_default old 0 number 0 some in
     let low : All (λ (n : ℕ). number ≤ n) old = λ k d lt.
     (let least : get_or old 0 0 ≤ get_or old k 0 = least_first old c.self.invariant k k (omega arith) lt in
