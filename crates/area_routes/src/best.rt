@@ -47,8 +47,12 @@ impl<'a, K: Ord + Copy + Drop, A: Allocator + Copy> BestWays<'a, K, A> {
     }
 
     /// Of no candidates, with room for so many.
-    pub(crate) fn with_capacity(alloc: A, count: usize) -> Result<BestWays<'a, K, A>, AllocError>
-        ensures { IfOk result (λ ways. ways ≡ []) }
+    ///
+    /// # Errors
+    ///
+    /// Memory ran out.
+    pub fn with_capacity(alloc: A, count: usize) -> Result<BestWays<'a, K, A>, AllocError>
+        ensures { IfOk result (Gathers []) }
     {
         Ok(BestWays {
             candidates: Vec::with_capacity(alloc, count)?,

@@ -15,10 +15,11 @@ use lsa_codec::{Prefix, RouterId};
 use lsdb::{Database, Lsas, Section};
 use std::alloc::{AllocError, Allocator};
 
-/// Takes what LSAs offer into account, one after another.
+/// Takes what LSAs offer into account, one after another. There are about so many.
 fn ways_of<'a, A: Allocator + Copy>(
     alloc: A,
     lsas: Lsas<'_, A>,
+    count: usize,
     router: RouterId,
     inside: &Inside<'a, A>,
 ) -> Result<BestWays<'a, Prefix, A>, AllocError>
@@ -26,7 +27,7 @@ fn ways_of<'a, A: Allocator + Copy>(
         (filter_map (external_candidate router inside.now.routes inside.now.entries) lsas.entry)
         ways) }
 {
-    let mut ways = BestWays::new(alloc);
+    let mut ways = BestWays::with_capacity(alloc, count)?;
     for lsa in lsas {
         add_external_candidate(&mut ways, inside, router, lsa)?;
     }
@@ -61,6 +62,13 @@ pub fn externals<A: Allocator + Copy>(
         return Ok(Routes::new(alloc));
     }
     let inside = Inside::new(alloc, routes, entries)?;
-    let ways = ways_of(alloc, database.lsas(Section::AsWide), router, &inside)?;
+    let count = database.count(Section::AsWide);
+    let ways = ways_of(
+        alloc,
+        database.lsas(Section::AsWide),
+        count,
+        router,
+        &inside,
+    )?;
     ways.into_routes(alloc)
 }
