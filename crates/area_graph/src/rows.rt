@@ -16,8 +16,9 @@ struct Span {
     end: u32,
 }
 
-/// A place among edges as a number of 32 bits. Each one fits: an area has at most 8,192 LSAs, of fewer
-/// than 2^16 octets each. That is not proved, so one that did not fit would be memory that ran out.
+/// A place among edges as a number of 32 bits. Each one fits: an area has at most 8,192 LSAs, of
+/// fewer than 2^16 octets each. That is not proved, so one that did not fit would be memory that
+/// ran out.
 fn place(index: usize) -> Result<u32, AllocError>
     ensures { IfOk result (λ place. place ≡ index) }
 {

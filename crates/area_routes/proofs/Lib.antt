@@ -30,4 +30,4 @@ pub mod EntriesOnce
 pub mod SameGraphLemmas
 pub mod WayLemmas
 pub mod Borderless
-pub mod Offerless
+pub mod OfferlessLemmas

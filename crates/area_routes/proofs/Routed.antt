@@ -16,7 +16,7 @@ use Rattle.lsa_codec.proofs.OrderLemmas.{prefix_exact, prefix_total}
 use Rattle.area_graph.specs.Rising.{rising}
 use Rattle.next_hops.specs.declared.hop.Hop.{Hop}
 use Rattle.next_hops.specs.Hop.{IsSortedHops, hop_cmp}
-use Rattle.next_hops.proofs.Inserted.{IsSortedHops-rising}
+use Rattle.next_hops.proofs.HopLemmas.{IsSortedHops-rising}
 use Rattle.area_routes.specs.Best.{ways_of}
 use Rattle.area_routes.specs.Candidate.{Candidate}
 use Rattle.area_routes.specs.Offers.{AreSortedOffers, offer_of}

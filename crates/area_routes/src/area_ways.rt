@@ -37,7 +37,8 @@ impl<'a> Model for AreaWay<'a> {
 
     ghost Value = { Candidate Net };
 
-    ghost view = { λ w. offer_candidate (record { net = w.net; cost = w.cost; hops = w.hops.now }) };
+    ghost view = { λ w. offer_candidate
+        (record { net = w.net; cost = w.cost; hops = w.hops.now }) };
 }
 
 impl<'a> AreaWay<'a> {

@@ -10,7 +10,7 @@ use Rattle.area_routes.specs.Values.{AreaResultValue, InterValue, RouteValue}
 use Rattle.area_routes.specs.Intra.{intra_of, without_offers}
 use Rattle.area_routes.specs.Inter.{inter_of}
 use Rattle.area_routes.specs.Attached.{attached_areas}
-use Rattle.area_routes.proofs.Offerless.{same_inter}
+use Rattle.area_routes.proofs.OfferlessLemmas.{same_inter}
 use Rattle.external_routes.specs.External.{externals_of}
 use Rattle.routing_table.specs.declared.table.TableFault.{TableFault}
 use Rattle.routing_table.specs.declared.table.TableFault.TheVariants.{NoRouter, OutOfMemory}

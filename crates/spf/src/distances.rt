@@ -47,8 +47,8 @@ impl<A: Allocator + Copy> DistanceTable<A> {
         if number < WAITING { Some(number) } else { None }
     }
 
-    /// The distance of a vertex that is settled, or else of its nearest candidate, and more than any
-    /// distance where there is none.
+    /// The distance of a vertex that is settled, or else of its nearest candidate, and more than
+    /// any distance where there is none.
     pub(crate) fn least(&self, index: usize) -> u32
         requires { index < length self.now }
         ensures least { result ≡ slice_index_or self.now index unreached % 2 ^ 31 }

@@ -1,5 +1,5 @@
-//! Heaps of numbers in a slice, the least first. Each number has up to four below it, so that a heap
-//! has half the levels that one of pairs has.
+//! Heaps of numbers in a slice, the least first. Each number has up to four below it, so that a
+//! heap has half the levels that one of pairs has.
 
 ghost use Rattle.std.specs.Prelude.{◌≡◌, ◌<◌, ◌≤◌, ◌+◌, ◌*◌, ◌⊎◌, length, slice_index, IfSome, IfNone, IsPermutation};
 ghost use Rattle.std.specs.List.{swap};

@@ -10,8 +10,7 @@ use super::answers::{of_routers, of_table_of};
 use super::network::{ROUTER, database_of, lonely_database_of};
 use area_graph::Graph;
 use area_routes::{
-    AreaResult, InsideRoutes, InterResult, Route, RouterEntry, Routes, StubLinks, inter,
-    intra,
+    AreaResult, InsideRoutes, InterResult, Route, RouterEntry, Routes, StubLinks, inter, intra,
 };
 use external_routes::externals;
 use lsa_codec::AreaId;
