@@ -6,3 +6,4 @@ pub mod Longest
 pub mod Small
 pub mod Whole
 pub mod AsbrMaps
+pub mod UnmarkedLengths

@@ -37,7 +37,7 @@ filter_none p (x ∷ xs) all = ap (λ b. cond b (x ∷ filter p xs) (filter p xs
     ∙ filter_none p xs (All-tail (λ y. p y ≡ false) x xs all)
 
 -- where none passes, none is found
-find_none : {X : Type 0} (p : X → Bool) (xs : List X) → All (λ x. p x ≡ false) xs → find p xs ≡ None
+pub find_none : {X : Type 0} (p : X → Bool) (xs : List X) → All (λ x. p x ≡ false) xs → find p xs ≡ None
 find_none p [] all = refl
 find_none p (x ∷ xs) all = ap (λ b. cond b (Some x) (find p xs)) (All-head (λ y. p y ≡ false) x xs all) ∙ find_none p xs (All-tail (λ y. p y ≡ false) x xs all)
 

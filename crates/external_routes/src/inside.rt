@@ -57,11 +57,12 @@ impl<'a, A: Allocator + Copy> Inside<'a, A> {
         })
     }
 
-    /// Whether a prefix has a route.
+    /// Whether a prefix has a route. Where no route has a prefix of this length, none is looked
+    /// for.
     pub(crate) fn has_route(&self, net: Prefix) -> bool
         ensures { result ≡ has_route self.now.routes net }
     {
-        self.routes.has_route(net)
+        self.lengths[usize::from(net.len())] && self.routes.has_route(net)
     }
 
     /// The route of the longest prefix that covers an address.

@@ -1,0 +1,13 @@
+use Rattle.std.proofs.Common.{◌≡◌, false, get_or, ap, sym, ◌∙◌}
+use Rattle.area_routes.specs.Routes.{has_route}
+use Rattle.external_routes.specs.steps.Lookup.{WaysInside}
+use Rattle.external_routes.proofs.UnmarkedLengths.{unmarked_no_route}
+use Rattle.external_routes.proofs.inside.Inside.has_route.Goals as goal
+
+pub returns-else-self-from : goal.returns-else-self-from
+returns-else-self-from g c =
+    let marks = c.self.inside.lengths in
+    let len : c.from.result ≡ c.args.net.len = c.from.ensures ∙ c.len.ensures.len in
+    let unmarked = ap (λ n. get_or marks n false) (sym len) ∙ c.if-self-from.false in
+    c.if-self-from.false ∙ sym (unmarked_no_route c.self.inside.routes.now marks c.self.invariant.marked c.args.net unmarked)
+    ∙ ap (λ (w : WaysInside). has_route w.routes c.args.net) c.self.view_is
