@@ -12,6 +12,8 @@ use Rattle.lsa_codec.specs.Fields.{kind_of, link_state_id_of, advertising_router
 use Rattle.lsa_codec.specs.Key.{key_of, router_key}
 use Rattle.lsdb.specs.declared.keyed_places.KeyAt.{KeyAt}
 use Rattle.lsdb.specs.declared.slot.SlotId.{SlotId}
+use Rattle.std.specs.Iterator.{YieldsFirst}
+use Rattle.std.specs.Option.{is_some}
 use Rattle.lsdb.specs.KeyRanges.{AreKeysBetween}
 use Rattle.lsdb.specs.Lists.{IsDatabase, IsSection, Lists}
 use Rattle.lsdb.specs.Places.{Place, Places, SectionPlaces, full, item_at, lists_of, lsas_in, lsas_or_none, place_in, places_in, places_or_none, slot_at}
@@ -88,6 +90,12 @@ only (z ∷ []) x y one (inl p) (inl q) = sym p ∙ q
 only (z ∷ []) x y one (inl p) (inr j) = absurd j
 only (z ∷ []) x y one (inr i) j = absurd i
 only (z ∷ w ∷ ws) x y one i j = absurd (omega (arith, one))
+
+-- one key, and none behind it
+pub one_key : (keys rest left : List KeyAt) (noted : KeyAt) (second : Option KeyAt) → keys ≡ noted ∷ rest → is_some second ≡ false
+    → YieldsFirst (λ (ks : List KeyAt). ks) rest second left → length keys ≡ 1
+one_key keys rest left noted None is none steps = ap length is ∙ ap (λ (ks : List KeyAt). suc (length ks)) steps.0
+one_key keys rest left noted (Some e) is none steps = absurd cc
 
 module _ (d : Places) (section : ℕ) (vertex : Vertex) (low high : Key) (keys : List KeyAt) (sound : IsDatabase (lists_of d))
     (keyed : AreKeysBetween (places_in d section) low high keys) (covered : HasKeysBetween vertex low high) (one : length keys ≡ 1) where

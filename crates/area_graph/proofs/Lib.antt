@@ -1,4 +1,8 @@
 pub mod MemberLemmas
+pub mod ZipLemmas
+pub mod ChangedEdges
+pub mod ChangedRows
+pub mod ChangedTopology
 pub mod RisingLemmas
 pub mod PathLemmas
 pub mod AllPathsLemmas
@@ -21,5 +25,7 @@ pub mod JoinLemmas
 pub mod EdgesOver
 pub mod UsedLemmas
 pub mod GraphLemmas
+pub mod ChangedGraphs
+pub mod CostChangeLemmas
 pub mod ByKey
 pub mod InUseLemmas

@@ -10,4 +10,5 @@ pub mod AreaEdges
 pub mod Joins
 pub mod Rows
 pub mod Graphs
+pub mod CostChanges
 pub mod steps

@@ -5,3 +5,4 @@ pub mod Naming
 pub mod Drafts
 pub mod BackLinks
 pub mod KeyRange
+pub mod CostRows

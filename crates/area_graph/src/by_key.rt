@@ -76,13 +76,14 @@ pub fn lsa_of_vertex<A: Allocator + Copy>(
     // For its LSAs: they are accepted.
     database.known();
     let (least, greatest) = key_range(vertex);
-    let keys = database.keys_between(section, least, greatest);
-    if keys.len() != 1 {
+    let mut keys = database.keys_between(section, least, greatest);
+    let noted = keys.next()?;
+    if keys.next().is_some() {
         return None;
     }
     let slot = SlotId {
         section,
-        index: keys[0].index,
+        index: noted.index,
     };
     live_at(database, slot, vertex)
 }

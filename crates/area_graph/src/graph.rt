@@ -2,8 +2,13 @@
 
 ghost use Rattle.std.specs.Prelude.{◌≡◌, ◌≢◌, ◌<◌, length, slice_get, Some, IfSome, IfNone, Contains, All, AllPairs, option_map};
 ghost use Rattle.area_graph.specs.Vertex.{is_network};
+ghost use Rattle.std.specs.Prelude.{ℕ, List};
+ghost use Rattle.std.specs.Bool.{OnFalse, OnTrue};
 ghost use Rattle.area_graph.specs.Topology.{IsTopology, row_at};
+ghost use Rattle.area_graph.specs.CostChanges.{AreChanged};
+ghost use Rattle.area_graph.specs.Graphs.{AreOfArea, IsGraphOf};
 
+use crate::cost_change::CostChange;
 use crate::edge::Edge;
 use crate::numbers::{Vertices, number_of};
 use crate::rows::Rows;
@@ -72,6 +77,27 @@ impl<A: Allocator + Copy> Graph<A> {
         ensures shape { IsTopology self.now }
     {
         self.networks[index]
+    }
+
+    /// Makes it the graph after a change of the cost of an interface. Whether it does, and else it
+    /// stays: it does where the router and the vertex are in the graph, the cost is not 0, and one
+    /// edge at most leads from the router to the vertex with the Link Data. It takes no memory.
+    pub fn change_cost(&mut self, change: CostChange) -> bool
+        ensures graph { OnTrue result ((lsas others : List (List ℕ)) → AreOfArea others
+            → AreChanged change lsas others → IsGraphOf lsas self.old → IsGraphOf others self.new) }
+        ensures same { OnFalse result (self.new ≡ self.old) }
+    {
+        if change.cost == 0 {
+            return false;
+        }
+        let Some(from) = number_of(&self.vertices, Vertex::Router(change.from)) else {
+            return false;
+        };
+        let Some(to) = number_of(&self.vertices, change.to) else {
+            return false;
+        };
+        self.rows
+            .set_cost(from, to as u16, change.link_data, change.cost)
     }
 
     /// The edges out of the vertex with a number, no two of them equal.

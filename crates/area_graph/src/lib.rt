@@ -5,6 +5,7 @@
 #![tactic(auto)]
 
 // What a graph is.
+mod cost_change;
 mod edge;
 mod fault;
 mod graph;
@@ -28,6 +29,7 @@ mod rows;
 mod laws;
 
 pub use by_key::lsa_of_vertex;
+pub use cost_change::CostChange;
 pub use edge::Edge;
 pub use fault::GraphFault;
 pub use graph::Graph;

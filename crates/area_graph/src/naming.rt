@@ -15,7 +15,7 @@ use lsa_codec::{Addr, Attached, Link, LinkKind, Links, Lsa, RouterId};
 use std::alloc::{AllocError, Allocator};
 
 /// The vertex that a link leads to.
-fn target_of(link: Link) -> Option<Vertex>
+pub(crate) fn target_of(link: Link) -> Option<Vertex>
     ensures { result ≡ target_of link }
 {
     match link.kind {

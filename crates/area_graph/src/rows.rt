@@ -1,10 +1,14 @@
 //! The rows of a graph, one after another in one vector.
 
-ghost use Rattle.std.specs.Prelude.{◌≡◌, true, ◌<◌, ◌++◌, ◌∷◌, [], length, slice_index_or, OnOk, IfOk};
+ghost use Rattle.std.specs.Prelude.{◌≡◌, true, ◌<◌, ◌≤◌, ◌^◌, ◌++◌, ◌∷◌, [], length, map, slice_index_or, slice_set, OnOk, IfOk};
+ghost use Rattle.std.specs.Bool.{OnFalse, OnTrue};
+ghost use Rattle.std.specs.List.{count_by};
 ghost use Rattle.area_graph.specs.Rows.{same_edge, each_once};
+ghost use Rattle.area_graph.specs.steps.CostRows.{leads_to, with_cost};
 
 use crate::edge::Edge;
 use indexmap::IndexSet;
+use lsa_codec::Addr;
 use std::alloc::{AllocError, Allocator};
 use std::hash::{BuildHasherDefault, FoldHasher};
 use std::marker::Model;
@@ -36,7 +40,7 @@ pub(crate) struct Rows<A: Allocator> {
 }
 
 impl<A: Allocator> Model for Rows<A> {
-    ghost use Rattle.std.specs.Prelude.{List, All, length};
+    ghost use Rattle.std.specs.Prelude.{List, All, AllPairs, length, ◌≤◌};
     ghost use Rattle.area_graph.specs.declared.edge.Edge.{Edge as AnyEdge};
     ghost use Rattle.area_graph.specs.steps.Spans.{IsWithin, rows_at};
 
@@ -44,7 +48,8 @@ impl<A: Allocator> Model for Rows<A> {
 
     ghost view = { λ r. rows_at r.edges.items r.spans.items };
 
-    ghost invariant = { λ r. All (IsWithin (length r.edges.items)) r.spans.items };
+    ghost invariant = { λ r. All (IsWithin (length r.edges.items)) r.spans.items
+        × AllPairs (λ a b. a.end ≤ b.start) r.spans.items };
 }
 
 /// How many edges are compared each with each; more are found by a hash.
@@ -89,6 +94,38 @@ fn edge_set<A: Allocator + Copy>(alloc: A, row: &[Edge]) -> Result<EdgeSet<A>, A
     Ok(edges)
 }
 
+/// How many edges of a row lead to the vertex with a number, and carry this Link Data.
+fn count_to(row: &[Edge], to: u16, link_data: Addr) -> usize
+    ensures { result ≡ count_by (leads_to to link_data) row.now }
+{
+    row.iter()
+        .filter(|edge| edge.to == to && edge.link_data == link_data)
+        .count()
+}
+
+/// An edge with another cost, if it leads to the vertex with a number, and carries this Link Data.
+fn with_cost(edge: Edge, to: u16, link_data: Addr, cost: u16) -> Edge
+    ensures { result ≡ with_cost to link_data cost edge }
+{
+    let leads_to = edge.to == to && edge.link_data == link_data;
+    Edge {
+        to: edge.to,
+        cost: if leads_to { cost } else { edge.cost },
+        link_data: edge.link_data,
+    }
+}
+
+/// Gives another cost to the edges of a row that lead to the vertex with a number, and carry this
+/// Link Data.
+fn set_costs(row: &mut [Edge], to: u16, link_data: Addr, cost: u16)
+    ensures { row.new ≡ map (with_cost to link_data cost) row.old }
+{
+    for index in 0..row.len() {
+        let edge = row[index];
+        row[index] = with_cost(edge, to, link_data, cost);
+    }
+}
+
 impl<A: Allocator + Copy> Rows<A> {
     /// No rows, with room for so many.
     pub(crate) fn with_capacity(alloc: A, rows: usize) -> Result<Rows<A>, AllocError>
@@ -114,6 +151,26 @@ impl<A: Allocator + Copy> Rows<A> {
     {
         let span = self.spans[index];
         &self.edges[span.start as usize..span.end as usize]
+    }
+
+    /// Gives another cost to the edge of a row that leads to the vertex with a number, and carries
+    /// this Link Data, unless there are several. Whether there are not. It takes no memory.
+    pub(crate) fn set_cost(&mut self, row: usize, to: u16, link_data: Addr, cost: u16) -> bool
+        requires { row < length self.old }
+        ensures one { OnTrue result (count_by (leads_to to link_data)
+            (slice_index_or self.old row []) ≤ 1) }
+        ensures set { OnTrue result (self.new ≡ slice_set self.old row
+            (map (with_cost to link_data cost) (slice_index_or self.old row []))) }
+        ensures same { OnFalse result (self.new ≡ self.old) }
+        ensures small { cost < 2 ^ 16 }
+    {
+        let span = self.spans[row];
+        let edges = &mut self.edges[span.start as usize..span.end as usize];
+        if count_to(edges, to, link_data) > 1 {
+            return false;
+        }
+        set_costs(edges, to, link_data, cost);
+        true
     }
 
     /// Adds a row.

@@ -19,6 +19,7 @@ pub mod Bounds
 pub mod Sorted
 pub mod Made
 pub mod Searching
+pub mod InUse
 pub mod Indexing
 pub mod Costs
 pub mod Gathered

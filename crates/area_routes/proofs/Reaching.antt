@@ -1,10 +1,10 @@
 -- Vertices that are reached: the step of the loop that collects them, and the distances and hops of an area.
-use Rattle.std.proofs.Common.{◌≡◌, ℕ, ◌+◌, ◌<◌, List, [], ◌∷◌, ◌++◌, map, take, get_or, length, Option, None, Some, sym, ap, ◌∙◌}
+use Rattle.std.proofs.Common.{◌≡◌, ℕ, ◌+◌, ◌<◌, List, [], ◌∷◌, ◌++◌, map, take, drop, get_or, length, Option, None, Some, sym, ap, arith, ◌∙◌}
 use Rattle.std.proofs.Math.Path.{fun_ext}
 use Rattle.std.specs.List.{filter_map, cons_option}
 use Rattle.std.specs.Option.{option_map}
 use Rattle.std.proofs.lemmas.Option.{get_or_from_slice_get, slice_get_within}
-use Rattle.std.proofs.lemmas.List.{get_or-map, length-map, take_more}
+use Rattle.std.proofs.lemmas.List.{drop_more, get_or-map, length-drop, length-map, take_more}
 use Rattle.std.proofs.lemmas.Simd.{map-map}
 use Rattle.lsa_codec.specs.declared.address.RouterId.{RouterId}
 use Rattle.area_graph.specs.declared.vertex.Vertex.{Vertex}
@@ -89,3 +89,17 @@ not_reached distance first lsas distances is i lsa at none =
     ap (λ (ds : List (Option ℕ)). get_or ds i None) is ∙ get_or-map (λ l. distance (vertex_of l)) lsas i lsa None lt
     ∙ ap (λ (l : List ℕ). distance (vertex_of l)) (get_or_from_slice_get lsas i lsa lsa at) in
     ap (λ (o : Option ℕ). option_map (λ d. record { lsa = lsa; distance = d; hops = first (vertex_of lsa) }) o) (none ∙ here)
+
+-- the first of the items that are left is the one at their place, and the others are left behind it
+pub next_is : {X : Type 0} (xs : List X) (i : ℕ) (x : X) (rest : List X) → i < length xs → drop i xs ≡ x ∷ rest
+    → (x ≡ get_or xs i x) × (rest ≡ drop (i + 1) xs)
+next_is {X} xs i x rest lt left =
+    let split : x ∷ rest ≡ get_or xs i x ∷ drop (i + 1) xs = sym left ∙ drop_more xs i x lt in
+    (ap (λ (l : List X). get_or l 0 x) split, ap (λ (l : List X). drop 1 l) split)
+
+-- before the end an item is left
+pub none_left : {X : Type 0} (xs : List X) (i : ℕ) → i < length xs → drop i xs ≡ [] → ⊥
+none_left {X} xs i lt none =
+    let left = length-drop i xs in
+    let empty : length (drop i xs) ≡ 0 = ap (λ (l : List X). length l) none in
+    omega (arith, left, empty, lt)

@@ -19,7 +19,7 @@ use Rattle.std.proofs.lemmas.Option.{slice_get-get_or}
 use Rattle.area_routes.specs.Best.{ways_of}
 use Rattle.area_routes.specs.Candidate.{Candidate}
 use Rattle.area_routes.specs.Values.{WayValue}
-use Rattle.area_routes.specs.steps.Merge.{candidate_cmp, contender_cmp, first_hop, fresh, is_last, merge}
+use Rattle.area_routes.specs.steps.Merge.{candidate_cmp, contender_cmp, first_hop, fresh, is_last, key_cmp, merge}
 use Rattle.area_routes.proofs.Merging.{HasWays, all_ways, ways_push}
 use Rattle.area_routes.proofs.RankOrders.{hop_total, rank_total}
 
@@ -262,8 +262,12 @@ module _ {K : Type 0} {R : K → K → Ordering} (o : IsTotalOrder R) where
   keys_up_to k [] a = tt
   keys_up_to k (c ∷ cs) a = (a.0, keys_up_to k cs a.1)
 
+  -- candidates in order stand in order of their keys
+  pub by_keys : (all : List (Candidate K)) → IsSorted (contender_cmp R) all → IsSorted (key_cmp R) all
+  by_keys all up k d low below = first_not_less _ _ (first_not_less (candidate_cmp R (get_or all (k + 1) d) (get_or all k d)) _ (up k d low below))
+
   -- the key of none stands behind that of one that comes later
-  pub up_to : (all : List (Candidate K)) (i : ℕ) (x : Candidate K) → IsSorted (contender_cmp R) all → i < length all → x ≡ get_or all i x
+  pub up_to : (all : List (Candidate K)) (i : ℕ) (x : Candidate K) → IsSorted (key_cmp R) all → i < length all → x ≡ get_or all i x
       → UpTo R x.key (map (λ c. c.key) (take i all))
   up_to all i x up l e =
       keys_up_to x.key (take i all) (recursion_from_All (λ c. is_gt (R c.key x.key) ≡ false) (take i all)
@@ -271,10 +275,8 @@ module _ {K : Type 0} {R : K → K → Ordering} (o : IsTotalOrder R) where
       let within : k < i = omega (arith, below, length-take i all) in
       let same : get_or all k d ≡ get_or (take i all) k d = sym (get_or-take i all k d within) in
       let here : get_or all i d ≡ x = get_or_default all i d x l ∙ sym e in
-      let far : is_lt (contender_cmp R (get_or all i d) (get_or all k d)) ≡ false =
-      sorted_far (λ a b. is_lt (contender_cmp R a b)) (ranks_by contender_total (λ a. a)) all up k i d (omega arith) l in
       let not_less : is_lt (R (get_or all i d).key (get_or all k d).key) ≡ false =
-      first_not_less _ _ (first_not_less (candidate_cmp R (get_or all i d) (get_or all k d)) _ far) in
+      sorted_far (λ a b. is_lt (key_cmp R a b)) (ranks_by o (λ a. a.key)) all up k i d (omega arith) l in
       let apart : is_gt (R (get_or all k d).key (get_or all i d).key) ≡ false =
       ap is_gt (o.antisymm (get_or all k d).key (get_or all i d).key) ∙ gt_back (R (get_or all i d).key (get_or all k d).key) ∙ not_less in
       let P : Candidate K → Type 0 = λ z. is_gt (R z.key x.key) ≡ false in

@@ -1,6 +1,6 @@
 //! The best ways to each destination, of any number of candidates.
 
-ghost use Rattle.std.specs.Prelude.{◌≡◌, ◌++◌, ◌∷◌, [], List, OnOk, OnErr, IfOk, IsPermutation, Some, map};
+ghost use Rattle.std.specs.Prelude.{◌≡◌, ◌++◌, ◌∷◌, [], true, List, OnOk, OnErr, IfOk, IsPermutation, Some, map};
 ghost use Rattle.std.specs.List.Sorted.{IsSorted, IsStrictlySortedBy};
 ghost use Rattle.std.specs.Map.{keys_of};
 ghost use Rattle.std.proofs.lemmas.Map.Lookups.{CmpEqualImpliesEq};
@@ -8,7 +8,7 @@ ghost use Rattle.next_hops.specs.Hop.{extended};
 ghost use Rattle.area_routes.specs.Best.{ways_of, Gathers};
 ghost use Rattle.area_routes.specs.Candidate.{Candidate};
 ghost use Rattle.area_routes.specs.Values.{WayValue};
-ghost use Rattle.area_routes.specs.steps.Merge.{contender_cmp, is_last, merge};
+ghost use Rattle.area_routes.specs.steps.Merge.{contender_cmp, is_last, key_cmp, merge};
 
 use crate::contender::Contender;
 use crate::rank::Rank;
@@ -17,6 +17,9 @@ use lsa_codec::{Addr, AreaId};
 use next_hops::Hop;
 use std::alloc::{AllocError, Allocator, Global};
 use std::marker::Model;
+
+/// As many candidates for one destination are not sorted by what they cost.
+const FEW: usize = 64;
 
 /// Candidates, of which the best ways to each destination are made. Contracts see it as the list of
 /// the candidates that were added.
@@ -136,8 +139,57 @@ impl<'a, K: Ord + Copy + Drop, A: Allocator + Copy> BestWays<'a, K, A> {
             → Gathers cs self.entry → ways.items ≡ ways_of K.cmp cs) }
         ensures sorted { IfOk result (λ ways. IsStrictlySortedBy K.cmp (keys_of ways.items)) }
     {
-        ways_in_order(alloc, &sorted(self.candidates)?)
+        ways_in_order(alloc, &in_order(self.candidates)?)
     }
+}
+
+/// Whether candidates stand in order of their destinations.
+fn is_in_order<K: Ord + Copy + Drop>(candidates: &[Contender<'_, K>]) -> bool
+    ensures { result ≡ true → IsSorted (key_cmp K.cmp) candidates.now }
+{
+    candidates.is_sorted_by(|a, b| !b.key.cmp(&a.key).is_lt())
+}
+
+/// Whether candidates that stand in order of their destinations are few for each. Then their next
+/// hops are soon joined, in whichever order.
+fn has_few_of_each<K: Ord + Copy + Drop>(candidates: &[Contender<'_, K>]) -> bool {
+    for i in FEW..candidates.len() {
+        let (first, last) = (&candidates[i - FEW], &candidates[i]);
+        if first.key == last.key {
+            return false;
+        }
+    }
+    true
+}
+
+/// The candidates in order of their destinations. Those that stand so already are not sorted.
+fn by_destination<'a, K: Ord + Copy + Drop, A: Allocator + Copy>(
+    candidates: Vec<Contender<'a, K>, A>,
+) -> Result<Vec<Contender<'a, K>, A>, AllocError>
+    ensures same { IfOk result (λ ordered. IsPermutation candidates.entry.items ordered.items) }
+    ensures order { IfOk result (λ ordered. IsSorted (key_cmp K.cmp) ordered.items) }
+{
+    if is_in_order(&candidates) {
+        return Ok(candidates);
+    }
+    let mut candidates = candidates;
+    candidates.sort_by(|a, b| a.key.cmp(&b.key))?;
+    Ok(candidates)
+}
+
+/// The candidates in order of their destinations. Where many have the same, they are sorted by what
+/// they cost as well.
+fn in_order<'a, K: Ord + Copy + Drop, A: Allocator + Copy>(
+    candidates: Vec<Contender<'a, K>, A>,
+) -> Result<Vec<Contender<'a, K>, A>, AllocError>
+    ensures same { IfOk result (λ ordered. IsPermutation candidates.entry.items ordered.items) }
+    ensures order { IfOk result (λ ordered. IsSorted (key_cmp K.cmp) ordered.items) }
+{
+    let ordered = by_destination(candidates)?;
+    if has_few_of_each(&ordered) {
+        return Ok(ordered);
+    }
+    sorted(ordered)
 }
 
 /// The candidates in order of their destinations, and those of one from the best on, equal ones by
@@ -153,13 +205,13 @@ fn sorted<'a, K: Ord + Copy + Drop, A: Allocator + Copy>(
     Ok(candidates)
 }
 
-/// The best ways of candidates that stand in order.
+/// The best ways of candidates that stand in order of their destinations.
 fn ways_in_order<K: Ord + Copy + Drop, A: Allocator + Copy>(
     alloc: A,
     candidates: &[Contender<'_, K>],
 ) -> Result<Vec<(K, Way<A>), A>, AllocError>
     requires exact { CmpEqualImpliesEq K.cmp }
-    requires order { IsSorted (contender_cmp K.cmp) candidates.now }
+    requires order { IsSorted (key_cmp K.cmp) candidates.now }
     ensures ways { IfOk result (λ ways. ways.items ≡ ways_of K.cmp candidates.now) }
     ensures sorted { IfOk result (λ ways. IsStrictlySortedBy K.cmp (keys_of ways.items)) }
 {

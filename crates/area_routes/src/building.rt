@@ -23,7 +23,7 @@ use crate::area_ways::AreaWays;
 use crate::entry::{EntryKind, RouterEntry};
 use crate::few_reached::few_reached;
 use crate::networks::add_networks;
-use crate::reached::{Reached, reached_vertices};
+use crate::reached::{Reached, reached_of_all, reached_vertices};
 use crate::route::Route;
 use crate::router_entries::add_entries;
 use crate::stub_links::{StubLink, StubLinks};
@@ -52,7 +52,12 @@ fn reached_in<'a, A: Allocator + Copy>(
     if let Some(reached) = few_reached(alloc, database, area, graph, tree, hops)? {
         return Ok(reached);
     }
-    let lsas = used_lsas(alloc, database.lsas(Section::Area(area)))?;
+    let lsas = database.lsas(Section::Area(area));
+    if database.count(Section::Area(area)) == graph.len() {
+        // All of them are in use.
+        return reached_of_all(alloc, lsas, graph.len(), tree, hops);
+    }
+    let lsas = used_lsas(alloc, lsas)?;
     reached_vertices(alloc, &lsas, tree, hops)
 }
 

@@ -9,6 +9,7 @@ ghost use Rattle.area_routes.specs.Reached.{reached_by};
 
 use area_graph::VertexLsa;
 use lsa_codec::{Lsa, Prefix};
+use lsdb::Lsas;
 use next_hops::{Hop, HopList, Hops};
 use spf::Tree;
 use std::alloc::{AllocError, Allocator};
@@ -93,9 +94,27 @@ pub(crate) fn reached_at<'a, A: Allocator + Copy>(
         → slice_get lsas index ≡ Some lsa.now
         → result ≡ reached_by distance first lsa.now }
 {
+    reached_with(lsa.lsa(), tree, hops, index)
+}
+
+/// The vertex with a number, where the tree reaches it. This is its LSA.
+fn reached_with<'a, A: Allocator + Copy>(
+    lsa: &'a Lsa<A>,
+    tree: &Tree<A>,
+    hops: &'a Hops<A>,
+    index: usize,
+) -> Option<Reached<'a, A>>
+    requires tree { index < length tree.now.distances }
+    requires hops { index < length hops.now }
+    ensures { (distance : Vertex → Option ℕ) (first : Vertex → List AnyHop) (lsas : List (List ℕ))
+        → tree.now.distances ≡ map (λ l. distance (vertex_of l)) lsas
+        → hops.now ≡ map (λ l. first (vertex_of l)) lsas
+        → slice_get lsas index ≡ Some lsa.now
+        → result ≡ reached_by distance first lsa.now }
+{
     match tree.distance(index) {
         Some(distance) => Some(Reached {
-            lsa: lsa.lsa(),
+            lsa,
             distance,
             hops: hops.of(index),
         }),
@@ -118,9 +137,39 @@ pub(crate) fn reached_vertices<'a, A: Allocator + Copy>(
         → hops.now ≡ map (λ l. first (vertex_of l)) lsas.now
         → reached.items ≡ filter_map (reached_by distance first) lsas.now) }
 {
-    let mut reached = Vec::new(alloc);
+    let mut reached = Vec::with_capacity(alloc, tree.order().len())?;
     for index in 0..lsas.len() {
         if let Some(vertex) = reached_at(&lsas[index], tree, hops, index) {
+            reached.push(vertex)?;
+        }
+    }
+    Ok(reached)
+}
+
+/// The vertices of an area that a tree reaches, in the order of their numbers, where each of the
+/// LSAs is that of a vertex. There are so many.
+pub(crate) fn reached_of_all<'a, A: Allocator + Copy>(
+    alloc: A,
+    lsas: Lsas<'a, A>,
+    count: usize,
+    tree: &Tree<A>,
+    hops: &'a Hops<A>,
+) -> Result<Vec<Reached<'a, A>, A>, AllocError>
+    requires count { count ≡ length lsas }
+    requires tree { length tree.now.distances ≡ count }
+    requires hops { length hops.now ≡ count }
+    ensures { IfOk result (λ reached. (distance : Vertex → Option ℕ) (first : Vertex → List AnyHop)
+        → tree.now.distances ≡ map (λ l. distance (vertex_of l)) lsas.entry
+        → hops.now ≡ map (λ l. first (vertex_of l)) lsas.entry
+        → reached.items ≡ filter_map (reached_by distance first) lsas.entry) }
+{
+    let mut rest = lsas;
+    let mut reached = Vec::with_capacity(alloc, tree.order().len())?;
+    for index in 0..count {
+        let Some(lsa) = rest.next() else {
+            unreachable!()
+        };
+        if let Some(vertex) = reached_with(lsa, tree, hops, index) {
             reached.push(vertex)?;
         }
     }

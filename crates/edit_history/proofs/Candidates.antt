@@ -1,5 +1,5 @@
 -- The first LSA that is looked for, among the keys of a range.
-use Rattle.std.proofs.Common.{◌≡◌, ℕ, zero, suc, ◌+◌, ◌<◌, ◌≤◌, min, Bool, true, false, cond, List, [], ◌∷◌, length, take, get_or, Option, Some, None, refl, sym, ap, ◌∙◌, subst, arith, ⊎_elim}
+use Rattle.std.proofs.Common.{◌≡◌, ℕ, zero, suc, ◌+◌, ◌<◌, ◌≤◌, min, Bool, true, false, cond, List, [], ◌∷◌, ◌++◌, length, take, get_or, Option, Some, None, refl, sym, ap, ◌∙◌, subst, arith, ⊎_elim}
 use Rattle.std.specs.Prelude.{All, IfSome, IsSome, IsSomeAnd}
 use Rattle.std.specs.List.{find}
 use Rattle.std.proofs.lemmas.Bool.{and_from, and_parts, cases_lt}
@@ -93,28 +93,23 @@ lesser_stands P (Some m) index before here = ⊎_elim
 all_still : (P Q : KeyAt → Type 0) (keys : List KeyAt) → ((e : KeyAt) → P e → Q e) → All P keys → All Q keys
 all_still P Q keys step h k d within = step (get_or keys k d) (h k d within)
 
-module _ (w : Wanted) (d : Places) (section : ℕ) (keys : List KeyAt) (i : ℕ) (e : KeyAt) (first : Option ℕ)
-    (lt : i < length keys) (so_far : IsLeast w d section (take i keys) first) where
-  abbrev noted : KeyAt
-  noted = get_or keys i e
+-- one more is noted
+module _ (w : Wanted) (d : Places) (section : ℕ) (keys : List KeyAt) (noted : KeyAt) (first : Option ℕ) (so_far : IsLeast w d section keys first) where
+  all_more : (P : KeyAt → Type 0) → All P keys → P noted → All P (keys ++ noted ∷ [])
+  all_more P before one = All-append P keys (noted ∷ []) before (All-cons P noted [] one (All-nil P))
 
-  all_more : (P : KeyAt → Type 0) → All P (take i keys) → P noted → All P (take (i + 1) keys)
-  all_more P before one =
-      subst (λ (es : List KeyAt). All P es) (sym (take_more keys i e lt))
-      (All-append P (take i keys) (noted ∷ []) before (All-cons P noted [] one (All-nil P)))
-
-  pub least_hit : (new : ℕ) → new ≡ lesser first (get_or keys i e).index → is_wanted_by_key w d section (get_or keys i e) ≡ true
-      → IsLeast w d section (take (i + 1) keys) (Some new)
+  pub least_hit : (new : ℕ) → new ≡ lesser first noted.index → is_wanted_by_key w d section noted ≡ true
+      → IsLeast w d section (keys ++ noted ∷ []) (Some new)
   least_hit new is hit = rw is (record {
     stands = lesser_stands (λ m. stands_at w d section m ≡ true) first noted.index so_far.stands (and_parts _ _ hit).1;
     least =
         all_more (Comes w d section (Some (lesser first noted.index)))
-        (all_still (Comes w d section first) (Comes w d section (Some (lesser first noted.index))) (take i keys)
+        (all_still (Comes w d section first) (Comes w d section (Some (lesser first noted.index))) keys
         (λ other comes there. lesser_first first noted.index other.index (comes there)) so_far.least)
         (λ _. lesser_second first noted.index);
   })
 
-  pub least_miss : is_wanted_by_key w d section (get_or keys i e) ≡ false → IsLeast w d section (take (i + 1) keys) first
+  pub least_miss : is_wanted_by_key w d section noted ≡ false → IsLeast w d section (keys ++ noted ∷ []) first
   least_miss miss = record {
     stands = so_far.stands;
     least = all_more (Comes w d section first) so_far.least (λ there. absurd (let no' : true ≡ false = sym there ∙ miss in cc));

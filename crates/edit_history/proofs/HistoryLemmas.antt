@@ -1,4 +1,4 @@
--- For callers of a history: how it is linked to its database, the session that it shows, and the areas that its edits touch.
+-- For callers of a history: how it is linked to its database, the session that it shows, which areas its edits touch, and whether they change LSAs of AS scope.
 use Rattle.std.proofs.Common.{◌≡◌, ◌<◌, ◌≤◌, List, [], ◌∷◌, ◌++◌, length, Result, Ok, Err, refl, sym, ap, ◌∙◌, arith, ltb}
 use Rattle.std.specs.Prelude.{reverse}
 use Rattle.std.proofs.lemmas.Bool.{lt-ltb, le-ltb, cond-true, cond-false}
@@ -15,6 +15,7 @@ use Rattle.edit_history.specs.Applied.{Applied}
 use Rattle.edit_history.specs.Journal.{HistoryData, Links, origin}
 use Rattle.edit_history.specs.Session.{Session, session_of, edits_of, edited, accepted, state, most_edits}
 use Rattle.edit_history.proofs.Growing.{grown_stays}
+pub use Rattle.edit_history.proofs.AsScope.{applied_spares_as, grown_same, of_as, redo_spares_as, undo_spares_as}
 pub use Rattle.edit_history.proofs.Folding.{done_accepted, undone_accepted}
 pub use Rattle.edit_history.proofs.Growing.{state_is, recorded}
 pub use Rattle.edit_history.proofs.Keys.{found_passes}

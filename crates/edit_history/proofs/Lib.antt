@@ -17,6 +17,7 @@ pub mod FailureFates
 pub mod OfPrefix
 pub mod PairSwaps
 pub mod RouterSwaps
+pub mod NetworkSwaps
 pub mod FailureRules
 pub mod RoomForLsas
 pub mod Additions
@@ -32,6 +33,7 @@ pub mod RefreshFates
 pub mod SparedFates
 pub mod Sparing
 pub mod Touching
+pub mod AsScope
 pub mod Accepting
 pub mod RefreshSettles
 pub mod RefreshApart

@@ -1,9 +1,9 @@
 -- The first LSA that is looked for, among the places that are noted of its router and its prefix.
-use Rattle.std.proofs.Common.{◌≡◌, ℕ, ◌+◌, ◌<◌, ◌≤◌, Bool, true, false, List, [], ◌∷◌, length, take, get_or, Option, Some, None, ◌==◌, sym, ap, ◌∙◌, subst, arith, ⊎_elim}
+use Rattle.std.proofs.Common.{◌≡◌, ℕ, ◌+◌, ◌<◌, ◌≤◌, Bool, true, false, List, [], ◌∷◌, ◌++◌, length, map, take, get_or, Option, Some, None, ◌==◌, sym, ap, ◌∙◌, subst, arith, ⊎_elim}
 use Rattle.std.specs.Prelude.{All}
 use Rattle.std.specs.List.{find}
 use Rattle.std.proofs.lemmas.Bool.{and_parts, cases_lt, eqb-true}
-use Rattle.std.proofs.lemmas.List.{take_more, get_or-take, get_or_default, length-take}
+use Rattle.std.proofs.lemmas.List.{get_or-take, get_or_default, length-take, map-id, take_all}
 use Rattle.std.proofs.lemmas.List.Elements.{All-append, All-cons, All-nil}
 use Rattle.lsa_codec.specs.declared.address.RouterId.{RouterId}
 use Rattle.lsa_codec.specs.Prefix.{Net}
@@ -24,12 +24,11 @@ NoneStands w d section found = All (λ place. stands_at w d section place.index 
 pub none_first : (w : Wanted) (d : Places) (section : ℕ) → NoneStands w d section []
 none_first w d section = All-nil (λ (place : PlaceOfPrefix). stands_at w d section place.index ≡ false)
 
-pub none_more : (w : Wanted) (d : Places) (section : ℕ) (found : List PlaceOfPrefix) (i : ℕ) (e : PlaceOfPrefix) → i < length found
-    → NoneStands w d section (take i found) → stands_at w d section (get_or found i e).index ≡ false → NoneStands w d section (take (i + 1) found)
-none_more w d section found i e lt before miss =
+pub none_more : (w : Wanted) (d : Places) (section : ℕ) (found : List PlaceOfPrefix) (e : PlaceOfPrefix) → NoneStands w d section found
+    → stands_at w d section e.index ≡ false → NoneStands w d section (found ++ e ∷ [])
+none_more w d section found e before miss =
     let P : PlaceOfPrefix → Type 0 = λ place. stands_at w d section place.index ≡ false in
-    subst (λ (es : List PlaceOfPrefix). All P es) (sym (take_more found i e lt))
-    (All-append P (take i found) (get_or found i e ∷ []) before (All-cons P (get_or found i e) [] miss (All-nil P)))
+    All-append P found (e ∷ []) before (All-cons P e [] miss (All-nil P))
 
 -- ---- all places of the router and the prefix
 
@@ -80,6 +79,16 @@ module _ (w : Wanted) (d : Places) (section : ℕ) (router : RouterId) (net : Ne
       (λ ge. let same : i ≡ n.number = omega arith in omega (arith, n.is e, ap (λ (k : ℕ). (get_or found k e).index) same))
       (cases_lt i n.number))
 
+  -- the next of those that were read
+  pub hit_next : (read : List PlaceOfPrefix) (e : PlaceOfPrefix) → map (λ (place : PlaceOfPrefix). place) read ≡ take (length read) found
+      → length read < length found → e ≡ get_or found (length read) e → NoneStands w d section read → stands_at w d section e.index ≡ true
+      → IsFirstPlace d section (is_wanted w) (slot_of section e.index)
+  hit_next read e so_far lt here before stands =
+      let first = hit (length read) e lt
+      (subst (λ (es : List PlaceOfPrefix). NoneStands w d section es) (sym (map-id read) ∙ so_far) before)
+      (subst (λ (p : PlaceOfPrefix). stands_at w d section p.index ≡ true) here stands) in
+      subst (λ (p : PlaceOfPrefix). IsFirstPlace d section (is_wanted w) (slot_of section p.index)) (sym here) first
+
   pub miss : (i : ℕ) → length found ≤ i → NoneStands w d section (take i found) → find (is_wanted w) (lsas_in d section) ≡ None
   miss i end before = none_at w d section (λ j x at pass.
       let n = noted_at j x at pass in
@@ -87,6 +96,12 @@ module _ (w : Wanted) (d : Places) (section : ℕ) (router : RouterId) (net : Ne
       let le : i ≤ n.number =
       behind i n.number e before n.within (subst (λ (k : ℕ). stands_at w d section k ≡ true) (sym (n.is e)) n.stands) in
       absurd (omega (arith, n.within)))
+
+  pub miss_all : (read : List PlaceOfPrefix) → map (λ (place : PlaceOfPrefix). place) read ≡ found → NoneStands w d section read
+      → find (is_wanted w) (lsas_in d section) ≡ None
+  miss_all read all before =
+      miss (length found) (omega arith)
+      (subst (λ (es : List PlaceOfPrefix). NoneStands w d section es) (sym (map-id read) ∙ all ∙ sym (take_all (length found) found (omega arith))) before)
 
 -- ---- what is looked for is originated by one router for one prefix
 

@@ -1,9 +1,9 @@
 -- The swaps of the places that are noted of a router are those of all places of the section.
-use Rattle.std.proofs.Common.{◌≡◌, ℕ, zero, suc, ◌+◌, ◌-◌, ◌<◌, ◌≤◌, Bool, false, List, [], ◌∷◌, ◌++◌, length, drop, get_or, append_assoc, drop-cons, Option, Some, None, refl, sym, ap, ◌∙◌, subst, arith, ⊎_elim}
+use Rattle.std.proofs.Common.{◌≡◌, ℕ, zero, suc, ◌+◌, ◌-◌, ◌<◌, ◌≤◌, Bool, false, List, [], ◌∷◌, ◌++◌, map, append_assoc, Option, Some, None, refl, sym, ap, ◌∙◌, subst, arith, ⊎_elim}
 use Rattle.std.specs.Prelude.{All, AllPairs, Contains, option_to_list, if◌then◌else◌, ◌==◌}
 use Rattle.std.specs.List.{cons_option}
 use Rattle.std.proofs.lemmas.Bool.{cases_eq, ne_eqb}
-use Rattle.std.proofs.lemmas.List.{append-nil, drop_all}
+use Rattle.std.proofs.lemmas.List.{append-nil, map-id}
 use Rattle.std.proofs.lemmas.List.Elements.{All-contains, All-cons, All-head, All-tail}
 use Rattle.lsa_codec.specs.declared.address.RouterId.{RouterId}
 use Rattle.lsa_codec.specs.Fields.{advertising_router_of}
@@ -145,19 +145,25 @@ found_all router d section name found noted =
       whole = λ k lsa at own. moved found k (0 + k) lsa (omega arith) (noted.whole k lsa at own);
     })
 
-pub found_turn : (router : RouterId) (section : ℕ) (name : Section) (look : ℕ → Option Place) (found : List PlaceOfRouter) (i j : ℕ) (d : PlaceOfRouter)
-    (old new total : List SwapData) → i < length found → j ≡ suc i
-    → let q : PlaceOfRouter = get_or found i d in new ≡ old ++ option_to_list (place_swap (router_fate router) (slot_of section q.index) name (look q.index))
-    → old ++ found_swaps router section name look (drop i found) ≡ total → new ++ found_swaps router section name look (drop j found) ≡ total
-found_turn router section name look found i j d old new total lt e pushed so_far =
-    let q : PlaceOfRouter = get_or found i d in
-    let rest : List SwapData = found_swaps router section name look (drop j found) in
-    let one : List SwapData = option_to_list (place_swap (router_fate router) (slot_of section q.index) name (look q.index)) in
-    let front : drop i found ≡ q ∷ drop j found = drop-cons found i d lt ∙ ap (λ (k : ℕ). q ∷ drop k found) (sym e) in
-    ap (λ (ss : List SwapData). ss ++ rest) pushed ∙ append_assoc old one rest
-    ∙ sym (ap (λ (qs : List PlaceOfRouter). old ++ found_swaps router section name look qs) front) ∙ so_far
+module _ (router : RouterId) (section : ℕ) (name : Section) (look : ℕ → Option Place) where
+  abbrev one_swap : PlaceOfRouter → List SwapData
+  one_swap q = option_to_list (place_swap (router_fate router) (slot_of section q.index) name (look q.index))
 
-pub found_end : (router : RouterId) (section : ℕ) (name : Section) (look : ℕ → Option Place) (found : List PlaceOfRouter) (i : ℕ) (swaps total : List SwapData)
-    → length found ≤ i → swaps ++ found_swaps router section name look (drop i found) ≡ total → swaps ≡ total
-found_end router section name look found i swaps total end so_far =
-    sym (ap (λ (qs : List PlaceOfRouter). swaps ++ found_swaps router section name look qs) (drop_all i found end) ∙ append-nil swaps) ∙ so_far
+  found_push : (read : List PlaceOfRouter) (q : PlaceOfRouter)
+      → found_swaps router section name look (read ++ q ∷ []) ≡ found_swaps router section name look read ++ one_swap q
+  found_push [] q = append-nil (one_swap q)
+  found_push (p ∷ ps) q =
+      ap (λ (ss : List SwapData). one_swap p ++ ss) (found_push ps q) ∙ sym (append_assoc (one_swap p) (found_swaps router section name look ps) (one_swap q))
+
+  -- one more was read
+  pub found_turn : (read : List PlaceOfRouter) (q : PlaceOfRouter) (start old new : List SwapData) → new ≡ old ++ one_swap q
+      → old ≡ start ++ found_swaps router section name look read → new ≡ start ++ found_swaps router section name look (read ++ q ∷ [])
+  found_turn read q start old new pushed so_far =
+      pushed ∙ ap (λ (ss : List SwapData). ss ++ one_swap q) so_far ∙ append_assoc start (found_swaps router section name look read) (one_swap q)
+      ∙ ap (λ (ss : List SwapData). start ++ ss) (sym (found_push read q))
+
+  -- all were read
+  pub found_end : (read found : List PlaceOfRouter) (start swaps : List SwapData) → map (λ (q : PlaceOfRouter). q) read ≡ found
+      → swaps ≡ start ++ found_swaps router section name look read → swaps ≡ start ++ found_swaps router section name look found
+  found_end read found start swaps all so_far =
+      so_far ∙ ap (λ (qs : List PlaceOfRouter). start ++ found_swaps router section name look qs) (sym (map-id read) ∙ all)

@@ -158,7 +158,7 @@ last_done k rs =
 
 -- ---- the session
 
-back_state : (d : Places) (h : HistoryData) (k : ℕ) → Links d h → state (moved_back k (session_of d h)) ≡ lists_of (origin d (take k h.past))
+pub back_state : (d : Places) (h : HistoryData) (k : ℕ) → Links d h → state (moved_back k (session_of d h)) ≡ lists_of (origin d (take k h.past))
 back_state d h k links =
     let b = both d k h.past links.back in
     ap (after_edits (lists_of (origin d h.past))) (last_done k h.past).before
@@ -180,7 +180,7 @@ undo_spares d h k area links untouched =
     ∙ back_graph area d (take k h.past) links.sound (both d k h.past links.back).first (undo_is d h k area links ∙ untouched)
     ∙ ap (graph_lsas area) (sym (state_is d h links))
 
-first_on : (d : Places) (k : ℕ) (rs : List RecordData) → LinksOn d rs → LinksOn d (take k rs)
+pub first_on : (d : Places) (k : ℕ) (rs : List RecordData) → LinksOn d rs → LinksOn d (take k rs)
 first_on d k rs links = on_front d (take k rs) (drop k rs) (subst (LinksOn d) (sym (take-append-drop k rs)) links)
 
 pub redo_is : (d : Places) (h : HistoryData) (k : ℕ) (area : AreaId) → Links d h
@@ -190,7 +190,7 @@ redo_is d h k area links =
     ∙ ap (edits_touch area (lists_of d)) (take-map (λ (r : RecordData). r.edit) k h.future)
     ∙ on_touches area d (take k h.future) (first_on d k h.future links.on))
 
-after_append : (db : Lists) (xs ys : List Edit) → after_edits db (xs ++ ys) ≡ after_edits (after_edits db xs) ys
+pub after_append : (db : Lists) (xs ys : List Edit) → after_edits db (xs ++ ys) ≡ after_edits (after_edits db xs) ys
 after_append db [] ys = refl
 after_append db (x ∷ xs) ys = after_append (unless_refused db (effect db x)) xs ys
 

@@ -1,6 +1,6 @@
 -- A record's swaps: each exchanges what it holds with what stands at its place. They are done from the
 -- first to the last, and undone from the last to the first.
-use Rattle.std.specs.Prelude.{◌≡◌, ℕ, Bool, List, [], ◌∷◌, None, IsSome, unwrap_or}
+use Rattle.std.specs.Prelude.{◌≡◌, ℕ, Bool, List, [], ◌∷◌, None, IsSome, nat_le, unwrap_or}
 use Rattle.std.specs.List.{list_any}
 use Rattle.lsa_codec.specs.declared.address.AreaId.{AreaId}
 use Rattle.lsdb.specs.declared.section.Section.{Section}
@@ -26,6 +26,14 @@ pub record RecordData : Type 0 where
 -- whether a router-LSA or network-LSA of the area is among the swaps
 abbrev pub touches : AreaId → RecordData → Bool
 touches area r = list_any (λ (s : SwapData). is_of_graph area s.section s.kind) r.swaps
+
+-- whether the place stands behind the areas, of which the database has so many, among those of AS scope
+abbrev pub is_of_as_scope : ℕ → SwapData → Bool
+is_of_as_scope areas s = nat_le areas s.slot.section
+
+-- whether an LSA of AS scope is among the swaps
+abbrev pub changes_as_scope : ℕ → RecordData → Bool
+changes_as_scope areas r = list_any (is_of_as_scope areas) r.swaps
 
 -- the swap once it has taken what stands at its place
 abbrev pub taken : Places → SwapData → SwapData

@@ -162,46 +162,52 @@ fn add_swap<A: Allocator + Copy>(
     Ok(())
 }
 
-/// Adds the swaps of the places of a section, by its number and its name. The error is want of
-/// memory.
-fn add_swaps<A: Allocator + Copy>(
+/// Adds the swaps of the places of a section where a network goes, by the section's number and its
+/// name. It looks at the LSAs alone that may be of the network. The error is want of memory.
+fn add_swaps_of_network<A: Allocator + Copy>(
     database: &Database<A>,
     number: usize,
     section: Section,
-    failure: Failure,
+    network: Addr,
     swaps: &mut Vec<Swap<A>, A>,
 ) -> Result<(), EditFault>
     requires { IsSome (item_at database.now number) }
     ensures swaps { OnOk result
         (swaps.new.items ≡ swaps.old.items
-        ++ section_swaps (fate_by failure) number section 0 (places_in database.now number)) }
+        ++ section_swaps (net_fate network) number section 0 (places_in database.now number)) }
     ensures memory { IfErr result (λ fault. fault ≡ OutOfMemory) }
 {
-    for index in 0..database.place_count(number) {
+    let filters = database.transit_filters(number);
+    for index in 0..filters.len() {
+        let filter = &filters[index];
+        if !filter.may_have(network) {
+            continue;
+        }
         let slot = SlotId {
             section: number,
             index,
         };
-        add_swap(database, slot, section, failure, swaps)?;
+        add_swap(database, slot, section, Failure::Network(network), swaps)?;
     }
     Ok(())
 }
 
-/// The swaps of the places of an area, by its number and its ID. The error is want of memory.
-fn swaps_in<A: Allocator + Copy>(
+/// The swaps of the places of an area where a network goes, by the area's number and its ID. The
+/// error is want of memory.
+fn swaps_of_network<A: Allocator + Copy>(
     database: &Database<A>,
     number: usize,
     area: AreaId,
-    failure: Failure,
+    network: Addr,
 ) -> Result<Vec<Swap<A>, A>, EditFault>
     requires { IsSome (item_at database.now number) }
     ensures swaps { IfOk result
         (λ v. v.items
-        ≡ section_swaps (fate_by failure) number (Area area) 0 (places_in database.now number)) }
+        ≡ section_swaps (net_fate network) number (Area area) 0 (places_in database.now number)) }
     ensures memory { IfErr result (λ fault. fault ≡ OutOfMemory) }
 {
     let mut swaps = Vec::new(database.alloc());
-    add_swaps(database, number, Section::Area(area), failure, &mut swaps)?;
+    add_swaps_of_network(database, number, Section::Area(area), network, &mut swaps)?;
     Ok(swaps)
 }
 
@@ -314,7 +320,7 @@ pub(crate) fn plan_fail_net<A: Allocator + Copy>(
     let Some(_) = first(database, Section::Area(area), &Wanted::Network(network)) else {
         return Err(EditFault::NoNetwork);
     };
-    swaps_in(database, number, area, Failure::Network(network))
+    swaps_of_network(database, number, area, network)
 }
 
 /// The name of a section, by its number.

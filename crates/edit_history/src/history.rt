@@ -2,7 +2,7 @@
 
 ghost use Rattle.std.specs.Prelude.{◌≡◌};
 ghost use Rattle.std.specs.List.{list_any};
-ghost use Rattle.edit_history.specs.Exchange.{touches};
+ghost use Rattle.edit_history.specs.Exchange.{changes_as_scope, touches};
 
 use crate::fault::{RedoFault, UndoFault};
 use crate::record::{Record, replay, revert};
@@ -16,6 +16,13 @@ fn any_touches<A: Allocator + Copy>(records: &[Record<A>], area: AreaId) -> bool
     ensures { result ≡ list_any (touches area) records.now }
 {
     records.iter().any(|record| record.touches(area))
+}
+
+/// Whether one of some records changes LSAs of AS scope. The database has so many areas.
+fn any_changes_as_scope<A: Allocator + Copy>(records: &[Record<A>], areas: usize) -> bool
+    ensures { result ≡ list_any (changes_as_scope areas) records.now }
+{
+    records.iter().any(|record| record.changes_as_scope(areas))
 }
 
 /// The records of the edits that are done, and of those that were undone since.
@@ -43,10 +50,12 @@ impl<A: Allocator> Model for History<A> {
 }
 
 impl<A: Allocator + Copy> History<A> {
-    ghost use Rattle.std.specs.Prelude.{◌≡◌, ◌+◌, ◌<◌, ◌≤◌, [], ◌∷◌, ◌++◌, length, reverse, OnOk, OnErr, IsOk, ◌↔◌};
+    ghost use Rattle.std.specs.Prelude.{◌≡◌, ◌+◌, ◌<◌, ◌≤◌, [], ◌∷◌, ◌++◌, length, take, reverse, OnOk, OnErr, IsOk, ◌↔◌};
     ghost use Rattle.edit_history.specs.Journal.{Links};
     ghost use Rattle.edit_history.specs.Session.{edits_of, session_of, moved_back, moved_on, undo_touches, redo_touches, StepsBack, StepsOn};
+    ghost use Rattle.std.specs.List.{list_any};
     ghost use Rattle.lsdb.specs.Places.{Places};
+    ghost use Rattle.edit_history.specs.Exchange.{changes_as_scope};
 
     /// No edits. It takes no memory.
     pub fn new(alloc: A) -> History<A>
@@ -200,6 +209,26 @@ impl<A: Allocator + Copy> History<A> {
             → result ≡ undo_touches count area (session_of d self.now.lists) }
     {
         any_touches(&self.records[self.cursor - count..self.cursor], area)
+    }
+
+    /// Whether one of the last `count` done edits rewrote, removed or added an LSA of AS scope, in
+    /// a database of so many areas. Where none did, taking the edits back leaves those LSAs as they
+    /// are. It takes no memory.
+    pub fn undo_changes_as_scope(&self, count: usize, areas: usize) -> bool
+        requires { count ≤ length self.now.lists.past }
+        ensures { result ≡ list_any (changes_as_scope areas) (take count self.now.lists.past) }
+    {
+        any_changes_as_scope(&self.records[self.cursor - count..self.cursor], areas)
+    }
+
+    /// Whether one of the first `count` undone edits rewrites, removes or adds an LSA of AS scope,
+    /// in a database of so many areas. Where none does, carrying the edits out again leaves those
+    /// LSAs as they are. It takes no memory.
+    pub fn redo_changes_as_scope(&self, count: usize, areas: usize) -> bool
+        requires { count ≤ length self.now.lists.future }
+        ensures { result ≡ list_any (changes_as_scope areas) (take count self.now.lists.future) }
+    {
+        any_changes_as_scope(&self.records[self.cursor..self.cursor + count], areas)
     }
 
     /// Whether one of the first `count` undone edits touches an area, as in

@@ -280,7 +280,7 @@ fn first_by_keys<A: Allocator + Copy>(
     let (least, greatest) = wanted.key_range();
     let mut first = None;
     for noted in database.keys_between(section, least, greatest) {
-        if is_wanted_by_key(database, section, noted, wanted) {
+        if is_wanted_by_key(database, section, &noted, wanted) {
             first = Some(lesser(first, noted.index));
         }
     }
@@ -330,7 +330,7 @@ fn are_fewer_of_prefix<A: Allocator + Copy>(
 {
     let (least, greatest) = wanted.key_range();
     let keys = database.keys_between(section, least, greatest);
-    database.places_of_prefix(section, router, prefix).len() <= keys.len()
+    database.places_of_prefix(section, router, prefix).most() <= keys.most()
 }
 
 /// The place of the first LSA of a section that is looked for, by the section's number. It looks

@@ -1,7 +1,7 @@
 //! The record of an edit that was carried out.
 
 ghost use Rattle.std.specs.Prelude.{◌≡◌, ◌∷◌, [], IfSome, length};
-ghost use Rattle.edit_history.specs.Exchange.{CanDo, CanUndo, done_places, done_swaps, undone_places, redone, undone, touches};
+ghost use Rattle.edit_history.specs.Exchange.{CanDo, CanUndo, changes_as_scope, done_places, done_swaps, undone_places, redone, undone, touches};
 
 use crate::swap::{Swap, do_swaps, undo_swaps};
 use edit_script::Edit;
@@ -73,6 +73,13 @@ impl<A: Allocator + Copy> Record<A> {
         ensures { result ≡ touches area self.now }
     {
         self.swaps.iter().any(|swap| swap.touches(area))
+    }
+
+    /// Whether an LSA of AS scope was among them. The database has so many areas.
+    pub fn changes_as_scope(&self, areas: usize) -> bool
+        ensures { result ≡ changes_as_scope areas self.now }
+    {
+        self.swaps.iter().any(|swap| swap.is_of_as_scope(areas))
     }
 }
 

@@ -4,7 +4,7 @@ ghost use Rattle.std.specs.Prelude.{◌≡◌, ◌∷◌, [], IsSome, IfSome, If
 ghost use Rattle.lsdb.specs.Lists.{IsDatabase};
 ghost use Rattle.lsdb.specs.Places.{put, slot_at, lists_of};
 ghost use Rattle.edit_history.specs.Effect.{is_of_graph};
-ghost use Rattle.edit_history.specs.Exchange.{CanDo, CanUndo, taken, done_places, done_swaps, undone_places, undone_swaps};
+ghost use Rattle.edit_history.specs.Exchange.{CanDo, CanUndo, is_of_as_scope, taken, done_places, done_swaps, undone_places, undone_swaps};
 
 use lsa_codec::{AreaId, Lsa};
 use lsdb::{Database, Section, SlotId};
@@ -65,6 +65,14 @@ impl<A: Allocator + Copy> Swap<A> {
             Section::Area(id) => id == area && matches!(self.kind, 1 | 2),
             Section::AsWide => false,
         }
+    }
+
+    /// Whether its place is one of AS scope, which stand behind those of the areas. The database
+    /// has so many areas.
+    pub(crate) fn is_of_as_scope(&self, areas: usize) -> bool
+        ensures { result ≡ is_of_as_scope areas self.now }
+    {
+        areas <= self.slot.section
     }
 
     /// Exchanges what stands at the place.

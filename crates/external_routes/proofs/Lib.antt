@@ -4,6 +4,7 @@ pub mod Orders
 pub mod Marks
 pub mod Longest
 pub mod Small
+pub mod Listed
 pub mod Whole
 pub mod AsbrMaps
 pub mod UnmarkedLengths

@@ -20,9 +20,11 @@ mod due_metric;
 
 // The paths of AS-external-LSAs, and the routes that they make.
 mod candidates;
+mod external_lsas;
 mod routes;
 
 pub use choose::preferred;
 pub use coverage::{covered, is_calculated};
 pub use due_metric::{asbr_of_summary, due, is_among, metric_for};
+pub use external_lsas::{ExternalLsa, ExternalLsas};
 pub use routes::externals;

@@ -2,32 +2,36 @@
 
 ghost use Rattle.std.specs.Prelude.{◌≡◌, ◌^◌, IfOk};
 ghost use Rattle.std.specs.List.{filter_map};
+ghost use Rattle.lsdb.specs.declared.section.Section.TheVariants.{AsWide};
+ghost use Rattle.lsdb.specs.Lists.{lsas_of};
 ghost use Rattle.lsdb.specs.Places.{lists_of};
 ghost use Rattle.area_routes.specs.Best.{Gathers};
 ghost use Rattle.area_routes.specs.Values.{RoutesBelow};
-ghost use Rattle.external_routes.specs.External.{external_candidate, externals_of};
+ghost use Rattle.external_routes.specs.External.{externals_of};
+ghost use Rattle.external_routes.specs.ExternalLsas.{AreExternalLsasOf};
+ghost use Rattle.external_routes.specs.steps.Paths.{candidate_of};
 
 use crate::candidates::add_external_candidate;
+use crate::external_lsas::{ExternalLsa, ExternalLsas};
 use crate::flooding::is_attached_outside_stubs;
 use crate::inside::Inside;
 use area_routes::{BestWays, InsideRoutes, RouterEntries, Routes};
 use lsa_codec::{Prefix, RouterId};
-use lsdb::{Database, Lsas, Section};
+use lsdb::{Database, Section};
 use std::alloc::{AllocError, Allocator};
 
-/// Takes what LSAs offer into account, one after another. There are about so many.
+/// Takes what AS-external-LSAs offer into account, one after another.
 fn ways_of<'a, A: Allocator + Copy>(
     alloc: A,
-    lsas: Lsas<'_, A>,
-    count: usize,
+    lsas: &[ExternalLsa],
     router: RouterId,
     inside: &Inside<'a, A>,
 ) -> Result<BestWays<'a, Prefix, A>, AllocError>
     ensures { IfOk result (λ ways. Gathers
-        (filter_map (external_candidate router inside.now.routes inside.now.entries) lsas.entry)
+        (filter_map (candidate_of router inside.now.routes inside.now.entries) lsas.now)
         ways) }
 {
-    let mut ways = BestWays::with_capacity(alloc, count)?;
+    let mut ways = BestWays::with_capacity(alloc, lsas.len())?;
     for lsa in lsas {
         add_external_candidate(&mut ways, inside, router, lsa)?;
     }
@@ -50,25 +54,24 @@ fn ways_of<'a, A: Allocator + Copy>(
 pub fn externals<A: Allocator + Copy>(
     alloc: A,
     database: &Database<A>,
+    lsas: &ExternalLsas<A>,
     router: RouterId,
     routes: &InsideRoutes<A>,
     entries: &RouterEntries<A>,
 ) -> Result<Routes<A>, AllocError>
+    requires { AreExternalLsasOf (lsas_of AsWide (lists_of database.now)) lsas.now }
     ensures routes { IfOk result (λ found. found
         ≡ externals_of (lists_of database.now) router routes.now entries.now) }
     ensures small { IfOk result (RoutesBelow (2 ^ 35)) }
 {
+    let count = database.count(Section::AsWide);
+    if count == 0 {
+        return Ok(Routes::new(alloc));
+    }
     if !is_attached_outside_stubs(database, router) {
         return Ok(Routes::new(alloc));
     }
     let inside = Inside::new(alloc, routes, entries)?;
-    let count = database.count(Section::AsWide);
-    let ways = ways_of(
-        alloc,
-        database.lsas(Section::AsWide),
-        count,
-        router,
-        &inside,
-    )?;
+    let ways = ways_of(alloc, lsas.as_slice(), router, &inside)?;
     ways.into_routes(alloc)
 }

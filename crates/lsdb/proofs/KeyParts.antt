@@ -1,26 +1,31 @@
 -- The part of the noted keys from one key to another.
-use Rattle.std.proofs.Common.{◌≡◌, ℕ, zero, suc, ◌+◌, ◌-◌, ◌<◌, ◌≤◌, Bool, true, false, List, [], ◌∷◌, length, take, drop, get_or, Some, None, refl, sym, ap, subst, ◌∙◌, arith, ◌⊎◌, inl, inr, ⊎_elim}
+use Rattle.std.proofs.Common.{◌≡◌, ℕ, zero, suc, ◌+◌, ◌-◌, ◌<◌, ◌≤◌, Bool, true, false, List, [], ◌∷◌, ◌++◌, length, take, drop, get_or, Some, None, refl, sym, ap, subst, ◌∙◌, arith, ◌⊎◌, inl, inr, ⊎_elim}
 use Rattle.std.specs.Prelude.{All, Contains}
 use Rattle.std.specs.List.{AllByRecursion}
 use Rattle.std.specs.List.Sorted.{IsPartitionedBy, IsPartitionPoint, IsStrictlySortedBy}
 use Rattle.std.specs.Map.{keys_of}
-use Rattle.std.specs.Ordering.{is_le, is_lt, ordering_reverse}
+use Rattle.std.specs.Cmp.{IsTotalOrder}
+use Rattle.std.specs.Ordering.{is_le, is_lt, nat_cmp, ordering_reverse, ordering_then}
+use Rattle.std.specs.Set.{sorted_merge}
 use Rattle.std.specs.declared.cmp.Ordering.{Ordering}
 use Rattle.std.specs.declared.cmp.Ordering.TheVariants.{Less, Equal, Greater}
 use Rattle.std.proofs.lemmas.Bool.{and_parts, and_from, cases_lt, false≢true}
 use Rattle.std.proofs.lemmas.List.{length-map, length-take, length-drop, get_or-take, get_or-drop}
-use Rattle.std.proofs.lemmas.List.Elements.{All-head, All-tail}
+use Rattle.std.proofs.lemmas.List.Elements.{All-head, All-tail, Contains-append_cases}
+use Rattle.std.proofs.lemmas.Cmp.{nat_cmp_total, on_total, then_total}
+use Rattle.std.proofs.lemmas.Map.Lookups.{CmpEqualImpliesEq, exact_unsigned}
 use Rattle.std.proofs.lemmas.Map.Keys.{Less-from_sorted}
 use Rattle.std.proofs.lemmas.Map.Views.{Contains-from_lookup}
 use Rattle.lsa_codec.specs.declared.key.Key.{Key}
 use Rattle.lsa_codec.specs.Key.{key_of}
 use Rattle.lsa_codec.specs.Order.{key_cmp}
-use Rattle.lsa_codec.proofs.OrderLemmas.{key_total, key_exact}
+use Rattle.lsa_codec.proofs.OrderLemmas.{key_total, key_exact, then_both}
 use Rattle.lsdb.specs.declared.keyed_places.KeyAt.{KeyAt}
-use Rattle.lsdb.specs.KeyRanges.{AreKeysBetween, HaveWidths, IsRising, pairs_of, is_between}
+use Rattle.lsdb.specs.KeyRanges.{AreKeysBetween, HaveWidths, IsRising, noted_cmp, pairs_of, is_between}
 use Rattle.lsdb.specs.Places.{Place, item_at, full}
 use Rattle.lsdb.specs.steps.NotedKeys.{AreNoted, IsPartBetween}
 use Rattle.lsdb.proofs.KeyLemmas.{same_key_true}
+use Rattle.lsdb.proofs.MergedLists.{every_merged, in_either, rising_merged}
 
 -- ---- tests of two keys
 
@@ -162,11 +167,12 @@ at_pair [] k e h = refl
 at_pair (x ∷ xs) zero e h = λ i. record { key = (h i).0; index = (h i).1 }
 at_pair (x ∷ xs) (suc k) e h = at_pair xs k e h
 
-noted_there : (ps : List Place) (keys : List KeyAt) (i : ℕ) (lsa : List ℕ) → AreNoted ps keys → item_at ps i ≡ Some (Some lsa)
-    → Contains keys (record { key = key_of lsa; index = i })
-noted_there ps keys i lsa sound at =
-    let found = Contains-from_lookup same_key_true (key_of lsa) i (pairs_of keys) (sound.whole i lsa at) in
-    (found.0, omega (arith, found.1, length-map {B = Key × ℕ} keys (λ noted. (noted.key, noted.index))), at_pair keys found.0 _ found.2)
+noted_there : (ps : List Place) (keys latest : List KeyAt) (i : ℕ) (lsa : List ℕ) → AreNoted ps keys latest → item_at ps i ≡ Some (Some lsa)
+    → Contains (latest ++ keys) (record { key = key_of lsa; index = i })
+noted_there ps keys latest i lsa sound at =
+    let all : List KeyAt = latest ++ keys in
+    let found = Contains-from_lookup same_key_true (key_of lsa) i (pairs_of all) (sound.whole i lsa at) in
+    (found.0, omega (arith, found.1, length-map {B = Key × ℕ} all (λ noted. (noted.key, noted.index))), at_pair all found.0 _ found.2)
 
 all_full : (P : List ℕ → Type 0) (ps : List Place) (i : ℕ) (lsa : List ℕ) → All P (full ps) → item_at ps i ≡ Some (Some lsa) → P lsa
 all_full P [] i lsa h at = absurd cc
@@ -175,11 +181,34 @@ all_full P (Some x ∷ ps) zero lsa h at = let same : x ≡ lsa = cc in subst P 
 all_full P (None ∷ ps) (suc i) lsa h at = all_full P ps i lsa h at
 all_full P (Some x ∷ ps) (suc i) lsa h at = all_full P ps i lsa (All-tail P x (full ps) h) at
 
-pub keys_between : (ps : List Place) (keys part : List KeyAt) (low high : Key) → AreNoted ps keys → All HaveWidths (full ps)
-    → IsPartBetween keys low high part → AreKeysBetween ps low high part
-keys_between ps keys part low high sound widths between = record {
-  rising = between.rising;
-  within = between.within;
-  whole = λ i lsa at inside. between.whole (record { key = key_of lsa; index = i }) (noted_there ps keys i lsa sound at) inside;
+-- ---- the part of the latest, and that of the others
+
+all_later : (x : KeyAt) (xs : List KeyAt) → AllByRecursion (λ y. key_cmp x.key y ≡ Less) (keys_of (pairs_of xs)) → AllByRecursion (λ y. noted_cmp x y ≡ Less) xs
+all_later x [] all = tt
+all_later x (y ∷ ys) all = (ap (λ (o : Ordering). ordering_then o (nat_cmp x.index y.index)) all.0, all_later x ys all.1)
+
+rising_noted : (xs : List KeyAt) → IsRising xs → IsStrictlySortedBy noted_cmp xs
+unfolding IsStrictlySortedBy
+rising_noted [] rising = tt
+rising_noted (x ∷ xs) rising = (all_later x xs rising.0, rising_noted xs rising.1)
+
+noted_total : IsTotalOrder noted_cmp
+noted_total = then_total (on_total (λ (noted : KeyAt). noted.key) key_total) (on_total (λ (noted : KeyAt). noted.index) nat_cmp_total)
+
+noted_exact : CmpEqualImpliesEq noted_cmp
+noted_exact a b h =
+    let same = then_both (key_cmp a.key b.key) (nat_cmp a.index b.index) h in
+    λ i. record { key = key_exact a.key b.key same.0 i; index = exact_unsigned a.index b.index same.1 i }
+
+pub keys_between : (ps : List Place) (keys latest part other : List KeyAt) (low high : Key) → AreNoted ps keys latest → All HaveWidths (full ps)
+    → IsPartBetween keys low high part → IsPartBetween latest low high other → AreKeysBetween ps low high (sorted_merge noted_cmp true part other)
+keys_between ps keys latest part other low high sound widths between last = record {
+  rising = rising_merged noted_cmp noted_total part other (rising_noted part between.rising) (rising_noted other last.rising);
+  within = every_merged noted_cmp (λ noted. is_between low high noted.key ≡ true) part other between.within last.within;
+  whole = λ i lsa at inside.
+      let e : KeyAt = record { key = key_of lsa; index = i } in
+      in_either noted_cmp noted_exact part other e
+      (⊎_elim (λ there. inr (last.whole e there inside)) (λ there. inl (between.whole e there inside))
+      (Contains-append_cases latest keys e (noted_there ps keys latest i lsa sound at)));
   widths = λ i lsa at. all_full HaveWidths ps i lsa widths at;
 }

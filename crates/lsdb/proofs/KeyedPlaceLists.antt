@@ -10,14 +10,14 @@ use Rattle.lsdb.specs.declared.keyed_places.KeyAt.{KeyAt}
 use Rattle.lsdb.specs.Lists.{same_key, has_key}
 use Rattle.lsdb.specs.Places.{Place, item_at, put_place, full}
 use Rattle.lsdb.specs.steps.OnePlace.{place_has_key, IsFirstIndex}
-use Rattle.lsdb.specs.steps.NotedKeys.{noted_index, AreApart, AreNoted, FitSection, IsKeyed, IsFoundAt, IsGapFor, Notes}
+use Rattle.lsdb.specs.steps.NotedKeys.{noted_index, AreApart, AreNoted, FitSection, IsKeyed, Notes}
 use Rattle.lsdb.specs.declared.counts.LsaCounts.{LsaCounts}
 use Rattle.lsdb.specs.Counts.{counts_of}
 use Rattle.lsdb.specs.KeyRanges.{HaveWidths}
 use Rattle.lsdb.specs.steps.Counting.{CanAdd, CanTake, with_counts, without_counts}
 use Rattle.lsdb.proofs.CountedLsas.{counts_at, counts_fit, counts_put, full_more}
 use Rattle.lsdb.proofs.KeyLemmas.{same_key_true}
-use Rattle.lsdb.proofs.NotedKeys.{laws, noted_at, none_noted_in_gap}
+use Rattle.lsdb.proofs.NotedKeys.{laws, notes_among}
 use Rattle.lsdb.proofs.KeysFrom.{one_place}
 use Rattle.lsdb.proofs.Searching.{turn}
 use Rattle.lsdb.proofs.Full.{full-skip}
@@ -52,47 +52,39 @@ by_truth true h = h refl
 by_truth false h = refl
 
 -- an LSA that has the key stands at the place that is noted of it
-noted_of : (ps : List Place) (keys : List KeyAt) (key : Key) (j : ℕ) (x : List ℕ) → AreNoted ps keys → item_at ps j ≡ Some (Some x)
-    → has_key key x ≡ true → noted_index keys key ≡ Some j
-noted_of ps keys key j x sound at has = ap (noted_index keys) (sym (same_key_true (key_of x) key has)) ∙ sound.whole j x at
-
-missing_in_gap : (ps : List Place) (keys : List KeyAt) (key : Key) (at : ℕ) → AreNoted ps keys → IsGapFor keys key at → find (has_key key) (full ps) ≡ None
-missing_in_gap ps keys key at sound gap =
-    none_found ps key (λ j x at_j. by_truth (has_key key x) (λ has.
-    let both : None ≡ Some j = sym (none_noted_in_gap keys key at gap) ∙ noted_of ps keys key j x sound at_j has in
-    absurd cc))
+noted_of : (ps : List Place) (keys latest : List KeyAt) (key : Key) (j : ℕ) (x : List ℕ) → AreNoted ps keys latest → item_at ps j ≡ Some (Some x)
+    → has_key key x ≡ true → noted_index (latest ++ keys) key ≡ Some j
+noted_of ps keys latest key j x sound at has =
+    ap (noted_index (latest ++ keys)) (sym (same_key_true (key_of x) key has)) ∙ sound.whole j x at
 
 has_not : (place : Option Place) (key : Key) (x : List ℕ) → place ≡ Some (Some x) → has_key key x ≡ true
     → ((p : Place) → place ≡ Some p → place_has_key key p ≡ false) → true ≡ false
 has_not place key x is has none = sym has ∙ none (Some x) is
 
--- a search that found nothing
-pub missing_by_search : (ps : List Place) (keys : List KeyAt) (key : Key) (r : Result ℕ ℕ) → AreNoted ps keys → None ≡ result_ok r
-    → IfErr r (IsGapFor keys key) → find (has_key key) (full ps) ≡ None
-missing_by_search ps keys key (Ok at) sound none gap = absurd cc
-missing_by_search ps keys key (Err at) sound none gap = missing_in_gap ps keys key at sound gap
-
--- a search that found the key
-pub found_by_search : (keys : List KeyAt) (key : Key) (r : Result ℕ ℕ) (at : ℕ) → Some at ≡ result_ok r → IfOk r (IsFoundAt keys key) → IsFoundAt keys key at
-found_by_search keys key (Ok i) at is found = subst (IsFoundAt keys key) (let same : i ≡ at = cc in same) found
-found_by_search keys key (Err i) at is found = absurd cc
+-- no index is noted of the key
+pub missing_by_index : (ps : List Place) (keys latest : List KeyAt) (key : Key) → AreNoted ps keys latest → noted_index (latest ++ keys) key ≡ None
+    → find (has_key key) (full ps) ≡ None
+missing_by_index ps keys latest key sound none =
+    none_found ps key (λ j x at_j. by_truth (has_key key x) (λ has.
+    let both : None ≡ Some j = sym none ∙ noted_of ps keys latest key j x sound at_j has in
+    absurd cc))
 
 -- the LSA at the place that is noted has another key, or is gone
-missing_at : (ps : List Place) (keys : List KeyAt) (key : Key) (at : ℕ) (e : KeyAt) → AreNoted ps keys → IsFoundAt keys key at
-    → e ≡ get_or keys at e → ((p : Place) → item_at ps e.index ≡ Some p → place_has_key key p ≡ false) → find (has_key key) (full ps) ≡ None
-missing_at ps keys key at e sound pair is none =
+missing_at : (ps : List Place) (keys latest : List KeyAt) (key : Key) (i : ℕ) → AreNoted ps keys latest → noted_index (latest ++ keys) key ≡ Some i
+    → ((p : Place) → item_at ps i ≡ Some p → place_has_key key p ≡ false) → find (has_key key) (full ps) ≡ None
+missing_at ps keys latest key i sound is none =
     none_found ps key (λ j x at_j. by_truth (has_key key x) (λ has.
-    let both : Some e.index ≡ Some j = sym (noted_at keys key at e sound.rising pair is) ∙ noted_of ps keys key j x sound at_j has in
-    let same : e.index ≡ j = cc in
-    has_not (item_at ps e.index) key x (ap (item_at ps) same ∙ at_j) has none))
+    let both : Some i ≡ Some j = sym is ∙ noted_of ps keys latest key j x sound at_j has in
+    let same : i ≡ j = cc in
+    has_not (item_at ps i) key x (ap (item_at ps) same ∙ at_j) has none))
 
 -- the LSA at the place that is noted has the key: it is the first
-pub found_at : (ps : List Place) (keys : List KeyAt) (key : Key) (i : ℕ) (p : Place) → AreNoted ps keys
+pub found_at : (ps : List Place) (keys latest : List KeyAt) (key : Key) (i : ℕ) (p : Place) → AreNoted ps keys latest
     → item_at ps i ≡ Some p → place_has_key key p ≡ true → IsFirstIndex ps (has_key key) i
-found_at ps keys key i None sound at has = absurd cc
-found_at ps keys key i (Some lsa) sound at has =
+found_at ps keys latest key i None sound at has = absurd cc
+found_at ps keys latest key i (Some lsa) sound at has =
     let first : find (has_key key) (full ps) ≡ Some lsa = first_found ps i lsa key at has (λ j x lt at_j. by_truth (has_key key x) (λ other.
-    let both : Some j ≡ Some i = sym (noted_of ps keys key j x sound at_j other) ∙ noted_of ps keys key i lsa sound at has in
+    let both : Some j ≡ Some i = sym (noted_of ps keys latest key j x sound at_j other) ∙ noted_of ps keys latest key i lsa sound at has in
     let same : j ≡ i = cc in
     absurd (omega arith))) in
     record { held = at ∙ ap (λ (o : Place). Some o) (sym first); found = some_is (find (has_key key) (full ps)) lsa first } where
@@ -121,44 +113,60 @@ count_after v [] n = refl
 count_after v (p ∷ ps) zero = refl
 count_after v (p ∷ ps) (suc n) = ap suc (count_after v ps n)
 
-pub emptied : (ps : List Place) (n : ℕ) (v : Place) (keys : List KeyAt) → v ≡ None → AreNoted ps keys → AreNoted (put_place v ps n) keys
-emptied ps n v keys is sound = record {
+pub emptied : (ps : List Place) (n : ℕ) (v : Place) (keys latest : List KeyAt) → v ≡ None → AreNoted ps keys latest
+    → AreNoted (put_place v ps n) keys latest
+emptied ps n v keys latest is sound = record {
   rising = sound.rising;
+  latest_rising = sound.latest_rising;
   whole = λ i lsa at. ⊎_elim (λ h. absurd (let e : None ≡ Some lsa = sym is ∙ h.1 in cc)) (λ h. sound.whole i lsa h) (place_after v ps n i lsa at);
 }
 
 -- the LSAs before and after have one key
-pub rewritten : (ps : List Place) (n : ℕ) (old v : Place) (lsa : List ℕ) (keys : List KeyAt) → item_at ps n ≡ Some old → v ≡ Some lsa
-    → place_has_key (key_of lsa) old ≡ true → AreNoted ps keys → AreNoted (put_place v ps n) keys
-rewritten ps n None v lsa keys before is same sound = absurd cc
-rewritten ps n (Some old) v lsa keys before is same sound = record {
+pub rewritten : (ps : List Place) (n : ℕ) (old v : Place) (lsa : List ℕ) (keys latest : List KeyAt) → item_at ps n ≡ Some old → v ≡ Some lsa
+    → place_has_key (key_of lsa) old ≡ true → AreNoted ps keys latest → AreNoted (put_place v ps n) keys latest
+rewritten ps n None v lsa keys latest before is same sound = absurd cc
+rewritten ps n (Some old) v lsa keys latest before is same sound = record {
   rising = sound.rising;
+  latest_rising = sound.latest_rising;
   whole = λ i x at. ⊎_elim (λ h.
       let new : lsa ≡ x = (let e : Some lsa ≡ Some x = sym is ∙ h.1 in cc) in
-      ap (noted_index keys) (ap key_of (sym new) ∙ sym (same_key_true (key_of old) (key_of lsa) same)) ∙ sound.whole n old before ∙ ap Some (sym h.0))
+      ap (noted_index (latest ++ keys)) (ap key_of (sym new) ∙ sym (same_key_true (key_of old) (key_of lsa) same)) ∙ sound.whole n old before ∙ ap Some (sym h.0))
       (λ h. sound.whole i x h) (place_after v ps n i x at);
 }
 
--- the place of the new LSA is noted of its key now
-pub noted : (ps : List Place) (n : ℕ) (v : Place) (lsa : List ℕ) (key : Key) (keys new : List KeyAt) → n < length ps → v ≡ Some lsa
-    → key ≡ key_of lsa → AreApart (put_place v ps n) → Notes keys new key n → AreNoted ps keys → AreNoted (put_place v ps n) new
-noted ps n v lsa key keys new lt is named apart notes sound = record {
-  rising = notes.rising;
-  whole = λ i x at. notes.noted (key_of x) ∙ by_test i x at (same_key key (key_of x)) refl;
-} where
+module _ (ps : List Place) (n : ℕ) (v : Place) (lsa : List ℕ) (key : Key) (keys latest : List KeyAt) (lt : n < length ps) (is : v ≡ Some lsa)
+    (named : key ≡ key_of lsa) (sound : AreNoted ps keys latest) where
   here : item_at (put_place v ps n) n ≡ Some (Some lsa)
   here = here_after v ps n lt ∙ ap (λ (p : Place). Some p) is
 
-  by_test : (i : ℕ) (x : List ℕ) → item_at (put_place v ps n) i ≡ Some (Some x) → (b : Bool) → same_key key (key_of x) ≡ b
-      → cond b (Some n) (noted_index keys (key_of x)) ≡ Some i
-  by_test i x at true same =
-      ap Some (one_place (put_place v ps n) apart n i lsa x here at (sym named ∙ same_key_true key (key_of x) same))
-  by_test i x at false other =
-      ⊎_elim (λ h.
-      let new_one : lsa ≡ x = (let e : Some lsa ≡ Some x = sym is ∙ h.1 in cc) in
-      let itself : same_key key (key_of x) ≡ true = ap (λ (k : Key). same_key k (key_of x)) (named ∙ ap key_of new_one) ∙ laws.refl (key_of x) in
-      absurd (let no' : true ≡ false = sym itself ∙ other in cc))
-      (λ h. sound.whole i x h) (place_after v ps n i x at)
+  -- the place of the new LSA is noted of its key now
+  pub noted : (new : List KeyAt) → AreApart (put_place v ps n) → Notes latest new key n → AreNoted (put_place v ps n) keys new
+  noted new apart notes = record {
+    rising = sound.rising;
+    latest_rising = notes.rising;
+    whole = λ i x at. notes_among latest new keys key n notes (key_of x) ∙ by_test i x at (same_key key (key_of x)) refl;
+  } where
+    by_test : (i : ℕ) (x : List ℕ) → item_at (put_place v ps n) i ≡ Some (Some x) → (b : Bool) → same_key key (key_of x) ≡ b
+        → cond b (Some n) (noted_index (latest ++ keys) (key_of x)) ≡ Some i
+    by_test i x at true same =
+        ap Some (one_place (put_place v ps n) apart n i lsa x here at (sym named ∙ same_key_true key (key_of x) same))
+    by_test i x at false other =
+        ⊎_elim (λ h.
+        let new_one : lsa ≡ x = (let e : Some lsa ≡ Some x = sym is ∙ h.1 in cc) in
+        let itself : same_key key (key_of x) ≡ true = ap (λ (k : Key). same_key k (key_of x)) (named ∙ ap key_of new_one) ∙ laws.refl (key_of x) in
+        absurd (let no' : true ≡ false = sym itself ∙ other in cc))
+        (λ h. sound.whole i x h) (place_after v ps n i x at)
+
+  -- the place was noted of the key of the new LSA before
+  pub noted_before : noted_index (latest ++ keys) key ≡ Some n → AreNoted (put_place v ps n) keys latest
+  noted_before has = record {
+    rising = sound.rising;
+    latest_rising = sound.latest_rising;
+    whole = λ i x at. ⊎_elim (λ h.
+        let new_one : lsa ≡ x = (let e : Some lsa ≡ Some x = sym is ∙ h.1 in cc) in
+        ap (noted_index (latest ++ keys)) (sym (named ∙ ap key_of new_one)) ∙ has ∙ ap Some (sym h.0))
+        (λ h. sound.whole i x h) (place_after v ps n i x at);
+  }
 
 -- ---- widths
 
@@ -194,15 +202,15 @@ not_beyond [] i p at = absurd cc
 not_beyond (q ∷ ps) zero p at = omega arith
 not_beyond (q ∷ ps) (suc i) p at = omega (arith, not_beyond ps i p at)
 
-pub missing_beyond : (ps : List Place) (keys : List KeyAt) (key : Key) (at : ℕ) (e : KeyAt) → AreNoted ps keys → IsFoundAt keys key at
-    → e ≡ get_or keys at e → length ps ≤ e.index → find (has_key key) (full ps) ≡ None
-missing_beyond ps keys key at e sound pair is far =
-    missing_at ps keys key at e sound pair is (λ p here. absurd (omega (arith, not_beyond ps e.index p here)))
+pub missing_beyond : (ps : List Place) (keys latest : List KeyAt) (key : Key) (i : ℕ) → AreNoted ps keys latest → noted_index (latest ++ keys) key ≡ Some i
+    → length ps ≤ i → find (has_key key) (full ps) ≡ None
+missing_beyond ps keys latest key i sound is far =
+    missing_at ps keys latest key i sound is (λ p here. absurd (omega (arith, not_beyond ps i p here)))
 
-pub missing_other : (ps : List Place) (keys : List KeyAt) (key : Key) (at : ℕ) (e : KeyAt) (q : Place) → AreNoted ps keys → IsFoundAt keys key at
-    → e ≡ get_or keys at e → item_at ps e.index ≡ Some q → place_has_key key q ≡ false → find (has_key key) (full ps) ≡ None
-missing_other ps keys key at e q sound pair is stands other =
-    missing_at ps keys key at e sound pair is (λ p here.
+pub missing_other : (ps : List Place) (keys latest : List KeyAt) (key : Key) (i : ℕ) (q : Place) → AreNoted ps keys latest
+    → noted_index (latest ++ keys) key ≡ Some i → item_at ps i ≡ Some q → place_has_key key q ≡ false → find (has_key key) (full ps) ≡ None
+missing_other ps keys latest key i q sound is stands other =
+    missing_at ps keys latest key i sound is (λ p here.
     let same : p ≡ q = (let both : Some p ≡ Some q = sym here ∙ stands in cc) in
     ap (place_has_key key) same ∙ other)
 
@@ -231,12 +239,12 @@ module _ (ps : List Place) (n : ℕ) (y x r : Place) (lt : n < length ps) (at : 
   added old others gone come counted went left came sound =
       rw (left, counted, went, came, set_read ps n x r lt is) (counts_fit ps n y x at sound)
 
-  pub keyed_set : (keys : List KeyAt) (room before : ℕ) (old others gone come new : LsaCounts) → AreNoted (put_place x ps n) keys
+  pub keyed_set : (keys latest : List KeyAt) (room before : ℕ) (old others gone come new : LsaCounts) → AreNoted (put_place x ps n) keys latest
       → length ps ≤ before → room ≡ before → old ≡ counts_of (full ps) → gone ≡ counts_of (full (y ∷ [])) → others ≡ without_counts old gone
       → come ≡ counts_of (full (r ∷ [])) → new ≡ with_counts others come → All HaveWidths (full ps) → All HaveWidths (full (x ∷ []))
-      → IsKeyed (set ps n x) keys room new
-  keyed_set keys room before old others gone come new sound few same counted went left came now wide wide_here = record {
-    sound = subst (λ (l : List Place). AreNoted l keys) (sym (place_set x ps n)) sound;
+      → IsKeyed (set ps n x) keys latest room new
+  keyed_set keys latest room before old others gone come new sound few same counted went left came now wide wide_here = record {
+    sound = subst (λ (l : List Place). AreNoted l keys latest) (sym (place_set x ps n)) sound;
     widths =
         subst (λ (l : List Place). All HaveWidths (full l)) (sym (place_set x ps n))
         (widths_put ps n x wide wide_here);
@@ -247,10 +255,11 @@ module _ (ps : List Place) (n : ℕ) (y x r : Place) (lt : n < length ps) (at : 
   }
 
 -- nothing was opened
-pub keyed_kept : (ps qs : List Place) (keys new : List KeyAt) (room : ℕ) (counts : LsaCounts) → qs ≡ ps → new ≡ keys → length ps ≤ room
-    → AreNoted ps keys → All HaveWidths (full ps) → counts ≡ counts_of (full ps) → IsKeyed qs new room counts
-keyed_kept ps qs keys new room counts places noted fits sound wide counted =
-    rw (places, noted) (record { sound = sound; fits = fits; widths = wide; counted = counted })
+pub keyed_kept : (ps qs : List Place) (keys latest new later : List KeyAt) (room : ℕ) (counts : LsaCounts) → qs ≡ ps → new ≡ keys → later ≡ latest
+    → length ps ≤ room
+    → AreNoted ps keys latest → All HaveWidths (full ps) → counts ≡ counts_of (full ps) → IsKeyed qs new later room counts
+keyed_kept ps qs keys latest new later room counts places noted same_latest fits sound wide counted =
+    rw (places, noted, same_latest) (record { sound = sound; fits = fits; widths = wide; counted = counted })
 
 pub opened : (ps : List Place) (i : ℕ) (lsa : List ℕ) → item_at (ps ++ None ∷ []) i ≡ Some (Some lsa) → item_at ps i ≡ Some (Some lsa)
 opened [] zero lsa at = absurd cc
@@ -258,10 +267,14 @@ opened [] (suc i) lsa at = absurd cc
 opened (p ∷ ps) zero lsa at = at
 opened (p ∷ ps) (suc i) lsa at = opened ps i lsa at
 
-pub keyed_open : (ps qs : List Place) (keys : List KeyAt) (room : ℕ) (counts : LsaCounts) → qs ≡ ps ++ None ∷ [] → length ps + 1 ≤ room → AreNoted ps keys
-    → All HaveWidths (full ps) → counts ≡ counts_of (full ps) → IsKeyed qs keys room counts
-keyed_open ps qs keys room counts is few sound wide counted = record {
-  sound = record { rising = sound.rising; whole = λ i lsa at. sound.whole i lsa (opened ps i lsa (sym (ap (λ (l : List Place). item_at l i) is) ∙ at)) };
+pub keyed_open : (ps qs : List Place) (keys latest : List KeyAt) (room : ℕ) (counts : LsaCounts) → qs ≡ ps ++ None ∷ [] → length ps + 1 ≤ room → AreNoted ps keys latest
+    → All HaveWidths (full ps) → counts ≡ counts_of (full ps) → IsKeyed qs keys latest room counts
+keyed_open ps qs keys latest room counts is few sound wide counted = record {
+  sound = record {
+    rising = sound.rising;
+    latest_rising = sound.latest_rising;
+    whole = λ i lsa at. sound.whole i lsa (opened ps i lsa (sym (ap (λ (l : List Place). item_at l i) is) ∙ at));
+  };
   fits = omega (arith, ap length is, length-append ps (None ∷ []), few);
   widths = subst (λ (xs : List (List ℕ)). All HaveWidths xs) (sym (ap (λ (l : List Place). full l) is ∙ full-skip ps)) wide;
   counted = counted ∙ sym (ap (λ (l : List Place). counts_of (full l)) is ∙ ap counts_of (full-skip ps));

@@ -2,7 +2,7 @@
 use Rattle.std.proofs.Common.{◌≡◌, ◌≢◌, ℕ, zero, suc, ◌+◌, ◌<◌, true, false, List, [], ◌∷◌, ◌++◌, map, get_or, drop, length, Some, None, refl, sym, ap, subst, ◌∙◌, arith, append_assoc}
 use Rattle.std.specs.Prelude.{AllPairs}
 use Rattle.std.specs.List.{Contains, IsDistinct}
-use Rattle.std.specs.List.Sorted.{IsPermutation, IsSortedByKey}
+use Rattle.std.specs.List.Sorted.{IsPermutation, IsSortedByKey, IsStrictlySortedBy}
 use Rattle.std.specs.Map.{keys_of}
 use Rattle.std.specs.Ordering.{is_eq, is_lt, ordering_reverse}
 use Rattle.std.specs.declared.cmp.Ordering.{Ordering}
@@ -124,8 +124,12 @@ rising_from keys sorted apart =
     let less : key_cmp a b ≡ Less = by_order (key_cmp a b) (key_cmp b a) (key_total.antisymm b a) (sorted k d (omega arith) within) (is_at_key a b ∙ differ) in
     ap (λ (x : Key). key_cmp x (get_or names (k + 1) some_key)) first ∙ ap (λ (y : Key). key_cmp a y) second ∙ less)
 
+none_rising : IsRising []
+unfolding IsStrictlySortedBy
+none_rising = tt
+
 pub noted_once_sorted : (ps : List Place) (keys : List KeyAt) → AreApart ps → IsPermutation (keys_from 0 ps) keys
-    → IsSortedByKey (λ (e : KeyAt). e.key) key_cmp keys → AreNoted ps keys
+    → IsSortedByKey (λ (e : KeyAt). e.key) key_cmp keys → AreNoted ps keys []
 noted_once_sorted ps keys apart moved sorted =
     let pairs : IsPermutation (pairs_of (keys_from 0 ps)) (pairs_of keys) =
     IsPermutation-map (λ (e : KeyAt). (e.key, e.index)) (keys_from 0 ps) keys moved in
@@ -134,6 +138,7 @@ noted_once_sorted ps keys apart moved sorted =
     (IsPermutation-map (λ (e : Key × ℕ). e.0) (pairs_of (keys_from 0 ps)) (pairs_of keys) pairs) (distinct_from ps apart) in
     record {
       rising = rising_from keys sorted differ;
+      latest_rising = none_rising;
       whole = λ i lsa at. lookup-from_Contains laws (key_of lsa) i (pairs_of keys) differ
           (Contains-permutation (pairs_of (keys_from 0 ps)) (pairs_of keys) (key_of lsa, i) pairs (pair_of 0 i i ps lsa (omega arith) at));
     }

@@ -1,5 +1,5 @@
 -- Noted keys in rising order: what a search finds, and what an edit there does.
-use Rattle.std.proofs.Common.{◌≡◌, ℕ, zero, suc, ◌+◌, ◌<◌, ◌≤◌, Bool, true, false, cond, List, [], ◌∷◌, get_or, set, length, Option, Some, None, Result, Ok, Err, IfOk, IfErr, refl, sym, ap, subst, ◌∙◌, arith, ◌⊎◌, inl, inr, ⊎_elim}
+use Rattle.std.proofs.Common.{◌≡◌, ℕ, zero, suc, ◌+◌, ◌<◌, ◌≤◌, Bool, true, false, cond, List, [], ◌∷◌, ◌++◌, get_or, set, length, Option, Some, None, Result, Ok, Err, IfOk, IfErr, refl, sym, ap, subst, ◌∙◌, arith, ◌⊎◌, inl, inr, ⊎_elim}
 use Rattle.std.specs.List.{AllByRecursion, insert, slice_get, IsDistinct}
 use Rattle.std.specs.List.Sorted.{IsSearchInRange, IsBinarySearchResult, IsSortedBy, IsStrictlySortedBy}
 use Rattle.std.specs.Map.{keys_of, lookup}
@@ -112,6 +112,41 @@ none_in_gap keys key at gap =
 -- nothing is noted of a key that has a gap
 pub none_noted_in_gap : (keys : List KeyAt) (key : Key) (at : ℕ) → IsGapFor keys key at → noted_index keys key ≡ None
 none_noted_in_gap keys key at gap = lookup-none (same_key key) (pairs_of keys) (none_in_gap keys key at gap)
+
+-- ---- the latest keys, and the others
+
+pub noted_front : (xs ys : List KeyAt) (q : Key) (i : ℕ) → noted_index xs q ≡ Some i → noted_index (xs ++ ys) q ≡ Some i
+noted_front [] ys q i is = absurd cc
+noted_front (x ∷ xs) ys q i is = by_test (same_key q x.key) (λ e. noted_front xs ys q i e) is where
+  by_test : (b : Bool) → (noted_index xs q ≡ Some i → noted_index (xs ++ ys) q ≡ Some i) → cond b (Some x.index) (noted_index xs q) ≡ Some i
+      → cond b (Some x.index) (noted_index (xs ++ ys) q) ≡ Some i
+  by_test true rest e = e
+  by_test false rest e = rest e
+
+pub noted_behind : (xs ys : List KeyAt) (q : Key) → noted_index xs q ≡ None → noted_index (xs ++ ys) q ≡ noted_index ys q
+noted_behind [] ys q none = refl
+noted_behind (x ∷ xs) ys q none = by_test (same_key q x.key) (λ e. noted_behind xs ys q e) none where
+  by_test : (b : Bool) → (noted_index xs q ≡ None → noted_index (xs ++ ys) q ≡ noted_index ys q) → cond b (Some x.index) (noted_index xs q) ≡ None
+      → cond b (Some x.index) (noted_index (xs ++ ys) q) ≡ noted_index ys q
+  by_test true rest e = absurd cc
+  by_test false rest e = rest e
+
+pub noted_read : (xs ys first second : List KeyAt) (q : Key) → first ≡ xs → second ≡ ys → noted_index (xs ++ ys) q ≡ noted_index (first ++ second) q
+noted_read xs ys first second q one two =
+    ap (λ (keys : List KeyAt). noted_index (keys ++ ys) q) (sym one) ∙ ap (λ (keys : List KeyAt). noted_index (first ++ keys) q) (sym two)
+
+-- what was noted among the latest is noted of all
+pub notes_among : (old new keys : List KeyAt) (key : Key) (index : ℕ) → Notes old new key index → (q : Key)
+    → noted_index (new ++ keys) q ≡ cond (same_key key q) (Some index) (noted_index (old ++ keys) q)
+notes_among old new keys key index notes q = by_test (same_key key q) (notes.noted q) where
+  by_old : (o : Option ℕ) → noted_index old q ≡ o → noted_index new q ≡ noted_index old q → noted_index (new ++ keys) q ≡ noted_index (old ++ keys) q
+  by_old None is same = noted_behind new keys q (same ∙ is) ∙ sym (noted_behind old keys q is)
+  by_old (Some i) is same = noted_front new keys q i (same ∙ is) ∙ sym (noted_front old keys q i is)
+
+  by_test : (b : Bool) → noted_index new q ≡ cond b (Some index) (noted_index old q)
+      → noted_index (new ++ keys) q ≡ cond b (Some index) (noted_index (old ++ keys) q)
+  by_test true is = noted_front new keys q index is
+  by_test false is = by_old (noted_index old q) refl is
 
 -- ---- another index for a key
 

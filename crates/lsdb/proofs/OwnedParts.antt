@@ -1,17 +1,21 @@
 -- Lists in rising order of owners, and of the indices of one owner: the part of one owner.
-use Rattle.std.proofs.Common.{◌≡◌, ℕ, zero, suc, ◌+◌, ◌-◌, ◌<◌, Bool, true, false, List, [], ◌∷◌, length, take, drop, get_or, refl, sym, ap, subst, ◌∙◌, arith, ◌⊎◌, inl, inr, ⊎_elim}
-use Rattle.std.specs.Prelude.{AllPairs, Contains}
+use Rattle.std.proofs.Common.{◌≡◌, ℕ, zero, suc, ◌+◌, ◌-◌, ◌<◌, Bool, true, false, List, [], ◌∷◌, ◌++◌, length, take, drop, get_or, refl, sym, ap, subst, ◌∙◌, arith, ◌⊎◌, inl, inr, ⊎_elim}
+use Rattle.std.specs.Prelude.{All, AllPairs, Contains}
 use Rattle.std.specs.Cmp.{IsTotalOrder}
+use Rattle.std.specs.List.{AllByRecursion}
 use Rattle.std.specs.List.Sorted.{IsPartitionedBy, IsPartitionPoint, IsStrictlySortedBy}
 use Rattle.std.specs.Ordering.{is_le, is_lt, nat_cmp, ordering_reverse, ordering_then}
+use Rattle.std.specs.Set.{sorted_merge}
 use Rattle.std.specs.declared.cmp.Ordering.{Ordering}
 use Rattle.std.specs.declared.cmp.Ordering.TheVariants.{Less, Equal, Greater}
 use Rattle.std.proofs.lemmas.Bool.{cases_lt, false≢true}
 use Rattle.std.proofs.lemmas.Cmp.{nat_cmp_total, on_total, ranked, then_total}
 use Rattle.std.proofs.lemmas.List.{length-take, length-drop, get_or-take, get_or-drop}
+use Rattle.std.proofs.lemmas.List.Elements.{Contains-append_cases}
 use Rattle.std.proofs.lemmas.Map.Keys.{Less-from_sorted}
 use Rattle.std.proofs.lemmas.Map.Lookups.{CmpEqualImpliesEq}
 use Rattle.lsdb.specs.steps.PlaceIndex.{IsPartOf}
+use Rattle.lsdb.proofs.MergedLists.{every_merged, in_either, rising_merged}
 
 -- ---- an order of owners, and of indices of one owner
 
@@ -41,6 +45,17 @@ unfolding IsStrictlySortedBy
 rising_drop order zero xs rising = rising
 rising_drop order (suc n) [] rising = rising
 rising_drop order (suc n) (x ∷ xs) rising = rising_drop order n xs rising.1
+
+all_take : {X : Type 0} (P : X → Type 0) (n : ℕ) (xs : List X) → AllByRecursion P xs → AllByRecursion P (take n xs)
+all_take P zero xs all = tt
+all_take P (suc n) [] all = tt
+all_take P (suc n) (x ∷ xs) all = (all.0, all_take P n xs all.1)
+
+rising_take : {X : Type 0} (order : X → X → Ordering) (n : ℕ) (xs : List X) → IsStrictlySortedBy order xs → IsStrictlySortedBy order (take n xs)
+unfolding IsStrictlySortedBy
+rising_take order zero xs rising = tt
+rising_take order (suc n) [] rising = tt
+rising_take order (suc n) (x ∷ xs) rising = (all_take (λ y. order x y ≡ Less) n xs rising.0, rising_take order n xs rising.1)
 
 then_less : (o p : Ordering) → ordering_then o p ≡ Less → (o ≡ Less) ⊎ ((o ≡ Equal) × (p ≡ Less))
 then_less Less p h = inl refl
@@ -91,6 +106,27 @@ module _ {X K : Type 0} (owner : X → K) (index : X → ℕ) (order : K → K �
       (λ ge. same_place (is_upto one) xs i j d (omega arith) pass)
       (cases_lt i j)
 
+  -- indices of one owner rise
+  pub rising_owned : (xs : List X) (one : K) → IsStrictlySortedBy (by_owner owner index order) xs → All (λ x. owner x ≡ one) xs
+      → AllPairs (λ a b. index a < index b) xs
+  rising_owned xs one rising own i j d lt within = ⊎_elim
+      (λ less. absurd (let e : Equal ≡ Less =
+      sym (equal_to_self one) ∙ ap (λ (k : K). order k one) (sym (own i d (omega arith)))
+      ∙ ap (order (owner (get_or xs i d))) (sym (own j d within)) ∙ less in cc))
+      (λ same. same.1)
+      (ordered xs i j d rising lt within)
+
+  -- parts of one owner, merged
+  pub parts_merged : (xs ys part other : List X) (one : K) → CmpEqualImpliesEq (by_owner owner index order)
+      → IsPartOf (by_owner owner index order) owner xs one part → IsPartOf (by_owner owner index order) owner ys one other
+      → IsPartOf (by_owner owner index order) owner (ys ++ xs) one (sorted_merge (by_owner owner index order) true part other)
+  parts_merged xs ys part other one names p q = record {
+    rising = rising_merged (by_owner owner index order) (owned_total owner index order total) part other p.rising q.rising;
+    own = every_merged (by_owner owner index order) (λ x. owner x ≡ one) part other p.own q.own;
+    whole = λ x has own. in_either (by_owner owner index order) names part other x
+        (⊎_elim (λ there. inr (q.whole x there own)) (λ there. inl (p.whole x there own)) (Contains-append_cases ys xs x has));
+  }
+
   -- ---- the part of one owner, between two partition points
 
   abbrev StartsAt : K → List X → ℕ → Type 0
@@ -121,23 +157,6 @@ module _ {X K : Type 0} (owner : X → K) (index : X → ℕ) (order : K → K �
         let upto : is_upto one x ≡ true = ap (is_upto one) taken ∙ last.0 k d (omega arith) short.0 in
         record { within = long; same = here; own = exact (owner x) one (neither (order (owner x) one) from upto) }
 
-    rising_part : IsStrictlySortedBy (by_owner owner index order) xs → AllPairs (λ a b. index a < index b) (take end (drop start xs))
-    rising_part rising i j d lt within =
-        let part : List X = take end (drop start xs) in
-        let a = there i d (omega arith) in
-        let b = there j d within in
-        let low : index (get_or part i d) ≡ index (get_or xs (start + i) d) = ap index a.same in
-        let high : index (get_or part j d) ≡ index (get_or xs (start + j) d) = ap index b.same in
-        ⊎_elim
-        (λ less.
-        let first_own : owner (get_or xs (start + i) d) ≡ one = sym (ap owner a.same) ∙ a.own in
-        let second_own : owner (get_or xs (start + j) d) ≡ one = sym (ap owner b.same) ∙ b.own in
-        absurd (let e : Equal ≡ Less =
-        sym (equal_to_self one) ∙ ap (λ (k : K). order k one) (sym first_own)
-        ∙ ap (order (owner (get_or xs (start + i) d))) (sym second_own) ∙ less in cc))
-        (λ same. omega (arith, low, high, same.1))
-        (ordered xs (start + i) (start + j) d rising (omega arith) b.within)
-
     whole_part : (x : X) → Contains xs x → owner x ≡ one → Contains (take end (drop start xs)) x
     whole_part x at own = ⊎_elim
         (λ before.
@@ -158,11 +177,11 @@ module _ {X K : Type 0} (owner : X → K) (index : X → ℕ) (order : K → K �
 
   pub part_of : (xs rest : List X) (one : K) (start end : ℕ) → IsStrictlySortedBy (by_owner owner index order) xs → rest ≡ drop start xs
       → IsPartitionPoint (λ x. is_before one x ≡ true) (λ x. is_before one x ≡ false) xs start
-      → IsPartitionPoint (λ x. is_upto one x ≡ true) (λ x. is_upto one x ≡ false) rest end → IsPartOf owner index xs one (take end rest)
+      → IsPartitionPoint (λ x. is_upto one x ≡ true) (λ x. is_upto one x ≡ false) rest end → IsPartOf (by_owner owner index order) owner xs one (take end rest)
   part_of xs rest one start end rising is first last =
       let ends : EndsAt one (drop start xs) end = subst (λ (es : List X). EndsAt one es end) is last in
-      subst (λ (es : List X). IsPartOf owner index xs one (take end es)) (sym is) (record {
-        rising = rising_part xs one start end first ends rising;
+      subst (λ (es : List X). IsPartOf (by_owner owner index order) owner xs one (take end es)) (sym is) (record {
+        rising = rising_take (by_owner owner index order) end (drop start xs) (rising_drop (by_owner owner index order) start xs rising);
         own = λ k d lt. (there xs one start end first ends k d lt).own;
         whole = whole_part xs one start end first ends;
       })

@@ -3,12 +3,13 @@ use Rattle.std.proofs.Common.{◌≡◌, ℕ, zero, suc, ◌+◌, ◌<◌, ◌�
 use Rattle.std.specs.Prelude.{◌≢◌, Contains}
 use Rattle.std.specs.Cmp.{IsTotalOrder}
 use Rattle.std.specs.List.{AllByRecursion, IsDistinct, cons_option}
-use Rattle.std.specs.List.Sorted.{IsPermutation, IsSorted}
+use Rattle.std.specs.List.Sorted.{IsPermutation, IsSorted, IsStrictlySortedBy}
 use Rattle.std.specs.Ordering.{is_lt, ordering_reverse}
 use Rattle.std.specs.declared.cmp.Ordering.{Ordering}
 use Rattle.std.specs.declared.cmp.Ordering.TheVariants.{Less, Equal, Greater}
 use Rattle.std.proofs.lemmas.Bool.{cases_eq, eq-eqb, ne_eqb}
 use Rattle.std.proofs.lemmas.Cmp.{nat_eq_equiv}
+use Rattle.std.proofs.lemmas.List.Elements.{Contains-append_cases, Contains-append_left, Contains-append_right}
 use Rattle.std.proofs.lemmas.List.Sorted.{Contains-permutation}
 use Rattle.std.proofs.lemmas.Map.Keys.{IsDistinct-IsPermutation, apart_from_distinct, sorted_from_all_adjacent}
 use Rattle.std.proofs.lemmas.Map.Lookups.{CmpEqualImpliesEq}
@@ -62,6 +63,10 @@ there {X} named n zero m (q ∷ ps) p x e at is =
 there named n (suc i) m (q ∷ ps) p x e at is =
     in_cons (named n q) (noted_from named (suc n) ps) x (there named (suc n) i m ps p x (omega arith) at is)
 
+none_sorted : {X : Type 0} (order : X → X → Ordering) → IsStrictlySortedBy order []
+unfolding IsStrictlySortedBy
+none_sorted order = tt
+
 by_order : (o p : Ordering) → p ≡ ordering_reverse o → is_lt p ≡ false → (o ≡ Equal → ⊥) → o ≡ Less
 by_order Less p e h apart = refl
 by_order Equal p e h apart = absurd (apart refl)
@@ -100,7 +105,7 @@ module _ {X : Type 0} (named : ℕ → Place → Option X) (index : X → ℕ) (
 
   pub filled : (order : X → X → Ordering) → IsTotalOrder order → CmpEqualImpliesEq order → X → (ps : List Place) (noted : List X) (room before : ℕ)
       → IsPermutation (noted_from named 0 ps) noted → IsSorted order noted → length ps ≤ before → room ≡ before → length ps ≤ most_places
-      → IsIndex order named ps noted room
+      → IsIndex order named ps noted [] room
   filled order total exact d ps noted room before moved sorted fits same narrow = record {
     rising =
         let apart = IsDistinct-IsPermutation same_index (λ a b. nat_eq_equiv.symm (index a) (index b)) (noted_from named 0 ps) noted moved (differ 0 ps) in
@@ -112,6 +117,7 @@ module _ {X : Type 0} (named : ℕ → Place → Option X) (index : X → ℕ) (
         let no' : eqb (index a) (index b) ≡ false = apart_from_distinct same_index noted k (k + 1) d apart (omega arith) lt in
         let both : true ≡ false = sym yes ∙ no' in
         cc));
+    latest_rising = none_sorted order;
     whole = λ i p x at is. Contains-permutation (noted_from named 0 ps) noted x moved (there named 0 i i ps p x (omega arith) at is);
     fits = omega arith;
     narrow = narrow;
@@ -120,28 +126,46 @@ module _ {X : Type 0} (named : ℕ → Place → Option X) (index : X → ℕ) (
 -- ---- one place
 
 module _ {X : Type 0} (order : X → X → Ordering) (named : ℕ → Place → Option X) where
-  pub noted_there : (ps : List Place) (index : ℕ) (p : Place) (name : X) (noted new : List X) (room before : ℕ) → index < length ps
-      → p ≡ get_or ps index p → named index p ≡ Some name → NotesOne order noted new name → room ≡ before
-      → IsIndexBut order named index ps noted before → IsIndex order named ps new room
-  noted_there ps index p name noted new room before lt here is notes same_room but = record {
-    rising = notes.rising;
+  named_there : (ps : List Place) (index : ℕ) (p : Place) (name : X) (noted latest new : List X) (room : ℕ) → index < length ps
+      → p ≡ get_or ps index p → named index p ≡ Some name → IsStrictlySortedBy order new → Contains (new ++ noted) name
+      → ((x : X) → Contains latest x → Contains new x) → IsIndexBut order named index ps noted latest room → IsIndex order named ps noted new room
+  named_there ps index p name noted latest new room lt here is rising has kept but = record {
+    rising = but.rising;
+    latest_rising = rising;
     whole = λ i q x at named_so. ⊎_elim (λ same.
         let stands : item_at ps index ≡ Some p = (turn ps index (suc index) p lt refl here).here in
         let both : Some p ≡ Some q = sym stands ∙ ap (item_at ps) (sym same) ∙ at in
         let one : p ≡ q = cc in
         let it : Some name ≡ Some x = sym is ∙ ap (named index) one ∙ ap (λ (k : ℕ). named k q) (sym same) ∙ named_so in
         let e : name ≡ x = cc in
-        subst (λ (y : X). Contains new y) e notes.noted)
-        (λ other. notes.kept x (but.whole i q x other at named_so)) (cases_eq i index);
-    fits = omega (arith, but.fits);
+        subst (λ (y : X). Contains (new ++ noted) y) e has)
+        (λ other. ⊎_elim (λ there. Contains-append_left new noted x (kept x there)) (λ there. Contains-append_right new noted x there)
+        (Contains-append_cases latest noted x (but.whole i q x other at named_so)))
+        (cases_eq i index);
+    fits = but.fits;
     narrow = but.narrow;
   }
 
+  -- it is noted now
+  pub noted_there : (ps : List Place) (index : ℕ) (p : Place) (name : X) (noted latest new : List X) (room : ℕ) → index < length ps
+      → p ≡ get_or ps index p → named index p ≡ Some name → NotesOne order latest new name
+      → IsIndexBut order named index ps noted latest room → IsIndex order named ps noted new room
+  noted_there ps index p name noted latest new room lt here is notes but =
+      named_there ps index p name noted latest new room lt here is notes.rising (Contains-append_left new noted name notes.noted) notes.kept but
+
+  -- it was noted before
+  pub noted_before : (ps : List Place) (index : ℕ) (p : Place) (name : X) (noted latest : List X) (room : ℕ) → index < length ps
+      → p ≡ get_or ps index p → named index p ≡ Some name → Contains noted name
+      → IsIndexBut order named index ps noted latest room → IsIndex order named ps noted latest room
+  noted_before ps index p name noted latest room lt here is has but =
+      named_there ps index p name noted latest latest room lt here is but.latest_rising (Contains-append_right latest noted name has) (λ x there. there) but
+
   -- the place names nothing
-  pub none_there : (ps : List Place) (index : ℕ) (p : Place) (noted : List X) (room : ℕ) → index < length ps → p ≡ get_or ps index p
-      → named index p ≡ None → IsIndexBut order named index ps noted room → IsIndex order named ps noted room
-  none_there ps index p noted room lt here is but = record {
+  pub none_there : (ps : List Place) (index : ℕ) (p : Place) (noted latest : List X) (room : ℕ) → index < length ps → p ≡ get_or ps index p
+      → named index p ≡ None → IsIndexBut order named index ps noted latest room → IsIndex order named ps noted latest room
+  none_there ps index p noted latest room lt here is but = record {
     rising = but.rising;
+    latest_rising = but.latest_rising;
     whole = λ i q x at named_so. ⊎_elim (λ same.
         let stands : item_at ps index ≡ Some p = (turn ps index (suc index) p lt refl here).here in
         let both : Some p ≡ Some q = sym stands ∙ ap (item_at ps) (sym same) ∙ at in
@@ -169,22 +193,25 @@ item_opened (q ∷ ps) zero p at = inr at
 item_opened (q ∷ ps) (suc i) p at = item_opened ps i p at
 
 module _ {X : Type 0} (order : X → X → Ordering) (named : ℕ → Place → Option X) where
-  pub exchanged : (ps qs : List Place) (index : ℕ) (v : Place) (noted : List X) (room : ℕ) → qs ≡ set ps index v → IsIndex order named ps noted room
-      → IsIndexBut order named index qs noted room
-  exchanged ps qs index v noted room is indexed =
+  pub exchanged : (ps qs : List Place) (index : ℕ) (v : Place) (noted latest : List X) (room : ℕ) → qs ≡ set ps index v → IsIndex order named ps noted latest room
+      → IsIndexBut order named index qs noted latest room
+  exchanged ps qs index v noted latest room is indexed =
       let put : qs ≡ put_place v ps index = is ∙ place_set v ps index in
       record {
         rising = indexed.rising;
+        latest_rising = indexed.latest_rising;
         whole = λ i p x other at named_so.
             indexed.whole i p x (item_after v ps index i p other (sym (ap (λ (l : List Place). item_at l i) put) ∙ at)) named_so;
         fits = omega (arith, ap length put, count_after v ps index, indexed.fits);
         narrow = omega (arith, ap length put, count_after v ps index, indexed.narrow);
       }
 
-  pub indexed_open : ((i : ℕ) → named i None ≡ None) → (ps qs : List Place) (noted new : List X) (room room' : ℕ) → qs ≡ ps ++ None ∷ [] → new ≡ noted
-      → length ps + 1 ≤ room' → length ps + 1 ≤ most_places → IsIndex order named ps noted room → IsIndex order named qs new room'
-  indexed_open empty ps qs noted new room room' is same fits narrow indexed = rw same (record {
+  pub indexed_open : ((i : ℕ) → named i None ≡ None) → (ps qs : List Place) (noted latest new later : List X) (room room' : ℕ)
+      → qs ≡ ps ++ None ∷ [] → new ≡ noted → later ≡ latest
+      → length ps + 1 ≤ room' → length ps + 1 ≤ most_places → IsIndex order named ps noted latest room → IsIndex order named qs new later room'
+  indexed_open empty ps qs noted latest new later room room' is same same_latest fits narrow indexed = rw (same, same_latest) (record {
     rising = indexed.rising;
+    latest_rising = indexed.latest_rising;
     whole = λ i p x at named_so. ⊎_elim
         (λ none. absurd (let no' : None ≡ Some x = sym (empty i) ∙ ap (named i) (sym none) ∙ named_so in cc))
         (λ before. indexed.whole i p x before named_so)
@@ -193,10 +220,11 @@ module _ {X : Type 0} (order : X → X → Ordering) (named : ℕ → Place → 
     narrow = omega (arith, ap length is, length-append ps (None ∷ []));
   })
 
-  pub indexed_kept : (ps qs : List Place) (noted new : List X) (room room' : ℕ) → qs ≡ ps → new ≡ noted → length ps ≤ room'
-      → IsIndex order named ps noted room → IsIndex order named qs new room'
-  indexed_kept ps qs noted new room room' places same fits indexed = rw (places, same) (record {
+  pub indexed_kept : (ps qs : List Place) (noted latest new later : List X) (room room' : ℕ) → qs ≡ ps → new ≡ noted → later ≡ latest
+      → length ps ≤ room' → IsIndex order named ps noted latest room → IsIndex order named qs new later room'
+  indexed_kept ps qs noted latest new later room room' places same same_latest fits indexed = rw (places, same, same_latest) (record {
     rising = indexed.rising;
+    latest_rising = indexed.latest_rising;
     whole = indexed.whole;
     fits = fits;
     narrow = indexed.narrow;

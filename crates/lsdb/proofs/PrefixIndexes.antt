@@ -1,5 +1,5 @@
 -- The index of the places of each router for each prefix: its order, and what it answers.
-use Rattle.std.proofs.Common.{◌≡◌, ◌∙◌, ℕ, List, Option, Some, None, refl, sym, ap}
+use Rattle.std.proofs.Common.{◌≡◌, ◌∙◌, ℕ, List, ◌++◌, Option, Some, None, refl, sym, ap}
 use Rattle.std.specs.Prelude.{option_map}
 use Rattle.std.specs.Cmp.{IsTotalOrder}
 use Rattle.std.specs.Ordering.{nat_cmp}
@@ -15,7 +15,7 @@ use Rattle.lsdb.specs.declared.prefix_places.PlaceOfPrefix.{PlaceOfPrefix}
 use Rattle.lsdb.specs.Places.{Place}
 use Rattle.lsdb.specs.PrefixPlaces.{origin_of, prefix_of, prefix_place, ArePlacesOfPrefix}
 use Rattle.lsdb.specs.steps.PrefixIndex.{IsPartOfOrigin, IsPrefixIndex, origin_cmp, place_cmp, prefix_at}
-use Rattle.lsdb.proofs.OwnedParts.{owned_total}
+use Rattle.lsdb.proofs.OwnedParts.{owned_total, rising_owned}
 use Rattle.lsdb.proofs.PlaceIndexes.{TellsIndex}
 
 pub origin_total : IsTotalOrder origin_cmp
@@ -52,10 +52,12 @@ pub tells : TellsIndex prefix_at (λ p. p.index)
 tells i None x is = absurd cc
 tells i (Some lsa) x is = index_of_name i (record { 0 = advertising_router_of lsa }) (prefix_of lsa) x is
 
-pub places_of_prefix : (ps : List Place) (noted part : List PlaceOfPrefix) (router : RouterId) (net : Net) (room : ℕ) → IsPrefixIndex ps noted room
-    → IsPartOfOrigin noted (origin_of router net) part → ArePlacesOfPrefix ps router net part
-places_of_prefix ps noted part router net room indexed found = record {
-  rising = found.rising;
+pub places_of_prefix : (ps : List Place) (noted latest part : List PlaceOfPrefix) (router : RouterId) (net : Net) (room : ℕ) → IsPrefixIndex ps noted latest room
+    → IsPartOfOrigin (latest ++ noted) (origin_of router net) part → ArePlacesOfPrefix ps router net part
+places_of_prefix ps noted latest part router net room indexed found = record {
+  rising =
+      rising_owned (λ (p : PlaceOfPrefix). p.origin) (λ (p : PlaceOfPrefix). p.index) origin_cmp origin_total origin_exact part (origin_of router net) found.rising
+      found.own;
   own = found.own;
   whole = λ i lsa at adv prefix.
       let own : router ≡ record { 0 = advertising_router_of lsa } = ap (λ (n : ℕ). let r : RouterId = record { 0 = n } in r) (sym adv) in

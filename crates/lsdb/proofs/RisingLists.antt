@@ -1,5 +1,5 @@
 -- Lists in strictly rising order: where a binary search ends, and one more item there.
-use Rattle.std.proofs.Common.{◌≡◌, ℕ, zero, suc, ◌+◌, ◌<◌, ◌≤◌, List, [], ◌∷◌, length, get_or, Result, Ok, Err, refl, ap, ◌∙◌, arith}
+use Rattle.std.proofs.Common.{◌≡◌, ℕ, zero, suc, ◌+◌, ◌<◌, ◌≤◌, List, [], ◌∷◌, length, get_or, Result, Ok, Err, is_ok, true, refl, ap, ◌∙◌, arith}
 use Rattle.std.specs.Prelude.{Contains, MatchResult}
 use Rattle.std.specs.Cmp.{IsTotalOrder}
 use Rattle.std.specs.List.{AllByRecursion, insert}
@@ -56,6 +56,12 @@ rising_insert order total (y ∷ xs) x (suc at) rising gap = (
 
 in_insert : {X : Type 0} (xs : List X) (at : ℕ) (x y : X) → Contains (x ∷ xs) y → Contains (insert xs at x) y
 in_insert xs at x y has = Contains-permutation (x ∷ xs) (insert xs at x) y (IsPermutation-insert xs at x) has
+
+-- a binary search that found something found the item
+pub found_by_search : {X : Type 0} (order : X → X → Ordering) → CmpEqualImpliesEq order → (xs : List X) (x : X) (r : Result ℕ ℕ)
+    → IsSearchInRange r (length xs) → IsBinarySearchResult (λ y. order y x) xs r → is_ok r ≡ true → Contains xs x
+found_by_search order exact xs x (Ok at) within equal is = (at, within, exact (get_or xs at x) x (equal x))
+found_by_search order exact xs x (Err at) within parted is = absurd cc
 
 -- a binary search ends at the item, or where it belongs
 pub searched : {X : Type 0} (order : X → X → Ordering) → IsTotalOrder order → CmpEqualImpliesEq order → (xs : List X) (x : X) (r : Result ℕ ℕ)

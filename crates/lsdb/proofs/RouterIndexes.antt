@@ -1,5 +1,5 @@
 -- The index of the places of each router: its order, and what it answers.
-use Rattle.std.proofs.Common.{◌≡◌, ℕ, List, Some, None, refl, sym, ap}
+use Rattle.std.proofs.Common.{◌≡◌, ℕ, List, ◌++◌, Some, None, refl, sym, ap}
 use Rattle.std.specs.Cmp.{IsTotalOrder}
 use Rattle.std.specs.Ordering.{nat_cmp}
 use Rattle.std.proofs.lemmas.Map.Lookups.{CmpEqualImpliesEq, exact_unsigned}
@@ -10,7 +10,7 @@ use Rattle.lsdb.specs.declared.router_places.PlaceOfRouter.{PlaceOfRouter}
 use Rattle.lsdb.specs.Places.{Place}
 use Rattle.lsdb.specs.RouterPlaces.{router_place, ArePlacesOfRouter}
 use Rattle.lsdb.specs.steps.RouterIndex.{IsPartOfRouter, IsRouterIndex, place_cmp, router_at}
-use Rattle.lsdb.proofs.OwnedParts.{owned_total}
+use Rattle.lsdb.proofs.OwnedParts.{owned_total, rising_owned}
 use Rattle.lsdb.proofs.PlaceIndexes.{TellsIndex}
 
 pub place_total : IsTotalOrder place_cmp
@@ -28,10 +28,10 @@ pub tells : TellsIndex router_at (λ p. p.index)
 tells i None x is = absurd cc
 tells i (Some lsa) x is = let same : router_place i lsa ≡ x = cc in sym (ap (λ (p : PlaceOfRouter). p.index) same)
 
-pub places_of_router : (ps : List Place) (noted part : List PlaceOfRouter) (router : RouterId) (room : ℕ) → IsRouterIndex ps noted room
-    → IsPartOfRouter noted router part → ArePlacesOfRouter ps router part
-places_of_router ps noted part router room indexed found = record {
-  rising = found.rising;
+pub places_of_router : (ps : List Place) (noted latest part : List PlaceOfRouter) (router : RouterId) (room : ℕ) → IsRouterIndex ps noted latest room
+    → IsPartOfRouter (latest ++ noted) router part → ArePlacesOfRouter ps router part
+places_of_router ps noted latest part router room indexed found = record {
+  rising = rising_owned (λ (p : PlaceOfRouter). p.adv) (λ (p : PlaceOfRouter). p.index) router_cmp router_total router_exact part router found.rising found.own;
   own = found.own;
   whole = λ i lsa at own.
       found.whole (router_place i lsa) (indexed.whole i (Some lsa) (router_place i lsa) at refl)

@@ -37,6 +37,12 @@ slot_read {A} [] section i old w some h e = absurd (search rules)
 slot_read {A} (s ∷ ss) zero i old w some h e = ap (λ (o : SectionOf A). item_at o.places i) (sym h) ∙ e
 slot_read {A} (s ∷ ss) (suc section) i old w some h e = slot_read ss section i old w some h e
 
+pub slot_seen : {A : Type 0} → (ss : List (SectionOf A)) (section i : ℕ) (s : SectionOf A) (w : Place) → section < length ss → s ≡ get_or ss section s
+    → item_at s.places i ≡ Some w → place_in (item_at (places_of ss) section) i ≡ Some w
+slot_seen {A} [] section i s w lt h e = absurd (omega arith)
+slot_seen {A} (t ∷ ss) zero i s w lt h e = ap (λ (o : SectionOf A). item_at o.places i) (sym h) ∙ e
+slot_seen {A} (t ∷ ss) (suc section) i s w lt h e = slot_seen ss section i s w (omega arith) h e
+
 pub swap_read : {A : Type 0} → (ss : List (SectionOf A)) (slot : SlotId) (old : SectionOf A) (w : Place)
     → IsSome (slot_at (places_of ss) slot) → old ≡ get_or ss slot.section old
     → item_at old.places slot.index ≡ Some w → slot_at (places_of ss) slot ≡ Some w

@@ -1,7 +1,8 @@
 -- The full places of a section, from the front.
-use Rattle.std.proofs.Common.{◌≡◌, ℕ, zero, suc, ◌-◌, ◌<◌, ◌≤◌, List, [], ◌∷◌, length, take, drop, get_or, Option, Some, None, sym, ap, ◌∙◌, arith}
+use Rattle.std.proofs.Common.{◌≡◌, ℕ, zero, suc, ◌-◌, ◌<◌, ◌≤◌, List, [], ◌∷◌, length, take, drop, get_or, Option, Some, None, Bor, refl, sym, ap, ◌∙◌, arith}
 use Rattle.std.proofs.Common.{rules, length-drop}
-use Rattle.std.specs.Prelude.{All, IsSome}
+use Rattle.std.specs.Prelude.{All, IsSome, MatchOption}
+use Rattle.std.specs.Option.{option_copied}
 use Rattle.std.proofs.lemmas.List.{length-map, take_all}
 use Rattle.std.proofs.lemmas.List.Elements.{All-nil, All-head, All-tail}
 use Rattle.lsa_codec.specs.Accepted.{IsAccepted}
@@ -9,7 +10,8 @@ use Rattle.lsa_codec.specs.Key.{key_of}
 use Rattle.lsdb.specs.declared.database.SectionOf.{SectionOf}
 use Rattle.lsdb.specs.Counts.{AreFew, counts_of}
 use Rattle.lsdb.specs.Lists.{AreaHead, SectionLsas, Lists, IsSection, limit_of, lsas_or_none}
-use Rattle.lsdb.specs.Places.{Place, item_at, full, lists_of, lsas_in}
+use Rattle.lsdb.specs.Places.{Place, item_at, full, lists_of, lsa_at, lsa_or_none, lsas_in, place_in, slot_at}
+use Rattle.lsdb.specs.declared.slot.SlotId.{SlotId}
 use Rattle.lsdb.specs.steps.View.{places_of}
 use Rattle.lsdb.proofs.CountedLsas.{counts_few}
 use Rattle.lsdb.proofs.Searching.{turn}
@@ -52,3 +54,32 @@ counts_few_at (s ∷ db) zero h =
     let one = All-head IsSection s db h in
     counts_few s.lsas one.accepted (section_few s one)
 counts_few_at (s ∷ db) (suc section) h = counts_few_at db section (All-tail IsSection s db h)
+
+-- ---- one place of a section
+
+slot_here : {A : Type 0} → (ss : List (SectionOf A)) (section i : ℕ) (s : SectionOf A) → section < length ss → s ≡ get_or ss section s
+    → place_in (item_at (places_of ss) section) i ≡ item_at s.places i
+slot_here {A} [] section i s lt is = absurd (omega arith)
+slot_here {A} (t ∷ ss) zero i s lt is = ap (λ (o : SectionOf A). item_at o.places i) (sym is)
+slot_here {A} (t ∷ ss) (suc section) i s lt is = slot_here ss section i s (omega arith) is
+
+item_beyond : (ps : List Place) (i : ℕ) → length ps ≤ i → item_at ps i ≡ None
+item_beyond [] i le = refl
+item_beyond (p ∷ ps) zero le = absurd (omega arith)
+item_beyond (p ∷ ps) (suc i) le = item_beyond ps i (omega arith)
+
+module _ {A : Type 0} (ss : List (SectionOf A)) (slot : SlotId) (s : SectionOf A) (ps : List Place) (lt : slot.section < length ss)
+    (is : s ≡ get_or ss slot.section s) (here : ps ≡ s.places) where
+  stands : slot_at (places_of ss) slot ≡ item_at ps slot.index
+  stands = slot_here ss slot.section slot.index s lt is ∙ ap (λ (qs : List Place). item_at qs slot.index) (sym here)
+
+  -- there is no such place
+  pub lsa_beyond : length ps ≤ slot.index → lsa_at (places_of ss) slot ≡ None
+  lsa_beyond le = ap lsa_or_none (stands ∙ item_beyond ps slot.index le)
+
+  -- what stands at the place
+  pub lsa_there : (p : Place) (r : Option (Bor (List ℕ))) → slot.index < length ps → p ≡ get_or ps slot.index p → option_copied r ≡ p
+      → MatchOption r (lsa_at (places_of ss) slot ≡ None) (λ lsa. slot_at (places_of ss) slot ≡ Some (Some lsa.now))
+  lsa_there p None within read same = ap lsa_or_none (stands ∙ (turn ps slot.index (suc slot.index) p within refl read).here ∙ ap (λ (q : Place). Some q) (sym same))
+  lsa_there p (Some lsa) within read same =
+      stands ∙ (turn ps slot.index (suc slot.index) p within refl read).here ∙ ap (λ (q : Place). Some q) (sym same)

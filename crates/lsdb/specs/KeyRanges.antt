@@ -2,7 +2,8 @@
 use Rattle.std.specs.Prelude.{◌≡◌, ◌^◌, ◌<◌, ◌&&◌, ℕ, Bool, true, List, map, Some, All, Contains}
 use Rattle.std.specs.Map.{keys_of}
 use Rattle.std.specs.List.Sorted.{IsStrictlySortedBy}
-use Rattle.std.specs.Ordering.{is_le}
+use Rattle.std.specs.Ordering.{is_le, nat_cmp, ordering_then}
+use Rattle.std.specs.declared.cmp.Ordering.{Ordering}
 use Rattle.lsa_codec.specs.declared.key.Key.{Key}
 use Rattle.lsa_codec.specs.Fields.{kind_of, link_state_id_of, advertising_router_of}
 use Rattle.lsa_codec.specs.Key.{key_of}
@@ -17,6 +18,10 @@ pairs_of keys = map (λ noted. (noted.key, noted.index)) keys
 abbrev pub IsRising : List KeyAt → Type 0
 IsRising keys = IsStrictlySortedBy key_cmp (keys_of (pairs_of keys))
 
+-- by key, and then by index
+abbrev pub noted_cmp : KeyAt → KeyAt → Ordering
+noted_cmp a b = ordering_then (key_cmp a.key b.key) (nat_cmp a.index b.index)
+
 -- from one key to another, both included
 abbrev pub is_between : Key → Key → Key → Bool
 is_between low high key = is_le (key_cmp low key) && is_le (key_cmp key high)
@@ -27,9 +32,9 @@ pub record HaveWidths (lsa : List ℕ) : Type 0 where
   pub id : link_state_id_of lsa < 2 ^ 32
   pub adv : advertising_router_of lsa < 2 ^ 32
 
--- keys of a section from one key to another, among them that of each LSA there, with the index of its place
+-- keys of a section from one key to another, in order and each once with one index, among them that of each LSA there, with the index of its place
 pub record AreKeysBetween (places : List Place) (low high : Key) (keys : List KeyAt) : Type 0 where
-  pub rising : IsRising keys
+  pub rising : IsStrictlySortedBy noted_cmp keys
   pub within : All (λ noted. is_between low high noted.key ≡ true) keys
   pub whole : (index : ℕ) (lsa : List ℕ) → item_at places index ≡ Some (Some lsa) → is_between low high (key_of lsa) ≡ true
       → Contains keys (record { key = key_of lsa; index = index })

@@ -7,3 +7,4 @@ pub mod PlaceIndex
 pub mod RouterIndex
 pub mod PrefixIndex
 pub mod Counting
+pub mod Filtering

@@ -10,20 +10,23 @@ ghost use Rattle.lsdb.specs.Lists.{has_key};
 ghost use Rattle.lsdb.specs.Places.{full, item_at, put_place};
 ghost use Rattle.lsdb.specs.PrefixPlaces.{ArePlacesOfPrefix};
 ghost use Rattle.lsdb.specs.RouterPlaces.{ArePlacesOfRouter};
+ghost use Rattle.lsdb.specs.TransitFilters.{AreTransitFilters};
 ghost use Rattle.lsdb.specs.steps.OnePlace.{place_has_key, IsFirstIndex};
-ghost use Rattle.lsdb.specs.steps.NotedKeys.{AreApart, AreNoted, FitSection, IsFoundAt, IsGapFor, IsPartBetween, IsRising, Notes, keys_from};
+ghost use Rattle.lsdb.specs.steps.NotedKeys.{AreApart, AreNoted, FitSection, IsFoundAt, IsGapFor, IsPartBetween, IsRising, Notes, keys_from, noted_index};
 
 use crate::copy::copy_of_places;
 use crate::counts::LsaCounts;
+use crate::merged::{Merged, latest_count};
 use crate::prefix_places::{Origin, PlaceOfPrefix, PrefixPlaces};
 use crate::router_places::{PlaceOfRouter, RouterPlaces};
+use crate::transit_filters::{TransitFilter, filters_of, put_filter};
 use lsa_codec::{Key, Lsa, Prefix, RouterId};
 use std::alloc::{AllocError, Allocator};
 use std::marker::Model;
 use std::mem;
 
 /// A key, and the index of the place at which its LSA was put last.
-#[derive(Clone, Copy, Debug)]
+#[derive(Clone, Copy, Debug, PartialEq, Eq, PartialOrd, Ord)]
 pub struct KeyAt {
     /// The key.
     pub key: Key,
@@ -37,8 +40,12 @@ pub struct KeyAt {
 #[derive(Drop)]
 pub(crate) struct KeyedPlaces<A: Allocator> {
     places: Vec<Option<Lsa<A>>, A>,
-    /// In rising order of the keys. The key of an LSA that is gone stays until its room is wanted.
+    /// For each place the filter of the transit networks of the LSA there.
+    filters: Vec<TransitFilter, A>,
+    /// In rising order of the keys. The key of an LSA that is gone stays until all are noted anew.
     keys: Vec<KeyAt, A>,
+    /// The keys noted since then, in rising order: few, so that another is soon among them.
+    latest: Vec<KeyAt, A>,
     /// At which places LSAs of each router stand.
     routers: RouterPlaces<A>,
     /// At which places LSAs of each router for each prefix stand.
@@ -48,11 +55,12 @@ pub(crate) struct KeyedPlaces<A: Allocator> {
 }
 
 impl<A: Allocator> Model for KeyedPlaces<A> {
-    ghost use Rattle.std.specs.Prelude.{List, vec_capacity};
+    ghost use Rattle.std.specs.Prelude.{◌≡◌, List, vec_capacity};
     ghost use Rattle.lsdb.specs.Places.{Place};
 
     ghost Value = { List Place };
 
+    ghost use Rattle.lsdb.specs.steps.Filtering.{filters_of};
     ghost use Rattle.lsdb.specs.steps.NotedKeys.{IsKeyed};
     ghost use Rattle.lsdb.specs.steps.PrefixIndex.{IsPrefixIndex};
     ghost use Rattle.lsdb.specs.steps.RouterIndex.{IsRouterIndex};
@@ -60,9 +68,11 @@ impl<A: Allocator> Model for KeyedPlaces<A> {
     ghost view = { λ p. p.places.items };
 
     ghost invariant = { λ p. record {
-      keyed : IsKeyed p.places.items p.keys.items (vec_capacity p.keys) p.counts;
-      routers : IsRouterIndex p.places.items p.routers.noted.items (vec_capacity p.routers.noted);
-      prefixes : IsPrefixIndex p.places.items p.prefixes.noted.items
+      filters : p.filters.items ≡ filters_of p.places.items;
+      keyed : IsKeyed p.places.items p.keys.items p.latest.items (vec_capacity p.keys) p.counts;
+      routers : IsRouterIndex p.places.items p.routers.noted.items p.routers.latest.items
+          (vec_capacity p.routers.noted);
+      prefixes : IsPrefixIndex p.places.items p.prefixes.noted.items p.prefixes.latest.items
           (vec_capacity p.prefixes.noted);
     } };
 }
@@ -76,12 +86,16 @@ impl<A: Allocator + Copy> KeyedPlaces<A> {
     {
         let mut keys = Vec::with_capacity(alloc, places.len())?;
         fill(&mut keys, &places);
+        let latest = Vec::with_capacity(alloc, latest_count(places.len()))?;
         let counts = LsaCounts::of_places(&places);
         let routers = RouterPlaces::of(alloc, &places)?;
         let prefixes = PrefixPlaces::of(alloc, &places)?;
+        let filters = filters_of(alloc, &places)?;
         Ok(KeyedPlaces {
             places,
+            filters,
             keys,
+            latest,
             routers,
             prefixes,
             counts,
@@ -109,33 +123,44 @@ impl<A: Allocator + Copy> KeyedPlaces<A> {
             (IsFirstIndex self.now (has_key key)) }
     {
         // A binary search: its steps are in the logarithm of the number of keys.
-        let at = search(&self.keys, key).ok()?;
-        let index = self.keys[at].index;
+        let index = noted_index(&self.latest, &self.keys, key)?;
         let place = self.places.get(index)?;
         has_key(place, key).then_some(index)
     }
 
     /// The noted keys from one key to another, both included, in their order. It takes no memory.
-    pub(crate) fn keys_between(&self, low: Key, high: Key) -> &[KeyAt]
-        ensures { AreKeysBetween self.now low high result.now }
+    pub(crate) fn keys_between(&self, low: Key, high: Key) -> Merged<'_, KeyAt>
+        ensures { AreKeysBetween self.now low high result }
     {
-        noted_between(&self.keys, low, high)
+        let older = noted_between(&self.keys, low, high);
+        Merged::of(older, noted_between(&self.latest, low, high))
     }
 
     /// The places that are noted of a router, in rising order of their indices. It takes no memory.
-    pub(crate) fn places_of_router(&self, router: RouterId) -> &[PlaceOfRouter]
-        ensures { ArePlacesOfRouter self.now router result.now }
+    pub(crate) fn places_of_router(&self, router: RouterId) -> Merged<'_, PlaceOfRouter>
+        ensures { ArePlacesOfRouter self.now router result }
     {
         self.routers.of_router(router)
     }
 
     /// The places that are noted of a router and a prefix, in rising order of their indices. It
     /// takes no memory.
-    pub(crate) fn places_of_prefix(&self, router: RouterId, prefix: Prefix) -> &[PlaceOfPrefix]
-        ensures { ArePlacesOfPrefix self.now router prefix result.now }
+    pub(crate) fn places_of_prefix(
+        &self,
+        router: RouterId,
+        prefix: Prefix,
+    ) -> Merged<'_, PlaceOfPrefix>
+        ensures { ArePlacesOfPrefix self.now router prefix result }
     {
         let origin = Origin::new(router, prefix);
         self.prefixes.of_origin(&origin)
+    }
+
+    /// For each place the filter of the transit networks of the LSA there.
+    pub(crate) fn transit_filters(&self) -> &[TransitFilter]
+        ensures { AreTransitFilters self.now result.now }
+    {
+        &self.filters
     }
 
     /// Exchanges what stands at one place, and nothing else. It takes no memory.
@@ -150,6 +175,7 @@ impl<A: Allocator + Copy> KeyedPlaces<A> {
         self.counts = others.with(LsaCounts::of_place(&self.places[index]));
         self.routers.note_place(&self.places, index);
         self.prefixes.note_place(&self.places, index);
+        put_filter(&mut self.filters, &self.places, index);
         let Some(lsa) = &self.places[index] else {
             return;
         };
@@ -157,8 +183,12 @@ impl<A: Allocator + Copy> KeyedPlaces<A> {
         if has_key(place, key) {
             return;
         }
-        if !note(&mut self.keys, key, index) {
+        if is_noted(&self.latest, &self.keys, key, index) {
+            return;
+        }
+        if !note(&mut self.latest, key, index) {
             fill(&mut self.keys, &self.places);
+            self.latest.clear();
         }
     }
 
@@ -169,11 +199,17 @@ impl<A: Allocator + Copy> KeyedPlaces<A> {
         let places = copy_of_places(alloc, &self.places)?;
         let mut keys = Vec::with_capacity(alloc, places.len().max(self.keys.len()))?;
         keys.extend_from_slice(&self.keys)?;
+        let wanted = latest_count(places.len()).max(self.latest.len());
+        let mut latest = Vec::with_capacity(alloc, wanted)?;
+        latest.extend_from_slice(&self.latest)?;
         let routers = self.routers.clone_of(alloc, places.len())?;
         let prefixes = self.prefixes.clone_of(alloc, places.len())?;
+        let filters = Vec::from_slice(alloc, &self.filters)?;
         Ok(KeyedPlaces {
             places,
+            filters,
             keys,
+            latest,
             routers,
             prefixes,
             counts: self.counts,
@@ -188,9 +224,13 @@ impl<A: Allocator + Copy> KeyedPlaces<A> {
     {
         let wanted = (self.places.len() + 1).saturating_sub(self.keys.len());
         self.keys.reserve(wanted)?;
+        let wanted = latest_count(self.places.len() + 1).saturating_sub(self.latest.len());
+        self.latest.reserve(wanted)?;
         self.routers.reserve_for(self.places.len() + 1)?;
         self.prefixes.reserve_for(self.places.len() + 1)?;
+        self.filters.reserve(1)?;
         self.places.push(None)?;
+        self.filters.push_reserved(TransitFilter::empty());
         Ok(())
     }
 }
@@ -220,6 +260,41 @@ fn search(keys: &[KeyAt], key: Key) -> Result<usize, usize>
     ensures absent { IfErr result (IsGapFor keys.now key) }
 {
     keys.binary_search_by_key(&key, |noted| noted.key)
+}
+
+/// The index that is noted of a key among these.
+fn index_among(keys: &[KeyAt], key: Key) -> Option<usize>
+    requires { IsRising keys.now }
+    ensures { result ≡ noted_index keys.now key }
+{
+    match search(keys, key) {
+        Ok(at) => Some(keys[at].index),
+        Err(_) => None,
+    }
+}
+
+/// The index that is noted of a key, first of all among the latest ones.
+fn noted_index(latest: &[KeyAt], keys: &[KeyAt], key: Key) -> Option<usize>
+    requires latest { IsRising latest.now }
+    requires keys { IsRising keys.now }
+    ensures { result ≡ noted_index (latest.now ++ keys.now) key }
+{
+    match index_among(latest, key) {
+        Some(index) => Some(index),
+        None => index_among(keys, key),
+    }
+}
+
+/// Whether this index is noted of a key.
+fn is_noted(latest: &[KeyAt], keys: &[KeyAt], key: Key, index: usize) -> bool
+    requires latest { IsRising latest.now }
+    requires keys { IsRising keys.now }
+    ensures { result ≡ true → noted_index (latest.now ++ keys.now) key ≡ Some index }
+{
+    match noted_index(latest, keys, key) {
+        Some(noted) => noted == index,
+        None => false,
+    }
 }
 
 /// The noted keys from one key to another, both included. It takes two binary searches.
@@ -257,7 +332,7 @@ fn note<A: Allocator + Copy>(keys: &mut Vec<KeyAt, A>, key: Key, index: usize) -
 fn fill<A: Allocator + Copy>(keys: &mut Vec<KeyAt, A>, places: &[Option<Lsa<A>>])
     requires apart { AreApart places.now }
     requires fits { length places.now ≤ vec_capacity keys.old }
-    ensures sound { AreNoted places.now keys.new.items }
+    ensures sound { AreNoted places.now keys.new.items [] }
     ensures widths { All HaveWidths (full places.now) }
     ensures room { vec_capacity keys.new ≡ vec_capacity keys.old }
 {

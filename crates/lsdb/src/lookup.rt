@@ -7,14 +7,17 @@ ghost use Rattle.lsdb.specs.Lists.{is_head_of, is_section, has_key, lsas_of};
 ghost use Rattle.lsdb.specs.Places.{item_at, lists_of, lsas_in, places_in, IsFirstPlace, IsNamed, IsPlaceOf};
 ghost use Rattle.lsdb.specs.PrefixPlaces.{ArePlacesOfPrefix};
 ghost use Rattle.lsdb.specs.RouterPlaces.{ArePlacesOfRouter};
+ghost use Rattle.lsdb.specs.TransitFilters.{AreTransitFilters};
 ghost use Rattle.lsdb.specs.steps.View.{head_of};
 
 use crate::database::{Database, Head};
 use crate::keyed_places::KeyAt;
+use crate::merged::Merged;
 use crate::prefix_places::PlaceOfPrefix;
 use crate::router_places::PlaceOfRouter;
 use crate::section::Section;
 use crate::slot::SlotId;
+use crate::transit_filters::TransitFilter;
 use lsa_codec::{Key, Prefix, RouterId};
 use std::alloc::Allocator;
 
@@ -49,9 +52,9 @@ impl<A: Allocator + Copy> Database<A> {
     /// by the section's number. Among them is the key of each LSA there, with the index of its
     /// place; but also keys of LSAs that have gone, so what stands at a place is to be looked at.
     /// It takes no memory, and its steps are in the logarithm of the number of keys.
-    pub fn keys_between(&self, section: usize, low: Key, high: Key) -> &[KeyAt]
+    pub fn keys_between(&self, section: usize, low: Key, high: Key) -> Merged<'_, KeyAt>
         requires { IsSome (item_at self.now section) }
-        ensures { AreKeysBetween (places_in self.now section) low high result.now }
+        ensures { AreKeysBetween (places_in self.now section) low high result }
     {
         self.sections[section].places.keys_between(low, high)
     }
@@ -60,9 +63,9 @@ impl<A: Allocator + Copy> Database<A> {
     /// section's number. Among them is that of each LSA there with this Advertising Router; but
     /// also places of such LSAs that have gone, so what stands there is to be looked at. It takes
     /// no memory, and its steps are in the logarithm of the number of places.
-    pub fn places_of_router(&self, section: usize, router: RouterId) -> &[PlaceOfRouter]
+    pub fn places_of_router(&self, section: usize, router: RouterId) -> Merged<'_, PlaceOfRouter>
         requires { IsSome (item_at self.now section) }
-        ensures { ArePlacesOfRouter (places_in self.now section) router result.now }
+        ensures { ArePlacesOfRouter (places_in self.now section) router result }
     {
         self.sections[section].places.places_of_router(router)
     }
@@ -77,13 +80,22 @@ impl<A: Allocator + Copy> Database<A> {
         section: usize,
         router: RouterId,
         prefix: Prefix,
-    ) -> &[PlaceOfPrefix]
+    ) -> Merged<'_, PlaceOfPrefix>
         requires { IsSome (item_at self.now section) }
-        ensures { ArePlacesOfPrefix (places_in self.now section) router prefix result.now }
+        ensures { ArePlacesOfPrefix (places_in self.now section) router prefix result }
     {
         self.sections[section]
             .places
             .places_of_prefix(router, prefix)
+    }
+
+    /// For each place of a section, by the section's number, the filter of the transit networks of
+    /// the LSA there: those of the transit links of a router-LSA, and of a network-LSA its own.
+    pub fn transit_filters(&self, section: usize) -> &[TransitFilter]
+        requires { IsSome (item_at self.now section) }
+        ensures { AreTransitFilters (places_in self.now section) result.now }
+    {
+        self.sections[section].places.transit_filters()
     }
 
     /// The place of the LSA with a key in a section; `None` where the section has no such LSA,

@@ -1,11 +1,12 @@
 //! The places of one section by the Advertising Routers and the prefixes of their LSAs.
 
-ghost use Rattle.std.specs.Prelude.{◌≡◌, ◌^◌, ◌<◌, ◌≤◌, true, length, OnOk, IfOk, vec_capacity};
+ghost use Rattle.std.specs.Prelude.{◌≡◌, ◌^◌, ◌<◌, ◌≤◌, ◌++◌, [], true, length, OnOk, IfOk, vec_capacity, Contains};
 ghost use Rattle.lsdb.specs.Limits.{most_lsas_of_as};
 ghost use Rattle.lsdb.specs.PrefixPlaces.{origin_of, prefix_of};
 ghost use Rattle.lsdb.specs.steps.PlaceIndex.{most_places, noted_from};
 ghost use Rattle.lsdb.specs.steps.PrefixIndex.{AreRising, IsPartOfOrigin, IsPrefixIndex, IsPrefixIndexBut, NotesPlace, prefix_at};
 
+use crate::merged::{Merged, latest_count};
 use crate::router_places::MOST_PLACES;
 use lsa_codec::{Addr, Lsa, Prefix, RouterId};
 use std::alloc::{AllocError, Allocator};
@@ -51,6 +52,8 @@ pub(crate) struct PrefixPlaces<A: Allocator> {
     /// In rising order of the routers, of the prefixes, and of the indices. The place of an LSA
     /// that is gone stays until its room is wanted.
     pub(crate) noted: Vec<PlaceOfPrefix, A>,
+    /// Those noted since all were noted anew, in the same order.
+    pub(crate) latest: Vec<PlaceOfPrefix, A>,
 }
 
 impl<A: Allocator + Copy> PrefixPlaces<A> {
@@ -58,28 +61,34 @@ impl<A: Allocator + Copy> PrefixPlaces<A> {
     pub(crate) fn of(alloc: A, places: &[Option<Lsa<A>>]) -> Result<PrefixPlaces<A>, AllocError>
         requires { length places.now ≤ most_lsas_of_as }
         ensures { IfOk result
-            (λ prefixes. IsPrefixIndex places.now prefixes.noted.items
+            (λ prefixes. IsPrefixIndex places.now prefixes.noted.items prefixes.latest.items
             (vec_capacity prefixes.noted)) }
     {
         let mut noted = Vec::with_capacity(alloc, places.len())?;
         fill(&mut noted, places);
-        Ok(PrefixPlaces { noted })
+        let latest = Vec::with_capacity(alloc, latest_count(places.len()))?;
+        Ok(PrefixPlaces { noted, latest })
     }
 
     /// The same, with room for so many places. The error is want of memory.
     pub(crate) fn clone_of(&self, alloc: A, count: usize) -> Result<PrefixPlaces<A>, AllocError>
         ensures same { IfOk result (λ copy. copy.noted.items ≡ self.now.noted.items) }
+        ensures latest { IfOk result (λ copy. copy.latest.items ≡ self.now.latest.items) }
         ensures room { IfOk result (λ copy. count ≤ vec_capacity copy.noted) }
     {
         let mut noted = Vec::with_capacity(alloc, count.max(self.noted.len()))?;
         noted.extend_from_slice(&self.noted)?;
-        Ok(PrefixPlaces { noted })
+        let wanted = latest_count(count).max(self.latest.len());
+        let mut latest = Vec::with_capacity(alloc, wanted)?;
+        latest.extend_from_slice(&self.latest)?;
+        Ok(PrefixPlaces { noted, latest })
     }
 
     /// Makes room to note so many places. The error is want of memory, or that they are more than
     /// an index can tell apart; nothing that is noted changes.
     pub(crate) fn reserve_for(&mut self, count: usize) -> Result<(), AllocError>
         ensures same { self.new.noted.items ≡ self.old.noted.items }
+        ensures latest { self.new.latest.items ≡ self.old.latest.items }
         ensures narrow { OnOk result (count ≤ most_places) }
         ensures room { OnOk result (count ≤ vec_capacity self.new.noted) }
         ensures kept { vec_capacity self.old.noted ≤ vec_capacity self.new.noted }
@@ -88,31 +97,42 @@ impl<A: Allocator + Copy> PrefixPlaces<A> {
             return Err(AllocError);
         }
         let wanted = count.saturating_sub(self.noted.len());
-        self.noted.reserve(wanted)
+        self.noted.reserve(wanted)?;
+        let wanted = latest_count(count).saturating_sub(self.latest.len());
+        self.latest.reserve(wanted)
     }
 
     /// Notes one of the places, at which something else stands now. It takes no memory.
     pub(crate) fn note_place(&mut self, places: &[Option<Lsa<A>>], index: usize)
         requires within { index < length places.now }
         requires others { IsPrefixIndexBut index places.now self.old.noted.items
-            (vec_capacity self.old.noted) }
-        ensures { IsPrefixIndex places.now self.new.noted.items (vec_capacity self.new.noted) }
+            self.old.latest.items (vec_capacity self.old.noted) }
+        ensures { IsPrefixIndex places.now self.new.noted.items self.new.latest.items
+            (vec_capacity self.new.noted) }
     {
         let Some(place) = prefix_at(&places[index], index) else {
             return;
         };
-        if !note(&mut self.noted, &place) {
+        if is_noted(&self.noted, &place) {
+            return;
+        }
+        if !note(&mut self.latest, &place) {
             fill(&mut self.noted, places);
+            self.latest.clear();
         }
     }
 
     /// The places that are noted of a router and a prefix, in rising order of their indices. It
     /// takes no memory.
-    pub(crate) fn of_origin(&self, origin: &Origin) -> &[PlaceOfPrefix]
-        requires { AreRising self.now.noted.items }
-        ensures { IsPartOfOrigin self.now.noted.items origin.now result.now }
+    pub(crate) fn of_origin(&self, origin: &Origin) -> Merged<'_, PlaceOfPrefix>
+        requires noted { AreRising self.now.noted.items }
+        requires latest { AreRising self.now.latest.items }
+        ensures { IsPartOfOrigin (self.now.latest.items ++ self.now.noted.items) origin.now result }
     {
-        part_of_origin(&self.noted, origin)
+        Merged::of(
+            part_of_origin(&self.noted, origin),
+            part_of_origin(&self.latest, origin),
+        )
     }
 }
 
@@ -159,6 +179,14 @@ fn part_of_origin<'a>(noted: &'a [PlaceOfPrefix], origin: &Origin) -> &'a [Place
     &rest[..end]
 }
 
+/// Whether a place is among these.
+fn is_noted(noted: &[PlaceOfPrefix], place: &PlaceOfPrefix) -> bool
+    requires { AreRising noted.now }
+    ensures { result ≡ true → Contains noted.now place.now }
+{
+    noted.binary_search(place).is_ok()
+}
+
 /// Notes a place of a router and a prefix, and answers whether it did: where it was not noted, and
 /// there is no room for it, nothing is. It takes no memory.
 fn note<A: Allocator + Copy>(noted: &mut Vec<PlaceOfPrefix, A>, place: &PlaceOfPrefix) -> bool
@@ -181,7 +209,7 @@ fn note<A: Allocator + Copy>(noted: &mut Vec<PlaceOfPrefix, A>, place: &PlaceOfP
 fn fill<A: Allocator + Copy>(noted: &mut Vec<PlaceOfPrefix, A>, places: &[Option<Lsa<A>>])
     requires fits { length places.now ≤ vec_capacity noted.old }
     requires narrow { length places.now ≤ most_places }
-    ensures { IsPrefixIndex places.now noted.new.items (vec_capacity noted.new) }
+    ensures { IsPrefixIndex places.now noted.new.items [] (vec_capacity noted.new) }
 {
     put_noted(noted, places);
     // Where the LSAs stand in the order of their routers and prefixes, it looks at each once.

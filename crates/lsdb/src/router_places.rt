@@ -1,10 +1,11 @@
 //! The places of one section by the Advertising Routers of their LSAs.
 
-ghost use Rattle.std.specs.Prelude.{◌≡◌, ◌^◌, ◌<◌, ◌≤◌, true, length, OnOk, IfOk, vec_capacity};
+ghost use Rattle.std.specs.Prelude.{◌≡◌, ◌^◌, ◌<◌, ◌≤◌, ◌++◌, [], true, length, OnOk, IfOk, vec_capacity, Contains};
 ghost use Rattle.lsdb.specs.Limits.{most_lsas_of_as};
 ghost use Rattle.lsdb.specs.steps.PlaceIndex.{most_places, noted_from};
 ghost use Rattle.lsdb.specs.steps.RouterIndex.{AreRising, IsPartOfRouter, IsRouterIndex, IsRouterIndexBut, NotesPlace, router_at};
 
+use crate::merged::{Merged, latest_count};
 use lsa_codec::{Lsa, RouterId};
 use std::alloc::{AllocError, Allocator};
 
@@ -27,6 +28,8 @@ pub(crate) struct RouterPlaces<A: Allocator> {
     /// In rising order of the routers, and of the indices. The place of an LSA that is gone stays
     /// until its room is wanted.
     pub(crate) noted: Vec<PlaceOfRouter, A>,
+    /// Those noted since all were noted anew, in the same order.
+    pub(crate) latest: Vec<PlaceOfRouter, A>,
 }
 
 impl<A: Allocator + Copy> RouterPlaces<A> {
@@ -34,27 +37,34 @@ impl<A: Allocator + Copy> RouterPlaces<A> {
     pub(crate) fn of(alloc: A, places: &[Option<Lsa<A>>]) -> Result<RouterPlaces<A>, AllocError>
         requires { length places.now ≤ most_lsas_of_as }
         ensures { IfOk result
-            (λ routers. IsRouterIndex places.now routers.noted.items (vec_capacity routers.noted)) }
+            (λ routers. IsRouterIndex places.now routers.noted.items routers.latest.items
+            (vec_capacity routers.noted)) }
     {
         let mut noted = Vec::with_capacity(alloc, places.len())?;
         fill(&mut noted, places);
-        Ok(RouterPlaces { noted })
+        let latest = Vec::with_capacity(alloc, latest_count(places.len()))?;
+        Ok(RouterPlaces { noted, latest })
     }
 
     /// The same, with room for so many places. The error is want of memory.
     pub(crate) fn clone_of(&self, alloc: A, count: usize) -> Result<RouterPlaces<A>, AllocError>
         ensures same { IfOk result (λ copy. copy.noted.items ≡ self.now.noted.items) }
+        ensures latest { IfOk result (λ copy. copy.latest.items ≡ self.now.latest.items) }
         ensures room { IfOk result (λ copy. count ≤ vec_capacity copy.noted) }
     {
         let mut noted = Vec::with_capacity(alloc, count.max(self.noted.len()))?;
         noted.extend_from_slice(&self.noted)?;
-        Ok(RouterPlaces { noted })
+        let wanted = latest_count(count).max(self.latest.len());
+        let mut latest = Vec::with_capacity(alloc, wanted)?;
+        latest.extend_from_slice(&self.latest)?;
+        Ok(RouterPlaces { noted, latest })
     }
 
     /// Makes room to note so many places. The error is want of memory, or that they are more than
     /// an index can tell apart; nothing that is noted changes.
     pub(crate) fn reserve_for(&mut self, count: usize) -> Result<(), AllocError>
         ensures same { self.new.noted.items ≡ self.old.noted.items }
+        ensures latest { self.new.latest.items ≡ self.old.latest.items }
         ensures narrow { OnOk result (count ≤ most_places) }
         ensures room { OnOk result (count ≤ vec_capacity self.new.noted) }
         ensures kept { vec_capacity self.old.noted ≤ vec_capacity self.new.noted }
@@ -63,30 +73,41 @@ impl<A: Allocator + Copy> RouterPlaces<A> {
             return Err(AllocError);
         }
         let wanted = count.saturating_sub(self.noted.len());
-        self.noted.reserve(wanted)
+        self.noted.reserve(wanted)?;
+        let wanted = latest_count(count).saturating_sub(self.latest.len());
+        self.latest.reserve(wanted)
     }
 
     /// Notes one of the places, at which something else stands now. It takes no memory.
     pub(crate) fn note_place(&mut self, places: &[Option<Lsa<A>>], index: usize)
         requires within { index < length places.now }
         requires others { IsRouterIndexBut index places.now self.old.noted.items
-            (vec_capacity self.old.noted) }
-        ensures { IsRouterIndex places.now self.new.noted.items (vec_capacity self.new.noted) }
+            self.old.latest.items (vec_capacity self.old.noted) }
+        ensures { IsRouterIndex places.now self.new.noted.items self.new.latest.items
+            (vec_capacity self.new.noted) }
     {
         let Some(place) = router_at(&places[index], index) else {
             return;
         };
-        if !note(&mut self.noted, place) {
+        if is_noted(&self.noted, place) {
+            return;
+        }
+        if !note(&mut self.latest, place) {
             fill(&mut self.noted, places);
+            self.latest.clear();
         }
     }
 
     /// The places that are noted of a router, in rising order of their indices. It takes no memory.
-    pub(crate) fn of_router(&self, router: RouterId) -> &[PlaceOfRouter]
-        requires { AreRising self.now.noted.items }
-        ensures { IsPartOfRouter self.now.noted.items router result.now }
+    pub(crate) fn of_router(&self, router: RouterId) -> Merged<'_, PlaceOfRouter>
+        requires noted { AreRising self.now.noted.items }
+        requires latest { AreRising self.now.latest.items }
+        ensures { IsPartOfRouter (self.now.latest.items ++ self.now.noted.items) router result }
     {
-        part_of_router(&self.noted, router)
+        Merged::of(
+            part_of_router(&self.noted, router),
+            part_of_router(&self.latest, router),
+        )
     }
 }
 
@@ -115,6 +136,14 @@ fn part_of_router(noted: &[PlaceOfRouter], router: RouterId) -> &[PlaceOfRouter]
     &rest[..end]
 }
 
+/// Whether a place is among these.
+fn is_noted(noted: &[PlaceOfRouter], place: PlaceOfRouter) -> bool
+    requires { AreRising noted.now }
+    ensures { result ≡ true → Contains noted.now place }
+{
+    noted.binary_search(&place).is_ok()
+}
+
 /// Notes a place of a router, and answers whether it did: where it was not noted, and there is no
 /// room for it, nothing is. It takes no memory.
 fn note<A: Allocator + Copy>(noted: &mut Vec<PlaceOfRouter, A>, place: PlaceOfRouter) -> bool
@@ -137,7 +166,7 @@ fn note<A: Allocator + Copy>(noted: &mut Vec<PlaceOfRouter, A>, place: PlaceOfRo
 fn fill<A: Allocator + Copy>(noted: &mut Vec<PlaceOfRouter, A>, places: &[Option<Lsa<A>>])
     requires fits { length places.now ≤ vec_capacity noted.old }
     requires narrow { length places.now ≤ most_places }
-    ensures { IsRouterIndex places.now noted.new.items (vec_capacity noted.new) }
+    ensures { IsRouterIndex places.now noted.new.items [] (vec_capacity noted.new) }
 {
     put_noted(noted, places);
     // Where the LSAs stand in the order of their routers, it looks at each once.

@@ -1,6 +1,6 @@
 //! The hops of all vertices, while they are handed on.
 
-ghost use Rattle.std.specs.Prelude.{◌≡◌, ◌<◌, [], length, replicate, map, All, Contains, IfOk, OnOk};
+ghost use Rattle.std.specs.Prelude.{◌≡◌, ◌<◌, [], length, replicate, map, All, Contains, IfOk, IfSome, OnOk};
 ghost use Rattle.area_graph.specs.Rising.{rising};
 ghost use Rattle.next_hops.specs.Hop.{IsSortedHops, extended, hop_cmp};
 ghost use Rattle.next_hops.specs.FirstHops.{hops_at};
@@ -120,6 +120,20 @@ impl<A: Allocator + Copy> HopTable<A> {
         self.vertices[to].add(alloc, number)
     }
 
+    /// The number of the list that a vertex was handed, if it was handed one alone.
+    fn only_list(&self, index: usize) -> Option<usize>
+        requires index { index < length (hops_so_far self.now) }
+        requires whole { IsWhole self.now }
+        ensures within { IfSome result (λ n. IsKept self.now n) }
+        ensures list { IfSome result
+            (λ n. kept_list self.now n ≡ hops_at (hops_so_far self.now) index) }
+    {
+        match self.vertices[index] {
+            Handed::One(number) => Some(number),
+            _ => None,
+        }
+    }
+
     /// The number of the list of a vertex's hops, which the vertex then has alone.
     pub(crate) fn settle(&mut self, alloc: A, index: usize) -> Result<usize, AllocError>
         requires index { index < length (hops_so_far self.old) }
@@ -129,6 +143,9 @@ impl<A: Allocator + Copy> HopTable<A> {
             ≡ hops_at (hops_so_far self.old) index) }
         ensures stays { OnOk result (Stays self.old self.new) }
     {
+        if let Some(number) = self.only_list(index) {
+            return Ok(number);
+        }
         let handed = &self.vertices[index];
         let number = number_for(alloc, handed, &mut self.lists, &mut self.joins)?;
         self.vertices[index] = Handed::One(number);

@@ -38,5 +38,5 @@ pub(crate) fn table_over<A: Allocator + Copy>(
 {
     let alloc = database.alloc();
     let results = trees.results_of(alloc, database, router, meter)?;
-    table_from(alloc, database, router, results)
+    table_from(alloc, database, router, results, &mut None)
 }

@@ -12,3 +12,4 @@ pub mod TreeMaps
 pub mod PreferenceLemmas
 pub mod KeptMaps
 pub mod TreeCounts
+mod StubsStay

@@ -1,11 +1,13 @@
 //! The trees of one area.
 
-ghost use Rattle.std.specs.Prelude.{◌≡◌, true, [], Contains, IfOk, IfSome, OnOk};
+ghost use Rattle.std.specs.Prelude.{◌≡◌, ℕ, List, true, [], Contains, IfOk, IfSome, OnOk};
 ghost use Rattle.std.specs.Bool.{OnFalse, OnTrue};
 ghost use Rattle.lsa_codec.specs.declared.address.RouterId.{RouterId as AnyRouter};
 ghost use Rattle.lsdb.specs.declared.section.Section.TheVariants.{Area};
 ghost use Rattle.lsdb.specs.Lists.{lsas_of};
 ghost use Rattle.lsdb.specs.Places.{lists_of};
+ghost use Rattle.area_graph.specs.CostChanges.{AreChanged};
+ghost use Rattle.area_graph.specs.Graphs.{AreOfArea};
 ghost use Rattle.area_graph.specs.declared.vertex.Vertex.TheVariants.{Router};
 ghost use Rattle.area_routes.specs.AreaResults.{area_result};
 ghost use Rattle.spf.specs.Distances.{IsTreeOf};
@@ -13,7 +15,7 @@ ghost use Rattle.routing_table.specs.AreaTrees.{IsAreaOf, has_tree, missing};
 ghost use Rattle.routing_table.specs.Counting.{counted_by, CountsAtMost};
 
 use crate::results::tree_of;
-use area_graph::{Graph, Vertex};
+use area_graph::{CostChange, Graph, Vertex};
 use area_routes::{AreaResult, StubLinks};
 use lsa_codec::{AreaId, RouterId};
 use lsdb::Database;
@@ -67,6 +69,21 @@ impl<A: Allocator + Copy> AreaTrees<A> {
             stubs,
             trees: BTreeMap::new(alloc),
         }
+    }
+
+    /// The graph and the stub links after a change of the cost of an interface, which changes no
+    /// stub link, and without trees. `None` where the graph does not take the change, as
+    /// [`change_cost`](Graph::change_cost) says. It takes no memory.
+    pub fn after_change(self, alloc: A, change: CostChange) -> Option<AreaTrees<A>>
+        ensures area { IfSome result (λ new. (lsas others : List (List ℕ)) → AreOfArea others
+            → AreChanged change lsas others → IsAreaOf lsas self → IsAreaOf others new) }
+        ensures trees { IfSome result (λ new. new.trees ≡ []) }
+    {
+        let mut graph = self.graph;
+        if !graph.change_cost(change) {
+            return None;
+        }
+        Some(AreaTrees::new(alloc, graph, self.stubs))
     }
 
     /// Calculates the tree of a router that is in the graph, and its next hops, unless they are

@@ -1,8 +1,11 @@
 //! The routing table of a router.
 
-ghost use Rattle.std.specs.Prelude.{◌≡◌, [], IfOk, IfErr, IsErrOf, OnOk, Some, None, length};
+ghost use Rattle.std.specs.Prelude.{◌≡◌, [], IfOk, IfErr, IsErrOf, IsSome, OnOk, Some, None, length};
+ghost use Rattle.lsdb.specs.declared.section.Section.TheVariants.{AsWide};
+ghost use Rattle.lsdb.specs.Lists.{lsas_of};
 ghost use Rattle.lsdb.specs.Places.{lists_of};
 ghost use Rattle.area_routes.specs.Attached.{attached_areas};
+ghost use Rattle.external_routes.specs.ExternalLsas.{AreExternalLsasOf, AreListedOf};
 ghost use Rattle.routing_table.specs.declared.table.TableFault.TheVariants.{OutOfMemory};
 ghost use Rattle.routing_table.specs.Counting.{counted_by, CountsAtMost};
 ghost use Rattle.routing_table.specs.Tables.{results_in, table_in, routes_from, FaultMeans};
@@ -11,7 +14,7 @@ ghost use Rattle.routing_table.specs.Fault.{code_of, name_of};
 use crate::preference::{prefer, prefer_intra};
 use crate::results::results_of;
 use area_routes::{AreaResult, Routes, inter, take_intra};
-use external_routes::externals;
+use external_routes::{ExternalLsas, externals};
 use lsa_codec::RouterId;
 use lsdb::Database;
 use spf::Meter;
@@ -125,37 +128,63 @@ pub fn table_of<A: Allocator + Copy>(
         meter.old meter.new }
 {
     let results = results_of(alloc, database, router, meter)?;
-    table_from(alloc, database, router, results)
+    table_from(alloc, database, router, results, &mut None)
 }
 
-/// The routing table of a router from what each area gives that it is attached to.
+/// Lists the AS-external-LSAs of a database, unless they are there.
+fn list_externals<A: Allocator + Copy>(
+    alloc: A,
+    database: &Database<A>,
+    lsas: &mut Option<ExternalLsas<A>>,
+) -> Result<(), AllocError>
+    requires { AreListedOf (lsas_of AsWide (lists_of database.now)) lsas.old }
+    ensures lsas { AreListedOf (lsas_of AsWide (lists_of database.now)) lsas.new }
+    ensures there { OnOk result (IsSome lsas.new) }
+{
+    if lsas.is_none() {
+        *lsas = Some(ExternalLsas::of(alloc, database)?);
+    }
+    Ok(())
+}
+
+/// The routing table of a router from what each area gives that it is attached to, and from the
+/// AS-external-LSAs of the database. Where these are not there, they are listed and left there.
 pub fn table_from<A: Allocator + Copy>(
     alloc: A,
     database: &Database<A>,
     router: RouterId,
     results: Vec<AreaResult<A>, A>,
+    lsas: &mut Option<ExternalLsas<A>>,
 ) -> Result<Table<A>, TableFault>
-    requires { results.items ≡ results_in (lists_of database.now) router
+    requires results { results.items ≡ results_in (lists_of database.now) router
         (attached_areas (lists_of database.now) router) }
+    requires lsas { AreListedOf (lsas_of AsWide (lists_of database.now)) lsas.old }
     ensures table { IfOk result (λ table. table_in (lists_of database.now) router ≡ Some table) }
     ensures fault { IfErr result (FaultMeans (table_in (lists_of database.now) router)) }
     ensures no_router { result ≡ Err TableFault.NoRouter
         → attached_areas (lists_of database.now) router ≡ [] }
+    ensures lsas { AreListedOf (lsas_of AsWide (lists_of database.now)) lsas.new }
 {
     if results.is_empty() {
         return Err(TableFault::NoRouter);
     }
-    let routes = routes_from(alloc, database, router, results)?;
+    list_externals(alloc, database, lsas)?;
+    let routes = match lsas.as_ref() {
+        Some(lsas) => routes_from(alloc, database, lsas, router, results)?,
+        None => unreachable!(),
+    };
     Ok(Table { router, routes })
 }
 
-/// The routes from what the areas of a router give.
+/// The routes from what the areas of a router give, and from the AS-external-LSAs of the database.
 pub fn routes_from<A: Allocator + Copy>(
     alloc: A,
     database: &Database<A>,
+    lsas: &ExternalLsas<A>,
     router: RouterId,
     results: Vec<AreaResult<A>, A>,
 ) -> Result<Routes<A>, AllocError>
+    requires { AreExternalLsasOf (lsas_of AsWide (lists_of database.now)) lsas.now }
     ensures { IfOk result (λ routes. routes
         ≡ routes_from (lists_of database.now) router results.items) }
 {
@@ -163,6 +192,6 @@ pub fn routes_from<A: Allocator + Copy>(
     let intra = take_intra(alloc, &mut results)?;
     let inter = inter(alloc, database, router, &results, &intra)?;
     let inside = prefer_intra(intra, inter.routes)?;
-    let external = externals(alloc, database, router, &inside, &inter.routers)?;
+    let external = externals(alloc, database, lsas, router, &inside, &inter.routers)?;
     prefer(inside.into_routes(), external)
 }

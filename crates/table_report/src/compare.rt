@@ -1,6 +1,6 @@
 //! The text of the differences of two routing tables.
 
-ghost use Rattle.std.specs.Prelude.{◌≡◌, ◌++◌, IfOk, OnOk, Some, codes, map, option_map, true};
+ghost use Rattle.std.specs.Prelude.{◌≡◌, ◌++◌, IfOk, IfSome, OnOk, Some, codes, map, option_map, true};
 ghost use Rattle.std.specs.Option.{option_copied};
 ghost use Rattle.std.specs.String.{string_bytes};
 ghost use Rattle.area_graph.specs.Rising.{rising};
@@ -26,14 +26,7 @@ fn nets_of<A: Allocator + Copy>(alloc: A, routes: &Routes<A>) -> Result<Vec<Pref
     routes.iter().map(|route| route.net).collect(alloc)
 }
 
-/// Whether prefixes are the same.
-fn are_same_nets(before: &[Prefix], now: &[Prefix]) -> bool
-    ensures { result ≡ true → before.now ≡ now.now }
-{
-    before == now
-}
-
-/// The prefixes of both lists of routes, in order, each once. Most often both have the same ones.
+/// The prefixes of both lists of routes, in order, each once.
 fn all_nets<A: Allocator + Copy>(
     alloc: A,
     before: &Routes<A>,
@@ -44,9 +37,6 @@ fn all_nets<A: Allocator + Copy>(
 {
     let mut nets = nets_of(alloc, before)?;
     let mut more = nets_of(alloc, now)?;
-    if are_same_nets(&nets, &more) {
-        return Ok(nets);
-    }
     nets.append(&mut more)?;
     // Two lists in order: a stable sort merges them in one go.
     nets.sort()?;
@@ -154,8 +144,59 @@ fn route_near<A: Allocator + Copy>(
     }
 }
 
-/// The lines for the prefixes at which two lists of routes differ, in order of prefix.
+/// Whether two routes are to the same prefix.
+fn are_to_same_net<A: Allocator + Copy>(before: &Route<A>, now: &Route<A>) -> bool
+    ensures { result ≡ true → before.now.net ≡ now.now.net }
+{
+    before.net == now.net
+}
+
+/// The lines for the prefixes at which two lists of routes differ, in order of prefix; `None` where
+/// they are not to the same prefixes.
+fn changes_in_place<A: Allocator + Copy>(
+    alloc: A,
+    before: &[Route<A>],
+    now: &[Route<A>],
+) -> Result<Option<Vec<String<A>, A>>, AllocError>
+    requires before { AreSortedRoutes before.now }
+    requires now { AreSortedRoutes now.now }
+    ensures { IfOk result (λ found. IfSome found
+        (λ lines. map string_bytes lines.items ≡ changes before.now now.now)) }
+{
+    if before.len() != now.len() {
+        return Ok(None);
+    }
+    let mut lines = Vec::new(alloc);
+    for index in 0..before.len() {
+        let route_before = &before[index];
+        let route_now = &now[index];
+        if !are_to_same_net(route_before, route_now) {
+            return Ok(None);
+        }
+        if let Some(line) = changed(alloc, route_before, route_now)? {
+            lines.push(line)?;
+        }
+    }
+    Ok(Some(lines))
+}
+
+/// The lines for the prefixes at which two lists of routes differ, in order of prefix. Most often
+/// both have the same prefixes.
 fn changes<A: Allocator + Copy>(
+    alloc: A,
+    before: &Routes<A>,
+    now: &Routes<A>,
+) -> Result<Vec<String<A>, A>, AllocError>
+    ensures { IfOk result (λ lines. map string_bytes lines.items ≡ changes before.now now.now) }
+{
+    match changes_in_place(alloc, before.as_slice(), now.as_slice())? {
+        Some(lines) => Ok(lines),
+        None => changes_by_prefix(alloc, before, now),
+    }
+}
+
+/// The same, prefix by prefix.
+fn changes_by_prefix<A: Allocator + Copy>(
     alloc: A,
     before: &Routes<A>,
     now: &Routes<A>,

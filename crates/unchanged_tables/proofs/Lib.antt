@@ -1,5 +1,4 @@
 mod SteadyPaths
-mod SteadyLists
 mod SteadyEdges
 mod SteadyResults
 mod SteadySections

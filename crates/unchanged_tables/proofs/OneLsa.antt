@@ -10,7 +10,15 @@ use Rattle.lsdb.specs.Lists.{AreaHead, IsDatabase, Lists, SectionLsas, areas_of,
 use Rattle.lsdb.specs.Places.{Places, item_at, lists_of, put, slot_at}
 use Rattle.lsdb.proofs.AreaLemmas.{area_named}
 use Rattle.lsdb.proofs.PlaceLemmas.{between, section_with}
-use Rattle.area_graph.specs.Graphs.{IsGraphOf}
+use Rattle.area_graph.specs.declared.cost_change.CostChange.{CostChange}
+use Rattle.area_graph.specs.CostChanges.{AreChanged, IsChangedLsa}
+use Rattle.area_graph.specs.Graphs.{AreOfArea, IsGraphOf}
+use Rattle.area_graph.proofs.CostChangeLemmas.{one_changed as cost_changed_lsas}
+use Rattle.area_graph.proofs.GraphLemmas.{are_of_area}
+use Rattle.area_graph.proofs.MemberLemmas.{Contains-from_In, In-right}
+use Rattle.std.proofs.lemmas.List.Elements.{All-contains}
+use Rattle.lsa_codec.specs.Accepted.{IsAccepted}
+use Rattle.unchanged_tables.specs.CostChanges.{IsCostChange}
 use Rattle.area_routes.specs.Attached.{has_live_router_lsa, is_attached}
 use Rattle.routing_table.specs.AreaTrees.{AreaTreesValue, IsAreaOf}
 use Rattle.routing_table.specs.AreasTrees.{AreOfDatabase, AreasTrees, trees_at}
@@ -132,3 +140,14 @@ module _ (d : Places) (slot : SlotId) (router : RouterId) (before after : List �
       let changes : IsSteadyLsa (distances_from router olds) before after =
       subst (λ (distance : DistanceOf). IsSteadyLsa distance before after) distances steady in
       area_unchanged (inl (one_changed _ (λ lsa. inl refl) front back before after (inr changes)))
+
+  -- where the cost of one interface is changed
+  pub cost_changed : (change : CostChange) → IsChangedLsa change before after → IsCostChange area change (lists_of (put d slot (Some before))) (lists_of d)
+  cost_changed change one =
+      let were : AreOfArea olds = subst (λ (o : Option SectionLsas). AreOfArea (lsas_or_none o)) found_old
+      (are_of_area area (lists_of (put d slot (Some before))) was) in
+      let accepted : IsAccepted before = All-contains IsAccepted olds before were.accepted
+      (Contains-from_In olds before (In-right front (before ∷ back) before (inl refl))) in
+      subst (λ (o : Option SectionLsas). AreChanged change (lsas_or_none o) (lsas_of (Area area) (lists_of d))) (sym found_old)
+      (subst (λ (o : Option SectionLsas). AreChanged change olds (lsas_or_none o)) (sym found_new)
+      (cost_changed_lsas change before after one accepted front back were))

@@ -20,8 +20,8 @@ use Rattle.area_graph.specs.AreaEdges.{area_edges, back, edge_over, edges_over, 
 use Rattle.area_graph.proofs.AllPathsLemmas.{IsDistance-distance_of}
 use Rattle.area_graph.proofs.MemberLemmas.{Contains-from_In, In-from_Contains, Some-same}
 use Rattle.unchanged_tables.specs.Slack.{AreSteadyLsas, DistanceOf, IsSlack, IsSlackLink, IsSteadyLink, IsSteadyLsa}
-use Rattle.unchanged_tables.proofs.SteadyLists.{AreBoth, left-In, right-In, same-filter_map, zip-any, zip-append, zip-filter, zip-filter_map}
-use Rattle.unchanged_tables.proofs.SteadyLists.{zip-flat_map, zip-itself, zip-map}
+use Rattle.area_graph.proofs.ZipLemmas.{AreBoth, left-In, right-In, same-filter_map, zip-any, zip-append, zip-filter, zip-filter_map}
+use Rattle.area_graph.proofs.ZipLemmas.{zip-flat_map, zip-itself, zip-map}
 use Rattle.unchanged_tables.proofs.SteadyPaths.{AreSteadyEdges, IsNoFarther, IsTight, no_farther}
 
 -- an edge before and after a change: the same, but for its cost where it is slack before and after

@@ -37,7 +37,7 @@ use Rattle.area_routes.proofs.OverAllPathsLemmas.{NothingFree-area}
 use Rattle.unchanged_tables.specs.Slack.{AreSteadyLsas, DistanceOf, IsSlack, IsSlackLink, IsSteadyLink}
 use Rattle.unchanged_tables.specs.Steady.{distances_from}
 use Rattle.unchanged_tables.proofs.SteadyEdges.{IsAlike, IsSteady, alike, are_steady_edges, same_vertex, steady_edges, steady_links, steady_used}
-use Rattle.unchanged_tables.proofs.SteadyLists.{AreBoth, same-filter, same-filter_map, same-flat_map, zip-filter_map}
+use Rattle.area_graph.proofs.ZipLemmas.{AreBoth, same-filter, same-filter_map, same-flat_map, zip-filter_map}
 use Rattle.unchanged_tables.proofs.SteadyPaths.{AreSteadyEdges, same_distance, same_hops}
 
 -- a vertex that is reached before and after a change: only its LSA changes, and only steadily

@@ -1,3 +1,4 @@
 pub mod ByTree
 pub mod Slack
 pub mod Steady
+pub mod CostChanges

@@ -5,10 +5,12 @@
 //! and so the table stay, and no tree has to be calculated to know it.
 #![tactic(auto)]
 
+mod cost_changes;
 mod deciding;
 mod distances;
 mod laws;
 mod steady;
 
+pub use cost_changes::{AreaChange, cost_change};
 pub use deciding::is_unchanged;
 pub use laws::{steady_changes_leave_results, steady_changes_leave_tables};

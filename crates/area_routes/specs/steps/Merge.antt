@@ -43,6 +43,10 @@ module _ {K : Type 0} where
   merge (Some w) c = match_ordering (rank_cmp c.rank w.rank) (fresh c) (merged w c) w
 
   module _ (R : K → K → Ordering) where
+    -- by the destination
+    abbrev pub key_cmp : Candidate K → Candidate K → Ordering
+    key_cmp a b = R a.key b.key
+
     -- by the destination, and then by the rank
     abbrev pub candidate_cmp : Candidate K → Candidate K → Ordering
     candidate_cmp a b = ordering_then (R a.key b.key) (rank_cmp a.rank b.rank)

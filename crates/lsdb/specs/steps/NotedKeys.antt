@@ -1,5 +1,5 @@
 -- The keys of a section's LSAs, each noted with the index of a place, and kept beside the places.
-use Rattle.std.specs.Prelude.{◌≡◌, ◌<◌, ◌≤◌, ℕ, suc, true, cond, List, [], ◌∷◌, length, map, Option, Some, None, slice_index_or, All, Contains}
+use Rattle.std.specs.Prelude.{◌≡◌, ◌<◌, ◌≤◌, ℕ, suc, true, cond, List, [], ◌∷◌, ◌++◌, length, map, Option, Some, None, slice_index_or, All, Contains}
 use Rattle.std.specs.Map.{lookup}
 use Rattle.std.specs.declared.cmp.Ordering.TheVariants.{Less}
 use Rattle.lsa_codec.specs.declared.key.Key.{Key}
@@ -23,14 +23,15 @@ noted_index keys key = lookup (same_key key) (pairs_of keys)
 abbrev pub AreApart : List Place → Type 0
 AreApart places = AreDistinct (map key_of (full places))
 
--- keys rise, and the index of each LSA's place is noted of its key
-pub record AreNoted (places : List Place) (keys : List KeyAt) : Type 0 where
+-- keys rise, also the latest, and the index of each LSA's place is noted of its key, first of all among the latest
+pub record AreNoted (places : List Place) (keys latest : List KeyAt) : Type 0 where
   pub rising : IsRising keys
-  pub whole : (i : ℕ) (lsa : List ℕ) → item_at places i ≡ Some (Some lsa) → noted_index keys (key_of lsa) ≡ Some i
+  pub latest_rising : IsRising latest
+  pub whole : (i : ℕ) (lsa : List ℕ) → item_at places i ≡ Some (Some lsa) → noted_index (latest ++ keys) (key_of lsa) ≡ Some i
 
 -- and there is room for a key of each place, the keys have their widths, and the LSAs are counted
-pub record IsKeyed (places : List Place) (keys : List KeyAt) (room : ℕ) (counts : LsaCounts) : Type 0 where
-  pub sound : AreNoted places keys
+pub record IsKeyed (places : List Place) (keys latest : List KeyAt) (room : ℕ) (counts : LsaCounts) : Type 0 where
+  pub sound : AreNoted places keys latest
   pub fits : length places ≤ room
   pub widths : All HaveWidths (full places)
   pub counted : counts ≡ counts_of (full places)

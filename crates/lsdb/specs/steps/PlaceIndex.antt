@@ -1,5 +1,5 @@
 -- An index of the places of a section: what the LSAs there name, each with the index of its place, in rising order.
-use Rattle.std.specs.Prelude.{◌≡◌, ◌≢◌, ◌^◌, ◌<◌, ◌≤◌, ℕ, suc, List, [], ◌∷◌, length, Option, Some, All, AllPairs, Contains}
+use Rattle.std.specs.Prelude.{◌≡◌, ◌≢◌, ◌^◌, ◌<◌, ◌≤◌, ℕ, suc, List, [], ◌∷◌, ◌++◌, length, Option, Some, All, Contains}
 use Rattle.std.specs.List.{cons_option}
 use Rattle.std.specs.List.Sorted.{IsStrictlySortedBy}
 use Rattle.std.specs.declared.cmp.Ordering.{Ordering}
@@ -9,18 +9,22 @@ use Rattle.lsdb.specs.Places.{Place, item_at}
 abbrev pub most_places : ℕ
 most_places = 2 ^ 32
 
--- what each place names is noted, in rising order, and there is room to note a name of each place
-pub record IsIndex {X : Type 0} (order : X → X → Ordering) (named : ℕ → Place → Option X) (places : List Place) (noted : List X) (room : ℕ) : Type 0 where
+-- what each place names is noted, in rising order, or among the latest, in rising order too, and there is room to note a name of each place
+pub record IsIndex {X : Type 0} (order : X → X → Ordering) (named : ℕ → Place → Option X) (places : List Place) (noted latest : List X) (room : ℕ)
+    : Type 0 where
   pub rising : IsStrictlySortedBy order noted
-  pub whole : (i : ℕ) (place : Place) (name : X) → item_at places i ≡ Some place → named i place ≡ Some name → Contains noted name
+  pub latest_rising : IsStrictlySortedBy order latest
+  pub whole : (i : ℕ) (place : Place) (name : X) → item_at places i ≡ Some place → named i place ≡ Some name → Contains (latest ++ noted) name
   pub fits : length places ≤ room
   pub narrow : length places ≤ most_places
 
 -- the same, but what one place names may not be noted
-pub record IsIndexBut {X : Type 0} (order : X → X → Ordering) (named : ℕ → Place → Option X) (index : ℕ) (places : List Place) (noted : List X) (room : ℕ)
+pub record IsIndexBut {X : Type 0} (order : X → X → Ordering) (named : ℕ → Place → Option X) (index : ℕ) (places : List Place)
+    (noted latest : List X) (room : ℕ)
     : Type 0 where
   pub rising : IsStrictlySortedBy order noted
-  pub whole : (i : ℕ) (place : Place) (name : X) → i ≢ index → item_at places i ≡ Some place → named i place ≡ Some name → Contains noted name
+  pub latest_rising : IsStrictlySortedBy order latest
+  pub whole : (i : ℕ) (place : Place) (name : X) → i ≢ index → item_at places i ≡ Some place → named i place ≡ Some name → Contains (latest ++ noted) name
   pub fits : length places ≤ room
   pub narrow : length places ≤ most_places
 
@@ -36,7 +40,7 @@ pub record NotesOne {X : Type 0} (order : X → X → Ordering) (old new : List 
   pub kept : (other : X) → Contains old other → Contains new other
 
 -- of noted names those of one owner
-pub record IsPartOf {X K : Type 0} (owner : X → K) (index : X → ℕ) (noted : List X) (one : K) (part : List X) : Type 0 where
-  pub rising : AllPairs (λ a b. index a < index b) part
+pub record IsPartOf {X K : Type 0} (order : X → X → Ordering) (owner : X → K) (noted : List X) (one : K) (part : List X) : Type 0 where
+  pub rising : IsStrictlySortedBy order part
   pub own : All (λ name. owner name ≡ one) part
   pub whole : (name : X) → Contains noted name → owner name ≡ one → Contains part name

@@ -28,13 +28,13 @@ abbrev pub prefix_at : ℕ → Place → Option PlaceOfPrefix
 prefix_at index None = None
 prefix_at index (Some lsa) = option_map (prefix_place index (record { 0 = advertising_router_of lsa })) (prefix_of lsa)
 
--- the place of each LSA with a prefix is noted of its router and prefix, in rising order, and there is room to note each place
-abbrev pub IsPrefixIndex : List Place → List PlaceOfPrefix → ℕ → Type 0
-IsPrefixIndex places noted room = IsIndex place_cmp prefix_at places noted room
+-- the place of each LSA with a prefix is noted of its router and prefix, in rising order, or among the latest, and there is room to note each place
+abbrev pub IsPrefixIndex : List Place → List PlaceOfPrefix → List PlaceOfPrefix → ℕ → Type 0
+IsPrefixIndex places noted latest room = IsIndex place_cmp prefix_at places noted latest room
 
 -- the same, but one place may not be noted
-abbrev pub IsPrefixIndexBut : ℕ → List Place → List PlaceOfPrefix → ℕ → Type 0
-IsPrefixIndexBut index places noted room = IsIndexBut place_cmp prefix_at index places noted room
+abbrev pub IsPrefixIndexBut : ℕ → List Place → List PlaceOfPrefix → List PlaceOfPrefix → ℕ → Type 0
+IsPrefixIndexBut index places noted latest room = IsIndexBut place_cmp prefix_at index places noted latest room
 
 -- one more place is noted, and all that were before
 abbrev pub NotesPlace : List PlaceOfPrefix → List PlaceOfPrefix → PlaceOfPrefix → Type 0
@@ -42,4 +42,4 @@ NotesPlace old new place = NotesOne place_cmp old new place
 
 -- of noted places those of one router and prefix
 abbrev pub IsPartOfOrigin : List PlaceOfPrefix → Origin → List PlaceOfPrefix → Type 0
-IsPartOfOrigin noted origin part = IsPartOf (λ p. p.origin) (λ p. p.index) noted origin part
+IsPartOfOrigin noted origin part = IsPartOf place_cmp (λ p. p.origin) noted origin part

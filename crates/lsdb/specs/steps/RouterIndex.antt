@@ -23,13 +23,13 @@ abbrev pub router_at : ℕ → Place → Option PlaceOfRouter
 router_at index None = None
 router_at index (Some lsa) = Some (router_place index lsa)
 
--- the place of each LSA is noted of its router, in rising order, and there is room to note each place
-abbrev pub IsRouterIndex : List Place → List PlaceOfRouter → ℕ → Type 0
-IsRouterIndex places noted room = IsIndex place_cmp router_at places noted room
+-- the place of each LSA is noted of its router, in rising order, or among the latest, and there is room to note each place
+abbrev pub IsRouterIndex : List Place → List PlaceOfRouter → List PlaceOfRouter → ℕ → Type 0
+IsRouterIndex places noted latest room = IsIndex place_cmp router_at places noted latest room
 
 -- the same, but one place may not be noted
-abbrev pub IsRouterIndexBut : ℕ → List Place → List PlaceOfRouter → ℕ → Type 0
-IsRouterIndexBut index places noted room = IsIndexBut place_cmp router_at index places noted room
+abbrev pub IsRouterIndexBut : ℕ → List Place → List PlaceOfRouter → List PlaceOfRouter → ℕ → Type 0
+IsRouterIndexBut index places noted latest room = IsIndexBut place_cmp router_at index places noted latest room
 
 -- one more place is noted, and all that were before
 abbrev pub NotesPlace : List PlaceOfRouter → List PlaceOfRouter → PlaceOfRouter → Type 0
@@ -37,4 +37,4 @@ NotesPlace old new place = NotesOne place_cmp old new place
 
 -- of noted places those of one router
 abbrev pub IsPartOfRouter : List PlaceOfRouter → RouterId → List PlaceOfRouter → Type 0
-IsPartOfRouter noted router part = IsPartOf (λ p. p.adv) (λ p. p.index) noted router part
+IsPartOfRouter noted router part = IsPartOf place_cmp (λ p. p.adv) noted router part

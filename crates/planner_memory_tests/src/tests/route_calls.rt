@@ -12,7 +12,7 @@ use area_graph::Graph;
 use area_routes::{
     AreaResult, InsideRoutes, InterResult, Route, RouterEntry, Routes, StubLinks, inter, intra,
 };
-use external_routes::externals;
+use external_routes::{ExternalLsas, externals};
 use lsa_codec::AreaId;
 use lsdb::Database;
 use memory_tests::{Answer, Growing, Seen, growths_of};
@@ -177,6 +177,16 @@ pub(super) fn lend(rationed: &Rationed) -> Result<Lent<'_>, Fail> {
     })
 }
 
+/// The external routes, by the AS-external-LSAs, which are listed for them.
+fn externals_on<'a>(
+    rationed: &'a Rationed,
+    lent: &Lent<'a>,
+) -> Result<Routes<&'a Rationed>, AllocError> {
+    let lsas = ExternalLsas::of(rationed, &lent.database)?;
+    let (intra, routers) = (&lent.intra, &lent.inter.routers);
+    externals(rationed, &lent.database, &lsas, ROUTER, intra, routers)
+}
+
 /// What a call answers.
 fn answer_of<'a>(
     alloc: Global,
@@ -194,12 +204,10 @@ fn answer_of<'a>(
             let found = inter(rationed, database, ROUTER, &lent.results, &lent.intra);
             of_inter(alloc, found)
         }
-        Call::Externals => {
-            match externals(rationed, database, ROUTER, &lent.intra, &lent.inter.routers) {
-                Ok(routes) => of_routes(alloc, &routes),
-                Err(AllocError) => Ok(None),
-            }
-        }
+        Call::Externals => match externals_on(rationed, lent) {
+            Ok(routes) => of_routes(alloc, &routes),
+            Err(AllocError) => Ok(None),
+        },
         Call::Routers => of_routers(alloc, routers(rationed, database)),
         _ => of_table_of(alloc, rationed, database),
     }

@@ -25,8 +25,8 @@ pub returns-in_default-clause-refused : goal.returns-in_default-clause-refused
 returns-in_default-clause-refused g c =
     net_none c.args.database.now c.args.area c.args.network c.in_ok-number.number c.in_ok-number.ensures.found c.in_default.ensures
 
-pub swaps_in-requires : goal.swaps_in-requires
-swaps_in-requires g c = there_too c.args.database.now c.in_ok-number.number c.in_ok-number.ensures.found.exists
+pub swaps_of_network-requires : goal.swaps_of_network-requires
+swaps_of_network-requires g c = there_too c.args.database.now c.in_ok-number.number c.in_ok-number.ensures.found.exists
 
 pub returns-clause-planned : goal.returns-clause-planned
 returns-clause-planned g c =
@@ -34,12 +34,12 @@ returns-clause-planned g c =
     let fate = net_fate c.args.network in
     let carried = section_carried_out c.args.database.now (Area c.args.area) fate c.in_ok-number.number c.known.ensures c.in_ok-number.ensures.found
     (there_too c.args.database.now c.in_ok-number.number c.in_ok-number.ensures.found.exists) (net_safe c.args.network) in
-    IfOk-weaker c.swaps_in.result _ _ (λ v is. planned_here c.args.database.now (FailNet c.args.area c.args.network) (within (Area c.args.area) fate)
+    IfOk-weaker c.swaps_of_network.result _ _ (λ v is. planned_here c.args.database.now (FailNet c.args.area c.args.network) (within (Area c.args.area) fate)
     (section_swaps fate c.in_ok-number.number (Area c.args.area) 0
-    (places_in c.args.database.now c.in_ok-number.number)) v.items ruled carried is) c.swaps_in.ensures.swaps
+    (places_in c.args.database.now c.in_ok-number.number)) v.items ruled carried is) c.swaps_of_network.ensures.swaps
 
 pub returns-clause-refused : goal.returns-clause-refused
 returns-clause-refused g c =
     let ruled = net_ruled c.args.database.now c.args.area c.args.network c.in_ok-number.number _ c.in_ok-number.ensures.found c.in-Some.ensures.first in
-    IfErr-weaker c.swaps_in.result _ _ (λ f is. subst (λ (e : EditFault). IsRefused c.args.database.now (FailNet c.args.area c.args.network) e)
-    (sym is) (no_memory c.args.database.now (FailNet c.args.area c.args.network) _ ruled)) c.swaps_in.ensures.memory
+    IfErr-weaker c.swaps_of_network.result _ _ (λ f is. subst (λ (e : EditFault). IsRefused c.args.database.now (FailNet c.args.area c.args.network) e)
+    (sym is) (no_memory c.args.database.now (FailNet c.args.area c.args.network) _ ruled)) c.swaps_of_network.ensures.memory

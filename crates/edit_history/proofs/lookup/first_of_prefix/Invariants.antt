@@ -1,6 +1,5 @@
-use Rattle.std.proofs.Common.{take}
 use Rattle.edit_history.proofs.OfPrefix.{NoneStands}
 use Rattle.edit_history.proofs.lookup.first_of_prefix.Given as goal
 
 abbrev pub invariant-loop-place : goal.invariant-loop-place
-invariant-loop-place g l = NoneStands l.wanted l.database l.section (take l.place-index l.place-items)
+invariant-loop-place g l = NoneStands l.wanted l.database l.section l.yielded

@@ -1,13 +1,22 @@
-use Rattle.std.proofs.Common.{◌≡◌, ℕ, ◌+◌, Ok, List, take, sym, ap, subst, arith}
+use Rattle.std.proofs.Common.{◌≡◌, ℕ, ◌+◌, Ok, List, take, refl, sym, ap, subst, arith}
 use Rattle.std.specs.Borrow.{Bor}
 use Rattle.std.proofs.lemmas.List.{take_all}
 use Rattle.lsdb.specs.Lists.{Lists}
 use Rattle.lsdb.specs.Loading.{loaded}
 use Rattle.edit_history.specs.Session.{Session, session_of, effects}
-use Rattle.edit_history.proofs.HistoryLemmas.{done_accepted, state_is}
+use Rattle.edit_history.proofs.HistoryLemmas.{done_accepted, start_linked, state_is}
 use Rattle.edited_databases.specs.Lines.{Mean}
 use Rattle.edited_databases.proofs.Meant.{mean_more}
 use Rattle.edited_databases.proofs.edited.edited.Goals as goal
+
+pub loop-line-init : goal.loop-line-init
+loop-line-init g c =
+    rw c.new-history.ensures (record {
+      linked = start_linked c.in_ok-database.database c.known.ensures;
+      loads = c.in_ok-database.ensures.found;
+      reads = refl;
+      undone = refl;
+    })
 
 pub loop-line-preserved : goal.loop-line-preserved
 loop-line-preserved g c =

@@ -1,6 +1,5 @@
 use Rattle.std.proofs.Common.{◌++◌, [], ◌∷◌, List, ℕ, None, OnOk, ap, map, subst, ◌∙◌}
 use Rattle.lsa_codec.specs.Prefix.{Net}
-use Rattle.lsa_codec.specs.Views.{net_of_lsa}
 use Rattle.lsa_codec.specs.declared.address.Addr.{Addr}
 use Rattle.next_hops.specs.Hop.{extended}
 use Rattle.next_hops.specs.declared.hop.Hop.{Hop}
@@ -9,21 +8,19 @@ use Rattle.area_routes.specs.Candidate.{Candidate}
 use Rattle.area_routes.specs.Values.{RouteValue}
 use Rattle.area_routes.specs.declared.rank.Rank.{Rank}
 use Rattle.external_routes.specs.Choose.{route_class}
-use Rattle.external_routes.specs.External.{external_path, forward_address}
+use Rattle.external_routes.specs.steps.Paths.{path}
 use Rattle.external_routes.proofs.candidates.add_path_by_route.Goals as goal
 
 pub returns : goal.returns
 returns g c =
-    let lsa = c.args.view.now in
+    let lsa = c.args.lsa.now in
     let P : Candidate Net → Type 0 = λ x. OnOk c.add_candidate_onward.result
     ((cs : List (Candidate Net)) → Gathers cs c.args.ways.now → Gathers (cs ++ x ∷ []) c.add_candidate_onward.new.self) in
     let at : Net → Rank → List Hop → Candidate Net = λ net rank hops. record { key = net; rank = rank; area = None; hops = hops } in
     let on : Addr → List Hop → List Hop = λ address hops. map (λ hop. extended hop address) hops in
     subst P
-    (ap (λ (net : Net). at net c.rank-rank.result (on c.forward.result c.as_slice.result.now)) c.net.ensures
-    ∙ ap (λ (rank : Rank). at (net_of_lsa lsa) rank (on c.forward.result c.as_slice.result.now)) c.rank-rank.ensures
-    ∙ ap (λ (n : ℕ). external_path lsa c.route_class.result c.route.inside.cost (on (record { 0 = n }) c.as_slice.result.now)) c.forward.ensures
-    ∙ ap (λ (hops : List Hop). external_path lsa c.route_class.result c.route.inside.cost (on (forward_address lsa) hops)) c.as_slice.ensures.hops
-    ∙ ap (λ (class : ℕ). external_path lsa class c.route.inside.cost (on (forward_address lsa) c.route.inside.hops)) c.route_class.ensures
-    ∙ ap (λ (r : RouteValue). external_path lsa (route_class c.args.route.now) r.cost (on (forward_address lsa) r.hops)) c.route.view_is)
+    (ap (λ (rank : Rank). at (lsa.net) rank (on lsa.forward c.as_slice.result.now)) c.rank-rank.ensures
+    ∙ ap (λ (hops : List Hop). path lsa c.route_class.result c.route.inside.cost (on lsa.forward hops)) c.as_slice.ensures.hops
+    ∙ ap (λ (class : ℕ). path lsa class c.route.inside.cost (on lsa.forward c.route.inside.hops)) c.route_class.ensures
+    ∙ ap (λ (r : RouteValue). path lsa (route_class c.args.route.now) r.cost (on lsa.forward r.hops)) c.route.view_is)
     c.add_candidate_onward.ensures

@@ -1,9 +1,9 @@
-use Rattle.std.proofs.Common.{map}
+use Rattle.std.proofs.Common.{take}
 use Rattle.std.specs.List.{filter_map}
 use Rattle.area_routes.specs.Best.{Gathers}
-use Rattle.external_routes.specs.External.{external_candidate}
+use Rattle.external_routes.specs.steps.Paths.{candidate_of}
 use Rattle.external_routes.proofs.routes.ways_of.Given as goal
 
 -- the ways have taken what the LSAs so far offer into account
 abbrev pub invariant-loop-lsa : goal.invariant-loop-lsa
-invariant-loop-lsa g l = Gathers (filter_map (external_candidate l.router l.inside.routes l.inside.entries) (map (λ lsa. lsa.now) l.yielded)) l.ways
+invariant-loop-lsa g l = Gathers (filter_map (candidate_of l.router l.inside.routes l.inside.entries) (take l.lsa-index l.lsas)) l.ways

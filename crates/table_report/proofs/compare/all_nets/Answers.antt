@@ -6,15 +6,8 @@ use Rattle.lsa_codec.specs.Order.{prefix_cmp}
 use Rattle.area_routes.specs.Routes.{nets}
 use Rattle.lsa_codec.proofs.OrderLemmas.{prefix_exact, prefix_total}
 use Rattle.area_routes.proofs.RisingLemmas.{dedup_rising}
-use Rattle.table_report.proofs.Differing.{same_nets, same_prefix}
+use Rattle.table_report.proofs.Differing.{same_prefix}
 use Rattle.table_report.proofs.compare.all_nets.Goals as goal
-
-pub returns-then-are_same_nets : goal.returns-then-are_same_nets
-returns-then-are_same_nets g c =
-    let before = c.in_ok-nets.ensures.nets in
-    let same = c.are_same_nets.ensures c.if-are_same_nets.true in
-    before ∙ same_nets c.args.before.now c.args.now.now c.nets_of.ensures.sorted
-    (sym before ∙ sym c.deref.ensures.value ∙ same ∙ c.deref-2.ensures.value ∙ c.in_ok-more.ensures.nets)
 
 pub returns : goal.returns
 returns g c =

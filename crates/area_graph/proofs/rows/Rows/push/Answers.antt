@@ -11,5 +11,5 @@ returns g c =
     let new_len : vec_len c.extend_from_slice.new.self ≡ length c.extend_from_slice.new.self.items = search rules in
     (λ i. rows_at (edges i) (c.in_ok-push.ensures.items i))
     ∙ rows_at-push c.self.inside.edges.items c.args.row.now c.self.inside.spans.items (record { start = c.in_ok-start.start; end = c.in_ok-end.end })
-    c.self.invariant (c.in_ok-start.ensures ∙ c.len.ensures ∙ old_len) (c.in_ok-end.ensures ∙ c.len-2.ensures ∙ new_len ∙ ap (λ (es : List Edge). length es) edges)
+    c.self.invariant.0 (c.in_ok-start.ensures ∙ c.len.ensures ∙ old_len) (c.in_ok-end.ensures ∙ c.len-2.ensures ∙ new_len ∙ ap (λ (es : List Edge). length es) edges)
     ∙ ap (λ (rows : List (List Edge)). rows ++ c.args.row.now ∷ []) c.self.view_is

@@ -1,29 +1,31 @@
-use Rattle.std.proofs.Common.{◌≡◌, ◌∙◌, sym, subst, ap, List, Bool, true, false, None, Some, refl, MatchOption, ℕ, length, arith, IfOk, IfErr}
+use Rattle.std.proofs.Common.{◌≡◌, ◌∙◌, sym, subst, ap, List, Bool, true, false, None, Some, refl, MatchOption, ℕ, length, arith}
 use Rattle.std.specs.List.{find}
 use Rattle.std.specs.Bool.{then_some}
 use Rattle.std.proofs.lemmas.Bool.{ltb-true, ltb-false}
-use Rattle.lsdb.specs.declared.keyed_places.KeyAt.{KeyAt}
 use Rattle.lsdb.specs.Lists.{has_key}
 use Rattle.lsdb.specs.Places.{Place, full, item_at}
 use Rattle.lsdb.specs.steps.OnePlace.{IsFirstIndex}
-use Rattle.lsdb.specs.steps.NotedKeys.{IsFoundAt, IsGapFor}
-use Rattle.lsdb.proofs.KeyedPlaceLists.{read, missing_by_search, found_by_search, missing_beyond, missing_other, found_at}
+use Rattle.lsdb.proofs.NotedKeys.{noted_read}
+use Rattle.lsdb.proofs.KeyedPlaceLists.{read, missing_by_index, missing_beyond, missing_other, found_at}
 use Rattle.lsdb.proofs.keyed_places.KeyedPlaces.find.Goals as goal
 
-pub returns-in_err-at : goal.returns-in_err-at
-returns-in_err-at g c =
+pub returns-in_err-index : goal.returns-in_err-index
+returns-in_err-index g c =
     rw c.from_residual.ensures (subst (λ (ps : List Place). find (has_key c.args.key) (full ps) ≡ None) c.self.view_is
-    (missing_by_search c.self.inside.places.items c.self.inside.keys.items c.args.key c.search.result c.self.invariant.keyed.sound c.in_err-at.ensures.value
-    (subst (λ (keys : List KeyAt). IfErr c.search.result (IsGapFor keys c.args.key)) c.deref.ensures.value c.search.ensures.absent)))
+    (missing_by_index c.self.inside.places.items c.self.inside.keys.items c.self.inside.latest.items c.args.key c.self.invariant.keyed.sound
+    (noted_read c.self.inside.latest.items c.self.inside.keys.items c.deref.result.now c.deref-2.result.now c.args.key c.deref.ensures.value
+    c.deref-2.ensures.value
+    ∙ sym c.in_err-index.ensures)))
 
 pub returns-in_err-place : goal.returns-in_err-place
 returns-in_err-place g c =
     rw c.from_residual-in_err-place.ensures (subst (λ (ps : List Place). find (has_key c.args.key) (full ps) ≡ None) c.self.view_is
-    (missing_beyond c.self.inside.places.items c.self.inside.keys.items c.args.key c.in_ok-at.at c.index.result.now c.self.invariant.keyed.sound
-    (found_by_search c.self.inside.keys.items c.args.key c.search.result c.in_ok-at.at c.in_ok-at.ensures.value
-    (subst (λ (keys : List KeyAt). IfOk c.search.result (IsFoundAt keys c.args.key)) c.deref.ensures.value c.search.ensures.found))
-    c.index.ensures
-    (omega (arith, ltb-false _ _ (sym c.in_err-place.ensures.lookup.0), ap (λ (ps : List Place). length ps) c.deref-2.ensures.value))))
+    (missing_beyond c.self.inside.places.items c.self.inside.keys.items c.self.inside.latest.items c.args.key c.in_ok-index.index
+    c.self.invariant.keyed.sound
+    (noted_read c.self.inside.latest.items c.self.inside.keys.items c.deref.result.now c.deref-2.result.now c.args.key c.deref.ensures.value
+    c.deref-2.ensures.value
+    ∙ sym c.in_ok-index.ensures)
+    (omega (arith, ltb-false _ _ (sym c.in_err-place.ensures.lookup.0), ap (λ (ps : List Place). length ps) c.deref-3.ensures.value))))
 
 by_test : (P : Type 0) (Q : ℕ → Type 0) (b : Bool) (i : ℕ) → (b ≡ true → Q i) → (b ≡ false → P) → MatchOption (then_some b i) P Q
 by_test P Q true i hit miss = hit refl
@@ -31,20 +33,20 @@ by_test P Q false i hit miss = miss refl
 
 pub returns : goal.returns
 returns g c =
-    let at : item_at c.self.inside.places.items c.index.result.now.index ≡ Some c.in_ok-place.place.now =
-    subst (λ (ps : List Place). item_at ps c.index.result.now.index ≡ Some c.in_ok-place.place.now) c.deref-2.ensures.value
-    (read c.deref-2.result.now c.index.result.now.index c.in_ok-place.place.now (ltb-true _ _ (sym c.in_ok-place.ensures.lookup.0))
+    let at : item_at c.self.inside.places.items c.in_ok-index.index ≡ Some c.in_ok-place.place.now =
+    subst (λ (ps : List Place). item_at ps c.in_ok-index.index ≡ Some c.in_ok-place.place.now) c.deref-3.ensures.value
+    (read c.deref-3.result.now c.in_ok-index.index c.in_ok-place.place.now (ltb-true _ _ (sym c.in_ok-place.ensures.lookup.0))
     c.in_ok-place.ensures.lookup.1) in
-    rw c.then_some.ensures (by_test _ _ c.has_key.result c.index.result.now.index
+    rw c.then_some.ensures (by_test _ _ c.has_key.result c.in_ok-index.index
     (λ has.
-    subst (λ (ps : List Place). IsFirstIndex ps (has_key c.args.key) c.index.result.now.index) c.self.view_is
-    (found_at c.self.inside.places.items c.self.inside.keys.items c.args.key c.index.result.now.index c.in_ok-place.place.now c.self.invariant.keyed.sound at
-    (sym c.has_key.ensures ∙ has)))
+    subst (λ (ps : List Place). IsFirstIndex ps (has_key c.args.key) c.in_ok-index.index) c.self.view_is
+    (found_at c.self.inside.places.items c.self.inside.keys.items c.self.inside.latest.items c.args.key c.in_ok-index.index c.in_ok-place.place.now
+    c.self.invariant.keyed.sound at (sym c.has_key.ensures ∙ has)))
     (λ other.
     subst (λ (ps : List Place). find (has_key c.args.key) (full ps) ≡ None) c.self.view_is
-    (missing_other c.self.inside.places.items c.self.inside.keys.items c.args.key c.in_ok-at.at c.index.result.now c.in_ok-place.place.now
-    c.self.invariant.keyed.sound
-    (found_by_search c.self.inside.keys.items c.args.key c.search.result c.in_ok-at.at c.in_ok-at.ensures.value
-    (subst (λ (keys : List KeyAt). IfOk c.search.result (IsFoundAt keys c.args.key)) c.deref.ensures.value c.search.ensures.found))
-    c.index.ensures at
-    (sym c.has_key.ensures ∙ other))))
+    (missing_other c.self.inside.places.items c.self.inside.keys.items c.self.inside.latest.items c.args.key c.in_ok-index.index
+    c.in_ok-place.place.now c.self.invariant.keyed.sound
+    (noted_read c.self.inside.latest.items c.self.inside.keys.items c.deref.result.now c.deref-2.result.now c.args.key c.deref.ensures.value
+    c.deref-2.ensures.value
+    ∙ sym c.in_ok-index.ensures)
+    at (sym c.has_key.ensures ∙ other))))

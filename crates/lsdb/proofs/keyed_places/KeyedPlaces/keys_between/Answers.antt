@@ -8,7 +8,10 @@ use Rattle.lsdb.proofs.keyed_places.KeyedPlaces.keys_between.Goals as goal
 
 pub returns : goal.returns
 returns g c =
-    subst (λ (ps : List Place). AreKeysBetween ps c.args.low c.args.high c.noted_between.result.now) c.self.view_is
-    (keys_between c.self.inside.places.items c.self.inside.keys.items c.noted_between.result.now c.args.low c.args.high c.self.invariant.keyed.sound
-    c.self.invariant.keyed.widths
-    (subst (λ (keys : List KeyAt). IsPartBetween keys c.args.low c.args.high c.noted_between.result.now) c.deref.ensures.value c.noted_between.ensures))
+    subst (λ (ps : List Place). AreKeysBetween ps c.args.low c.args.high c.of.result) c.self.view_is
+    (rw c.of.ensures (keys_between c.self.inside.places.items c.self.inside.keys.items c.self.inside.latest.items c.noted_between-older.result.now
+    c.noted_between.result.now c.args.low c.args.high c.self.invariant.keyed.sound c.self.invariant.keyed.widths
+    (subst (λ (keys : List KeyAt). IsPartBetween keys c.args.low c.args.high c.noted_between-older.result.now) c.deref.ensures.value
+    c.noted_between-older.ensures)
+    (subst (λ (keys : List KeyAt). IsPartBetween keys c.args.low c.args.high c.noted_between.result.now) c.deref-2.ensures.value
+    c.noted_between.ensures)))

@@ -1,4 +1,4 @@
-use Rattle.std.proofs.Common.{List, subst, vec_capacity}
+use Rattle.std.proofs.Common.{◌++◌, List, subst, vec_capacity}
 use Rattle.lsdb.specs.declared.prefix_places.Origin.{Origin}
 use Rattle.lsdb.specs.PrefixPlaces.{ArePlacesOfPrefix}
 use Rattle.lsdb.specs.Places.{Place}
@@ -8,7 +8,7 @@ use Rattle.lsdb.proofs.keyed_places.KeyedPlaces.places_of_prefix.Goals as goal
 
 pub returns : goal.returns
 returns g c =
-    subst (λ (ps : List Place). ArePlacesOfPrefix ps c.args.router c.args.prefix c.of_origin.result.now) c.self.view_is
-    (places_of_prefix c.self.inside.places.items c.self.inside.prefixes.noted.items c.of_origin.result.now c.args.router c.args.prefix
+    subst (λ (ps : List Place). ArePlacesOfPrefix ps c.args.router c.args.prefix c.of_origin.result) c.self.view_is
+    (places_of_prefix c.self.inside.places.items c.self.inside.prefixes.noted.items c.self.inside.prefixes.latest.items c.of_origin.result c.args.router c.args.prefix
     (vec_capacity c.self.inside.prefixes.noted) c.self.invariant.prefixes
-    (subst (λ (origin : Origin). IsPartOfOrigin c.self.inside.prefixes.noted.items origin c.of_origin.result.now) c.new-origin.ensures c.of_origin.ensures))
+    (subst (λ (origin : Origin). IsPartOfOrigin (c.self.inside.prefixes.latest.items ++ c.self.inside.prefixes.noted.items) origin c.of_origin.result) c.new-origin.ensures c.of_origin.ensures))

@@ -6,6 +6,6 @@ use Rattle.lsdb.proofs.keyed_places.KeyedPlaces.places_of_router.Goals as goal
 
 pub returns : goal.returns
 returns g c =
-    subst (λ (ps : List Place). ArePlacesOfRouter ps c.args.router c.of_router.result.now) c.self.view_is
-    (places_of_router c.self.inside.places.items c.self.inside.routers.noted.items c.of_router.result.now c.args.router
+    subst (λ (ps : List Place). ArePlacesOfRouter ps c.args.router c.of_router.result) c.self.view_is
+    (places_of_router c.self.inside.places.items c.self.inside.routers.noted.items c.self.inside.routers.latest.items c.of_router.result c.args.router
     (vec_capacity c.self.inside.routers.noted) c.self.invariant.routers c.of_router.ensures)

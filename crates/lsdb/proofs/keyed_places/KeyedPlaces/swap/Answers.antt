@@ -1,4 +1,4 @@
-use Rattle.std.proofs.Common.{◌≡◌, ◌∙◌, ◌<◌, ap, sym, subst, List, Some, None, length, refl, vec_capacity}
+use Rattle.std.proofs.Common.{◌≡◌, ◌∙◌, ◌<◌, ap, sym, subst, List, [], Some, None, length, refl, vec_capacity}
 use Rattle.lsdb.specs.Places.{Place, item_at, put_place}
 use Rattle.lsdb.specs.steps.OnePlace.{place_has_key}
 use Rattle.lsdb.specs.steps.NotedKeys.{AreApart, AreNoted, FitSection}
@@ -7,7 +7,9 @@ use Rattle.lsdb.specs.steps.PrefixIndex.{IsPrefixIndex}
 use Rattle.lsdb.specs.steps.RouterIndex as router
 use Rattle.lsdb.specs.steps.RouterIndex.{IsRouterIndex}
 use Rattle.lsdb.proofs.Seen.{place_set}
-use Rattle.lsdb.proofs.KeyedPlaceLists.{put_is, read_is, set_read, keyed_set, emptied, rewritten, noted, taken, added, no_widths, own_widths}
+use Rattle.lsdb.proofs.KeyedPlaceLists.{put_is, read_is, set_read, keyed_set, emptied, rewritten, noted, noted_before, taken, added, no_widths, own_widths}
+use Rattle.lsdb.proofs.NotedKeys.{noted_read}
+use Rattle.lsdb.proofs.Filters.{filters_put}
 use Rattle.lsdb.proofs.PlaceIndexes.{exchanged}
 use Rattle.lsdb.proofs.keyed_places.KeyedPlaces.swap.Goals as goal
 
@@ -17,6 +19,10 @@ returns-in_default-clause-put g c =
 
 pub returns-then-has_key-clause-put : goal.returns-then-has_key-clause-put
 returns-then-has_key-clause-put g c =
+    put_is c.self.inside.places.items c.args.self.now c.args.index c.swap.new.x c.args.place.now c.swap.ensures.x_after c.self.view_is
+
+pub returns-then-is_noted-clause-put : goal.returns-then-is_noted-clause-put
+returns-then-is_noted-clause-put g c =
     put_is c.self.inside.places.items c.args.self.now c.args.index c.swap.new.x c.args.place.now c.swap.ensures.x_after c.self.view_is
 
 pub returns-then-not-note-clause-put : goal.returns-then-not-note-clause-put
@@ -35,6 +41,12 @@ returns-in_default-clause-place g c =
 
 pub returns-then-has_key-clause-place : goal.returns-then-has_key-clause-place
 returns-then-has_key-clause-place g c =
+    subst (λ (ps : List Place). item_at ps c.args.index ≡ Some c.swap.new.y) c.self.view_is
+    (read_is c.self.inside.places.items c.args.index c.swap.new.y c.index_mut.result.now (rw c.self.view_is c.requires.within)
+    c.index_mut.ensures.value c.swap.ensures.y_after)
+
+pub returns-then-is_noted-clause-place : goal.returns-then-is_noted-clause-place
+returns-then-is_noted-clause-place g c =
     subst (λ (ps : List Place). item_at ps c.args.index ≡ Some c.swap.new.y) c.self.view_is
     (read_is c.self.inside.places.items c.args.index c.swap.new.y c.index_mut.result.now (rw c.self.view_is c.requires.within)
     c.index_mut.ensures.value c.swap.ensures.y_after)
@@ -80,17 +92,20 @@ invariant_of-self g c =
     let none : c.swap.new.x ≡ None =
     sym (set_read c.self.inside.places.items c.args.index c.swap.new.x c.index-2.result.now within c.index-2.ensures) ∙ c.in_default.is in
     record {
+      filters =
+          filters_put c.self.inside.places.items c.self.inside.filters.items c.args.index c.swap.new.x c.deref-3.result.now _
+          c.self.invariant.filters c.deref-3.ensures.value within c.put_filter.ensures;
       keyed =
           keyed_set c.self.inside.places.items c.args.index c.swap.new.y c.swap.new.x c.index.result.now within before c.index.ensures
-          c.self.inside.keys.items _ _ c.self.inside.counts c.without-others.result c.of_place.result c.of_place-2.result _
-          (emptied c.self.inside.places.items c.args.index c.swap.new.x c.self.inside.keys.items none c.self.invariant.keyed.sound)
+          c.self.inside.keys.items c.self.inside.latest.items _ _ c.self.inside.counts c.without-others.result c.of_place.result c.of_place-2.result _
+          (emptied c.self.inside.places.items c.args.index c.swap.new.x c.self.inside.keys.items c.self.inside.latest.items none c.self.invariant.keyed.sound)
           c.self.invariant.keyed.fits refl c.self.invariant.keyed.counted c.of_place.ensures.counts c.without-others.ensures c.of_place-2.ensures.counts
           c.with-self-inside.ensures c.self.invariant.keyed.widths (no_widths c.swap.new.x none);
       routers =
-          subst (λ (ps : List Place). IsRouterIndex ps c.note_place.new.self.noted.items (vec_capacity c.note_place.new.self.noted))
+          subst (λ (ps : List Place). IsRouterIndex ps c.note_place.new.self.noted.items c.note_place.new.self.latest.items (vec_capacity c.note_place.new.self.noted))
           c.deref.ensures.value c.note_place.ensures;
       prefixes =
-          subst (λ (ps : List Place). IsPrefixIndex ps c.note_place-2.new.self.noted.items (vec_capacity c.note_place-2.new.self.noted))
+          subst (λ (ps : List Place). IsPrefixIndex ps c.note_place-2.new.self.noted.items c.note_place-2.new.self.latest.items (vec_capacity c.note_place-2.new.self.noted))
           c.deref-2.ensures.value c.note_place-2.ensures;
     }
 
@@ -102,18 +117,21 @@ invariant_of-self-then-has_key g c =
     let before : item_at c.self.inside.places.items c.args.index ≡ Some c.swap.new.y =
     read_is c.self.inside.places.items c.args.index c.swap.new.y c.index_mut.result.now within c.index_mut.ensures.value c.swap.ensures.y_after in
     record {
+      filters =
+          filters_put c.self.inside.places.items c.self.inside.filters.items c.args.index c.swap.new.x c.deref-3.result.now _
+          c.self.invariant.filters c.deref-3.ensures.value within c.put_filter.ensures;
       keyed =
           keyed_set c.self.inside.places.items c.args.index c.swap.new.y c.swap.new.x c.index.result.now within before c.index.ensures
-          c.self.inside.keys.items _ _ c.self.inside.counts c.without-others.result c.of_place.result c.of_place-2.result _
-          (rewritten c.self.inside.places.items c.args.index c.swap.new.y c.swap.new.x c.in-Some.lsa c.self.inside.keys.items before some
+          c.self.inside.keys.items c.self.inside.latest.items _ _ c.self.inside.counts c.without-others.result c.of_place.result c.of_place-2.result _
+          (rewritten c.self.inside.places.items c.args.index c.swap.new.y c.swap.new.x c.in-Some.lsa c.self.inside.keys.items c.self.inside.latest.items before some
           (sym (ap (λ key. place_has_key key c.swap.new.y) c.key_of-key.ensures.key) ∙ sym c.has_key.ensures ∙ c.if-has_key.true) c.self.invariant.keyed.sound)
           c.self.invariant.keyed.fits refl c.self.invariant.keyed.counted c.of_place.ensures.counts c.without-others.ensures c.of_place-2.ensures.counts
           c.with-self-inside.ensures c.self.invariant.keyed.widths (own_widths c.swap.new.x c.in-Some.lsa some c.key_of-key.ensures.widths);
       routers =
-          subst (λ (ps : List Place). IsRouterIndex ps c.note_place.new.self.noted.items (vec_capacity c.note_place.new.self.noted))
+          subst (λ (ps : List Place). IsRouterIndex ps c.note_place.new.self.noted.items c.note_place.new.self.latest.items (vec_capacity c.note_place.new.self.noted))
           c.deref.ensures.value c.note_place.ensures;
       prefixes =
-          subst (λ (ps : List Place). IsPrefixIndex ps c.note_place-2.new.self.noted.items (vec_capacity c.note_place-2.new.self.noted))
+          subst (λ (ps : List Place). IsPrefixIndex ps c.note_place-2.new.self.noted.items c.note_place-2.new.self.latest.items (vec_capacity c.note_place-2.new.self.noted))
           c.deref-2.ensures.value c.note_place-2.ensures;
     }
 
@@ -132,20 +150,51 @@ invariant_of-self-then-not-note g c =
     let before : item_at c.self.inside.places.items c.args.index ≡ Some c.swap.new.y =
     read_is c.self.inside.places.items c.args.index c.swap.new.y c.index_mut.result.now within c.index_mut.ensures.value c.swap.ensures.y_after in
     record {
+      filters =
+          filters_put c.self.inside.places.items c.self.inside.filters.items c.args.index c.swap.new.x c.deref-3.result.now _
+          c.self.invariant.filters c.deref-3.ensures.value within c.put_filter.ensures;
       keyed =
-          keyed_set c.self.inside.places.items c.args.index c.swap.new.y c.swap.new.x c.index.result.now within before c.index.ensures
-          c.fill.new.keys.items _ _ c.self.inside.counts c.without-others.result c.of_place.result c.of_place-2.result _
-          (subst (λ (ps : List Place). AreNoted ps c.fill.new.keys.items)
+          rw c.clear.ensures.items (keyed_set c.self.inside.places.items c.args.index c.swap.new.y c.swap.new.x c.index.result.now within before c.index.ensures
+          c.fill.new.keys.items [] _ _ c.self.inside.counts c.without-others.result c.of_place.result c.of_place-2.result _
+          (subst (λ (ps : List Place). AreNoted ps c.fill.new.keys.items [])
           (c.deref-then-not-note.ensures.value ∙ place_set c.swap.new.x c.self.inside.places.items c.args.index) c.fill.ensures.sound)
-          c.self.invariant.keyed.fits (c.fill.ensures.room ∙ c.note.ensures.room) c.self.invariant.keyed.counted
+          c.self.invariant.keyed.fits c.fill.ensures.room c.self.invariant.keyed.counted
           c.of_place.ensures.counts c.without-others.ensures
           c.of_place-2.ensures.counts c.with-self-inside.ensures c.self.invariant.keyed.widths
-          (own_widths c.swap.new.x c.in-Some.lsa some c.key_of-key.ensures.widths);
+          (own_widths c.swap.new.x c.in-Some.lsa some c.key_of-key.ensures.widths));
       routers =
-          subst (λ (ps : List Place). IsRouterIndex ps c.note_place.new.self.noted.items (vec_capacity c.note_place.new.self.noted))
+          subst (λ (ps : List Place). IsRouterIndex ps c.note_place.new.self.noted.items c.note_place.new.self.latest.items (vec_capacity c.note_place.new.self.noted))
           c.deref.ensures.value c.note_place.ensures;
       prefixes =
-          subst (λ (ps : List Place). IsPrefixIndex ps c.note_place-2.new.self.noted.items (vec_capacity c.note_place-2.new.self.noted))
+          subst (λ (ps : List Place). IsPrefixIndex ps c.note_place-2.new.self.noted.items c.note_place-2.new.self.latest.items (vec_capacity c.note_place-2.new.self.noted))
+          c.deref-2.ensures.value c.note_place-2.ensures;
+    }
+
+pub invariant_of-self-then-is_noted : goal.invariant_of-self-then-is_noted
+invariant_of-self-then-is_noted g c =
+    let within : c.args.index < length c.self.inside.places.items = rw c.self.view_is c.requires.within in
+    let before : item_at c.self.inside.places.items c.args.index ≡ Some c.swap.new.y =
+    read_is c.self.inside.places.items c.args.index c.swap.new.y c.index_mut.result.now within c.index_mut.ensures.value c.swap.ensures.y_after in
+    let some : c.swap.new.x ≡ Some c.in-Some.lsa =
+    sym (set_read c.self.inside.places.items c.args.index c.swap.new.x c.index-2.result.now within c.index-2.ensures) ∙ c.in-Some.is in
+    record {
+      filters =
+          filters_put c.self.inside.places.items c.self.inside.filters.items c.args.index c.swap.new.x c.deref-3.result.now _
+          c.self.invariant.filters c.deref-3.ensures.value within c.put_filter.ensures;
+      keyed =
+          keyed_set c.self.inside.places.items c.args.index c.swap.new.y c.swap.new.x c.index.result.now within before c.index.ensures
+          c.self.inside.keys.items c.self.inside.latest.items _ _ c.self.inside.counts c.without-others.result c.of_place.result c.of_place-2.result _
+          (noted_before c.self.inside.places.items c.args.index c.swap.new.x c.in-Some.lsa c.key_of-key.result c.self.inside.keys.items
+          c.self.inside.latest.items within some c.key_of-key.ensures.key c.self.invariant.keyed.sound (noted_read c.self.inside.latest.items c.self.inside.keys.items c.deref-4.result.now c.deref-5.result.now
+          c.key_of-key.result c.deref-4.ensures.value c.deref-5.ensures.value ∙ c.is_noted.ensures c.if-is_noted.true))
+          c.self.invariant.keyed.fits refl c.self.invariant.keyed.counted c.of_place.ensures.counts c.without-others.ensures
+          c.of_place-2.ensures.counts
+          c.with-self-inside.ensures c.self.invariant.keyed.widths (own_widths c.swap.new.x c.in-Some.lsa some c.key_of-key.ensures.widths);
+      routers =
+          subst (λ (ps : List Place). IsRouterIndex ps c.note_place.new.self.noted.items c.note_place.new.self.latest.items (vec_capacity c.note_place.new.self.noted))
+          c.deref.ensures.value c.note_place.ensures;
+      prefixes =
+          subst (λ (ps : List Place). IsPrefixIndex ps c.note_place-2.new.self.noted.items c.note_place-2.new.self.latest.items (vec_capacity c.note_place-2.new.self.noted))
           c.deref-2.ensures.value c.note_place-2.ensures;
     }
 
@@ -162,29 +211,31 @@ invariant_of-self-else-not-note g c =
     ∙ put_is c.self.inside.places.items c.args.self.now c.args.index c.swap.new.x c.args.place.now c.swap.ensures.x_after c.self.view_is))
     c.requires.sound.apart in
     record {
+      filters =
+          filters_put c.self.inside.places.items c.self.inside.filters.items c.args.index c.swap.new.x c.deref-3.result.now _
+          c.self.invariant.filters c.deref-3.ensures.value within c.put_filter.ensures;
       keyed =
           keyed_set c.self.inside.places.items c.args.index c.swap.new.y c.swap.new.x c.index.result.now within before c.index.ensures
-          c.note.new.keys.items _ _ c.self.inside.counts c.without-others.result c.of_place.result c.of_place-2.result _
-          (noted c.self.inside.places.items c.args.index c.swap.new.x c.in-Some.lsa c.key_of-key.result c.self.inside.keys.items c.note.new.keys.items
-          within some
-          c.key_of-key.ensures.key apart (c.note.ensures.noted c.if-not-note.false) c.self.invariant.keyed.sound)
-          c.self.invariant.keyed.fits c.note.ensures.room c.self.invariant.keyed.counted c.of_place.ensures.counts c.without-others.ensures
+          c.self.inside.keys.items c.note.new.keys.items _ _ c.self.inside.counts c.without-others.result c.of_place.result c.of_place-2.result _
+          (noted c.self.inside.places.items c.args.index c.swap.new.x c.in-Some.lsa c.key_of-key.result c.self.inside.keys.items c.self.inside.latest.items
+          within some c.key_of-key.ensures.key c.self.invariant.keyed.sound c.note.new.keys.items apart (c.note.ensures.noted c.if-not-note.false))
+          c.self.invariant.keyed.fits refl c.self.invariant.keyed.counted c.of_place.ensures.counts c.without-others.ensures
           c.of_place-2.ensures.counts
           c.with-self-inside.ensures c.self.invariant.keyed.widths (own_widths c.swap.new.x c.in-Some.lsa some c.key_of-key.ensures.widths);
       routers =
-          subst (λ (ps : List Place). IsRouterIndex ps c.note_place.new.self.noted.items (vec_capacity c.note_place.new.self.noted))
+          subst (λ (ps : List Place). IsRouterIndex ps c.note_place.new.self.noted.items c.note_place.new.self.latest.items (vec_capacity c.note_place.new.self.noted))
           c.deref.ensures.value c.note_place.ensures;
       prefixes =
-          subst (λ (ps : List Place). IsPrefixIndex ps c.note_place-2.new.self.noted.items (vec_capacity c.note_place-2.new.self.noted))
+          subst (λ (ps : List Place). IsPrefixIndex ps c.note_place-2.new.self.noted.items c.note_place-2.new.self.latest.items (vec_capacity c.note_place-2.new.self.noted))
           c.deref-2.ensures.value c.note_place-2.ensures;
     }
 
 pub note_place-requires-clause-others : goal.note_place-requires-clause-others
 note_place-requires-clause-others g c =
     exchanged router.place_cmp router.router_at c.self.inside.places.items c.deref.result.now c.args.index c.swap.new.x
-    c.self.inside.routers.noted.items (vec_capacity c.self.inside.routers.noted) c.deref.ensures.value c.self.invariant.routers
+    c.self.inside.routers.noted.items c.self.inside.routers.latest.items (vec_capacity c.self.inside.routers.noted) c.deref.ensures.value c.self.invariant.routers
 
 pub note_place-requires-2-clause-others : goal.note_place-requires-2-clause-others
 note_place-requires-2-clause-others g c =
     exchanged prefix.place_cmp prefix.prefix_at c.self.inside.places.items c.deref-2.result.now c.args.index c.swap.new.x
-    c.self.inside.prefixes.noted.items (vec_capacity c.self.inside.prefixes.noted) c.deref-2.ensures.value c.self.invariant.prefixes
+    c.self.inside.prefixes.noted.items c.self.inside.prefixes.latest.items (vec_capacity c.self.inside.prefixes.noted) c.deref-2.ensures.value c.self.invariant.prefixes

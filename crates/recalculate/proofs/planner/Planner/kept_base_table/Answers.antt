@@ -35,3 +35,11 @@ invariant_of-self-2 g c =
     (may_be_kept c.self.inside.study.base c.args.router (routers_of c.base_table_over.new.trees) c.in_ok-table.table
     c.in_ok-table.ensures.table c.in_ok-table.ensures.kept))
     c.self.invariant
+
+pub invariant_of-self-in_err-table-2 : goal.invariant_of-self-in_err-table-2
+invariant_of-self-in_err-table-2 g c =
+    keeps_other _ _ _ _ _ _ _ _ c.base_table_over.ensures.session c.base_table_over.ensures.graphs tt c.self.invariant
+
+pub invariant_of-self-in_err-clone-2 : goal.invariant_of-self-in_err-clone-2
+invariant_of-self-in_err-clone-2 g c =
+    keeps_other _ _ _ _ _ _ _ _ c.base_table_over.ensures.session c.base_table_over.ensures.graphs tt c.self.invariant

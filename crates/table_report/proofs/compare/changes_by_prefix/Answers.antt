@@ -4,8 +4,8 @@ use Rattle.std.specs.String.{string_bytes}
 use Rattle.area_routes.specs.Routes.{route_to}
 use Rattle.table_report.specs.Comparing.{change, change_at}
 use Rattle.table_report.proofs.Differing.{no_line, one_line}
-use Rattle.table_report.proofs.compare.changes.Goals as goal
-use Rattle.table_report.proofs.compare.changes.Goals.{in-Some+in_ok-push, in_default}
+use Rattle.table_report.proofs.compare.changes_by_prefix.Goals as goal
+use Rattle.table_report.proofs.compare.changes_by_prefix.Goals.{in-Some+in_ok-push, in_default}
 
 pub loop-net-preserved : goal.loop-net-preserved
 loop-net-preserved g c =

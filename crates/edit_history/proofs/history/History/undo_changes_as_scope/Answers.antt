@@ -1,0 +1,15 @@
+use Rattle.std.proofs.Common.{◌≡◌, ◌-◌, ◌∙◌, List, length, take, drop, vec_len, ap, arith, rules}
+use Rattle.std.specs.List.{list_any}
+use Rattle.edit_history.specs.Exchange.{RecordData, changes_as_scope}
+use Rattle.edit_history.specs.Journal.{HistoryRoom}
+use Rattle.edit_history.proofs.Cursor.{any_behind}
+use Rattle.edit_history.proofs.history.History.undo_changes_as_scope.Goals as goal
+
+pub returns : goal.returns
+returns g c =
+    let sized : vec_len c.self.inside.records ≡ length c.self.inside.records.items = search rules in
+    c.any_changes_as_scope.ensures
+    ∙ ap (λ (rs : List RecordData). list_any (changes_as_scope c.args.areas)
+    (take (c.self.inside.cursor - (c.self.inside.cursor - c.args.count)) (drop (c.self.inside.cursor - c.args.count) rs))) c.deref.ensures.value
+    ∙ any_behind (changes_as_scope c.args.areas) c.self.inside.records.items c.self.inside.cursor c.args.count c.args.self.now.lists
+    (ap (λ (v : HistoryRoom). v.lists) c.self.view_is) (omega (arith, c.self.invariant)) c.requires
