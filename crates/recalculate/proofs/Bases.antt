@@ -11,7 +11,7 @@ use Rattle.edit_history.specs.declared.fault.EditFault.{EditFault}
 use Rattle.edit_history.specs.declared.fault.EditFault.TheVariants.{HistoryFull}
 use Rattle.edit_history.specs.Effect.{effect}
 use Rattle.edit_history.specs.Session.{Session, accepted, after_edits, edited, most_edits, moved_back, state}
-use Rattle.routing_table.specs.AreasTrees.{AreasTrees, AreOfDatabase, routers_of}
+use Rattle.routing_table.specs.AreasTrees.{KeptTreesValue, AreOfDatabase, routers_of}
 use Rattle.routing_table.specs.KeptTrees.{IsWithin, KeptRouters, TreeSet, areas_without_tree, is_kept}
 use Rattle.routing_table.specs.Tables.{TableValue, results_in, routes_from, table_by, table_in}
 use Rattle.recalculate.specs.Calls.{Stayed}
@@ -66,7 +66,7 @@ pub last_of : (db : Lists) (router : RouterId) (table : TableValue) → table.ro
 last_of db router table same shows = subst (λ (r : RouterId). table_in db r ≡ Some table) same shows
 
 -- what is kept of it stays so in each session that began at it; a last table goes
-pub goes_on : (s t : Session) (trees after first_trees : AreasTrees) (first_table last_table : Option TableValue) → t.base ≡ s.base
+pub goes_on : (s t : Session) (trees after first_trees : KeptTreesValue) (first_table last_table : Option TableValue) → t.base ≡ s.base
     → AreOfDatabase (state t) after → KeepsTrees s trees first_trees first_table last_table → KeepsTrees t after first_trees first_table None
 goes_on s t trees after first_trees first_table last_table base now keeps = record {
   now = now;
@@ -76,7 +76,7 @@ goes_on s t trees after first_trees first_table last_table base now keeps = reco
 }
 
 -- a table over it is kept, or none, in place of the one that was kept
-pub keeps_other : (s t : Session) (trees first_trees after : AreasTrees) (before table last_table : Option TableValue) → t ≡ s
+pub keeps_other : (s t : Session) (trees first_trees after : KeptTreesValue) (before table last_table : Option TableValue) → t ≡ s
     → AreOfDatabase s.base after → IfSome table (λ table. IsTableOver s.base (routers_of after) table.router table)
     → KeepsTrees s trees first_trees before last_table → KeepsTrees t trees after table last_table
 keeps_other s t trees first_trees after before table last_table same beginning over keeps =
@@ -84,7 +84,7 @@ keeps_other s t trees first_trees after before table last_table same beginning o
     (record { now = keeps.now; beginning = beginning; table = over; last = keeps.last })
 
 -- another table of the session's database, or none, is kept as the last one
-pub keeps_last : (s : Session) (trees first_trees : AreasTrees) (first_table before last_table : Option TableValue)
+pub keeps_last : (s : Session) (trees first_trees : KeptTreesValue) (first_table before last_table : Option TableValue)
     → IfSome last_table (λ table. table_in (state s) table.router ≡ Some table) → KeepsTrees s trees first_trees first_table before
     → KeepsTrees s trees first_trees first_table last_table
 keeps_last s trees first_trees first_table before last_table last keeps =

@@ -3,7 +3,7 @@ use Rattle.std.proofs.Common.{◌≡◌, Bool, true, false, not, cond, List, [],
 use Rattle.std.specs.Prelude.{◌||◌}
 use Rattle.std.specs.Cmp.{Equal-is}
 use Rattle.std.specs.List.{list_any}
-use Rattle.std.specs.Map.{keys_of, lookup}
+use Rattle.std.specs.Map.{keys_of, lookup, remove_entry}
 use Rattle.std.specs.Option.{option_map_or}
 use Rattle.std.specs.Ordering.{eq_by_cmp}
 use Rattle.std.proofs.lemmas.Map.Entries.{lookup-filter-keys}
@@ -15,7 +15,7 @@ use Rattle.lsa_codec.specs.Order.{area_cmp, router_cmp}
 use Rattle.lsa_codec.proofs.OrderLemmas.{area_exact}
 use Rattle.edit_history.specs.Effect.{graph_lsas}
 use Rattle.routing_table.specs.AreaTrees.{AreaTreesValue, IsAreaOf, RouterTreeValue, has_tree}
-use Rattle.routing_table.specs.AreasTrees.{AreasTrees, AreOfDatabase, routers_of, trees_at, trees_in}
+use Rattle.routing_table.specs.AreasTrees.{AreasTrees, KeptTreesValue, AreAreasOf, at_area, routers_by, routers_of, trees_in, trees_of}
 use Rattle.routing_table.specs.KeptTrees.{KeptRouters, is_kept, less_touched}
 use Rattle.area_routes.proofs.SameGraphLemmas.{same_graph, same_stub_links}
 
@@ -31,7 +31,7 @@ any_key router (t ∷ trees) = by (eq_by_cmp router_cmp router t.0) (any_key rou
     by true rest = refl
     by false rest = rest
 
-told_at : (areas : AreasTrees) (area : AreaId) (router : RouterId) → is_kept (routers_of areas) area router ≡ trees_in areas area router
+told_at : (areas : AreasTrees) (area : AreaId) (router : RouterId) → is_kept (routers_by areas) area router ≡ trees_of areas area router
 told_at [] area router = refl
 told_at (a ∷ areas) area router = by (eq_by_cmp area_cmp area a.0) (told_at areas area router)
   where
@@ -41,29 +41,44 @@ told_at (a ∷ areas) area router = by (eq_by_cmp area_cmp area a.0) (told_at ar
     has : AreaTreesValue → Bool
     has kept = has_tree kept router
 
-    by : (b : Bool) → is_kept (routers_of areas) area router ≡ trees_in areas area router
-        → option_map_or any_of (cond b (Some (keys_of a.1.trees)) (lookup (eq_by_cmp area_cmp area) (routers_of areas))) false
+    by : (b : Bool) → is_kept (routers_by areas) area router ≡ trees_of areas area router
+        → option_map_or any_of (cond b (Some (keys_of a.1.trees)) (lookup (eq_by_cmp area_cmp area) (routers_by areas))) false
         ≡ option_map_or has (cond b (Some a.1) (lookup (eq_by_cmp area_cmp area) areas)) false
     by true rest = any_key router a.1.trees
     by false rest = rest
 
-pub told : (areas : AreasTrees) → is_kept (routers_of areas) ≡ trees_in areas
-told areas = λ i area router. told_at areas area router i
+pub told : (kept : KeptTreesValue) → is_kept (routers_of kept) ≡ trees_in kept
+told kept = λ i area router. told_at kept.areas area router i
 
 -- ---- the trees of touched areas go
 
 abbrev pub untouched : (AreaId → Bool) → AreasTrees → AreasTrees
 untouched is_touched areas = filter (λ a. not (is_touched a.0)) areas
 
-pub told_untouched : (is_touched : AreaId → Bool) (areas : AreasTrees) → routers_of (untouched is_touched areas) ≡ less_touched is_touched (routers_of areas)
+pub told_untouched : (is_touched : AreaId → Bool) (areas : AreasTrees) → routers_by (untouched is_touched areas) ≡ less_touched is_touched (routers_by areas)
 told_untouched is_touched [] = refl
 told_untouched is_touched (a ∷ areas) = by (is_touched a.0) (told_untouched is_touched areas)
   where
-    by : (b : Bool) → routers_of (untouched is_touched areas) ≡ less_touched is_touched (routers_of areas)
-        → routers_of (cond (not b) (a ∷ untouched is_touched areas) (untouched is_touched areas))
-        ≡ cond (not b) ((a.0, keys_of a.1.trees) ∷ less_touched is_touched (routers_of areas)) (less_touched is_touched (routers_of areas))
+    by : (b : Bool) → routers_by (untouched is_touched areas) ≡ less_touched is_touched (routers_by areas)
+        → routers_by (cond (not b) (a ∷ untouched is_touched areas) (untouched is_touched areas))
+        ≡ cond (not b) ((a.0, keys_of a.1.trees) ∷ less_touched is_touched (routers_by areas)) (less_touched is_touched (routers_by areas))
     by true rest = rest
     by false rest = ap (λ (l : KeptRouters). (a.0, keys_of a.1.trees) ∷ l) rest
+
+-- one of them may have gone before
+pub untouched_less : (is_touched : AreaId → Bool) (area : AreaId) (areas : AreasTrees) → is_touched area ≡ true
+    → untouched is_touched (remove_entry (eq_by_cmp area_cmp area) areas) ≡ untouched is_touched areas
+untouched_less is_touched area [] touched = refl
+untouched_less is_touched area (a ∷ areas) touched = by (eq_by_cmp area_cmp area a.0) refl
+  where
+    gone : is_touched a.0 ≡ true → untouched is_touched (a ∷ areas) ≡ untouched is_touched areas
+    gone e = ap (λ (b : Bool). cond (not b) (a ∷ untouched is_touched areas) (untouched is_touched areas)) e
+
+    by : (b : Bool) → eq_by_cmp area_cmp area a.0 ≡ b
+        → untouched is_touched (cond b areas (a ∷ remove_entry (eq_by_cmp area_cmp area) areas)) ≡ untouched is_touched (a ∷ areas)
+    by true e = sym (gone (ap is_touched (sym (area_exact area a.0 ((Equal-is (area_cmp area a.0)).0 e))) ∙ touched))
+    by false e =
+        ap (λ (l : AreasTrees). cond (not (is_touched a.0)) (a ∷ l) l) (untouched_less is_touched area areas touched)
 
 module _ (db after : Lists) (is_touched : AreaId → Bool) (stay : (area : AreaId) → is_touched area ≡ false → graph_lsas area after ≡ graph_lsas area db) where
   of_area : (area : AreaId) (o : Option AreaTreesValue) → is_touched area ≡ false → IfSome o (IsAreaOf (lsas_of (Area area) db))
@@ -74,15 +89,15 @@ module _ (db after : Lists) (is_touched : AreaId → Bool) (stay : (area : AreaI
     stubs = same_stub_links (lsas_of (Area area) db) (lsas_of (Area area) after) (sym (stay area apart)) kept.stubs h.stubs;
   }
 
-  pub untouched_stay : (areas : AreasTrees) → AreOfDatabase db areas → AreOfDatabase after (untouched is_touched areas)
+  pub untouched_stay : (areas : AreasTrees) → AreAreasOf db areas → AreAreasOf after (untouched is_touched areas)
   untouched_stay areas all area = by (is_touched area) refl
     where
-      keeps : (b : Bool) → is_touched area ≡ b → trees_at (untouched is_touched areas) area ≡ cond (not b) (trees_at areas area) None
+      keeps : (b : Bool) → is_touched area ≡ b → at_area (untouched is_touched areas) area ≡ cond (not b) (at_area areas area) None
       keeps b e =
           lookup-filter-keys (eq_by_cmp area_cmp area) (λ a. not (is_touched a)) (not b)
           (λ a same. ap (λ x. not (is_touched x)) (sym (area_exact area a ((Equal-is (area_cmp area a)).0 same))) ∙ ap not e) areas
 
-      by : (b : Bool) → is_touched area ≡ b → IfSome (trees_at (untouched is_touched areas) area) (IsAreaOf (lsas_of (Area area) after))
+      by : (b : Bool) → is_touched area ≡ b → IfSome (at_area (untouched is_touched areas) area) (IsAreaOf (lsas_of (Area area) after))
       by true e = subst (λ o. IfSome o (IsAreaOf (lsas_of (Area area) after))) (sym (keeps true e)) tt
       by false e = subst (λ o. IfSome o (IsAreaOf (lsas_of (Area area) after)))
-          (sym (keeps false e)) (of_area area (trees_at areas area) e (all area))
+          (sym (keeps false e)) (of_area area (at_area areas area) e (all area))

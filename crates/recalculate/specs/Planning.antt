@@ -4,7 +4,7 @@ use Rattle.lsa_codec.specs.declared.address.RouterId.{RouterId}
 use Rattle.lsdb.specs.Lists.{Lists}
 use Rattle.area_routes.specs.Attached.{attached_areas}
 use Rattle.edit_history.specs.Session.{Session, state}
-use Rattle.routing_table.specs.AreasTrees.{AreasTrees, AreOfDatabase, routers_of}
+use Rattle.routing_table.specs.AreasTrees.{KeptTreesValue, AreOfDatabase, routers_of}
 use Rattle.routing_table.specs.KeptTrees.{KeptRouters, areas_without_tree, is_kept}
 use Rattle.routing_table.specs.Tables.{TableValue, table_in}
 
@@ -23,7 +23,7 @@ pub record IsTableOver (db : Lists) (kept : KeptRouters) (router : RouterId) (ta
 
 -- the trees that are kept are those of the session's database, and of the database that it began at; and if a table of the latter
 -- is kept, or a last table, that is one of the session's database, they are tables there
-pub record KeepsTrees (s : Session) (trees first_trees : AreasTrees) (first_table last_table : Option TableValue) : Type 0 where
+pub record KeepsTrees (s : Session) (trees first_trees : KeptTreesValue) (first_table last_table : Option TableValue) : Type 0 where
   pub now : AreOfDatabase (state s) trees
   pub beginning : AreOfDatabase s.base first_trees
   pub table : IfSome first_table (λ table. IsTableOver s.base (routers_of first_trees) table.router table)

@@ -11,7 +11,7 @@ use routing_table::{KeptTrees, Table, TableFault, table_of};
 use spf::Meter;
 use std::alloc::{AllocError, Allocator};
 use std::marker::Model;
-use unchanged_tables::is_unchanged;
+use unchanged_tables::{AreaChange, cost_change, is_unchanged};
 
 /// The edits that may be done at a time.
 const MOST_EDITS: usize = 10_000;
@@ -56,6 +56,7 @@ impl<A: Allocator + Copy> Study<A> {
     ghost use Rattle.recalculate.specs.Counts.{info_of};
     ghost use Rattle.recalculate.specs.Reached.{IsReached};
     ghost use Rattle.routing_table.specs.Tables.{table_in, FaultMeans};
+    ghost use Rattle.unchanged_tables.specs.CostChanges.{IsCostChange};
 
     /// The study of a database, without edits. It takes no memory.
     #[tactic(auto, using(crate::proofs::Steps::start_studied))]
@@ -139,6 +140,50 @@ impl<A: Allocator + Copy> Study<A> {
         ensures { count ≤ length self.now.undone → result ≡ redo_touches count area self.now }
     {
         count <= self.history.undone() && self.history.redo_touches(count, area)
+    }
+
+    /// The change of the cost of one interface that the last `count` done edits made, where they are
+    /// one edit, and it made no other change. It takes no memory.
+    pub(crate) fn done_change(&self, count: usize) -> Option<AreaChange>
+        requires { count ≤ length self.now.done }
+        ensures change { IfSome result (λ made. IsCostChange made.area made.change
+            (state (moved_back count self.now)) (state self.now)) }
+        ensures touched { IfSome result (λ made. undo_touches count made.area self.now ≡ true) }
+        ensures database { IsDatabase (state self.now) }
+    {
+        // For what holds of the database.
+        self.database.known();
+        if count != 1 {
+            return None;
+        }
+        let last = self.history.last_change()?;
+        let made = cost_change(&self.database, last.slot, last.before)?;
+        if !self.undo_touches(count, made.area) {
+            return None;
+        }
+        Some(made)
+    }
+
+    /// The change of the cost of one interface that taking the first `count` undone edits back made,
+    /// where they are one edit, and no other change was made. It takes no memory.
+    pub(crate) fn undone_change(&self, count: usize) -> Option<AreaChange>
+        requires { count ≤ length self.now.undone }
+        ensures change { IfSome result (λ made. IsCostChange made.area made.change
+            (state (moved_on count self.now)) (state self.now)) }
+        ensures touched { IfSome result (λ made. redo_touches count made.area self.now ≡ true) }
+        ensures database { IsDatabase (state self.now) }
+    {
+        // For what holds of the database.
+        self.database.known();
+        if count != 1 {
+            return None;
+        }
+        let next = self.history.next_change()?;
+        let made = cost_change(&self.database, next.slot, next.before)?;
+        if !self.redo_touches(count, made.area) {
+            return None;
+        }
+        Some(made)
     }
 
     /// How many edits are done.

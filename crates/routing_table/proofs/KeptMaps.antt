@@ -24,11 +24,16 @@ use Rattle.area_routes.specs.declared.stub_links.StubLink.{StubLink}
 use Rattle.area_routes.specs.StubLinks.{AreStubLinksOf}
 use Rattle.routing_table.specs.AreaTrees.{AreaTreesValue, IsAreaOf, has_tree, graph_and_stubs}
 use Rattle.routing_table.proofs.MapLemmas.{Puts, if_found, put_all, put_here, put_other, put_passes, put_tells}
-use Rattle.routing_table.specs.AreasTrees.{AreasTrees, AreOfDatabase, trees_at, trees_in}
+use Rattle.routing_table.specs.AreasTrees.{AreasTrees, KeptTreesValue, AreAreasOf, AreOfDatabase, IsSpareOf}
+use Rattle.routing_table.specs.AreasTrees.{at_area, trees_at, trees_in, trees_of}
 use Rattle.routing_table.specs.KeptTrees.{IsWithin}
 
 area_self : (area : AreaId) → eq_by_cmp area_cmp area area ≡ true
 area_self area = sym (unsigned_ties area.0 area.0) ∙ eq-eqb area.0 area.0 refl
+
+-- graphs and trees beside the graph that is spare
+abbrev pub beside : Option (AreaId × AreaTreesValue) → AreasTrees → KeptTreesValue
+beside spare areas = record { areas = areas; spare = spare }
 
 -- graph and stub links
 abbrev pub area_at : Option AreaTreesValue → Option (Topology × List StubLink)
@@ -39,31 +44,31 @@ has_at root o = option_map_or (λ kept. has_tree kept root) o false
 
 module _ (old new : AreasTrees) (area : AreaId) (t : AreaTreesValue) (puts : Puts area_cmp old new area t) where
   -- the graph of an area came in
-  pub graphs_stay : (db : Lists) → IsAreaOf (lsas_of (Area area) db) t → AreOfDatabase db old → AreOfDatabase db new
+  pub graphs_stay : (db : Lists) → IsAreaOf (lsas_of (Area area) db) t → AreAreasOf db old → AreAreasOf db new
   graphs_stay db is all = put_all area_cmp area_exact old new area t puts (λ a kept. IsAreaOf (lsas_of (Area a) db) kept) is all
 
-  pub no_tree_more : trees_at old area ≡ None → t.trees ≡ [] → (other : AreaId) (root : RouterId) → trees_in new other root ≡ trees_in old other root
+  pub no_tree_more : at_area old area ≡ None → t.trees ≡ [] → (other : AreaId) (root : RouterId) → trees_of new other root ≡ trees_of old other root
   no_tree_more absent empty other root =
       put_tells area_cmp area_exact old new area t puts (has_at root)
       (ap (λ trees. is_some (lookup (eq_by_cmp router_cmp root) trees)) empty ∙ ap (has_at root) (sym absent)) other
 
-  pub area_here : IsSome (trees_at new area)
+  pub area_here : IsSome (at_area new area)
   area_here = subst (λ o. IsSome o) (sym (put_here area_cmp area_exact old new area t puts (area_self area))) refl
 
   -- trees came in where there was a graph
-  module _ (s : AreaTreesValue) (was : trees_at old area ≡ Some s) where
-    pub same_graphs : t.graph ≡ s.graph → t.stubs ≡ s.stubs → (other : AreaId) → area_at (trees_at new other) ≡ area_at (trees_at old other)
+  module _ (s : AreaTreesValue) (was : at_area old area ≡ Some s) where
+    pub same_graphs : t.graph ≡ s.graph → t.stubs ≡ s.stubs → (other : AreaId) → area_at (at_area new other) ≡ area_at (at_area old other)
     same_graphs graph stubs other =
         put_tells area_cmp area_exact old new area t puts area_at ((λ i. Some (graph i, stubs i)) ∙ ap area_at (sym was)) other
 
-    pub still_within : ((root : RouterId) → has_tree s root ≡ true → has_tree t root ≡ true) → IsWithin (trees_in old) (trees_in new)
+    pub still_within : ((root : RouterId) → has_tree s root ≡ true → has_tree t root ≡ true) → IsWithin (trees_of old) (trees_of new)
     still_within keeps other root had =
         put_passes area_cmp area_exact old new area t puts (has_at root) (λ h. keeps root (ap (has_at root) (sym was) ∙ h)) other had
 
-  pub other_areas : (other : AreaId) → other ≢ area → (root : RouterId) → trees_in new other root ≡ trees_in old other root
+  pub other_areas : (other : AreaId) → other ≢ area → (root : RouterId) → trees_of new other root ≡ trees_of old other root
   other_areas other apart root = ap (has_at root) (put_other area_cmp area_exact old new area t puts other apart)
 
-  pub tree_in : (root : RouterId) → has_tree t root ≡ true → trees_in new area root ≡ true
+  pub tree_in : (root : RouterId) → has_tree t root ≡ true → trees_of new area root ≡ true
   tree_in root has = ap (has_at root) (put_here area_cmp area_exact old new area t puts (area_self area)) ∙ has
 
 -- ---- graphs of a database
@@ -78,15 +83,18 @@ if_area lsas (Some x) (Some y) same h =
       stubs = subst (λ (a : Topology × List StubLink). AreStubLinksOf lsas a.1) (sym is) h.stubs;
     }
 
-pub of_same_graphs : (db : Lists) (old new : AreasTrees) → ((area : AreaId) → area_at (trees_at new area) ≡ area_at (trees_at old area))
-    → AreOfDatabase db old → AreOfDatabase db new
-of_same_graphs db old new same all area = if_area (lsas_of (Area area) db) (trees_at new area) (trees_at old area) (same area) (all area)
+pub of_same_graphs : (db : Lists) (old new : KeptTreesValue) → ((area : AreaId) → area_at (trees_at new area) ≡ area_at (trees_at old area))
+    → new.spare ≡ old.spare → AreOfDatabase db old → AreOfDatabase db new
+of_same_graphs db old new same left all = record {
+  areas = λ area. if_area (lsas_of (Area area) db) (trees_at new area) (trees_at old area) (same area) (all.areas area);
+  spare = subst (λ (spare : Option (AreaId × AreaTreesValue)). IfSome spare (IsSpareOf db)) (sym left) all.spare;
+}
 
 -- the graph of an area has the routers that are attached to it
-pub has_vertex : (db : Lists) (areas : AreasTrees) (area : AreaId) (router : RouterId) → IsDatabase db → AreOfDatabase db areas
+pub has_vertex : (db : Lists) (areas : KeptTreesValue) (area : AreaId) (router : RouterId) → IsDatabase db → AreOfDatabase db areas
     → is_attached db area router ≡ true
     → IsSome (trees_at areas area) → IsSomeAnd (trees_at areas area) (λ trees. Contains trees.graph.vertices (Router router))
-has_vertex db areas area router sound all attached there = by (trees_at areas area) there (all area)
+has_vertex db areas area router sound all attached there = by (trees_at areas area) there (all.areas area)
   where
     by : (o : Option AreaTreesValue) → IsSome o → IfSome o (IsAreaOf (lsas_of (Area area) db))
         → IsSomeAnd o (λ trees. Contains trees.graph.vertices (Router router))
@@ -96,15 +104,15 @@ has_vertex db areas area router sound all attached there = by (trees_at areas ar
 
 -- ---- what a look-up found
 
-module _ (areas : AreasTrees) (area : AreaId) (kept : AreaTreesValue) (is : trees_at areas area ≡ Some kept) where
+module _ (areas : KeptTreesValue) (area : AreaId) (kept : AreaTreesValue) (is : trees_at areas area ≡ Some kept) where
   pub has_found : (router : RouterId) → trees_in areas area router ≡ true → has_tree kept router ≡ true
   has_found router has = ap (has_at router) (sym is) ∙ has
 
-pub area_found : (db : Lists) (areas : AreasTrees) (area : AreaId) (kept : AreaTreesValue) → AreOfDatabase db areas
+pub area_found : (db : Lists) (areas : KeptTreesValue) (area : AreaId) (kept : AreaTreesValue) → AreOfDatabase db areas
     → trees_at areas area ≡ Some kept → IsAreaOf (lsas_of (Area area) db) kept
-area_found db areas area kept all is = if_found (λ k. IsAreaOf (lsas_of (Area area) db) k) (trees_at areas area) kept is (all area)
+area_found db areas area kept all is = if_found (λ k. IsAreaOf (lsas_of (Area area) db) k) (trees_at areas area) kept is (all.areas area)
 
-pub vertex_found : (areas : AreasTrees) (area : AreaId) (router : RouterId) (kept : AreaTreesValue) → trees_at areas area ≡ Some kept
+pub vertex_found : (areas : KeptTreesValue) (area : AreaId) (router : RouterId) (kept : AreaTreesValue) → trees_at areas area ≡ Some kept
     → IsSomeAnd (trees_at areas area) (λ trees. Contains trees.graph.vertices (Router router)) → Contains kept.graph.vertices (Router router)
 vertex_found areas area router kept is h = subst (λ o. IsSomeAnd o (λ trees. Contains trees.graph.vertices (Router router))) is h
 

@@ -1,5 +1,5 @@
 -- The trees of all areas in memory, by their areas.
-use Rattle.std.specs.Prelude.{false, List, map, Option, IfSome}
+use Rattle.std.specs.Prelude.{◌≡◌, false, List, [], map, Option, IfSome}
 use Rattle.std.specs.Map.{keys_of, lookup}
 use Rattle.std.specs.Option.{option_map_or}
 use Rattle.std.specs.Ordering.{eq_by_cmp}
@@ -13,16 +13,39 @@ use Rattle.routing_table.specs.KeptTrees.{KeptRouters, TreeSet}
 abbrev pub AreasTrees : Type 0
 AreasTrees = List (AreaId × AreaTreesValue)
 
-abbrev pub trees_at : AreasTrees → AreaId → Option AreaTreesValue
-trees_at areas area = lookup (eq_by_cmp area_cmp area) areas
+-- what is kept: graphs and trees of areas, and the graph of an area whose trees went, if there is one
+pub record KeptTreesValue : Type 0 where
+  pub areas : AreasTrees
+  pub spare : Option (AreaId × AreaTreesValue)
 
-abbrev pub trees_in : AreasTrees → TreeSet
-trees_in areas area router = option_map_or (λ kept. has_tree kept router) (trees_at areas area) false
+abbrev pub at_area : AreasTrees → AreaId → Option AreaTreesValue
+at_area areas area = lookup (eq_by_cmp area_cmp area) areas
+
+abbrev pub trees_at : KeptTreesValue → AreaId → Option AreaTreesValue
+trees_at kept area = at_area kept.areas area
+
+abbrev pub trees_of : AreasTrees → TreeSet
+trees_of areas area router = option_map_or (λ kept. has_tree kept router) (at_area areas area) false
+
+abbrev pub trees_in : KeptTreesValue → TreeSet
+trees_in kept = trees_of kept.areas
 
 -- the routers of the trees
-abbrev pub routers_of : AreasTrees → KeptRouters
-routers_of areas = map (λ area. (area.0, keys_of area.1.trees)) areas
+abbrev pub routers_by : AreasTrees → KeptRouters
+routers_by areas = map (λ area. (area.0, keys_of area.1.trees)) areas
+
+abbrev pub routers_of : KeptTreesValue → KeptRouters
+routers_of kept = routers_by kept.areas
 
 -- each graph, with its stub links, is that of its area in the database
-abbrev pub AreOfDatabase : Lists → AreasTrees → Type 0
-AreOfDatabase db areas = (area : AreaId) → IfSome (trees_at areas area) (IsAreaOf (lsas_of (Area area) db))
+abbrev pub AreAreasOf : Lists → AreasTrees → Type 0
+AreAreasOf db areas = (area : AreaId) → IfSome (at_area areas area) (IsAreaOf (lsas_of (Area area) db))
+
+-- so is the one whose trees went
+pub record IsSpareOf (db : Lists) (spare : AreaId × AreaTreesValue) : Type 0 where
+  pub area : IsAreaOf (lsas_of (Area spare.0) db) spare.1
+  pub trees : spare.1.trees ≡ []
+
+pub record AreOfDatabase (db : Lists) (kept : KeptTreesValue) : Type 0 where
+  pub areas : AreAreasOf db kept.areas
+  pub spare : IfSome kept.spare (IsSpareOf db)

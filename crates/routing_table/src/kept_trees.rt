@@ -9,7 +9,7 @@ ghost use Rattle.lsdb.specs.Places.{lists_of};
 ghost use Rattle.area_graph.specs.declared.vertex.Vertex.TheVariants.{Router};
 ghost use Rattle.area_routes.specs.AreaResults.{area_result};
 ghost use Rattle.area_routes.specs.Attached.{attached_areas, is_attached};
-ghost use Rattle.routing_table.specs.AreaTrees.{graph_and_stubs, missing};
+ghost use Rattle.routing_table.specs.AreaTrees.{IsAreaOf, graph_and_stubs, missing};
 ghost use Rattle.routing_table.specs.AreasTrees.{AreOfDatabase, trees_at, trees_in};
 ghost use Rattle.routing_table.specs.Counting.{counted_by, CountsAtMost};
 ghost use Rattle.routing_table.specs.KeptTrees.{areas_without_tree, IsWithin};
@@ -17,6 +17,7 @@ ghost use Rattle.routing_table.specs.Tables.{results_in};
 
 use crate::area_trees::AreaTrees;
 use crate::results::graph_of;
+use crate::spare_area::SpareArea;
 use area_graph::{Graph, GraphFault};
 use area_routes::{AreaResult, StubLinks, is_attached};
 use lsa_codec::{AreaId, RouterId};
@@ -27,28 +28,31 @@ use std::collections::BTreeMap;
 use std::marker::Model;
 
 /// The graphs and trees that were calculated, by their areas. Contracts see them as the list of
-/// these pairs.
+/// these pairs, and beside it the graph of one area whose trees went, if there is one: it is used
+/// where a graph of this area is wanted.
 #[derive(Drop)]
 pub struct KeptTrees<A: Allocator> {
     /// The graph and the trees of each area.
     pub areas: BTreeMap<AreaId, AreaTrees<A>, A>,
+    pub(crate) spare: Option<SpareArea<A>>,
 }
 
 impl<A: Allocator> Model for KeptTrees<A> {
-    ghost use Rattle.routing_table.specs.AreasTrees.{AreasTrees};
+    ghost use Rattle.routing_table.specs.AreasTrees.{KeptTreesValue};
 
-    ghost Value = { AreasTrees };
+    ghost Value = { KeptTreesValue };
 
-    ghost view = { λ k. k.areas.entries };
+    ghost view = { λ k. record { areas = k.areas.entries; spare = k.spare } };
 }
 
 impl<A: Allocator + Copy> KeptTrees<A> {
     /// No trees. It takes no memory.
     pub fn new(alloc: A) -> KeptTrees<A>
-        ensures { result ≡ [] }
+        ensures { result ≡ record { areas = []; spare = None } }
     {
         KeptTrees {
             areas: BTreeMap::new(alloc),
+            spare: None,
         }
     }
 
@@ -114,6 +118,30 @@ impl<A: Allocator + Copy> KeptTrees<A> {
         Ok(())
     }
 
+    /// The graph of an area to which a router is attached, with the area's stub links, and without
+    /// trees: the one that is spare, or one that is made.
+    fn new_area(
+        &mut self,
+        alloc: A,
+        database: &Database<A>,
+        area: AreaId,
+        router: RouterId,
+    ) -> Result<AreaTrees<A>, AllocError>
+        requires attached { is_attached (lists_of database.now) area router ≡ true }
+        requires graphs { AreOfDatabase (lists_of database.now) self.old }
+        ensures graphs { AreOfDatabase (lists_of database.now) self.new }
+        ensures areas { self.new.areas ≡ self.old.areas }
+        ensures area { IfOk result (IsAreaOf (lsas_of (Area area) (lists_of database.now))) }
+        ensures trees { IfOk result (λ made. made.trees ≡ []) }
+    {
+        if let Some(trees) = self.take_spare(area) {
+            return Ok(trees);
+        }
+        let graph = graph_of(alloc, database, area, router)?;
+        let stubs = StubLinks::of(alloc, database, area)?;
+        Ok(AreaTrees::new(alloc, graph, stubs))
+    }
+
     /// Makes the graph of an area to which a router is attached, unless it is there.
     fn add_graph(
         &mut self,
@@ -132,10 +160,8 @@ impl<A: Allocator + Copy> KeptTrees<A> {
         if self.areas.contains_key(&area) {
             return Ok(());
         }
-        let graph = graph_of(alloc, database, area, router)?;
-        let stubs = StubLinks::of(alloc, database, area)?;
-        self.areas
-            .insert(area, AreaTrees::new(alloc, graph, stubs))?;
+        let trees = self.new_area(alloc, database, area, router)?;
+        self.areas.insert(area, trees)?;
         Ok(())
     }
 
@@ -153,6 +179,7 @@ impl<A: Allocator + Copy> KeptTrees<A> {
         ensures graphs { (other : AnyArea)
             → option_map graph_and_stubs (trees_at self.new other)
             ≡ option_map graph_and_stubs (trees_at self.old other) }
+        ensures spare { self.new.spare ≡ self.old.spare }
         ensures keeps { IsWithin (trees_in self.old) (trees_in self.new) }
         ensures others { (other : AnyArea) → other ≢ area → (root : AnyRouter)
             → trees_in self.new other root ≡ trees_in self.old other root }

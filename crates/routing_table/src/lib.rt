@@ -12,6 +12,7 @@ mod kept_trees;
 mod laws;
 mod preference;
 mod results;
+mod spare_area;
 mod table;
 
 pub use area_trees::AreaTrees;

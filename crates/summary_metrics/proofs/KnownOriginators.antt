@@ -12,7 +12,7 @@ use Rattle.lsdb.specs.Lists.{Lists}
 use Rattle.area_routes.specs.Inter.{originator_of}
 use Rattle.area_routes.specs.Values.{AreaResultValue}
 use Rattle.external_routes.specs.Summaries.{borders, is_calculated, is_covered}
-use Rattle.routing_table.specs.AreasTrees.{AreasTrees, AreOfDatabase}
+use Rattle.routing_table.specs.AreasTrees.{KeptTreesValue, AreOfDatabase}
 use Rattle.routing_table.proofs.MapLemmas.{Puts, if_found, put_all}
 use Rattle.summary_metrics.specs.Refreshed.{due_in, results_of, stale_metric}
 use Rattle.summary_metrics.specs.BackboneSummaries.{AreTold, BackboneSummariesValue, backbone_lsas}
@@ -26,30 +26,30 @@ Known = List (RouterId × InsideValue)
 abbrev pub Attached : Type 0
 Attached = List (RouterId × List AreaId)
 
-abbrev pub known_as : Attached → AreasTrees → Known → Option BackboneSummariesValue → OriginatorsValue
+abbrev pub known_as : Attached → KeptTreesValue → Known → Option BackboneSummariesValue → OriginatorsValue
 known_as attached trees inside told = record { attached = attached; trees = trees; inside = inside; told = told }
 
 -- ---- more comes in
 
 module _ (db : Lists) (old : OriginatorsValue) (all : AreOf db old) where
-  pub trees_known : (attached : Attached) (before : AreasTrees) (known : Known) (told : Option BackboneSummariesValue)
+  pub trees_known : (attached : Attached) (before : KeptTreesValue) (known : Known) (told : Option BackboneSummariesValue)
       → known_as attached before known told ≡ old → AreOfDatabase db before
   trees_known attached before known told is = subst (λ (o : OriginatorsValue). AreOfDatabase db o.trees) (sym is) all.trees
 
-  pub more_trees : (attached : Attached) (before trees : AreasTrees) (known : Known) (told : Option BackboneSummariesValue)
+  pub more_trees : (attached : Attached) (before trees : KeptTreesValue) (known : Known) (told : Option BackboneSummariesValue)
       → known_as attached before known told ≡ old → AreOfDatabase db trees → AreOf db (known_as attached trees known told)
   more_trees attached before trees known told is of =
       let known_before = subst (λ (o : OriginatorsValue). AreOf db o) (sym is) all in
       record { attached = known_before.attached; trees = of; inside = known_before.inside; told = known_before.told }
 
-  pub more_told : (attached : Attached) (trees : AreasTrees) (known : Known) (told : Option BackboneSummariesValue) (new : BackboneSummariesValue)
+  pub more_told : (attached : Attached) (trees : KeptTreesValue) (known : Known) (told : Option BackboneSummariesValue) (new : BackboneSummariesValue)
       → known_as attached trees known told ≡ old → AreTold (backbone_lsas db) new → AreOf db (known_as attached trees known (Some new))
   more_told attached trees known told new is of =
       let known_before = subst (λ (o : OriginatorsValue). AreOf db o) (sym is) all in
       record { attached = known_before.attached; trees = known_before.trees; inside = known_before.inside; told = of }
 
 module _ (db : Lists) (router : RouterId) (areas : List AreaId) (old new : Attached) (puts : Puts router_cmp old new router areas) where
-  pub more_attached : (trees : AreasTrees) (known : Known) (told : Option BackboneSummariesValue) → AreOf db (known_as old trees known told)
+  pub more_attached : (trees : KeptTreesValue) (known : Known) (told : Option BackboneSummariesValue) → AreOf db (known_as old trees known told)
       → areas ≡ ids_attached db router → AreOf db (known_as new trees known told)
   more_attached trees known told all is = record {
     attached = put_all router_cmp router_exact old new router areas puts (λ r found. found ≡ ids_attached db r) is all.attached;
@@ -59,7 +59,7 @@ module _ (db : Lists) (router : RouterId) (areas : List AreaId) (old new : Attac
   }
 
 module _ (db : Lists) (router : RouterId) (i : InsideValue) (old new : Known) (puts : Puts router_cmp old new router i) where
-  pub more_inside : (attached : Attached) (before trees : AreasTrees) (told : Option BackboneSummariesValue) → AreOf db (known_as attached before old told)
+  pub more_inside : (attached : Attached) (before trees : KeptTreesValue) (told : Option BackboneSummariesValue) → AreOf db (known_as attached before old told)
       → AreOfDatabase db trees → AreInside db router i → AreOf db (known_as attached trees new told)
   more_inside attached before trees told all of is = record {
     attached = all.attached;

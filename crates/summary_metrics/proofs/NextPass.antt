@@ -11,7 +11,7 @@ use Rattle.lsdb.specs.Lists.{IsDatabase, Lists, lsas_of}
 use Rattle.area_routes.specs.Values.{AreaResultValue}
 use Rattle.area_routes.proofs.SameGraphLemmas.{same_graph, same_stub_links}
 use Rattle.routing_table.specs.AreaTrees.{AreaTreesValue, IsAreaOf}
-use Rattle.routing_table.specs.AreasTrees.{AreasTrees, AreOfDatabase, trees_at}
+use Rattle.routing_table.specs.AreasTrees.{KeptTreesValue, AreOfDatabase, IsSpareOf, trees_at}
 use Rattle.summary_metrics.specs.Refreshed.{id_of, refreshed_areas}
 use Rattle.summary_metrics.specs.BackboneSummaries.{BackboneSummariesValue}
 use Rattle.summary_metrics.specs.Originators.{AreGiven, AreOf, OriginatorsValue}
@@ -27,15 +27,22 @@ module _ (db : Lists) (is : IsDatabase db) where
   same : HaveSameGraphs db next
   same = record { areas = areas_kept is_backbone db; lsas = λ area. graph_kept is_backbone db (Area area) (accepted_of db is) }
 
-  trees_next : (trees : AreasTrees) → AreOfDatabase db trees → AreOfDatabase next trees
-  trees_next trees all area = by (trees_at trees area) (all area)
+  area_next : (area : AreaId) (kept : AreaTreesValue) → IsAreaOf (lsas_of (Area area) db) kept → IsAreaOf (lsas_of (Area area) next) kept
+  area_next area kept h = record {
+    graph = same_graph (lsas_of (Area area) db) (lsas_of (Area area) next) (sym (same.lsas area)) kept.graph h.graph;
+    stubs = same_stub_links (lsas_of (Area area) db) (lsas_of (Area area) next) (sym (same.lsas area)) kept.stubs h.stubs;
+  }
+
+  trees_next : (trees : KeptTreesValue) → AreOfDatabase db trees → AreOfDatabase next trees
+  trees_next trees all = record { areas = λ area. by area (trees_at trees area) (all.areas area); spare = left trees.spare all.spare }
     where
-      by : (o : Option AreaTreesValue) → IfSome o (IsAreaOf (lsas_of (Area area) db)) → IfSome o (IsAreaOf (lsas_of (Area area) next))
-      by None h = tt
-      by (Some kept) h = record {
-        graph = same_graph (lsas_of (Area area) db) (lsas_of (Area area) next) (sym (same.lsas area)) kept.graph h.graph;
-        stubs = same_stub_links (lsas_of (Area area) db) (lsas_of (Area area) next) (sym (same.lsas area)) kept.stubs h.stubs;
-      }
+      by : (area : AreaId) (o : Option AreaTreesValue) → IfSome o (IsAreaOf (lsas_of (Area area) db)) → IfSome o (IsAreaOf (lsas_of (Area area) next))
+      by area None h = tt
+      by area (Some kept) h = area_next area kept h
+
+      left : (o : Option (AreaId × AreaTreesValue)) → IfSome o (IsSpareOf db) → IfSome o (IsSpareOf next)
+      left None h = tt
+      left (Some spare) h = record { area = area_next spare.0 spare.1 h.area; trees = h.trees }
 
   known_next : (known : OriginatorsValue) → AreOf db known → AreOf next (known_as known.attached known.trees known.inside None)
   known_next known all = record {
@@ -47,7 +54,7 @@ module _ (db : Lists) (is : IsDatabase db) where
     told = tt;
   }
 
-  pub told_forgotten : (old : OriginatorsValue) (attached : Attached) (trees : AreasTrees) (inside : Known) (told : Option BackboneSummariesValue)
+  pub told_forgotten : (old : OriginatorsValue) (attached : Attached) (trees : KeptTreesValue) (inside : Known) (told : Option BackboneSummariesValue)
       → known_as attached trees inside told ≡ old → AreOf db old → AreOf next (known_as attached trees inside None)
   told_forgotten old attached trees inside told is_old all =
       known_next (known_as attached trees inside told) (subst (λ (o : OriginatorsValue). AreOf db o) (sym is_old) all)

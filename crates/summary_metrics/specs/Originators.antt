@@ -12,7 +12,7 @@ use Rattle.area_routes.specs.Inter.{backbone, border_of, entries_of_all}
 use Rattle.area_routes.specs.Intra.{intra_of}
 use Rattle.area_routes.specs.Values.{AreaResultValue, EntryValue, RouteValue}
 use Rattle.area_routes.specs.Attached.{attached_areas}
-use Rattle.routing_table.specs.AreasTrees.{AreasTrees, AreOfDatabase}
+use Rattle.routing_table.specs.AreasTrees.{KeptTreesValue, AreOfDatabase}
 use Rattle.summary_metrics.specs.Refreshed.{results_of, id_of}
 use Rattle.summary_metrics.specs.BackboneSummaries.{AreTold, BackboneSummariesValue, backbone_lsas}
 
@@ -26,7 +26,7 @@ pub record InsideValue : Type 0 where
 -- tells
 pub record OriginatorsValue : Type 0 where
   pub attached : List (RouterId × List AreaId)
-  pub trees : AreasTrees
+  pub trees : KeptTreesValue
   pub inside : List (RouterId × InsideValue)
   pub told : Option BackboneSummariesValue
 

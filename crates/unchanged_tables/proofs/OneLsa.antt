@@ -21,7 +21,7 @@ use Rattle.lsa_codec.specs.Accepted.{IsAccepted}
 use Rattle.unchanged_tables.specs.CostChanges.{IsCostChange}
 use Rattle.area_routes.specs.Attached.{has_live_router_lsa, is_attached}
 use Rattle.routing_table.specs.AreaTrees.{AreaTreesValue, IsAreaOf}
-use Rattle.routing_table.specs.AreasTrees.{AreOfDatabase, AreasTrees, trees_at}
+use Rattle.routing_table.specs.AreasTrees.{AreOfDatabase, KeptTreesValue, trees_at}
 use Rattle.routing_table.specs.Tables.{table_in}
 use Rattle.routing_table.proofs.MapLemmas.{if_found}
 use Rattle.unchanged_tables.specs.ByTree.{IsOf, TreeIn, distances_by}
@@ -129,12 +129,12 @@ module _ (d : Places) (slot : SlotId) (router : RouterId) (before after : List �
       area_unchanged (inr (sym (elsewhere_live router olds news elsewhere) ∙ live, elsewhere))
 
   -- over links that are slack by the router's tree
-  pub steady_unchanged : (trees : AreasTrees) (kept : AreaTreesValue) (t : TreeIn) → AreOfDatabase (lists_of (put d slot (Some before))) trees
+  pub steady_unchanged : (trees : KeptTreesValue) (kept : AreaTreesValue) (t : TreeIn) → AreOfDatabase (lists_of (put d slot (Some before))) trees
       → trees_at trees area ≡ Some kept → IsOf kept.graph router t → IsSteadyLsa (distances_by t) before after
       → table_in (lists_of d) router ≡ table_in (lists_of (put d slot (Some before))) router
   steady_unchanged trees kept t all found of steady =
       let there : List (List ℕ) = lsas_of (Area area) (lists_of (put d slot (Some before))) in
-      let here : IsAreaOf there kept = if_found (λ (k : AreaTreesValue). IsAreaOf there k) (trees_at trees area) kept found (all area) in
+      let here : IsAreaOf there kept = if_found (λ (k : AreaTreesValue). IsAreaOf there k) (trees_at trees area) kept found (all.areas area) in
       let whole : IsGraphOf olds kept.graph = subst (λ (o : Option SectionLsas). IsGraphOf (lsas_or_none o) kept.graph) found_old here.graph in
       let distances : distances_by t ≡ distances_from router olds = tree_distances olds kept.graph router t whole of in
       let changes : IsSteadyLsa (distances_from router olds) before after =

@@ -18,13 +18,13 @@ invariant_of-self-2 g c =
     (option_map (λ table. table.value) c.self.inside.first_table) (option_map (λ table. table.value) c.self.inside.last_table)
     (edited_base c.self.inside.study c.edit.new.self c.args.edit.now c.in_ok-edit.ensures.ok)
     (edited_kept c.self.inside.trees c.drop_done.new.trees c.self.inside.study c.edit.new.self c.self.invariant.now
-    c.args.edit.now c.in_ok-edit.ensures.reached c.in_ok-edit.ensures.ok c.drop_done.ensures).graphs
+    c.args.edit.now c.in_ok-edit.ensures.reached c.in_ok-edit.ensures.ok c.drop_done.ensures.areas c.drop_done.ensures.spare).graphs
     c.self.invariant
 
 pub returns-clause-kept : goal.returns-clause-kept
 returns-clause-kept g c =
     (edited_kept c.self.inside.trees c.drop_done.new.trees c.self.inside.study c.edit.new.self c.self.invariant.now
-    c.args.edit.now c.in_ok-edit.ensures.reached c.in_ok-edit.ensures.ok c.drop_done.ensures).shown
+    c.args.edit.now c.in_ok-edit.ensures.reached c.in_ok-edit.ensures.ok c.drop_done.ensures.areas c.drop_done.ensures.spare).shown
     ∙ ap (λ (p : PlannerValue). less_touched (λ area. edit_touches area (state p.session) c.args.edit.now) p.kept) c.self.view_is
 
 pub returns-clause-step : goal.returns-clause-step
@@ -34,4 +34,4 @@ returns-clause-step g c =
     (took c.self.inside.study c.edit.new.self c.args.edit.now c.in_ok-edit.ensures.ok)
     (edit_taken c.self.inside.study c.edit.new.self c.args.edit.now c.in_ok-edit.ensures.ok) c.in_ok-edit.ensures.reached
     (edited_kept c.self.inside.trees c.drop_done.new.trees c.self.inside.study c.edit.new.self c.self.invariant.now
-    c.args.edit.now c.in_ok-edit.ensures.reached c.in_ok-edit.ensures.ok c.drop_done.ensures))
+    c.args.edit.now c.in_ok-edit.ensures.reached c.in_ok-edit.ensures.ok c.drop_done.ensures.areas c.drop_done.ensures.spare))

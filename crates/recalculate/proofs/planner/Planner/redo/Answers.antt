@@ -13,13 +13,13 @@ invariant_of-self-2 g c =
     goes_on c.self.inside.study c.redo.new.self c.self.inside.trees c.drop_done.new.trees c.self.inside.first_trees
     (option_map (λ table. table.value) c.self.inside.first_table) (option_map (λ table. table.value) c.self.inside.last_table) (ap (λ (s : Session). s.base) c.in_ok-redo.ensures.session)
     (redone_kept c.self.inside.trees c.drop_done.new.trees c.self.inside.study c.redo.new.self c.self.invariant.now c.args.count
-    c.redo.ensures.reached (c.in_ok-redo.ensures.ok.0 refl) c.in_ok-redo.ensures.session c.drop_done.ensures).graphs
+    c.redo.ensures.reached (c.in_ok-redo.ensures.ok.0 refl) c.in_ok-redo.ensures.session c.drop_done.ensures.areas c.drop_done.ensures.spare).graphs
     c.self.invariant
 
 pub returns-clause-kept : goal.returns-clause-kept
 returns-clause-kept g c =
     (redone_kept c.self.inside.trees c.drop_done.new.trees c.self.inside.study c.redo.new.self c.self.invariant.now c.args.count
-    c.redo.ensures.reached (c.in_ok-redo.ensures.ok.0 refl) c.in_ok-redo.ensures.session c.drop_done.ensures).shown
+    c.redo.ensures.reached (c.in_ok-redo.ensures.ok.0 refl) c.in_ok-redo.ensures.session c.drop_done.ensures.areas c.drop_done.ensures.spare).shown
     ∙ ap (λ (p : PlannerValue). less_touched (λ area. redo_touches c.args.count area p.session) p.kept) c.self.view_is
 
 pub returns-clause-step : goal.returns-clause-step
@@ -29,4 +29,4 @@ returns-clause-step g c =
     (c.in_ok-redo.ensures.ok.0 refl)
     (redo_taken c.self.inside.study c.args.count (c.in_ok-redo.ensures.ok.0 refl) ∙ sym c.in_ok-redo.ensures.session) c.redo.ensures.leads
     (redone_kept c.self.inside.trees c.drop_done.new.trees c.self.inside.study c.redo.new.self c.self.invariant.now c.args.count
-    c.redo.ensures.reached (c.in_ok-redo.ensures.ok.0 refl) c.in_ok-redo.ensures.session c.drop_done.ensures))
+    c.redo.ensures.reached (c.in_ok-redo.ensures.ok.0 refl) c.in_ok-redo.ensures.session c.drop_done.ensures.areas c.drop_done.ensures.spare))

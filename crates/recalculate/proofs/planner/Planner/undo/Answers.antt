@@ -13,13 +13,13 @@ invariant_of-self-2 g c =
     goes_on c.self.inside.study c.undo.new.self c.self.inside.trees c.drop_undone.new.trees c.self.inside.first_trees
     (option_map (λ table. table.value) c.self.inside.first_table) (option_map (λ table. table.value) c.self.inside.last_table) (ap (λ (s : Session). s.base) c.in_ok-undo.ensures.session)
     (undone_kept c.self.inside.trees c.drop_undone.new.trees c.self.inside.study c.undo.new.self c.self.invariant.now c.args.count
-    c.undo.ensures.reached (c.in_ok-undo.ensures.ok.0 refl) c.in_ok-undo.ensures.session c.drop_undone.ensures).graphs
+    c.undo.ensures.reached (c.in_ok-undo.ensures.ok.0 refl) c.in_ok-undo.ensures.session c.drop_undone.ensures.areas c.drop_undone.ensures.spare).graphs
     c.self.invariant
 
 pub returns-clause-kept : goal.returns-clause-kept
 returns-clause-kept g c =
     (undone_kept c.self.inside.trees c.drop_undone.new.trees c.self.inside.study c.undo.new.self c.self.invariant.now c.args.count
-    c.undo.ensures.reached (c.in_ok-undo.ensures.ok.0 refl) c.in_ok-undo.ensures.session c.drop_undone.ensures).shown
+    c.undo.ensures.reached (c.in_ok-undo.ensures.ok.0 refl) c.in_ok-undo.ensures.session c.drop_undone.ensures.areas c.drop_undone.ensures.spare).shown
     ∙ ap (λ (p : PlannerValue). less_touched (λ area. undo_touches c.args.count area p.session) p.kept) c.self.view_is
 
 pub returns-clause-step : goal.returns-clause-step
@@ -29,4 +29,4 @@ returns-clause-step g c =
     (c.in_ok-undo.ensures.ok.0 refl)
     (undo_taken c.self.inside.study c.args.count (c.in_ok-undo.ensures.ok.0 refl) ∙ sym c.in_ok-undo.ensures.session) c.undo.ensures.leads
     (undone_kept c.self.inside.trees c.drop_undone.new.trees c.self.inside.study c.undo.new.self c.self.invariant.now c.args.count
-    c.undo.ensures.reached (c.in_ok-undo.ensures.ok.0 refl) c.in_ok-undo.ensures.session c.drop_undone.ensures))
+    c.undo.ensures.reached (c.in_ok-undo.ensures.ok.0 refl) c.in_ok-undo.ensures.session c.drop_undone.ensures.areas c.drop_undone.ensures.spare))

@@ -1,26 +1,28 @@
-use Rattle.std.proofs.Common.{◌∙◌, sym, ap, subst}
-use Rattle.lsdb.specs.declared.section.Section.TheVariants.{Area}
-use Rattle.lsdb.specs.Lists.{lsas_of}
+use Rattle.std.proofs.Common.{◌≡◌, ◌∙◌, None, sym, ap, subst}
 use Rattle.lsdb.specs.Places.{lists_of}
-use Rattle.routing_table.specs.AreaTrees.{AreaTreesValue, IsAreaOf}
-use Rattle.routing_table.specs.AreasTrees.{AreasTrees, AreOfDatabase, trees_in}
+use Rattle.routing_table.specs.AreasTrees.{AreasTrees, KeptTreesValue, AreOfDatabase, at_area, trees_in, trees_of}
 use Rattle.routing_table.proofs.MapLemmas.{none_found}
 use Rattle.routing_table.proofs.KeptMaps.{graphs_stay, no_tree_more}
 use Rattle.routing_table.proofs.kept_trees.KeptTrees.add_graph.Goals as goal
 
-pub returns-in_err-insert-clause-graphs : goal.returns-in_err-insert-clause-graphs
-returns-in_err-insert-clause-graphs g c =
-    subst (λ (areas : AreasTrees). AreOfDatabase (lists_of c.args.database.now) areas) (sym (c.in_err-insert.ensures.err ∙ c.self.view_is)) c.requires.graphs
-
 pub returns-clause-graphs : goal.returns-clause-graphs
 returns-clause-graphs g c =
-    graphs_stay c.self.inside.areas.entries c.insert.new.self.entries c.args.area _ c.in_ok-insert.ensures.updates.0 (lists_of c.args.database.now)
-    (subst (λ (a : AreaTreesValue). IsAreaOf (lsas_of (Area c.args.area) (lists_of c.args.database.now)) a)
-    (sym c.new.ensures) (record { graph = c.in_ok-graph.ensures.graph; stubs = c.in_ok-stubs.ensures }))
-    (subst (λ (areas : AreasTrees). AreOfDatabase (lists_of c.args.database.now) areas) (sym c.self.view_is) c.requires.graphs)
+    let db = lists_of c.args.database.now in
+    let was = subst (λ (kept : KeptTreesValue). AreOfDatabase db kept) (sym c.self-2.view_is) c.in_ok-trees.ensures.graphs in
+    record {
+      areas = graphs_stay c.self-2.inside.areas.entries c.insert.new.self.entries c.args.area _ c.in_ok-insert.ensures.updates.0
+          db c.in_ok-trees.ensures.area was.areas;
+      spare = was.spare;
+    }
 
 pub returns-clause-trees : goal.returns-clause-trees
 returns-clause-trees g c = λ other root.
-    no_tree_more c.self.inside.areas.entries c.insert.new.self.entries c.args.area _ c.in_ok-insert.ensures.updates.0
-    (none_found _ (sym c.contains_key.ensures ∙ c.if-contains_key.false)) (ap (λ (a : AreaTreesValue). a.trees) c.new.ensures) other root
-    ∙ ap (λ (areas : AreasTrees). trees_in areas other root) c.self.view_is
+    let areas_of : KeptTreesValue → AreasTrees = λ kept. kept.areas in
+    let same : c.self-2.inside.areas.entries ≡ c.self.inside.areas.entries =
+        ap areas_of c.self-2.view_is ∙ c.in_ok-trees.ensures.areas ∙ sym (ap areas_of c.self.view_is) in
+    let absent : at_area c.self-2.inside.areas.entries c.args.area ≡ None =
+        ap (λ (areas : AreasTrees). at_area areas c.args.area) same
+        ∙ none_found _ (sym c.contains_key.ensures ∙ c.if-contains_key.false) in
+    no_tree_more c.self-2.inside.areas.entries c.insert.new.self.entries c.args.area _ c.in_ok-insert.ensures.updates.0
+    absent c.in_ok-trees.ensures.trees other root
+    ∙ ap (λ (areas : AreasTrees). trees_of areas other root) (ap areas_of c.self-2.view_is ∙ c.in_ok-trees.ensures.areas)

@@ -1,7 +1,7 @@
 use Rattle.std.proofs.Common.{◌∙◌, ◌+◌, refl, sym, ap, subst, arith}
 use Rattle.lsdb.specs.Lists.{AreaHead}
 use Rattle.lsdb.specs.Places.{lists_of}
-use Rattle.routing_table.specs.AreasTrees.{AreasTrees, AreOfDatabase, trees_in}
+use Rattle.routing_table.specs.AreasTrees.{KeptTreesValue, AreOfDatabase, trees_in}
 use Rattle.routing_table.proofs.TableLemmas.{more_results, same_results, all_results}
 use Rattle.routing_table.proofs.TableLemmas.{attached_somewhere, on_err}
 use Rattle.routing_table.proofs.TreeCounts.{IsGrown, all_counted, all_grown, at_most_one_more, counts_all, none_counted_more, none_grown}
@@ -29,8 +29,8 @@ loop-i-preserved g c =
             results = more_results db c.args.router c.loop-i.i head c.area-is_stub.ensures c.loop-i.results.items
                 c.if-is_attached.results.items _ c.loop-i.invariant.results
                 joined w.in_ok-result_of.ensures (ap (λ v. v.items) w.results-is ∙ w.in_ok-push.ensures.items);
-            graphs = subst (λ (k : AreasTrees). AreOfDatabase db k) (sym w.self-is) w.in_ok-grow.ensures.graphs;
-            grown = subst (λ (k : AreasTrees). IsGrown db c.args.router (c.loop-i.i + 1) first (trees_in k)) (sym w.self-is)
+            graphs = subst (λ (k : KeptTreesValue). AreOfDatabase db k) (sym w.self-is) w.in_ok-grow.ensures.graphs;
+            grown = subst (λ (k : KeptTreesValue). IsGrown db c.args.router (c.loop-i.i + 1) first (trees_in k)) (sym w.self-is)
                 (one_grown db c.args.router c.loop-i.i head c.area-is_stub.ensures c.known.ensures first
                 (trees_in c.loop-i.self) c.loop-i.invariant.grown joined (trees_in w.grow.new.self)
                 w.in_ok-grow.ensures.keeps w.in_ok-grow.ensures.others w.in_ok-grow.ensures.grown);
@@ -44,8 +44,8 @@ loop-i-preserved g c =
           record {
             results = ap (λ v. v.items) w.results-is
                 ∙ same_results db c.args.router c.loop-i.i head c.area-is_stub.ensures c.loop-i.results.items c.loop-i.invariant.results apart;
-            graphs = subst (λ (k : AreasTrees). AreOfDatabase db k) (sym w.self-is) c.loop-i.invariant.graphs;
-            grown = subst (λ (k : AreasTrees). IsGrown db c.args.router (c.loop-i.i + 1) first (trees_in k)) (sym w.self-is)
+            graphs = subst (λ (k : KeptTreesValue). AreOfDatabase db k) (sym w.self-is) c.loop-i.invariant.graphs;
+            grown = subst (λ (k : KeptTreesValue). IsGrown db c.args.router (c.loop-i.i + 1) first (trees_in k)) (sym w.self-is)
                 (none_more_grown db c.args.router c.loop-i.i head c.area-is_stub.ensures c.known.ensures first
                 (trees_in c.loop-i.self) c.loop-i.invariant.grown apart);
             meter = w.meter-is
