@@ -1,10 +1,11 @@
 -- The records around the cursor, as they are seen from the vector.
-use Rattle.std.proofs.Common.{◌≡◌, ℕ, zero, suc, ◌+◌, ◌-◌, ◌<◌, ◌≤◌, Bool, true, false, ◌||◌, List, [], ◌∷◌, ◌++◌, length, get_or, take, drop, refl}
+use Rattle.std.proofs.Common.{◌≡◌, ℕ, zero, suc, ◌+◌, ◌-◌, ◌<◌, ◌≤◌, Bool, true, false, ◌||◌, List, [], ◌∷◌, ◌++◌, length, get_or, take, drop, Some, refl}
 use Rattle.std.proofs.Common.{sym, ap, ◌∙◌, arith}
 use Rattle.std.specs.Prelude.{reverse, slice_set}
-use Rattle.std.specs.List.{list_any}
+use Rattle.std.specs.List.{list_any, slice_get}
 use Rattle.std.proofs.Math.Seq.{take-append_seam, take-add}
-use Rattle.std.proofs.lemmas.List.{reverse-append, length-reverse, length-take, length-drop}
+use Rattle.std.proofs.lemmas.List.{reverse-append, length-reverse, length-take, length-drop, take_all}
+use Rattle.std.proofs.lemmas.Option.{slice_get_within, get_or_from_slice_get}
 use Rattle.edit_history.specs.Exchange.{RecordData}
 use Rattle.edit_history.specs.Journal.{HistoryData}
 
@@ -132,3 +133,21 @@ pub any_ahead : (p : RecordData → Bool) (items : List RecordData) (cursor coun
 any_ahead p items cursor count h view =
     ap (λ (k : ℕ). list_any p (take k (drop cursor items))) (let size : cursor + count - cursor ≡ count = omega arith in size)
     ∙ ap (λ (k : HistoryData). list_any p (take count k.future)) view
+
+-- the last record before the cursor is the first of the past
+pub last_is : (done past : List RecordData) (r : RecordData) → reverse done ≡ past → Some r ≡ slice_get done (length done - 1)
+    → past ≡ r ∷ drop 1 past
+last_is done past r is at =
+    let i = length done - 1 in
+    let within : i < length done = slice_get_within done i r (sym at) in
+    let first : past ≡ r ∷ reverse (take i done) = sym is
+    ∙ ap (reverse {A = RecordData}) (sym (take_all (suc i) done (omega arith)))
+    ∙ past_is done i r within (sym (get_or_from_slice_get done i r r (sym at))) in
+    first ∙ ap (λ (rs : List RecordData). r ∷ drop 1 rs) (sym first)
+
+-- the first record from the cursor on is the first of the future
+pub first_is : (ahead future : List RecordData) (r : RecordData) → ahead ≡ future → Some r ≡ slice_get ahead 0 → future ≡ r ∷ drop 1 future
+first_is ahead future r is at = sym is ∙ first_of ahead at ∙ ap (λ (rs : List RecordData). r ∷ drop 1 rs) is where
+  first_of : (rs : List RecordData) → Some r ≡ slice_get rs 0 → rs ≡ r ∷ drop 1 rs
+  first_of [] at = absurd cc
+  first_of (x ∷ xs) at = ap (λ (y : RecordData). y ∷ xs) (let same : x ≡ r = cc in same)

@@ -4,6 +4,7 @@ pub mod Linked
 pub mod Cursor
 pub mod HistorySteps
 pub mod Growing
+pub mod HeldChanges
 pub mod Keys
 pub mod RuleOutcomes
 pub mod CarriedPlans

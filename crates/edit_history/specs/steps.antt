@@ -3,3 +3,4 @@ pub mod Plans
 pub mod Searching
 pub mod Failing
 pub mod Passing
+pub mod Holding

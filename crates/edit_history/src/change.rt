@@ -1,22 +1,38 @@
-//! The one LSA that a session has changed.
+//! The one LSA that a session, or the last edit of one, has changed.
 
-ghost use Rattle.std.specs.Prelude.{IfSome};
-ghost use Rattle.edit_history.specs.Changes.{IsOnlyChange};
+ghost use Rattle.std.specs.Prelude.{◌≤◌, IfSome, length};
+ghost use Rattle.edit_history.specs.Changes.{IsOnlyChange, IsLastChange, IsNextChange};
 ghost use Rattle.edit_history.specs.Journal.{Links};
+ghost use Rattle.edit_history.specs.steps.Holding.{HoldsOne};
 ghost use Rattle.lsdb.specs.Places.{Places};
 
 use crate::history::History;
+use crate::record::Record;
 use lsa_codec::Lsa;
 use lsdb::SlotId;
 use std::alloc::{Allocator, Global};
 
-/// An LSA that an edit rewrote or removed: its place, and the LSA as it was before.
+/// An LSA that an edit, or taking one back, rewrote or removed: its place, and the LSA as it was
+/// before.
 #[derive(Drop)]
 pub struct Change<'a, A: Allocator = Global> {
     /// The place.
     pub slot: SlotId,
     /// The LSA that stood there.
     pub before: &'a Lsa<A>,
+}
+
+/// The place and the LSA that a record holds, where it is of one place and the database lacks an
+/// LSA there.
+fn held_change<A: Allocator + Copy>(kept: &Record<A>) -> Option<Change<'_, A>>
+    ensures { IfSome result (λ change. HoldsOne kept.now change.slot change.before.now) }
+{
+    let swap = kept.only_swap()?;
+    let before = swap.other()?;
+    Some(Change {
+        slot: swap.slot(),
+        before,
+    })
 }
 
 impl<A: Allocator + Copy> History<A> {
@@ -29,11 +45,28 @@ impl<A: Allocator + Copy> History<A> {
         let [record] = self.done_records() else {
             return None;
         };
-        let swap = record.only_swap()?;
-        let before = swap.other()?;
-        Some(Change {
-            slot: swap.slot(),
-            before,
-        })
+        held_change(record)
+    }
+
+    /// The change that the last done edit made, where it rewrote or removed one LSA and did nothing
+    /// else; else `None`. It takes no memory.
+    pub fn last_change(&self) -> Option<Change<'_, A>>
+        ensures some { IfSome result (λ change. 1 ≤ length self.now.lists.past) }
+        ensures change { IfSome result (λ change. (d : Places) → Links d self.now.lists
+            → IsLastChange d self.now.lists change.slot change.before.now) }
+    {
+        let record = self.done_records().last()?;
+        held_change(record)
+    }
+
+    /// The change that taking the last edit back made, that is of the first undone edit, where that
+    /// edit rewrites or adds one LSA and does nothing else; else `None`. It takes no memory.
+    pub fn next_change(&self) -> Option<Change<'_, A>>
+        ensures some { IfSome result (λ change. 1 ≤ length self.now.lists.future) }
+        ensures change { IfSome result (λ change. (d : Places) → Links d self.now.lists
+            → IsNextChange d self.now.lists change.slot change.before.now) }
+    {
+        let record = self.undone_records().first()?;
+        held_change(record)
     }
 }

@@ -99,6 +99,13 @@ impl<A: Allocator + Copy> History<A> {
         &self.records[..self.cursor]
     }
 
+    /// The records of the undone edits, the next first.
+    pub(crate) fn undone_records(&self) -> &[Record<A>]
+        ensures { result.now ≡ self.now.lists.future }
+    {
+        &self.records[self.cursor..]
+    }
+
     /// One edit back.
     fn step_back(&mut self, database: &mut Database<A>)
         requires linked { Links database.old self.old.lists }
