@@ -65,6 +65,20 @@ pub last_of : (db : Lists) (router : RouterId) (table : TableValue) → table.ro
     → table_in db router ≡ Some table
 last_of db router table same shows = subst (λ (r : RouterId). table_in db r ≡ Some table) same shows
 
+-- where nothing is kept, it is of each database
+none_kept : (db : Lists) (kept : KeptTreesValue) → kept ≡ record { areas = []; spare = None } → AreOfDatabase db kept
+none_kept db kept none =
+    subst (λ (k : KeptTreesValue). AreOfDatabase db k) (sym none) (record { areas = λ area. tt; spare = tt })
+
+pub begins : (s : Session) (trees first_trees : KeptTreesValue) → trees ≡ record { areas = []; spare = None }
+    → first_trees ≡ record { areas = []; spare = None } → KeepsTrees s trees first_trees None None
+begins s trees first_trees none first_none = record {
+  now = none_kept (state s) trees none;
+  beginning = none_kept s.base first_trees first_none;
+  table = tt;
+  last = tt;
+}
+
 -- what is kept of it stays so in each session that began at it; a last table goes
 pub goes_on : (s t : Session) (trees after first_trees : KeptTreesValue) (first_table last_table : Option TableValue) → t.base ≡ s.base
     → AreOfDatabase (state t) after → KeepsTrees s trees first_trees first_table last_table → KeepsTrees t after first_trees first_table None

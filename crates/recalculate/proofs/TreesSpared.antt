@@ -1,6 +1,6 @@
 -- Which trees of areas are kept, and which stay those of the database after edits.
 use Rattle.std.proofs.Common.{◌≡◌, Bool, true, false, not, cond, List, [], ◌∷◌, filter, Option, Some, None, IfSome, is_some, refl, sym, ap, ◌∙◌, subst}
-use Rattle.std.specs.Prelude.{◌||◌}
+use Rattle.std.specs.Prelude.{◌||◌, MatchOption}
 use Rattle.std.specs.Cmp.{Equal-is}
 use Rattle.std.specs.List.{list_any}
 use Rattle.std.specs.Map.{keys_of, lookup, remove_entry}
@@ -17,6 +17,7 @@ use Rattle.edit_history.specs.Effect.{graph_lsas}
 use Rattle.routing_table.specs.AreaTrees.{AreaTreesValue, IsAreaOf, RouterTreeValue, has_tree}
 use Rattle.routing_table.specs.AreasTrees.{AreasTrees, KeptTreesValue, AreAreasOf, at_area, routers_by, routers_of, trees_in, trees_of}
 use Rattle.routing_table.specs.KeptTrees.{KeptRouters, is_kept, less_touched}
+use Rattle.unchanged_tables.specs.declared.cost_changes.AreaChange.{AreaChange}
 use Rattle.area_routes.proofs.SameGraphLemmas.{same_graph, same_stub_links}
 
 -- ---- what is shown of the trees
@@ -69,16 +70,23 @@ told_untouched is_touched (a ∷ areas) = by (is_touched a.0) (told_untouched is
 pub untouched_less : (is_touched : AreaId → Bool) (area : AreaId) (areas : AreasTrees) → is_touched area ≡ true
     → untouched is_touched (remove_entry (eq_by_cmp area_cmp area) areas) ≡ untouched is_touched areas
 untouched_less is_touched area [] touched = refl
-untouched_less is_touched area (a ∷ areas) touched = by (eq_by_cmp area_cmp area a.0) refl
+untouched_less is_touched area (a ∷ areas) touched = by (eq_by_cmp area_cmp area a.0) refl (untouched_less is_touched area areas touched)
   where
     gone : is_touched a.0 ≡ true → untouched is_touched (a ∷ areas) ≡ untouched is_touched areas
     gone e = ap (λ (b : Bool). cond (not b) (a ∷ untouched is_touched areas) (untouched is_touched areas)) e
 
     by : (b : Bool) → eq_by_cmp area_cmp area a.0 ≡ b
+        → untouched is_touched (remove_entry (eq_by_cmp area_cmp area) areas) ≡ untouched is_touched areas
         → untouched is_touched (cond b areas (a ∷ remove_entry (eq_by_cmp area_cmp area) areas)) ≡ untouched is_touched (a ∷ areas)
-    by true e = sym (gone (ap is_touched (sym (area_exact area a.0 ((Equal-is (area_cmp area a.0)).0 e))) ∙ touched))
-    by false e =
-        ap (λ (l : AreasTrees). cond (not (is_touched a.0)) (a ∷ l) l) (untouched_less is_touched area areas touched)
+    by true e rest = sym (gone (ap is_touched (sym (area_exact area a.0 ((Equal-is (area_cmp area a.0)).0 e))) ∙ touched))
+    by false e rest = ap (λ (l : AreasTrees). cond (not (is_touched a.0)) (a ∷ l) l) rest
+
+-- as the one that a change touches
+pub untouched_changed : (is_touched : AreaId → Bool) (change : Option AreaChange) (old new : AreasTrees)
+    → MatchOption change (new ≡ old) (λ made. new ≡ remove_entry (eq_by_cmp area_cmp made.area) old)
+    → IfSome change (λ made. is_touched made.area ≡ true) → untouched is_touched new ≡ untouched is_touched old
+untouched_changed is_touched None old new is touched = ap (untouched is_touched) is
+untouched_changed is_touched (Some made) old new is touched = ap (untouched is_touched) is ∙ untouched_less is_touched made.area old touched
 
 module _ (db after : Lists) (is_touched : AreaId → Bool) (stay : (area : AreaId) → is_touched area ≡ false → graph_lsas area after ≡ graph_lsas area db) where
   of_area : (area : AreaId) (o : Option AreaTreesValue) → is_touched area ≡ false → IfSome o (IsAreaOf (lsas_of (Area area) db))

@@ -149,10 +149,7 @@ impl<A: Allocator + Copy> Study<A> {
         ensures change { IfSome result (λ made. IsCostChange made.area made.change
             (state (moved_back count self.now)) (state self.now)) }
         ensures touched { IfSome result (λ made. undo_touches count made.area self.now ≡ true) }
-        ensures database { IsDatabase (state self.now) }
     {
-        // For what holds of the database.
-        self.database.known();
         if count != 1 {
             return None;
         }
@@ -171,10 +168,7 @@ impl<A: Allocator + Copy> Study<A> {
         ensures change { IfSome result (λ made. IsCostChange made.area made.change
             (state (moved_on count self.now)) (state self.now)) }
         ensures touched { IfSome result (λ made. redo_touches count made.area self.now ≡ true) }
-        ensures database { IsDatabase (state self.now) }
     {
-        // For what holds of the database.
-        self.database.known();
         if count != 1 {
             return None;
         }
