@@ -22,8 +22,8 @@ const MOST_EDITS: usize = 10_000;
 /// were undone since. Contracts see it as its session.
 ///
 /// It may hold a copy of the loaded database, which no edit changes. Then no edit is taken back for
-/// a table of that database. It keeps the list of the AS-external-LSAs of its database from table to
-/// table, until an edit, undo or redo changes an LSA of AS scope.
+/// a table of that database. It keeps the list of the AS-external-LSAs of its own database from
+/// table to table, until an edit, undo or redo changes an LSA of AS scope.
 #[derive(Drop)]
 pub(crate) struct Study<A: Allocator> {
     database: Database<A>,
@@ -223,13 +223,7 @@ impl<A: Allocator + Copy> Study<A> {
             (attached_areas (state self.old) router) ≡ []) }
         ensures keeps { IsWithin (is_kept (routers_of trees.old)) (is_kept (routers_of trees.new)) }
     {
-        table_over(
-            &self.database,
-            router,
-            trees,
-            meter,
-            &mut self.externals,
-        )
+        table_over(&self.database, router, trees, meter, &mut self.externals)
     }
 
     /// The routing table of a router over trees of the loaded database that are kept. Those of the

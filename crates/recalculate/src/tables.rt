@@ -19,8 +19,8 @@ use spf::Meter;
 use std::alloc::Allocator;
 
 /// The routing table of a router in a database, over trees of it that are kept. Those of the router
-/// that are not there are calculated and kept, and the meter counts them. Where the AS-external-LSAs
-/// of the database are not listed, they are, and the list is left.
+/// that are not there are calculated and kept, and the meter counts them. So are its
+/// AS-external-LSAs listed, where they are not, and the list is left.
 pub(crate) fn table_over<A: Allocator + Copy>(
     database: &Database<A>,
     router: RouterId,
