@@ -11,10 +11,15 @@ use Rattle.edit_history.specs.Session.{Session, moved_back, moved_on, session_of
 use Rattle.edit_history.proofs.HistoryLemmas.{applied_spares_as, of_as, redo_spares_as, state_is, undo_spares_as}
 use Rattle.external_routes.specs.declared.external_lsas.ExternalLsa.{ExternalLsa}
 use Rattle.external_routes.specs.ExternalLsas.{AreListedOf}
+use Rattle.recalculate.proofs.Steps.{shown_state}
 
 -- it is the list of a database, if there is one
 abbrev pub IsListOf : Lists → Option (List ExternalLsa) → Type 0
 IsListOf db listed = AreListedOf (of_as db) listed
+
+-- none of the records changes an LSA of AS scope of a database
+abbrev pub SpareAs : Places → List RecordData → Type 0
+SpareAs d rs = list_any (changes_as_scope (length (areas_of (lists_of d)))) rs ≡ false
 
 module _ (listed : Option (List ExternalLsa)) where
   stays : (db after : Lists) → of_as after ≡ of_as db → IsListOf db listed → IsListOf after listed
@@ -24,17 +29,21 @@ module _ (listed : Option (List ExternalLsa)) where
       → changes_as_scope (length (areas_of (lists_of e))) r ≡ false → IsListOf (lists_of d) listed → IsListOf (lists_of e) listed
   over_edit d e edit r sound applied none is = stays (lists_of d) (lists_of e) (applied_spares_as d e edit r sound applied none) is
 
-  pub over_undo : (d : Places) (h : HistoryData) (k : ℕ) → Links d h → list_any (changes_as_scope (length (areas_of (lists_of d)))) (take k h.past) ≡ false
-      → IsListOf (lists_of d) listed → IsListOf (state (moved_back k (session_of d h))) listed
+  pub over_undo : (d : Places) (h : HistoryData) (k : ℕ) → Links d h → SpareAs d (take k h.past) → IsListOf (lists_of d) listed
+      → IsListOf (state (moved_back k (session_of d h))) listed
   over_undo d h k links none is =
       stays (lists_of d) (state (moved_back k (session_of d h))) (undo_spares_as d h k links none ∙ ap of_as (state_is d h links)) is
 
-  pub over_redo : (d : Places) (h : HistoryData) (k : ℕ) → Links d h → list_any (changes_as_scope (length (areas_of (lists_of d)))) (take k h.future) ≡ false
-      → IsListOf (lists_of d) listed → IsListOf (state (moved_on k (session_of d h))) listed
+  pub over_redo : (d : Places) (h : HistoryData) (k : ℕ) → Links d h → SpareAs d (take k h.future) → IsListOf (lists_of d) listed
+      → IsListOf (state (moved_on k (session_of d h))) listed
   over_redo d h k links none is =
       stays (lists_of d) (state (moved_on k (session_of d h))) (redo_spares_as d h k links none ∙ ap of_as (state_is d h links)) is
 
   -- where a history shows a session, its database is the session's
-  pub of_session : (d : Places) (h : HistoryData) (s : Session) → Links d h → session_of d h ≡ s → IsListOf (state s) listed → IsListOf (lists_of d) listed
-  of_session d h s links shows is =
-      stays (state s) (lists_of d) (ap of_as (sym (state_is d h links)) ∙ ap (λ (t : Session). of_as (state t)) shows) is
+  pub of_session : (d : Places) (h : HistoryData) (s : Session) → Links d h → session_of d h ≡ s → IsListOf (state s) listed
+      → IsListOf (lists_of d) listed
+  of_session d h s links shows is = stays (state s) (lists_of d) (ap of_as (shown_state d h s links shows)) is
+
+  pub to_session : (d : Places) (h : HistoryData) (s : Session) → Links d h → session_of d h ≡ s → IsListOf (lists_of d) listed
+      → IsListOf (state s) listed
+  to_session d h s links shows is = stays (lists_of d) (state s) (ap of_as (sym (shown_state d h s links shows))) is

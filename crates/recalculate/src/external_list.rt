@@ -16,20 +16,20 @@ use external_routes::ExternalLsas;
 use lsdb::Database;
 use std::alloc::Allocator;
 
-/// Drops the list where an edit, which led to this database, changed an LSA of AS scope. It takes
-/// no memory.
+/// Drops the list where the edit of the last record, which led to this database, changed an LSA of
+/// AS scope. It takes no memory.
 pub(crate) fn drop_over_edit<A: Allocator + Copy>(
     externals: &mut Option<ExternalLsas<A>>,
     database: &Database<A>,
-    record: &Record<A>,
+    last: &Record<A>,
 )
-    ensures { (before : Places) → (edit : Edit) → Applied before database.now edit record.now
+    ensures { (before : Places) → (edit : Edit) → Applied before database.now edit last.now
         → AreListedOf (lsas_of AsWide (lists_of before)) externals.old
         → AreListedOf (lsas_of AsWide (lists_of database.now)) externals.new }
 {
     // It does nothing: it says that the database is a valid one.
     database.known();
-    if record.changes_as_scope(database.area_count()) {
+    if last.changes_as_scope(database.area_count()) {
         *externals = None;
     }
 }
