@@ -19,12 +19,17 @@ use Rattle.recalculate.specs.Reached.{IsStudied}
 start_links : (d : Places) (h : HistoryData) → IsDatabase (lists_of d) → h ≡ record { past = []; future = [] } → Links d h
 start_links d h sound e = subst (λ (k : HistoryData). Links d k) (sym e) (record { sound = sound; back = tt; on = tt })
 
-pub start_studied : (d : Places) (h : HistoryData) → IsDatabase (lists_of d) → h ≡ record { past = []; future = [] } → IsStudied d h None
+pub start_studied : (d : Places) (h : HistoryData) → IsDatabase (lists_of d) → h ≡ record { past = []; future = [] } → IsStudied d h None None
 start_studied d h sound e = record {
   links = start_links d h sound e;
   few = omega (arith, ap (λ (k : HistoryData). length k.past) e, ap (λ (k : HistoryData). length k.future) e);
   loaded = tt;
+  externals = tt;
 }
+
+-- the database of a history is that of the session that it shows
+pub shown_state : (d : Places) (h : HistoryData) (s : Session) → Links d h → session_of d h ≡ s → lists_of d ≡ state s
+shown_state d h s links shows = sym (state_is d h links) ∙ ap (λ (t : Session). state t) shows
 
 abbrev pub answer : Session → Result Session EditFault
 answer s = Ok s

@@ -3,6 +3,7 @@
 
 mod copying;
 mod counts;
+mod external_list;
 mod laws;
 mod planner;
 mod study;

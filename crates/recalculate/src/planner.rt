@@ -23,7 +23,7 @@ use std::rc::Rc;
 /// database and of the loaded one. After any calls its database is the effect of the done edits, in
 /// order, on the loaded one. The tables that it keeps, one of the loaded database and the last one
 /// of its own, are not seen, nor which router's table was asked for last, nor whether it holds a
-/// copy of the loaded database.
+/// copy of the loaded database or a list of the AS-external-LSAs.
 #[derive(Drop)]
 pub struct Planner<A: Allocator = Global> {
     study: Study<A>,

@@ -2,9 +2,11 @@
 
 use crate::copying::takes_longer_than_a_copy;
 use crate::counts::{Info, beginning_of};
+use crate::external_list::{drop_over_edit, drop_over_redo, drop_over_undo};
 use crate::tables::table_over;
 use edit_history::{EditFault, History, Record, RedoFault, UndoFault, apply};
 use edit_script::Edit;
+use external_routes::ExternalLsas;
 use lsa_codec::{AreaId, RouterId};
 use lsdb::Database;
 use routing_table::{KeptTrees, Table, TableFault, table_of};
@@ -20,12 +22,14 @@ const MOST_EDITS: usize = 10_000;
 /// were undone since. Contracts see it as its session.
 ///
 /// It may hold a copy of the loaded database, which no edit changes. Then no edit is taken back for
-/// a table of that database.
+/// a table of that database. It keeps the list of the AS-external-LSAs of its own database from
+/// table to table, until an edit, undo or redo changes an LSA of AS scope.
 #[derive(Drop)]
 pub(crate) struct Study<A: Allocator> {
     database: Database<A>,
     history: History<A>,
     loaded: Option<Database<A>>,
+    externals: Option<ExternalLsas<A>>,
     /// Whether many edits were taken back for a table of the loaded database. For the next one a
     /// copy is made.
     took_many_back: bool,
@@ -39,7 +43,7 @@ impl<A: Allocator> Model for Study<A> {
 
     ghost view = { λ s. session_of s.database s.history.lists };
 
-    ghost invariant = { λ s. IsStudied s.database s.history.lists s.loaded };
+    ghost invariant = { λ s. IsStudied s.database s.history.lists s.loaded s.externals };
 }
 
 impl<A: Allocator + Copy> Study<A> {
@@ -69,6 +73,7 @@ impl<A: Allocator + Copy> Study<A> {
             database,
             history: History::new(alloc),
             loaded: None,
+            externals: None,
             took_many_back: false,
         }
     }
@@ -96,6 +101,7 @@ impl<A: Allocator + Copy> Study<A> {
         }
         self.history.reserve()?;
         let record = apply(&mut self.database, edit)?;
+        drop_over_edit(&mut self.externals, &self.database, &record);
         self.history.push(record);
         // That the edit left a database is what the history's invariant asks for.
         self.database.known();
@@ -110,6 +116,7 @@ impl<A: Allocator + Copy> Study<A> {
         ensures reached { IsReached self.old }
         ensures leads { IsReached self.new }
     {
+        drop_over_undo(&mut self.externals, &self.database, &self.history, count);
         self.history.undo(&mut self.database, count)
     }
 
@@ -121,6 +128,7 @@ impl<A: Allocator + Copy> Study<A> {
         ensures reached { IsReached self.old }
         ensures leads { IsReached self.new }
     {
+        drop_over_redo(&mut self.externals, &self.database, &self.history, count);
         self.history.redo(&mut self.database, count)
     }
 
@@ -234,26 +242,27 @@ impl<A: Allocator + Copy> Study<A> {
     /// The routing table of a router over trees of the database that are kept. Those of the router
     /// that are not there are calculated and kept, and the meter counts them.
     pub(crate) fn table_over(
-        &self,
+        &mut self,
         router: RouterId,
         trees: &mut KeptTrees<A>,
         meter: &mut Meter,
     ) -> Result<Table<A>, TableFault>
-        requires { AreOfDatabase (state self.now) trees.old }
-        ensures table { IfOk result (λ table. table_in (state self.now) router ≡ Some table) }
-        ensures fault { IfErr result (FaultMeans (table_in (state self.now) router)) }
-        ensures graphs { AreOfDatabase (state self.now) trees.new }
+        requires { AreOfDatabase (state self.old) trees.old }
+        ensures table { IfOk result (λ table. table_in (state self.old) router ≡ Some table) }
+        ensures fault { IfErr result (FaultMeans (table_in (state self.old) router)) }
+        ensures session { self.new ≡ self.old }
+        ensures graphs { AreOfDatabase (state self.old) trees.new }
         ensures meter { OnOk result (meter.new ≡ counted_by (length (areas_without_tree
-            (is_kept (routers_of trees.old)) router (attached_areas (state self.now) router)))
+            (is_kept (routers_of trees.old)) router (attached_areas (state self.old) router)))
             meter.old) }
         ensures no_router { result ≡ Err TableFault.NoRouter → meter.new ≡ meter.old }
         ensures at_most { CountsAtMost (length (areas_without_tree (is_kept (routers_of trees.old))
-            router (attached_areas (state self.now) router))) meter.old meter.new }
+            router (attached_areas (state self.old) router))) meter.old meter.new }
         ensures kept { OnOk result (areas_without_tree (is_kept (routers_of trees.new)) router
-            (attached_areas (state self.now) router) ≡ []) }
+            (attached_areas (state self.old) router) ≡ []) }
         ensures keeps { IsWithin (is_kept (routers_of trees.old)) (is_kept (routers_of trees.new)) }
     {
-        table_over(self.database(), router, trees, meter)
+        table_over(&self.database, router, trees, meter, &mut self.externals)
     }
 
     /// The routing table of a router over trees of the loaded database that are kept. Those of the
@@ -282,7 +291,7 @@ impl<A: Allocator + Copy> Study<A> {
     {
         self.keep_loaded();
         if let Some(loaded) = self.loaded() {
-            return table_over(loaded, router, trees, meter);
+            return table_over(loaded, router, trees, meter, &mut None);
         }
         let done = self.undo_all();
         let table = self.table_over(router, trees, meter);

@@ -1,4 +1,4 @@
-use Rattle.std.proofs.Common.{ap, subst}
+use Rattle.std.proofs.Common.{◌∙◌, ap, subst}
 use Rattle.routing_table.specs.AreasTrees.{routers_of}
 use Rattle.routing_table.specs.KeptTrees.{IsWithin, is_kept}
 use Rattle.recalculate.specs.Planning.{PlannerValue}
@@ -10,6 +10,6 @@ returns-clause-keeps g c =
 
 pub returns-clause-step : goal.returns-clause-step
 returns-clause-step g c = record {
-  session = ap (λ (p : PlannerValue). p.session) c.self.view_is;
+  session = c.table_over.ensures.session ∙ ap (λ (p : PlannerValue). p.session) c.self.view_is;
   keeps = returns-clause-keeps g c;
 }
