@@ -13,12 +13,15 @@ use Rattle.edit_history.specs.Session.{state}
 use Rattle.branches.specs.Branches.{Sessions}
 use Rattle.branches.specs.Replies.{Answer}
 use Rattle.whole_run.specs.Run.{answers, answers_from, sessions_after, dump_after, session_after, lines_of, begun, text_of, run_answers, run_text, final_dump, final_session}
-use Rattle.streams.specs.WholeText.{IsAll, AppendsPrefix}
+use Rattle.streams.specs.WholeText.{IsAll, IsLonger, AppendsPrefix}
 use Rattle.streams.specs.declared.watch.Watched.{Watched}
 use Rattle.streams.specs.Watched.{inner_of}
 use Rattle.whole_run.specs.Streams.{contents_of}
-use Rattle.whole_run.specs.WholeRun.{IfBoth, IsSummaryOf}
-use Rattle.whole_run.specs.declared.script.Summary.{Summary}
+use Rattle.whole_run.specs.Inputs.{IsAccepted, longest_script}
+use Rattle.whole_run.specs.WholeRun.{IfBoth, MayEndRun}
+use Rattle.whole_run.specs.declared.fault.RunFault.{RunFault}
+use Rattle.whole_run.specs.declared.fault.RunFault.TheVariants.{Dump, Read, Write, TooLarge, OutOfMemory}
+use Rattle.whole_run.specs.steps.Reading.{IsRunEnd}
 
 answers_are : (bytes script : List ℕ) (s : Sessions) → begun (opened bytes) ≡ Ok s → run_answers bytes script ≡ answers s (lines_of script)
 unfolding run_answers
@@ -32,55 +35,40 @@ session_is : (bytes script : List ℕ) (s : Sessions) → begun (opened bytes) �
 unfolding final_session
 session_is bytes script s e = ap (λ r. session_after r (lines_of script)) e
 
--- what holds of the answers to the script that was read holds of the run's
-pub if_answers : (P : List Answer → Type 0) (dump script : Option (List ℕ)) (s : Sessions) (lines : List ℕ)
-    → IfSome dump (λ bytes. begun (opened bytes) ≡ Ok s) → IsAll script lines → P (answers s (lines_of lines))
-    → IfBoth dump script (λ bytes text. P (run_answers bytes text))
-if_answers P None script s lines loads all holds = tt
-if_answers P (Some bytes) None s lines loads all holds = tt
-if_answers P (Some bytes) (Some known) s lines loads all holds =
-    subst P (ap (λ l. answers s (lines_of l)) all ∙ sym (answers_are bytes known s loads)) holds
+-- ---- from what the branches of the opened session answer to what the run answers
 
--- the answers to the script that was read are written whole, or a prefix of them is; and they are counted
-pub if_written : (old new dump script : Option (List ℕ)) (s : Sessions) (lines : List ℕ)
-    → IfSome dump (λ bytes. begun (opened bytes) ≡ Ok s) → IsAll script lines → Appends old new (text_of (answers s (lines_of lines)))
-    → IfBoth dump script (λ bytes known. Appends old new (run_text bytes known))
-if_written old new = if_answers (λ told. Appends old new (text_of told))
-
-pub if_prefix : (old new dump script : Option (List ℕ)) (s : Sessions) (lines : List ℕ)
-    → IfSome dump (λ bytes. begun (opened bytes) ≡ Ok s) → IsAll script lines → AppendsPrefix old new (text_of (answers s (lines_of lines)))
-    → IfBoth dump script (λ bytes known. AppendsPrefix old new (run_text bytes known))
-if_prefix old new = if_answers (λ told. AppendsPrefix old new (text_of told))
-
-pub if_counted : (summary : Summary) (dump script : Option (List ℕ)) (s : Sessions) (lines : List ℕ)
-    → IfSome dump (λ bytes. begun (opened bytes) ≡ Ok s) → IsAll script lines → IsSummaryOf (answers s (lines_of lines)) summary
-    → IfBoth dump script (λ bytes known. IsSummaryOf (run_answers bytes known) summary)
-if_counted summary = if_answers (λ told. IsSummaryOf told summary)
+-- what holds of their answers holds of the run's
+pub of_answers : (P : List Answer → Type 0) (dump script : Option (List ℕ)) (s : Sessions)
+    → IfSome dump (λ bytes. begun (opened bytes) ≡ Ok s) → IfSome script (λ known. P (answers s (lines_of known)))
+    → IfBoth dump script (λ bytes known. P (run_answers bytes known))
+of_answers P None script s loads holds = tt
+of_answers P (Some bytes) None s loads holds = tt
+of_answers P (Some bytes) (Some known) s loads holds = subst P (sym (answers_are bytes known s loads)) holds
 
 -- the dump that the script leaves
-pub if_dump : (dump script : Option (List ℕ)) (s t : Sessions) (lines : List ℕ)
-    → IfSome dump (λ bytes. begun (opened bytes) ≡ Ok s) → IsAll script lines → t ≡ sessions_after s (lines_of lines)
-    → IfBoth dump script (λ bytes known. text (state (t 0)) ≡ final_dump bytes known)
-if_dump None script s t lines loads all ends = tt
-if_dump (Some bytes) None s t lines loads all ends = tt
-if_dump (Some bytes) (Some known) s t lines loads all ends =
-    ap (λ (u : Sessions). text (state (u 0))) ends ∙ ap (λ l. text (state (sessions_after s (lines_of l) 0))) all ∙ sym (dump_is bytes known s loads)
+pub of_dump : (items : List ℕ) (dump script : Option (List ℕ)) (s : Sessions) → IfSome dump (λ bytes. begun (opened bytes) ≡ Ok s)
+    → IfSome script (λ known. items ≡ text (state (sessions_after s (lines_of known) 0)))
+    → IfBoth dump script (λ bytes known. items ≡ final_dump bytes known)
+of_dump items None script s loads ends = tt
+of_dump items (Some bytes) None s loads ends = tt
+of_dump items (Some bytes) (Some known) s loads ends = ends ∙ sym (dump_is bytes known s loads)
 
 -- the session that the script leaves
-pub if_session : (dump script : Option (List ℕ)) (s t : Sessions) (lines : List ℕ)
-    → IfSome dump (λ bytes. begun (opened bytes) ≡ Ok s) → IsAll script lines → t ≡ sessions_after s (lines_of lines)
-    → IfBoth dump script (λ bytes known. saved_text (t 0) ≡ final_session bytes known)
-if_session None script s t lines loads all ends = tt
-if_session (Some bytes) None s t lines loads all ends = tt
-if_session (Some bytes) (Some known) s t lines loads all ends =
-    ap (λ (u : Sessions). saved_text (u 0)) ends ∙ ap (λ l. saved_text (sessions_after s (lines_of l) 0)) all ∙ sym (session_is bytes known s loads)
+pub of_session : (items : List ℕ) (dump script : Option (List ℕ)) (s : Sessions) → IfSome dump (λ bytes. begun (opened bytes) ≡ Ok s)
+    → IfSome script (λ known. items ≡ saved_text (sessions_after s (lines_of known) 0))
+    → IfBoth dump script (λ bytes known. items ≡ final_session bytes known)
+of_session items None script s loads ends = tt
+of_session items (Some bytes) None s loads ends = tt
+of_session items (Some bytes) (Some known) s loads ends = ends ∙ sym (session_is bytes known s loads)
 
--- a text that is left, where it is what the run leaves
-pub is_left : (dump script : Option (List ℕ)) (items left : List ℕ) (whole : List ℕ → List ℕ → List ℕ) → items ≡ left
-    → IfBoth dump script (λ bytes known. left ≡ whole bytes known) → IfBoth dump script (λ bytes known. items ≡ whole bytes known)
-is_left None script items left whole same is = tt
-is_left (Some bytes) None items left whole same is = tt
-is_left (Some bytes) (Some known) items left whole same is = same ∙ is
+-- how the run ends, where carrying out the script ends it
+pub of_end : (dump script : Option (List ℕ)) → IfSome dump IsAccepted → (fault : RunFault) → IsRunEnd (IsLonger script longest_script) fault
+    → MayEndRun dump script fault
+of_end dump script accepted (Dump fault) end = absurd end
+of_end dump script accepted Read end = tt
+of_end dump script accepted Write end = accepted
+of_end dump script accepted TooLarge end = (accepted, end)
+of_end dump script accepted OutOfMemory end = tt
 
 -- a prefix of a text is written where a writer is given; of one that is not, nothing is known
 pub if_prefix_given : {D : Type 0} (contents : D → Option (List ℕ)) (writer : Option (Watched D)) (new dump script : Option (List ℕ))
@@ -104,12 +92,6 @@ if_dump_prefix old new (Some bytes) (Some known) items whole same is part = subs
 -- nothing is written
 pub nothing_written : (old : Option (List ℕ)) (whole : List ℕ) → AppendsPrefix old old whole
 nothing_written old whole = ([], (refl, Appends-nil old))
-
-pub if_nothing : (old dump script : Option (List ℕ)) (whole : List ℕ → List ℕ → List ℕ)
-    → IfBoth dump script (λ bytes text. AppendsPrefix old old (whole bytes text))
-if_nothing old None script whole = tt
-if_nothing old (Some bytes) None whole = tt
-if_nothing old (Some bytes) (Some known) whole = nothing_written old (whole bytes known)
 
 -- a fault that is not want of memory is the first fault of the bytes
 pub first_fault : (known : Option (List ℕ)) (fault : DumpFault) → (fault.kind ≡ kind.OutOfMemory → ⊥)

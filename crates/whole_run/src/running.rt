@@ -4,18 +4,25 @@
 ghost use Rattle.std.specs.Prelude.{◌≡◌, ◌≢◌, ◌↔◌, ◌||◌, ◌<◌, ◌≤◌, ◌+◌, length, false, true, is_some, OnOk, IfOk, IfErr, IfSome, IsErr};
 ghost use Rattle.std.specs.Io.KnownBytes.{Appends, Keeps, IsAtEnd};
 ghost use Rattle.streams.specs.Watched.{inner_of, has_failed};
-ghost use Rattle.streams.specs.WholeText.{AppendsPrefix, ConsumesAtMost};
+ghost use Rattle.streams.specs.WholeText.{AppendsPrefix, ConsumesAtMost, IsLonger};
+ghost use Rattle.lsdb.specs.Text.{text};
+ghost use Rattle.edit_history.specs.Session.{state};
 ghost use Rattle.saved_sessions.specs.Opening.{opened};
+ghost use Rattle.saved_sessions.specs.Saved.{saved_text};
+ghost use Rattle.branches.specs.Branches.{sessions_of};
+ghost use Rattle.whole_run.specs.Run.{answers, lines_of, sessions_after, text_of};
 ghost use Rattle.whole_run.specs.Run.{run_answers, run_text, final_dump, final_session};
 ghost use Rattle.whole_run.specs.Streams.{contents_of, has_any_failed};
 ghost use Rattle.whole_run.specs.WholeRun.{IfBoth, IsSummaryOf, MayEndRun, IsBeforeReplies};
 ghost use Rattle.whole_run.specs.Inputs.{IsAccepted, longest_script, most_read};
+ghost use Rattle.whole_run.specs.steps.Reading.{IsRunEnd};
 
 use crate::fault::RunFault;
 use crate::inputs::{read_branches, read_script};
 use crate::leaving::{Left, Wanted, texts_left};
 use crate::output::write_ends;
 use crate::script::{Summary, answer_script};
+use branches::Branches;
 use std::alloc::Allocator;
 use std::io::{Read, Write};
 use streams::Watched;
@@ -161,8 +168,53 @@ fn answer_all<A: Allocator + Copy, R: Read, S: Read, W: Write>(
         (S.remaining (inner_of script.new)) (longest_script + 1) }
 {
     let mut branches = read_branches(alloc, dump)?;
+    run_script(alloc, &mut branches, script, replies, wanted)
+}
+
+/// Reads the script, carries it out in the branches of an opened session, and writes its replies.
+/// The texts that are wanted of what it leaves are answered with the counts.
+fn run_script<A: Allocator + Copy, S: Read, W: Write>(
+    alloc: A,
+    branches: &mut Branches<A>,
+    script: &mut Watched<S>,
+    replies: &mut Watched<W>,
+    wanted: Wanted,
+) -> Result<(Summary, Left<A>), RunFault>
+    requires script_open { has_failed script.old ≡ false }
+    requires replies_open { has_failed replies.old ≡ false }
+    ensures replies { OnOk result (IfSome (S.remaining (inner_of script.old))
+        (λ script. Appends (W.contents (inner_of replies.old)) (W.contents (inner_of replies.new))
+        (text_of (answers (sessions_of branches.old) (lines_of script))))) }
+    ensures dump { wanted.dump ≡ true → IfOk result
+        (λ done. IfSome (S.remaining (inner_of script.old))
+        (λ script. done.1.dump.items
+        ≡ text (state (sessions_after (sessions_of branches.old) (lines_of script) 0)))) }
+    ensures session { wanted.session ≡ true → IfOk result
+        (λ done. IfSome (S.remaining (inner_of script.old))
+        (λ script. done.1.session.items
+        ≡ saved_text (sessions_after (sessions_of branches.old) (lines_of script) 0))) }
+    ensures summary { IfOk result
+        (λ done. IfSome (S.remaining (inner_of script.old))
+        (λ script. IsSummaryOf (answers (sessions_of branches.old) (lines_of script)) done.0)) }
+    ensures prefix { IfSome (S.remaining (inner_of script.old))
+        (λ script. AppendsPrefix (W.contents (inner_of replies.old))
+        (W.contents (inner_of replies.new))
+        (text_of (answers (sessions_of branches.old) (lines_of script)))) }
+    ensures within { OnOk result
+        (IfSome (S.remaining (inner_of script.old)) (λ script. length script ≤ longest_script)) }
+    ensures faults { IfErr result
+        (IsRunEnd (IsLonger (S.remaining (inner_of script.old)) longest_script)) }
+    ensures read { (result ≡ Err RunFault.Read) ↔ (has_failed script.new ≡ true) }
+    ensures write { (result ≡ Err RunFault.Write) ↔ (has_failed replies.new ≡ true) }
+    ensures untouched { IfErr result (λ fault. IsBeforeReplies fault →
+        Keeps (W.contents (inner_of replies.old)) (W.contents (inner_of replies.new))) }
+    ensures unread { IfSome (S.remaining (inner_of script.new)) (λ rest. 0 < length rest →
+        Keeps (W.contents (inner_of replies.old)) (W.contents (inner_of replies.new))) }
+    ensures script_bounded { ConsumesAtMost (S.remaining (inner_of script.old))
+        (S.remaining (inner_of script.new)) (longest_script + 1) }
+{
     let text = read_script(alloc, script)?;
-    let summary = answer_script(alloc, &mut branches, text.as_slice(), replies)?;
-    let left = texts_left(alloc, &mut branches, wanted)?;
+    let summary = answer_script(alloc, branches, text.as_slice(), replies)?;
+    let left = texts_left(alloc, branches, wanted)?;
     Ok((summary, left))
 }

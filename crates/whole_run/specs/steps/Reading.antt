@@ -22,6 +22,14 @@ IsScriptEnd long OutOfMemory = Unit {0}
 IsScriptEnd long Write = ⊥
 IsScriptEnd long TooLarge = long
 
+-- the script was too long, or could not be read or stored, or the replies could not be written or stored
+abbrev pub IsRunEnd : Type 0 → RunFault → Type 0
+IsRunEnd long (Dump fault) = ⊥
+IsRunEnd long Read = Unit {0}
+IsRunEnd long OutOfMemory = Unit {0}
+IsRunEnd long Write = Unit {0}
+IsRunEnd long TooLarge = long
+
 -- more octets than they may be, by what they begin with
 abbrev pub IsTooLong : List ℕ → Type 0
 IsTooLong bytes = most_octets bytes < length bytes
