@@ -150,8 +150,8 @@ impl<A: Allocator + Copy> Study<A> {
         count <= self.history.undone() && self.history.redo_touches(count, area)
     }
 
-    /// The change of the cost of one interface that the last `count` done edits made, where they are
-    /// one edit, and it made no other change. It takes no memory.
+    /// The change of the cost of one interface that the last `count` done edits made, where they
+    /// are one edit, and it made no other change. It takes no memory.
     pub(crate) fn done_change(&self, count: usize) -> Option<AreaChange>
         requires { count ≤ length self.now.done }
         ensures change { IfSome result (λ made. IsCostChange made.area made.change
@@ -169,8 +169,8 @@ impl<A: Allocator + Copy> Study<A> {
         Some(made)
     }
 
-    /// The change of the cost of one interface that taking the first `count` undone edits back made,
-    /// where they are one edit, and no other change was made. It takes no memory.
+    /// The change of the cost of one interface that taking the first `count` undone edits back
+    /// made, where they are one edit, and no other change was made. It takes no memory.
     pub(crate) fn undone_change(&self, count: usize) -> Option<AreaChange>
         requires { count ≤ length self.now.undone }
         ensures change { IfSome result (λ made. IsCostChange made.area made.change

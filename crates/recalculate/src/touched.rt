@@ -17,11 +17,7 @@ use unchanged_tables::AreaChange;
 /// Drops the trees of the area in which a change of a cost was made, and keeps its graph as the
 /// spare one, after the change. Where no such change is known, no graph is spare. It takes no
 /// memory.
-fn keep_changed<A: Allocator + Copy>(
-    trees: &mut KeptTrees<A>,
-    alloc: A,
-    change: Option<AreaChange>,
-)
+fn keep_changed<A: Allocator + Copy>(trees: &mut KeptTrees<A>, alloc: A, change: Option<AreaChange>)
     ensures areas { MatchOption change (trees.new.areas ≡ trees.old.areas) (λ made.
         trees.new.areas ≡ remove_entry (eq_by_cmp area_cmp made.area) trees.old.areas) }
     ensures spare { (olds news : Lists) → IsDatabase news

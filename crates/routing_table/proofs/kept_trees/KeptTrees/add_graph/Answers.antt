@@ -19,10 +19,10 @@ pub returns-clause-trees : goal.returns-clause-trees
 returns-clause-trees g c = λ other root.
     let areas_of : KeptTreesValue → AreasTrees = λ kept. kept.areas in
     let same : c.self-2.inside.areas.entries ≡ c.self.inside.areas.entries =
-        ap areas_of c.self-2.view_is ∙ c.in_ok-trees.ensures.areas ∙ sym (ap areas_of c.self.view_is) in
+    ap areas_of c.self-2.view_is ∙ c.in_ok-trees.ensures.areas ∙ sym (ap areas_of c.self.view_is) in
     let absent : at_area c.self-2.inside.areas.entries c.args.area ≡ None =
-        ap (λ (areas : AreasTrees). at_area areas c.args.area) same
-        ∙ none_found _ (sym c.contains_key.ensures ∙ c.if-contains_key.false) in
+    ap (λ (areas : AreasTrees). at_area areas c.args.area) same
+    ∙ none_found _ (sym c.contains_key.ensures ∙ c.if-contains_key.false) in
     no_tree_more c.self-2.inside.areas.entries c.insert.new.self.entries c.args.area _ c.in_ok-insert.ensures.updates.0
     absent c.in_ok-trees.ensures.trees other root
     ∙ ap (λ (areas : AreasTrees). trees_of areas other root) (ap areas_of c.self-2.view_is ∙ c.in_ok-trees.ensures.areas)
