@@ -119,6 +119,59 @@ fn a_second_table_asks_for_fewer_growths(rt: HostRuntime) -> Result<(), Fail> {
     Ok(())
 }
 
+/// The growths of a table of 1.1.1.1 behind an edit.
+fn growths_behind(
+    planner: &mut Planner<&Rationed>,
+    rationed: &Rationed,
+    change: &Edit,
+) -> Result<u64, Fail> {
+    edit(planner, change)?;
+    growths_of_table(planner, rationed)
+}
+
+/// The link of 1.1.1.1 to 2.2.2.2 goes.
+const DROPPED: Edit = Edit::DropLink {
+    area: AreaId(0),
+    router: RouterId(R1),
+    link: 1,
+};
+
+/// The growths of a table behind a cost, behind the undo of it, and behind an edit that drops a
+/// link, and the trees that they and the first table calculate.
+fn growths_behind_edits(
+    planner: &mut Planner<&Rationed>,
+    rationed: &Rationed,
+) -> Result<([u64; 3], u64), Fail> {
+    let _first = growths_of_table(planner, rationed)?;
+    let behind_cost = growths_behind(planner, rationed, &cost(7))?;
+    undo(planner, 1)?;
+    let behind_undo = growths_of_table(planner, rationed)?;
+    let behind_drop = growths_behind(planner, rationed, &DROPPED)?;
+    Ok(([behind_cost, behind_undo, behind_drop], planner.runs()))
+}
+
+/// The same on the star.
+fn growths_behind_edits_of_star(alloc: Global) -> Result<([u64; 3], u64), Fail> {
+    let rationed = Rationed::new(alloc, u64::MAX);
+    let mut planner = planner_of(&rationed, &star(alloc)?)?;
+    growths_behind_edits(&mut planner, &rationed)
+}
+
+#[test]
+fn a_table_behind_a_cost_asks_for_no_graph(rt: HostRuntime) -> Result<(), Fail> {
+    let ([cost, undo, drop], runs) = growths_behind_edits_of_star(rt.alloc())?;
+    assert!(rt;
+        cost < drop,
+        "{cost} behind a cost, {drop} behind a dropped link"
+    );
+    assert!(rt;
+        undo < drop,
+        "{undo} behind an undo, {drop} behind a dropped link"
+    );
+    assert_eq!(rt; runs, 4);
+    Ok(())
+}
+
 /// The growths of a table of a router in the database of the beginning.
 fn growths_at_the_beginning(
     planner: &mut Planner<&Rationed>,
