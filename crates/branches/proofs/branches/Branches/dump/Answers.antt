@@ -3,7 +3,8 @@ use Rattle.std.proofs.lemmas.Bool.{ne_eqb}
 use Rattle.lsdb.specs.Lists.{Lists}
 use Rattle.lsdb.specs.Text.{text}
 use Rattle.edit_history.specs.Session.{Session, state}
-use Rattle.branches.specs.Branches.{Named, sessions_of}
+use Rattle.recalculate.specs.Planning.{PlannerValue}
+use Rattle.branches.specs.Branches.{Named, named_by, sessions_of}
 use Rattle.branches.proofs.BranchSessions.{session_of_named, session_of_unnamed}
 use Rattle.branches.proofs.branches.Branches.dump.Goals as goal
 
@@ -20,6 +21,14 @@ invariant_of-self g c = rw c.base.ensures.kept c.self.invariant
 
 pub invariant_of-self-in-None : goal.invariant_of-self-in-None
 invariant_of-self-in-None g c = rw c.base.ensures.kept c.self.invariant
+
+pub returns-in_err-base-in-None-clause-kept : goal.returns-in_err-base-in-None-clause-kept
+returns-in_err-base-in-None-clause-kept g c =
+    ap (λ (first : PlannerValue). named_by first c.self.inside.others.entries) c.base.ensures.kept ∙ c.self.view_is
+
+pub returns-in_ok-base-in-None-clause-kept : goal.returns-in_ok-base-in-None-clause-kept
+returns-in_ok-base-in-None-clause-kept g c =
+    ap (λ (first : PlannerValue). named_by first c.self.inside.others.entries) c.base.ensures.kept ∙ c.self.view_is
 
 pub returns-in_ok-base-in-None-clause-dump : goal.returns-in_ok-base-in-None-clause-dump
 returns-in_ok-base-in-None-clause-dump g c =
