@@ -1,6 +1,6 @@
 -- What a run is answered, from what was read of its inputs.
-use Rattle.std.proofs.Common.{◌≡◌, ◌∙◌, true, ap, sym, subst, refl, ℕ, List, [], Option, None, Some, Ok, Err, inl, inr}
-use Rattle.std.specs.Prelude.{IfSome, IfErr, Result, is_some}
+use Rattle.std.proofs.Common.{◌≡◌, ◌∙◌, true, true≢false, ap, sym, subst, refl, ℕ, List, [], Option, None, Some, Ok, Err, inl, inr}
+use Rattle.std.specs.Prelude.{IfSome, IfErr, IsErr, IsOk, OnOk, Result, is_some}
 use Rattle.std.specs.Io.KnownBytes.{Appends, Keeps}
 use Rattle.std.proofs.KnownBytes.{Appends-nil, Appends-kept}
 use Rattle.lsdb.specs.declared.fault.DumpFault.{DumpFault}
@@ -9,7 +9,7 @@ use Rattle.lsdb.specs.Text.{text}
 use Rattle.lsdb.specs.Loading.{IsFirstFault}
 use Rattle.saved_sessions.specs.Opening.{opened}
 use Rattle.saved_sessions.specs.Saved.{saved_text}
-use Rattle.edit_history.specs.Session.{state}
+use Rattle.edit_history.specs.Session.{Session, state}
 use Rattle.branches.specs.Branches.{Sessions}
 use Rattle.branches.specs.Replies.{Answer}
 use Rattle.whole_run.specs.Run.{answers, answers_from, sessions_after, dump_after, session_after, lines_of, begun, text_of, run_answers, run_text, final_dump, final_session}
@@ -69,6 +69,20 @@ of_end dump script accepted Read end = tt
 of_end dump script accepted Write end = accepted
 of_end dump script accepted TooLarge end = (accepted, end)
 of_end dump script accepted OutOfMemory end = tt
+
+-- an accepted dump is not refused
+pub not_refused : (K : Type 0) (dump : Option (List ℕ)) → IfSome dump IsAccepted → IfSome dump (λ bytes. IsErr (opened bytes) → K)
+not_refused K None accepted = tt
+not_refused K (Some bytes) accepted = by (opened bytes) accepted
+  where
+    by : (r : Result Session DumpFault) → IsOk r → IsErr r → K
+    by (Ok s) ok err = absurd (true≢false (sym err))
+    by (Err fault) ok err = absurd (true≢false (sym ok))
+
+-- what holds anyhow holds after a success
+pub on_success : {T E P : Type 0} (r : Result T E) → P → OnOk r P
+on_success (Ok value) holds = holds
+on_success (Err fault) holds = tt
 
 -- a prefix of a text is written where a writer is given; of one that is not, nothing is known
 pub if_prefix_given : {D : Type 0} (contents : D → Option (List ℕ)) (writer : Option (Watched D)) (new dump script : Option (List ℕ))

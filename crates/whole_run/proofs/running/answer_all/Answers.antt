@@ -5,7 +5,7 @@ use Rattle.std.specs.Io.KnownBytes.{Appends}
 use Rattle.whole_run.specs.Run.{text_of}
 use Rattle.whole_run.specs.WholeRun.{IsSummaryOf}
 use Rattle.whole_run.proofs.FailedReads.{read_by_either}
-use Rattle.whole_run.proofs.KnownInputs.{of_answers, of_dump, of_end, of_session}
+use Rattle.whole_run.proofs.KnownInputs.{not_refused, of_answers, of_dump, of_end, of_session, on_success}
 use Rattle.whole_run.proofs.running.answer_all.Goals as goal
 
 pub returns-clause-replies : goal.returns-clause-replies
@@ -38,3 +38,9 @@ returns-clause-faults g c =
 
 pub returns-clause-read : goal.returns-clause-read
 returns-clause-read g c = read_by_either _ _ _ _ _ _ c.in_ok-branches.ensures.failed c.run_script.ensures.read
+
+pub returns-clause-accepted : goal.returns-clause-accepted
+returns-clause-accepted g c = on_success c.run_script.result c.in_ok-branches.ensures.accepted
+
+pub returns-clause-script_untouched : goal.returns-clause-script_untouched
+returns-clause-script_untouched g c = not_refused _ (g.R.Read.remaining (inner_of c.args.dump.now)) c.in_ok-branches.ensures.accepted
