@@ -94,6 +94,18 @@ module _ (entries : List EntryValue) (e : EntryValue) (old : Costs) (before : Ha
           ∙ ap cost_if s)
       by false s = sym (ap (λ b. option_or (cost_at old q) (cost_if b)) s ∙ or_none (cost_at old q))
 
+-- a cost was put in place of one, and that was put back
+pub put_back : (router : RouterId) (cost first : ℕ) (old between new : Costs) → cost_at old router ≡ Some first
+    → ((q : RouterId) → cost_at between q ≡ cond (eq_by_cmp router_cmp router q) (Some cost) (cost_at old q))
+    → ((q : RouterId) → cost_at new q ≡ cond (eq_by_cmp router_cmp router q) (Some first) (cost_at between q))
+    → (q : RouterId) → cost_at new q ≡ cost_at old q
+put_back router cost first old between new was there after q = after q ∙ by (eq_by_cmp router_cmp router q) refl (there q)
+  where
+    by : (b : Bool) → eq_by_cmp router_cmp router q ≡ b → cost_at between q ≡ cond b (Some cost) (cost_at old q)
+        → cond b (Some first) (cost_at between q) ≡ cost_at old q
+    by true e h = sym (ap (cost_at old) (sym (router_exact router q ((Equal-is (router_cmp router q)).0 e))) ∙ was)
+    by false e h = h
+
 -- ---- costs are small
 
 found_has : {X : Type 0} (P : X → Type 0) (p : X → Bool) (xs : List X) → All P xs → IfSome (find p xs) P

@@ -43,7 +43,7 @@ fn is_border<A: Allocator + Copy>(entry: &RouterEntry<A>) -> bool
     entry.kind == EntryKind::Border
 }
 
-/// Adds the cost of an area border router, unless it has one.
+/// Adds the cost of an area border router, unless it has one: then that is put back.
 fn insert_cost<A: Allocator + Copy>(
     costs: &mut BTreeMap<RouterId, u64, A>,
     entry: &RouterEntry<A>,
@@ -51,10 +51,12 @@ fn insert_cost<A: Allocator + Copy>(
     ensures { OnOk result ((entries : List EntryValue) → HasCosts entries costs.old.entries
         → HasCosts (entries ++ entry.now ∷ []) costs.new.entries) }
 {
-    if !is_border(entry) || costs.contains_key(&entry.router) {
+    if !is_border(entry) {
         return Ok(());
     }
-    costs.insert(entry.router, entry.cost)?;
+    if let Some(first) = costs.insert(entry.router, entry.cost)? {
+        costs.insert(entry.router, first)?;
+    }
     Ok(())
 }
 
