@@ -26,8 +26,8 @@ pub struct CostChange {
 
 impl CostChange {
     /// The change that makes one router-LSA another, where there is one: no more than the metric of
-    /// such links differs, and what their routes do not depend on, as the sequence number. It takes
-    /// no memory.
+    /// such links differs, and what their routes do not depend on, as the sequence number. `None`
+    /// says nothing. It takes no memory.
     pub fn between<A: Allocator + Copy>(before: &Lsa<A>, after: &Lsa<A>) -> Option<CostChange>
         ensures { IfSome result (λ change. IsChangedLsa change before.now after.now) }
     {

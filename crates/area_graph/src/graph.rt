@@ -81,7 +81,8 @@ impl<A: Allocator + Copy> Graph<A> {
 
     /// Makes it the graph after a change of the cost of an interface. Whether it does, and else it
     /// stays: it does where the router and the vertex are in the graph, the cost is not 0, and one
-    /// edge at most leads from the router to the vertex with the Link Data. It takes no memory.
+    /// edge at most leads from the router to the vertex with the Link Data. `false` says no more
+    /// than that it stayed. It takes no memory.
     pub fn change_cost(&mut self, change: CostChange) -> bool
         ensures graph { OnTrue result ((lsas others : List (List ℕ)) → AreOfArea others
             → AreChanged change lsas others → IsGraphOf lsas self.old → IsGraphOf others self.new) }
