@@ -18,6 +18,7 @@ pub mod Beaten
 pub mod Bounds
 pub mod Sorted
 pub mod Made
+pub mod RouteRuns
 pub mod Searching
 pub mod InUse
 pub mod Indexing

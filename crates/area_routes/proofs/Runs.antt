@@ -65,7 +65,7 @@ module _ {X : Type 0} where
       ∙ set-append_right before (last ∷ []) (length before) (length before) new refl (omega arith)
       ∙ ap (λ i. before ++ set (last ∷ []) i new) none
 
-  last_item : (before : List X) (last d : X) → get_or (before ++ last ∷ []) (length (before ++ last ∷ []) - 1) d ≡ last
+  pub last_item : (before : List X) (last d : X) → get_or (before ++ last ∷ []) (length (before ++ last ∷ []) - 1) d ≡ last
   last_item before last d =
       let none : length before - length before ≡ 0 = omega arith in
       ap (λ i. get_or (before ++ last ∷ []) i d) (last_place before last)
@@ -172,7 +172,7 @@ module _ {K V : Type 0} {R : K → K → Ordering} (o : IsTotalOrder R) where
 -- ---- one candidate after another
 
 module _ {K : Type 0} {R : K → K → Ordering} (o : IsTotalOrder R) (exact : CmpEqualImpliesEq R) where
-  key_of_last : (ways before : List (K × WayValue)) (last : K × WayValue) (k : K) → ways ≡ before ++ last ∷ [] → is_last R ways k ≡ is_eq (R last.0 k)
+  pub key_of_last : (ways before : List (K × WayValue)) (last : K × WayValue) (k : K) → ways ≡ before ++ last ∷ [] → is_last R ways k ≡ is_eq (R last.0 k)
   key_of_last ways before last k is =
       ap (λ ws. is_last R ws k) is ∙ ap (λ w. option_map_or (λ e. is_eq (R e.0 k)) w false) (last_of before last)
 

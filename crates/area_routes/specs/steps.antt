@@ -3,6 +3,7 @@ pub mod ReachedVertices
 pub mod Growing
 pub mod Standings
 pub mod Merge
+pub mod BestRoutes
 pub mod EntryIndex
 pub mod KeptAreas
 pub mod StubCandidates

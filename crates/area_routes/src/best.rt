@@ -139,7 +139,15 @@ impl<'a, K: Ord + Copy + Drop, A: Allocator + Copy> BestWays<'a, K, A> {
             → Gathers cs self.entry → ways.items ≡ ways_of K.cmp cs) }
         ensures sorted { IfOk result (λ ways. IsStrictlySortedBy K.cmp (keys_of ways.items)) }
     {
-        ways_in_order(alloc, &in_order(self.candidates)?)
+        ways_in_order(alloc, &self.into_ordered()?)
+    }
+
+    /// The candidates in order of their destinations.
+    pub(crate) fn into_ordered(self) -> Result<Vec<Contender<'a, K>, A>, AllocError>
+        ensures same { IfOk result (λ ordered. IsPermutation self.entry ordered.items) }
+        ensures order { IfOk result (λ ordered. IsSorted (key_cmp K.cmp) ordered.items) }
+    {
+        in_order(self.candidates)
     }
 }
 

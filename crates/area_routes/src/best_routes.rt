@@ -1,18 +1,26 @@
 //! Routes by the best ways.
 
-ghost use Rattle.std.specs.Prelude.{◌≡◌, ◌<◌, ℕ, List, IfOk, All, map};
+ghost use Rattle.std.specs.Prelude.{◌≡◌, ◌<◌, ℕ, List, IfOk, OnOk, All, Some};
+ghost use Rattle.std.specs.List.Sorted.{IsSorted};
+ghost use Rattle.lsa_codec.specs.Order.{prefix_cmp};
 ghost use Rattle.lsa_codec.specs.Prefix.{Net};
 ghost use Rattle.area_routes.specs.Best.{Gathers};
 ghost use Rattle.area_routes.specs.Candidate.{Candidate};
-ghost use Rattle.area_routes.specs.Routes.{route_of, routes_of};
-ghost use Rattle.area_routes.specs.Values.{RoutesBelow};
+ghost use Rattle.area_routes.specs.Routes.{AreSortedRoutes, route_of, routes_of};
+ghost use Rattle.area_routes.specs.Values.{RouteValue, RoutesBelow, WayValue};
+ghost use Rattle.area_routes.specs.steps.BestRoutes.{is_last_route, rank_of, EndBy, IsBy};
+ghost use Rattle.area_routes.specs.steps.Merge.{fresh, key_cmp, merge};
 
 use crate::best::BestWays;
+use crate::contender::Contender;
+use crate::laws::rank_order;
+use crate::rank::Rank;
 use crate::route::Route;
 use crate::route_list::Routes;
-use crate::way::Way;
+use crate::way::areas_of;
 use lsa_codec::Prefix;
 use std::alloc::{AllocError, Allocator};
+use std::cmp::Ordering;
 
 impl<'a, A: Allocator + Copy> BestWays<'a, Prefix, A> {
     /// The routes by these ways, one for each. No route costs more than each candidate.
@@ -27,33 +35,109 @@ impl<'a, A: Allocator + Copy> BestWays<'a, Prefix, A> {
             → Gathers cs self.entry
             → All (λ c. c.rank.cost < bound) cs → RoutesBelow bound routes) }
     {
-        let ways = self.into_list(alloc)?;
-        Ok(Routes::from_sorted(routes(alloc, ways)?))
+        let candidates = self.into_ordered()?;
+        Ok(Routes::from_sorted(routes_in_order(alloc, &candidates)?))
     }
 }
 
-/// The route to a prefix by the best way.
-fn route<A: Allocator + Copy>(net: Prefix, way: Way<A>) -> Route<A>
-    ensures { result ≡ route_of (net, way) }
-{
-    Route {
-        net,
-        kind: way.rank.path,
-        areas: way.areas,
-        cost: way.rank.cost,
-        cost2: way.rank.cost2,
-        hops: way.hops,
-    }
-}
-
-/// Such a route for each way.
-fn routes<A: Allocator + Copy>(
+/// The routes by the best ways of candidates that stand in order of prefix.
+fn routes_in_order<A: Allocator + Copy>(
     alloc: A,
-    ways: Vec<(Prefix, Way<A>), A>,
+    candidates: &[Contender<'_, Prefix>],
 ) -> Result<Vec<Route<A>, A>, AllocError>
-    ensures { IfOk result (λ routes. routes.items ≡ map route_of ways.items) }
+    requires { IsSorted (key_cmp prefix_cmp) candidates.now }
+    ensures routes { IfOk result (λ routes. routes.items ≡ routes_of candidates.now) }
+    ensures sorted { IfOk result (λ routes. AreSortedRoutes routes.items) }
 {
-    ways.into_iter()
-        .map(|(net, way)| route(net, way))
-        .collect(alloc)
+    let mut routes = Vec::with_capacity(alloc, candidates.len())?;
+    let mut class = 0;
+    for candidate in candidates {
+        if is_last(&routes, candidate.key) {
+            merge_last(alloc, &mut routes, &mut class, candidate)?;
+        } else {
+            routes.push(route_by(alloc, candidate)?)?;
+            class = candidate.rank.class;
+        }
+    }
+    Ok(routes)
+}
+
+/// Whether the last of these routes leads to a prefix.
+fn is_last<A: Allocator + Copy>(routes: &[Route<A>], net: Prefix) -> bool
+    ensures { result ≡ is_last_route routes.now net }
+{
+    match routes.last() {
+        Some(last) => last.net.cmp(&net).is_eq(),
+        None => false,
+    }
+}
+
+/// The route by one candidate.
+fn route_by<A: Allocator + Copy>(
+    alloc: A,
+    candidate: &Contender<'_, Prefix>,
+) -> Result<Route<A>, AllocError>
+    ensures { IfOk result (λ route. route ≡ route_of (candidate.now.key, fresh candidate.now)) }
+{
+    Ok(Route {
+        net: candidate.key,
+        kind: candidate.rank.path,
+        areas: areas_of(alloc, candidate.area),
+        cost: candidate.rank.cost,
+        cost2: candidate.rank.cost2,
+        hops: candidate.hop_list(alloc)?,
+    })
+}
+
+/// What the paths of a route are compared by, where they are of this class.
+fn rank<A: Allocator + Copy>(route: &Route<A>, class: u8) -> Rank
+    ensures { result ≡ rank_of route.now class }
+{
+    Rank {
+        path: route.kind,
+        cost2: route.cost2,
+        class,
+        cost: route.cost,
+    }
+}
+
+/// Takes a further candidate for the prefix of the last of these routes, whose paths are of this
+/// class, into account.
+fn merge_last<A: Allocator + Copy>(
+    alloc: A,
+    routes: &mut Vec<Route<A>, A>,
+    class: &mut u8,
+    candidate: &Contender<'_, Prefix>,
+) -> Result<(), AllocError>
+    ensures { OnOk result ((before : List RouteValue) (net : Net) (way : WayValue)
+        → EndBy before (net, way) routes.old.items class.old → candidate.now.key ≡ net
+        → EndBy before (net, merge (Some way) candidate.now) routes.new.items class.new) }
+{
+    if let Some(last) = routes.last_mut() {
+        merge(alloc, last, class, candidate)?;
+    }
+    Ok(())
+}
+
+/// Takes a further candidate for the prefix of a route, whose paths are of this class, into account.
+fn merge<A: Allocator + Copy>(
+    alloc: A,
+    route: &mut Route<A>,
+    class: &mut u8,
+    candidate: &Contender<'_, Prefix>,
+) -> Result<(), AllocError>
+    ensures { OnOk result ((net : Net) (way : WayValue)
+        → IsBy (net, way) route.old class.old → candidate.now.key ≡ net
+        → IsBy (net, merge (Some way) candidate.now) route.new class.new) }
+{
+    rank_order();
+    match candidate.rank.cmp(&rank(route, *class)) {
+        Ordering::Less => {
+            *route = route_by(alloc, candidate)?;
+            *class = candidate.rank.class;
+        }
+        Ordering::Equal => candidate.join_into(&mut route.areas, &mut route.hops)?,
+        Ordering::Greater => (),
+    }
+    Ok(())
 }

@@ -1,10 +1,11 @@
 //! Candidates for destinations, which borrow their next hops.
 
-ghost use Rattle.std.specs.Prelude.{◌≡◌, IfOk};
+ghost use Rattle.std.specs.Prelude.{◌≡◌, ◌++◌, IfOk, OnOk};
 ghost use Rattle.area_graph.specs.Rising.{rising};
 ghost use Rattle.next_hops.specs.Hop.{hop_cmp};
-ghost use Rattle.area_routes.specs.steps.Merge.{candidate_cmp, contender_cmp, first_hop};
+ghost use Rattle.area_routes.specs.steps.Merge.{add_area, candidate_cmp, contender_cmp, first_hop};
 
+use crate::areas::AreaList;
 use crate::rank::Rank;
 use lsa_codec::{Addr, AreaId};
 use next_hops::{Hop, HopList, hop_order};
@@ -53,6 +54,24 @@ impl<'a, K> Contender<'a, K> {
         let mut hops = HopList::new(alloc)?;
         hops.join_extended(self.hops, address)?;
         Ok(hops)
+    }
+
+    /// Adds its area and its next hops to those of other ways.
+    pub(crate) fn join_into<A: Allocator + Copy>(
+        &self,
+        areas: &mut AreaList<A>,
+        hops: &mut HopList<A>,
+    ) -> Result<(), AllocError>
+        ensures areas { OnOk result (areas.new ≡ add_area areas.old self.now.area) }
+        ensures hops { OnOk result (hops.new ≡ rising hop_cmp (hops.old ++ self.now.hops)) }
+    {
+        if let Some(area) = self.area {
+            areas.add(area)?;
+        }
+        match self.onward {
+            Some(address) => hops.join_extended(self.hops, address),
+            None => hops.join(self.hops),
+        }
     }
 }
 

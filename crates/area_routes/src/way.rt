@@ -55,13 +55,7 @@ impl<A: Allocator + Copy> Way<A> {
     fn join<K>(&mut self, candidate: &Contender<'_, K>) -> Result<(), AllocError>
         ensures { OnOk result (self.new ≡ merged self.old candidate.now) }
     {
-        if let Some(area) = candidate.area {
-            self.areas.add(area)?;
-        }
-        match candidate.onward {
-            Some(address) => self.hops.join_extended(candidate.hops, address),
-            None => self.hops.join(candidate.hops),
-        }
+        candidate.join_into(&mut self.areas, &mut self.hops)
     }
 
     /// Takes a further candidate for the same destination into account.
@@ -83,7 +77,7 @@ impl<A: Allocator + Copy> Way<A> {
 }
 
 /// The list of the area that a way leads through if it stays in one.
-fn areas_of<A: Allocator + Copy>(alloc: A, area: Option<AreaId>) -> AreaList<A>
+pub(crate) fn areas_of<A: Allocator + Copy>(alloc: A, area: Option<AreaId>) -> AreaList<A>
     ensures { result ≡ add_area [] area }
 {
     match area {

@@ -9,5 +9,5 @@ returns-clause-ways g c =
     let R = g.K.Ord.cmp in
     IfOk-weaker c.ways_in_order.result _ _
     (λ ways is cs at. is ∙ ap (ways_of R) c.deref.ensures.value
-    ∙ reordered g.met.K.Ord.total c.requires c.self.inside.candidates.items c.in_ok-in_order.field-0.items c.in_ok-in_order.ensures.same
-    ∙ ap (ways_of R) (c.self.view_is ∙ at)) c.ways_in_order.ensures.ways
+    ∙ reordered g.met.K.Ord.total c.requires c.args.self c.in_ok-into_ordered.field-0.items c.in_ok-into_ordered.ensures.same
+    ∙ ap (ways_of R) at) c.ways_in_order.ensures.ways
