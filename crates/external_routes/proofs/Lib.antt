@@ -8,3 +8,6 @@ pub mod Listed
 pub mod Whole
 pub mod AsbrMaps
 pub mod UnmarkedLengths
+pub mod Items
+pub mod Remembered
+pub mod Places

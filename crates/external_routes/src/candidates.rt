@@ -89,14 +89,15 @@ fn add_path_over<'a, A: Allocator + Copy>(
 /// Takes what an LSA offers into account.
 pub(crate) fn add_external_candidate<'a, A: Allocator + Copy>(
     ways: &mut BestWays<'a, Prefix, A>,
-    inside: &Inside<'a, A>,
+    inside: &mut Inside<'a, A>,
     router: RouterId,
     lsa: &ExternalLsa,
 ) -> Result<(), AllocError>
-    ensures { OnOk result ((cs : List (Candidate Net)) → Gathers cs ways.old
+    ensures candidate { OnOk result ((cs : List (Candidate Net)) → Gathers cs ways.old
         → Gathers
         (cs ++ cons_option
-        (candidate_of router inside.now.routes inside.now.entries lsa.now) []) ways.new) }
+        (candidate_of router inside.old.routes inside.old.entries lsa.now) []) ways.new) }
+    ensures same { inside.new ≡ inside.old }
 {
     if lsa.router != router
         && !inside.has_route(lsa.net)

@@ -1,6 +1,6 @@
 //! The ways inside the AS.
 
-ghost use Rattle.std.specs.Prelude.{◌≡◌, ◌<◌, ◌^◌, IfSome, IfOk};
+ghost use Rattle.std.specs.Prelude.{◌≡◌, ◌<◌, ◌^◌, IfSome, IfOk, Some};
 ghost use Rattle.std.specs.Option.{option_copied};
 ghost use Rattle.area_routes.specs.Routes.{has_route};
 ghost use Rattle.external_routes.specs.Choose.{forward_match, preferred};
@@ -8,10 +8,21 @@ ghost use Rattle.external_routes.specs.steps.Lookup.{WaysBelow};
 
 use crate::asbr_map::{AsbrMap, entry_for, map_asbrs};
 use crate::forward::{forward_match, lengths};
+use crate::place::has_route_near;
 use area_routes::{InsideRoutes, Route, RouterEntries, RouterEntry, Routes};
 use lsa_codec::{Addr, Prefix, RouterId};
 use std::alloc::{AllocError, Allocator, Global};
 use std::marker::Model;
+
+/// How many entries are remembered.
+const REMEMBERED: usize = 256;
+
+/// The place at which the entry of a router is remembered. Close Router IDs have different places.
+fn place_of(asbr: RouterId) -> usize
+    ensures { result < 256 }
+{
+    (asbr.0.wrapping_mul(0x9E37_79B9) >> 24) as usize
+}
 
 /// The routes and the router entries of a router inside the AS, on which its external routes are
 /// built. Contracts see it as the record of the two lists.
@@ -23,6 +34,10 @@ pub(crate) struct Inside<'a, A: Allocator = Global> {
     lengths: [bool; 33],
     /// Which entry of each AS boundary router is preferred.
     asbrs: AsbrMap<A>,
+    /// Where the prefix that was looked for last would stand among the routes.
+    place: usize,
+    /// The indexes of preferred entries that were found before, each at the place of its router.
+    remembered: [usize; 256],
 }
 
 impl<'a, A: Allocator> Model for Inside<'a, A> {
@@ -32,8 +47,8 @@ impl<'a, A: Allocator> Model for Inside<'a, A> {
 
     ghost view = { λ i. record { routes = i.routes.now; entries = i.entries.now } };
 
-    ghost invariant = { λ i. IsInside
-        (record { routes = i.routes.now; entries = i.entries.now }) i.lengths i.asbrs };
+    ghost invariant = { λ i. IsInside (record { routes = i.routes.now; entries = i.entries.now })
+        i.lengths i.asbrs i.remembered };
 }
 
 impl<'a, A: Allocator + Copy> Inside<'a, A> {
@@ -54,15 +69,21 @@ impl<'a, A: Allocator + Copy> Inside<'a, A> {
             entries,
             lengths: lengths(routes.as_slice()),
             asbrs: map_asbrs(alloc, entries)?,
+            place: 0,
+            remembered: [entries.len(); REMEMBERED],
         })
     }
 
     /// Whether a prefix has a route. Where no route has a prefix of this length, none is looked
     /// for.
-    pub(crate) fn has_route(&self, net: Prefix) -> bool
-        ensures { result ≡ has_route self.now.routes net }
+    pub(crate) fn has_route(&mut self, net: Prefix) -> bool
+        ensures result { result ≡ has_route self.old.routes net }
+        ensures same { self.new ≡ self.old }
     {
-        self.lengths[usize::from(net.len())] && self.routes.has_route(net)
+        if !self.lengths[usize::from(net.len())] {
+            return false;
+        }
+        has_route_near(self.routes, &mut self.place, net)
     }
 
     /// The route of the longest prefix that covers an address.
@@ -73,11 +94,40 @@ impl<'a, A: Allocator + Copy> Inside<'a, A> {
         forward_match(self.routes, &self.lengths, addr)
     }
 
-    /// The preferred entry of a router as an AS boundary router.
-    pub(crate) fn preferred(&self, asbr: RouterId) -> Option<&'a RouterEntry<A>>
-        ensures entry { option_copied result ≡ preferred self.now.entries asbr }
+    /// The preferred entry of a router as an AS boundary router, if it is remembered.
+    fn recalled(&self, asbr: RouterId) -> Option<&'a RouterEntry<A>>
+        ensures entry { IfSome result (λ entry. Some entry.now
+            ≡ preferred self.now.entries asbr) }
         ensures small { IfSome result (λ entry. entry.now.cost < 2 ^ 34) }
     {
-        entry_for(&self.asbrs, self.entries, asbr)
+        let entry = self.entries.get(self.remembered[place_of(asbr)])?;
+        if entry.router == asbr {
+            Some(entry)
+        } else {
+            None
+        }
+    }
+
+    /// The preferred entry of a router as an AS boundary router, which is remembered.
+    fn looked_up(&mut self, asbr: RouterId) -> Option<&'a RouterEntry<A>>
+        ensures entry { option_copied result ≡ preferred self.old.entries asbr }
+        ensures small { IfSome result (λ entry. entry.now.cost < 2 ^ 34) }
+        ensures same { self.new ≡ self.old }
+    {
+        let index = *self.asbrs.get(&asbr)?;
+        self.remembered[place_of(asbr)] = index;
+        self.entries.get(index)
+    }
+
+    /// The preferred entry of a router as an AS boundary router.
+    pub(crate) fn preferred(&mut self, asbr: RouterId) -> Option<&'a RouterEntry<A>>
+        ensures entry { option_copied result ≡ preferred self.old.entries asbr }
+        ensures small { IfSome result (λ entry. entry.now.cost < 2 ^ 34) }
+        ensures same { self.new ≡ self.old }
+    {
+        match self.recalled(asbr) {
+            Some(entry) => Some(entry),
+            None => self.looked_up(asbr),
+        }
     }
 }

@@ -13,6 +13,7 @@ mod asbr_map;
 mod choose;
 mod forward;
 mod inside;
+mod place;
 
 // The metrics of summary-LSAs.
 mod coverage;

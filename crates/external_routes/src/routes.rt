@@ -25,10 +25,10 @@ fn ways_of<'a, A: Allocator + Copy>(
     alloc: A,
     lsas: &[ExternalLsa],
     router: RouterId,
-    inside: &Inside<'a, A>,
+    inside: &mut Inside<'a, A>,
 ) -> Result<BestWays<'a, Prefix, A>, AllocError>
     ensures { IfOk result (λ ways. Gathers
-        (filter_map (candidate_of router inside.now.routes inside.now.entries) lsas.now)
+        (filter_map (candidate_of router inside.old.routes inside.old.entries) lsas.now)
         ways) }
 {
     let mut ways = BestWays::with_capacity(alloc, lsas.len())?;
@@ -71,7 +71,7 @@ pub fn externals<A: Allocator + Copy>(
     if !is_attached_outside_stubs(database, router) {
         return Ok(Routes::new(alloc));
     }
-    let inside = Inside::new(alloc, routes, entries)?;
-    let ways = ways_of(alloc, lsas.as_slice(), router, &inside)?;
+    let mut inside = Inside::new(alloc, routes, entries)?;
+    let ways = ways_of(alloc, lsas.as_slice(), router, &mut inside)?;
     ways.into_routes(alloc)
 }

@@ -1,10 +1,11 @@
 -- What routes and router entries are looked up in.
-use Rattle.std.specs.Prelude.{◌≡◌, ℕ, ◌≤◌, ◌^◌, Bool, true, false, List, All, Option, length, slice_get, slice_index_or, take}
+use Rattle.std.specs.Prelude.{◌≡◌, ℕ, ◌-◌, ◌≤◌, ◌==◌, ◌^◌, Bool, true, false, if◌then◌else◌, List, All, Option, Some, length, slice_get, slice_index_or, take}
 use Rattle.std.specs.BTreeMap.{BTreeMap, get}
 use Rattle.std.specs.Option.{option_and_then, option_map_or}
 use Rattle.std.specs.Ordering.{is_lt}
 use Rattle.lsa_codec.specs.declared.address.RouterId.{RouterId}
-use Rattle.lsa_codec.specs.Order.{router_cmp}
+use Rattle.lsa_codec.specs.Order.{prefix_cmp, router_cmp}
+use Rattle.lsa_codec.specs.Prefix.{Net}
 use Rattle.area_routes.specs.Values.{EntryValue, RouteValue, EntriesBelow, RoutesBelow}
 use Rattle.external_routes.specs.Choose.{preference, preferred}
 
@@ -39,8 +40,23 @@ pub record WaysBelow (bound : ℕ) (ways : WaysInside) : Type 0 where
   pub routes : RoutesBelow bound ways.routes
   pub entries : EntriesBelow bound ways.entries
 
--- all costs are below 2^34, the marks are those of the routes, and the map is that of the entries
-pub record IsInside (ways : WaysInside) (marks : List Bool) (asbrs : BTreeMap RouterId ℕ) : Type 0 where
+-- where an entry has this index, it is its router's preferred one
+abbrev pub IsPreferred : List EntryValue → ℕ → Type 0
+IsPreferred entries index = (e : EntryValue) → slice_get entries index ≡ Some e → Some e ≡ preferred entries e.router
+
+-- all costs are below 2^34, the marks are those of the routes, the map is that of the entries, and the 256 entries that are
+-- remembered are preferred ones
+pub record IsInside (ways : WaysInside) (marks : List Bool) (asbrs : BTreeMap RouterId ℕ) (remembered : List ℕ) : Type 0 where
   pub below : WaysBelow (2 ^ 34) ways
   pub marked : MarksLengths ways.routes marks
   pub mapped : MapsPreferred ways.entries (length ways.entries) asbrs
+  pub room : length remembered ≡ 256
+  pub remembers : All (IsPreferred ways.entries) remembered
+
+-- the prefix is behind that of the route before a place
+abbrev pub is_behind : List RouteValue → ℕ → Net → Bool
+is_behind routes place net = if place == 0 then true else option_map_or (λ r. is_lt (prefix_cmp r.net net)) (slice_get routes (place - 1)) false
+
+-- the prefix is ahead of that of the route at a place, if there is one
+abbrev pub is_ahead : List RouteValue → ℕ → Net → Bool
+is_ahead routes place net = option_map_or (λ r. is_lt (prefix_cmp net r.net)) (slice_get routes place) true

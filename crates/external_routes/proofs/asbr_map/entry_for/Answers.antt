@@ -1,20 +1,9 @@
-use Rattle.std.proofs.Common.{◌≡◌, ◌∙◌, ℕ, List, Option, Some, None, Bor, IfSome, length, ap, sym, refl, arith}
-use Rattle.std.specs.List.{slice_get}
-use Rattle.std.specs.Option.{is_some, option_copied}
-use Rattle.std.proofs.lemmas.Bool.{ltb-true, ltb-false}
-use Rattle.std.proofs.lemmas.Option.{slice_get_past, slice_get_read}
+use Rattle.std.proofs.Common.{◌∙◌, ap}
 use Rattle.external_routes.specs.steps.Lookup.{entry_at}
+use Rattle.external_routes.proofs.Items.{item_found}
 use Rattle.external_routes.proofs.asbr_map.entry_for.Goals as goal
-use lib.Dec.{ltb}
-use lib.ListN.{get_or}
-
--- what `get` answers is what stands at the index
-found : {X : Type 0} (xs : List X) (i : ℕ) (o : Option (Bor X)) → is_some o ≡ ltb i (length xs) → IfSome o (λ x. x.now ≡ get_or xs i x.now)
-    → option_copied o ≡ slice_get xs i
-found xs i None none at = sym (slice_get_past xs i (omega (arith, ltb-false _ _ (sym none))))
-found xs i (Some x) some at = sym (slice_get_read xs _ i x.now refl (ltb-true _ _ (sym some)) at)
 
 pub returns : goal.returns
 returns g c =
-    found c.args.entries.now c.in_ok-index.index.now c.get-2.result c.get-2.ensures.lookup.0 c.get-2.ensures.lookup.1
+    item_found c.args.entries.now c.in_ok-index.index.now c.get-2.result c.get-2.ensures.lookup.0 c.get-2.ensures.lookup.1
     ∙ ap (entry_at c.args.entries.now) c.in_ok-index.ensures.value
