@@ -18,8 +18,9 @@ use next_hops::Hop;
 use std::alloc::{AllocError, Allocator, Global};
 use std::marker::Model;
 
-/// As many candidates for one destination are not sorted by what they cost.
-const FEW: usize = 64;
+/// As many candidates for one destination are not sorted by what they cost, and three times as many
+/// are.
+const FEW: usize = 32;
 
 /// Candidates, of which the best ways to each destination are made. Contracts see it as the list of
 /// the candidates that were added.
@@ -159,10 +160,10 @@ fn is_in_order<K: Ord + Copy + Drop>(candidates: &[Contender<'_, K>]) -> bool
 }
 
 /// Whether candidates that stand in order of their destinations are few for each. Then their next
-/// hops are soon joined, in whichever order.
+/// hops are soon joined, in whichever order. Only each [`FEW`]th candidate is looked at.
 fn has_few_of_each<K: Ord + Copy + Drop>(candidates: &[Contender<'_, K>]) -> bool {
-    for i in FEW..candidates.len() {
-        let (first, last) = (&candidates[i - FEW], &candidates[i]);
+    for place in 1..candidates.len() / FEW {
+        let (first, last) = (&candidates[(place - 1) * FEW], &candidates[place * FEW]);
         if first.key == last.key {
             return false;
         }
