@@ -17,7 +17,7 @@ use std::collections::BTreeMap;
 pub(crate) type AsbrMap<A> = BTreeMap<RouterId, usize, A>;
 
 /// The entry of a router whose index the map has.
-pub(crate) fn entry_for<'a, A: Allocator + Copy>(
+fn entry_for<'a, A: Allocator + Copy>(
     asbrs: &AsbrMap<A>,
     entries: &'a [RouterEntry<A>],
     router: RouterId,

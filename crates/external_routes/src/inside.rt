@@ -6,7 +6,7 @@ ghost use Rattle.area_routes.specs.Routes.{has_route};
 ghost use Rattle.external_routes.specs.Choose.{forward_match, preferred};
 ghost use Rattle.external_routes.specs.steps.Lookup.{WaysBelow};
 
-use crate::asbr_map::{AsbrMap, entry_for, map_asbrs};
+use crate::asbr_map::{AsbrMap, map_asbrs};
 use crate::forward::{forward_match, lengths};
 use crate::place::has_route_near;
 use area_routes::{InsideRoutes, Route, RouterEntries, RouterEntry, Routes};
