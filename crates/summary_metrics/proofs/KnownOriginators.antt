@@ -1,19 +1,16 @@
 -- What is known of originators stays so when more comes in, and the metrics that it gives.
-use Rattle.std.proofs.Common.{◌≡◌, true, ◌∙◌, List, Option, Some, None, sym, ap, subst}
+use Rattle.std.proofs.Common.{◌≡◌, true, ◌∙◌, List, [], ◌∷◌, ◌++◌, Option, Some, None, sym, ap, subst}
 use Rattle.std.specs.Prelude.{ℕ, ◌&&◌, ◌==◌, not, if◌then◌else◌}
-use Rattle.std.specs.Map.{lookup}
-use Rattle.std.specs.Ordering.{eq_by_cmp}
+use Rattle.std.specs.List.{Contains}
+use Rattle.std.proofs.lemmas.List.Elements.{All-contains, All-push}
 use Rattle.lsa_codec.specs.declared.address.AreaId.{AreaId}
 use Rattle.lsa_codec.specs.declared.address.RouterId.{RouterId}
-use Rattle.lsa_codec.specs.Order.{router_cmp}
 use Rattle.lsa_codec.specs.Views.{metric_of}
-use Rattle.lsa_codec.proofs.OrderLemmas.{router_exact}
 use Rattle.lsdb.specs.Lists.{Lists}
 use Rattle.area_routes.specs.Inter.{originator_of}
 use Rattle.area_routes.specs.Values.{AreaResultValue}
 use Rattle.external_routes.specs.Summaries.{borders, is_calculated, is_covered}
 use Rattle.routing_table.specs.AreasTrees.{KeptTreesValue, AreOfDatabase}
-use Rattle.routing_table.proofs.MapLemmas.{Puts, if_found, put_all}
 use Rattle.summary_metrics.specs.Refreshed.{due_in, results_of, stale_metric}
 use Rattle.summary_metrics.specs.BackboneSummaries.{AreTold, BackboneSummariesValue, backbone_lsas}
 use Rattle.summary_metrics.specs.Originators.{AreGiven, AreInside, AreOf, InsideValue, OriginatorsValue, ids_attached}
@@ -48,23 +45,23 @@ module _ (db : Lists) (old : OriginatorsValue) (all : AreOf db old) where
       let known_before = subst (λ (o : OriginatorsValue). AreOf db o) (sym is) all in
       record { attached = known_before.attached; trees = known_before.trees; inside = known_before.inside; told = of }
 
-module _ (db : Lists) (router : RouterId) (areas : List AreaId) (old new : Attached) (puts : Puts router_cmp old new router areas) where
+module _ (db : Lists) (router : RouterId) (areas : List AreaId) (old : Attached) where
   pub more_attached : (trees : KeptTreesValue) (known : Known) (told : Option BackboneSummariesValue) → AreOf db (known_as old trees known told)
-      → areas ≡ ids_attached db router → AreOf db (known_as new trees known told)
+      → areas ≡ ids_attached db router → AreOf db (known_as (old ++ (router, areas) ∷ []) trees known told)
   more_attached trees known told all is = record {
-    attached = put_all router_cmp router_exact old new router areas puts (λ r found. found ≡ ids_attached db r) is all.attached;
+    attached = All-push (λ e. e.1 ≡ ids_attached db e.0) old (router, areas) all.attached is;
     trees = all.trees;
     inside = all.inside;
     told = all.told;
   }
 
-module _ (db : Lists) (router : RouterId) (i : InsideValue) (old new : Known) (puts : Puts router_cmp old new router i) where
-  pub more_inside : (attached : Attached) (before trees : KeptTreesValue) (told : Option BackboneSummariesValue) → AreOf db (known_as attached before old told)
-      → AreOfDatabase db trees → AreInside db router i → AreOf db (known_as attached trees new told)
-  more_inside attached before trees told all of is = record {
+module _ (db : Lists) (router : RouterId) (i : InsideValue) (old : Known) where
+  pub more_inside : (attached : Attached) (trees : KeptTreesValue) (told : Option BackboneSummariesValue) → AreOf db (known_as attached trees old told)
+      → AreInside db router i → AreOf db (known_as attached trees (old ++ (router, i) ∷ []) told)
+  more_inside attached trees told all is = record {
     attached = all.attached;
-    trees = of;
-    inside = put_all router_cmp router_exact old new router i puts (AreInside db) is all.inside;
+    trees = all.trees;
+    inside = All-push (λ e. AreInside db e.0 e.1) old (router, i) all.inside is;
     told = all.told;
   }
 
@@ -76,13 +73,12 @@ inside_of_results db router results i all given = subst (λ rs. AreGiven rs i) a
 -- ---- what it gives
 
 pub attached_found : (db : Lists) (known : OriginatorsValue) (router : RouterId) (areas : List AreaId) → AreOf db known
-    → lookup (eq_by_cmp router_cmp router) known.attached ≡ Some areas → areas ≡ ids_attached db router
-attached_found db known router areas all is =
-    if_found (λ found. found ≡ ids_attached db router) (lookup (eq_by_cmp router_cmp router) known.attached) areas is (all.attached router)
+    → Contains known.attached (router, areas) → areas ≡ ids_attached db router
+attached_found db known router areas all is = All-contains (λ e. e.1 ≡ ids_attached db e.0) known.attached (router, areas) all.attached is
 
 pub inside_found : (db : Lists) (known : OriginatorsValue) (router : RouterId) (i : InsideValue) → AreOf db known
-    → lookup (eq_by_cmp router_cmp router) known.inside ≡ Some i → AreInside db router i
-inside_found db known router i all is = if_found (AreInside db router) (lookup (eq_by_cmp router_cmp router) known.inside) i is (all.inside router)
+    → Contains known.inside (router, i) → AreInside db router i
+inside_found db known router i all is = All-contains (λ e. AreInside db e.0 e.1) known.inside (router, i) all.inside is
 
 module _ (db : Lists) (area : AreaId) (lsa : List ℕ) where
   -- a metric that is calculated, of an originator that borders the area

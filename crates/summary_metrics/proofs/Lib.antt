@@ -16,3 +16,5 @@ pub mod DueByTold
 pub mod KnownOriginators
 pub mod MoreTold
 pub mod MoreCosts
+pub mod FoundPairs
+pub mod NearPlaces

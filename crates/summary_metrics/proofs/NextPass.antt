@@ -1,11 +1,9 @@
 -- What is known of originators, but for what the backbone tells, holds where the backbone is refreshed too.
-use Rattle.std.proofs.Common.{◌≡◌, List, map, Option, Some, None, sym, ap, subst}
+use Rattle.std.proofs.Common.{◌≡◌, ◌∙◌, List, map, Option, Some, None, sym, ap, subst}
 use Rattle.std.specs.Prelude.{IfSome}
-use Rattle.std.specs.Map.{lookup}
-use Rattle.std.specs.Ordering.{eq_by_cmp}
+use Rattle.std.proofs.lemmas.List.Elements.{All-weaker}
 use Rattle.lsa_codec.specs.Areas.{is_backbone}
 use Rattle.lsa_codec.specs.declared.address.AreaId.{AreaId}
-use Rattle.lsa_codec.specs.Order.{router_cmp}
 use Rattle.lsdb.specs.declared.section.Section.TheVariants.{Area}
 use Rattle.lsdb.specs.Lists.{IsDatabase, Lists, lsas_of}
 use Rattle.area_routes.specs.Values.{AreaResultValue}
@@ -14,7 +12,7 @@ use Rattle.routing_table.specs.AreaTrees.{AreaTreesValue, IsAreaOf}
 use Rattle.routing_table.specs.AreasTrees.{KeptTreesValue, AreOfDatabase, IsSpareOf, trees_at}
 use Rattle.summary_metrics.specs.Refreshed.{id_of, refreshed_areas}
 use Rattle.summary_metrics.specs.BackboneSummaries.{BackboneSummariesValue}
-use Rattle.summary_metrics.specs.Originators.{AreGiven, AreOf, OriginatorsValue}
+use Rattle.summary_metrics.specs.Originators.{AreGiven, AreInside, AreOf, OriginatorsValue, ids_attached}
 use Rattle.summary_metrics.proofs.KnownOriginators.{Attached, Known, known_as}
 use Rattle.summary_metrics.proofs.Passes.{areas_kept, graph_kept}
 use Rattle.summary_metrics.proofs.SameGraphs.{HaveSameGraphs, areas_alike, results_alike}
@@ -46,11 +44,11 @@ module _ (db : Lists) (is : IsDatabase db) where
 
   known_next : (known : OriginatorsValue) → AreOf db known → AreOf next (known_as known.attached known.trees known.inside None)
   known_next known all = record {
-    attached = λ router. subst (λ (ids : List AreaId). IfSome (lookup (eq_by_cmp router_cmp router) known.attached) (λ areas. areas ≡ ids))
-        (sym (ap (map id_of) (areas_alike db next same router))) (all.attached router);
+    attached = All-weaker (λ e. e.1 ≡ ids_attached db e.0) (λ e. e.1 ≡ ids_attached next e.0)
+        (λ e h. h ∙ sym (ap (map id_of) (areas_alike db next same e.0))) known.attached all.attached;
     trees = trees_next known.trees all.trees;
-    inside = λ router. subst (λ (rs : List AreaResultValue). IfSome (lookup (eq_by_cmp router_cmp router) known.inside) (AreGiven rs))
-        (sym (results_alike db next same router)) (all.inside router);
+    inside = All-weaker (λ e. AreInside db e.0 e.1) (λ e. AreInside next e.0 e.1)
+        (λ e h. subst (λ (rs : List AreaResultValue). AreGiven rs e.1) (sym (results_alike db next same e.0)) h) known.inside all.inside;
     told = tt;
   }
 

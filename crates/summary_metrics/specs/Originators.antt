@@ -1,6 +1,6 @@
 -- What is known of the originators of summary-LSAs: their areas, the trees that were calculated for them, what their areas give,
 -- and what the backbone tells.
-use Rattle.std.specs.Prelude.{◌≡◌, ℕ, List, [], Option, IfSome, map}
+use Rattle.std.specs.Prelude.{◌≡◌, ℕ, List, [], Option, IfSome, All, map}
 use Rattle.std.specs.Option.{option_map, option_map_or}
 use Rattle.std.specs.Map.{lookup}
 use Rattle.std.specs.Ordering.{eq_by_cmp}
@@ -54,7 +54,7 @@ AreInside db router i = AreGiven (results_of db router) i
 
 -- all of it is of the database
 pub record AreOf (db : Lists) (known : OriginatorsValue) : Type 0 where
-  pub attached : (router : RouterId) → IfSome (lookup (eq_by_cmp router_cmp router) known.attached) (λ areas. areas ≡ ids_attached db router)
+  pub attached : All (λ e. e.1 ≡ ids_attached db e.0) known.attached
   pub trees : AreOfDatabase db known.trees
-  pub inside : (router : RouterId) → IfSome (lookup (eq_by_cmp router_cmp router) known.inside) (AreInside db router)
+  pub inside : All (λ e. AreInside db e.0 e.1) known.inside
   pub told : IfSome known.told (AreTold (backbone_lsas db))

@@ -1,12 +1,15 @@
 //! What the areas of a router give it.
 
-ghost use Rattle.std.specs.Prelude.{◌≡◌, IfOk};
+ghost use Rattle.std.specs.Prelude.{◌≡◌, IfOk, map};
+ghost use Rattle.std.specs.Option.{option_copied};
 ghost use Rattle.lsdb.specs.Lists.{Lists};
+ghost use Rattle.area_routes.specs.Routes.{route_to};
 ghost use Rattle.summary_metrics.specs.Refreshed.{results_of};
 ghost use Rattle.summary_metrics.specs.Originators.{AreGiven, AreInside};
 ghost use Rattle.summary_metrics.specs.steps.AnnouncedCosts.{IsToldFor, asbr_cost, entry_cost, net_cost, route_cost};
 
 use crate::border_costs::BorderCosts;
+use crate::nets::Nets;
 use crate::sources::BackboneSummaries;
 use area_routes::{AreaResult, InsideRoutes, Route, RouterEntries, RouterEntry, intra};
 use external_routes::{is_among, preferred};
@@ -18,17 +21,21 @@ use std::marker::Model;
 /// border routers of the backbone.
 #[derive(Drop)]
 pub(crate) struct Inside<A: Allocator> {
+    nets: Nets<A>,
     routes: InsideRoutes<A>,
     entries: RouterEntries<A>,
     borders: BorderCosts<A>,
 }
 
 impl<A: Allocator> Model for Inside<A> {
+    ghost use Rattle.std.specs.Prelude.{◌≡◌, map};
     ghost use Rattle.summary_metrics.specs.Originators.{InsideValue};
 
     ghost Value = { InsideValue };
 
     ghost view = { λ i. record { routes = i.routes; entries = i.entries; borders = i.borders } };
+
+    ghost invariant = { λ i. i.nets ≡ map (λ r. r.net) i.routes };
 }
 
 /// The cost of an intra-area route; none where one of its paths leads through the area.
@@ -39,6 +46,13 @@ fn route_cost<A: Allocator + Copy>(area: AreaId, route: &Route<A>) -> Option<u64
         return None;
     }
     Some(route.cost)
+}
+
+/// The prefixes of routes.
+fn nets_of<A: Allocator + Copy>(alloc: A, routes: &[Route<A>]) -> Result<Vec<Prefix, A>, AllocError>
+    ensures { IfOk result (λ nets. nets.items ≡ map (λ r. r.net) routes.now) }
+{
+    routes.iter().map(|route| route.net).collect(alloc)
 }
 
 /// The cost of an entry; none where it is of the area.
@@ -56,11 +70,25 @@ impl<A: Allocator + Copy> Inside<A> {
     pub(crate) fn of(alloc: A, results: &[AreaResult<A>]) -> Result<Inside<A>, AllocError>
         ensures { IfOk result (AreGiven results.now) }
     {
+        let routes = intra(alloc, results)?;
+        let nets = nets_of(alloc, routes.as_routes().as_slice())?;
         Ok(Inside {
-            routes: intra(alloc, results)?,
+            nets: Nets::from_sorted(nets),
+            routes,
             entries: RouterEntries::of_all(alloc, results)?,
             borders: BorderCosts::of(alloc, results)?,
         })
+    }
+
+    /// The intra-area route to a prefix, if there is one.
+    fn route_to(&self, net: Prefix) -> Option<&Route<A>>
+        ensures { option_copied result ≡ route_to self.now.routes net }
+    {
+        let routes = self.routes.as_routes().as_slice();
+        match self.nets.place_of(net) {
+            Some(place) => Some(&routes[place]),
+            None => None,
+        }
     }
 
     /// The cost that a router announces of a prefix into an area, if it does.
@@ -74,7 +102,7 @@ impl<A: Allocator + Copy> Inside<A> {
         ensures { (db : Lists) → AreInside db router self.now → IsToldFor db area told.now
             → result ≡ net_cost db area router (results_of db router) net }
     {
-        if let Some(route) = self.routes.as_routes().route_to(net) {
+        if let Some(route) = self.route_to(net) {
             return route_cost(area, route);
         }
         match told {

@@ -7,9 +7,11 @@
 
 mod attached_areas;
 mod border_costs;
+mod by_router;
 mod due_told;
 mod inside;
 mod laws;
+mod nets;
 mod originators;
 mod sources;
 

@@ -1,19 +1,17 @@
 //! What each originator of summary-LSAs is due to announce.
 
-ghost use Rattle.std.specs.Prelude.{◌≡◌, ◌≤◌, IsSome, IfSome, IfOk, OnOk};
-ghost use Rattle.std.specs.Map.{lookup};
-ghost use Rattle.std.specs.Ordering.{eq_by_cmp};
+ghost use Rattle.std.specs.Prelude.{◌≡◌, ◌≤◌, true, IfSome, IfOk, OnOk};
 ghost use Rattle.lsa_codec.specs.Areas.{is_backbone};
-ghost use Rattle.lsa_codec.specs.Order.{router_cmp};
 ghost use Rattle.lsa_codec.specs.Views.{ls_infinity};
 ghost use Rattle.lsdb.specs.Lists.{IsDatabase, Lists};
 ghost use Rattle.lsdb.specs.Places.{lists_of};
-ghost use Rattle.external_routes.specs.Summaries.{borders};
+ghost use Rattle.external_routes.specs.Summaries.{borders, is_covered};
 ghost use Rattle.summary_metrics.specs.Refreshed.{refreshed_areas, stale_metric};
-ghost use Rattle.summary_metrics.specs.Originators.{AreOf};
+ghost use Rattle.summary_metrics.specs.Originators.{AreInside, AreOf};
 ghost use Rattle.summary_metrics.specs.steps.AnnouncedCosts.{IsToldFor};
 
 use crate::attached_areas::AttachedAreas;
+use crate::by_router::ByRouter;
 use crate::due_told::other_metric;
 use crate::inside::Inside;
 use crate::sources::BackboneSummaries;
@@ -23,7 +21,6 @@ use lsdb::{Database, Section};
 use routing_table::KeptTrees;
 use spf::Meter;
 use std::alloc::{AllocError, Allocator};
-use std::collections::BTreeMap;
 use std::marker::Model;
 
 /// What was found for the originators of summary-LSAs in one database: their areas, their trees, by
@@ -31,9 +28,9 @@ use std::marker::Model;
 /// that each tree is calculated once.
 #[derive(Drop)]
 pub struct Originators<A: Allocator> {
-    attached: BTreeMap<RouterId, AttachedAreas<A>, A>,
+    attached: ByRouter<AttachedAreas<A>, A>,
     trees: KeptTrees<A>,
-    inside: BTreeMap<RouterId, Inside<A>, A>,
+    inside: ByRouter<Inside<A>, A>,
     told: Option<BackboneSummaries<A>>,
 }
 
@@ -43,9 +40,9 @@ impl<A: Allocator> Model for Originators<A> {
     ghost Value = { OriginatorsValue };
 
     ghost view = { λ o. record {
-      attached = o.attached.entries;
+      attached = o.attached;
       trees = o.trees;
-      inside = o.inside.entries;
+      inside = o.inside;
       told = o.told;
     } };
 }
@@ -56,9 +53,9 @@ impl<A: Allocator + Copy> Originators<A> {
         ensures { (db : Lists) → AreOf db result }
     {
         Originators {
-            attached: BTreeMap::new(alloc),
+            attached: ByRouter::new(alloc),
             trees: KeptTrees::new(alloc),
-            inside: BTreeMap::new(alloc),
+            inside: ByRouter::new(alloc),
             told: None,
         }
     }
@@ -88,31 +85,30 @@ impl<A: Allocator + Copy> Originators<A> {
             (λ does. does ≡ borders (lists_of database.now) area router) }
         ensures of { AreOf (lists_of database.now) self.new }
     {
-        if let Some(areas) = self.attached.get(&router) {
+        if let Some(areas) = self.attached.get(router) {
             return Ok(areas.is_border_of(area));
         }
         let areas = AttachedAreas::of(alloc, database, &self.trees, router)?;
         let borders = areas.is_border_of(area);
-        self.attached.insert(router, areas)?;
+        self.attached.push(router, areas)?;
         Ok(borders)
     }
 
-    /// Finds what the areas of a router give, unless it is there.
-    fn add(&mut self, alloc: A, database: &Database<A>, router: RouterId) -> Result<(), AllocError>
+    /// Finds what the areas of a router give, which is not kept yet.
+    fn find_inside(
+        &mut self,
+        alloc: A,
+        database: &Database<A>,
+        router: RouterId,
+    ) -> Result<Inside<A>, AllocError>
         requires { AreOf (lists_of database.now) self.old }
         ensures of { AreOf (lists_of database.now) self.new }
-        ensures there { OnOk result
-            (IsSome (lookup (eq_by_cmp router_cmp router) self.new.inside)) }
+        ensures inside { IfOk result (AreInside (lists_of database.now) router) }
         ensures told { self.new.told ≡ self.old.told }
     {
-        if self.inside.contains_key(&router) {
-            return Ok(());
-        }
         let mut meter = Meter::new();
         let results = self.trees.results_of(alloc, database, router, &mut meter)?;
-        let known = Inside::of(alloc, &results)?;
-        self.inside.insert(router, known)?;
-        Ok(())
+        Inside::of(alloc, &results)
     }
 
     /// Finds what the backbone tells, unless it is there, where that is told into the area.
@@ -127,6 +123,33 @@ impl<A: Allocator + Copy> Originators<A> {
         let lsas = database.lsas(Section::Area(AreaId::BACKBONE));
         self.told = Some(BackboneSummaries::of(alloc, lsas)?);
         Ok(())
+    }
+
+    /// The metric that an LSA is due whose metric follows from the database, where it has another
+    /// one. What the areas of its originator give is kept.
+    fn covered_metric(
+        &mut self,
+        alloc: A,
+        database: &Database<A>,
+        area: AreaId,
+        lsa: &Lsa<A>,
+    ) -> Result<Option<u32>, AllocError>
+        requires of { AreOf (lists_of database.now) self.old }
+        requires covered { is_covered (lists_of database.now) area lsa.now ≡ true }
+        requires told { IsToldFor (lists_of database.now) area self.old.told }
+        ensures metric { IfOk result
+            (λ metric. metric ≡ stale_metric (lists_of database.now) area lsa.now) }
+        ensures most { IfOk result (λ metric. IfSome metric (λ m. m ≤ ls_infinity)) }
+        ensures of { AreOf (lists_of database.now) self.new }
+    {
+        let router = lsa.key().adv;
+        if let Some(known) = self.inside.get(router) {
+            return Ok(other_metric(database, area, lsa, known, &self.told));
+        }
+        let known = self.find_inside(alloc, database, router)?;
+        let metric = other_metric(database, area, lsa, &known, &self.told);
+        self.inside.push(router, known)?;
+        Ok(metric)
     }
 
     /// Forgets what the backbone tells. What else is known follows from router-LSAs and
@@ -163,15 +186,10 @@ impl<A: Allocator + Copy> Originators<A> {
             return Ok(None);
         }
         self.add_graphs(alloc, database)?;
-        let router = lsa.key().adv;
-        if !self.borders(alloc, database, area, router)? {
+        if !self.borders(alloc, database, area, lsa.key().adv)? {
             return Ok(None);
         }
         self.listen(alloc, database, area)?;
-        self.add(alloc, database, router)?;
-        match self.inside.get(&router) {
-            Some(known) => Ok(other_metric(database, area, lsa, known, &self.told)),
-            None => unreachable!(),
-        }
+        self.covered_metric(alloc, database, area, lsa)
     }
 }

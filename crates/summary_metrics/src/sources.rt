@@ -1,13 +1,15 @@
 //! What the summary-LSAs of the backbone tell, by what they tell of.
 
-ghost use Rattle.std.specs.Prelude.{◌≡◌, ℕ, ◌++◌, ◌∷◌, [], List, IfOk, OnOk, Some, None};
+ghost use Rattle.std.specs.Prelude.{◌≡◌, ℕ, ◌++◌, ◌∷◌, [], List, IfOk, OnOk, Some, None, map};
 ghost use Rattle.std.specs.Prelude.{if◌then◌else◌};
 ghost use Rattle.std.specs.BTreeMap.{get, Updates};
+ghost use Rattle.std.specs.List.Sorted.{IsStrictlySortedBy};
 ghost use Rattle.lsa_codec.specs.Order.{prefix_cmp, router_cmp};
 ghost use Rattle.lsa_codec.specs.Views.{net_of_summary};
 ghost use Rattle.summary_metrics.specs.BackboneSummaries.{AreTold, asbr_named, is_telling, source_of, sources};
 ghost use Rattle.summary_metrics.specs.steps.AnnouncedCosts.{more_sources};
 
+use crate::nets::Nets;
 use lsa_codec::{ASBR_SUMMARY_LSA, LS_INFINITY, Lsa, Prefix, RouterId};
 use lsdb::Lsas;
 use std::alloc::{AllocError, Allocator};
@@ -64,19 +66,38 @@ impl<A: Allocator + Copy> Sources<A> {
     }
 }
 
-/// What the summary-LSAs of the backbone tell of prefixes and of AS boundary routers.
+/// What LSAs of the backbone tell, while they are gone through. Contracts see it as what it becomes.
 #[derive(Drop)]
-pub(crate) struct BackboneSummaries<A: Allocator> {
+struct Draft<A: Allocator> {
     nets: BTreeMap<Prefix, Sources<A>, A>,
     asbrs: BTreeMap<RouterId, Sources<A>, A>,
 }
 
-impl<A: Allocator> Model for BackboneSummaries<A> {
+impl<A: Allocator> Model for Draft<A> {
     ghost use Rattle.summary_metrics.specs.BackboneSummaries.{BackboneSummariesValue};
 
     ghost Value = { BackboneSummariesValue };
 
-    ghost view = { λ t. record { nets = t.nets.entries; asbrs = t.asbrs.entries } };
+    ghost view = { λ d. record { nets = d.nets.entries; asbrs = d.asbrs.entries } };
+}
+
+/// What the summary-LSAs of the backbone tell of prefixes and of AS boundary routers.
+#[derive(Drop)]
+pub(crate) struct BackboneSummaries<A: Allocator> {
+    nets: Nets<A>,
+    by_net: Vec<(Prefix, Sources<A>), A>,
+    asbrs: BTreeMap<RouterId, Sources<A>, A>,
+}
+
+impl<A: Allocator> Model for BackboneSummaries<A> {
+    ghost use Rattle.std.specs.Prelude.{◌≡◌, map};
+    ghost use Rattle.summary_metrics.specs.BackboneSummaries.{BackboneSummariesValue};
+
+    ghost Value = { BackboneSummariesValue };
+
+    ghost view = { λ t. record { nets = t.by_net.items; asbrs = t.asbrs.entries } };
+
+    ghost invariant = { λ t. t.nets ≡ map (λ e. e.0) t.by_net.items };
 }
 
 /// What an LSA tells, if it is a live summary-LSA with a metric below LSInfinity.
@@ -128,7 +149,29 @@ fn add_source<K: Ord + Copy + Drop, A: Allocator + Copy>(
     Ok(())
 }
 
-impl<A: Allocator + Copy> BackboneSummaries<A> {
+/// The entries of a map, in the order of their prefixes.
+fn in_order<A: Allocator + Copy>(
+    alloc: A,
+    nets: BTreeMap<Prefix, Sources<A>, A>,
+) -> Result<Vec<(Prefix, Sources<A>), A>, AllocError>
+    ensures entries { IfOk result (λ all. all.items ≡ nets.entries) }
+    ensures sorted { IfOk result
+        (λ all. IsStrictlySortedBy prefix_cmp (map (λ e. e.0) all.items)) }
+{
+    nets.into_iter().collect(alloc)
+}
+
+/// The prefixes of such entries.
+fn nets_of<A: Allocator + Copy>(
+    alloc: A,
+    entries: &[(Prefix, Sources<A>)],
+) -> Result<Vec<Prefix, A>, AllocError>
+    ensures { IfOk result (λ nets. nets.items ≡ map (λ e. e.0) entries.now) }
+{
+    entries.iter().map(|entry| entry.0).collect(alloc)
+}
+
+impl<A: Allocator + Copy> Draft<A> {
     /// Adds what an LSA tells, if it does.
     fn add(&mut self, alloc: A, lsa: &Lsa<A>) -> Result<(), AllocError>
         ensures { OnOk result ((lsas : List (List ℕ)) → AreTold lsas self.old
@@ -148,10 +191,10 @@ impl<A: Allocator + Copy> BackboneSummaries<A> {
     }
 
     /// What some LSAs tell.
-    pub(crate) fn of(alloc: A, lsas: Lsas<'_, A>) -> Result<BackboneSummaries<A>, AllocError>
+    fn of(alloc: A, lsas: Lsas<'_, A>) -> Result<Draft<A>, AllocError>
         ensures { IfOk result (AreTold lsas.entry) }
     {
-        let mut told = BackboneSummaries {
+        let mut told = Draft {
             nets: BTreeMap::new(alloc),
             asbrs: BTreeMap::new(alloc),
         };
@@ -161,13 +204,38 @@ impl<A: Allocator + Copy> BackboneSummaries<A> {
         Ok(told)
     }
 
+    /// What it became.
+    fn finish(self, alloc: A) -> Result<BackboneSummaries<A>, AllocError>
+        ensures { IfOk result (λ told. told ≡ self) }
+    {
+        let by_net = in_order(alloc, self.nets)?;
+        let nets = nets_of(alloc, &by_net)?;
+        Ok(BackboneSummaries {
+            nets: Nets::from_sorted(nets),
+            by_net,
+            asbrs: self.asbrs,
+        })
+    }
+}
+
+impl<A: Allocator + Copy> BackboneSummaries<A> {
+    /// What some LSAs tell.
+    pub(crate) fn of(alloc: A, lsas: Lsas<'_, A>) -> Result<BackboneSummaries<A>, AllocError>
+        ensures { IfOk result (AreTold lsas.entry) }
+    {
+        Draft::of(alloc, lsas)?.finish(alloc)
+    }
+
     /// Those who tell of a prefix.
     pub(crate) fn of_net(&self, net: Prefix) -> &[Source]
         ensures { (lsas : List (List ℕ)) → AreTold lsas self.now
             → result.now ≡ sources prefix_cmp net_of_summary lsas net }
     {
-        match self.nets.get(&net) {
-            Some(sources) => sources.as_slice(),
+        match self.nets.place_of(net) {
+            Some(place) => {
+                let (_, sources) = &self.by_net[place];
+                sources.as_slice()
+            }
             None => &[],
         }
     }

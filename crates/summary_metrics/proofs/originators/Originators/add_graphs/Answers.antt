@@ -4,10 +4,10 @@ use Rattle.summary_metrics.proofs.originators.Originators.add_graphs.Goals as go
 
 pub add_graphs-requires : goal.add_graphs-requires
 add_graphs-requires g c =
-    trees_known (lists_of c.args.database.now) c.args.self.now c.requires c.self.inside.attached.entries c.self.inside.trees c.self.inside.inside.entries
+    trees_known (lists_of c.args.database.now) c.args.self.now c.requires c.self.inside.attached c.self.inside.trees c.self.inside.inside
     c.self.inside.told c.self.view_is
 
 pub returns : goal.returns
 returns g c =
-    more_trees (lists_of c.args.database.now) c.args.self.now c.requires c.self.inside.attached.entries c.self.inside.trees c.add_graphs.new.self
-    c.self.inside.inside.entries c.self.inside.told c.self.view_is c.add_graphs.ensures.graphs
+    more_trees (lists_of c.args.database.now) c.args.self.now c.requires c.self.inside.attached c.self.inside.trees c.add_graphs.new.self
+    c.self.inside.inside c.self.inside.told c.self.view_is c.add_graphs.ensures.graphs

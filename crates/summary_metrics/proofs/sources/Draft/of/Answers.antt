@@ -2,7 +2,7 @@ use Rattle.std.proofs.Common.{ℕ, [], ◌∷◌, List, map, sym, subst}
 use Rattle.std.proofs.lemmas.Iterator.Consumers.{YieldsList-end, YieldsList-from_first}
 use Rattle.std.proofs.lemmas.List.{map-append}
 use Rattle.summary_metrics.specs.BackboneSummaries.{AreTold}
-use Rattle.summary_metrics.proofs.sources.BackboneSummaries.of.Goals as goal
+use Rattle.summary_metrics.proofs.sources.Draft.of.Goals as goal
 
 pub loop-lsa-preserved : goal.loop-lsa-preserved
 loop-lsa-preserved g c =

@@ -1,6 +1,6 @@
 use Rattle.std.proofs.Common.{map}
 use Rattle.summary_metrics.specs.BackboneSummaries.{AreTold}
-use Rattle.summary_metrics.proofs.sources.BackboneSummaries.of.Given as goal
+use Rattle.summary_metrics.proofs.sources.Draft.of.Given as goal
 
 -- what the LSAs so far tell
 abbrev pub invariant-loop-lsa : goal.invariant-loop-lsa

@@ -1,7 +1,7 @@
 use Rattle.std.proofs.Common.{sym, subst, ◌∙◌}
 use Rattle.summary_metrics.specs.BackboneSummaries.{AreTold, BackboneSummariesValue}
 use Rattle.summary_metrics.proofs.MoreTold.{telling, told_asbr, told_net, told_nothing, untelling}
-use Rattle.summary_metrics.proofs.sources.BackboneSummaries.add.Goals as goal
+use Rattle.summary_metrics.proofs.sources.Draft.add.Goals as goal
 
 pub returns-in_default : goal.returns-in_default
 returns-in_default g c = λ lsas all.

@@ -1,0 +1,9 @@
+use Rattle.std.proofs.Common.{◌∙◌}
+use Rattle.summary_metrics.proofs.inside.Inside.of.Goals as goal
+
+pub returns : goal.returns
+returns g c = record {
+  routes = c.routes.view_is ∙ c.in_ok-routes.ensures.routes;
+  entries = c.in_ok-of_all.ensures;
+  borders = c.in_ok-of.ensures;
+}
