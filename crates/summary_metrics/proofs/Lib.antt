@@ -18,3 +18,4 @@ pub mod MoreTold
 pub mod MoreCosts
 pub mod FoundPairs
 pub mod NearPlaces
+pub mod AsbrEntries

@@ -1,6 +1,7 @@
 -- What is known of the originators of summary-LSAs: their areas, the trees that were calculated for them, what their areas give,
 -- and what the backbone tells.
 use Rattle.std.specs.Prelude.{◌≡◌, ℕ, List, [], Option, IfSome, All, map}
+use Rattle.std.specs.List.{filter}
 use Rattle.std.specs.Option.{option_map, option_map_or}
 use Rattle.std.specs.Map.{lookup}
 use Rattle.std.specs.Ordering.{eq_by_cmp}
@@ -12,11 +13,13 @@ use Rattle.area_routes.specs.Inter.{backbone, border_of, entries_of_all}
 use Rattle.area_routes.specs.Intra.{intra_of}
 use Rattle.area_routes.specs.Values.{AreaResultValue, EntryValue, RouteValue}
 use Rattle.area_routes.specs.Attached.{attached_areas}
+use Rattle.external_routes.specs.Choose.{is_asbr_kind}
 use Rattle.routing_table.specs.AreasTrees.{KeptTreesValue, AreOfDatabase}
 use Rattle.summary_metrics.specs.Refreshed.{results_of, id_of}
 use Rattle.summary_metrics.specs.BackboneSummaries.{AreTold, BackboneSummariesValue, backbone_lsas}
 
--- the intra-area routes of a router, the router entries of its areas, and the costs of the area border routers of the backbone
+-- the intra-area routes of a router, the entries of AS boundary routers of its areas, and the costs of the area border routers of
+-- the backbone
 pub record InsideValue : Type 0 where
   pub routes : List RouteValue
   pub entries : List EntryValue
@@ -42,10 +45,14 @@ backbone_entries results = option_map_or (λ r. r.entries) (backbone results) []
 abbrev pub HasCosts : List EntryValue → List (RouterId × ℕ) → Type 0
 HasCosts entries costs = (router : RouterId) → lookup (eq_by_cmp router_cmp router) costs ≡ option_map (λ e. e.cost) (border_of entries router)
 
+-- the entries of AS boundary routers
+abbrev pub asbr_entries : List AreaResultValue → List EntryValue
+asbr_entries results = filter (λ e. is_asbr_kind e.kind) (entries_of_all results)
+
 -- routes, entries and costs are what these areas give
 pub record AreGiven (results : List AreaResultValue) (i : InsideValue) : Type 0 where
   pub routes : i.routes ≡ intra_of results
-  pub entries : i.entries ≡ entries_of_all results
+  pub entries : i.entries ≡ asbr_entries results
   pub borders : HasCosts (backbone_entries results) i.borders
 
 -- they are what the areas of the router give in the database

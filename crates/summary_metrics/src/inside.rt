@@ -1,13 +1,17 @@
 //! What the areas of a router give it.
 
-ghost use Rattle.std.specs.Prelude.{◌≡◌, IfOk, map};
+ghost use Rattle.std.specs.Prelude.{◌≡◌, IfOk, List, map};
 ghost use Rattle.std.specs.Option.{option_copied};
 ghost use Rattle.lsdb.specs.Lists.{Lists};
+ghost use Rattle.area_routes.specs.Inter.{entries_of_all};
 ghost use Rattle.area_routes.specs.Routes.{route_to};
+ghost use Rattle.area_routes.specs.Values.{AreaResultValue};
+ghost use Rattle.external_routes.specs.Choose.{preferred};
 ghost use Rattle.summary_metrics.specs.Refreshed.{results_of};
 ghost use Rattle.summary_metrics.specs.Originators.{AreGiven, AreInside};
 ghost use Rattle.summary_metrics.specs.steps.AnnouncedCosts.{IsToldFor, asbr_cost, entry_cost, net_cost, route_cost};
 
+use crate::asbr_entries::asbr_entries;
 use crate::border_costs::BorderCosts;
 use crate::nets::Nets;
 use crate::sources::BackboneSummaries;
@@ -17,8 +21,8 @@ use lsa_codec::{AreaId, Prefix, RouterId};
 use std::alloc::{AllocError, Allocator};
 use std::marker::Model;
 
-/// The intra-area routes of a router, the router entries of its areas, and the costs of the area
-/// border routers of the backbone.
+/// The intra-area routes of a router, the entries of AS boundary routers of its areas, and the
+/// costs of the area border routers of the backbone.
 #[derive(Drop)]
 pub(crate) struct Inside<A: Allocator> {
     nets: Nets<A>,
@@ -75,7 +79,7 @@ impl<A: Allocator + Copy> Inside<A> {
         Ok(Inside {
             nets: Nets::from_sorted(nets),
             routes,
-            entries: RouterEntries::of_all(alloc, results)?,
+            entries: asbr_entries(alloc, results)?,
             borders: BorderCosts::of(alloc, results)?,
         })
     }
@@ -89,6 +93,14 @@ impl<A: Allocator + Copy> Inside<A> {
             Some(place) => Some(&routes[place]),
             None => None,
         }
+    }
+
+    /// The preferred entry of an AS boundary router, if there is one.
+    fn entry_of(&self, asbr: RouterId) -> Option<&RouterEntry<A>>
+        ensures { (results : List AreaResultValue) → AreGiven results self.now
+            → option_copied result ≡ preferred (entries_of_all results) asbr }
+    {
+        preferred(self.entries.as_slice(), asbr)
     }
 
     /// The cost that a router announces of a prefix into an area, if it does.
@@ -124,7 +136,7 @@ impl<A: Allocator + Copy> Inside<A> {
         ensures { (db : Lists) → AreInside db router self.now → IsToldFor db area told.now
             → result ≡ asbr_cost db area router (results_of db router) asbr }
     {
-        if let Some(entry) = preferred(self.entries.as_slice(), asbr) {
+        if let Some(entry) = self.entry_of(asbr) {
             return entry_cost(area, entry);
         }
         if asbr == router {

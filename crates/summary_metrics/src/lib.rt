@@ -5,6 +5,7 @@
 //! calculates for that, for one database.
 #![tactic(auto)]
 
+mod asbr_entries;
 mod attached_areas;
 mod border_costs;
 mod by_router;
