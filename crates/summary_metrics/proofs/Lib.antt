@@ -19,3 +19,4 @@ pub mod MoreCosts
 pub mod FoundPairs
 pub mod NearPlaces
 pub mod AsbrEntries
+pub mod RouterPlaces

@@ -1,6 +1,8 @@
 //! The costs of area border routers of the backbone.
 
-ghost use Rattle.std.specs.Prelude.{◌≡◌, ◌<◌, ◌^◌, ◌++◌, ◌∷◌, [], List, IfOk, IfSome, OnOk};
+ghost use Rattle.std.specs.Prelude.{◌≡◌, ◌<◌, ◌^◌, ◌++◌, ◌∷◌, [], List, IfOk, IfSome, OnOk, Some, map};
+ghost use Rattle.std.specs.List.Sorted.{IsStrictlySortedBy};
+ghost use Rattle.std.specs.Option.{option_map};
 ghost use Rattle.std.specs.Map.{lookup};
 ghost use Rattle.std.specs.Ordering.{eq_by_cmp};
 ghost use Rattle.lsa_codec.specs.Order.{router_cmp};
@@ -8,32 +10,42 @@ ghost use Rattle.area_routes.specs.declared.entry.EntryKind.TheVariants.{Border}
 ghost use Rattle.area_routes.specs.Inter.{same_kind};
 ghost use Rattle.area_routes.specs.Values.{EntryValue};
 ghost use Rattle.summary_metrics.specs.Originators.{HasCosts, backbone_entries};
-ghost use Rattle.summary_metrics.specs.steps.AnnouncedCosts.{cost_from, lesser_cost, told_from};
+ghost use Rattle.summary_metrics.specs.steps.AnnouncedCosts.{CostsBelow, cost_from, lesser_cost, told_from};
 
 use crate::sources::Source;
 use area_routes::{AreaResult, EntryKind, RouterEntry, backbone};
 use lsa_codec::RouterId;
 use std::alloc::{AllocError, Allocator};
+use std::cell::Cell;
 use std::collections::BTreeMap;
 use std::marker::Model;
 
-/// The costs of area border routers, by router, each below 2^33. Contracts see them as the list of
-/// these pairs.
+/// The costs of area border routers, in order of router, each below 2^33. Contracts see them as the
+/// list of these pairs.
+///
+/// The two border routers of an area mostly tell of the same destinations, so a router is looked
+/// for first where the last two were found. What is found is its cost wherever it was looked for,
+/// so contracts do not speak of it.
 #[derive(Drop)]
 pub(crate) struct BorderCosts<A: Allocator> {
-    costs: BTreeMap<RouterId, u64, A>,
+    costs: Vec<(RouterId, u64), A>,
+    last: Cell<usize>,
+    second_last: Cell<usize>,
 }
 
 impl<A: Allocator> Model for BorderCosts<A> {
-    ghost use Rattle.std.specs.Prelude.{List, ℕ};
+    ghost use Rattle.std.specs.Prelude.{List, ℕ, map};
+    ghost use Rattle.std.specs.List.Sorted.{IsStrictlySortedBy};
+    ghost use Rattle.lsa_codec.specs.Order.{router_cmp};
     ghost use Rattle.lsa_codec.specs.declared.address.RouterId.{RouterId};
     ghost use Rattle.summary_metrics.specs.steps.AnnouncedCosts.{CostsBelow};
 
     ghost Value = { List (RouterId × ℕ) };
 
-    ghost view = { λ b. b.costs.entries };
+    ghost view = { λ b. b.costs.items };
 
-    ghost invariant = { λ b. CostsBelow b.costs.entries };
+    ghost invariant = { λ b. CostsBelow b.costs.items
+        × IsStrictlySortedBy router_cmp (map (λ e. e.0) b.costs.items) };
 }
 
 /// Whether an entry is that of an area border router.
@@ -71,17 +83,52 @@ fn lesser(least: Option<u64>, cost: Option<u64>) -> Option<u64>
     }
 }
 
+/// Such costs in order of router.
+fn in_order<A: Allocator + Copy>(
+    alloc: A,
+    costs: BTreeMap<RouterId, u64, A>,
+) -> Result<Vec<(RouterId, u64), A>, AllocError>
+    ensures entries { IfOk result (λ all. all.items ≡ costs.entries) }
+    ensures sorted { IfOk result
+        (λ all. IsStrictlySortedBy router_cmp (map (λ e. e.0) all.items)) }
+{
+    costs.into_iter().collect(alloc)
+}
+
+/// The costs of the area border routers among some entries.
+fn costs_of<A: Allocator + Copy>(
+    alloc: A,
+    entries: &[RouterEntry<A>],
+) -> Result<BTreeMap<RouterId, u64, A>, AllocError>
+    ensures { IfOk result (λ costs. HasCosts entries.now costs.entries) }
+{
+    let mut costs = BTreeMap::new(alloc);
+    for entry in entries {
+        insert_cost(&mut costs, entry)?;
+    }
+    Ok(costs)
+}
+
 impl<A: Allocator + Copy> BorderCosts<A> {
+    /// Costs below 2^33, in order of router. It takes no memory.
+    fn from_sorted(costs: Vec<(RouterId, u64), A>) -> BorderCosts<A>
+        requires below { CostsBelow costs.items }
+        requires sorted { IsStrictlySortedBy router_cmp (map (λ e. e.0) costs.items) }
+        ensures { result ≡ costs.items }
+    {
+        BorderCosts {
+            costs,
+            last: Cell::new(0),
+            second_last: Cell::new(0),
+        }
+    }
+
     /// The costs of the area border routers of an area.
     fn of_area(alloc: A, area: &AreaResult<A>) -> Result<BorderCosts<A>, AllocError>
         ensures { IfOk result (HasCosts area.now.entries) }
     {
-        let entries = area.entries();
-        let mut costs = BTreeMap::new(alloc);
-        for entry in entries {
-            insert_cost(&mut costs, entry)?;
-        }
-        Ok(BorderCosts { costs })
+        let costs = costs_of(alloc, area.entries())?;
+        Ok(BorderCosts::from_sorted(in_order(alloc, costs)?))
     }
 
     /// The costs of the area border routers of the backbone, by what the areas of a router give.
@@ -90,10 +137,63 @@ impl<A: Allocator + Copy> BorderCosts<A> {
     {
         match backbone(results) {
             Some(area) => BorderCosts::of_area(alloc, area),
-            None => Ok(BorderCosts {
-                costs: BTreeMap::new(alloc),
-            }),
+            None => Ok(BorderCosts::from_sorted(Vec::new(alloc))),
         }
+    }
+
+    /// The cost at a place, if it is that of a router.
+    fn cost_at(&self, place: usize, router: RouterId) -> Option<u64>
+        ensures { IfSome result
+            (λ cost. Some cost ≡ lookup (eq_by_cmp router_cmp router) self.now) }
+    {
+        if place >= self.costs.len() {
+            return None;
+        }
+        let (other, cost) = self.costs[place];
+        if other != router {
+            return None;
+        }
+        Some(cost)
+    }
+
+    /// The cost of an area border router and its place, by a search of all.
+    fn search(&self, router: RouterId) -> Option<(usize, u64)>
+        ensures { option_map (λ found. found.1) result
+            ≡ lookup (eq_by_cmp router_cmp router) self.now }
+    {
+        let costs = self.costs.as_slice();
+        match costs.binary_search_by_key(&router, |cost| cost.0) {
+            Ok(place) => Some((place, costs[place].1)),
+            Err(_) => None,
+        }
+    }
+
+    /// The cost of an area border router, by a search whose place is noted.
+    fn search_and_note(&self, router: RouterId) -> Option<u64>
+        ensures { result ≡ lookup (eq_by_cmp router_cmp router) self.now }
+    {
+        match self.search(router) {
+            Some((place, cost)) => {
+                self.second_last.set(self.last.get());
+                self.last.set(place);
+                Some(cost)
+            }
+            None => None,
+        }
+    }
+
+    /// The cost of an area border router, looked for first at a place, and where the second last was
+    /// found.
+    fn look_up(&self, place: usize, router: RouterId) -> Option<u64>
+        ensures { result ≡ lookup (eq_by_cmp router_cmp router) self.now }
+    {
+        if let Some(cost) = self.cost_at(place, router) {
+            return Some(cost);
+        }
+        if let Some(cost) = self.cost_at(self.second_last.get(), router) {
+            return Some(cost);
+        }
+        self.search_and_note(router)
     }
 
     /// The cost of an area border router.
@@ -101,7 +201,7 @@ impl<A: Allocator + Copy> BorderCosts<A> {
         ensures cost { result ≡ lookup (eq_by_cmp router_cmp router) self.now }
         ensures below { IfSome result (λ cost. cost < 2 ^ 33) }
     {
-        self.costs.get(&router).copied()
+        self.look_up(self.last.get(), router)
     }
 
     /// The cost to an area border router that tells of something, and its metric together; none

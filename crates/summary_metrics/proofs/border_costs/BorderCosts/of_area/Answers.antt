@@ -1,22 +1,19 @@
-use Rattle.std.proofs.Common.{◌∷◌, [], ◌++◌, ◌^◌, List, take, sym, ap, subst, ◌∙◌}
-use Rattle.std.proofs.lemmas.List.{take_all, take_more}
-use Rattle.area_routes.specs.Values.{EntriesBelow, EntryValue}
+use Rattle.std.proofs.Common.{◌^◌, ℕ, List, sym, subst, ◌∙◌}
+use Rattle.area_routes.specs.Values.{EntriesBelow}
+use Rattle.lsa_codec.specs.declared.address.RouterId.{RouterId}
 use Rattle.summary_metrics.specs.Originators.{HasCosts}
+use Rattle.summary_metrics.specs.steps.AnnouncedCosts.{CostsBelow}
 use Rattle.summary_metrics.proofs.MoreCosts.{costs_below}
 use Rattle.summary_metrics.proofs.border_costs.BorderCosts.of_area.Goals as goal
 
-pub loop-entry-preserved : goal.loop-entry-preserved
-loop-entry-preserved g c =
-    let entries = c.entries-entries.result.now in
-    let i = c.loop-entry.entry-index in
-    let P : List EntryValue → Type 0 = λ es. HasCosts es c.insert_cost.new.costs.entries in
-    subst P (ap (λ e. take i entries ++ e ∷ []) c.entry-item.is ∙ sym (take_more entries i c.entry-item.result c.loop-entry-test.true))
-    (c.in_ok-insert_cost.ensures (take i entries) c.loop-entry.invariant)
+pub from_sorted-requires-clause-below : goal.from_sorted-requires-clause-below
+from_sorted-requires-clause-below g c =
+    subst CostsBelow (sym c.in_ok-in_order.ensures.entries)
+    (costs_below c.entries.result.now c.in_ok-costs.costs.entries
+    (subst (EntriesBelow (2 ^ 33)) (sym c.entries.ensures.entries) c.entries.ensures.below.entries) c.in_ok-costs.ensures)
 
-pub invariant_of-result : goal.invariant_of-result
-invariant_of-result g c =
-    let entries = c.entries-entries.result.now in
-    let P : List EntryValue → Type 0 = λ es. HasCosts es c.loop-entry.costs.entries in
-    costs_below entries c.loop-entry.costs.entries
-    (subst (EntriesBelow (2 ^ 33)) (sym c.entries-entries.ensures.entries) c.entries-entries.ensures.below.entries)
-    (subst P (take_all c.loop-entry.entry-index entries c.loop-entry-test.false) c.loop-entry.invariant)
+pub returns : goal.returns
+returns g c =
+    let P : List (RouterId × ℕ) → Type 0 = HasCosts c.args.area.now.entries in
+    subst P (sym (c.from_sorted.ensures ∙ c.in_ok-in_order.ensures.entries))
+    (subst (λ es. HasCosts es c.in_ok-costs.costs.entries) c.entries.ensures.entries c.in_ok-costs.ensures)

@@ -1,6 +1,6 @@
 use Rattle.std.proofs.Common.{take}
 use Rattle.summary_metrics.specs.Originators.{HasCosts}
-use Rattle.summary_metrics.proofs.border_costs.BorderCosts.of_area.Given as goal
+use Rattle.summary_metrics.proofs.border_costs.costs_of.Given as goal
 
 -- the entries so far
 abbrev pub invariant-loop-entry : goal.invariant-loop-entry
