@@ -1,15 +1,18 @@
 -- The tables of routers, one router after another.
 use Rattle.std.proofs.Common.{◌≡◌, ◌≢◌, ℕ, suc, ◌+◌, ◌<◌, ◌≤◌, List, [], ◌∷◌, ◌++◌, take, get_or, length, Option, None, Some, Result, Ok, Err, IfOk, Vec, refl, sym, ap, subst, ◌∙◌}
-use Rattle.std.specs.Prelude.{flat_map, option_to_list}
+use Rattle.std.specs.Prelude.{flat_map, option_to_list, codes, decimal}
 use Rattle.std.specs.List.{Contains, filter_map, cons_option}
-use Rattle.std.proofs.lemmas.List.{append_assoc, take_more, take_all}
+use Rattle.std.proofs.lemmas.List.{append_assoc, append-nil, take_more, take_all}
 use Rattle.std.proofs.lemmas.List.Elements.{Contains-append_left, Contains-append_right, Contains-push, filter_map-append}
-use Rattle.std.proofs.lemmas.Grind.{flat_map-append}
 use Rattle.lsa_codec.specs.declared.address.RouterId.{RouterId}
 use Rattle.lsdb.specs.Lists.{AreaHead, Lists}
 use Rattle.area_routes.specs.Attached.{attached_areas}
 use Rattle.routing_table.specs.Routers.{attached_routers}
 use Rattle.routing_table.specs.Tables.{TableValue, table_by, table_in}
+use Rattle.table_report.specs.Texts.{table_text}
+use Rattle.edit_history.specs.Session.{Session, state}
+use Rattle.edit_script.specs.declared.command.Command.TheVariants as command
+use Rattle.branches.specs.Replies.{mark_of, reply_text, reply_to, router_text, router_texts, tables, tables_head}
 
 as_list : {Y : Type 0} (o : Option Y) → option_to_list o ≡ cons_option o []
 as_list None = refl
@@ -24,22 +27,6 @@ one_more f xs i d old new o lt before found is =
 
 pub all_taken : {X Y : Type 0} (f : X → Option Y) (xs : List X) (i : ℕ) (ys : List Y) → length xs ≤ i → ys ≡ filter_map f (take i xs) → ys ≡ filter_map f xs
 all_taken f xs i ys past is = is ∙ ap (filter_map f) (take_all i xs past)
-
--- ---- their texts
-
-module _ {X Y : Type 0} (f : X → Option Y) (text : Y → List ℕ) (start : List ℕ) (xs : List X) (i : ℕ) where
-  -- one more text, if there is one
-  pub one_more_text : (d : X) (old new : List ℕ) (o : Option Y) → i < length xs → old ≡ start ++ flat_map text (filter_map f (take i xs))
-      → o ≡ f (get_or xs i d) → new ≡ old ++ flat_map text (option_to_list o) → new ≡ start ++ flat_map text (filter_map f (take (i + 1) xs))
-  one_more_text d old new o lt before found is =
-      let so_far = filter_map f (take i xs) in
-      is ∙ ap (λ l. l ++ flat_map text (option_to_list o)) before ∙ append_assoc start (flat_map text so_far) (flat_map text (option_to_list o))
-      ∙ ap (λ l. start ++ l)
-      (sym (flat_map-append text so_far (option_to_list o)) ∙ ap (flat_map text) (one_more f xs i d so_far (so_far ++ option_to_list o) o lt refl found refl))
-
-  pub all_texts : (new : List ℕ) → length xs ≤ i → new ≡ start ++ flat_map text (filter_map f (take i xs))
-      → new ≡ start ++ flat_map text (filter_map f xs)
-  all_texts new past is = is ∙ ap (λ l. start ++ flat_map text (filter_map f l)) (take_all i xs past)
 
 -- ---- how many there are
 
@@ -64,3 +51,31 @@ pub count_found : {A E : Type 0} (db : Lists) (r : Result (Vec RouterId A) E)
     → IfOk r (λ found. found.items ≡ attached_routers db) → IfOk r (λ found. length (filter_map (table_in db) found.items) ≡ length found.items)
 count_found db (Ok found) each is = subst (λ l. length (filter_map (table_in db) l) ≡ length l) (sym is) (all_have db (attached_routers db) each)
 count_found db (Err e) each is = tt
+
+-- ---- the reply to `tables`, by its parts
+
+one_text : (o : Option TableValue) (rest : List TableValue)
+    → flat_map table_text (option_to_list o) ++ flat_map table_text rest ≡ flat_map table_text (cons_option o rest)
+one_text None rest = refl
+one_text (Some t) rest = ap (λ l. l ++ flat_map table_text rest) (append-nil (table_text t))
+
+each_text : (db : Lists) (rs : List RouterId) → router_texts db rs ≡ flat_map table_text (filter_map (table_in db) rs)
+each_text db [] = refl
+each_text db (r ∷ rs) = ap (λ l. router_text db r ++ l) (each_text db rs) ∙ one_text (table_in db r) (filter_map (table_in db) rs)
+
+by_parts : (branch : ℕ) (s : Session) (rs : List RouterId) → rs ≡ attached_routers (state s) → length (filter_map (table_in (state s)) rs) ≡ length rs
+    → reply_text branch (reply_to s command.Tables) ≡ tables_head branch (length rs) ++ router_texts (state s) rs
+by_parts branch s rs is count =
+    ap (λ l. reply_text branch (tables (filter_map (table_in (state s)) l))) (sym is)
+    ∙ ap (λ n. mark_of branch ++ (codes "tables " ++ decimal n ++ codes "\n" ++ flat_map table_text (filter_map (table_in (state s)) rs))) count
+    ∙ ap (λ l. mark_of branch ++ (codes "tables " ++ decimal (length rs) ++ codes "\n" ++ l)) (sym (each_text (state s) rs))
+    ∙ sym (append_assoc (mark_of branch) (codes "tables " ++ decimal (length rs) ++ codes "\n") (router_texts (state s) rs))
+
+-- what the routers of the database of a session are found to be
+pub found_parts : {A E : Type 0} (branch : ℕ) (s : Session) (db : Lists) (r : Result (Vec RouterId A) E) → db ≡ state s
+    → IfOk r (λ found. found.items ≡ attached_routers db) → IfOk r (λ found. length (filter_map (table_in db) found.items) ≡ length found.items)
+    → IfOk r (λ found. reply_text branch (reply_to s command.Tables) ≡ tables_head branch (length found.items) ++ router_texts (state s) found.items)
+found_parts branch s db (Ok found) at is count =
+    by_parts branch s found.items (is ∙ ap attached_routers at)
+    (subst (λ d. length (filter_map (table_in d) found.items) ≡ length found.items) at count)
+found_parts branch s db (Err e) at is count = tt

@@ -21,9 +21,10 @@ use Rattle.edit_history.specs.declared.fault.EditFault.TheVariants.{HistoryFull}
 use Rattle.edit_history.specs.Effect.{effect}
 use Rattle.edit_history.specs.Session.{Session, edited, accepted, accepted_or, start, state, most_edits, moved_back, moved_on}
 use Rattle.recalculate.specs.Planning.{PlannerValue}
-use Rattle.branches.specs.Branches.{all_begin, resumed, Named, Sessions, sessions_by, sessions_of, named_by, with_session, session_or_begin, HaveOneBase}
+use Rattle.branches.specs.Branches.{all_begin, resumed, Named, sessions_by, sessions_of, named_by, with_session, session_or_begin, HaveOneBase}
 use Rattle.branches.specs.steps.Planners.{has_planner}
 use Rattle.branches.specs.Replies.{Said, reply_to, after}
+use Rattle.branches.proofs.SessionLemmas.{with_own}
 
 -- ---- a command leaves the base
 
@@ -160,6 +161,10 @@ pub session_of_named : (first : PlannerValue) (ps : List (ℕ × PlannerValue)) 
     → sessions_of (named_by first ps) branch ≡ p.session
 session_of_named first ps branch p behind was = rw (behind, shown ps branch, sym was) refl
 
+pub session_of_first : (first : PlannerValue) (ps : List (ℕ × PlannerValue)) (branch : ℕ) → branch ≡ 0
+    → sessions_of (named_by first ps) branch ≡ first.session
+session_of_first first ps branch zeroth = rw zeroth refl
+
 pub session_of_unnamed : (first : PlannerValue) (ps : List (ℕ × PlannerValue)) (branch : ℕ) → eqb branch 0 ≡ false → None ≡ planner_at ps branch
     → sessions_of (named_by first ps) branch ≡ start first.session.base
 session_of_unnamed first ps branch behind none = rw (behind, shown ps branch, sym none) refl
@@ -203,13 +208,6 @@ written_same old new branch p q was writes same =
     ∙ set_value_same (is_at (nat_cmp branch)) (sessions_by old.entries) p.session (sym (shown_some old.entries branch p was))
 
 -- ---- a branch that is at its beginning
-
-own_at : (branch other : ℕ) (all : Sessions) (same : Bool) → eqb branch other ≡ same → all other ≡ cond same (all branch) (all other)
-own_at branch other all true e = ap all (sym (eqb-true branch other e))
-own_at branch other all false e = refl
-
-pub with_own : (branch : ℕ) (all : Sessions) → all ≡ with_session branch (all branch) all
-with_own branch all = λ i other. own_at branch other all (eqb branch other) refl i
 
 begins_at : (first : Session) (o : Option Session) (z : Bool) → z ≡ false → (z || is_some o) ≡ false
     → cond z first (session_or_begin first.base o) ≡ start first.base

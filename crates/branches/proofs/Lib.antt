@@ -1,3 +1,4 @@
+pub mod SessionLemmas
 pub mod BranchSessions
 pub mod AllTables
 pub mod RefusedCommands

@@ -1,6 +1,7 @@
 -- What a command is answered, and what it leaves; the texts of answers.
-use Rattle.std.specs.Prelude.{ℕ, nat_le, if◌then◌else◌, List, [], ◌++◌, length, flat_map, filter_map, Option, None, Some, Result, Ok, Err, codes, decimal, Bool, true, false}
+use Rattle.std.specs.Prelude.{ℕ, nat_le, if◌then◌else◌, List, [], ◌++◌, length, flat_map, filter_map, option_to_list, Option, None, Some, Result, Ok, Err, codes, decimal, Bool, true, false}
 use Rattle.lsa_codec.specs.declared.address.RouterId.{RouterId}
+use Rattle.lsdb.specs.Lists.{Lists}
 use Rattle.edit_script.specs.declared.command.Command.{Command}
 use Rattle.edit_script.specs.declared.command.Command.TheVariants as command
 use Rattle.edit_script.specs.declared.fault.ScriptFault.{ScriptFault}
@@ -148,6 +149,22 @@ said_text (counted info) = info_text info
 -- `@B`, and what is said
 abbrev pub reply_text : ℕ → Said → List ℕ
 reply_text branch said = mark_of branch ++ said_text said
+
+-- ---- the reply to `tables`, by its parts
+
+-- what stands before the texts of so many tables
+abbrev pub tables_head : ℕ → ℕ → List ℕ
+tables_head branch count = mark_of branch ++ (codes "tables " ++ decimal count ++ codes "\n")
+
+-- the text of the routing table of a router, where it is attached to an area
+abbrev pub router_text : Lists → RouterId → List ℕ
+router_text db router = flat_map table_text (option_to_list (table_in db router))
+
+-- those of routers, one after another
+abbrev pub router_texts : Lists → List RouterId → List ℕ
+router_texts db routers = flat_map (router_text db) routers
+
+-- ---- lines that are no command
 
 -- `script CODE NAME`
 abbrev pub script_text : ScriptFault → List ℕ

@@ -1,19 +1,22 @@
 //! The what-if studies of a run.
 
-ghost use Rattle.std.specs.Prelude.{◌≡◌, ◌⊎◌, ◌<◌, ◌==◌, Ok, IfOk, OnOk, OnErr, IsOk, true, false};
+ghost use Rattle.std.specs.Prelude.{◌≡◌, ◌⊎◌, ◌<◌, ◌==◌, ◌++◌, Ok, IfOk, OnOk, OnErr, IsOk, true, false, length};
+ghost use Rattle.std.specs.String.{string_bytes};
 ghost use Rattle.lsdb.specs.Places.{lists_of};
 ghost use Rattle.lsdb.specs.Text.{text};
 ghost use Rattle.edit_history.specs.Session.{start, state};
+ghost use Rattle.routing_table.specs.Routers.{attached_routers};
 ghost use Rattle.saved_sessions.specs.Opening.{opened};
 ghost use Rattle.saved_sessions.specs.Saved.{saved_text};
 ghost use Rattle.branches.specs.Branches.{all_begin, resumed, with_session, sessions_of};
 ghost use Rattle.branches.specs.steps.Planners.{has_planner};
-ghost use Rattle.branches.specs.Replies.{reply_text, reply_to, after, is_refusal, takes_memory, said_by};
+ghost use Rattle.branches.specs.Replies.{reply_text, reply_to, after, is_refusal, takes_memory, said_by, tables_head, router_text, router_texts};
 
-use crate::commands::{execute, tables_text};
+use crate::commands::{execute, push_table_now, routers_with_table};
 use crate::reply::{Answer, Refusal, Reply, reply_text};
 use edit_history::{RedoFault, UndoFault};
 use edit_script::Command;
+use lsa_codec::RouterId;
 use lsdb::Database;
 use recalculate::{Info, Planner};
 use saved_sessions::save;
@@ -136,8 +139,7 @@ impl<A: Allocator + Copy> Branches<A> {
     }
 
     /// Carries one command out in a branch, 0 to 7, as [`step`](Branches::step) does, and answers
-    /// the text of its reply, as [`reply_text`] makes it. Of the tables that `tables` asks for, one
-    /// at a time is held.
+    /// the text of its reply, as [`reply_text`] makes it.
     ///
     /// # Errors
     ///
@@ -157,13 +159,6 @@ impl<A: Allocator + Copy> Branches<A> {
             ≡ with_session branch (after (sessions_of self.old branch) command.now)
             (sessions_of self.old))) }
     {
-        if let Command::Tables = command {
-            let text = self.tables(branch)?;
-            return Ok(Answer {
-                text,
-                refused: false,
-            });
-        }
         let reply = self.step(branch, command)?;
         Ok(Answer {
             text: reply_text(self.alloc, branch, &reply)?,
@@ -171,34 +166,76 @@ impl<A: Allocator + Copy> Branches<A> {
         })
     }
 
-    /// The text of the reply to `tables` in a branch. All sessions stay, also where memory ran out.
-    fn tables(&mut self, branch: u8) -> Result<Vec<u8, A>, AllocError>
-        ensures text { IfOk result (λ text. text.items
-            ≡ reply_text branch (reply_to (sessions_of self.old branch) Command.Tables)) }
-        ensures kept { sessions_of self.new ≡ sessions_of self.old }
+    /// The routers that are attached to areas of the database of a branch, 0 to 7, in rising order
+    /// of their IDs. The reply to `tables` is [`tables_head`](crate::tables_head) of their number,
+    /// and behind it the text of each one's table, as [`push_table`](Branches::push_table) adds it.
+    ///
+    /// # Errors
+    ///
+    /// Memory ran out.
+    pub fn routers(&mut self, branch: u8) -> Result<Vec<RouterId, A>, AllocError>
+        requires { branch < 8 }
+        ensures routers { IfOk result (λ routers. routers.items
+            ≡ attached_routers (state (sessions_of self.old branch))) }
+        ensures reply { IfOk result (λ routers.
+            reply_text branch (reply_to (sessions_of self.old branch) Command.Tables)
+            ≡ tables_head branch (length routers.items)
+            ++ router_texts (state (sessions_of self.old branch)) routers.items) }
+        ensures kept { self.new ≡ self.old }
     {
         if branch == 0 {
-            return tables_text(self.alloc, branch, &mut self.first);
+            return routers_with_table(self.first.database());
         }
-        match self.others.get_mut(&branch) {
-            Some(planner) => tables_text(self.alloc, branch, planner),
-            None => self.begin_with_tables(branch),
+        match self.others.get(&branch) {
+            Some(planner) => routers_with_table(planner.database()),
+            None => routers_with_table(&self.first.base()?),
         }
     }
 
-    /// Begins a branch, and makes the text of the reply to `tables` in it. All sessions stay, also
-    /// where memory ran out.
-    fn begin_with_tables(&mut self, branch: u8) -> Result<Vec<u8, A>, AllocError>
+    /// Adds the text of the routing table of a router in the database of a branch, 0 to 7, if the
+    /// router is attached to an area there. All sessions stay, also where memory ran out.
+    ///
+    /// # Errors
+    ///
+    /// Memory ran out. A part of the text may have been added.
+    pub fn push_table(
+        &mut self,
+        branch: u8,
+        router: RouterId,
+        text: &mut String<A>,
+    ) -> Result<(), AllocError>
+        requires { branch < 8 }
+        ensures text { OnOk result (string_bytes text.new ≡ string_bytes text.old
+            ++ router_text (state (sessions_of self.old branch)) router) }
+        ensures kept { sessions_of self.new ≡ sessions_of self.old }
+    {
+        if branch == 0 {
+            return push_table_now(&mut self.first, router, text);
+        }
+        match self.others.get_mut(&branch) {
+            Some(planner) => push_table_now(planner, router, text),
+            None => self.begin_with_table(branch, router, text),
+        }
+    }
+
+    /// Begins a branch, and adds the text of the routing table of a router in it. All sessions
+    /// stay, also where memory ran out.
+    fn begin_with_table(
+        &mut self,
+        branch: u8,
+        router: RouterId,
+        text: &mut String<A>,
+    ) -> Result<(), AllocError>
         requires behind { (branch == 0) ≡ false }
         requires new { has_planner self.old branch ≡ false }
-        ensures text { IfOk result (λ text. text.items
-            ≡ reply_text branch (reply_to (sessions_of self.old branch) Command.Tables)) }
+        ensures text { OnOk result (string_bytes text.new ≡ string_bytes text.old
+            ++ router_text (state (sessions_of self.old branch)) router) }
         ensures kept { sessions_of self.new ≡ sessions_of self.old }
     {
         let mut planner = self.begun()?;
-        let text = tables_text(self.alloc, branch, &mut planner)?;
+        push_table_now(&mut planner, router, text)?;
         self.name(branch, planner)?;
-        Ok(text)
+        Ok(())
     }
 
     /// A planner at the beginning of all branches.

@@ -1,19 +1,20 @@
 //! The commands of a script, executed on one planner.
 
-ghost use Rattle.std.specs.Prelude.{◌≡◌, ◌++◌, IfOk, OnOk, OnErr, IsOk, false, filter_map, flat_map, length, option_map, option_to_list};
+ghost use Rattle.std.specs.Prelude.{◌≡◌, ◌++◌, IfOk, OnOk, OnErr, IsOk, false, filter_map, length, option_map, option_to_list};
 ghost use Rattle.std.specs.String.{string_bytes};
+ghost use Rattle.lsdb.specs.Places.{lists_of};
 ghost use Rattle.edit_history.specs.Session.{accepted_or, state, edited};
 ghost use Rattle.routing_table.specs.Routers.{attached_routers};
 ghost use Rattle.routing_table.specs.Tables.{table_in};
-ghost use Rattle.table_report.specs.Texts.{table_text};
-ghost use Rattle.branches.specs.Replies.{reply_text, reply_to, after, takes_memory, said_by, compare_reply, edit_reply, or_empty, table_reply, tables};
+ghost use Rattle.branches.specs.Replies.{reply_to, after, takes_memory, said_by, compare_reply, edit_reply, or_empty, table_reply, tables, router_text};
 
-use crate::reply::{Refusal, Reply, mark, push_tables_head};
+use crate::reply::{Refusal, Reply};
 use edit_history::EditFault;
 use edit_script::{Command, Edit};
 use lsa_codec::RouterId;
+use lsdb::Database;
 use recalculate::{Planner, Table, TableFault};
-use routing_table::routers_are_attached;
+use routing_table::{routers, routers_are_attached};
 use std::alloc::{AllocError, Allocator};
 use std::rc::Rc;
 use table_report::push_table;
@@ -180,67 +181,35 @@ fn add_table<A: Allocator + Copy>(
     Ok(())
 }
 
-/// Makes the text of the reply to `tables` from one table after another; each is dropped before the
-/// next is made.
-pub(crate) fn tables_text<A: Allocator + Copy>(
-    alloc: A,
-    branch: u8,
-    planner: &mut Planner<A>,
-) -> Result<Vec<u8, A>, AllocError>
-    ensures text { IfOk result
-        (λ text. text.items ≡ reply_text branch (reply_to planner.old.session Command.Tables)) }
-    ensures kept { planner.new.session ≡ planner.old.session }
-{
-    let routers = routers_with_table(planner)?;
-    let mut text = mark(alloc, branch)?;
-    push_tables_head(&mut text, routers.len())?;
-    push_tables_of(&mut text, planner, &routers)?;
-    Ok(text.into_bytes())
-}
-
-/// The routers that are attached to an area now. Each of them has a routing table.
-fn routers_with_table<A: Allocator + Copy>(
-    planner: &Planner<A>,
+/// The routers that are attached to areas of a database. Each of them has a routing table.
+pub(crate) fn routers_with_table<A: Allocator + Copy>(
+    database: &Database<A>,
 ) -> Result<Vec<RouterId, A>, AllocError>
     ensures routers { IfOk result
-        (λ routers. routers.items ≡ attached_routers (state planner.now.session)) }
+        (λ routers. routers.items ≡ attached_routers (lists_of database.now)) }
     ensures tables { IfOk result
-        (λ routers. length (filter_map (table_in (state planner.now.session)) routers.items)
+        (λ routers. length (filter_map (table_in (lists_of database.now)) routers.items)
         ≡ length routers.items) }
 {
     // By this law each of the routers is attached to an area of a valid database, so has a table;
-    // and the planner's database is a valid one.
+    // and this database is a valid one.
     routers_are_attached();
-    planner.database().known();
-    planner.routers()
+    database.known();
+    routers(database.alloc(), database)
 }
 
-/// Adds the texts of the routing tables of routers now, of those that are attached to an area.
-fn push_tables_of<A: Allocator + Copy>(
-    text: &mut String<A>,
+/// Adds the text of the routing table of a router now, if it is attached to an area. The table is
+/// dropped then.
+pub(crate) fn push_table_now<A: Allocator + Copy>(
     planner: &mut Planner<A>,
-    routers: &[RouterId],
+    router: RouterId,
+    text: &mut String<A>,
 ) -> Result<(), AllocError>
-    ensures text { OnOk result (string_bytes text.new ≡ string_bytes text.old
-        ++ flat_map table_text
-        (filter_map (table_in (state planner.old.session)) routers.now)) }
+    ensures text { OnOk result (string_bytes text.new
+        ≡ string_bytes text.old ++ router_text (state planner.old.session) router) }
     ensures kept { planner.new.session ≡ planner.old.session }
 {
-    for router in routers {
-        push_if_there(text, table_now(planner, *router)?)?;
-    }
-    Ok(())
-}
-
-/// Adds the text of a routing table, if there is one, and drops the table.
-fn push_if_there<A: Allocator + Copy>(
-    text: &mut String<A>,
-    table: Option<Table<A>>,
-) -> Result<(), AllocError>
-    ensures { OnOk result (string_bytes text.new
-        ≡ string_bytes text.old ++ flat_map table_text (option_to_list table)) }
-{
-    match table {
+    match table_now(planner, router)? {
         Some(table) => push_table(text, &table),
         None => Ok(()),
     }

@@ -3,7 +3,7 @@
 ghost use Rattle.std.specs.Prelude.{◌≡◌, ◌++◌, IfOk, OnOk, codes, decimal, flat_map, length};
 ghost use Rattle.std.specs.String.{string_bytes};
 ghost use Rattle.table_report.specs.Texts.{table_text};
-ghost use Rattle.branches.specs.Replies.{refusal_code, refusal_name, lsa_counts, link_counts, edit_counts, info_text, said_by, said_text, mark_of, reply_text, script_text, is_refusal};
+ghost use Rattle.branches.specs.Replies.{refusal_code, refusal_name, lsa_counts, link_counts, edit_counts, info_text, said_by, said_text, mark_of, tables_head, reply_text, script_text, is_refusal};
 
 use edit_history::{EditFault, RedoFault, UndoFault};
 use edit_script::ScriptFault;
@@ -134,7 +134,7 @@ pub fn reply_text<A: Allocator + Copy>(
 const SHORT_REPLY: usize = 32;
 
 /// The mark of a branch before a reply: `@0 `.
-pub(crate) fn mark<A: Allocator + Copy>(alloc: A, branch: u8) -> Result<String<A>, AllocError>
+fn mark<A: Allocator + Copy>(alloc: A, branch: u8) -> Result<String<A>, AllocError>
     ensures { IfOk result (λ text. string_bytes text ≡ mark_of branch) }
 {
     let branch = Decimal(u64::from(branch));
@@ -195,8 +195,26 @@ fn push_told<A: Allocator + Copy>(
     text.push_str("\n")
 }
 
+/// The head of the reply to `tables` in a branch: `@0 tables 2`, and a line feed. The texts of so
+/// many tables stand behind it.
+///
+/// # Errors
+///
+/// Memory ran out.
+pub fn tables_head<A: Allocator + Copy>(
+    alloc: A,
+    branch: u8,
+    count: usize,
+) -> Result<String<A>, AllocError>
+    ensures { IfOk result (λ text. string_bytes text ≡ tables_head branch count) }
+{
+    let mut text = mark(alloc, branch)?;
+    push_tables_head(&mut text, count)?;
+    Ok(text)
+}
+
 /// Adds `tables COUNT`.
-pub(crate) fn push_tables_head<A: Allocator + Copy>(
+fn push_tables_head<A: Allocator + Copy>(
     text: &mut String<A>,
     count: usize,
 ) -> Result<(), AllocError>

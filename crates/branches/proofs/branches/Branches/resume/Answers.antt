@@ -1,4 +1,4 @@
-use Rattle.std.proofs.Common.{◌≡◌, ℕ, List, ap, ◌∙◌}
+use Rattle.std.proofs.Common.{ℕ, List, ap, ◌∙◌}
 use Rattle.recalculate.specs.Planning.{PlannerValue}
 use Rattle.branches.specs.Branches.{named_by, sessions_of}
 use Rattle.branches.proofs.branches.Branches.resume.Goals as goal

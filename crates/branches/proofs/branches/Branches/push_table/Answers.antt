@@ -1,32 +1,33 @@
-use Rattle.std.proofs.Common.{◌≡◌, ◌∙◌, ℕ, IfOk, ap, false, sym, subst}
+use Rattle.std.proofs.Common.{◌≡◌, ◌++◌, ◌∙◌, ℕ, ap, false, sym, subst}
+use Rattle.std.specs.Prelude.{OnOk}
 use Rattle.std.specs.BTreeMap.{BTreeMap}
+use Rattle.std.specs.String.{string_bytes}
 use Rattle.std.proofs.lemmas.Bool.{ne_eqb}
 use Rattle.lsdb.specs.Lists.{Lists}
-use Rattle.edit_script.specs.declared.command.Command.TheVariants as command
-use Rattle.edit_history.specs.Session.{Session, start}
+use Rattle.edit_history.specs.Session.{Session, start, state}
 use Rattle.recalculate.specs.Counts.{info_of}
 use Rattle.recalculate.specs.Planning.{PlannerValue}
 use Rattle.branches.specs.Branches.{Named, named_by, sessions_by, sessions_of}
 use Rattle.branches.specs.steps.Planners.{has_planner}
-use Rattle.branches.specs.Replies.{reply_text, reply_to}
+use Rattle.branches.specs.Replies.{router_text}
 use Rattle.branches.proofs.BranchSessions.{base_of, first_base, not_named, one_base, session_of_named, shown_some, the_named, written, written_same}
-use Rattle.branches.proofs.branches.Branches.tables.Goals as goal
+use Rattle.branches.proofs.branches.Branches.push_table.Goals as goal
 
 pub invariant_of-self : goal.invariant_of-self
 invariant_of-self g c =
     let named : Named = named_by c.self.inside.first c.self.inside.others.entries in (
-      first_base named c.tables_text.new.planner.session (ap (λ (s : Session). s.base) c.tables_text.ensures.kept) c.self.invariant.0,
-      c.self.invariant.1 ∙ ap (λ (base : Lists). info_of (start base)) (ap (λ (s : Session). s.base) (sym c.tables_text.ensures.kept)),
+      first_base named c.push_table_now.new.planner.session (ap (λ (s : Session). s.base) c.push_table_now.ensures.kept) c.self.invariant.0,
+      c.self.invariant.1 ∙ ap (λ (base : Lists). info_of (start base)) (ap (λ (s : Session). s.base) (sym c.push_table_now.ensures.kept)),
     )
 
 pub returns-then-branch-eq0-clause-kept : goal.returns-then-branch-eq0-clause-kept
 returns-then-branch-eq0-clause-kept g c =
-    ap (λ (s : Session). sessions_of (the_named s (sessions_by c.self.inside.others.entries))) c.tables_text.ensures.kept
+    ap (λ (s : Session). sessions_of (the_named s (sessions_by c.self.inside.others.entries))) c.push_table_now.ensures.kept
     ∙ ap sessions_of c.self.view_is
 
 pub invariant_of-self-in-Some : goal.invariant_of-self-in-Some
 invariant_of-self-in-Some g c =
-    let w = c.tables_text-in-Some.new.planner in
+    let w = c.push_table_now-in-Some.new.planner in
     let old = c.self.inside.others in
     let new = c.get_mut.follows.lender w in
     let branch = c.args.branch in
@@ -34,33 +35,35 @@ invariant_of-self-in-Some g c =
     let was = c.in-Some.ensures.value in
     let named : Named = named_by c.self.inside.first old.entries in
     let one = c.self.invariant.0 in
-    let base = ap (λ (s : Session). s.base) c.tables_text-in-Some.ensures.kept ∙ base_of named branch planner.session (shown_some old.entries branch planner was) one in
+    let base = ap (λ (s : Session). s.base) c.push_table_now-in-Some.ensures.kept ∙ base_of named branch planner.session (shown_some old.entries branch planner was) one in
     (one_base named (sessions_by new.entries) branch w.session base (written old new branch planner w was (c.get_mut.follows.holds w)) one, c.self.invariant.1)
 
 pub returns-in-Some-clause-kept : goal.returns-in-Some-clause-kept
 returns-in-Some-clause-kept g c =
     let old = c.self.inside.others in
     ap (λ es. sessions_of (the_named c.self.inside.first.session es))
-    (written_same old (c.get_mut.follows.lender c.tables_text-in-Some.new.planner) c.args.branch c.in-Some.planner.now
-    c.tables_text-in-Some.new.planner c.in-Some.ensures.value
-    (c.get_mut.follows.holds c.tables_text-in-Some.new.planner) c.tables_text-in-Some.ensures.kept)
+    (written_same old (c.get_mut.follows.lender c.push_table_now-in-Some.new.planner) c.args.branch c.in-Some.planner.now
+    c.push_table_now-in-Some.new.planner c.in-Some.ensures.value
+    (c.get_mut.follows.holds c.push_table_now-in-Some.new.planner) c.push_table_now-in-Some.ensures.kept)
     ∙ ap sessions_of c.self.view_is
 
 pub returns-in-Some-clause-text : goal.returns-in-Some-clause-text
 returns-in-Some-clause-text g c =
-    subst (λ (s : Session). IfOk c.tables_text-in-Some.result (λ text. text.items ≡ reply_text c.args.branch (reply_to s command.Tables)))
+    subst (λ (s : Session). OnOk c.push_table_now-in-Some.result (string_bytes c.push_table_now-in-Some.new.text ≡ string_bytes c.args.text.now
+    ++ router_text (state s) c.args.router))
     (sym (session_of_named c.self.inside.first c.self.inside.others.entries c.args.branch c.in-Some.planner.now
     (ne_eqb c.args.branch 0 c.if-branch-eq0.false) c.in-Some.ensures.value)
     ∙ ap (λ (n : Named). sessions_of n c.args.branch) c.self.view_is)
-    c.tables_text-in-Some.ensures.text
+    c.push_table_now-in-Some.ensures.text
 
-pub begin_with_tables-requires-clause-new : goal.begin_with_tables-requires-clause-new
-begin_with_tables-requires-clause-new g c =
+pub begin_with_table-requires-clause-new : goal.begin_with_table-requires-clause-new
+begin_with_table-requires-clause-new g c =
     subst (λ (m : BTreeMap ℕ PlannerValue). has_planner (named_by c.self.inside.first m.entries) c.args.branch ≡ false) (sym c.get_mut.follows.holds-at-none)
     (not_named c.self.inside.first c.self.inside.others.entries c.args.branch (ne_eqb c.args.branch 0 c.if-branch-eq0.false) c.in-None.ensures.value)
 
 pub returns-in-None-clause-text : goal.returns-in-None-clause-text
 returns-in-None-clause-text g c =
-    subst (λ (n : Named). IfOk c.begin_with_tables.result (λ text. text.items ≡ reply_text c.args.branch (reply_to (sessions_of n c.args.branch) command.Tables)))
+    subst (λ (n : Named). OnOk c.begin_with_table.result (string_bytes c.begin_with_table.new.text ≡ string_bytes c.args.text.now
+    ++ router_text (state (sessions_of n c.args.branch)) c.args.router))
     (ap (λ (m : BTreeMap ℕ PlannerValue). named_by c.self.inside.first m.entries) c.get_mut.follows.holds-at-none ∙ c.self.view_is)
-    c.begin_with_tables.ensures.text
+    c.begin_with_table.ensures.text
