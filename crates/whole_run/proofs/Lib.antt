@@ -5,3 +5,4 @@ pub mod BranchesApart
 pub mod ReadOctets
 pub mod AcceptedEdits
 pub mod FailedReads
+pub mod TableParts

@@ -1,6 +1,6 @@
 -- The steps of a run over the lines of its script.
-use Rattle.std.proofs.Common.{◌≡◌, ℕ, ◌+◌, ◌<◌, ◌≤◌, ◌^◌, List, [], ◌∷◌, ◌++◌, Option, None, Some, eqb, cond, length, sym, ap, subst, ◌∙◌}
-use Rattle.std.proofs.Common.{append_assoc, append-nil, refl, arith, rules, Result, Ok, Err}
+use Rattle.std.proofs.Common.{◌≡◌, ◌≢◌, ℕ, ◌+◌, ◌<◌, ◌≤◌, ◌^◌, List, [], ◌∷◌, ◌++◌, Option, None, Some, eqb, cond, length, sym, ap, subst, ◌∙◌}
+use Rattle.std.proofs.Common.{append_assoc, append-nil, refl, arith, rules, true, Result, Ok, Err}
 use Rattle.std.specs.Borrow.{Bor}
 use Rattle.std.proofs.lemmas.List.{length-append}
 use Rattle.std.proofs.lemmas.List.Sums.{count_by-le-length, sum_by-append}
@@ -14,7 +14,7 @@ use Rattle.edit_script.specs.declared.fault.ScriptFault.{ScriptFault}
 use Rattle.edit_script.specs.declared.fault.ScriptFault.TheVariants.{Empty, UnknownWord, MissingWord, ExtraWord, BadNumber, BadAddress, BadPrefix, BadBranch}
 use Rattle.edit_script.specs.Line.{meaning}
 use Rattle.branches.specs.Branches.{Sessions}
-use Rattle.branches.specs.Replies.{Answer}
+use Rattle.branches.specs.Replies.{Answer, script_text}
 use Rattle.whole_run.specs.Inputs.{longest_script}
 use Rattle.whole_run.specs.Run.{answer_to, after_line, answers, sessions_after, lines_of, text_of}
 use Rattle.whole_run.specs.WholeRun.{refused_count}
@@ -89,6 +89,36 @@ pub written_end : (a b : Option (List ℕ)) (first : Sessions) (all : List (List
     → Written a b first all now left → left ≡ [] → now ≡ sessions_after first all
 unfolding sessions_after
 written_end a b first all now left w e = sym (w.ends ∙ ap (sessions_after now) e)
+
+-- a line that is no command, and is not empty, has one answer
+told_fault : (s : Sessions) (fault : ScriptFault) → fault ≢ Empty
+    → answer_to s (Err fault) ≡ record { text = script_text fault; refused = true } ∷ []
+told_fault s Empty some = absurd (some refl)
+told_fault s UnknownWord some = refl
+told_fault s MissingWord some = refl
+told_fault s ExtraWord some = refl
+told_fault s BadNumber some = refl
+told_fault s BadAddress some = refl
+told_fault s BadPrefix some = refl
+told_fault s BadBranch some = refl
+
+-- its answer is the text of its fault, it is counted once and as refused, and the sessions stay
+pub record FaultTold (s : Sessions) (fault : ScriptFault) (read : Result (ℕ × Command) ScriptFault) : Type 0 where
+  pub text : text_of (answer_to s read) ≡ script_text fault
+  pub one : length (answer_to s read) ≡ 1
+  pub refused : refused_count (answer_to s read) ≡ 1
+  pub same : s ≡ after_line s read
+
+pub fault_told : (s : Sessions) (fault : ScriptFault) → fault ≢ Empty → (read : Result (ℕ × Command) ScriptFault) → Err fault ≡ read
+    → FaultTold s fault read
+fault_told s fault some read is =
+    let told = told_fault s fault some in
+    subst (FaultTold s fault) is (record {
+      text = ap text_of told ∙ append-nil (script_text fault);
+      one = ap length told;
+      refused = ap refused_count told;
+      same = refl;
+    })
 
 -- ---- counts
 

@@ -10,6 +10,7 @@ mod laws;
 mod leaving;
 mod lines;
 mod output;
+mod replies;
 mod running;
 mod sample;
 mod script;

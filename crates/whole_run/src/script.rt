@@ -1,6 +1,6 @@
 //! A script: its lines are carried out in order, and each reply is written.
 
-ghost use Rattle.std.specs.Prelude.{◌≡◌, ◌↔◌, ◌+◌, ◌<◌, ◌≤◌, ◌^◌, false, true, length, count_by, option_map, option_to_list, OnOk, OnErr, IfOk, IfErr};
+ghost use Rattle.std.specs.Prelude.{◌≡◌, ◌↔◌, ◌+◌, ◌<◌, ◌≤◌, ◌^◌, if◌then◌else◌, false, true, length, OnOk, IfOk, IfErr};
 ghost use Rattle.std.specs.Io.KnownBytes.{Appends};
 ghost use Rattle.streams.specs.Watched.{inner_of, has_failed};
 ghost use Rattle.streams.specs.WholeText.{AppendsPrefix};
@@ -12,11 +12,12 @@ ghost use Rattle.whole_run.specs.WholeRun.{refused_count};
 
 use crate::fault::RunFault;
 use crate::lines::first_line;
-use branches::{Answer, Branches, script_text};
+use crate::replies::{write_reply, write_script_fault};
+use branches::Branches;
 use edit_script::{ScriptFault, parse};
-use std::alloc::{AllocError, Allocator};
+use std::alloc::Allocator;
 use std::io::Write;
-use streams::{Watched, write_whole};
+use streams::Watched;
 
 /// How many lines of a script had a reply, and how many of these were refused, by `refused` or
 /// `script`.
@@ -28,24 +29,17 @@ pub struct Summary {
     pub refused: u64,
 }
 
-/// Carries out one line. A line without words, or a comment, has no answer.
-fn execute_line<A: Allocator + Copy>(
-    alloc: A,
-    branches: &mut Branches<A>,
-    line: &[u8],
-) -> Result<Option<Answer<A>>, AllocError>
-    ensures answer { IfOk result
-        (λ told. option_to_list told ≡ answer_to (sessions_of branches.old) (meaning line.now)) }
-    ensures sessions { OnOk result
-        (sessions_of branches.new ≡ after_line (sessions_of branches.old) (meaning line.now)) }
-{
-    match parse(line) {
-        Err(ScriptFault::Empty) => Ok(None),
-        Err(fault) => Ok(Some(Answer {
-            text: script_text(alloc, fault)?,
-            refused: true,
-        })),
-        Ok((branch, command)) => Ok(Some(branches.answer(branch, &command)?)),
+impl Summary {
+    /// Counts a line with a reply.
+    fn count(&mut self, refused: bool)
+        requires room { (self.old.commands + 1 < 2 ^ 64) × (self.old.refused + 1 < 2 ^ 64) }
+        ensures commands { self.new.commands ≡ self.old.commands + 1 }
+        ensures refused { self.new.refused ≡ self.old.refused + (if refused then 1 else 0) }
+    {
+        self.commands += 1;
+        if refused {
+            self.refused += 1;
+        }
     }
 }
 
@@ -77,15 +71,21 @@ fn answer_line<A: Allocator + Copy, W: Write>(
     ensures memory { has_failed replies.new ≡ false
         → IfErr result (λ fault. fault ≡ RunFault.OutOfMemory) }
 {
-    let Some(told) = execute_line(alloc, branches, line)? else {
-        return Ok(());
-    };
-    write_whole(replies, told.text.as_slice())?;
-    summary.commands += 1;
-    if told.refused {
-        summary.refused += 1;
+    match parse(line) {
+        Err(fault) => match fault {
+            ScriptFault::Empty => Ok(()),
+            _ => {
+                write_script_fault(alloc, fault, replies)?;
+                summary.count(true);
+                Ok(())
+            }
+        },
+        Ok((branch, command)) => {
+            let refused = write_reply(alloc, branches, branch, &command, replies)?;
+            summary.count(refused);
+            Ok(())
+        }
     }
-    Ok(())
 }
 
 /// Carries out the lines of a script, and writes their answers.

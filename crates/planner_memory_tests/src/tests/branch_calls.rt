@@ -1,7 +1,7 @@
 //! Calls of branches, of which branch 0 has one edit done and one undone.
 
-use super::answers::of_octets;
-use super::network::database_of;
+use super::answers::{of_octets, of_routers};
+use super::network::{ROUTER, database_of};
 use branches::{Branches, reply_text};
 use edit_script::{Command, parse};
 use memory_tests::{Answer, Growing, Seen, growths_of};
@@ -26,6 +26,10 @@ enum Call {
     AnswerInfo,
     AnswerFirst,
     AnswerFirstTables,
+    Routers,
+    RoutersUnnamed,
+    PushTable,
+    PushFirstTable,
     Dump,
     DumpNamed,
     DumpUnnamed,
@@ -46,6 +50,10 @@ const CALLS: &[Call] = &[
     Call::AnswerInfo,
     Call::AnswerFirst,
     Call::AnswerFirstTables,
+    Call::Routers,
+    Call::RoutersUnnamed,
+    Call::PushTable,
+    Call::PushFirstTable,
     Call::Dump,
     Call::DumpNamed,
     Call::DumpUnnamed,
@@ -89,7 +97,7 @@ fn prepare(branches: &mut Branches<&Rationed>, call: Call) -> Result<(), Fail> {
     carry_out(branches, BEFORE)?;
     match call {
         Call::StepFirst | Call::StepFirstTables => Ok(()),
-        Call::AnswerFirst | Call::AnswerFirstTables => Ok(()),
+        Call::AnswerFirst | Call::AnswerFirstTables | Call::PushFirstTable => Ok(()),
         _ => carry_out(branches, NAMED),
     }
 }
@@ -129,6 +137,19 @@ fn answered(alloc: Global, branches: &mut Branches<&Rationed>, call: Call) -> Re
     }
 }
 
+/// The text of the table of a router in branch 1, added to an empty one.
+fn pushed<'a>(
+    alloc: Global,
+    rationed: &'a Rationed,
+    branches: &mut Branches<&'a Rationed>,
+) -> Result<Answer, Fail> {
+    let mut text = String::new(rationed);
+    match branches.push_table(1, ROUTER, &mut text) {
+        Ok(()) => of_octets(alloc, Ok(text.into_bytes())),
+        Err(AllocError) => Ok(None),
+    }
+}
+
 /// Whether a call is one of `answer`.
 fn is_answered(call: Call) -> bool {
     match call {
@@ -146,6 +167,9 @@ fn answer_of<'a>(
     call: Call,
 ) -> Result<Answer, Fail> {
     match call {
+        Call::Routers => of_routers(alloc, branches.routers(1)),
+        Call::RoutersUnnamed => of_routers(alloc, branches.routers(2)),
+        Call::PushTable | Call::PushFirstTable => pushed(alloc, rationed, branches),
         Call::Dump => of_octets(alloc, branches.dump(0)),
         Call::DumpNamed => of_octets(alloc, branches.dump(1)),
         Call::DumpUnnamed => of_octets(alloc, branches.dump(2)),

@@ -3,7 +3,7 @@
 use super::answers::{of_octets, table_text};
 use super::branch_calls::carry_out;
 use super::network::database_of;
-use branches::{Branches, Reply, reply_text};
+use branches::{Branches, Reply, reply_text, tables_head};
 use edit_script::parse;
 use memory_tests::{Growing, Seen, growths_of};
 use rationed::Rationed;
@@ -16,6 +16,7 @@ use table_report::push_compare;
 enum Call {
     Table,
     Compare,
+    TablesHead,
     ReplyDone,
     ReplyRefused,
     ReplyTable,
@@ -27,6 +28,7 @@ enum Call {
 const CALLS: &[Call] = &[
     Call::Table,
     Call::Compare,
+    Call::TablesHead,
     Call::ReplyDone,
     Call::ReplyRefused,
     Call::ReplyTable,
@@ -42,7 +44,7 @@ fn line_of(call: Call) -> &'static str {
         Call::Compare | Call::ReplyCompare => "compare 1.1.1.1",
         Call::ReplyDone => "redo 0",
         Call::ReplyRefused => "redo 1",
-        Call::ReplyTables => "tables",
+        Call::TablesHead | Call::ReplyTables => "tables",
         Call::ReplyInfo => "info",
     }
 }
@@ -74,6 +76,7 @@ fn text_of<'a>(
             push_compare(rationed, &mut text, *router, before, now)?;
             Ok(text.into_bytes())
         }
+        (Call::TablesHead, _) => Ok(tables_head(rationed, 0, 2)?.into_bytes()),
         _ => reply_text(rationed, 0, reply),
     }
 }
