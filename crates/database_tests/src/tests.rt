@@ -11,6 +11,7 @@ mod views;
 
 // Databases.
 mod bases;
+mod filters;
 mod noted;
 mod places;
 
@@ -18,6 +19,7 @@ mod places;
 mod lines;
 
 // Edits.
+mod changes;
 mod edited;
 mod growths;
 mod limits;

@@ -5,6 +5,7 @@ mod built;
 mod texts;
 
 // Graphs, trees and hops.
+mod cost_changes;
 mod graphs;
 mod hop_lists;
 mod trees;

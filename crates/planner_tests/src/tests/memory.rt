@@ -1,7 +1,6 @@
 //! Planners and their memory: growths that are counted, and what comes while growths are refused.
 
-use super::calls::{edit, redo, undo};
-use super::tables::planner_of;
+use super::calls::{Question, edit, on_dump, redo, undo};
 use edit_history::{EditFault, RedoFault, UndoFault};
 use edit_script::Edit;
 use lsa_codec::{Addr, AreaId, Lsa, Prefix, RouterId};
@@ -23,17 +22,12 @@ fn cost(metric: u16) -> Edit {
     }
 }
 
-/// A planner on a dump, and costs that are carried out.
-fn with_costs<A: Allocator + Copy>(
-    alloc: A,
-    dump: &[u8],
-    metrics: Range<u16>,
-) -> Result<Planner<A>, Fail> {
-    let mut planner = planner_of(alloc, dump)?;
+/// Carries costs out.
+fn put_costs(planner: &mut Planner<&Rationed>, metrics: Range<u16>) -> Result<(), Fail> {
     for metric in metrics {
-        edit(&mut planner, &cost(metric))?;
+        edit(planner, &cost(metric))?;
     }
-    Ok(planner)
+    Ok(())
 }
 
 /// The routers of the star.
@@ -87,11 +81,26 @@ fn is_kept(planner: &mut Planner<&Rationed>, rationed: &Rationed) -> Result<(boo
     Ok((again == 0, behind > 0))
 }
 
+/// Whether a shared table is kept, until an edit.
+#[derive(Drop)]
+struct Kept;
+
+impl Question for Kept {
+    type Found = (bool, bool);
+
+    fn find(
+        &self,
+        planner: &mut Planner<&Rationed>,
+        rationed: &Rationed,
+    ) -> Result<(bool, bool), Fail> {
+        is_kept(planner, rationed)
+    }
+}
+
 /// The same on the sample.
 fn is_kept_until_an_edit(alloc: Global) -> Result<(bool, bool), Fail> {
     let rationed = Rationed::new(alloc, u64::MAX);
-    let mut planner = planner_of(&rationed, SAMPLE)?;
-    is_kept(&mut planner, &rationed)
+    on_dump(&rationed, SAMPLE, &Kept)
 }
 
 /// The growths of two tables of 1.1.1.1, one after the other, and the trees that they calculate.
@@ -104,11 +113,27 @@ fn growths_twice(
     Ok((first, second, planner.runs()))
 }
 
+/// The growths of two tables, and the trees that they calculate.
+#[derive(Drop)]
+struct TwoTables;
+
+impl Question for TwoTables {
+    type Found = (u64, u64, u64);
+
+    fn find(
+        &self,
+        planner: &mut Planner<&Rationed>,
+        rationed: &Rationed,
+    ) -> Result<(u64, u64, u64), Fail> {
+        growths_twice(planner, rationed)
+    }
+}
+
 /// The same on the star.
 fn growths_of_two(alloc: Global) -> Result<(u64, u64, u64), Fail> {
+    let star = star(alloc)?;
     let rationed = Rationed::new(alloc, u64::MAX);
-    let mut planner = planner_of(&rationed, &star(alloc)?)?;
-    growths_twice(&mut planner, &rationed)
+    on_dump(&rationed, &star, &TwoTables)
 }
 
 #[test]
@@ -150,11 +175,27 @@ fn growths_behind_edits(
     Ok(([behind_cost, behind_undo, behind_drop], planner.runs()))
 }
 
+/// The growths of tables behind edits, and the trees that they calculate.
+#[derive(Drop)]
+struct TablesBehindEdits;
+
+impl Question for TablesBehindEdits {
+    type Found = ([u64; 3], u64);
+
+    fn find(
+        &self,
+        planner: &mut Planner<&Rationed>,
+        rationed: &Rationed,
+    ) -> Result<([u64; 3], u64), Fail> {
+        growths_behind_edits(planner, rationed)
+    }
+}
+
 /// The same on the star.
 fn growths_behind_edits_of_star(alloc: Global) -> Result<([u64; 3], u64), Fail> {
+    let star = star(alloc)?;
     let rationed = Rationed::new(alloc, u64::MAX);
-    let mut planner = planner_of(&rationed, &star(alloc)?)?;
-    growths_behind_edits(&mut planner, &rationed)
+    on_dump(&rationed, &star, &TablesBehindEdits)
 }
 
 #[test]
@@ -199,11 +240,26 @@ fn growths_of_five(
     Ok([first, behind_edit, behind_undo, another, again])
 }
 
+/// The growths of five tables at the beginning.
+#[derive(Drop)]
+struct FiveTables;
+
+impl Question for FiveTables {
+    type Found = [u64; 5];
+
+    fn find(
+        &self,
+        planner: &mut Planner<&Rationed>,
+        rationed: &Rationed,
+    ) -> Result<[u64; 5], Fail> {
+        growths_of_five(planner, rationed)
+    }
+}
+
 /// The same on the sample.
 fn growths_of_five_on_sample(alloc: Global) -> Result<[u64; 5], Fail> {
     let rationed = Rationed::new(alloc, u64::MAX);
-    let mut planner = planner_of(&rationed, SAMPLE)?;
-    growths_of_five(&mut planner, &rationed)
+    on_dump(&rationed, SAMPLE, &FiveTables)
 }
 
 #[test]
@@ -223,19 +279,47 @@ fn growths_of_base(planner: &mut Planner<&Rationed>, rationed: &Rationed) -> Res
 
 /// The growths of the second and the third table in the database of the beginning, after costs, and
 /// of a copy of that database. The third one is of the router of the first.
-fn growths_after_costs(alloc: Global, metrics: Range<u16>) -> Result<(u64, u64, u64), Fail> {
+fn growths_behind_costs(
+    planner: &mut Planner<&Rationed>,
+    rationed: &Rationed,
+    metrics: Range<u16>,
+) -> Result<(u64, u64, u64), Fail> {
+    put_costs(planner, metrics)?;
+    let _first = growths_at_the_beginning(planner, rationed, R1)?;
+    let second = growths_at_the_beginning(planner, rationed, R2)?;
+    let third = growths_at_the_beginning(planner, rationed, R1)?;
+    Ok((second, third, growths_of_base(planner, rationed)?))
+}
+
+/// The growths of tables at the beginning behind costs from 11 on.
+#[derive(Drop)]
+struct TablesBehindCosts {
+    /// The cost behind the last one.
+    end: u16,
+}
+
+impl Question for TablesBehindCosts {
+    type Found = (u64, u64, u64);
+
+    fn find(
+        &self,
+        planner: &mut Planner<&Rationed>,
+        rationed: &Rationed,
+    ) -> Result<(u64, u64, u64), Fail> {
+        growths_behind_costs(planner, rationed, 11..self.end)
+    }
+}
+
+/// The same on the sample.
+fn growths_after_costs(alloc: Global, end: u16) -> Result<(u64, u64, u64), Fail> {
     let rationed = Rationed::new(alloc, u64::MAX);
-    let mut planner = with_costs(&rationed, SAMPLE, metrics)?;
-    let _first = growths_at_the_beginning(&mut planner, &rationed, R1)?;
-    let second = growths_at_the_beginning(&mut planner, &rationed, R2)?;
-    let third = growths_at_the_beginning(&mut planner, &rationed, R1)?;
-    Ok((second, third, growths_of_base(&mut planner, &rationed)?))
+    on_dump(&rationed, SAMPLE, &TablesBehindCosts { end })
 }
 
 #[test]
 fn the_second_table_of_the_beginning_makes_a_copy(rt: HostRuntime) -> Result<(), Fail> {
-    let (second, third, base) = growths_after_costs(rt.alloc(), 11..11)?;
-    let behind_edits = growths_after_costs(rt.alloc(), 11..14)?;
+    let (second, third, base) = growths_after_costs(rt.alloc(), 11)?;
+    let behind_edits = growths_after_costs(rt.alloc(), 14)?;
     assert_eq!(rt; behind_edits, (second.saturating_add(base), third, base));
     Ok(())
 }
@@ -258,10 +342,22 @@ fn has_first(planner: &Planner<&Rationed>, octets: &[u8]) -> bool {
     lsas.next().is_some_and(|lsa| lsa.bytes() == octets)
 }
 
+/// Ten costs.
+#[derive(Drop)]
+struct TenCosts;
+
+impl Question for TenCosts {
+    type Found = ();
+
+    fn find(&self, planner: &mut Planner<&Rationed>, _rationed: &Rationed) -> Result<(), Fail> {
+        put_costs(planner, 11..21)
+    }
+}
+
 /// For how many growths a planner on the sample with ten costs asks.
 fn growths_of_costs(alloc: Global) -> Result<u64, Fail> {
     let counted = Rationed::new(alloc, u64::MAX);
-    let _planner = with_costs(&counted, SAMPLE, 11..21)?;
+    on_dump(&counted, SAMPLE, &TenCosts)?;
     Ok(u64::MAX.wrapping_sub(counted.left()))
 }
 
@@ -297,20 +393,34 @@ fn goes_back_at_once(planner: &mut Planner<&Rationed>) -> bool {
     undo(planner, 10) == Ok(()) && has_first(planner, LOADED)
 }
 
-/// Whether ten edits stay, go and come where no growth is left.
-fn stays_and_goes(planner: &mut Planner<&Rationed>, rationed: &Rationed) -> bool {
-    rationed.left() == 0
-        && stays(planner)
-        && goes_back(planner)
-        && goes_on(planner)
-        && goes_back_at_once(planner)
+/// Whether ten costs stay, go and come where no growth is left behind them.
+fn stays_and_goes(planner: &mut Planner<&Rationed>, rationed: &Rationed) -> Result<bool, Fail> {
+    put_costs(planner, 11..21)?;
+    Ok(
+        rationed.left() == 0
+            && stays(planner)
+            && goes_back(planner)
+            && goes_on(planner)
+            && goes_back_at_once(planner),
+    )
+}
+
+/// Whether ten costs stay, go and come.
+#[derive(Drop)]
+struct CostsThatStay;
+
+impl Question for CostsThatStay {
+    type Found = bool;
+
+    fn find(&self, planner: &mut Planner<&Rationed>, rationed: &Rationed) -> Result<bool, Fail> {
+        stays_and_goes(planner, rationed)
+    }
 }
 
 /// Whether ten costs do so with the growths that they take alone.
 fn takes_no_growth(alloc: Global) -> Result<bool, Fail> {
     let rationed = Rationed::new(alloc, growths_of_costs(alloc)?);
-    let mut planner = with_costs(&rationed, SAMPLE, 11..21)?;
-    Ok(stays_and_goes(&mut planner, &rationed))
+    on_dump(&rationed, SAMPLE, &CostsThatStay)
 }
 
 #[test]
@@ -344,11 +454,23 @@ fn growths_of_cost(planner: &mut Planner<&Rationed>, counted: &Rationed) -> Resu
     Ok(before.saturating_sub(counted.left()))
 }
 
+/// For how many growths a cost asks.
+#[derive(Drop)]
+struct OneCost;
+
+impl Question for OneCost {
+    type Found = u64;
+
+    fn find(&self, planner: &mut Planner<&Rationed>, rationed: &Rationed) -> Result<u64, Fail> {
+        growths_of_cost(planner, rationed)
+    }
+}
+
 /// The same on an area of 100 LSAs.
 fn growths_of_a_cost(alloc: Global) -> Result<u64, Fail> {
+    let dump = hundred_lsas(alloc)?;
     let counted = Rationed::new(alloc, u64::MAX);
-    let mut planner = planner_of(&counted, &hundred_lsas(alloc)?)?;
-    growths_of_cost(&mut planner, &counted)
+    on_dump(&counted, &dump, &OneCost)
 }
 
 #[test]

@@ -47,14 +47,23 @@ fn same_routes<A: Allocator + Copy, B: Allocator + Copy>(
             .all(|(one, other)| same_route(one, other))
 }
 
+/// Whether a table is that of a planner now.
+fn is_of_planner<A: Allocator + Copy>(
+    table: &Table<A>,
+    planner: &mut Planner,
+) -> Result<bool, Fail> {
+    let other = planner.table(table.router())?;
+    Ok(same_routes(table.routes().as_slice(), other.routes().as_slice()))
+}
+
 /// Whether a table is that of a fresh planner of a dump.
 fn is_of_dump<A: Allocator + Copy>(
     table: &Table<A>,
     alloc: Global,
     dump: &[u8],
 ) -> Result<bool, Fail> {
-    let fresh = planner_of(alloc, dump)?.table(table.router())?;
-    Ok(same_routes(table.routes().as_slice(), fresh.routes().as_slice()))
+    let database = Database::load(alloc, dump)?;
+    is_of_planner(table, &mut Planner::new(alloc, database))
 }
 
 /// Asks for a table, and tells whether it is refused. A table that is not that of a fresh planner
@@ -224,22 +233,45 @@ fn counts_the_trees_of_the_beginning(rt: HostRuntime) -> Result<(), Fail> {
     Ok(())
 }
 
+/// Whether the kept table of the beginning has the routes of another, and how many trees are
+/// calculated then.
+fn is_kept_table(planner: &mut Planner, other: &Table) -> Result<(bool, u64), Fail> {
+    let kept = planner.kept_base_table(RouterId(R1))?;
+    let is_same = same_routes(kept.routes().as_slice(), other.routes().as_slice());
+    Ok((is_same, planner.runs()))
+}
+
+/// The same of the table of the beginning by trees that are not kept.
+fn is_fresh_table(planner: &mut Planner, other: &Table) -> Result<(bool, u64), Fail> {
+    let fresh = planner.base_table(RouterId(R1))?;
+    let is_same = same_routes(fresh.routes().as_slice(), other.routes().as_slice());
+    Ok((is_same, planner.runs()))
+}
+
+/// How many trees are calculated behind an edit of the router's own area, after a kept table, and
+/// after one by trees that are not kept. Another table than the first is a failure.
+fn runs_behind_edit(
+    planner: &mut Planner,
+    alloc: Global,
+    first: &Table,
+) -> Result<(u64, u64), Fail> {
+    let _refused = is_refused(planner, alloc, "fail-router 1.1.1.1")?;
+    let (is_kept, second) = is_kept_table(planner, first)?;
+    let (is_fresh, third) = is_fresh_table(planner, first)?;
+    if !is_kept || !is_fresh {
+        return Err(Fail::from("another table"));
+    }
+    Ok((second, third))
+}
+
 /// How many trees are calculated after each of three tables of the beginning: after the first,
 /// after one that follows an edit of the router's own area, and after one by trees that are not
-/// kept. Another table than the first is a failure.
+/// kept.
 fn runs_of_three(planner: &mut Planner, alloc: Global) -> Result<(u64, u64, u64), Fail> {
     let before = planner.kept_base_table(RouterId(R1))?;
     let first = planner.runs();
-    let _refused = is_refused(planner, alloc, "fail-router 1.1.1.1")?;
-    let again = planner.kept_base_table(RouterId(R1))?;
-    let second = planner.runs();
-    let fresh = planner.base_table(RouterId(R1))?;
-    for table in [again.as_ref(), &fresh] {
-        if !same_routes(before.routes().as_slice(), table.routes().as_slice()) {
-            return Err(Fail::from("another table"));
-        }
-    }
-    Ok((first, second, planner.runs()))
+    let (second, third) = runs_behind_edit(planner, alloc, before.as_ref())?;
+    Ok((first, second, third))
 }
 
 /// The same on the sample.
@@ -254,12 +286,22 @@ fn keeps_the_trees_of_the_beginning(rt: HostRuntime) -> Result<(), Fail> {
     Ok(())
 }
 
-/// Whether a table of a router in the database of the beginning is that of a fresh planner of the
-/// sample, by trees that are kept and by others.
-fn is_of_beginning(planner: &mut Planner, alloc: Global, router: u32) -> Result<bool, Fail> {
+/// Whether a table of a router in the database of the beginning, by trees that are kept, is that of
+/// a fresh planner of the sample.
+fn is_kept_of_sample(planner: &mut Planner, alloc: Global, router: u32) -> Result<bool, Fail> {
     let kept = planner.kept_base_table(RouterId(router))?;
+    is_of_dump(kept.as_ref(), alloc, SAMPLE)
+}
+
+/// The same of a table by other trees.
+fn is_fresh_of_sample(planner: &mut Planner, alloc: Global, router: u32) -> Result<bool, Fail> {
     let fresh = planner.base_table(RouterId(router))?;
-    Ok(is_of_dump(kept.as_ref(), alloc, SAMPLE)? && is_of_dump(&fresh, alloc, SAMPLE)?)
+    is_of_dump(&fresh, alloc, SAMPLE)
+}
+
+/// Whether both are so.
+fn is_of_beginning(planner: &mut Planner, alloc: Global, router: u32) -> Result<bool, Fail> {
+    Ok(is_kept_of_sample(planner, alloc, router)? && is_fresh_of_sample(planner, alloc, router)?)
 }
 
 /// Whether the database of the beginning is still the sample: by tables of both routers, and by a
@@ -286,17 +328,26 @@ const OVER_A_COPY: &[&str] = &[
 ];
 
 /// The place of the first line that is refused, or behind which the beginning is another.
-fn first_other_beginning(alloc: Global, lines: &[&'static str]) -> Result<Option<usize>, Fail> {
-    let mut planner = planner_of(alloc, SAMPLE)?;
+fn first_other_beginning_of(
+    planner: &mut Planner,
+    alloc: Global,
+    lines: &[&'static str],
+) -> Result<Option<usize>, Fail> {
     let mut place: usize = 0;
     for line in lines {
-        let refused = is_refused(&mut planner, alloc, line)?;
-        if refused || !begins_at_the_sample(&mut planner, alloc)? {
+        let refused = is_refused(planner, alloc, line)?;
+        if refused || !begins_at_the_sample(planner, alloc)? {
             return Ok(Some(place));
         }
         place = place.wrapping_add(1);
     }
     Ok(None)
+}
+
+/// The same of the planner of the sample.
+fn first_other_beginning(alloc: Global, lines: &[&'static str]) -> Result<Option<usize>, Fail> {
+    let mut planner = planner_of(alloc, SAMPLE)?;
+    first_other_beginning_of(&mut planner, alloc, lines)
 }
 
 #[test]

@@ -1,7 +1,7 @@
 //! Octets that are no session.
 
 use super::octets::on_sample;
-use crate::tests::calls::opened;
+use crate::tests::calls::fault_of;
 use lsdb::{DumpFault, DumpFaultKind};
 use std::alloc::Global;
 use std::test::*;
@@ -48,7 +48,7 @@ const FAULTS: &[(&[u8], usize, DumpFaultKind)] = &[
 /// Why the sample with these octets behind it is no session.
 fn fault_behind(alloc: Global, history: &[u8]) -> Result<Option<DumpFault>, Fail> {
     let octets = on_sample(alloc, history)?;
-    Ok(opened(alloc, &octets).err())
+    Ok(fault_of(alloc, &octets))
 }
 
 #[test]
@@ -66,7 +66,7 @@ const OF_VERSION_3: &[u8] = b"OSWP\x03\0\0\0";
 
 #[test]
 fn tells_another_version(rt: HostRuntime) -> Result<(), Fail> {
-    let fault = opened(rt.alloc(), OF_VERSION_3).err();
+    let fault = fault_of(rt.alloc(), OF_VERSION_3);
     let version = DumpFault {
         offset: 4,
         kind: DumpFaultKind::BadVersion,

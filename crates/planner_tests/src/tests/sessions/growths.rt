@@ -1,7 +1,7 @@
 //! Growths that are refused, each in turn.
 
 use super::octets::{HISTORY, on_sample};
-use crate::tests::calls::{opened, saved};
+use crate::tests::calls::{Question, fault_of, on_session, saved};
 use lsdb::{DumpFault, DumpFaultKind};
 use rationed::Rationed;
 use recalculate::Planner;
@@ -25,10 +25,21 @@ fn growths_with(planner: &mut Planner<&Rationed>, counted: &Rationed) -> Result<
     })
 }
 
+/// What it takes to open a session, and to save it.
+#[derive(Drop)]
+struct Saving;
+
+impl Question for Saving {
+    type Found = Growths;
+
+    fn find(&self, planner: &mut Planner<&Rationed>, rationed: &Rationed) -> Result<Growths, Fail> {
+        growths_with(planner, rationed)
+    }
+}
+
 fn growths_of(alloc: Global, octets: &[u8]) -> Result<Growths, Fail> {
     let counted = Rationed::new(alloc, u64::MAX);
-    let mut planner = opened(&counted, octets)?;
-    growths_with(&mut planner, &counted)
+    on_session(&counted, octets, &Saving)
 }
 
 /// Whether the session is not opened with so many growths.
@@ -38,7 +49,7 @@ fn is_not_opened(alloc: Global, octets: &[u8], growths: u64) -> bool {
         offset: 0,
         kind: DumpFaultKind::OutOfMemory,
     };
-    opened(&rationed, octets).err() == Some(no_memory)
+    fault_of(&rationed, octets) == Some(no_memory)
 }
 
 /// Whether a session is not saved, and is then as it was.
@@ -46,11 +57,22 @@ fn stays_unsaved(planner: &mut Planner<&Rationed>) -> bool {
     saved(planner).is_err() && planner.done() == 1 && planner.undone() == 1
 }
 
+/// Whether a session is not saved, and is then as it was.
+#[derive(Drop)]
+struct RefusedSaving;
+
+impl Question for RefusedSaving {
+    type Found = bool;
+
+    fn find(&self, planner: &mut Planner<&Rationed>, _rationed: &Rationed) -> Result<bool, Fail> {
+        Ok(stays_unsaved(planner))
+    }
+}
+
 /// Whether the session is opened with so many growths, but not saved, and is then as it was.
 fn is_not_saved(alloc: Global, octets: &[u8], growths: u64) -> Result<bool, Fail> {
     let rationed = Rationed::new(alloc, growths);
-    let mut planner = opened(&rationed, octets)?;
-    Ok(stays_unsaved(&mut planner))
+    on_session(&rationed, octets, &RefusedSaving)
 }
 
 #[test]

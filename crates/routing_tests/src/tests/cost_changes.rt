@@ -1,0 +1,90 @@
+//! Changes of the cost of one interface, and graphs that take them.
+
+use super::built::sample_graph;
+use area_graph::{CostChange, Edge, Graph, Vertex};
+use lsa_codec::{Addr, Lsa, RouterId};
+use samples::{R1, R2};
+use std::alloc::Global;
+use std::test::*;
+
+/// The router-LSA of 1.1.1.1 in the sample: a link to 2.2.2.2 of cost 10.
+const COST_10: &[u8] = &[
+    0x00, 0x01, 0x02, 0x01, 1, 1, 1, 1, 1, 1, 1, 1, 0x80, 0, 0, 1, 0xd5, 0x5a, 0, 0x24, 0, 0, 0, 1,
+    2, 2, 2, 2, 0x0a, 0, 0, 1, 1, 0, 0, 10,
+];
+
+/// The same with a link of cost 20.
+const COST_20: &[u8] = &[
+    0x00, 0x01, 0x02, 0x01, 1, 1, 1, 1, 1, 1, 1, 1, 0x80, 0, 0, 1, 0x8a, 0x9b, 0, 0x24, 0, 0, 0, 1,
+    2, 2, 2, 2, 0x0a, 0, 0, 1, 1, 0, 0, 20,
+];
+
+/// The same, and the link leads to 3.3.3.3.
+const TO_ANOTHER: &[u8] = &[
+    0x00, 0x01, 0x02, 0x01, 1, 1, 1, 1, 1, 1, 1, 1, 0x80, 0, 0, 1, 0xac, 0x75, 0, 0x24, 0, 0, 0, 1,
+    3, 3, 3, 3, 0x0a, 0, 0, 1, 1, 0, 0, 20,
+];
+
+/// The change that makes one LSA another.
+fn change_of(alloc: Global, before: &[u8], after: &[u8]) -> Result<Option<CostChange>, Fail> {
+    let (before, _) = Lsa::decode(alloc, before)?;
+    let (after, _) = Lsa::decode(alloc, after)?;
+    Ok(CostChange::between(&before, &after))
+}
+
+/// What a change is of: the router, the vertex, the Link Data and the cost.
+type Parts = (RouterId, Vertex, Addr, u16);
+
+fn parts_of(change: CostChange) -> Parts {
+    (change.from, change.to, change.link_data, change.cost)
+}
+
+/// The change of the link of 1.1.1.1 to 2.2.2.2 that gives it a cost.
+fn to_cost(cost: u16) -> Parts {
+    let to = Vertex::Router(RouterId(R2));
+    (RouterId(R1), to, Addr(0x0a00_0001), cost)
+}
+
+#[test]
+fn tells_the_change_of_a_cost(rt: HostRuntime) -> Result<(), Fail> {
+    let raised = change_of(rt.alloc(), COST_10, COST_20)?;
+    assert_eq!(rt; raised.map(parts_of), Some(to_cost(20)));
+    let lowered = change_of(rt.alloc(), COST_20, COST_10)?;
+    assert_eq!(rt; lowered.map(parts_of), Some(to_cost(10)));
+    Ok(())
+}
+
+#[test]
+fn another_link_is_no_change_of_a_cost(rt: HostRuntime) -> Result<(), Fail> {
+    assert!(rt; change_of(rt.alloc(), COST_10, TO_ANOTHER)?.is_none());
+    assert!(rt; change_of(rt.alloc(), COST_10, COST_10)?.is_none());
+    Ok(())
+}
+
+/// The costs of the edges out of a vertex of a graph.
+fn costs_of(alloc: Global, graph: &Graph, index: usize) -> Result<Vec<u16>, Fail> {
+    if index >= graph.len() {
+        return Err(Fail::from("no vertex"));
+    }
+    Ok(graph.edges(index).iter().map(|edge: &Edge| edge.cost).collect(alloc)?)
+}
+
+#[test]
+fn a_graph_takes_the_change_of_a_cost(rt: HostRuntime) -> Result<(), Fail> {
+    let mut graph = sample_graph(rt.alloc())?;
+    let change = change_of(rt.alloc(), COST_10, COST_20)?.ok_or("a change")?;
+    assert!(rt; graph.change_cost(change));
+    assert_eq!(rt; costs_of(rt.alloc(), &graph, 0)?.as_slice(), [20].as_slice());
+    assert_eq!(rt; costs_of(rt.alloc(), &graph, 1)?.as_slice(), [10].as_slice());
+    Ok(())
+}
+
+#[test]
+fn a_graph_without_the_vertex_stays(rt: HostRuntime) -> Result<(), Fail> {
+    let mut graph = sample_graph(rt.alloc())?;
+    let change = change_of(rt.alloc(), COST_10, COST_20)?.ok_or("a change")?;
+    let to = Vertex::Network(Addr(0x0a05_0003));
+    assert!(rt; !graph.change_cost(CostChange { to, ..change }));
+    assert_eq!(rt; costs_of(rt.alloc(), &graph, 0)?.as_slice(), [10].as_slice());
+    Ok(())
+}
