@@ -34,7 +34,11 @@ const PLACES: &[(usize, bool)] = &[
 fn each_filter_has_the_networks_of_its_lsa(rt: HostRuntime) -> Result<(), Fail> {
     let database = Database::load(rt.alloc(), NETS)?;
     for (index, is_of) in PLACES {
-        assert_eq!(rt; may_have(&database, *index, NETWORK), Some(*is_of), "{index}");
+        assert_eq!(rt;
+            may_have(&database, *index, NETWORK),
+            Some(*is_of),
+            "{index}"
+        );
     }
     Ok(())
 }
