@@ -19,7 +19,7 @@ pub mod Bounds
 pub mod Sorted
 pub mod Made
 pub mod RouteRuns
-pub mod Searching
+pub mod SearchLemmas
 pub mod InUse
 pub mod Indexing
 pub mod Costs

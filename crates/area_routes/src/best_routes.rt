@@ -119,7 +119,8 @@ fn merge_last<A: Allocator + Copy>(
     Ok(())
 }
 
-/// Takes a further candidate for the prefix of a route, whose paths are of this class, into account.
+/// Takes a further candidate for the prefix of a route into account. The paths of the route are of
+/// this class.
 fn merge<A: Allocator + Copy>(
     alloc: A,
     route: &mut Route<A>,

@@ -14,7 +14,7 @@ use Rattle.lsa_codec.specs.Order.{prefix_cmp}
 use Rattle.lsa_codec.specs.Prefix.{Net}
 use Rattle.area_routes.specs.Routes.{AreSortedRoutes, has_route, nets}
 use Rattle.area_routes.specs.Values.{RouteValue}
-use Rattle.area_routes.proofs.Searching.{found_at, not_found}
+use Rattle.area_routes.proofs.SearchLemmas.{found_at, not_found}
 use Rattle.external_routes.specs.steps.Lookup.{is_ahead, is_behind}
 use Rattle.external_routes.proofs.Items.{item_found}
 use lib.Dec.{ltb}

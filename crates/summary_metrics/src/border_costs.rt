@@ -182,8 +182,8 @@ impl<A: Allocator + Copy> BorderCosts<A> {
         }
     }
 
-    /// The cost of an area border router, looked for first at a place, and where the second last was
-    /// found.
+    /// The cost of an area border router, looked for first at a place, and then where the second
+    /// last was found.
     fn look_up(&self, place: usize, router: RouterId) -> Option<u64>
         ensures { result ≡ lookup (eq_by_cmp router_cmp router) self.now }
     {

@@ -66,7 +66,8 @@ impl<A: Allocator + Copy> Sources<A> {
     }
 }
 
-/// What LSAs of the backbone tell, while they are gone through. Contracts see it as what it becomes.
+/// What LSAs of the backbone tell, while they are gone through. Contracts see it as what it is at
+/// the end.
 #[derive(Drop)]
 struct Draft<A: Allocator> {
     nets: BTreeMap<Prefix, Sources<A>, A>,

@@ -66,7 +66,13 @@ fn costs_of(alloc: Global, graph: &Graph, index: usize) -> Result<Vec<u16>, Fail
     if index >= graph.len() {
         return Err(Fail::from("no vertex"));
     }
-    Ok(graph.edges(index).iter().map(|edge: &Edge| edge.cost).collect(alloc)?)
+    Ok(
+        graph
+            .edges(index)
+            .iter()
+            .map(|edge: &Edge| edge.cost)
+            .collect(alloc)?,
+    )
 }
 
 #[test]
@@ -74,8 +80,14 @@ fn a_graph_takes_the_change_of_a_cost(rt: HostRuntime) -> Result<(), Fail> {
     let mut graph = sample_graph(rt.alloc())?;
     let change = change_of(rt.alloc(), COST_10, COST_20)?.ok_or("a change")?;
     assert!(rt; graph.change_cost(change));
-    assert_eq!(rt; costs_of(rt.alloc(), &graph, 0)?.as_slice(), [20].as_slice());
-    assert_eq!(rt; costs_of(rt.alloc(), &graph, 1)?.as_slice(), [10].as_slice());
+    assert_eq!(rt;
+        costs_of(rt.alloc(), &graph, 0)?.as_slice(),
+        [20].as_slice()
+    );
+    assert_eq!(rt;
+        costs_of(rt.alloc(), &graph, 1)?.as_slice(),
+        [10].as_slice()
+    );
     Ok(())
 }
 
@@ -85,6 +97,9 @@ fn a_graph_without_the_vertex_stays(rt: HostRuntime) -> Result<(), Fail> {
     let change = change_of(rt.alloc(), COST_10, COST_20)?.ok_or("a change")?;
     let to = Vertex::Network(Addr(0x0a05_0003));
     assert!(rt; !graph.change_cost(CostChange { to, ..change }));
-    assert_eq!(rt; costs_of(rt.alloc(), &graph, 0)?.as_slice(), [10].as_slice());
+    assert_eq!(rt;
+        costs_of(rt.alloc(), &graph, 0)?.as_slice(),
+        [10].as_slice()
+    );
     Ok(())
 }

@@ -75,7 +75,8 @@ fn save_costs(planner: &mut Planner<&Rationed>, octets: &[u8]) -> Result<(bool, 
     Ok((is_saved_as(planner, octets)?, state_of(planner)?))
 }
 
-/// Whether two costs, of which one is taken back, are saved as octets, and what the session is then.
+/// Whether two costs, of which one is taken back, are saved as octets, and what the session is
+/// then.
 #[derive(Drop)]
 struct CostsSaved<'a> {
     octets: &'a [u8],

@@ -2,7 +2,7 @@ use Rattle.std.proofs.Common.{rules, ap, ◌∙◌}
 use Rattle.std.proofs.lemmas.List.Sorted.{answers_always}
 use Rattle.area_routes.specs.Routes.{route_to}
 use Rattle.lsa_codec.proofs.OrderLemmas.{prefix_total}
-use Rattle.area_routes.proofs.Searching.{found_at, not_found}
+use Rattle.area_routes.proofs.SearchLemmas.{found_at, not_found}
 use Rattle.area_routes.proofs.route_list.Routes.route_to.Goals as goal
 
 pub returns-in-Ok : goal.returns-in-Ok
