@@ -139,7 +139,8 @@ impl<A: Allocator + Copy> Branches<A> {
     }
 
     /// Carries one command out in a branch, 0 to 7, as [`step`](Branches::step) does, and answers
-    /// the text of its reply, as [`reply_text`] makes it.
+    /// the text of its reply, as [`reply_text`] makes it. For `tables` it holds all tables; they are
+    /// had one by one from [`routers`](Branches::routers) and [`push_table`](Branches::push_table).
     ///
     /// # Errors
     ///
