@@ -139,8 +139,9 @@ impl<A: Allocator + Copy> Branches<A> {
     }
 
     /// Carries one command out in a branch, 0 to 7, as [`step`](Branches::step) does, and answers
-    /// the text of its reply, as [`reply_text`] makes it. For `tables` it holds all tables; they are
-    /// had one by one from [`routers`](Branches::routers) and [`push_table`](Branches::push_table).
+    /// the text of its reply, as [`reply_text`] makes it. For `tables` it holds all tables:
+    /// [`routers`](Branches::routers) and [`push_table`](Branches::push_table) give them one by
+    /// one.
     ///
     /// # Errors
     ///
