@@ -1,6 +1,6 @@
 //! Ways to prefixes within one area.
 
-ghost use Rattle.std.specs.Prelude.{◌≡◌, ◌<◌, ◌^◌, [], ◌∷◌, ◌++◌, IfOk, OnOk, IsPermutation, List, Some, map};
+ghost use Rattle.std.specs.Prelude.{◌≡◌, ◌<◌, ◌^◌, [], ◌∷◌, ◌++◌, IfOk, OnOk, IsPermutation, List, Some, map, true};
 ghost use Rattle.std.specs.List.{All};
 ghost use Rattle.std.specs.List.Sorted.{IsSorted};
 ghost use Rattle.lsa_codec.specs.declared.address.AreaId.{AreaId as AnyArea};
@@ -10,10 +10,11 @@ ghost use Rattle.area_routes.specs.Best.{ways_of};
 ghost use Rattle.area_routes.specs.Offers.{AreSortedOffers, offer_of};
 ghost use Rattle.area_routes.specs.Values.{OffersBelow, WayValue};
 ghost use Rattle.area_routes.specs.steps.Growing.{with_offers};
-ghost use Rattle.area_routes.specs.steps.Merge.{contender_cmp, first_hop, fresh, is_last, merge};
+ghost use Rattle.area_routes.specs.steps.Merge.{contender_cmp, first_hop, fresh, is_last, key_cmp, merge};
 ghost use Rattle.area_routes.specs.steps.OneArea.{IsIntraRoute, offered, way_by};
 
 use crate::areas::AreaList;
+use crate::best::FEW;
 use crate::rank::PathType;
 use crate::route::Route;
 use lsa_codec::{AreaId, Prefix};
@@ -153,8 +154,41 @@ impl<'a, A: Allocator + Copy> AreaWays<'a, A> {
         ensures below { IfOk result (λ routes. OffersBelow (2 ^ 33) (map offered routes.items)) }
         ensures sorted { IfOk result (λ routes. AreSortedOffers (map offered routes.items)) }
     {
-        routes_in_order(alloc, area, &sorted(self.ways)?)
+        routes_in_order(alloc, area, &in_order(self.ways)?)
     }
+}
+
+/// Whether ways stand in order of their prefixes.
+fn is_in_order(ways: &[AreaWay<'_>]) -> bool
+    ensures { result ≡ true → IsSorted (key_cmp prefix_cmp) ways.now }
+{
+    ways.is_sorted_by(|a, b| !b.net.cmp(&a.net).is_lt())
+}
+
+/// Whether ways that stand in order of their prefixes are few to each. Then their next hops are
+/// soon joined, in whichever order. Only each [`FEW`]th way is looked at.
+fn has_few_to_each(ways: &[AreaWay<'_>]) -> bool {
+    for place in 1..ways.len() / FEW {
+        let (first, last) = (&ways[(place - 1) * FEW], &ways[place * FEW]);
+        if first.net == last.net {
+            return false;
+        }
+    }
+    true
+}
+
+/// The ways in order of their prefixes. Those that stand so already are not sorted, unless many
+/// lead to the same prefix: then they are sorted by what they cost as well.
+fn in_order<'a, A: Allocator + Copy>(
+    ways: Vec<AreaWay<'a>, A>,
+) -> Result<Vec<AreaWay<'a>, A>, AllocError>
+    ensures same { IfOk result (λ ordered. IsPermutation ways.entry.items ordered.items) }
+    ensures order { IfOk result (λ ordered. IsSorted (key_cmp prefix_cmp) ordered.items) }
+{
+    if is_in_order(&ways) && has_few_to_each(&ways) {
+        return Ok(ways);
+    }
+    sorted(ways)
 }
 
 /// The ways in order of their prefixes, and those to one from the best on, equal ones by their
@@ -176,7 +210,7 @@ fn routes_in_order<A: Allocator + Copy>(
     area: AreaId,
     ways: &[AreaWay<'_>],
 ) -> Result<Vec<Route<A>, A>, AllocError>
-    requires { IsSorted (contender_cmp prefix_cmp) ways.now }
+    requires { IsSorted (key_cmp prefix_cmp) ways.now }
     ensures offers { IfOk result (λ routes.
         map offered routes.items ≡ map offer_of (ways_of prefix_cmp ways.now)) }
     ensures intra { IfOk result (λ routes. All (IsIntraRoute area) routes.items) }

@@ -20,7 +20,7 @@ use std::marker::Model;
 
 /// As many candidates for one destination are not sorted by what they cost, and three times as many
 /// are.
-const FEW: usize = 64;
+pub(crate) const FEW: usize = 64;
 
 /// Candidates, of which the best ways to each destination are made. Contracts see it as the list of
 /// the candidates that were added.

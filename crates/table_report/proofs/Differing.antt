@@ -1,15 +1,14 @@
 -- Prefixes in order, and the lines for them.
-use Rattle.std.proofs.Common.{◌≡◌, ℕ, zero, suc, ◌+◌, ◌<◌, cond, Bool, true, false, List, [], ◌∷◌, ◌++◌, length, map, take, get_or, Option, None, Some, refl, sym, ap, subst, ◌∙◌}
+use Rattle.std.proofs.Common.{◌≡◌, ℕ, zero, suc, cond, Bool, true, false, List, [], ◌∷◌, ◌++◌, Some, refl, sym, ap, subst, ◌∙◌}
 use Rattle.std.specs.Prelude.{◌&&◌, ◌||◌, ◌==◌}
-use Rattle.std.specs.List.{AllByRecursion, filter_map, cons_option, list_any, slice_get}
+use Rattle.std.specs.List.{AllByRecursion, list_any, slice_get}
 use Rattle.std.specs.List.Sorted.{IsStrictlySortedBy}
 use Rattle.std.specs.Cmp.{unsigned_ties}
 use Rattle.std.specs.Ordering.{eq_by_cmp, is_eq, nat_cmp, ordering_reverse, ordering_then}
 use Rattle.std.specs.declared.cmp.Ordering.{Ordering}
 use Rattle.std.specs.declared.cmp.Ordering.TheVariants.{Less, Equal, Greater}
 use Rattle.std.proofs.lemmas.Cmp.{tied_itself}
-use Rattle.std.proofs.lemmas.List.{append-nil, map-append, take_more}
-use Rattle.std.proofs.lemmas.List.Elements.{filter_map-append}
+use Rattle.std.proofs.lemmas.List.{map-append}
 use Rattle.lsa_codec.specs.Prefix.{Net}
 use Rattle.lsa_codec.specs.Order.{prefix_cmp}
 use Rattle.lsa_codec.proofs.OrderLemmas.{prefix_exact, prefix_total}
@@ -74,18 +73,3 @@ route_at (x ∷ xs) (suc i) r q up h is =
     let above : prefix_cmp x.net q ≡ Less = subst (λ (k : Net). prefix_cmp x.net k ≡ Less) is (net_at x.net xs i r up.0 h) in
     route_at xs i r q up.1 h is
     ∙ sym (ap (λ o. cond (is_eq o) (Some x) (route_to xs q)) (prefix_total.antisymm q x.net ∙ ap ordering_reverse above))
-
--- ---- a line, or none, for one more prefix
-
-module _ {X Y S : Type 0} (shown : S → Y) (f : X → Option Y) (xs : List X) (i : ℕ) (x : X) (lines : List S) (lt : i < length xs) (is : x ≡ get_or xs i x)
-    (so_far : map shown lines ≡ filter_map f (take i xs)) where
-  one_more : filter_map f (take i xs) ++ cons_option (f x) [] ≡ filter_map f (take (i + 1) xs)
-  one_more = sym (filter_map-append f (take i xs) (x ∷ [])) ∙ ap (λ y. filter_map f (take i xs ++ y ∷ [])) is ∙ ap (filter_map f) (sym (take_more xs i x lt))
-
-  pub no_line : None ≡ f x → map shown lines ≡ filter_map f (take (i + 1) xs)
-  no_line none = so_far ∙ sym (append-nil (filter_map f (take i xs))) ∙ ap (λ o. filter_map f (take i xs) ++ cons_option o []) none ∙ one_more
-
-  pub one_line : (new : List S) (line : S) → new ≡ lines ++ line ∷ [] → Some (shown line) ≡ f x → map shown new ≡ filter_map f (take (i + 1) xs)
-  one_line new line push some =
-      ap (map shown) push ∙ map-append shown lines (line ∷ []) ∙ ap (λ l. l ++ shown line ∷ []) so_far
-      ∙ ap (λ o. filter_map f (take i xs) ++ cons_option o []) some ∙ one_more

@@ -114,6 +114,14 @@ pushed_is word router lines n old before text begins count all =
     ∙ ap (λ l. old ++ l) (headed_by word (address_text router.0) (decimal n) (lines_text lines)
     ∙ ap (λ k. word ++ codes " " ++ address_text router.0 ++ codes " " ++ decimal k ++ codes "\n" ++ lines_text lines) count)
 
+-- the same, where the lines are added at once, if there is memory
+pub headed_pushed : {T E : Type 0} (result : Result T E) (word : List ℕ) (router : RouterId) (lines : List (List ℕ)) (n : ℕ) (old begun shown new : List ℕ)
+    → begun ≡ old ++ (word ++ 32 ∷ (address_text router.0 ++ 32 ∷ (decimal n ++ 10 ∷ []))) → n ≡ length lines → shown ≡ lines_text lines
+    → new ≡ cond (is_ok result) (begun ++ shown) begun → OnOk result (new ≡ old ++ headed word router lines)
+headed_pushed (Ok t) word router lines n old begun shown new begins count all is =
+    pushed_is word router lines n old begun new begins count (is ∙ ap (λ l. begun ++ l) all)
+headed_pushed (Err e) word router lines n old begun shown new begins count all is = tt
+
 pub table_text_is : (table : TableValue) → headed (codes "table") table.router (map line_of table.routes) ≡ table_text table
 unfolding table_text
 table_text_is table = refl

@@ -2,5 +2,6 @@ pub mod NoChange
 pub mod Ascii
 pub mod Octets
 pub mod Joined
+pub mod Added
 pub mod Differing
 pub mod Sameness

@@ -1,6 +1,6 @@
 //! The text of the differences of two routing tables.
 
-ghost use Rattle.std.specs.Prelude.{◌≡◌, ◌++◌, IfOk, IfSome, OnOk, Some, codes, map, option_map, true};
+ghost use Rattle.std.specs.Prelude.{◌≡◌, ◌++◌, IfOk, IfSome, OnOk, Some, codes, true};
 ghost use Rattle.std.specs.Option.{option_copied};
 ghost use Rattle.std.specs.String.{string_bytes};
 ghost use Rattle.area_graph.specs.Rising.{rising};
@@ -8,7 +8,8 @@ ghost use Rattle.lsa_codec.specs.Order.{prefix_cmp};
 ghost use Rattle.area_routes.specs.Routes.{AreSortedRoutes, nets, route_to};
 ghost use Rattle.routing_table.specs.Tables.{TableValue};
 ghost use Rattle.table_report.specs.Comparing.{change, changes, compare_text};
-ghost use Rattle.table_report.specs.Texts.{line_of, lines_text};
+ghost use Rattle.table_report.specs.Texts.{line_of};
+ghost use Rattle.table_report.specs.steps.Lines.{AddsLine, AreChangedLines};
 
 use crate::line::{push_line, push_rest};
 use area_routes::{Route, Routes};
@@ -44,26 +45,27 @@ fn all_nets<A: Allocator + Copy>(
     Ok(nets)
 }
 
-/// A mark, a space and the line of a route.
-fn marked<A: Allocator + Copy>(
-    alloc: A,
+/// Adds a mark, a space and the line of a route with its end.
+fn push_marked<A: Allocator + Copy>(
+    lines: &mut String<A>,
     mark: &str,
     route: &Route<A>,
-) -> Result<String<A>, AllocError>
-    ensures { IfOk result (λ text. string_bytes text ≡ mark.now ++ codes " " ++ line_of route.now) }
+) -> Result<(), AllocError>
+    ensures { OnOk result (string_bytes lines.new
+        ≡ string_bytes lines.old ++ (mark.now ++ codes " " ++ line_of route.now ++ codes "\n")) }
 {
-    let mut text = format!(in alloc; "{mark} ")?;
-    push_line(&mut text, route)?;
-    Ok(text)
+    lines.push_str(mark)?;
+    lines.push(' ')?;
+    push_line(lines, route)?;
+    lines.push('\n')
 }
 
-/// The line of a route, without its end.
-fn line_of<A: Allocator + Copy>(alloc: A, route: &Route<A>) -> Result<String<A>, AllocError>
-    ensures { IfOk result (λ text. string_bytes text ≡ line_of route.now) }
+/// Makes a text the line of a route, without its end.
+fn write_line<A: Allocator + Copy>(line: &mut String<A>, route: &Route<A>) -> Result<(), AllocError>
+    ensures { OnOk result (string_bytes line.new ≡ line_of route.now) }
 {
-    let mut text = String::new(alloc);
-    push_line(&mut text, route)?;
-    Ok(text)
+    line.clear();
+    push_line(line, route)
 }
 
 /// Whether hops are the same.
@@ -94,40 +96,60 @@ fn are_same<A: Allocator + Copy>(before: &Route<A>, now: &Route<A>) -> bool
         && are_same_hops(before.hops.as_slice(), now.hops.as_slice())
 }
 
-/// The line for a prefix that both tables have, unless their lines are equal.
-fn changed<A: Allocator + Copy>(
-    alloc: A,
-    before: &Route<A>,
-    now: &Route<A>,
-) -> Result<Option<String<A>>, AllocError>
-    ensures { IfOk result
-        (λ line. option_map string_bytes line ≡ change (Some before.now) (Some now.now)) }
-{
-    if are_same(before, now) || line_of(alloc, before)? == line_of(alloc, now)? {
-        return Ok(None);
-    }
-    let mut text = marked(alloc, "~", now)?;
-    text.push_str(" was ")?;
-    push_rest(&mut text, before)?;
-    Ok(Some(text))
+/// The lines of two routes that are compared. Their memory serves for all prefixes.
+#[derive(Drop)]
+struct Pair<A: Allocator> {
+    /// The line of the earlier route.
+    before: String<A>,
+    /// The line of the present route.
+    now: String<A>,
 }
 
-/// The line for a prefix by its routes, if there is one.
-fn change<A: Allocator + Copy>(
-    alloc: A,
+/// Adds the line for a prefix that both tables have, unless their lines are equal, and says whether
+/// it did.
+fn push_changed<A: Allocator + Copy>(
+    lines: &mut String<A>,
+    pair: &mut Pair<A>,
+    before: &Route<A>,
+    now: &Route<A>,
+) -> Result<bool, AllocError>
+    ensures { IfOk result (λ added. AddsLine (change (Some before.now) (Some now.now))
+        (string_bytes lines.old) added (string_bytes lines.new)) }
+{
+    if are_same(before, now) {
+        return Ok(false);
+    }
+    write_line(&mut pair.before, before)?;
+    write_line(&mut pair.now, now)?;
+    if pair.before == pair.now {
+        return Ok(false);
+    }
+    lines.push_str("~ ")?;
+    lines.push_str(&pair.now)?;
+    lines.push_str(" was ")?;
+    push_rest(lines, before)?;
+    lines.push('\n')?;
+    Ok(true)
+}
+
+/// Adds the line for a prefix by its routes, if there is one, and says whether there is.
+fn push_change<A: Allocator + Copy>(
+    lines: &mut String<A>,
+    pair: &mut Pair<A>,
     before: Option<&Route<A>>,
     now: Option<&Route<A>>,
-) -> Result<Option<String<A>>, AllocError>
-    ensures { IfOk result
-        (λ line. option_map string_bytes line ≡ change (option_copied before.entry)
-        (option_copied now.entry)) }
+) -> Result<bool, AllocError>
+    ensures { IfOk result (λ added.
+        AddsLine (change (option_copied before.entry) (option_copied now.entry))
+        (string_bytes lines.old) added (string_bytes lines.new)) }
 {
     match (before, now) {
-        (None, None) => Ok(None),
-        (None, Some(now)) => Ok(Some(marked(alloc, "+", now)?)),
-        (Some(before), None) => Ok(Some(marked(alloc, "-", before)?)),
-        (Some(before), Some(now)) => changed(alloc, before, now),
+        (None, None) => return Ok(false),
+        (None, Some(now)) => push_marked(lines, "+", now)?,
+        (Some(before), None) => push_marked(lines, "-", before)?,
+        (Some(before), Some(now)) => return push_changed(lines, pair, before, now),
     }
+    Ok(true)
 }
 
 /// The route to a prefix, which is looked for at a place first.
@@ -151,60 +173,77 @@ fn are_to_same_net<A: Allocator + Copy>(before: &Route<A>, now: &Route<A>) -> bo
     before.net == now.net
 }
 
-/// The lines for the prefixes at which two lists of routes differ, in order of prefix; `None` where
-/// they are not to the same prefixes.
+/// The lines for the prefixes at which two lists of routes differ, in order of prefix, each with
+/// its end.
+#[derive(Drop)]
+struct ChangedLines<A: Allocator> {
+    /// The lines.
+    lines: String<A>,
+    /// How many they are.
+    count: usize,
+}
+
+/// The lines for the prefixes at which two lists of routes differ; `None` where they are not to the
+/// same prefixes.
 fn changes_in_place<A: Allocator + Copy>(
     alloc: A,
+    pair: &mut Pair<A>,
     before: &[Route<A>],
     now: &[Route<A>],
-) -> Result<Option<Vec<String<A>, A>>, AllocError>
+) -> Result<Option<ChangedLines<A>>, AllocError>
     requires before { AreSortedRoutes before.now }
     requires now { AreSortedRoutes now.now }
-    ensures { IfOk result (λ found. IfSome found
-        (λ lines. map string_bytes lines.items ≡ changes before.now now.now)) }
+    ensures { IfOk result (λ found. IfSome found (AreChangedLines (changes before.now now.now))) }
 {
     if before.len() != now.len() {
         return Ok(None);
     }
-    let mut lines = Vec::new(alloc);
+    let mut lines = String::new(alloc);
+    let mut count = 0;
     for index in 0..before.len() {
         let route_before = &before[index];
         let route_now = &now[index];
         if !are_to_same_net(route_before, route_now) {
             return Ok(None);
         }
-        if let Some(line) = changed(alloc, route_before, route_now)? {
-            lines.push(line)?;
+        if push_changed(&mut lines, pair, route_before, route_now)? {
+            count += 1;
         }
     }
-    Ok(Some(lines))
+    Ok(Some(ChangedLines { lines, count }))
 }
 
-/// The lines for the prefixes at which two lists of routes differ, in order of prefix. Most often
-/// both have the same prefixes.
+/// The lines for the prefixes at which two lists of routes differ. Most often both have the same
+/// prefixes.
 fn changes<A: Allocator + Copy>(
     alloc: A,
     before: &Routes<A>,
     now: &Routes<A>,
-) -> Result<Vec<String<A>, A>, AllocError>
-    ensures { IfOk result (λ lines. map string_bytes lines.items ≡ changes before.now now.now) }
+) -> Result<ChangedLines<A>, AllocError>
+    ensures { IfOk result (AreChangedLines (changes before.now now.now)) }
 {
-    match changes_in_place(alloc, before.as_slice(), now.as_slice())? {
-        Some(lines) => Ok(lines),
-        None => changes_by_prefix(alloc, before, now),
+    let mut pair = Pair {
+        before: String::new(alloc),
+        now: String::new(alloc),
+    };
+    match changes_in_place(alloc, &mut pair, before.as_slice(), now.as_slice())? {
+        Some(changes) => Ok(changes),
+        None => changes_by_prefix(alloc, &mut pair, before, now),
     }
 }
 
 /// The same, prefix by prefix.
 fn changes_by_prefix<A: Allocator + Copy>(
     alloc: A,
+    pair: &mut Pair<A>,
     before: &Routes<A>,
     now: &Routes<A>,
-) -> Result<Vec<String<A>, A>, AllocError>
-    ensures { IfOk result (λ lines. map string_bytes lines.items ≡ changes before.now now.now) }
+) -> Result<ChangedLines<A>, AllocError>
+    ensures { IfOk result (AreChangedLines (changes before.now now.now)) }
 {
     let nets = all_nets(alloc, before, now)?;
-    let mut lines = Vec::new(alloc);
+    let mut lines = String::new(alloc);
+    let mut count = 0;
     // Where the next routes are likely to stand: a wrong place costs a search.
     let (mut place_before, mut place_now) = (0, 0);
     for net in nets.as_slice() {
@@ -212,26 +251,11 @@ fn changes_by_prefix<A: Allocator + Copy>(
         let route_now = route_near(now, place_now, *net);
         place_before = place_before.wrapping_add(usize::from(route_before.is_some()));
         place_now = place_now.wrapping_add(usize::from(route_now.is_some()));
-        if let Some(line) = change(alloc, route_before, route_now)? {
-            lines.push(line)?;
+        if push_change(&mut lines, pair, route_before, route_now)? {
+            count += 1;
         }
     }
-    Ok(lines)
-}
-
-/// Adds lines, each with its end.
-fn push_lines<A: Allocator + Copy>(
-    text: &mut String<A>,
-    lines: &[String<A>],
-) -> Result<(), AllocError>
-    ensures { OnOk result (string_bytes text.new
-        ≡ string_bytes text.old ++ lines_text (map string_bytes lines.now)) }
-{
-    for line in lines {
-        text.push_str(line)?;
-        text.push_str("\n")?;
-    }
-    Ok(())
+    Ok(ChangedLines { lines, count })
 }
 
 /// Adds the text of what a routing table of a router has otherwise than an earlier one:
@@ -252,10 +276,10 @@ pub fn push_compare<A: Allocator + Copy>(
     ensures { OnOk result (string_bytes text.new
         ≡ string_bytes text.old ++ compare_text router before.now now.now) }
 {
-    let lines = changes(alloc, before.routes(), now.routes())?;
-    let count = lines.len();
+    let changes = changes(alloc, before.routes(), now.routes())?;
+    let count = changes.count;
     write!(text, "compare {router} {count}\n")?;
-    push_lines(text, &lines)
+    text.push_str(&changes.lines)
 }
 
 /// Adds the text of a comparison of a router's table with itself: `compare 1.1.1.1 0`.

@@ -12,7 +12,7 @@ use Rattle.area_routes.specs.Values.{RouteValue, WayValue}
 use Rattle.area_routes.specs.steps.Merge.{is_last}
 use Rattle.area_routes.specs.steps.OneArea.{IsIntraRoute, way_by}
 use Rattle.area_routes.proofs.Routed.{offers_at_end, one_more_way}
-use Rattle.area_routes.proofs.Runs.{Runs, again, begun, by_keys, pushed, up_to}
+use Rattle.area_routes.proofs.Runs.{Runs, again, begun, pushed, up_to}
 use Rattle.area_routes.proofs.area_ways.routes_in_order.Goals as goal
 use Rattle.area_routes.proofs.area_ways.routes_in_order.Goals.{then-is_last+in_ok-merge_last, else-is_last+in_ok-route+in_ok-push}
 
@@ -28,7 +28,7 @@ loop-way-preserved g c =
     let i = c.loop-way.way-index in
     let x = c.way-item.result in
     let cs = take i all in
-    let up = up_to prefix_total all i x (by_keys prefix_total all c.requires) c.loop-way-test.true c.way-item.is in
+    let up = up_to prefix_total all i x c.requires c.loop-way-test.true c.way-item.is in
     let more : take (i + 1) all ≡ cs ++ x ∷ [] = take_more all i x c.loop-way-test.true ∙ ap (λ z. cs ++ z ∷ []) (sym c.way-item.is) in
     let rs = c.loop-way.routes.items in
     let ways : List (Net × WayValue) = map way_by rs in

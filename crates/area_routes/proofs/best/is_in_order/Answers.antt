@@ -1,4 +1,4 @@
-use Rattle.std.proofs.Common.{◌≡◌, Bool, true, false, length, subst, refl, rules}
+use Rattle.std.proofs.Common.{◌≡◌, Bool, true, false, refl, rules}
 use Rattle.std.specs.Prelude.{MatchBool, not}
 use Rattle.std.specs.Ordering.{is_lt}
 use Rattle.std.proofs.lemmas.List.Sorted.{answers_always}

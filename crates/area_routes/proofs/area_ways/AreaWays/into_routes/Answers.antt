@@ -17,10 +17,10 @@ use Rattle.area_routes.proofs.area_ways.AreaWays.into_routes.Goals as goal
 pub returns-clause-offers : goal.returns-clause-offers
 returns-clause-offers g c =
     let given : List (Candidate Net) = c.self.inside.ways.items in
-    let sorted : List (Candidate Net) = c.in_ok-sorted.field-0.items in
+    let sorted : List (Candidate Net) = c.in_ok-in_order.field-0.items in
     let same : ways_of prefix_cmp c.deref.result.now ≡ ways_of prefix_cmp c.args.self =
     ap (λ (cs : List (Candidate Net)). ways_of prefix_cmp cs) c.deref.ensures.value
-    ∙ reordered prefix_total prefix_exact given sorted c.in_ok-sorted.ensures.same
+    ∙ reordered prefix_total prefix_exact given sorted c.in_ok-in_order.ensures.same
     ∙ ap (λ (cs : List (Candidate Net)). ways_of prefix_cmp cs) c.self.view_is in
     IfOk-weaker c.routes_in_order.result _ _ (λ routes is. is ∙ ap (map offer_of) same) c.routes_in_order.ensures.offers
 
