@@ -14,7 +14,7 @@ ghost use Rattle.area_routes.specs.steps.Merge.{contender_cmp, first_hop, fresh,
 ghost use Rattle.area_routes.specs.steps.OneArea.{IsIntraRoute, offered, way_by};
 
 use crate::areas::AreaList;
-use crate::best::FEW;
+use crate::best::has_few_of_each;
 use crate::rank::PathType;
 use crate::route::Route;
 use lsa_codec::{AreaId, Prefix};
@@ -165,18 +165,6 @@ fn is_in_order(ways: &[AreaWay<'_>]) -> bool
     ways.is_sorted_by(|a, b| !b.net.cmp(&a.net).is_lt())
 }
 
-/// Whether ways that stand in order of their prefixes are few to each. Then their next hops are
-/// soon joined, in whichever order. Only each [`FEW`]th way is looked at.
-fn has_few_to_each(ways: &[AreaWay<'_>]) -> bool {
-    for place in 1..ways.len() / FEW {
-        let (first, last) = (&ways[(place - 1) * FEW], &ways[place * FEW]);
-        if first.net == last.net {
-            return false;
-        }
-    }
-    true
-}
-
 /// The ways in order of their prefixes. Those that stand so already are not sorted, unless many
 /// lead to the same prefix: then they are sorted by what they cost as well.
 fn in_order<'a, A: Allocator + Copy>(
@@ -185,7 +173,7 @@ fn in_order<'a, A: Allocator + Copy>(
     ensures same { IfOk result (λ ordered. IsPermutation ways.entry.items ordered.items) }
     ensures order { IfOk result (λ ordered. IsSorted (key_cmp prefix_cmp) ordered.items) }
 {
-    if is_in_order(&ways) && has_few_to_each(&ways) {
+    if is_in_order(&ways) && has_few_of_each(&ways, |a, b| a.net == b.net) {
         return Ok(ways);
     }
     sorted(ways)

@@ -20,7 +20,7 @@ use std::marker::Model;
 
 /// As many candidates for one destination are not sorted by what they cost, and three times as many
 /// are.
-pub(crate) const FEW: usize = 64;
+const FEW: usize = 64;
 
 /// Candidates, of which the best ways to each destination are made. Contracts see it as the list of
 /// the candidates that were added.
@@ -159,12 +159,14 @@ fn is_in_order<K: Ord + Copy + Drop>(candidates: &[Contender<'_, K>]) -> bool
     candidates.is_sorted_by(|a, b| !b.key.cmp(&a.key).is_lt())
 }
 
-/// Whether candidates that stand in order of their destinations are few for each. Then their next
-/// hops are soon joined, in whichever order. Only each [`FEW`]th candidate is looked at.
-fn has_few_of_each<K: Ord + Copy + Drop>(candidates: &[Contender<'_, K>]) -> bool {
+/// Whether candidates that stand in order of their destinations are few for each, where a function
+/// says whether two have the same. Then their next hops are soon joined, in whichever order. Only
+/// each [`FEW`]th candidate is looked at.
+pub(crate) fn has_few_of_each<C, F: Fn(&C, &C) -> bool>(candidates: &[C], are_alike: F) -> bool
+    requires { F.IsAlwaysCallable are_alike }
+{
     for place in 1..candidates.len() / FEW {
-        let (first, last) = (&candidates[(place - 1) * FEW], &candidates[place * FEW]);
-        if first.key == last.key {
+        if are_alike(&candidates[(place - 1) * FEW], &candidates[place * FEW]) {
             return false;
         }
     }
@@ -195,7 +197,7 @@ fn in_order<'a, K: Ord + Copy + Drop, A: Allocator + Copy>(
     ensures order { IfOk result (λ ordered. IsSorted (key_cmp K.cmp) ordered.items) }
 {
     let ordered = by_destination(candidates)?;
-    if has_few_of_each(&ordered) {
+    if has_few_of_each(&ordered, |a, b| a.key == b.key) {
         return Ok(ordered);
     }
     sorted(ordered)
