@@ -1,4 +1,4 @@
-//! Tests of planners: their tables and counts, and their memory; of saved sessions and their lines;
+//! Tests of planners: their tables and counts, and their memory; of lines of saved sessions;
 //! and of the readers and writers of whole texts.
 #![tactic(auto)]
 

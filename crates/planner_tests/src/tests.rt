@@ -1,5 +1,5 @@
-//! What planners do, on small networks, what sessions are saved and opened, and what is read and
-//! written.
+//! What planners do, on small networks, where sessions are opened and saved without memory, and
+//! what is read and written.
 
 // What is called.
 mod calls;

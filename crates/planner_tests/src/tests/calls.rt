@@ -1,14 +1,14 @@
 //! Calls of planners and of sessions, as the tests make them. These have no clauses, so that the
-//! prover reads those of a call once, and not in each test. Two of them own a planner and lend it:
-//! what to drop one costs the prover is paid there alone.
+//! prover reads those of a call once, and not in each test. One of them owns a planner and lends
+//! it: what to drop one costs the prover is paid there alone.
 
 use edit_history::{EditFault, RedoFault, UndoFault};
 use edit_script::Edit;
-use lsdb::{Database, DumpFault};
+use lsdb::DumpFault;
 use rationed::Rationed;
 use recalculate::Planner;
 use saved_sessions::{open, save};
-use std::alloc::{AllocError, Allocator};
+use std::alloc::{AllocError, Global};
 use std::test::Fail;
 
 /// What is asked of a planner whose growths are counted.
@@ -24,18 +24,7 @@ pub(super) trait Question {
     ) -> Result<Self::Found, Fail>;
 }
 
-/// What is found of the planner of a dump.
-pub(super) fn on_dump<Q: Question>(
-    rationed: &Rationed,
-    dump: &[u8],
-    question: &Q,
-) -> Result<Q::Found, Fail> {
-    let database = Database::load(rationed, dump)?;
-    let mut planner = Planner::new(rationed, database);
-    question.find(&mut planner, rationed)
-}
-
-/// What is found of a session that is opened.
+/// What is found of a session that is opened. A dump is a session without edits.
 pub(super) fn on_session<Q: Question>(
     rationed: &Rationed,
     octets: &[u8],
@@ -45,38 +34,39 @@ pub(super) fn on_session<Q: Question>(
     question.find(&mut planner, rationed)
 }
 
+/// The same with ample memory.
+pub(super) fn amply<Q: Question>(
+    alloc: Global,
+    octets: &[u8],
+    question: &Q,
+) -> Result<Q::Found, Fail> {
+    let rationed = Rationed::new(alloc, u64::MAX);
+    on_session(&rationed, octets, question)
+}
+
 /// Carries an edit out.
-pub(super) fn edit<A: Allocator + Copy>(
-    planner: &mut Planner<A>,
-    edit: &Edit,
-) -> Result<(), EditFault> {
+pub(super) fn edit(planner: &mut Planner<&Rationed>, edit: &Edit) -> Result<(), EditFault> {
     planner.edit(edit)
 }
 
 /// Takes edits back.
-pub(super) fn undo<A: Allocator + Copy>(
-    planner: &mut Planner<A>,
-    count: u32,
-) -> Result<(), UndoFault> {
+pub(super) fn undo(planner: &mut Planner<&Rationed>, count: u32) -> Result<(), UndoFault> {
     planner.undo(count)
 }
 
 /// Carries undone edits out again.
-pub(super) fn redo<A: Allocator + Copy>(
-    planner: &mut Planner<A>,
-    count: u32,
-) -> Result<(), RedoFault> {
+pub(super) fn redo(planner: &mut Planner<&Rationed>, count: u32) -> Result<(), RedoFault> {
     planner.redo(count)
 }
 
 /// Why octets are no session, if they are none.
-pub(super) fn fault_of<A: Allocator + Copy>(alloc: A, octets: &[u8]) -> Option<DumpFault> {
-    open(alloc, octets).err()
+pub(super) fn fault_of(rationed: &Rationed, octets: &[u8]) -> Option<DumpFault> {
+    open(rationed, octets).err()
 }
 
-/// Saves a session.
-pub(super) fn saved<A: Allocator + Copy>(
-    planner: &mut Planner<A>,
-) -> Result<Vec<u8, A>, AllocError> {
+/// The octets of a session that is saved.
+pub(super) fn saved<'a>(
+    planner: &mut Planner<&'a Rationed>,
+) -> Result<Vec<u8, &'a Rationed>, AllocError> {
     save(planner)
 }

@@ -1,6 +1,6 @@
 //! Planners and their memory: growths that are counted, and what comes while growths are refused.
 
-use super::calls::{Question, edit, on_dump, redo, undo};
+use super::calls::{Question, amply, edit, on_session, redo, undo};
 use edit_history::{EditFault, RedoFault, UndoFault};
 use edit_script::Edit;
 use lsa_codec::{Addr, AreaId, Lsa, Prefix, RouterId};
@@ -72,16 +72,7 @@ fn growths_of_shared(planner: &mut Planner<&Rationed>, rationed: &Rationed) -> R
     Ok(before.saturating_sub(rationed.left()))
 }
 
-/// Whether a table that is asked for again takes no growth, and takes some behind an edit.
-fn is_kept(planner: &mut Planner<&Rationed>, rationed: &Rationed) -> Result<(bool, bool), Fail> {
-    let _first = growths_of_shared(planner, rationed)?;
-    let again = growths_of_shared(planner, rationed)?;
-    edit(planner, &cost(7))?;
-    let behind = growths_of_shared(planner, rationed)?;
-    Ok((again == 0, behind > 0))
-}
-
-/// Whether a shared table is kept, until an edit.
+/// Whether a shared table that is asked for again takes no growth, and takes some behind an edit.
 #[derive(Drop)]
 struct Kept;
 
@@ -93,27 +84,21 @@ impl Question for Kept {
         planner: &mut Planner<&Rationed>,
         rationed: &Rationed,
     ) -> Result<(bool, bool), Fail> {
-        is_kept(planner, rationed)
+        let _first = growths_of_shared(planner, rationed)?;
+        let again = growths_of_shared(planner, rationed)?;
+        edit(planner, &cost(7))?;
+        let behind = growths_of_shared(planner, rationed)?;
+        Ok((again == 0, behind > 0))
     }
 }
 
-/// The same on the sample.
-fn is_kept_until_an_edit(alloc: Global) -> Result<(bool, bool), Fail> {
-    let rationed = Rationed::new(alloc, u64::MAX);
-    on_dump(&rationed, SAMPLE, &Kept)
+#[test]
+fn a_shared_table_is_kept_until_an_edit(rt: HostRuntime) -> Result<(), Fail> {
+    assert_eq!(rt; amply(rt.alloc(), SAMPLE, &Kept)?, (true, true));
+    Ok(())
 }
 
 /// The growths of two tables of 1.1.1.1, one after the other, and the trees that they calculate.
-fn growths_twice(
-    planner: &mut Planner<&Rationed>,
-    rationed: &Rationed,
-) -> Result<(u64, u64, u64), Fail> {
-    let first = growths_of_table(planner, rationed)?;
-    let second = growths_of_table(planner, rationed)?;
-    Ok((first, second, planner.runs()))
-}
-
-/// The growths of two tables, and the trees that they calculate.
 #[derive(Drop)]
 struct TwoTables;
 
@@ -125,20 +110,16 @@ impl Question for TwoTables {
         planner: &mut Planner<&Rationed>,
         rationed: &Rationed,
     ) -> Result<(u64, u64, u64), Fail> {
-        growths_twice(planner, rationed)
+        let first = growths_of_table(planner, rationed)?;
+        let second = growths_of_table(planner, rationed)?;
+        Ok((first, second, planner.runs()))
     }
-}
-
-/// The same on the star.
-fn growths_of_two(alloc: Global) -> Result<(u64, u64, u64), Fail> {
-    let star = star(alloc)?;
-    let rationed = Rationed::new(alloc, u64::MAX);
-    on_dump(&rationed, &star, &TwoTables)
 }
 
 #[test]
 fn a_second_table_asks_for_fewer_growths(rt: HostRuntime) -> Result<(), Fail> {
-    let (first, second, runs) = growths_of_two(rt.alloc())?;
+    let star = star(rt.alloc())?;
+    let (first, second, runs) = amply(rt.alloc(), &star, &TwoTables)?;
     assert!(rt; second < first, "{second} after {first}");
     assert_eq!(rt; runs, 1);
     Ok(())
@@ -163,19 +144,6 @@ const DROPPED: Edit = Edit::DropLink {
 
 /// The growths of a table behind a cost, behind the undo of it, and behind an edit that drops a
 /// link, and the trees that they and the first table calculate.
-fn growths_behind_edits(
-    planner: &mut Planner<&Rationed>,
-    rationed: &Rationed,
-) -> Result<([u64; 3], u64), Fail> {
-    let _first = growths_of_table(planner, rationed)?;
-    let behind_cost = growths_behind(planner, rationed, &cost(7))?;
-    undo(planner, 1)?;
-    let behind_undo = growths_of_table(planner, rationed)?;
-    let behind_drop = growths_behind(planner, rationed, &DROPPED)?;
-    Ok(([behind_cost, behind_undo, behind_drop], planner.runs()))
-}
-
-/// The growths of tables behind edits, and the trees that they calculate.
 #[derive(Drop)]
 struct TablesBehindEdits;
 
@@ -187,20 +155,19 @@ impl Question for TablesBehindEdits {
         planner: &mut Planner<&Rationed>,
         rationed: &Rationed,
     ) -> Result<([u64; 3], u64), Fail> {
-        growths_behind_edits(planner, rationed)
+        let _first = growths_of_table(planner, rationed)?;
+        let behind_cost = growths_behind(planner, rationed, &cost(7))?;
+        undo(planner, 1)?;
+        let behind_undo = growths_of_table(planner, rationed)?;
+        let behind_drop = growths_behind(planner, rationed, &DROPPED)?;
+        Ok(([behind_cost, behind_undo, behind_drop], planner.runs()))
     }
-}
-
-/// The same on the star.
-fn growths_behind_edits_of_star(alloc: Global) -> Result<([u64; 3], u64), Fail> {
-    let star = star(alloc)?;
-    let rationed = Rationed::new(alloc, u64::MAX);
-    on_dump(&rationed, &star, &TablesBehindEdits)
 }
 
 #[test]
 fn a_table_behind_a_cost_asks_for_no_graph(rt: HostRuntime) -> Result<(), Fail> {
-    let ([cost, undo, drop], runs) = growths_behind_edits_of_star(rt.alloc())?;
+    let star = star(rt.alloc())?;
+    let ([cost, undo, drop], runs) = amply(rt.alloc(), &star, &TablesBehindEdits)?;
     assert!(rt;
         cost < drop,
         "{cost} behind a cost, {drop} behind a dropped link"
@@ -226,21 +193,6 @@ fn growths_at_the_beginning(
 
 /// The growths of tables at the beginning: of 1.1.1.1, of it behind an edit and behind its undo, of
 /// 2.2.2.2, and of 1.1.1.1 again.
-fn growths_of_five(
-    planner: &mut Planner<&Rationed>,
-    rationed: &Rationed,
-) -> Result<[u64; 5], Fail> {
-    let first = growths_at_the_beginning(planner, rationed, R1)?;
-    edit(planner, &cost(7))?;
-    let behind_edit = growths_at_the_beginning(planner, rationed, R1)?;
-    undo(planner, 1)?;
-    let behind_undo = growths_at_the_beginning(planner, rationed, R1)?;
-    let another = growths_at_the_beginning(planner, rationed, R2)?;
-    let again = growths_at_the_beginning(planner, rationed, R1)?;
-    Ok([first, behind_edit, behind_undo, another, again])
-}
-
-/// The growths of five tables at the beginning.
 #[derive(Drop)]
 struct FiveTables;
 
@@ -252,19 +204,21 @@ impl Question for FiveTables {
         planner: &mut Planner<&Rationed>,
         rationed: &Rationed,
     ) -> Result<[u64; 5], Fail> {
-        growths_of_five(planner, rationed)
+        let first = growths_at_the_beginning(planner, rationed, R1)?;
+        edit(planner, &cost(7))?;
+        let behind_edit = growths_at_the_beginning(planner, rationed, R1)?;
+        undo(planner, 1)?;
+        let behind_undo = growths_at_the_beginning(planner, rationed, R1)?;
+        let another = growths_at_the_beginning(planner, rationed, R2)?;
+        let again = growths_at_the_beginning(planner, rationed, R1)?;
+        Ok([first, behind_edit, behind_undo, another, again])
     }
-}
-
-/// The same on the sample.
-fn growths_of_five_on_sample(alloc: Global) -> Result<[u64; 5], Fail> {
-    let rationed = Rationed::new(alloc, u64::MAX);
-    on_dump(&rationed, SAMPLE, &FiveTables)
 }
 
 #[test]
 fn a_second_table_of_the_beginning_asks_for_no_growth(rt: HostRuntime) -> Result<(), Fail> {
-    let [first, behind_edit, behind_undo, another, again] = growths_of_five_on_sample(rt.alloc())?;
+    let five = amply(rt.alloc(), SAMPLE, &FiveTables)?;
+    let [first, behind_edit, behind_undo, another, again] = five;
     assert!(rt; first > 0 && another > 0 && again > 0);
     assert_eq!(rt; (behind_edit, behind_undo), (0, 0));
     Ok(())
@@ -277,21 +231,8 @@ fn growths_of_base(planner: &mut Planner<&Rationed>, rationed: &Rationed) -> Res
     Ok(before.saturating_sub(rationed.left()))
 }
 
-/// The growths of the second and the third table in the database of the beginning, after costs, and
-/// of a copy of that database. The third one is of the router of the first.
-fn growths_behind_costs(
-    planner: &mut Planner<&Rationed>,
-    rationed: &Rationed,
-    metrics: Range<u16>,
-) -> Result<(u64, u64, u64), Fail> {
-    put_costs(planner, metrics)?;
-    let _first = growths_at_the_beginning(planner, rationed, R1)?;
-    let second = growths_at_the_beginning(planner, rationed, R2)?;
-    let third = growths_at_the_beginning(planner, rationed, R1)?;
-    Ok((second, third, growths_of_base(planner, rationed)?))
-}
-
-/// The growths of tables at the beginning behind costs from 11 on.
+/// The growths of the second and the third table in the database of the beginning, after costs from
+/// 11 on, and of a copy of that database. The third one is of the router of the first.
 #[derive(Drop)]
 struct TablesBehindCosts {
     /// The cost behind the last one.
@@ -306,20 +247,19 @@ impl Question for TablesBehindCosts {
         planner: &mut Planner<&Rationed>,
         rationed: &Rationed,
     ) -> Result<(u64, u64, u64), Fail> {
-        growths_behind_costs(planner, rationed, 11..self.end)
+        put_costs(planner, 11..self.end)?;
+        let _first = growths_at_the_beginning(planner, rationed, R1)?;
+        let second = growths_at_the_beginning(planner, rationed, R2)?;
+        let third = growths_at_the_beginning(planner, rationed, R1)?;
+        Ok((second, third, growths_of_base(planner, rationed)?))
     }
-}
-
-/// The same on the sample.
-fn growths_after_costs(alloc: Global, end: u16) -> Result<(u64, u64, u64), Fail> {
-    let rationed = Rationed::new(alloc, u64::MAX);
-    on_dump(&rationed, SAMPLE, &TablesBehindCosts { end })
 }
 
 #[test]
 fn the_second_table_of_the_beginning_makes_a_copy(rt: HostRuntime) -> Result<(), Fail> {
-    let (second, third, base) = growths_after_costs(rt.alloc(), 11)?;
-    let behind_edits = growths_after_costs(rt.alloc(), 14)?;
+    let alone = TablesBehindCosts { end: 11 };
+    let (second, third, base) = amply(rt.alloc(), SAMPLE, &alone)?;
+    let behind_edits = amply(rt.alloc(), SAMPLE, &TablesBehindCosts { end: 14 })?;
     assert_eq!(rt; behind_edits, (second.saturating_add(base), third, base));
     Ok(())
 }
@@ -357,7 +297,7 @@ impl Question for TenCosts {
 /// For how many growths a planner on the sample with ten costs asks.
 fn growths_of_costs(alloc: Global) -> Result<u64, Fail> {
     let counted = Rationed::new(alloc, u64::MAX);
-    on_dump(&counted, SAMPLE, &TenCosts)?;
+    on_session(&counted, SAMPLE, &TenCosts)?;
     Ok(u64::MAX.wrapping_sub(counted.left()))
 }
 
@@ -394,18 +334,6 @@ fn goes_back_at_once(planner: &mut Planner<&Rationed>) -> bool {
 }
 
 /// Whether ten costs stay, go and come where no growth is left behind them.
-fn stays_and_goes(planner: &mut Planner<&Rationed>, rationed: &Rationed) -> Result<bool, Fail> {
-    put_costs(planner, 11..21)?;
-    Ok(
-        rationed.left() == 0
-            && stays(planner)
-            && goes_back(planner)
-            && goes_on(planner)
-            && goes_back_at_once(planner),
-    )
-}
-
-/// Whether ten costs stay, go and come.
 #[derive(Drop)]
 struct CostsThatStay;
 
@@ -413,14 +341,21 @@ impl Question for CostsThatStay {
     type Found = bool;
 
     fn find(&self, planner: &mut Planner<&Rationed>, rationed: &Rationed) -> Result<bool, Fail> {
-        stays_and_goes(planner, rationed)
+        put_costs(planner, 11..21)?;
+        Ok(
+            rationed.left() == 0
+                && stays(planner)
+                && goes_back(planner)
+                && goes_on(planner)
+                && goes_back_at_once(planner),
+        )
     }
 }
 
 /// Whether ten costs do so with the growths that they take alone.
 fn takes_no_growth(alloc: Global) -> Result<bool, Fail> {
     let rationed = Rationed::new(alloc, growths_of_costs(alloc)?);
-    on_dump(&rationed, SAMPLE, &CostsThatStay)
+    on_session(&rationed, SAMPLE, &CostsThatStay)
 }
 
 #[test]
@@ -448,13 +383,6 @@ fn hundred_lsas(alloc: Global) -> Result<Vec<u8>, Fail> {
 }
 
 /// For how many growths a cost asks.
-fn growths_of_cost(planner: &mut Planner<&Rationed>, counted: &Rationed) -> Result<u64, Fail> {
-    let before = counted.left();
-    edit(planner, &cost(7))?;
-    Ok(before.saturating_sub(counted.left()))
-}
-
-/// For how many growths a cost asks.
 #[derive(Drop)]
 struct OneCost;
 
@@ -462,26 +390,16 @@ impl Question for OneCost {
     type Found = u64;
 
     fn find(&self, planner: &mut Planner<&Rationed>, rationed: &Rationed) -> Result<u64, Fail> {
-        growths_of_cost(planner, rationed)
+        let before = rationed.left();
+        edit(planner, &cost(7))?;
+        Ok(before.saturating_sub(rationed.left()))
     }
-}
-
-/// The same on an area of 100 LSAs.
-fn growths_of_a_cost(alloc: Global) -> Result<u64, Fail> {
-    let dump = hundred_lsas(alloc)?;
-    let counted = Rationed::new(alloc, u64::MAX);
-    on_dump(&counted, &dump, &OneCost)
 }
 
 #[test]
 fn a_cost_grows_little(rt: HostRuntime) -> Result<(), Fail> {
-    let growths = growths_of_a_cost(rt.alloc())?;
+    let dump = hundred_lsas(rt.alloc())?;
+    let growths = amply(rt.alloc(), &dump, &OneCost)?;
     assert!(rt; 0 < growths && growths <= 16, "{growths} growths");
-    Ok(())
-}
-
-#[test]
-fn a_shared_table_is_kept_until_an_edit(rt: HostRuntime) -> Result<(), Fail> {
-    assert_eq!(rt; is_kept_until_an_edit(rt.alloc())?, (true, true));
     Ok(())
 }

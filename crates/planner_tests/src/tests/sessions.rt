@@ -1,6 +1,4 @@
-//! Sessions that are saved and opened, octets that are refused, and refused growths.
+//! Sessions of which growths are refused.
 
-mod faults;
 mod growths;
 mod octets;
-mod saved;

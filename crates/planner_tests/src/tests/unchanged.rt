@@ -1,7 +1,9 @@
 //! Of which edits a planner knows without a calculation that they leave a table as it was.
 
-use super::tables::{is_refused, planner_of};
+use super::calls::{Question, amply};
+use super::tables::is_refused;
 use lsa_codec::RouterId;
+use rationed::Rationed;
 use recalculate::Planner;
 use samples::{LsaList, to_router, to_stub};
 use std::alloc::Global;
@@ -36,36 +38,29 @@ const EDITS: &[(u32, &str, bool)] = &[
 ];
 
 /// Whether an edit is known to leave a router's table.
-fn is_known_of(
-    planner: &mut Planner,
-    alloc: Global,
+#[derive(Drop)]
+struct KnownToLeave {
     router: RouterId,
-    line: &str,
-) -> Result<bool, Fail> {
-    let _table = planner.kept_base_table(router)?;
-    let _refused = is_refused(planner, alloc, line)?;
-    Ok(planner.is_unchanged(router))
+    line: &'static str,
 }
 
-/// The same of the planner of a dump.
-fn is_known(alloc: Global, dump: &[u8], router: RouterId, line: &str) -> Result<bool, Fail> {
-    let mut planner = planner_of(alloc, dump)?;
-    is_known_of(&mut planner, alloc, router, line)
-}
+impl Question for KnownToLeave {
+    type Found = bool;
 
-/// The first edit of which it is told otherwise, if there is one.
-fn first_told_otherwise(alloc: Global) -> Result<Option<&'static str>, Fail> {
-    let dump = triangle(alloc)?;
-    for (router, line, known) in EDITS {
-        if is_known(alloc, &dump, RouterId(*router), line)? != *known {
-            return Ok(Some(*line));
-        }
+    fn find(&self, planner: &mut Planner<&Rationed>, rationed: &Rationed) -> Result<bool, Fail> {
+        let _table = planner.kept_base_table(self.router)?;
+        let _refused = is_refused(planner, rationed, self.line)?;
+        Ok(planner.is_unchanged(self.router))
     }
-    Ok(None)
 }
 
 #[test]
 fn knows_tables_that_an_edit_leaves(rt: HostRuntime) -> Result<(), Fail> {
-    assert_eq!(rt; first_told_otherwise(rt.alloc())?, None);
+    let dump = triangle(rt.alloc())?;
+    for (router, line, known) in EDITS {
+        let (router, line) = (RouterId(*router), *line);
+        let question = KnownToLeave { router, line };
+        assert_eq!(rt; amply(rt.alloc(), &dump, &question)?, *known, "{line}");
+    }
     Ok(())
 }

@@ -1,7 +1,7 @@
 //! Growths that are refused, each in turn.
 
 use super::octets::{HISTORY, on_sample};
-use crate::tests::calls::{Question, fault_of, on_session, saved};
+use crate::tests::calls::{Question, amply, fault_of, on_session, saved};
 use lsdb::{DumpFault, DumpFaultKind};
 use rationed::Rationed;
 use recalculate::Planner;
@@ -16,16 +16,6 @@ struct Growths {
 }
 
 /// The growths of a session that was opened, and those of saving it.
-fn growths_with(planner: &mut Planner<&Rationed>, counted: &Rationed) -> Result<Growths, Fail> {
-    let opened = counted.left();
-    let _saved = saved(planner)?;
-    Ok(Growths {
-        opening: u64::MAX - opened,
-        saving: opened.saturating_sub(counted.left()),
-    })
-}
-
-/// What it takes to open a session, and to save it.
 #[derive(Drop)]
 struct Saving;
 
@@ -33,13 +23,13 @@ impl Question for Saving {
     type Found = Growths;
 
     fn find(&self, planner: &mut Planner<&Rationed>, rationed: &Rationed) -> Result<Growths, Fail> {
-        growths_with(planner, rationed)
+        let opened = rationed.left();
+        let _saved = saved(planner)?;
+        Ok(Growths {
+            opening: u64::MAX - opened,
+            saving: opened.saturating_sub(rationed.left()),
+        })
     }
-}
-
-fn growths_of(alloc: Global, octets: &[u8]) -> Result<Growths, Fail> {
-    let counted = Rationed::new(alloc, u64::MAX);
-    on_session(&counted, octets, &Saving)
 }
 
 /// Whether the session is not opened with so many growths.
@@ -53,11 +43,6 @@ fn is_not_opened(alloc: Global, octets: &[u8], growths: u64) -> bool {
 }
 
 /// Whether a session is not saved, and is then as it was.
-fn stays_unsaved(planner: &mut Planner<&Rationed>) -> bool {
-    saved(planner).is_err() && planner.done() == 1 && planner.undone() == 1
-}
-
-/// Whether a session is not saved, and is then as it was.
 #[derive(Drop)]
 struct RefusedSaving;
 
@@ -65,7 +50,7 @@ impl Question for RefusedSaving {
     type Found = bool;
 
     fn find(&self, planner: &mut Planner<&Rationed>, _rationed: &Rationed) -> Result<bool, Fail> {
-        Ok(stays_unsaved(planner))
+        Ok(saved(planner).is_err() && planner.done() == 1 && planner.undone() == 1)
     }
 }
 
@@ -78,7 +63,7 @@ fn is_not_saved(alloc: Global, octets: &[u8], growths: u64) -> Result<bool, Fail
 #[test]
 fn refused_growths_open_no_session(rt: HostRuntime) -> Result<(), Fail> {
     let octets = on_sample(rt.alloc(), HISTORY)?;
-    let growths = growths_of(rt.alloc(), &octets)?;
+    let growths = amply(rt.alloc(), &octets, &Saving)?;
     assert!(rt; 0 < growths.opening);
     for left in 0..growths.opening {
         assert!(rt; is_not_opened(rt.alloc(), &octets, left), "{left}");
@@ -89,7 +74,7 @@ fn refused_growths_open_no_session(rt: HostRuntime) -> Result<(), Fail> {
 #[test]
 fn refused_growths_leave_the_session(rt: HostRuntime) -> Result<(), Fail> {
     let octets = on_sample(rt.alloc(), HISTORY)?;
-    let growths = growths_of(rt.alloc(), &octets)?;
+    let growths = amply(rt.alloc(), &octets, &Saving)?;
     assert!(rt; 0 < growths.saving);
     for left in 0..growths.saving {
         let granted = growths.opening.saturating_add(left);
