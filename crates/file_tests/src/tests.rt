@@ -1,8 +1,16 @@
-//! Tests of what captures, walks and printed databases tell: real files, cut and damaged ones, and
-//! files made by hand, octet by octet.
+//! What captures, walks and printed databases tell, and what the files of a network make together.
 
+// Files: real ones, cut and damaged ones, and some made by hand, octet by octet.
 mod captures;
 mod documents;
 mod packets;
 mod printed;
 mod walks;
+
+// What they make together: instances of LSAs, databases of sightings, and dumps.
+mod databases;
+mod files;
+mod instances;
+
+// Lists beside databases.
+mod lists;

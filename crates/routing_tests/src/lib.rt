@@ -1,4 +1,5 @@
-//! Tests of graphs, trees, hops and routes, over small networks that are worked out by hand.
+//! Tests of graphs, trees, hops and routes, over small networks that are worked out by hand, and of
+//! graphs, trees and hops where memory is refused.
 #![tactic(auto)]
 
 #[cfg(test)]

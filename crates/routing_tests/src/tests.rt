@@ -16,3 +16,6 @@ mod best_ways;
 
 // Which entry of an AS boundary router counts.
 mod preferred;
+
+// Graphs, trees and hops where memory is refused.
+mod memory;

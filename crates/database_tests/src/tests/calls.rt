@@ -5,6 +5,7 @@ use edit_script::{Edit, print};
 use lsa_codec::{Addr, Lsa, LsaFault, MakeFault, Prefix, RouterId};
 use lsdb::{Database, DumpFault, DumpFaultKind};
 use rationed::Rationed;
+use refused_growths::{Answer, Growing, Seen, growths_of};
 use std::alloc::{AllocError, Global};
 use std::test::*;
 
@@ -87,10 +88,8 @@ fn lend(rationed: &Rationed) -> Result<Lent<'_>, Fail> {
     })
 }
 
-/// An answer's octets. `None` stands for want of memory.
-type Octets = Option<Vec<u8>>;
-
-fn octets(alloc: Global, octets: &[u8]) -> Result<Octets, Fail> {
+/// The answer that is octets.
+fn octets(alloc: Global, octets: &[u8]) -> Result<Answer, Fail> {
     Ok(Some(Vec::from_slice(alloc, octets)?))
 }
 
@@ -130,7 +129,7 @@ fn of_summary<'a>(
 }
 
 /// The octets of an LSA that was made.
-fn made(alloc: Global, lsa: Result<Lsa<&Rationed>, MakeFault>) -> Result<Octets, Fail> {
+fn made(alloc: Global, lsa: Result<Lsa<&Rationed>, MakeFault>) -> Result<Answer, Fail> {
     match lsa {
         Ok(lsa) => octets(alloc, lsa.bytes()),
         Err(MakeFault::OutOfMemory) => Ok(None),
@@ -139,7 +138,7 @@ fn made(alloc: Global, lsa: Result<Lsa<&Rationed>, MakeFault>) -> Result<Octets,
 }
 
 /// The octets of an LSA that was read or copied.
-fn read(alloc: Global, lsa: Result<Lsa<&Rationed>, LsaFault>) -> Result<Octets, Fail> {
+fn read(alloc: Global, lsa: Result<Lsa<&Rationed>, LsaFault>) -> Result<Answer, Fail> {
     match lsa {
         Ok(lsa) => octets(alloc, lsa.bytes()),
         Err(LsaFault::OutOfMemory) => Ok(None),
@@ -152,7 +151,7 @@ fn loaded(
     alloc: Global,
     rationed: &Rationed,
     database: Result<Database<&Rationed>, DumpFault>,
-) -> Result<Octets, Fail> {
+) -> Result<Answer, Fail> {
     rationed.leave(u64::MAX);
     match database {
         Ok(database) => octets(alloc, &database.dump()?),
@@ -162,7 +161,7 @@ fn loaded(
 }
 
 /// The octets of a text.
-fn text(alloc: Global, text: Result<Vec<u8, &Rationed>, AllocError>) -> Result<Octets, Fail> {
+fn text(alloc: Global, text: Result<Vec<u8, &Rationed>, AllocError>) -> Result<Answer, Fail> {
     match text {
         Ok(text) => octets(alloc, &text),
         Err(AllocError) => Ok(None),
@@ -175,7 +174,7 @@ fn answer<'a>(
     rationed: &'a Rationed,
     lent: &Lent<'a>,
     call: Call,
-) -> Result<Octets, Fail> {
+) -> Result<Answer, Fail> {
     let database = &lent.database;
     match call {
         Call::Decode => read(alloc, Lsa::decode(rationed, SUMMARY).map(|found| found.0)),
@@ -211,49 +210,32 @@ const NO_MEMORY: DumpFault = DumpFault {
     kind: DumpFaultKind::OutOfMemory,
 };
 
-/// What a call answers with so many growths.
-fn answer_with(
+/// What is seen of a call with so many growths, and then with ample memory.
+fn seen_on<'a>(
     alloc: Global,
-    rationed: &Rationed,
+    rationed: &'a Rationed,
+    lent: &Lent<'a>,
     call: Call,
     growths: u64,
-) -> Result<(Octets, Octets), Fail> {
-    rationed.leave(u64::MAX);
-    let lent = lend(rationed)?;
+) -> Result<Seen, Fail> {
     rationed.leave(growths);
-    let first = answer(alloc, rationed, &lent, call)?;
+    let first = answer(alloc, rationed, lent, call)?;
     rationed.leave(u64::MAX);
-    Ok((first, answer(alloc, rationed, &lent, call)?))
+    let then = answer(alloc, rationed, lent, call)?;
+    Ok(Seen::of_answers(alloc, first, then))
 }
 
-/// More growths than any of the calls asks for.
-const MANY: u64 = 1_000;
-
-/// For how many growths a call asks. With fewer it answers want of memory, and the same call then
-/// answers as with ample memory.
-fn growths_of(alloc: Global, call: Call) -> Result<u64, Fail> {
-    let rationed = Rationed::new(alloc, u64::MAX);
-    let (ample, _) = answer_with(alloc, &rationed, call, u64::MAX)?;
-    for growths in 0..MANY {
-        let (first, then) = answer_with(alloc, &rationed, call, growths)?;
-        if then != ample {
-            return Err("another answer after a refusal")?;
-        }
-        if first.is_some() {
-            return if first == ample {
-                Ok(growths)
-            } else {
-                Err("another answer")?
-            };
-        }
+impl Growing for Call {
+    fn seen(&self, alloc: Global, rationed: &Rationed, growths: u64) -> Result<Seen, Fail> {
+        let lent = lend(rationed)?;
+        seen_on(alloc, rationed, &lent, *self, growths)
     }
-    Err("an answer")?
 }
 
 #[test]
 fn each_growth_of_a_call_refused(rt: HostRuntime) -> Result<(), Fail> {
     for call in CALLS {
-        let growths = growths_of(rt.alloc(), *call)?;
+        let growths = growths_of(rt.alloc(), call)?;
         assert!(rt; 0 < growths, "{call:?}");
     }
     Ok(())

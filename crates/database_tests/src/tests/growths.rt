@@ -7,7 +7,7 @@ use edit_script::Edit;
 use edited_databases::filled::area_of;
 use lsdb::{Database, SlotFault};
 use rationed::Rationed;
-use std::alloc::Global;
+use std::alloc::{Allocator, Global};
 use std::test::*;
 
 /// More growths than anything here asks for.
@@ -45,18 +45,29 @@ pub(super) fn is_refused_with(
     Ok(refusal == Some(fault) && is_after(alloc, &database, &[])?)
 }
 
-/// Whether an edit of `NETS` is refused for want of memory with so many growths, changes nothing,
+/// Whether an edit of a line is refused for want of memory with so many growths, changes nothing,
 /// and is then carried out with ample memory.
-fn is_refused_and_then_done(alloc: Global, growths: u64, line: &str) -> Result<bool, Fail> {
+fn is_refused_and_then_done<A: Allocator + Copy>(
+    alloc: Global,
+    rationed: &Rationed,
+    database: &mut Database<A>,
+    growths: u64,
+    line: &str,
+) -> Result<bool, Fail> {
     let edit = edit_of(line)?;
+    rationed.leave(growths);
+    let refusal = apply(database, &edit).err();
+    rationed.leave(u64::MAX);
+    let stays = refusal == Some(EditFault::OutOfMemory) && is_after(alloc, database, &[])?;
+    let _record = apply(database, &edit)?;
+    Ok(stays && is_after(alloc, database, &[line])?)
+}
+
+/// The same of an edit of `NETS`.
+fn goes_on_with(alloc: Global, growths: u64, line: &str) -> Result<bool, Fail> {
     let rationed = Rationed::new(alloc, u64::MAX);
     let mut database = Database::load(&rationed, NETS)?;
-    rationed.leave(growths);
-    let refusal = apply(&mut database, &edit).err();
-    rationed.leave(u64::MAX);
-    let stays = refusal == Some(EditFault::OutOfMemory) && is_after(alloc, &database, &[])?;
-    let _record = apply(&mut database, &edit)?;
-    Ok(stays && is_after(alloc, &database, &[line])?)
+    is_refused_and_then_done(alloc, &rationed, &mut database, growths, line)
 }
 
 /// Whether an edit asks for few growths, and the refusal of each in turn leaves the database as it
@@ -64,7 +75,7 @@ fn is_refused_and_then_done(alloc: Global, growths: u64, line: &str) -> Result<b
 fn refuses_growths(alloc: Global, line: &str) -> Result<bool, Fail> {
     let growths = growths_of(alloc, NETS, &edit_of(line)?)?;
     for left in 0..growths.editing {
-        if !is_refused_and_then_done(alloc, left, line)? {
+        if !goes_on_with(alloc, left, line)? {
             return Ok(false);
         }
     }
@@ -80,22 +91,40 @@ fn refused_growths_change_nothing(rt: HostRuntime) -> Result<(), Fail> {
     Ok(())
 }
 
-/// How many growths it takes to open a place at the end of the backbone of a dump. With fewer none
-/// is opened, and the same call then opens it.
+/// Whether a place is opened at the end of the backbone with so many growths. Where none is, the
+/// database stays that of its dump, and the same call then opens it with ample memory.
+fn is_opened<A: Allocator + Copy>(
+    rationed: &Rationed,
+    database: &mut Database<A>,
+    dump: &[u8],
+    growths: u64,
+) -> Result<bool, Fail> {
+    rationed.leave(growths);
+    let refusal = database.open_slot(BACKBONE).err();
+    rationed.leave(u64::MAX);
+    if database.dump()?.as_slice() != dump {
+        return Err("the database has changed")?;
+    }
+    if refusal != Some(SlotFault::OutOfMemory) {
+        return Ok(true);
+    }
+    let _slot = database.open_slot(BACKBONE)?;
+    Ok(false)
+}
+
+/// The same of the database of the dump.
+fn is_opened_with(alloc: Global, dump: &[u8], growths: u64) -> Result<bool, Fail> {
+    let rationed = Rationed::new(alloc, u64::MAX);
+    let mut database = Database::load(&rationed, dump)?;
+    is_opened(&rationed, &mut database, dump, growths)
+}
+
+/// How many growths it takes to open a place at the end of the backbone of a dump.
 fn growths_of_opening(alloc: Global, dump: &[u8]) -> Result<u64, Fail> {
     for growths in 0..MANY {
-        let rationed = Rationed::new(alloc, u64::MAX);
-        let mut database = Database::load(&rationed, dump)?;
-        rationed.leave(growths);
-        let refusal = database.open_slot(BACKBONE).err();
-        rationed.leave(u64::MAX);
-        if database.dump()?.as_slice() != dump {
-            return Err("the database has changed")?;
-        }
-        if refusal != Some(SlotFault::OutOfMemory) {
+        if is_opened_with(alloc, dump, growths)? {
             return Ok(growths);
         }
-        let _slot = database.open_slot(BACKBONE)?;
     }
     Err("a place")?
 }

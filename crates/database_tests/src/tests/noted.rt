@@ -1,8 +1,11 @@
 //! The places that are noted of a router and a prefix: once a dump is loaded, after edits, after
 //! they are taken back while each growth is refused, and in a copy.
 
+ghost use Rattle.edit_history.specs.Journal.{Links};
+
 use super::edited::{apply_and_push, back, edited};
 use super::nets::{NETS, edit_of};
+use edit_history::History;
 use lsa_codec::{Addr, Prefix, RouterId};
 use lsdb::Database;
 use rationed::Rationed;
@@ -66,19 +69,56 @@ const EDITED: &[Row] = &[
     (2, 0x0a09, "3 "),
 ];
 
+/// Whether they are so in a copy of the database.
+fn are_noted_in_copy<A: Allocator + Copy>(
+    alloc: Global,
+    database: &Database<A>,
+) -> Result<bool, Fail> {
+    are_noted(alloc, &database.clone_of()?, EDITED)
+}
+
+/// Carries the edit of a line out.
+fn carry_out<A: Allocator + Copy>(
+    database: &mut Database<A>,
+    history: &mut History<A>,
+    line: &str,
+) -> Result<(), Fail>
+    requires { Links database.old history.old.lists }
+    ensures { Links database.new history.new.lists }
+{
+    let edit = edit_of(line)?;
+    Ok(apply_and_push(database, history, &edit)?)
+}
+
+/// Whether the places are noted when the database is loaded, behind the two edits, in a copy, and
+/// when both are taken back where no growth is left.
+fn are_noted_behind_edits<A: Allocator + Copy>(
+    alloc: Global,
+    rationed: &Rationed,
+    database: &mut Database<A>,
+    history: &mut History<A>,
+) -> Result<[bool; 4], Fail>
+    requires { Links database.old history.old.lists }
+{
+    let loaded = are_noted(alloc, database, LOADED)?;
+    carry_out(
+        database,
+        history,
+        "add-external 2.2.2.2 10.9.0.0/16 2 20 0.0.0.0 0",
+    )?;
+    carry_out(database, history, "drop-external 2.2.2.2 10.92.0.0/16")?;
+    let edited = are_noted(alloc, database, EDITED)?;
+    let copied = are_noted_in_copy(alloc, database)?;
+    rationed.leave(0);
+    back(database, history, 2)?;
+    Ok([loaded, edited, copied, are_noted(alloc, database, EDITED)?])
+}
+
 #[test]
 fn notes_the_places_of_a_prefix(rt: HostRuntime) -> Result<(), Fail> {
     let rationed = Rationed::new(rt.alloc(), u64::MAX);
     let (mut database, mut history) = edited(&rationed, NETS, &[])?;
-    assert!(rt; are_noted(rt.alloc(), &database, LOADED)?);
-    let added = edit_of("add-external 2.2.2.2 10.9.0.0/16 2 20 0.0.0.0 0")?;
-    apply_and_push(&mut database, &mut history, &added)?;
-    let dropped = edit_of("drop-external 2.2.2.2 10.92.0.0/16")?;
-    apply_and_push(&mut database, &mut history, &dropped)?;
-    assert!(rt; are_noted(rt.alloc(), &database, EDITED)?);
-    assert!(rt; are_noted(rt.alloc(), &database.clone_of()?, EDITED)?);
-    rationed.leave(0);
-    back(&mut database, &mut history, 2)?;
-    assert!(rt; are_noted(rt.alloc(), &database, EDITED)?);
+    let noted = are_noted_behind_edits(rt.alloc(), &rationed, &mut database, &mut history)?;
+    assert_eq!(rt; noted, [true; 4]);
     Ok(())
 }

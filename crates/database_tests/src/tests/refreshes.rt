@@ -68,17 +68,27 @@ fn a_refresh_rewrites_three_metrics_and_then_none(rt: HostRuntime) -> Result<(),
     Ok(())
 }
 
-/// Whether a refresh of `STALE` is refused for want of memory with this many growths, changes
-/// nothing, and is then carried out with ample memory.
-fn is_refused_with(alloc: Global, growths: u64) -> Result<bool, Fail> {
+/// Whether a refresh is refused for want of memory with this many growths, changes nothing, and is
+/// then carried out with ample memory.
+fn is_refused_and_then_done<A: Allocator + Copy>(
+    alloc: Global,
+    rationed: &Rationed,
+    database: &mut Database<A>,
+    growths: u64,
+) -> Result<bool, Fail> {
     let refresh = edit_of("refresh")?;
+    rationed.leave(growths);
+    let refusal = apply(database, &refresh).err();
+    rationed.leave(u64::MAX);
+    let stays = refusal == Some(EditFault::OutOfMemory) && is_loaded(alloc, database)?;
+    Ok(stays && apply(database, &refresh)?.len() == 3)
+}
+
+/// The same of `STALE`.
+fn is_refused_with(alloc: Global, growths: u64) -> Result<bool, Fail> {
     let rationed = Rationed::new(alloc, u64::MAX);
     let mut database = Database::load(&rationed, STALE)?;
-    rationed.leave(growths);
-    let refusal = apply(&mut database, &refresh).err();
-    rationed.leave(u64::MAX);
-    let stays = refusal == Some(EditFault::OutOfMemory) && is_loaded(alloc, &database)?;
-    Ok(stays && apply(&mut database, &refresh)?.len() == 3)
+    is_refused_and_then_done(alloc, &rationed, &mut database, growths)
 }
 
 #[test]

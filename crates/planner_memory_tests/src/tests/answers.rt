@@ -3,8 +3,8 @@
 use super::network::ROUTER;
 use lsa_codec::RouterId;
 use lsdb::Database;
-use memory_tests::Answer;
 use rationed::Rationed;
+use refused_growths::Answer;
 use routing_table::{Table, TableFault, table_of};
 use spf::Meter;
 use std::alloc::{AllocError, Global};

@@ -4,8 +4,8 @@ use super::answers::{of_octets, of_routers};
 use super::network::{ROUTER, database_of};
 use branches::{Branches, reply_text};
 use edit_script::{Command, parse};
-use memory_tests::{Answer, Growing, Seen, growths_of};
 use rationed::Rationed;
+use refused_growths::{Answer, Growing, Seen, growths_of};
 use std::alloc::{AllocError, Global};
 use std::test::*;
 

@@ -4,8 +4,8 @@
 use edit_script::Edit;
 use lsa_codec::{AreaId, RouterId};
 use lsdb::Database;
-use memory_tests::NETWORK;
 use rationed::Rationed;
+use refused_growths::NETWORK;
 use samples::{LsaList, R1, R2, dump_of};
 use std::alloc::Global;
 use std::test::*;

@@ -4,6 +4,9 @@ ghost use Rattle.lsa_codec.specs.declared.address.RouterId.{RouterId as AnyRoute
 ghost use Rattle.lsdb.specs.declared.section.Section.TheVariants.{Area};
 ghost use Rattle.lsdb.specs.Lists.{lsas_of};
 ghost use Rattle.lsdb.specs.Places.{lists_of};
+ghost use Rattle.area_graph.specs.Graphs.{IsGraphOf};
+ghost use Rattle.area_graph.specs.declared.vertex.Vertex.TheVariants.{Router};
+ghost use Rattle.spf.specs.Distances.{IsTreeOf};
 ghost use Rattle.area_routes.specs.AreaResults.{AreOf};
 
 use super::answers::{of_routers, of_table_of};
@@ -15,9 +18,9 @@ use area_routes::{
 use external_routes::{ExternalLsas, externals};
 use lsa_codec::AreaId;
 use lsdb::Database;
-use memory_tests::{Answer, Growing, Seen, growths_of};
 use next_hops::Hops;
 use rationed::Rationed;
+use refused_growths::{Answer, Growing, Seen, growths_of};
 use routing_table::{results_of, routers};
 use spf::{Meter, Tree};
 use std::alloc::{AllocError, Global};
@@ -139,7 +142,39 @@ fn area_on<'a>(
     Ok((first, of_area(alloc, then)?))
 }
 
-/// The same of area 0.0.0.0, whose graph, tree and hops are made for it.
+/// The same by a graph and a tree of the area, of which the hops are made for it.
+fn area_by_tree<'a>(
+    alloc: Global,
+    rationed: &'a Rationed,
+    database: &Database<&'a Rationed>,
+    area: AreaId,
+    graph: &Graph<&'a Rationed>,
+    tree: &Tree<&'a Rationed>,
+    growths: u64,
+) -> Result<(Answer, Answer), Fail>
+    requires graph { IsGraphOf (lsas_of (Area area) (lists_of database.now)) graph.now }
+    requires tree { (root : AnyRouter) × IsTreeOf graph.now (Router root) tree.now }
+{
+    let hops = Hops::build(rationed, graph, tree)?;
+    area_on(alloc, rationed, database, area, graph, tree, &hops, growths)
+}
+
+/// The same by a graph of the area, of which the tree is made for it.
+fn area_by_graph<'a>(
+    alloc: Global,
+    rationed: &'a Rationed,
+    database: &Database<&'a Rationed>,
+    area: AreaId,
+    graph: &Graph<&'a Rationed>,
+    growths: u64,
+) -> Result<(Answer, Answer), Fail>
+    requires { IsGraphOf (lsas_of (Area area) (lists_of database.now)) graph.now }
+{
+    let tree = Tree::build(rationed, graph, ROUTER, &mut Meter::new())?;
+    area_by_tree(alloc, rationed, database, area, graph, &tree, growths)
+}
+
+/// The same of area 0.0.0.0, whose graph is made for it too.
 fn area_with<'a>(
     alloc: Global,
     rationed: &'a Rationed,
@@ -148,11 +183,7 @@ fn area_with<'a>(
 ) -> Result<(Answer, Answer), Fail> {
     let area = AreaId(0);
     let graph = Graph::build(rationed, database, area)?;
-    let tree = Tree::build(rationed, &graph, ROUTER, &mut Meter::new())?;
-    let hops = Hops::build(rationed, &graph, &tree)?;
-    area_on(
-        alloc, rationed, database, area, &graph, &tree, &hops, growths,
-    )
+    area_by_graph(alloc, rationed, database, area, &graph, growths)
 }
 
 /// What the calls are lent.

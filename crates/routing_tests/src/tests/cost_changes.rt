@@ -25,10 +25,14 @@ const TO_ANOTHER: &[u8] = &[
     3, 3, 3, 3, 0x0a, 0, 0, 1, 1, 0, 0, 20,
 ];
 
+/// The LSA of octets.
+fn decoded(alloc: Global, octets: &[u8]) -> Result<Lsa, Fail> {
+    Ok(Lsa::decode(alloc, octets)?.0)
+}
+
 /// The change that makes one LSA another.
 fn change_of(alloc: Global, before: &[u8], after: &[u8]) -> Result<Option<CostChange>, Fail> {
-    let (before, _) = Lsa::decode(alloc, before)?;
-    let (after, _) = Lsa::decode(alloc, after)?;
+    let (before, after) = (decoded(alloc, before)?, decoded(alloc, after)?);
     Ok(CostChange::between(&before, &after))
 }
 
@@ -75,31 +79,46 @@ fn costs_of(alloc: Global, graph: &Graph, index: usize) -> Result<Vec<u16>, Fail
     )
 }
 
+/// Whether a graph takes a change, and the costs of the edges out of its first two vertices then.
+fn costs_behind(
+    alloc: Global,
+    graph: &mut Graph,
+    change: CostChange,
+) -> Result<(bool, Vec<u16>), Fail> {
+    let is_taken = graph.change_cost(change);
+    let mut costs = costs_of(alloc, graph, 0)?;
+    costs.extend_from_slice(&costs_of(alloc, graph, 1)?)?;
+    Ok((is_taken, costs))
+}
+
+/// The same of the graph of the sample.
+fn costs_of_sample(alloc: Global, change: CostChange) -> Result<(bool, Vec<u16>), Fail> {
+    let mut graph = sample_graph(alloc)?;
+    costs_behind(alloc, &mut graph, change)
+}
+
+/// The change of a cost from 10 to 20.
+fn raised(alloc: Global) -> Result<CostChange, Fail> {
+    Ok(change_of(alloc, COST_10, COST_20)?.ok_or("a change")?)
+}
+
 #[test]
 fn a_graph_takes_the_change_of_a_cost(rt: HostRuntime) -> Result<(), Fail> {
-    let mut graph = sample_graph(rt.alloc())?;
-    let change = change_of(rt.alloc(), COST_10, COST_20)?.ok_or("a change")?;
-    assert!(rt; graph.change_cost(change));
-    assert_eq!(rt;
-        costs_of(rt.alloc(), &graph, 0)?.as_slice(),
-        [20].as_slice()
-    );
-    assert_eq!(rt;
-        costs_of(rt.alloc(), &graph, 1)?.as_slice(),
-        [10].as_slice()
-    );
+    let (is_taken, costs) = costs_of_sample(rt.alloc(), raised(rt.alloc())?)?;
+    assert!(rt; is_taken);
+    assert_eq!(rt; costs.as_slice(), [20, 10].as_slice());
     Ok(())
 }
 
 #[test]
 fn a_graph_without_the_vertex_stays(rt: HostRuntime) -> Result<(), Fail> {
-    let mut graph = sample_graph(rt.alloc())?;
-    let change = change_of(rt.alloc(), COST_10, COST_20)?.ok_or("a change")?;
     let to = Vertex::Network(Addr(0x0a05_0003));
-    assert!(rt; !graph.change_cost(CostChange { to, ..change }));
-    assert_eq!(rt;
-        costs_of(rt.alloc(), &graph, 0)?.as_slice(),
-        [10].as_slice()
-    );
+    let change = CostChange {
+        to,
+        ..raised(rt.alloc())?
+    };
+    let (is_taken, costs) = costs_of_sample(rt.alloc(), change)?;
+    assert!(rt; !is_taken);
+    assert_eq!(rt; costs.as_slice(), [10, 10].as_slice());
     Ok(())
 }

@@ -1,8 +1,8 @@
 //! Calls that answer something new: each of their growths refused in turn.
 
 use super::layers;
-use crate::{Growing, Seen, growths_of};
 use rationed::Rationed;
+use refused_growths::{Growing, Seen, growths_of};
 use std::alloc::Global;
 use std::test::*;
 

@@ -3,8 +3,9 @@
 
 ghost use Rattle.std.specs.Prelude.{◌≡◌, length};
 
+use crate::tests::texts::hops_text as list_text;
 use area_graph::{Edge, Graph};
-use next_hops::{Hop, Hops};
+use next_hops::Hops;
 use rationed::Rationed;
 use spf::Tree;
 use std::alloc::Global;
@@ -53,14 +54,6 @@ pub(super) fn tree_text(alloc: Global, tree: &Tree<&Rationed>) -> Result<String,
     Ok(text)
 }
 
-/// Adds hops.
-fn push_hops(text: &mut String, hops: &[Hop]) -> Result<(), Fail> {
-    for hop in hops {
-        write!(text, " {hop}")?;
-    }
-    Ok(())
-}
-
 /// The hops of each vertex of a graph.
 pub(super) fn hops_text(
     alloc: Global,
@@ -72,7 +65,7 @@ pub(super) fn hops_text(
     let mut text = String::new(alloc);
     for index in 0..graph.len() {
         write!(text, "{index}")?;
-        push_hops(&mut text, hops.of(index))?;
+        text.push_str(&list_text(alloc, hops.of(index))?)?;
     }
     Ok(text)
 }

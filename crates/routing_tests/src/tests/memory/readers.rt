@@ -2,13 +2,15 @@
 
 ghost use Rattle.std.specs.Prelude.{◌≤◌};
 
-use super::network::{database_of, graph_of};
-use super::texts::{graph_text, hops_text, tree_text};
+use super::layers::of_hops;
+use super::network::database_of;
+use super::texts::{graph_text, tree_text};
+use crate::tests::built::graph_of;
 use area_graph::{Graph, Vertex};
 use lsa_codec::{Addr, AreaId, Lsa, Prefix, RouterId, is_mask, len_of_mask, mask_of_len};
 use lsdb::{Database, Section};
-use next_hops::Hops;
 use rationed::Rationed;
+use refused_growths::NETWORK;
 use samples::{R1, R2};
 use spf::{Meter, Tree};
 use std::alloc::Global;
@@ -171,28 +173,73 @@ fn push_networks(text: &mut String, graph: &Graph<&Rationed>) -> Result<(), Fail
     Ok(())
 }
 
-/// What a graph has, which vertices are networks, and the numbers of two.
-fn read_graph(alloc: Global, rationed: &Rationed, growths: u64) -> Result<String, Fail> {
-    let graph = graph_of(rationed, &database_of(rationed)?)?;
-    rationed.leave(growths);
-    let mut text = graph_text(alloc, &graph)?;
-    push_networks(&mut text, &graph)?;
-    let known = graph.index_of(Vertex::Router(RouterId(R2)));
-    let absent = graph.index_of(Vertex::Router(RouterId(0)));
-    write!(text, " {known:?} {absent:?}")?;
+/// Adds the number of a router in a graph, if it has one.
+fn push_number(text: &mut String, graph: &Graph<&Rationed>, router: u32) -> Result<(), Fail> {
+    let number = graph.index_of(Vertex::Router(RouterId(router)));
+    write!(text, " {number:?}")?;
+    Ok(())
+}
+
+/// What a graph has, which vertices are networks, and the numbers of two routers.
+fn numbered_text(alloc: Global, graph: &Graph<&Rationed>) -> Result<String, Fail> {
+    let mut text = graph_text(alloc, graph)?;
+    push_networks(&mut text, graph)?;
+    push_number(&mut text, graph, R2)?;
+    push_number(&mut text, graph, 0)?;
     Ok(text)
 }
 
-/// What a tree has, and its hops.
-fn read_tree(alloc: Global, rationed: &Rationed, call: Call, growths: u64) -> Result<String, Fail> {
-    let graph = graph_of(rationed, &database_of(rationed)?)?;
-    let tree = Tree::build(rationed, &graph, RouterId(R1), &mut Meter::new())?;
-    let hops = Hops::build(rationed, &graph, &tree)?;
+/// The tree of a graph is read while so many growths are left.
+fn read_tree<'a>(
+    alloc: Global,
+    rationed: &'a Rationed,
+    graph: &Graph<&'a Rationed>,
+    growths: u64,
+) -> Result<String, Fail> {
+    let tree = Tree::build(rationed, graph, RouterId(R1), &mut Meter::new())?;
     rationed.leave(growths);
+    tree_text(alloc, &tree)
+}
+
+/// The hops of that tree are read while so many growths are left.
+fn read_hops<'a>(
+    alloc: Global,
+    rationed: &'a Rationed,
+    graph: &Graph<&'a Rationed>,
+    growths: u64,
+) -> Result<String, Fail> {
+    let tree = Tree::build(rationed, graph, RouterId(R1), &mut Meter::new())?;
+    let text = of_hops(alloc, rationed, graph, &tree, growths)?;
+    Ok(text.ok_or("hops")?)
+}
+
+/// A graph is read, or what is made of it, while so many growths are left.
+fn read_on_graph<'a>(
+    alloc: Global,
+    rationed: &'a Rationed,
+    graph: &Graph<&'a Rationed>,
+    call: Call,
+    growths: u64,
+) -> Result<String, Fail> {
     match call {
-        Call::Tree => tree_text(alloc, &tree),
-        _ => hops_text(alloc, &graph, &hops),
+        Call::Tree => read_tree(alloc, rationed, graph, growths),
+        Call::Hops => read_hops(alloc, rationed, graph, growths),
+        _ => {
+            rationed.leave(growths);
+            numbered_text(alloc, graph)
+        }
     }
+}
+
+/// The same of the graph of the network.
+fn read_graph(
+    alloc: Global,
+    rationed: &Rationed,
+    call: Call,
+    growths: u64,
+) -> Result<String, Fail> {
+    let graph = graph_of(rationed, NETWORK)?;
+    read_on_graph(alloc, rationed, &graph, call, growths)
 }
 
 /// What is told of a length, and of numbers by its mask.
@@ -222,8 +269,7 @@ fn read_masks(alloc: Global, rationed: &Rationed, growths: u64) -> Result<String
 fn read(alloc: Global, rationed: &Rationed, call: Call, growths: u64) -> Result<String, Fail> {
     match call {
         Call::Database | Call::Lsas => read_database(alloc, rationed, call, growths),
-        Call::Graph => read_graph(alloc, rationed, growths),
-        Call::Tree | Call::Hops => read_tree(alloc, rationed, call, growths),
+        Call::Graph | Call::Tree | Call::Hops => read_graph(alloc, rationed, call, growths),
         Call::Masks => read_masks(alloc, rationed, growths),
     }
 }
