@@ -98,7 +98,7 @@ fn are_same<A: Allocator + Copy>(before: &Route<A>, now: &Route<A>) -> bool
 
 /// The lines of two routes that are compared. Their memory serves for all prefixes.
 #[derive(Drop)]
-struct Pair<A: Allocator> {
+struct ComparedLines<A: Allocator> {
     /// The line of the earlier route.
     before: String<A>,
     /// The line of the present route.
@@ -109,7 +109,7 @@ struct Pair<A: Allocator> {
 /// it did.
 fn push_changed<A: Allocator + Copy>(
     lines: &mut String<A>,
-    pair: &mut Pair<A>,
+    compared: &mut ComparedLines<A>,
     before: &Route<A>,
     now: &Route<A>,
 ) -> Result<bool, AllocError>
@@ -119,13 +119,13 @@ fn push_changed<A: Allocator + Copy>(
     if are_same(before, now) {
         return Ok(false);
     }
-    write_line(&mut pair.before, before)?;
-    write_line(&mut pair.now, now)?;
-    if pair.before == pair.now {
+    write_line(&mut compared.before, before)?;
+    write_line(&mut compared.now, now)?;
+    if compared.before == compared.now {
         return Ok(false);
     }
     lines.push_str("~ ")?;
-    lines.push_str(&pair.now)?;
+    lines.push_str(&compared.now)?;
     lines.push_str(" was ")?;
     push_rest(lines, before)?;
     lines.push('\n')?;
@@ -135,7 +135,7 @@ fn push_changed<A: Allocator + Copy>(
 /// Adds the line for a prefix by its routes, if there is one, and says whether there is.
 fn push_change<A: Allocator + Copy>(
     lines: &mut String<A>,
-    pair: &mut Pair<A>,
+    compared: &mut ComparedLines<A>,
     before: Option<&Route<A>>,
     now: Option<&Route<A>>,
 ) -> Result<bool, AllocError>
@@ -147,7 +147,7 @@ fn push_change<A: Allocator + Copy>(
         (None, None) => return Ok(false),
         (None, Some(now)) => push_marked(lines, "+", now)?,
         (Some(before), None) => push_marked(lines, "-", before)?,
-        (Some(before), Some(now)) => return push_changed(lines, pair, before, now),
+        (Some(before), Some(now)) => return push_changed(lines, compared, before, now),
     }
     Ok(true)
 }
@@ -187,7 +187,7 @@ struct ChangedLines<A: Allocator> {
 /// same prefixes.
 fn changes_in_place<A: Allocator + Copy>(
     alloc: A,
-    pair: &mut Pair<A>,
+    compared: &mut ComparedLines<A>,
     before: &[Route<A>],
     now: &[Route<A>],
 ) -> Result<Option<ChangedLines<A>>, AllocError>
@@ -206,7 +206,7 @@ fn changes_in_place<A: Allocator + Copy>(
         if !are_to_same_net(route_before, route_now) {
             return Ok(None);
         }
-        if push_changed(&mut lines, pair, route_before, route_now)? {
+        if push_changed(&mut lines, compared, route_before, route_now)? {
             count += 1;
         }
     }
@@ -222,20 +222,20 @@ fn changes<A: Allocator + Copy>(
 ) -> Result<ChangedLines<A>, AllocError>
     ensures { IfOk result (AreChangedLines (changes before.now now.now)) }
 {
-    let mut pair = Pair {
+    let mut compared = ComparedLines {
         before: String::new(alloc),
         now: String::new(alloc),
     };
-    match changes_in_place(alloc, &mut pair, before.as_slice(), now.as_slice())? {
+    match changes_in_place(alloc, &mut compared, before.as_slice(), now.as_slice())? {
         Some(changes) => Ok(changes),
-        None => changes_by_prefix(alloc, &mut pair, before, now),
+        None => changes_by_prefix(alloc, &mut compared, before, now),
     }
 }
 
 /// The same, prefix by prefix.
 fn changes_by_prefix<A: Allocator + Copy>(
     alloc: A,
-    pair: &mut Pair<A>,
+    compared: &mut ComparedLines<A>,
     before: &Routes<A>,
     now: &Routes<A>,
 ) -> Result<ChangedLines<A>, AllocError>
@@ -251,7 +251,7 @@ fn changes_by_prefix<A: Allocator + Copy>(
         let route_now = route_near(now, place_now, *net);
         place_before = place_before.wrapping_add(usize::from(route_before.is_some()));
         place_now = place_now.wrapping_add(usize::from(route_now.is_some()));
-        if push_change(&mut lines, pair, route_before, route_now)? {
+        if push_change(&mut lines, compared, route_before, route_now)? {
             count += 1;
         }
     }
