@@ -78,7 +78,7 @@ fn are_noted_in_copy<A: Allocator + Copy>(
 }
 
 /// Carries the edit of a line out.
-fn carry_out<A: Allocator + Copy>(
+fn apply_line<A: Allocator + Copy>(
     database: &mut Database<A>,
     history: &mut History<A>,
     line: &str,
@@ -101,12 +101,12 @@ fn are_noted_behind_edits<A: Allocator + Copy>(
     requires { Links database.old history.old.lists }
 {
     let loaded = are_noted(alloc, database, LOADED)?;
-    carry_out(
+    apply_line(
         database,
         history,
         "add-external 2.2.2.2 10.9.0.0/16 2 20 0.0.0.0 0",
     )?;
-    carry_out(database, history, "drop-external 2.2.2.2 10.92.0.0/16")?;
+    apply_line(database, history, "drop-external 2.2.2.2 10.92.0.0/16")?;
     let edited = are_noted(alloc, database, EDITED)?;
     let copied = are_noted_in_copy(alloc, database)?;
     rationed.leave(0);

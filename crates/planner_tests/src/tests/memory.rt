@@ -74,9 +74,9 @@ fn growths_of_shared(planner: &mut Planner<&Rationed>, rationed: &Rationed) -> R
 
 /// Whether a shared table that is asked for again takes no growth, and takes some behind an edit.
 #[derive(Drop)]
-struct Kept;
+struct SharedTables;
 
-impl Question for Kept {
+impl Question for SharedTables {
     type Found = (bool, bool);
 
     fn find(
@@ -94,7 +94,7 @@ impl Question for Kept {
 
 #[test]
 fn a_shared_table_is_kept_until_an_edit(rt: HostRuntime) -> Result<(), Fail> {
-    assert_eq!(rt; amply(rt.alloc(), SAMPLE, &Kept)?, (true, true));
+    assert_eq!(rt; amply(rt.alloc(), SAMPLE, &SharedTables)?, (true, true));
     Ok(())
 }
 
