@@ -34,8 +34,8 @@ pub(super) fn on_session<Q: Question>(
     question.find(&mut planner, rationed)
 }
 
-/// The same with ample memory.
-pub(super) fn amply<Q: Question>(
+/// What is found of a session that is opened with ample memory.
+pub(super) fn ask<Q: Question>(
     alloc: Global,
     octets: &[u8],
     question: &Q,

@@ -1,6 +1,6 @@
 //! Planners and their memory: growths that are counted, and what comes while growths are refused.
 
-use super::calls::{Question, amply, edit, on_session, redo, undo};
+use super::calls::{Question, ask, edit, on_session, redo, undo};
 use edit_history::{EditFault, RedoFault, UndoFault};
 use edit_script::Edit;
 use lsa_codec::{Addr, AreaId, Lsa, Prefix, RouterId};
@@ -94,7 +94,7 @@ impl Question for SharedTables {
 
 #[test]
 fn a_shared_table_is_kept_until_an_edit(rt: HostRuntime) -> Result<(), Fail> {
-    assert_eq!(rt; amply(rt.alloc(), SAMPLE, &SharedTables)?, (true, true));
+    assert_eq!(rt; ask(rt.alloc(), SAMPLE, &SharedTables)?, (true, true));
     Ok(())
 }
 
@@ -119,7 +119,7 @@ impl Question for TwoTables {
 #[test]
 fn a_second_table_asks_for_fewer_growths(rt: HostRuntime) -> Result<(), Fail> {
     let star = star(rt.alloc())?;
-    let (first, second, runs) = amply(rt.alloc(), &star, &TwoTables)?;
+    let (first, second, runs) = ask(rt.alloc(), &star, &TwoTables)?;
     assert!(rt; second < first, "{second} after {first}");
     assert_eq!(rt; runs, 1);
     Ok(())
@@ -167,7 +167,7 @@ impl Question for TablesBehindEdits {
 #[test]
 fn a_table_behind_a_cost_asks_for_no_graph(rt: HostRuntime) -> Result<(), Fail> {
     let star = star(rt.alloc())?;
-    let ([cost, undo, drop], runs) = amply(rt.alloc(), &star, &TablesBehindEdits)?;
+    let ([cost, undo, drop], runs) = ask(rt.alloc(), &star, &TablesBehindEdits)?;
     assert!(rt;
         cost < drop,
         "{cost} behind a cost, {drop} behind a dropped link"
@@ -217,7 +217,7 @@ impl Question for FiveTables {
 
 #[test]
 fn a_second_table_of_the_beginning_asks_for_no_growth(rt: HostRuntime) -> Result<(), Fail> {
-    let five = amply(rt.alloc(), SAMPLE, &FiveTables)?;
+    let five = ask(rt.alloc(), SAMPLE, &FiveTables)?;
     let [first, behind_edit, behind_undo, another, again] = five;
     assert!(rt; first > 0 && another > 0 && again > 0);
     assert_eq!(rt; (behind_edit, behind_undo), (0, 0));
@@ -258,8 +258,8 @@ impl Question for TablesBehindCosts {
 #[test]
 fn the_second_table_of_the_beginning_makes_a_copy(rt: HostRuntime) -> Result<(), Fail> {
     let alone = TablesBehindCosts { end: 11 };
-    let (second, third, base) = amply(rt.alloc(), SAMPLE, &alone)?;
-    let behind_edits = amply(rt.alloc(), SAMPLE, &TablesBehindCosts { end: 14 })?;
+    let (second, third, base) = ask(rt.alloc(), SAMPLE, &alone)?;
+    let behind_edits = ask(rt.alloc(), SAMPLE, &TablesBehindCosts { end: 14 })?;
     assert_eq!(rt; behind_edits, (second.saturating_add(base), third, base));
     Ok(())
 }
@@ -399,7 +399,7 @@ impl Question for OneCost {
 #[test]
 fn a_cost_grows_little(rt: HostRuntime) -> Result<(), Fail> {
     let dump = hundred_lsas(rt.alloc())?;
-    let growths = amply(rt.alloc(), &dump, &OneCost)?;
+    let growths = ask(rt.alloc(), &dump, &OneCost)?;
     assert!(rt; 0 < growths && growths <= 16, "{growths} growths");
     Ok(())
 }

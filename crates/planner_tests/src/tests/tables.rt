@@ -1,6 +1,6 @@
 //! Planners: how many trees their tables calculate, and that tables over kept trees are right.
 
-use super::calls::{Question, amply, edit, on_session, redo, undo};
+use super::calls::{Question, ask, edit, on_session, redo, undo};
 use area_routes::Route;
 use edit_script::{Command, Edit, parse};
 use lsa_codec::RouterId;
@@ -38,7 +38,7 @@ fn are_same(some: &[Route<&Rationed>], others: &[Route<&Rationed>]) -> bool {
             .all(|(one, other)| is_same(one, other))
 }
 
-/// Whether the planner's table of a router is another's.
+/// Whether a planner's table of the same router has the same routes.
 #[derive(Drop)]
 struct SameTable<'t, 'r> {
     table: &'t Table<&'r Rationed>,
@@ -200,10 +200,10 @@ const RUNS: &[(&[u8], &[Step])] = &[
 ];
 
 #[test]
-fn calculates_trees_of_touched_areas_alone(rt: HostRuntime) -> Result<(), Fail> {
+fn calculates_trees_where_they_are_wanted_alone(rt: HostRuntime) -> Result<(), Fail> {
     for (number, (dump, steps)) in RUNS.iter().enumerate() {
         let question = FirstOtherwise { steps: *steps };
-        assert_eq!(rt; amply(rt.alloc(), dump, &question)?, None, "run {number}");
+        assert_eq!(rt; ask(rt.alloc(), dump, &question)?, None, "run {number}");
     }
     Ok(())
 }
@@ -244,7 +244,7 @@ impl Question for RunsOfThree {
 
 #[test]
 fn keeps_the_trees_of_the_beginning(rt: HostRuntime) -> Result<(), Fail> {
-    assert_eq!(rt; amply(rt.alloc(), SAMPLE, &RunsOfThree)?, [1, 1, 2]);
+    assert_eq!(rt; ask(rt.alloc(), SAMPLE, &RunsOfThree)?, [1, 1, 2]);
     Ok(())
 }
 
@@ -305,6 +305,7 @@ const OVER_A_COPY: &[&str] = &[
     "fail-router 2.2.2.2",
     "add-stub 0.0.0.0 1.1.1.1 10.7.0.0/16 1",
     "table 1.1.1.1",
+    "fail-router 1.1.1.1",
 ];
 
 /// The first line that is refused, or behind which the beginning is another.
@@ -331,6 +332,6 @@ impl Question for OtherBeginning {
 
 #[test]
 fn tables_over_a_copy_of_the_beginning_are_right(rt: HostRuntime) -> Result<(), Fail> {
-    assert_eq!(rt; amply(rt.alloc(), SAMPLE, &OtherBeginning)?, None);
+    assert_eq!(rt; ask(rt.alloc(), SAMPLE, &OtherBeginning)?, None);
     Ok(())
 }

@@ -1,6 +1,6 @@
 //! Of which edits a planner knows without a calculation that they leave a table as it was.
 
-use super::calls::{Question, amply};
+use super::calls::{Question, ask};
 use super::tables::is_refused;
 use lsa_codec::RouterId;
 use rationed::Rationed;
@@ -60,7 +60,7 @@ fn knows_tables_that_an_edit_leaves(rt: HostRuntime) -> Result<(), Fail> {
     for (router, line, known) in EDITS {
         let (router, line) = (RouterId(*router), *line);
         let question = KnownToLeave { router, line };
-        assert_eq!(rt; amply(rt.alloc(), &dump, &question)?, *known, "{line}");
+        assert_eq!(rt; ask(rt.alloc(), &dump, &question)?, *known, "{line}");
     }
     Ok(())
 }

@@ -1,7 +1,7 @@
 //! Growths that are refused, each in turn.
 
 use super::octets::{HISTORY, on_sample};
-use crate::tests::calls::{Question, amply, fault_of, on_session, saved};
+use crate::tests::calls::{Question, ask, fault_of, on_session, saved};
 use lsdb::{DumpFault, DumpFaultKind};
 use rationed::Rationed;
 use recalculate::Planner;
@@ -63,7 +63,7 @@ fn is_not_saved(alloc: Global, octets: &[u8], growths: u64) -> Result<bool, Fail
 #[test]
 fn refused_growths_open_no_session(rt: HostRuntime) -> Result<(), Fail> {
     let octets = on_sample(rt.alloc(), HISTORY)?;
-    let growths = amply(rt.alloc(), &octets, &Saving)?;
+    let growths = ask(rt.alloc(), &octets, &Saving)?;
     assert!(rt; 0 < growths.opening);
     for left in 0..growths.opening {
         assert!(rt; is_not_opened(rt.alloc(), &octets, left), "{left}");
@@ -74,7 +74,7 @@ fn refused_growths_open_no_session(rt: HostRuntime) -> Result<(), Fail> {
 #[test]
 fn refused_growths_leave_the_session(rt: HostRuntime) -> Result<(), Fail> {
     let octets = on_sample(rt.alloc(), HISTORY)?;
-    let growths = amply(rt.alloc(), &octets, &Saving)?;
+    let growths = ask(rt.alloc(), &octets, &Saving)?;
     assert!(rt; 0 < growths.saving);
     for left in 0..growths.saving {
         let granted = growths.opening.saturating_add(left);
