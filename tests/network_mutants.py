@@ -2,7 +2,6 @@
 
 Packets, frames and walks are made by the functions of conformance/capture.
 """
-import dataclasses
 import importlib.machinery
 import importlib.util
 import json
@@ -43,8 +42,8 @@ def kind_of(file: bytes) -> str:
         return "capture"
     if file.lstrip(b" \t\n\r").startswith(b"{"):
         return "printed in JSON"
-    words = b" ".join(re.split(rb"[ \t\n\r]+", file))
-    return "printed" if b"OSPF Router with ID" in words or b"LS age:" in words else "walk"
+    words = b" " + b" ".join(re.split(rb"[ \t\n\r]+", file)) + b" "
+    return "printed" if b" OSPF Router with ID " in words or b" LS age: " in words else "walk"
 
 
 # ---- captures
@@ -300,15 +299,6 @@ def member_of(link: bytes) -> dict:
             "tos0Metric": number(link[10:12])}
 
 
-@dataclasses.dataclass
-class Print:
-    """What a router prints, and the LSAs and kinds of areas that it must tell, where that is known."""
-
-    file: bytes
-    sightings: list[tuple[int | None, bytes]] | None = None
-    kinds: list[tuple[int, str]] = dataclasses.field(default_factory=list)
-
-
 def placed(chance: random.Random, lsas: list[bytes]) -> list[tuple[int, bytes]]:
     """Printable LSAs, and some that are changed, each in an area."""
     found = []
@@ -321,25 +311,24 @@ def placed(chance: random.Random, lsas: list[bytes]) -> list[tuple[int, bytes]]:
     return found
 
 
-def text_print(chance: random.Random, lsas: list[bytes]) -> Print:
+def text_print(chance: random.Random, lsas: list[bytes]) -> bytes:
     """A text of headings and LSAs."""
-    made, kinds, found = "\n       OSPF Router with ID (1.1.1.1)\n\n", [], placed(chance, lsas)
+    made, found = "\n       OSPF Router with ID (1.1.1.1)\n\n", placed(chance, lsas)
     stubs = {area: chance.choice(["", "", " [Stub]", " [NSSA]"]) for area in (1, 2)}
     for area, lsa in found:
         if lsa[3] == 5:
             made += "\n                AS External Link States \n\n"
         else:
-            word = stubs.get(area, "")
-            made += f"\n                {TITLES[lsa[3]]} Link States (Area {make.dotted(area.to_bytes(4, 'big'))}{word})\n\n"
-            kinds.append((area, {"": "ordinary", " [Stub]": "stub", " [NSSA]": "nssa"}[word]))
+            where = make.dotted(area.to_bytes(4, "big")) + stubs.get(area, "")
+            made += f"\n                {TITLES[lsa[3]]} Link States (Area {where})\n\n"
         made += text_of(lsa)
-    return Print(made.encode(), [(None if lsa[3] == 5 else area, lsa) for area, lsa in found], kinds)
+    return made.encode()
 
 
 MEMBERS = {1: "routerLinkStates", 2: "networkLinkStates", 3: "summaryLinkStates", 4: "asbrSummaryLinkStates"}
 
 
-def json_print(chance: random.Random, lsas: list[bytes]) -> Print:
+def json_print(chance: random.Random, lsas: list[bytes]) -> bytes:
     """A document of LSAs in areas and of AS scope."""
     made: dict = {"routerId": "1.1.1.1", "routerLinkStates": {"areas": {}}}
     found = placed(chance, lsas)
@@ -349,17 +338,16 @@ def json_print(chance: random.Random, lsas: list[bytes]) -> Print:
         else:
             areas = made.setdefault(MEMBERS[lsa[3]], {"areas": {}})["areas"]
             areas.setdefault(make.dotted(area.to_bytes(4, "big")), []).append(object_of(lsa))
-    text = json.dumps(made, indent=chance.choice([None, 1, 2]), ensure_ascii=chance.random() < 0.5)
-    return Print(text.encode(), [(None if lsa[3] == 5 else area, lsa) for area, lsa in found])
+    return json.dumps(made, indent=chance.choice([None, 1, 2]), ensure_ascii=chance.random() < 0.5).encode()
 
 
-def printed(chance: random.Random, lsas: list[bytes], others: list[bytes]) -> Print:
+def printed(chance: random.Random, lsas: list[bytes], others: list[bytes]) -> bytes:
     """What a router prints as a text, as it is or changed."""
     if chance.random() < 0.5:
         made = text_print(chance, lsas)
     else:
-        made = Print(shorter_text(chance, chance.choice(others), b"  LS age:"))
-    return made if chance.random() < 0.3 else Print(changed_text(chance, made.file, chance.choice(others)))
+        made = shorter_text(chance, chance.choice(others), b"  LS age:")
+    return made if chance.random() < 0.3 else changed_text(chance, made, chance.choice(others))
 
 
 def changed_value(chance: random.Random, value):
@@ -380,21 +368,20 @@ def changed_value(chance: random.Random, value):
                           {"a": value}, str(value), "80000001", "\u20ac", "\x00", 2 ** 64, 2 ** 63, -2 ** 63])
 
 
-def document(chance: random.Random, lsas: list[bytes], others: list[bytes]) -> Print:
+def document(chance: random.Random, lsas: list[bytes], others: list[bytes]) -> bytes:
     """What a router prints in JSON, as it is or changed."""
-    made = json_print(chance, lsas) if chance.random() < 0.6 else Print(chance.choice(others))
-    kind = chance.random()
+    made, kind = json_print(chance, lsas) if chance.random() < 0.6 else chance.choice(others), chance.random()
     if kind < 0.3:
         return made
-    if kind < 0.7:
-        try:
-            value = json.loads(made.file)
-        except ValueError:
-            return made
-        for _ in range(chance.choice([1, 1, 2, 3])):
-            value = changed_value(chance, value)
-        return Print(json.dumps(value, ensure_ascii=chance.random() < 0.5).encode())
-    return Print(changed_text(chance, made.file, chance.choice(others)))
+    if kind > 0.7:
+        return changed_text(chance, made, chance.choice(others))
+    try:
+        value = json.loads(made)
+    except ValueError:
+        return made
+    for _ in range(chance.choice([1, 1, 2, 3])):
+        value = changed_value(chance, value)
+    return json.dumps(value, ensure_ascii=chance.random() < 0.5).encode()
 
 
 # ---- lists
