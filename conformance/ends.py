@@ -342,12 +342,6 @@ def before_run(case: End):
     return prepare
 
 
-def built(program: str) -> str:
-    """The program itself, where this is the script that runs that of a clone."""
-    found = pathlib.Path(program).parent / "crates" / "ospf_plan" / "out" / "ospf_plan"
-    return str(found if found.exists() else program)
-
-
 def ended(case: End, program: str, folder: pathlib.Path, stdout: int, stderr: int) -> subprocess.CompletedProcess:
     """The run of a case."""
     words = [program] + [word.replace("FOLDER", str(folder)) for word in case.words.split()]
@@ -362,7 +356,7 @@ def ended(case: End, program: str, folder: pathlib.Path, stdout: int, stderr: in
     if not case.as_nobody:
         return subprocess.run(words, **how)
     # The program may lie where not everyone may go, so it is opened here.
-    opened = os.open(built(program), os.O_RDONLY)
+    opened = os.open(program, os.O_RDONLY)
     try:
         return subprocess.run(words, executable=f"/proc/self/fd/{opened}", pass_fds=[opened], **how)
     finally:

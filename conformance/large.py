@@ -7,7 +7,6 @@ import subprocess
 from typing import Callable
 
 from cases import Case
-from ends import built
 
 R1, R2 = 0x01010101, 0x02020202
 # Router IDs from here on are those of many routers alike.
@@ -313,7 +312,7 @@ def seconds(case: Case, program: str, folder: pathlib.Path) -> float:
     dump, script = folder / "large.oswp", folder / "large.txt"
     dump.write_bytes(case.dump)
     script.write_bytes(case.script)
-    words = [built(program), "--dump", str(dump), "--script", str(script)]
+    words = [program, "--dump", str(dump), "--script", str(script)]
     with subprocess.Popen(words, stdin=subprocess.DEVNULL, stdout=subprocess.DEVNULL) as run:
         _, status, used = os.wait4(run.pid, 0)
         run.returncode = os.waitstatus_to_exitcode(status)

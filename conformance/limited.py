@@ -10,7 +10,7 @@ import resource
 import subprocess
 
 import large
-from ends import COST, EDITED, SAMPLE, SESSION, built, full_history, full_history_replies
+from ends import COST, EDITED, SAMPLE, SESSION, full_history, full_history_replies
 
 
 @dataclasses.dataclass
@@ -79,7 +79,7 @@ def checks(program: str, folder: pathlib.Path):
     for run in (histories(), tables()):
         lengths = set()
         for size in run.sizes:
-            status, replies, *left = ended_in(size, run, built(program), folder)
+            status, replies, *left = ended_in(size, run, program, folder)
             is_whole = (status, replies, *left) == (0, run.replies, "", run.out, run.saved)
             is_part = (status, *left) == (5, "memory: OutOfMemory\n", None, None) and run.replies.startswith(replies)
             yield f"{run.name} in {size} octets of memory", [] if is_whole or is_part else ["status, replies or files"]

@@ -12,7 +12,7 @@ import tempfile
 
 import plain_reader
 from cases import read_case
-from ends import SAMPLE, built
+from ends import SAMPLE
 
 HERE = pathlib.Path(__file__).resolve().parent
 
@@ -109,7 +109,7 @@ def checks(program: str):
             refusal = plain_reader.refusal(dump)
             tried += 1
             accepted += not refusal
-            if not is_as_read(built(program), dump, refusal, pathlib.Path(folder)):
+            if not is_as_read(program, dump, refusal, pathlib.Path(folder)):
                 yield "dumps that lie", [f"the program and the plain reader of {dump.hex()}"]
                 return
     yield f"{tried} dumps that lie, of which {accepted} are accepted", []

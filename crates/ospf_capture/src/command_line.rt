@@ -66,7 +66,7 @@ fn out_option<'a>(alloc: Global) -> Arg<'a>
     Arg::new(alloc, "out")
         .long("out")
         .value_name("DUMP")
-        .help("Where to write the dump")
+        .help("Where to write the dump; without it none is written")
         .action(ArgAction::Set)
 }
 
@@ -78,7 +78,7 @@ fn against_option<'a>(alloc: Global) -> Arg<'a>
     Arg::new(alloc, "against")
         .long("against")
         .value_name("LIST")
-        .help("A list of another router's LSAs to compare the dump with; may be given again")
+        .help("Compare the dump with this list of another router's LSAs; may be given again")
         .action(ArgAction::Append)
 }
 
@@ -100,7 +100,7 @@ fn file_words<'a>(alloc: Global) -> Arg<'a>
 {
     Arg::new(alloc, "files")
         .value_name("FILE")
-        .help("Packet captures, SNMP walks and printed databases, told apart by their content")
+        .help("Packet captures, SNMP walks and printed databases, recognized by their content")
         .required(true)
         .action(ArgAction::Append)
 }
