@@ -165,7 +165,7 @@ class State:
         return tuple((ident, kind, lsas) for (ident, kind), lsas in zip(self.heads, self.sections))
 
     def base(self) -> bytes:
-        """What stands behind the version in its dump."""
+        """What follows the version in its dump."""
         made = bytes([len(self.heads)])
         for (ident, kind), lsas in zip(self.heads, self.sections):
             made += ident.to_bytes(4, "big") + bytes([kind]) + len(lsas).to_bytes(2, "big") + b"".join(lsas)
@@ -354,7 +354,7 @@ EFFECTS = {
 
 
 class Branch:
-    """A database under its edits: each done edit with the database before it, each undone one with that behind it."""
+    """A database under its edits: each done edit with the database before it, each undone one with that after it."""
 
     def __init__(self, base: State):
         self.base = self.state = base
@@ -381,9 +381,9 @@ class Branch:
         if count > len(self.undone):
             raise Refused("U2 NothingToRedo")
         for _ in range(count):
-            line, behind = self.undone.pop()
+            line, after = self.undone.pop()
             self.done.append((line, self.state))
-            self.state = behind
+            self.state = after
 
     def session(self) -> bytes:
         """What `--save` writes."""
@@ -467,10 +467,10 @@ class Planner:
         if read is None:
             return b""
         try:
-            told = self.answer(read, self.branch(read.branch))
+            answer = self.answer(read, self.branch(read.branch))
         except Refused as refused:
-            told = f"refused {refused}".encode()
-        return b"@%d %s\n" % (read.branch, told)
+            answer = f"refused {refused}".encode()
+        return b"@%d %s\n" % (read.branch, answer)
 
     def answer(self, read: Command, branch: Branch) -> bytes:
         word, state = read.words[0].decode(), branch.state

@@ -1,5 +1,5 @@
 """Reads what routers print of their databases, as texts and in JSON, and lists of LSA headers, as docs/CAPTURE.md has them,
-in plain steps: what a file tells, or why it is refused; and how a database differs from a list.
+in plain steps: what a file contains, or why it is refused; and how a database differs from a list.
 
 It was written from that page, so that it can be put beside the program. Nothing in it is fast.
 """
@@ -31,7 +31,7 @@ def decimal(most: int) -> Callable[[bytes], int]:
 
 
 def hexadecimal(most: int, front: bytes = b"", digits: int = 0) -> Callable[[bytes], int]:
-    """A number behind such a front; of so many digits, where that is said."""
+    """A number that follows such a front; of this number of digits, unless that is 0."""
     def read(word: bytes) -> int:
         rest = word[len(front):]
         if not word.startswith(front) or not re.fullmatch(rb"[0-9a-f]+", rest) or int(rest, 16) > most:
@@ -181,32 +181,32 @@ def body_in(text: Text, header: Header) -> bytes:
     return made + bytes([128 * is_type2]) + metric + forward + tag
 
 
-class PrintTold:
-    """What a print tells, one LSA after another."""
+class PrintReading:
+    """What a print contains, read one LSA after another."""
 
     def __init__(self, word: str):
-        self.told, self.unreadable = Told(word), 0
+        self.found, self.unreadable = Told(word), 0
 
     def lsa(self, header: Header, body: bytes, area: int | None) -> None:
         made = header.lsa(body)
         key = f"type {header.kind} id {address(header.name)} adv {address(header.router)}"
         fault = fault_of_lsa(made) or ("Body" if header.length != len(made) else None)
         if fault:
-            self.told.holes.append(f"RefusedLsa {fault} {key}")
+            self.found.holes.append(f"RefusedLsa {fault} {key}")
         elif area is None and header.kind != 5:
-            self.told.holes.append(f"NoArea {key}")
+            self.found.holes.append(f"NoArea {key}")
         else:
-            self.told.sightings.append(Sighting(scope(header.kind, area), None, made))
+            self.found.sightings.append(Sighting(scope(header.kind, area), None, made))
 
     def read(self) -> Told:
         if self.unreadable:
-            self.told.holes.append(f"Unreadable {self.unreadable}")
-        return self.told
+            self.found.holes.append(f"Unreadable {self.unreadable}")
+        return self.found
 
 
-def told_by_text(file: bytes) -> Told:
+def read_text(file: bytes) -> Told:
     """What a router prints as a text."""
-    found, told, area = [word for word in BLANKS.split(file) if word], PrintTold("printed"), None
+    found, reading, area = [word for word in BLANKS.split(file) if word], PrintReading("printed"), None
     for at in range(len(found)):
         text = Text(found, at)
         if text.begins(b"(Area") and at + 1 < len(found):
@@ -214,16 +214,16 @@ def told_by_text(file: bytes) -> Told:
                 area = number(four_bytes(found[at + 1].partition(b")")[0]))
                 text.at += 2
                 kind = "stub" if text.begins(b"[Stub])") else "nssa" if text.begins(b"[NSSA])") else "ordinary"
-                told.told.kinds.append((area, kind))
+                reading.found.kinds.append((area, kind))
             except Unreadable:
                 area = None
         elif text.begins(b"LS age:"):
             try:
                 header = header_in(text)
-                told.lsa(header, body_in(text, header), area)
+                reading.lsa(header, body_in(text, header), area)
             except Unreadable:
-                told.unreadable += 1
-    return told.read()
+                reading.unreadable += 1
+    return reading.read()
 
 
 # ---- JSON
@@ -322,19 +322,19 @@ def body_of(value, kind: int) -> bytes:
             + address_at(value, "forwardAddress") + number_at(value, "externalRouteTag", 2 ** 32 - 1).to_bytes(4, "big"))
 
 
-def tell_array(told: PrintTold, value, kind: int, area: int | None) -> None:
+def read_array(reading: PrintReading, value, kind: int, area: int | None) -> None:
     """Takes the LSAs of an area, or those of AS scope, into account."""
     if type(value) is not list:
-        told.unreadable += 1
+        reading.unreadable += 1
         return
     for one in value:
         try:
-            told.lsa(header_of(one, kind), body_of(one, kind), area)
+            reading.lsa(header_of(one, kind), body_of(one, kind), area)
         except Unreadable:
-            told.unreadable += 1
+            reading.unreadable += 1
 
 
-def told_by_document(file: bytes) -> Told:
+def read_document(file: bytes) -> Told:
     """What a router prints in JSON. Raises `Refused`."""
     try:
         value = json.loads(file.decode(), object_pairs_hook=Members, parse_int=Number, parse_float=Number,
@@ -346,25 +346,25 @@ def told_by_document(file: bytes) -> Told:
     names = {name for name, _ in value}
     if not names & DATABASES.keys():
         raise Refused("NoDatabase")
-    told = PrintTold("printed in JSON")
+    reading = PrintReading("printed in JSON")
     for name, kind in DATABASES.items():
         if name not in names:
             continue
         if kind == 5:
-            tell_array(told, value.get(name), kind, None)
+            read_array(reading, value.get(name), kind, None)
             continue
         try:
             areas = member(value.get(name), "areas", Members)
         except Unreadable:
-            told.unreadable += 1
+            reading.unreadable += 1
             continue
         for area, lsas in areas:
             try:
                 ident = number(four_bytes(area.encode()))
             except Unreadable:
                 ident = None
-            tell_array(told, lsas, kind, ident)
-    return told.read()
+            read_array(reading, lsas, kind, ident)
+    return reading.read()
 
 
 # ---- lists
@@ -418,7 +418,7 @@ def row_in(line: list[bytes], kind: int | None) -> bytes:
 
 
 class PrintedList:
-    """A list: its headers, each with its area, and its lines of what can not be read. Raises `Refused`."""
+    """A list: its headers, each with its area, and its lines of what cannot be read. Raises `Refused`."""
 
     def __init__(self, file: bytes):
         self.headers: list[Sighting] = []

@@ -21,7 +21,7 @@ LIMITS = [0, 1, 2, 3, 4, 5, 7, 8, 11, 12, 13, 16, 19, 20, 21, 23, 24, 28, 32, 33
 
 
 def limit(chance: random.Random, size: int) -> bytes:
-    """A number of so many bytes, mostly one at a limit."""
+    """A number of this size in bytes, mostly one at a limit."""
     value = chance.choice(LIMITS) if chance.random() < 0.8 else chance.getrandbits(8 * size)
     return (value % 256 ** size).to_bytes(size, chance.choice(["big", "big", "little"]))
 
@@ -178,7 +178,7 @@ def changed_lsa(chance: random.Random, lsa: bytes, names: list[bytes], repaired:
 
 @dataclasses.dataclass
 class Parts:
-    """The parts of a dump: version, areas, LSAs of AS scope, and of a session its edits, of which so many are done."""
+    """The parts of a dump: version, areas, LSAs of AS scope; of a session its edits, of which the first `done` are done."""
 
     version: int
     heads: list[tuple[int, int]]
@@ -245,7 +245,8 @@ def change_areas(chance: random.Random, parts: Parts) -> None:
     kind = chance.random()
     if not parts.heads or kind < 0.3:
         idents = [ident for ident, _ in parts.heads] or [-1]
-        parts.heads.append((chance.choice([max(idents) + 1, max(idents) + 1, chance.choice(LIMITS)]), chance.choice([0, 0, 1])))
+        ident = max(idents) + 1 if chance.random() < 0.7 else chance.choice(LIMITS)
+        parts.heads.append((ident, chance.choice([0, 0, 1])))
         parts.sections.insert(-1, list(chance.choice(parts.sections)) if chance.random() < 0.5 else [])
     elif kind < 0.5:
         parts.heads.pop(place)
@@ -370,8 +371,8 @@ def prefix_of(address: bytes, mask: bytes) -> bytes:
     return dotted(ident.to_bytes(4, "big")) + b"/%d" % length
 
 
-ODD_WORDS = [b"", b"@0", b"@7", b"@8", b"@", b"@00", b"#", b"# x", b"0", b"00", b"01", b"-1", b"+1", b"1e3", b"65535", b"65536",
-             b"16777215", b"16777216", b"4294967295", b"4294967296", b"99999999999999999999999", b"0.0.0.0",
+ODD_WORDS = [b"", b"@0", b"@7", b"@8", b"@", b"@00", b"#", b"# x", b"0", b"00", b"01", b"-1", b"+1", b"1e3", b"65535",
+             b"65536", b"16777215", b"16777216", b"4294967295", b"4294967296", b"99999999999999999999999", b"0.0.0.0",
              b"255.255.255.255", b"256.0.0.0", b"1.1.1", b"1.1.1.1.1", b"01.1.1.1", b"1..1.1", b".1.1.1", b"1.1.1.1/32",
              b"0.0.0.0/0", b"10.0.0.0/8", b"10.0.0.0/08", b"10.0.0.1/8", b"10.0.0.0/33", b"10.0.0.0/", b"/8",
              b"10.0.0.0//8", b"\t", b"\r", b"\x0b", b"\x0c", b"\0", b"\xff", b"\xc2\xa0", b"refresh", b"Cost", b"tables",

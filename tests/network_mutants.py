@@ -281,7 +281,8 @@ def object_of(lsa: bytes) -> dict:
              "lsaSeqNumber": f"{number(lsa[12:16]):08x}", "checksum": f"{number(lsa[16:18]):x}", "length": len(lsa)}
     if kind == 1:
         pieces = plain_planner.links_of(lsa)
-        return made | {"numOfLinks": len(pieces), "routerLinks": {f"link{at}": member_of(link) for at, link in enumerate(pieces)}}
+        members = {f"link{at}": member_of(link) for at, link in enumerate(pieces)}
+        return made | {"numOfLinks": len(pieces), "routerLinks": members}
     made["networkMask"] = ones(lsa)
     if kind == 2:
         routers = [make.dotted(lsa[at:at + 4]) for at in range(24, len(lsa), 4)]
@@ -363,7 +364,8 @@ def changed_value(chance: random.Random, value):
                 for other, kept in value.items()}
     if isinstance(value, list) and value and chance.random() < 0.9:
         place = chance.randrange(len(value))
-        return value[:place] + chance.choice([[changed_value(chance, value[place])], [], value[place:] * 2]) + value[place + 1:]
+        new = chance.choice([[changed_value(chance, value[place])], [], value[place:] * 2])
+        return value[:place] + new + value[place + 1:]
     return chance.choice([chance.choice(LIMITS), -1, 1.5, 1e300, None, True, "", "0.0.0.0", "1.1.1.1", [], {}, [value],
                           {"a": value}, str(value), "80000001", "\u20ac", "\x00", 2 ** 64, 2 ** 63, -2 ** 63])
 
