@@ -8,7 +8,7 @@ import collections
 import dataclasses
 import re
 
-from plain_reader import fault_of_lsa, number
+from plain_reader import fault_of_lsa, links, number
 
 LONGEST_DUMP = 16_777_216
 MOST_APART = 256
@@ -579,22 +579,22 @@ def flushes(flush: Sighting, copy: Sighting) -> bool:
             and not began_after(copy, flush.seen))
 
 
-def newest(sightings: list[Sighting]) -> list[Sighting]:
-    """The newest of each LSA that stands, in order."""
+def newest(sightings: list[Sighting], keeps: bool = False) -> list[Sighting]:
+    """The newest of each LSA that stands, in order; where flushed LSAs are kept, also of those that were flushed."""
     places = collections.defaultdict(list)
     for sighting in sightings:
         places[sighting.place()].append(sighting)
     found = []
     for place in sorted(places):
         standing = [copy for copy in places[place] if not any(flushes(flush, copy) for flush in places[place])]
-        if standing:
-            found.append(max(standing, key=lambda copy: instance(copy.lsa)))
+        if standing or keeps:
+            found.append(max(standing or places[place], key=lambda copy: instance(copy.lsa)))
     return found
 
 
-def unnamed(files: list[Told]) -> list[str]:
+def unnamed(files: list[Told], keeps: bool = False) -> list[str]:
     """The lines of the areas of LSAs that stand, but for the backbone, of which no kind is told."""
-    standing = newest([sighting for file in files for sighting in file.sightings])
+    standing = newest([sighting for file in files for sighting in file.sightings], keeps)
     areas = {sighting.area for sighting in standing} - {None, 0} - {area for file in files for area, _ in file.kinds}
     return [f"database: NoKind area {address(area)}" for area in sorted(areas)]
 
@@ -620,9 +620,58 @@ def named(files: list[Told]) -> list[str]:
             for place in sorted(places)]
 
 
-def dump_of(files: list[Told]) -> bytes:
-    """The dump that files make. Raises `Refused`."""
-    standing = newest([sighting for file in files for sighting in file.sightings])
+def contradicted(files: list[Told]) -> list[str]:
+    """The lines of the areas of which files tell both that they are stub areas and that they are none."""
+    kinds: dict[int, set[bool]] = collections.defaultdict(set)
+    for area, kind in (kind for file in files for kind in file.kinds):
+        kinds[area].add(kind == "stub")
+    return [f"database: BothKinds area {address(area)}" for area in sorted(kinds) if len(kinds[area]) == 2]
+
+
+def lacks_of(named: set[bytes], described: set[bytes], what: str) -> list[str]:
+    return [f"database: Missing {what} {address(name)}" for name in sorted(named - described)]
+
+
+def left_out(lsas: list[bytes], where: str) -> list[str]:
+    """The lines of what the planner leaves out of the LSAs of an area, or of AS scope."""
+    virtual = sum(kind == 4 for lsa in lsas if lsa[3] == 1 for _, kind, _ in links(lsa))
+    counts = {"Nssa": sum(lsa[3] == 7 for lsa in lsas), "Opaque": sum(lsa[3] in (9, 10, 11) for lsa in lsas),
+              "VirtualEnd": sum(lsa[3] == 1 and bool(lsa[20] & 4) for lsa in lsas), "VirtualLink": virtual}
+    return [f"database: {what}{where} {count}" for what, count in counts.items() if count]
+
+
+def ends_of(lsa: bytes, kinds: tuple[int, ...]) -> set[bytes]:
+    """The Link IDs of a router-LSA's links of these types."""
+    found, at = set(), 24
+    while at < len(lsa):
+        if lsa[at + 8] in kinds:
+            found.add(lsa[at:at + 4])
+        at += 12 + 4 * lsa[at + 9]
+    return found
+
+
+def lacking(areas: dict[int, list[bytes]], as_wide: list[bytes]) -> list[str]:
+    """The lines of what a database lacks, as far as its LSAs tell, and of what the planner leaves out of it."""
+    lines: list[str] = []
+    anywhere: set[bytes] = set()
+    for area, lsas in sorted(areas.items()):
+        live = [lsa for lsa in lsas if not is_at_max_age(lsa)]
+        routers = {lsa[8:12] for lsa in live if lsa[3] in (3, 4)}
+        routers |= {lsa[at:at + 4] for lsa in live if lsa[3] == 2 for at in range(24, len(lsa), 4)}
+        routers = routers.union(*(ends_of(lsa, (1, 4)) for lsa in live if lsa[3] == 1))
+        networks = set().union(*(ends_of(lsa, (2,)) for lsa in live if lsa[3] == 1))
+        described = {lsa[4:8] for lsa in lsas if lsa[3] == 1}
+        anywhere |= described
+        lines += lacks_of(routers, described, f"area {address(area)} router")
+        lines += lacks_of(networks, {lsa[4:8] for lsa in lsas if lsa[3] == 2}, f"area {address(area)} network")
+        lines += left_out(lsas, f" area {address(area)}")
+    asbrs = {lsa[8:12] for lsa in as_wide if lsa[3] == 5 and not is_at_max_age(lsa)}
+    return lines + lacks_of(asbrs, anywhere, "asbr") + left_out(as_wide, "")
+
+
+def dump_of(files: list[Told], keeps: bool = False) -> bytes:
+    """The dump that files make, with flushed LSAs where these are kept. Raises `Refused`."""
+    standing = newest([sighting for file in files for sighting in file.sightings], keeps)
     kinds = [kind for file in files for kind in file.kinds]
     areas = sorted({area for area, _ in kinds} | {sighting.area for sighting in standing} - {None})
     lsas = {area: [sighting.lsa for sighting in standing if sighting.area == area] for area in [*areas, None]}

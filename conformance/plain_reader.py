@@ -169,7 +169,7 @@ class Reader:
             ident = self.area(ident)
         self.lsas(number(self.field(2)), True, {})
 
-    def does_cost(self, line: bytes) -> bool:
+    def carries_out(self, line: bytes) -> bool:
         """Whether a line spells an edit `cost` that is carried out. Such an edit changes nothing that another asks for."""
         spelled = COST.fullmatch(line)
         if spelled is None:
@@ -186,7 +186,7 @@ class Reader:
         line, feed, _ = self.dump[self.at:].partition(b"\n")
         if not feed:
             raise Refused("L3 Truncated", self.at)
-        if not self.does_cost(line):
+        if not self.carries_out(line):
             raise Refused(f"L15 BadHistory {index}", self.at)
         self.at += len(line) + 1
 
@@ -204,11 +204,10 @@ def is_session(dump: bytes) -> bool:
     return dump.startswith(b"OSWP\x02")
 
 
-def read(dump: bytes) -> None:
+def read(dump: bytes, reader: Reader) -> None:
     """Reads a whole dump. Raises `Refused` for its first fault."""
     if len(dump) > (LONGEST_SESSION if is_session(dump) else LONGEST_DUMP):
         raise Refused("L13 TooLarge", 0)
-    reader = Reader(dump)
     if reader.field(4) != b"OSWP":
         raise Refused("L1 BadMagic", 0)
     if reader.field(1) not in (b"\x01", b"\x02"):
@@ -225,7 +224,7 @@ def read(dump: bytes) -> None:
 def refusal(dump: bytes) -> str:
     """What standard error must have where the dump is loaded: nothing where it is accepted."""
     try:
-        read(dump)
+        read(dump, Reader(dump))
     except Refused as refused:
         return refused.line()
     return ""
