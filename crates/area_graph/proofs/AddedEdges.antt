@@ -1,4 +1,4 @@
--- What is there after more edges were added.
+-- The edges after more edges were added.
 use Rattle.std.proofs.Common.{◌≡◌, ℕ, suc, ◌+◌, ◌<◌, eqb, Bool, true, false, cond, List, [], ◌∷◌, ◌++◌, map, length, take, get_or, sym, subst, ap, ◌∙◌}
 use Rattle.std.proofs.Common.{append_assoc, arith}
 use Rattle.std.specs.List.{filter, flat_map}
@@ -48,7 +48,7 @@ module _ (vertices : List Vertex) where
         let named : DirectedEdge ℕ → Bool = λ a. names_in naming a.to a.from in
         ap (flat_map (both_arcs vertices)) (filter-append named xs ys) ∙ flat_map-append (both_arcs vertices) (filter named xs) (filter named ys)
 
-    -- one edge: the other end names the first, or not
+    -- one edge: the other end names the first, or it does not
     pub adds_not_returned : (a : DirectedEdge ℕ) (t : Topology) → names_in naming a.to a.from ≡ false → Adds (returned_arcs vertices naming (a ∷ [])) t t
     adds_not_returned a t free = subst (λ (b : Bool). Adds (flat_map (both_arcs vertices) (cond b (a ∷ []) [])) t t) (sym free) (adds_nothing t)
 

@@ -45,7 +45,7 @@ lt_from a b h = by_answer (nat_cmp a b) refl h
     by_answer Equal is t = absurd (false≢true t)
     by_answer Greater is t = absurd (false≢true t)
 
--- what the least of a list is
+-- the least of a list, by its members
 abbrev LeastIs : List ℕ → Option ℕ → Type 0
 LeastIs ks o = MatchOption o ((k : ℕ) → In ks k → ⊥) (λ d. In ks d × ((k : ℕ) → In ks k → d ≤ k))
 
@@ -126,7 +126,7 @@ module _ {V : Type 0} (edges : List (DirectedEdge V)) where
           let low : path_cost r.0 ≤ path_cost (a ++ (e ∷ c)) = r.3 in
           (r.0, r.1, r.2, omega arith)
 
-  -- two edges, one after the other, cost something
+  -- the cost of two edges, one after the other, is not 0
   abbrev pub NothingFree : Type 0
   NothingFree = (e f : DirectedEdge V) → Contains edges e → Contains edges f → f.from ≡ e.to → 0 < e.cost + f.cost
 

@@ -26,7 +26,7 @@ use Rattle.area_graph.proofs.VertexNumbers.{found, has_number, missing, at_one_p
 
 -- ---- lists
 
--- a test of what a function gives is one of what it is given
+-- a test of a function's results is a test of its arguments
 pub filter-filter_map : {X Y : Type 0} (p : Y → Bool) (q : X → Bool) (f : X → Option Y) → ((x : X) (y : Y) → f x ≡ Some y → p y ≡ q x)
     → (xs : List X) → filter p (filter_map f xs) ≡ filter_map f (filter q xs)
 filter-filter_map p q f same [] = refl
@@ -129,7 +129,7 @@ module _ (vs : List Vertex) (distinct : AllPairs (λ v w. v ≢ w) vs) where
           ap (with_first i (filter_map arc_between fs) f k m) (same_number f.from v i k p at ∙ out) ∙ ap (λ (r : List Edge). edge_at_number f m ∷ r) rest
           ∙ sym (ap (λ (o : Option ℕ). cons_option (option_map (edge_at_number f) o) (filter_map (numbered vs) (filter (is_out_of v) fs))) to)
 
-  -- what an edge between numbers tells of the edge that it stands for
+  -- the properties of an edge between numbers, by the edge that it stands for
   pub record IsBetween (f : DirectedEdge Vertex) (a : DirectedEdge ℕ) : Type 0 where
     pub from : position (is_same f.from) vs ≡ Some a.from
     pub to : position (is_same f.to) vs ≡ Some a.to

@@ -88,7 +88,7 @@ pub target_from : (link : Link) (t : Vertex) → IsLinkTo t link → target_of l
 target_from link (Router w) h = ap (λ (k : LinkKind). target_by k link.id) h.0 ∙ ap (λ (n : ℕ). Some (Router (record { 0 = n }))) h.1
 target_from link (Network n) h = ap (λ (k : LinkKind). target_by k link.id) h.0 ∙ ap (λ (k : ℕ). Some (Network (record { 0 = k }))) h.1
 
--- what an edge over a link says
+-- the properties of an edge over a link
 pub over_is : (v : Vertex) (link : Link) (e : DirectedEdge Vertex) → edge_over v link ≡ Some e
     → (e.from ≡ v) × (target_of link ≡ Some e.to) × (link.metric ≡ e.cost) × (link.link_data ≡ e.link_data)
 over_is v link e h = by (target_of link) refl h

@@ -18,7 +18,7 @@ use Rattle.area_graph.specs.steps.BackLinks.{AreBackLinks, AreTargets, HasTarget
 pub none_of_short : (row : List Edge) (targets : List ℕ) → length row ≤ 16 → HasTargets row targets
 none_of_short row targets short = λ long. absurd (omega arith)
 
--- ---- one row more
+-- ---- one more row
 
 pub no_rows : (rows : List (List Edge)) → HaveTargets 0 rows []
 no_rows rows = record { each = refl; here = λ i lt. absurd (omega arith) }
@@ -62,7 +62,7 @@ pub named_among : (row : List Edge) (targets : List ℕ) (vertex : ℕ) → AreT
 named_among row targets vertex are =
     sym (list_any-IsPermutation (λ t. eqb t vertex) (targets_of row) targets are.same) ∙ any_targets row vertex
 
--- what a binary search says
+-- what a binary search shows
 pub found_among : (targets : List ℕ) (vertex : ℕ) (r : Result ℕ ℕ) → IsNonDecreasing targets → IsSearchInRange r (length targets)
     → IsBinarySearchResult (λ y. nat_cmp y vertex) targets r → (found : Bool) → found ≡ is_ok r → found ≡ list_any (λ t. eqb t vertex) targets
 found_among targets vertex r up within search found is = by r refl (searched targets vertex r search (λ i j le lt. up i j 0 le lt))

@@ -91,7 +91,7 @@ only (z ∷ []) x y one (inl p) (inr j) = absurd j
 only (z ∷ []) x y one (inr i) j = absurd i
 only (z ∷ w ∷ ws) x y one i j = absurd (omega (arith, one))
 
--- one key, and none behind it
+-- one key, and none after it
 pub one_key : (keys rest left : List KeyAt) (noted : KeyAt) (second : Option KeyAt) → keys ≡ noted ∷ rest → is_some second ≡ false
     → YieldsFirst (λ (ks : List KeyAt). ks) rest second left → length keys ≡ 1
 one_key keys rest left noted None is none steps = ap length is ∙ ap (λ (ks : List KeyAt). suc (length ks)) steps.0
@@ -156,7 +156,7 @@ module _ (d : Places) (section : ℕ) (vertex : Vertex) (low high : Key) (keys :
         own = own;
       }
 
--- what follows of one thing, if there is one, from three facts of it
+-- what follows for an optional value from three facts about it
 pub of_each : {X : Type 0} (o : Option X) (P Q R S : X → Type 0) → IfSome o P → IfSome o Q → IfSome o R → ((x : X) → P x → Q x → R x → S x) → IfSome o S
 of_each None P Q R S p q r all = tt
 of_each (Some x) P Q R S p q r all = all x p q r

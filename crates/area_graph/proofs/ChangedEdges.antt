@@ -1,4 +1,5 @@
--- The edges of an area after a change of the cost of one interface: the same, but for the costs of those over the interface.
+-- The edges of an area after a change of the cost of one interface: the same, except for the costs of those over the
+-- interface.
 use Rattle.std.proofs.Common.{◌≡◌, ℕ, Bool, true, false, cond, not, eqb, ltb, List, [], ◌∷◌, ◌++◌, map, Option, None, Some, refl, sym, ap, ◌∙◌, inl, inr}
 use Rattle.std.proofs.Common.{true≢false}
 use Rattle.std.specs.Prelude.{◌&&◌, ◌||◌}
@@ -56,7 +57,7 @@ flat_map-zip R f g h each (x ∷ xs) [] zip = absurd zip
 flat_map-zip R f g h each (x ∷ xs) (y ∷ ys) zip =
     (λ i. each x y zip.0 i ++ flat_map-zip R f g h each xs ys zip.1 i) ∙ sym (map-append h (f x) (flat_map f xs))
 
--- what stays of each LSA
+-- what is the same in each LSA before and after
 record IsAlike (old new : List ℕ) : Type 0 where
   kind : kind_of new ≡ kind_of old
   id : link_state_id_of new ≡ link_state_id_of old

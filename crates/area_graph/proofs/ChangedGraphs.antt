@@ -1,4 +1,4 @@
--- The graph of an area after a change of the cost of one interface: the costs in one row are exchanged.
+-- The graph of an area after a change of the cost of one interface: the costs in one row are replaced.
 use Rattle.std.proofs.Common.{◌≡◌, ◌≢◌, ℕ, ◌<◌, ◌≤◌, ◌^◌, Bool, true, false, cond, List, [], ◌∷◌, map, length, get_or, Option, None, Some, refl, sym, ap, ◌∙◌}
 use Rattle.std.proofs.Common.{subst, arith, ⊎_elim}
 use Rattle.std.specs.Prelude.{AllPairs, Contains, slice_get, slice_set}
@@ -106,7 +106,7 @@ module _ (lsas : List (List ℕ)) (are : AreOfArea lsas) (t : Topology) (vertice
       subst (λ (s : Topology). IsGraphOf lsas s) (λ i. record { vertices = sym vertices i; rows = once_rows i })
       (is_graph lsas are (raw_graph lsas) draft refl (raw_row lsas))
 
--- ---- the costs in one row are exchanged
+-- ---- the costs in one row are replaced
 
 module _ (change : CostChange) (lsas others : List (List ℕ)) (are : AreOfArea others) (changed : AreChanged change lsas others) (old new : Topology)
     (graph : IsGraphOf lsas old) (small : change.cost < 2 ^ 16) (from to : ℕ) (at_from : position (is_same (router change)) old.vertices ≡ Some from)

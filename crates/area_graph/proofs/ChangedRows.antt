@@ -52,7 +52,7 @@ only_one p (z ∷ xs) few x y (inr i) (inr j) s t =
     let size : count_by p (z ∷ xs) ≡ cond (p z) 1 0 + count_by p xs = counted p z xs (p z) refl in
     only_one p xs (omega arith) x y i j s t
 
--- ---- edges that are mapped to edges as different as they were
+-- ---- edges that are mapped to edges, different ones to different ones
 
 module _ (h : Edge → Edge) (whole : List Edge) (apart : (x y : Edge) → In whole x → In whole y → same_edge (h x) (h y) ≡ same_edge x y) where
   same_any : (x : Edge) → In whole x → (kept : List Edge) → ((y : Edge) → In kept y → In whole y)

@@ -1,4 +1,4 @@
--- A graph in which the costs of a row are exchanged is still one.
+-- A graph in which the costs of a row are replaced is still one.
 use Rattle.std.proofs.Common.{◌≡◌, ◌≢◌, ℕ, ◌<◌, ◌≤◌, ◌^◌, Bool, true, false, cond, List, [], map, length, get_or, Some, refl, sym, ap, ◌∙◌, subst, arith}
 use Rattle.std.proofs.Common.{⊎_elim, true≢false}
 use Rattle.std.specs.Prelude.{AllPairs, Contains, slice_get, slice_set}

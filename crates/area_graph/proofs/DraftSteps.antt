@@ -27,7 +27,7 @@ module _ (t : Topology) (draft : IsDraft t) (i : ℕ) (within : i < length t.ver
   row_else : (j : ℕ) → j ≢ i → row_at (with_edge t i e) j ≡ row_at t j
   row_else j other = get_or-set_other t.rows i j (row_at t i ++ e ∷ []) [] other
 
-  -- what a row has, in terms of the row before
+  -- the members of a row, by the row before
   row_only : (j : ℕ) (f : Edge) → Contains (row_at (with_edge t i e) j) f → Contains (row_at t j) f ⊎ (f ≡ e)
   row_only j f h =
       ⊎_elim

@@ -49,7 +49,7 @@ module _ (t : Topology) where
       by_target i v o at_v there None at_w is = absurd (cc)
       by_target i v o at_v there (Some w) at_w is = subst (λ (f : DirectedEdge Vertex). IsEdge t f) (Some-same is) (i, o.to, there, at_v, at_w)
 
-  -- two edges, one after the other, cost something
+  -- the cost of two edges, one after the other, is not 0
   pub NothingFree-edges : IsTopology t → NothingFree (edges_of t)
   NothingFree-edges shape e f there next joined = by_kind (is_network e.from) (is_network f.from) refl refl
     where

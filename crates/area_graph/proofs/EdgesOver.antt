@@ -63,7 +63,7 @@ module _ (lsas : List (List ℕ)) where
       subst (λ (g : DirectedEdge Vertex). In vertices g.from × In vertices g.to) f.2 (o.to, o.from)))
       (In-cases (router_edges lsas) (map back (filter (λ e. is_network e.to) (router_edges lsas))) e i)
 
--- ---- edges out of routers, with those back between them or behind them
+-- ---- edges out of routers, with those back between them or after them
 
 other_kind : (u v : Vertex) (b : Bool) → is_network u ≡ b → is_network v ≡ not b → is_same u v ≡ false
 other_kind (Router x) (Router y) b h k = absurd (differ b h k)

@@ -50,7 +50,7 @@ link_has_cost : (link : Link) (t : Vertex) → IsLinkTo t link → has_cost link
 link_has_cost link (Router w) h = ap has_cost h.0
 link_has_cost link (Network n) h = ap has_cost h.0
 
--- an accepted LSA has no link to a vertex that costs nothing
+-- no link of an accepted LSA to a vertex has cost 0
 link_costs : (lsa : List ℕ) (link : Link) (t : Vertex) → IsAccepted lsa → kind_of lsa ≡ 1 → Contains (links_of lsa) link → IsLinkTo t link → 0 < link.metric
 link_costs lsa link t accepted one c to =
     let all : list_all is_link_cost_good (links_of lsa) ≡ true =

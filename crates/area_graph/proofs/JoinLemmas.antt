@@ -1,4 +1,4 @@
--- `area_edges` has exactly the edges that `Joins` tells.
+-- `area_edges` has exactly the edges that `Joins` defines.
 use Rattle.std.proofs.Common.{◌≡◌, ℕ, Bool, true, false, cond, List, [], map, Some, refl, sym, ap, ◌∙◌, subst, ⊎_elim, true≢false}
 use Rattle.std.specs.Prelude.{◌↔◌}
 use Rattle.std.specs.List.{Contains, flat_map, filter, filter_map, list_any}

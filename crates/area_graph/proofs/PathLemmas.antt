@@ -29,7 +29,7 @@ module _ {V : Type 0} (IsEdge : DirectedEdge V → Type 0) where
       let four : path_cost q.0 ≡ d = q.2 in
       omega arith
 
-  -- so the distance is pinned
+  -- so the distance is unique
   pub IsDistance-same : (v w : V) (c d : Option ℕ) → IsDistance IsEdge v w c → IsDistance IsEdge v w d → c ≡ d
   IsDistance-same v w None None p q = refl
   IsDistance-same v w None (Some d) p q = absurd (p q.0.0 q.0.1)

@@ -1,4 +1,4 @@
--- The words of `AllPaths` computed on small graphs.
+-- The definitions of `AllPaths` computed on small graphs.
 use Rattle.std.proofs.Common.{◌≡◌, ℕ, List, [], ◌∷◌, None, Some, refl}
 use Rattle.area_graph.specs.declared.vertex.Vertex.{Vertex}
 use Rattle.area_graph.specs.declared.vertex.Vertex.TheVariants.{Router}

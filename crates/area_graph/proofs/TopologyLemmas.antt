@@ -59,7 +59,8 @@ module _ (t : Topology) (shape : IsTopology t) where
     slice_get-get_or t.vertices e.to (Router (record { 0 = 0 })) (shape.in_range e arc),
   )
 
-  -- an edge out of a router costs something, and one out of a network nothing, and leads to a router
+  -- the cost of an edge out of a router is not 0; that of an edge out of a network is 0, and it
+  -- leads to a router
   pub arc_kind : (e : DirectedEdge ℕ) → IsArc t e → ((is_network (name t e.from) ≡ false) × (0 < e.cost)) ⊎
       ((is_network (name t e.from) ≡ true) × (e.cost ≡ 0) × (is_network (name t e.to) ≡ false))
   arc_kind e arc = by_kind (is_network (name t e.from)) refl

@@ -1,4 +1,5 @@
--- Two lists whose members are related place by place: their filtered and mapped lists are so, or are the same.
+-- Two lists whose members are related place by place: their filtered and mapped lists are related too, or are
+-- the same.
 use Rattle.std.proofs.Common.{◌≡◌, Bool, true, false, cond, List, [], ◌∷◌, ◌++◌, map, Option, None, Some, refl, sym, ap, ◌∙◌, subst, inl, inr}
 use Rattle.std.specs.Prelude.{◌||◌}
 use Rattle.std.specs.List.{AllZip, cons_option, filter, filter_map, flat_map, list_any}
@@ -34,7 +35,7 @@ module _ {X Y : Type 0} (R : X → Y → Type 0) where
   zip-append (x ∷ xs) us [] vs h k = absurd h
   zip-append (x ∷ xs) us (y ∷ ys) vs h k = (h.0, zip-append xs us ys vs h.1 k)
 
-  -- a test that comes out alike of related members
+  -- a test with the same result on related members
   module _ (p : X → Bool) (q : Y → Bool) (alike : (x : X) (y : Y) → R x y → q y ≡ p x) where
     pub zip-filter : (xs : List X) (ys : List Y) → AllZip R xs ys → AllZip R (filter p xs) (filter q ys)
     zip-filter [] [] h = tt

@@ -1,5 +1,6 @@
 -- All paths over a list of edges, each no longer than the list, and the distance that they give
--- (RFC 2328, 16.1). Nothing computes these words: `unfoldable`, they open where a lemma says so.
+-- (RFC 2328, 16.1). The definitions are `unfoldable`: nothing computes them, and lemmas open them
+-- where they say so.
 use Rattle.std.specs.Prelude.{ℕ, zero, suc, Bool, ◌&&◌, nat_le, List, [], ◌∷◌, map, length, filter, flat_map, Option}
 use Rattle.std.specs.List.{list_all}
 use Rattle.std.specs.Ordering.{nat_cmp}
@@ -22,7 +23,7 @@ leads v (e ∷ es) w = is_same e.from v && leads e.to es w
 unfoldable pub paths_of : List (DirectedEdge Vertex) → Vertex → Vertex → List (List (DirectedEdge Vertex))
 paths_of edges v w = filter (λ es. leads v es w) (lists_within (length edges) edges)
 
--- those that cost no more than any other
+-- the paths of least cost
 unfoldable pub least_paths_of : List (DirectedEdge Vertex) → Vertex → Vertex → List (List (DirectedEdge Vertex))
 least_paths_of edges v w = filter (λ es. list_all (λ fs. nat_le (path_cost es) (path_cost fs)) (paths_of edges v w)) (paths_of edges v w)
 

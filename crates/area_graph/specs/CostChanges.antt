@@ -1,4 +1,4 @@
--- Changes of the cost of one interface of a router (RFC 2328, 2.1 and C.3), as its router-LSA tells them.
+-- Changes of the cost of one interface of a router (RFC 2328, 2.1 and C.3), as its router-LSA shows them.
 use Rattle.std.specs.Prelude.{◌≡◌, ◌⊎◌, ◌&&◌, ◌==◌, ℕ, Bool, false, if◌then◌else◌, List}
 use Rattle.std.specs.List.{AllZip}
 use Rattle.std.specs.Option.{option_map_or}
@@ -21,7 +21,7 @@ is_over change link = option_map_or (is_same change.to) (target_of link) false &
 abbrev pub changed_metric : CostChange → Link → ℕ
 changed_metric change link = if is_over change link then change.cost else link.metric
 
--- a link before and after: the same, but for the metric of one over the interface
+-- a link before and after: the same, except for the metric of a link over the interface
 pub record IsChangedLink (change : CostChange) (old new : Link) : Type 0 where
   pub kind : new.kind ≡ old.kind
   pub id : new.id ≡ old.id

@@ -13,7 +13,7 @@ use Rattle.area_graph.specs.AreaEdges.{area_edges}
 use Rattle.area_graph.specs.Rows.{rows_of}
 
 -- the graph of an area with these LSAs: the vertices in the order of the LSAs in use, and each edge once. The first two
--- fields say all of it, and the others what follows for its edges
+-- fields determine it; the others follow for its edges
 pub record IsGraphOf (lsas : List (List ℕ)) (graph : Topology) : Type 0 where
   pub vertices : graph.vertices ≡ vertices_of lsas
   pub rows : graph.rows ≡ rows_of lsas
@@ -26,7 +26,7 @@ abbrev pub FaultMeans : Option SectionLsas → GraphFault → Type 0
 FaultMeans None fault = fault ≡ NoArea
 FaultMeans (Some area) fault = fault ≡ OutOfMemory
 
--- what holds of the LSAs of an area in a database
+-- the properties of the LSAs of an area in a database
 pub record AreOfArea (lsas : List (List ℕ)) : Type 0 where
   pub accepted : All IsAccepted lsas
   pub distinct : AllPairs (λ a b. key_of a ≢ key_of b) lsas

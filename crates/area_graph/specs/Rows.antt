@@ -12,7 +12,7 @@ use Rattle.area_graph.specs.AreaEdges.{area_edges}
 abbrev pub same_edge : Edge → Edge → Bool
 same_edge a b = (a.to == b.to) && ((a.cost == b.cost) && (a.link_data.0 == b.link_data.0))
 
--- the members of a list, each where it stands first
+-- the members of a list, each at its first place alone
 abbrev pub each_once : {X : Type 0} → (X → X → Bool) → List X → List X
 each_once same xs = fold (λ kept x. if list_any (same x) kept then kept else kept ++ x ∷ []) [] xs
 

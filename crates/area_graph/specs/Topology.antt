@@ -33,8 +33,8 @@ edge_from t v e = option_map (λ w. record { from = v; to = w; cost = e.cost; li
 unfoldable pub edges_of : Topology → List (DirectedEdge Vertex)
 edges_of t = flat_map (λ p. filter_map (λ e. edge_from t p.0 e) p.1) (zip t.vertices t.rows)
 
--- what holds of every graph of an area: no row has an edge twice, a network has edges of cost 0 to routers alone, and a
--- router's edges cost something
+-- the properties of every graph of an area: no row has an edge twice, a network has edges of cost 0 to routers alone,
+-- and the cost of a router's edges is not 0
 pub record IsTopology (t : Topology) : Type 0 where
   pub a_row_each : length t.rows ≡ length t.vertices
   pub few : length t.vertices ≤ 8192

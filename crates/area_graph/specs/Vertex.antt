@@ -1,4 +1,4 @@
--- Words on vertices.
+-- Tests of vertices.
 use Rattle.std.specs.Prelude.{Bool, true, false, ◌==◌}
 use Rattle.area_graph.specs.declared.vertex.Vertex.{Vertex}
 use Rattle.area_graph.specs.declared.vertex.Vertex.TheVariants.{Router, Network}

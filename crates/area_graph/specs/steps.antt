@@ -1,4 +1,5 @@
--- What only the contracts of private functions cite: the steps in which a graph is built.
+-- Definitions that only the contracts of private functions cite: the steps in which a graph is
+-- built.
 pub mod Ranks
 pub mod Spans
 pub mod Naming

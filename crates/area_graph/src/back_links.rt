@@ -16,7 +16,7 @@ use std::marker::Model;
 /// The numbers of vertices that a row names, in rising order.
 type Targets<A> = Vec<usize, A>;
 
-/// How many edges are looked through; in longer rows a vertex is found by a binary search.
+/// How many edges are searched one by one; in longer rows a vertex is found by a binary search.
 const SHORT_ROW: usize = 16;
 
 /// Which vertices name which others, by their numbers. Contracts see it as a row for each vertex:
@@ -24,7 +24,7 @@ const SHORT_ROW: usize = 16;
 #[derive(Drop)]
 pub(crate) struct BackLinks<A: Allocator> {
     naming: Rows<A>,
-    /// Those that each row names, if it is long.
+    /// The vertices that each row names, if it is long.
     targets: Vec<Targets<A>, A>,
 }
 
@@ -59,7 +59,7 @@ fn sorted_targets<A: Allocator + Copy>(alloc: A, row: &[Edge]) -> Result<Targets
         return Ok(Vec::new(alloc));
     }
     let mut targets = targets_of(alloc, row)?;
-    // The links of a router mostly stand in an order, and then this takes one pass.
+    // Most router-LSAs list their links in order, and then this takes one pass.
     targets.sort()?;
     Ok(targets)
 }
@@ -89,7 +89,7 @@ fn is_at(targets: &[usize], index: usize, vertex: usize) -> bool
     }
 }
 
-/// Whether a vertex is found among some, which stand in rising order.
+/// Whether a vertex is found in a list in rising order.
 fn is_found(targets: &[usize], vertex: usize) -> bool
     requires { IsNonDecreasing targets.now }
     ensures { result ≡ list_any (λ target. target == vertex) targets.now }
@@ -97,8 +97,8 @@ fn is_found(targets: &[usize], vertex: usize) -> bool
     targets.binary_search(&vertex).is_ok()
 }
 
-/// Whether a vertex is among some, which stand in rising order. Where they are all vertices, or all
-/// but one, it stands at its own number or one before, so these are looked at first.
+/// Whether a vertex is in a list in rising order. Where the list has all vertices, or all but one,
+/// a vertex is at the index of its own number or one before, so these are tried first.
 fn is_among(targets: &[usize], vertex: usize) -> bool
     requires { IsNonDecreasing targets.now }
     ensures { result ≡ list_any (λ target. target == vertex) targets.now }

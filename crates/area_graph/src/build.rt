@@ -40,9 +40,9 @@ impl<A: Allocator + Copy> Graph<A> {
     /// with a live network-LSA, in the order of these LSAs. An LSA is live if its age is below
     /// MaxAge. Of several live network-LSAs with one Link State ID, only the one with the greatest
     /// Advertising Router is used. An edge is there only where the other end links back: over each
-    /// point-to-point link between routers, over each link of a router to a transit network, at
-    /// the metric of the link, and from the network back to the router at no cost. All of them
-    /// carry the Link Data of the router's link.
+    /// point-to-point link between routers and over each link of a router to a transit network, at
+    /// the metric of the link, and from the network back to the router at cost 0. Each edge carries
+    /// the Link Data of the router's link.
     ///
     /// # Errors
     ///
@@ -55,7 +55,7 @@ impl<A: Allocator + Copy> Graph<A> {
         ensures fault { IfErr result
             (FaultMeans (find (is_section (Area area)) (lists_of database.now))) }
     {
-        // For its LSAs: they are accepted, and their keys are distinct.
+        // Its invariant is needed: its LSAs are accepted, and their keys are distinct.
         database.known();
         let section = Section::Area(area);
         let Some(_) = database.index_of(section) else {

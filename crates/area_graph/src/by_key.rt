@@ -41,7 +41,7 @@ fn key_range(vertex: Vertex) -> (Key, Key)
     }
 }
 
-/// The LSA at a place, if it is below MaxAge and that of a vertex.
+/// The LSA at a place, if it is below MaxAge and belongs to the vertex.
 fn live_at<A: Allocator + Copy>(
     database: &Database<A>,
     slot: SlotId,
@@ -61,10 +61,10 @@ fn live_at<A: Allocator + Copy>(
 }
 
 /// The LSA in use of a vertex of an area's graph, found by its key in the area's section, which is
-/// given by its number. `None` where the area has no such LSA, and where it may have several: more
-/// than one router may have originated network-LSAs of one Link State ID.
+/// given by its number. `None` where the area has no such LSA, and where it may have several,
+/// because more than one router may have originated network-LSAs with one Link State ID.
 ///
-/// It takes no memory, and its steps are in the logarithm of the number of the section's LSAs.
+/// It takes no memory, and time logarithmic in the number of LSAs of the section.
 pub fn lsa_of_vertex<A: Allocator + Copy>(
     database: &Database<A>,
     section: usize,
@@ -73,7 +73,7 @@ pub fn lsa_of_vertex<A: Allocator + Copy>(
     requires { IsSome (item_at database.now section) }
     ensures { IfSome result (λ lsa. IsLsaOf (lsas_in database.now section) vertex lsa) }
 {
-    // For its LSAs: they are accepted.
+    // Its invariant is needed: its LSAs are accepted.
     database.known();
     let (least, greatest) = key_range(vertex);
     let mut keys = database.keys_between(section, least, greatest);

@@ -1,4 +1,4 @@
-//! Changes of the cost of one interface of a router, as its router-LSA tells them.
+//! Changes of the cost of one interface of a router, as its router-LSA shows them.
 
 ghost use Rattle.std.specs.Prelude.{◌≡◌, IfSome};
 ghost use Rattle.std.specs.Bool.{OnTrue};
@@ -25,9 +25,9 @@ pub struct CostChange {
 }
 
 impl CostChange {
-    /// The change that makes one router-LSA another, where there is one: no more than the metric of
-    /// such links differs, and what their routes do not depend on, as the sequence number. `None`
-    /// says nothing. It takes no memory.
+    /// The change that makes one router-LSA another, where there is one: only the metric of such
+    /// links differs, and fields that routes do not depend on, such as the sequence number. `None`
+    /// means nothing: the LSAs may differ or not. It takes no memory.
     pub fn between<A: Allocator + Copy>(before: &Lsa<A>, after: &Lsa<A>) -> Option<CostChange>
         ensures { IfSome result (λ change. IsChangedLsa change before.now after.now) }
     {
@@ -46,7 +46,7 @@ impl CostChange {
     }
 }
 
-/// The change of a router's cost that the first links tell whose metrics differ.
+/// The change of a router's cost that the first links with different metrics show.
 fn first_change(from: RouterId, mut olds: Links<'_>, mut news: Links<'_>) -> Option<CostChange>
     ensures { IfSome result (λ change. change.from ≡ from) }
 {
@@ -85,7 +85,7 @@ fn changed_metric(change: CostChange, link: Link) -> u16
     }
 }
 
-/// Whether a link is the same before and after a change, but for the metric of one over the
+/// Whether a link is the same before and after a change, except for the metric of a link over the
 /// interface.
 fn is_changed_link(change: CostChange, old: Link, new: Link) -> bool
     ensures { OnTrue result (IsChangedLink change old new) }
@@ -96,7 +96,7 @@ fn is_changed_link(change: CostChange, old: Link, new: Link) -> bool
         && new.metric == changed_metric(change, old)
 }
 
-/// Whether all links of a router are so, one by one.
+/// Whether all links of a router are the same in this sense, one by one.
 fn are_changed_links(change: CostChange, mut olds: Links<'_>, mut news: Links<'_>) -> bool
     ensures { OnTrue result (AllZip (IsChangedLink change) olds.entry news.entry) }
 {

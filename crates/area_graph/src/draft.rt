@@ -36,7 +36,7 @@ impl<A: Allocator> Model for Draft<A> {
         (record { vertices = d.vertices.keys; rows = map (λ row. row.items) d.rows.items }) };
 }
 
-/// So many rows without edges.
+/// `count` rows without edges.
 fn empty_rows<A: Allocator + Copy>(alloc: A, count: usize) -> Result<Vec<Row<A>, A>, AllocError>
     ensures count { IfOk result (λ rows. length rows.items ≡ count) }
     ensures empty { IfOk result
@@ -107,7 +107,7 @@ impl<A: Allocator + Copy> Draft<A> {
         ensures vertices { self.new.vertices ≡ self.old.vertices }
         ensures edges { OnOk result (Adds (arc_of row edge ∷ []) self.old self.new) }
     {
-        // Opens the value, so that its invariant is known.
+        // Opens the value, so that its invariant is available.
         let _ = &self.vertices;
         self.insert(row, edge)
     }

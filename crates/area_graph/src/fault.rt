@@ -12,7 +12,7 @@ pub enum GraphFault {
     /// The database lacks the area.
     #[error("NoArea")]
     NoArea,
-    /// The area is there, and a growth was refused.
+    /// The area is there, and memory ran out.
     #[error("OutOfMemory")]
     OutOfMemory,
 }

@@ -20,11 +20,11 @@ use std::marker::Model;
 /// the edges out of it.
 ///
 /// It has at most 8,192 vertices, all distinct. Each edge leads to one of them. An edge out of a
-/// network leads to a router and costs nothing, and an edge out of a router costs something.
+/// network leads to a router at cost 0, and the cost of an edge out of a router is not 0.
 #[derive(Drop)]
 pub struct Graph<A: Allocator = Global> {
     pub(crate) vertices: Vertices<A>,
-    /// Of each vertex whether it is a transit network, in one octet: trees ask for it often.
+    /// Whether each vertex is a transit network, one byte per vertex: trees ask for it often.
     pub(crate) networks: Vec<bool, A>,
     pub(crate) rows: Rows<A>,
 }
@@ -43,7 +43,7 @@ impl<A: Allocator> Model for Graph<A> {
 }
 
 impl<A: Allocator + Copy> Graph<A> {
-    /// How many vertices there are.
+    /// The number of vertices.
     pub fn len(&self) -> usize
         ensures count { result ≡ length self.now.vertices }
         ensures shape { IsTopology self.now }
@@ -79,10 +79,10 @@ impl<A: Allocator + Copy> Graph<A> {
         self.networks[index]
     }
 
-    /// Makes it the graph after a change of the cost of an interface. Whether it does, and else it
-    /// stays: it does where the router and the vertex are in the graph, the cost is not 0, and one
-    /// edge at most leads from the router to the vertex with the Link Data. `false` says no more
-    /// than that it stayed. It takes no memory.
+    /// Changes the graph as a change of an interface's cost does, and returns whether it did. It
+    /// does where the router and the vertex are in the graph, the cost is not 0, and at most one
+    /// edge leads from the router to the vertex with the Link Data. `false` means only that the
+    /// graph is unchanged. It takes no memory.
     pub fn change_cost(&mut self, change: CostChange) -> bool
         ensures graph { OnTrue result ((lsas others : List (List ℕ)) → AreOfArea others
             → AreChanged change lsas others → IsGraphOf lsas self.old → IsGraphOf others self.new) }

@@ -7,7 +7,7 @@ ghost use Rattle.area_graph.specs.AllPaths.{distance_of};
 ghost use Rattle.area_graph.specs.AreaEdges.{area_edges};
 ghost use Rattle.area_graph.specs.Joins.{Joins};
 
-/// The list of the edges of an area has exactly the edges that `Joins` tells, case by case.
+/// The list of the edges of an area has exactly the edges that `Joins` defines, case by case.
 pub fn edges_join_both_ways()
     ensures { (lsas : List (List ℕ)) (e : DirectedEdge Vertex)
         → Contains (area_edges lsas) e ↔ Joins lsas e.from e.to e.cost e.link_data }

@@ -25,7 +25,7 @@ pub(crate) fn target_of(link: Link) -> Option<Vertex>
     }
 }
 
-/// An edge to a vertex, if it has a number. It is looked for at one number first.
+/// An edge to a vertex, if it has a number. The number `near` is tried first.
 fn edge_to<A: Allocator + Copy>(
     vertices: &Vertices<A>,
     near: usize,
@@ -68,8 +68,8 @@ fn listed<A: Allocator + Copy>(
     edge_to(vertices, near, Vertex::Router(router), 0, Addr(0))
 }
 
-/// The number behind that to which the last edge of a row leads: many LSAs name vertices in the
-/// order of their LSAs.
+/// The number after that of the vertex to which the last edge of a row leads: many LSAs name
+/// vertices in the order of the vertices' LSAs.
 fn next_number(row: &[Edge]) -> usize {
     match row.last() {
         Some(edge) => usize::from(edge.to).saturating_add(1),
@@ -143,7 +143,7 @@ fn add_naming<A: Allocator + Copy>(
     }
 }
 
-/// For each of these LSAs a row of edges to the vertices that it names.
+/// A row for each of these LSAs: edges to the vertices that it names.
 pub(crate) fn naming_rows<A: Allocator + Copy>(
     alloc: A,
     vertices: &Vertices<A>,

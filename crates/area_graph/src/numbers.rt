@@ -26,7 +26,7 @@ pub(crate) fn number_of<A: Allocator + Copy>(
     vertices.get_index_of(&vertex)
 }
 
-/// The number of a vertex, which is looked for at one number first.
+/// The number of a vertex. One number is tried first.
 pub(crate) fn number_near<A: Allocator + Copy>(
     vertices: &Vertices<A>,
     near: usize,
@@ -52,7 +52,7 @@ fn add_vertex<A: Allocator + Copy>(
     Ok(())
 }
 
-/// Of each vertex whether it is a transit network.
+/// Whether each vertex is a transit network.
 pub(crate) fn networks_among<A: Allocator + Copy>(
     alloc: A,
     vertices: &[Vertex],

@@ -1,4 +1,4 @@
-//! Which network-LSA of a network counts: the one with the greatest Advertising Router.
+//! Which network-LSA of a network is used: the one with the greatest Advertising Router.
 
 ghost use Rattle.std.specs.Prelude.{◌≡◌, ℕ, ◌&&◌, ◌∷◌, ◌++◌, [], List, OnOk, IfOk};
 ghost use Rattle.lsa_codec.specs.Fields.{link_state_id_of, advertising_router_of};
@@ -42,7 +42,7 @@ fn set_rank<A: Allocator + Copy>(
     Ok(())
 }
 
-/// Sees to it that the rank of a network is no less than the Advertising Router of its LSA.
+/// Raises the rank of a network to at least the Advertising Router of its LSA.
 fn rank<A: Allocator + Copy>(ranks: &mut Ranks<A>, lsa: &Lsa<A>) -> Result<(), AllocError>
     ensures { OnOk result
         ((lsas : List (List ℕ)) → AreRanksOf lsas ranks.old

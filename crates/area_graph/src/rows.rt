@@ -13,7 +13,7 @@ use std::alloc::{AllocError, Allocator};
 use std::hash::{BuildHasherDefault, FoldHasher};
 use std::marker::Model;
 
-/// Where a row stands: from one place up to before another.
+/// Where a row is: from one place to before another.
 #[derive(Clone, Copy)]
 struct Span {
     start: u32,
@@ -21,8 +21,8 @@ struct Span {
 }
 
 /// A place among edges as a number of 32 bits. Each one fits: an area has at most 8,192 LSAs, of
-/// fewer than 2^16 octets each. That is not proved, so one that did not fit would be memory that
-/// ran out.
+/// fewer than 2^16 bytes each. That is not proved, so a place that does not fit is reported as
+/// memory that ran out.
 fn place(index: usize) -> Result<u32, AllocError>
     ensures { IfOk result (λ place. place ≡ index) }
 {
@@ -52,10 +52,10 @@ impl<A: Allocator> Model for Rows<A> {
         × AllPairs (λ a b. a.end ≤ b.start) r.spans.items };
 }
 
-/// How many edges are compared each with each; more are found by a hash.
+/// Up to this number of edges, each is compared with each; more are found by a hash.
 const SHORT_ROW: usize = 16;
 
-/// Whether no edge is sure to stand twice.
+/// Whether no edge can occur twice, by a quick test.
 fn is_distinct(row: &[Edge]) -> bool
     ensures { result ≡ true → each_once same_edge row.now ≡ row.now }
 {
@@ -127,7 +127,7 @@ fn set_costs(row: &mut [Edge], to: u16, link_data: Addr, cost: u16)
 }
 
 impl<A: Allocator + Copy> Rows<A> {
-    /// No rows, with room for so many.
+    /// No rows, with room for this number of rows.
     pub(crate) fn with_capacity(alloc: A, rows: usize) -> Result<Rows<A>, AllocError>
         ensures { IfOk result (λ none. none ≡ []) }
     {
@@ -137,7 +137,7 @@ impl<A: Allocator + Copy> Rows<A> {
         })
     }
 
-    /// How many rows there are.
+    /// The number of rows.
     pub(crate) fn len(&self) -> usize
         ensures { result ≡ length self.now }
     {
@@ -153,8 +153,8 @@ impl<A: Allocator + Copy> Rows<A> {
         &self.edges[span.start as usize..span.end as usize]
     }
 
-    /// Gives another cost to the edge of a row that leads to the vertex with a number, and carries
-    /// this Link Data, unless there are several. Whether there are not. It takes no memory.
+    /// Gives another cost to the edge of a row that leads to the vertex with a number and carries
+    /// this Link Data, unless there are several. Returns whether there are not. It takes no memory.
     pub(crate) fn set_cost(&mut self, row: usize, to: u16, link_data: Addr, cost: u16) -> bool
         requires { row < length self.old }
         ensures one { OnTrue result (count_by (leads_to to link_data)
@@ -184,7 +184,7 @@ impl<A: Allocator + Copy> Rows<A> {
         Ok(())
     }
 
-    /// Adds a row, and in it each of these edges once.
+    /// Adds a row that has each of these edges once.
     pub(crate) fn push_once(&mut self, alloc: A, row: &[Edge]) -> Result<(), AllocError>
         ensures { OnOk result (self.new ≡ self.old ++ each_once same_edge row.now ∷ []) }
     {

@@ -10,7 +10,7 @@ use lsdb::Lsas;
 use std::alloc::{AllocError, Allocator};
 use std::marker::Model;
 
-/// The LSA of a vertex of an area's graph. Contracts see it as its octets.
+/// The LSA of a vertex of an area's graph. Contracts see it as its bytes.
 #[derive(Drop)]
 pub struct VertexLsa<'a, A: Allocator> {
     lsa: &'a Lsa<A>,
@@ -93,8 +93,8 @@ fn highest<'a, A: Allocator + Copy>(
 }
 
 /// The LSAs of an area that are in use, in their order: the live router-LSAs and, of the live
-/// network-LSAs of one Link State ID, the one with the greatest Advertising Router. They are those
-/// of the vertices of the area's graph, in the order of the vertices' numbers.
+/// network-LSAs of one Link State ID, the one with the greatest Advertising Router. They are the
+/// LSAs of the vertices of the area's graph, in the order of the vertices' numbers.
 ///
 /// # Errors
 ///

@@ -29,7 +29,7 @@ pub struct StubLink {
 /// The stub links of an area's routers. Contracts see them as a list.
 ///
 /// They stand in order of prefix, so that what a tree offers over them stands so, too, and is soon
-/// sorted: that is for speed alone, and no contract says it. Each takes 24 octets.
+/// sorted: that is for speed alone, and no contract says it. Each takes 24 bytes.
 #[derive(Drop)]
 pub struct StubLinks<A: Allocator = Global> {
     links: Vec<StubLink, A>,

@@ -130,7 +130,7 @@ pub fn reply_text<A: Allocator + Copy>(
     Ok(text.into_bytes())
 }
 
-/// For so many octets of a reply room is made at once; most replies are no longer.
+/// For so many bytes of a reply room is made at once; most replies are no longer.
 const SHORT_REPLY: usize = 32;
 
 /// The mark of a branch before a reply: `@0 `.

@@ -1,4 +1,4 @@
--- A router-LSA is made anew: another metric for a link, or a link less.
+-- A router-LSA is rebuilt: another metric for a link, or a link less.
 use Rattle.std.proofs.Common.{◌≡◌, ◌≢◌, ℕ, List, [], ◌∷◌, Result, Ok, Err, refl, sym, ap, ◌∙◌, subst, rules}
 use Rattle.std.specs.Prelude.{IsOk, Some}
 use Rattle.lsa_codec.specs.Key.{router_key}

@@ -10,7 +10,7 @@ use Rattle.edit_history.specs.Effect.{effect, changes, touched}
 use Rattle.edit_history.specs.Exchange.{SwapData, RecordData, CanDo, CanUndo, done_places, done_swaps, undone_places, touches}
 use Rattle.edit_history.specs.Grown.{Grown}
 
--- the change that a swap tells once it is done: it holds the old octets, and the new ones stand at its place
+-- the change that a swap tells once it is done: it holds the old bytes, and the new ones stand at its place
 abbrev pub told : Places → SwapData → Change
 told e s = record { section = s.section; kind = s.kind; old = s.other; new = unwrap_or (slot_at e s.slot) None }
 

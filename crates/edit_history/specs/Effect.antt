@@ -67,11 +67,11 @@ has_router router db = list_any (is_in_section router) db
 
 -- ---- limits
 
--- the octets of a link without TOS metrics (RFC 2328, A.4.2)
+-- the bytes of a link without TOS metrics (RFC 2328, A.4.2)
 abbrev pub stub_octets : ℕ
 stub_octets = 12
 
--- whether the dump would be too long with so many octets more
+-- whether the dump would be too long with so many bytes more
 abbrev pub is_dump_full : Lists → ℕ → Bool
 is_dump_full db more = nat_lt longest_dump (size db + more)
 
@@ -80,13 +80,13 @@ abbrev pub most_lsas : Section → ℕ
 most_lsas (Area id) = most_lsas_of_area
 most_lsas AsWide = most_lsas_of_as
 
--- whether a section or the dump would pass its limit with an LSA more, of so many octets
+-- whether a section or the dump would pass its limit with an LSA more, of so many bytes
 abbrev pub is_full : Lists → Section → ℕ → Bool
 is_full db name octets = nat_le (most_lsas name) (length (lsas_of name db)) || is_dump_full db octets
 
--- ---- LSAs that are made anew
+-- ---- LSAs that are rebuilt
 
--- a router-LSA is made anew
+-- a router-LSA is rebuilt
 abbrev pub remaking : Lists → AreaId → RouterId → (List ℕ → Result (List ℕ) MakeFault) → Result Rule EditFault
 remaking db area router make = do
   lsa ← router_lsa_of db area router
@@ -149,7 +149,7 @@ is_type2 Type2 = true
 abbrev pub has_room : Result (Unit {0}) EditFault
 has_room = Ok tt
 
--- whether a section has room for a new LSA of a key, of so many octets, or the refusal
+-- whether a section has room for a new LSA of a key, of so many bytes, or the refusal
 abbrev pub room_for : Lists → Section → Key → ℕ → Result (Unit {0}) EditFault
 room_for db name key octets =
     if list_any (has_key key) (lsas_of name db) then Err KeyTaken else

@@ -11,7 +11,7 @@ use Rattle.edit_script.specs.declared.edit.Edit.{Edit}
 use Rattle.edit_history.specs.Effect.{is_of_graph}
 
 -- a place, the section and the LS type of the LSA that stands there or stood there, and what the database
--- lacks of it: the old octets once the edit is done, the new ones once it is undone
+-- lacks of it: the old bytes once the edit is done, the new ones once it is undone
 pub record SwapData : Type 0 where
   pub slot : SlotId
   pub section : Section

@@ -14,7 +14,7 @@ pub data Fate : Type 0 where
   removed : Fate
   rewritten : List ℕ → Fate
 
--- the fate of each LSA, by the area in which it lies and its octets
+-- the fate of each LSA, by the area in which it lies and its bytes
 abbrev pub Fates : Type 0
 Fates = Option AreaHead → List ℕ → Fate
 
@@ -69,7 +69,7 @@ lists_after rule db = map (section_after rule) db
 
 -- ---- what a rule changes, by section and position
 
--- an LSA that was rewritten, removed or added: its section, its LS type, and its octets before and after
+-- an LSA that was rewritten, removed or added: its section, its LS type, and its bytes before and after
 pub record Change : Type 0 where
   pub section : Section
   pub kind : ℕ
@@ -81,7 +81,7 @@ abbrev pub section_name : Option AreaHead → Section
 section_name None = AsWide
 section_name (Some area) = Area (record { 0 = area.id })
 
--- an LSA that is rewritten counts, also where its octets come out equal
+-- an LSA that is rewritten counts, also where its bytes come out equal
 abbrev pub change_of : Section → List ℕ → Fate → Option Change
 change_of section lsa stays = None
 change_of section lsa removed = Some (record { section = section; kind = kind_of lsa; old = Some lsa; new = None })

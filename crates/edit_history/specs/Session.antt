@@ -79,7 +79,7 @@ abbrev pub accepted_or : Session → Result Session EditFault → Session
 accepted_or s (Ok t) = t
 accepted_or s (Err fault) = s
 
--- the session after a request; more edits than there are can not be undone or redone
+-- the session after a request; more edits than there are cannot be undone or redone
 abbrev pub after_request : Session → Request → Session
 after_request s (edit e) = accepted_or s (edited s e)
 after_request s (undo k) = if nat_lt (length s.done) k then s else moved_back k s

@@ -39,7 +39,7 @@ pub enum EditFault {
     /// already.
     #[error("KeyTaken")]
     KeyTaken,
-    /// E10: the LSA would be longer than 65,535 octets.
+    /// E10: the LSA would be longer than 65,535 bytes.
     #[error("TooLong")]
     TooLong,
     /// E11: an area, the LSAs of AS scope or the dump would pass their limit.

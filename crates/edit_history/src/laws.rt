@@ -127,7 +127,7 @@ pub fn untouched_areas_stay()
 {}
 
 /// A refresh leaves the refreshed database: each covered summary-LSA has the metric that it is due
-/// in that very database. So a second refresh changes no octet, and tells no change. It touches no
+/// in that very database. So a second refresh changes no byte, and tells no change. It touches no
 /// area.
 pub fn refresh_settles()
     ensures effect { (db : Lists) → effect db Refresh ≡ Ok (refreshed db) }

@@ -9,7 +9,7 @@ use lsa_codec::Key;
 use lsdb::{Database, LONGEST_DUMP, MOST_LSAS_OF_AREA, MOST_LSAS_OF_AS, Section};
 use std::alloc::Allocator;
 
-/// Whether the dump would be too long with so many octets more.
+/// Whether the dump would be too long with so many bytes more.
 pub(crate) fn is_dump_full<A: Allocator + Copy>(database: &Database<A>, octets: u16) -> bool
     ensures { result ≡ is_dump_full (lists_of database.now) octets }
 {
@@ -26,7 +26,7 @@ fn most_lsas(section: Section) -> usize
     }
 }
 
-/// Whether a section or the dump would pass its limit with an LSA more, of so many octets.
+/// Whether a section or the dump would pass its limit with an LSA more, of so many bytes.
 fn is_full<A: Allocator + Copy>(database: &Database<A>, section: Section, octets: u16) -> bool
     ensures { result ≡ is_full (lists_of database.now) section octets }
 {

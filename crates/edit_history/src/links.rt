@@ -12,7 +12,7 @@ use lsa_codec::{AreaId, LONGEST_LSA, Prefix, ROUTER_LSA, RouterId};
 use lsdb::{Database, Section};
 use std::alloc::Allocator;
 
-/// The octets of a link without TOS metrics (RFC 2328, A.4.2).
+/// The bytes of a link without TOS metrics (RFC 2328, A.4.2).
 const STUB_OCTETS: u16 = 12;
 
 /// The metric of a link is another one: the cost of an interface (RFC 2328, C.3), told in the

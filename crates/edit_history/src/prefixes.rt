@@ -18,10 +18,10 @@ use lsa_codec::{Addr, AreaId, EXTERNAL_LSA, Key, Lsa, Metric, Prefix, RouterId, 
 use lsdb::{Database, Section};
 use std::alloc::Allocator;
 
-/// How many octets a new summary-LSA has (RFC 2328, A.4.4).
+/// How many bytes a new summary-LSA has (RFC 2328, A.4.4).
 const SUMMARY_OCTETS: u16 = 28;
 
-/// How many octets a new AS-external-LSA has (RFC 2328, A.4.5).
+/// How many bytes a new AS-external-LSA has (RFC 2328, A.4.5).
 const EXTERNAL_OCTETS: u16 = 36;
 
 /// A router's first summary-LSA for a prefix has another metric.

@@ -11,7 +11,7 @@ use std::alloc::{Allocator, Global};
 use std::marker::Model;
 
 /// An edit that was carried out, and of each LSA that it changed the side that the database lacks:
-/// the old octets once the edit is done, the new ones once it is undone.
+/// the old bytes once the edit is done, the new ones once it is undone.
 #[derive(Drop)]
 pub struct Record<A: Allocator = Global> {
     edit: Edit,
@@ -83,7 +83,7 @@ impl<A: Allocator + Copy> Record<A> {
     }
 }
 
-/// Takes an edit back: the database is again the one before it, octet for octet. It takes no
+/// Takes an edit back: the database is again the one before it, byte for byte. It takes no
 /// memory.
 ///
 /// The database is the one after the edit. Empty places that were opened since at the ends of
@@ -96,7 +96,7 @@ pub fn revert<A: Allocator + Copy>(database: &mut Database<A>, last: &mut Record
     undo_swaps(database, &mut last.swaps);
 }
 
-/// Carries an edit out again: the database is again the one after it, octet for octet. It takes no
+/// Carries an edit out again: the database is again the one after it, byte for byte. It takes no
 /// memory.
 ///
 /// The database is the one before the edit. Empty places that were opened since at the ends of

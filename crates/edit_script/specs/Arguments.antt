@@ -32,7 +32,7 @@ abbrev pub four_parts : List Word → Option (Word × Word × Word × Word)
 four_parts (a ∷ b ∷ c ∷ d ∷ []) = Some (a, b, c, d)
 four_parts _ = None
 
--- four numbers to 255, the octets of an address, the highest first
+-- four numbers to 255, the bytes of an address, the highest first
 unfoldable pub address_of_parts : List Word → Option ℕ
 address_of_parts parts = do
   part ← four_parts parts

@@ -60,7 +60,7 @@ fn four_parts(word: &[u8]) -> Option<(&[u8], &[u8], &[u8], &[u8])>
     }
 }
 
-/// The octet that a word spells.
+/// The byte that a word spells.
 fn octet(word: &[u8]) -> Option<u8>
     ensures { result ≡ number_up_to 255 word.now }
 {

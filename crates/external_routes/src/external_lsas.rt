@@ -31,7 +31,7 @@ pub struct ExternalLsa {
 /// LSInfinity. Contracts see them as a list.
 ///
 /// They stand in order of prefix, so that the paths that they offer stand so, too, and need no
-/// sort: that is for speed alone, and no contract says it. Each takes 24 octets.
+/// sort: that is for speed alone, and no contract says it. Each takes 24 bytes.
 #[derive(Drop)]
 pub struct ExternalLsas<A: Allocator = Global> {
     lsas: Vec<ExternalLsa, A>,

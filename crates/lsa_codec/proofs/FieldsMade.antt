@@ -88,9 +88,9 @@ links_kept test lsa made old kind e =
     let is = made_is (list_any test (links_of lsa)) (with_links kept lsa) made NoLink e in
     subst (KeepsAgeAndFlags lsa) is (kept_links lsa kept old kind (kept_filtered (λ link. not (test link)) lsa old kind))
 
--- ---- a stub link more
+-- ---- one more stub link
 
--- the LSA with a stub link, and what is known of it
+-- the LSA with a stub link, and its properties
 record Extended (net : Net) (metric : ℕ) (lsa made : List ℕ) : Type 0 where
   pub is : recounted (link_count lsa + 1) (lsa ++ stub_text net metric) ≡ made
   pub new : Recounted (link_count lsa + 1) (lsa ++ stub_text net metric) (recounted (link_count lsa + 1) (lsa ++ stub_text net metric))

@@ -1,4 +1,4 @@
--- Octets that are links one behind another, and router-LSAs made of them.
+-- Bytes that are links, one after another, and router-LSAs made of them.
 use Rattle.std.proofs.Common.{◌≡◌, ℕ, zero, suc, ◌+◌, ◌-◌, ◌*◌, ◌≤◌, ◌<◌, Bool, true, eqb, List, [], ◌∷◌, ◌++◌, take, length, get_or, map, refl, sym}
 use Rattle.std.proofs.Common.{ap, ◌∙◌, arith, inl, inr, ◌⊎◌}
 use Rattle.std.specs.List.{list_all, flat_map, All}
@@ -17,7 +17,7 @@ use Rattle.lsa_codec.proofs.Bytes.{number_at-same, number_at-put, length-put_at,
 use Rattle.lsa_codec.proofs.LinkWalk.{after_links_next, links_from_next}
 use Rattle.lsa_codec.proofs.Made.{with_checksum-good, checksum_made}
 
--- these octets stand in the bytes from an offset on
+-- these bytes stand in the bytes from an offset on
 pub record StandsAt (offset : ℕ) (text bytes : List ℕ) : Type 0 where
   pub here : (j : ℕ) → j < length text → get_or bytes (offset + j) 0 ≡ get_or text j 0
 
@@ -92,13 +92,13 @@ walks text (x ∷ xs) offset bytes good at =
           ∙ ap (λ (l : Link). l ∷ map unplaced (links_from (length xs) (offset + length t) bytes)) link ∙ ap (λ (ls : List Link). link_at 0 t ∷ ls) rest.links;
     }
 
--- octets outside of a number that is written
+-- bytes outside of a number that is written
 pub octet_outside : (offset v i : ℕ) (bytes : List ℕ) → offset + 2 ≤ length bytes
     → (i < offset) ⊎ (offset + 2 ≤ i) → get_or (put_number 2 offset v bytes) i 0 ≡ get_or bytes i 0
 octet_outside offset v i bytes fits (inl before) = get_or-put_before offset (big_bytes 2 v) bytes i (omega arith) before
 octet_outside offset v i bytes fits (inr after) = get_or-put_after offset (big_bytes 2 v) bytes i (omega arith) after
 
--- what the bytes with number of links, length and checksum set anew have
+-- the bytes with the number of links, length and checksum set again
 pub record Recounted (count : ℕ) (bytes a : List ℕ) : Type 0 where
   pub size : length a ≡ length bytes
   pub header : (i : ℕ) → i < 16 → get_or a i 0 ≡ get_or bytes i 0
@@ -134,7 +134,7 @@ recounted_is count bytes header short small =
       checksum = with_checksum-good sized (omega arith);
     }
 
--- each link has at least 12 octets
+-- each link has at least 12 bytes
 pub texts_long : {X : Type 0} (text : X → List ℕ) (xs : List X) → All (λ x. IsLinkText (text x)) xs
     → 12 * length xs ≤ length (flat_map text xs)
 texts_long text [] good = omega arith
@@ -149,7 +149,7 @@ list_all-links p text [] good = refl
 list_all-links p text (x ∷ xs) good =
     and_from _ _ (All-head (λ x. p (link_at 0 (text x)) ≡ true) x xs good) (list_all-links p text xs (All-tail (λ x. p (link_at 0 (text x)) ≡ true) x xs good))
 
--- the octets before the links of an LSA, and these link texts
+-- the bytes before the links of an LSA, and these link texts
 abbrev pub body_of : {X : Type 0} → (X → List ℕ) → List X → List ℕ → List ℕ
 body_of text xs lsa = take 24 lsa ++ flat_map text xs
 

@@ -1,4 +1,4 @@
--- For callers: the orders of this crate are total, and tell all values apart.
+-- For callers: the orders of this crate are total, and distinguish all values.
 use Rattle.std.proofs.Common.{◌≡◌, refl, ap}
 use Rattle.std.specs.Cmp.{IsTotalOrder}
 use Rattle.std.specs.Ordering.{nat_cmp, ordering_then}

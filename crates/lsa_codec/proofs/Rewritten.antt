@@ -27,7 +27,7 @@ use Rattle.lsa_codec.proofs.LinkTexts.{recounted_is, body_of}
 use Rattle.lsa_codec.proofs.Relinked.{has_texts, length-body, kept_few, accepted_links, accepted_stub, AreKept, kept_removed, kept_filtered, ok_of, made_is}
 use Rattle.lsa_codec.proofs.Originated.{remetered_is, accepted_metric, metric_long, accepted_summary, accepted_external}
 
--- the octets before the checksum have the key
+-- the bytes before the checksum have the key
 pub same_key : (a b : List ℕ) → ((i : ℕ) → i < 16 → get_or a i 0 ≡ get_or b i 0) → key_of a ≡ key_of b
 same_key a b same =
     let type : get_or a 3 0 ≡ get_or b 3 0 = same 3 (omega arith) in

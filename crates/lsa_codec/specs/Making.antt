@@ -1,4 +1,4 @@
--- Router-LSAs made from others: the octets, or the first fault.
+-- Router-LSAs made from others: the bytes, or the first fault.
 use Rattle.std.specs.Prelude.{◌≡◌, ℕ, ◌+◌, ◌-◌, ◌≤◌, List, ◌∷◌, ◌++◌, length, take, drop, Option, Some, None, is_some, Result, Ok, Err, IsOk, ◌==◌, nat_lt, if◌then◌else◌, Bool, true, not, ◌&&◌}
 use Rattle.std.specs.List.{flat_map, filter, remove, list_any}
 use Rattle.byteorder.specs.Endian.{big_bytes}
@@ -17,7 +17,7 @@ use Rattle.lsa_codec.specs.Accepted.{IsAccepted, longest_lsa, is_link_mask_good,
 use Rattle.lsa_codec.specs.Key.{key_of}
 use Rattle.lsa_codec.specs.Prefix.{Net, mask_of_len}
 
--- the bytes with the metric of a link replaced and the checksum made anew
+-- the bytes with the metric of a link replaced and the checksum rebuilt
 abbrev pub with_metric_of : Link → ℕ → List ℕ → List ℕ
 with_metric_of link metric lsa = with_checksum (put_number 2 (link.offset + 10) metric lsa)
 
@@ -31,15 +31,15 @@ with_cost_on (Some link) metric lsa =
 abbrev pub with_cost : ℕ → ℕ → List ℕ → Result (List ℕ) MakeFault
 with_cost k metric lsa = with_cost_on (link_numbered k lsa) metric lsa
 
--- the bytes of a router-LSA with number of links, length and checksum set anew
+-- the bytes of a router-LSA with the number of links, length and checksum set again
 abbrev pub recounted : ℕ → List ℕ → List ℕ
 recounted count bytes = with_checksum (put_number 2 18 (length bytes) (put_number 2 22 count bytes))
 
--- the octets of a link, with its TOS metrics
+-- the bytes of a link, with its TOS metrics
 abbrev pub link_text : List ℕ → Link → List ℕ
 link_text lsa link = take (link_length link.offset lsa) (drop link.offset lsa)
 
--- a router-LSA with these of its links alone, in this order
+-- a router-LSA with only these of its links, in this order
 abbrev pub with_links : List Link → List ℕ → List ℕ
 with_links kept lsa = recounted (length kept) (take first_link lsa ++ flat_map (link_text lsa) kept)
 
@@ -55,7 +55,7 @@ leads_to router link = is_point_to_point link.kind && (link.id.0 == router.0)
 abbrev pub leads_to_net : Addr → Link → Bool
 leads_to_net addr link = is_transit link.kind && (link.id.0 == addr.0)
 
--- a link leads to what links are removed for
+-- a link is among those that are removed
 abbrev pub is_end_of : Target → Link → Bool
 is_end_of (target.Router router) link = leads_to router link
 is_end_of (target.Net addr) link = leads_to_net addr link
@@ -65,7 +65,7 @@ abbrev pub without_links : (Link → Bool) → List ℕ → Result (List ℕ) Ma
 without_links test lsa =
     if list_any test (links_of lsa) then Ok (with_links (filter (λ link. not (test link)) (links_of lsa)) lsa) else Err NoLink
 
--- the octets of a stub link: Link ID, Link Data, type 3, no TOS metrics, metric (RFC 2328, A.4.2)
+-- the bytes of a stub link: Link ID, Link Data, type 3, no TOS metrics, metric (RFC 2328, A.4.2)
 abbrev pub stub_text : Net → ℕ → List ℕ
 stub_text net metric = big_bytes 4 net.addr.0 ++ big_bytes 4 (mask_of_len net.len) ++ 3 ∷ 0 ∷ big_bytes 2 metric
 
@@ -97,7 +97,7 @@ pub record IsRewriteOf (old new : List ℕ) : Type 0 where
   pub key : key_of new ≡ key_of old
   pub size : length new ≤ length old
 
--- an LSA made from another of the same key by a stub link: accepted, and 12 octets longer
+-- an LSA made from another of the same key by a stub link: accepted, and 12 bytes longer
 pub record IsExtensionOf (old new : List ℕ) : Type 0 where
   pub accepted : IsAccepted new
   pub key : key_of new ≡ key_of old

@@ -4,7 +4,7 @@ use Rattle.std.specs.Prelude.{ℕ, map, List, ◌++◌, codes, decimal}
 use Rattle.std.specs.List.{join_with_byte}
 use Rattle.lsa_codec.specs.Prefix.{Net}
 
--- dotted decimal: its four octets as decimal numbers, the highest first, joined by dots
+-- dotted decimal: its four bytes as decimal numbers, the highest first, joined by dots
 abbrev pub address_text : ℕ → List ℕ
 address_text n = join_with_byte 46 (map decimal (to_be_bytes w32 n))
 

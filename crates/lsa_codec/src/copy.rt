@@ -6,7 +6,11 @@ use crate::lsa::Lsa;
 use std::alloc::{AllocError, Allocator};
 
 impl<A: Allocator + Copy> Lsa<A> {
-    /// An LSA of the same octets, in memory of its own.
+    /// An LSA of the same bytes, in memory of its own.
+    ///
+    /// # Errors
+    ///
+    /// Memory ran out.
     pub fn clone_of(&self, alloc: A) -> Result<Lsa<A>, AllocError>
         ensures { IfOk result (λ lsa. lsa ≡ self.now) }
     {

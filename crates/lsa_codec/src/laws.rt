@@ -37,7 +37,7 @@ pub fn one_front()
 {}
 
 /// The checksum that is made is good: both sums are 0 modulo 255, and the field is not 0 (RFC
-/// 2328, 12.1.7). It changes the two octets of the field alone.
+/// 2328, 12.1.7). It changes the two bytes of the field alone.
 pub fn made_checksum_is_good()
     ensures good { (lsa : List ℕ) → 20 ≤ length lsa → is_checksum_good (with_checksum lsa) ≡ true }
     ensures before { (lsa : List ℕ) → 20 ≤ length lsa → take 16 (with_checksum lsa) ≡ take 16 lsa }
@@ -75,7 +75,7 @@ pub fn links_after_stub()
         → links_of made ≡ links_of lsa ++ stub_link net metric (length lsa) ∷ [] }
 {}
 
-/// A router-LSA that is made from another keeps its LS age and its flags.
+/// A router-LSA made from another keeps its LS age and its flags.
 pub fn router_makers_keep_age_and_flags()
     ensures cost { (k metric : ℕ) (lsa made : List ℕ) → IsAccepted lsa → kind_of lsa ≡ router_lsa
         → metric < 2 ^ 16 → with_cost k metric lsa ≡ Ok made → KeepsAgeAndFlags lsa made }
@@ -95,8 +95,8 @@ pub fn metric_alone_changes()
         → metric < 2 ^ 24 → HasOtherMetric metric lsa (with_metric metric lsa) }
 {}
 
-/// An LSA that a maker makes from another is accepted and has the same key. It is no longer than
-/// the other, but where a stub link is added.
+/// An LSA made from another is accepted and has the same key. It is no longer than the other,
+/// except where a stub link is added.
 pub fn makers_keep_the_key()
     ensures cost { (k metric : ℕ) (lsa made : List ℕ) → IsAccepted lsa → kind_of lsa ≡ router_lsa
         → metric < 2 ^ 16 → with_cost k metric lsa ≡ Ok made → IsRewriteOf lsa made }
@@ -113,7 +113,7 @@ pub fn makers_keep_the_key()
 {}
 
 /// A new LSA for a prefix is accepted, has the prefix's address as its Link State ID, and has 28
-/// octets (a summary-LSA) or 36 (an AS-external-LSA).
+/// bytes (a summary-LSA) or 36 (an AS-external-LSA).
 pub fn new_lsas_have_their_key()
     ensures summary { (options : ℕ) (adv : AnyRouter) (net : Net) (metric : ℕ)
         → IsNet net → net.addr.0 < 2 ^ 32 → adv.0 < 2 ^ 32

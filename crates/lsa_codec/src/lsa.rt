@@ -16,11 +16,11 @@ use crate::links::Links;
 use std::alloc::{Allocator, Global};
 use std::marker::Model;
 
-/// The most octets of an LSA, which its length field holds (RFC 2328, A.4.1).
+/// The maximum number of bytes of an LSA, which its length field can hold (RFC 2328, A.4.1).
 pub const LONGEST_LSA: usize = 65_535;
 
-/// An accepted LSA, seen as its octets. They are never changed. What makes octets an accepted LSA
-/// is the record `IsAccepted`; `LsaFault` says the same by what fails.
+/// An accepted LSA, seen as its bytes, which never change. The record `IsAccepted` defines which
+/// bytes are accepted; `LsaFault` lists the same tests by their faults.
 #[derive(Debug, Drop)]
 pub struct Lsa<A: Allocator = Global> {
     bytes: Vec<u8, A>,
@@ -38,9 +38,12 @@ impl<A: Allocator> Model for Lsa<A> {
 }
 
 impl<A: Allocator + Copy> Lsa<A> {
-    /// The LSA at the front of the bytes, and its length in octets. Any bytes may follow it. The
-    /// error is the first fault in the order of `LsaFault`, and want of memory comes only where
-    /// there is no other fault.
+    /// The LSA at the front of the bytes, and its length in bytes. Any bytes may follow it.
+    ///
+    /// # Errors
+    ///
+    /// The first fault in the order of `LsaFault`. `OutOfMemory` comes only where there is no other
+    /// fault.
     #[tactic(auto, unfolding(crate::specs::Decoding::decoded))]
     pub fn decode(alloc: A, bytes: &[u8]) -> Result<(Lsa<A>, usize), LsaFault>
         ensures found { IfOk result (λ found. decoded bytes.now ≡ Ok found.0) }
@@ -66,7 +69,7 @@ impl<A: Allocator + Copy> Lsa<A> {
         Ok((Lsa { bytes }, size))
     }
 
-    /// The LSA of octets that are accepted.
+    /// The LSA of bytes that are accepted.
     pub(crate) fn accepted(bytes: Vec<u8, A>) -> Lsa<A>
         requires { IsAccepted bytes.items }
         ensures { result ≡ bytes.items }
@@ -74,7 +77,7 @@ impl<A: Allocator + Copy> Lsa<A> {
         Lsa { bytes }
     }
 
-    /// The octets, as they were decoded or made.
+    /// The bytes, as they were decoded or made.
     pub fn bytes(&self) -> &[u8]
         ensures bytes { result.now ≡ self.now }
         ensures accepted { IsAccepted self.now }
@@ -82,7 +85,7 @@ impl<A: Allocator + Copy> Lsa<A> {
         &self.bytes
     }
 
-    /// What names the LSA (RFC 2328, 12.1).
+    /// The three fields that name the LSA (RFC 2328, 12.1).
     pub fn key(&self) -> Key
         ensures { result ≡ key_of self.now }
     {

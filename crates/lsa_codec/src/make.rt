@@ -12,7 +12,7 @@ use crate::link::Link;
 use crate::lsa::Lsa;
 use std::alloc::{AllocError, Allocator};
 
-/// Replaces the metric of a link, and makes the checksum anew.
+/// Replaces the metric of a link, and sets the checksum again.
 fn set_metric(lsa: &mut [u8], link: Link, metric: u16)
     requires low { 24 ≤ link.offset }
     requires fits { link.offset + 12 ≤ length lsa.old }
@@ -41,8 +41,11 @@ fn with_metric_of<A: Allocator + Copy>(
 }
 
 impl<A: Allocator + Copy> Lsa<A> {
-    /// The router-LSA with the metric of link `k` replaced, counted from 1, and its checksum made
-    /// anew. All other octets stay, and so do the TOS metrics. For router-LSAs alone. Errors:
+    /// The router-LSA with the metric of link `k`, counted from 1, replaced and its checksum set
+    /// again. All other bytes stay, and so do the TOS metrics. For router-LSAs alone.
+    ///
+    /// # Errors
+    ///
     /// `NoLink` where there is no link `k`, then `ZeroCost` where the metric is 0 and link `k`
     /// leads to a router or to a transit network, then `OutOfMemory`.
     pub fn with_cost(&self, alloc: A, k: u16, metric: u16) -> Result<Lsa<A>, MakeFault>

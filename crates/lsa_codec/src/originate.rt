@@ -18,7 +18,7 @@ use crate::lsa::Lsa;
 use crate::prefix::Prefix;
 use std::alloc::{AllocError, Allocator};
 
-/// Replaces the metric of a summary-LSA or AS-external-LSA, and makes the checksum anew.
+/// Replaces the metric of a summary-LSA or AS-external-LSA, and sets the checksum again.
 fn set_metric(lsa: &mut [u8], metric: u32)
     requires fits { 28 ≤ length lsa.old }
     requires short { length lsa.old < 2 ^ 16 }
@@ -105,9 +105,13 @@ fn with_metric<A: Allocator + Copy>(
 }
 
 impl<A: Allocator + Copy> Lsa<A> {
-    /// The summary-LSA or AS-external-LSA with another metric for TOS 0, and its checksum made
-    /// anew. All other octets stay. For LSAs of type 3, 4 or 5 alone, and metrics of at most
-    /// 16,777,215. The only error is `OutOfMemory`.
+    /// The summary-LSA or AS-external-LSA with another metric for TOS 0, and its checksum set
+    /// again. All other bytes stay. For LSAs of type 3, 4 or 5 alone, and metrics of at most
+    /// 16,777,215.
+    ///
+    /// # Errors
+    ///
+    /// `OutOfMemory` alone.
     pub fn with_metric(&self, alloc: A, metric: u32) -> Result<Lsa<A>, MakeFault>
         requires kind { has_metric (kind_of self.now) ≡ true }
         requires metric { metric < 2 ^ 24 }
@@ -121,7 +125,11 @@ impl<A: Allocator + Copy> Lsa<A> {
 
     /// A new summary-LSA of type 3 for a prefix, of age 1 and the first sequence number,
     /// 0x80000001, and without TOS metrics (RFC 2328, 12.4.3). Its Link State ID is the prefix's
-    /// address. The metric is at most 16,777,215. The only error is `OutOfMemory`.
+    /// address. The metric is at most 16,777,215.
+    ///
+    /// # Errors
+    ///
+    /// `OutOfMemory` alone.
     pub fn new_summary(
         alloc: A,
         options: u8,
@@ -138,10 +146,13 @@ impl<A: Allocator + Copy> Lsa<A> {
         Ok(Lsa::accepted(bytes))
     }
 
-    /// A new AS-external-LSA for a prefix, of age 1 and the first sequence number, 0x80000001,
-    /// with bit E alone in its options, and without TOS entries (RFC 2328, 12.4.4). Its Link
-    /// State ID is the prefix's address. The metric is at most 16,777,215. The only error is
-    /// `OutOfMemory`.
+    /// A new AS-external-LSA for a prefix, of age 1 and the first sequence number, 0x80000001, with
+    /// bit E alone in its options, and without TOS entries (RFC 2328, 12.4.4). Its Link State ID is
+    /// the prefix's address. The metric is at most 16,777,215.
+    ///
+    /// # Errors
+    ///
+    /// `OutOfMemory` alone.
     pub fn new_external(
         alloc: A,
         adv: RouterId,

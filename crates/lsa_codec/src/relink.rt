@@ -1,5 +1,5 @@
-//! Router-LSAs with fewer or more links than another. The kept links keep their octets and order;
-//! number of links, length and checksum are set anew.
+//! Router-LSAs with fewer or more links than another. The kept links keep their bytes and order;
+//! the number of links, length and checksum are set again.
 
 ghost use Rattle.std.specs.Prelude.{◌≡◌, ◌+◌, ◌≤◌, ◌<◌, ◌^◌, ◌++◌, ◌-◌, ℕ, List, Bool, map, not, true, is_some, length, take, IfOk, IfErr, Ok};
 ghost use Rattle.std.specs.List.{All, flat_map, filter, list_any, remove};
@@ -30,7 +30,7 @@ enum Target {
     Net(Addr),
 }
 
-/// Sets number of links, length and checksum anew.
+/// Sets the number of links, length and checksum again.
 fn recount(lsa: &mut [u8], count: u16)
     requires header { 24 ≤ length lsa.old }
     requires short { length lsa.old < 2 ^ 16 }
@@ -42,7 +42,7 @@ fn recount(lsa: &mut [u8], count: u16)
     set_checksum(lsa);
 }
 
-/// How many octets a link has, its TOS metrics included.
+/// How many bytes a link has, its TOS metrics included.
 fn link_length(lsa: &[u8], link: Link) -> usize
     requires { link.offset + 12 ≤ length lsa.now }
     ensures { result ≡ link_length link.offset lsa.now }
@@ -50,7 +50,7 @@ fn link_length(lsa: &[u8], link: Link) -> usize
     12 + 4 * usize::from(lsa[link.offset + 9])
 }
 
-/// The octets of an LSA before its links, and then those of these links.
+/// The bytes of an LSA before its links, and then those of these links.
 fn link_texts<A: Allocator + Copy>(
     alloc: A,
     lsa: &[u8],
@@ -70,7 +70,7 @@ fn link_texts<A: Allocator + Copy>(
 }
 
 impl<A: Allocator + Copy> Lsa<A> {
-    /// The router-LSA with these of its links alone, in this order.
+    /// The router-LSA with only these of its links, in this order.
     fn with_links(&self, alloc: A, kept: &[Link]) -> Result<Lsa<A>, MakeFault>
         requires router { kind_of self.now ≡ router_lsa }
         requires links { All (IsLinkOf self.now) kept.now }
@@ -84,7 +84,11 @@ impl<A: Allocator + Copy> Lsa<A> {
     }
 
     /// The router-LSA without link `k`, counted from 1, and without its TOS metrics. For
-    /// router-LSAs alone. Errors: `NoLink` where there is no link `k`, then `OutOfMemory`.
+    /// router-LSAs alone.
+    ///
+    /// # Errors
+    ///
+    /// `NoLink` where there is no link `k`, then `OutOfMemory`.
     pub fn without_link(&self, alloc: A, k: u16) -> Result<Lsa<A>, MakeFault>
         requires router { kind_of self.now ≡ router_lsa }
         ensures made { IfOk result (λ lsa. without_link k self.now ≡ Ok lsa) }
@@ -102,7 +106,11 @@ impl<A: Allocator + Copy> Lsa<A> {
     }
 
     /// The router-LSA without its point-to-point links to a router. Virtual links to it stay. For
-    /// router-LSAs alone. Errors: `NoLink` where it has no such link, then `OutOfMemory`.
+    /// router-LSAs alone.
+    ///
+    /// # Errors
+    ///
+    /// `NoLink` where it has no such link, then `OutOfMemory`.
     pub fn without_links_to(&self, alloc: A, router: RouterId) -> Result<Lsa<A>, MakeFault>
         requires router { kind_of self.now ≡ router_lsa }
         ensures made { IfOk result (λ lsa. without_links (leads_to router) self.now ≡ Ok lsa) }
@@ -114,8 +122,11 @@ impl<A: Allocator + Copy> Lsa<A> {
     }
 
     /// The router-LSA without its links to the transit network whose Designated Router has this
-    /// address. For router-LSAs alone. Errors: `NoLink` where it has no such link, then
-    /// `OutOfMemory`.
+    /// address. For router-LSAs alone.
+    ///
+    /// # Errors
+    ///
+    /// `NoLink` where it has no such link, then `OutOfMemory`.
     pub fn without_net_links(&self, alloc: A, addr: Addr) -> Result<Lsa<A>, MakeFault>
         requires router { kind_of self.now ≡ router_lsa }
         ensures made { IfOk result (λ lsa. without_links (leads_to_net addr) self.now ≡ Ok lsa) }
@@ -144,9 +155,12 @@ impl<A: Allocator + Copy> Lsa<A> {
         self.with_links(alloc, &kept)
     }
 
-    /// The router-LSA with a stub link to a prefix after its last link, of this metric and
-    /// without TOS metrics. For router-LSAs alone. Errors: `TooLong` where it would have more
-    /// than 65,535 octets, then `OutOfMemory`.
+    /// The router-LSA with a stub link to a prefix after its last link, of this metric and without
+    /// TOS metrics. For router-LSAs alone.
+    ///
+    /// # Errors
+    ///
+    /// `TooLong` where it would have more than 65,535 bytes, then `OutOfMemory`.
     pub fn with_stub(&self, alloc: A, net: Prefix, metric: u16) -> Result<Lsa<A>, MakeFault>
         requires router { kind_of self.now ≡ router_lsa }
         ensures made { IfOk result (λ lsa. with_stub net metric self.now ≡ Ok lsa) }
@@ -221,7 +235,7 @@ fn links_elsewhere<A: Allocator + Copy>(
         .collect(alloc)
 }
 
-/// The octets of a stub link (RFC 2328, A.4.2).
+/// The bytes of a stub link (RFC 2328, A.4.2).
 fn stub_text(net: Prefix, metric: u16) -> [u8; 12]
     ensures text { result ≡ stub_text net metric }
     ensures prefix { net.len ≤ 32 }
@@ -234,7 +248,7 @@ fn stub_text(net: Prefix, metric: u16) -> [u8; 12]
     text
 }
 
-/// The octets of a router-LSA with a stub link after its last link.
+/// The bytes of a router-LSA with a stub link after its last link.
 fn extended<A: Allocator + Copy>(
     alloc: A,
     lsa: &[u8],

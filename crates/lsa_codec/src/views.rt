@@ -1,4 +1,4 @@
-//! LSAs of types 1 to 5 by their fields (RFC 2328, A.4.2 to A.4.5). The views borrow the octets
+//! LSAs of types 1 to 5 by their fields (RFC 2328, A.4.2 to A.4.5). The views borrow the bytes
 //! of the LSA and take no memory.
 
 ghost use Rattle.std.specs.Prelude.{◌≡◌, ◌≢◌, ◌≤◌, ◌<◌, ◌+◌, ◌*◌, ◌^◌, length, true, false, MatchOption};
@@ -20,7 +20,7 @@ use crate::prefix::{Prefix, len_of_mask};
 use std::alloc::Allocator;
 use std::marker::Model;
 
-/// A router-LSA, seen as its octets (RFC 2328, A.4.2).
+/// A router-LSA, seen as its bytes (RFC 2328, A.4.2).
 #[derive(Drop)]
 pub struct RouterView<'a> {
     lsa: &'a [u8],
@@ -39,7 +39,7 @@ impl<'a> Model for RouterView<'a> {
     ghost invariant = { λ v. IsAccepted v.lsa.now × (kind_of v.lsa.now ≡ router_lsa) };
 }
 
-/// A network-LSA, seen as its octets (RFC 2328, A.4.3).
+/// A network-LSA, seen as its bytes (RFC 2328, A.4.3).
 #[derive(Drop)]
 pub struct NetworkView<'a> {
     lsa: &'a [u8],
@@ -58,7 +58,7 @@ impl<'a> Model for NetworkView<'a> {
         × (is_mask (mask_of v.lsa.now) ≡ true) };
 }
 
-/// A summary-LSA, of type 3 (a network) or 4 (an AS boundary router), seen as its octets
+/// A summary-LSA, of type 3 (a network) or 4 (an AS boundary router), seen as its bytes
 /// (RFC 2328, A.4.4).
 #[derive(Drop)]
 pub struct SummaryView<'a> {
@@ -79,7 +79,7 @@ impl<'a> Model for SummaryView<'a> {
         × (kind_of v.lsa.now ≡ summary_lsa → is_mask (mask_of v.lsa.now) ≡ true) };
 }
 
-/// An AS-external-LSA, seen as its octets (RFC 2328, A.4.5).
+/// An AS-external-LSA, seen as its bytes (RFC 2328, A.4.5).
 #[derive(Drop)]
 pub struct ExternalView<'a> {
     lsa: &'a [u8],
@@ -149,7 +149,7 @@ impl<A: Allocator + Copy> Lsa<A> {
 }
 
 impl<'a> RouterView<'a> {
-    /// The octet of flags: the bits V (4, an endpoint of a virtual link), E (2, an AS boundary
+    /// The byte of flags: the bits V (4, an endpoint of a virtual link), E (2, an AS boundary
     /// router) and B (1, an area border router), and others as they are.
     pub fn flags(&self) -> u8
         ensures { result ≡ octet_at 20 self.now }
@@ -254,7 +254,7 @@ impl<'a> ExternalView<'a> {
         mask_at(self.lsa)
     }
 
-    /// Whether bit E says that the metric is of type 2, so larger than any cost within the AS.
+    /// Whether bit E is set: the metric is of type 2, so larger than any cost within the AS.
     pub fn is_type2(&self) -> bool
         ensures { result ≡ is_type2_of self.now }
     {
@@ -269,7 +269,7 @@ impl<'a> ExternalView<'a> {
         metric_at(self.lsa)
     }
 
-    /// The forwarding address for TOS 0. 0.0.0.0 stands for the router that made the LSA.
+    /// The forwarding address for TOS 0. 0.0.0.0 means the router that made the LSA.
     pub fn forward(&self) -> Addr
         ensures { result.0 ≡ forward_of self.now }
     {

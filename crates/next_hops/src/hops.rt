@@ -21,7 +21,7 @@ use std::marker::Model;
 /// The hops of each vertex of an area's graph from the root of a tree. Contracts see it as the
 /// list of these lists, in the order of the vertices' numbers.
 ///
-/// It takes two octets for each vertex, and each list that some vertex has once.
+/// It takes two bytes for each vertex, and each list that some vertex has once.
 #[derive(Drop)]
 pub struct Hops<A: Allocator = Global> {
     lists: Vec<Vec<Hop, A>, A>,

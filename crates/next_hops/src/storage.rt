@@ -16,7 +16,7 @@ pub(crate) trait HoldsHops: Allocator {
     ghost use Rattle.std.specs.Prelude.{ℕ};
     ghost use Rattle.next_hops.specs.steps.Storage.{octets_of};
 
-    /// How many octets four hops and the allocator take.
+    /// How many bytes four hops and the allocator take.
     ghost octets: { ℕ };
 
     /// Whether they are less than half of the address space. So they always are; of a type that is

@@ -6,7 +6,7 @@ use rationed::Rationed;
 use std::alloc::Global;
 use std::test::Fail;
 
-/// An answer, as octets that say all of it. `None` stands for want of memory.
+/// An answer, as bytes that say all of it. `None` stands for want of memory.
 pub type Answer = Option<Vec<u8>>;
 
 /// What was seen of a call that had only so many growths.
@@ -16,7 +16,7 @@ pub struct Seen {
     pub first: Answer,
     /// What the same call answered after that, with ample memory.
     pub then: Answer,
-    /// What it was lent, before the first call, as octets that say all of it.
+    /// What it was lent, before the first call, as bytes that say all of it.
     pub before: Vec<u8>,
     /// The same, between the two calls.
     pub between: Vec<u8>,

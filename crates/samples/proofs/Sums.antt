@@ -1,4 +1,4 @@
--- The two sums of the checksum, an octet at a time.
+-- The two sums of the checksum, a byte at a time.
 use Rattle.std.proofs.Common.{◌≡◌, ℕ, ◌+◌, ◌*◌, ◌%◌, ◌<◌, List, [], ◌∷◌, ◌++◌, length, take, sum, ap, arith, length-append, get_or}
 use Rattle.std.proofs.lemmas.List.Sums.{sum_by-cons, sum_by_push}
 use Rattle.std.proofs.lemmas.List.{take_more}
@@ -25,7 +25,7 @@ first_sum_push xs x = omega (arith, sum_by_push octet xs x)
 pub second_sum_push : (xs : List ℕ) (x : ℕ) → second_sum (xs ++ x ∷ []) ≡ (second_sum xs + first_sum (xs ++ x ∷ [])) % 255
 second_sum_push xs x = omega (arith, weighted_sum-append xs (x ∷ []), sum_by_push octet xs x)
 
--- one octet more
+-- one byte more
 pub first_sum_more : (xs : List ℕ) (i : ℕ) → i < length xs → first_sum (take (i + 1) xs) ≡ (first_sum (take i xs) + get_or xs i 0) % 255
 first_sum_more xs i lt = rw (take_more xs i 0 lt) (first_sum_push (take i xs) (get_or xs i 0))
 

@@ -7,14 +7,14 @@ use Rattle.samples.specs.declared.lsa.Header.{Header}
 use Rattle.samples.specs.Links.{link_octets}
 use Rattle.samples.specs.Fletcher.{checksum_of}
 
--- the octets of an LSA with these in its checksum field: LS age, options, LS type, Link State ID, Advertising Router,
+-- the bytes of an LSA with these in its checksum field: LS age, options, LS type, Link State ID, Advertising Router,
 -- the first LS sequence number, LS checksum, length, and the body (RFC 2328, A.4.1)
 unfoldable pub lsa_with_sums : Header → List ℕ → List ℕ → List ℕ
 lsa_with_sums header sums body =
     to_be_bytes w16 header.age ++ (2 ∷ header.kind ∷ []) ++ to_be_bytes w32 header.id ++ to_be_bytes w32 header.router
     ++ (0x80 ∷ 0 ∷ 0 ∷ 1 ∷ []) ++ sums ++ to_be_bytes w16 (min (length body) 65515 + 20) ++ body
 
--- the octets of an LSA with the checksum of all of it but its LS age
+-- the bytes of an LSA with the checksum of all of it but its LS age
 unfoldable pub lsa_octets : Header → List ℕ → List ℕ
 lsa_octets header body = lsa_with_sums header (checksum_of (drop 2 (lsa_with_sums header (0 ∷ 0 ∷ []) body))) body
 

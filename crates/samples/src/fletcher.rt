@@ -3,7 +3,7 @@
 ghost use Rattle.std.specs.Prelude.{◌≡◌, [], ◌∷◌};
 ghost use Rattle.samples.specs.Fletcher.{first_sum, second_sum, nonzero_octet, checksum_of};
 
-/// Both sums over the octets, each modulo 255: the sum of the octets, and the sum of the first
+/// Both sums over the bytes, each modulo 255: the sum of the bytes, and the sum of the first
 /// sums.
 fn sums(octets: &[u8]) -> (u64, u64)
     ensures first { result.0 ≡ first_sum octets.now }
@@ -18,7 +18,7 @@ fn sums(octets: &[u8]) -> (u64, u64)
     (first, second)
 }
 
-/// An octet of a checksum, where 0 is written as 255.
+/// A byte of a checksum, where 0 is written as 255.
 fn nonzero_octet(sum: u64) -> u8
     ensures { result ≡ nonzero_octet sum }
 {
@@ -28,7 +28,7 @@ fn nonzero_octet(sum: u64) -> u8
     }
 }
 
-/// Fletcher's checksum of an LSA without its LS age, whose own field, in the octets 14 and 15, is 0
+/// Fletcher's checksum of an LSA without its LS age, whose own field, in the bytes 14 and 15, is 0
 /// (RFC 905, annex B). Modulo 255, 240 stands for -15, 241 for -14 and 254 for -1.
 #[tactic(auto, unfolding(crate::specs::Fletcher::checksum_of))]
 pub(crate) fn checksum(octets: &[u8]) -> [u8; 2]

@@ -1,8 +1,8 @@
-//! For tests: link state databases, octet by octet, and readers and writers that fail when told to.
+//! For tests: link state databases, byte by byte, and readers and writers that fail when told to.
 //!
 //! A plain program makes LSAs from their fields, with good checksums, and dumps from LSAs. It
-//! shares nothing with the crates that are tested with it. Contracts say which octets it makes, by
-//! definitions of its own, and how many octets the readers and writers move. What the text of a
+//! shares nothing with the crates that are tested with it. Contracts say which bytes it makes, by
+//! definitions of its own, and how many bytes the readers and writers move. What the text of a
 //! database stands for, [`dump_of_text`], is only tested.
 #![tactic(auto)]
 

@@ -17,7 +17,7 @@ pub struct RouterLink {
 }
 
 impl RouterLink {
-    /// The octets of the link.
+    /// The bytes of the link.
     pub(crate) fn octets(&self) -> [u8; 12]
         ensures { result ≡ link_octets self.now }
     {

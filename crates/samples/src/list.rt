@@ -18,7 +18,7 @@ pub struct LsaList {
     count: u16,
 }
 
-/// Clauses see the octets, and how many LSAs they are.
+/// Clauses see the bytes, and how many LSAs they are.
 impl Model for LsaList {
     ghost use Rattle.samples.specs.Lsas.{Lsas};
 
@@ -39,7 +39,7 @@ impl LsaList {
         }
     }
 
-    /// Adds an LSA of these octets. An error is want of memory, here and below; the list is then as
+    /// Adds an LSA of these bytes. An error is want of memory, here and below; the list is then as
     /// it was.
     fn push(&mut self, lsa: &[u8]) -> Result<(), AllocError>
         ensures { self.new ≡ (if is_ok result then with_octets lsa.now self.old else self.old) }
@@ -49,7 +49,7 @@ impl LsaList {
         Ok(())
     }
 
-    /// Adds an LSA with a body of at most 65,515 octets (RFC 2328, A.4.1).
+    /// Adds an LSA with a body of at most 65,515 bytes (RFC 2328, A.4.1).
     pub fn lsa(&mut self, header: Header, body: &[u8]) -> Result<(), AllocError>
         ensures { self.new ≡
             (if is_ok result then with_lsa header body.now self.old else self.old) }

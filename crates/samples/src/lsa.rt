@@ -20,10 +20,10 @@ pub struct Header {
     pub router: u32,
 }
 
-/// How many octets of a body an LSA has room for.
+/// How many bytes of a body an LSA has room for.
 const LONGEST_BODY: usize = 65_515;
 
-/// The octets of an LSA with this checksum.
+/// The bytes of an LSA with this checksum.
 #[tactic(auto, unfolding(crate::specs::Lsas::lsa_with_sums))]
 fn with_checksum(
     alloc: Global,
@@ -46,7 +46,7 @@ fn with_checksum(
     Ok(lsa)
 }
 
-/// The octets of an LSA with a good checksum.
+/// The bytes of an LSA with a good checksum.
 #[tactic(auto, unfolding(crate::specs::Lsas::lsa_octets))]
 pub(crate) fn lsa_octets(alloc: Global, header: Header, body: &[u8]) -> Result<Vec<u8>, AllocError>
     ensures { IfOk result (λ lsa. lsa.items ≡ lsa_octets header body.now) }

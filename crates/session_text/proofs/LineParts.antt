@@ -20,7 +20,7 @@ is_feed byte = eqb byte line_feed
 
 -- ---- a line that is cut off
 
--- the octets up to the first line feed, and those behind it
+-- the bytes up to the first line feed, and those behind it
 pub cut : (bytes : List ℕ) (end : ℕ) → position is_feed bytes ≡ Some end
     → (end < length bytes) × (bytes ≡ (take end bytes ++ line_feed ∷ []) ++ drop (end + 1) bytes)
 cut bytes end is =
@@ -38,7 +38,7 @@ cut bytes end is =
       | inr le ↦ absurd (let e : position is_feed bytes ≡ None = cond-false _ _ _ (le-ltb _ _ le) in cc)
     ]
 
--- the first line feed behind octets without one
+-- the first line feed behind bytes without one
 pub feed_behind : (line rest : List ℕ) → All (λ byte. byte ≢ 10) line → position is_feed (line ++ line_feed ∷ rest) ≡ Some (length line)
 feed_behind line rest lacks =
     let bytes : List ℕ = line ++ line_feed ∷ rest in

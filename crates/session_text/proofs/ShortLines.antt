@@ -57,7 +57,7 @@ type Type2 = omega arith
 
 -- ---- lines
 
--- the octets of words, with one behind each
+-- the bytes of words, with one behind each
 abbrev room : List Word → ℕ
 room [] = 0
 room (word ∷ words) = length word + 1 + room words

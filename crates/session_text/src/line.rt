@@ -29,7 +29,7 @@ fn edit_spelled<A: Allocator + Copy>(alloc: A, line: &[u8]) -> Result<Option<Edi
     }
 }
 
-/// The edit of the first line of the octets, and how many octets the line has with its line feed.
+/// The edit of the first line of the bytes, and how many bytes the line has with its line feed.
 /// `None` where no line feed stands there, and where the line is not just as an edit is printed.
 ///
 /// The error is a want of memory.

@@ -7,6 +7,6 @@ use Rattle.area_graph.specs.declared.edge.Edge.{Edge}
 abbrev pub leads_to : ℕ → Addr → Edge → Bool
 leads_to to link_data e = (e.to == to) && (e.link_data.0 == link_data.0)
 
--- an edge with another cost, if it does
+-- an edge with another cost, if it leads there and carries this Link Data
 abbrev pub with_cost : ℕ → Addr → ℕ → Edge → Edge
 with_cost to link_data cost e = record { to = e.to; cost = if leads_to to link_data e then cost else e.cost; link_data = e.link_data }

@@ -11,7 +11,7 @@ use Rattle.area_graph.specs.AreaEdges.{edges_over, back}
 use Rattle.area_graph.specs.Rows.{same_edge, each_once}
 use Rattle.area_graph.specs.steps.Naming.{row_in, names_in}
 
--- what holds of a graph while edges are added
+-- the properties of a graph while edges are added
 pub record IsDraft (t : Topology) : Type 0 where
   pub a_row_each : length t.rows ≡ length t.vertices
   pub few : length t.vertices ≤ 8192
@@ -34,7 +34,7 @@ edge_of a = record { to = a.to; cost = a.cost; link_data = a.link_data }
 abbrev pub out_of : ℕ → List (DirectedEdge ℕ) → List Edge
 out_of i arcs = map edge_of (filter (λ a. a.from == i) arcs)
 
--- each row has got those of these edges that are out of its vertex, in their order
+-- each row has received those of these edges that leave its vertex, in their order
 pub record Adds (arcs : List (DirectedEdge ℕ)) (old new : Topology) : Type 0 where
   pub rows : (i : ℕ) → row_at new i ≡ row_at old i ++ out_of i arcs
 
@@ -49,7 +49,7 @@ arc_back a = record { from = a.to; to = a.from; cost = 0; link_data = a.link_dat
 abbrev pub both_arcs : List Vertex → DirectedEdge ℕ → List (DirectedEdge ℕ)
 both_arcs vertices a = if is_network_at vertices a.to then a ∷ arc_back a ∷ [] else a ∷ []
 
--- of these edges those whose other end names the first in its row, and their ways back
+-- of these edges, those whose other end names the first in its row, and their ways back
 abbrev pub returned_arcs : List Vertex → List (List Edge) → List (DirectedEdge ℕ) → List (DirectedEdge ℕ)
 returned_arcs vertices naming arcs = flat_map (both_arcs vertices) (filter (λ a. names_in naming a.to a.from) arcs)
 
@@ -62,7 +62,7 @@ abbrev pub arcs_below : List Vertex → List (List Edge) → ℕ → List (Direc
 arcs_below vertices naming zero = []
 arcs_below vertices naming (suc n) = arcs_below vertices naming n ++ row_arcs vertices naming n
 
--- the rows name none but these
+-- the rows name only these
 abbrev pub AreWithin : ℕ → List (List Edge) → Type 0
 AreWithin count rows = (i : ℕ) → All (λ e. e.to < count) (row_in rows i)
 
@@ -70,7 +70,7 @@ AreWithin count rows = (i : ℕ) → All (λ e. e.to < count) (row_in rows i)
 abbrev pub both_ways : DirectedEdge Vertex → List (DirectedEdge Vertex)
 both_ways e = if is_network e.to then e ∷ back e ∷ [] else e ∷ []
 
--- of these edges those whose other end links back, and their ways back
+-- of these edges, those whose other end links back, and their ways back
 abbrev pub returned : (Vertex → Vertex → Bool) → List (DirectedEdge Vertex) → List (DirectedEdge Vertex)
 returned links_back es = flat_map both_ways (filter (λ e. links_back e.to e.from) es)
 

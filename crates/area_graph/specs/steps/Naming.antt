@@ -1,4 +1,5 @@
--- The vertices that LSAs name, by their numbers (RFC 2328, 16.1), whether or not they name the first vertex in turn.
+-- The vertices that LSAs name, by their numbers (RFC 2328, 16.1), whether or not those name the first vertex in
+-- return.
 use Rattle.std.specs.Prelude.{ℕ, Bool, ◌==◌, if◌then◌else◌, List, [], filter_map, position, slice_index_or, Option, None, Some}
 use Rattle.std.specs.List.{list_any}
 use Rattle.std.specs.Option.{option_map}
@@ -26,7 +27,7 @@ edge_to_some vertices (Some w) cost link_data = edge_to vertices w cost link_dat
 abbrev pub linked : List Vertex → Link → Option Edge
 linked vertices link = edge_to_some vertices (target_of link) link.metric link.link_data
 
--- an edge from a network to a router that it lists; the Link Data of the way is in the router's LSA alone
+-- an edge from a network to a router that it lists; only the router's LSA has the Link Data of the link
 abbrev pub listed : List Vertex → RouterId → Option Edge
 listed vertices router = edge_to vertices (Router router) 0 (record { 0 = 0 })
 

@@ -7,6 +7,6 @@ use Rattle.area_graph.specs.declared.rows.Span.{Span}
 abbrev pub IsWithin : ℕ → Span → Type 0
 IsWithin size span = (span.start ≤ span.end) × (span.end ≤ size)
 
--- what stands in the spans of a list
+-- the lists in the spans of a list
 abbrev pub rows_at : {X : Type 0} → List X → List Span → List (List X)
 rows_at xs spans = map (λ span. slice_range xs span.start span.end) spans

@@ -42,7 +42,7 @@ pub(super) const TWO_AREAS: &[u8] = &[
     0x00, 0x00, 0x00, 0x01, 0x00, 0x00,
 ];
 
-/// The sample as a saved session, 155 octets: the cost of the link of 1.1.1.1 was made 11, which is
+/// The sample as a saved session, 155 bytes: the cost of the link of 1.1.1.1 was made 11, which is
 /// done, and then 12, which is undone.
 pub(super) const SAVED: &[u8] = &[
     0x4f, 0x53, 0x57, 0x50, 0x02, 0x01, 0x00, 0x00, 0x00, 0x00, 0x00, 0x00, 0x02, 0x00, 0x01, 0x02,

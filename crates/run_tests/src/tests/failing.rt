@@ -1,4 +1,4 @@
-//! Readers and writers that fail at each octet in turn.
+//! Readers and writers that fail at each byte in turn.
 
 use super::outcome::{Outcome, run_given, run_whole, run_without_out};
 use lsdb::{DumpFault, DumpFaultKind};
@@ -47,12 +47,12 @@ const LEFT: &[u8] = &[
 /// A place past the end of every text of these tests.
 const NEVER: usize = 1_000_000;
 
-/// A reader of a text, one octet a time, that fails after so many, if it does.
+/// A reader of a text, one byte a time, that fails after so many, if it does.
 fn source(text: &'static [u8], fails_after: Option<usize>) -> Source<'static> {
     Source::new(text, 1, fails_after)
 }
 
-/// A writer that takes one octet a time, and so many.
+/// A writer that takes one byte a time, and so many.
 fn sink(alloc: Global, limit: usize, failing: Failing) -> Sink {
     Sink::new(alloc, 1, limit, failing)
 }

@@ -25,7 +25,7 @@ in_span xs spans i s f ys rest at lt each apart is after =
     ∙ ap (slice_set (rows_at xs spans) i) (is ∙ ap (map f)
     (ap (λ (t : Span). slice_range xs t.start t.end) at ∙ sym (get_or-map (λ (t : Span). slice_range xs t.start t.end) spans i s [] lt)))
 
--- there are as many edges as before
+-- the number of edges is as before
 whole : (xs : List Edge) (s : Span) (f : Edge → Edge) (ys : List Edge) (n : ℕ) → IsWithin (length xs) s → ys ≡ map f (slice_range xs s.start s.end)
     → length xs ≡ n → length (take s.start xs ++ (ys ++ drop (s.end - s.start) (drop s.start xs))) ≡ n
 whole xs s f ys n within is size =
