@@ -1,4 +1,4 @@
--- Vertices that are handed one list more.
+-- Vertices that receive one more list.
 use Rattle.std.proofs.Common.{◌≡◌, ℕ, zero, suc, ◌<◌, List, [], ◌∷◌, ◌++◌, length, map, get_or, set, take, drop, refl, sym, ap, ◌∙◌, subst, arith}
 use Rattle.std.proofs.Common.{⊎_elim, inl, inr}
 use Rattle.std.specs.List.{Contains, insert}
@@ -64,7 +64,7 @@ module _ {A : Type 0} (lists : List (Vec Hop A)) where
       let r = flat_map-In (λ m. list_in lists m) numbers h (In-from_Contains (hops_in lists numbers) h there) in
       (r.0, Contains-from_In numbers r.0 r.1, Contains-from_In (list_in lists r.0) h r.2)
 
-  -- the hops with those of one list more
+  -- the hops with those of one more list
   rising-added : (n : ℕ) (old new : List ℕ) → Adds n old new
       → rising hop_cmp (hops_in lists new) ≡ rising hop_cmp (rising hop_cmp (hops_in lists old) ++ list_in lists n)
   rising-added n old new adds =
@@ -80,7 +80,7 @@ module _ {A : Type 0} (lists : List (Vec Hop A)) where
       (Contains-append_cases (hops_in lists old) (list_in lists n) h there))
       ∙ sym (rising-joined (hops_in lists old) (list_in lists n))
 
-  -- the table of vertices, one of which is handed a list
+  -- the table of vertices, one of which receives a list
   pub Grows-handed : (vertices : List (Handed A)) (to n : ℕ) (was now : Handed A) → to < length vertices → was ≡ get_or vertices to was
       → Adds n (numbers_in was) (numbers_in now)
       → Grows (λ i h. (i ≡ to) × Contains (list_in lists n) h) (map (λ v. handed_hops lists v) vertices) (map (λ v. handed_hops lists v) (set vertices to now))

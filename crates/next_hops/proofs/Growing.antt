@@ -30,7 +30,7 @@ Grows-then P Q R a b c one two parts whole = record {
   sorted = λ s. two.sorted (one.sorted s);
 }
 
--- the same growth, said in another way
+-- the same growth, stated differently
 pub Grows-same : (P Q : ℕ → Hop → Type 0) (a b : List (List Hop)) → ((i : ℕ) (h : Hop) → P i h → Q i h)
     → ((i : ℕ) (h : Hop) → Q i h → P i h) → Grows P a b → Grows Q a b
 Grows-same P Q a b there back g = record {

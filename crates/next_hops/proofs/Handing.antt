@@ -47,7 +47,7 @@ module _ (t : Topology) (shape : IsTopology t) (root : Vertex) (tree : Distances
       by_distance None none = absurd (none [] refl)
       by_distance (Some d) least = ap (λ (n : ℕ). Some n) (let le : d ≤ 0 = least.1 [] refl in let k : d ≡ 0 = omega arith in k)
 
-  -- the end of a tight edge doesn't stand before its start
+  -- the end of a tight edge is not before its start in the order
   later : (k p : ℕ) → p < length tree.order → k ≤ p → (e : DirectedEdge ℕ) → IsArc t e → IsTight tree.distances e
       → e.from ≡ get_or tree.order p 0 → e.to ≡ get_or tree.order k 0 → ⊥
   later k p within le e arc tight from to =

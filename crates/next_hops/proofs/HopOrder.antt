@@ -31,7 +31,7 @@ same_parts (Attached d) (Attached e) k i a = ap (λ (x : Addr). Attached x) (sam
 same_parts (Gateway d b) (Gateway e f) k i a = ap (λ (x : Addr). Gateway x b) (same_addr d e i) ∙ ap (λ (x : Addr). Gateway e x) (same_addr b f a)
 same_parts _ _ k i a = absurd (omega arith)
 
--- hops of which neither comes before the other are one
+-- hops of which neither comes before the other are equal
 pub same_hop : (g h : Hop) → hop_cmp g h ≡ Equal → g ≡ h
 same_hop g h e =
     let kind = equal_parts (nat_cmp (kind_of g) (kind_of h))

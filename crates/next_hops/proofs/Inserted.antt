@@ -25,7 +25,7 @@ IsSortedHops-rising hops = rising-pairs hop_cmp_total same_hop hops
 pub Contains-rising_hops : (hops : List Hop) (h : Hop) → Contains (rising hop_cmp hops) h ↔ Contains hops h
 Contains-rising_hops hops h = Contains-rising hop_cmp_total same_hop hops h
 
--- a sorted list is the one of its hops
+-- a sorted list is determined by its hops
 pub rising-sorted : (hops : List Hop) → IsSortedHops hops → hops ≡ rising hop_cmp hops
 rising-sorted hops sorted = rising-is hop_cmp_total same_hop hops hops sorted (λ h. (λ i. i, λ i. i))
 
@@ -45,7 +45,7 @@ rising-joined xs ys =
     (λ h i. ⊎_elim (λ j. Contains-append_left (rising hop_cmp xs) ys h ((Contains-rising_hops xs h).1 j))
     (λ j. Contains-append_right (rising hop_cmp xs) ys h j) (Contains-append_cases xs ys h i))
 
--- one hop more, behind the others or before them
+-- one more hop, after the others or before them
 rising-turned : (xs : List Hop) (hop : Hop) → rising hop_cmp (hop ∷ xs) ≡ rising hop_cmp (xs ++ hop ∷ [])
 rising-turned xs hop =
     rising-same (hop ∷ xs) (xs ++ hop ∷ [])
@@ -113,7 +113,7 @@ put_again hops hop sorted there =
     only h (zero, low, is) = subst (λ (x : Hop). Contains hops x) is there
     only h (suc k, low, is) = absurd (let k' : suc k < 1 = low in omega arith)
 
--- what a search for a hop says of a sorted list: the hop is there, or it is to be put at the place
+-- what a search for a hop in a sorted list shows: the hop is there, or it belongs at the place
 searched : (hops : List Hop) (hop : Hop) (r : Result ℕ ℕ) → IsSortedHops hops
     → IsSearchInRange r (length hops) → IsBinarySearchResult (λ y. hop_cmp y hop) hops r
     → MatchResult r (λ i. hops ≡ rising hop_cmp (hops ++ hop ∷ [])) (λ place. insert hops place hop ≡ rising hop_cmp (hops ++ hop ∷ []))
@@ -121,7 +121,7 @@ searched hops hop (Ok i) sorted within found = put_again hops hop sorted (i, wit
 searched hops hop (Err place) sorted within parted =
     let parts = parted (comparisons_rise hops sorted hop) in put_between hops hop place sorted within parts.0 parts.1
 
--- where the last hop comes before another, that one is put behind all
+-- where the last hop comes before another, that one goes after all
 pub put_behind : (hops : List Hop) (hop last : Hop) → IsSortedHops hops → slice_get hops (length hops - 1) ≡ Some last → hop_cmp last hop ≡ Less
     → insert hops (length hops) hop ≡ rising hop_cmp (hops ++ hop ∷ [])
 put_behind hops hop last sorted is before = put_between hops hop (length hops) sorted (omega arith) below (λ k d low high. absurd (omega arith))

@@ -1,4 +1,4 @@
--- What stays as it is while lists of hops are put in.
+-- What stays as it is while lists of hops are added.
 use Rattle.std.proofs.Common.{◌≡◌, ℕ, ◌<◌, List, [], ◌∷◌, ◌++◌, length, map, Option, None, Some, Bool, true, false, if◌then◌else◌, refl, sym, ap, ◌∙◌}
 use Rattle.std.proofs.Common.{subst, arith}
 use lib.Pointwise.{pointwise}
@@ -95,7 +95,7 @@ module _ {A : Type 0} (lists : List (Vec Hop A)) where
   IsJoin-found joins all numbers n (key, is, there) =
       subst (λ (ms : List ℕ). IsJoin lists ms n) is (All-contains (λ (e : Vec ℕ A × ℕ). IsJoin lists e.0.items e.1) joins (key, n) all there)
 
-  -- one join more
+  -- one more join
   pub AreJoins-insert : (eq : Vec ℕ A → Vec ℕ A → Bool) → ((k j : Vec ℕ A) → eq k j ≡ true → k.items ≡ j.items) → (joins : List (Vec ℕ A × ℕ))
       (key : Vec ℕ A) (n : ℕ) → AreJoins lists joins → IsJoin lists key.items n → AreJoins lists (insert_entry eq joins key n)
   AreJoins-insert eq exact [] key n all join = All-cons (λ (e : Vec ℕ A × ℕ). IsJoin lists e.0.items e.1) (key, n) [] join all

@@ -1,4 +1,4 @@
--- Which hops stay as they are where the way goes on.
+-- Which hops stay as they are where the path goes on.
 use Rattle.std.proofs.Common.{◌≡◌, ℕ, ◌<◌, List, length, get_or, refl, sym, ◌∙◌, subst, arith, ⊎_elim}
 use Rattle.std.specs.List.{AllWithin, Contains}
 use Rattle.std.specs.Ordering.{nat_cmp, ordering_then}
@@ -29,7 +29,7 @@ below_stays (Link d) below a = refl
 below_stays (Attached d) below a = absurd (none_below d.0 (nat_cmp d.0 0) refl below)
 below_stays (Gateway d b) below a = refl
 
--- behind a hop that stays and that comes after the first of these networks
+-- after a hop that stays and that comes after the first of these networks
 later_stays : (g h : Hop) → hop_cmp g first_attached ≡ Greater → StaysAsItIs g → hop_cmp g h ≡ Less → StaysAsItIs h
 later_stays Connected h above stays before a = absurd (cc)
 later_stays (Link d) h above stays before a = absurd (cc)

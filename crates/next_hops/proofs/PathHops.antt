@@ -144,7 +144,7 @@ module _ (t : Topology) (shape : IsTopology t) (tree : Distances) (measured : Is
       let same : x.0 ≡ dv + e.cost = omega arith in
       x.1 ∙ ap (λ (n : ℕ). Some n) same
 
-  -- what is known of the path so far: it is empty, at the root, or its first hop is in the table
+  -- the state of the path so far: it is empty, at the root, or its first hop is in the table
   abbrev HasFirst : List (List Hop) → ℕ → Option Hop → Type 0
   HasFirst table v o = ((o ≡ None) × (v ≡ tree.root)) ⊎ ((g : Hop) × (o ≡ Some g) × Contains (hops_at table v) g)
 

@@ -38,7 +38,7 @@ module _ {A : Type 0} where
       within : (n : ℕ) → n < length lists → n < length (map (λ (x : Vec Hop A). x.items) lists)
       within n lt = subst (λ (m : ℕ). n < m) (sym (length-map lists (λ x. x.items))) lt
 
-  -- a list that is put in unless it is there
+  -- a list that is added unless it is there
   pub Keeps-inserted : (is_there : Bool) (lists new : List (Vec Hop A)) (list : Vec Hop A) → IsSortedHops list.items
       → new ≡ (if is_there then lists else lists ++ list ∷ []) → Keeps lists new
   Keeps-inserted true lists new list in_order is = subst (λ (xs : List (Vec Hop A)). Keeps lists xs) (sym is) (Keeps-same lists)
@@ -51,7 +51,7 @@ module _ {A : Type 0} where
       ap (λ (hops : List Hop). hops ∷ lists_in new ns) (keeps.same n (All-head (λ m. m < length old) n ns within))
       ∙ ap (λ (rest : List (List Hop)). list_in old n ∷ rest) (lists_in-kept old new keeps ns (All-tail (λ m. m < length old) n ns within))
 
-  -- one list more, by its number
+  -- one more list, by its number
   pub lists_in-push : (old new : List (Vec Hop A)) (numbers : List ℕ) (n i : ℕ) (lists : List (List Hop))
       → Keeps old new → All (λ m. m < length old) numbers → i < length lists
       → lists_in old numbers ≡ take i lists → list_in new n ≡ get_or lists i [] → lists_in new (numbers ++ n ∷ []) ≡ take (i + 1) lists

@@ -37,7 +37,7 @@ none_to_itself : hops_of shared (router 1) (router 1) ≡ []
 unfolding lists_within leads paths_of least_paths_of hops_of router network edge addr shared
 none_to_itself = refl
 
--- two parallel links of one cost, and a dearer one
+-- two parallel links of one cost, and one of a greater cost
 parallel : List (DirectedEdge Vertex)
 unfolding router edge
 parallel = edge (router 1) (router 2) 10 21 ∷ edge (router 1) (router 2) 10 11 ∷ edge (router 1) (router 2) 11 31 ∷ []

@@ -33,7 +33,7 @@ abbrev pub IsHopTo : (DirectedEdge Vertex → Type 0) → Vertex → Vertex → 
 IsHopTo IsEdge root w hop =
     (es : List (DirectedEdge Vertex)) × IsPath IsEdge root es w × NoPathBelow IsEdge root w (path_cost es) × (first_hop es ≡ Some hop)
 
--- no cycle costs nothing: two edges, one after the other, cost something
+-- no cycle has cost 0: the cost of two edges, one after the other, is not 0
 abbrev pub NothingFree : List (DirectedEdge Vertex) → Type 0
 NothingFree edges = (e f : DirectedEdge Vertex) → Contains edges e → Contains edges f → f.from ≡ e.to → 0 < e.cost + f.cost
 
@@ -45,7 +45,7 @@ table_of t root = map (λ w. hops_of (edges_of t) root w) t.vertices
 abbrev pub hops_at : List (List Hop) → ℕ → List Hop
 hops_at table i = slice_index_or table i []
 
--- of each vertex these are the first hops of all paths of least cost from the root
+-- for each vertex, these are the first hops of all paths of least cost from the root
 pub record AreHopsOf (t : Topology) (root : Vertex) (table : List (List Hop)) : Type 0 where
   pub sized : length table ≡ length t.vertices
   pub members : (i : ℕ) (w : Vertex) → slice_get t.vertices i ≡ Some w → (h : Hop) → Contains (hops_at table i) h ↔ IsHopTo (IsEdge t) root w h

@@ -8,7 +8,7 @@ use Rattle.lsa_codec.specs.declared.address.Addr.{Addr}
 use Rattle.next_hops.specs.declared.hop.Hop.{Hop}
 use Rattle.next_hops.specs.declared.hop.Hop.TheVariants.{Connected, Link, Attached, Gateway}
 
--- the place of a hop's kind
+-- the index of a hop's kind
 abbrev pub kind_of : Hop → ℕ
 kind_of Connected = 0
 kind_of (Link d) = 1
@@ -37,7 +37,8 @@ hop_cmp g h = ordering_then (nat_cmp (kind_of g) (kind_of h)) (ordering_then (na
 abbrev pub IsSortedHops : List Hop → Type 0
 IsSortedHops hops = AllPairs (λ g h. hop_cmp g h ≡ Less) hops
 
--- the hop where the way goes on to the address a: on a network of the router's own, that is the gateway
+-- the hop where the path goes on to the address a: on a network of the router's own, that is the
+-- gateway
 abbrev pub extended : Hop → Addr → Hop
 extended Connected a = Connected
 extended (Link d) a = Link d

@@ -1,11 +1,11 @@
-//! Which lists of hops a vertex was handed.
+//! The lists of hops that a vertex received.
 
 ghost use Rattle.std.specs.Prelude.{[], ◌∷◌, IfOk, OnOk};
 ghost use Rattle.next_hops.specs.steps.Handed.{Adds, numbers_in};
 
 use std::alloc::{AllocError, Allocator};
 
-/// The numbers of the lists that a vertex was handed so far, several in rising order. Its hops are
+/// The numbers of the lists that a vertex received so far, several in rising order. Its hops are
 /// those of all these lists.
 #[derive(Drop)]
 pub(crate) enum Handed<A: Allocator> {

@@ -26,7 +26,7 @@ pub enum Hop {
 }
 
 impl Hop {
-    /// The hop where the way goes on to an address. From [`Attached`](Hop::Attached) that is the
+    /// The hop where the path goes on to an address. From [`Attached`](Hop::Attached) that is the
     /// gateway on the interface's network; any other hop stays as it is.
     pub fn extended(self, address: Addr) -> Hop
         ensures { result ≡ extended self address }

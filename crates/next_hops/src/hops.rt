@@ -21,7 +21,7 @@ use std::marker::Model;
 /// The hops of each vertex of an area's graph from the root of a tree. Contracts see it as the
 /// list of these lists, in the order of the vertices' numbers.
 ///
-/// It takes two bytes for each vertex, and each list that some vertex has once.
+/// It takes two bytes for each vertex, and keeps each distinct list once.
 #[derive(Drop)]
 pub struct Hops<A: Allocator = Global> {
     lists: Vec<Vec<Hop, A>, A>,
@@ -44,8 +44,8 @@ impl<A: Allocator> Model for Hops<A> {
 
 impl<A: Allocator + Copy> Hops<A> {
     /// The first hops of all paths of least cost from the root of a tree to each vertex (RFC 2328,
-    /// 16.1.1). The tree must be one of this graph. The root itself has no hops, and so has a
-    /// vertex that is not reached.
+    /// 16.1.1). The tree must be one of this graph. The root itself has no hops; nor has a vertex
+    /// that is not reached.
     ///
     /// # Errors
     ///
@@ -65,7 +65,7 @@ impl<A: Allocator + Copy> Hops<A> {
         Hops::renumbering(alloc, &table.lists, &numbers)
     }
 
-    /// The lists with these numbers, under new numbers: those that others have are let go.
+    /// The lists with these numbers, under new numbers. Lists without a number are dropped.
     fn renumbering(
         alloc: A,
         lists: &DistinctLists<A>,

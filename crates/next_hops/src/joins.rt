@@ -1,4 +1,4 @@
-//! Lists of hops that are joined, the same ones once.
+//! Lists of hops that are joined, each combination once.
 
 ghost use Rattle.std.specs.Prelude.{◌≡◌, ◌<◌, length, IfSome, IfOk, OnOk};
 ghost use Rattle.area_graph.specs.Rising.{rising};
@@ -11,7 +11,7 @@ use indexmap::IndexMap;
 use std::alloc::{AllocError, Allocator};
 use std::hash::{BuildHasherDefault, FoldHasher};
 
-/// For the numbers of some lists, the number of the list of all their hops.
+/// The number of the joined list, by the numbers of the lists that were joined.
 pub(crate) type Joins<A> = IndexMap<Vec<usize, A>, usize, BuildHasherDefault<FoldHasher>, A>;
 
 /// The hops of all lists with these numbers.
@@ -37,7 +37,7 @@ fn find<A: Allocator + Copy>(numbers: &[usize], joins: &Joins<A>) -> Option<usiz
     joins.get(numbers).copied()
 }
 
-/// Joins some lists, and tells the number of the list of all their hops.
+/// Joins some lists, and returns the number of the list of all their hops.
 fn make<A: Allocator + Copy>(
     alloc: A,
     numbers: &[usize],
@@ -56,7 +56,8 @@ fn make<A: Allocator + Copy>(
     Ok(number)
 }
 
-/// The number of the list of all hops of some lists. They are joined unless they were before.
+/// The number of the list of all hops of some lists. They are joined unless they were joined
+/// before.
 pub(crate) fn join<A: Allocator + Copy>(
     alloc: A,
     numbers: &[usize],

@@ -25,7 +25,7 @@ pub fn hop_equality()
     ensures { (g h : HopValue) → ⟦<Hop as PartialEq>⟧.eq g h ≡ true → g ≡ h }
 {}
 
-/// The hops over a list of edges are in rising order, each once. Where no cycle costs nothing, they
+/// The hops over a list of edges are in rising order, each once. Where no cycle has cost 0, they
 /// are exactly the first hops of all paths of least cost over these edges, of any length.
 pub fn hops_law()
     ensures sorted { (edges : List (DirectedEdge Vertex)) (root w : Vertex)

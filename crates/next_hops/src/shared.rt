@@ -32,7 +32,7 @@ fn find<A: Allocator + Copy>(hops: &[Hop], lists: &DistinctLists<A>) -> Option<u
     lists.get_index_of(hops)
 }
 
-/// Puts in a list of these hops, and tells its number.
+/// Adds a list of these hops, and returns its number.
 fn put<A: Allocator + Copy>(
     alloc: A,
     hops: &[Hop],
@@ -48,7 +48,7 @@ fn put<A: Allocator + Copy>(
     Ok(number)
 }
 
-/// The number of the list of these hops, which is put in unless it is there.
+/// The number of the list of these hops, which is added unless it is there.
 pub(crate) fn number_of<A: Allocator + Copy>(
     alloc: A,
     hops: &[Hop],

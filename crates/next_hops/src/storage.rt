@@ -16,11 +16,11 @@ pub(crate) trait HoldsHops: Allocator {
     ghost use Rattle.std.specs.Prelude.{ℕ};
     ghost use Rattle.next_hops.specs.steps.Storage.{octets_of};
 
-    /// How many bytes four hops and the allocator take.
+    /// The size of four hops and the allocator, in bytes.
     ghost octets: { ℕ };
 
-    /// Whether they are less than half of the address space. So they always are; of a type that is
-    /// not known a proof knows it from this test alone.
+    /// Whether this size is less than half of the address space. It always is; for a type parameter
+    /// a proof knows it from this test alone.
     fn fits() -> bool
         ensures { OnTrue result (octets < 2 ^ 63) };
 
@@ -38,7 +38,7 @@ impl<A: Allocator + Drop> HoldsHops for A {
     ghost measured = { refl };
 }
 
-/// Hops, up to four of them in place and more in memory. Contracts see it as their list.
+/// Hops, up to four of them in the value itself and more in memory. Contracts see it as their list.
 #[derive(Drop)]
 pub(crate) struct Storage<A: Allocator + HoldsHops> {
     hops: SmallVec<Hop, 4, A>,
@@ -60,7 +60,7 @@ impl<A: Allocator + Copy> Storage<A> {
     ///
     /// # Errors
     ///
-    /// A value would take half of the address space.
+    /// The value would take half of the address space.
     pub(crate) fn new(alloc: A) -> Result<Storage<A>, AllocError>
         ensures { IfOk result (λ storage. storage ≡ []) }
     {
@@ -109,7 +109,7 @@ impl<A: Allocator + Copy> Storage<A> {
         Ok(())
     }
 
-    /// The same hops, kept anew.
+    /// A copy of the hops.
     pub(crate) fn clone_of(&self, alloc: A) -> Result<Storage<A>, AllocError>
         ensures { IfOk result (λ storage. storage ≡ self.now) }
     {

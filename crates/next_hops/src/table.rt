@@ -27,7 +27,7 @@ pub(crate) struct HopTable<A: Allocator> {
     vertices: Vec<Handed<A>, A>,
 }
 
-/// So many vertices that were handed nothing.
+/// `count` vertices that received no list.
 fn none_handed<A: Allocator + Copy>(alloc: A, count: usize) -> Result<Vec<Handed<A>, A>, AllocError>
     ensures { IfOk result (λ vertices. vertices.items ≡ replicate count Nothing) }
 {
@@ -38,7 +38,7 @@ fn none_handed<A: Allocator + Copy>(alloc: A, count: usize) -> Result<Vec<Handed
     Ok(vertices)
 }
 
-/// The number of the list of all hops that a vertex was handed.
+/// The number of the list of all hops that a vertex received.
 fn number_for<A: Allocator + Copy>(
     alloc: A,
     handed: &Handed<A>,
@@ -60,7 +60,7 @@ fn number_for<A: Allocator + Copy>(
 }
 
 impl<A: Allocator + Copy> HopTable<A> {
-    /// So many vertices without hops.
+    /// `count` vertices without hops.
     pub(crate) fn new(alloc: A, count: usize) -> Result<HopTable<A>, AllocError>
         ensures none { IfOk result (λ table. hops_so_far table ≡ replicate count []) }
         ensures whole { IfOk result (λ table. IsWhole table) }
@@ -79,7 +79,7 @@ impl<A: Allocator + Copy> HopTable<A> {
         list_at(&self.lists, number)
     }
 
-    /// The number of the list of these hops, which is put in unless it is there.
+    /// The number of the list of these hops, which is added unless it is there.
     pub(crate) fn number_of(&mut self, alloc: A, hops: &[Hop]) -> Result<usize, AllocError>
         requires sorted { IsSortedHops hops.now }
         requires whole { IsWhole self.old }
@@ -90,7 +90,7 @@ impl<A: Allocator + Copy> HopTable<A> {
         number_of(alloc, hops, &mut self.lists)
     }
 
-    /// The number of a list's hops as they are where the way goes on to an address
+    /// The number of the list that a list's hops give where the path goes on to an address
     /// ([`Hop::extended`]).
     pub(crate) fn extended(
         &mut self,
@@ -120,7 +120,7 @@ impl<A: Allocator + Copy> HopTable<A> {
         self.vertices[to].add(alloc, number)
     }
 
-    /// The number of the list that a vertex was handed, if it was handed one alone.
+    /// The number of the list that a vertex received, if it received exactly one.
     fn only_list(&self, index: usize) -> Option<usize>
         requires index { index < length (hops_so_far self.now) }
         requires whole { IsWhole self.now }
@@ -134,7 +134,7 @@ impl<A: Allocator + Copy> HopTable<A> {
         }
     }
 
-    /// The number of the list of a vertex's hops, which the vertex then has alone.
+    /// The number of the list of a vertex's hops, which then is the vertex's only list.
     pub(crate) fn settle(&mut self, alloc: A, index: usize) -> Result<usize, AllocError>
         requires index { index < length (hops_so_far self.old) }
         requires whole { IsWhole self.old }
@@ -152,7 +152,7 @@ impl<A: Allocator + Copy> HopTable<A> {
         Ok(number)
     }
 
-    /// The number of the list of a vertex's hops, where that of no hops is known.
+    /// The number of the list of a vertex's hops, where the number of the empty list is given.
     fn settle_or(&mut self, alloc: A, index: usize, none: usize) -> Result<usize, AllocError>
         requires index { index < length (hops_so_far self.old) }
         requires whole { IsWhole self.old }
@@ -177,7 +177,7 @@ impl<A: Allocator + Copy> HopTable<A> {
             (λ numbers. lists_in self.new.lists.keys numbers.items ≡ hops_so_far self.old) }
         ensures stays { OnOk result (Stays self.old self.new) }
     {
-        // Most vertices of a tree may not be reached.
+        // The empty list is found once: many vertices of a tree may not be reached.
         let none = self.number_of(alloc, &[])?;
         let mut numbers = Vec::with_capacity(alloc, self.vertices.len())?;
         for index in 0..self.vertices.len() {

@@ -31,7 +31,7 @@ use Rattle.unchanged_tables.proofs.SteadySections.{IsSteadyArea, elsewhere_live,
 use Rattle.unchanged_tables.proofs.SteadyTables.{table_stays}
 use Rattle.unchanged_tables.proofs.TreeDistances.{tree_distances}
 
--- ---- lists that agree but for one item
+-- ---- lists that are the same except for one item
 
 module _ {X : Type 0} (R : X → X → Type 0) (same : (x : X) → R x x) where
   all_same : (xs : List X) → AllZip R xs xs

@@ -1,4 +1,4 @@
--- Steady changes of an area's LSAs leave its edges as they are, but for slack ones.
+-- Steady changes of an area's LSAs leave its edges as they are, except for slack ones.
 use Rattle.std.proofs.Common.{◌≡◌, ℕ, ◌+◌, ◌<◌, ◌≤◌, Bool, true, cond, not, eqb, ltb, List, [], map, Option, None, Some, refl, sym, ap, ◌∙◌}
 use Rattle.std.proofs.Common.{subst, arith, ◌⊎◌, inl, inr, ⊎_elim}
 use Rattle.std.specs.Prelude.{◌&&◌, ◌||◌, IfSome, IsSomeAnd}
@@ -24,14 +24,15 @@ use Rattle.area_graph.proofs.ZipLemmas.{AreBoth, left-In, right-In, same-filter_
 use Rattle.area_graph.proofs.ZipLemmas.{zip-flat_map, zip-itself, zip-map}
 use Rattle.unchanged_tables.proofs.SteadyPaths.{AreSteadyEdges, IsNoFarther, IsTight, no_farther}
 
--- an edge before and after a change: the same, but for its cost where it is slack before and after
+-- an edge before and after a change: the same, except for its cost where it is slack before and
+-- after
 pub record IsSteadyEdge (distance : DistanceOf) (old new : DirectedEdge Vertex) : Type 0 where
   pub from : new.from ≡ old.from
   pub to : new.to ≡ old.to
   pub link_data : new.link_data ≡ old.link_data
   pub cost : (new.cost ≡ old.cost) ⊎ (IsSlack distance old × IsSlack distance new)
 
--- what stays of each LSA
+-- what is the same in each LSA before and after
 pub record IsAlike (old new : List ℕ) : Type 0 where
   pub kind : kind_of new ≡ kind_of old
   pub id : link_state_id_of new ≡ link_state_id_of old

@@ -1,4 +1,4 @@
--- Edges that differ by slack ones alone give the same distances and the same first hops.
+-- Edges that differ in slack ones alone give the same distances and the same first hops.
 use Rattle.std.proofs.Common.{◌≡◌, ℕ, ◌+◌, ◌≤◌, List, [], ◌∷◌, Option, None, Some, refl, sym, ap, ◌∙◌, subst, arith}
 use Rattle.std.specs.List.{Contains, filter_map}
 use Rattle.area_graph.specs.declared.vertex.Vertex.{Vertex}
@@ -93,7 +93,8 @@ module _ (root : Vertex) (distance : Vertex → Option ℕ) (P Q : DirectedEdge 
       moved root distance P (no_farther root distance P are) Q there es root v 0 path (root_is_nearest root distance P are)
       (at ∙ ap (λ (n : ℕ). Some n) sum)
 
-  -- over other edges that have the tight ones, and lead to no vertex that is farther, these are the distances, too
+  -- over other edges that include the tight ones, and lead to no vertex that is farther, these are the distances,
+  -- too
   still_distances : IsNoFarther distance Q → AreDistances root distance Q
   still_distances near v = by (distance v) refl (are v)
     where

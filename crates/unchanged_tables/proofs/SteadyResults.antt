@@ -1,4 +1,4 @@
--- Steady changes of an area's LSAs leave what the area gives to a router as it is.
+-- Steady changes of an area's LSAs leave what a router gets from the area as it is.
 use Rattle.std.proofs.Common.{◌≡◌, ℕ, ◌+◌, Bool, true, false, cond, not, eqb, List, [], ◌∷◌, ◌++◌, map, Option, None, Some, refl, sym, ap, ◌∙◌, subst, arith}
 use Rattle.std.proofs.Common.{◌⊎◌, inl, inr}
 use Rattle.std.specs.Prelude.{◌&&◌, IsSomeAnd}

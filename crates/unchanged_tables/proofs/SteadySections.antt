@@ -20,7 +20,7 @@ use Rattle.unchanged_tables.specs.Steady.{AreSteady, AreSteadyIn, IsElsewhere, I
 
 -- ---- one LSA
 
--- the same key, as far as that of the router goes, and the same age class where it has it
+-- the same key, as far as it is the router's, and the same age class where it has it
 record IsAlike (router : RouterId) (old new : List ℕ) : Type 0 where
   keyed : has_key (router_key router) new ≡ has_key (router_key router) old
   live : has_key (router_key router) old ≡ true → is_live new ≡ is_live old

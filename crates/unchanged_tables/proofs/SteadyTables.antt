@@ -30,7 +30,7 @@ use Rattle.unchanged_tables.specs.Steady.{AreSteady, IsElsewhere, distances_from
 use Rattle.unchanged_tables.proofs.SteadyResults.{steady_result}
 use Rattle.unchanged_tables.proofs.SteadySections.{IsSteadyArea, area_steady, as_wide_stays, attached_stay}
 
--- ---- LSAs that tell nothing of other areas
+-- ---- LSAs that are no summary-LSAs
 
 -- the same, or no summary-LSA before and after
 abbrev TellsTheSame : List ℕ → List ℕ → Type 0

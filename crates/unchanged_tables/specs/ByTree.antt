@@ -1,4 +1,4 @@
--- The distances from a router whose shortest-path tree is there.
+-- The distances from a router whose shortest-path tree is kept.
 use Rattle.std.specs.Prelude.{◌≡◌, slice_get}
 use Rattle.std.specs.Option.{option_and_then}
 use Rattle.lsa_codec.specs.declared.address.RouterId.{RouterId}

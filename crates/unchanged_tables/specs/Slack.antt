@@ -23,7 +23,8 @@ IsSlack distance e = IfSome (distance e.from) (λ near. IsSomeAnd (distance e.to
 abbrev pub IsSlackLink : DistanceOf → Vertex → Link → Type 0
 IsSlackLink distance v link = IsSomeAnd (edge_over v link) (IsSlack distance)
 
--- a link before and after a change: the same, but for its metric where the link is slack before and after
+-- a link before and after a change: the same, except for its metric where the link is slack before and
+-- after
 pub record IsSteadyLink (distance : DistanceOf) (v : Vertex) (old new : Link) : Type 0 where
   pub kind : new.kind ≡ old.kind
   pub id : new.id ≡ old.id
@@ -40,6 +41,6 @@ pub record IsSteadyLsa (distance : DistanceOf) (old new : List ℕ) : Type 0 whe
   pub flags : flags_of new ≡ flags_of old
   pub links : AllZip (IsSteadyLink distance (vertex_of old)) (links_of old) (links_of new)
 
--- LSAs of an area before and after a change: the same, or of such a router-LSA
+-- LSAs of an area before and after a change: the same, or such a router-LSA
 abbrev pub AreSteadyLsas : DistanceOf → List (List ℕ) → List (List ℕ) → Type 0
 AreSteadyLsas distance olds news = AllZip (λ old new. (new ≡ old) ⊎ IsSteadyLsa distance old new) olds news

@@ -20,8 +20,8 @@ pub struct AreaChange {
 }
 
 /// The change of the cost of an interface that the change of one LSA makes, if it makes one and no
-/// other. The database is the one after the change, and `before` is the LSA that stood at the
-/// place. `None` says nothing. It takes no memory.
+/// other. The database is the one after the change, and `before` is the LSA that was at the place.
+/// `None` means nothing. It takes no memory.
 pub fn cost_change<A: Allocator + Copy>(
     database: &Database<A>,
     slot: SlotId,
@@ -31,7 +31,7 @@ pub fn cost_change<A: Allocator + Copy>(
     ensures { IfSome result (λ made. IsCostChange made.area made.change
         (lists_of (put database.now slot (Some before.now))) (lists_of database.now)) }
 {
-    // For what holds of its areas: their IDs differ.
+    // Its invariant is needed: the IDs of its areas differ.
     database.known();
     if slot.section >= database.area_count() {
         return None;

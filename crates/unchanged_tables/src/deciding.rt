@@ -24,7 +24,7 @@ fn is_foreign<A: Allocator + Copy>(router: RouterId, lsa: &Lsa<A>) -> bool
     (key.kind == ROUTER_LSA || key.kind == NETWORK_LSA) && key != Key::of_router(router)
 }
 
-/// Whether two LSAs are such LSAs.
+/// Whether both of two LSAs are foreign in this sense.
 fn are_foreign<A: Allocator + Copy>(router: RouterId, before: &Lsa<A>, after: &Lsa<A>) -> bool
     ensures { OnTrue result (IsElsewhere router before.now after.now) }
 {
@@ -32,12 +32,13 @@ fn are_foreign<A: Allocator + Copy>(router: RouterId, before: &Lsa<A>, after: &L
 }
 
 /// Whether the routing table of a router is known to be the same before and after a change of one
-/// LSA, without a new tree. The database is the one after the change, `before` is the LSA that
-/// stood at the place, and the trees are those of the database before. It takes no memory.
+/// LSA, without a new tree. The database is the one after the change, `before` is the LSA that was
+/// at the place, and the trees are those of the database before. It takes no memory.
 ///
-/// It is known in an area to which the router is not attached, where the LSA is a router-LSA or
-/// network-LSA of others; and else where the router's tree in the area is there, and no path of
-/// least cost leads over a link whose metric has changed, before and after. `false` says nothing.
+/// It is known in two cases. In an area to which the router is not attached, the LSA is a
+/// router-LSA or network-LSA of another router. In any other area, the router's tree is kept, and
+/// no path of least cost leads over a link whose metric has changed, before or after. `false` means
+/// nothing.
 pub fn is_unchanged<A: Allocator + Copy>(
     trees: &KeptTrees<A>,
     database: &Database<A>,
@@ -50,7 +51,7 @@ pub fn is_unchanged<A: Allocator + Copy>(
     ensures { result ≡ true → table_in (lists_of database.now) router
         ≡ table_in (lists_of (put database.now slot (Some before.now))) router }
 {
-    // For what holds of its areas: their IDs differ.
+    // Its invariant is needed: the IDs of its areas differ.
     database.known();
     if slot.section >= database.area_count() {
         return false;

@@ -29,7 +29,7 @@ impl<'a, A: Allocator> Model for DistancesFrom<'a, A> {
 }
 
 impl<'a, A: Allocator + Copy> DistancesFrom<'a, A> {
-    /// The distances from a router whose tree is there.
+    /// The distances from a router whose tree is kept.
     pub(crate) fn of(trees: &'a AreaTrees<A>, router: RouterId) -> Option<DistancesFrom<'a, A>>
         ensures { IfSome result (IsOf trees.now.graph router) }
     {

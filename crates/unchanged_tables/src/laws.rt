@@ -10,7 +10,7 @@ ghost use Rattle.routing_table.specs.Tables.{table_in};
 ghost use Rattle.unchanged_tables.specs.Slack.{AreSteadyLsas};
 ghost use Rattle.unchanged_tables.specs.Steady.{AreSteady, distances_from};
 
-/// Steady changes of an area's LSAs leave what the area gives to a router as it is.
+/// Steady changes of an area's LSAs leave what a router gets from the area as it is.
 pub fn steady_changes_leave_results()
     ensures { (area : AreaId) (router : RouterId) (lsas others : List (List ℕ))
         → All IsAccepted lsas → All IsAccepted others

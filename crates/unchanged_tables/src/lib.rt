@@ -1,7 +1,7 @@
 //! Routing tables that changes of metrics leave as they are (RFC 2328, 16.1).
 //!
-//! A metric of a router-LSA counts for a router's table only where its link lies on a path of least
-//! cost from the router, before or after the change. Where none does, the distances, the next hops
+//! A metric of a router-LSA matters for a router's table only where its link is on a path of least
+//! cost from the router, before or after the change. Where none is, the distances, the next hops
 //! and so the table stay, and no tree has to be calculated to know it.
 #![tactic(auto)]
 

@@ -52,8 +52,8 @@ fn is_slack_link<A: Allocator + Copy>(
     is_slack(near, far, link.metric)
 }
 
-/// Whether a link after a change is the same as before, but for its metric where the link is slack
-/// before and after.
+/// Whether a link after a change is the same as before, except for its metric where the link is
+/// slack before and after.
 fn is_steady_link<A: Allocator + Copy>(
     distances: &DistancesFrom<'_, A>,
     from: Vertex,
@@ -71,7 +71,7 @@ fn is_steady_link<A: Allocator + Copy>(
     is_slack_link(distances, from, old) && is_slack_link(distances, from, new)
 }
 
-/// Whether all links of a router are so, one by one.
+/// Whether all links of a router are steady in this sense, one by one.
 fn are_steady_links<A: Allocator + Copy>(
     distances: &DistancesFrom<'_, A>,
     from: Vertex,
@@ -92,8 +92,8 @@ fn are_steady_links<A: Allocator + Copy>(
     news.next().is_none()
 }
 
-/// Whether a router-LSA after a change is the same as before, as far as routes go, but for metrics
-/// of links that are slack before and after.
+/// Whether a router-LSA after a change is the same as before, as far as routes go, except for
+/// metrics of links that are slack before and after.
 pub(crate) fn is_steady_lsa<A: Allocator + Copy>(
     distances: &DistancesFrom<'_, A>,
     old: &Lsa<A>,

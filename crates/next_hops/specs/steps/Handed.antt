@@ -1,4 +1,4 @@
--- The lists of hops that vertices were handed.
+-- The lists of hops that vertices received.
 use Rattle.std.specs.Prelude.{◌≡◌, ℕ, List, [], ◌∷◌, All, Contains, ◌⊎◌}
 use Rattle.std.specs.declared.vec.Vec.{Vec}
 use Rattle.area_graph.specs.Rising.{rising}
@@ -9,7 +9,7 @@ use Rattle.next_hops.specs.Hop.{hop_cmp}
 use Rattle.next_hops.specs.steps.Shared.{AreJoins, AreSorted, AreWithin, hops_in}
 
 module _ {A : Type 0} where
-  -- the numbers of the lists that a vertex was handed
+  -- the numbers of the lists that a vertex received
   abbrev pub numbers_in : Handed A → List ℕ
   numbers_in Nothing = []
   numbers_in (One n) = n ∷ []
@@ -19,7 +19,8 @@ module _ {A : Type 0} where
   abbrev pub handed_hops : List (Vec Hop A) → Handed A → List Hop
   handed_hops lists handed = rising hop_cmp (hops_in lists (numbers_in handed))
 
-  -- each number that a vertex was handed is that of a list, the lists are sorted, and joins are what they are to be
+  -- each number that a vertex received is that of a list, the lists are sorted, and each join has the hops of its
+  -- lists
   pub record AreWhole (lists : List (Vec Hop A)) (joins : List (Vec ℕ A × ℕ)) (vertices : List (Handed A)) : Type 0 where
     pub sorted : AreSorted lists
     pub joined : AreJoins lists joins

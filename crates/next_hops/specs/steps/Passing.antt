@@ -41,7 +41,7 @@ IsPassed t tree hops e h =
 abbrev pub IsPassedFrom : Topology → Distances → List Hop → ℕ → ℕ → Hop → Type 0
 IsPassedFrom t tree hops from i h = (o : Edge) × Contains (row_at t from) o × (i ≡ o.to) × IsPassed t tree hops (arc_of from o) h
 
--- new is old and the hops of which P holds
+-- new is old with the hops of which P holds
 pub record Grows (P : ℕ → Hop → Type 0) (old new : List (List Hop)) : Type 0 where
   pub sized : length new ≡ length old
   pub kept : (i : ℕ) (h : Hop) → Contains (hops_at old i) h → Contains (hops_at new i) h

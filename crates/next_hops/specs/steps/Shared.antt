@@ -1,4 +1,4 @@
--- Lists of hops that are kept once, and named by number.
+-- Lists of hops that are kept once, and referred to by number.
 use Rattle.std.specs.Prelude.{◌≡◌, ℕ, ◌<◌, ◌≤◌, List, [], All, Contains, map, flat_map, length, slice_index_or}
 use Rattle.std.specs.declared.vec.Vec.{Vec}
 use Rattle.area_graph.specs.Rising.{rising}
@@ -25,7 +25,7 @@ module _ {A : Type 0} where
   abbrev pub AreSorted : List (Vec Hop A) → Type 0
   AreSorted lists = All (λ list. IsSortedHops list.items) lists
 
-  -- each list of the old ones has its number still, and none that is new is out of order
+  -- each of the old lists still has its number, and each new list is sorted
   pub record Keeps (old new : List (Vec Hop A)) : Type 0 where
     pub same : (n : ℕ) → n < length old → list_in new n ≡ list_in old n
     pub no_less : length old ≤ length new
@@ -40,6 +40,6 @@ module _ {A : Type 0} where
   abbrev pub AreJoins : List (Vec Hop A) → List (Vec ℕ A × ℕ) → Type 0
   AreJoins lists joins = All (λ e. IsJoin lists e.0.items e.1) joins
 
-  -- the join of these numbers is known, and has the number n
+  -- the join of these numbers is there, and has the number n
   abbrev pub HasJoin : List (Vec ℕ A × ℕ) → List ℕ → ℕ → Type 0
   HasJoin joins numbers n = (key : Vec ℕ A) × (key.items ≡ numbers) × Contains joins (key, n)

@@ -26,26 +26,26 @@ module _ {A : Type 0} where
   abbrev pub IsKept : HopTable A → ℕ → Type 0
   IsKept t n = n < length t.lists.keys
 
-  -- new is old and the hops of which P holds, and each list has its number still
+  -- new is old with the hops of which P holds, and each list still has its number
   pub record Hands (P : ℕ → Hop → Type 0) (old new : HopTable A) : Type 0 where
     pub grows : Grows P (hops_so_far old) (hops_so_far new)
     pub keeps : Keeps old.lists.keys new.lists.keys
     pub whole : IsWhole new
 
-  -- new has the hops of old, and each list has its number still
+  -- new has the hops of old, and each list still has its number
   pub record Stays (old new : HopTable A) : Type 0 where
     pub hops : hops_so_far new ≡ hops_so_far old
     pub keeps : Keeps old.lists.keys new.lists.keys
     pub whole : IsWhole new
 
--- a hop stays as it is wherever the way goes on
+-- a hop stays as it is wherever the path goes on
 abbrev pub StaysAsItIs : Hop → Type 0
 StaysAsItIs h = (a : Addr) → extended h a ≡ h
 
 abbrev pub StayAsTheyAre : List Hop → Type 0
 StayAsTheyAre hops = All StaysAsItIs hops
 
--- hops go on over any edge as this says
+-- what a passage means for hops that go on over any edge
 abbrev pub GoOn : Passage → List Hop → Type 0
 GoOn Empty hops = hops ≡ []
 GoOn Unchanged hops = StayAsTheyAre hops

@@ -4,7 +4,7 @@ use Rattle.lsdb.specs.Lists.{AreaHead}
 use Rattle.unchanged_tables.proofs.OneLsa.{elsewhere_unchanged, steady_unchanged}
 use Rattle.unchanged_tables.proofs.deciding.is_unchanged.Goals as goal
 
--- what a test tells where it passes
+-- what a test shows where it passes
 told : (b : Bool) {P : Type 0} → OnTrue b P → b ≡ true → P
 told b {P} tells passes = subst (λ (t : Bool). OnTrue t P) passes tells
 
