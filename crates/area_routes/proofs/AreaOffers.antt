@@ -66,7 +66,7 @@ within : (lsas : List (List ℕ)) (links : List StubLink) → AreStubLinksOf lsa
 within lsas links are = All-permutation (λ (link : StubLink). link.vertex < length (used lsas)) (stub_links_from 0 (used lsas)) links are
     (λ k d l. let h = within_from (used lsas) 0 k d l in omega arith)
 
--- ---- the order of the links has no part in what is best
+-- ---- the order of the links does not matter for what is best
 
 module _ (f : StubLink → Option OfferValue) (p : Candidate Net → Bool) where
   abbrev passes : StubLink → Bool

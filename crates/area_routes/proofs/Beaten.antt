@@ -42,12 +42,12 @@ or_false : (b : Bool) → (b || false) ≡ b
 or_false true = refl
 or_false false = refl
 
--- where the best is before b, nothing is behind b alone
+-- where the best is before b, b itself precedes nothing more
 behind_stays : (o : Option Standing) (b s : Standing) → is_behind o b ≡ true → (is_behind o s || stands_before b s) ≡ is_behind o s
 behind_stays None b s h = absurd (true≢false (sym h))
 behind_stays (Some a) b s h = or_absorbs (stands_before a s) (stands_before b s) (λ q. before_trans a.distance b.distance s.distance a.id.0 b.id.0 s.id.0 h q)
 
--- where the best is not before b, what is behind it is behind b
+-- where the best is not before b, b precedes all that the best precedes
 behind_rises : (o : Option Standing) (b s : Standing) → is_behind o b ≡ false → (is_behind o s || stands_before b s) ≡ stands_before b s
 behind_rises None b s h = refl
 behind_rises (Some a) b s h = or_absorbed (stands_before a s) (stands_before b s) (λ q. before_or a.distance b.distance s.distance a.id.0 b.id.0 s.id.0 q h)
@@ -102,7 +102,7 @@ prefix_of_network false net of_lsa h = cc
 
 -- ---- the offers
 
--- of each vertex in turn what it offers, if none of these networks beats it
+-- the offers of each vertex in turn, if none of these networks beats it
 pub unbeaten_offers : (ns rs : List ReachedValue) → flat_map (unbeaten ns) rs ≡ map network_offer
     (filter (λ n. not (list_any (λ m. beats m n) ns)) (networks rs))
 unbeaten_offers ns [] = refl

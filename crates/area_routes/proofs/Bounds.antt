@@ -38,7 +38,7 @@ module _ (P : Rank → Type 0) where
         by None h = tt
         by (Some r) h = h
 
-    -- the keys at which there is a way, each with it
+    -- the keys that have a way, each with it
     abbrev with_ways : (K → Option WayValue) → List K → List (K × WayValue)
     with_ways f ks = filter_map (λ k. option_map (λ w. (k, w)) (f k)) ks
 

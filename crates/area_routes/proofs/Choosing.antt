@@ -63,7 +63,7 @@ decided : (b : Bool) → (b ≡ true) ⊎ (b ≡ false)
 decided true = inl refl
 decided false = inr refl
 
--- one of the list that none of its prefix precedes
+-- one of the list such that no other of its prefix precedes it
 abbrev IsAhead : List ReachedValue → ReachedValue → Type 0
 IsAhead ns n = In ns n × ((m : ReachedValue) → In ns m → net_of_lsa m.lsa ≡ net_of_lsa n.lsa → precedes m n ≡ false)
 
@@ -109,7 +109,7 @@ chosen_best ns n = (
 
 -- ---- one of each prefix
 
--- of a prefix there is none, or one that is ahead
+-- for a prefix there is none, or one that is ahead
 abbrev IsSettled : Net → List ReachedValue → Type 0
 IsSettled p ns =
     ((m : ReachedValue) → In ns m → net_of_lsa m.lsa ≡ p → ⊥)

@@ -1,4 +1,4 @@
--- Of one router, area and kind a router has one entry.
+-- For a router, area and kind a router has one entry.
 use Rattle.std.proofs.Common.{◌≡◌, ◌≢◌, ℕ, ◌<◌, Bool, true, false, cond, not, List, [], ◌∷◌, ◌++◌, map, Option, None, Some, refl, sym, ap, subst}
 use Rattle.std.proofs.Common.{◌∙◌, arith, ⊎_elim, inl, inr, true≢false}
 use Rattle.std.specs.Prelude.{◌&&◌}
@@ -46,7 +46,7 @@ Differ a b = IsSameWay a b → ⊥
 
 -- ---- the entries of an area
 
--- what an entry of a vertex has
+-- the properties of an entry of a vertex
 record IsEntryOf (area : AreaId) (r : ReachedValue) (e : EntryValue) : Type 0 where
   of_router : is_router_lsa r.lsa ≡ true
   id : e.router.0 ≡ link_state_id_of r.lsa

@@ -15,7 +15,7 @@ module _ {X : Type 0} (p : X → Bool) where
       let b = count_by-le-length p xs in
       omega (arith, a, b)
 
-  -- what leaves out nothing is the whole list
+  -- a filter that leaves out nothing gives the whole list
   whole : (xs : List X) → length xs ≤ length (filter p xs) → filter p xs ≡ xs
   whole [] all = refl
   whole (x ∷ xs) all = by (p x) all (λ others. whole xs others)
@@ -25,7 +25,7 @@ module _ {X : Type 0} (p : X → Bool) where
       by true all rest = ap (λ (l : List X). x ∷ l) (rest (omega (arith, all)))
       by false all rest = absurd (let few = no_more xs in omega (arith, all, few))
 
--- as many LSAs in use as there are
+-- where the number of LSAs in use is the number of LSAs, all are in use
 all_used : (lsas : List (List ℕ)) → length (used lsas) ≡ length lsas → used lsas ≡ lsas
 unfolding used
 all_used lsas all =
@@ -35,7 +35,7 @@ all_used lsas all =
     let live : vertex_lsas lsas ≡ lsas = whole is_vertex_lsa lsas (omega (arith, all, few, fewer)) in
     whole top (vertex_lsas lsas) (omega (arith, all, few, fewer)) ∙ live
 
--- as many vertices as there are LSAs
+-- the same by the number of vertices
 pub all_in_use : (lsas : List (List ℕ)) (vertices : List Vertex) → vertices ≡ vertices_of lsas → length lsas ≡ length vertices → used lsas ≡ lsas
 all_in_use lsas vertices are count =
     all_used lsas (sym (count ∙ ap (λ (vs : List Vertex). length vs) are ∙ length-map (used lsas) vertex_of))

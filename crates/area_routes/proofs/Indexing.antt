@@ -1,4 +1,4 @@
--- Entries by their routers, with one entry more.
+-- Entries by their routers, with one more entry.
 use Rattle.std.proofs.Common.{◌≡◌, Bool, true, false, cond, List, [], ◌∷◌, ◌++◌, Option, Some, None, is_some, refl, sym, ap, ◌∙◌}
 use Rattle.std.specs.Prelude.{◌&&◌}
 use Rattle.std.specs.Map.{lookup}
@@ -34,7 +34,7 @@ equal Equal h = refl
 equal Greater h = cc
 
 module _ (kind : EntryKind) (entries : List EntryValue) (e : EntryValue) where
-  -- what there is with one entry more
+  -- the entries with one more
   one_more : (q : RouterId) → find_entry kind (entries ++ e ∷ []) q ≡ option_or (find_entry kind entries q)
       (cond (same_kind e.kind kind && same_router e.router q) (Some e) None)
   one_more q = find-append (λ e. same_kind e.kind kind && same_router e.router q) entries (e ∷ [])

@@ -1,4 +1,4 @@
--- What one area offers is what the routes are of a router that is attached to it alone.
+-- What one area offers are the routes of a router that is attached to it alone.
 use Rattle.std.proofs.Common.{◌≡◌, ℕ, ◌<◌, ◌^◌, Bool, true, false, cond, List, [], ◌∷◌, get_or, length, map, Some, refl, sym, ap, ◌∙◌, subst, arith}
 use Rattle.std.specs.List.{AllByRecursion, All, filter}
 use Rattle.std.specs.List.Sorted.{IsStrictlySortedBy}
@@ -49,7 +49,7 @@ module _ (area : AreaId) where
   abbrev candidates : List OfferValue → List (Candidate Net)
   candidates os = map (intra_candidate area) os
 
-  -- greater prefixes are others
+  -- greater prefixes are different
   none_for : (q k : Net) → q ≡ k → (os : List OfferValue) → AllByRecursion (λ n. prefix_cmp k n ≡ Less) (offered_nets os)
       → filter (λ c. eq_by_cmp prefix_cmp q c.key) (candidates os) ≡ []
   none_for q k same [] a = refl
@@ -98,7 +98,7 @@ routes_of_one r up sorted =
     ∙ ap (map route_of) (ways_by r.area r.offers up sorted)
     ∙ ap routes_of (sym (append-nil (intra_candidates r)))
 
--- ---- the routes of a router that is attached to one area, as what the area gives has them
+-- ---- the routes of a router that is attached to one area, as the area's result keeps them
 
 module _ (area : AreaId) where
   pub routes_by_offers : (rs : List RouteValue) → All (IsIntraRoute area) rs → rs ≡ map (intra_route area) (map offered rs)

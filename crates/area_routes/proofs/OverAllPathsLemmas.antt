@@ -33,7 +33,7 @@ link_has_cost : (link : Link) (t : Vertex) → IsLinkTo t link → has_cost link
 link_has_cost link (Router w) h = ap has_cost h.0
 link_has_cost link (Network n) h = ap has_cost h.0
 
--- an accepted router-LSA has no link to a vertex that costs nothing
+-- no link of an accepted router-LSA to a vertex has cost 0
 link_costs : (lsa : List ℕ) (link : Link) (t : Vertex) → IsAccepted lsa → kind_of lsa ≡ 1 → Contains (links_of lsa) link → IsLinkTo t link → 0 < link.metric
 link_costs lsa link t accepted one c to =
     let all : list_all is_link_cost_good (links_of lsa) ≡ true =
@@ -66,7 +66,7 @@ module _ (lsas : List (List ℕ)) (accepted : All IsAccepted lsas) where
 -- ---- members
 
 module _ (distance : Vertex → Option ℕ) (hops : Vertex → List Hop) where
-  -- what the reached vertex of an LSA says
+  -- the properties of the reached vertex of an LSA
   abbrev IsOf : List ℕ → ReachedValue → Type 0
   IsOf lsa r = (lsa ≡ r.lsa) × (distance (vertex_of r.lsa) ≡ Some r.distance) × (hops (vertex_of r.lsa) ≡ r.hops)
 

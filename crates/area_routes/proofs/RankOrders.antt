@@ -1,4 +1,4 @@
--- The orders of hops and ranks are total, and tell all values apart.
+-- The orders of hops and ranks are total, and distinguish all values.
 use Rattle.std.proofs.Common.{◌≡◌, refl}
 use Rattle.std.specs.Cmp.{IsTotalOrder}
 use Rattle.std.specs.Ordering.{nat_cmp}

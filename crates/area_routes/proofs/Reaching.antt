@@ -25,7 +25,7 @@ use Rattle.area_routes.specs.AreaResults.{AreOf}
 use Rattle.area_routes.specs.steps.ReachedVertices.{FitGraph}
 use Rattle.area_routes.proofs.AddsLemmas.{filter_map_adds}
 
--- one more item of a list, with what there is of it
+-- one more item of a list, with what is found for it
 pub found_more : {X Y : Type 0} (f : X → Option Y) (xs : List X) (i : ℕ) (x : X) → i < length xs → x ≡ get_or xs i x → (old new : List Y)
     → old ≡ filter_map f (take i xs) → new ≡ old ++ cons_option (f x) [] → new ≡ filter_map f (take (i + 1) xs)
 found_more {X} {Y} f xs i x lt at old new before step =
@@ -90,7 +90,7 @@ not_reached distance first lsas distances is i lsa at none =
     ∙ ap (λ (l : List ℕ). distance (vertex_of l)) (get_or_from_slice_get lsas i lsa lsa at) in
     ap (λ (o : Option ℕ). option_map (λ d. record { lsa = lsa; distance = d; hops = first (vertex_of lsa) }) o) (none ∙ here)
 
--- the first of the items that are left is the one at their place, and the others are left behind it
+-- the first of the items that are left is the one at their place, and the others are left after it
 pub next_is : {X : Type 0} (xs : List X) (i : ℕ) (x : X) (rest : List X) → i < length xs → drop i xs ≡ x ∷ rest
     → (x ≡ get_or xs i x) × (rest ≡ drop (i + 1) xs)
 next_is {X} xs i x rest lt left =

@@ -95,7 +95,7 @@ module _ {K : Type 0} {R : K → K → Ordering} (o : IsTotalOrder R) where
     pub rising_rising : (xs : List K) → IsStrictlySortedBy R xs → rising R xs ≡ xs
     rising_rising xs a = sym (rising_is xs xs a (λ q. refl))
 
-  -- `dedup` keeps what a test finds, where the test can't tell apart what E can't
+  -- `dedup` keeps what a test finds, where the test cannot distinguish items that are equal by E
   any_dedup_from : (E : K → K → Bool) (p : K → Bool) → ((x y : K) → E x y ≡ true → p x ≡ p y)
       → (k : K) (xs : List K) → list_any p (dedup_from E k xs) ≡ (p k || list_any p xs)
   any_dedup_from E p alike k [] = refl

@@ -1,4 +1,4 @@
--- The routes by the ways of candidates that stand in order, one candidate after another.
+-- The routes by the ways of candidates that are in order, one candidate after another.
 use Rattle.std.proofs.Common.{◌≡◌, ℕ, ◌-◌, true, false, List, [], ◌∷◌, ◌++◌, length, get_or, set, map, Option, Some, None}
 use Rattle.std.proofs.Common.{refl, sym, ap, ◌∙◌, inl, inr, true≢false}
 use Rattle.std.specs.Cmp.{Equal-is}
@@ -19,7 +19,7 @@ use Rattle.area_routes.specs.steps.Merge.{fresh, is_last, merge}
 use Rattle.area_routes.proofs.Made.{sorted_made}
 use Rattle.area_routes.proofs.Runs.{Parts, parts, last_item, last_of, set_last, Runs, UpTo, again, at_end, begun, key_of_last, pushed}
 
--- what is known of the routes of the candidates so far: they are those by the ways, and the class is that of the last way
+-- the state of the routes for the candidates so far: they are those by the ways, and the class is that of the last way
 pub record RouteRuns (cs : List (Candidate Net)) (routes : List RouteValue) (class : ℕ) : Type 0 where
   pub ways : List (Net × WayValue)
   pub runs : Runs prefix_cmp cs ways
@@ -104,7 +104,7 @@ module _ (cs : List (Candidate Net)) (routes : List RouteValue) (class : ℕ) (k
   pub routes_rise : AreSortedRoutes routes
   routes_rise = sorted_made known.ways routes known.made known.runs.rises
 
--- the last route with one candidate more
+-- the last route with one more candidate
 pub end_merged : (x : Candidate Net) (before : List RouteValue) (net : Net) (way : WayValue) (routes : List RouteValue) (class n : ℕ) (last new : RouteValue) (new_class : ℕ)
     → n ≡ length routes → last ≡ get_or routes (n - 1) last → EndBy before (net, way) routes class
     → (IsBy (net, way) last class → IsBy (net, merge (Some way) x) new new_class)

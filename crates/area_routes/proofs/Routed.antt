@@ -40,13 +40,13 @@ last_by rs net last at =
     by None = refl
     by (Some r) = refl
 
--- one way more behind the others
+-- one more way after the others
 pub one_more_way : (rs new : List RouteValue) (r : RouteValue) (x : Candidate Net) → new ≡ rs ++ r ∷ [] → way_by r ≡ (x.key, fresh x)
     → map way_by new ≡ map way_by rs ++ (x.key, fresh x) ∷ []
 one_more_way rs new r x pushed made =
     ap (map way_by) pushed ∙ map-append way_by rs (r ∷ []) ∙ ap (λ (e : Net × WayValue). map way_by rs ++ e ∷ []) made
 
--- the last way with one candidate more
+-- the last way with one more candidate
 pub last_way : (rs : List RouteValue) (n : ℕ) (old new : RouteValue) (x : Candidate Net) → n ≡ length rs → old ≡ get_or rs (n - 1) old
     → way_by new ≡ (old.net, merge (Some (way_by old).1) x)
     → (before : List (Net × WayValue)) (net : Net) (best : WayValue) → map way_by rs ≡ before ++ (net, best) ∷ []
@@ -71,7 +71,7 @@ sorted_offers cs =
 
 -- ---- routes of a router that is attached to one area
 
--- where the last one is exchanged for another such route
+-- where the last one is replaced by another such route
 pub last_intra : (area : AreaId) (rs : List RouteValue) (n : ℕ) (old new : RouteValue) → n ≡ length rs → 0 < n → old ≡ get_or rs (n - 1) old
     → (IsIntraRoute area old → IsIntraRoute area new) → All (IsIntraRoute area) rs → All (IsIntraRoute area) (set rs (n - 1) new)
 last_intra area rs n old new size some at keeps all =

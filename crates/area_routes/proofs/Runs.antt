@@ -115,7 +115,7 @@ module _ {K : Type 0} (R : K → K → Ordering) where
   abbrev pub UpTo : K → List K → Type 0
   UpTo k ks = AllByRecursion (λ q. is_gt (R q k) ≡ false) ks
 
-  -- what is known of the ways of the candidates so far
+  -- the state of the ways for the candidates so far
   pub record Runs (cs : List (Candidate K)) (ways : List (K × WayValue)) : Type 0 where
     pub has : HasWays R cs ways
     pub rises : IsStrictlySortedBy R (keys_of ways)
@@ -153,7 +153,7 @@ module _ {K V : Type 0} {R : K → K → Ordering} (o : IsTotalOrder R) where
   none_behind k (e ∷ es) a =
       ap (λ r. cond (is_eq r) (Some e.1) (lookup (eq_by_cmp R k) es)) (o.antisymm k e.0 ∙ ap ordering_reverse a.0) ∙ none_behind k es a.1
 
-  -- what is found with one entry more behind the others
+  -- what is found with one more entry after the others
   lookup_push : (es : List (K × V)) (k : K) (v : V) → Before R k (keys_of es)
       → (q : K) → lookup (eq_by_cmp R q) (es ++ (k, v) ∷ []) ≡ cond (is_at (R k) q) (Some v) (lookup (eq_by_cmp R q) es)
   lookup_push [] k v a q = ap (λ b. cond b (Some v) None) (ap is_eq (o.antisymm q k) ∙ eq_back (R k q))
@@ -176,7 +176,7 @@ module _ {K : Type 0} {R : K → K → Ordering} (o : IsTotalOrder R) (exact : C
   key_of_last ways before last k is =
       ap (λ ws. is_last R ws k) is ∙ ap (λ w. option_map_or (λ e. is_eq (R e.0 k)) w false) (last_of before last)
 
-  -- where the last way does not lead to a key that no key stands behind, all stand before it
+  -- where the last way does not lead to a key that no key comes after, all come before it
   all_before : (ways : List (K × WayValue)) (k : K) → UpTo R k (keys_of ways) → IsStrictlySortedBy R (keys_of ways)
       → is_last R ways k ≡ false → Before R k (keys_of ways)
   all_before ways k up rises other = by (parts ways)
@@ -266,7 +266,7 @@ module _ {K : Type 0} {R : K → K → Ordering} (o : IsTotalOrder R) where
   pub by_keys : (all : List (Candidate K)) → IsSorted (contender_cmp R) all → IsSorted (key_cmp R) all
   by_keys all up k d low below = first_not_less _ _ (first_not_less (candidate_cmp R (get_or all (k + 1) d) (get_or all k d)) _ (up k d low below))
 
-  -- the key of none stands behind that of one that comes later
+  -- no key comes after that of a later candidate
   pub up_to : (all : List (Candidate K)) (i : ℕ) (x : Candidate K) → IsSorted (key_cmp R) all → i < length all → x ≡ get_or all i x
       → UpTo R x.key (map (λ c. c.key) (take i all))
   up_to all i x up l e =

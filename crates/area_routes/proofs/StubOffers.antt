@@ -22,7 +22,7 @@ use Rattle.area_routes.specs.StubLinks.{stub_link, stub_links_from, stub_links_o
 use Rattle.area_routes.specs.Stubs.{stub_offer, stubs_of}
 use Rattle.area_routes.specs.Values.{OfferValue}
 
--- ---- the links of one vertex more
+-- ---- the links of one more vertex
 
 pub one_more : (n : ℕ) (lsas : List (List ℕ)) (lsa : List ℕ)
     → stub_links_from n (lsas ++ lsa ∷ []) ≡ stub_links_from n lsas ++ stub_links_of (n + length lsas) lsa
@@ -63,7 +63,7 @@ module _ (root : RouterId) (D : ℕ → Option ℕ) (H : ℕ → List Hop) where
           hops = cond (eqb (link_state_id_of lsa) root.0) (Connected ∷ []) (H n);
         }) (none i)) (rest i)
 
-    -- one of a router that is reached offers what the router does
+    -- a link of a router that is reached offers what the router offers
     some_of : (d : ℕ) (hops : List Hop) → D n ≡ Some d → H n ≡ hops → (links : List Link)
         → filter_map over (filter_map (stub_link n lsa) links) ≡ filter_map (stub_offer root (record { lsa = lsa; distance = d; hops = hops })) links
     some_of d hops ds hs [] = refl

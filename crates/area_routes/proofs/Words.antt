@@ -1,4 +1,4 @@
--- The ways that are computed are the best ways in words.
+-- The ways that are computed are the best ways.
 use Rattle.std.proofs.Common.{◌≡◌, Bool, true, false, cond, List, [], ◌∷◌, map, Option, Some, None, refl, sym, ap, subst, ◌∙◌}
 use Rattle.std.specs.Prelude.{◌&&◌, ◌||◌}
 use Rattle.std.specs.List.{list_any, filter, filter_map, flat_map, cons_option}
@@ -180,7 +180,7 @@ module _ {K : Type 0} {R : K → K → Ordering} (o : IsTotalOrder R) (exact : C
       by Equal e = refl
       by Greater e = refl
 
-  -- two ways of which the words are true are one
+  -- two ways with these properties are equal
   same_way : (cs : List (Candidate K)) (key : K) (a b : WayValue) → IsBestWay R cs key a → IsBestWay R cs key b → a ≡ b
   same_way cs key a b p q =
       let ab = not_lower cs key a.rank b.rank p.attained q.least in

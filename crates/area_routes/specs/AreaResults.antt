@@ -1,4 +1,4 @@
--- What an area gives, as a function of its LSAs and the calculating router (RFC 2328, 16.1).
+-- What an area gives to a router, as a function of its LSAs and the router (RFC 2328, 16.1).
 use Rattle.std.specs.Prelude.{◌≡◌, ℕ, List, ◌++◌}
 use Rattle.lsa_codec.specs.declared.address.AreaId.{AreaId}
 use Rattle.lsa_codec.specs.declared.address.RouterId.{RouterId}

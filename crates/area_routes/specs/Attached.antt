@@ -13,7 +13,7 @@ use Rattle.area_graph.specs.Area.{is_live}
 abbrev pub has_live_router_lsa : RouterId → List (List ℕ) → Bool
 has_live_router_lsa router lsas = option_map_or is_live (find (has_key (router_key router)) lsas) false
 
--- whether the router is attached to the area of that ID
+-- whether the router is attached to the area with this ID
 abbrev pub is_attached : Lists → AreaId → RouterId → Bool
 is_attached db area router = has_live_router_lsa router (lsas_of (Area area) db)
 

@@ -18,7 +18,7 @@ module _ {K : Type 0} where
   abbrev pub of_rank : Rank → List (Candidate K) → List (Candidate K)
   of_rank rank cs = filter (λ c. eq_by_cmp rank_cmp rank c.rank) cs
 
-  -- the areas and the hops of candidates, joined
+  -- the areas and the hops of the candidates, joined
   abbrev pub joined : Rank → List (Candidate K) → WayValue
   joined rank cs = record {
     rank = rank;
@@ -26,11 +26,12 @@ module _ {K : Type 0} where
     hops = rising hop_cmp (flat_map (λ c. c.hops) cs);
   }
 
-  -- the way that candidates of one key give: the least rank, and all that the candidates of that rank have
+  -- the way that candidates of one key give: the least rank, with the areas and hops of all candidates of
+  -- that rank
   abbrev pub way_of : List (Candidate K) → Option WayValue
   way_of cs = option_map (λ rank. joined rank (of_rank rank cs)) (least rank_cmp (map (λ c. c.rank) cs))
 
-  -- what was gathered is these candidates
+  -- the candidates that were gathered are these
   abbrev pub Gathers : List (Candidate K) → List (Candidate K) → Type 0
   Gathers cs gathered = gathered ≡ cs
 

@@ -1,4 +1,4 @@
--- All router entries of a router, each standing once (RFC 2328, 16.2): a law over `inter_of`.
+-- All router entries of a router, each once (RFC 2328, 16.2): a law over `inter_of`.
 use Rattle.std.specs.Prelude.{◌≡◌, List, AllPairs, map}
 use Rattle.lsa_codec.specs.declared.address.RouterId.{RouterId}
 use Rattle.lsdb.specs.declared.section.Section.TheVariants.{Area}
@@ -13,10 +13,10 @@ pub record IsSameWay (a b : EntryValue) : Type 0 where
   pub area : a.area ≡ b.area
   pub kind : a.kind ≡ b.kind
 
--- of one router, area and kind there is one entry
+-- for a router, area and kind there is one entry
 abbrev pub StandOnce : List EntryValue → Type 0
 StandOnce entries = AllPairs (λ a b. ¬ IsSameWay a b) entries
 
--- what the areas give to which a router is attached, in rising order of their IDs
+-- the results of the areas to which a router is attached, in rising order of their IDs
 abbrev pub results_of : Lists → RouterId → List AreaResultValue
 results_of db router = map (λ (area : AreaHead). area_result (record { 0 = area.id }) (lsas_of (Area (record { 0 = area.id })) db) router) (attached_areas db router)

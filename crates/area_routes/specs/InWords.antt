@@ -1,4 +1,4 @@
--- The ways in words, apart from how they are computed: a law over `ways_of`.
+-- What the ways are, apart from how they are computed: a law over `ways_of`.
 use Rattle.std.specs.Prelude.{◌≡◌, List, Bool, true, false, ◌&&◌, Option, None, Some}
 use Rattle.std.specs.List.{list_any}
 use Rattle.std.specs.List.Sorted.{IsStrictlySortedBy}
@@ -25,11 +25,11 @@ module _ {K : Type 0} (R : K → K → Ordering) where
   abbrev pub is_candidate_to : K → Candidate K → Bool
   is_candidate_to key c = eq_by_cmp R key c.key
 
-  -- whether it is one of the rank, too
+  -- whether the candidate has this rank, too
   abbrev pub attains : K → Rank → Candidate K → Bool
   attains key rank c = is_candidate_to key c && eq_by_cmp rank_cmp rank c.rank
 
-  -- what is said of the way to a key
+  -- the properties of the way to a key
   pub record IsBestWay (cs : List (Candidate K)) (key : K) (way : WayValue) : Type 0 where
     pub attained : list_any (attains key way.rank) cs ≡ true
     pub least : list_any (λ c. is_candidate_to key c && is_lt (rank_cmp c.rank way.rank)) cs ≡ false
@@ -38,7 +38,8 @@ module _ {K : Type 0} (R : K → K → Ordering) where
     pub areas_rise : IsStrictlySortedBy area_cmp way.areas
     pub hops_rise : IsStrictlySortedBy hop_cmp way.hops
 
-  -- what is said of the whole list: keys in order, each with a candidate, each candidate's key there, each way the best
+  -- the properties of the whole list: keys in order, each with a candidate, each candidate's key there, each way the
+  -- best
   pub record AreBestWays (cs : List (Candidate K)) (ways : List (K × WayValue)) : Type 0 where
     pub keys_rise : IsStrictlySortedBy R (keys_of ways)
     pub at_key : (key : K) → MatchOption (lookup (eq_by_cmp R key) ways) (list_any (is_candidate_to key) cs ≡ false) (IsBestWay cs key)

@@ -27,7 +27,7 @@ use Rattle.area_routes.specs.Routes.{has_route, routes_of}
 abbrev pub backbone : List AreaResultValue → Option AreaResultValue
 backbone results = find (λ r. is_backbone r.area) results
 
--- the only area, and of several the backbone alone
+-- the only area, or the backbone alone where there are several
 abbrev pub examined : List AreaResultValue → Option AreaResultValue
 examined [] = None
 examined (r ∷ []) = Some r
@@ -63,7 +63,7 @@ has_asbr entries router = is_some (find_entry AsbrIntra entries router)
 abbrev pub is_summary : List ℕ → Bool
 is_summary lsa = (kind_of lsa == summary_lsa) || (kind_of lsa == asbr_summary_lsa)
 
--- the router that made an LSA
+-- the router that originated an LSA
 abbrev pub originator_of : List ℕ → RouterId
 originator_of lsa = record { 0 = advertising_router_of lsa }
 
@@ -79,7 +79,7 @@ is_usable router lsa = is_summary lsa && (is_live lsa && (nat_lt (metric_of lsa)
 abbrev pub usable_metric : RouterId → List ℕ → Option ℕ
 usable_metric router lsa = if is_usable router lsa then Some (metric_of lsa) else None
 
--- the prefix that a summary-LSA of type 3 tells of, where it has no intra-area route
+-- the prefix of a summary-LSA of type 3, where it has no intra-area route
 abbrev pub network_told : List RouteValue → List ℕ → Option Net
 network_told intra lsa = option_and_then (λ net. if has_route intra net then None else Some net) (net_of_summary lsa)
 
@@ -92,11 +92,11 @@ abbrev pub asbr_entry : AreaId → RouterId × WayValue → EntryValue
 asbr_entry area e = record { router = e.0; area = area; kind = AsbrInter; cost = e.1.rank.cost; hops = e.1.hops }
 
 module _ (router : RouterId) (area : AreaResultValue) where
-  -- the way that a summary-LSA gives to what it tells of
+  -- the way to a destination by a summary-LSA
   abbrev pub candidate_to : {K : Type 0} → List ℕ → K → Option (Candidate K)
   candidate_to lsa key = option_and_then (λ metric. option_map (by_border key area.area metric) (border_of area.entries (originator_of lsa))) (usable_metric router lsa)
 
-  -- the router that a summary-LSA of type 4 tells of, where it is not the calculating router and not an AS boundary router of the area
+  -- the router of a summary-LSA of type 4, where it is not the calculating router and not an AS boundary router of the area
   abbrev pub asbr_told : List ℕ → Option RouterId
   asbr_told lsa =
       if (kind_of lsa == asbr_summary_lsa) && (not (same_router (named_router lsa) router) && not (has_asbr area.entries (named_router lsa))) then Some (named_router lsa) else None

@@ -16,14 +16,15 @@ intra_candidate area o = record { key = o.net; rank = record { path = Intra; cos
 abbrev pub intra_candidates : AreaResultValue → List (Candidate Net)
 intra_candidates r = map (intra_candidate r.area) r.offers
 
--- to each prefix the least cost of the ways that all areas offer, with the areas and next hops of those that have it
+-- to each prefix, the least cost of the ways that all areas offer, with the areas and next hops of the ways of this
+-- cost
 unfoldable pub intra_of : List AreaResultValue → List RouteValue
 intra_of results = routes_of (flat_map intra_candidates results)
 
--- the route by an offer of the area, of a router that is attached to this area alone
+-- the route by an offer of the area, for a router that is attached to this area alone
 abbrev pub intra_route : AreaId → OfferValue → RouteValue
 intra_route area o = record { net = o.net; kind = Intra; areas = area ∷ []; cost = o.cost; cost2 = 0; hops = o.hops }
 
--- what an area gives without the ways to prefixes
+-- what an area gives, without the ways to prefixes
 abbrev pub without_offers : AreaResultValue → AreaResultValue
 without_offers r = record { area = r.area; offers = []; entries = r.entries }

@@ -13,7 +13,7 @@ use Rattle.area_routes.specs.Reached.{ReachedValue}
 abbrev pub networks : List ReachedValue → List ReachedValue
 networks rs = filter (λ r. is_network_lsa r.lsa) rs
 
--- a nearer network, or one as near that has a greater Link State ID
+-- a nearer network, or one as near with a greater Link State ID
 abbrev pub precedes : ReachedValue → ReachedValue → Bool
 precedes m n = nat_lt m.distance n.distance || ((m.distance == n.distance) && nat_lt (link_state_id_of n.lsa) (link_state_id_of m.lsa))
 
@@ -21,7 +21,8 @@ precedes m n = nat_lt m.distance n.distance || ((m.distance == n.distance) && na
 abbrev pub beats : ReachedValue → ReachedValue → Bool
 beats m n = eq_by_cmp prefix_cmp (net_of_lsa m.lsa) (net_of_lsa n.lsa) && precedes m n
 
--- of all networks of one prefix the one that no other beats: it has the least distance, and then the greatest Link State ID
+-- of all networks of one prefix, the one that no other beats: it has the least distance, and then the greatest Link State
+-- ID
 abbrev pub chosen : List ReachedValue → List ReachedValue
 chosen ns = filter (λ n. not (list_any (λ m. beats m n) ns)) ns
 

@@ -1,4 +1,4 @@
--- What an area offers to a prefix: of several ways those of the least cost, joined (RFC 2328, 16.1).
+-- What an area offers to a prefix: the ways of least cost, joined (RFC 2328, 16.1).
 use Rattle.std.specs.Prelude.{List, None, map}
 use Rattle.std.specs.List.Sorted.{IsStrictlySortedBy}
 use Rattle.lsa_codec.specs.Prefix.{Net}
@@ -15,7 +15,7 @@ offer_candidate o = record { key = o.net; rank = record { path = Intra; cost2 = 
 abbrev pub offer_of : Net × WayValue → OfferValue
 offer_of e = record { net = e.0; cost = e.1.rank.cost; hops = e.1.hops }
 
--- to each prefix, in order, the ways of the least cost, with their hops joined
+-- to each prefix, in order, the ways of least cost, with their hops joined
 abbrev pub best_offers : List OfferValue → List OfferValue
 best_offers offers = map offer_of (ways_of prefix_cmp (map offer_candidate offers))
 

@@ -1,5 +1,5 @@
--- What is said of the vertices that are reached, over all paths of the area, of any length (RFC 2328, 16.1). The LSAs here
--- are those in use.
+-- The properties of the vertices that are reached, over all paths of the area, of any length (RFC 2328, 16.1). The LSAs
+-- here are those in use.
 use Rattle.std.specs.Prelude.{◌≡◌, ◌↔◌, ℕ, List, Contains}
 use Rattle.lsa_codec.specs.declared.address.RouterId.{RouterId}
 use Rattle.area_graph.specs.declared.vertex.Vertex.{Vertex}

@@ -20,6 +20,6 @@ pub record ReachedValue : Type 0 where
 abbrev pub reached_by : (Vertex → Option ℕ) → (Vertex → List Hop) → List ℕ → Option ReachedValue
 reached_by distance hops lsa = option_map (λ d. record { lsa = lsa; distance = d; hops = hops (vertex_of lsa) }) (distance (vertex_of lsa))
 
--- those that are reached from a router, in the order of the LSAs, which are those in use
+-- the vertices that are reached from a router, in the order of the LSAs, which are those in use
 abbrev pub reached_from : RouterId → List (List ℕ) → List ReachedValue
 reached_from root lsas = filter_map (reached_by (λ v. distance_of (area_edges lsas) (Router root) v) (λ v. hops_of (area_edges lsas) (Router root) v)) lsas

@@ -15,11 +15,13 @@ use Rattle.area_routes.specs.Reached.{ReachedValue}
 abbrev pub is_lsa_of : RouterId → List ℕ → Bool
 is_lsa_of router lsa = link_state_id_of lsa == router.0
 
--- the hops to a stub network of a router: those of the router, and for the calculating router's own `Connected` alone
+-- the hops to a stub network of a router: those of the router, or `Connected` alone where it is the calculating
+-- router
 abbrev pub stub_hops : RouterId → ReachedValue → List Hop
 stub_hops root r = if is_lsa_of root r.lsa then Connected ∷ [] else r.hops
 
--- a stub link of a router that is reached: at the router's distance and the link's metric together
+-- the offer of a stub link of a router that is reached: its cost is the sum of the router's
+-- distance and the link's metric
 abbrev pub stub_offer : RouterId → ReachedValue → Link → Option OfferValue
 stub_offer root r link = option_map (λ net. record { net = net; cost = r.distance + link.metric; hops = stub_hops root r }) (stub_net link)
 
@@ -27,6 +29,6 @@ stub_offer root r link = option_map (λ net. record { net = net; cost = r.distan
 abbrev pub stubs_of : RouterId → ReachedValue → List OfferValue
 stubs_of root r = filter_map (stub_offer root r) (router_links r.lsa)
 
--- what the stub links of all routers offer
+-- the offers of the stub links of all routers
 abbrev pub stub_offers : RouterId → List ReachedValue → List OfferValue
 stub_offers root rs = flat_map (stubs_of root) rs

@@ -42,7 +42,7 @@ pub record InterValue : Type 0 where
   pub routes : List RouteValue
   pub routers : List EntryValue
 
--- what the best of the paths to one destination have together
+-- what the best of the paths to one destination have in common
 pub record WayValue : Type 0 where
   pub rank : Rank
   pub areas : List AreaId

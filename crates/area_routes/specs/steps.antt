@@ -1,4 +1,5 @@
--- What only the contracts of private functions cite: the steps in which the results of areas and the best ways are built.
+-- Definitions that only the contracts of private functions cite: the steps in which the results of areas and the best
+-- ways are built.
 pub mod ReachedVertices
 pub mod Growing
 pub mod Standings

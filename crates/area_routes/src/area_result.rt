@@ -14,12 +14,12 @@ use std::marker::Model;
 use std::mem;
 
 /// What the shortest-path tree of a router gives in one area (RFC 2328, 16.1): ways to prefixes,
-/// and the other routers that are area border routers or AS boundary routers. Contracts see it as
-/// the record of these.
+/// and the other routers that are area border routers or AS boundary routers. Contracts see it as a
+/// record of both.
 ///
-/// The ways stand as the routes of a router that is attached to this area alone, whose routes they
-/// become without being copied. Each cost is below 2^33: a distance is below 2^32, and the metric
-/// of a link below 2^16.
+/// The ways are kept as the routes of a router that is attached to this area alone, so they become
+/// routes without a copy. Each cost is below 2^33: a distance is below 2^32, and the metric of a
+/// link below 2^16.
 #[derive(Drop)]
 pub struct AreaResult<A: Allocator = Global> {
     pub(crate) area: AreaId,
@@ -56,7 +56,7 @@ impl<A: Allocator + Copy> AreaResult<A> {
         self.routes.as_slice()
     }
 
-    /// Takes these routes out.
+    /// Takes out these routes.
     pub(crate) fn take_routes(&mut self, alloc: A) -> Vec<Route<A>, A>
         ensures routes { result.items ≡ map (intra_route self.old.area) self.old.offers }
         ensures sorted { AreSortedOffers self.old.offers }

@@ -54,8 +54,8 @@ impl<'a> AreaWay<'a> {
     }
 
     /// Compares two ways: by their prefixes, and then by their costs. Equal ones are compared by
-    /// their first hops, so that a list of hops to which theirs are joined in this order mostly
-    /// grows at its end.
+    /// their first hops: when their hops are joined in this order, the list mostly grows at its
+    /// end.
     fn compare(&self, other: &AreaWay<'a>) -> Ordering
         ensures { result ≡ contender_cmp prefix_cmp self.now other.now }
     {
@@ -69,7 +69,7 @@ impl<'a> AreaWay<'a> {
         }
     }
 
-    /// The route by this way, of a router that is attached to its area alone.
+    /// The route by this way, for a router that is attached to its area alone.
     fn route<A: Allocator + Copy>(&self, alloc: A, area: AreaId) -> Result<Route<A>, AllocError>
         ensures intra { IfOk result (IsIntraRoute area) }
         ensures way { IfOk result (λ route. way_by route ≡ (self.now.key, fresh self.now)) }
@@ -107,8 +107,8 @@ impl<'a> AreaWay<'a> {
     }
 }
 
-/// Ways to prefixes within one area, of which the best to each prefix are what the area offers.
-/// Contracts see them as candidates.
+/// Ways to prefixes within one area. The area offers the best ways to each prefix. Contracts see
+/// them as candidates.
 #[derive(Drop)]
 pub(crate) struct AreaWays<'a, A: Allocator> {
     ways: Vec<AreaWay<'a>, A>,
@@ -127,7 +127,7 @@ impl<'a, A: Allocator> Model for AreaWays<'a, A> {
 }
 
 impl<'a, A: Allocator + Copy> AreaWays<'a, A> {
-    /// No ways, with room for so many.
+    /// No ways, with room for `count` of them.
     pub(crate) fn with_capacity(alloc: A, count: usize) -> Result<AreaWays<'a, A>, AllocError>
         ensures { IfOk result (λ ways. ways ≡ []) }
     {
@@ -145,8 +145,7 @@ impl<'a, A: Allocator + Copy> AreaWays<'a, A> {
         Ok(())
     }
 
-    /// What the area offers: to each prefix, in order, the ways of the least cost, joined; as
-    /// routes.
+    /// The offers of the area as routes: to each prefix, in order, the ways of least cost, joined.
     pub(crate) fn into_routes(self, alloc: A, area: AreaId) -> Result<Vec<Route<A>, A>, AllocError>
         ensures offers { IfOk result (λ routes.
             map offered routes.items ≡ map offer_of (ways_of prefix_cmp self.entry)) }
@@ -158,15 +157,15 @@ impl<'a, A: Allocator + Copy> AreaWays<'a, A> {
     }
 }
 
-/// Whether ways stand in order of their prefixes.
+/// Whether ways are in order of their prefixes.
 fn is_in_order(ways: &[AreaWay<'_>]) -> bool
     ensures { result ≡ true → IsSorted (key_cmp prefix_cmp) ways.now }
 {
     ways.is_sorted_by(|a, b| !b.net.cmp(&a.net).is_lt())
 }
 
-/// The ways in order of their prefixes. Those that stand so already are not sorted, unless many
-/// lead to the same prefix: then they are sorted by what they cost as well.
+/// The ways in order of their prefixes. Ways already in order are not sorted, unless many lead to
+/// the same prefix: then they are sorted by cost as well.
 fn in_order<'a, A: Allocator + Copy>(
     ways: Vec<AreaWay<'a>, A>,
 ) -> Result<Vec<AreaWay<'a>, A>, AllocError>
@@ -179,7 +178,7 @@ fn in_order<'a, A: Allocator + Copy>(
     sorted(ways)
 }
 
-/// The ways in order of their prefixes, and those to one from the best on, equal ones by their
+/// The ways in order of their prefixes, the best first for each prefix, and equal ones by their
 /// first hops.
 fn sorted<'a, A: Allocator + Copy>(
     ways: Vec<AreaWay<'a>, A>,
@@ -192,7 +191,7 @@ fn sorted<'a, A: Allocator + Copy>(
     Ok(ways)
 }
 
-/// The routes by the best of ways that stand in order.
+/// The routes by the best of ways that are in order.
 fn routes_in_order<A: Allocator + Copy>(
     alloc: A,
     area: AreaId,

@@ -9,7 +9,7 @@ use lsa_codec::AreaId;
 use std::alloc::{AllocError, Allocator, Global};
 use std::marker::Model;
 
-/// How areas are kept: up to one of them takes no memory.
+/// How areas are kept: no area or one takes no memory.
 #[derive(Drop)]
 enum Kept<A: Allocator> {
     Nothing,
@@ -19,7 +19,7 @@ enum Kept<A: Allocator> {
 
 /// Areas in rising order, each once. Contracts see it as this list.
 ///
-/// One area stands in the value itself and takes no memory.
+/// One area is stored in the value itself and takes no memory.
 #[derive(Drop)]
 pub struct AreaList<A: Allocator = Global> {
     alloc: A,

@@ -18,14 +18,14 @@ use next_hops::Hop;
 use std::alloc::{AllocError, Allocator, Global};
 use std::marker::Model;
 
-/// As many candidates for one destination are not sorted by what they cost, and three times as many
-/// are.
+/// Up to this number of candidates for one destination are not sorted by cost; three times this
+/// number always are.
 const FEW: usize = 64;
 
-/// Candidates, of which the best ways to each destination are made. Contracts see it as the list of
-/// the candidates that were added.
+/// Candidates, from which the best ways to each destination are made. Contracts see it as the list
+/// of the candidates that were added.
 ///
-/// The hops of the candidates are borrowed: lists of hops are made for the best ways alone.
+/// The hops of the candidates are borrowed: lists of hops are made only for the best ways.
 #[derive(Drop)]
 pub struct BestWays<'a, K, A: Allocator = Global> {
     candidates: Vec<Contender<'a, K>, A>,
@@ -41,7 +41,7 @@ impl<'a, K, A: Allocator> Model for BestWays<'a, K, A> {
 }
 
 impl<'a, K: Ord + Copy + Drop, A: Allocator + Copy> BestWays<'a, K, A> {
-    /// Of no candidates. It takes no memory.
+    /// No candidates. It takes no memory.
     pub fn new(alloc: A) -> BestWays<'a, K, A>
         ensures { Gathers [] result }
     {
@@ -50,7 +50,7 @@ impl<'a, K: Ord + Copy + Drop, A: Allocator + Copy> BestWays<'a, K, A> {
         }
     }
 
-    /// Of no candidates, with room for so many.
+    /// No candidates, with room for `count` of them.
     ///
     /// # Errors
     ///
@@ -63,8 +63,8 @@ impl<'a, K: Ord + Copy + Drop, A: Allocator + Copy> BestWays<'a, K, A> {
         })
     }
 
-    /// Takes a further candidate into account: a way to a destination, with what it is compared
-    /// by, the area that it leads through if it stays in one, and its next hops.
+    /// Takes another candidate into account: a way to a destination, with what it is compared by,
+    /// the one area that it leads through, if it does, and its next hops.
     ///
     /// # Errors
     ///
@@ -89,8 +89,8 @@ impl<'a, K: Ord + Copy + Drop, A: Allocator + Copy> BestWays<'a, K, A> {
         Ok(())
     }
 
-    /// Takes a further candidate into account: a way to a destination, with what it is compared
-    /// by, that goes on to an address behind its next hops ([`Hop::extended`]).
+    /// Takes another candidate into account: a way to a destination, with what it is compared by,
+    /// that goes on to an address after its next hops ([`Hop::extended`]).
     ///
     /// # Errors
     ///
@@ -129,7 +129,7 @@ impl<'a, K: Ord + Copy + Drop, A: Allocator + Copy> BestWays<'a, K, A> {
         Ok(())
     }
 
-    /// Each destination that a candidate has, in order, with the best ways to it.
+    /// Each destination that a candidate has, in order, with the best way to it.
     ///
     /// # Errors
     ///
@@ -152,16 +152,16 @@ impl<'a, K: Ord + Copy + Drop, A: Allocator + Copy> BestWays<'a, K, A> {
     }
 }
 
-/// Whether candidates stand in order of their destinations.
+/// Whether candidates are in order of their destinations.
 fn is_in_order<K: Ord + Copy + Drop>(candidates: &[Contender<'_, K>]) -> bool
     ensures { result ≡ true → IsSorted (key_cmp K.cmp) candidates.now }
 {
     candidates.is_sorted_by(|a, b| !b.key.cmp(&a.key).is_lt())
 }
 
-/// Whether candidates that stand in order of their destinations are few for each, where a function
-/// says whether two have the same. Then their next hops are soon joined, in whichever order. Only
-/// each [`FEW`]th candidate is looked at.
+/// Whether there are few candidates for each destination. They are in order of their destinations,
+/// and `are_alike` decides whether two have the same one. The next hops of few are quickly joined
+/// in any order. Only each [`FEW`]th candidate is looked at.
 pub(crate) fn has_few_of_each<C, F: Fn(&C, &C) -> bool>(candidates: &[C], are_alike: F) -> bool
     requires { F.IsAlwaysCallable are_alike }
 {
@@ -173,7 +173,7 @@ pub(crate) fn has_few_of_each<C, F: Fn(&C, &C) -> bool>(candidates: &[C], are_al
     true
 }
 
-/// The candidates in order of their destinations. Those that stand so already are not sorted.
+/// The candidates in order of their destinations. Candidates already in order are not sorted.
 fn by_destination<'a, K: Ord + Copy + Drop, A: Allocator + Copy>(
     candidates: Vec<Contender<'a, K>, A>,
 ) -> Result<Vec<Contender<'a, K>, A>, AllocError>
@@ -188,8 +188,8 @@ fn by_destination<'a, K: Ord + Copy + Drop, A: Allocator + Copy>(
     Ok(candidates)
 }
 
-/// The candidates in order of their destinations. Where many have the same, they are sorted by what
-/// they cost as well.
+/// The candidates in order of their destinations. Where many have the same one, they are sorted by
+/// cost as well.
 fn in_order<'a, K: Ord + Copy + Drop, A: Allocator + Copy>(
     candidates: Vec<Contender<'a, K>, A>,
 ) -> Result<Vec<Contender<'a, K>, A>, AllocError>
@@ -203,8 +203,8 @@ fn in_order<'a, K: Ord + Copy + Drop, A: Allocator + Copy>(
     sorted(ordered)
 }
 
-/// The candidates in order of their destinations, and those of one from the best on, equal ones by
-/// their first hops.
+/// The candidates in order of their destinations, the best first for each destination, and equal
+/// ones by their first hops.
 fn sorted<'a, K: Ord + Copy + Drop, A: Allocator + Copy>(
     candidates: Vec<Contender<'a, K>, A>,
 ) -> Result<Vec<Contender<'a, K>, A>, AllocError>
@@ -216,7 +216,7 @@ fn sorted<'a, K: Ord + Copy + Drop, A: Allocator + Copy>(
     Ok(candidates)
 }
 
-/// The best ways of candidates that stand in order of their destinations.
+/// The best ways of candidates that are in order of their destinations.
 fn ways_in_order<K: Ord + Copy + Drop, A: Allocator + Copy>(
     alloc: A,
     candidates: &[Contender<'_, K>],
@@ -247,7 +247,7 @@ fn is_last<K: Ord + Copy, A: Allocator + Copy>(ways: &[(K, Way<A>)], key: K) -> 
     }
 }
 
-/// Takes a further candidate for the destination of the last of these ways into account.
+/// Takes another candidate for the destination of the last of these ways into account.
 fn merge_last<K: Ord + Copy + Drop, A: Allocator + Copy>(
     alloc: A,
     ways: &mut Vec<(K, Way<A>), A>,

@@ -23,7 +23,8 @@ use std::alloc::{AllocError, Allocator};
 use std::cmp::Ordering;
 
 impl<'a, A: Allocator + Copy> BestWays<'a, Prefix, A> {
-    /// The routes by these ways, one for each. No route costs more than each candidate.
+    /// The routes by these ways, one for each. The cost of each route is at most that of some
+    /// candidate.
     ///
     /// # Errors
     ///
@@ -40,7 +41,7 @@ impl<'a, A: Allocator + Copy> BestWays<'a, Prefix, A> {
     }
 }
 
-/// The routes by the best ways of candidates that stand in order of prefix.
+/// The routes by the best ways of candidates that are in order of prefix.
 fn routes_in_order<A: Allocator + Copy>(
     alloc: A,
     candidates: &[Contender<'_, Prefix>],
@@ -89,7 +90,7 @@ fn route_by<A: Allocator + Copy>(
     })
 }
 
-/// What the paths of a route are compared by, where they are of this class.
+/// What the paths of a route, which are of this class, are compared by.
 fn rank<A: Allocator + Copy>(route: &Route<A>, class: u8) -> Rank
     ensures { result ≡ rank_of route.now class }
 {
@@ -101,8 +102,8 @@ fn rank<A: Allocator + Copy>(route: &Route<A>, class: u8) -> Rank
     }
 }
 
-/// Takes a further candidate for the prefix of the last of these routes, whose paths are of this
-/// class, into account.
+/// Takes another candidate for the prefix of the last of these routes into account. The paths of
+/// that route are of this class.
 fn merge_last<A: Allocator + Copy>(
     alloc: A,
     routes: &mut Vec<Route<A>, A>,
@@ -119,7 +120,7 @@ fn merge_last<A: Allocator + Copy>(
     Ok(())
 }
 
-/// Takes a further candidate for the prefix of a route into account. The paths of the route are of
+/// Takes another candidate for the prefix of a route into account. The paths of the route are of
 /// this class.
 fn merge<A: Allocator + Copy>(
     alloc: A,

@@ -54,7 +54,7 @@ fn reached_in<'a, A: Allocator + Copy>(
     }
     let lsas = database.lsas(Section::Area(area));
     if database.count(Section::Area(area)) == graph.len() {
-        // All of them are in use.
+        // All LSAs are in use.
         return reached_of_all(alloc, lsas, graph.len(), tree, hops);
     }
     let lsas = used_lsas(alloc, lsas)?;
@@ -132,13 +132,13 @@ impl<A: Allocator + Copy> AreaResult<A> {
     /// What an area gives to the root of a tree (RFC 2328, 16.1). The graph must be that of the
     /// area, the tree one of this graph, and the hops those of this tree.
     ///
-    /// The ways to prefixes are those of the networks that are reached, of several of one prefix
-    /// the nearest alone, or of those as near the one of the greatest Link State ID; and those over
-    /// the stub links of the routers that are reached, at the router's distance and the link's
-    /// metric together. The offers are the best of these, one for each prefix, in order of prefix.
-    /// The entries are those of the other routers that are reached, in the order of the graph's
-    /// vertices: [`Border`](EntryKind::Border) where bit B of the router-LSA is set, and then
-    /// [`AsbrIntra`](EntryKind::AsbrIntra) where bit E is.
+    /// The ways to prefixes are of two kinds. A network that is reached gives one; of several with
+    /// one prefix only the nearest does, and of several as near the one with the greatest Link
+    /// State ID. A stub link of a router that is reached gives one, at the sum of the router's
+    /// distance and the link's metric. The offers are the best of these ways, one for each prefix,
+    /// in order of prefix. The entries are those of the other routers that are reached, in the
+    /// order of the graph's vertices: [`Border`](EntryKind::Border) where bit B of the router-LSA
+    /// is set, and then [`AsbrIntra`](EntryKind::AsbrIntra) where bit E is.
     ///
     /// # Errors
     ///

@@ -7,8 +7,8 @@ ghost use Rattle.area_routes.specs.Reached.{ReachedValue};
 ghost use Rattle.area_routes.specs.Networks.{chosen};
 ghost use Rattle.area_routes.specs.Choice.{IsBestOf};
 
-/// Of the networks of each prefix one is chosen: the nearest, and of those as near the one of the
-/// greatest Link State ID. The networks of an area have different Link State IDs.
+/// One network is chosen among those of each prefix: the nearest, and of several as near the one
+/// with the greatest Link State ID. The networks of an area have different Link State IDs.
 pub fn network_choice()
     ensures best { (ns : List ReachedValue) (n : ReachedValue)
         → Contains (chosen ns) n ↔ IsBestOf ns n }

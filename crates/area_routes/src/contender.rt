@@ -13,17 +13,17 @@ use std::alloc::{AllocError, Allocator};
 use std::cmp::Ordering;
 use std::marker::Model;
 
-/// A way to a destination that one path, or several of equal cost, offer. Contracts see it as the
-/// record of its parts, the hops as they are where the way goes on.
+/// A way to a destination that one path offers, or several of equal cost. Contracts see it as the
+/// record of its parts, with the hops after the way goes on.
 #[derive(Drop)]
 pub(crate) struct Contender<'a, K> {
     /// The destination.
     pub(crate) key: K,
     /// What the way is compared by.
     pub(crate) rank: Rank,
-    /// The area that the way leads through if it stays in one.
+    /// The one area that the way leads through, if it does.
     pub(crate) area: Option<AreaId>,
-    /// The next hops up to where the way goes on.
+    /// The next hops before the way goes on.
     pub(crate) hops: &'a [Hop],
     /// The address that the way goes on to, if it does ([`Hop::extended`]).
     pub(crate) onward: Option<Addr>,
@@ -44,7 +44,7 @@ impl<'a, K> Model for Contender<'a, K> {
 }
 
 impl<'a, K> Contender<'a, K> {
-    /// A list of its next hops, as they are where the way goes on.
+    /// A list of its next hops, after the way goes on.
     pub(crate) fn hop_list<A: Allocator + Copy>(&self, alloc: A) -> Result<HopList<A>, AllocError>
         ensures { IfOk result (λ hops. hops ≡ rising hop_cmp self.now.hops) }
     {
@@ -76,7 +76,7 @@ impl<'a, K> Contender<'a, K> {
 }
 
 impl<'a, K: Ord + Copy> Contender<'a, K> {
-    /// The first of its next hops, as it is where the way goes on; `Connected` where it has none.
+    /// The first of its next hops, after the way goes on; `Connected` where it has none.
     fn first_hop(&self) -> Hop
         ensures { result ≡ first_hop self.now.hops }
     {
@@ -108,8 +108,8 @@ impl<'a, K: Ord + Copy> Contender<'a, K> {
     }
 
     /// Compares two candidates: by their destinations, and then by their ranks. Equal ones are
-    /// compared by their first hops, so that a list of hops to which theirs are joined in this
-    /// order mostly grows at its end.
+    /// compared by their first hops: when their hops are joined in this order, the list mostly
+    /// grows at its end.
     pub(crate) fn compare(&self, other: &Contender<'a, K>) -> Ordering
         ensures { result ≡ contender_cmp K.cmp self.now other.now }
     {

@@ -12,7 +12,7 @@ pub enum EntryKind {
     Border,
     /// It is an AS boundary router of the area: bit E of its router-LSA is set.
     AsbrIntra,
-    /// It is an AS boundary router that a summary-LSA of the area tells of.
+    /// It is an AS boundary router for which the area has a summary-LSA.
     AsbrInter,
 }
 

@@ -9,7 +9,8 @@ use std::marker::Model;
 
 /// The router entries of a router. Contracts see them as this list.
 ///
-/// Each cost is below 2^34: in an area it is below 2^32, and a summary-LSA adds less than 2^24.
+/// Each cost is below 2^34: the cost within an area is below 2^32, and a summary-LSA adds less than
+/// 2^24.
 #[derive(Drop)]
 pub struct RouterEntries<A: Allocator = Global> {
     entries: Vec<RouterEntry<A>, A>,
@@ -36,7 +37,7 @@ impl<A: Allocator + Copy> RouterEntries<A> {
         }
     }
 
-    /// Entries that each cost less than 2^34.
+    /// Entries whose costs are all below 2^34.
     pub(crate) fn from_vec(entries: Vec<RouterEntry<A>, A>) -> RouterEntries<A>
         requires { EntriesBelow (2 ^ 34) entries.items }
         ensures { result ≡ entries.items }

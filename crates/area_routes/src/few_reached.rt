@@ -1,5 +1,5 @@
 //! The vertices of an area that are reached, where they are few: the LSA of each is found by its
-//! key, and the others are not gone through.
+//! key, so that not all LSAs are scanned.
 
 ghost use Rattle.std.specs.Prelude.{◌≡◌, ◌<◌, ℕ, List, Option, Some, IfOk, IfSome, IsSome, length, map, slice_get};
 ghost use Rattle.lsdb.specs.declared.section.Section.TheVariants.{Area};
@@ -79,11 +79,11 @@ fn vertices_by_keys<'a, A: Allocator + Copy>(
     Ok(Some(reached))
 }
 
-/// How many LSAs are gone through in the time in which one is found by its key, about.
+/// The number of LSAs that can be scanned in about the time that it takes to find one by its key.
 const SCANNED: usize = 16;
 
-/// The vertices of an area that a tree reaches, in the order of their numbers, if they are few
-/// beside the LSAs of the area, and the LSA of each is found by its key alone.
+/// The vertices of an area that a tree reaches, in the order of their numbers. `None` unless they
+/// are few compared with the LSAs of the area, and the LSA of each is found by its key alone.
 pub(crate) fn few_reached<'a, A: Allocator + Copy>(
     alloc: A,
     database: &'a Database<A>,

@@ -10,7 +10,8 @@ use std::marker::Model;
 /// Intra-area and inter-area routes in order of prefix, one for each. Contracts see them as this
 /// list.
 ///
-/// Each cost is below 2^34: in an area it is below 2^33, and a summary-LSA adds less than 2^24.
+/// Each cost is below 2^34: the cost within an area is below 2^33, and a summary-LSA adds less than
+/// 2^24.
 #[derive(Drop)]
 pub struct InsideRoutes<A: Allocator = Global> {
     routes: Routes<A>,
@@ -37,7 +38,7 @@ impl<A: Allocator + Copy> InsideRoutes<A> {
         }
     }
 
-    /// Routes that each cost less than 2^34.
+    /// Routes whose costs are all below 2^34.
     pub fn from_routes(routes: Routes<A>) -> InsideRoutes<A>
         requires { RoutesBelow (2 ^ 34) routes }
         ensures { result ≡ routes }

@@ -30,12 +30,12 @@ use std::alloc::{AllocError, Allocator};
 /// 16.2). The results are those of all areas to which the router is attached, in rising order, and
 /// the routes are its intra-area routes.
 ///
-/// A router attached to one area examines the summary-LSAs of that area; one that is attached to
-/// several examines those of the backbone alone, and none where it is not attached to the
-/// backbone. A summary-LSA counts where it is live, has a metric below LSInfinity, and is
-/// of another originator that has an entry as an area border router of the area. The cost is that
-/// of this entry and the metric together. Of one prefix, or of one AS boundary router, the ways of
-/// least cost are joined.
+/// A router attached to one area examines the summary-LSAs of that area. A router attached to
+/// several areas examines only those of the backbone, and none where it is not attached to the
+/// backbone. A summary-LSA is used where it is live, its metric is below LSInfinity, and its
+/// originator is another router that has an entry as an area border router of the area. The cost is
+/// the sum of that entry's cost and the metric. The ways of least cost to one prefix, or to one AS
+/// boundary router, are joined.
 ///
 /// # Errors
 ///
@@ -149,7 +149,7 @@ fn add_asbr_candidate<'a, A: Allocator + Copy>(
     Ok(())
 }
 
-/// Takes the way by a summary-LSA to what it tells of into account, where the LSA is usable and its
+/// Takes the way by a summary-LSA to its destination into account, where the LSA is usable and its
 /// originator has an entry.
 fn add_summary_candidate<'a, K: Ord + Copy + Drop, A: Allocator + Copy>(
     ways: &mut BestWays<'a, K, A>,
@@ -188,7 +188,7 @@ fn entry<A: Allocator + Copy>(asbr: RouterId, way: Way<A>, area: AreaId) -> Rout
     }
 }
 
-/// Such an entry for each way.
+/// The entry of an AS boundary router of another area, for each way.
 fn entries<A: Allocator + Copy>(
     alloc: A,
     ways: Vec<(RouterId, Way<A>), A>,

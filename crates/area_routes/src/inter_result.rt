@@ -10,8 +10,8 @@ use std::marker::Model;
 pub struct InterResult<A: Allocator = Global> {
     /// The inter-area routes.
     pub routes: InsideRoutes<A>,
-    /// The entries of all areas in rising order of the areas, and then those of AS boundary
-    /// routers that summary-LSAs tell of, in order of the routers.
+    /// The entries of all areas in rising order of the areas, and then those of the AS boundary
+    /// routers in summary-LSAs, in order of the routers.
     pub routers: RouterEntries<A>,
 }
 

@@ -20,8 +20,8 @@ use std::alloc::{AllocError, Allocator};
 /// The intra-area routes of a router, in order of prefix (RFC 2328, 16.1). The results are those
 /// of all areas to which the router is attached.
 ///
-/// To each prefix the route has the least cost that any of the areas offers, with the areas and
-/// the next hops of all ways of that cost.
+/// The route to each prefix has the least cost that any of the areas offers, with the areas and the
+/// next hops of all ways of that cost.
 ///
 /// # Errors
 ///
@@ -40,8 +40,8 @@ pub fn intra<A: Allocator + Copy>(
     Ok(InsideRoutes::from_routes(ways.into_routes(alloc)?))
 }
 
-/// The same. Where the results are those of one area, its routes are taken out of them: then no
-/// route is copied, and no memory is taken.
+/// The same, but where there is one result, its routes are taken out of it: then no route is
+/// copied, and no memory is taken.
 ///
 /// # Errors
 ///
@@ -60,7 +60,7 @@ pub fn take_intra<A: Allocator + Copy>(
     Ok(intra_of_one(alloc, &mut results[0]))
 }
 
-/// The intra-area routes of a router that is attached to one area, taken out of what that gives.
+/// The intra-area routes of a router that is attached to one area, taken out of the area's result.
 fn intra_of_one<A: Allocator + Copy>(alloc: A, area: &mut AreaResult<A>) -> InsideRoutes<A>
     ensures routes { result ≡ intra_of (area.old ∷ []) }
     ensures small { RoutesBelow (2 ^ 33) result }

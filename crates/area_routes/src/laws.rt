@@ -34,9 +34,9 @@ pub fn rank_order()
     ensures exact { (a b : AnyRank) → rank_cmp a b ≡ Equal → a ≡ b }
 {}
 
-/// The ways that are computed are the best ways in words, and no other list is: destinations in
-/// order, each with the least rank of its candidates, and with exactly the areas and next hops of
-/// those candidates that have this rank.
+/// The ways that are computed are exactly the best ways: destinations in order, each with the least
+/// rank of its candidates, and with exactly the areas and next hops of those candidates that have
+/// this rank.
 pub fn ways_are_best<K: Ord + Copy + Drop>()
     requires { CmpEqualImpliesEq K.cmp }
     ensures best { (cs : List (Candidate K)) → AreBestWays K.cmp cs (ways_of K.cmp cs) }
@@ -60,7 +60,7 @@ pub fn attached_routers_are_vertices()
         ↔ Contains (vertices_of (lsas_of (Area area) db)) (Router router) }
 {}
 
-/// Of one router, area and kind a router has one entry (RFC 2328, 16.2).
+/// For a router, area and kind there is one entry in the entries of a router (RFC 2328, 16.2).
 pub fn entries_stand_once()
     ensures { (db : Lists) → IsDatabase db → (router : RouterId) (intra : List RouteValue)
         → StandOnce (inter_of db router (results_of db router) intra).routers }

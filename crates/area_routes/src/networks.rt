@@ -14,7 +14,7 @@ use lsa_codec::{Addr, Prefix};
 use std::alloc::{AllocError, Allocator};
 use std::collections::BTreeMap;
 
-/// How a network stands among those of its prefix: its distance and its Link State ID.
+/// What networks of one prefix are compared by: the distance and the Link State ID.
 #[derive(Clone, Copy, Debug)]
 pub(crate) struct Standing {
     distance: u64,
@@ -33,14 +33,14 @@ fn standing_of<A: Allocator + Copy>(reached: &Reached<'_, A>) -> Standing
     }
 }
 
-/// Whether the first is nearer, or as near and of a greater Link State ID.
+/// Whether the first is nearer, or as near and its Link State ID is greater.
 fn stands_before(one: Standing, other: Standing) -> bool
     ensures { result ≡ stands_before one other }
 {
     one.distance < other.distance || (one.distance == other.distance && other.id.0 < one.id.0)
 }
 
-/// Whether a network of the prefix stands before this one.
+/// Whether a network of the prefix is better than this one.
 fn is_behind<A: Allocator + Copy>(standings: &Standings<A>, net: Prefix, standing: Standing) -> bool
     ensures { result ≡ is_behind (get prefix_cmp standings.now net) standing }
 {
@@ -93,7 +93,7 @@ fn best_standings<A: Allocator + Copy>(
     Ok(standings)
 }
 
-/// Adds what a vertex offers, if it is the network that is chosen of those of its prefix.
+/// Adds what a vertex offers, if it is the network that is chosen among those of its prefix.
 fn add_network<'a, A: Allocator + Copy>(
     ways: &mut AreaWays<'a, A>,
     standings: &Standings<A>,
@@ -111,8 +111,8 @@ fn add_network<'a, A: Allocator + Copy>(
     ways.add(net, reached.distance(), reached.hops())
 }
 
-/// Adds what the networks offer: of those of one prefix the nearest alone, and of several as near
-/// the one of the greatest Link State ID.
+/// Adds what the networks offer: of those of one prefix only the nearest, and of several as near
+/// the one with the greatest Link State ID.
 pub(crate) fn add_networks<'a, A: Allocator + Copy>(
     alloc: A,
     ways: &mut AreaWays<'a, A>,

@@ -97,7 +97,7 @@ pub(crate) fn reached_at<'a, A: Allocator + Copy>(
     reached_with(lsa.lsa(), tree, hops, index)
 }
 
-/// The vertex with a number, where the tree reaches it. This is its LSA.
+/// The vertex with a number, where the tree reaches it. `lsa` is its LSA.
 fn reached_with<'a, A: Allocator + Copy>(
     lsa: &'a Lsa<A>,
     tree: &Tree<A>,
@@ -147,7 +147,7 @@ pub(crate) fn reached_vertices<'a, A: Allocator + Copy>(
 }
 
 /// The vertices of an area that a tree reaches, in the order of their numbers, where each of the
-/// LSAs is that of a vertex. There are so many.
+/// LSAs is that of a vertex. The number of the LSAs is `count`.
 pub(crate) fn reached_of_all<'a, A: Allocator + Copy>(
     alloc: A,
     lsas: Lsas<'a, A>,

@@ -18,7 +18,7 @@ pub struct Route<A: Allocator = Global> {
     pub areas: AreaList<A>,
     /// The cost of each path, without a type 2 metric.
     pub cost: u64,
-    /// The type 2 metric of a route of that type, and 0 of others.
+    /// The type 2 metric of a route of that type, and 0 for other routes.
     pub cost2: u32,
     /// The next hops of all the paths, which are equally good.
     pub hops: HopList<A>,

@@ -61,8 +61,7 @@ impl<A: Allocator + Copy> Routes<A> {
         self.routes
     }
 
-    /// The route to a prefix. It takes no memory, and steps in the logarithm of the number of
-    /// routes.
+    /// The route to a prefix. It takes no memory, and time logarithmic in the number of routes.
     pub fn route_to(&self, net: Prefix) -> Option<&Route<A>>
         ensures { option_copied result ≡ route_to self.now net }
     {

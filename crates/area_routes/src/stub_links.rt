@@ -28,8 +28,9 @@ pub struct StubLink {
 
 /// The stub links of an area's routers. Contracts see them as a list.
 ///
-/// They stand in order of prefix, so that what a tree offers over them stands so, too, and is soon
-/// sorted: that is for speed alone, and no contract says it. Each takes 24 bytes.
+/// They are kept in order of prefix, so that the offers of a tree over them come in this order,
+/// too, and are quickly sorted. That is for speed alone, and no contract states it. Each takes 24
+/// bytes.
 #[derive(Drop)]
 pub struct StubLinks<A: Allocator = Global> {
     links: Vec<StubLink, A>,
@@ -45,7 +46,7 @@ impl<A: Allocator> Model for StubLinks<A> {
 }
 
 impl<A: Allocator + Copy> StubLinks<A> {
-    /// The stub links of the routers of an area, which are none where the database lacks it.
+    /// The stub links of the routers of an area; none where the database lacks the area.
     ///
     /// # Errors
     ///

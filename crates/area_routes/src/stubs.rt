@@ -23,8 +23,8 @@ pub(crate) fn is_lsa_of<A: Allocator + Copy>(router: RouterId, lsa: &Lsa<A>) -> 
     lsa.key().id.0 == router.0
 }
 
-/// The hops to a stub network: those of its router, and for the calculating router's own
-/// `Connected` alone.
+/// The hops to a stub network: those of its router, or `Connected` alone where that is the
+/// calculating router.
 fn hops_over<'a, A: Allocator + Copy>(
     root: RouterId,
     hops: &'a Hops<A>,

@@ -1,4 +1,4 @@
-//! What summary-LSAs tell of.
+//! The destinations of summary-LSAs.
 
 ghost use Rattle.std.specs.Prelude.{◌≡◌, ◌<◌, IfSome};
 ghost use Rattle.lsa_codec.specs.Views.{ls_infinity};
@@ -9,8 +9,8 @@ use crate::inside_routes::InsideRoutes;
 use lsa_codec::{ASBR_SUMMARY_LSA, LS_INFINITY, Lsa, Prefix, RouterId};
 use std::alloc::Allocator;
 
-/// The metric of a summary-LSA that is live, below LSInfinity, and of another originator than the
-/// calculating router.
+/// The metric of a summary-LSA that is live, has a metric below LSInfinity, and was originated by
+/// another router.
 pub(crate) fn usable_metric<A: Allocator + Copy>(lsa: &Lsa<A>, router: RouterId) -> Option<u32>
     ensures metric { result ≡ usable_metric router lsa.now }
     ensures below { IfSome result (λ metric. metric < ls_infinity) }
@@ -22,7 +22,7 @@ pub(crate) fn usable_metric<A: Allocator + Copy>(lsa: &Lsa<A>, router: RouterId)
     Some(metric)
 }
 
-/// The prefix that a summary-LSA of type 3 tells of, where it has no intra-area route.
+/// The prefix of a summary-LSA of type 3, where it has no intra-area route.
 pub(crate) fn network_told<A: Allocator + Copy>(
     lsa: &Lsa<A>,
     intra: &InsideRoutes<A>,
@@ -36,8 +36,8 @@ pub(crate) fn network_told<A: Allocator + Copy>(
     Some(net)
 }
 
-/// The router that a summary-LSA of type 4 tells of, where it is not the calculating router and
-/// not an AS boundary router of the area.
+/// The router of a summary-LSA of type 4, where it is not the calculating router and not an AS
+/// boundary router of the area.
 pub(crate) fn asbr_told<A: Allocator + Copy>(
     lsa: &Lsa<A>,
     router: RouterId,

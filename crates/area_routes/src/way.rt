@@ -13,7 +13,7 @@ use std::alloc::{AllocError, Allocator, Global};
 use std::cmp::Ordering;
 use std::marker::Model;
 
-/// What the best of the paths to one destination have together.
+/// What the best of the paths to one destination have in common.
 #[derive(Drop)]
 pub struct Way<A: Allocator = Global> {
     /// What they are compared by, the same for all of them.
@@ -58,7 +58,7 @@ impl<A: Allocator + Copy> Way<A> {
         candidate.join_into(&mut self.areas, &mut self.hops)
     }
 
-    /// Takes a further candidate for the same destination into account.
+    /// Takes another candidate for the same destination into account.
     pub(crate) fn merge<K>(
         &mut self,
         alloc: A,
@@ -76,7 +76,8 @@ impl<A: Allocator + Copy> Way<A> {
     }
 }
 
-/// The list of the area that a way leads through if it stays in one.
+/// The list of the one area that a way leads through; empty where it does not lead through one
+/// area.
 pub(crate) fn areas_of<A: Allocator + Copy>(alloc: A, area: Option<AreaId>) -> AreaList<A>
     ensures { result ≡ add_area [] area }
 {

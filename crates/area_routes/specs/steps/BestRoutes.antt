@@ -12,7 +12,7 @@ use Rattle.area_routes.specs.Values.{RouteValue, WayValue}
 abbrev pub is_last_route : List RouteValue → Net → Bool
 is_last_route routes net = option_map_or (λ r. is_eq (prefix_cmp r.net net)) (slice_get routes (length routes - 1)) false
 
--- what the paths of a route are compared by, where they are of this class
+-- what the paths of a route, which are of this class, are compared by
 abbrev pub rank_of : RouteValue → ℕ → Rank
 rank_of route class = record { path = route.kind; cost2 = route.cost2; class = class; cost = route.cost }
 
@@ -21,7 +21,7 @@ pub record IsBy (e : Net × WayValue) (route : RouteValue) (class : ℕ) : Type 
   pub made : route ≡ route_of e
   pub classed : class ≡ e.1.rank.class
 
--- behind the others the routes have the one by this way, whose paths are of this class
+-- the last of the routes is the one by this way, whose paths are of this class
 pub record EndBy (before : List RouteValue) (e : Net × WayValue) (routes : List RouteValue) (class : ℕ) : Type 0 where
   pub made : routes ≡ before ++ route_of e ∷ []
   pub classed : class ≡ e.1.rank.class

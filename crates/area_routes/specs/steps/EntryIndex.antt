@@ -9,7 +9,7 @@ use Rattle.area_routes.specs.Inter.{border_of, find_entry}
 use Rattle.lsa_codec.specs.Order.{router_cmp}
 use Rattle.area_routes.specs.Values.{AreaResultValue, EntryValue, ResultBelow}
 
--- at each router there is its entry of the kind, if it has one
+-- for each router there is its entry of the kind, if it has one
 abbrev pub IsIndexOf : EntryKind → List EntryValue → List (RouterId × EntryValue) → Type 0
 IsIndexOf kind entries index = (router : RouterId) → lookup (eq_by_cmp router_cmp router) index ≡ find_entry kind entries router
 

@@ -1,4 +1,4 @@
--- The best way to a destination, with one candidate more.
+-- The best way to a destination, with one more candidate.
 use Rattle.std.specs.Prelude.{◌-◌, Bool, false, List, [], ◌∷◌, ◌++◌, Option, None, Some, length, map, slice_get}
 use Rattle.std.specs.Option.{option_map_or}
 use Rattle.std.specs.Ordering.{is_eq, match_ordering, ordering_then}
@@ -51,7 +51,7 @@ module _ {K : Type 0} where
     abbrev pub candidate_cmp : Candidate K → Candidate K → Ordering
     candidate_cmp a b = ordering_then (R a.key b.key) (rank_cmp a.rank b.rank)
 
-    -- the same, and of equal ones by their first hops
+    -- the same, and equal ones by their first hops
     abbrev pub contender_cmp : Candidate K → Candidate K → Ordering
     contender_cmp a b = ordering_then (candidate_cmp a b) (hop_cmp (first_hop a.hops) (first_hop b.hops))
 

@@ -1,4 +1,4 @@
--- What one area gives, by the routes of a router that is attached to it alone.
+-- What one area gives, by the routes of a router that is attached to this area alone.
 use Rattle.std.specs.Prelude.{◌≡◌, ◌^◌, List, [], map}
 use Rattle.std.specs.List.{All}
 use Rattle.lsa_codec.specs.declared.address.AreaId.{AreaId}
@@ -9,11 +9,11 @@ use Rattle.area_routes.specs.Intra.{intra_route}
 use Rattle.area_routes.specs.Offers.{AreSortedOffers}
 use Rattle.area_routes.specs.Values.{AreaResultValue, EntryValue, OfferValue, ResultBelow, RouteValue, WayValue}
 
--- the offer that a route is by
+-- the offer of a route
 abbrev pub offered : RouteValue → OfferValue
 offered r = record { net = r.net; cost = r.cost; hops = r.hops }
 
--- the way that a route is by, as that of candidates that lead through no area
+-- the way of a route, as one of candidates that lead through no area
 abbrev pub way_by : RouteValue → Net × WayValue
 way_by r = (r.net, record { rank = record { path = Intra; cost2 = 0; class = 0; cost = r.cost }; areas = []; hops = r.hops })
 

@@ -20,7 +20,7 @@ pub record FitGraph (lsas : List (List ℕ)) (graph : Topology) (tree : Distance
   pub a_distance_each : length tree.distances ≡ length graph.vertices
   pub hops_each : length hops ≡ length graph.vertices
 
--- those of these LSAs in use that have a distance, with it and with their hops
+-- the LSAs in use whose vertices have a distance, with it and with their hops
 abbrev pub AreReached : List (List ℕ) → List (Option ℕ) → List (List Hop) → List ReachedValue → Type 0
 AreReached lsas distances hops reached =
     (distance : Vertex → Option ℕ) (first : Vertex → List Hop) → distances ≡ map (λ l. distance (vertex_of l)) lsas

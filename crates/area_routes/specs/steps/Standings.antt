@@ -13,7 +13,7 @@ use Rattle.area_routes.specs.Values.{OfferValue}
 use Rattle.area_routes.specs.Reached.{ReachedValue}
 use Rattle.area_routes.specs.Networks.{beats, network_offer}
 
--- how a network stands
+-- the distance and the Link State ID of a network
 abbrev pub standing_of : ReachedValue → Standing
 standing_of r = record { distance = r.distance; id = record { 0 = link_state_id_of r.lsa } }
 

@@ -7,7 +7,7 @@ use Rattle.area_routes.specs.Values.{EntryValue}
 use Rattle.area_routes.proofs.Bounds.{found_has}
 use Rattle.area_routes.proofs.indexed_area.IndexedArea.border.Goals as goal
 
--- what holds of the value holds behind the reference
+-- what holds of the value holds of the value of the reference
 behind : (P : EntryValue → Type 0) (r : Option (Bor EntryValue)) → IfSome (option_copied r) P → IfSome r (λ e. P e.now)
 behind P None h = tt
 behind P (Some e) h = h
