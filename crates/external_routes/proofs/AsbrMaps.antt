@@ -1,4 +1,4 @@
--- The map of preferred entries, with one entry more.
+-- The map of preferred entries, with one more entry.
 use Rattle.std.proofs.Common.{◌≡◌, ℕ, ◌+◌, Bool, true, false, cond, List, take, Option, None, Some, refl, sym, ap, subst, ◌∙◌}
 use Rattle.std.specs.Prelude.{◌&&◌}
 use Rattle.std.specs.List.{slice_get}
@@ -20,7 +20,7 @@ use Rattle.external_routes.proofs.Orders.{preference_total}
 
 module _ (entries : List EntryValue) (i : ℕ) (x : EntryValue) (here : slice_get entries i ≡ Some x) (old : RouterId → Option ℕ)
     (before : (asbr : RouterId) → entry_at entries (old asbr) ≡ preferred (take i entries) asbr) where
-  -- with one entry more
+  -- with one more entry
   abbrev more : RouterId → Option EntryValue
   more asbr = cond (is_asbr asbr x) (Some (later preference (preferred (take i entries) asbr) x)) (preferred (take i entries) asbr)
 
@@ -28,12 +28,12 @@ module _ (entries : List EntryValue) (i : ℕ) (x : EntryValue) (here : slice_ge
   preferred_more asbr = first_more preference_total (is_asbr asbr) entries i x
       (slice_get_within entries i x here) (sym (get_or_from_slice_get entries i x x here))
 
-  -- the entry is none of the router's
+  -- the entry is not one of the router
   stays : (asbr : RouterId) → is_asbr asbr x ≡ false → entry_at entries (old asbr) ≡ preferred (take (i + 1) entries) asbr
   stays asbr other = before asbr
       ∙ sym (preferred_more asbr ∙ ap (λ b. cond b (Some (later preference (preferred (take i entries) asbr) x)) (preferred (take i entries) asbr)) other)
 
-  -- the entry comes behind
+  -- the other entry comes first
   behind : (asbr : RouterId) → is_asbr asbr x ≡ true → comes_first x (entry_at entries (old asbr)) ≡ false
       → entry_at entries (old asbr) ≡ preferred (take (i + 1) entries) asbr
   behind asbr own late =

@@ -12,7 +12,7 @@ use Rattle.area_graph.specs.Least.{later, least, lesser}
 use Rattle.area_routes.proofs.LeastLemmas.{least_push}
 
 module _ {K : Type 0} (R : K → K → Ordering) (P : K → Type 0) where
-  -- what the least of a list has, as all have it
+  -- the least of a list has what all have
   pub least_all : (xs : List K) (x : K) → All P xs → Some x ≡ least R xs → P x
   least_all [] x a h = cc
   least_all (y ∷ ys) x a h = by (least R ys) refl h (λ m. least_all ys m (All-tail P y ys a))
@@ -50,7 +50,7 @@ module _ {K : Type 0} {R : K → K → Ordering} (o : IsTotalOrder R) (p : K →
     first_no e = before
         ∙ sym (first_more xs i x l item ∙ ap (λ b. cond b (Some (later R (least R (filter p (take i xs))) x)) (least R (filter p (take i xs)))) e)
 
--- what all have, the first least one behind a reference has
+-- what all have, the first least one also has, read through its reference
 pub first_has : {K : Type 0} (R : K → K → Ordering) (P : K → Type 0) (p : K → Bool) (xs : List K) (r : Option (Bor K))
     → All P xs → option_copied r ≡ least R (filter p xs) → IfSome r (λ x. P x.now)
 first_has R P p xs None a h = tt

@@ -1,4 +1,4 @@
--- The paths of the AS-external-LSAs in use, in whatever order, give the routes that the LSAs give.
+-- The paths of the AS-external-LSAs in use give the routes that the LSAs give, in any order.
 use Rattle.std.proofs.Common.{◌≡◌, ℕ, Bool, true, false, cond, eqb, List, [], ◌∷◌, map, Option, Some, None, refl, sym, ap, ◌∙◌}
 use Rattle.std.specs.Prelude.{◌&&◌, ◌||◌, not, nat_lt}
 use Rattle.std.specs.List.{cons_option, filter_map, list_any}
@@ -21,7 +21,7 @@ use Rattle.external_routes.specs.External.{external_candidate, path_over}
 use Rattle.external_routes.specs.ExternalLsas.{AreExternalLsasOf, external_lsa}
 use Rattle.external_routes.specs.steps.Paths.{candidate_of}
 
--- one of another router, in use, with the tests in another order
+-- an LSA of another router, in use, with the tests in another order
 in_use : {C : Type 0} (f : ExternalLsa → Option C) (x : ExternalLsa) (path : Option C) (kind live below own : Bool) → f x ≡ cond own None path
     → cond (kind && (live && (below && not own))) path None ≡ option_and_then f (cond (kind && (live && below)) (Some x) None)
 in_use f x path true true true true is = sym is
@@ -30,7 +30,7 @@ in_use f x path true true false own is = refl
 in_use f x path true false below own is = refl
 in_use f x path false live below own is = refl
 
--- a test of what a function gives
+-- a test of a function's results
 any_found : {X Y : Type 0} (f : X → Option Y) (p : Y → Bool) (xs : List X) → list_any p (filter_map f xs) ≡ list_any (λ x. option_map_or p (f x) false) xs
 any_found f p [] = refl
 any_found {Y = Y} f p (x ∷ xs) = by (f x) (any_found f p xs)

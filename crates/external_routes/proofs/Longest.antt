@@ -22,7 +22,7 @@ use Rattle.external_routes.specs.Choose.{covers, forward_match, longer}
 use Rattle.external_routes.specs.steps.Lookup.{MarksLengths}
 use Rattle.external_routes.proofs.First.{least_all}
 
--- what is known of those that pass a test holds of what the test keeps
+-- what holds of all that pass a test holds of what the test keeps
 All-filter_yes : {X : Type 0} (p : X → Bool) (P : X → Type 0) (xs : List X) → All (λ x. p x ≡ true → P x) xs → All P (filter p xs)
 All-filter_yes p P [] all = λ k d lt. absurd (omega arith)
 All-filter_yes p P (x ∷ xs) all = by (p x) refl (All-filter_yes p P xs (All-tail (λ y. p y ≡ true → P y) x xs all))
@@ -99,7 +99,7 @@ module _ (addr : Addr) where
           (All-filter_yes covering (λ q. q.net.len ≤ n) ys (All-tail (λ q. covers q.net addr ≡ true → q.net.len ≤ n) y ys none)) (sym is) in
           ap (λ c. cond c b y) (not_longer y.net.len b.net.len (omega arith))
 
-      -- y doesn't fit: it covers nothing, or is shorter
+      -- y does not fit: it does not cover the address, or is shorter
       behind : fits n y ≡ false → r.net.len ≡ n → (b : Bool) → covering y ≡ b → least longer (filter covering ys) ≡ Some r
           → least longer (cond b (y ∷ filter covering ys) (filter covering ys)) ≡ Some r
       behind apart len false is rest = rest
@@ -141,7 +141,7 @@ module _ (addr : Addr) where
     pub left_out_none : (marks : List Bool) → MarksLengths routes marks → LeftOut 0 routes
     left_out_none marks marked k d lt cov = let s : (get_or routes k d).net.len ≤ 32 = (marked k d lt).short in omega arith
 
-    -- no route has a length that isn't marked
+    -- no route has a length that is not marked
     pub unmarked_none : (marks : List Bool) → MarksLengths routes marks → (n : ℕ) → get_or marks n false ≡ false → None ≡ route_to routes (masked addr n)
     unmarked_none marks marked n unmarked = sym (find_none (fits n) routes (λ k d lt. by k d lt (fits n (get_or routes k d)) refl))
       where

@@ -14,7 +14,7 @@ still marks n m within h =
     (λ other. get_or-set_other marks n m true false (λ e. other (sym e)) ∙ h)
     (cases_eq n m)
 
--- one route more
+-- one more route
 pub marks_more : (routes : List RouteValue) (marks : List Bool) (i : ℕ) (r : RouteValue) → length marks ≡ 33
     → MarksLengths (take i routes) marks → i < length routes → r ≡ get_or routes i r → r.net.len ≤ 32
     → (length (set marks r.net.len true) ≡ 33) × MarksLengths (take (i + 1) routes) (set marks r.net.len true)

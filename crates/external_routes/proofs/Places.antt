@@ -1,4 +1,4 @@
--- Prefixes that stand between two routes that follow one another.
+-- Prefixes between two consecutive routes.
 use Rattle.std.proofs.Common.{◌≡◌, ℕ, zero, suc, ◌-◌, ◌<◌, ◌==◌, Bool, true, false, Bor, IfSome, cond, List, [], ◌∷◌, length, get_or, Option, Some, None, Err, refl, sym, ap, subst, ◌∙◌, arith}
 use Rattle.std.specs.Prelude.{is_some}
 use Rattle.std.specs.List.{AllByRecursion, HoldsAt, find, slice_get}
@@ -34,7 +34,7 @@ module _ (net : Net) where
   none_from k (r ∷ rs) h a =
       none_from k rs h a.1 ∙ sym (ap (λ o. cond (is_eq o) (Some r) (found rs)) (prefix_total.trans net k r.net h a.0))
 
-  -- what is below a route's prefix is below a prefix behind it
+  -- what is below a route's prefix is below the prefixes after it
   below_behind : (k : Net) (rs : List RouteValue) (p : ℕ) → AllByRecursion (λ y. prefix_cmp k y ≡ Less) (nets rs)
       → option_map_or (λ r. is_lt (prefix_cmp r.net net)) (slice_get rs p) false ≡ true → prefix_cmp k net ≡ Less
   below_behind k [] p a h = cc

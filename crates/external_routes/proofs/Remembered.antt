@@ -14,7 +14,7 @@ use Rattle.external_routes.specs.Choose.{is_asbr, is_asbr_kind, preference, pref
 use Rattle.external_routes.specs.steps.Lookup.{entry_at, IsPreferred, MapsPreferred}
 use Rattle.external_routes.proofs.First.{least_all}
 
--- what passes a test of what it was filtered by
+-- all members of a filtered list pass the test
 all_pass : {X : Type 0} (p : X → Bool) (xs : List X) → All (λ x. p x ≡ true) (filter p xs)
 all_pass p [] = All-nil (λ x. p x ≡ true)
 all_pass p (x ∷ xs) = by (p x) refl (all_pass p xs)
@@ -41,7 +41,7 @@ preferred_at entries asbr i is e at =
 pub none_preferred : (entries : List EntryValue) (i : ℕ) → length entries ≤ i → IsPreferred entries i
 none_preferred entries i past e at = let none = sym (slice_get_past entries i past) ∙ at in cc
 
--- what the map has for a router
+-- the entry of the map for a router
 pub mapped_at : (entries : List EntryValue) (asbrs : BTreeMap RouterId ℕ) (asbr : RouterId) (index : Option ℕ)
     → MapsPreferred entries (length entries) asbrs → index ≡ get router_cmp asbrs asbr → entry_at entries index ≡ preferred entries asbr
 mapped_at entries asbrs asbr index maps is =

@@ -1,4 +1,4 @@
--- The external routes of a router, by whether it examines AS-external-LSAs at all.
+-- The external routes of a router, depending on whether it examines AS-external-LSAs at all.
 use Rattle.std.proofs.Common.{◌≡◌, ◌∙◌, ℕ, Bool, true, false, cond, List, [], ◌∷◌, length, refl, sym, ap, subst}
 use Rattle.std.specs.List.{filter_map}
 use Rattle.lsa_codec.specs.declared.address.RouterId.{RouterId}
@@ -22,7 +22,7 @@ module _ (router : RouterId) (routes : List RouteValue) (entries : List EntryVal
   abbrev pub listed : List ExternalLsa → List (Candidate Net)
   listed found = filter_map (candidate_of router routes entries) found
 
-  -- what was gathered of them with these ways inside the AS
+  -- what was gathered from them with these ways inside the AS
   pub gathered : (found : List ExternalLsa) (inside : WaysInside) (ways : List (Candidate Net))
       → inside ≡ record { routes = routes; entries = entries }
       → Gathers (filter_map (candidate_of router inside.routes inside.entries) found) ways → Gathers (listed found) ways

@@ -54,7 +54,7 @@ preference a b = ordering_then (nat_cmp (entry_class a) (entry_class b)) (orderi
 abbrev pub is_asbr : RouterId → EntryValue → Bool
 is_asbr router e = is_asbr_kind e.kind && same_router e.router router
 
--- the preferred of a router's entries as an AS boundary router
+-- the preferred one of a router's entries as an AS boundary router
 abbrev pub preferred : List EntryValue → RouterId → Option EntryValue
 preferred entries asbr = least preference (filter (is_asbr asbr) entries)
 

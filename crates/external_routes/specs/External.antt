@@ -22,7 +22,7 @@ use Rattle.area_routes.specs.Routes.{has_route, routes_of}
 use Rattle.external_routes.specs.Flooding.{is_attached_outside_stubs}
 use Rattle.external_routes.specs.Choose.{entry_class, forward_match, preferred, route_class}
 
--- the forwarding address; 0 stands for the originator itself (A.4.5)
+-- the forwarding address; 0 means the originator itself (A.4.5)
 abbrev pub forward_address : List ℕ → Addr
 forward_address lsa = record { 0 = forward_of lsa }
 
@@ -49,7 +49,7 @@ path_by_route lsa r = external_path lsa (route_class r) r.cost (map (λ hop. ext
 abbrev pub path_over : List RouteValue → List ℕ → EntryValue → Option (Candidate Net)
 path_over routes lsa e = if forward_of lsa == 0 then Some (path_by_entry lsa e) else option_map (path_by_route lsa) (forward_match routes (forward_address lsa))
 
--- an AS-external-LSA that is live, below LSInfinity, and of another originator than the calculating router
+-- an AS-external-LSA that is live, has a metric below LSInfinity, and was originated by another router
 abbrev pub is_examined : RouterId → List ℕ → Bool
 is_examined router lsa = (kind_of lsa == external_lsa) && (is_live lsa && (nat_lt (metric_of lsa) ls_infinity && not (same_router (originator_of lsa) router)))
 
@@ -61,7 +61,8 @@ external_candidate router routes entries lsa =
     (if has_route routes (net_of_lsa lsa) then None else option_and_then (path_over routes lsa) (preferred entries (originator_of lsa)))
     else None
 
--- the paths that a router has: AS-external-LSAs are flooded through areas that are not stub areas alone (3.6)
+-- the paths of a router; AS-external-LSAs are not flooded into stub areas (3.6), so it has none where all its
+-- areas are stub areas
 abbrev pub external_candidates : Lists → RouterId → List RouteValue → List EntryValue → List (Candidate Net)
 external_candidates db router routes entries =
     if is_attached_outside_stubs db router then filter_map (external_candidate router routes entries) (lsas_of AsWide db) else []

@@ -12,7 +12,7 @@ use Rattle.external_routes.specs.declared.external_lsas.ExternalLsa.{ExternalLsa
 abbrev pub is_in_use : List ℕ → Bool
 is_in_use lsa = (kind_of lsa == external_type) && (is_live lsa && nat_lt (metric_of lsa) ls_infinity)
 
--- what an AS-external-LSA in use tells of its route; other LSAs tell nothing
+-- the route of an AS-external-LSA in use; none for other LSAs
 abbrev pub external_lsa : List ℕ → Option ExternalLsa
 external_lsa lsa =
     if is_in_use lsa then
@@ -25,10 +25,10 @@ external_lsa lsa =
     })
     else None
 
--- these tell what the AS-external-LSAs in use among some LSAs tell, in some order
+-- these are the AS-external-LSAs in use among some LSAs, in some order
 abbrev pub AreExternalLsasOf : List (List ℕ) → List ExternalLsa → Type 0
 AreExternalLsasOf lsas found = IsPermutation (filter_map external_lsa lsas) found
 
--- these are listed of them, or none are listed
+-- these are the AS-external-LSAs in use among some LSAs, or there is no list
 abbrev pub AreListedOf : List (List ℕ) → Option (List ExternalLsa) → Type 0
 AreListedOf lsas listed = IfSome listed (AreExternalLsasOf lsas)

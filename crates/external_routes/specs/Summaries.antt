@@ -38,12 +38,13 @@ borders db area router = is_attached db area router && is_attached_elsewhere db 
 abbrev pub is_default : Net → Bool
 is_default net = net.len == 0
 
--- whether what an LSA of an area tells of is the default destination in a stub area: its metric is configured (12.4.3.1)
+-- whether an LSA of an area is for the default destination in a stub area, by its prefix: its metric is configured
+-- (12.4.3.1)
 abbrev pub is_stub_default : Lists → AreaId → Option Net → Bool
 is_stub_default db area net = option_map_or is_default net false && is_stub_area db area
 
--- whether an LSA of an area is a live summary-LSA whose metric is calculated: it does not tell of the default destination in a
--- stub area, whose metric is configured
+-- whether an LSA of an area is a live summary-LSA whose metric is calculated: it is not for the default destination in a stub
+-- area, whose metric is configured
 abbrev pub is_calculated : Lists → AreaId → List ℕ → Bool
 is_calculated db area lsa = is_summary lsa && (is_live lsa && not (is_stub_default db area (net_of_summary lsa)))
 
@@ -63,7 +64,8 @@ is_among area areas = list_any (λ a. a.0 == area.0) areas
 abbrev pub is_announced_route : AreaId → RouteValue → Bool
 is_announced_route area r = not (is_among area r.areas) && (not (is_backbone area) || is_intra r.kind)
 
--- whether the originator announces an entry of an AS boundary router into an area: likewise
+-- whether the originator announces an entry of an AS boundary router into an area, by the same
+-- rules
 abbrev pub is_announced_entry : AreaId → EntryValue → Bool
 is_announced_entry area e = not (e.area.0 == area.0) && (not (is_backbone area) || is_asbr_intra e.kind)
 
@@ -75,11 +77,12 @@ cost_of_net area routes net = option_and_then (λ r. if is_announced_route area 
 abbrev pub cost_of_asbr : AreaId → List EntryValue → RouterId → Option ℕ
 cost_of_asbr area entries asbr = option_and_then (λ e. if is_announced_entry area e then Some e.cost else None) (preferred entries asbr)
 
--- the AS boundary router that a summary-LSA of type 4 tells of; no such LSA is announced into a stub area
+-- the AS boundary router of a summary-LSA of type 4; no such LSA is announced into a stub area
 abbrev pub asbr_of_summary : Lists → AreaId → List ℕ → Option RouterId
 asbr_of_summary db area lsa = if (kind_of lsa == asbr_summary_lsa) && not (is_stub_area db area) then Some (named_router lsa) else None
 
--- the cost of what an LSA of an area tells of, by the routes and the entries of its originator
+-- the cost that the originator of an LSA of an area announces for the LSA's destination, by the
+-- originator's routes and entries
 abbrev pub announced_cost : Lists → AreaId → List ℕ → List RouteValue → List EntryValue → Option ℕ
 announced_cost db area lsa routes entries =
     option_or (option_and_then (cost_of_net area routes) (net_of_summary lsa)) (option_and_then (cost_of_asbr area entries) (asbr_of_summary db area lsa))
@@ -88,7 +91,7 @@ announced_cost db area lsa routes entries =
 abbrev pub metric_for : ℕ → ℕ
 metric_for cost = if nat_lt cost ls_infinity then cost else ls_infinity
 
--- the metric that an LSA of an area is due, by the routes and the entries of its originator: the cost of what it tells of,
--- and LSInfinity where that is not announced
+-- the metric that an LSA of an area should have, by the routes and the entries of its originator: that for the announced
+-- cost, and LSInfinity where none is announced
 abbrev pub due : Lists → AreaId → List ℕ → List RouteValue → List EntryValue → ℕ
 due db area lsa routes entries = option_map_or metric_for (announced_cost db area lsa routes entries) ls_infinity

@@ -1,3 +1,4 @@
--- What only the contracts of private functions cite: what routes and router entries are looked up in.
+-- Definitions that only the contracts of private functions cite: how routes and router entries are
+-- looked up.
 pub mod Lookup
 pub mod Paths

@@ -13,10 +13,10 @@ use std::alloc::{AllocError, Allocator};
 use std::cmp::Ordering;
 use std::collections::BTreeMap;
 
-/// For each AS boundary router the index of its preferred entry among the entries.
+/// The index of the preferred entry of each AS boundary router.
 pub(crate) type AsbrMap<A> = BTreeMap<RouterId, usize, A>;
 
-/// The entry of a router whose index the map has.
+/// The entry of a router whose index is in the map.
 fn entry_for<'a, A: Allocator + Copy>(
     asbrs: &AsbrMap<A>,
     entries: &'a [RouterEntry<A>],
@@ -38,8 +38,8 @@ fn comes_first<A: Allocator + Copy>(entry: &RouterEntry<A>, other: Option<&Route
     }
 }
 
-/// Inserts the index of an entry, where the entry is preferred to the one that the map has for the
-/// same router.
+/// Inserts the index of an entry, where the entry is preferred to the one in the map for the same
+/// router.
 fn insert_entry<A: Allocator + Copy>(
     asbrs: &mut AsbrMap<A>,
     entries: &[RouterEntry<A>],

@@ -86,7 +86,7 @@ fn add_path_over<'a, A: Allocator + Copy>(
     Ok(())
 }
 
-/// Takes what an LSA offers into account.
+/// Takes the path that an LSA offers into account.
 pub(crate) fn add_external_candidate<'a, A: Allocator + Copy>(
     ways: &mut BestWays<'a, Prefix, A>,
     inside: &mut Inside<'a, A>,

@@ -57,7 +57,7 @@ pub(crate) fn is_asbr<A: Allocator + Copy>(entry: &RouterEntry<A>, router: Route
     entry.kind != EntryKind::Border && entry.router == router
 }
 
-/// The preferred of the best entry so far and a further one.
+/// The preferred one of the best entry so far and another entry.
 fn better<'a, A: Allocator + Copy>(
     best: Option<&'a RouterEntry<A>>,
     entry: &'a RouterEntry<A>,
@@ -70,7 +70,7 @@ fn better<'a, A: Allocator + Copy>(
     }
 }
 
-/// The preferred of a router's entries as an AS boundary router (RFC 2328, 16.4.1). Intra-area
+/// The preferred one of a router's entries as an AS boundary router (RFC 2328, 16.4.1). Intra-area
 /// entries of non-backbone areas come before all others, then the least cost, then the largest Area
 /// ID. It takes no memory.
 pub fn preferred<A: Allocator + Copy>(

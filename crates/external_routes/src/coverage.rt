@@ -55,7 +55,7 @@ fn is_default(net: Prefix) -> bool
     net.len() == 0
 }
 
-/// Whether an LSA of an area tells of the default destination in a stub area.
+/// Whether an LSA of an area is for the default destination in a stub area.
 fn is_stub_default<A: Allocator + Copy>(
     database: &Database<A>,
     area: AreaId,
@@ -69,9 +69,9 @@ fn is_stub_default<A: Allocator + Copy>(
     }
 }
 
-/// Whether an LSA of an area is a live summary-LSA whose metric is calculated: it does not tell of
-/// the default destination in a stub area, whose metric is configured (RFC 2328, 12.4.3.1). It
-/// takes no memory.
+/// Whether an LSA of an area is a live summary-LSA whose metric is calculated: it is not for the
+/// default destination in a stub area, whose metric is configured (RFC 2328, 12.4.3.1). It takes no
+/// memory.
 pub fn is_calculated<A: Allocator + Copy>(
     database: &Database<A>,
     area: AreaId,

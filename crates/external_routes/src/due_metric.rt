@@ -1,4 +1,4 @@
-//! The metrics that summary-LSAs are due.
+//! The metrics that summary-LSAs should have.
 
 ghost use Rattle.std.specs.Prelude.{◌≡◌, ◌≤◌};
 ghost use Rattle.lsa_codec.specs.Views.{ls_infinity};
@@ -14,8 +14,8 @@ use lsa_codec::{ASBR_SUMMARY_LSA, AreaId, LS_INFINITY, Lsa, Prefix, RouterId};
 use lsdb::Database;
 use std::alloc::Allocator;
 
-/// Whether an area is among these, as among those that the paths of a route lead through. It takes
-/// no memory.
+/// Whether an area is in a list of areas, such as those that the paths of a route lead through. It
+/// takes no memory.
 pub fn is_among(area: AreaId, areas: &[AreaId]) -> bool
     ensures { result ≡ is_among area areas.now }
 {
@@ -65,8 +65,8 @@ fn cost_of_asbr<A: Allocator + Copy>(
     }
 }
 
-/// The AS boundary router that a summary-LSA of type 4 tells of, unless it stands in a stub area,
-/// into which none is announced (RFC 2328, 12.4.3). It takes no memory.
+/// The AS boundary router of a summary-LSA of type 4, unless the LSA is in a stub area, into which
+/// none is announced (RFC 2328, 12.4.3). It takes no memory.
 pub fn asbr_of_summary<A: Allocator + Copy>(
     database: &Database<A>,
     area: AreaId,
@@ -81,7 +81,7 @@ pub fn asbr_of_summary<A: Allocator + Copy>(
     Some(RouterId(key.id.0))
 }
 
-/// The cost of what an LSA of an area tells of, where it is announced into the area.
+/// The cost that the originator of an LSA announces for the LSA's destination into the area.
 fn announced_cost<A: Allocator + Copy>(
     database: &Database<A>,
     area: AreaId,
@@ -97,8 +97,7 @@ fn announced_cost<A: Allocator + Copy>(
     }
 }
 
-/// The metric that a summary-LSA has for a cost: LSInfinity where the cost is that or more. It
-/// takes no memory.
+/// The metric of a summary-LSA for a cost: the cost, but at most LSInfinity. It takes no memory.
 pub fn metric_for(cost: u64) -> u32
     ensures { result ≡ metric_for cost }
 {
@@ -109,11 +108,12 @@ pub fn metric_for(cost: u64) -> u32
     }
 }
 
-/// The metric that a summary-LSA of an area is due (RFC 2328, 12.4.3), by all intra-area and
-/// inter-area routes and all router entries of its originator: the cost of what it tells of, and
-/// LSInfinity where the originator does not announce that into the area. It announces no route and
-/// no AS boundary router that it reaches through the area itself, into the backbone only what it
-/// reaches within an area, and no AS boundary router into a stub area. It takes no memory.
+/// The metric that a summary-LSA of an area should have (RFC 2328, 12.4.3), by all intra-area and
+/// inter-area routes and all router entries of its originator: the cost to the LSA's destination,
+/// and LSInfinity where the originator does not announce that into the area. A router announces no
+/// route and no AS boundary router that it reaches through the area itself. Into the backbone it
+/// announces only what it reaches within an area, and into a stub area no AS boundary router. It
+/// takes no memory.
 pub fn due<A: Allocator + Copy>(
     database: &Database<A>,
     area: AreaId,

@@ -12,26 +12,26 @@ use lsdb::{Database, Lsas, Section};
 use std::alloc::{AllocError, Allocator, Global};
 use std::marker::Model;
 
-/// What an AS-external-LSA tells of its route (RFC 2328, A.4.5), without the tag.
+/// The fields of an AS-external-LSA (RFC 2328, A.4.5), without the tag.
 #[derive(Clone, Copy, Debug)]
 pub struct ExternalLsa {
     /// The prefix of the destination.
     pub(crate) net: Prefix,
-    /// The router that made the LSA.
+    /// The router that originated the LSA.
     pub(crate) router: RouterId,
     /// Whether the metric is of type 2, larger than any cost within the AS.
     pub(crate) is_type2: bool,
     /// The metric, which is below LSInfinity.
     pub(crate) metric: u32,
-    /// The forwarding address, which is 0 for the originator itself.
+    /// The forwarding address; 0 means the originator itself.
     pub(crate) forward: Addr,
 }
 
 /// The AS-external-LSAs of a database that are in use: they are live, and their metrics are below
 /// LSInfinity. Contracts see them as a list.
 ///
-/// They stand in order of prefix, so that the paths that they offer stand so, too, and need no
-/// sort: that is for speed alone, and no contract says it. Each takes 24 bytes.
+/// They are kept in order of prefix, so that the paths that they offer come in this order, too, and
+/// need no sort. That is for speed alone, and no contract states it. Each takes 24 bytes.
 #[derive(Drop)]
 pub struct ExternalLsas<A: Allocator = Global> {
     lsas: Vec<ExternalLsa, A>,
@@ -68,7 +68,7 @@ impl<A: Allocator + Copy> ExternalLsas<A> {
     }
 }
 
-/// What an LSA tells, if it is an AS-external-LSA in use.
+/// The fields of an LSA, if it is an AS-external-LSA in use.
 fn external_lsa<A: Allocator + Copy>(lsa: &Lsa<A>) -> Option<ExternalLsa>
     ensures { result ≡ external_lsa lsa.now }
 {
@@ -85,7 +85,7 @@ fn external_lsa<A: Allocator + Copy>(lsa: &Lsa<A>) -> Option<ExternalLsa>
     })
 }
 
-/// Adds what an LSA tells, if it is an AS-external-LSA in use.
+/// Adds an LSA, if it is an AS-external-LSA in use.
 fn push_in_use<A: Allocator + Copy>(
     lsas: &mut Vec<ExternalLsa, A>,
     lsa: &Lsa<A>,
@@ -99,7 +99,7 @@ fn push_in_use<A: Allocator + Copy>(
     Ok(())
 }
 
-/// What the AS-external-LSAs in use among some LSAs tell, in their order.
+/// The AS-external-LSAs in use among some LSAs, in their order.
 fn in_use<A: Allocator + Copy>(
     alloc: A,
     lsas: Lsas<'_, A>,

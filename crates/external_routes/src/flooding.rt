@@ -9,8 +9,8 @@ use lsa_codec::RouterId;
 use lsdb::Database;
 use std::alloc::Allocator;
 
-/// Whether a router is attached to an area that is not a stub area. Only then AS-external-LSAs are
-/// flooded to it (RFC 2328, 3.6).
+/// Whether a router is attached to an area that is not a stub area. AS-external-LSAs are flooded to
+/// no other router (RFC 2328, 3.6).
 pub(crate) fn is_attached_outside_stubs<A: Allocator + Copy>(
     database: &Database<A>,
     router: RouterId,

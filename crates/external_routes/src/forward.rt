@@ -11,7 +11,7 @@ use area_routes::{Route, Routes};
 use lsa_codec::{Addr, Prefix};
 use std::alloc::Allocator;
 
-/// How many lengths a prefix may have: 0 to 32.
+/// The number of lengths that a prefix may have: 0 to 32.
 const LENGTHS: usize = 33;
 
 /// Marks the lengths of the routes' prefixes.
@@ -25,8 +25,8 @@ pub(crate) fn lengths<A: Allocator + Copy>(routes: &[Route<A>]) -> [bool; 33]
     marks
 }
 
-/// The route to the prefix of a length that covers an address, where `marks` has the lengths of the
-/// routes' prefixes.
+/// The route to the prefix of this length that covers an address, where `marks` has the lengths of
+/// the routes' prefixes.
 fn covering<'a, A: Allocator + Copy>(
     routes: &'a Routes<A>,
     marks: &[bool; 33],

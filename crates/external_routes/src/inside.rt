@@ -32,9 +32,9 @@ pub(crate) struct Inside<'a, A: Allocator = Global> {
     entries: &'a [RouterEntry<A>],
     /// Which lengths the routes' prefixes have.
     lengths: [bool; 33],
-    /// Which entry of each AS boundary router is preferred.
+    /// The preferred entry of each AS boundary router.
     asbrs: AsbrMap<A>,
-    /// Where the prefix that was looked for last would stand among the routes.
+    /// The place among the routes of the prefix that was looked up last, or where it would be.
     place: usize,
     /// The indexes of preferred entries that were found before, each at the place of its router.
     remembered: [usize; 256],
@@ -52,7 +52,7 @@ impl<'a, A: Allocator> Model for Inside<'a, A> {
 }
 
 impl<'a, A: Allocator + Copy> Inside<'a, A> {
-    /// These routes and router entries.
+    /// The ways inside the AS with these routes and router entries.
     pub(crate) fn new(
         alloc: A,
         routes: &'a InsideRoutes<A>,
@@ -74,8 +74,7 @@ impl<'a, A: Allocator + Copy> Inside<'a, A> {
         })
     }
 
-    /// Whether a prefix has a route. Where no route has a prefix of this length, none is looked
-    /// for.
+    /// Whether a prefix has a route. There is no search where no route has a prefix of this length.
     pub(crate) fn has_route(&mut self, net: Prefix) -> bool
         ensures result { result ≡ has_route self.old.routes net }
         ensures same { self.new ≡ self.old }
@@ -108,7 +107,7 @@ impl<'a, A: Allocator + Copy> Inside<'a, A> {
         }
     }
 
-    /// The preferred entry of a router as an AS boundary router, which is remembered.
+    /// The preferred entry of a router as an AS boundary router, which is remembered from then on.
     fn looked_up(&mut self, asbr: RouterId) -> Option<&'a RouterEntry<A>>
         ensures entry { option_copied result ≡ preferred self.old.entries asbr }
         ensures small { IfSome result (λ entry. entry.now.cost < 2 ^ 34) }

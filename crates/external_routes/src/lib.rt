@@ -1,8 +1,8 @@
 //! The external routes of a router (RFC 2328, 16.4 and 16.4.1), and the metrics that area border
 //! routers announce (12.4.3).
 //!
-//! [`externals`] is a function of the database: it examines the AS-external-LSAs, and leads each
-//! path over a way inside the AS, which the crate `area_routes` has found.
+//! [`externals`] examines the AS-external-LSAs of a database. Each path leads over a way inside the
+//! AS, which the crate `area_routes` has found.
 #![tactic(auto)]
 
 // Whether AS-external-LSAs are flooded to a router.

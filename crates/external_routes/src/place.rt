@@ -1,4 +1,4 @@
-//! Where prefixes stand among routes in order of prefix.
+//! Places of prefixes among routes in order of prefix.
 
 ghost use Rattle.std.specs.Prelude.{◌≡◌, false, true};
 ghost use Rattle.area_routes.specs.Routes.{AreSortedRoutes, has_route};
@@ -8,7 +8,7 @@ use area_routes::{Route, Routes};
 use lsa_codec::Prefix;
 use std::alloc::Allocator;
 
-/// Whether a prefix is behind that of the route before a place.
+/// Whether a prefix is greater than that of the route before a place.
 fn is_behind<A: Allocator + Copy>(routes: &[Route<A>], place: usize, net: Prefix) -> bool
     ensures { result ≡ is_behind routes.now place net }
 {
@@ -21,7 +21,7 @@ fn is_behind<A: Allocator + Copy>(routes: &[Route<A>], place: usize, net: Prefix
     }
 }
 
-/// Whether a prefix is ahead of that of the route at a place, if there is one.
+/// Whether a prefix is less than that of the route at a place, if there is one.
 fn is_ahead<A: Allocator + Copy>(routes: &[Route<A>], place: usize, net: Prefix) -> bool
     ensures { result ≡ is_ahead routes.now place net }
 {
@@ -31,7 +31,7 @@ fn is_ahead<A: Allocator + Copy>(routes: &[Route<A>], place: usize, net: Prefix)
     }
 }
 
-/// Whether a prefix stands between the routes before and at a place. Then it has no route.
+/// Whether a prefix is between those of the routes before and at a place. Then it has no route.
 fn stands_between<A: Allocator + Copy>(routes: &[Route<A>], place: usize, net: Prefix) -> bool
     requires { AreSortedRoutes routes.now }
     ensures { result ≡ true → has_route routes.now net ≡ false }
@@ -39,8 +39,8 @@ fn stands_between<A: Allocator + Copy>(routes: &[Route<A>], place: usize, net: P
     is_behind(routes, place, net) && is_ahead(routes, place, net)
 }
 
-/// Whether a prefix has a route. Where it stands between the same routes as the one that was looked
-/// for last, for which `place` is kept, it takes no search.
+/// Whether a prefix has a route. There is no search where it is between the same routes as the
+/// prefix that was looked up last, whose place is kept in `place`.
 pub(crate) fn has_route_near<A: Allocator + Copy>(
     routes: &Routes<A>,
     place: &mut usize,

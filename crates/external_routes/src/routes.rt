@@ -20,7 +20,7 @@ use lsa_codec::{Prefix, RouterId};
 use lsdb::{Database, Section};
 use std::alloc::{AllocError, Allocator};
 
-/// Takes what AS-external-LSAs offer into account, one after another.
+/// Takes the paths that AS-external-LSAs offer into account, one after another.
 fn ways_of<'a, A: Allocator + Copy>(
     alloc: A,
     lsas: &[ExternalLsa],
@@ -41,12 +41,12 @@ fn ways_of<'a, A: Allocator + Copy>(
 /// The external routes of a router (RFC 2328, 16.4). The routes are all its intra-area and
 /// inter-area routes, and the entries are all its router entries.
 ///
-/// A router that is attached to stub areas alone has none. For other routers each AS-external-LSA
-/// counts that is not at MaxAge, has a metric below LSInfinity, was made by another router that has
-/// an entry as an AS boundary router, and tells of a prefix without a route. The path leads over
-/// the preferred entry ([`preferred`](crate::preferred)) or, where the LSA has a forwarding
-/// address, over the route of the longest prefix that covers it; without one there is no path. To
-/// each prefix the route has the next hops of all best paths (RFC 2328, 16.4.1).
+/// A router that is attached to stub areas alone has none. For other routers, an AS-external-LSA is
+/// used where it is not at MaxAge, its metric is below LSInfinity, its originator is another router
+/// that has an entry as an AS boundary router, and its prefix has no other route. The path leads
+/// over the preferred entry ([`preferred`](crate::preferred)) or, where the LSA has a forwarding
+/// address, over the route of the longest prefix that covers it; without such a route there is no
+/// path. The route to each prefix has the next hops of all best paths (RFC 2328, 16.4.1).
 ///
 /// # Errors
 ///

@@ -1,4 +1,4 @@
--- What routes and router entries are looked up in.
+-- How routes and router entries are looked up.
 use Rattle.std.specs.Prelude.{◌≡◌, ℕ, ◌-◌, ◌≤◌, ◌==◌, ◌^◌, Bool, true, false, if◌then◌else◌, List, All, Option, Some, length, slice_get, slice_index_or, take}
 use Rattle.std.specs.BTreeMap.{BTreeMap, get}
 use Rattle.std.specs.Option.{option_and_then, option_map_or}
@@ -9,7 +9,7 @@ use Rattle.lsa_codec.specs.Prefix.{Net}
 use Rattle.area_routes.specs.Values.{EntryValue, RouteValue, EntriesBelow, RoutesBelow}
 use Rattle.external_routes.specs.Choose.{preference, preferred}
 
--- the length of the route's prefix is one that prefixes have, and it is marked
+-- the length of the route's prefix is at most 32, and it is marked
 pub record IsMarked (marks : List Bool) (r : RouteValue) : Type 0 where
   pub short : r.net.len ≤ 32
   pub marked : slice_index_or marks r.net.len false ≡ true
@@ -53,10 +53,10 @@ pub record IsInside (ways : WaysInside) (marks : List Bool) (asbrs : BTreeMap Ro
   pub room : length remembered ≡ 256
   pub remembers : All (IsPreferred ways.entries) remembered
 
--- the prefix is behind that of the route before a place
+-- the prefix is greater than that of the route before a place
 abbrev pub is_behind : List RouteValue → ℕ → Net → Bool
 is_behind routes place net = if place == 0 then true else option_map_or (λ r. is_lt (prefix_cmp r.net net)) (slice_get routes (place - 1)) false
 
--- the prefix is ahead of that of the route at a place, if there is one
+-- the prefix is less than that of the route at a place, if there is one
 abbrev pub is_ahead : List RouteValue → ℕ → Net → Bool
 is_ahead routes place net = option_map_or (λ r. is_lt (prefix_cmp net r.net)) (slice_get routes place) true

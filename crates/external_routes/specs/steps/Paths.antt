@@ -1,4 +1,4 @@
--- The paths that AS-external-LSAs in use offer, by what they tell.
+-- The paths that AS-external-LSAs in use offer, by their fields.
 use Rattle.std.specs.Prelude.{ℕ, ◌+◌, ◌==◌, List, Option, None, Some, if◌then◌else◌, map, not}
 use Rattle.std.specs.Option.{option_and_then, option_map}
 use Rattle.lsa_codec.specs.declared.address.RouterId.{RouterId}

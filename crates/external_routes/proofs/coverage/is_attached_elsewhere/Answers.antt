@@ -7,7 +7,7 @@ use Rattle.external_routes.proofs.AttachedAreas.{met_apart, met_found, unmet}
 use Rattle.external_routes.proofs.coverage.is_attached_elsewhere.Goals as goal
 use Rattle.external_routes.proofs.coverage.is_attached_elsewhere.Goals.{else-ne-via-then-ne+else-is_attached, else-ne-via-else-ne}
 
--- an area of another ID
+-- an area with another ID
 abbrev is_other : AreaId → AreaHead → Bool
 is_other area head = not (is_head_of_area area head)
 

@@ -8,7 +8,7 @@ use Rattle.external_routes.proofs.coverage.is_stub_area.Goals as goal
 use Rattle.external_routes.proofs.coverage.is_stub_area.Goals.{else-is_stub-via-then-is_stub+else-eq}
 use Rattle.external_routes.proofs.coverage.is_stub_area.Goals.{else-is_stub-via-else-is_stub}
 
--- a stub area of this ID
+-- a stub area with this ID
 abbrev meets : AreaId → AreaHead → Bool
 meets area head = head.is_stub && is_head_of_area area head
 
