@@ -1,4 +1,4 @@
--- The preferred of entries is that of the entries of AS boundary routers.
+-- The preferred entry of a list is the preferred one among its entries of AS boundary routers.
 use Rattle.std.proofs.Common.{◌≡◌, Bool, true, false, cond, List, [], ◌∷◌, refl, sym, ap, ◌∙◌}
 use Rattle.std.specs.Prelude.{◌&&◌}
 use Rattle.std.specs.List.{filter}

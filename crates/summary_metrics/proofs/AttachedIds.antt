@@ -17,7 +17,7 @@ use Rattle.summary_metrics.proofs.Several.{attached_here}
 
 -- ---- one area after another
 
--- the IDs of those of some areas that the router is attached to
+-- the IDs of those areas among some that the router is attached to
 abbrev pub ids_among : Lists → RouterId → List AreaHead → List AreaId
 ids_among db router areas = map id_of (attached_among db router areas)
 
@@ -32,7 +32,7 @@ module _ (db : Lists) (router : RouterId) (i : ℕ) (head : AreaHead) (here : sl
       pushed ∙ ap (λ l. l ++ id_of head ∷ []) is ∙ sym (map-append id_of before (head ∷ []))
       ∙ ap (λ b. map id_of (before ++ cond b (head ∷ []) [])) (sym joined) ∙ ap (map id_of) (sym (among_more db router i head here))
 
-  -- another one
+  -- an area that it is not attached to
   pub same_ids : (old : List AreaId) → old ≡ ids_among db router (take i (areas_of db)) → joins db router head ≡ false
       → old ≡ ids_among db router (take (i + 1) (areas_of db))
   same_ids old is apart =
@@ -49,7 +49,7 @@ any_map : {X Y : Type 0} (p : Y → Bool) (f : X → Y) (xs : List X) → list_a
 any_map p f [] = refl
 any_map p f (x ∷ xs) = ap (λ b. p (f x) || b) (any_map p f xs)
 
--- a test that passes one of the elements that are left passes only with what they were chosen by
+-- a test that passes on a remaining element passes only where the test that chose the elements does
 any_chosen : {X : Type 0} (p q : X → Bool) (b : Bool) (xs : List X) → ((x : X) → p x ≡ true → q x ≡ b) → list_any p (filter q xs) ≡ true → b ≡ true
 any_chosen p q b [] tells any = absurd cc
 any_chosen p q b (x ∷ xs) tells any = by (p x) (q x) refl refl any (any_chosen p q b xs tells)
@@ -73,7 +73,7 @@ module _ (db : Lists) (area : AreaId) (router : RouterId) where
       (λ head is. ap (λ n. is_attached db (record { 0 = n }) router) (eqb-true head.id area.0 is)))
       (attached_here db area router)
 
-  -- by the IDs of its areas
+  -- borders by the IDs of the router's areas
   pub borders_by_ids : (ids : List AreaId) → ids ≡ ids_attached db router → is_border_of area ids ≡ borders db area router
   borders_by_ids ids is =
       ap (is_border_of area) is

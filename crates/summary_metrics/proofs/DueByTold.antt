@@ -1,4 +1,5 @@
--- What is due for a covered LSA follows from costs within the areas of its originator and from what the backbone tells.
+-- The metric that a covered LSA should have follows from costs within the areas of its originator and from the backbone
+-- summaries.
 use Rattle.std.proofs.Common.{◌≡◌, ℕ, Bool, true, false, List, [], ◌∷◌, ◌++◌, filter, Option, Some, None, IfSome, is_some, refl, sym, subst, ap, ◌∙◌, true≢false, ⊎_elim}
 use Rattle.std.specs.Prelude.{◌&&◌, ◌||◌, ◌==◌, not, if◌then◌else◌}
 use Rattle.std.specs.List.{cons_option, filter_map, list_any}
@@ -37,7 +38,7 @@ use Rattle.summary_metrics.proofs.OwnEntries.{IsFirst, backbone_lacks, first_ent
 use Rattle.summary_metrics.proofs.Several.{examines_backbone, found_backbone}
 use Rattle.summary_metrics.proofs.ToldRoutes.{asbr_inter_cost, asbr_none, inter_cost}
 
--- ---- nothing is told without entries
+-- ---- no cost over a source without entries
 
 nothing_over : (router : RouterId) (s : Source) → cost_over router [] s ≡ None
 nothing_over router s = by (same_router s.originator router) None refl
@@ -173,11 +174,11 @@ module _ (db : Lists) (area : AreaId) (router : RouterId) where
       abbrev of_asbr : List EntryValue → List EntryValue
       of_asbr es = filter (is_asbr asbr) es
 
-      -- what is told by the entries of the backbone
+      -- the cost by the backbone summaries, with the entries of the backbone
       abbrev told_by : List EntryValue → Option ℕ
       told_by es = if same_router asbr router then None else told_cost router es (asbr_sources db asbr)
 
-      -- an entry that is there is preferred to those that summary-LSAs give
+      -- an entry that is there is preferred to those by summary-LSAs
       still_first : (r : AreaResultValue) → backbone results ≡ Some r → (e : EntryValue) → preferred entries asbr ≡ Some e
           → least preference (of_asbr entries ++ of_asbr (entries_by db router (Some r))) ≡ Some e
       still_first r h e own =
@@ -206,7 +207,7 @@ module _ (db : Lists) (area : AreaId) (router : RouterId) where
               → IfSome (preferred entries asbr) (IsFirst db router (attached_areas db router) asbr) → IsFirst db router (attached_areas db router) asbr x
           first x is found = subst (λ o. IfSome o (IsFirst db router (attached_areas db router) asbr)) is found
 
-      -- where there is none, the summary-LSAs tell
+      -- where there is none, the cost is that by the summary-LSAs
       told_alone : (r : AreaResultValue) → backbone results ≡ Some r → of_asbr entries ≡ []
           → option_and_then entry_told (least preference (of_asbr (entries_by db router (Some r)))) ≡ told_by r.entries
       told_alone r h none = by (same_router asbr router) refl

@@ -1,4 +1,5 @@
--- What is due into the backbone comes from what the areas of the originator give by themselves.
+-- What is announced into the backbone follows from the results of the originator's areas, without
+-- summary-LSAs.
 use Rattle.std.proofs.Common.{◌≡◌, ℕ, Bool, true, false, cond, List, [], ◌∷◌, ◌++◌, filter, map, Option, Some, None, IfSome, refl, sym, ap, ◌∙◌, ⊎_elim}
 use Rattle.std.specs.Prelude.{◌==◌, ◌&&◌, ◌||◌, not}
 use Rattle.std.specs.List.{All, filter_map, list_any}
@@ -124,7 +125,7 @@ module _ (area : AreaId) (is : is_backbone area ≡ true) where
 
   -- ---- the metric
 
-  -- the metric by what the areas of the originator give
+  -- the metric by the results of the originator's areas
   abbrev due_by : Lists → List ℕ → List AreaResultValue → ℕ
   due_by db lsa results =
       option_map_or metric_for

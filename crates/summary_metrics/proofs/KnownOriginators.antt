@@ -1,4 +1,4 @@
--- What is known of originators stays so when more comes in, and the metrics that it gives.
+-- What is kept for originators stays true when more is added, and gives the metrics.
 use Rattle.std.proofs.Common.{◌≡◌, true, ◌∙◌, List, [], ◌∷◌, ◌++◌, Option, Some, None, sym, ap, subst}
 use Rattle.std.specs.Prelude.{ℕ, ◌&&◌, ◌==◌, not, if◌then◌else◌}
 use Rattle.std.specs.List.{Contains}
@@ -26,7 +26,7 @@ Attached = List (RouterId × List AreaId)
 abbrev pub known_as : Attached → KeptTreesValue → Known → Option BackboneSummariesValue → OriginatorsValue
 known_as attached trees inside told = record { attached = attached; trees = trees; inside = inside; told = told }
 
--- ---- more comes in
+-- ---- more is added
 
 module _ (db : Lists) (old : OriginatorsValue) (all : AreOf db old) where
   pub trees_known : (attached : Attached) (before : KeptTreesValue) (known : Known) (told : Option BackboneSummariesValue)
@@ -65,12 +65,12 @@ module _ (db : Lists) (router : RouterId) (i : InsideValue) (old : Known) where
     told = all.told;
   }
 
--- by what the areas of the router give
+-- by the results of the router's areas
 pub inside_of_results : (db : Lists) (router : RouterId) (results : List AreaResultValue) (i : InsideValue) → results ≡ results_of db router
     → AreGiven results i → AreInside db router i
 inside_of_results db router results i all given = subst (λ rs. AreGiven rs i) all given
 
--- ---- what it gives
+-- ---- the metrics
 
 pub attached_found : (db : Lists) (known : OriginatorsValue) (router : RouterId) (areas : List AreaId) → AreOf db known
     → Contains known.attached (router, areas) → areas ≡ ids_attached db router

@@ -1,4 +1,4 @@
--- The costs of area border routers with one entry more, and the least cost with one source more.
+-- The costs of area border routers with one more entry, and the least cost with one more source.
 use Rattle.std.proofs.Common.{◌≡◌, ℕ, ◌+◌, ◌<◌, ◌^◌, Bool, true, false, cond, List, [], ◌∷◌, ◌++◌, Option, Some, None, IfSome, is_some, refl, sym, ap, subst, ◌∙◌, true≢false, arith}
 use Rattle.std.specs.Prelude.{◌&&◌, nat_lt, if◌then◌else◌}
 use Rattle.std.specs.List.{All, cons_option, filter_map, find}
@@ -22,7 +22,7 @@ use Rattle.summary_metrics.specs.declared.sources.Source.{Source}
 use Rattle.summary_metrics.specs.Originators.{HasCosts}
 use Rattle.summary_metrics.specs.steps.AnnouncedCosts.{CostsBelow, cost_from, cost_over, lesser_cost, told_cost, told_from}
 
--- ---- one entry more
+-- ---- one more entry
 
 abbrev Costs : Type 0
 Costs = List (RouterId × ℕ)
@@ -94,7 +94,7 @@ module _ (entries : List EntryValue) (e : EntryValue) (old : Costs) (before : Ha
           ∙ ap cost_if s)
       by false s = sym (ap (λ b. option_or (cost_at old q) (cost_if b)) s ∙ or_none (cost_at old q))
 
--- a cost was put in place of one, and that was put back
+-- the first cost was replaced by another, and put back
 pub put_back : (router : RouterId) (cost first : ℕ) (old between new : Costs) → cost_at old router ≡ Some first
     → ((q : RouterId) → cost_at between q ≡ cond (eq_by_cmp router_cmp router q) (Some cost) (cost_at old q))
     → ((q : RouterId) → cost_at new q ≡ cond (eq_by_cmp router_cmp router q) (Some first) (cost_at between q))
@@ -125,7 +125,7 @@ costs_below entries costs small has q =
     by None h = tt
     by (Some e) h = h
 
--- ---- one source more
+-- ---- one more source
 
 module _ (router : RouterId) (costs : Costs) where
   pub told_push : (ss : List Source) (s : Source) → told_from router costs (ss ++ s ∷ []) ≡ lesser_cost (told_from router costs ss) (cost_from router costs s)

@@ -1,4 +1,4 @@
--- What one more LSA tells.
+-- The backbone summaries with one more LSA.
 use Rattle.std.proofs.Common.{◌≡◌, Bool, true, false, cond, List, [], ◌∷◌, ◌++◌, map, Option, Some, None, refl, sym, ap, ◌∙◌, true≢false}
 use Rattle.std.specs.Prelude.{ℕ, ◌&&◌, ◌==◌, if◌then◌else◌}
 use Rattle.std.specs.List.{filter}
@@ -24,7 +24,7 @@ use Rattle.summary_metrics.specs.BackboneSummaries.{AreSources, AreTold, Backbon
 use Rattle.summary_metrics.specs.steps.AnnouncedCosts.{more_sources}
 use Rattle.summary_metrics.proofs.ToldWays.{and_false}
 
--- an LSA that tells nothing
+-- an LSA without a source
 pub untelling : (lsa : List ℕ) → None ≡ (if is_telling lsa then Some (source_of lsa) else None) → is_telling lsa ≡ false
 untelling lsa h = by (is_telling lsa) refl h
   where
@@ -32,7 +32,7 @@ untelling lsa h = by (is_telling lsa) refl h
     by true e k = absurd cc
     by false e k = e
 
--- one that does, and what
+-- an LSA with a source
 pub telling : (lsa : List ℕ) (source : Source) → Some source ≡ (if is_telling lsa then Some (source_of lsa) else None)
     → (is_telling lsa ≡ true) × (source ≡ source_of lsa)
 telling lsa source h = by (is_telling lsa) refl h
@@ -58,7 +58,7 @@ module _ {K : Type 0} (R : K → K → Ordering) (exact : CmpEqualImpliesEq R) w
       by false true h k = sym h ∙ swapped (sym (same_key b a k)) ∙ k
 
   module _ (key_of : List ℕ → Option K) (lsas : List (List ℕ)) (lsa : List ℕ) where
-    -- those so far
+    -- the sources so far
     abbrev before : K → List Source
     before q = sources R key_of lsas q
 
@@ -72,7 +72,7 @@ module _ {K : Type 0} (R : K → K → Ordering) (exact : CmpEqualImpliesEq R) w
         by true = refl
         by false = refl
 
-    -- nothing of that kind
+    -- an LSA without a source of that kind
     pub nothing_more : (entries : List (K × List Source)) → AreSources R key_of lsas entries
         → ((q : K) → (is_telling lsa && is_at R q (key_of lsa)) ≡ false) → AreSources R key_of (lsas ++ lsa ∷ []) entries
     nothing_more entries all none q =
@@ -97,7 +97,7 @@ module _ {K : Type 0} (R : K → K → Ordering) (exact : CmpEqualImpliesEq R) w
             ap sources_or_none put ∙ all q ∙ sym (append-nil (before q)) ∙ sym (ap (λ b. before q ++ cond b (source_of lsa ∷ []) []) (at false h))
 
 module _ (lsas : List (List ℕ)) (lsa : List ℕ) (told : BackboneSummariesValue) (all : AreTold lsas told) where
-  -- an LSA that tells nothing
+  -- an LSA without a source
   pub told_nothing : is_telling lsa ≡ false → AreTold (lsas ++ lsa ∷ []) told
   told_nothing none = record {
     nets = nothing_more prefix_cmp prefix_exact net_of_summary lsas lsa told.nets all.nets (λ q. ap (λ b. b && is_at prefix_cmp q (net_of_summary lsa)) none);
@@ -113,7 +113,7 @@ module _ (lsas : List (List ℕ)) (lsa : List ℕ) (told : BackboneSummariesValu
       by false true e f k = absurd cc
       by true true e f k = absurd (true≢false (sym f ∙ ap (λ n. n == asbr_summary_lsa) (eqb-true (kind_of lsa) summary_lsa e)))
 
-  -- one of type 3
+  -- a summary-LSA of type 3
   pub told_net : (net : Net) (source : Source) (new : List (Net × List Source)) → is_telling lsa ≡ true → net_of_summary lsa ≡ Some net
       → source ≡ source_of lsa → Puts prefix_cmp told.nets new net (more_sources (lookup (eq_by_cmp prefix_cmp net) told.nets) source)
       → AreTold (lsas ++ lsa ∷ []) (record { nets = new; asbrs = told.asbrs })
@@ -124,12 +124,12 @@ module _ (lsas : List (List ℕ)) (lsa : List ℕ) (told : BackboneSummariesValu
         (λ q. ap (λ o. is_telling lsa && is_at router_cmp q o) (no_asbr net of) ∙ and_false (is_telling lsa));
   }
 
-  -- one that is not of type 3
+  -- an LSA that is not of type 3
   nets_stay : net_of_summary lsa ≡ None → AreSources prefix_cmp net_of_summary (lsas ++ lsa ∷ []) told.nets
   nets_stay none = nothing_more prefix_cmp prefix_exact net_of_summary lsas lsa told.nets all.nets
       (λ q. ap (λ o. is_telling lsa && is_at prefix_cmp q o) none ∙ and_false (is_telling lsa))
 
-  -- one of type 4
+  -- a summary-LSA of type 4
   pub told_asbr : (asbr : RouterId) (source : Source) (new : List (RouterId × List Source)) → is_telling lsa ≡ true → net_of_summary lsa ≡ None
       → asbr_named lsa ≡ Some asbr → source ≡ source_of lsa
       → Puts router_cmp told.asbrs new asbr (more_sources (lookup (eq_by_cmp router_cmp asbr) told.asbrs) source)
@@ -139,7 +139,7 @@ module _ (lsas : List (List ℕ)) (lsa : List ℕ) (told : BackboneSummariesValu
     asbrs = source_more router_cmp router_exact asbr_named lsas lsa asbr source told.asbrs new all.asbrs tells of is puts;
   }
 
-  -- one that is of neither type
+  -- an LSA of neither type
   pub told_neither : net_of_summary lsa ≡ None → asbr_named lsa ≡ None → AreTold (lsas ++ lsa ∷ []) told
   told_neither none no_name = record {
     nets = nets_stay none;

@@ -1,4 +1,5 @@
--- What is found among prefixes in rising order, by their neighbours, and among what stands beside them.
+-- What is found among prefixes in rising order, by their neighbors, and among the elements that go with
+-- them.
 use Rattle.std.proofs.Common.{◌≡◌, ℕ, zero, suc, ◌+◌, ◌<◌, ◌≤◌, Bool, true, false, cond, List, [], ◌∷◌, map, get_or, length, Option, Some, None, Result, Ok, Err, IfErr, refl, sym, ap, subst, ◌∙◌, arith}
 use Rattle.std.specs.List.{AllByRecursion, HoldsAt, find}
 use Rattle.std.specs.List.Sorted.{IsBinarySearchResult, IsStrictlySortedBy}
@@ -24,7 +25,7 @@ pub on_true : {P Q : Type 0} (b : Bool) → OnTrue b P → (P → Q) → OnTrue 
 on_true true h f = f h
 on_true false h f = tt
 
--- ---- a key between its neighbours
+-- ---- a key between its neighbors
 
 module _ {K : Type 0} {R : K → K → Ordering} (o : IsTotalOrder R) (q : K) where
   none_above : (xs : List K) → AllByRecursion (λ y. R q y ≡ Less) xs → find (eq_by_cmp R q) xs ≡ None
@@ -70,7 +71,7 @@ module _ (q : Net) (xs : List Net) (s : IsStrictlySortedBy prefix_cmp xs) where
   missing_unless_found (Ok i) h = tt
   missing_unless_found (Err i) h = missing_by_search i h
 
--- ---- what stands beside the prefixes
+-- ---- the elements that go with the prefixes
 
 module _ {X : Type 0} (net : X → Net) (xs : List X) (nets : List Net) (are : nets ≡ map net xs) (q : Net) where
   abbrev it : X → Bool

@@ -1,4 +1,5 @@
--- What is known of originators, but for what the backbone tells, holds where the backbone is refreshed too.
+-- What is kept for originators, except for the backbone summaries, stays true where the backbone is
+-- refreshed.
 use Rattle.std.proofs.Common.{◌≡◌, ◌∙◌, List, map, Option, Some, None, sym, ap, subst}
 use Rattle.std.specs.Prelude.{IfSome}
 use Rattle.std.proofs.lemmas.List.Elements.{All-weaker}

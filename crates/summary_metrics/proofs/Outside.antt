@@ -1,4 +1,4 @@
--- Which entries of AS boundary routers are preferred to those that summary-LSAs give.
+-- Which entries of AS boundary routers are preferred to those by summary-LSAs.
 use Rattle.std.proofs.Common.{◌≡◌, Bool, true, false, cond, List, [], ◌∷◌, ◌++◌, Option, Some, None, refl, ap, ◌∙◌, ◌⊎◌, inl, inr, ⊎_elim, sym}
 use Rattle.std.specs.Prelude.{◌&&◌, not}
 use Rattle.std.specs.List.{All}
@@ -14,7 +14,7 @@ use Rattle.external_routes.specs.Choose.{is_asbr_intra, preference}
 abbrev pub is_outside : EntryValue → Bool
 is_outside e = is_asbr_intra e.kind && not (is_backbone e.area)
 
--- there is no entry, or it is none of these
+-- there is no entry, or it is not such an entry
 abbrev pub IsInside : Option EntryValue → Type 0
 IsInside None = Unit {0}
 IsInside (Some e) = is_outside e ≡ false

@@ -1,4 +1,5 @@
--- The entries that the areas of a router give are each of its area, and those of AS boundary routers are intra-area entries.
+-- The entries in the results of a router's areas are each of its area, and those of AS boundary routers are intra-area
+-- entries.
 use Rattle.std.proofs.Common.{◌≡◌, ℕ, Bool, true, false, cond, List, [], ◌∷◌, ◌++◌, filter, Option, Some, None, IfSome, is_some, refl, sym, ap, ◌∙◌, ◌⊎◌, inl, inr, get_or}
 use Rattle.std.specs.Prelude.{◌&&◌, not, if◌then◌else◌}
 use Rattle.std.specs.List.{All, find}
@@ -60,7 +61,7 @@ area_is : (db : Lists) (router : RouterId) (head : AreaHead) → (result_in db r
 unfolding area_result
 area_is db router head = refl
 
--- what is among a list is found
+-- what is in a list is found
 found_all : {X : Type 0} (p : X → Bool) (xs : List X) → All (λ x. p x ≡ true → is_some (find p xs) ≡ true) xs
 found_all p [] = All-nil (λ x. p x ≡ true → is_some (find p []) ≡ true)
 found_all {X} p (x ∷ xs) =
@@ -79,7 +80,7 @@ intra_same AsbrInter = refl
 -- ---- the entries of an AS boundary router
 
 module _ (db : Lists) (router : RouterId) (heads : List AreaHead) (asbr : RouterId) where
-  -- what all areas give
+  -- the results of all areas
   abbrev given : List AreaHead → List AreaResultValue
   given hs = results_in db router hs
 
@@ -90,11 +91,11 @@ module _ (db : Lists) (router : RouterId) (heads : List AreaHead) (asbr : Router
   abbrev pub IsFirst : EntryValue → Type 0
   IsFirst e = (is_asbr_intra e.kind ≡ true) × ((is_outside e ≡ true) ⊎ (has_asbr known asbr ≡ true))
 
-  -- one that is of the AS boundary router is such an entry
+  -- an entry of the AS boundary router is such an entry
   abbrev IsFit : EntryValue → Type 0
   IsFit e = is_asbr asbr e ≡ true → IsFirst e
 
-  -- the area gives the entries of the backbone, if it is that
+  -- the area has the entries of the backbone, if it is the backbone
   abbrev IsBackboneOf : AreaHead → Type 0
   IsBackboneOf head = is_backbone (id_of head) ≡ true → known ≡ (result_in db router head).entries
 
@@ -123,7 +124,7 @@ module _ (db : Lists) (router : RouterId) (heads : List AreaHead) (asbr : Router
       (fit_results hs (All-tail IsBackboneOf h hs all))
 
 module _ (db : Lists) (router : RouterId) where
-  -- areas of one ID give the same
+  -- areas with one ID have the same result
   same_given : (a b : AreaHead) → is_backbone (id_of a) ≡ true → is_backbone (id_of b) ≡ true → (result_in db router a).entries ≡ (result_in db router b).entries
   same_given a b is also =
       ap (λ n. (area_result (record { 0 = n }) (lsas_of (Area (record { 0 = n })) db) router).entries) (eqb-true a.id 0 is ∙ sym (eqb-true b.id 0 also))
@@ -179,7 +180,7 @@ module _ (asbr : RouterId) (P : EntryValue → Type 0) where
       by true h here rest = least_one (least preference (filter (is_asbr asbr) es)) (here h) rest
       by false h here rest = rest
 
--- what the preferred entry is, where there is one
+-- the properties of the preferred entry, where there is one
 pub first_entry : (db : Lists) (router : RouterId) (heads : List AreaHead) (asbr : RouterId)
     → IfSome (least preference (filter (is_asbr asbr) (entries_of_all (results_in db router heads)))) (IsFirst db router heads asbr)
 first_entry db router heads asbr =
@@ -209,7 +210,7 @@ no_parts : {X : Type 0} (xs ys : List X) → xs ++ ys ≡ [] → (xs ≡ []) × 
 no_parts [] ys h = (refl, h)
 no_parts (x ∷ xs) ys h = absurd cc
 
--- where no area gives an entry of an AS boundary router, the backbone does not
+-- where no area has an entry of an AS boundary router, the backbone has none
 pub backbone_lacks : (asbr : RouterId) (rs : List AreaResultValue) → filter (is_asbr asbr) (entries_of_all rs) ≡ []
     → (r : AreaResultValue) → backbone rs ≡ Some r → has_asbr r.entries asbr ≡ false
 backbone_lacks asbr [] none r h = absurd cc

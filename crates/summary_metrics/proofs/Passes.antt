@@ -1,4 +1,4 @@
--- What the refreshing of some areas leaves of a database.
+-- What refreshing some areas leaves unchanged in a database.
 use Rattle.std.proofs.Common.{◌≡◌, ℕ, ◌<◌, ◌≤◌, ◌^◌, Bool, true, false, cond, List, [], ◌∷◌, map, Option, Some, None, refl, sym, ap, ◌∙◌, eqb, true≢false, arith}
 use Rattle.std.specs.Prelude.{◌==◌, ◌&&◌, ◌||◌, not}
 use Rattle.std.specs.List.{All, filter, find, cons_option}
@@ -24,7 +24,7 @@ use Rattle.summary_metrics.proofs.Retold.{IsRetold, metric_accepted, other_metri
 abbrev pub AreAccepted : Lists → Type 0
 AreAccepted db = All (λ s. All IsAccepted s.lsas) db
 
--- ---- a metric that is due fits its field
+-- ---- a calculated metric fits its field
 
 metric_for_most : (cost : ℕ) → metric_for cost ≤ ls_infinity
 metric_for_most cost = search arith
@@ -57,7 +57,7 @@ module _ (db : Lists) (area : AreaId) where
       by true h = retold (due_in db area lsa) lsa old (stale_summary lsa h) (due_small db area lsa)
       by false h = retold_same lsa
 
-  -- where it is covered, it has the metric that the other was due
+  -- where it is covered, it has the metric that the other should have
   pub lsa_metric : (lsa : List ℕ) → IsAccepted lsa → is_covered db area lsa ≡ true → metric_of (refreshed_lsa db area lsa) ≡ due_in db area lsa
   lsa_metric lsa old covered = by (metric_of lsa == due_in db area lsa) refl
     where
@@ -70,7 +70,7 @@ module _ (db : Lists) (area : AreaId) where
           ap (λ c. metric_of (cond c (with_metric (due_in db area lsa) lsa) lsa)) (stale false h)
           ∙ (other_metric (due_in db area lsa) lsa old (stale_summary lsa (stale false h)) (due_small db area lsa)).metric
 
-  -- an LS type of router-LSAs or network-LSAs is none of summary-LSAs
+  -- the LS type of router-LSAs or network-LSAs is not one of summary-LSAs
   no_summary : (kind : ℕ) → (eqb kind router_lsa || eqb kind network_lsa) ≡ true → (eqb kind summary_lsa || eqb kind asbr_summary_lsa) ≡ false
   no_summary kind h = by (eqb kind router_lsa) refl
     where

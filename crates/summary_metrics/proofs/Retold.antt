@@ -1,4 +1,4 @@
--- An LSA with another metric tells of the same as before.
+-- An LSA with another metric has the same destination as before.
 use Rattle.std.proofs.Common.{◌≡◌, ℕ, ◌<◌, ◌^◌, Bool, true, false, cond, List, Some, None, refl, ap}
 use Rattle.std.specs.Prelude.{◌==◌, ◌&&◌, ◌||◌, not, nat_le, bit_and}
 use Rattle.std.specs.Option.{option_and_then, option_map_or, option_or}

@@ -1,4 +1,4 @@
--- What two databases have in common whose areas have the same router-LSAs and network-LSAs.
+-- What two databases whose areas have the same router-LSAs and network-LSAs have in common.
 use Rattle.std.proofs.Common.{◌≡◌, ℕ, false, List, map, filter, ap}
 use Rattle.std.specs.Prelude.{◌&&◌, not}
 use Rattle.std.specs.List.{list_any}

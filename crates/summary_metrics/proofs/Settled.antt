@@ -1,4 +1,5 @@
--- Each covered LSA of the refreshed database has the metric that it is due there, and refreshing it again changes nothing.
+-- Each covered LSA of the refreshed database has the metric that it should have there, and refreshing it again changes
+-- nothing.
 use Rattle.std.proofs.Common.{◌≡◌, ℕ, Bool, true, false, cond, List, [], ◌∷◌, map, Option, Some, None, refl, sym, subst, ap, ◌∙◌}
 use Rattle.std.specs.Prelude.{◌==◌, ◌&&◌, not}
 use Rattle.std.specs.List.{All}
@@ -28,7 +29,7 @@ use Rattle.summary_metrics.proofs.Retold.{covered_retold, due_retold}
 use Rattle.summary_metrics.proofs.SameGraphs.{HaveSameGraphs, covered_alike, results_alike, stub_alike}
 use Rattle.summary_metrics.proofs.Several.{examines_backbone, inter_alike}
 
--- ---- what is due outside the backbone depends on its summary-LSAs too
+-- ---- what is announced outside the backbone depends on the backbone's summary-LSAs too
 
 covered_borders : (db : Lists) (area : AreaId) (lsa : List ℕ) → is_covered db area lsa ≡ true → borders db area (originator_of lsa) ≡ true
 covered_borders db area lsa h = (and_parts (is_calculated db area lsa) (borders db area (originator_of lsa)) h).1
@@ -55,7 +56,8 @@ module _ (db new : Lists) (same : HaveSameGraphs db new) where
         (option_and_then (cost_of_asbr area (inter_same i).routers)
         (cond ((kind_of lsa == asbr_summary_lsa) && not (stub_alike db new same area i)) (Some (named_router lsa)) None))) ls_infinity
 
--- ---- an LSA that was refreshed by one database is not stale in another where the same is covered and due
+-- ---- an LSA refreshed by one database is not stale in another where the same LSAs are covered and should
+-- have the same metrics
 
 module _ (base new : Lists) (area : AreaId) (same_covered : (lsa : List ℕ) → is_covered new area lsa ≡ is_covered base area lsa)
     (same_due : (lsa : List ℕ) → is_covered base area lsa ≡ true → due_in new area lsa ≡ due_in base area lsa) where

@@ -1,2 +1,2 @@
--- For callers: what is known of stale summary-LSAs.
+-- For callers: the properties of stale summary-LSAs.
 pub use Rattle.summary_metrics.proofs.Passes.{stale_summary}

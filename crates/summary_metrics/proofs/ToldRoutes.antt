@@ -1,4 +1,4 @@
--- What is due by the inter-area routes and entries of a router is what the summary-LSAs of the backbone tell.
+-- The costs by the inter-area routes and entries of a router are those by the backbone summaries.
 use Rattle.std.proofs.Common.{◌≡◌, ℕ, Bool, true, false, cond, List, [], ◌∷◌, filter, map, Option, Some, None, IfSome, refl, sym, ap, ◌∙◌, true≢false}
 use Rattle.std.specs.Prelude.{◌&&◌, ◌||◌, ◌==◌, not, if◌then◌else◌}
 use Rattle.std.specs.List.{list_any, cons_option}
@@ -138,7 +138,7 @@ module _ (area : AreaId) (f : RouterId → Option WayValue) (q : RouterId) where
       by true = refl
       by false = refl
 
-  -- of the entries by ways to a router there is none but that by the way to it
+  -- among the entries by ways, the only one of a router is that by the way to it
   least_entry : (ks : List RouterId) → least_of (entries_at router_cmp f ks) ≡ option_map (entry_at q) (cond (list_any (eq_by_cmp router_cmp q) ks) (f q) None)
   least_entry [] = refl
   least_entry (k ∷ ks) = by (eq_by_cmp router_cmp q k) (f k) refl refl (least_entry ks)
@@ -239,7 +239,7 @@ module _ (router : RouterId) (area : AreaResultValue) (lsas : List (List ℕ)) (
       ap (λ b. map source_of (cond b (lsa ∷ filter (λ l. is_telling l && false) ls) (filter (λ l. is_telling l && false) ls))) (and_false (is_telling lsa))
       ∙ none_named ls
 
-  -- where the router itself is looked for, or one that the area has, nothing is told
+  -- for the router itself, or for one that the area has, there is no cost by the summaries
   pub asbr_none : (same_router q router || has_asbr area.entries q) ≡ true → least preference (filter (is_asbr q) (inter_entries router area lsas)) ≡ None
   asbr_none known =
       asbr_way ∙ by (way_to router_cmp asbr_candidates q)

@@ -1,4 +1,4 @@
--- The way that summary-LSAs give to a key costs the least of what they tell of it.
+-- The cost of the way to a key is the minimum over the summary-LSAs for the key.
 use Rattle.std.proofs.Common.{◌≡◌, ℕ, ◌+◌, Bool, true, false, cond, List, [], ◌∷◌, filter, map, Option, Some, None, IfSome, refl, sym, ap, ◌∙◌}
 use Rattle.std.specs.Prelude.{◌&&◌, ◌||◌, not, nat_lt, if◌then◌else◌}
 use Rattle.std.specs.List.{All, list_any, filter_map, cons_option}
@@ -51,7 +51,7 @@ least_rank (c ∷ costs) = ap (λ o. Some (lesser rank_cmp (inter_rank c) o)) (l
 -- ---- the candidates of summary-LSAs
 
 module _ {K : Type 0} (R : K → K → Ordering) (router : RouterId) (area : AreaResultValue) where
-  -- the candidates of LSAs by what each tells of
+  -- the candidates of LSAs by their destinations
   abbrev pub candidates : (List ℕ → Option K) → List (List ℕ) → List (Candidate K)
   candidates told lsas = filter_map (λ lsa. option_and_then (candidate_to router area lsa) (told lsa)) lsas
 
@@ -59,7 +59,7 @@ module _ {K : Type 0} (R : K → K → Ordering) (router : RouterId) (area : Are
   abbrev of_key : K → List (Candidate K) → List (Candidate K)
   of_key q cs = filter (λ c. eq_by_cmp R q c.key) cs
 
-  -- the costs of what LSAs tell
+  -- the costs of LSAs
   abbrev costs_of : List (List ℕ) → List ℕ
   costs_of lsas = filter_map (cost_over router area.entries) (map source_of lsas)
 
@@ -68,7 +68,7 @@ module _ {K : Type 0} (R : K → K → Ordering) (router : RouterId) (area : Are
   with_cost lsa lsas true = refl
   with_cost lsa lsas false = refl
 
-  -- an LSA of the key
+  -- an LSA for the key
   this_key : (q key : K) (lsa : List ℕ) (cs : List (Candidate K)) (lsas : List (List ℕ)) → eq_by_cmp R q key ≡ true
       → map (λ c. c.rank) (of_key q cs) ≡ map inter_rank (costs_of lsas)
       → map (λ c. c.rank) (of_key q (cons_option (candidate_to router area lsa key) cs))
@@ -92,7 +92,7 @@ module _ {K : Type 0} (R : K → K → Ordering) (router : RouterId) (area : Are
           ap (λ c. map (λ c. c.rank) (cond c (by_border key area.area (metric_of lsa) e ∷ of_key q cs) (of_key q cs))) same
           ∙ ap (λ l. inter_rank (e.cost + metric_of lsa) ∷ l) rest
 
-  -- an LSA of another key
+  -- an LSA for another key
   other_key : (q key : K) (lsa : List ℕ) (cs : List (Candidate K)) → eq_by_cmp R q key ≡ false
       → of_key q (cons_option (candidate_to router area lsa key) cs) ≡ of_key q cs
   other_key q key lsa cs apart = by (usable_metric router lsa) (border_of area.entries (originator_of lsa))
@@ -104,11 +104,11 @@ module _ {K : Type 0} (R : K → K → Ordering) (router : RouterId) (area : Are
       by (Some m) (Some e) = ap (λ b. cond b (by_border key area.area m e ∷ of_key q cs) (of_key q cs)) apart
 
   module _ (q : K) (told key_of : List ℕ → Option K) (alike : (lsa : List ℕ) → is_at R q (told lsa) ≡ is_at R q (key_of lsa)) where
-    -- those of the LSAs that tell of the key
+    -- the usable LSAs for the key
     abbrev telling : List (List ℕ) → List (List ℕ)
     telling lsas = filter (λ lsa. is_telling lsa && is_at R q (key_of lsa)) lsas
 
-    -- the costs with one LSA more, if it is telling and tells of the key
+    -- the costs with one more LSA, if it is usable and for the key
     abbrev costs_with : List ℕ → List (List ℕ) → Bool → List ℕ
     costs_with lsa lsas b = costs_of (cond (is_telling lsa && b) (lsa ∷ telling lsas) (telling lsas))
 

@@ -1,5 +1,5 @@
--- What the summary-LSAs of the backbone tell: of each destination the routers that announce it, and their metrics (RFC 2328,
--- 12.4.3 and 16.2).
+-- The summary-LSAs of the backbone: for each destination, the routers that announce it and their metrics (RFC 2328, 12.4.3
+-- and 16.2).
 use Rattle.std.specs.Prelude.{◌≡◌, ℕ, nat_lt, List, [], Bool, false, ◌&&◌, ◌==◌, if◌then◌else◌, Option, None, Some, map}
 use Rattle.std.specs.List.{filter}
 use Rattle.std.specs.Option.{option_map_or}
@@ -27,7 +27,7 @@ is_telling lsa = is_summary lsa && (is_live lsa && nat_lt (metric_of lsa) ls_inf
 abbrev pub source_of : List ℕ → Source
 source_of lsa = record { originator = originator_of lsa; metric = metric_of lsa }
 
--- the router that an LSA names, if it is a summary-LSA of type 4
+-- the AS boundary router of an LSA, if it is a summary-LSA of type 4
 abbrev pub asbr_named : List ℕ → Option RouterId
 asbr_named lsa = if kind_of lsa == asbr_summary_lsa then Some (named_router lsa) else None
 
@@ -36,7 +36,7 @@ module _ {K : Type 0} (R : K → K → Ordering) where
   abbrev pub is_at : K → Option K → Bool
   is_at key o = option_map_or (eq_by_cmp R key) o false
 
-  -- those of some LSAs that tell of the key, each by what it tells of
+  -- the sources of a key: those of the live summary-LSAs among some LSAs that are for this key
   abbrev pub sources : (List ℕ → Option K) → List (List ℕ) → K → List Source
   sources key_of lsas key = map source_of (filter (λ lsa. is_telling lsa && is_at key (key_of lsa)) lsas)
 
@@ -44,9 +44,9 @@ module _ {K : Type 0} (R : K → K → Ordering) where
 abbrev pub backbone_lsas : Lists → List (List ℕ)
 backbone_lsas db = lsas_of (Area (record { 0 = 0 })) db
 
--- ---- all of them, by what they tell of
+-- ---- all of them, by destination
 
--- what some LSAs tell, by prefixes and by AS boundary routers
+-- the sources of some LSAs, by prefix and by AS boundary router
 pub record BackboneSummariesValue : Type 0 where
   pub nets : List (Net × List Source)
   pub asbrs : List (RouterId × List Source)
@@ -55,11 +55,11 @@ pub record BackboneSummariesValue : Type 0 where
 abbrev pub sources_or_none : Option (List Source) → List Source
 sources_or_none o = option_map_or (λ ss. ss) o []
 
--- at each key there are its sources
+-- each key has its sources
 abbrev pub AreSources : {K : Type 0} → (K → K → Ordering) → (List ℕ → Option K) → List (List ℕ) → List (K × List Source) → Type 0
 AreSources {K} R key_of lsas entries = (key : K) → sources_or_none (lookup (eq_by_cmp R key) entries) ≡ sources R key_of lsas key
 
--- what these LSAs tell
+-- these are the sources of these LSAs
 pub record AreTold (lsas : List (List ℕ)) (told : BackboneSummariesValue) : Type 0 where
   pub nets : AreSources prefix_cmp net_of_summary lsas told.nets
   pub asbrs : AreSources router_cmp asbr_named lsas told.asbrs

@@ -1,5 +1,5 @@
--- What is known of the originators of summary-LSAs: their areas, the trees that were calculated for them, what their areas give,
--- and what the backbone tells.
+-- What is kept for the originators of summary-LSAs: their areas, the trees that were calculated for them, the results of their
+-- areas, and the backbone summaries.
 use Rattle.std.specs.Prelude.{◌≡◌, ℕ, List, [], Option, IfSome, All, map}
 use Rattle.std.specs.List.{filter}
 use Rattle.std.specs.Option.{option_map, option_map_or}
@@ -25,8 +25,8 @@ pub record InsideValue : Type 0 where
   pub entries : List EntryValue
   pub borders : List (RouterId × ℕ)
 
--- areas by the routers that are attached to them, trees by their areas, what areas give by their routers, and what the backbone
--- tells
+-- areas by the routers that are attached to them, trees by their areas, results of areas by their routers, and the backbone
+-- summaries
 pub record OriginatorsValue : Type 0 where
   pub attached : List (RouterId × List AreaId)
   pub trees : KeptTreesValue
@@ -41,7 +41,7 @@ ids_attached db router = map id_of (attached_areas db router)
 abbrev pub backbone_entries : List AreaResultValue → List EntryValue
 backbone_entries results = option_map_or (λ r. r.entries) (backbone results) []
 
--- at each router there is the cost of its entry as an area border router
+-- each router has the cost of its entry as an area border router
 abbrev pub HasCosts : List EntryValue → List (RouterId × ℕ) → Type 0
 HasCosts entries costs = (router : RouterId) → lookup (eq_by_cmp router_cmp router) costs ≡ option_map (λ e. e.cost) (border_of entries router)
 
@@ -49,17 +49,17 @@ HasCosts entries costs = (router : RouterId) → lookup (eq_by_cmp router_cmp ro
 abbrev pub asbr_entries : List AreaResultValue → List EntryValue
 asbr_entries results = filter (λ e. is_asbr_kind e.kind) (entries_of_all results)
 
--- routes, entries and costs are what these areas give
+-- routes, entries and costs are those of these results
 pub record AreGiven (results : List AreaResultValue) (i : InsideValue) : Type 0 where
   pub routes : i.routes ≡ intra_of results
   pub entries : i.entries ≡ asbr_entries results
   pub borders : HasCosts (backbone_entries results) i.borders
 
--- they are what the areas of the router give in the database
+-- they are those of the results of the router's areas in the database
 abbrev pub AreInside : Lists → RouterId → InsideValue → Type 0
 AreInside db router i = AreGiven (results_of db router) i
 
--- all of it is of the database
+-- all of it follows from the database
 pub record AreOf (db : Lists) (known : OriginatorsValue) : Type 0 where
   pub attached : All (λ e. e.1 ≡ ids_attached db e.0) known.attached
   pub trees : AreOfDatabase db known.trees

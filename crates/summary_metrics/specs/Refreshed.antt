@@ -12,9 +12,9 @@ use Rattle.area_routes.specs.Values.{AreaResultValue, EntryValue, RouteValue}
 use Rattle.external_routes.specs.Summaries.{due, is_covered}
 use Rattle.routing_table.specs.Tables.{inside, inter_result, results_in}
 
--- ---- the metric that is due
+-- ---- the metric that an LSA should have
 
--- what the areas give to a router that it is attached to
+-- the results of the areas that a router is attached to
 abbrev pub results_of : Lists → RouterId → List AreaResultValue
 results_of db router = results_in db router (attached_areas db router)
 
@@ -26,21 +26,24 @@ routes_inside db router = inside db router (results_of db router)
 abbrev pub entries_inside : Lists → RouterId → List EntryValue
 entries_inside db router = (inter_result db router (results_of db router)).routers
 
--- the metric that an LSA of an area is due in the database, by the routes and entries of its originator
+-- the metric that an LSA of an area should have in the database, by the routes and entries of its
+-- originator
 unfoldable pub due_in : Lists → AreaId → List ℕ → ℕ
 due_in db area lsa = due db area lsa (routes_inside db (originator_of lsa)) (entries_inside db (originator_of lsa))
 
 -- ---- the LSAs
 
--- whether the metric of an LSA follows from the database and is another one than that
+-- whether the metric of an LSA follows from the database and differs from the one that it should
+-- have
 abbrev pub is_stale : Lists → AreaId → List ℕ → Bool
 is_stale db area lsa = is_covered db area lsa && not (metric_of lsa == due_in db area lsa)
 
--- the metric that a stale LSA of an area is due; none where it is not stale
+-- the metric that a stale LSA of an area should have; none where it is not stale
 abbrev pub stale_metric : Lists → AreaId → List ℕ → Option ℕ
 stale_metric db area lsa = if is_stale db area lsa then Some (due_in db area lsa) else None
 
--- an LSA of an area, with the metric that it is due; one that has it, or is not covered, stays as it is
+-- an LSA of an area, with the metric that it should have; one that has it, or is not covered, stays as
+-- it is
 abbrev pub refreshed_lsa : Lists → AreaId → List ℕ → List ℕ
 refreshed_lsa db area lsa = if is_stale db area lsa then with_metric (due_in db area lsa) lsa else lsa
 
@@ -58,24 +61,25 @@ module _ (db : Lists) (chosen : AreaId → Bool) where
   abbrev pub refreshed_section : SectionLsas → SectionLsas
   refreshed_section s = record { area = s.area; lsas = refreshed_lsas s.area s.lsas }
 
--- the database with the chosen areas refreshed, all by the database as it is before
+-- the database with the chosen areas refreshed, all by the database before
 abbrev pub refreshed_areas : (AreaId → Bool) → Lists → Lists
 refreshed_areas chosen db = map (refreshed_section db chosen) db
 
 abbrev pub is_not_backbone : AreaId → Bool
 is_not_backbone area = not (is_backbone area)
 
--- the database with all areas refreshed: the backbone first, and the other areas by what this gives
+-- the database with all areas refreshed: the backbone first, and then the other areas by the
+-- database with the refreshed backbone
 abbrev pub refreshed : Lists → Lists
 refreshed db = refreshed_areas is_not_backbone (refreshed_areas is_backbone db)
 
--- ---- what holds of it
+-- ---- its properties
 
 -- no LSA of the section is stale
 abbrev pub AreSettled : Lists → Option AreaHead → List (List ℕ) → Type 0
 AreSettled db None lsas = Unit {0}
 AreSettled db (Some head) lsas = All (λ lsa. is_stale db (id_of head) lsa ≡ false) lsas
 
--- each covered LSA has the metric that it is due in this very database
+-- each covered LSA has the metric that it should have in this very database
 abbrev pub IsSettled : Lists → Type 0
 IsSettled db = All (λ s. AreSettled db s.area s.lsas) db

@@ -1,4 +1,4 @@
-//! The entries of AS boundary routers that the areas of a router give.
+//! The entries of AS boundary routers in the results of a router's areas.
 
 ghost use Rattle.std.specs.Prelude.{◌≡◌, ◌++◌, IfOk, OnOk};
 ghost use Rattle.std.specs.List.{filter};
@@ -15,7 +15,7 @@ fn is_of_asbr<A: Allocator + Copy>(entry: &RouterEntry<A>) -> bool
     entry.kind != EntryKind::Border
 }
 
-/// Adds the entries of AS boundary routers that an area gives.
+/// Adds the entries of AS boundary routers in the result of an area.
 fn add_entries<A: Allocator + Copy>(
     alloc: A,
     all: &mut RouterEntries<A>,
@@ -33,7 +33,7 @@ fn add_entries<A: Allocator + Copy>(
     Ok(())
 }
 
-/// The entries of AS boundary routers that areas give, area by area.
+/// The entries of AS boundary routers in the results of areas, area by area.
 pub(crate) fn asbr_entries<A: Allocator + Copy>(
     alloc: A,
     results: &[AreaResult<A>],

@@ -57,7 +57,7 @@ impl<A: Allocator + Copy> AttachedAreas<A> {
         self.areas.iter().any(|other| *other != area)
     }
 
-    /// Whether they are this area and at least another one, as those of an area border router.
+    /// Whether they are this area and at least one other, as for an area border router.
     pub(crate) fn is_border_of(&self, area: AreaId) -> bool
         ensures { result ≡ is_border_of area self.now }
     {

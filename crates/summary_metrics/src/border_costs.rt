@@ -23,9 +23,9 @@ use std::marker::Model;
 /// The costs of area border routers, in order of router, each below 2^33. Contracts see them as the
 /// list of these pairs.
 ///
-/// The two border routers of an area mostly tell of the same destinations, so a router is looked
-/// for first where the last two were found. What is found is its cost wherever it was looked for,
-/// so contracts do not speak of it.
+/// The two border routers of an area mostly announce the same destinations, so a router is looked
+/// up first where the last two were found. The cost does not depend on where it was looked up, so
+/// contracts do not mention it.
 #[derive(Drop)]
 pub(crate) struct BorderCosts<A: Allocator> {
     costs: Vec<(RouterId, u64), A>,
@@ -55,7 +55,7 @@ fn is_border<A: Allocator + Copy>(entry: &RouterEntry<A>) -> bool
     entry.kind == EntryKind::Border
 }
 
-/// Adds the cost of an area border router, unless it has one: then that is put back.
+/// Adds the cost of an area border router, unless the router has one already, which then stays.
 fn insert_cost<A: Allocator + Copy>(
     costs: &mut BTreeMap<RouterId, u64, A>,
     entry: &RouterEntry<A>,
@@ -72,7 +72,7 @@ fn insert_cost<A: Allocator + Copy>(
     Ok(())
 }
 
-/// The lesser of the least cost so far and a further one, if there is one.
+/// The lesser of the least cost so far and another cost, if there is one.
 fn lesser(least: Option<u64>, cost: Option<u64>) -> Option<u64>
     ensures { result ≡ lesser_cost least cost }
 {
@@ -83,7 +83,7 @@ fn lesser(least: Option<u64>, cost: Option<u64>) -> Option<u64>
     }
 }
 
-/// Such costs in order of router.
+/// The costs of a map in order of router.
 fn in_order<A: Allocator + Copy>(
     alloc: A,
     costs: BTreeMap<RouterId, u64, A>,
@@ -131,7 +131,7 @@ impl<A: Allocator + Copy> BorderCosts<A> {
         Ok(BorderCosts::from_sorted(in_order(alloc, costs)?))
     }
 
-    /// The costs of the area border routers of the backbone, by what the areas of a router give.
+    /// The costs of the area border routers of the backbone, by the results of a router's areas.
     pub(crate) fn of(alloc: A, results: &[AreaResult<A>]) -> Result<BorderCosts<A>, AllocError>
         ensures { IfOk result (HasCosts (backbone_entries results.now)) }
     {
@@ -156,7 +156,7 @@ impl<A: Allocator + Copy> BorderCosts<A> {
         Some(cost)
     }
 
-    /// The cost of an area border router and its place, by a search of all.
+    /// The cost of an area border router and its place, by a binary search.
     fn search(&self, router: RouterId) -> Option<(usize, u64)>
         ensures { option_map (λ found. found.1) result
             ≡ lookup (eq_by_cmp router_cmp router) self.now }
@@ -182,7 +182,7 @@ impl<A: Allocator + Copy> BorderCosts<A> {
         }
     }
 
-    /// The cost of an area border router, looked for first at a place, and then where the second
+    /// The cost of an area border router, looked up first at a place, and then where the second
     /// last was found.
     fn look_up(&self, place: usize, router: RouterId) -> Option<u64>
         ensures { result ≡ lookup (eq_by_cmp router_cmp router) self.now }
@@ -204,8 +204,8 @@ impl<A: Allocator + Copy> BorderCosts<A> {
         self.look_up(self.last.get(), router)
     }
 
-    /// The cost to an area border router that tells of something, and its metric together; none
-    /// where it is the calculating router.
+    /// The sum of the cost to the originator of a summary and the summary's metric; none where the
+    /// originator is the calculating router.
     fn cost_from(&self, router: RouterId, source: &Source) -> Option<u64>
         ensures { result ≡ cost_from router self.now source.now }
     {
@@ -216,7 +216,7 @@ impl<A: Allocator + Copy> BorderCosts<A> {
         Some(cost + u64::from(source.metric))
     }
 
-    /// The least of these costs over some sources.
+    /// The minimum of these costs over some sources.
     pub(crate) fn told_from(&self, router: RouterId, sources: &[Source]) -> Option<u64>
         ensures { result ≡ told_from router self.now sources.now }
     {

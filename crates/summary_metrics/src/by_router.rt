@@ -1,4 +1,4 @@
-//! Values by routers, of which the last that was looked up is at hand.
+//! Values by router. The value that was looked up last is found at once.
 
 ghost use Rattle.std.specs.Prelude.{◌≡◌, ◌==◌, ◌++◌, ◌∷◌, [], Contains, IfSome, OnErr, OnOk, length};
 
@@ -10,9 +10,9 @@ use std::marker::Model;
 
 /// Values by routers. Contracts see them as the list of these pairs.
 ///
-/// LSAs of one originator mostly follow one another, so a router is looked for where the last one
-/// was found, and by the places that are noted only where it is not there. What is found is that of
-/// the router whatever was noted, so contracts do not speak of it.
+/// LSAs of one originator mostly follow one another, so a router is looked up first where the last
+/// one was found, and only then by the map of places. The value does not depend on where it was
+/// looked up, so contracts do not mention it.
 #[derive(Drop)]
 pub(crate) struct ByRouter<V, A: Allocator> {
     values: Vec<(RouterId, V), A>,
@@ -41,7 +41,7 @@ impl<V: Drop, A: Allocator + Copy> ByRouter<V, A> {
         }
     }
 
-    /// Whether there are none.
+    /// Whether there are no values.
     pub(crate) fn is_empty(&self) -> bool
         ensures { result ≡ (length self.now == 0) }
     {

@@ -1,4 +1,4 @@
-//! The metrics that summary-LSAs are due.
+//! The metrics that summary-LSAs should have.
 
 ghost use Rattle.std.specs.Prelude.{◌≡◌, ◌≤◌, ◌==◌, true, not, if◌then◌else◌, Some, None, IfSome};
 ghost use Rattle.lsa_codec.specs.Views.{ls_infinity, metric_of};
@@ -16,7 +16,8 @@ use lsa_codec::{AreaId, LS_INFINITY, Lsa};
 use lsdb::Database;
 use std::alloc::Allocator;
 
-/// The cost of what an LSA of an area tells of, where its originator announces that into the area.
+/// The cost of the destination of an LSA of an area, where the LSA's originator announces it into
+/// the area.
 fn announced_cost<A: Allocator + Copy>(
     database: &Database<A>,
     area: AreaId,
@@ -39,7 +40,7 @@ fn announced_cost<A: Allocator + Copy>(
     }
 }
 
-/// The metric that a summary-LSA of an area is due (RFC 2328, 12.4.3).
+/// The metric that a summary-LSA of an area should have (RFC 2328, 12.4.3).
 fn due<A: Allocator + Copy>(
     database: &Database<A>,
     area: AreaId,
@@ -58,8 +59,8 @@ fn due<A: Allocator + Copy>(
     }
 }
 
-/// The metric that a summary-LSA of an area is due, by what is known of its originator and what the
-/// backbone tells, where it has another one.
+/// The metric that a summary-LSA of an area should have, where it has another one, by what is kept
+/// for its originator and by the backbone summaries.
 pub(crate) fn other_metric<A: Allocator + Copy>(
     database: &Database<A>,
     area: AreaId,

@@ -1,4 +1,4 @@
-//! What the areas of a router give it.
+//! The results of a router's areas.
 
 ghost use Rattle.std.specs.Prelude.{◌≡◌, IfOk, List, map};
 ghost use Rattle.std.specs.Option.{option_copied};
@@ -70,7 +70,7 @@ fn entry_cost<A: Allocator + Copy>(area: AreaId, entry: &RouterEntry<A>) -> Opti
 }
 
 impl<A: Allocator + Copy> Inside<A> {
-    /// By what the areas of a router give it.
+    /// The routes, entries and costs of the results of a router's areas.
     pub(crate) fn of(alloc: A, results: &[AreaResult<A>]) -> Result<Inside<A>, AllocError>
         ensures { IfOk result (AreGiven results.now) }
     {
@@ -103,7 +103,7 @@ impl<A: Allocator + Copy> Inside<A> {
         preferred(self.entries.as_slice(), asbr)
     }
 
-    /// The cost that a router announces of a prefix into an area, if it does.
+    /// The cost for a prefix that a router announces into an area, if it does.
     pub(crate) fn net_cost(
         &self,
         area: AreaId,
@@ -125,7 +125,7 @@ impl<A: Allocator + Copy> Inside<A> {
         }
     }
 
-    /// The cost that a router announces of an AS boundary router into an area, if it does.
+    /// The cost for an AS boundary router that a router announces into an area, if it does.
     pub(crate) fn asbr_cost(
         &self,
         area: AreaId,

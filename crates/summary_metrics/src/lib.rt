@@ -1,8 +1,8 @@
-//! The metrics that summary-LSAs get from the area border routers that made them (RFC 2328,
-//! 12.4.3).
+//! The metrics of summary-LSAs that their originators, area border routers, should announce (RFC
+//! 2328, 12.4.3).
 //!
-//! [`Originators`] answers which metric a summary-LSA is due that has another one. It keeps what it
-//! calculates for that, for one database.
+//! [`Originators`] returns the metric that a stale summary-LSA should have. It keeps what it
+//! calculates for one database.
 #![tactic(auto)]
 
 mod asbr_entries;

@@ -1,4 +1,4 @@
-//! Prefixes in rising order, and where they are looked for.
+//! Prefixes in rising order, and how they are looked up.
 
 ghost use Rattle.std.specs.Prelude.{◌≡◌, ◌<◌, ◌≤◌, ◌+◌, ℕ, None, IfErr, IfOk, MatchOption, length};
 ghost use Rattle.std.specs.Bool.{OnTrue};
@@ -16,9 +16,9 @@ use std::marker::Model;
 
 /// Prefixes in rising order, each once. Contracts see them as this list.
 ///
-/// LSAs of one originator mostly stand in the order of their prefixes, so a prefix is looked for
-/// first where the last one was found, and right behind that. What is found is the prefix wherever
-/// it was looked for, so contracts do not speak of it.
+/// LSAs of one originator are mostly in the order of their prefixes, so a prefix is looked up first
+/// where the last one was found, and right after that. The result does not depend on where it was
+/// looked up, so contracts do not mention it.
 #[derive(Drop)]
 pub(crate) struct Nets<A: Allocator> {
     nets: Vec<Prefix, A>,
@@ -38,7 +38,7 @@ impl<A: Allocator> Model for Nets<A> {
     ghost invariant = { λ n. IsStrictlySortedBy prefix_cmp n.nets.items };
 }
 
-/// Whether a prefix stands at a place.
+/// Whether a prefix is at a place.
 fn is_at(nets: &[Prefix], net: Prefix, place: usize) -> bool
     ensures { OnTrue result
         ((place < length nets.now) × HoldsAt (λ other. other ≡ net) nets.now place) }
@@ -46,7 +46,7 @@ fn is_at(nets: &[Prefix], net: Prefix, place: usize) -> bool
     place < nets.len() && nets[place] == net
 }
 
-/// Whether a prefix is behind the one that stands before a place, if one does.
+/// Whether a prefix is greater than the one before a place, if there is one.
 fn is_behind(nets: &[Prefix], net: Prefix, place: usize) -> bool
     ensures { OnTrue result ((place ≤ length nets.now) × ((last : ℕ) → last + 1 ≡ place
         → HoldsAt (λ other. prefix_cmp other net ≡ Less) nets.now last)) }
@@ -57,7 +57,7 @@ fn is_behind(nets: &[Prefix], net: Prefix, place: usize) -> bool
     }
 }
 
-/// Whether a prefix is before the one that stands at a place, if one does.
+/// Whether a prefix is less than the one at a place, if there is one.
 fn is_before(nets: &[Prefix], net: Prefix, place: usize) -> bool
     ensures { OnTrue result (place < length nets.now
         → HoldsAt (λ other. prefix_cmp net other ≡ Less) nets.now place) }
@@ -65,7 +65,7 @@ fn is_before(nets: &[Prefix], net: Prefix, place: usize) -> bool
     place >= nets.len() || net.cmp(&nets[place]) == Ordering::Less
 }
 
-/// Whether a place is that of a prefix which is missing.
+/// Whether a prefix is missing and would be at a place.
 fn is_gap(nets: &[Prefix], net: Prefix, place: usize) -> bool
     requires { IsStrictlySortedBy prefix_cmp nets.now }
     ensures { OnTrue result (find (eq_by_cmp prefix_cmp net) nets.now ≡ None) }
@@ -73,7 +73,7 @@ fn is_gap(nets: &[Prefix], net: Prefix, place: usize) -> bool
     is_behind(nets, net, place) && is_before(nets, net, place)
 }
 
-/// The place of a prefix, or that where it is missing, by a search of all.
+/// The place of a prefix, or the place where it would be, by a binary search.
 fn search(nets: &[Prefix], net: Prefix) -> Result<usize, usize>
     requires { IsStrictlySortedBy prefix_cmp nets.now }
     ensures at { IfOk result
@@ -83,8 +83,8 @@ fn search(nets: &[Prefix], net: Prefix) -> Result<usize, usize>
     nets.binary_search(&net)
 }
 
-/// The place of a prefix, or that where it is missing. It is looked for at a place and right behind
-/// that first.
+/// The place of a prefix, or the place where it would be. A place and the one right after it are
+/// tried first.
 fn place_near(nets: &[Prefix], net: Prefix, place: usize) -> Result<usize, usize>
     requires { IsStrictlySortedBy prefix_cmp nets.now }
     ensures at { IfOk result
@@ -108,7 +108,7 @@ fn place_near(nets: &[Prefix], net: Prefix, place: usize) -> Result<usize, usize
 }
 
 impl<A: Allocator + Copy> Nets<A> {
-    /// Prefixes that stand in rising order. It takes no memory.
+    /// Prefixes in rising order. It takes no memory.
     pub(crate) fn from_sorted(nets: Vec<Prefix, A>) -> Nets<A>
         requires { IsStrictlySortedBy prefix_cmp nets.items }
         ensures { result ≡ nets.items }

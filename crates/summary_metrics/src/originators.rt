@@ -1,4 +1,4 @@
-//! What each originator of summary-LSAs is due to announce.
+//! The metrics that each originator of summary-LSAs should announce.
 
 ghost use Rattle.std.specs.Prelude.{◌≡◌, ◌≤◌, true, IfSome, IfOk, OnOk};
 ghost use Rattle.lsa_codec.specs.Areas.{is_backbone};
@@ -23,9 +23,9 @@ use spf::Meter;
 use std::alloc::{AllocError, Allocator};
 use std::marker::Model;
 
-/// What was found for the originators of summary-LSAs in one database: their areas, their trees, by
-/// these what their areas give, and what the backbone tells. It is filled as LSAs ask for it, so
-/// that each tree is calculated once.
+/// What was calculated for the originators of summary-LSAs in one database: their areas, their
+/// trees, the results of their areas, and the backbone summaries. It is filled when LSAs need it,
+/// so that each tree is calculated once.
 #[derive(Drop)]
 pub struct Originators<A: Allocator> {
     attached: ByRouter<AttachedAreas<A>, A>,
@@ -48,7 +48,7 @@ impl<A: Allocator> Model for Originators<A> {
 }
 
 impl<A: Allocator + Copy> Originators<A> {
-    /// Nothing is known. It takes no memory.
+    /// With nothing calculated yet. It takes no memory.
     pub fn new(alloc: A) -> Originators<A>
         ensures { (db : Lists) → AreOf db result }
     {
@@ -60,8 +60,8 @@ impl<A: Allocator + Copy> Originators<A> {
         }
     }
 
-    /// Makes the graphs of all areas before the areas of the first router are looked up: they tell
-    /// who is attached without going through LSAs for each router.
+    /// Builds the graphs of all areas before the areas of the first router are looked up: the
+    /// graphs show who is attached without a search through LSAs for each router.
     fn add_graphs(&mut self, alloc: A, database: &Database<A>) -> Result<(), AllocError>
         requires { AreOf (lists_of database.now) self.old }
         ensures { AreOf (lists_of database.now) self.new }
@@ -94,7 +94,7 @@ impl<A: Allocator + Copy> Originators<A> {
         Ok(borders)
     }
 
-    /// Finds what the areas of a router give, which is not kept yet.
+    /// Calculates the results of a router's areas, which are not kept yet.
     fn find_inside(
         &mut self,
         alloc: A,
@@ -111,7 +111,7 @@ impl<A: Allocator + Copy> Originators<A> {
         Inside::of(alloc, &results)
     }
 
-    /// Finds what the backbone tells, unless it is there, where that is told into the area.
+    /// Reads the backbone summaries, unless they are kept already or the area is the backbone.
     fn listen(&mut self, alloc: A, database: &Database<A>, area: AreaId) -> Result<(), AllocError>
         requires { AreOf (lists_of database.now) self.old }
         ensures of { AreOf (lists_of database.now) self.new }
@@ -125,8 +125,8 @@ impl<A: Allocator + Copy> Originators<A> {
         Ok(())
     }
 
-    /// The metric that an LSA is due whose metric follows from the database, where it has another
-    /// one. What the areas of its originator give is kept.
+    /// The metric that an LSA should have, where it has another one. The metric follows from the
+    /// database. The results of its originator's areas are kept.
     fn covered_metric(
         &mut self,
         alloc: A,
@@ -152,9 +152,8 @@ impl<A: Allocator + Copy> Originators<A> {
         Ok(metric)
     }
 
-    /// Forgets what the backbone tells. What else is known follows from router-LSAs and
-    /// network-LSAs, so it is known of the database with the refreshed backbone too. It takes no
-    /// memory.
+    /// Drops the backbone summaries. All else follows from router-LSAs and network-LSAs, so it
+    /// stays true of the database with the refreshed backbone. It takes no memory.
     pub fn forget_told(&mut self)
         ensures { (db : Lists) → IsDatabase db → AreOf db self.old
             → AreOf (refreshed_areas is_backbone db) self.new }
@@ -162,9 +161,9 @@ impl<A: Allocator + Copy> Originators<A> {
         self.told = None;
     }
 
-    /// The metric that a summary-LSA of an area is due (RFC 2328, 12.4.3), where it is stale: its
-    /// metric follows from the database, and is another one. What is calculated for its originator
-    /// stays for further LSAs of the same database, also after an error.
+    /// The metric that a summary-LSA of an area should have (RFC 2328, 12.4.3), where it is stale:
+    /// its metric follows from the database, and differs. What is calculated for its originator is
+    /// kept for other LSAs of the same database, even after an error.
     ///
     /// # Errors
     ///

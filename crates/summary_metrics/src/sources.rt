@@ -1,4 +1,4 @@
-//! What the summary-LSAs of the backbone tell, by what they tell of.
+//! The summary-LSAs of the backbone, by destination.
 
 ghost use Rattle.std.specs.Prelude.{◌≡◌, ℕ, ◌++◌, ◌∷◌, [], List, IfOk, OnOk, Some, None, map};
 ghost use Rattle.std.specs.Prelude.{if◌then◌else◌};
@@ -16,7 +16,7 @@ use std::alloc::{AllocError, Allocator};
 use std::collections::BTreeMap;
 use std::marker::Model;
 
-/// A router that tells of a destination, and the metric that it tells.
+/// A router that announces a destination, and its metric.
 #[derive(Clone, Copy, Debug, PartialEq, Eq)]
 pub(crate) struct Source {
     /// The router.
@@ -25,7 +25,8 @@ pub(crate) struct Source {
     pub(crate) metric: u32,
 }
 
-/// Those who tell of one destination, in the order of their LSAs. Contracts see them as this list.
+/// The routers that announce one destination, in the order of their LSAs. Contracts see them as
+/// this list.
 #[derive(Drop)]
 pub(crate) struct Sources<A: Allocator> {
     sources: Vec<Source, A>,
@@ -66,8 +67,7 @@ impl<A: Allocator + Copy> Sources<A> {
     }
 }
 
-/// What LSAs of the backbone tell, while they are gone through. Contracts see it as what it is at
-/// the end.
+/// The backbone summaries while LSAs are read. Contracts see it as the result at the end.
 #[derive(Drop)]
 struct Draft<A: Allocator> {
     nets: BTreeMap<Prefix, Sources<A>, A>,
@@ -82,7 +82,7 @@ impl<A: Allocator> Model for Draft<A> {
     ghost view = { λ d. record { nets = d.nets.entries; asbrs = d.asbrs.entries } };
 }
 
-/// What the summary-LSAs of the backbone tell of prefixes and of AS boundary routers.
+/// The summaries of the backbone for prefixes and for AS boundary routers.
 #[derive(Drop)]
 pub(crate) struct BackboneSummaries<A: Allocator> {
     nets: Nets<A>,
@@ -101,7 +101,7 @@ impl<A: Allocator> Model for BackboneSummaries<A> {
     ghost invariant = { λ t. t.nets ≡ map (λ e. e.0) t.by_net.items };
 }
 
-/// What an LSA tells, if it is a live summary-LSA with a metric below LSInfinity.
+/// The router and metric of an LSA, if it is a live summary-LSA with a metric below LSInfinity.
 fn source_told<A: Allocator + Copy>(lsa: &Lsa<A>) -> Option<Source>
     ensures { result ≡ if is_telling lsa.now then Some (source_of lsa.now) else None }
 {
@@ -113,14 +113,14 @@ fn source_told<A: Allocator + Copy>(lsa: &Lsa<A>) -> Option<Source>
     Some(Source { originator, metric })
 }
 
-/// The prefix that an LSA tells of, if it is a summary-LSA of type 3.
+/// The prefix of an LSA, if it is a summary-LSA of type 3.
 fn net_told<A: Allocator + Copy>(lsa: &Lsa<A>) -> Option<Prefix>
     ensures { result ≡ net_of_summary lsa.now }
 {
     lsa.summary()?.net()
 }
 
-/// The router that an LSA names, if it is a summary-LSA of type 4.
+/// The AS boundary router of an LSA, if it is a summary-LSA of type 4.
 fn asbr_told<A: Allocator + Copy>(lsa: &Lsa<A>) -> Option<RouterId>
     ensures { result ≡ asbr_named lsa.now }
 {
@@ -173,7 +173,7 @@ fn nets_of<A: Allocator + Copy>(
 }
 
 impl<A: Allocator + Copy> Draft<A> {
-    /// Adds what an LSA tells, if it does.
+    /// Adds an LSA, if it is a live summary-LSA with a metric below LSInfinity.
     fn add(&mut self, alloc: A, lsa: &Lsa<A>) -> Result<(), AllocError>
         ensures { OnOk result ((lsas : List (List ℕ)) → AreTold lsas self.old
             → AreTold (lsas ++ lsa.now ∷ []) self.new) }
@@ -191,7 +191,7 @@ impl<A: Allocator + Copy> Draft<A> {
         Ok(())
     }
 
-    /// What some LSAs tell.
+    /// The sources of some LSAs.
     fn of(alloc: A, lsas: Lsas<'_, A>) -> Result<Draft<A>, AllocError>
         ensures { IfOk result (AreTold lsas.entry) }
     {
@@ -205,7 +205,7 @@ impl<A: Allocator + Copy> Draft<A> {
         Ok(told)
     }
 
-    /// What it became.
+    /// The finished backbone summaries.
     fn finish(self, alloc: A) -> Result<BackboneSummaries<A>, AllocError>
         ensures { IfOk result (λ told. told ≡ self) }
     {
@@ -220,14 +220,14 @@ impl<A: Allocator + Copy> Draft<A> {
 }
 
 impl<A: Allocator + Copy> BackboneSummaries<A> {
-    /// What some LSAs tell.
+    /// The sources of some LSAs.
     pub(crate) fn of(alloc: A, lsas: Lsas<'_, A>) -> Result<BackboneSummaries<A>, AllocError>
         ensures { IfOk result (AreTold lsas.entry) }
     {
         Draft::of(alloc, lsas)?.finish(alloc)
     }
 
-    /// Those who tell of a prefix.
+    /// The sources for a prefix.
     pub(crate) fn of_net(&self, net: Prefix) -> &[Source]
         ensures { (lsas : List (List ℕ)) → AreTold lsas self.now
             → result.now ≡ sources prefix_cmp net_of_summary lsas net }
@@ -241,7 +241,7 @@ impl<A: Allocator + Copy> BackboneSummaries<A> {
         }
     }
 
-    /// Those who tell of an AS boundary router.
+    /// The sources for an AS boundary router.
     pub(crate) fn of_asbr(&self, asbr: RouterId) -> &[Source]
         ensures { (lsas : List (List ℕ)) → AreTold lsas self.now
             → result.now ≡ sources router_cmp asbr_named lsas asbr }

@@ -1,5 +1,5 @@
--- The costs that area border routers announce in summary-LSAs, in place of whole routes: the cost within the areas of the
--- originator, and else the least over what the summary-LSAs of the backbone tell (RFC 2328, 12.4.3, 16.1 and 16.2).
+-- The costs that area border routers announce in summary-LSAs, without whole routes: the cost within the areas of the
+-- originator, or else the minimum over the backbone summaries for the same destination (RFC 2328, 12.4.3, 16.1 and 16.2).
 use Rattle.std.specs.Prelude.{◌≡◌, ℕ, ◌+◌, ◌<◌, ◌^◌, ◌++◌, ◌∷◌, nat_lt, List, [], Bool, true, ◌&&◌, ◌==◌, if◌then◌else◌, Option, None, Some, IfSome, not}
 use Rattle.std.specs.List.{filter_map, list_any}
 use Rattle.std.specs.Option.{option_and_then, option_map, option_map_or, option_or}
@@ -34,18 +34,19 @@ has_another area areas = list_any (λ a. not (a.0 == area.0)) areas
 abbrev pub is_border_of : AreaId → List AreaId → Bool
 is_border_of area areas = is_among area areas && has_another area areas
 
--- ---- costs over what the backbone tells
+-- ---- costs over the backbone summaries
 
--- what the backbone tells of a prefix
+-- the backbone summaries for a prefix
 abbrev pub net_sources : Lists → Net → List Source
 net_sources db net = sources prefix_cmp net_of_summary (backbone_lsas db) net
 
--- what the backbone tells of an AS boundary router
+-- the backbone summaries for an AS boundary router
 abbrev pub asbr_sources : Lists → RouterId → List Source
 asbr_sources db asbr = sources router_cmp asbr_named (backbone_lsas db) asbr
 
 module _ (router : RouterId) (entries : List EntryValue) where
-  -- the cost to an originator, one of these area border routers, and its metric together; none of the router itself
+  -- the sum of the cost to an originator, one of these area border routers, and its metric; none for the router
+  -- itself
   abbrev pub cost_over : Source → Option ℕ
   cost_over s = if same_router s.originator router then None else option_map (λ b. b.cost + s.metric) (border_of entries s.originator)
 
@@ -63,7 +64,8 @@ route_cost area r = if is_among area r.areas then None else Some r.cost
 abbrev pub entry_cost : AreaId → EntryValue → Option ℕ
 entry_cost area e = if e.area.0 == area.0 then None else Some e.cost
 
--- what is told, where nothing is known within the areas of the originator; nothing is told into the backbone
+-- the cost by the backbone summaries, where there is none within the areas of the originator; into the
+-- backbone no such cost is announced
 abbrev pub else_told : AreaId → Option (Option ℕ) → Option ℕ → Option ℕ
 else_told area None told = if is_backbone area then None else told
 else_told area (Some own) told = own
@@ -74,27 +76,27 @@ module _ (db : Lists) (area : AreaId) (router : RouterId) (results : List AreaRe
   net_cost net =
       else_told area (option_map (route_cost area) (route_to (intra_of results) net)) (told_cost router (backbone_entries results) (net_sources db net))
 
-  -- the cost of an AS boundary router that is announced into the area; no router tells of itself
+  -- the cost of an AS boundary router that is announced into the area; no router announces itself
   abbrev pub asbr_cost : RouterId → Option ℕ
   asbr_cost asbr =
       else_told area (option_map (entry_cost area) (preferred (entries_of_all results) asbr))
       (if same_router asbr router then None else told_cost router (backbone_entries results) (asbr_sources db asbr))
 
-  -- the cost of what an LSA of the area tells of
+  -- the cost of the destination of an LSA of the area
   abbrev pub cost_by_told : List ℕ → Option ℕ
   cost_by_told lsa = option_or (option_and_then net_cost (net_of_summary lsa)) (option_and_then asbr_cost (asbr_of_summary db area lsa))
 
--- the metric that an LSA of an area is due
+-- the metric that an LSA of an area should have
 abbrev pub due_by_told : Lists → AreaId → List ℕ → ℕ
 due_by_told db area lsa = option_map_or metric_for (cost_by_told db area (originator_of lsa) (results_of db (originator_of lsa)) lsa) ls_infinity
 
--- ---- what is kept of the backbone
+-- ---- what is kept of the backbone summaries
 
--- one source more
+-- one more source
 abbrev pub more_sources : Option (List Source) → Source → List Source
 more_sources o source = sources_or_none o ++ source ∷ []
 
--- what the backbone tells, which may be missing where nothing is told into the area
+-- the backbone summaries, which may be missing for LSAs of the backbone
 abbrev pub IsToldFor : Lists → AreaId → Option BackboneSummariesValue → Type 0
 IsToldFor db area None = is_backbone area ≡ true
 IsToldFor db area (Some told) = AreTold (backbone_lsas db) told
@@ -111,11 +113,11 @@ module _ (router : RouterId) (costs : List (RouterId × ℕ)) where
   cost_from s =
       if same_router s.originator router then None else option_map (λ cost. cost + s.metric) (lookup (eq_by_cmp router_cmp s.originator) costs)
 
-  -- the least over some sources
+  -- the minimum over some sources
   abbrev pub told_from : List Source → Option ℕ
   told_from all = least nat_cmp (filter_map cost_from all)
 
--- the lesser of the least cost so far and a further one, if there is one
+-- the lesser of the least cost so far and another cost, if there is one
 abbrev pub lesser_cost : Option ℕ → Option ℕ → Option ℕ
 lesser_cost None cost = cost
 lesser_cost (Some least) None = Some least
