@@ -1,4 +1,4 @@
--- Numbers, addresses and prefixes that are written are read again.
+-- Numbers, addresses and prefixes that are written are read back.
 use Rattle.std.proofs.Common.{◌≡◌, ℕ, ◌+◌, ◌/◌, ◌%◌, ◌^◌, ◌<◌, ◌≤◌, Bool, true, false, eqb, ltb, leb, List, [], ◌∷◌, ◌++◌, length, get_or}
 use Rattle.std.proofs.Common.{length-append, append_assoc, Some, None, refl, sym, ap, subst, ◌∙◌, arith, rules, inl, inr}
 use Rattle.std.specs.Prelude.{decimal, codes, not, ◌&&◌, ◌||◌}
@@ -26,7 +26,7 @@ own = numerals_by_fold _ (search rules) digits_after (search rules)
 pub record SparesDigits (p : ℕ → Bool) : Type 0 where
   pub spares : (b : ℕ) → 48 ≤ b → b ≤ 57 → p b ≡ false
 
--- what a number's text lacks
+-- a number's text has no byte that passes such a test
 pub Lacks-digits : (p : ℕ → Bool) → SparesDigits p → (ds : List ℕ) → all_ascii_digits ds ≡ true → Lacks p ds
 Lacks-digits p s [] h = All-nil (λ b. p b ≡ false)
 Lacks-digits p s (d ∷ ds) h =

@@ -22,7 +22,7 @@ is_feed byte = eqb byte 10
 feed_spares : SparesDigits is_feed
 feed_spares = record { spares = λ b low high. ne_eqb b 10 (λ e. omega arith) }
 
--- a test that computes at a word that is written out
+-- a test that computes on a word that is written out
 abbrev has_no_feed : Word → Bool
 has_no_feed [] = true
 has_no_feed (byte ∷ bytes) = not (is_feed byte) && has_no_feed bytes

@@ -20,7 +20,7 @@ use Rattle.edit_script.specs.Spelling.{spelling, type_text, edit_words, command_
 use Rattle.edit_script.proofs.Split.{IsWord, words_joined}
 use Rattle.edit_script.proofs.Numbers.{number_again, address_again, prefix_again, IsWord-decimal, IsWord-address, IsWord-prefix}
 
--- a test that computes at a word that is written out
+-- a test that computes on a word that is written out
 abbrev has_no_blank : Word → Bool
 has_no_blank [] = true
 has_no_blank (byte ∷ bytes) = not (is_blank byte) && has_no_blank bytes
@@ -103,7 +103,7 @@ type_again : (type : MetricType) → metric_type (type_text type) ≡ Ok type
 type_again Type1 = refl
 type_again Type2 = refl
 
--- the words of an edit are read again
+-- the words of an edit are read back
 edit_again : (edit : Edit) → IsEditInRange edit → (branch : ℕ) → behind_branch branch (edit_words edit) ≡ Ok (branch, command.Edit edit)
 unfolding behind_branch command_of edit_of cost_of drop_link_of fail_link_of fail_net_of fail_router_of
     add_stub_of summary_of add_summary_of add_external_of drop_external_of refresh_of
@@ -143,7 +143,7 @@ edit_again (DropExternal router prefix) h branch =
     simp (address_again router.0 h.0, prefix_again prefix h.1)
 edit_again Refresh h branch = refl
 
--- the words of a command are read again
+-- the words of a command are read back
 read_again : (c : Command) → IsInRange c → (branch : ℕ) → behind_branch branch (command_words c) ≡ Ok (branch, c)
 unfolding behind_branch command_of undo_of redo_of table_of tables_of compare_of info_of
 read_again (command.Edit edit) h branch = edit_again edit h branch

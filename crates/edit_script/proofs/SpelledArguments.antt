@@ -25,7 +25,7 @@ use Rattle.edit_script.proofs.Numbers.{own, AreBytes, prefix_joined}
 use Rattle.lsa_codec.specs.Prefix.{IsNet}
 use Rattle.edit_script.specs.Spelling.{IsPrefix}
 
--- ---- what a result of several steps says of each step
+-- ---- what a result of several steps shows of each step
 
 pub then_some : {A B : Type 0} (o : Option A) (f : A → Option B) (y : B) → arguments.◌>>=◌ o f ≡ Some y → (x : A) × ((o ≡ Some x) × (f x ≡ Some y))
 then_some (Some x) f y h = (x, (refl, h))
@@ -217,7 +217,7 @@ pub type_read : (word : Word) (type : MetricType) → metric_type word ≡ Ok ty
 type_read word type h =
     type_named (codes "1") word Type1 _ type refl (type_named (codes "2") word Type2 _ type refl (λ e. absurd cc)) h
 
--- ---- so many arguments
+-- ---- a given number of arguments
 
 pub none_are : (arguments : List Word) (w : Unit {0}) → none_of arguments ≡ Ok w → arguments ≡ []
 none_are [] w h = refl

@@ -1,4 +1,4 @@
--- Words that mean a command are that command's words, behind its branch, and its numbers are in range.
+-- Words that mean a command are that command's words, after its branch, and its numbers are in range.
 use Rattle.std.proofs.Common.{◌≡◌, ℕ, ◌<◌, true, cond, eqb, List, [], ◌∷◌, get_or, Result, Ok, refl, sym, ap, ◌∙◌, subst, arith, inl, inr}
 use Rattle.std.specs.Prelude.{codes, bytes_eq}
 use Rattle.std.proofs.lemmas.Slice.Eq.{bytes_eq-Decides}
@@ -102,7 +102,7 @@ edit_read words given c spelled h =
     let read = spelled found.0 found.1.0 in
     subst (IsCommand words) same (record { words = read.words; range = read.range })
 
--- where the command word is `name`, what it reads; else what the other names read
+-- where the command word is `name`, what it reads; otherwise what the other names read
 by_name : {A : Type 0} (Is : List Word → A → Type 0) (name word : Word) (arguments : List Word) (this others : Result A ScriptFault) (x : A)
     → (this ≡ Ok x → Is (name ∷ arguments) x) → (others ≡ Ok x → Is (word ∷ arguments) x) → cond (bytes_eq word name) this others ≡ Ok x
     → Is (word ∷ arguments) x

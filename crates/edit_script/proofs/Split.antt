@@ -64,7 +64,7 @@ cut_some p xs i h =
 pub drop_one : (i : ℕ) (xs : List ℕ) → take (length (drop i xs) - 1) (drop 1 (drop i xs)) ≡ drop (i + 1) xs
 drop_one i xs = take_all _ (drop 1 (drop i xs)) (omega (arith, length-drop 1 (drop i xs))) ∙ drop-drop 1 i xs
 
--- ---- so many parts
+-- ---- a given number of parts
 
 pub two_parts_more : (p : ℕ → Bool) (xs a b : List ℕ) → two_parts (a ∷ b ∷ slice_split p xs) ≡ None
 two_parts_more p xs a b = at_more (slice_split p xs) (omega (arith, length-slice_split p xs)) where

@@ -1,4 +1,4 @@
--- What one argument of a command says: a number, an address or a prefix.
+-- What one argument of a command means: a number, an address or a prefix.
 use Rattle.std.specs.Prelude.{ℕ, ◌+◌, ◌-◌, ◌*◌, ◌==◌, ◌&&◌, ◌||◌, not, nat_lt, nat_le, Bool, List, [], ◌∷◌, length, Option, Some, None, if◌then◌else◌, slice_index}
 use Rattle.std.specs.Int.{w32, from_be_bytes}
 use Rattle.std.specs.List.{slice_split}
@@ -11,7 +11,7 @@ abbrev pub ◌>>=◌ : {A B : Type 0} → Option A → (A → Option B) → Opti
 (Some x) >>= f = f x
 None >>= f = None
 
--- the value of decimal digits that stand behind the number n
+-- the value of decimal digits after those of the number n
 abbrev pub digits_after : ℕ → List ℕ → ℕ
 digits_after n [] = n
 digits_after n (digit ∷ digits) = digits_after (10 * n + (digit - 48)) digits
@@ -32,7 +32,7 @@ abbrev pub four_parts : List Word → Option (Word × Word × Word × Word)
 four_parts (a ∷ b ∷ c ∷ d ∷ []) = Some (a, b, c, d)
 four_parts _ = None
 
--- four numbers to 255, the bytes of an address, the highest first
+-- four numbers up to 255, the bytes of an address, the highest first
 unfoldable pub address_of_parts : List Word → Option ℕ
 address_of_parts parts = do
   part ← four_parts parts
@@ -50,7 +50,8 @@ abbrev pub two_parts : List Word → Option (Word × Word)
 two_parts (a ∷ b ∷ []) = Some (a, b)
 two_parts _ = None
 
--- an address, and a number to 32 for the length of the mask; the bits of the address past the length are 0
+-- an address, and a number up to 32 for the length of the mask; the bits of the address past the length
+-- are 0
 unfoldable pub prefix_of_parts : List Word → Option Net
 prefix_of_parts parts = do
   part ← two_parts parts
@@ -58,6 +59,6 @@ prefix_of_parts parts = do
   len ← number_up_to 32 part.1
   net_of (record { 0 = addr }) len
 
--- the prefix that a word spells, where it spells one: the parts beside its slash (47)
+-- the prefix that a word spells, where it spells one: the parts before and after its slash (47)
 abbrev pub prefix_of : Word → Option Net
 prefix_of word = prefix_of_parts (slice_split (λ byte. byte == 47) word)

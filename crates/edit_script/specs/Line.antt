@@ -7,7 +7,7 @@ use Rattle.edit_script.specs.Words.{Word, words}
 use Rattle.edit_script.specs.Arguments.{number_up_to}
 use Rattle.edit_script.specs.Reading.{◌>>=◌, command_of}
 
--- the branch that a word names: behind its `@` stands a number 0 to 7
+-- the branch that a word names: a number 0 to 7 after its `@`
 abbrev pub branch_of : Word → Result ℕ ScriptFault
 branch_of [] = Err BadBranch
 branch_of (at ∷ digit) = ok_or (number_up_to 7 digit) BadBranch
@@ -20,7 +20,8 @@ unfoldable pub behind_branch : ℕ → List Word → Result (ℕ × Command) Scr
 behind_branch branch [] = Err MissingWord
 behind_branch branch (word ∷ arguments) = in_branch branch (command_of word arguments)
 
--- a first word that begins with `#` (35) makes a comment, and one that begins with `@` (64) names the branch; else the branch is 0
+-- a first word that begins with `#` (35) is a comment, and one that begins with `@` (64) names the branch; otherwise the branch is
+-- 0
 unfoldable pub meaning_of_words : List Word → Result (ℕ × Command) ScriptFault
 meaning_of_words [] = Err Empty
 meaning_of_words (first ∷ rest) =

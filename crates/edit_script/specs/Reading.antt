@@ -41,9 +41,9 @@ metric_type word =
     else if bytes_eq word (codes "2") then Ok Type2
     else Err BadNumber
 
--- ---- so many arguments
+-- ---- a given number of arguments
 
--- the fault of arguments that are not n in number
+-- the fault where the number of arguments is not n
 abbrev pub miscount : ℕ → List Word → ScriptFault
 miscount n arguments = if nat_lt (length arguments) n then MissingWord else ExtraWord
 
@@ -73,7 +73,7 @@ six_of arguments = Err (miscount 6 arguments)
 
 -- ---- the edits, by their arguments
 
--- the greatest number of 16 bits, as the number of a link and its metric have (RFC 2328, A.4.2)
+-- the greatest number of 16 bits, for the number of a link and its metric (RFC 2328, A.4.2)
 abbrev pub greatest_number16 : ℕ
 greatest_number16 = 65535
 

@@ -53,7 +53,7 @@ branch_word branch = codes "@" ++ decimal branch
 abbrev pub Says : List Word → ℕ → Command → Type 0
 Says words branch c = (branch < 8) × ((words ≡ branch_word branch ∷ command_words c) ⊎ ((branch ≡ 0) × (words ≡ command_words c)))
 
--- a prefix, whose address is of 32 bits
+-- a prefix with an address of 32 bits
 pub record IsPrefix (net : Net) : Type 0 where
   pub addr : net.addr.0 < 2 ^ 32
   pub prefix : IsNet net

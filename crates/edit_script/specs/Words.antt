@@ -12,6 +12,6 @@ is_blank byte = byte == 0x20 || byte == 0x09 || byte == 0x0d
 abbrev pub is_nonempty : Word → Bool
 is_nonempty word = nat_lt 0 (length word)
 
--- the words of a line, from left to right: its maximal runs of bytes that are no blanks
+-- the words of a line, from left to right: its maximal runs of bytes that are not blanks
 abbrev pub words : List ℕ → List Word
 words line = filter is_nonempty (slice_split is_blank line)

@@ -1,4 +1,4 @@
-//! What one argument of a command says: a number, an address or a prefix.
+//! What one argument of a command means: a number, an address or a prefix.
 
 ghost use Rattle.std.specs.Prelude.{◌≡◌, ◌==◌, ◌≤◌, Some, None, IfSome, option_map};
 ghost use Rattle.std.specs.List.{slice_split};
@@ -98,7 +98,7 @@ fn two_parts(word: &[u8]) -> Option<(&[u8], &[u8])>
     }
 }
 
-/// The prefix that a word spells, as `10.0.0.0/8`.
+/// The prefix that a word spells, such as `10.0.0.0/8`.
 #[tactic(auto, unfolding(crate::specs::Arguments::prefix_of_parts))]
 pub(crate) fn prefix_of(word: &[u8]) -> Option<Prefix>
     ensures { result ≡ prefix_of word.now }

@@ -6,7 +6,7 @@ use lsa_codec::RouterId;
 /// A command of a script, in the branch that its line names.
 #[derive(Clone, Copy, Debug, PartialEq, Eq)]
 pub enum Command {
-    /// An edit of the link state database; its command word is the edit's own.
+    /// An edit of the link state database. Its command word is that of the edit.
     Edit(Edit),
     /// `undo COUNT`: the last COUNT edits are taken back. COUNT is 0 to 4294967295.
     Undo(u32),
@@ -20,6 +20,6 @@ pub enum Command {
     /// `compare ROUTER`: the routing table of a router is compared with its table in the database
     /// that was loaded.
     Compare(RouterId),
-    /// `info`: the database and the history of edits are counted.
+    /// `info`: counts of the database and of the history of edits are shown.
     Info,
 }

@@ -1,4 +1,4 @@
-//! What an edit says, and the line that it is printed as.
+//! Edits, and the line that each is printed as.
 
 ghost use Rattle.std.specs.Prelude.{Some};
 ghost use Rattle.edit_script.specs.Spelling.{spelling, type_text};
@@ -55,7 +55,7 @@ pub enum Edit {
         /// The other router.
         neighbor: RouterId,
     },
-    /// `fail-net AREA ADDRESS`: a transit network goes, with all links to it.
+    /// `fail-net AREA ADDRESS`: a transit network is removed, with all links to it.
     FailNet {
         /// The area that has the network.
         area: AreaId,
@@ -87,7 +87,7 @@ pub enum Edit {
         area: AreaId,
         /// The router that originates it.
         router: RouterId,
-        /// The network that it tells of.
+        /// The network of the summary-LSA.
         prefix: Prefix,
         /// The new metric.
         metric: Metric,
@@ -99,7 +99,7 @@ pub enum Edit {
         area: AreaId,
         /// The router that originates it.
         router: RouterId,
-        /// The network that it tells of; its address is the Link State ID.
+        /// The network of the summary-LSA; its address is the Link State ID.
         prefix: Prefix,
         /// The metric.
         metric: Metric,
@@ -109,13 +109,13 @@ pub enum Edit {
     AddExternal {
         /// The router that originates it.
         router: RouterId,
-        /// The network that it tells of; its address is the Link State ID.
+        /// The network of the AS-external-LSA; its address is the Link State ID.
         prefix: Prefix,
         /// How the metric counts: 1 or 2 in the line.
         metric_type: MetricType,
         /// The metric.
         metric: Metric,
-        /// The forwarding address; 0.0.0.0 stands for the router itself.
+        /// The forwarding address; 0.0.0.0 means the router itself.
         forward: Addr,
         /// The external route tag, 0 to 4294967295.
         tag: u32,
@@ -124,11 +124,11 @@ pub enum Edit {
     DropExternal {
         /// The router that originates it.
         router: RouterId,
-        /// The network that it tells of.
+        /// The network of the AS-external-LSA.
         prefix: Prefix,
     },
-    /// `refresh`: the summary-LSAs that are there get the metrics that their originators announce
-    /// (RFC 2328, 12.4.3).
+    /// `refresh`: all summary-LSAs whose metrics follow from the database get the metrics that
+    /// their originators announce (RFC 2328, 12.4.3).
     Refresh,
 }
 

@@ -1,18 +1,18 @@
-//! Why a line is no command.
+//! Why a line is not a command.
 
 ghost use Rattle.std.specs.Prelude.{◌≡◌};
 ghost use Rattle.edit_script.specs.Fault.{code_of, name_of};
 
 use thiserror::Error;
 
-/// The first fault of a line that is no command.
+/// The first fault of a line that is not a command.
 ///
-/// The faults are looked for in this order: [`Empty`](ScriptFault::Empty),
+/// The faults are tested in this order: [`Empty`](ScriptFault::Empty),
 /// [`BadBranch`](ScriptFault::BadBranch), [`MissingWord`](ScriptFault::MissingWord) where nothing
-/// stands after the branch, [`UnknownWord`](ScriptFault::UnknownWord), then
+/// follows the branch, [`UnknownWord`](ScriptFault::UnknownWord), then
 /// [`MissingWord`](ScriptFault::MissingWord) and [`ExtraWord`](ScriptFault::ExtraWord) by the
-/// number of the arguments, and then the arguments' own faults from left to right. The text of
-/// each is its name.
+/// number of the arguments, and then the arguments' own faults from left to right. The text of each
+/// is its name.
 #[derive(Clone, Copy, Debug, PartialEq, Eq, Error)]
 pub enum ScriptFault {
     /// S1: the line has no words, or is a comment: its first word begins with `#`.
@@ -27,13 +27,13 @@ pub enum ScriptFault {
     /// S4: the command has too many arguments.
     #[error("ExtraWord")]
     ExtraWord,
-    /// S5: an argument is no decimal number, has a leading zero, or is out of its range.
+    /// S5: an argument is not a decimal number, has a leading zero, or is out of its range.
     #[error("BadNumber")]
     BadNumber,
-    /// S6: an argument is no address in dotted decimal.
+    /// S6: an argument is not an address in dotted decimal.
     #[error("BadAddress")]
     BadAddress,
-    /// S7: an argument is no prefix, as `10.0.0.0/8`, whatever part of it is wrong.
+    /// S7: an argument is not a prefix such as `10.0.0.0/8`, whatever part of it is wrong.
     #[error("BadPrefix")]
     BadPrefix,
     /// S8: the first word begins with `@` and names no branch.
@@ -58,7 +58,7 @@ impl ScriptFault {
         }
     }
 
-    /// The fault's name, as replies print it behind the code.
+    /// The fault's name, as replies print it after the code.
     pub fn name(self) -> &'static str
         ensures { result.now ≡ name_of self }
     {

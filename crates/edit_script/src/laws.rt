@@ -36,8 +36,8 @@ pub fn spelled_on_one_line()
     ensures { (edit : Edit) → IsEditInRange edit → All (λ byte. byte ≢ 10) (spelling edit) }
 {}
 
-/// Each number of an edit is in the range of its type: what [`reads_back`] asks holds of every
-/// edit.
+/// Each number of an edit is in the range of its type: the condition of [`reads_back`] holds for
+/// every edit.
 ///
 /// The function does nothing: its contract is the law.
 pub fn edits_are_in_range(edit: &Edit)

@@ -1,10 +1,10 @@
-//! The lines of a script: what a command says, reading it from a line, and printing an edit.
+//! The lines of a script: commands, reading one from a line, and printing an edit.
 //!
 //! A line is words between blanks: an optional branch, `@0` to `@7`, a command word and the
-//! command's arguments. `cost AREA ROUTER LINK METRIC` and nine others are edits of the link state
-//! database, `undo COUNT` and `redo COUNT` take edits back and carry them out again, and `table
-//! ROUTER`, `tables`, `compare ROUTER` and `info` show what the edits lead to. [`parse`] reads a
-//! line without memory, and [`print`] writes an edit as the line that reads back to it.
+//! command's arguments. `cost AREA ROUTER LINK METRIC` and ten others are edits of the link state
+//! database, `undo COUNT` and `redo COUNT` take edits back and carry them out again, and
+//! `table ROUTER`, `tables`, `compare ROUTER` and `info` show what the edits lead to. [`parse`]
+//! reads a line without memory, and [`print`] writes an edit as the line that reads back to it.
 #![tactic(auto)]
 
 mod arguments;

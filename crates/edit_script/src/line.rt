@@ -1,4 +1,4 @@
-//! Reading a line: its branch, and the command behind it.
+//! Reading a line: its branch, and the command after it.
 
 ghost use Rattle.std.specs.Prelude.{◌≡◌, ◌<◌, IfOk};
 ghost use Rattle.edit_script.specs.Words.{words};
@@ -10,7 +10,7 @@ use crate::commands::command;
 use crate::fault::ScriptFault;
 use crate::words::next_word;
 
-/// The branch that a word names, 0 to 7 behind its `@`; else S8.
+/// The branch that a word names, a number 0 to 7 after its `@`; else S8.
 fn branch(word: &[u8]) -> Result<u8, ScriptFault>
     ensures value { result ≡ branch_of word.now }
     ensures small { IfOk result (λ branch. branch < 8) }
@@ -24,7 +24,7 @@ fn branch(word: &[u8]) -> Result<u8, ScriptFault>
     }
 }
 
-/// The command that stands after the branch.
+/// The command after the branch.
 #[tactic(auto, unfolding(crate::specs::Line::behind_branch))]
 fn behind_branch(branch: u8, rest: &[u8]) -> Result<(u8, Command), ScriptFault>
     requires { branch < 8 }
@@ -39,9 +39,13 @@ fn behind_branch(branch: u8, rest: &[u8]) -> Result<(u8, Command), ScriptFault>
 
 /// The branch and the command that a line of a script means, or its first fault.
 ///
-/// The line comes without its end of line. Its words are its maximal runs of bytes other than
-/// space, tab and carriage return. The branch is 0 to 7, and 0 where the line names none. The
-/// faults S1 to S8 come in the order that [`ScriptFault`] gives. It takes no memory.
+/// The line is given without its end of line. Its words are its maximal runs of bytes other than
+/// space, tab and carriage return. The branch is 0 to 7, and 0 where the line names none. It takes
+/// no memory.
+///
+/// # Errors
+///
+/// S1 to S8, in the order that [`ScriptFault`] defines.
 #[tactic(auto, unfolding(crate::specs::Line::meaning_of_words))]
 pub fn parse(line: &[u8]) -> Result<(u8, Command), ScriptFault>
     ensures value { result ≡ meaning line.now }

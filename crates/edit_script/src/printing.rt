@@ -12,7 +12,11 @@ use std::alloc::{AllocError, Allocator};
 
 /// The line of an edit, without a branch and without an end of line.
 ///
-/// [`parse`](crate::parse) reads the edit back from it, in branch 0. The error is a want of memory.
+/// [`parse`](crate::parse) reads the edit back from it, in branch 0.
+///
+/// # Errors
+///
+/// Memory ran out.
 #[tactic(auto, using(crate::proofs::RoundTrip::reads_back))]
 pub fn print<A: Allocator + Copy>(alloc: A, edit: &Edit) -> Result<String<A>, AllocError>
     ensures spelled { IfOk result (λ line. string_bytes line ≡ spelling edit.now) }

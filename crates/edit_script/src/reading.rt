@@ -12,7 +12,7 @@ use crate::fault::ScriptFault;
 use crate::words::next_word;
 use lsa_codec::{LS_INFINITY, Metric, Prefix};
 
-/// The greatest number of 16 bits, as the number of a link and its metric have (RFC 2328, A.4.2).
+/// The greatest number of 16 bits, for the number of a link and its metric (RFC 2328, A.4.2).
 const GREATEST_NUMBER16: u32 = 65_535;
 
 // ---- one argument
@@ -69,7 +69,7 @@ pub(crate) fn prefix(word: &[u8]) -> Result<Prefix, ScriptFault>
     prefix_of(word).ok_or(ScriptFault::BadPrefix)
 }
 
-// ---- so many arguments
+// ---- a given number of arguments
 
 /// No word of `arguments`; else S4.
 pub(crate) fn none(arguments: &[u8]) -> Result<(), ScriptFault>
@@ -81,7 +81,7 @@ pub(crate) fn none(arguments: &[u8]) -> Result<(), ScriptFault>
     }
 }
 
-/// The first word of `arguments`, and what follows it; else S3.
+/// The first word of `arguments`, and the rest after it; else S3.
 fn word(arguments: &[u8]) -> Result<(&[u8], &[u8]), ScriptFault>
     ensures { MatchResult result (λ x. words arguments.now ≡ x.0.now ∷ words x.1.now)
         (λ fault. (fault ≡ MissingWord) × (words arguments.now ≡ [])) }

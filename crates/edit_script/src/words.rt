@@ -25,7 +25,7 @@ fn first_of(word: &[u8], stop: u8) -> Option<usize>
     word.iter().position(|byte| *byte == stop)
 }
 
-/// What stands before the first blank, and behind it.
+/// The bytes before the first blank, and those after it.
 #[tactic(auto, using(crate::proofs::Split::cut_none, crate::proofs::Split::cut_some, crate::proofs::Split::drop_one))]
 fn cut_at_blank(line: &[u8]) -> Option<(&[u8], &[u8])>
     ensures { MatchOption result (slice_split is_blank line.now ≡ line.now ∷ [])
@@ -39,7 +39,7 @@ fn cut_at_blank(line: &[u8]) -> Option<(&[u8], &[u8])>
     Some((front, &back[1..]))
 }
 
-/// What stands before the first byte that is `stop`, and behind it.
+/// The bytes before the first byte that is `stop`, and those after it.
 #[tactic(auto, using(crate::proofs::Split::cut_none, crate::proofs::Split::cut_some, crate::proofs::Split::drop_one))]
 pub(crate) fn cut_at_byte(word: &[u8], stop: u8) -> Option<(&[u8], &[u8])>
     ensures { MatchOption result (slice_split (λ b. b == stop) word.now ≡ word.now ∷ [])
@@ -53,7 +53,7 @@ pub(crate) fn cut_at_byte(word: &[u8], stop: u8) -> Option<(&[u8], &[u8])>
     Some((front, &back[1..]))
 }
 
-/// The first word of a line, and the line behind it.
+/// The first word of a line, and the line after it.
 pub(crate) fn next_word(line: &[u8]) -> Option<(&[u8], &[u8])>
     ensures { MatchOption result (words line.now ≡ [])
         (λ x. (words line.now ≡ x.0.now ∷ words x.1.now) × (0 < length x.0.now)) }
