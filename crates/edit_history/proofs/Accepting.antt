@@ -11,7 +11,7 @@ use Rattle.edit_history.specs.Effect.{effect, ◌>>=◌}
 use Rattle.edit_history.specs.Session.{Session, Request, edit, undo, redo, start, state, after_edits, unless_refused, effects, accepted, edited}
 use Rattle.edit_history.specs.Session.{accepted_or, after_request, after_requests, moved_back, moved_on, NoneRefused}
 
--- all edits of a session, the undone ones behind the done ones, are accepted in turn
+-- all edits of a session, the undone ones after the done ones, are accepted in turn
 abbrev AllAccepted : Session → Type 0
 AllAccepted s = IsOk (effects s.base (s.done ++ s.undone))
 

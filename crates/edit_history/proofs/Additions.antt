@@ -134,7 +134,7 @@ gets d name i x sound is_named = by_item (item_at (lists_of d) i) refl is_named.
 
 -- ---- the limits
 
--- an LSA that may stand in a section of that name, and for which there is room
+-- an LSA that may be in a section with this name, and for which there is room
 pub record IsNew (db : Lists) (name : Section) (x : List ℕ) : Type 0 where
   pub accepted : IsAccepted x
   pub scope : (head : Option AreaHead) → is_head_of name head ≡ true → is_in_scope head (key_of x) ≡ true

@@ -79,7 +79,8 @@ module _ (g : List Place → List Place) where
       ap (cond (is_as_wide s.area) (Some (section_of s)))
       (found_kept d n i (and_parts (is_some s.area) (areas_first n (heads_of (lists_of d))) first).1 (omega (arith, below)))
 
--- what stays from places to places: that the first n sections are areas, and the LSAs of AS scope
+-- what stays from places to places: the first n sections are areas, and the LSAs of AS scope are
+-- the same
 record Stays (n : ℕ) (d e : Places) : Type 0 where
   pub first : AreasFirst n e
   pub same : of_as (lists_of e) ≡ of_as (lists_of d)

@@ -1,4 +1,4 @@
--- The first LSA that is looked for, among the keys of a range.
+-- The first wanted LSA, among the keys of a range.
 use Rattle.std.proofs.Common.{◌≡◌, ℕ, zero, suc, ◌+◌, ◌<◌, ◌≤◌, min, Bool, true, false, cond, List, [], ◌∷◌, ◌++◌, length, take, get_or, Option, Some, None, refl, sym, ap, ◌∙◌, subst, arith, ⊎_elim}
 use Rattle.std.specs.Prelude.{All, IfSome, IsSome, IsSomeAnd}
 use Rattle.std.specs.List.{find}
@@ -67,7 +67,7 @@ stands_at w d section i = passes (is_wanted w) (slot_at d (slot_of section i))
 abbrev Comes : Wanted → Places → ℕ → Option ℕ → KeyAt → Type 0
 Comes w d section first noted = is_wanted_by_key w d section noted ≡ true → IsUpTo first noted.index
 
--- the least index of those noted at which an LSA stands that is looked for
+-- the least index among those noted at which there is a wanted LSA
 pub record IsLeast (w : Wanted) (d : Places) (section : ℕ) (keys : List KeyAt) (first : Option ℕ) : Type 0 where
   pub stands : IfSome first (λ m. passes (is_wanted w) (slot_at d (slot_of section m)) ≡ true)
   pub least : All (λ noted. is_wanted_by_key w d section noted ≡ true → IsSomeAnd first (λ m. m ≤ noted.index)) keys
@@ -117,7 +117,7 @@ module _ (w : Wanted) (d : Places) (section : ℕ) (keys : List KeyAt) (noted : 
 
 -- ---- the first of a section
 
--- an LSA stands here that is looked for, and none further in front
+-- a wanted LSA is here, and none before it
 pub first_at : (w : Wanted) (d : Places) (section m : ℕ) → passes (is_wanted w) (slot_at d (slot_of section m)) ≡ true
     → ((i : ℕ) (x : List ℕ) → item_at (places_in d section) i ≡ Some (Some x) → is_wanted w x ≡ true → m ≤ i)
     → IsFirstPlace d section (is_wanted w) (slot_of section m)
@@ -134,7 +134,7 @@ first_at w d section m stands up_to =
     some_is None x e = absurd cc
     some_is (Some y) x e = refl
 
--- no LSA is there that is looked for
+-- there is no wanted LSA
 pub none_at : (w : Wanted) (d : Places) (section : ℕ)
     → ((i : ℕ) (x : List ℕ) → item_at (places_in d section) i ≡ Some (Some x) → is_wanted w x ≡ true → ⊥)
     → find (is_wanted w) (lsas_in d section) ≡ None
@@ -147,7 +147,7 @@ none_at w d section none =
 module _ (w : Wanted) (d : Places) (section : ℕ) (low high : Key) (keys : List KeyAt) (first : Option ℕ)
     (keyed : AreKeysBetween (places_in d section) low high keys) (covered : HaveKeysBetween (is_wanted w) low high)
     (found : IsLeast w d section keys first) where
-  -- an LSA that is looked for stands no further in front than the one that was found
+  -- a wanted LSA is not before the one that was found
   up_to : (i : ℕ) (lsa : List ℕ) → item_at (places_in d section) i ≡ Some (Some lsa) → is_wanted w lsa ≡ true → IsUpTo first i
   up_to i lsa at pass =
       let there : stands_at w d section i ≡ true = ap (passes (is_wanted w)) (place_there d section i (Some lsa) at) ∙ pass in

@@ -1,4 +1,4 @@
--- The records around the cursor, as they are seen from the vector.
+-- The records around the cursor, as they are read from the vector.
 use Rattle.std.proofs.Common.{◌≡◌, ℕ, zero, suc, ◌+◌, ◌-◌, ◌<◌, ◌≤◌, Bool, true, false, ◌||◌, List, [], ◌∷◌, ◌++◌, length, get_or, take, drop, Some, refl}
 use Rattle.std.proofs.Common.{sym, ap, ◌∙◌, arith}
 use Rattle.std.specs.Prelude.{reverse, slice_set}
@@ -40,7 +40,7 @@ drop_set_next [] i v = refl
 drop_set_next (x ∷ xs) zero v = refl
 drop_set_next (x ∷ xs) (suc i) v = drop_set_next xs i v
 
--- what is seen at a cursor
+-- what is read at a cursor
 abbrev pub seen : List RecordData → ℕ → HistoryData
 seen items cursor = record { past = reverse (take cursor items); future = drop cursor items }
 

@@ -91,7 +91,7 @@ in_it name fate head section ps named =
     same_swaps (fate_in (is_head_of name head) fate) fate section (section_name head) 0 ps (λ x. ap (λ (b : Bool). fate_in b fate x) named)
     ∙ ap (λ (n : Section). section_swaps fate section n 0 ps) (sym (name_is name head named))
 
--- behind the section of that name
+-- after the section with this name
 none_behind : (name : Section) (fate : List ℕ → Fate) (head : Option AreaHead) (d : Places) (k : ℕ) → is_head_of name head ≡ true
     → All (IsBefore head) (heads_of (lists_of d)) → swaps_from (within name fate).fates k d ≡ []
 none_behind name fate head [] k named behind = refl
@@ -149,7 +149,7 @@ has_section d name i named some = by_item (item_at d i) refl some where
 within_safe : (name : Section) (fate : List ℕ → Fate) → ((x : List ℕ) → IsAccepted x → IsSafeFate x (fate x)) → IsSafe (within name fate).fates
 within_safe name fate safe head x accepted = safe_if x (is_head_of name head) (fate x) stays (λ _. safe x accepted) (λ _. tt)
 
--- the swaps of one section do what its rule says
+-- the swaps of one section do what its rule requires
 pub section_carried_out : (d : Places) (name : Section) (fate : List ℕ → Fate) (i : ℕ) → IsDatabase (lists_of d) → IsNamed d name i → IsSome (item_at d i)
     → ((x : List ℕ) → IsAccepted x → IsSafeFate x (fate x))
     → CarriesOutRule d (within name fate) (section_swaps fate i name 0 (places_in d i))
@@ -158,12 +158,12 @@ section_carried_out d name fate i sound named some safe =
     subst (CarriesOutRule d (within name fate)) (one_from name fate d 0 i i h.section (omega arith) sound.heads.order h.at h.named)
     (fates_carried_out (within name fate).fates d (within_safe name fate safe) sound)
 
--- the swaps of all sections do what the rule of a router says
+-- the swaps of all sections do what the rule of a router requires
 pub router_carried_out : (d : Places) (router : RouterId) → IsDatabase (lists_of d)
     → CarriesOutRule d (by_fates (λ head. router_fate router)) (swaps_from (λ head. router_fate router) 0 d)
 router_carried_out d router sound = fates_carried_out (λ head. router_fate router) d (λ head x accepted. router_safe router x accepted) sound
 
--- ---- one place more, one section more
+-- ---- one more place, one more section
 
 pub swaps_at : (fate : List ℕ → Fate) (section : ℕ) (name : Section) (i : ℕ) (p : Place) (rest : List Place)
     → section_swaps fate section name i (p ∷ rest) ≡ option_to_list

@@ -21,13 +21,13 @@ use Rattle.edit_history.specs.Applied.{told}
 use Rattle.edit_history.proofs.RuleOutcomes.{after, change}
 use Rattle.edit_history.proofs.RulesCarriedOut.{CarriesOutRule}
 
--- the swaps lead from d to e, each state on the way is a database, and they tell the changes
+-- the swaps lead from d to e, each state on the way is a database, and they have the changes
 pub record Leads (d e : Places) (ss : List SwapData) (cs : List Change) : Type 0 where
   pub can : CanDo d ss
   pub leads : done_places d ss ≡ e
   pub tells : map (told e) (done_swaps d ss) ≡ cs
 
--- every LSA that is rewritten may stand in the place of the old one
+-- every rewritten LSA may take the place of the old one
 abbrev pub IsSafeFate : List ℕ → Fate → Type 0
 IsSafeFate x stays = Unit {0}
 IsSafeFate x removed = Unit {0}
@@ -65,7 +65,7 @@ slot_mid (l ∷ low) high area pre post p v zero i e f = absurd (omega arith)
 slot_mid (l ∷ low) high area pre post p v (suc section) i e f = let rest = slot_mid low high area pre post p v section i (omega arith) f in
     (ap (λ (ls : Places). l ∷ ls) rest.0, rest.1)
 
--- ---- one swap more
+-- ---- one more swap
 
 pub walk_swap : (d m e : Places) (slot : SlotId) (name : Section) (x : List ℕ) (v : Place) (ss : List SwapData) (cs : List Change)
     → IsDatabase (lists_of d) → slot_at d slot ≡ Some (Some x) → IsPutSafe (Some x) v → put d slot v ≡ m → slot_at e slot ≡ Some v
@@ -121,7 +121,7 @@ walk_place fates low high area pre post x (rewritten new) section i safe fits e 
     let there = slot_mid low (places_after fates high) area pre (map (place_after fates area) post) (Some new) None section i e g in
     walk_swap _ _ _ (slot_of section i) (section_name area) x (Some new) _ _ sound here.1 fits here.0 there.1 (rest (Some new))
 
--- the place that was passed stands with those before it
+-- the place that was passed is among those before it
 shifted : (low high high' : Places) (area : Option AreaHead) (pre post post' : List Place) (v : Place) (ss : List SwapData) (cs : List Change)
     → (IsDatabase (lists_of (low ++ section_places area ((pre ++ v ∷ []) ++ post) ∷ high))
     → Leads (low ++ section_places area ((pre ++ v ∷ []) ++ post) ∷ high) (low ++ section_places area ((pre ++ v ∷ []) ++ post') ∷ high') ss cs)
@@ -135,7 +135,7 @@ shifted low high high' area pre post post' v ss cs walks sound =
     (subst (λ (ps : List Place). Leads (low ++ section_places area ps ∷ high)
     (low ++ section_places area ((pre ++ v ∷ []) ++ post') ∷ high') ss cs) one w)
 
--- the section that was passed stands with those before it
+-- the section that was passed is among those before it
 passed : (low high high' : Places) (l s s' : SectionPlaces) (ss : List SwapData) (cs : List Change)
     → (IsDatabase (lists_of ((low ++ l ∷ []) ++ s ∷ high)) → Leads ((low ++ l ∷ []) ++ s ∷ high) ((low ++ l ∷ []) ++ s' ∷ high') ss cs)
     → IsDatabase (lists_of (low ++ l ∷ s ∷ high)) → Leads (low ++ l ∷ s ∷ high) (low ++ l ∷ s' ∷ high') ss cs
@@ -194,14 +194,14 @@ full-after fates area (None ∷ ps) = full-after fates area ps
 full-after fates area (Some x ∷ ps) =
     full-cons (outcome (fates area x) x) (map (place_after fates area) ps) ∙ ap (cons_option (outcome (fates area x) x)) (full-after fates area ps)
 
--- the places show what the fates leave of the lists
+-- the places hold what the fates leave of the lists
 pub lists-after : (fates : Fates) (d : Places) → lists_of (places_after fates d) ≡ lists_after (by_fates fates) (lists_of d)
 lists-after fates [] = refl
 lists-after fates (s ∷ ss) =
     ap (λ (xs : List (List ℕ)). section_with s.area xs ∷ lists_of (places_after fates ss)) (full-after fates s.area s.places)
     ∙ ap (λ (ts : Lists). section_after (by_fates fates) (section_of s) ∷ ts) (lists-after fates ss)
 
--- the swaps of all places do what the fates say
+-- the swaps of all places do what the fates require
 pub fates_carried_out : (fates : Fates) (d : Places) → IsSafe fates → IsDatabase (lists_of d) → CarriesOutRule d (by_fates fates) (swaps_from fates 0 d)
 fates_carried_out fates d safe sound =
     let w = walked fates d safe sound in

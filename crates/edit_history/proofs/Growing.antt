@@ -1,4 +1,4 @@
--- Places that are opened at the ends of sections are no bar to what a history does.
+-- Places that are opened at the ends of sections do not change what a history does.
 use Rattle.std.proofs.Common.{◌≡◌, ℕ, zero, suc, List, [], ◌∷◌, ◌++◌, Option, None, Result, Ok, refl, sym, ap, ◌∙◌, subst}
 use Rattle.std.specs.Prelude.{IsSome, unwrap_or, reverse, map}
 use Rattle.lsdb.specs.Lists.{Lists, IsDatabase}

@@ -1,4 +1,5 @@
--- What a history's last done record and its first undone one tell of the databases beside the one that it is linked to.
+-- A history's last done record and its first undone one, and the databases before and after the one that it is linked
+-- to.
 use Rattle.std.proofs.Common.{◌≡◌, ℕ, List, [], ◌∷◌, drop, Some, refl, sym, ap, ◌∙◌, subst, arith}
 use Rattle.std.specs.Prelude.{IsSome}
 use Rattle.lsdb.specs.declared.slot.SlotId.{SlotId}

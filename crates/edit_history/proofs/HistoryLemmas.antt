@@ -27,7 +27,7 @@ pub use Rattle.edit_history.proofs.Touching.{applied_touches, undo_is, undo_spar
 
 -- ---- how it is linked
 
--- a history with one record more
+-- a history with one more record
 abbrev pub pushed : RecordData → HistoryData → HistoryData
 pushed r h = record { past = r ∷ h.past; future = [] }
 
@@ -98,7 +98,7 @@ reversed_edits (r ∷ rs) =
     ap edits_of (reverse-append (r ∷ []) rs) ∙ map-append (λ (x : RecordData). x.edit) (reverse rs) (r ∷ [])
     ∙ ap (λ (es : List Edit). es ++ r.edit ∷ []) (reversed_edits rs) ∙ sym (reverse_cons r.edit (edits_of rs))
 
--- the done records in the order in which they were carried out, and behind them the undone ones
+-- the done records in the order in which they were carried out, and after them the undone ones
 pub edits_in_order : (d : Places) (h : HistoryData) → edits_of (reverse h.past ++ h.future) ≡ (session_of d h).done ++ (session_of d h).undone
 edits_in_order d h =
     map-append (λ (x : RecordData). x.edit) (reverse h.past) h.future

@@ -1,4 +1,4 @@
--- A router-LSA is rebuilt: another metric for a link, or a link less.
+-- A router-LSA is rebuilt: another metric for a link, or one link removed.
 use Rattle.std.proofs.Common.{◌≡◌, ◌≢◌, ℕ, List, [], ◌∷◌, Result, Ok, Err, refl, sym, ap, ◌∙◌, subst, rules}
 use Rattle.std.specs.Prelude.{IsOk, Some}
 use Rattle.lsa_codec.specs.Key.{router_key}
@@ -33,7 +33,7 @@ Maker = List ℕ → Result (List ℕ) MakeFault
 abbrev rule_from : AreaId → RouterId → Result (List ℕ) EditFault → Result Rule EditFault
 rule_from area router new = new >>= λ lsa. Ok (one_lsa (Area area) (router_key router) (rewritten lsa))
 
--- the edit makes the router-LSA anew
+-- the edit rebuilds the router-LSA
 pub record Remakes (edit : Edit) (area : AreaId) (router : RouterId) (make : Maker) : Type 0 where
   pub row : (db : Lists) → rule_of db edit ≡ remaking db area router make
 
@@ -89,7 +89,7 @@ ruled : (d : Places) (edit : Edit) (area : AreaId) (router : RouterId) (make : M
 ruled d edit area router make slot lsa new remakes at made_new =
     rule_found d edit area router make slot lsa remakes at ∙ ap (λ (a : Result (List ℕ) MakeFault). rule_from area router (made a)) made_new
 
--- memory ran out behind the new LSA
+-- memory ran out after the new LSA was made
 pub no_swap : (d : Places) (edit : Edit) (area : AreaId) (router : RouterId) (make : Maker) (slot : SlotId) (lsa new : List ℕ)
     → Remakes edit area router make → IsFirstLsa d (Area area) (has_key (router_key router)) slot lsa
     → make lsa ≡ Ok new → IsRefused d edit OutOfMemory

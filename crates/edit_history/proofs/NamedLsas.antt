@@ -90,7 +90,7 @@ pub kind_is : (d : Places) (name : Section) (key : Key) (slot : SlotId) (lsa : L
     → kind_of lsa ≡ key.kind
 kind_is d name key slot lsa at = ap (λ (k : Key). k.kind) (key_is d name key slot lsa at)
 
--- no router-LSA is no want of memory
+-- a missing router-LSA does not mean that memory ran out
 not_memory_in : (o : Place) (fault : EditFault) → or_refused NoRouter o ≡ Err fault → fault ≢ OutOfMemory
 not_memory_in None fault is = λ memory. let e : (let r : Result (List ℕ) EditFault = Err NoRouter in r) ≡ Err OutOfMemory =
     is ∙ ap (λ (f : EditFault). let r : Result (List ℕ) EditFault = Err f in r) memory in cc

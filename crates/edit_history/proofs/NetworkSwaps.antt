@@ -1,4 +1,4 @@
--- Where a network goes, LSAs stay whose filter does not have it.
+-- Where a network is removed, LSAs stay whose filter does not have it.
 use Rattle.std.proofs.Common.{◌≡◌, ℕ, suc, ◌==◌, ◌&&◌, ◌<◌, Bool, true, false, List, ◌++◌, drop, length, get_or, Option, Some, None, Result, Ok, Err, refl, sym, ap, ◌∙◌}
 use Rattle.std.specs.Prelude.{filter, not, option_to_list, if◌then◌else◌}
 use Rattle.std.specs.List.{list_any}
@@ -22,7 +22,7 @@ use Rattle.edit_history.specs.steps.Plans.{place_swap, section_swaps, slot_of, s
 use Rattle.edit_history.proofs.FailureFates.{place_turn}
 use Rattle.edit_history.proofs.Searches.{here, place_there}
 
--- an LSA that is not of a network stays where the network goes
+-- an LSA that is not of a network stays where the network is removed
 net_stays : (network : Addr) (lsa : List ℕ) → is_of_network network lsa ≡ false → net_fate network lsa ≡ stays
 net_stays network lsa other = by_router (kind_of lsa == router_lsa) refl other where
   by_router : (b : Bool) → (kind_of lsa == router_lsa) ≡ b

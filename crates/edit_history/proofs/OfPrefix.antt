@@ -1,4 +1,4 @@
--- The first LSA that is looked for, among the places that are noted of its router and its prefix.
+-- The first wanted LSA, among the places that are noted of its router and its prefix.
 use Rattle.std.proofs.Common.{◌≡◌, ℕ, ◌+◌, ◌<◌, ◌≤◌, Bool, true, false, List, [], ◌∷◌, ◌++◌, length, map, take, get_or, Option, Some, None, ◌==◌, sym, ap, ◌∙◌, subst, arith, ⊎_elim}
 use Rattle.std.specs.Prelude.{All}
 use Rattle.std.specs.List.{find}
@@ -17,7 +17,7 @@ use Rattle.edit_history.specs.steps.Searching.{AreOriginatedFor}
 use Rattle.edit_history.proofs.Candidates.{stands_at, first_at, none_at}
 use Rattle.edit_history.proofs.Searches.{place_there}
 
--- at none of these places stands an LSA that is looked for
+-- there is no wanted LSA at any of these places
 abbrev pub NoneStands : Wanted → Places → ℕ → List PlaceOfPrefix → Type 0
 NoneStands w d section found = All (λ place. stands_at w d section place.index ≡ false) found
 
@@ -37,7 +37,7 @@ false_and_true b no' yes' = absurd (let e : false ≡ true = sym no' ∙ yes' in
 
 module _ (w : Wanted) (d : Places) (section : ℕ) (router : RouterId) (net : Net) (found : List PlaceOfPrefix)
     (noted : ArePlacesOfPrefix (places_in d section) router net found) (own : AreOriginatedFor router net (is_wanted w)) where
-  -- an LSA that is looked for stands at a place that is noted
+  -- a wanted LSA is at a place that is noted
   record IsNoted (i : ℕ) : Type 0 where
     number : ℕ
     within : number < length found
@@ -56,7 +56,7 @@ module _ (w : Wanted) (d : Places) (section : ℕ) (router : RouterId) (net : Ne
         stands = ap (passes (is_wanted w)) (place_there d section i (Some x) at) ∙ pass;
       }
 
-  -- it is not among the first i, where none of them is looked for
+  -- it is not among the first i, where none of them is wanted
   behind : (i k : ℕ) (e : PlaceOfPrefix) → NoneStands w d section (take i found) → k < length found
       → stands_at w d section (get_or found k e).index ≡ true → i ≤ k
   behind i k e before lt stands = ⊎_elim
@@ -103,7 +103,7 @@ module _ (w : Wanted) (d : Places) (section : ℕ) (router : RouterId) (net : Ne
       miss (length found) (omega arith)
       (subst (λ (es : List PlaceOfPrefix). NoneStands w d section es) (sym (map-id read) ∙ all ∙ sym (take_all (length found) found (omega arith))) before)
 
--- ---- what is looked for is originated by one router for one prefix
+-- ---- a wanted LSA is originated by one router for one prefix
 
 same_prefix : (net : Net) (o : Option Net) → is_prefix net o ≡ true → o ≡ Some net
 same_prefix net None same = absurd cc

@@ -53,7 +53,7 @@ only_one name key x other low high area front back order section named is =
       here = both _ _ (fate_of other) named (own_key key x is);
     }
 
--- ---- what its swap tells
+-- ---- the change of its swap
 
 abbrev change_at : Section → ℕ → Option Place → Option Place → Change
 change_at section kind old new = record { section = section; kind = kind; old = unwrap_or old None; new = unwrap_or new None }

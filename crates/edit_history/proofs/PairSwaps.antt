@@ -31,7 +31,7 @@ use Rattle.edit_history.proofs.RouterSwaps.{slot_is}
 -- ---- fates by place
 
 module _ (fate : List ℕ → Fate) (section : ℕ) (name : Section) where
-  -- all LSAs at these places stay, but for some
+  -- all LSAs at these places stay, except for some
   abbrev Stays : (ℕ → Type 0) → List Place → Type 0
   Stays But ps = (k : ℕ) (x : List ℕ) → item_at ps k ≡ Some (Some x) → (But k → ⊥) → fate x ≡ stays
 

@@ -1,4 +1,5 @@
--- The summary-LSAs get the metrics that they are due: the fates are safe, and they leave the refreshed database.
+-- The summary-LSAs get the metrics that they should have: the fates are safe, and they leave the refreshed
+-- database.
 use Rattle.std.proofs.Common.{◌≡◌, ℕ, Bool, true, false, cond, List, [], ◌∷◌, map, Option, Some, None, refl, ap, ◌∙◌}
 use Rattle.std.specs.Prelude.{◌==◌, ◌||◌, not}
 use Rattle.std.specs.List.{filter_map, cons_option}

@@ -36,7 +36,7 @@ places_same fates area (p ∷ ps) stay =
     let rest = places_same fates area ps stay in
     λ i. here i ∷ rest i
 
--- ---- areas behind others are not the backbone
+-- ---- areas after others are not the backbone
 
 abbrev IsElsewhere : Option AreaHead → Type 0
 IsElsewhere None = Unit {0}

@@ -1,4 +1,5 @@
--- A database whose summary-LSAs have the metrics that they are due stays under a refresh, and no change is told.
+-- A database whose summary-LSAs have the metrics that they should have stays under a refresh, and there are no
+-- changes.
 use Rattle.std.proofs.Common.{◌≡◌, ℕ, Bool, true, false, cond, List, [], ◌∷◌, ◌++◌, map, Option, Some, None, Result, Ok, refl, ap, ◌∙◌}
 use Rattle.std.specs.Prelude.{All}
 use Rattle.std.proofs.lemmas.List.Elements.{All-cons, All-head, All-nil, All-tail, All-weaker}

@@ -1,4 +1,4 @@
--- A refresh is planned, or refused for want of memory alone.
+-- A refresh is planned, or refused because memory ran out.
 use Rattle.std.proofs.Common.{◌≡◌, ◌++◌, ℕ, List, length, take, drop, sym, ap, ◌∙◌, subst}
 use Rattle.std.proofs.Math.Seq.{take-append_seam}
 use Rattle.lsa_codec.specs.Areas.{is_backbone}

@@ -37,7 +37,7 @@ on_and_back s k le =
 
 -- ---- accepted edits
 
--- the edits are behind the done ones
+-- the edits are after the done ones
 record Behind (s t : Session) (es : List Edit) : Type 0 where
   pub base : t.base ≡ s.base
   pub done : t.done ≡ s.done ++ es
@@ -67,7 +67,7 @@ edits_behind s t (e ∷ es) h = by_answer (edited s e) refl h (λ u. edits_behin
   by_answer (Ok u) is more rest = behind_both s u t e es (edited_behind s u e is) (rest u more)
   by_answer (Err fault) is more rest = absurd cc
 
--- undone, as many edits as were accepted leave the database before them
+-- undoing the same number of edits as were accepted leads to the database before them
 pub edits_back : (s t : Session) (es : List Edit) → edited_by s es ≡ Ok t → state (moved_back (length es) t) ≡ state s
 edits_back s t es h =
     let b = edits_behind s t es h in

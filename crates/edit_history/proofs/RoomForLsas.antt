@@ -31,12 +31,12 @@ no_memory_by false true fault is = λ memory. let e : (let r : Result (Unit {0})
     is ∙ ap (λ (g : EditFault). let r : Result (Unit {0}) EditFault = Err g in r) memory in cc
 no_memory_by false false fault is = absurd cc
 
--- no room is no want of memory
+-- a lack of room does not mean that memory ran out
 pub room_not_memory : (db : Lists) (name : Section) (key : Key) (octets : ℕ) (fault : EditFault) → room_for db name key octets ≡ Err fault
     → fault ≢ OutOfMemory
 room_not_memory db name key octets fault is = no_memory_by (list_any (has_key key) (lsas_of name db)) (is_full db name octets) fault is
 
--- what room says
+-- what room means
 pub record IsRoom (db : Lists) (name : Section) (key : Key) (octets : ℕ) : Type 0 where
   pub free : list_any (has_key key) (lsas_of name db) ≡ false
   pub fits : is_full db name octets ≡ false

@@ -65,7 +65,7 @@ found_swaps router section name look [] = []
 found_swaps router section name look (q ∷ qs) =
     option_to_list (place_swap (router_fate router) (slot_of section q.index) name (look q.index)) ++ found_swaps router section name look qs
 
--- what stands at the places, of which the first has index n
+-- the LSAs at the places, of which the first has index n
 abbrev Shows : (ℕ → Option Place) → ℕ → List Place → Type 0
 Shows look n ps = (k : ℕ) → look (n + k) ≡ item_at ps k
 

@@ -1,4 +1,4 @@
--- Swaps that do what a rule says carry an edit out; and what a refusal has to show.
+-- Swaps that do what a rule requires carry an edit out; and what a refusal has to show.
 use Rattle.std.proofs.Common.{◌≡◌, ◌≢◌, List, map, Result, Ok, Err, refl, sym, ap, ◌∙◌, subst}
 use Rattle.std.specs.Prelude.{IsOk}
 use Rattle.lsdb.specs.Lists.{Lists}
@@ -12,7 +12,7 @@ use Rattle.edit_history.specs.Exchange.{SwapData, CanDo, done_places, done_swaps
 use Rattle.edit_history.specs.Applied.{told, CarriesOut, Planned, IsRefused}
 use Rattle.edit_history.proofs.CarriedPlans.{grown_same}
 
--- the swaps do what the rule says
+-- the swaps do what the rule requires
 pub record CarriesOutRule (d : Places) (rule : Rule) (swaps : List SwapData) : Type 0 where
   pub can : CanDo d swaps
   pub leads : lists_after rule (lists_of d) ≡ lists_of (done_places d swaps)

@@ -1,4 +1,4 @@
--- Fates that make no LSA a router-LSA or network-LSA that was none before.
+-- Fates that turn no LSA into a router-LSA or network-LSA.
 use Rattle.std.proofs.Common.{◌≡◌, ℕ, Bool, true, false, cond, List, Option, Some, None, refl, ap, ◌∙◌}
 use Rattle.std.specs.Prelude.{filter, if◌then◌else◌, ◌==◌}
 use Rattle.std.proofs.lemmas.Bool.{eqb-true}
@@ -27,7 +27,7 @@ is_graph_lsa lsa = is_graph_kind (kind_of lsa)
 abbrev pub graph_of : List (List ℕ) → List (List ℕ)
 graph_of lsas = filter is_graph_lsa lsas
 
--- ---- fates that make no LSA one of the graph
+-- ---- fates that turn no LSA into one of the graph
 
 abbrev pub IsSpared : Fate → Type 0
 IsSpared stays = Unit {0}

@@ -102,7 +102,7 @@ other_fault : (prefix : Net) (metric : ℕ) (lsa : List ℕ) (fault : MakeFault)
 other_fault prefix metric lsa fault short is = let e : (let r : Result (List ℕ) MakeFault = Ok (extended prefix metric lsa) in r) ≡ Err fault =
     sym (not_too_long prefix metric lsa short) ∙ is in cc
 
--- only memory is left to be refused
+-- the only possible refusal is that memory ran out
 pub stub_fault : (prefix : Net) (metric : ℕ) (lsa : List ℕ) (fault : MakeFault) → length lsa + 12 ≤ 65535
     → IsMakeFaultOf fault (with_stub prefix metric lsa) → fault_of fault ≡ OutOfMemory
 stub_fault prefix metric lsa faults.NoLink short is = absurd (other_fault prefix metric lsa faults.NoLink short is)

@@ -115,7 +115,7 @@ origin_append : (d : Places) (rs ss : List RecordData) → origin d (rs ++ ss) �
 origin_append d [] ss = refl
 origin_append d (r ∷ rs) ss = origin_append (undone_places d r.swaps) rs ss
 
--- the first k records, and those behind them
+-- the first k records, and those after them
 record LinksBoth (d : Places) (k : ℕ) (rs : List RecordData) : Type 0 where
   pub first : LinksBack d (take k rs)
   pub rest : LinksBack (origin d (take k rs)) (drop k rs)

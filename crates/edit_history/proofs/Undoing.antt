@@ -30,7 +30,7 @@ set-front [] ts i s lt = absurd (omega arith)
 set-front (t ∷ ss) ts zero s lt = refl
 set-front (t ∷ ss) ts (suc i) s lt = ap (λ (us : List SwapData). t ∷ us) (set-front ss ts i s (omega arith))
 
--- the list in memory before a turn, by the swap that stands at its index
+-- the list in memory before a turn, by the swap at its index
 pub undo_turn : (d now : Places) (ss items : List SwapData) (i j : ℕ) (s : SwapData) → j ≡ suc i → j ≤ length ss → CanUndo d ss
     → now ≡ undone_places d (drop j ss) → items ≡ take j ss ++ undone_swaps d (drop j ss) → s ≡ get_or items i s
     → IsSome (slot_at now s.slot) × IsDatabase (lists_of (put now s.slot s.other)) × (put now s.slot s.other ≡ undone_places d (drop i ss))

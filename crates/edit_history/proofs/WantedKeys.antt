@@ -1,4 +1,4 @@
--- The keys that LSAs may have that are looked for by more than their keys.
+-- The keys that LSAs may have that are looked up by more than their keys.
 use Rattle.std.proofs.Common.{◌≡◌, ℕ, ◌+◌, ◌-◌, ◌^◌, ◌<◌, ◌≤◌, Bool, true, false, ◌||◌, ◌==◌, cond, List, Some, None, refl, sym, ap, ◌∙◌, arith}
 use Rattle.std.specs.Prelude.{bit_and}
 use Rattle.std.proofs.lemmas.Bool.{and_parts, eqb-true}
@@ -24,7 +24,7 @@ use Rattle.edit_history.specs.steps.Searching.{HaveKeysBetween, last_addr_of, ma
 mask_short : (len : ℕ) → mask_of_len len < 2 ^ 32
 mask_short len = omega (arith, pow_pos (32 - len))
 
--- an address is its part within a mask and its part without it
+-- an address is the sum of its part within a mask and its part outside it
 addr_parts : (addr mask : ℕ) → addr < 2 ^ 32 → mask < 2 ^ 32 → addr ≤ bit_and addr mask + (2 ^ 32 - 1 - mask)
 addr_parts addr mask lt short =
     omega (arith, and-not 32 mask addr short lt, and_le_l (2 ^ 32 - 1 - mask) addr, and_comm mask addr)

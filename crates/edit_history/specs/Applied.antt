@@ -1,4 +1,4 @@
--- What carrying out an edit leaves, and what its record tells.
+-- What carrying out an edit leaves, and the contents of its record.
 use Rattle.std.specs.Prelude.{◌≡◌, ◌≢◌, List, length, map, unwrap_or, None, Ok, Err, IsOk}
 use Rattle.lsa_codec.specs.declared.address.AreaId.{AreaId}
 use Rattle.lsdb.specs.Places.{Places, slot_at, lists_of}
@@ -10,11 +10,11 @@ use Rattle.edit_history.specs.Effect.{effect, changes, touched}
 use Rattle.edit_history.specs.Exchange.{SwapData, RecordData, CanDo, CanUndo, done_places, done_swaps, undone_places, touches}
 use Rattle.edit_history.specs.Grown.{Grown}
 
--- the change that a swap tells once it is done: it holds the old bytes, and the new ones stand at its place
+-- the change of a swap that is done: the swap holds the old bytes, and the new ones are at its place
 abbrev pub told : Places → SwapData → Change
 told e s = record { section = s.section; kind = s.kind; old = s.other; new = unwrap_or (slot_at e s.slot) None }
 
--- the swaps carry the edit out, and then tell its changes
+-- the swaps carry the edit out, and then have its changes
 pub record CarriesOut (d : Places) (edit : Edit) (swaps : List SwapData) : Type 0 where
   pub can : CanDo d swaps
   pub leads : effect (lists_of d) edit ≡ Ok (lists_of (done_places d swaps))
@@ -25,14 +25,14 @@ pub record Planned (d e : Places) (edit : Edit) (swaps : List SwapData) : Type 0
   pub opens : Grown d e
   pub carries : CarriesOut e edit swaps
 
--- the edit led to this database; the swaps tell its changes, and take it back
+-- the edit led to this database; the swaps have its changes, and take it back
 pub record TakesBack (e : Places) (edit : Edit) (swaps : List SwapData) : Type 0 where
   pub can : CanUndo e swaps
   pub leads : effect (lists_of (undone_places e swaps)) edit ≡ Ok (lists_of e)
   pub tells : changes (lists_of (undone_places e swaps)) edit ≡ Ok (map (told e) swaps)
 
--- the edit led from d to e; the record holds the edit, tells its changes, and undone it leads back to d,
--- but for places that were opened at the ends of sections
+-- the edit led from d to e; the record holds the edit and has its changes, and undoing it leads back to
+-- d, except for places that were opened at the ends of sections
 pub record Applied (d e : Places) (edit : Edit) (r : RecordData) : Type 0 where
   pub same : r.edit ≡ edit
   pub leads : effect (lists_of d) edit ≡ Ok (lists_of e)
@@ -40,7 +40,7 @@ pub record Applied (d e : Places) (edit : Edit) (r : RecordData) : Type 0 where
   pub can : CanUndo e r.swaps
   pub before : Grown d (undone_places e r.swaps)
 
--- the edit is refused so; memory ran out only for an edit that would be carried out
+-- the edit is refused with this fault; memory ran out only for an edit that would be carried out
 pub record IsRefused (d : Places) (edit : Edit) (fault : EditFault) : Type 0 where
   pub known : fault ≢ OutOfMemory → effect (lists_of d) edit ≡ Err fault
   pub memory : fault ≡ OutOfMemory → IsOk (effect (lists_of d) edit)

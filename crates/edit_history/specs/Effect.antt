@@ -71,16 +71,16 @@ has_router router db = list_any (is_in_section router) db
 abbrev pub stub_octets : ℕ
 stub_octets = 12
 
--- whether the dump would be too long with so many bytes more
+-- whether the dump would be too long with this number of additional bytes
 abbrev pub is_dump_full : Lists → ℕ → Bool
 is_dump_full db more = nat_lt longest_dump (size db + more)
 
--- the most LSAs that a section holds
+-- the maximum number of LSAs of a section
 abbrev pub most_lsas : Section → ℕ
 most_lsas (Area id) = most_lsas_of_area
 most_lsas AsWide = most_lsas_of_as
 
--- whether a section or the dump would pass its limit with an LSA more, of so many bytes
+-- whether a section or the dump would pass its limit with one more LSA of this length in bytes
 abbrev pub is_full : Lists → Section → ℕ → Bool
 is_full db name octets = nat_le (most_lsas name) (length (lsas_of name db)) || is_dump_full db octets
 
@@ -107,24 +107,24 @@ is_originated_for kind router net lsa = (kind_of lsa == kind) && ((advertising_r
 abbrev pub is_network : Addr → List ℕ → Bool
 is_network network lsa = (kind_of lsa == network_lsa) && (link_state_id_of lsa == network.0)
 
--- a router-LSA without the links that go; where it has none of them it stays as it is
+-- a router-LSA without the links that are removed; where it has none of them it stays as it is
 abbrev pub cut : Result (List ℕ) MakeFault → Fate
 cut (Ok new) = rewritten new
 cut (Err fault) = stays
 
--- the point-to-point links between two routers go, on both sides
+-- the point-to-point links between two routers are removed, on both sides
 abbrev pub link_fate : RouterId → RouterId → List ℕ → Fate
 link_fate router neighbor lsa =
     if has_key (router_key router) lsa then cut (without_links (leads_to neighbor) lsa) else
     if has_key (router_key neighbor) lsa then cut (without_links (leads_to router) lsa) else stays
 
--- the network-LSAs of a network go, and all links to it
+-- the network-LSAs of a network are removed, and all links to it
 abbrev pub net_fate : Addr → List ℕ → Fate
 net_fate network lsa =
     if is_network network lsa then removed else
     if kind_of lsa == router_lsa then cut (without_links (leads_to_net network) lsa) else stays
 
--- all LSAs of a router go
+-- all LSAs of a router are removed
 abbrev pub router_fate : RouterId → List ℕ → Fate
 router_fate router lsa = if advertising_router_of lsa == router.0 then removed else stays
 
@@ -134,7 +134,8 @@ are_linked router neighbor lsa other = list_any (leads_to neighbor) (links_of ls
 
 -- ---- new LSAs
 
--- bit E, which says that an area takes AS-external-LSAs, is clear in stub areas alone (RFC 2328, A.2)
+-- bit E, which says that an area accepts AS-external-LSAs, is clear in stub areas alone (RFC 2328,
+-- A.2)
 abbrev pub is_stub : Option AreaHead → Bool
 is_stub None = false
 is_stub (Some area) = area.is_stub
@@ -149,7 +150,7 @@ is_type2 Type2 = true
 abbrev pub has_room : Result (Unit {0}) EditFault
 has_room = Ok tt
 
--- whether a section has room for a new LSA of a key, of so many bytes, or the refusal
+-- whether a section has room for a new LSA with a key and a length in bytes, or the refusal
 abbrev pub room_for : Lists → Section → Key → ℕ → Result (Unit {0}) EditFault
 room_for db name key octets =
     if list_any (has_key key) (lsas_of name db) then Err KeyTaken else

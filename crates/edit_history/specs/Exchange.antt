@@ -1,5 +1,5 @@
--- A record's swaps: each exchanges what it holds with what stands at its place. They are done from the
--- first to the last, and undone from the last to the first.
+-- A record's swaps: each exchanges the LSA that it holds with the one at its place. They are done from
+-- the first to the last, and undone from the last to the first.
 use Rattle.std.specs.Prelude.{◌≡◌, ℕ, Bool, List, [], ◌∷◌, None, IsSome, nat_le, unwrap_or}
 use Rattle.std.specs.List.{list_any}
 use Rattle.lsa_codec.specs.declared.address.AreaId.{AreaId}
@@ -10,15 +10,15 @@ use Rattle.lsdb.specs.Places.{Place, Places, put, slot_at, lists_of}
 use Rattle.edit_script.specs.declared.edit.Edit.{Edit}
 use Rattle.edit_history.specs.Effect.{is_of_graph}
 
--- a place, the section and the LS type of the LSA that stands there or stood there, and what the database
--- lacks of it: the old bytes once the edit is done, the new ones once it is undone
+-- a place, the section and the LS type of the LSA there, and the bytes that the database lacks: the old
+-- ones once the edit is done, the new ones once it is undone
 pub record SwapData : Type 0 where
   pub slot : SlotId
   pub section : Section
   pub kind : ℕ
   pub other : Place
 
--- an edit, and what it exchanges
+-- an edit, and its swaps
 pub record RecordData : Type 0 where
   pub edit : Edit
   pub swaps : List SwapData
@@ -27,7 +27,7 @@ pub record RecordData : Type 0 where
 abbrev pub touches : AreaId → RecordData → Bool
 touches area r = list_any (λ (s : SwapData). is_of_graph area s.section s.kind) r.swaps
 
--- whether the place stands behind the areas, of which the database has so many, among those of AS scope
+-- whether the place is one of AS scope, in a section after the areas of the database
 abbrev pub is_of_as_scope : ℕ → SwapData → Bool
 is_of_as_scope areas s = nat_le areas s.slot.section
 
@@ -35,7 +35,7 @@ is_of_as_scope areas s = nat_le areas s.slot.section
 abbrev pub changes_as_scope : ℕ → RecordData → Bool
 changes_as_scope areas r = list_any (is_of_as_scope areas) r.swaps
 
--- the swap once it has taken what stands at its place
+-- the swap once it has taken what is at its place
 abbrev pub taken : Places → SwapData → SwapData
 taken d s = record { slot = s.slot; section = s.section; kind = s.kind; other = unwrap_or (slot_at d s.slot) None }
 

@@ -10,17 +10,18 @@ pub record HistoryData : Type 0 where
   pub past : List RecordData
   pub future : List RecordData
 
--- a history, and how many records more it has room for behind the done ones
+-- a history, and the number of records that it has room for after the done ones
 pub record HistoryRoom : Type 0 where
   pub lists : HistoryData
   pub room : ℕ
 
--- each done record takes back the edit that led to where the later ones, taken back, lead
+-- each done record takes back its edit from the database to which taking back the later records
+-- leads
 abbrev pub LinksBack : Places → List RecordData → Type 0
 LinksBack d [] = Unit {0}
 LinksBack d (r ∷ rs) = TakesBack d r.edit r.swaps × LinksBack (undone_places d r.swaps) rs
 
--- each undone record carries its edit out on what the earlier ones lead to
+-- each undone record carries its edit out on the database to which the earlier ones lead
 abbrev pub LinksOn : Places → List RecordData → Type 0
 LinksOn d [] = Unit {0}
 LinksOn d (r ∷ rs) = CarriesOut d r.edit r.swaps × LinksOn (done_places d r.swaps) rs

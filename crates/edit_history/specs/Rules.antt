@@ -1,5 +1,5 @@
--- A rule says of each LSA of a database whether it stays, is removed, or is rewritten, and how, and which
--- LSA is added. From it follow the database that it leaves and the list of what it changed.
+-- A rule decides for each LSA of a database whether it stays, is removed, or is rewritten, and how, and
+-- which LSA is added. The database after it and the list of its changes follow from it.
 use Rattle.std.specs.Prelude.{ℕ, List, [], ◌∷◌, ◌++◌, map, Option, Some, None, if◌then◌else◌}
 use Rattle.std.specs.List.{filter_map, flat_map}
 use Rattle.lsa_codec.specs.declared.key.Key.{Key}
@@ -8,13 +8,13 @@ use Rattle.lsdb.specs.declared.section.Section.{Section}
 use Rattle.lsdb.specs.declared.section.Section.TheVariants.{Area, AsWide}
 use Rattle.lsdb.specs.Lists.{AreaHead, SectionLsas, Lists, is_head_of, has_key}
 
--- what becomes of an LSA
+-- the fate of an LSA
 pub data Fate : Type 0 where
   stays : Fate
   removed : Fate
   rewritten : List ℕ → Fate
 
--- the fate of each LSA, by the area in which it lies and its bytes
+-- the fate of each LSA, by its area and its bytes
 abbrev pub Fates : Type 0
 Fates = Option AreaHead → List ℕ → Fate
 
@@ -23,7 +23,7 @@ pub record NewLsa : Type 0 where
   pub section : Section
   pub lsa : List ℕ
 
--- what becomes of the LSAs that are there, and the new LSA, if there is one
+-- the fates of the LSAs that are there, and the new LSA, if there is one
 pub record Rule : Type 0 where
   pub fates : Fates
   pub added : Option NewLsa
@@ -48,7 +48,7 @@ adding name new = record { fates = λ head lsa. stays; added = Some (record { se
 
 -- ---- the database that a rule leaves: each list in its order
 
--- a list with one item more for the new LSA, where it is this section that gets it
+-- a list with one more item for the new LSA, where this section gets it
 abbrev pub with_added : {X : Type 0} → (List ℕ → X) → Option NewLsa → Option AreaHead → List X → List X
 with_added item None head xs = xs
 with_added item (Some new) head xs = if is_head_of new.section head then xs ++ item new.lsa ∷ [] else xs
@@ -81,7 +81,7 @@ abbrev pub section_name : Option AreaHead → Section
 section_name None = AsWide
 section_name (Some area) = Area (record { 0 = area.id })
 
--- an LSA that is rewritten counts, also where its bytes come out equal
+-- a rewritten LSA counts as changed, even where its bytes are equal
 abbrev pub change_of : Section → List ℕ → Fate → Option Change
 change_of section lsa stays = None
 change_of section lsa removed = Some (record { section = section; kind = kind_of lsa; old = Some lsa; new = None })

@@ -10,8 +10,8 @@ use Rattle.edit_history.specs.Effect.{effect, ◌>>=◌, edit_touches}
 use Rattle.edit_history.specs.Exchange.{RecordData}
 use Rattle.edit_history.specs.Journal.{HistoryData, origin}
 
--- the database at the start, the edits that are done since, in order, and those that were undone, the next
--- to be redone first
+-- the database at the start, the edits done since then, in order, and the edits undone, the next to be
+-- redone first
 pub record Session : Type 0 where
   pub base : Lists
   pub done : List Edit
@@ -68,7 +68,7 @@ moved_on k s = record { base = s.base; done = s.done ++ take k s.undone; undone 
 
 -- ---- the sessions that requests lead to
 
--- what a session is asked for: an edit, to take edits back, or to carry them out again
+-- a request to a session: an edit, to take edits back, or to carry them out again
 pub data Request : Type 0 where
   edit : Edit → Request
   undo : ℕ → Request
@@ -89,7 +89,7 @@ abbrev pub after_requests : Session → List Request → Session
 after_requests s [] = s
 after_requests s (r ∷ rs) = after_requests (after_request s r) rs
 
--- no done edit is refused on the way from the base, and no undone one on the way from there
+-- no done edit is refused after those before it, from the base on, and no undone one after these
 pub record NoneRefused (s : Session) : Type 0 where
   pub done : effects s.base s.done ≡ Ok (state s)
   pub undone : IsOk (effects (state s) s.undone)

@@ -10,9 +10,11 @@ use edit_script::Edit;
 use lsdb::Database;
 use std::alloc::Allocator;
 
-/// Carries an edit out, and answers its record.
+/// Carries an edit out, and returns its record.
 ///
-/// The first refusal is answered. These are tested, in this order:
+/// # Errors
+///
+/// The first refusal. These are tested, in this order:
 ///
 /// - a cost: `NoArea`, `NoRouter`, `NoLink`, `ZeroCost`; a link that is dropped: `NoArea`,
 ///   `NoRouter`, `NoLink`;
@@ -23,7 +25,7 @@ use std::alloc::Allocator;
 ///   `KeyTaken`, `Full`;
 /// - a new AS-external-LSA: `NoRouter`, `KeyTaken`, `Full`; one that is dropped: `NoExternal`.
 ///
-/// A refresh is refused for want of memory alone.
+/// A refresh fails only where memory ran out.
 ///
 /// [`OutOfMemory`](EditFault::OutOfMemory) comes only for an edit that would be carried out, where
 /// memory ran out. All memory is taken, and a place for a new LSA is opened, before the first LSA
@@ -37,7 +39,7 @@ pub fn apply<A: Allocator + Copy>(
     ensures kept { OnErr result (database.new ≡ database.old) }
 {
     let swaps = plan(database, edit)?;
-    // What is true of it holds along the swaps, and so once they are done.
+    // Its invariant holds after each swap, and so once they are done.
     database.known();
     Ok(Record::commit(database, *edit, swaps))
 }

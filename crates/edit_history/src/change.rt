@@ -1,4 +1,4 @@
-//! The one LSA that a session, or the last edit of one, has changed.
+//! The one LSA that a session changed, or the last edit of one.
 
 ghost use Rattle.std.specs.Prelude.{◌≤◌, IfSome, length};
 ghost use Rattle.edit_history.specs.Changes.{IsOnlyChange, IsLastChange, IsNextChange};
@@ -18,7 +18,7 @@ use std::alloc::{Allocator, Global};
 pub struct Change<'a, A: Allocator = Global> {
     /// The place.
     pub slot: SlotId,
-    /// The LSA that stood there.
+    /// The LSA that was there.
     pub before: &'a Lsa<A>,
 }
 
@@ -36,8 +36,8 @@ fn held_change<A: Allocator + Copy>(kept: &Record<A>) -> Option<Change<'_, A>>
 }
 
 impl<A: Allocator + Copy> History<A> {
-    /// The change that the one done edit made, where one edit is done and it rewrote or removed one
-    /// LSA; else `None`. It takes no memory.
+    /// The change of the one done edit, where exactly one edit is done and it rewrote or removed
+    /// one LSA; otherwise `None`. It takes no memory.
     pub fn only_change(&self) -> Option<Change<'_, A>>
         ensures { IfSome result (λ change. (d : Places) → Links d self.now.lists
             → IsOnlyChange d self.now.lists change.slot change.before.now) }
@@ -48,8 +48,8 @@ impl<A: Allocator + Copy> History<A> {
         held_change(record)
     }
 
-    /// The change that the last done edit made, where it rewrote or removed one LSA and did nothing
-    /// else; else `None`. It takes no memory.
+    /// The change of the last done edit, where it rewrote or removed one LSA and did nothing else;
+    /// otherwise `None`. It takes no memory.
     pub fn last_change(&self) -> Option<Change<'_, A>>
         ensures some { IfSome result (λ change. 1 ≤ length self.now.lists.past) }
         ensures change { IfSome result (λ change. (d : Places) → Links d self.now.lists
@@ -59,8 +59,8 @@ impl<A: Allocator + Copy> History<A> {
         held_change(record)
     }
 
-    /// The change that taking the last edit back made, that is of the first undone edit, where that
-    /// edit rewrites or adds one LSA and does nothing else; else `None`. It takes no memory.
+    /// The change that taking back the first undone edit made, where that edit rewrites or adds one
+    /// LSA and does nothing else; otherwise `None`. It takes no memory.
     pub fn next_change(&self) -> Option<Change<'_, A>>
         ensures some { IfSome result (λ change. 1 ≤ length self.now.lists.future) }
         ensures change { IfSome result (λ change. (d : Places) → Links d self.now.lists

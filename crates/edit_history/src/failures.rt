@@ -1,4 +1,4 @@
-//! Failures: the links between two routers, a network, or a router goes.
+//! Failures: the links between two routers, a network, or a router is removed.
 
 ghost use Rattle.std.specs.Prelude.{◌≡◌, ◌++◌, IsSome, IfOk, IfErr, OnOk, option_to_list};
 ghost use Rattle.std.specs.List.{list_any};
@@ -36,8 +36,8 @@ enum Failure {
     Router(RouterId),
 }
 
-/// The swap of a router-LSA for the one that was made of it without some of its links: none where
-/// it has no such link. The error is want of memory.
+/// The swap of a router-LSA for the one made from it without some of its links: none where it has
+/// no such link. The only error is that memory ran out.
 fn shortened<A: Allocator + Copy>(
     slot: SlotId,
     section: Section,
@@ -52,7 +52,7 @@ fn shortened<A: Allocator + Copy>(
     }
 }
 
-/// The swap for an LSA at a place where the point-to-point links between two routers go.
+/// The swap for an LSA at a place where the point-to-point links between two routers are removed.
 fn swap_for_links<A: Allocator + Copy>(
     alloc: A,
     slot: SlotId,
@@ -75,7 +75,7 @@ fn swap_for_links<A: Allocator + Copy>(
     Ok(None)
 }
 
-/// The swap for an LSA at a place where a network goes.
+/// The swap for an LSA at a place where a network is removed.
 fn swap_for_network<A: Allocator + Copy>(
     alloc: A,
     slot: SlotId,
@@ -97,7 +97,7 @@ fn swap_for_network<A: Allocator + Copy>(
     Ok(None)
 }
 
-/// The swap for an LSA at a place where a router goes.
+/// The swap for an LSA at a place where a router is removed.
 fn swap_for_router<A: Allocator + Copy>(
     slot: SlotId,
     section: Section,
@@ -114,8 +114,8 @@ fn swap_for_router<A: Allocator + Copy>(
 }
 
 impl Failure {
-    /// The swap that it makes of an LSA at a place; none where the LSA stays. The error is want of
-    /// memory.
+    /// The swap of this failure for an LSA at a place; none where the LSA stays. The only error is
+    /// that memory ran out.
     fn swap<A: Allocator + Copy>(
         self,
         alloc: A,
@@ -137,7 +137,7 @@ impl Failure {
     }
 }
 
-/// Adds the swap of a place, if it has one. The error is want of memory.
+/// Adds the swap of a place, if it has one. The only error is that memory ran out.
 fn add_swap<A: Allocator + Copy>(
     database: &Database<A>,
     slot: SlotId,
@@ -162,8 +162,9 @@ fn add_swap<A: Allocator + Copy>(
     Ok(())
 }
 
-/// Adds the swaps of the places of a section where a network goes, by the section's number and its
-/// name. It looks at the LSAs alone that may be of the network. The error is want of memory.
+/// Adds the swaps of the places of a section where a network is removed, by the section's number
+/// and its name. It looks only at LSAs that may be of the network. The only error is that memory
+/// ran out.
 fn add_swaps_of_network<A: Allocator + Copy>(
     database: &Database<A>,
     number: usize,
@@ -192,8 +193,8 @@ fn add_swaps_of_network<A: Allocator + Copy>(
     Ok(())
 }
 
-/// The swaps of the places of an area where a network goes, by the area's number and its ID. The
-/// error is want of memory.
+/// The swaps of the places of an area where a network is removed, by the area's number and its ID.
+/// The only error is that memory ran out.
 fn swaps_of_network<A: Allocator + Copy>(
     database: &Database<A>,
     number: usize,
@@ -211,7 +212,7 @@ fn swaps_of_network<A: Allocator + Copy>(
     Ok(swaps)
 }
 
-/// Two places, in the order in which they stand in their section.
+/// Two places, in the order of their section.
 fn in_order(one: SlotId, other: SlotId) -> (SlotId, SlotId)
     ensures { result ≡ in_order one other }
 {
@@ -222,7 +223,7 @@ fn in_order(one: SlotId, other: SlotId) -> (SlotId, SlotId)
     }
 }
 
-/// The swaps of two places, in their order. The error is want of memory.
+/// The swaps of two places, in their order. The only error is that memory ran out.
 fn swaps_of_pair<A: Allocator + Copy>(
     database: &Database<A>,
     places: (SlotId, SlotId),
@@ -271,8 +272,8 @@ fn are_linked<A: Allocator + Copy>(
     has_link_to(lsa, neighbor) || has_link_to(other, router)
 }
 
-/// The point-to-point links between two routers go, on both sides. A router-LSA without such a
-/// link stays as it is.
+/// The point-to-point links between two routers are removed, on both sides. A router-LSA without
+/// such a link stays as it is.
 pub(crate) fn plan_fail_link<A: Allocator + Copy>(
     database: &Database<A>,
     area: AreaId,
@@ -283,7 +284,7 @@ pub(crate) fn plan_fail_link<A: Allocator + Copy>(
         (λ v. Planned database.now database.now (FailLink area router neighbor) v.items) }
     ensures refused { IfErr result (λ f. IsRefused database.now (FailLink area router neighbor) f) }
 {
-    // What is true of it has to hold after each swap too.
+    // Its invariant is needed after each swap too.
     database.known();
     area_section(database, area)?;
     if router == neighbor {
@@ -304,7 +305,7 @@ pub(crate) fn plan_fail_link<A: Allocator + Copy>(
     )
 }
 
-/// The network-LSAs of a network go, and all links of router-LSAs to it.
+/// The network-LSAs of a network are removed, and all links of router-LSAs to it.
 pub(crate) fn plan_fail_net<A: Allocator + Copy>(
     database: &Database<A>,
     area: AreaId,
@@ -314,7 +315,7 @@ pub(crate) fn plan_fail_net<A: Allocator + Copy>(
         (λ v. Planned database.now database.now (FailNet area network) v.items) }
     ensures refused { IfErr result (λ f. IsRefused database.now (FailNet area network) f) }
 {
-    // What is true of it has to hold after each swap too.
+    // Its invariant is needed after each swap too.
     database.known();
     let number = area_section(database, area)?;
     let Some(_) = first(database, Section::Area(area), &Wanted::Network(network)) else {
@@ -334,8 +335,8 @@ fn section_name<A: Allocator + Copy>(database: &Database<A>, number: usize) -> S
     }
 }
 
-/// Adds the swaps of the places of a section where a router goes, by the section's number. It looks
-/// at the places alone that are noted of the router. The error is want of memory.
+/// Adds the swaps of the places of a section where a router is removed, by the section's number. It
+/// looks only at the places that are noted of the router. The only error is that memory ran out.
 fn add_swaps_of_router<A: Allocator + Copy>(
     database: &Database<A>,
     number: usize,
@@ -361,7 +362,7 @@ fn add_swaps_of_router<A: Allocator + Copy>(
     Ok(())
 }
 
-/// All LSAs that a router originated go, in all areas and those of AS scope.
+/// All LSAs that a router originated are removed, in all areas and in those of AS scope.
 pub(crate) fn plan_fail_router<A: Allocator + Copy>(
     database: &Database<A>,
     router: RouterId,
@@ -370,7 +371,7 @@ pub(crate) fn plan_fail_router<A: Allocator + Copy>(
         (λ v. Planned database.now database.now (FailRouter router) v.items) }
     ensures refused { IfErr result (λ f. IsRefused database.now (FailRouter router) f) }
 {
-    // What is true of it has to hold after each swap too.
+    // Its invariant is needed after each swap too.
     database.known();
     if !has_router(database, router) {
         return Err(EditFault::NoRouter);

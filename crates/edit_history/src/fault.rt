@@ -1,4 +1,4 @@
-//! Why an edit is refused, and why an edit can't be undone or redone.
+//! Why an edit is refused, and why an edit cannot be undone or redone.
 
 ghost use Rattle.std.specs.Prelude.{◌≡◌, codes};
 ghost use Rattle.edit_history.specs.Fault.{code_of, name_of, fault_of};
@@ -20,7 +20,7 @@ pub enum EditFault {
     /// E3: the router-LSA has no such link.
     #[error("NoLink")]
     NoLink,
-    /// E4: an interface to a router or a transit network would cost 0 (RFC 2328, C.3).
+    /// E4: the cost of an interface to a router or a transit network would be 0 (RFC 2328, C.3).
     #[error("ZeroCost")]
     ZeroCost,
     /// E5: both ends of a link are one router.
@@ -75,7 +75,7 @@ impl EditFault {
         }
     }
 
-    /// The fault's name, as replies print it behind the code.
+    /// The fault's name, as replies print it after the code.
     pub fn name(self) -> &'static str
         ensures { result.now ≡ name_of self }
     {
@@ -118,7 +118,7 @@ impl From<MakeFault> for EditFault {
     }
 }
 
-/// Why edits can't be undone. Its text is its name.
+/// Why edits cannot be undone. Its text is its name.
 #[derive(Clone, Copy, Debug, PartialEq, Eq, Error)]
 pub enum UndoFault {
     /// U1: fewer edits are done than are to be undone.
@@ -136,7 +136,7 @@ impl UndoFault {
         }
     }
 
-    /// The fault's name, as replies print it behind the code.
+    /// The fault's name, as replies print it after the code.
     pub fn name(self) -> &'static str
         ensures { result.now ≡ codes "NothingToUndo" }
     {
@@ -146,7 +146,7 @@ impl UndoFault {
     }
 }
 
-/// Why edits can't be redone. Its text is its name.
+/// Why edits cannot be redone. Its text is its name.
 #[derive(Clone, Copy, Debug, PartialEq, Eq, Error)]
 pub enum RedoFault {
     /// U2: fewer edits are undone than are to be redone.
@@ -164,7 +164,7 @@ impl RedoFault {
         }
     }
 
-    /// The fault's name, as replies print it behind the code.
+    /// The fault's name, as replies print it after the code.
     pub fn name(self) -> &'static str
         ensures { result.now ≡ codes "NothingToRedo" }
     {

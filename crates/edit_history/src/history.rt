@@ -18,7 +18,7 @@ fn any_touches<A: Allocator + Copy>(records: &[Record<A>], area: AreaId) -> bool
     records.iter().any(|record| record.touches(area))
 }
 
-/// Whether one of some records changes LSAs of AS scope. The database has so many areas.
+/// Whether one of some records changes LSAs of AS scope. The database has `areas` areas.
 fn any_changes_as_scope<A: Allocator + Copy>(records: &[Record<A>], areas: usize) -> bool
     ensures { result ≡ list_any (changes_as_scope areas) records.now }
 {
@@ -67,14 +67,14 @@ impl<A: Allocator + Copy> History<A> {
         }
     }
 
-    /// How many edits are done.
+    /// The number of edits that are done.
     pub fn done(&self) -> usize
         ensures { result ≡ length self.now.lists.past }
     {
         self.cursor
     }
 
-    /// How many edits are undone.
+    /// The number of edits that are undone.
     pub fn undone(&self) -> usize
         ensures { result ≡ length self.now.lists.future }
     {
@@ -82,8 +82,8 @@ impl<A: Allocator + Copy> History<A> {
     }
 
     /// The records of all edits: of those that are done, in the order in which they were carried
-    /// out, and behind them of those that are undone, in the order in which
-    /// [`redo`](History::redo) takes them. It takes no memory.
+    /// out, and after them of those that are undone, in the order in which [`redo`](History::redo)
+    /// takes them. It takes no memory.
     pub fn records(&self) -> &[Record<A>]
         ensures records { result.now ≡ reverse self.now.lists.past ++ self.now.lists.future }
         ensures edits { (d : Places) → edits_of result.now
@@ -106,7 +106,7 @@ impl<A: Allocator + Copy> History<A> {
         &self.records[self.cursor..]
     }
 
-    /// One edit back.
+    /// Takes one edit back.
     fn step_back(&mut self, database: &mut Database<A>)
         requires linked { Links database.old self.old.lists }
         requires some { 0 < length self.old.lists.past }
@@ -120,7 +120,7 @@ impl<A: Allocator + Copy> History<A> {
         revert(database, record);
     }
 
-    /// One edit on.
+    /// Carries one edit out again.
     fn step_on(&mut self, database: &mut Database<A>)
         requires linked { Links database.old self.old.lists }
         requires some { 0 < length self.old.lists.future }
@@ -134,7 +134,7 @@ impl<A: Allocator + Copy> History<A> {
         self.cursor += 1;
     }
 
-    /// The last `count` done edits are taken back.
+    /// Takes the last `count` done edits back.
     #[tactic(auto, using(crate::proofs::Linked::back_more, crate::proofs::Linked::back_none))]
     fn step_back_by(&mut self, database: &mut Database<A>, count: usize)
         requires linked { Links database.old self.old.lists }
@@ -148,7 +148,7 @@ impl<A: Allocator + Copy> History<A> {
         }
     }
 
-    /// The first `count` undone edits are carried out again.
+    /// Carries the first `count` undone edits out again.
     #[tactic(auto, using(crate::proofs::Linked::on_more, crate::proofs::Linked::on_none))]
     fn step_on_by(&mut self, database: &mut Database<A>, count: usize)
         requires linked { Links database.old self.old.lists }
@@ -164,9 +164,12 @@ impl<A: Allocator + Copy> History<A> {
 
     /// Takes the last `count` done edits back. It takes no memory.
     ///
-    /// It is refused, and changes nothing, exactly where fewer edits are done. A `count` of 0 is
-    /// accepted. The database is the one that the history left, but for empty places that were
-    /// opened since.
+    /// A `count` of 0 is accepted. The database is the one that the history left, except for empty
+    /// places that were opened since.
+    ///
+    /// # Errors
+    ///
+    /// Exactly where fewer edits are done. Then nothing changes.
     pub fn undo(&mut self, database: &mut Database<A>, count: usize) -> Result<(), UndoFault>
         requires { Links database.old self.old.lists }
         ensures linked { Links database.new self.new.lists }
@@ -186,9 +189,12 @@ impl<A: Allocator + Copy> History<A> {
 
     /// Carries the first `count` undone edits out again. It takes no memory.
     ///
-    /// It is refused, and changes nothing, exactly where fewer edits are undone. A `count` of 0 is
-    /// accepted. The database is the one that the history left, but for empty places that were
-    /// opened since.
+    /// A `count` of 0 is accepted. The database is the one that the history left, except for empty
+    /// places that were opened since.
+    ///
+    /// # Errors
+    ///
+    /// Exactly where fewer edits are undone. Then nothing changes.
     pub fn redo(&mut self, database: &mut Database<A>, count: usize) -> Result<(), RedoFault>
         requires { Links database.old self.old.lists }
         ensures linked { Links database.new self.new.lists }
@@ -206,10 +212,10 @@ impl<A: Allocator + Copy> History<A> {
         Ok(())
     }
 
-    /// Whether one of the last `count` done edits touches an area: rewrote, removed or added a
-    /// router-LSA or network-LSA of it. These make up the area's graph (RFC 2328, 16.1); where none
-    /// of the edits touches them, taking the edits back leaves them as they are. It takes no
-    /// memory.
+    /// Whether one of the last `count` done edits touches an area: it rewrote, removed or added a
+    /// router-LSA or network-LSA of the area. These make up the area's graph (RFC 2328, 16.1);
+    /// where none of the edits touches them, taking the edits back leaves them as they are. It
+    /// takes no memory.
     pub fn undo_touches(&self, count: usize, area: AreaId) -> bool
         requires { count ≤ length self.now.lists.past }
         ensures { (d : Places) → Links d self.now.lists
@@ -219,8 +225,8 @@ impl<A: Allocator + Copy> History<A> {
     }
 
     /// Whether one of the last `count` done edits rewrote, removed or added an LSA of AS scope, in
-    /// a database of so many areas. Where none did, taking the edits back leaves those LSAs as they
-    /// are. It takes no memory.
+    /// a database with `areas` areas. Where none did, taking the edits back leaves those LSAs as
+    /// they are. It takes no memory.
     pub fn undo_changes_as_scope(&self, count: usize, areas: usize) -> bool
         requires { count ≤ length self.now.lists.past }
         ensures { result ≡ list_any (changes_as_scope areas) (take count self.now.lists.past) }
@@ -229,7 +235,7 @@ impl<A: Allocator + Copy> History<A> {
     }
 
     /// Whether one of the first `count` undone edits rewrites, removes or adds an LSA of AS scope,
-    /// in a database of so many areas. Where none does, carrying the edits out again leaves those
+    /// in a database with `areas` areas. Where none does, carrying the edits out again leaves those
     /// LSAs as they are. It takes no memory.
     pub fn redo_changes_as_scope(&self, count: usize, areas: usize) -> bool
         requires { count ≤ length self.now.lists.future }
@@ -249,7 +255,7 @@ impl<A: Allocator + Copy> History<A> {
         any_touches(&self.records[self.cursor..self.cursor + count], area)
     }
 
-    /// Makes room for one record behind the done ones.
+    /// Makes room for one record after the done ones.
     ///
     /// # Errors
     ///
@@ -263,13 +269,13 @@ impl<A: Allocator + Copy> History<A> {
     }
 
     /// Adds the record of an edit that was carried out, where room was reserved. The undone records
-    /// go. It takes no memory.
+    /// are dropped. It takes no memory.
     pub fn push(&mut self, latest: Record<A>)
         requires { 0 < self.old.room }
         ensures { self.new.lists ≡ record { past = latest ∷ self.old.lists.past; future = [] } }
     {
         self.records.truncate(self.cursor);
-        // Room was reserved for it, so no memory is wanted, and this does not fail.
+        // Room was reserved for it, so it takes no memory, and this does not fail.
         let _ = self.records.push(latest);
         self.cursor += 1;
     }

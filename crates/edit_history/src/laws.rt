@@ -52,9 +52,9 @@ pub fn no_edit_is_refused()
 {}
 
 /// A history is linked to its database, as [`undo`](crate::History::undo) and
-/// [`redo`](crate::History::redo) ask for: one without edits to every database; one that a record
-/// was pushed to, to the database that [`apply`](crate::apply) left; and places that were opened
-/// since are no bar.
+/// [`redo`](crate::History::redo) require: one without edits to every database, and one to which a
+/// record was pushed to the database that [`apply`](crate::apply) left. It stays linked where
+/// places were opened since.
 pub fn histories_are_linked()
     ensures start { (d : Places) → IsDatabase (lists_of d)
         → Links d (record { past = []; future = [] }) }
@@ -97,9 +97,9 @@ pub fn changes_told()
         → CarriesOut d r.edit r.swaps → changes (lists_of d) r.edit ≡ Ok cs → Tells r cs }
 {}
 
-/// Edits that are undone and redone, or redone and undone, are as they were; and where edits were
-/// accepted, undoing as many leads back to the database before them, and redoing them to the one
-/// after them.
+/// Edits that are undone and redone, or redone and undone, are as they were. Where edits were
+/// accepted, undoing the same number leads back to the database before them, and redoing them to
+/// the one after them.
 pub fn moves()
     ensures redone { (s : Session) (k : ℕ) → k ≤ length s.done → moved_on k (moved_back k s) ≡ s }
     ensures undone { (s : Session) (k : ℕ) → k ≤ length s.undone → moved_back k (moved_on k s) ≡ s }
@@ -126,9 +126,9 @@ pub fn untouched_areas_stay()
         ≡ graph_lsas area (state (session_of d h)) }
 {}
 
-/// A refresh leaves the refreshed database: each covered summary-LSA has the metric that it is due
-/// in that very database. So a second refresh changes no byte, and tells no change. It touches no
-/// area.
+/// A refresh leaves the refreshed database: each covered summary-LSA has the metric that it should
+/// have in that very database. So a second refresh changes no byte, and has no changes. It touches
+/// no area.
 pub fn refresh_settles()
     ensures effect { (db : Lists) → effect db Refresh ≡ Ok (refreshed db) }
     ensures settled { (db : Lists) → IsDatabase db → IsSettled (refreshed db) }

@@ -1,7 +1,7 @@
 //! Edits carried out on a link state database, and the records that undo and redo them exactly.
 //!
-//! [`apply`] carries out one [`Edit`](edit_script::Edit) and answers a [`Record`], which holds of
-//! each LSA that the edit changed the side that the database lacks: the old bytes once the edit is
+//! [`apply`] carries out one [`Edit`](edit_script::Edit) and returns a [`Record`], which holds the
+//! side that the database lacks of each LSA that the edit changed: the old bytes once the edit is
 //! done, the new ones once it is undone. A [`History`] keeps the records of the edits that are done
 //! and of those that are undone, and moves between them without taking memory.
 #![tactic(auto)]

@@ -1,4 +1,4 @@
-//! How much a database holds: whether there is room for more.
+//! The limits of a database: whether there is room for more.
 
 ghost use Rattle.std.specs.Prelude.{◌≡◌, Err, IfErr, OnOk};
 ghost use Rattle.lsdb.specs.Places.{lists_of};
@@ -9,14 +9,14 @@ use lsa_codec::Key;
 use lsdb::{Database, LONGEST_DUMP, MOST_LSAS_OF_AREA, MOST_LSAS_OF_AS, Section};
 use std::alloc::Allocator;
 
-/// Whether the dump would be too long with so many bytes more.
+/// Whether the dump would be too long with this number of additional bytes.
 pub(crate) fn is_dump_full<A: Allocator + Copy>(database: &Database<A>, octets: u16) -> bool
     ensures { result ≡ is_dump_full (lists_of database.now) octets }
 {
     database.size() + usize::from(octets) > LONGEST_DUMP
 }
 
-/// The most LSAs that a section holds.
+/// The maximum number of LSAs of a section.
 fn most_lsas(section: Section) -> usize
     ensures { result ≡ most_lsas section }
 {
@@ -26,7 +26,7 @@ fn most_lsas(section: Section) -> usize
     }
 }
 
-/// Whether a section or the dump would pass its limit with an LSA more, of so many bytes.
+/// Whether a section or the dump would pass its limit with one more LSA of this length in bytes.
 fn is_full<A: Allocator + Copy>(database: &Database<A>, section: Section, octets: u16) -> bool
     ensures { result ≡ is_full (lists_of database.now) section octets }
 {

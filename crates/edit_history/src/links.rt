@@ -15,7 +15,7 @@ use std::alloc::Allocator;
 /// The bytes of a link without TOS metrics (RFC 2328, A.4.2).
 const STUB_OCTETS: u16 = 12;
 
-/// The metric of a link is another one: the cost of an interface (RFC 2328, C.3), told in the
+/// The metric of a link becomes another one: the cost of an interface (RFC 2328, C.3), in the
 /// router-LSA that its router originates for the area (12.4.1).
 pub(crate) fn plan_cost<A: Allocator + Copy>(
     database: &Database<A>,
@@ -28,7 +28,7 @@ pub(crate) fn plan_cost<A: Allocator + Copy>(
         (λ v. Planned database.now database.now (Cost area router link metric) v.items) }
     ensures refused { IfErr result (λ f. IsRefused database.now (Cost area router link metric) f) }
 {
-    // What is true of it has to hold after each swap too.
+    // Its invariant is needed after each swap too.
     database.known();
     let (slot, lsa) = router_lsa(database, area, router)?;
     let new = lsa.with_cost(database.alloc(), link, metric)?;
@@ -36,7 +36,7 @@ pub(crate) fn plan_cost<A: Allocator + Copy>(
     Ok(one_swap(database.alloc(), swap)?)
 }
 
-/// A link goes, with its TOS metrics.
+/// A link is removed, with its TOS metrics.
 pub(crate) fn plan_drop_link<A: Allocator + Copy>(
     database: &Database<A>,
     area: AreaId,
@@ -47,7 +47,7 @@ pub(crate) fn plan_drop_link<A: Allocator + Copy>(
         (λ v. Planned database.now database.now (DropLink area router link) v.items) }
     ensures refused { IfErr result (λ f. IsRefused database.now (DropLink area router link) f) }
 {
-    // What is true of it has to hold after each swap too.
+    // Its invariant is needed after each swap too.
     database.known();
     let (slot, lsa) = router_lsa(database, area, router)?;
     let new = lsa.without_link(database.alloc(), link)?;
@@ -68,7 +68,7 @@ pub(crate) fn plan_add_stub<A: Allocator + Copy>(
     ensures refused { IfErr result
         (λ f. IsRefused database.now (AddStub area router prefix metric) f) }
 {
-    // What is true of it has to hold after each swap too.
+    // Its invariant is needed after each swap too.
     database.known();
     let (slot, lsa) = router_lsa(database, area, router)?;
     if lsa.bytes().len() + usize::from(STUB_OCTETS) > LONGEST_LSA {

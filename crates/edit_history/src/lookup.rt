@@ -17,7 +17,7 @@ use lsa_codec::{Addr, AreaId, EXTERNAL_LSA, Key, Lsa, NETWORK_LSA, Prefix, Route
 use lsdb::{Database, KeyAt, Section, SlotId, prefix_of};
 use std::alloc::Allocator;
 
-/// An LSA that is looked for by more than its key.
+/// An LSA that is looked up by more than its key.
 #[derive(Clone, Copy)]
 pub(crate) enum Wanted {
     /// A network-LSA of the network whose Designated Router has this address.
@@ -29,7 +29,7 @@ pub(crate) enum Wanted {
 }
 
 impl Wanted {
-    /// The least and the greatest key that an LSA may have that is looked for.
+    /// The least and the greatest key that a wanted LSA may have.
     fn key_range(&self) -> (Key, Key)
         ensures { HaveKeysBetween (is_wanted self.now) result.0 result.1 }
     {
@@ -40,8 +40,8 @@ impl Wanted {
         }
     }
 
-    /// The router that originated what is looked for, and the prefix for which it did, if they are
-    /// one alone.
+    /// The router that originated the wanted LSA, and the prefix for which it did, if they are
+    /// fixed.
     fn origin(&self) -> Option<(RouterId, Prefix)>
         ensures { IfSome result
             (λ origin. AreOriginatedFor origin.0 origin.1 (is_wanted self.now)) }
@@ -53,7 +53,7 @@ impl Wanted {
         }
     }
 
-    /// Whether an LSA with this key may be one that is looked for: its router may have made one.
+    /// Whether an LSA with this key may be a wanted one: its router may have originated one.
     fn may_have(&self, key: Key) -> bool
         ensures { result ≡ may_have self.now key }
     {
@@ -64,7 +64,7 @@ impl Wanted {
         }
     }
 
-    /// Whether an LSA is one that is looked for.
+    /// Whether an LSA is a wanted one.
     fn is_met_by<A: Allocator + Copy>(&self, lsa: &Lsa<A>) -> bool
         ensures { result ≡ is_wanted self.now lsa.now }
     {
@@ -85,7 +85,7 @@ impl Wanted {
 }
 
 /// The least and the greatest key of the network-LSAs of a network, whose Link State ID is the
-/// address of its Designated Router (RFC 2328, 12.1.4): any router may have made them.
+/// address of its Designated Router (RFC 2328, 12.1.4): any router may have originated them.
 fn network_keys(network: Addr) -> (Key, Key)
     ensures { HaveKeysBetween (is_network network) result.0 result.1 }
 {
@@ -205,7 +205,7 @@ pub(crate) fn router_lsa<A: Allocator + Copy>(
     router_lsa_in(database, area, router)
 }
 
-/// Whether a router originated a router-LSA that stands in a section, by the section's number.
+/// Whether a router originated a router-LSA in a section, by the section's number.
 fn is_in_section<A: Allocator + Copy>(
     database: &Database<A>,
     section: usize,
@@ -229,7 +229,7 @@ pub(crate) fn has_router<A: Allocator + Copy>(database: &Database<A>, router: Ro
     false
 }
 
-/// Whether an LSA that is looked for stands at a place.
+/// Whether a wanted LSA is at a place.
 fn is_wanted_at<A: Allocator + Copy>(database: &Database<A>, slot: SlotId, wanted: &Wanted) -> bool
     ensures { result ≡ passes (is_wanted wanted.now) (slot_at database.now slot) }
 {
@@ -239,8 +239,8 @@ fn is_wanted_at<A: Allocator + Copy>(database: &Database<A>, slot: SlotId, wante
     wanted.is_met_by(lsa)
 }
 
-/// Whether an LSA that is looked for stands at the place that is noted of a key. Where the key
-/// tells that it is another, its place is not looked at.
+/// Whether a wanted LSA is at the place that is noted of a key. Where the key shows that it is
+/// another, the place is not looked at.
 fn is_wanted_by_key<A: Allocator + Copy>(
     database: &Database<A>,
     section: usize,
@@ -266,8 +266,8 @@ fn lesser(first: Option<usize>, second: usize) -> usize
     }
 }
 
-/// The place of the first LSA of a section that is looked for, by the section's number. It looks
-/// at the places of the LSAs whose keys may be theirs, and not at the others.
+/// The place of the first wanted LSA of a section, by the section's number. It looks only at the
+/// places of LSAs with a key that may be a wanted LSA's.
 fn first_by_keys<A: Allocator + Copy>(
     database: &Database<A>,
     section: usize,
@@ -290,9 +290,8 @@ fn first_by_keys<A: Allocator + Copy>(
     Some(SlotId { section, index })
 }
 
-/// The place of the first LSA of a section that is looked for, by the section's number, where the
-/// router is known that originated it, and the prefix. It looks at the places alone that are noted
-/// of both, up to that LSA.
+/// The place of the first wanted LSA of a section, by the section's number, where its router and
+/// its prefix are known. It looks only at the places that are noted of both, up to that LSA.
 fn first_of_prefix<A: Allocator + Copy>(
     database: &Database<A>,
     section: usize,
@@ -317,8 +316,8 @@ fn first_of_prefix<A: Allocator + Copy>(
     None
 }
 
-/// Whether no more places are noted of a router and a prefix than there are keys that an LSA may
-/// have that is looked for.
+/// Whether the number of places noted of a router and a prefix is at most the number of keys that a
+/// wanted LSA may have.
 fn are_fewer_of_prefix<A: Allocator + Copy>(
     database: &Database<A>,
     section: usize,
@@ -333,8 +332,8 @@ fn are_fewer_of_prefix<A: Allocator + Copy>(
     database.places_of_prefix(section, router, prefix).most() <= keys.most()
 }
 
-/// The place of the first LSA of a section that is looked for, by the section's number. It looks
-/// at the fewer: the places of its router and prefix, or the LSAs whose keys may be its.
+/// The place of the first wanted LSA of a section, by the section's number. It looks at the smaller
+/// of two sets: the places of its router and prefix, or the LSAs with a key that may be its.
 fn first_in<A: Allocator + Copy>(
     database: &Database<A>,
     section: usize,
@@ -353,7 +352,7 @@ fn first_in<A: Allocator + Copy>(
     first_by_keys(database, section, wanted)
 }
 
-/// The first LSA of a section that is looked for, and its place.
+/// The first wanted LSA of a section, and its place.
 pub(crate) fn first<'a, A: Allocator + Copy>(
     database: &'a Database<A>,
     section: Section,

@@ -1,4 +1,4 @@
-//! What an edit exchanges, before anything is exchanged. A plan takes all the memory that the edit
+//! The swaps of an edit, planned before any is done. A plan takes all the memory that the edit
 //! needs and opens the places that it fills, so that a refusal leaves everything as it was.
 
 ghost use Rattle.std.specs.Prelude.{◌≡◌, IfOk, IfErr, OnErr};
@@ -14,7 +14,7 @@ use edit_script::Edit;
 use lsdb::Database;
 use std::alloc::Allocator;
 
-/// What an edit exchanges, or its first refusal.
+/// The swaps of an edit, or its first refusal.
 pub(crate) fn plan<A: Allocator + Copy>(
     database: &mut Database<A>,
     edit: &Edit,

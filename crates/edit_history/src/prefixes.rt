@@ -18,13 +18,13 @@ use lsa_codec::{Addr, AreaId, EXTERNAL_LSA, Key, Lsa, Metric, Prefix, RouterId, 
 use lsdb::{Database, Section};
 use std::alloc::Allocator;
 
-/// How many bytes a new summary-LSA has (RFC 2328, A.4.4).
+/// The length of a new summary-LSA, in bytes (RFC 2328, A.4.4).
 const SUMMARY_OCTETS: u16 = 28;
 
-/// How many bytes a new AS-external-LSA has (RFC 2328, A.4.5).
+/// The length of a new AS-external-LSA, in bytes (RFC 2328, A.4.5).
 const EXTERNAL_OCTETS: u16 = 36;
 
-/// A router's first summary-LSA for a prefix has another metric.
+/// A router's first summary-LSA for a prefix gets another metric.
 pub(crate) fn plan_summary<A: Allocator + Copy>(
     database: &Database<A>,
     area: AreaId,
@@ -37,7 +37,7 @@ pub(crate) fn plan_summary<A: Allocator + Copy>(
     ensures refused { IfErr result
         (λ f. IsRefused database.now (Summary area router prefix metric) f) }
 {
-    // What is true of it has to hold after each swap too.
+    // Its invariant is needed after each swap too.
     database.known();
     area_section(database, area)?;
     let section = Section::Area(area);
@@ -49,7 +49,7 @@ pub(crate) fn plan_summary<A: Allocator + Copy>(
     Ok(one_swap(database.alloc(), swap)?)
 }
 
-/// A router's first AS-external-LSA for a prefix goes.
+/// A router's first AS-external-LSA for a prefix is removed.
 pub(crate) fn plan_drop_external<A: Allocator + Copy>(
     database: &Database<A>,
     router: RouterId,
@@ -59,7 +59,7 @@ pub(crate) fn plan_drop_external<A: Allocator + Copy>(
         (λ v. Planned database.now database.now (DropExternal router prefix) v.items) }
     ensures refused { IfErr result (λ f. IsRefused database.now (DropExternal router prefix) f) }
 {
-    // What is true of it has to hold after each swap too.
+    // Its invariant is needed after each swap too.
     database.known();
     let wanted = Wanted::External(router, prefix);
     let Some((slot, _)) = first(database, Section::AsWide, &wanted) else {
@@ -83,8 +83,8 @@ fn new_key(kind: u8, router: RouterId, prefix: Prefix) -> Key
     }
 }
 
-/// The swap that puts a new LSA at the end of a section, where a place is opened for it. The error
-/// is want of memory.
+/// The swap that puts a new LSA at the end of a section, where a place is opened for it. The only
+/// error is that memory ran out.
 fn plan_new<A: Allocator + Copy>(
     database: &mut Database<A>,
     section: Section,
@@ -99,12 +99,12 @@ fn plan_new<A: Allocator + Copy>(
     let Ok(slot) = database.open_slot(section) else {
         return Err(EditFault::OutOfMemory);
     };
-    // Room was made for one, so no memory is wanted, and this does not fail.
+    // Room was made for one, so it takes no memory, and this does not fail.
     let _ = swaps.push(Swap::new(slot, section, kind, Some(lsa)));
     Ok(swaps)
 }
 
-/// The options of a summary-LSA of an area, by its number: bit E, but in a stub area (RFC 2328,
+/// The options of a summary-LSA of an area, by its number: bit E, except in a stub area (RFC 2328,
 /// A.2).
 fn options_in<A: Allocator + Copy>(database: &Database<A>, number: usize) -> u8
     requires { IsSome (item_at database.now number) }
@@ -130,7 +130,7 @@ pub(crate) fn plan_add_summary<A: Allocator + Copy>(
         (λ f. IsRefused database.old (AddSummary area router prefix metric) f) }
     ensures kept { OnErr result (database.new ≡ database.old) }
 {
-    // What is true of it has to hold after each swap too.
+    // Its invariant is needed after each swap too.
     database.known();
     let number = area_section(database, area)?;
     router_lsa_in(database, area, router)?;
@@ -166,7 +166,7 @@ pub(crate) fn plan_add_external<A: Allocator + Copy>(
         (λ f. IsRefused database.old (AddExternal router prefix metric_type metric forward tag) f) }
     ensures kept { OnErr result (database.new ≡ database.old) }
 {
-    // What is true of it has to hold after each swap too.
+    // Its invariant is needed after each swap too.
     database.known();
     if !has_router(database, router) {
         return Err(EditFault::NoRouter);

@@ -10,7 +10,7 @@ use lsdb::Database;
 use std::alloc::{Allocator, Global};
 use std::marker::Model;
 
-/// An edit that was carried out, and of each LSA that it changed the side that the database lacks:
+/// An edit that was carried out, and the side that the database lacks of each LSA that it changed:
 /// the old bytes once the edit is done, the new ones once it is undone.
 #[derive(Drop)]
 pub struct Record<A: Allocator = Global> {
@@ -50,14 +50,14 @@ impl<A: Allocator + Copy> Record<A> {
         self.edit
     }
 
-    /// How many LSAs the edit rewrote, removed or added.
+    /// The number of LSAs that the edit rewrote, removed or added.
     pub fn len(&self) -> usize
         ensures { result ≡ length self.now.swaps }
     {
         self.swaps.len()
     }
 
-    /// The swap of the edit, where it is one alone.
+    /// The swap of the edit, where it has exactly one.
     pub(crate) fn only_swap(&self) -> Option<&Swap<A>>
         ensures { IfSome result (λ swap. self.now.swaps ≡ swap.now ∷ []) }
     {
@@ -75,7 +75,7 @@ impl<A: Allocator + Copy> Record<A> {
         self.swaps.iter().any(|swap| swap.touches(area))
     }
 
-    /// Whether an LSA of AS scope was among them. The database has so many areas.
+    /// Whether an LSA of AS scope was among them. The database has `areas` areas.
     pub fn changes_as_scope(&self, areas: usize) -> bool
         ensures { result ≡ changes_as_scope areas self.now }
     {
@@ -86,8 +86,8 @@ impl<A: Allocator + Copy> Record<A> {
 /// Takes an edit back: the database is again the one before it, byte for byte. It takes no
 /// memory.
 ///
-/// The database is the one after the edit. Empty places that were opened since at the ends of
-/// sections are no bar.
+/// The database is the one after the edit. Empty places at the ends of sections that were opened
+/// since do not matter.
 pub fn revert<A: Allocator + Copy>(database: &mut Database<A>, last: &mut Record<A>)
     requires { CanUndo database.old last.old.swaps }
     ensures database { database.new ≡ undone_places database.old last.old.swaps }
@@ -99,8 +99,8 @@ pub fn revert<A: Allocator + Copy>(database: &mut Database<A>, last: &mut Record
 /// Carries an edit out again: the database is again the one after it, byte for byte. It takes no
 /// memory.
 ///
-/// The database is the one before the edit. Empty places that were opened since at the ends of
-/// sections are no bar.
+/// The database is the one before the edit. Empty places at the ends of sections that were opened
+/// since do not matter.
 pub fn replay<A: Allocator + Copy>(database: &mut Database<A>, next: &mut Record<A>)
     requires { CanDo database.old next.old.swaps }
     ensures database { database.new ≡ done_places database.old next.old.swaps }

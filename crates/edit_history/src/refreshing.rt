@@ -1,5 +1,6 @@
-//! The summary-LSAs that are there get the metrics that their originators announce (RFC 2328,
-//! 12.4.3): those of the backbone first, and those of the other areas by what this gives.
+//! The summary-LSAs whose metrics follow from the database get the metrics that their originators
+//! announce (RFC 2328, 12.4.3): those of the backbone first, and then those of the other areas by
+//! the database with the refreshed backbone.
 
 ghost use Rattle.std.specs.Prelude.{◌≡◌, ◌++◌, IsSome, IfOk, IfErr, OnOk, OnErr, option_to_list};
 ghost use Rattle.lsdb.specs.declared.section.Section.TheVariants.{Area};
@@ -43,8 +44,8 @@ impl Pass {
     }
 }
 
-/// Adds the swap of a place of an area, if the LSA there is due another metric. The error is want
-/// of memory.
+/// Adds the swap of a place of an area, if the LSA there should have another metric. The only error
+/// is that memory ran out.
 fn add_metric_swap<A: Allocator + Copy>(
     database: &Database<A>,
     slot: SlotId,
@@ -75,7 +76,8 @@ fn add_metric_swap<A: Allocator + Copy>(
     Ok(())
 }
 
-/// Adds the swaps of the places of an area, by its number and its ID. The error is want of memory.
+/// Adds the swaps of the places of an area, by its number and its ID. The only error is that memory
+/// ran out.
 fn add_area_swaps<A: Allocator + Copy>(
     database: &Database<A>,
     number: usize,
@@ -102,8 +104,8 @@ fn add_area_swaps<A: Allocator + Copy>(
     Ok(())
 }
 
-/// Adds the swaps of the places of a section, by its number, if it is an area of the pass. The
-/// error is want of memory.
+/// Adds the swaps of the places of a section, by its number, if it is an area of the pass. The only
+/// error is that memory ran out.
 fn add_pass_swaps<A: Allocator + Copy>(
     database: &Database<A>,
     number: usize,
@@ -130,7 +132,7 @@ fn add_pass_swaps<A: Allocator + Copy>(
     add_area_swaps(database, number, area, known, swaps)
 }
 
-/// The swaps of the LSAs that a pass gives another metric. The error is want of memory.
+/// The swaps of the LSAs that get another metric in a pass. The only error is that memory ran out.
 fn metric_swaps<A: Allocator + Copy>(
     database: &Database<A>,
     pass: Pass,
@@ -149,8 +151,8 @@ fn metric_swaps<A: Allocator + Copy>(
     Ok(swaps)
 }
 
-/// The swaps of the second pass. For it those of the first are done, and undone again, also where
-/// memory runs out, the only error.
+/// The swaps of the second pass. The swaps of the first pass are done for it, and undone again,
+/// even where memory runs out, which is the only error.
 fn other_swaps<A: Allocator + Copy>(
     database: &mut Database<A>,
     first: &mut [Swap<A>],
@@ -164,7 +166,7 @@ fn other_swaps<A: Allocator + Copy>(
     ensures database { database.new ≡ database.old }
     ensures first { first.new ≡ first.old }
 {
-    // What is true of it has to hold after each swap too.
+    // Its invariant is needed after each swap too.
     database.known();
     do_swaps(database, first);
     let others = metric_swaps(database, Pass::OtherAreas, known);
@@ -172,8 +174,8 @@ fn other_swaps<A: Allocator + Copy>(
     others
 }
 
-/// The summary-LSAs that are there get the metrics that their originators announce (RFC 2328,
-/// 12.4.3).
+/// The summary-LSAs whose metrics follow from the database get the metrics that their originators
+/// announce (RFC 2328, 12.4.3).
 pub(crate) fn plan_refresh<A: Allocator + Copy>(
     database: &mut Database<A>,
 ) -> Result<Vec<Swap<A>, A>, EditFault>
@@ -182,7 +184,7 @@ pub(crate) fn plan_refresh<A: Allocator + Copy>(
     ensures refused { IfErr result (λ f. IsRefused database.old Refresh f) }
     ensures kept { OnErr result (database.new ≡ database.old) }
 {
-    // What is true of it has to hold after each swap too.
+    // Its invariant is needed after each swap too.
     database.known();
     let mut known = Originators::new(database.alloc());
     let mut swaps = metric_swaps(database, Pass::Backbone, &mut known)?;

@@ -1,4 +1,4 @@
-//! One place that an edit changes, and what the database lacks of it.
+//! One place that an edit changes, and the LSA that the database lacks there.
 
 ghost use Rattle.std.specs.Prelude.{◌≡◌, ◌∷◌, [], IsSome, IfSome, IfOk, Some};
 ghost use Rattle.lsdb.specs.Lists.{IsDatabase};
@@ -11,8 +11,8 @@ use lsdb::{Database, Section, SlotId};
 use std::alloc::{AllocError, Allocator, Global};
 use std::marker::Model;
 
-/// A place, the section and the LS type of the LSA that stands there or stood there, and what the
-/// database lacks of it: the old LSA once the edit is done, the new one once it is undone.
+/// A place, the section and the LS type of the LSA there, and the LSA that the database lacks: the
+/// old one once the edit is done, the new one once it is undone.
 #[derive(Drop)]
 pub(crate) struct Swap<A: Allocator = Global> {
     slot: SlotId,
@@ -67,15 +67,15 @@ impl<A: Allocator + Copy> Swap<A> {
         }
     }
 
-    /// Whether its place is one of AS scope, which stand behind those of the areas. The database
-    /// has so many areas.
+    /// Whether its place is one of AS scope: their section comes after those of the areas. The
+    /// database has `areas` areas.
     pub(crate) fn is_of_as_scope(&self, areas: usize) -> bool
         ensures { result ≡ is_of_as_scope areas self.now }
     {
         areas <= self.slot.section
     }
 
-    /// Exchanges what stands at the place.
+    /// Exchanges the LSA that it holds with the one at the place.
     fn exchange(&mut self, database: &mut Database<A>)
         requires exists { IsSome (slot_at database.old self.old.slot) }
         requires sound { IsDatabase (lists_of (put database.old self.old.slot self.old.other)) }

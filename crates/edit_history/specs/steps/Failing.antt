@@ -1,4 +1,4 @@
--- What becomes of LSAs where something fails, by what fails.
+-- The fates of LSAs where something fails, by what fails.
 use Rattle.std.specs.Prelude.{List, ℕ, ◌++◌, nat_le, Option, Some, None, Result, Ok, Err, option_to_list, if◌then◌else◌}
 use Rattle.lsa_codec.specs.LsTypes.{router_lsa}
 use Rattle.lsa_codec.specs.declared.fault.MakeFault.{MakeFault}
@@ -21,7 +21,7 @@ fate_by (Links router neighbor) lsa = link_fate router neighbor lsa
 fate_by (Network network) lsa = net_fate network lsa
 fate_by (Router router) lsa = router_fate router lsa
 
--- the swap of a router-LSA for a shorter one; none where no link goes
+-- the swap of a router-LSA for a shorter one; none where no link is removed
 abbrev pub shortened : SlotId → Section → Result (List ℕ) MakeFault → Result (Option SwapData) EditFault
 shortened slot name (Ok new) = Ok (Some (record { slot = slot; section = name; kind = router_lsa; other = Some new }))
 shortened slot name (Err make.NoLink) = Ok None
@@ -37,6 +37,6 @@ in_order one other = if nat_le one.index other.index then (one, other) else (oth
 abbrev pub swaps_at_place : (List ℕ → Fate) → Section → Places → SlotId → List SwapData
 swaps_at_place fate name d slot = option_to_list (place_swap fate slot name (slot_at d slot))
 
--- those of two places
+-- the swaps of two places
 abbrev pub pair_swaps : (List ℕ → Fate) → Section → Places → SlotId × SlotId → List SwapData
 pair_swaps fate name d places = swaps_at_place fate name d places.0 ++ swaps_at_place fate name d places.1

@@ -18,13 +18,13 @@ pub record IsFirstLsa (d : Places) (name : Section) (test : List ℕ → Bool) (
   pub first : find test (lsas_of name (lists_of d)) ≡ Some lsa
   pub held : slot_at d slot ≡ Some (Some lsa)
 
--- the test that an LSA passes that is looked for by more than its key
+-- the test for an LSA that is looked up by more than its key
 abbrev pub is_wanted : Wanted → List ℕ → Bool
 is_wanted (wanted.Network network) lsa = is_network network lsa
 is_wanted (wanted.Summary router prefix) lsa = is_originated_for 3 router prefix lsa
 is_wanted (wanted.External router prefix) lsa = is_originated_for 5 router prefix lsa
 
--- whether an LSA stands at a place and passes a test
+-- whether there is an LSA at a place and it passes a test
 abbrev pub passes : (List ℕ → Bool) → Option Place → Bool
 passes test None = false
 passes test (Some None) = false

@@ -1,4 +1,4 @@
--- Where LSAs that are looked for by more than their keys stand among the keys.
+-- Where LSAs that are looked up by more than their keys are among the keys.
 use Rattle.std.specs.Prelude.{◌≡◌, ℕ, ◌+◌, ◌-◌, ◌^◌, min, Bool, true, ◌&&◌, ◌==◌, List, Option, Some, None}
 use Rattle.lsa_codec.specs.declared.key.Key.{Key}
 use Rattle.lsa_codec.specs.declared.address.RouterId.{RouterId}
@@ -21,17 +21,17 @@ HaveKeysBetween test low high = (lsa : List ℕ) → HaveWidths lsa → test lsa
 abbrev pub AreOriginatedFor : RouterId → Net → (List ℕ → Bool) → Type 0
 AreOriginatedFor router net test = (lsa : List ℕ) → test lsa ≡ true → (advertising_router_of lsa ≡ router.0) × (prefix_of lsa ≡ Some net)
 
--- the last address of a prefix: its address, and all bits past its length 1
+-- the last address of a prefix, with all bits past its length set to 1
 abbrev pub last_addr_of : Net → ℕ
 last_addr_of net = net.addr.0 + (2 ^ 32 - 1 - mask_of_len net.len)
 
--- whether an LSA with this key may be one that is looked for: its router may have made one
+-- whether an LSA with this key may be a wanted one: its router may have originated one
 abbrev pub may_have : Wanted → Key → Bool
 may_have (wanted.Network network) key = true
 may_have (wanted.Summary router prefix) key = key.adv.0 == router.0
 may_have (wanted.External router prefix) key = key.adv.0 == router.0
 
--- whether an LSA that is looked for stands at the place that is noted of a key
+-- whether a wanted LSA is at the place that is noted of a key
 abbrev pub is_wanted_by_key : Wanted → Places → ℕ → KeyAt → Bool
 is_wanted_by_key w d section noted = may_have w noted.key && passes (is_wanted w) (slot_at d (slot_of section noted.index))
 

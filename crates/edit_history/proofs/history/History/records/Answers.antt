@@ -8,7 +8,7 @@ use Rattle.edit_history.proofs.Cursor.{seen}
 use Rattle.edit_history.proofs.HistoryLemmas.{edits_in_order}
 use Rattle.edit_history.proofs.history.History.records.Goals as goal
 
--- the records are those before the cursor, in order, and those behind it
+-- the records are those before the cursor, in order, and those after it
 in_order : (items : List RecordData) (cursor : ℕ) (h : HistoryData) → seen items cursor ≡ h → items ≡ reverse h.past ++ h.future
 in_order items cursor h view =
     subst (λ (k : HistoryData). items ≡ reverse k.past ++ k.future) view
