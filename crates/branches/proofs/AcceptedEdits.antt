@@ -14,7 +14,7 @@ none_if : (b : Bool) (s t : Session) → NoneRefused s → NoneRefused t → Non
 none_if true s t one two = one
 none_if false s t one two = two
 
--- it is so at the start, and stays so with each edit, undo and redo
+-- this holds at the start, and after each edit, undo and redo
 pub record Stays : Type 0 where
   pub start : (db : Lists) → NoneRefused (start db)
   pub edited : (s t : Session) (edit : Edit) → NoneRefused s → edited s edit ≡ Ok t → NoneRefused t

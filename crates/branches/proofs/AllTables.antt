@@ -28,7 +28,7 @@ one_more f xs i d old new o lt before found is =
 pub all_taken : {X Y : Type 0} (f : X → Option Y) (xs : List X) (i : ℕ) (ys : List Y) → length xs ≤ i → ys ≡ filter_map f (take i xs) → ys ≡ filter_map f xs
 all_taken f xs i ys past is = is ∙ ap (filter_map f) (take_all i xs past)
 
--- ---- how many there are
+-- ---- the number of tables
 
 -- a router that is attached to an area has a table
 has_table : (db : Lists) (router : RouterId) (areas : List AreaHead) (rest : List TableValue) → areas ≢ []
@@ -36,7 +36,7 @@ has_table : (db : Lists) (router : RouterId) (areas : List AreaHead) (rest : Lis
 has_table db router [] rest some = absurd (some refl)
 has_table db router (area ∷ areas) rest some = refl
 
--- as many as routers, where each is attached to an area
+-- the number of tables is the number of routers, where each is attached to an area
 pub all_have : (db : Lists) (rs : List RouterId) → ((r : RouterId) → Contains rs r → attached_areas db r ≢ [])
     → length (filter_map (table_in db) rs) ≡ length rs
 unfolding table_in
@@ -45,7 +45,7 @@ all_have db (r ∷ rs) each =
     has_table db r (attached_areas db r) (filter_map (table_in db) rs) (each r (Contains-append_left (r ∷ []) rs r (Contains-push [] r)))
     ∙ ap suc (all_have db rs (λ x there. each x (Contains-append_right (r ∷ []) rs x there)))
 
--- what the routers of a database are found to be
+-- the routers of a database, as they are found
 pub count_found : {A E : Type 0} (db : Lists) (r : Result (Vec RouterId A) E)
     → ((x : RouterId) → Contains (attached_routers db) x → attached_areas db x ≢ [])
     → IfOk r (λ found. found.items ≡ attached_routers db) → IfOk r (λ found. length (filter_map (table_in db) found.items) ≡ length found.items)
@@ -71,7 +71,7 @@ by_parts branch s rs is count =
     ∙ ap (λ l. mark_of branch ++ (codes "tables " ++ decimal (length rs) ++ codes "\n" ++ l)) (sym (each_text (state s) rs))
     ∙ sym (append_assoc (mark_of branch) (codes "tables " ++ decimal (length rs) ++ codes "\n") (router_texts (state s) rs))
 
--- what the routers of the database of a session are found to be
+-- the routers of the database of a session, as they are found
 pub found_parts : {A E : Type 0} (branch : ℕ) (s : Session) (db : Lists) (r : Result (Vec RouterId A) E) → db ≡ state s
     → IfOk r (λ found. found.items ≡ attached_routers db) → IfOk r (λ found. length (filter_map (table_in db) found.items) ≡ length found.items)
     → IfOk r (λ found. reply_text branch (reply_to s command.Tables) ≡ tables_head branch (length found.items) ++ router_texts (state s) found.items)

@@ -73,7 +73,7 @@ resumed_at_start base = λ i branch. either_way (start base) (eqb branch 0) i
 abbrev pub the_named : Session → List (ℕ × Session) → Named
 the_named first others = record { first = first; others = others }
 
--- the session of a number in a list of named branches
+-- the session with a number in a list of named branches
 abbrev pub found : List (ℕ × Session) → ℕ → Option Session
 found es branch = lookup (eq_by_cmp nat_cmp branch) es
 
@@ -98,7 +98,7 @@ first_goes_on named branch t c zeroth is =
 pub first_base : (named : Named) (t : Session) → t.base ≡ named.first.base → HaveOneBase named → HaveOneBase (record { first = t; others = named.others })
 first_base named t same one branch = subst (λ base. IfSome (found named.others branch) (λ s. s.base ≡ base)) (sym same) (one branch)
 
--- another one did
+-- another branch went on
 pub record GoesOn (old new : List (ℕ × Session)) (branch : ℕ) (t : Session) : Type 0 where
   pub at : found new branch ≡ Some t
   pub others : (other : ℕ) → eqb branch other ≡ false → found new other ≡ found old other
@@ -132,7 +132,7 @@ one_base named new branch t is went one other = base_at named new branch t is we
 abbrev its_session : PlannerValue → Session
 its_session p = p.session
 
--- the planner of a number
+-- the planner with a number
 abbrev pub planner_at : List (ℕ × PlannerValue) → ℕ → Option PlannerValue
 planner_at ps branch = lookup (eq_by_cmp nat_cmp branch) ps
 
@@ -155,7 +155,7 @@ pub written : (old new : BTreeMap ℕ PlannerValue) (branch : ℕ) (p q : Planne
     → GoesOn (sessions_by old.entries) (sessions_by new.entries) branch q.session
 written old new branch p q was writes = inserted old new branch q (writes.3 (subst (λ o. IsSome o) was refl))
 
--- the session of another branch than 0, where there is a planner for it and where there is none
+-- the session of a branch other than 0, where there is a planner for it and where there is none
 pub session_of_named : (first : PlannerValue) (ps : List (ℕ × PlannerValue)) (branch : ℕ) (p : PlannerValue)
     → eqb branch 0 ≡ false → Some p ≡ planner_at ps branch
     → sessions_of (named_by first ps) branch ≡ p.session
@@ -218,7 +218,7 @@ begins_at first (Some s) false behind none = absurd (true≢false none)
 begins : (named : Named) (branch : ℕ) → eqb branch 0 ≡ false → has_planner named branch ≡ false → sessions_of named branch ≡ start named.first.base
 begins named branch behind none = begins_at named.first (found named.others branch) (eqb branch 0) behind none
 
--- what a command is answered there, and that it stays there
+-- the reply to a command there, and that the branch stays there
 pub begins_reply : (named : Named) (branch : ℕ) (c : Command) (said : Said) → eqb branch 0 ≡ false → has_planner named branch ≡ false
     → said ≡ reply_to (start named.first.base) c → said ≡ reply_to (sessions_of named branch) c
 begins_reply named branch c said behind none is = is ∙ ap (λ (s : Session). reply_to s c) (sym (begins named branch behind none))
@@ -231,7 +231,7 @@ begins_stays named branch c behind none stays =
     with_own branch (sessions_of named)
     ∙ ap (λ (s : Session). with_session branch s (sessions_of named)) (at ∙ sym stays ∙ ap (λ (s : Session). after s c) (sym at))
 
--- beginning it alone leaves all sessions
+-- beginning it, without a command, leaves all sessions
 pub begins_alone : (named new : Named) (branch : ℕ) (s : Session) → eqb branch 0 ≡ false → has_planner named branch ≡ false
     → s ≡ start named.first.base → sessions_of new ≡ with_session branch s (sessions_of named)
     → sessions_of new ≡ sessions_of named
@@ -239,7 +239,7 @@ begins_alone named new branch s behind none at went =
     went ∙ ap (λ (t : Session). with_session branch t (sessions_of named)) (at ∙ sym (begins named branch behind none))
     ∙ sym (with_own branch (sessions_of named))
 
--- what follows from what holds of a success, or of an error
+-- what follows from the properties of a success, or of an error
 pub on_ok : {T E P Q : Type 0} (r : Result T E) → (P → Q) → OnOk r P → OnOk r Q
 on_ok (Ok v) f p = f p
 on_ok (Err e) f p = tt

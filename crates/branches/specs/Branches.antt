@@ -28,7 +28,7 @@ pub record Named : Type 0 where
   pub first : Session
   pub others : List (ℕ × Session)
 
--- those of planners
+-- the sessions of planners
 abbrev pub sessions_by : List (ℕ × PlannerValue) → List (ℕ × Session)
 sessions_by planners = map (λ p. (p.0, p.1.session)) planners
 

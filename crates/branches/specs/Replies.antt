@@ -1,4 +1,4 @@
--- What a command is answered, and what it leaves; the texts of answers.
+-- The reply to a command, and the session after it; the texts of answers.
 use Rattle.std.specs.Prelude.{ℕ, nat_le, if◌then◌else◌, List, [], ◌++◌, length, flat_map, filter_map, option_to_list, Option, None, Some, Result, Ok, Err, codes, decimal, Bool, true, false}
 use Rattle.lsa_codec.specs.declared.address.RouterId.{RouterId}
 use Rattle.lsdb.specs.Lists.{Lists}
@@ -24,7 +24,7 @@ use Rattle.branches.specs.declared.reply.Reply.TheVariants as reply
 use Rattle.branches.specs.declared.reply.Refusal.{Refusal}
 use Rattle.branches.specs.declared.reply.Refusal.TheVariants as refusal
 
--- what a command is answered: that it was done, why it was refused, or what it asked for
+-- the reply to a command: that it was done, why it was refused, or what it asked for
 pub data Said : Type 0 where
   done : Said
   refused : Refusal → Said
@@ -58,7 +58,7 @@ abbrev pub or_empty : RouterId → Option TableValue → TableValue
 or_empty router None = record { router = router; routes = [] }
 or_empty router (Some t) = t
 
--- of the table at the start and the one now; there must be one at the start
+-- the comparison of the table at the start and the one now; there must be one at the start
 abbrev pub compare_reply : RouterId → Option TableValue → Option TableValue → Said
 compare_reply router None now = refused (refusal.Table NoRouter)
 compare_reply router (Some before) now = compared router before (or_empty router now)
@@ -73,7 +73,7 @@ reply_to s command.Tables = tables (filter_map (table_in (state s)) (attached_ro
 reply_to s (command.Compare router) = compare_reply router (table_in s.base router) (table_in (state s) router)
 reply_to s command.Info = counted (info_of s)
 
--- the session after a command; a refused one leaves it as it is, and so does one that only asks
+-- the session after a command; a refused command leaves it as it is, and so does a query
 abbrev pub after : Session → Command → Session
 after s (command.Edit edit) = accepted_or s (edited s edit)
 after s (command.Undo k) = if nat_le k (length s.done) then moved_back k s else s
@@ -91,7 +91,7 @@ is_refusal (tables ts) = false
 is_refusal (compared router before now) = false
 is_refusal (counted info) = false
 
--- the commands that may take memory; the others take none, in whatever branch
+-- the commands that may take memory; the others take none, in any branch
 abbrev pub takes_memory : Command → Bool
 takes_memory (command.Edit edit) = true
 takes_memory (command.Undo k) = false
@@ -103,7 +103,7 @@ takes_memory command.Info = false
 
 -- ---- texts
 
--- the text that a line is answered with, and whether the line was refused
+-- the text that answers a line, and whether the line was refused
 pub record Answer : Type 0 where
   pub text : List ℕ
   pub refused : Bool
@@ -146,13 +146,13 @@ said_text (tables ts) = codes "tables " ++ decimal (length ts) ++ codes "\n" ++ 
 said_text (compared router before now) = compare_text router before now
 said_text (counted info) = info_text info
 
--- `@B`, and what is said
+-- `@B`, and the text of the reply
 abbrev pub reply_text : ℕ → Said → List ℕ
 reply_text branch said = mark_of branch ++ said_text said
 
 -- ---- the reply to `tables`, by its parts
 
--- what stands before the texts of so many tables
+-- the text before those of this number of tables
 abbrev pub tables_head : ℕ → ℕ → List ℕ
 tables_head branch count = mark_of branch ++ (codes "tables " ++ decimal count ++ codes "\n")
 
@@ -160,11 +160,11 @@ tables_head branch count = mark_of branch ++ (codes "tables " ++ decimal count +
 abbrev pub router_text : Lists → RouterId → List ℕ
 router_text db router = flat_map table_text (option_to_list (table_in db router))
 
--- those of routers, one after another
+-- the texts of routers, one after another
 abbrev pub router_texts : Lists → List RouterId → List ℕ
 router_texts db routers = flat_map (router_text db) routers
 
--- ---- lines that are no command
+-- ---- lines that are not commands
 
 -- `script CODE NAME`
 abbrev pub script_text : ScriptFault → List ℕ

@@ -1,2 +1,2 @@
--- What private contracts cite: the steps of the code.
+-- Definitions that only the contracts of private functions cite: the steps of the code.
 pub mod Planners

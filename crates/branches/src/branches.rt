@@ -24,7 +24,7 @@ use std::alloc::{AllocError, Allocator, Global};
 use std::collections::BTreeMap;
 use std::marker::Model;
 
-/// The branches of a run, by the numbers 0 to 7: each is a study of its own that begins at the
+/// The branches of a run, with the numbers 0 to 7: each is a study of its own that begins at the
 /// loaded database. A branch gets a planner at its first command that may take memory; until then
 /// it is at its beginning. Branch 0 has one from the start.
 ///
@@ -59,8 +59,8 @@ impl<A: Allocator + Copy> Branches<A> {
         Branches::resume(alloc, Planner::new(alloc, database))
     }
 
-    /// Branches of which branch 0 goes on at the session of a planner. The others begin at the base
-    /// of that session. It takes no memory.
+    /// Branches of which branch 0 goes on with the session of a planner. The others begin at the
+    /// base of that session. It takes no memory.
     pub fn resume(alloc: A, planner: Planner<A>) -> Branches<A>
         ensures { sessions_of result ≡ resumed planner.session }
     {
@@ -74,8 +74,8 @@ impl<A: Allocator + Copy> Branches<A> {
         }
     }
 
-    /// Carries one command out in a branch, 0 to 7. `undo`, `redo` and `info` take no memory,
-    /// whatever the branch.
+    /// Carries one command out in a branch, 0 to 7. `undo`, `redo` and `info` take no memory in any
+    /// branch.
     ///
     /// # Errors
     ///
@@ -138,7 +138,7 @@ impl<A: Allocator + Copy> Branches<A> {
         Ok(reply)
     }
 
-    /// Carries one command out in a branch, 0 to 7, as [`step`](Branches::step) does, and answers
+    /// Carries one command out in a branch, 0 to 7, as [`step`](Branches::step) does, and returns
     /// the text of its reply, as [`reply_text`] makes it. For `tables` it holds all tables:
     /// [`routers`](Branches::routers) and [`push_table`](Branches::push_table) give them one by
     /// one.
@@ -170,7 +170,7 @@ impl<A: Allocator + Copy> Branches<A> {
 
     /// The routers that are attached to areas of the database of a branch, 0 to 7, in rising order
     /// of their IDs. The reply to `tables` is [`tables_head`](crate::tables_head) of their number,
-    /// and behind it the text of each one's table, as [`push_table`](Branches::push_table) adds it.
+    /// and after it the text of each one's table, as [`push_table`](Branches::push_table) adds it.
     ///
     /// # Errors
     ///
@@ -195,7 +195,7 @@ impl<A: Allocator + Copy> Branches<A> {
     }
 
     /// Adds the text of the routing table of a router in the database of a branch, 0 to 7, if the
-    /// router is attached to an area there. All sessions stay, also where memory ran out.
+    /// router is attached to an area there. All sessions stay, even where memory ran out.
     ///
     /// # Errors
     ///
@@ -221,7 +221,7 @@ impl<A: Allocator + Copy> Branches<A> {
     }
 
     /// Begins a branch, and adds the text of the routing table of a router in it. All sessions
-    /// stay, also where memory ran out.
+    /// stay, even where memory ran out.
     fn begin_with_table(
         &mut self,
         branch: u8,

@@ -19,8 +19,11 @@ use std::alloc::{AllocError, Allocator};
 use std::rc::Rc;
 use table_report::push_table;
 
-/// Executes one command on a planner. An error is want of memory, and then the session is as it
-/// was. `undo`, `redo` and `info` take no memory.
+/// Executes one command on a planner. `undo`, `redo` and `info` take no memory.
+///
+/// # Errors
+///
+/// Memory ran out. Then the session is as it was.
 #[tactic(auto, using(crate::proofs::BranchSessions::after_base))]
 pub(crate) fn execute<A: Allocator + Copy>(
     alloc: A,
@@ -86,7 +89,7 @@ fn table_now<A: Allocator + Copy>(
     }
 }
 
-/// The routing table of a router now, if it is attached to an area. It may be the very one that the
+/// The routing table of a router now, if it is attached to an area. It may be the same one that the
 /// planner keeps of the loaded database.
 fn shared_table_now<A: Allocator + Copy>(
     planner: &mut Planner<A>,
@@ -120,7 +123,7 @@ fn table_before<A: Allocator + Copy>(
     }
 }
 
-/// The reply that a router is attached to no area.
+/// The refusal where a router is attached to no area.
 const NO_ROUTER: Refusal = Refusal::Table(TableFault::NoRouter);
 
 /// The reply to `table`.
@@ -191,15 +194,15 @@ pub(crate) fn routers_with_table<A: Allocator + Copy>(
         (λ routers. length (filter_map (table_in (lists_of database.now)) routers.items)
         ≡ length routers.items) }
 {
-    // By this law each of the routers is attached to an area of a valid database, so has a table;
-    // and this database is a valid one.
+    // By this law each of the routers is attached to an area of a valid database, so it has a
+    // table; and this database is valid.
     routers_are_attached();
     database.known();
     routers(database.alloc(), database)
 }
 
 /// Adds the text of the routing table of a router now, if it is attached to an area. The table is
-/// dropped then.
+/// then dropped.
 pub(crate) fn push_table_now<A: Allocator + Copy>(
     planner: &mut Planner<A>,
     router: RouterId,

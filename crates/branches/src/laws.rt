@@ -17,8 +17,8 @@ pub fn refused_commands_change_nothing()
 {}
 
 /// No edit of a branch is refused on the way: each done edit is accepted after those before it,
-/// from the base on, and each undone one after these. So it is in each branch where branches begin
-/// at a database or an opened session, and so it stays in each with every command.
+/// from the base on, and each undone one after these. This holds in each branch where branches
+/// begin at a database or an opened session, and it stays so in each with every command.
 pub fn branches_refuse_no_edit()
     ensures begin { (base : Lists) (branch : ℕ) → NoneRefused (all_begin base branch) }
     ensures resumed { (bytes : List ℕ) (s : Session) (branch : ℕ) → opened bytes ≡ Ok s

@@ -1,6 +1,6 @@
 //! Branches: eight sessions side by side, and the reply to each command.
 //!
-//! [`Branches::step`] carries out one command in one branch, and answers its [`Reply`]; the other
+//! [`Branches::step`] carries out one command in one branch, and returns its [`Reply`]; the other
 //! branches stay as they were. [`reply_text`] is the reply as it is printed, and
 //! [`Branches::answer`] does both. The reply to `tables`, which may be long, is also made part by
 //! part: [`tables_head`], and the table of each of [`Branches::routers`] by

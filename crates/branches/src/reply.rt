@@ -27,7 +27,7 @@ pub enum Refusal {
     Table(TableFault),
 }
 
-/// What a command is answered.
+/// The reply to a command.
 #[derive(Drop)]
 pub enum Reply<A: Allocator = Global> {
     /// The command was carried out.
@@ -59,7 +59,7 @@ pub enum Reply<A: Allocator = Global> {
     Info(Info),
 }
 
-/// The text that a command is answered with, and whether it refuses the command.
+/// The text that answers a command, and whether it refuses the command.
 #[derive(Drop)]
 pub struct Answer<A: Allocator = Global> {
     /// The text of the reply, as [`reply_text`] makes it.
@@ -77,7 +77,7 @@ impl<A: Allocator> Model for Answer<A> {
 }
 
 impl Refusal {
-    /// The printed code, as `E4`.
+    /// The printed code, such as `E4`.
     fn code(self) -> &'static str
         ensures { result.now ≡ refusal_code self }
     {
@@ -89,7 +89,7 @@ impl Refusal {
         }
     }
 
-    /// The printed name, as `ZeroCost`.
+    /// The printed name, such as `ZeroCost`.
     fn name(self) -> &'static str
         ensures { result.now ≡ refusal_name self }
     {
@@ -112,8 +112,8 @@ impl<A: Allocator> Reply<A> {
 }
 
 /// The text of a reply in a branch: `@0 ok`, `@0 refused E4 ZeroCost`, the text of a table or of a
-/// comparison behind `@0 `, `@0 tables 2` and the texts of the tables, or `@0 info areas 1 ..`;
-/// each line ends in a line feed.
+/// comparison after `@0 `, `@0 tables 2` and the texts of the tables, or `@0 info areas 1 ..`; each
+/// line ends with a line feed.
 ///
 /// # Errors
 ///
@@ -130,7 +130,7 @@ pub fn reply_text<A: Allocator + Copy>(
     Ok(text.into_bytes())
 }
 
-/// For so many bytes of a reply room is made at once; most replies are no longer.
+/// Room for this number of bytes of a reply is made at once; most replies are no longer.
 const SHORT_REPLY: usize = 32;
 
 /// The mark of a branch before a reply: `@0 `.
@@ -143,7 +143,7 @@ fn mark<A: Allocator + Copy>(alloc: A, branch: u8) -> Result<String<A>, AllocErr
     Ok(text)
 }
 
-/// Adds the text of a reply behind the mark of its branch.
+/// Adds the text of a reply after the mark of its branch.
 fn push_said<A: Allocator + Copy>(
     alloc: A,
     text: &mut String<A>,
@@ -176,7 +176,7 @@ fn push_refusal<A: Allocator + Copy>(text: &mut String<A>, why: Refusal) -> Resu
     push_told(text, "refused ", why.code(), why.name())
 }
 
-/// Adds a word, and behind it a code, a name and a line feed. Pieces are added as they are, which
+/// Adds a word, and after it a code, a name and a line feed. Pieces are added as they are, which
 /// takes less time than formatting them.
 fn push_told<A: Allocator + Copy>(
     text: &mut String<A>,
@@ -195,8 +195,8 @@ fn push_told<A: Allocator + Copy>(
     text.push_str("\n")
 }
 
-/// The head of the reply to `tables` in a branch: `@0 tables 2`, and a line feed. The texts of so
-/// many tables stand behind it.
+/// The head of the reply to `tables` in a branch: `@0 tables 2`, and a line feed. The texts of that
+/// number of tables follow it.
 ///
 /// # Errors
 ///
@@ -290,7 +290,7 @@ fn push_edit_counts<A: Allocator + Copy>(
     write!(text, " done {done} undone {undone}\n")
 }
 
-/// The text for a line that is no command: `script S2 UnknownWord`, and a line feed.
+/// The text for a line that is not a command: `script S2 UnknownWord`, and a line feed.
 pub fn script_text<A: Allocator + Copy>(
     alloc: A,
     fault: ScriptFault,

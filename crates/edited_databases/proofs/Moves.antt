@@ -21,7 +21,7 @@ none_left (suc n) refused = absurd (false≢true (refused (omega arith)))
 
 -- ---- back
 
--- the last edit in front of those that were taken back before it
+-- the last edit before those that were taken back earlier
 one_in_front : (done undone : List Edit) (m k n : ℕ) → k ≡ m + 1 → n ≡ m → drop n (take k done) ++ (drop k done ++ undone) ≡ drop m done ++ undone
 one_in_front done undone m k n next same =
     ap (λ (x : ℕ). drop x (take k done) ++ (drop k done ++ undone)) same

@@ -1,4 +1,4 @@
--- A history with the record of one edit more.
+-- A history with the record of one more edit.
 use Rattle.std.proofs.Common.{◌≡◌, List, [], ◌∷◌, ◌++◌, refl, sym, ap, ◌∙◌, subst}
 use Rattle.std.specs.Prelude.{reverse}
 use Rattle.lsdb.specs.Lists.{IsDatabase}

@@ -8,7 +8,7 @@ use Rattle.edit_script.specs.declared.edit.Edit.{Edit}
 use Rattle.edit_history.specs.Session.{Session, effects, state}
 use Rattle.edited_databases.specs.Lines.{Mean}
 
--- the session with one edit done more, and none undone
+-- the session with one more edit done, and none undone
 abbrev pub with_edit : Session → Edit → Session
 with_edit s edit = record { base = s.base; done = s.done ++ edit ∷ []; undone = [] }
 

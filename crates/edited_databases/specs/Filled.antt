@@ -10,7 +10,7 @@ use Rattle.samples.specs.Dumps.{dump_of_area, dump_octets}
 abbrev pub opaque_header : ℕ → ℕ → Header
 opaque_header kind number = record { age = 1; kind = kind; id = 0x04000000 + number; router = R1 }
 
--- LSAs with n opaque LSAs more, numbered from 0
+-- LSAs with n more opaque LSAs, numbered from 0
 unfoldable pub with_opaque : ℕ → ℕ → Lsas → Lsas
 with_opaque kind zero lsas = lsas
 with_opaque kind (suc n) lsas = with_lsa (opaque_header kind n) [] (with_opaque kind n lsas)
@@ -21,10 +21,11 @@ two_routers =
     with_router 1 R2 0 (link_of 1 R1 0x0a000002 10 ∷ [])
     (with_router 1 R1 0 (link_of 1 R2 0x0a000001 10 ∷ []) no_lsas)
 
--- area 0.0.0.0 of the two routers and, up to so many LSAs, of opaque LSAs of area scope (type 10)
+-- area 0.0.0.0 with this number of LSAs: those of the two routers, then opaque LSAs of area scope
+-- (type 10)
 abbrev pub area_octets : ℕ → List ℕ
 area_octets lsas = dump_of_area (with_opaque 10 (lsas - 2) two_routers)
 
--- area 0.0.0.0 of the two routers, and so many opaque LSAs of AS scope (type 11)
+-- area 0.0.0.0 of the two routers, and this number of opaque LSAs of AS scope (type 11)
 abbrev pub as_list_octets : ℕ → List ℕ
 as_list_octets lsas = dump_octets ((0, two_routers) ∷ []) (with_opaque 11 lsas no_lsas)

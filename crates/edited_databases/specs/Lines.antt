@@ -13,7 +13,7 @@ edit_meant (Ok (branch, command.Edit edit)) = Some edit
 edit_meant (Ok (branch, other)) = None
 edit_meant (Err fault) = None
 
--- the edit that a line means, in whatever branch
+-- the edit that a line means, in any branch
 abbrev pub edit_in : List ℕ → Option Edit
 edit_in line = edit_meant (meaning line)
 

@@ -15,8 +15,8 @@ use lsdb::{Database, Section};
 use std::alloc::{Allocator, Global};
 use std::test::Fail;
 
-/// Carries an edit out, and keeps its record behind those of the edits that are done. The undone
-/// ones go.
+/// Carries an edit out, and adds its record after those of the edits that are done. The undone ones
+/// are dropped.
 ///
 /// # Errors
 ///
@@ -40,7 +40,7 @@ pub fn apply_and_push<A: Allocator + Copy>(
     history.reserve()?;
     let record = apply(database, edit)?;
     history.push(record);
-    // That the edit left a database is what its link to the history asks for.
+    // The edit's link to the history requires that it left a valid database.
     database.known();
     Ok(())
 }
@@ -61,7 +61,7 @@ pub fn edited<A: Allocator + Copy>(
 {
     let mut database = Database::load(alloc, dump)?;
     let mut history = History::new(alloc);
-    // That it is a database is what its link to the empty history asks for.
+    // The database's link to the empty history requires that it is valid.
     database.known();
     for line in lines {
         let edit = edit_of(line)?;
@@ -74,7 +74,7 @@ pub fn edited<A: Allocator + Copy>(
 ///
 /// # Errors
 ///
-/// Fewer edits are done: then all of them are taken back.
+/// Fewer edits are done. Then all of them are taken back.
 pub fn back<A: Allocator + Copy>(
     database: &mut Database<A>,
     history: &mut History<A>,
@@ -96,7 +96,7 @@ pub fn back<A: Allocator + Copy>(
 ///
 /// # Errors
 ///
-/// Fewer edits are undone: then all of them are carried out again.
+/// Fewer edits are undone. Then all of them are carried out again.
 pub fn on<A: Allocator + Copy>(
     database: &mut Database<A>,
     history: &mut History<A>,
@@ -115,7 +115,11 @@ pub fn on<A: Allocator + Copy>(
 }
 
 /// Whether a database has, in each of these sections, the LSAs that a dump has after the edits that
-/// lines mean. The errors are those of [`edited`].
+/// lines mean.
+///
+/// # Errors
+///
+/// Those of [`edited`].
 pub fn is_after<A: Allocator + Copy>(
     alloc: Global,
     database: &Database<A>,

@@ -1,4 +1,4 @@
-//! Dumps that opaque LSAs fill (RFC 5250): no edit reads what they say.
+//! Dumps filled with opaque LSAs (RFC 5250), which no edit reads.
 
 ghost use Rattle.std.specs.Prelude.{◌≡◌, ◌-◌, IfOk, OnOk};
 ghost use Rattle.edited_databases.specs.Filled.{with_opaque, two_routers, area_octets, as_list_octets};
@@ -12,7 +12,7 @@ const OF_AREA: u8 = 10;
 /// The LS type of an opaque LSA of AS scope.
 const OF_AS: u8 = 11;
 
-/// Adds so many opaque LSAs of 1.1.1.1, without bodies, each with another Link State ID.
+/// Adds `count` opaque LSAs of 1.1.1.1, without bodies, each with a different Link State ID.
 fn add_opaque(lsas: &mut LsaList, kind: u8, count: u16) -> Result<(), AllocError>
     ensures { OnOk result (lsas.new ≡ with_opaque kind count lsas.old) }
 {
@@ -38,8 +38,12 @@ fn two_routers(alloc: Global) -> Result<LsaList, AllocError>
     Ok(lsas)
 }
 
-/// The dump of area 0.0.0.0 with so many LSAs, at least two: the router-LSAs of 1.1.1.1 and
-/// 2.2.2.2, and opaque LSAs behind them. An error is want of memory, here and below.
+/// The dump of area 0.0.0.0 with `lsas` LSAs, at least two: the router-LSAs of 1.1.1.1 and 2.2.2.2,
+/// and opaque LSAs after them.
+///
+/// # Errors
+///
+/// Memory ran out.
 pub fn area_of(alloc: Global, lsas: u16) -> Result<Vec<u8>, AllocError>
     ensures { IfOk result (λ dump. dump.items ≡ area_octets lsas) }
 {
@@ -48,7 +52,11 @@ pub fn area_of(alloc: Global, lsas: u16) -> Result<Vec<u8>, AllocError>
     area.dump()
 }
 
-/// The dump of area 0.0.0.0 with these two routers, and of so many opaque LSAs of AS scope.
+/// The dump of area 0.0.0.0 with these two routers, and of `lsas` opaque LSAs of AS scope.
+///
+/// # Errors
+///
+/// Memory ran out.
 pub fn as_list_of(alloc: Global, lsas: u16) -> Result<Vec<u8>, AllocError>
     ensures { IfOk result (λ dump. dump.items ≡ as_list_octets lsas) }
 {

@@ -1,4 +1,4 @@
-//! For tests: databases after the edits that lines mean, side by side, and full ones.
+//! For tests: databases after the edits that lines mean, compared with each other, and full ones.
 #![tactic(auto)]
 
 pub mod edited;

@@ -7,7 +7,11 @@ ghost use Rattle.edited_databases.specs.Lines.{edit_in};
 use edit_script::{Command, Edit, parse};
 use std::test::Fail;
 
-/// The edit that a line means, in whatever branch. An error is a line that means no edit.
+/// The edit that a line means, in any branch.
+///
+/// # Errors
+///
+/// The line does not mean an edit.
 pub fn edit_of(line: &str) -> Result<Edit, Fail>
     ensures { result_ok result ≡ edit_in line.now }
 {

@@ -1,4 +1,4 @@
-//! Databases side by side, section by section.
+//! Databases compared section by section.
 
 ghost use Rattle.std.specs.Prelude.{◌≡◌, ◌↔◌, true, All};
 ghost use Rattle.lsdb.specs.Places.{lists_of};

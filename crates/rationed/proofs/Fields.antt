@@ -1,7 +1,7 @@
 -- What a walk has of a `&` to a `Rationed`, and of a call of `Ration::spend`. Assumes `Logic`.
 --     Ration                     the row of the field with the count
 --     lent                       the `&self` of both functions, at a signature with two lifetimes
---     inner_at, ration_at         where the two fields of the value at a place lie
+--     inner_at, ration_at         where the two fields of the value at a place are
 --     fields                     of `&self` there is a `&` to each field
 --     Spend, spends              the contract of `spend`, and what a caller picks for it: the lifetime, a share of its token, the place and the value
 --     spend_goes, spend_gives    what such a call is given, and what is left after it

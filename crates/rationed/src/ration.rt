@@ -4,8 +4,8 @@ use std::cell::Cell;
 
 /// A limit, and how much of it is spent.
 ///
-/// The limit never changes, so clauses speak of it. No clause can say what a cell holds, so none
-/// speaks of what is spent.
+/// The limit never changes, so clauses refer to it. No clause can refer to the contents of a cell,
+/// so none refers to what is spent.
 #[derive(Drop)]
 pub(crate) struct Ration {
     limit: u64,
@@ -23,7 +23,7 @@ impl Ration {
         }
     }
 
-    /// Spends one, and tells whether one was left.
+    /// Spends one, and returns whether one was left.
     pub(crate) fn spend(&self) -> bool
         ensures granted { result ≡ true → 0 < self.now.limit }
     {
@@ -34,7 +34,7 @@ impl Ration {
         true
     }
 
-    /// Lets so much be left, but no more than the limit.
+    /// Sets how much is left, at most the limit.
     pub(crate) fn leave(&self, left: u64) {
         self.spent.set(self.limit.saturating_sub(left));
     }
@@ -47,7 +47,7 @@ impl Ration {
     }
 }
 
-/// What is spent after one more, or `None` where that would be past `limit`.
+/// What is spent after one more, or `None` where that would exceed `limit`.
 fn after_one(spent: u64, limit: u64) -> Option<u64>
     ensures none_left { IsNone result ↔ (limit ≤ spent) }
     ensures one_more { IfSome result (λ after. after ≡ spent + 1) }

@@ -1,5 +1,5 @@
-//! Calls whose growths are refused, each in turn: how they are seen, and the network that they are
-//! made on.
+//! Calls whose growths are refused, each in turn: how they are observed, and the network that they
+//! are made on.
 //!
 //! [`growths_of`] makes a call with each number of growths that is too few for it.
 #![tactic(auto)]

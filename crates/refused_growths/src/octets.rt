@@ -3,7 +3,7 @@
 /// Area 0.0.0.0: 1.1.1.1 (bit B) and 2.2.2.2 (bits B and E), with a link of cost 10 and the network
 /// 10.5.0.2, also of cost 10, between them, and a stub network of 2.2.2.2; summary-LSAs of 2.2.2.2
 /// for 10.20.0.0/16 and for the AS boundary router 9.9.9.9. Area 0.0.0.1: 1.1.1.1 and 3.3.3.3 (bit
-/// E), which has a stub network; a summary-LSA of 1.1.1.1 for 10.2.0.0/16, which is stale. Behind
+/// E), which has a stub network; a summary-LSA of 1.1.1.1 for 10.2.0.0/16, which is stale. After
 /// them the AS-external-LSAs of 9.9.9.9, of 3.3.3.3, with a forwarding address, and of 2.2.2.2.
 pub const NETWORK: &[u8] = &[
     0x4f, 0x53, 0x57, 0x50, 0x01, 0x02, 0x00, 0x00, 0x00, 0x00, 0x00, 0x00, 0x05, 0x00, 0x01, 0x02,

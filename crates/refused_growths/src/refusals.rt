@@ -6,25 +6,25 @@ use rationed::Rationed;
 use std::alloc::Global;
 use std::test::Fail;
 
-/// An answer, as bytes that say all of it. `None` stands for want of memory.
+/// An answer, as bytes that determine it. `None` means that memory ran out.
 pub type Answer = Option<Vec<u8>>;
 
-/// What was seen of a call that had only so many growths.
+/// The outcome of a call with a limited number of growths.
 #[derive(Drop)]
 pub struct Seen {
-    /// What it answered.
+    /// Its answer.
     pub first: Answer,
-    /// What the same call answered after that, with ample memory.
+    /// The answer of the same call after that, with ample memory.
     pub then: Answer,
-    /// What it was lent, before the first call, as bytes that say all of it.
+    /// What it was lent, before the first call, as bytes that determine it.
     pub before: Vec<u8>,
     /// The same, between the two calls.
     pub between: Vec<u8>,
 }
 
 impl Seen {
-    /// What was seen of a call that is lent nothing that it can change, but for the meter of a
-    /// tree, of which a test of its own tells.
+    /// The outcome of a call that is lent nothing that it can change, except the meter of a tree,
+    /// for which there is a separate test.
     pub fn of_answers(alloc: Global, first: Answer, then: Answer) -> Seen
         ensures first { result.first ≡ first }
         ensures then { result.then ≡ then }
@@ -42,24 +42,24 @@ impl Seen {
 
 /// A call that may ask for growths.
 pub trait Growing {
-    /// Makes the call with so many growths, on what it is lent with ample memory, and makes the
-    /// same call then with ample memory.
+    /// Makes the call with `growths` growths, on what it is lent with ample memory, and then makes
+    /// the same call with ample memory.
     fn seen(&self, alloc: Global, rationed: &Rationed, growths: u64) -> Result<Seen, Fail>;
 
-    /// Whether it may answer want of memory after it has changed what it was lent, as it does where
-    /// memory suffices.
+    /// Whether the call may report that memory ran out after it has changed what it was lent, in
+    /// the same way as where memory suffices.
     fn may_be_done(&self) -> bool {
         false
     }
 }
 
-/// What is seen of a call with so many growths.
+/// The outcome of a call with `growths` growths.
 fn seen_with<G: Growing>(alloc: Global, call: &G, growths: u64) -> Result<Seen, Fail> {
     let rationed = Rationed::new(alloc, u64::MAX);
     call.seen(alloc, &rationed, growths)
 }
 
-/// What is wrong with a call that answered want of memory, if anything is.
+/// What is wrong with a call that reported that memory ran out, if anything is.
 fn wrong_refusal<G: Growing>(call: &G, seen: &Seen, ample: &Seen) -> Option<&'static str> {
     let stays = seen.between == seen.before;
     if !stays && !(call.may_be_done() && seen.between == ample.between) {
@@ -71,17 +71,17 @@ fn wrong_refusal<G: Growing>(call: &G, seen: &Seen, ample: &Seen) -> Option<&'st
     }
 }
 
-/// How many growths are refused in turn.
+/// The maximum number of growths that are refused in turn.
 const MANY: u64 = 10_000;
 
-/// With how many growths a call answers as with ample memory. With fewer it answers want of memory,
-/// what it was lent is as before, and the same call then answers as with ample memory. Where it may
-/// be done already, what it was lent may be as after the call too.
+/// The number of growths with which a call answers as with ample memory. With fewer, it reports
+/// that memory ran out, what it was lent is as before, and the same call then answers as with ample
+/// memory. Where the call may be done already, what it was lent may also be as after the call.
 ///
 /// # Errors
 ///
-/// The call does otherwise, or answers want of memory with each number of growths below 10,000. No
-/// clause can say so.
+/// The call behaves otherwise, or reports that memory ran out with each number of growths below
+/// 10,000. No clause can state this.
 pub fn growths_of<G: Growing>(alloc: Global, call: &G) -> Result<u64, Fail>
     ensures { IfOk result (λ growths. growths < 10000) }
 {

@@ -1,4 +1,4 @@
-//! Readers and writers that fail, and want of memory.
+//! Readers and writers that fail, and memory that runs out.
 
 mod dumps;
 mod failing;

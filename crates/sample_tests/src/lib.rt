@@ -1,5 +1,5 @@
-//! Tests of what other tests stand on: samples, which are compared with what is written elsewhere
-//! byte by byte, and the allocator that refuses, of which no contract says how it counts.
+//! Tests of what other tests rely on: samples, which are compared byte by byte with bytes written
+//! elsewhere, and the allocator that refuses, whose counting no contract states.
 #![tactic(auto)]
 
 #[cfg(test)]

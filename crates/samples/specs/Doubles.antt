@@ -10,7 +10,7 @@ abbrev pub up_to : Option ℕ → ℕ → ℕ
 up_to None n = n
 up_to (Some limit) n = min n limit
 
--- the place of a failure, where n bytes of those before it are gone
+-- the place of a failure, when n bytes before it were moved
 abbrev pub nearer : ℕ → Option ℕ → Option ℕ
 nearer n place = option_map (λ before. before - n) place
 
@@ -26,6 +26,6 @@ errs_at_flushes WriteErrs = false
 errs_at_flushes WriteTakesNone = false
 errs_at_flushes FlushErrs = true
 
--- how many bytes of a text of this length a writer takes: none from the place of the failure on
+-- how many bytes of a text with this length a writer takes: none from the place of the failure on
 abbrev pub taken_count : Sink → ℕ → ℕ
 taken_count sink size = min (min sink.step size) (sink.fails_at - length sink.taken.items)

@@ -4,11 +4,11 @@ use Rattle.std.specs.Int.{w16, w32, to_be_bytes}
 use Rattle.std.specs.List.{flat_map}
 use Rattle.samples.specs.Lsas.{Lsas, no_lsas}
 
--- how many LSAs, and the LSAs
+-- the number of LSAs, and the LSAs
 abbrev pub counted_octets : Lsas → List ℕ
 counted_octets lsas = to_be_bytes w16 lsas.count ++ lsas.octets
 
--- Area ID, no stub area, LSAs
+-- Area ID, not a stub area, LSAs
 abbrev pub area_octets : ℕ × Lsas → List ℕ
 area_octets area = to_be_bytes w32 area.0 ++ (0 ∷ []) ++ counted_octets area.1
 

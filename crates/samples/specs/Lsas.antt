@@ -1,4 +1,4 @@
--- LSAs, and LSAs one behind another.
+-- LSAs, and LSAs one after another.
 use Rattle.std.specs.Prelude.{ℕ, ◌+◌, ◌%◌, ◌^◌, min, List, [], ◌∷◌, ◌++◌, length, drop}
 use Rattle.std.specs.Int.{w16, w32, to_be_bytes}
 use Rattle.std.specs.List.{flat_map}
@@ -34,7 +34,7 @@ router_body flags links =
 unfoldable pub network_body : ℕ → List ℕ → List ℕ
 network_body mask attached = to_be_bytes w32 mask ++ flat_map (to_be_bytes w32) attached
 
--- LSAs one behind another, and how many they are
+-- LSAs one after another, and their number
 pub record Lsas : Type 0 where
   pub octets : List ℕ
   pub count : ℕ
@@ -42,7 +42,7 @@ pub record Lsas : Type 0 where
 abbrev pub no_lsas : Lsas
 no_lsas = record { octets = []; count = 0 }
 
--- one LSA more; 16 bits count them
+-- one more LSA; 16 bits count them
 abbrev pub with_octets : List ℕ → Lsas → Lsas
 with_octets lsa lsas = record { octets = lsas.octets ++ lsa; count = (lsas.count + 1) % 2 ^ 16 }
 

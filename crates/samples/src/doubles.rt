@@ -1,4 +1,4 @@
-//! Readers and writers for tests: they move few bytes per call, and fail when told to.
+//! Readers and writers for tests: they move a few bytes per call, and fail on request.
 
 ghost use Rattle.std.specs.Prelude.{◌≡◌, ◌+◌, ◌%◌, ◌^◌, ◌++◌, ◌↔◌, min, length, take, drop, replicate, true, [], IsErr, IfOk, IfErr};
 ghost use Rattle.std.specs.Result.{result_unwrap_or};
@@ -11,8 +11,8 @@ use std::alloc::Global;
 use std::io;
 use std::io::{ErrorKind, Read, Write};
 
-/// Gives a text, at most `step` bytes per call, and fails in place of the byte at `fails_at`, or
-/// in place of the end where `fails_at` is the length of the text.
+/// A reader that gives a text, at most `step` bytes per call, and fails in place of the byte at
+/// `fails_at`, or in place of the end where `fails_at` is the length of the text.
 #[derive(Drop)]
 pub struct Source<'a> {
     left: &'a [u8],
@@ -65,7 +65,7 @@ impl Read for Source<'_> {
     }
 }
 
-/// Fails at its first call and is at its end at each later one. It counts the calls.
+/// A reader that fails at its first call and is at its end at each later one. It counts the calls.
 #[derive(Drop)]
 pub struct FailsOnce {
     /// The calls so far.
@@ -89,7 +89,7 @@ impl Read for FailsOnce {
     }
 }
 
-/// Gives zeros without end, and counts them.
+/// A reader that gives zeros without end, and counts them.
 #[derive(Drop)]
 pub struct Zeros {
     /// The zeros given so far.
@@ -113,19 +113,19 @@ impl Read for Zeros {
 /// How a writer fails.
 #[derive(Clone, Copy, Debug, PartialEq, Eq)]
 pub enum Failing {
-    /// A write answers an error.
+    /// A write returns an error.
     WriteErrs,
     /// A write takes no byte.
     WriteTakesNone,
-    /// A flush answers an error.
+    /// A flush returns an error.
     FlushErrs,
 }
 
-/// Takes at most `step` bytes per call, and fails in place of the byte at `fails_at`, or at the
-/// flush.
+/// A writer that takes at most `step` bytes per call, and fails in place of the byte at `fails_at`,
+/// or at the flush.
 #[derive(Drop)]
 pub struct Sink {
-    /// What it took.
+    /// The bytes that it took.
     pub taken: Vec<u8>,
     step: usize,
     fails_at: usize,

@@ -32,8 +32,12 @@ pub const SAMPLE: &[u8] = &[
 ];
 
 /// A dump in which the network 10.5.0.3 joins 1.1.1.1 and 3.3.3.3 at cost 10 and 4.4.4.4 at cost 5.
-/// A link of cost 5 joins 1.1.1.1 and 4.4.4.4. The vertices are numbered 1.1.1.1, 3.3.3.3, 4.4.4.4,
-/// the network. An error is want of memory.
+/// A link of cost 5 joins 1.1.1.1 and 4.4.4.4. The vertices are numbered in the order 1.1.1.1,
+/// 3.3.3.3, 4.4.4.4, the network.
+///
+/// # Errors
+///
+/// Memory ran out.
 #[tactic(auto, unfolding(crate::specs::Known::network_of_three))]
 pub fn network_of_three(alloc: Global) -> Result<Vec<u8>, AllocError>
     ensures { IfOk result (λ dump. dump.items ≡ network_of_three) }

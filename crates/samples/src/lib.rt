@@ -1,9 +1,9 @@
-//! For tests: link state databases, byte by byte, and readers and writers that fail when told to.
+//! For tests: link state databases, byte by byte, and readers and writers that fail on request.
 //!
 //! A plain program makes LSAs from their fields, with good checksums, and dumps from LSAs. It
-//! shares nothing with the crates that are tested with it. Contracts say which bytes it makes, by
-//! definitions of its own, and how many bytes the readers and writers move. What the text of a
-//! database stands for, [`dump_of_text`], is only tested.
+//! shares nothing with the crates that are tested with it. Contracts define the bytes that it
+//! makes, by definitions of its own, and how many bytes the readers and writers move. How
+//! [`dump_of_text`] reads the text of a database is only tested.
 #![tactic(auto)]
 
 mod doubles;

@@ -40,7 +40,8 @@ pub fn to_router(router: u32, data: u32, metric: u16) -> RouterLink
     }
 }
 
-/// A link to the transit network with this Designated Router's address, with that of the interface.
+/// A link to the transit network with this Designated Router's address, with the address of the
+/// interface.
 pub fn to_network(address: u32, data: u32, metric: u16) -> RouterLink
     ensures { result ≡ link_of 2 address «data» metric }
 {

@@ -1,4 +1,4 @@
-//! Lists of LSAs, one behind another, and the dumps of areas with such lists.
+//! Lists of LSAs, one after another, and the dumps of areas with such lists.
 
 ghost use Rattle.std.specs.Prelude.{◌≡◌, is_ok, if◌then◌else◌, IfOk, ◌∷◌, []};
 ghost use Rattle.samples.specs.Lsas.{no_lsas, with_octets, with_lsa, with_router, with_network, router_body, network_body};
@@ -10,7 +10,7 @@ use crate::lsa::{Header, lsa_octets};
 use std::alloc::{AllocError, Global};
 use std::marker::Model;
 
-/// LSAs one behind another: those of an area, or those of AS scope.
+/// LSAs one after another: those of an area, or those of AS scope.
 #[derive(Drop)]
 pub struct LsaList {
     alloc: Global,
@@ -18,7 +18,7 @@ pub struct LsaList {
     count: u16,
 }
 
-/// Clauses see the bytes, and how many LSAs they are.
+/// Clauses see the bytes, and the number of the LSAs.
 impl Model for LsaList {
     ghost use Rattle.samples.specs.Lsas.{Lsas};
 
@@ -39,8 +39,8 @@ impl LsaList {
         }
     }
 
-    /// Adds an LSA of these bytes. An error is want of memory, here and below; the list is then as
-    /// it was.
+    /// Adds an LSA of these bytes. The only error, here and below, is that memory ran out; the list
+    /// is then unchanged.
     fn push(&mut self, lsa: &[u8]) -> Result<(), AllocError>
         ensures { self.new ≡ (if is_ok result then with_octets lsa.now self.old else self.old) }
     {
@@ -119,7 +119,7 @@ impl LsaList {
         self.network_of(1, (address, MASK_16), router, attached)
     }
 
-    /// How many LSAs there are, and the LSAs.
+    /// The number of LSAs, and the LSAs.
     fn counted(&self) -> Result<Vec<u8>, AllocError>
         ensures { IfOk result (λ text. text.items ≡ counted_octets self.now) }
     {
@@ -129,7 +129,7 @@ impl LsaList {
         Ok(text)
     }
 
-    /// The dump of area 0.0.0.0 with these LSAs, and of no LSAs of AS scope.
+    /// The dump of area 0.0.0.0 with these LSAs, and without LSAs of AS scope.
     #[tactic(auto, unfolding(crate::specs::Dumps::dump_octets))]
     pub fn dump(&self) -> Result<Vec<u8>, AllocError>
         ensures { IfOk result (λ dump. dump.items ≡ dump_of_area self.now) }
@@ -171,7 +171,11 @@ fn network_body(alloc: Global, mask: u32, attached: &[u32]) -> Result<Vec<u8>, A
 }
 
 /// The dump of areas that are not stub areas, in rising order of their IDs, and of LSAs of AS
-/// scope. An error is want of memory.
+/// scope.
+///
+/// # Errors
+///
+/// Memory ran out.
 #[tactic(auto, unfolding(crate::specs::Dumps::dump_octets))]
 pub fn dump_of(
     alloc: Global,

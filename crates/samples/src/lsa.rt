@@ -6,8 +6,8 @@ ghost use Rattle.samples.specs.Lsas.{lsa_with_sums, lsa_octets};
 use crate::fletcher::checksum;
 use std::alloc::{AllocError, Global};
 
-/// What differs in the headers of LSAs (RFC 2328, A.4.1). Their options are 2, and their sequence
-/// numbers 80000001.
+/// The fields that differ in the headers of LSAs (RFC 2328, A.4.1). The options are 2, and the
+/// sequence number is 0x80000001.
 #[derive(Clone, Copy, Debug)]
 pub struct Header {
     /// The LS age.
@@ -20,7 +20,7 @@ pub struct Header {
     pub router: u32,
 }
 
-/// How many bytes of a body an LSA has room for.
+/// The maximum number of bytes of the body of an LSA.
 const LONGEST_BODY: usize = 65_515;
 
 /// The bytes of an LSA with this checksum.

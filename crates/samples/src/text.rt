@@ -1,8 +1,7 @@
-//! Databases as text: an area or an LSA a line.
+//! Databases as text: one area or LSA per line.
 //!
-//! A line is a word, an ID, perhaps with a prefix length, and values with names. Behind a colon
-//! stand the links of a router-LSA or the attached routers of a network-LSA, with commas between
-//! them:
+//! A line is a word, an ID, perhaps with a prefix length, and values with names. After a colon come
+//! the links of a router-LSA or the attached routers of a network-LSA, with commas between them:
 //!
 //! ```text
 //! area 0.0.0.0
@@ -17,12 +16,12 @@ use crate::list::{LsaList, dump_of};
 use crate::lsa::Header;
 use std::alloc::{AllocError, AllocFailed, Global};
 
-/// Why a text is no database.
+/// Why a text is not a database.
 #[derive(Clone, Copy, Debug, PartialEq, Eq)]
 pub enum TextFault {
-    /// The line of this number, counted from 1, is none of those above.
+    /// The line with this number, counted from 1, is none of those above.
     Line(usize),
-    /// There is no memory for it.
+    /// Memory ran out.
     OutOfMemory,
 }
 
@@ -38,7 +37,7 @@ impl<T: Drop> From<AllocFailed<T>> for TextFault {
     }
 }
 
-/// What a line says before its colon, or a link. What it does not say has the usual value.
+/// What a line contains before its colon, or a link. Missing values have defaults.
 #[derive(Clone, Copy)]
 struct Item<'a> {
     word: &'a str,
@@ -77,7 +76,7 @@ fn number(text: &str) -> Option<u32> {
     Some(value)
 }
 
-/// The ID and the mask of a word like `10.9.0.0/16`; without a length the mask is none.
+/// The ID and the mask of a word such as `10.9.0.0/16`; without a length the mask is 0.
 fn id_and_mask(text: &str) -> Option<(u32, u32)> {
     let Some((id, length)) = text.split_once('/') else {
         return Some((number(text)?, 0));
@@ -196,7 +195,7 @@ fn add_line(
     }
 }
 
-/// The dump of a database that a text describes. Its areas are not stub areas and stand in rising
+/// The dump of a database that a text describes. Its areas are not stub areas and are in rising
 /// order of their IDs, and it has no LSAs of AS scope.
 pub fn dump_of_text(alloc: Global, text: &str) -> Result<Vec<u8>, TextFault> {
     let mut areas = Vec::new(alloc);

@@ -1,4 +1,4 @@
--- A line that is read as an edit is its line, and the line of an edit is read as it.
+-- A line that is read as an edit is that edit's line, and the line of an edit is read as the edit.
 use Rattle.std.proofs.Common.{◌≡◌, ◌≢◌, ℕ, ◌+◌, ◌<◌, Bool, true, false, cond, eqb, ltb, List, [], ◌∷◌, ◌++◌, length, get_or, take, drop, Option, Some}
 use Rattle.std.proofs.Common.{None, Result, Ok, Err, refl, sym, ap, subst, ◌∙◌, append_assoc, arith, inl, inr}
 use Rattle.std.specs.Prelude.{All, position, option_map, bytes_eq}
@@ -20,7 +20,7 @@ is_feed byte = eqb byte line_feed
 
 -- ---- a line that is cut off
 
--- the bytes up to the first line feed, and those behind it
+-- the bytes up to the first line feed, and those after it
 pub cut : (bytes : List ℕ) (end : ℕ) → position is_feed bytes ≡ Some end
     → (end < length bytes) × (bytes ≡ (take end bytes ++ line_feed ∷ []) ++ drop (end + 1) bytes)
 cut bytes end is =
@@ -38,7 +38,7 @@ cut bytes end is =
       | inr le ↦ absurd (let e : position is_feed bytes ≡ None = cond-false _ _ _ (le-ltb _ _ le) in cc)
     ]
 
--- the first line feed behind bytes without one
+-- the first line feed after bytes without one
 pub feed_behind : (line rest : List ℕ) → All (λ byte. byte ≢ 10) line → position is_feed (line ++ line_feed ∷ rest) ≡ Some (length line)
 feed_behind line rest lacks =
     let bytes : List ℕ = line ++ line_feed ∷ rest in
@@ -50,7 +50,7 @@ feed_behind line rest lacks =
     cond-true (ltb (position_or_len is_feed bytes) (length bytes)) (Some (position_or_len is_feed bytes)) None (lt-ltb _ _ (omega (arith, first, long)))
     ∙ ap (λ (n : ℕ). Some n) first
 
--- ---- what is read
+-- ---- reading
 
 abbrev some : Edit → Option Edit
 some edit = Some edit
@@ -120,7 +120,7 @@ pub edit_line_is : KeepsRange → (bytes : List ℕ) (edit : Edit) (octets : ℕ
 unfolding edit_line
 edit_line_is range bytes edit octets h = line_read range bytes (position is_feed bytes) edit octets refl h
 
--- ---- what is read again
+-- ---- reading back
 
 abbrev pub ReadsBack : Type 0
 ReadsBack = (edit : Edit) → IsEditInRange edit → meaning (spelling edit) ≡ Ok (0, command.Edit edit)

@@ -24,7 +24,7 @@ use Rattle.session_text.specs.Text.{history_text, session_text, IsHistory}
 
 -- ---- words
 
--- so many digits
+-- a number has at most this number of digits
 number : (k n : ℕ) → 0 < k → n < 10 ^ k → n < 2 ^ 64 → length (decimal n) ≤ k
 number k n some below wide = length-decimal-le k n some below wide
 
@@ -57,7 +57,7 @@ type Type2 = omega arith
 
 -- ---- lines
 
--- the bytes of words, with one behind each
+-- the bytes of words, with one additional byte after each
 abbrev room : List Word → ℕ
 room [] = 0
 room (word ∷ words) = length word + 1 + room words

@@ -16,7 +16,8 @@ line_feed = 10
 abbrev pub line_of : Edit → List ℕ
 line_of edit = spelling edit ++ line_feed ∷ []
 
--- the most bytes of a line: of an AS-external-LSA that is added, with each number at its longest
+-- the maximum number of bytes of a line: that of an AS-external-LSA that is added, with each number
+-- at its longest
 abbrev pub longest_line : ℕ
 longest_line = 86
 
@@ -43,6 +44,6 @@ abbrev pub line_up_to : List ℕ → Option ℕ → Option (Edit × ℕ)
 line_up_to bytes None = None
 line_up_to bytes (Some end) = option_map (λ edit. (edit, end + 1)) (edit_spelled (take end bytes))
 
--- the edit of the first line, and how many bytes that line has with its line feed
+-- the edit of the first line, and the length in bytes of that line with its line feed
 unfoldable pub edit_line : List ℕ → Option (Edit × ℕ)
 edit_line bytes = line_up_to bytes (position (λ b. b == line_feed) bytes)

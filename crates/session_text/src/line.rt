@@ -29,10 +29,13 @@ fn edit_spelled<A: Allocator + Copy>(alloc: A, line: &[u8]) -> Result<Option<Edi
     }
 }
 
-/// The edit of the first line of the bytes, and how many bytes the line has with its line feed.
-/// `None` where no line feed stands there, and where the line is not just as an edit is printed.
+/// The edit of the first line of the bytes, and the length in bytes of the line with its line feed.
+/// `None` where the bytes have no line feed, and where the line is not exactly as an edit is
+/// printed.
 ///
-/// The error is a want of memory.
+/// # Errors
+///
+/// Memory ran out.
 #[tactic(auto, unfolding(crate::specs::Lines::edit_line))]
 pub fn edit_line<A: Allocator + Copy>(
     alloc: A,
@@ -49,10 +52,12 @@ pub fn edit_line<A: Allocator + Copy>(
     }
 }
 
-/// Writes the line of an edit behind what was written before. Each number of an edit is in the
-/// range of its type, so [`edit_line`] reads the line again.
+/// Writes the line of an edit after what was written before. Each number of an edit is in the range
+/// of its type, so [`edit_line`] reads the line back.
 ///
-/// The error is a want of memory.
+/// # Errors
+///
+/// Memory ran out.
 pub fn put_line<A: Allocator + Copy>(
     alloc: A,
     out: &mut Vec<u8, A>,

@@ -19,7 +19,7 @@ pub(super) const NETWORK: &[u8] = &[
 ];
 
 /// The router 1.1.1.1 between the backbone, with 2.2.2.2, and the area 0.0.0.1, with 3.3.3.3: all
-/// three are area border routers, and summary-LSAs stand in both areas. That of 1.1.1.1, for
+/// three are area border routers, and both areas have summary-LSAs. That of 1.1.1.1, for
 /// 10.22.0.0/16, is stale: it reaches no such network.
 pub(super) const TWO_AREAS: &[u8] = &[
     0x4f, 0x53, 0x57, 0x50, 0x01, 0x02, 0x00, 0x00, 0x00, 0x00, 0x00, 0x00, 0x05, 0x00, 0x01, 0x02,

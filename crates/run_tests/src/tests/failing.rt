@@ -8,8 +8,8 @@ use std::io::Write;
 use std::test::*;
 use whole_run::{RunFault, SAMPLE, Summary};
 
-/// An edit, lines without reply, a line that is no command, a table and a comparison, whose replies
-/// have two lines each, a refused edit and a refused undo, and an undo.
+/// An edit, lines without a reply, a line that is not a command, a table and a comparison, whose
+/// replies have two lines each, a refused edit and a refused undo, and an undo.
 const SCRIPT: &[u8] = b"cost 0.0.0.0 1.1.1.1 1 65535
 # note
 
@@ -47,12 +47,12 @@ const LEFT: &[u8] = &[
 /// A place past the end of every text of these tests.
 const NEVER: usize = 1_000_000;
 
-/// A reader of a text, one byte a time, that fails after so many, if it does.
+/// A reader of a text, one byte at a time, that fails after `fails_after` bytes, if it is given.
 fn source(text: &'static [u8], fails_after: Option<usize>) -> Source<'static> {
     Source::new(text, 1, fails_after)
 }
 
-/// A writer that takes one byte a time, and so many.
+/// A writer that takes one byte at a time, and `limit` bytes at most.
 fn sink(alloc: Global, limit: usize, failing: Failing) -> Sink {
     Sink::new(alloc, 1, limit, failing)
 }

@@ -101,8 +101,8 @@ fn whole<'a>(
     run_whole(rationed, dump, script, replies, out, save)
 }
 
-/// Whether a run over so many growths ends for want of memory, with a prefix of these replies and
-/// no dump and no session.
+/// Whether a run with this number of growths ends early because memory ran out, with a prefix of
+/// these replies and no dump and no session.
 fn ends_early(alloc: Global, growths: u64, dump: &[u8], script: &[u8], ample: &[u8]) -> bool {
     let rationed = Rationed::new(alloc, growths);
     let ended = whole(&rationed, alloc, dump, script);

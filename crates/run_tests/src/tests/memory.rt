@@ -21,7 +21,7 @@ fn cost(metric: u16) -> Edit {
     }
 }
 
-/// For how many growths the database of the sample asks.
+/// The number of growths that the database of the sample needs.
 fn growths_of_load(alloc: Global) -> Result<u64, Fail> {
     let counted = Rationed::new(alloc, u64::MAX);
     let _database = Database::load(&counted, SAMPLE)?;
@@ -38,14 +38,14 @@ fn counts_no_edits<A: Allocator + Copy>(branches: &mut Branches<A>, branch: u8) 
     }
 }
 
-/// Whether a command of a branch is carried out, and no memory is wanted.
+/// Whether a command of a branch is carried out, and memory does not run out.
 fn is_done<A: Allocator + Copy>(branches: &mut Branches<A>, branch: u8, command: Command) -> bool
     requires { branch < 8 }
 {
     matches!(branches.step(branch, &command), Ok(Reply::Done))
 }
 
-/// Whether a command of a branch is refused, and no memory is wanted.
+/// Whether a command of a branch is refused, and memory does not run out.
 fn is_refused<A: Allocator + Copy>(branches: &mut Branches<A>, branch: u8, command: Command) -> bool
     requires { branch < 8 }
 {
@@ -55,7 +55,7 @@ fn is_refused<A: Allocator + Copy>(branches: &mut Branches<A>, branch: u8, comma
     }
 }
 
-/// Whether all is carried out or refused in a branch, and no memory is wanted.
+/// Whether all is carried out or refused in a branch, and memory does not run out.
 fn takes_no_memory<A: Allocator + Copy>(branches: &mut Branches<A>, branch: u8) -> bool
     requires { branch < 8 }
 {
@@ -66,7 +66,7 @@ fn takes_no_memory<A: Allocator + Copy>(branches: &mut Branches<A>, branch: u8) 
         && counts_no_edits(branches, branch)
 }
 
-/// Whether an edit wants memory.
+/// Whether memory runs out for an edit.
 fn wants_memory<A: Allocator + Copy>(branches: &mut Branches<A>) -> bool {
     branches.step(1, &Command::Edit(cost(7))).is_err()
 }

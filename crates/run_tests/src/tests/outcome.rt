@@ -33,7 +33,7 @@ fn finished_given<T>(watched: Option<Watched<T>>) -> Used<T>
     }
 }
 
-/// What a run answers, and its readers and writers after it.
+/// The result of a run, and its readers and writers after it.
 #[derive(Drop)]
 pub(super) struct Outcome<R, S, W, D, E> {
     /// The counts of the lines, or why the run ended early.
@@ -50,8 +50,8 @@ pub(super) struct Outcome<R, S, W, D, E> {
     pub(super) save: Used<E>,
 }
 
-/// Runs a script on a dump, and takes the replies and the dump and the session that it leaves: what
-/// [`whole_run::run`] promises, of readers and writers that are moved in and out.
+/// Runs a script on a dump, and takes the replies, and the dump and the session that it leaves:
+/// what [`whole_run::run`] promises, for readers and writers that are moved in and out.
 pub(super) fn run_whole<A: Allocator + Copy, R: Read, S: Read, W: Write, D: Write, E: Write>(
     alloc: A,
     dump: R,
@@ -83,7 +83,7 @@ pub(super) fn run_whole<A: Allocator + Copy, R: Read, S: Read, W: Write, D: Writ
     }
 }
 
-/// What a run answers that leaves no dump and no session, and its readers and its writer after it.
+/// The result of a run that leaves no dump and no session, and its readers and its writer after it.
 #[derive(Drop)]
 pub(super) struct Replied<R, S, W> {
     /// The counts of the lines, or why the run ended early.
@@ -135,7 +135,7 @@ fn watched_given<T>(stream: Option<T>) -> Option<Watched<T>>
     }
 }
 
-/// What a run answers, with writers of the dump and of the session where they are given.
+/// The result of a run, with writers of the dump and of the session where they are given.
 pub(super) fn run_given<
     A: Allocator + Copy,
     R: Read + Drop,

@@ -25,7 +25,7 @@ fn blocks_until_refusal<A: Allocator + Copy>(alloc: A) -> u64 {
     blocks
 }
 
-/// Makes two lists at one handle, and frees both.
+/// Makes two lists with one handle, and frees both.
 fn make_two<A: Allocator + Copy>(alloc: A) -> Result<(), AllocError> {
     let mut first = Vec::with_capacity(alloc, 4)?;
     let mut second = Vec::with_capacity(alloc, 4)?;

@@ -4,7 +4,7 @@ use linked_list_allocator::LocalHeap;
 use rationed::Rationed;
 use std::alloc::AllocError;
 
-/// The inner allocator is a heap that tells how many bytes are handed out.
+/// The inner allocator is a heap that counts the bytes that are handed out.
 #[test]
 fn asks_the_inner_allocator_and_gives_back(rt: HostRuntime) -> Result<(), AllocError> {
     let heap = LocalHeap::new(rt.alloc(), 1_024)?;

@@ -22,7 +22,7 @@ fn reads_a_network(rt: HostRuntime) -> Result<(), Fail> {
     Ok(())
 }
 
-/// Texts with a line that is none, and the number of that line.
+/// Texts with a line that cannot be read, and the number of that line.
 const UNREAD: &[(&str, usize)] = &[
     ("router 1.1.1.1\narea 0\n", 1),
     ("area x\n", 1),

@@ -3,7 +3,7 @@ use Rattle.edit_history.specs.Journal.{Links}
 use Rattle.edit_history.specs.Session.{session_of, moved_back}
 use Rattle.edited_databases.proofs.edited.back.Given as goal
 
--- as many edits as there were steps are taken back
+-- the number of edits taken back is the number of steps
 abbrev pub invariant-loop-step : goal.invariant-loop-step
 invariant-loop-step g l = record {
   linked : Links l.database l.history.lists;

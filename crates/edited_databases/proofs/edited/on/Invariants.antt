@@ -3,7 +3,7 @@ use Rattle.edit_history.specs.Journal.{Links}
 use Rattle.edit_history.specs.Session.{session_of, moved_on}
 use Rattle.edited_databases.proofs.edited.on.Given as goal
 
--- as many edits as there were steps are carried out again
+-- the number of edits carried out again is the number of steps
 abbrev pub invariant-loop-step : goal.invariant-loop-step
 invariant-loop-step g l = record {
   linked : Links l.database l.history.lists;

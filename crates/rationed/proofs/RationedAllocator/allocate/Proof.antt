@@ -1,4 +1,5 @@
--- Without a block left it answers `Err`; with one it answers what the inner allocator answers. Assumes `Logic`.
+-- Where no block is left it returns `Err`; otherwise it returns what the inner allocator returns. Assumes
+-- `Logic`.
 use Rattle.std.proofs.Common.{◌≡◌, Bool, true, false, List, [], ◌∷◌, Ok, Err, refl, w64}
 use Rattle.std.proofs.raw_atomic.Walks.{proved}
 use mir.Syntax.{Args, Fn, a_type, dnil, dcons}
