@@ -291,6 +291,10 @@ fn push_edit_counts<A: Allocator + Copy>(
 }
 
 /// The text for a line that is not a command: `script S2 UnknownWord`, and a line feed.
+///
+/// # Errors
+///
+/// Memory ran out.
 pub fn script_text<A: Allocator + Copy>(
     alloc: A,
     fault: ScriptFault,

@@ -39,8 +39,7 @@ impl LsaList {
         }
     }
 
-    /// Adds an LSA of these bytes. The only error, here and below, is that memory ran out; the list
-    /// is then unchanged.
+    /// Adds an LSA of these bytes. Here and below, the list is unchanged where memory ran out.
     fn push(&mut self, lsa: &[u8]) -> Result<(), AllocError>
         ensures { self.new ≡ (if is_ok result then with_octets lsa.now self.old else self.old) }
     {
@@ -50,6 +49,10 @@ impl LsaList {
     }
 
     /// Adds an LSA with a body of at most 65,515 bytes (RFC 2328, A.4.1).
+    ///
+    /// # Errors
+    ///
+    /// Memory ran out.
     pub fn lsa(&mut self, header: Header, body: &[u8]) -> Result<(), AllocError>
         ensures { self.new ≡
             (if is_ok result then with_lsa header body.now self.old else self.old) }
@@ -58,8 +61,11 @@ impl LsaList {
         self.push(&octets)
     }
 
-    /// Adds a router-LSA of some age and with these flags, of at most 5,459 links (RFC 2328,
-    /// A.4.2).
+    /// Adds a router-LSA with some age and these flags, of at most 5,459 links (RFC 2328, A.4.2).
+    ///
+    /// # Errors
+    ///
+    /// Memory ran out.
     pub fn router_of(
         &mut self,
         age: u16,
@@ -81,6 +87,10 @@ impl LsaList {
     }
 
     /// Adds a router-LSA of age 1 without flags.
+    ///
+    /// # Errors
+    ///
+    /// Memory ran out.
     pub fn router(&mut self, router: u32, links: &[RouterLink]) -> Result<(), AllocError>
         ensures { self.new ≡
             (if is_ok result then with_router 1 router 0 links.now self.old else self.old) }
@@ -88,7 +98,7 @@ impl LsaList {
         self.router_of(1, router, 0, links)
     }
 
-    /// Adds a network-LSA of some age, of a transit network with the Designated Router's address
+    /// Adds a network-LSA with some age, of a transit network with the Designated Router's address
     /// and a mask (RFC 2328, A.4.3).
     pub(crate) fn network_of(
         &mut self,
@@ -111,7 +121,11 @@ impl LsaList {
         self.lsa(header, &body)
     }
 
-    /// Adds a network-LSA of age 1, of a transit network of mask 255.255.0.0.
+    /// Adds a network-LSA of age 1, of a transit network with mask 255.255.0.0.
+    ///
+    /// # Errors
+    ///
+    /// Memory ran out.
     pub fn network(&mut self, address: u32, router: u32, attached: &[u32]) -> Result<(), AllocError>
         ensures { self.new ≡ (if is_ok result
             then with_network 1 address MASK_16 router attached.now self.old else self.old) }
@@ -130,6 +144,10 @@ impl LsaList {
     }
 
     /// The dump of area 0.0.0.0 with these LSAs, and without LSAs of AS scope.
+    ///
+    /// # Errors
+    ///
+    /// Memory ran out.
     #[tactic(auto, unfolding(crate::specs::Dumps::dump_octets))]
     pub fn dump(&self) -> Result<Vec<u8>, AllocError>
         ensures { IfOk result (λ dump. dump.items ≡ dump_of_area self.now) }

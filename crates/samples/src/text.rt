@@ -197,6 +197,10 @@ fn add_line(
 
 /// The dump of a database that a text describes. Its areas are not stub areas and are in rising
 /// order of their IDs, and it has no LSAs of AS scope.
+///
+/// # Errors
+///
+/// A line cannot be read, or memory ran out.
 pub fn dump_of_text(alloc: Global, text: &str) -> Result<Vec<u8>, TextFault> {
     let mut areas = Vec::new(alloc);
     let mut count: usize = 0;
