@@ -62,7 +62,7 @@ least_is : (ks : List ℕ) → LeastIs ks (least nat_cmp ks)
 least_is [] = λ k i. i
 least_is (k ∷ ks) = least_more k ks (least nat_cmp ks) (least_is ks)
 
--- ---- cutting a path where an edge stands twice
+-- ---- cutting a path where an edge occurs twice
 
 module _ {V : Type 0} (IsEdge : DirectedEdge V → Type 0) where
   IsPath-split : (u w : V) (es fs : List (DirectedEdge V)) → IsPath IsEdge u (es ++ fs) w → (v : V) × IsPath IsEdge u es v × IsPath IsEdge v fs w

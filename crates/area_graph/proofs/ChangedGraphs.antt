@@ -31,7 +31,7 @@ use Rattle.area_graph.proofs.VertexNumbers.{at_one_place, found}
 
 -- ---- the graph of an area, by its rows
 
--- the edges out of a vertex, as they stand over the links
+-- the edges out of a vertex, in the order of the links
 abbrev raw : List (List ℕ) → Vertex → List Edge
 raw lsas v = filter_map (numbered (vertices_of lsas)) (filter (is_out_of v) (area_edges (used lsas)))
 

@@ -22,7 +22,7 @@ use Rattle.area_graph.proofs.EachOnce.{Contains-each_once, edge_is, edge_same}
 use Rattle.area_graph.proofs.MemberLemmas.{In, In-from_Contains, Some-same, In-cases}
 use Rattle.area_graph.proofs.VertexNumbers.{found}
 
--- ---- an edge that stands at one place alone
+-- ---- an edge that occurs at one place alone
 
 counted : {X : Type 0} (p : X → Bool) (z : X) (xs : List X) (b : Bool) → p z ≡ b → count_by p (z ∷ xs) ≡ cond b 1 0 + count_by p xs
 counted p z xs b is = sum_by-cons (λ x. cond (p x) 1 0) z xs ∙ ap (λ (t : Bool). cond t 1 0 + count_by p xs) is

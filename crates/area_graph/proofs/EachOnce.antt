@@ -1,4 +1,4 @@
--- Lists of edges in which each stands once.
+-- Lists of edges in which each occurs once.
 use Rattle.std.proofs.Common.{◌≡◌, ◌≢◌, ℕ, zero, suc, ◌+◌, ◌-◌, ◌<◌, ◌≤◌, Bool, true, false, cond, ◌&&◌, eqb, List, [], ◌∷◌, ◌++◌, take, length, get_or, refl, sym, ap, ◌∙◌}
 use Rattle.std.proofs.Common.{subst, arith, ◌⊎◌, inl, inr, ⊎_elim, true≢false}
 use Rattle.std.specs.List.{Contains, AllPairs, list_any, fold}
@@ -93,7 +93,7 @@ pub each_once-more : (es : List Edge) (i : ℕ) (d : Edge) → i < length es
 each_once-more es i d lt =
     ap (each_once same_edge) (take_more es i d lt) ∙ fold_push (insert_key same_edge) [] (take i es) (get_or es i d)
 
--- an edge that does not stand among those before it, in a list whose edges before it stand once
+-- an edge that is not among those before it, in a list whose edges before it occur once
 pub distinct-more : (es : List Edge) (i : ℕ) (d : Edge) → i < length es → each_once same_edge (take i es) ≡ take i es
     → list_any (same_edge (get_or es i d)) (take i es) ≡ false
     → each_once same_edge (take (i + 1) es) ≡ take (i + 1) es

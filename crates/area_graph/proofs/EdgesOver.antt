@@ -134,7 +134,7 @@ module _ (v : Vertex) where
         by false = refl
         by true = sym (filter-append (is_out_of v) (back e ∷ []) (map back (to_networks es)))
 
-  -- those out of one vertex stand in the same order
+  -- those out of one vertex are in the same order
   same_outs : (es : List (DirectedEdge Vertex)) → ((e : DirectedEdge Vertex) → In es e → is_network e.from ≡ false) → (b : Bool) → is_network v ≡ b
       → outs (flat_map both_ways es) ≡ outs (es ++ map back (to_networks es))
   same_outs es from false router =

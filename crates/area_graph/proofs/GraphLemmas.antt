@@ -78,7 +78,7 @@ module _ (lsas : List (List ℕ)) (accepted : All IsAccepted lsas) where
 
 -- ---- the whole
 
--- a row of the graph where each edge stands once
+-- a row of the graph where each edge occurs once
 row_once : (t : Topology) (i : ℕ) → row_at (edges_once t) i ≡ each_once same_edge (row_at t i)
 row_once t i = get_or-map-all (each_once same_edge) t.rows i []
 

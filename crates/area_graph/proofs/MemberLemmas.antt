@@ -97,7 +97,7 @@ module _ {X : Type 0} where
       (λ z. ⊎_elim (λ i. inl (inr i)) (λ all. inr (λ x. ⊎_elim (λ q. subst (λ (a : X). In zs a) q z) (all x))) (sweep e zs ys (λ x i. h x (inr i))))
       (h y (inl refl))
 
-  -- some member stands at two places
+  -- some member is at two places
   abbrev pub Repeats : List X → Type 0
   Repeats xs = (a : List X) × (b : List X) × (c : List X) × (x : X) × (xs ≡ a ++ (x ∷ (b ++ (x ∷ c))))
 

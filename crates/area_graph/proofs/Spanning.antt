@@ -1,4 +1,4 @@
--- Lists that stand one after another in one list.
+-- Lists that are kept one after another in one list.
 use Rattle.std.proofs.Common.{◌≡◌, ℕ, suc, ◌-◌, ◌+◌, ◌<◌, ◌≤◌, List, [], ◌∷◌, ◌++◌, take, drop, length, get_or, Some, refl, sym, ap, ◌∙◌, subst}
 use Rattle.std.proofs.Common.{arith, append_assoc, ⊎_elim}
 use Rattle.std.specs.Prelude.{AllPairs, slice_get, slice_set}

@@ -24,7 +24,7 @@ targets_in_row t shape i row is k d lt =
     shape.in_range (record { from = i; to = e.to; cost = e.cost; link_data = e.link_data })
     (subst (λ (xs : List Edge). Contains xs e) is (Contains-get_or row k d lt))
 
--- and stands there once
+-- and it is there once
 pub once_in_row : (t : Topology) → IsTopology t → (i : ℕ) (row : List Edge) → row ≡ row_at t i → AllPairs (λ e f. e ≢ f) row
 once_in_row t shape i row is = subst (λ (xs : List Edge). AllPairs (λ e f. e ≢ f) xs) (sym is) (shape.once i)
 

@@ -25,7 +25,7 @@ pub number_found : (vs : List Vertex) (v : Vertex) (o : Option ℕ) → o ≡ po
 number_found vs v None p = tt
 number_found vs v (Some i) p = (found vs v i (sym p)).1
 
--- a vertex of distinct ones stands at one place
+-- a vertex of distinct ones is at one place
 pub at_one_place : (vs : List Vertex) → AllPairs (λ v w. v ≢ w) vs → (i j : ℕ) (v : Vertex) → slice_get vs i ≡ Some v → slice_get vs j ≡ Some v → i ≡ j
 at_one_place vs distinct i j v at_i at_j =
     ⊎_elim (λ same. same) (λ other. absurd (⊎_elim
@@ -44,7 +44,7 @@ passes_at p (a ∷ xs) (suc i) x at pass = by (p a) (passes_at p xs i x at pass)
     by true lt = omega arith
     by false lt = omega arith
 
--- a vertex that stands in a list has a number
+-- a vertex in a list has a number
 pub has_number : (vs : List Vertex) (v w : Vertex) (i : ℕ) → slice_get vs i ≡ Some w → is_same v w ≡ true → (j : ℕ) × (position (is_same v) vs ≡ Some j)
 has_number vs v w i at same =
     let j = position_or_len (is_same v) vs in

@@ -93,7 +93,7 @@ module _ {X Y : Type 0} (R : X → Y → Type 0) where
         by (Some a) None one rest = absurd one
         by (Some a) (Some b) one rest = (one, rest)
 
--- the same of lists that each member gives
+-- the same for lists that each member gives
 pub zip-flat_map : {X Y A B : Type 0} (R : X → Y → Type 0) (S : A → B → Type 0) (f : X → List A) (g : Y → List B)
     → ((x : X) (y : Y) → R x y → AllZip S (f x) (g y)) → (xs : List X) (ys : List Y) → AllZip R xs ys → AllZip S (flat_map f xs) (flat_map g ys)
 zip-flat_map R S f g both [] [] h = tt

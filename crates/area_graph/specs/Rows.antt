@@ -16,7 +16,7 @@ same_edge a b = (a.to == b.to) && ((a.cost == b.cost) && (a.link_data.0 == b.lin
 abbrev pub each_once : {X : Type 0} → (X → X → Bool) → List X → List X
 each_once same xs = fold (λ kept x. if list_any (same x) kept then kept else kept ++ x ∷ []) [] xs
 
--- an edge as it stands in the row of its first vertex, if the vertex that it leads to has a number
+-- an edge in the row of its first vertex, if the vertex that it leads to has a number
 abbrev pub numbered : List Vertex → DirectedEdge Vertex → Option Edge
 numbered vertices e = option_map (λ to. record { to = to; cost = e.cost; link_data = e.link_data }) (position (is_same e.to) vertices)
 
@@ -24,7 +24,7 @@ numbered vertices e = option_map (λ to. record { to = to; cost = e.cost; link_d
 abbrev pub is_out_of : Vertex → DirectedEdge Vertex → Bool
 is_out_of v e = is_same e.from v
 
--- the row of a vertex: the edges out of it, each once, in the order in which their links stand in the router-LSAs of the area
+-- the row of a vertex: the edges out of it, each once, in the order of their links in the router-LSAs of the area
 unfoldable pub row_of : List (List ℕ) → Vertex → List Edge
 row_of lsas v = each_once same_edge (filter_map (numbered (vertices_of lsas)) (filter (is_out_of v) (area_edges (used lsas))))
 

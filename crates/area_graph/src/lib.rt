@@ -1,7 +1,7 @@
 //! The graph of an area (RFC 2328, 16.1): its vertices, which are routers and transit networks,
 //! and the edges out of each.
 //!
-//! [`Graph`] numbers the vertices from 0 in the order in which their LSAs stand in the area.
+//! [`Graph`] numbers the vertices from 0 in the order of their LSAs in the area.
 #![tactic(auto)]
 
 // What a graph is.

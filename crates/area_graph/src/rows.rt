@@ -68,7 +68,7 @@ fn is_distinct(row: &[Edge]) -> bool
 }
 
 /// Whether each edge leads to a vertex with a greater number than that of the edge before, so that
-/// no edge stands twice.
+/// no edge occurs twice.
 fn is_rising(row: &[Edge]) -> bool
     ensures { result ≡ true → each_once same_edge row.now ≡ row.now }
 {

@@ -139,7 +139,8 @@ module _ (lsas : List (List ℕ)) (root : RouterId) (t : Topology) (tree : Dista
       ∙ ap (λ (os : List OfferValue). ways_of prefix_cmp (ns ++ map offer_candidate os)) stubs_by_links
       ∙ ap (ways_of prefix_cmp) (sym (map-append offer_candidate (network_offers rs) (stub_offers root rs))))
 
-  -- offers by the vertices that are reached and by the stub links, with the entries of these vertices, are what the area gives
+  -- offers by the vertices that are reached and by the stub links, with the entries of these vertices, are the result of the
+  -- area
   pub result_of_area : (area : AreaId) (links : List StubLink) → AreStubLinksOf lsas links → (reached : List ReachedValue) → reached ≡ rs
       → (offers : List OfferValue)
       → offers ≡ offers_at root tree.distances hops reached links

@@ -1,4 +1,4 @@
--- The ways of candidates that stand in order, kept as routes of a router that is attached to one area.
+-- The ways of candidates that are in order, kept as routes of a router that is attached to one area.
 use Rattle.std.proofs.Common.{◌≡◌, ℕ, ◌-◌, ◌<◌, List, [], ◌∷◌, ◌++◌, get_or, length, map, set, Option, None, Some, false, refl, sym, ap, subst, ◌∙◌, arith}
 use Rattle.std.specs.List.{All, slice_get}
 use Rattle.std.specs.List.Sorted.{IsStrictlySortedBy}
@@ -63,7 +63,7 @@ last_way rs n old new x size at made before net best is =
 pub offers_at_end : (cs : List (Candidate Net)) (rs : List RouteValue) → Runs prefix_cmp cs (map way_by rs) → map offered rs ≡ map offer_of (ways_of prefix_cmp cs)
 offers_at_end cs rs runs = sym (map-map offer_of way_by rs) ∙ ap (map offer_of) (at_end prefix_total prefix_exact cs (map way_by rs) runs)
 
--- what is offered stands in order
+-- the offers are in order
 pub sorted_offers : (cs : List (Candidate Net)) → AreSortedOffers (map offer_of (ways_of prefix_cmp cs))
 sorted_offers cs =
     subst (λ (ks : List Net). IsStrictlySortedBy prefix_cmp ks) (sym (map-map (λ (o : OfferValue). o.net) offer_of (ways_of prefix_cmp cs)))

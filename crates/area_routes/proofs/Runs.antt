@@ -1,4 +1,4 @@
--- The ways of candidates that stand in order, one candidate after another.
+-- The ways of candidates that are in order, one candidate after another.
 use Rattle.std.proofs.Common.{◌≡◌, ℕ, ◌+◌, ◌-◌, ◌<◌, Bool, true, false, cond, List, [], ◌∷◌, ◌++◌, length, get_or, set, take, map, Option, Some, None}
 use Rattle.std.proofs.Common.{refl, sym, ap, subst, ◌∙◌, arith, ◌⊎◌, inl, inr, length-append, true≢false}
 use Rattle.std.specs.List.{AllByRecursion, slice_get}
@@ -262,7 +262,7 @@ module _ {K : Type 0} {R : K → K → Ordering} (o : IsTotalOrder R) where
   keys_up_to k [] a = tt
   keys_up_to k (c ∷ cs) a = (a.0, keys_up_to k cs a.1)
 
-  -- candidates in order stand in order of their keys
+  -- candidates in order are in order of their keys
   pub by_keys : (all : List (Candidate K)) → IsSorted (contender_cmp R) all → IsSorted (key_cmp R) all
   by_keys all up k d low below = first_not_less _ _ (first_not_less (candidate_cmp R (get_or all (k + 1) d) (get_or all k d)) _ (up k d low below))
 

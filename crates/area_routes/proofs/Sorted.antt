@@ -1,4 +1,4 @@
--- Routes stand in order of prefix, each prefix once.
+-- Routes are in order of prefix, each prefix once.
 use Rattle.std.proofs.Common.{◌≡◌, List, [], ◌∷◌, map, refl, sym, ap, subst}
 use Rattle.std.specs.List.Sorted.{IsStrictlySortedBy}
 use Rattle.std.specs.Map.{keys_of}

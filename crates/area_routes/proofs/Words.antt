@@ -101,7 +101,7 @@ module _ {K : Type 0} {R : K → K → Ordering} (o : IsTotalOrder R) where
           (λ k no_lower. not_below o x (lesser R y (least R ys)) k no_lower e) (y ∷ ys) h)
 
 module _ {K : Type 0} (t : Candidate K → Bool) where
-  -- the members that pass, by a further test
+  -- the members that pass, by another test
   any_own : (p : Rank → Bool) (cs : List (Candidate K)) → list_any p (map (λ c. c.rank) (filter t cs)) ≡ list_any (λ c. t c && p c.rank) cs
   any_own p cs = any_map (λ c. c.rank) p (filter t cs) ∙ any_filter t (λ c. p c.rank) cs
 

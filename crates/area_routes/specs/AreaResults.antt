@@ -1,4 +1,5 @@
--- What an area gives to a router, as a function of its LSAs and the router (RFC 2328, 16.1).
+-- The result of an area for a router, as a function of the area's LSAs and the router (RFC 2328,
+-- 16.1).
 use Rattle.std.specs.Prelude.{◌≡◌, ℕ, List, ◌++◌}
 use Rattle.lsa_codec.specs.declared.address.AreaId.{AreaId}
 use Rattle.lsa_codec.specs.declared.address.RouterId.{RouterId}
@@ -16,11 +17,11 @@ use Rattle.area_routes.specs.Offers.{best_offers}
 use Rattle.area_routes.specs.Stubs.{stub_offers}
 use Rattle.area_routes.specs.Entries.{area_entries}
 
--- what the vertices that are reached give
+-- the result by the vertices that are reached
 abbrev pub result_of_reached : AreaId → RouterId → List ReachedValue → AreaResultValue
 result_of_reached area root rs = record { area = area; offers = best_offers (network_offers rs ++ stub_offers root rs); entries = area_entries area root rs }
 
--- what an area with these LSAs gives to a router
+-- the result of an area with these LSAs for a router
 unfoldable pub area_result : AreaId → List (List ℕ) → RouterId → AreaResultValue
 area_result area lsas root = result_of_reached area root (reached_from root (used lsas))
 

@@ -25,6 +25,6 @@ intra_of results = routes_of (flat_map intra_candidates results)
 abbrev pub intra_route : AreaId → OfferValue → RouteValue
 intra_route area o = record { net = o.net; kind = Intra; areas = area ∷ []; cost = o.cost; cost2 = 0; hops = o.hops }
 
--- what an area gives, without the ways to prefixes
+-- the result of an area, without the ways to prefixes
 abbrev pub without_offers : AreaResultValue → AreaResultValue
 without_offers r = record { area = r.area; offers = []; entries = r.entries }

@@ -19,6 +19,6 @@ offer_of e = record { net = e.0; cost = e.1.rank.cost; hops = e.1.hops }
 abbrev pub best_offers : List OfferValue → List OfferValue
 best_offers offers = map offer_of (ways_of prefix_cmp (map offer_candidate offers))
 
--- offers stand in order of prefix, one for each
+-- offers are in order of prefix, one for each
 abbrev pub AreSortedOffers : List OfferValue → Type 0
 AreSortedOffers offers = IsStrictlySortedBy prefix_cmp (map (λ o. o.net) offers)

@@ -21,7 +21,7 @@ routes_of cs = map route_of (ways_of prefix_cmp cs)
 abbrev pub nets : List RouteValue → List Net
 nets routes = map (λ r. r.net) routes
 
--- routes stand in order of prefix, one for each
+-- routes are in order of prefix, one for each
 abbrev pub AreSortedRoutes : List RouteValue → Type 0
 AreSortedRoutes routes = IsStrictlySortedBy prefix_cmp (nets routes)
 

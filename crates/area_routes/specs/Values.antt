@@ -1,4 +1,4 @@
--- Routes, router entries and what an area gives, as contracts see them (RFC 2328, 11 and 16.1).
+-- Routes, router entries and results of areas, as contracts see them (RFC 2328, 11 and 16.1).
 use Rattle.std.specs.Prelude.{ℕ, ◌<◌, List, All}
 use Rattle.lsa_codec.specs.declared.address.AreaId.{AreaId}
 use Rattle.lsa_codec.specs.declared.address.RouterId.{RouterId}
@@ -31,7 +31,8 @@ pub record OfferValue : Type 0 where
   pub cost : ℕ
   pub hops : List Hop
 
--- what an area gives: ways to prefixes, and the entries of its area border routers and AS boundary routers
+-- the result of an area: ways to prefixes, and the entries of its area border routers and AS boundary
+-- routers
 pub record AreaResultValue : Type 0 where
   pub area : AreaId
   pub offers : List OfferValue

@@ -60,7 +60,7 @@ pub(crate) fn all_entries<A: Allocator + Copy>(
 }
 
 impl<A: Allocator + Copy> RouterEntries<A> {
-    /// The router entries that areas give, area by area.
+    /// The router entries of the results of areas, area by area.
     ///
     /// # Errors
     ///

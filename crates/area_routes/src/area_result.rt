@@ -1,4 +1,4 @@
-//! What one area gives.
+//! The result of one area.
 
 ghost use Rattle.std.specs.Prelude.{◌≡◌, ◌^◌, All, map};
 ghost use Rattle.next_hops.specs.Hop.{IsSortedHops};
@@ -13,7 +13,7 @@ use std::alloc::{Allocator, Global};
 use std::marker::Model;
 use std::mem;
 
-/// What the shortest-path tree of a router gives in one area (RFC 2328, 16.1): ways to prefixes,
+/// The result of the shortest-path tree of a router in one area (RFC 2328, 16.1): ways to prefixes,
 /// and the other routers that are area border routers or AS boundary routers. Contracts see it as a
 /// record of both.
 ///

@@ -223,7 +223,7 @@ fn is_last<A: Allocator + Copy>(routes: &[Route<A>], net: Prefix) -> bool
     }
 }
 
-/// Takes a further way to the prefix of the last of these routes into account.
+/// Takes another way to the prefix of the last of these routes into account.
 fn merge_last<A: Allocator + Copy>(
     alloc: A,
     routes: &mut Vec<Route<A>, A>,

@@ -1,4 +1,4 @@
-//! Building what an area gives.
+//! Building the result of an area.
 
 ghost use Rattle.std.specs.Prelude.{◌≡◌, ◌<◌, ◌^◌, ◌∷◌, ◌++◌, [], IfOk, OnOk, All, length, map};
 ghost use Rattle.lsa_codec.specs.Order.{prefix_cmp};
@@ -129,7 +129,7 @@ impl<A: Allocator + Copy> AreaResult<A> {
         Ok(())
     }
 
-    /// What an area gives to the root of a tree (RFC 2328, 16.1). The graph must be that of the
+    /// The result of an area for the root of a tree (RFC 2328, 16.1). The graph must be that of the
     /// area, the tree one of this graph, and the hops those of this tree.
     ///
     /// The ways to prefixes are of two kinds. A network that is reached gives one; of several with

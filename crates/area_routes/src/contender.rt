@@ -14,7 +14,7 @@ use std::cmp::Ordering;
 use std::marker::Model;
 
 /// A way to a destination that one path offers, or several of equal cost. Contracts see it as the
-/// record of its parts, with the hops after the way goes on.
+/// record of its parts, with the hops after it goes on.
 #[derive(Drop)]
 pub(crate) struct Contender<'a, K> {
     /// The destination.

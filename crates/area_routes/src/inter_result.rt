@@ -1,4 +1,4 @@
-//! What the summary-LSAs give.
+//! The result of the summary-LSAs.
 
 use crate::entry_list::RouterEntries;
 use crate::inside_routes::InsideRoutes;

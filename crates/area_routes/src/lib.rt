@@ -21,7 +21,7 @@ mod best;
 mod contender;
 mod way;
 
-// What an area gives.
+// The result of an area.
 mod area_ways;
 mod attached;
 mod building;

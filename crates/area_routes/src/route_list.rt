@@ -37,7 +37,7 @@ impl<A: Allocator + Copy> Routes<A> {
         }
     }
 
-    /// Routes that stand in order of prefix, one for each.
+    /// Routes that are in order of prefix, one for each.
     pub fn from_sorted(routes: Vec<Route<A>, A>) -> Routes<A>
         requires { AreSortedRoutes routes.items }
         ensures { result ≡ routes.items }

@@ -33,7 +33,7 @@ pub data Said : Type 0 where
   compared : RouterId → TableValue → TableValue → Said
   counted : Info → Said
 
--- what a reply says
+-- the contents of a reply
 abbrev pub said_by : {A : Type 0} → Reply A → Said
 said_by reply.Done = done
 said_by (reply.Refused why) = refused why

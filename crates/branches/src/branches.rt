@@ -28,7 +28,7 @@ use std::marker::Model;
 /// loaded database. A branch gets a planner at its first command that may take memory; until then
 /// it is at its beginning. Branch 0 has one from the start.
 ///
-/// They are seen as the sessions of the branches that have a planner.
+/// Contracts see them as the sessions of the branches that have a planner.
 #[derive(Drop)]
 pub struct Branches<A: Allocator = Global> {
     first: Planner<A>,

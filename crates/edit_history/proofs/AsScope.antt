@@ -35,7 +35,7 @@ areas_first (suc n) (h ∷ hs) = is_some h && areas_first n hs
 abbrev pub AreasFirst : ℕ → Places → Type 0
 AreasFirst n d = areas_first n (heads_of (lists_of d)) ≡ true
 
--- all areas stand before the LSAs of AS scope
+-- all areas come before the LSAs of AS scope
 all_first : (db : Lists) → AllPairs IsBefore (heads_of db) → areas_first (length (areas_of db)) (heads_of db) ≡ true
 all_first [] pairs = refl
 all_first (s ∷ db) pairs = by s.area refl (all_first db (pairs_tail IsBefore s.area (heads_of db) pairs))

@@ -148,7 +148,7 @@ passed low high high' l s s' ss cs walks sound =
 pushed : {X : Type 0} (xs : List X) (x : X) (n : ℕ) → n ≡ length xs → suc n ≡ length (xs ++ x ∷ [])
 pushed xs x n e = omega (arith, e, length-append xs (x ∷ []))
 
--- what stands at a place is accepted
+-- an LSA at a place is accepted
 pub accepted_at : (d : Places) (slot : SlotId) (x : List ℕ) → slot_at d slot ≡ Some (Some x) → IsDatabase (lists_of d) → IsAccepted x
 accepted_at d slot x at sound =
     let w = between d slot (Some x) None at in

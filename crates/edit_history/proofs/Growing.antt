@@ -29,7 +29,7 @@ same_put d n slot v some = put-open_at d n slot v (there d slot) (some_is (slot_
 still_sound : (d : Places) (n : ℕ) → IsDatabase (lists_of d) → IsDatabase (lists_of (open_at d n))
 still_sound d n h = subst (λ (c : Lists). IsDatabase c) (sym (lists_of-open_at d n)) h
 
--- ---- what stands at a place, where it exists
+-- ---- the LSA at a place, where it exists
 
 place_grown : (ps : List Place) (i : ℕ) → unwrap_or (item_at (ps ++ None ∷ []) i) None ≡ unwrap_or (item_at ps i) None
 place_grown [] zero = refl

@@ -1,4 +1,4 @@
--- The swaps of the two passes, one after the other, are those of both at once: the backbone stands first.
+-- The swaps of the two passes, one after the other, are those of both at once: the backbone comes first.
 use Rattle.std.proofs.Common.{◌≡◌, ℕ, suc, ◌<◌, Bool, true, false, cond, List, [], ◌∷◌, ◌++◌, map, append-nil, Option, Some, None, refl, sym, ap}
 use Rattle.std.proofs.Common.{◌∙◌, arith}
 use Rattle.std.specs.Prelude.{All, AllPairs, not, ◌==◌}

@@ -180,7 +180,7 @@ with_branch : (branch : ℕ) (c : Command) → branch < 8
 unfolding meaning_of_words
 with_branch branch c small = simp (number_again 7 branch (omega arith) (omega arith))
 
--- words that say a command mean it
+-- the words of a command mean it
 pub means : (words : List Word) (branch : ℕ) (c : Command) → IsInRange c → Says words branch c → meaning_of_words words ≡ Ok (branch, c)
 means words branch c h says =
     elim says.1 [

@@ -186,7 +186,7 @@ said_by first rest branch c h =
           (read.range, (omega (arith, found.1), inr (sym found.1, read.words)))
     ]
 
--- words that mean a command say it, and its numbers are in range
+-- words that mean a command are its words, and its numbers are in range
 pub said : (words : List Word) (branch : ℕ) (c : Command) → meaning_of_words words ≡ Ok (branch, c) → IsInRange c × Says words branch c
 unfolding meaning_of_words
 said [] branch c h = absurd cc

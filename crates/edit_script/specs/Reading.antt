@@ -18,7 +18,7 @@ abbrev pub ◌>>=◌ : {A B : Type 0} → Result A ScriptFault → (A → Result
 (Ok x) >>= f = f x
 (Err fault) >>= f = Err fault
 
--- a function's result, seen by view, is what the definition gives
+-- a function's result, by its view, is what the definition gives
 abbrev pub Gives : {X Y : Type 0} → (X → Y) → Result X ScriptFault → Result Y ScriptFault → Type 0
 Gives view (Ok x) given = given ≡ Ok (view x)
 Gives view (Err fault) given = given ≡ Err fault

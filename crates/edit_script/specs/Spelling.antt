@@ -49,7 +49,8 @@ spelling edit = join_with_byte 32 (edit_words edit)
 abbrev pub branch_word : ℕ → Word
 branch_word branch = codes "@" ++ decimal branch
 
--- the words say the command in the branch, 0 to 7: they are the branch's word and the command's words; for branch 0 the command's words alone say it too
+-- the words are those of the command in the branch, 0 to 7: the branch's word and the command's words; for branch 0 also the command's
+-- words alone
 abbrev pub Says : List Word → ℕ → Command → Type 0
 Says words branch c = (branch < 8) × ((words ≡ branch_word branch ∷ command_words c) ⊎ ((branch ≡ 0) × (words ≡ command_words c)))
 

@@ -12,8 +12,8 @@ use crate::edit::Edit;
 use lsa_codec::{AreaId, Metric, Prefix, RouterId};
 
 /// A line means a command in a branch exactly where the command's numbers are in the ranges of
-/// their types, and the line's words say so: they are the command's words, and the branch's word
-/// may stand before them.
+/// their types, and the line's words are the branch's word and then the command's words. For branch
+/// 0 the branch's word may be missing.
 ///
 /// The function does nothing: its contract is the law.
 pub fn reads_what_is_said()

@@ -3,7 +3,7 @@
 //! A line is words between blanks: an optional branch, `@0` to `@7`, a command word and the
 //! command's arguments. `cost AREA ROUTER LINK METRIC` and ten others are edits of the link state
 //! database, `undo COUNT` and `redo COUNT` take edits back and carry them out again, and
-//! `table ROUTER`, `tables`, `compare ROUTER` and `info` show what the edits lead to. [`parse`]
+//! `table ROUTER`, `tables`, `compare ROUTER` and `info` show the result of the edits. [`parse`]
 //! reads a line without memory, and [`print`] writes an edit as the line that reads back to it.
 #![tactic(auto)]
 

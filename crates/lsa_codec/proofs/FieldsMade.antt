@@ -196,7 +196,7 @@ metric_fields metric lsa old has small =
 abbrev net_with : ℕ → ℕ → Net
 net_with addr len = record { addr = record { 0 = addr }; len = len }
 
--- a Link State ID and a mask that are a prefix's give that prefix
+-- the Link State ID and the mask of a prefix give the prefix
 net_read : (net : Net) (lsa : List ℕ) → IsNet net → number_at 4 4 lsa ≡ net.addr.0
     → mask_of lsa ≡ mask_of_len net.len → net_of_lsa lsa ≡ net
 net_read net lsa is id mask =

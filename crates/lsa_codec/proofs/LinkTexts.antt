@@ -17,7 +17,7 @@ use Rattle.lsa_codec.proofs.Bytes.{number_at-same, number_at-put, length-put_at,
 use Rattle.lsa_codec.proofs.LinkWalk.{after_links_next, links_from_next}
 use Rattle.lsa_codec.proofs.Made.{with_checksum-good, checksum_made}
 
--- these bytes stand in the bytes from an offset on
+-- these bytes are in the bytes from an offset on
 pub record StandsAt (offset : ℕ) (text bytes : List ℕ) : Type 0 where
   pub here : (j : ℕ) → j < length text → get_or bytes (offset + j) 0 ≡ get_or text j 0
 

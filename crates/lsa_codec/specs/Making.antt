@@ -84,7 +84,7 @@ abbrev pub with_stub : Net → ℕ → List ℕ → Result (List ℕ) MakeFault
 with_stub net metric lsa =
     if nat_lt longest_lsa (length lsa + 12) then Err TooLong else Ok (recounted (link_count lsa + 1) (lsa ++ stub_text net metric))
 
--- the fault is the one that the answer names; want of memory comes only where there is no other
+-- the fault is the one that the result names; `OutOfMemory` comes only where there is no other
 abbrev pub IsMakeFaultOf : MakeFault → Result (List ℕ) MakeFault → Type 0
 IsMakeFaultOf OutOfMemory answer = IsOk answer
 IsMakeFaultOf NoLink answer = answer ≡ Err NoLink
@@ -108,7 +108,7 @@ pub record KeepsAgeAndFlags (old new : List ℕ) : Type 0 where
   pub age : age_of new ≡ age_of old
   pub flags : octet_at 20 new ≡ octet_at 20 old
 
--- a link that stands in an accepted router-LSA
+-- a link of an accepted router-LSA
 pub record IsLinkOf (lsa : List ℕ) (link : Link) : Type 0 where
   pub is : link ≡ link_at link.offset lsa
   pub low : first_link ≤ link.offset

@@ -45,8 +45,7 @@ pub fn made_checksum_is_good()
     ensures size { (lsa : List ℕ) → 20 ≤ length lsa → length (with_checksum lsa) ≡ length lsa }
 {}
 
-/// The links after a removal are the kept ones in order, apart from the offsets at which they
-/// stand.
+/// The links after a removal are the kept ones in order, apart from their offsets.
 pub fn links_after_removal()
     ensures link { (k : ℕ) (lsa made : List ℕ) → IsAccepted lsa → kind_of lsa ≡ router_lsa
         → without_link k lsa ≡ Ok made

@@ -6,11 +6,11 @@ use crate::decimal::Decimal;
 use std::fmt;
 use std::marker::Model;
 
-/// LSInfinity, the greatest metric, which says that a destination is not reachable (RFC 2328, B).
+/// LSInfinity, the greatest metric, which means that a destination is not reachable (RFC 2328, B).
 pub const LS_INFINITY: u32 = 0xff_ffff;
 
 /// A metric of 24 bits, 0 to 16,777,215, as summary-LSAs and AS-external-LSAs carry it (RFC 2328,
-/// A.4.4 and A.4.5). Its greatest value is LSInfinity, which says that a destination is not
+/// A.4.4 and A.4.5). Its greatest value is LSInfinity, which means that a destination is not
 /// reachable (RFC 2328, B).
 ///
 /// Its `Display` is decimal.

@@ -164,7 +164,7 @@ impl<'a> RouterView<'a> {
         u16_at(self.lsa, 22)
     }
 
-    /// The links, in the order in which they stand.
+    /// The links, in their order there.
     pub fn links(&self) -> Links<'a>
         ensures { result ≡ links_of self.now }
     {
@@ -198,7 +198,7 @@ impl<'a> NetworkView<'a> {
         mask_at(self.lsa)
     }
 
-    /// The Router IDs of the routers attached to the network, in the order in which they stand.
+    /// The Router IDs of the routers attached to the network, in their order there.
     pub fn attached(&self) -> Attached<'a>
         ensures { result ≡ attached_of self.now }
     {
@@ -231,7 +231,7 @@ impl<'a> SummaryView<'a> {
     }
 
     /// The cost of the route for TOS 0, a number of 24 bits. [`LS_INFINITY`](crate::LS_INFINITY)
-    /// says that there is no route (RFC 2328, appendix B).
+    /// means that there is no route (RFC 2328, appendix B).
     pub fn metric(&self) -> u32
         ensures { result ≡ metric_of self.now }
     {
@@ -262,7 +262,7 @@ impl<'a> ExternalView<'a> {
     }
 
     /// The cost of the route for TOS 0, a number of 24 bits. [`LS_INFINITY`](crate::LS_INFINITY)
-    /// says that there is no route (RFC 2328, appendix B).
+    /// means that there is no route (RFC 2328, appendix B).
     pub fn metric(&self) -> u32
         ensures { result ≡ metric_of self.now }
     {
@@ -309,8 +309,8 @@ fn metric_at(lsa: &[u8]) -> u32
     u24_at(lsa, 25)
 }
 
-/// An iterator over the Router IDs in a network-LSA, in the order in which they stand. It takes
-/// no memory, and is seen as the list of those that are left.
+/// An iterator over the Router IDs in a network-LSA, in their order there. It takes no memory, and
+/// is seen as the list of those that are left.
 #[derive(Drop)]
 pub struct Attached<'a> {
     lsa: &'a [u8],

@@ -100,7 +100,7 @@ put_between hops hop place sorted within below above =
     ∙ ap (λ (hs : List Hop). insert_key hop_cmp hs hop) (rising-sorted hops sorted)
     ∙ rising-turned hops hop
 
--- a hop that stands in the list already
+-- a hop that is in the list already
 put_again : (hops : List Hop) (hop : Hop) → IsSortedHops hops → Contains hops hop → hops ≡ rising hop_cmp (hops ++ hop ∷ [])
 put_again hops hop sorted there =
     rising-is hop_cmp_total same_hop hops (hops ++ hop ∷ []) sorted
@@ -135,7 +135,7 @@ put_behind hops hop last sorted is before = put_between hops hop (length hops) s
         (λ other. hop_cmp_total.trans (get_or hops k d) (get_or hops (length hops - 1) d) hop (sorted k (length hops - 1) d (omega arith) (omega arith)) last_before)
         (cases_eq k (length hops - 1))
 
--- the last hop stands in the list
+-- the last hop is in the list
 pub put_at_last : (hops : List Hop) (hop last : Hop) → IsSortedHops hops → slice_get hops (length hops - 1) ≡ Some last → hop_cmp last hop ≡ Equal
     → hops ≡ rising hop_cmp (hops ++ hop ∷ [])
 put_at_last hops hop last sorted is same =

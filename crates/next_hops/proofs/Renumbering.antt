@@ -13,7 +13,7 @@ module _ {A : Type 0} where
       ap (λ (xs : List (List Hop)). get_or xs (length lists) []) (map-append (λ x. x.items) lists (list ∷ []))
       ∙ get_or_push (map (λ x. x.items) lists) list.items [] (length lists) (length-map lists (λ x. x.items))
 
-  -- each list that has a new number stands under it as under the old one
+  -- each list with a new number is the same under it as under the old one
   abbrev pub AreSame : List (Vec Hop A) → List (Vec Hop A) → List (Option ℕ) → Type 0
   AreSame lists kept places = (n p : ℕ) → get_or places n None ≡ Some p → (p < length kept) × (list_in kept p ≡ list_in lists n)
 

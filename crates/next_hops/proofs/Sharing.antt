@@ -73,7 +73,7 @@ pointwise-same {T} eq exact (x ∷ xs) (y ∷ ys) h = by_test (eq x y) refl (λ 
     by_test false is tails rest = absurd (false≢true rest)
 
 module _ {A : Type 0} where
-  -- the list at a number, by the list that stands there
+  -- the list at a number, by the list that is there
   pub list_in-at : (lists : List (Vec Hop A)) (n : ℕ) (list : Vec Hop A) → slice_get lists n ≡ Some list → list_in lists n ≡ list.items
   list_in-at lists n list at =
       get_or_from_slice_get (map (λ x. x.items) lists) n list.items []

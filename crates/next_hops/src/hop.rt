@@ -6,7 +6,7 @@ ghost use Rattle.next_hops.specs.Hop.{hop_text, extended};
 use lsa_codec::Addr;
 use std::fmt;
 
-/// Where packets go first on the way to a destination (RFC 2328, 16.1.1). An interface of the
+/// The first step of packets on the way to a destination (RFC 2328, 16.1.1). An interface of the
 /// calculating router is named by the Link Data of the router's own link.
 ///
 /// Hops are ordered by their kinds, in the order of the variants, and then by their addresses as

@@ -23,7 +23,7 @@ pub record IsDraft (t : Topology) : Type 0 where
 abbrev pub with_edge : Topology → ℕ → Edge → Topology
 with_edge t i e = record { vertices = t.vertices; rows = slice_set t.rows i (row_at t i ++ e ∷ []) }
 
--- an edge between numbers, and as it stands in the row of the first of them
+-- an edge between numbers, from an edge in the row of the first of them
 abbrev pub arc_of : ℕ → Edge → DirectedEdge ℕ
 arc_of i e = record { from = i; to = e.to; cost = e.cost; link_data = e.link_data }
 
@@ -78,6 +78,6 @@ returned links_back es = flat_map both_ways (filter (λ e. links_back e.to e.fro
 abbrev pub over_lsas : (Vertex → Vertex → Bool) → List (List ℕ) → List (DirectedEdge Vertex)
 over_lsas links_back lsas = returned links_back (flat_map edges_over lsas)
 
--- the graph where each edge stands once in its row
+-- the graph where each edge occurs once in its row
 abbrev pub edges_once : Topology → Topology
 edges_once t = record { vertices = t.vertices; rows = map (each_once same_edge) t.rows }

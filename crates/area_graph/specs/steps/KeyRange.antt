@@ -1,4 +1,4 @@
--- Where the LSAs of a vertex stand among the keys of a section.
+-- Where the LSAs of a vertex are among the keys of a section.
 use Rattle.std.specs.Prelude.{◌≡◌, ℕ, List, true}
 use Rattle.lsa_codec.specs.declared.key.Key.{Key}
 use Rattle.lsa_codec.specs.Key.{key_of}

@@ -1,4 +1,4 @@
--- Lists that stand one after another in one list.
+-- Lists that are kept one after another in one list.
 use Rattle.std.specs.Prelude.{ℕ, ◌≤◌, List, map}
 use Rattle.std.specs.List.{slice_range}
 use Rattle.area_graph.specs.declared.rows.Span.{Span}

@@ -1,4 +1,4 @@
--- What an area gives, with more added.
+-- The result of an area, with more added.
 use Rattle.std.specs.Prelude.{List, ◌++◌, map}
 use Rattle.lsa_codec.specs.Prefix.{Net}
 use Rattle.area_routes.specs.Candidate.{Candidate}
@@ -9,6 +9,6 @@ use Rattle.area_routes.specs.Values.{AreaResultValue, EntryValue, OfferValue}
 abbrev pub with_offers : List (Candidate Net) → List OfferValue → List (Candidate Net)
 with_offers cs more = cs ++ map offer_candidate more
 
--- what an area gives, with more entries
+-- the result of an area, with more entries
 abbrev pub with_entries : AreaResultValue → List EntryValue → AreaResultValue
 with_entries r more = record { area = r.area; offers = r.offers; entries = r.entries ++ more }

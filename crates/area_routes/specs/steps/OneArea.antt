@@ -1,4 +1,4 @@
--- What one area gives, by the routes of a router that is attached to this area alone.
+-- The result of one area, by the routes of a router that is attached to this area alone.
 use Rattle.std.specs.Prelude.{◌≡◌, ◌^◌, List, [], map}
 use Rattle.std.specs.List.{All}
 use Rattle.lsa_codec.specs.declared.address.AreaId.{AreaId}
@@ -22,7 +22,7 @@ pub record IsIntraRoute (area : AreaId) (r : RouteValue) : Type 0 where
   pub route : r ≡ intra_route area (offered r)
   pub hops : IsSortedHops r.hops
 
--- what an area gives, by these routes
+-- the result of an area, by these routes
 abbrev pub result_by : AreaId → List RouteValue → List EntryValue → AreaResultValue
 result_by area routes entries = record { area = area; offers = map offered routes; entries = entries }
 

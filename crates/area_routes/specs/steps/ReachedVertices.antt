@@ -8,7 +8,7 @@ use Rattle.next_hops.specs.declared.hop.Hop.{Hop}
 use Rattle.next_hops.specs.Hop.{IsSortedHops}
 use Rattle.area_routes.specs.Reached.{ReachedValue, reached_by}
 
--- distances are below 2^32, and hops stand in order
+-- distances are below 2^32, and hops are in order
 pub record IsReached (r : ReachedValue) : Type 0 where
   pub near : r.distance < 2 ^ 32
   pub sorted : IsSortedHops r.hops

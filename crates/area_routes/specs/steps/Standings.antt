@@ -25,7 +25,7 @@ abbrev pub is_behind : Option Standing → Standing → Bool
 is_behind None standing = false
 is_behind (Some best) standing = stands_before best standing
 
--- whether one of these networks has the prefix and stands before
+-- whether one of these networks has the prefix and is better
 abbrev pub any_before : List ReachedValue → Net → Standing → Bool
 any_before ns net standing = list_any (λ m. eq_by_cmp prefix_cmp (net_of_lsa m.lsa) net && stands_before (standing_of m) standing) ns
 

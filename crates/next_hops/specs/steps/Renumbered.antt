@@ -5,7 +5,7 @@ use Rattle.next_hops.specs.declared.hop.Hop.{Hop}
 use Rattle.next_hops.specs.declared.renumbered.Renumbered.{Renumbered}
 use Rattle.next_hops.specs.steps.Shared.{list_in}
 
--- each list that has a new number stands under it as under the old one
+-- each list with a new number is the same under it as under the old one
 pub record IsRenumbered {A : Type 0} (lists : List (Vec Hop A)) (r : Renumbered A) : Type 0 where
   pub sized : length r.places.items ≡ length lists
   pub same : (n p : ℕ) → slice_index_or r.places.items n None ≡ Some p → (p < length r.lists.items) × (list_in r.lists.items p ≡ list_in lists n)

@@ -25,7 +25,7 @@ loop-area-preserved g c = (
 whole : (results : List AreaResultValue) (i : ℕ) (P : List AreaResultValue → Type 0) → take i results ≡ results → P (take i results) → P results
 whole results i P all p = subst P all p
 
--- no candidate costs more than what the areas give
+-- no candidate costs more than all costs in the results of the areas
 candidates_below : (results : List AreaResultValue) → All (ResultBelow (2 ^ 33)) results → All (λ c. c.rank.cost < 2 ^ 33) (flat_map intra_candidates results)
 candidates_below results a = All-flat_map (λ (c : Candidate Net). c.rank.cost < 2 ^ 33) (ResultBelow (2 ^ 33)) intra_candidates
     (λ r h. All-map (λ (c : Candidate Net). c.rank.cost < 2 ^ 33) (intra_candidate r.area) r.offers h.offers) results a
