@@ -47,7 +47,7 @@ impl<A: Allocator + Copy> Graph<A> {
     /// # Errors
     ///
     /// [`NoArea`](GraphFault::NoArea) exactly where the database lacks the area, and
-    /// [`OutOfMemory`](GraphFault::OutOfMemory) where a growth was refused.
+    /// [`OutOfMemory`](GraphFault::OutOfMemory) where memory ran out.
     pub fn build(alloc: A, database: &Database<A>, area: AreaId) -> Result<Graph<A>, GraphFault>
         ensures graph { IfOk result (IsGraphOf (lsas_of (Area area) (lists_of database.now))) }
         ensures found { IfOk result

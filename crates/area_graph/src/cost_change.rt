@@ -27,7 +27,7 @@ pub struct CostChange {
 impl CostChange {
     /// The change that makes one router-LSA another, where there is one: only the metric of such
     /// links differs, and fields that routes do not depend on, such as the sequence number. `None`
-    /// means nothing: the LSAs may differ or not. It takes no memory.
+    /// allows no conclusion. It takes no memory.
     pub fn between<A: Allocator + Copy>(before: &Lsa<A>, after: &Lsa<A>) -> Option<CostChange>
         ensures { IfSome result (λ change. IsChangedLsa change before.now after.now) }
     {

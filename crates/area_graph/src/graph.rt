@@ -81,8 +81,8 @@ impl<A: Allocator + Copy> Graph<A> {
 
     /// Changes the graph as a change of an interface's cost does, and returns whether it did. It
     /// does where the router and the vertex are in the graph, the cost is not 0, and at most one
-    /// edge leads from the router to the vertex with the Link Data. `false` means only that the
-    /// graph is unchanged. It takes no memory.
+    /// edge leads from the router to the vertex with the Link Data. `false` means that the graph is
+    /// unchanged, and allows no other conclusion. It takes no memory.
     pub fn change_cost(&mut self, change: CostChange) -> bool
         ensures graph { OnTrue result ((lsas others : List (List ℕ)) → AreOfArea others
             → AreChanged change lsas others → IsGraphOf lsas self.old → IsGraphOf others self.new) }

@@ -55,7 +55,7 @@ impl<A: Allocator> Model for Rows<A> {
 /// Up to this number of edges, each is compared with each; more are found by a hash.
 const SHORT_ROW: usize = 16;
 
-/// Whether no edge can occur twice, by a quick test.
+/// Whether no edge occurs twice, by comparing each edge with those before it.
 fn is_distinct(row: &[Edge]) -> bool
     ensures { result ≡ true → each_once same_edge row.now ≡ row.now }
 {

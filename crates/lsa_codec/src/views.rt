@@ -164,7 +164,7 @@ impl<'a> RouterView<'a> {
         u16_at(self.lsa, 22)
     }
 
-    /// The links, in their order there.
+    /// The links, in the order of the LSA.
     pub fn links(&self) -> Links<'a>
         ensures { result ≡ links_of self.now }
     {
@@ -198,7 +198,7 @@ impl<'a> NetworkView<'a> {
         mask_at(self.lsa)
     }
 
-    /// The Router IDs of the routers attached to the network, in their order there.
+    /// The Router IDs of the routers attached to the network, in the order of the LSA.
     pub fn attached(&self) -> Attached<'a>
         ensures { result ≡ attached_of self.now }
     {
@@ -269,7 +269,7 @@ impl<'a> ExternalView<'a> {
         metric_at(self.lsa)
     }
 
-    /// The forwarding address for TOS 0. 0.0.0.0 means the router that made the LSA.
+    /// The forwarding address for TOS 0. 0.0.0.0 means the router that originated the LSA.
     pub fn forward(&self) -> Addr
         ensures { result.0 ≡ forward_of self.now }
     {
@@ -309,8 +309,8 @@ fn metric_at(lsa: &[u8]) -> u32
     u24_at(lsa, 25)
 }
 
-/// An iterator over the Router IDs in a network-LSA, in their order there. It takes no memory, and
-/// is seen as the list of those that are left.
+/// An iterator over the Router IDs in a network-LSA, in the order of the LSA. It takes no memory,
+/// and is seen as the list of those that are left.
 #[derive(Drop)]
 pub struct Attached<'a> {
     lsa: &'a [u8],

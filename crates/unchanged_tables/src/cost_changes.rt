@@ -21,7 +21,7 @@ pub struct AreaChange {
 
 /// The change of the cost of an interface that the change of one LSA makes, if it makes one and no
 /// other. The database is the one after the change, and `before` is the LSA that was at the place.
-/// `None` means nothing. It takes no memory.
+/// `None` allows no conclusion. It takes no memory.
 pub fn cost_change<A: Allocator + Copy>(
     database: &Database<A>,
     slot: SlotId,
