@@ -1,4 +1,4 @@
--- For a router, area and kind a router has one entry.
+-- In the entries of a router there is at most one for each router, area and kind.
 use Rattle.std.proofs.Common.{◌≡◌, ◌≢◌, ℕ, ◌<◌, Bool, true, false, cond, not, List, [], ◌∷◌, ◌++◌, map, Option, None, Some, refl, sym, ap, subst}
 use Rattle.std.proofs.Common.{◌∙◌, arith, ⊎_elim, inl, inr, true≢false}
 use Rattle.std.specs.Prelude.{◌&&◌}

@@ -13,7 +13,7 @@ pub record IsSameWay (a b : EntryValue) : Type 0 where
   pub area : a.area ≡ b.area
   pub kind : a.kind ≡ b.kind
 
--- for a router, area and kind there is one entry
+-- for each router, area and kind there is at most one entry
 abbrev pub StandOnce : List EntryValue → Type 0
 StandOnce entries = AllPairs (λ a b. ¬ IsSameWay a b) entries
 

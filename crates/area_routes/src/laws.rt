@@ -60,7 +60,7 @@ pub fn attached_routers_are_vertices()
         ↔ Contains (vertices_of (lsas_of (Area area) db)) (Router router) }
 {}
 
-/// For a router, area and kind there is one entry in the entries of a router (RFC 2328, 16.2).
+/// In the entries of a router there is at most one for each router, area and kind (RFC 2328, 16.2).
 pub fn entries_stand_once()
     ensures { (db : Lists) → IsDatabase db → (router : RouterId) (intra : List RouteValue)
         → StandOnce (inter_of db router (results_of db router) intra).routers }

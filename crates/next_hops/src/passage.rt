@@ -16,7 +16,7 @@ pub(crate) enum Passage {
     Empty,
     /// As they are, whatever address the edge carries.
     Unchanged,
-    /// As [`Hop::extended`] makes them where the path goes on to the address.
+    /// Each extended to the address ([`Hop::extended`]).
     Extended,
 }
 

@@ -90,8 +90,7 @@ impl<A: Allocator + Copy> HopTable<A> {
         number_of(alloc, hops, &mut self.lists)
     }
 
-    /// The number of the list that a list's hops give where the path goes on to an address
-    /// ([`Hop::extended`]).
+    /// The number of the list of a list's hops, each extended to an address ([`Hop::extended`]).
     pub(crate) fn extended(
         &mut self,
         alloc: A,

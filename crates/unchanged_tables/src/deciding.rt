@@ -37,8 +37,8 @@ fn are_foreign<A: Allocator + Copy>(router: RouterId, before: &Lsa<A>, after: &L
 ///
 /// It is known in two cases. In an area to which the router is not attached, the LSA is a
 /// router-LSA or network-LSA of another router. In any other area, the router's tree is kept, and
-/// no path of least cost leads over a link whose metric has changed, before or after. `false`
-/// allows no conclusion.
+/// the only changes that matter to routes are metrics of links over which no path of least cost
+/// leads, before or after. `false` allows no conclusion.
 pub fn is_unchanged<A: Allocator + Copy>(
     trees: &KeptTrees<A>,
     database: &Database<A>,
