@@ -14,7 +14,8 @@ pub enum EditFault {
     /// E1: the database has no such area.
     #[error("NoArea")]
     NoArea,
-    /// E2: the area has no router-LSA of the router.
+    /// E2: the area has no router-LSA of the router; for an edit that names no area, no area has
+    /// one.
     #[error("NoRouter")]
     NoRouter,
     /// E3: the router-LSA has no such link.

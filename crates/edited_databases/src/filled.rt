@@ -1,4 +1,4 @@
-//! Dumps filled with opaque LSAs (RFC 5250), which no edit reads.
+//! Dumps filled with opaque LSAs (RFC 5250), whose contents no edit reads.
 
 ghost use Rattle.std.specs.Prelude.{◌≡◌, ◌-◌, IfOk, OnOk};
 ghost use Rattle.edited_databases.specs.Filled.{with_opaque, two_routers, area_octets, as_list_octets};
