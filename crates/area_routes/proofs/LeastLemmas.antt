@@ -1,4 +1,4 @@
--- The least of a list with one more member, and what lies below it.
+-- The least of a list with one more member, and what is below it.
 use Rattle.std.proofs.Common.{◌≡◌, Bool, true, false, cond, List, [], ◌∷◌, ◌++◌, Option, Some, None, refl, sym, ap, ◌∙◌}
 use Rattle.std.specs.List.{AllByRecursion}
 use Rattle.std.specs.Cmp.{IsTotalOrder}
@@ -15,7 +15,7 @@ module _ {K : Type 0} {R : K → K → Ordering} (o : IsTotalOrder R) where
   lt_from Equal h = absurd (false≢true h)
   lt_from Greater h = absurd (false≢true h)
 
-  -- c is below x, and n isn't
+  -- c is below x, and n is not
   pub lt_le : (c x n : K) → R c x ≡ Less → is_lt (R n x) ≡ false → R c n ≡ Less
   lt_le c x n h above = by (R x n) refl
     where
@@ -24,7 +24,7 @@ module _ {K : Type 0} {R : K → K → Ordering} (o : IsTotalOrder R) where
       by Equal e = sym (alike_right o x n c e) ∙ h
       by Greater e = absurd (false≢true (sym above ∙ ap is_lt (o.antisymm n x ∙ ap ordering_reverse e)))
 
-  -- what isn't below y isn't below x, where y isn't below x
+  -- what is not below y is not below x, where y is not below x
   pub not_below : (x y k : K) → is_lt (R k y) ≡ false → is_lt (R y x) ≡ false → is_lt (R k x) ≡ false
   not_below x y k ky yx = by (R k x) refl
     where

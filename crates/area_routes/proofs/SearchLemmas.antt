@@ -60,7 +60,7 @@ module _ {X K : Type 0} {R : K → K → Ordering} (o : IsTotalOrder R) (key : X
         ∙ sym (ap (λ b. cond b (Some y) (find (λ y. eq_by_cmp R q (key y)) ys))
         (ap is_eq (o.antisymm q (key y)) ∙ is_eq_reverse (R (key y) q) ∙ h 0 y (omega arith)))
 
-    -- what a binary search doesn't find isn't there
+    -- what a binary search does not find is not there
     pub not_found : (xs : List X) (i : ℕ) → IsStrictlySortedBy R (map key xs)
         → IsBinarySearchResult (λ y. R (key y) q) xs (Err i) → None ≡ find (λ y. eq_by_cmp R q (key y)) xs
     not_found xs i s parted =

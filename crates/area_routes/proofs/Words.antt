@@ -157,7 +157,7 @@ module _ {K : Type 0} {R : K → K → Ordering} (o : IsTotalOrder R) (exact : C
         (IsBestWay R cs key) in subst P (sym (lookup_ways o exact cs key)) (at_key cs key);
   }
 
-  -- a rank that a candidate for the key attains isn't below one that none is below
+  -- a rank that a candidate for the key attains is not below one that none is below
   not_lower : (cs : List (Candidate K)) (key : K) (a b : Rank) → list_any (attains R key a) cs ≡ true
       → list_any (λ c. is_candidate_to R key c && is_lt (rank_cmp c.rank b)) cs ≡ false → is_lt (rank_cmp a b) ≡ false
   not_lower cs key a b some none = by (rank_cmp a b) refl

@@ -70,7 +70,7 @@ module _ (meets : AreaHead → Bool) (db : Lists) (router : RouterId) where
         by true = refl
         by false = refl
 
-    -- an area that the router isn't attached to
+    -- an area that the router is not attached to
     pub met_apart : has_met (take i (areas_of db)) ≡ false → is_attached db (record { 0 = head.id }) router ≡ false
         → has_met (take (i + 1) (areas_of db)) ≡ false
     met_apart before apart = more ∙ ap (λ b. b || counts head) before ∙ ap (λ b. b && meets head) apart

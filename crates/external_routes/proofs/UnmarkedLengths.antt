@@ -16,7 +16,7 @@ use Rattle.external_routes.proofs.Longest.{find_none}
 abbrev leads_to : Net → RouteValue → Bool
 leads_to net r = eq_by_cmp prefix_cmp net r.net
 
--- no route leads to a prefix of a length that isn't marked
+-- no route leads to a prefix of a length that is not marked
 pub unmarked_no_route : (routes : List RouteValue) (marks : List Bool) → MarksLengths routes marks
     → (net : Net) → get_or marks net.len false ≡ false → has_route routes net ≡ false
 unmarked_no_route routes marks marked net unmarked =

@@ -43,7 +43,7 @@ module _ {A : Type 0} (old new : List (Vec Hop A)) (keeps : Keeps old new) where
       All-weaker (λ (e : Vec ℕ A × ℕ). IsJoin old e.0.items e.1) (λ (e : Vec ℕ A × ℕ). IsJoin new e.0.items e.1)
       (λ e join. IsJoin-kept e.0.items e.1 join) joins all
 
-  -- the hops of vertices that were handed lists of old
+  -- the hops of vertices that received old lists
   pub hops-kept : (vertices : List (Handed A)) → All (λ v. AreWithin old (numbers_in v)) vertices
       → map (λ v. handed_hops new v) vertices ≡ map (λ v. handed_hops old v) vertices
   hops-kept [] within = refl
