@@ -10,10 +10,6 @@ pub some_of : (o : Option ℕ) → IsSome o → (x : ℕ) × (o ≡ Some x)
 some_of None h = absurd (false≢true h)
 some_of (Some x) h = (x, refl)
 
-pub none_or_some : (o : Option ℕ) → is_some o ≡ false → o ≡ None
-none_or_some None h = refl
-none_or_some (Some x) h = absurd (false≢true (sym h))
-
 -- what has a distance is a vertex
 pub within_some : (ds : List (Option ℕ)) (i d : ℕ) → get_or ds i None ≡ Some d → i < length ds
 within_some ds i d at = ⊎_elim (λ lt. lt) (λ past. (let none : get_or ds i None ≡ None = get_or_past ds i None past in cc)) (cases_lt i (length ds))
