@@ -14,7 +14,7 @@ use Rattle.area_graph.specs.declared.vertex.Vertex.{Vertex}
 use Rattle.area_graph.proofs.MemberLemmas.{In-from_Contains, Contains-from_In, In-filter, filter-In}
 use Rattle.area_graph.proofs.RisingLemmas.{rising-is}
 use Rattle.area_graph.specs.Topology.{Topology}
-use Rattle.spf.specs.Candidates.{candidate_cmp_total, candidate_at, IsEarlier}
+use Rattle.spf.specs.Candidates.{candidate_cmp, candidate_cmp_total, candidate_at, IsEarlier}
 use Rattle.spf.specs.Distances.{Distances, IsTreeOf, settled_cmp, order_of}
 
 then_Equal : (a b : Ordering) → ordering_then a b ≡ Equal → b ≡ Equal
