@@ -1,5 +1,5 @@
 -- The invariant of Dijkstra's algorithm, at its start and at its end.
-use Rattle.std.proofs.Common.{◌≡◌, ℕ, ◌+◌, ◌*◌, ◌<◌, ◌≤◌, List, [], ◌∷◌, length, get_or, Option, None, Some, IsSome, refl, sym, subst, arith, ◌⊎◌, inr, ⊎_elim}
+use Rattle.std.proofs.Common.{◌≡◌, ℕ, ◌+◌, ◌*◌, ◌<◌, ◌≤◌, List, [], ◌∷◌, length, get_or, Option, None, Some, IsSome, refl, subst, arith, ◌⊎◌, inr, ⊎_elim}
 use Rattle.std.specs.List.{AllPairs, Contains}
 use Rattle.std.specs.List.Sorted.{IsPermutation}
 use Rattle.area_graph.specs.Paths.{DirectedEdge, HasPathOfCost}
