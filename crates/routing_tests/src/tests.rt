@@ -1,13 +1,15 @@
 //! What small networks give.
 
-// What the tests build, and texts of it.
+// What the tests build, texts of it, and the plain program for distances and hops.
 mod built;
+mod plain;
 mod texts;
 
 // Graphs, trees and hops.
 mod cost_changes;
 mod graphs;
 mod hop_lists;
+mod ring;
 mod trees;
 
 // What an area gives, and routes.

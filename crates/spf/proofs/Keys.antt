@@ -4,9 +4,8 @@ use Rattle.std.specs.Option.{option_map_or}
 use Rattle.std.specs.Ordering.{is_lt, nat_cmp, bool_cmp, ordering_then, ordering_reverse}
 use Rattle.std.specs.declared.cmp.Ordering.{Ordering}
 use Rattle.std.specs.declared.cmp.Ordering.TheVariants.{Less, Equal, Greater}
-use Rattle.std.specs.Cmp.{nat_cmp_is, IsTotalOrder, bool_cmp_total}
+use Rattle.std.specs.Cmp.{nat_cmp_is}
 use Rattle.std.proofs.lemmas.Bool.{cases_eq, cases_lt, false≢true}
-use Rattle.std.proofs.lemmas.Cmp.{nat_cmp_total, on_total, then_total}
 use Rattle.std.proofs.lemmas.Option.{slice_get-get_or}
 use Rattle.area_graph.specs.declared.vertex.Vertex.{Vertex}
 use Rattle.area_graph.specs.declared.vertex.Vertex.TheVariants.{Router}
@@ -15,7 +14,7 @@ use Rattle.area_graph.specs.Paths.{DirectedEdge}
 use Rattle.area_graph.specs.Topology.{Topology, IsTopology, IsArc}
 use Rattle.area_graph.proofs.TopologyLemmas.{name, arc_kind, IsArc-from}
 use Rattle.spf.specs.declared.queue.Candidate.{Candidate}
-use Rattle.spf.specs.Candidates.{candidate_cmp, candidate_at, is_router_at}
+use Rattle.spf.specs.Candidates.{candidate_cmp, candidate_cmp_total, candidate_at, is_router_at}
 
 -- the order of candidates of an area as one number
 abbrev pub key : Candidate → ℕ
@@ -82,9 +81,7 @@ arc_key t shape e d arc =
 -- of two candidates only one is before the other
 pub not_both_Less : (a b : Candidate) → candidate_cmp a b ≡ Less → candidate_cmp b a ≡ Less → ⊥
 not_both_Less a b one two =
-    let total : IsTotalOrder candidate_cmp = then_total (on_total (λ (c : Candidate). c.distance) nat_cmp_total)
-    (then_total (on_total (λ (c : Candidate). c.is_router) bool_cmp_total) (on_total (λ (c : Candidate). c.index) nat_cmp_total)) in
-    let back : Less ≡ Greater = sym one ∙ total.antisymm a b ∙ ap (λ (o : Ordering). ordering_reverse o) two in
+    let back : Less ≡ Greater = sym one ∙ candidate_cmp_total.antisymm a b ∙ ap (λ (o : Ordering). ordering_reverse o) two in
     cc
 
 -- a less key is an earlier candidate

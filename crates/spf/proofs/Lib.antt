@@ -1,9 +1,6 @@
 pub mod Reached
 pub mod Closing
-pub mod Relaxing
 pub mod Keys
-pub mod Heaps
-pub mod Numbers
 pub mod Pushing
 pub mod Waiting
 pub mod Searching

@@ -1,12 +1,12 @@
 -- The order of the reached vertices is a function of the distances.
 use Rattle.std.proofs.Common.{◌≡◌, ℕ, ◌<◌, true, length, get_or, Option, Some, None, is_some, unwrap_or, refl, sym, ap, ◌∙◌, subst, arith, ⊎_elim}
 use Rattle.std.specs.List.{Contains, AllPairs, filter, range_with_len}
-use Rattle.std.specs.Cmp.{IsTotalOrder, bool_cmp_total}
+use Rattle.std.specs.Cmp.{IsTotalOrder}
 use Rattle.std.specs.Ordering.{nat_cmp, bool_cmp, ordering_then}
 use Rattle.std.specs.declared.cmp.Ordering.{Ordering}
 use Rattle.std.specs.declared.cmp.Ordering.TheVariants.{Less, Equal, Greater}
 use Rattle.std.proofs.lemmas.Bool.{cases_lt, false≢true}
-use Rattle.std.proofs.lemmas.Cmp.{nat_cmp_total, on_total, then_total, ranked}
+use Rattle.std.proofs.lemmas.Cmp.{on_total, ranked}
 use Rattle.std.proofs.lemmas.List.{get_or_past}
 use Rattle.std.proofs.lemmas.List.Elements.{Contains-get_or}
 use Rattle.std.proofs.lemmas.List.FromFn.{length-range_with_len, get_or-range_with_len}
@@ -14,13 +14,8 @@ use Rattle.area_graph.specs.declared.vertex.Vertex.{Vertex}
 use Rattle.area_graph.proofs.MemberLemmas.{In-from_Contains, Contains-from_In, In-filter, filter-In}
 use Rattle.area_graph.proofs.RisingLemmas.{rising-is}
 use Rattle.area_graph.specs.Topology.{Topology}
-use Rattle.spf.specs.declared.queue.Candidate.{Candidate}
-use Rattle.spf.specs.Candidates.{candidate_cmp, candidate_at, IsEarlier}
+use Rattle.spf.specs.Candidates.{candidate_cmp, candidate_cmp_total, candidate_at, IsEarlier}
 use Rattle.spf.specs.Distances.{Distances, IsTreeOf, settled_cmp, order_of}
-
-candidate_cmp_total : IsTotalOrder candidate_cmp
-candidate_cmp_total = then_total (on_total (λ (c : Candidate). c.distance) nat_cmp_total)
-    (then_total (on_total (λ (c : Candidate). c.is_router) bool_cmp_total) (on_total (λ (c : Candidate). c.index) nat_cmp_total))
 
 then_Equal : (a b : Ordering) → ordering_then a b ≡ Equal → b ≡ Equal
 then_Equal Less b h = absurd (cc)

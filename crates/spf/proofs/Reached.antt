@@ -1,5 +1,5 @@
 -- How many vertices are reached, and what that says of their distances.
-use Rattle.std.proofs.Common.{◌≡◌, ◌≢◌, ℕ, ◌+◌, ◌*◌, ◌<◌, ◌≤◌, ◌^◌, false, List, length, get_or, set, Option, None, Some, IsSome, is_some, cond, refl}
+use Rattle.std.proofs.Common.{◌≡◌, ◌≢◌, ℕ, ◌+◌, ◌*◌, ◌<◌, ◌≤◌, ◌^◌, List, length, get_or, set, Option, None, Some, IsSome, is_some, cond, refl}
 use Rattle.std.proofs.Common.{sym, ◌∙◌, subst, arith, ◌⊎◌, inl, inr, ⊎_elim}
 use Rattle.std.proofs.lemmas.Bool.{cases_eq, cases_lt, false≢true}
 use Rattle.std.proofs.lemmas.List.{get_or-set_same, get_or-set_other, get_or_past}
@@ -9,10 +9,6 @@ use Rattle.spf.specs.steps.Relaxation.{reached_count, Bounded}
 pub some_of : (o : Option ℕ) → IsSome o → (x : ℕ) × (o ≡ Some x)
 some_of None h = absurd (false≢true h)
 some_of (Some x) h = (x, refl)
-
-pub none_or_some : (o : Option ℕ) → is_some o ≡ false → o ≡ None
-none_or_some None h = refl
-none_or_some (Some x) h = absurd (false≢true (sym h))
 
 -- what has a distance is a vertex
 pub within_some : (ds : List (Option ℕ)) (i d : ℕ) → get_or ds i None ≡ Some d → i < length ds

@@ -1,5 +1,5 @@
 -- The invariant of Dijkstra's algorithm, at its start and at its end.
-use Rattle.std.proofs.Common.{◌≡◌, ℕ, ◌+◌, ◌*◌, ◌<◌, ◌≤◌, List, [], ◌∷◌, length, get_or, Option, None, Some, IsSome, refl, sym, subst, arith, ◌⊎◌, inr, ⊎_elim}
+use Rattle.std.proofs.Common.{◌≡◌, ℕ, ◌+◌, ◌*◌, ◌<◌, ◌≤◌, List, [], ◌∷◌, length, get_or, Option, None, Some, IsSome, refl, subst, arith, ◌⊎◌, inr, ⊎_elim}
 use Rattle.std.specs.List.{AllPairs, Contains}
 use Rattle.std.specs.List.Sorted.{IsPermutation}
 use Rattle.area_graph.specs.Paths.{DirectedEdge, HasPathOfCost}
@@ -71,8 +71,7 @@ Searching-start t root ds queue sized within none pushed = record {
 
 -- once nothing is queued
 pub Closed-empty : (t : Topology) (root : ℕ) (ds : List (Option ℕ)) (order : List ℕ) → Searching t root ds order [] → Closed t ds
-Closed-empty t root ds order s i e d arc from at =
-    ⊎_elim (λ h. h) (λ q. absurd (none q.0 q.1)) (s.covered e d arc (subst (λ (n : ℕ). get_or ds n None ≡ Some d) (sym from) at))
+Closed-empty t root ds order s e d arc at = ⊎_elim (λ h. h) (λ q. absurd (none q.0 q.1)) (s.covered e d arc at)
   where
     none : (c : Candidate) → Contains [] c → ⊥
     none c h = let below : h.0 < 0 = h.1 in omega arith

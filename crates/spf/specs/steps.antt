@@ -1,6 +1,4 @@
 -- What the steps of the code do: only contracts within the crate cite these.
-pub mod Heap
-pub mod Number
 pub mod Relaxation
 pub mod Search
 pub mod Table

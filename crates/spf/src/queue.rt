@@ -1,16 +1,20 @@
 //! The candidate list (RFC 2328, 16.1): vertices that may be the next to be settled.
 
 ghost use Rattle.std.specs.Prelude.{◌≡◌, [], ◌∷◌, IfSome, IfNone, OnOk, IsPermutation, All, false};
-ghost use Rattle.std.specs.Ordering.{is_lt};
-ghost use Rattle.spf.specs.Candidates.{candidate_cmp};
-ghost use Rattle.spf.specs.steps.Number.{candidate_in};
+ghost use Rattle.std.specs.Cmp.{back_total, partial_order_from_own_ties, partial_order_from_total};
+ghost use Rattle.std.specs.Cmp.Rules.{comparing};
+ghost use Rattle.std.specs.Ordering.{is_lt, nat_cmp, bool_cmp, on, flip_args, then_cmp, as_partial_cmp};
+ghost use Rattle.std.proofs.Common.{rules};
+ghost use Rattle.spf.specs.Candidates.{candidate_cmp, candidate_cmp_total};
 
-use crate::heap::{rise, sink};
 use std::alloc::{AllocError, Allocator};
+use std::cmp::Ordering;
+use std::collections::BinaryHeap;
 use std::marker::Model;
 
-/// A vertex, at the cost of some path to it. Vertices are settled in this order of candidates: less
-/// distance first, at equal distance a network before a router, then the lower number.
+/// A vertex, at the cost of some path to it, in eight bytes. Vertices are settled in this order of
+/// candidates: less distance first, at equal distance a network before a router, then the lower
+/// number.
 #[derive(Clone, Copy, Debug, PartialEq, Eq)]
 pub(crate) struct Candidate {
     pub(crate) distance: u32,
@@ -18,46 +22,52 @@ pub(crate) struct Candidate {
     pub(crate) index: u16,
 }
 
-/// A number for a candidate: its parts one after another, and below them 15 bits that say nothing,
-/// so that each number of 64 bits stands for a candidate. The order of numbers is that of
-/// candidates.
-fn number_of(candidate: Candidate) -> u64
-    ensures { candidate_in result ≡ candidate }
-{
-    let place = u64::from(candidate.is_router) * 65_536 + u64::from(candidate.index);
-    u64::from(candidate.distance) * 4_294_967_296 + place * 32_768
-}
+/// The candidate that is settled first is the greatest, since a heap gives its greatest item.
+impl Ord for Candidate {
+    ghost cmp = { flip_args candidate_cmp };
 
-/// The candidate that a number stands for.
-fn candidate_of(number: u64) -> Candidate
-    ensures { result ≡ candidate_in number }
-{
-    Candidate {
-        distance: (number / 4_294_967_296) as u32,
-        is_router: number / 2_147_483_648 % 2 == 1,
-        index: (number / 32_768 % 65_536) as u16,
+    ghost total = { back_total candidate_cmp_total };
+
+    ghost matches_partial_cmp = { Prim.search (comparing, rules) };
+
+    ghost matches_eq = { Prim.search (comparing, rules) };
+
+    fn cmp(&self, other: &Candidate) -> Ordering {
+        let kinds = other.is_router.cmp(&self.is_router);
+        let places = kinds.then(other.index.cmp(&self.index));
+        other.distance.cmp(&self.distance).then(places)
     }
 }
 
-/// The candidates, of which the first in their order is taken next, as numbers of eight octets,
-/// which are compared in one step. A vertex may be there several times, once for each path that was
-/// found to it.
+impl PartialOrd for Candidate {
+    ghost partial_cmp = { as_partial_cmp (flip_args candidate_cmp) };
+
+    ghost laws = { partial_order_from_own_ties (partial_order_from_total (back_total candidate_cmp_total)) (Prim.search (comparing, rules)) };
+
+    fn partial_cmp(&self, other: &Candidate) -> Option<Ordering> {
+        Some(self.cmp(other))
+    }
+}
+
+/// The candidates, of which the first in their order is taken next. A vertex may be there several
+/// times, each time nearer than before.
 #[derive(Drop)]
 pub(crate) struct Queue<A: Allocator> {
-    numbers: Vec<u64, A>,
+    candidates: BinaryHeap<Candidate, A>,
 }
 
 impl<A: Allocator> Model for Queue<A> {
-    ghost use Rattle.std.specs.Prelude.{List, map};
+    ghost use Rattle.std.specs.Prelude.{List};
+    ghost use Rattle.std.specs.BinaryHeap.{IsHeap, heap_items};
+    ghost use Rattle.std.specs.Ordering.{flip_args};
     ghost use Rattle.spf.specs.declared.queue.Candidate.{Candidate};
-    ghost use Rattle.spf.specs.steps.Heap.{IsHeap};
-    ghost use Rattle.spf.specs.steps.Number.{candidate_in};
+    ghost use Rattle.spf.specs.Candidates.{candidate_cmp};
 
     ghost Value = { List Candidate };
 
-    ghost view = { λ q. map (λ n. candidate_in n) q.numbers.items };
+    ghost view = { λ q. heap_items q.candidates };
 
-    ghost invariant = { λ q. IsHeap q.numbers.items };
+    ghost invariant = { λ q. IsHeap (flip_args candidate_cmp) (heap_items q.candidates) };
 }
 
 impl<A: Allocator + Copy> Queue<A> {
@@ -66,7 +76,7 @@ impl<A: Allocator + Copy> Queue<A> {
         ensures { result ≡ [] }
     {
         Queue {
-            numbers: Vec::new(alloc),
+            candidates: BinaryHeap::new(alloc),
         }
     }
 
@@ -74,9 +84,7 @@ impl<A: Allocator + Copy> Queue<A> {
     pub(crate) fn push(&mut self, candidate: Candidate) -> Result<(), AllocError>
         ensures { OnOk result (IsPermutation (candidate ∷ self.old) self.new) }
     {
-        let at = self.numbers.len();
-        self.numbers.push(number_of(candidate))?;
-        rise(&mut self.numbers, at);
+        self.candidates.push(candidate)?;
         Ok(())
     }
 
@@ -87,11 +95,6 @@ impl<A: Allocator + Copy> Queue<A> {
             (λ c. All (λ other. is_lt (candidate_cmp other c) ≡ false) self.new) }
         ensures none { IfNone result (self.old ≡ []) }
     {
-        if self.numbers.is_empty() {
-            return None;
-        }
-        let number = self.numbers.swap_remove(0);
-        sink(&mut self.numbers);
-        Some(candidate_of(number))
+        self.candidates.pop()
     }
 }

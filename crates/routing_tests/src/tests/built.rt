@@ -5,7 +5,7 @@ use area_graph::{Graph, GraphFault};
 use lsa_codec::{AreaId, RouterId};
 use lsdb::Database;
 use samples::{SAMPLE, network_of_three};
-use spf::{Meter, SpfFault, Tree, distances_by_rounds};
+use spf::{Meter, SpfFault, Tree};
 use std::alloc::{Allocator, Global};
 use std::test::*;
 
@@ -39,13 +39,4 @@ pub(super) fn tree_of<A: Allocator + Copy>(
     meter: &mut Meter,
 ) -> Result<Tree<A>, SpfFault> {
     Tree::build(alloc, graph, RouterId(root), meter)
-}
-
-/// The distances from a router by the plain program.
-pub(super) fn by_rounds(
-    alloc: Global,
-    graph: &Graph,
-    root: u32,
-) -> Result<Vec<Option<u64>>, SpfFault> {
-    distances_by_rounds(alloc, graph, RouterId(root))
 }

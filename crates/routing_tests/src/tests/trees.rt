@@ -1,6 +1,7 @@
 //! Trees of the two small areas.
 
-use super::built::{by_rounds, graph_of, sample_graph, three_graph, tree_of};
+use super::built::{graph_of, sample_graph, three_graph, tree_of};
+use super::plain::distances_by_rounds;
 use area_graph::Graph;
 use rationed::Rationed;
 use samples::{R1, R3, R4, SAMPLE, network_of_three};
@@ -29,19 +30,17 @@ fn tells_vertices_in_order(rt: HostRuntime) -> Result<(), Fail> {
 /// A router of which the graph has no vertex.
 const ABSENT: u32 = 0x0909_0909;
 
-/// Why the sample has no tree of a router, how many trees are counted then, and why the plain
-/// program tells no distances.
-fn missed(alloc: Global, root: u32) -> Result<(Option<SpfFault>, u64, Option<SpfFault>), Fail> {
+/// Why the sample has no tree of a router, and how many trees are counted then.
+fn missed(alloc: Global, root: u32) -> Result<(Option<SpfFault>, u64), Fail> {
     let graph = sample_graph(alloc)?;
     let mut meter = Meter::new();
     let fault = tree_of(alloc, &graph, root, &mut meter).err();
-    Ok((fault, meter.count(), by_rounds(alloc, &graph, root).err()))
+    Ok((fault, meter.count()))
 }
 
 #[test]
 fn misses_a_router(rt: HostRuntime) -> Result<(), Fail> {
-    let no_router = Some(SpfFault::NoRouter);
-    assert_eq!(rt; missed(rt.alloc(), ABSENT)?, (no_router, 0, no_router));
+    assert_eq!(rt; missed(rt.alloc(), ABSENT)?, (Some(SpfFault::NoRouter), 0));
     Ok(())
 }
 
@@ -86,15 +85,15 @@ fn reaches_the_sample(rt: HostRuntime) -> Result<(), Fail> {
 /// network.
 const BY_ROUNDS: &[Option<u64>] = &[Some(0), Some(10), Some(5), Some(10)];
 
-/// The distances in the network of three routers by the plain program.
-fn rounds_of_three(alloc: Global, root: u32) -> Result<Vec<Option<u64>>, Fail> {
+/// The same by the plain program.
+fn rounds_of_three(alloc: Global) -> Result<Vec<Option<u64>>, Fail> {
     let graph = three_graph(alloc)?;
-    Ok(by_rounds(alloc, &graph, root)?)
+    distances_by_rounds(alloc, &graph, 0)
 }
 
 #[test]
 fn measures_by_rounds(rt: HostRuntime) -> Result<(), Fail> {
-    let distances = rounds_of_three(rt.alloc(), R1)?;
+    let distances = rounds_of_three(rt.alloc())?;
     assert_eq!(rt; distances.as_slice(), BY_ROUNDS);
     Ok(())
 }
