@@ -1,14 +1,14 @@
 //! The base of a session: the database that the dump of a session, version 2, begins with.
 
-ghost use Rattle.std.specs.Prelude.{◌≡◌, ◌≤◌, ◌++◌, ℕ, List, length, take, Ok, IfOk, IfErr};
+ghost use Rattle.std.specs.Prelude.{◌≡◌, ◌≤◌, ◌++◌, ℕ, List, length, take, Ok, IfOk, IfErr, IsOk};
 ghost use Rattle.lsdb.specs.Limits.{longest_session};
 ghost use Rattle.lsdb.specs.Lists.{Lists, IsDatabase, size};
 ghost use Rattle.lsdb.specs.Places.{lists_of};
 ghost use Rattle.lsdb.specs.steps.View.{places_of};
-ghost use Rattle.lsdb.specs.steps.Reading.{at_of, Gives};
-ghost use Rattle.lsdb.specs.Loading.{IsFirstFault};
+ghost use Rattle.lsdb.specs.steps.Reading.{at_of, Gives, Reads, IsMemoryAfter};
+ghost use Rattle.lsdb.specs.Loading.{IsFirstFault, no_memory};
 ghost use Rattle.lsdb.specs.BaseText.{base_text};
-ghost use Rattle.lsdb.specs.BaseLoading.{most_octets, session_version_at, base_at, base_loaded};
+ghost use Rattle.lsdb.specs.BaseLoading.{most_octets, session_version_at, base_at, base_loaded, base_front_at, base_front_loaded};
 
 use crate::cursor::Cursor;
 use crate::database::{Database, SectionOf};
@@ -37,8 +37,8 @@ fn most_octets(bytes: &[u8]) -> usize
 }
 
 #[tactic(auto, unfolding(crate::specs::BaseLoading::session_version_at))]
-fn read_session_version(at: Cursor<'_>) -> Result<Cursor<'_>, ReadError>
-    ensures { Gives at_of result (session_version_at (at_of at.entry)) }
+fn read_session_version(at: Cursor<'_>) -> Result<Cursor<'_>, DumpFault>
+    ensures { Reads at_of result (session_version_at (at_of at.entry)) }
 {
     let (found, rest) = read_u8(at)?;
     if found != SESSION_VERSION {
@@ -53,8 +53,9 @@ fn read_base_sections<'a, A: Allocator + Copy>(
     alloc: A,
     at: Cursor<'a>,
 ) -> Result<(Vec<SectionOf<A>, A>, Cursor<'a>), ReadError>
-    ensures { Gives (λ x. (lists_of (places_of x.0.items), at_of x.1))
+    ensures base { Gives (λ x. (lists_of (places_of x.0.items), at_of x.1))
         result (base_at (at_of at.entry)) }
+    ensures memory { IsMemoryAfter (base_front_at (at_of at.entry)) result }
 {
     let at = read_session_version(read_magic(at)?)?;
     read_sections(alloc, at)
@@ -66,7 +67,8 @@ fn read_base<A: Allocator + Copy>(
     alloc: A,
     bytes: &[u8],
 ) -> Result<(Vec<SectionOf<A>, A>, usize), ReadError>
-    ensures { Gives (λ x. (lists_of (places_of x.0.items), x.1)) result (base_loaded bytes.now) }
+    ensures base { Gives (λ x. (lists_of (places_of x.0.items), x.1)) result (base_loaded bytes.now) }
+    ensures memory { IsMemoryAfter (base_front_loaded bytes.now) result }
 {
     if most_octets(bytes) < bytes.len() {
         return Err(ReadError::Fault(TOO_LARGE));
@@ -107,6 +109,10 @@ impl<A: Allocator + Copy> Database<A> {
         ensures found { IfOk result
             (λ base. base_loaded bytes.now ≡ Ok (lists_of base.0, base.1)) }
         ensures fault { IfErr result (λ fault. IsFirstFault fault (base_loaded bytes.now)) }
+
+        // Memory runs out only where the front has no fault: what is read before any is asked for.
+        ensures memory { IfErr result
+            (λ fault. fault ≡ no_memory → IsOk (base_front_loaded bytes.now)) }
     {
         match read_base(alloc, bytes) {
             Ok((sections, octets)) => Ok((Database::of_sections(alloc, sections, octets), octets)),
