@@ -48,7 +48,7 @@ fn read_session_version(at: Cursor<'_>) -> Result<Cursor<'_>, DumpFault>
 }
 
 /// Magic, version, the areas, and behind them the LSAs of AS scope.
-#[tactic(auto, unfolding(crate::specs::BaseLoading::base_at))]
+#[tactic(auto, unfolding(crate::specs::BaseLoading::base_at, crate::specs::BaseLoading::base_front_at))]
 fn read_base_sections<'a, A: Allocator + Copy>(
     alloc: A,
     at: Cursor<'a>,
@@ -62,7 +62,7 @@ fn read_base_sections<'a, A: Allocator + Copy>(
 }
 
 /// The sections of the base, and how many octets stand before what follows it.
-#[tactic(auto, unfolding(crate::specs::BaseLoading::base_loaded))]
+#[tactic(auto, unfolding(crate::specs::BaseLoading::base_loaded, crate::specs::BaseLoading::base_front_loaded))]
 fn read_base<A: Allocator + Copy>(
     alloc: A,
     bytes: &[u8],
@@ -97,7 +97,7 @@ impl<A: Allocator + Copy> Database<A> {
     /// Of several faults the first from front to back is told. `TooLarge` comes before all others
     /// where the octets are too many, and behind them where the base alone has more octets than
     /// a dump may have; `OutOfMemory` may stand in place of any.
-    #[tactic(auto, using(crate::proofs::FirstFault::first_told))]
+    #[tactic(auto, using(crate::proofs::FirstFault::first_told, crate::proofs::OwnFaults::told_after, crate::proofs::OwnFaults::own_base_loaded))]
     pub fn load_base(alloc: A, bytes: &[u8]) -> Result<(Database<A>, usize), DumpFault>
         // What is loaded is spelled so.
         ensures database { IfOk result (λ base. IsDatabase (lists_of base.0)) }

@@ -88,7 +88,7 @@ fn read_lsas<'a, A: Allocator + Copy>(
     Ok((places, at))
 }
 
-#[tactic(auto, unfolding(crate::specs::Loading::section_at))]
+#[tactic(auto, using(crate::proofs::Fronts::lsas_front), unfolding(crate::specs::Loading::section_at, crate::specs::Loading::section_front_at))]
 fn read_section<'a, A: Allocator + Copy>(
     alloc: A,
     area: Option<Head>,
@@ -145,7 +145,7 @@ fn read_kind(id: u32, at: Cursor<'_>) -> Result<(bool, Cursor<'_>), DumpFault>
     Ok((kind == 1, rest))
 }
 
-#[tactic(auto, unfolding(crate::specs::Loading::area_at))]
+#[tactic(auto, using(crate::proofs::Fronts::any_id), unfolding(crate::specs::Loading::area_at, crate::specs::Loading::area_front_at))]
 fn read_area<'a, A: Allocator + Copy>(
     alloc: A,
     before: Option<Head>,
@@ -153,7 +153,7 @@ fn read_area<'a, A: Allocator + Copy>(
 ) -> Result<(SectionOf<A>, Cursor<'a>), ReadError>
     ensures area { Gives (λ x. (section_of (section_places_of x.0), at_of x.1))
         result (area_at (option_map head_of before) (at_of at.entry)) }
-    ensures memory { before ≡ None → IsMemoryAfter (area_front_at (at_of at.entry)) result }
+    ensures memory { IsMemoryAfter (area_front_at (at_of at.entry)) result }
 {
     let (id, rest) = read_id(before, at)?;
     let (is_stub, rest) = read_kind(id, rest)?;
@@ -235,7 +235,7 @@ pub(crate) fn read_sections<'a, A: Allocator + Copy>(
     Ok((sections, at))
 }
 
-#[tactic(auto, unfolding(crate::specs::Loading::loaded, crate::specs::Loading::dump_at))]
+#[tactic(auto, unfolding(crate::specs::Loading::loaded, crate::specs::Loading::dump_at, crate::specs::Loading::front_loaded, crate::specs::Loading::front_at))]
 fn read_dump<A: Allocator + Copy>(alloc: A, bytes: &[u8]) -> Result<Vec<SectionOf<A>, A>, ReadError>
     ensures sections { Gives (λ sections. lists_of (places_of sections.items)) result (loaded bytes.now) }
     ensures memory { IsMemoryAfter (front_loaded bytes.now) result }
@@ -276,7 +276,7 @@ impl<A: Allocator + Copy> Database<A> {
     ///
     /// Of several faults the first from front to back is told; `TooLarge` comes before all others,
     /// and `OutOfMemory` may stand in place of any.
-    #[tactic(auto, using(crate::proofs::FirstFault::first_told))]
+    #[tactic(auto, using(crate::proofs::FirstFault::first_told, crate::proofs::OwnFaults::told_after, crate::proofs::OwnFaults::own_loaded))]
     pub fn load(alloc: A, bytes: &[u8]) -> Result<Database<A>, DumpFault>
         // What is loaded is spelled so.
         ensures database { IfOk result (λ db. IsDatabase (lists_of db)) }

@@ -26,10 +26,13 @@ Gives view (Ok x) read = read ≡ Ok (view x)
 Gives view (Err e) read = Fails e read
 
 -- memory ran out only behind a front without fault
+abbrev pub IsWantAfter : {Z : Type 0} → Result Z DumpFault → ReadError → Type 0
+IsWantAfter front errors.Memory = IsOk front
+IsWantAfter front (errors.Fault f) = Unit {0}
+
 abbrev pub IsMemoryAfter : {X Z : Type 0} → Result Z DumpFault → Result X ReadError → Type 0
 IsMemoryAfter front (Ok x) = Unit {0}
-IsMemoryAfter front (Err errors.Memory) = IsOk front
-IsMemoryAfter front (Err (errors.Fault f)) = Unit {0}
+IsMemoryAfter front (Err e) = IsWantAfter front e
 
 -- the fault that is told of a failed reading
 abbrev pub told_fault : ReadError → DumpFault
