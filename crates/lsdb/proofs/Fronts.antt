@@ -1,5 +1,5 @@
 -- The front of a dump has no fault where more than the front was read.
-use Rattle.std.proofs.Common.{◌≡◌, ◌×◌, ℕ, zero, suc, ◌<◌, cond, ltb, List, [], ◌∷◌, ◌++◌, Option, None, Some, Result, Ok, Err, IsOk, refl, sym, subst, arith}
+use Rattle.std.proofs.Common.{◌≡◌, Bool, ℕ, zero, suc, ◌<◌, cond, ltb, List, [], ◌∷◌, ◌++◌, Option, None, Some, Result, Ok, Err, IsOk, refl, sym, subst, arith}
 use Rattle.std.specs.Int.{w16, w32}
 use Rattle.lsa_codec.specs.declared.fault.LsaFault.{LsaFault}
 use Rattle.lsa_codec.specs.Decoding.{decoded}
@@ -39,7 +39,7 @@ lsas_front area (suc n) at x e =
     lsa_front area at a.0 a.1
 
 pub section_front : (area : Option AreaHead) (at : At) (x : SectionLsas × At) → section_at area at ≡ Ok x → IsOk (section_front_at area at)
-unfolding section_at, section_front_at
+unfolding section_at section_front_at
 section_front area at x e =
     let a = bind_ok (number_at w16 at) (λ count. counted_at area at count >>= λ lsas. Ok (section_with area lsas.0, lsas.1)) x e in
     let b = bind_ok (counted_at area at a.0) (λ lsas. Ok (section_with area lsas.0, lsas.1)) x a.2 in
@@ -58,7 +58,7 @@ abbrev head_with : ℕ × At → Bool × At → AreaHead
 head_with id kind = record { id = id.0; is_stub = kind.0 }
 
 pub area_front : (before : Option AreaHead) (at : At) (x : SectionLsas × At) → area_at before at ≡ Ok x → IsOk (area_front_at at)
-unfolding area_at, area_front_at
+unfolding area_at area_front_at
 area_front before at x e =
     let a = bind_ok (id_at before at) (λ id. kind_at id.0 id.1 >>= λ kind. section_at (Some (head_with id kind)) kind.1) x e in
     let b = bind_ok (kind_at a.0.0 a.0.1) (λ kind. section_at (Some (head_with a.0 kind)) kind.1) x a.2 in

@@ -45,3 +45,10 @@ returns-in_err-area-clause-memory g c =
     (λ ok. first_section c.loop.counter c.args.count (at_of c.args.start) c.loop-test.true
     (first_read area_front_at c.loop.counter (at_of c.args.start) (at_of c.loop.at) c.loop.invariant.same c.loop.invariant.first ok))
     c.in_err-area.ensures.memory)
+
+pub returns-in_err-push-clause-memory : goal.returns-in_err-push-clause-memory
+returns-in_err-push-clause-memory g c =
+    let p = err_from_is_err_and c.from_residual-in_err-push.result c.from_residual-in_err-push.ensures.1 in
+    rw (p.1, p.2) (first_section c.loop.counter c.args.count (at_of c.args.start) c.loop-test.true
+    (first_read area_front_at c.loop.counter (at_of c.args.start) (at_of c.loop.at) c.loop.invariant.same c.loop.invariant.first
+    (area_front (option_map head_of c.loop.before) (at_of c.loop.at) (section_of (section_places_of c.in_ok-area.area), at_of c.in_ok-area.after) c.in_ok-area.ensures.area)))

@@ -64,3 +64,17 @@ returns-in_err-lsa-clause-memory g c =
     (λ ok. first_lsa c.loop.counter c.args.count (at_of c.args.start) c.loop-test.true
     (first_read (first_lsa_at 1) c.loop.counter (at_of c.args.start) (at_of c.loop.at) c.loop.invariant.same c.loop.invariant.first ok))
     c.in_err-lsa.ensures.memory)
+
+pub returns-in_err-insert-clause-memory : goal.returns-in_err-insert-clause-memory
+returns-in_err-insert-clause-memory g c =
+    let p = err_from_is_err_and c.from_residual-in_err-insert.result c.from_residual-in_err-insert.ensures.1 in
+    rw (p.1, p.2) (first_lsa c.loop.counter c.args.count (at_of c.args.start) c.loop-test.true
+    (first_read (first_lsa_at 1) c.loop.counter (at_of c.args.start) (at_of c.loop.at) c.loop.invariant.same c.loop.invariant.first
+    (lsa_front (option_map head_of c.args.area) (at_of c.loop.at) (c.in_ok-lsa.lsa, at_of c.in_ok-lsa.after) c.in_ok-lsa.ensures.lsa)))
+
+pub returns-in_err-push-clause-memory : goal.returns-in_err-push-clause-memory
+returns-in_err-push-clause-memory g c =
+    let p = err_from_is_err_and c.from_residual-in_err-push.result c.from_residual-in_err-push.ensures.1 in
+    rw (p.1, p.2) (first_lsa c.loop.counter c.args.count (at_of c.args.start) c.loop-test.true
+    (first_read (first_lsa_at 1) c.loop.counter (at_of c.args.start) (at_of c.loop.at) c.loop.invariant.same c.loop.invariant.first
+    (lsa_front (option_map head_of c.args.area) (at_of c.loop.at) (c.in_ok-lsa.lsa, at_of c.in_ok-lsa.after) c.in_ok-lsa.ensures.lsa)))
