@@ -1,6 +1,7 @@
 -- The front of a dump has no fault where more than the front was read.
-use Rattle.std.proofs.Common.{◌≡◌, Bool, ℕ, zero, suc, ◌<◌, cond, ltb, List, [], ◌∷◌, ◌++◌, Option, None, Some, Result, Ok, Err, IsOk, refl, sym, subst, arith}
+use Rattle.std.proofs.Common.{◌≡◌, Bool, ℕ, zero, suc, ◌<◌, ◌≤◌, false, cond, ltb, List, [], ◌∷◌, ◌++◌, Option, None, Some, Result, Ok, Err, IsOk, refl, sym, subst, arith}
 use Rattle.std.specs.Int.{w16, w32}
+use Rattle.std.proofs.lemmas.Bool.{le-ltb}
 use Rattle.lsa_codec.specs.declared.fault.LsaFault.{LsaFault}
 use Rattle.lsa_codec.specs.Decoding.{decoded}
 use Rattle.lsdb.specs.declared.fault.DumpFault.{DumpFault}
@@ -14,7 +15,7 @@ use Rattle.lsdb.specs.steps.Reading.{IsWantAfter}
 use Rattle.lsdb.proofs.Dominated.{section_with}
 use Rattle.lsdb.proofs.Fields.{bind_ok, guard_ok, passed_ok, ok_is, done, told}
 
--- memory ran out behind what was read, and so behind less of it
+-- memory ran out after what was read, and so after less of it
 pub want_after : {Y Z : Type 0} (e : ReadError) (more : Result Y DumpFault) (less : Result Z DumpFault) → (IsOk more → IsOk less)
     → IsWantAfter more e → IsWantAfter less e
 want_after errors.Memory more less f want = f want
@@ -45,6 +46,13 @@ section_front area at x e =
     let b = bind_ok (counted_at area at a.0) (λ lsas. Ok (section_with area lsas.0, lsas.1)) x a.2 in
     let c = guard_ok (ltb (limit_of area) a.0.0) (told at TooManyLsas) (lsas_from area a.0.0 [] a.0.1) b.0 b.1 in
     rw (a.1, c.0) (lsas_front area a.0.0 a.0.1 b.0 c.1)
+
+pub section_started : (area : Option AreaHead) (at rest : At) (count : ℕ) (x : List (List ℕ) × At) → number_at w16 at ≡ Ok (count, rest)
+    → count ≤ limit_of area → lsas_from area count [] rest ≡ Ok x → IsOk (section_front_at area at)
+unfolding section_front_at
+section_started area at rest count x is le lsas =
+    let small : ltb (limit_of area) count ≡ false = le-ltb (limit_of area) count le in
+    rw (is, small) (lsas_front area count rest x lsas)
 
 -- no order is asked of the first area
 pub any_id : (before : Option AreaHead) (at : At) (x : ℕ × At) → id_at before at ≡ Ok x → id_at None at ≡ Ok x

@@ -1,12 +1,12 @@
 //! The base of a session: the database that the dump of a session, version 2, begins with.
 
-ghost use Rattle.std.specs.Prelude.{◌≡◌, ◌≤◌, ◌++◌, ℕ, List, length, take, Ok, IfOk, IfErr, IsOk};
+ghost use Rattle.std.specs.Prelude.{◌≡◌, ◌≤◌, ◌++◌, ℕ, List, length, take, Ok, Err, IfOk, IfErr};
 ghost use Rattle.lsdb.specs.Limits.{longest_session};
 ghost use Rattle.lsdb.specs.Lists.{Lists, IsDatabase, size};
 ghost use Rattle.lsdb.specs.Places.{lists_of};
 ghost use Rattle.lsdb.specs.steps.View.{places_of};
 ghost use Rattle.lsdb.specs.steps.Reading.{at_of, Gives, Reads, IsMemoryAfter};
-ghost use Rattle.lsdb.specs.Loading.{IsFirstFault, no_memory};
+ghost use Rattle.lsdb.specs.Loading.{IsFirstFault};
 ghost use Rattle.lsdb.specs.BaseText.{base_text};
 ghost use Rattle.lsdb.specs.BaseLoading.{most_octets, session_version_at, base_at, base_loaded, base_front_at, base_front_loaded};
 
@@ -96,8 +96,9 @@ impl<A: Allocator + Copy> Database<A> {
     ///
     /// Of several faults the first from front to back is told. `TooLarge` comes before all others
     /// where the octets are too many, and behind them where the base alone has more octets than
-    /// a dump may have; `OutOfMemory` may stand in place of any.
-    #[tactic(auto, using(crate::proofs::FirstFault::first_told, crate::proofs::OwnFaults::told_after, crate::proofs::OwnFaults::own_base_loaded))]
+    /// a dump may have; `OutOfMemory` may stand in place of any that
+    /// lies after the front, as in [`load`](Database::load).
+    #[tactic(auto, using(crate::proofs::FirstFault::first_told))]
     pub fn load_base(alloc: A, bytes: &[u8]) -> Result<(Database<A>, usize), DumpFault>
         // What is loaded is spelled so.
         ensures database { IfOk result (λ base. IsDatabase (lists_of base.0)) }
@@ -110,9 +111,9 @@ impl<A: Allocator + Copy> Database<A> {
             (λ base. base_loaded bytes.now ≡ Ok (lists_of base.0, base.1)) }
         ensures fault { IfErr result (λ fault. IsFirstFault fault (base_loaded bytes.now)) }
 
-        // Memory runs out only where the front has no fault: what is read before any is asked for.
-        ensures memory { IfErr result
-            (λ fault. fault ≡ no_memory → IsOk (base_front_loaded bytes.now)) }
+        // A fault of the front is reported for want of no memory: none is asked for before.
+        ensures front { (fault : DumpFault)
+            → base_front_loaded bytes.now ≡ Err fault → result ≡ Err fault }
     {
         match read_base(alloc, bytes) {
             Ok((sections, octets)) => Ok((Database::of_sections(alloc, sections, octets), octets)),

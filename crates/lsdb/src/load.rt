@@ -1,6 +1,6 @@
 //! Reading a dump.
 
-ghost use Rattle.std.specs.Prelude.{◌≡◌, ◌≤◌, length, [], Ok, Some, None, IfOk, IfErr, IsOk, Result, option_map};
+ghost use Rattle.std.specs.Prelude.{◌≡◌, ◌≤◌, length, [], Ok, Some, None, IfOk, IfErr, Err, Result, option_map};
 ghost use Rattle.lsdb.specs.Limits.{most_lsas_of_as};
 ghost use Rattle.lsdb.specs.Lists.{is_in_scope, limit_of, Lists, IsDatabase, size};
 ghost use Rattle.lsdb.specs.Places.{full, section_of, lists_of};
@@ -8,7 +8,7 @@ ghost use Rattle.lsdb.specs.steps.NotedKeys.{AreApart};
 ghost use Rattle.lsdb.specs.steps.View.{head_of, section_places_of, places_of};
 ghost use Rattle.lsdb.specs.Text.{text};
 ghost use Rattle.lsdb.specs.steps.Reading.{at_of, Gives, Reads, IsMemoryAfter, told_fault};
-ghost use Rattle.lsdb.specs.Loading.{lsa_at, lsas_from, section_at, id_at, kind_at, area_at, areas_from, is_above, magic_at, version_at, area_count_at, sections_at, loaded, IsFirstFault, first_lsa_at, section_front_at, area_front_at, first_section_at, sections_front_at, front_loaded, no_memory};
+ghost use Rattle.lsdb.specs.Loading.{lsa_at, lsas_from, section_at, id_at, kind_at, area_at, areas_from, is_above, magic_at, version_at, area_count_at, sections_at, loaded, IsFirstFault, first_lsa_at, section_front_at, area_front_at, first_section_at, sections_front_at, front_loaded};
 
 use crate::cursor::Cursor;
 use crate::database::{Database, Head, SectionOf};
@@ -88,7 +88,7 @@ fn read_lsas<'a, A: Allocator + Copy>(
     Ok((places, at))
 }
 
-#[tactic(auto, using(crate::proofs::Fronts::lsas_front), unfolding(crate::specs::Loading::section_at, crate::specs::Loading::section_front_at))]
+#[tactic(auto, unfolding(crate::specs::Loading::section_at, crate::specs::Loading::section_front_at))]
 fn read_section<'a, A: Allocator + Copy>(
     alloc: A,
     area: Option<Head>,
@@ -275,8 +275,10 @@ impl<A: Allocator + Copy> Database<A> {
     /// The database whose dump the octets are.
     ///
     /// Of several faults the first from front to back is told; `TooLarge` comes before all others,
-    /// and `OutOfMemory` may stand in place of any.
-    #[tactic(auto, using(crate::proofs::FirstFault::first_told, crate::proofs::OwnFaults::told_after, crate::proofs::OwnFaults::own_loaded))]
+    /// and `OutOfMemory` may stand in place of any that lies after the front: the magic, the
+    /// version, the number of areas, and of the first section its head, its count and its first
+    /// LSA.
+    #[tactic(auto, using(crate::proofs::FirstFault::first_told))]
     pub fn load(alloc: A, bytes: &[u8]) -> Result<Database<A>, DumpFault>
         // What is loaded is spelled so.
         ensures database { IfOk result (λ db. IsDatabase (lists_of db)) }
@@ -286,9 +288,9 @@ impl<A: Allocator + Copy> Database<A> {
         ensures found { IfOk result (λ db. loaded bytes.now ≡ Ok (lists_of db)) }
         ensures fault { IfErr result (λ fault. IsFirstFault fault (loaded bytes.now)) }
 
-        // Memory runs out only where the front has no fault: what is read before any is asked for.
-        ensures memory { IfErr result
-            (λ fault. fault ≡ no_memory → IsOk (front_loaded bytes.now)) }
+        // A fault of the front is reported for want of no memory: none is asked for before.
+        ensures front { (fault : DumpFault)
+            → front_loaded bytes.now ≡ Err fault → result ≡ Err fault }
     {
         match read_dump(alloc, bytes) {
             Ok(sections) => Ok(Database::of_sections(alloc, sections, bytes.len())),

@@ -25,7 +25,7 @@ abbrev pub Gives : {X Y : Type 0} → (X → Y) → Result X ReadError → Resul
 Gives view (Ok x) read = read ≡ Ok (view x)
 Gives view (Err e) read = Fails e read
 
--- memory ran out only behind a front without fault
+-- memory ran out only after a front without fault
 abbrev pub IsWantAfter : {Z : Type 0} → Result Z DumpFault → ReadError → Type 0
 IsWantAfter front errors.Memory = IsOk front
 IsWantAfter front (errors.Fault f) = Unit {0}
