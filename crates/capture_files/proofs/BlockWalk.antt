@@ -1,11 +1,12 @@
 -- Blocks one behind the other.
-use Rattle.std.proofs.Common.{◌≡◌, ℕ, ◌+◌, ◌≤◌, List, [], ◌∷◌, ◌++◌, length, drop, Option, Some, None, Result, Ok, Err}
+use Rattle.std.proofs.Common.{◌≡◌, ◌≢◌, ℕ, ◌+◌, ◌≤◌, true, List, [], ◌∷◌, ◌++◌, length, drop, Option, Some, None, Result, Ok, Err}
 use Rattle.std.proofs.Common.{refl, sym, ap, ◌∙◌, subst, ◌⊎◌, inl, inr}
 use Rattle.std.proofs.lemmas.List.{drop-drop}
 use Rattle.capture_files.specs.declared.block.Lie.{Lie}
 use Rattle.capture_files.specs.CaptureTexts.{CaptureText}
 use Rattle.capture_files.specs.Pcap.{end_at}
-use Rattle.capture_files.specs.Pcapng.{State, start, next, AreBlocks, Reaches, IsPcapng, LiesIn}
+use Rattle.capture_files.specs.Pcapng.{State, start, next, has_section, AreBlocks, Reaches, HasKept, HasContent, IsPcapng, LiesIn}
+use Rattle.capture_files.specs.steps.BlockContents.{IsBlockKept}
 use Rattle.capture_files.proofs.Records.{same_offset, same_told}
 
 -- ---- as they are read
@@ -27,6 +28,22 @@ next_block file t offset u size h is within = record {
       subst (λ (rest : List ℕ). AreBlocks start file (h.blocks ++ (u, size) ∷ []) u rest) (drop-drop size offset file)
       (one_more start file h.blocks t (drop offset file) u size h.whole is);
 }
+
+-- memory ran out behind a block
+pub ran_out : (file : List ℕ) (s : State) (offset : ℕ) → has_section file ≡ true → Reaches file s offset → IsBlockKept s file offset
+    → HasContent file
+ran_out file s offset headed h block = record {
+  last = block.0.0;
+  offset = offset + block.0.1;
+  headed = headed;
+  reached = next_block file s offset block.0.0 block.0.1 h block.1.0 block.1.1.0;
+  kept = block.1.1.1;
+}
+
+-- what is kept behind one more
+pub one_more_kept : {X : Type 0} (xs : List X) (x : X) → xs ++ x ∷ [] ≢ []
+one_more_kept [] x e = absurd cc
+one_more_kept (y ∷ ys) x e = absurd cc
 
 -- ---- one reading
 

@@ -7,7 +7,7 @@ use Rattle.capture_files.specs.declared.fault.CaptureFault.TheVariants.{Captured
 use Rattle.capture_files.specs.declared.frame.End.{End}
 use Rattle.capture_files.specs.declared.pcap.Form.{Form}
 use Rattle.capture_files.specs.CaptureTexts.{Packet, CaptureText}
-use Rattle.capture_files.specs.Pcap.{header, lies, record_of, end_at, AreRecords, IsPcap, LiesAt, IsPcapFault}
+use Rattle.capture_files.specs.Pcap.{header, lies, record_of, end_at, AreRecords, IsPcap, LiesAt, HasRecord, IsPcapFault}
 
 -- ---- as they are read
 
@@ -43,6 +43,20 @@ lie_told file fault form packets offset headed within records told =
       lying = told.1;
     } in
     subst (IsPcapFault file) (sym told.0) lie
+
+-- behind the header stands the record that is read, or the first of those before it
+pub first_record : (form : Form) (file : List ℕ) (packets : List Packet) (offset : ℕ) (packet : Packet) → header file ≡ Ok form
+    → AreRecords form (drop 24 file) packets (drop offset file) → lies form (drop offset file) ≡ false
+    → record_of form (drop offset file) ≡ Some packet → HasRecord file
+first_record form file [] offset packet headed h honest is = record {
+  form = form;
+  packet = packet;
+  headed = headed;
+  honest = subst (λ (bytes : List ℕ). lies form bytes ≡ false) (sym h) honest;
+  first = subst (λ (bytes : List ℕ). record_of form bytes ≡ Some packet) (sym h) is;
+}
+first_record form file (p ∷ packets) offset packet headed h honest is =
+    record { form = form; packet = p; headed = headed; honest = h.0; first = h.1 }
 
 -- ---- one reading
 

@@ -2,8 +2,8 @@
 use Rattle.std.specs.Prelude.{ℕ, Bool, true, false, List}
 use Rattle.capture_files.specs.declared.fault.CaptureFault.{CaptureFault}
 use Rattle.capture_files.specs.CaptureTexts.{CaptureText}
-use Rattle.capture_files.specs.Pcap.{IsPcap, IsPcapFault}
-use Rattle.capture_files.specs.Pcapng.{has_section, IsPcapng, IsPcapngFault}
+use Rattle.capture_files.specs.Pcap.{IsPcap, IsPcapFault, HasRecord}
+use Rattle.capture_files.specs.Pcapng.{has_section, IsPcapng, IsPcapngFault, HasContent}
 
 -- of the pcapng format where the file begins with a Section Header Block, else of the pcap format
 abbrev pub IsOfFormat : Bool → List ℕ → CaptureText → Type 0
@@ -19,3 +19,11 @@ IsFaultOfFormat false file fault = IsPcapFault file fault
 
 abbrev pub IsCaptureFault : List ℕ → CaptureFault → Type 0
 IsCaptureFault file fault = IsFaultOfFormat (has_section file) file fault
+
+abbrev pub HasContentOfFormat : Bool → List ℕ → Type 0
+HasContentOfFormat true file = HasContent file
+HasContentOfFormat false file = HasRecord file
+
+-- memory is asked for only for what the file has: a record, or blocks that describe an interface or have a packet
+abbrev pub NeedsMemory : List ℕ → Type 0
+NeedsMemory file = HasContentOfFormat (has_section file) file

@@ -124,7 +124,15 @@ pub record LiesAt (file : List ℕ) (offset : ℕ) : Type 0 where
   pub records : AreRecords form (drop 24 file) packets (drop offset file)
   pub lying : lies form (drop offset file) ≡ true
 
--- why a file is refused; memory can run out with any file
+-- a whole record that does not lie stands right behind the header: no memory is asked for before
+pub record HasRecord (file : List ℕ) : Type 0 where
+  pub form : Form
+  pub packet : Packet
+  pub headed : header file ≡ Ok form
+  pub honest : lies form (drop 24 file) ≡ false
+  pub first : record_of form (drop 24 file) ≡ Some packet
+
+-- why a file is refused; memory can run out with any file that has a record
 abbrev pub IsPcapFault : List ℕ → CaptureFault → Type 0
 IsPcapFault file OutOfMemory = Unit {0}
 IsPcapFault file (CapturedLength offset) = LiesAt file offset

@@ -1,6 +1,6 @@
 -- Files of the pcapng format (draft-ietf-opsawg-pcapng, 3.2 and 4): sections of blocks, each of which begins where the
 -- one before ends.
-use Rattle.std.specs.Prelude.{◌≡◌, ◌≤◌, ◌⊎◌, ℕ, ◌==◌, Bool, true, false, nat_lt, if◌then◌else◌, List, [], ◌∷◌, ◌++◌, length, drop, Option, Some, None, Result, Ok, Err}
+use Rattle.std.specs.Prelude.{◌≡◌, ◌≢◌, ◌≤◌, ◌⊎◌, ℕ, ◌==◌, Bool, true, false, nat_lt, if◌then◌else◌, List, [], ◌∷◌, ◌++◌, length, drop, Option, Some, None, Result, Ok, Err}
 use Rattle.capture_files.specs.declared.block.Lie.{Lie}
 use Rattle.capture_files.specs.declared.block.Lie.TheVariants as lies
 use Rattle.capture_files.specs.declared.fault.CaptureFault.{CaptureFault}
@@ -90,7 +90,19 @@ fault_at lies.SectionVersion offset = faults.SectionVersion offset
 fault_at lies.BlockCaptured offset = faults.CapturedLength offset
 fault_at lies.NoInterface offset = faults.NoInterface offset
 
--- why a file is refused; memory can run out with any file
+-- whether an interface was described in the section, or a packet found in the file
+abbrev pub HasKept : State → Type 0
+HasKept s = (s.interfaces ≢ []) ⊎ (s.packets ≢ [])
+
+-- whole blocks at the front of the file describe an interface or have a packet: no memory is asked for before
+pub record HasContent (file : List ℕ) : Type 0 where
+  pub last : State
+  pub offset : ℕ
+  pub headed : has_section file ≡ true
+  pub reached : Reaches file last offset
+  pub kept : HasKept last
+
+-- why a file is refused; memory can run out with any file that has content
 abbrev pub IsPcapngFault : List ℕ → CaptureFault → Type 0
 IsPcapngFault file fault =
     (fault ≡ faults.OutOfMemory) ⊎ (((fault ≡ faults.NotACapture) × (has_section file ≡ false))

@@ -1,8 +1,9 @@
 //! Files of either format.
 
-ghost use Rattle.std.specs.Prelude.{IfOk, IfErr};
+ghost use Rattle.std.specs.Prelude.{◌≡◌, IfOk, IfErr};
 ghost use Rattle.capture_files.specs.CaptureTexts.{capture_text};
-ghost use Rattle.capture_files.specs.Captures.{IsCapture, IsCaptureFault};
+ghost use Rattle.capture_files.specs.Captures.{IsCapture, IsCaptureFault, NeedsMemory};
+ghost use Rattle.capture_files.specs.declared.fault.CaptureFault.TheVariants.{OutOfMemory};
 
 use crate::fault::CaptureFault;
 use crate::frame::Capture;
@@ -23,6 +24,9 @@ pub fn read_capture<A: Allocator + Copy>(
 ) -> Result<Capture<'_, A>, CaptureFault>
     ensures told { IfOk result (λ capture. IsCapture file.now (capture_text capture)) }
     ensures fault { IfErr result (λ fault. IsCaptureFault file.now fault) }
+
+    // Memory runs out only where the file has what memory is asked for.
+    ensures memory { IfErr result (λ fault. fault ≡ OutOfMemory → NeedsMemory file.now) }
 {
     if has_section(file) {
         read_pcapng(alloc, file)

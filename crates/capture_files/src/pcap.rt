@@ -1,8 +1,9 @@
 //! Files of the pcap format (draft-ietf-opsawg-pcap).
 
-ghost use Rattle.std.specs.Prelude.{◌≡◌, ◌≤◌, ◌<◌, ◌+◌, ◌*◌, length, map, drop, option_map, Ok, Err, Some, None, false, true, IfOk, IfErr, IfSome};
+ghost use Rattle.std.specs.Prelude.{◌≡◌, ◌≢◌, ◌≤◌, ◌<◌, ◌+◌, ◌*◌, length, map, drop, option_map, Ok, Err, Some, None, false, true, IfOk, IfErr, IfSome};
 ghost use Rattle.capture_files.specs.CaptureTexts.{packet_of, capture_text};
-ghost use Rattle.capture_files.specs.Pcap.{fraction_of, signature_in, signature_of, header, length_of_fraction, moment_of, lies, record_of, end_at, AreRecords, LiesAt, IsPcap, IsPcapFault};
+ghost use Rattle.capture_files.specs.Pcap.{fraction_of, signature_in, signature_of, header, length_of_fraction, moment_of, lies, record_of, end_at, AreRecords, LiesAt, HasRecord, IsPcap, IsPcapFault};
+ghost use Rattle.capture_files.specs.declared.fault.CaptureFault.TheVariants.{OutOfMemory};
 
 use crate::fault::CaptureFault;
 use crate::field::{u16_at, u32_at};
@@ -75,6 +76,7 @@ fn header(file: &[u8]) -> Result<Form, CaptureFault>
     ensures header { result ≡ header file.now }
     ensures long { IfOk result (λ form. 24 ≤ length file.now) }
     ensures fault { IfErr result (λ fault. IsPcapFault file.now fault) }
+    ensures memory { IfErr result (λ fault. fault ≢ OutOfMemory) }
 {
     if file.len() < 4 {
         return Err(CaptureFault::NotACapture);
@@ -180,6 +182,7 @@ fn read_records<A: Allocator + Copy>(
     ensures honest { IfOk result (λ found. lies form (drop found.1 file.now) ≡ false) }
     ensures last { IfOk result (λ found. record_of form (drop found.1 file.now) ≡ None) }
     ensures fault { IfErr result (λ fault. IsPcapFault file.now fault) }
+    ensures memory { IfErr result (λ fault. fault ≡ OutOfMemory → HasRecord file.now) }
 {
     let mut frames = Vec::new(alloc);
     let mut offset = FILE_HEADER;
@@ -208,10 +211,14 @@ pub(crate) fn end_at(file: &[u8], offset: usize) -> End
 /// `NotACapture` where no magic number of the format stands at the front, `ShortHeader` where the
 /// file ends within its header, `Version` for another major version than 2, `CapturedLength` with
 /// the offset of the first record that says that more octets were captured than there were or than
-/// a capture has, and `OutOfMemory`.
+/// a capture has, and `OutOfMemory`, which comes only where the header is whole and a record follows
+/// that does not lie.
 pub fn read_pcap<A: Allocator + Copy>(alloc: A, file: &[u8]) -> Result<Capture<'_, A>, CaptureFault>
     ensures told { IfOk result (λ capture. IsPcap file.now (capture_text capture)) }
     ensures fault { IfErr result (λ fault. IsPcapFault file.now fault) }
+
+    // Memory runs out only where the file has a record.
+    ensures memory { IfErr result (λ fault. fault ≡ OutOfMemory → HasRecord file.now) }
 {
     let form = header(file)?;
     let (frames, offset) = read_records(alloc, form, file)?;

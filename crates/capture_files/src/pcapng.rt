@@ -3,8 +3,8 @@
 ghost use Rattle.std.specs.Prelude.{◌≡◌, ◌≤◌, ◌<◌, ◌+◌, length, drop, Ok, Err, Some, None, true, IfOk, IfErr, OnOk, MatchOption};
 ghost use Rattle.capture_files.specs.declared.fault.CaptureFault.TheVariants as faults;
 ghost use Rattle.capture_files.specs.CaptureTexts.{capture_text};
-ghost use Rattle.capture_files.specs.Pcapng.{state_of, after, next, has_section, fault_at, Reaches, IsPcapng, IsPcapngFault};
-ghost use Rattle.capture_files.specs.steps.BlockContents.{content_of, IsStop};
+ghost use Rattle.capture_files.specs.Pcapng.{state_of, after, next, has_section, fault_at, Reaches, HasKept, HasContent, IsPcapng, IsPcapngFault};
+ghost use Rattle.capture_files.specs.steps.BlockContents.{content_of, IsStop, IsBlockKept};
 
 use crate::block::{Lie, SECTION_HEADER, first_block};
 use crate::fault::CaptureFault;
@@ -48,6 +48,8 @@ fn add<'a, A: Allocator + Copy>(
     ensures added { OnOk result
         (state_of reading.new ≡ after (state_of reading.old) order (content_of part.entry)) }
     ensures memory { IfErr result (λ fault. fault ≡ faults.OutOfMemory) }
+    ensures kept { IfErr result
+        (λ fault. HasKept (after (state_of reading.old) order (content_of part.entry))) }
 {
     reading.order = order;
     match part {
@@ -77,6 +79,8 @@ fn read_block<'a, A: Allocator + Copy>(
         (λ size. (0 < size) × (offset + size ≤ length file.now))) }
     ensures fault { IfErr result
         (λ fault. IsStop offset (next (state_of reading.old) (drop offset file.now)) fault) }
+    ensures memory { IfErr result (λ fault. fault ≡ faults.OutOfMemory
+        → IsBlockKept (state_of reading.old) file.now offset) }
 {
     let block = match first_block(reading.order, &file[offset..]) {
         Err(lie) => return Err(fault_at(lie, offset)),
@@ -101,6 +105,7 @@ fn read_blocks<A: Allocator + Copy>(
     ensures stopped { IfOk result
         (λ found. next (state_of found.0) (drop found.1 file.now) ≡ Ok None) }
     ensures fault { IfErr result (λ fault. IsPcapngFault file.now fault) }
+    ensures memory { IfErr result (λ fault. fault ≡ faults.OutOfMemory → HasContent file.now) }
 {
     let mut reading = Reading {
         order: Order::Big,
@@ -120,13 +125,17 @@ fn read_blocks<A: Allocator + Copy>(
 ///
 /// `NotACapture` where the file does not begin with a Section Header Block, `ByteOrder`,
 /// `BlockLength`, `SectionVersion`, `CapturedLength` and `NoInterface` with the offset of the first
-/// block that lies, and `OutOfMemory`.
+/// block that lies, and `OutOfMemory`, which comes only behind a block that describes an interface or
+/// has a packet.
 pub fn read_pcapng<A: Allocator + Copy>(
     alloc: A,
     file: &[u8],
 ) -> Result<Capture<'_, A>, CaptureFault>
     ensures told { IfOk result (λ capture. IsPcapng file.now (capture_text capture)) }
     ensures fault { IfErr result (λ fault. IsPcapngFault file.now fault) }
+
+    // Memory runs out only where blocks describe an interface or have a packet.
+    ensures memory { IfErr result (λ fault. fault ≡ faults.OutOfMemory → HasContent file.now) }
 {
     if !has_section(file) {
         return Err(CaptureFault::NotACapture);

@@ -7,7 +7,7 @@ use Rattle.lsdb.specs.declared.fault.DumpFaultKind.TheVariants.{BadVersion, TooL
 use Rattle.lsdb.specs.Lists.{Lists, size}
 use Rattle.lsdb.specs.Limits.{longest_dump, longest_session}
 use Rattle.lsdb.specs.BaseText.{session_version, session_start}
-use Rattle.lsdb.specs.Loading.{◌>>=◌, At, fault, number_at, magic_at, sections_at, beginning}
+use Rattle.lsdb.specs.Loading.{◌>>=◌, At, fault, number_at, magic_at, sections_at, sections_front_at, beginning}
 
 -- whether octets begin as the dump of a session does
 abbrev pub begins_session : List ℕ → Bool
@@ -37,3 +37,16 @@ unfoldable pub base_loaded : List ℕ → Result (Lists × ℕ) DumpFault
 base_loaded bytes =
     if nat_lt (most_octets bytes) (length bytes) then fault (beginning bytes) TooLarge else
     base_at (beginning bytes) >>= small_base (beginning bytes)
+
+-- ---- the front of a base: what is read of it before memory is asked for
+
+unfoldable pub base_front_at : At → Result (List ℕ) DumpFault
+base_front_at at = do
+  start ← magic_at at
+  first ← session_version_at start
+  sections_front_at first
+
+-- the first LSA of the front, or none, or the first fault of the front
+unfoldable pub base_front_loaded : List ℕ → Result (List ℕ) DumpFault
+base_front_loaded bytes =
+    if nat_lt (most_octets bytes) (length bytes) then fault (beginning bytes) TooLarge else base_front_at (beginning bytes)

@@ -139,6 +139,52 @@ beginning bytes = record { offset = 0; rest = bytes }
 unfoldable pub loaded : List ℕ → Result Lists DumpFault
 loaded bytes = if nat_lt longest_dump (length bytes) then fault (beginning bytes) TooLarge else dump_at (beginning bytes)
 
+-- ---- the front of a dump: what is read of it before memory is asked for
+
+-- an LSA that was decoded, whether it belongs here or not
+abbrev pub accepted : At → Result (List ℕ) LsaFault → Result (List ℕ) DumpFault
+accepted at (Err f) = fault at (Lsa f)
+accepted at (Ok lsa) = Ok lsa
+
+-- the first of n LSAs
+abbrev pub first_lsa_at : ℕ → At → Result (List ℕ) DumpFault
+first_lsa_at zero at = Ok []
+first_lsa_at (suc n) at = accepted at (decoded at.rest)
+
+-- how many LSAs a section has, and the first of them
+unfoldable pub section_front_at : Option AreaHead → At → Result (List ℕ) DumpFault
+section_front_at area at = do
+  count ← number_at w16 at
+  if nat_lt (limit_of area) count.0 then fault at TooManyLsas else first_lsa_at count.0 count.1
+
+-- the first of all areas
+unfoldable pub area_front_at : At → Result (List ℕ) DumpFault
+area_front_at at = do
+  id ← id_at None at
+  kind ← kind_at id.0 id.1
+  section_front_at (Some (record { id = id.0; is_stub = kind.0 })) kind.1
+
+-- the first section of n areas and the LSAs of AS scope
+abbrev pub first_section_at : ℕ → At → Result (List ℕ) DumpFault
+first_section_at zero at = section_front_at None at
+first_section_at (suc n) at = area_front_at at
+
+-- how many areas there are, and the first section
+unfoldable pub sections_front_at : At → Result (List ℕ) DumpFault
+sections_front_at at = do
+  count ← area_count_at at
+  first_section_at count.0 count.1
+
+unfoldable pub front_at : At → Result (List ℕ) DumpFault
+front_at at = do
+  start ← magic_at at
+  first ← version_at start
+  sections_front_at first
+
+-- the first LSA of the front, or none, or the first fault of the front
+unfoldable pub front_loaded : List ℕ → Result (List ℕ) DumpFault
+front_loaded bytes = if nat_lt longest_dump (length bytes) then fault (beginning bytes) TooLarge else front_at (beginning bytes)
+
 -- want of memory is told at 0
 abbrev pub no_memory : DumpFault
 no_memory = record { offset = 0; kind = OutOfMemory }

@@ -1,14 +1,14 @@
 //! The base of a session: the database that the dump of a session, version 2, begins with.
 
-ghost use Rattle.std.specs.Prelude.{◌≡◌, ◌≤◌, ◌++◌, ℕ, List, length, take, Ok, IfOk, IfErr};
+ghost use Rattle.std.specs.Prelude.{◌≡◌, ◌≤◌, ◌++◌, ℕ, List, length, take, Ok, Err, IfOk, IfErr};
 ghost use Rattle.lsdb.specs.Limits.{longest_session};
 ghost use Rattle.lsdb.specs.Lists.{Lists, IsDatabase, size};
 ghost use Rattle.lsdb.specs.Places.{lists_of};
 ghost use Rattle.lsdb.specs.steps.View.{places_of};
-ghost use Rattle.lsdb.specs.steps.Reading.{at_of, Gives};
+ghost use Rattle.lsdb.specs.steps.Reading.{at_of, Gives, Reads, IsMemoryAfter};
 ghost use Rattle.lsdb.specs.Loading.{IsFirstFault};
 ghost use Rattle.lsdb.specs.BaseText.{base_text};
-ghost use Rattle.lsdb.specs.BaseLoading.{most_octets, session_version_at, base_at, base_loaded};
+ghost use Rattle.lsdb.specs.BaseLoading.{most_octets, session_version_at, base_at, base_loaded, base_front_at, base_front_loaded};
 
 use crate::cursor::Cursor;
 use crate::database::{Database, SectionOf};
@@ -37,8 +37,8 @@ fn most_octets(bytes: &[u8]) -> usize
 }
 
 #[tactic(auto, unfolding(crate::specs::BaseLoading::session_version_at))]
-fn read_session_version(at: Cursor<'_>) -> Result<Cursor<'_>, ReadError>
-    ensures { Gives at_of result (session_version_at (at_of at.entry)) }
+fn read_session_version(at: Cursor<'_>) -> Result<Cursor<'_>, DumpFault>
+    ensures { Reads at_of result (session_version_at (at_of at.entry)) }
 {
     let (found, rest) = read_u8(at)?;
     if found != SESSION_VERSION {
@@ -48,25 +48,27 @@ fn read_session_version(at: Cursor<'_>) -> Result<Cursor<'_>, ReadError>
 }
 
 /// Magic, version, the areas, and behind them the LSAs of AS scope.
-#[tactic(auto, unfolding(crate::specs::BaseLoading::base_at))]
+#[tactic(auto, unfolding(crate::specs::BaseLoading::base_at, crate::specs::BaseLoading::base_front_at))]
 fn read_base_sections<'a, A: Allocator + Copy>(
     alloc: A,
     at: Cursor<'a>,
 ) -> Result<(Vec<SectionOf<A>, A>, Cursor<'a>), ReadError>
-    ensures { Gives (λ x. (lists_of (places_of x.0.items), at_of x.1))
+    ensures base { Gives (λ x. (lists_of (places_of x.0.items), at_of x.1))
         result (base_at (at_of at.entry)) }
+    ensures memory { IsMemoryAfter (base_front_at (at_of at.entry)) result }
 {
     let at = read_session_version(read_magic(at)?)?;
     read_sections(alloc, at)
 }
 
 /// The sections of the base, and how many octets stand before what follows it.
-#[tactic(auto, unfolding(crate::specs::BaseLoading::base_loaded))]
+#[tactic(auto, unfolding(crate::specs::BaseLoading::base_loaded, crate::specs::BaseLoading::base_front_loaded))]
 fn read_base<A: Allocator + Copy>(
     alloc: A,
     bytes: &[u8],
 ) -> Result<(Vec<SectionOf<A>, A>, usize), ReadError>
-    ensures { Gives (λ x. (lists_of (places_of x.0.items), x.1)) result (base_loaded bytes.now) }
+    ensures base { Gives (λ x. (lists_of (places_of x.0.items), x.1)) result (base_loaded bytes.now) }
+    ensures memory { IsMemoryAfter (base_front_loaded bytes.now) result }
 {
     if most_octets(bytes) < bytes.len() {
         return Err(ReadError::Fault(TOO_LARGE));
@@ -94,7 +96,8 @@ impl<A: Allocator + Copy> Database<A> {
     ///
     /// Of several faults the first from front to back is told. `TooLarge` comes before all others
     /// where the octets are too many, and behind them where the base alone has more octets than
-    /// a dump may have; `OutOfMemory` may stand in place of any.
+    /// a dump may have; `OutOfMemory` may stand in place of any that
+    /// lies after the front, as in [`load`](Database::load).
     #[tactic(auto, using(crate::proofs::FirstFault::first_told))]
     pub fn load_base(alloc: A, bytes: &[u8]) -> Result<(Database<A>, usize), DumpFault>
         // What is loaded is spelled so.
@@ -107,6 +110,10 @@ impl<A: Allocator + Copy> Database<A> {
         ensures found { IfOk result
             (λ base. base_loaded bytes.now ≡ Ok (lists_of base.0, base.1)) }
         ensures fault { IfErr result (λ fault. IsFirstFault fault (base_loaded bytes.now)) }
+
+        // A fault of the front is reported for want of no memory: none is asked for before.
+        ensures front { (fault : DumpFault)
+            → base_front_loaded bytes.now ≡ Err fault → result ≡ Err fault }
     {
         match read_base(alloc, bytes) {
             Ok((sections, octets)) => Ok((Database::of_sections(alloc, sections, octets), octets)),

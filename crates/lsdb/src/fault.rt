@@ -2,7 +2,7 @@
 
 ghost use Rattle.std.specs.Prelude.{◌≡◌};
 ghost use Rattle.lsdb.specs.Faults.{fault_code, fault_name};
-ghost use Rattle.lsdb.specs.declared.fault.ReadError.TheVariants.{Memory};
+ghost use Rattle.lsdb.specs.declared.fault.ReadError.TheVariants.{Memory, Fault};
 
 use lsa_codec::{Decimal, LsaFault};
 use std::alloc::{AllocError, AllocFailed};
@@ -160,5 +160,13 @@ impl<T: Drop> From<AllocFailed<T>> for ReadError {
 
     fn from(_e: AllocFailed<T>) -> ReadError {
         ReadError::Memory
+    }
+}
+
+impl From<DumpFault> for ReadError {
+    ghost from_gives = { λ fault e. e ≡ Fault fault };
+
+    fn from(fault: DumpFault) -> ReadError {
+        ReadError::Fault(fault)
     }
 }

@@ -1,14 +1,14 @@
 //! Reading a dump.
 
-ghost use Rattle.std.specs.Prelude.{◌≡◌, ◌≤◌, length, [], Ok, Some, None, IfOk, IfErr, Result, option_map};
+ghost use Rattle.std.specs.Prelude.{◌≡◌, ◌≤◌, length, [], Ok, Some, None, IfOk, IfErr, Err, Result, option_map};
 ghost use Rattle.lsdb.specs.Limits.{most_lsas_of_as};
 ghost use Rattle.lsdb.specs.Lists.{is_in_scope, limit_of, Lists, IsDatabase, size};
 ghost use Rattle.lsdb.specs.Places.{full, section_of, lists_of};
 ghost use Rattle.lsdb.specs.steps.NotedKeys.{AreApart};
 ghost use Rattle.lsdb.specs.steps.View.{head_of, section_places_of, places_of};
 ghost use Rattle.lsdb.specs.Text.{text};
-ghost use Rattle.lsdb.specs.steps.Reading.{at_of, Gives, told_fault};
-ghost use Rattle.lsdb.specs.Loading.{lsa_at, lsas_from, section_at, id_at, kind_at, area_at, areas_from, is_above, magic_at, version_at, area_count_at, sections_at, loaded, IsFirstFault};
+ghost use Rattle.lsdb.specs.steps.Reading.{at_of, Gives, Reads, IsMemoryAfter, told_fault};
+ghost use Rattle.lsdb.specs.Loading.{lsa_at, lsas_from, section_at, id_at, kind_at, area_at, areas_from, is_above, magic_at, version_at, area_count_at, sections_at, loaded, IsFirstFault, first_lsa_at, section_front_at, area_front_at, first_section_at, sections_front_at, front_loaded};
 
 use crate::cursor::Cursor;
 use crate::database::{Database, Head, SectionOf};
@@ -45,15 +45,16 @@ fn read_lsa<'a, A: Allocator + Copy>(
     area: Option<Head>,
     at: Cursor<'a>,
 ) -> Result<(Lsa<A>, Cursor<'a>), ReadError>
-    ensures { Gives (λ x. (x.0, at_of x.1))
+    ensures lsa { Gives (λ x. (x.0, at_of x.1))
         result (lsa_at (option_map head_of area) (at_of at.entry)) }
+    ensures memory { IsMemoryAfter (first_lsa_at 1 (at_of at.entry)) result }
 {
     match Lsa::decode(alloc, at.rest) {
         Err(LsaFault::OutOfMemory) => Err(ReadError::Memory),
-        Err(lsa_fault) => Err(fault(at, DumpFaultKind::Lsa(lsa_fault))),
+        Err(lsa_fault) => Err(ReadError::Fault(fault(at, DumpFaultKind::Lsa(lsa_fault)))),
         Ok((lsa, size)) => {
             if !is_in_scope(area, lsa.key()) {
-                return Err(fault(at, DumpFaultKind::WrongSection));
+                return Err(ReadError::Fault(fault(at, DumpFaultKind::WrongSection)));
             }
             Ok((lsa, advanced(at, size)))
         }
@@ -71,6 +72,7 @@ fn read_lsas<'a, A: Allocator + Copy>(
         result (lsas_from (option_map head_of area) count [] (at_of start.entry)) }
     ensures apart { IfOk result (λ x. AreApart x.0.items) }
     ensures few { IfOk result (λ x. length x.0.items ≤ most_lsas_of_as) }
+    ensures memory { IsMemoryAfter (first_lsa_at count (at_of start.entry)) result }
 {
     let mut places = Vec::new(alloc);
     let mut keys = BTreeSet::new(alloc);
@@ -78,7 +80,7 @@ fn read_lsas<'a, A: Allocator + Copy>(
     for _ in 0..count {
         let (lsa, after) = read_lsa(alloc, area, at)?;
         if !keys.insert(lsa.key())? {
-            return Err(fault(at, DumpFaultKind::DuplicateLsa));
+            return Err(ReadError::Fault(fault(at, DumpFaultKind::DuplicateLsa)));
         }
         places.push(Some(lsa))?;
         at = after;
@@ -86,18 +88,20 @@ fn read_lsas<'a, A: Allocator + Copy>(
     Ok((places, at))
 }
 
-#[tactic(auto, unfolding(crate::specs::Loading::section_at))]
+#[tactic(auto, unfolding(crate::specs::Loading::section_at, crate::specs::Loading::section_front_at))]
 fn read_section<'a, A: Allocator + Copy>(
     alloc: A,
     area: Option<Head>,
     at: Cursor<'a>,
 ) -> Result<(SectionOf<A>, Cursor<'a>), ReadError>
-    ensures { Gives (λ x. (section_of (section_places_of x.0), at_of x.1))
+    ensures section { Gives (λ x. (section_of (section_places_of x.0), at_of x.1))
         result (section_at (option_map head_of area) (at_of at.entry)) }
+    ensures memory { IsMemoryAfter
+        (section_front_at (option_map head_of area) (at_of at.entry)) result }
 {
     let (count, rest) = read_u16(at)?;
     if limit_of(area) < count {
-        return Err(fault(at, DumpFaultKind::TooManyLsas));
+        return Err(ReadError::Fault(fault(at, DumpFaultKind::TooManyLsas)));
     }
     let (places, rest) = read_lsas(alloc, area, count, rest)?;
     let places = KeyedPlaces::of(alloc, places)?;
@@ -115,8 +119,8 @@ fn is_above(id: u32, before: Option<Head>) -> bool
 }
 
 #[tactic(auto, unfolding(crate::specs::Loading::id_at))]
-fn read_id<'a>(before: Option<Head>, at: Cursor<'a>) -> Result<(u32, Cursor<'a>), ReadError>
-    ensures { Gives (λ x. (x.0, at_of x.1))
+fn read_id<'a>(before: Option<Head>, at: Cursor<'a>) -> Result<(u32, Cursor<'a>), DumpFault>
+    ensures { Reads (λ x. (x.0, at_of x.1))
         result (id_at (option_map head_of before) (at_of at.entry)) }
 {
     let (id, rest) = read_u32(at)?;
@@ -128,8 +132,8 @@ fn read_id<'a>(before: Option<Head>, at: Cursor<'a>) -> Result<(u32, Cursor<'a>)
 
 /// Whether the area with that ID is a stub area.
 #[tactic(auto, unfolding(crate::specs::Loading::kind_at))]
-fn read_kind(id: u32, at: Cursor<'_>) -> Result<(bool, Cursor<'_>), ReadError>
-    ensures { Gives (λ x. (x.0, at_of x.1)) result (kind_at id (at_of at.entry)) }
+fn read_kind(id: u32, at: Cursor<'_>) -> Result<(bool, Cursor<'_>), DumpFault>
+    ensures { Reads (λ x. (x.0, at_of x.1)) result (kind_at id (at_of at.entry)) }
 {
     let (kind, rest) = read_u8(at)?;
     if 1 < kind {
@@ -141,14 +145,15 @@ fn read_kind(id: u32, at: Cursor<'_>) -> Result<(bool, Cursor<'_>), ReadError>
     Ok((kind == 1, rest))
 }
 
-#[tactic(auto, unfolding(crate::specs::Loading::area_at))]
+#[tactic(auto, using(crate::proofs::Fronts::any_id), unfolding(crate::specs::Loading::area_at, crate::specs::Loading::area_front_at))]
 fn read_area<'a, A: Allocator + Copy>(
     alloc: A,
     before: Option<Head>,
     at: Cursor<'a>,
 ) -> Result<(SectionOf<A>, Cursor<'a>), ReadError>
-    ensures { Gives (λ x. (section_of (section_places_of x.0), at_of x.1))
+    ensures area { Gives (λ x. (section_of (section_places_of x.0), at_of x.1))
         result (area_at (option_map head_of before) (at_of at.entry)) }
+    ensures memory { IsMemoryAfter (area_front_at (at_of at.entry)) result }
 {
     let (id, rest) = read_id(before, at)?;
     let (is_stub, rest) = read_kind(id, rest)?;
@@ -164,8 +169,9 @@ fn read_areas<'a, A: Allocator + Copy>(
     count: u8,
     start: Cursor<'a>,
 ) -> Result<(Vec<SectionOf<A>, A>, Cursor<'a>), ReadError>
-    ensures { Gives (λ x. (lists_of (places_of x.0.items), at_of x.1))
+    ensures areas { Gives (λ x. (lists_of (places_of x.0.items), at_of x.1))
         result (areas_from count None [] (at_of start.entry)) }
+    ensures memory { IsMemoryAfter (first_section_at count (at_of start.entry)) result }
 {
     let mut areas = Vec::new(alloc);
     let mut before: Option<Head> = None;
@@ -180,8 +186,8 @@ fn read_areas<'a, A: Allocator + Copy>(
 }
 
 #[tactic(auto, unfolding(crate::specs::Loading::magic_at))]
-pub(crate) fn read_magic(at: Cursor<'_>) -> Result<Cursor<'_>, ReadError>
-    ensures { Gives at_of result (magic_at (at_of at.entry)) }
+pub(crate) fn read_magic(at: Cursor<'_>) -> Result<Cursor<'_>, DumpFault>
+    ensures { Reads at_of result (magic_at (at_of at.entry)) }
 {
     let (found, rest) = read_u32(at)?;
     if found != MAGIC {
@@ -191,8 +197,8 @@ pub(crate) fn read_magic(at: Cursor<'_>) -> Result<Cursor<'_>, ReadError>
 }
 
 #[tactic(auto, unfolding(crate::specs::Loading::version_at))]
-fn read_version(at: Cursor<'_>) -> Result<Cursor<'_>, ReadError>
-    ensures { Gives at_of result (version_at (at_of at.entry)) }
+fn read_version(at: Cursor<'_>) -> Result<Cursor<'_>, DumpFault>
+    ensures { Reads at_of result (version_at (at_of at.entry)) }
 {
     let (found, rest) = read_u8(at)?;
     if found != VERSION {
@@ -202,8 +208,8 @@ fn read_version(at: Cursor<'_>) -> Result<Cursor<'_>, ReadError>
 }
 
 #[tactic(auto, unfolding(crate::specs::Loading::area_count_at))]
-fn read_area_count(at: Cursor<'_>) -> Result<(u8, Cursor<'_>), ReadError>
-    ensures { Gives (λ x. (x.0, at_of x.1)) result (area_count_at (at_of at.entry)) }
+fn read_area_count(at: Cursor<'_>) -> Result<(u8, Cursor<'_>), DumpFault>
+    ensures { Reads (λ x. (x.0, at_of x.1)) result (area_count_at (at_of at.entry)) }
 {
     let (count, rest) = read_u8(at)?;
     if MOST_AREAS < count {
@@ -218,8 +224,9 @@ pub(crate) fn read_sections<'a, A: Allocator + Copy>(
     alloc: A,
     at: Cursor<'a>,
 ) -> Result<(Vec<SectionOf<A>, A>, Cursor<'a>), ReadError>
-    ensures { Gives (λ x. (lists_of (places_of x.0.items), at_of x.1))
+    ensures sections { Gives (λ x. (lists_of (places_of x.0.items), at_of x.1))
         result (sections_at (at_of at.entry)) }
+    ensures memory { IsMemoryAfter (sections_front_at (at_of at.entry)) result }
 {
     let (count, at) = read_area_count(at)?;
     let (mut sections, at) = read_areas(alloc, count, at)?;
@@ -228,9 +235,10 @@ pub(crate) fn read_sections<'a, A: Allocator + Copy>(
     Ok((sections, at))
 }
 
-#[tactic(auto, unfolding(crate::specs::Loading::loaded, crate::specs::Loading::dump_at))]
+#[tactic(auto, unfolding(crate::specs::Loading::loaded, crate::specs::Loading::dump_at, crate::specs::Loading::front_loaded, crate::specs::Loading::front_at))]
 fn read_dump<A: Allocator + Copy>(alloc: A, bytes: &[u8]) -> Result<Vec<SectionOf<A>, A>, ReadError>
-    ensures { Gives (λ sections. lists_of (places_of sections.items)) result (loaded bytes.now) }
+    ensures sections { Gives (λ sections. lists_of (places_of sections.items)) result (loaded bytes.now) }
+    ensures memory { IsMemoryAfter (front_loaded bytes.now) result }
 {
     if LONGEST_DUMP < bytes.len() {
         return Err(ReadError::Fault(DumpFault {
@@ -245,7 +253,7 @@ fn read_dump<A: Allocator + Copy>(alloc: A, bytes: &[u8]) -> Result<Vec<SectionO
     let at = read_version(read_magic(start)?)?;
     let (sections, end) = read_sections(alloc, at)?;
     if !end.rest.is_empty() {
-        return Err(fault(end, DumpFaultKind::TrailingBytes));
+        return Err(ReadError::Fault(fault(end, DumpFaultKind::TrailingBytes)));
     }
     Ok(sections)
 }
@@ -267,7 +275,9 @@ impl<A: Allocator + Copy> Database<A> {
     /// The database whose dump the octets are.
     ///
     /// Of several faults the first from front to back is told; `TooLarge` comes before all others,
-    /// and `OutOfMemory` may stand in place of any.
+    /// and `OutOfMemory` may stand in place of any that lies after the front: the magic, the
+    /// version, the number of areas, and of the first section its head, its count and its first
+    /// LSA.
     #[tactic(auto, using(crate::proofs::FirstFault::first_told))]
     pub fn load(alloc: A, bytes: &[u8]) -> Result<Database<A>, DumpFault>
         // What is loaded is spelled so.
@@ -277,6 +287,10 @@ impl<A: Allocator + Copy> Database<A> {
         // What is spelled so is loaded, unless memory runs out; else the first fault is told.
         ensures found { IfOk result (λ db. loaded bytes.now ≡ Ok (lists_of db)) }
         ensures fault { IfErr result (λ fault. IsFirstFault fault (loaded bytes.now)) }
+
+        // A fault of the front is reported for want of no memory: none is asked for before.
+        ensures front { (fault : DumpFault)
+            → front_loaded bytes.now ≡ Err fault → result ≡ Err fault }
     {
         match read_dump(alloc, bytes) {
             Ok(sections) => Ok(Database::of_sections(alloc, sections, bytes.len())),

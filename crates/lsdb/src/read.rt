@@ -2,20 +2,20 @@
 
 ghost use Rattle.std.specs.Prelude.{◌≡◌, ◌≤◌, length};
 ghost use Rattle.std.specs.Int.{w8, w16, w32};
-ghost use Rattle.lsdb.specs.steps.Reading.{at_of, Gives};
+ghost use Rattle.lsdb.specs.steps.Reading.{at_of, Reads};
 ghost use Rattle.lsdb.specs.Loading.{number_at, advanced};
 
 use crate::cursor::Cursor;
-use crate::fault::{DumpFault, DumpFaultKind, ReadError};
+use crate::fault::{DumpFault, DumpFaultKind};
 
 /// The fault at a place.
-pub(crate) fn fault(at: Cursor<'_>, kind: DumpFaultKind) -> ReadError
-    ensures { result ≡ ReadError.Fault (record { offset = at.entry.offset; kind = kind }) }
+pub(crate) fn fault(at: Cursor<'_>, kind: DumpFaultKind) -> DumpFault
+    ensures { result ≡ record { offset = at.entry.offset; kind = kind } }
 {
-    ReadError::Fault(DumpFault {
+    DumpFault {
         offset: at.offset,
         kind,
-    })
+    }
 }
 
 /// The place so many octets further on.
@@ -30,8 +30,8 @@ pub(crate) fn advanced(at: Cursor<'_>, count: usize) -> Cursor<'_>
 }
 
 /// The octet at a place, and the place after it.
-pub(crate) fn read_u8(at: Cursor<'_>) -> Result<(u8, Cursor<'_>), ReadError>
-    ensures { Gives (λ x. (x.0, at_of x.1)) result (number_at w8 (at_of at.entry)) }
+pub(crate) fn read_u8(at: Cursor<'_>) -> Result<(u8, Cursor<'_>), DumpFault>
+    ensures { Reads (λ x. (x.0, at_of x.1)) result (number_at w8 (at_of at.entry)) }
 {
     if at.rest.is_empty() {
         return Err(fault(at, DumpFaultKind::Truncated));
@@ -40,8 +40,8 @@ pub(crate) fn read_u8(at: Cursor<'_>) -> Result<(u8, Cursor<'_>), ReadError>
 }
 
 /// The number of two octets at a place, and the place after it.
-pub(crate) fn read_u16(at: Cursor<'_>) -> Result<(u16, Cursor<'_>), ReadError>
-    ensures { Gives (λ x. (x.0, at_of x.1)) result (number_at w16 (at_of at.entry)) }
+pub(crate) fn read_u16(at: Cursor<'_>) -> Result<(u16, Cursor<'_>), DumpFault>
+    ensures { Reads (λ x. (x.0, at_of x.1)) result (number_at w16 (at_of at.entry)) }
 {
     if at.rest.len() < 2 {
         return Err(fault(at, DumpFaultKind::Truncated));
@@ -51,8 +51,8 @@ pub(crate) fn read_u16(at: Cursor<'_>) -> Result<(u16, Cursor<'_>), ReadError>
 }
 
 /// The number of four octets at a place, and the place after it.
-pub(crate) fn read_u32(at: Cursor<'_>) -> Result<(u32, Cursor<'_>), ReadError>
-    ensures { Gives (λ x. (x.0, at_of x.1)) result (number_at w32 (at_of at.entry)) }
+pub(crate) fn read_u32(at: Cursor<'_>) -> Result<(u32, Cursor<'_>), DumpFault>
+    ensures { Reads (λ x. (x.0, at_of x.1)) result (number_at w32 (at_of at.entry)) }
 {
     if at.rest.len() < 4 {
         return Err(fault(at, DumpFaultKind::Truncated));

@@ -1,8 +1,9 @@
-use Rattle.std.proofs.Common.{sym}
+use Rattle.std.proofs.Common.{◌≡◌, sym, ◌∙◌}
 use Rattle.std.proofs.lemmas.List.{map_push}
 use Rattle.std.proofs.lemmas.Result.{err_from_is_err_and}
+use Rattle.capture_files.specs.declared.fault.CaptureFault.TheVariants.{CapturedLength, OutOfMemory}
 use Rattle.capture_files.specs.CaptureTexts.{packet_of}
-use Rattle.capture_files.proofs.Records.{next_record, lie_told}
+use Rattle.capture_files.proofs.Records.{next_record, first_record, lie_told}
 use Rattle.capture_files.proofs.pcap.read_records.Goals as goal
 
 pub returns-in_err-frame-clause-fault : goal.returns-in_err-frame-clause-fault
@@ -20,3 +21,16 @@ records-preserved g c = record {
       (next_record c.args.form c.args.file.now _ c.records.offset (packet_of c.in-Some.frame) c.records.invariant.records
       c.in_ok-frame.ensures.honest (sym (rw c.in-Some.is at c.in_ok-frame.ensures.packet)));
 }
+
+pub returns-in_err-frame-clause-memory : goal.returns-in_err-frame-clause-memory
+returns-in_err-frame-clause-memory g c =
+    let p = err_from_is_err_and c.from_residual.result c.from_residual.ensures.1 in
+    rw (p.1, p.2) (λ e. let no : CapturedLength c.records.offset ≡ OutOfMemory = sym c.in_err-frame.ensures.fault.0 ∙ e in absurd cc)
+
+pub returns-in_err-push-clause-memory : goal.returns-in_err-push-clause-memory
+returns-in_err-push-clause-memory g c =
+    let p = err_from_is_err_and c.from_residual-in_err-push.result c.from_residual-in_err-push.ensures.1 in
+    rw (p.1, p.2)
+    (λ e.
+    first_record c.args.form c.args.file.now _ c.records.offset (packet_of c.in-Some.frame) c.requires.headed c.records.invariant.records
+    c.in_ok-frame.ensures.honest (sym (rw c.in-Some.is at c.in_ok-frame.ensures.packet)))

@@ -1,9 +1,9 @@
-use Rattle.std.proofs.Common.{◌≡◌, ◌≤◌, ◌-◌, [], length, option_map}
+use Rattle.std.proofs.Common.{◌≡◌, ◌<◌, ◌≤◌, ◌-◌, [], length, IsOk, option_map}
 use Rattle.lsdb.specs.Places.{full}
 use Rattle.lsdb.specs.steps.NotedKeys.{AreApart}
 use Rattle.lsdb.specs.steps.View.{head_of}
 use Rattle.lsdb.specs.steps.Reading.{at_of}
-use Rattle.lsdb.specs.Loading.{lsas_from}
+use Rattle.lsdb.specs.Loading.{lsas_from, first_lsa_at}
 use Rattle.lsdb.proofs.Keys.{HasKeys}
 use Rattle.lsdb.proofs.load.read_lsas.Given as goal
 
@@ -14,4 +14,6 @@ invariant-loop g l = record {
   keys : HasKeys l.keys (full l.places.items);
   apart : AreApart l.places.items;
   few : length l.places.items ≤ l.counter;
+  same : l.counter ≡ 0 → at_of l.at ≡ at_of l.start;
+  first : 0 < l.counter → IsOk (first_lsa_at 1 (at_of l.start));
 }
