@@ -1,5 +1,5 @@
 -- A fault of the front of a dump is the first fault of the dump.
-use Rattle.std.proofs.Common.{◌≡◌, ℕ, zero, suc, Bool, true, false, cond, List, [], ◌∷◌, ◌++◌, Option, None, Some, Result, Ok, Err, IsOk, refl, sym, ap, ◌∙◌}
+use Rattle.std.proofs.Common.{◌≡◌, ℕ, zero, suc, Bool, true, false, cond, List, [], ◌∷◌, ◌++◌, Option, None, Result, Ok, Err, IsOk, sym, ap, ◌∙◌, subst}
 use Rattle.std.specs.Int.{w16}
 use Rattle.lsa_codec.specs.declared.fault.LsaFault.{LsaFault}
 use Rattle.lsa_codec.specs.Decoding.{decoded}
@@ -31,7 +31,7 @@ leads_bind (Err e) f g h = leads_fault e
 
 leads_then : {A B C : Type 0} (less : Result A DumpFault) (more : Result B DumpFault) (f : B → Result C DumpFault) → Leads less more
     → Leads less (more >>= f)
-leads_then less more f h d e = ap (λ (r : Result _ DumpFault). r >>= f) (h d e)
+leads_then {A} {B} {C} less more f h d e = ap (λ (r : Result B DumpFault). r >>= f) (h d e)
 
 leads_if : {A B : Type 0} (b : Bool) (f : DumpFault) (less : Result A DumpFault) (more : Result B DumpFault) → Leads less more
     → Leads (cond b (Err f) less) (cond b (Err f) more)
@@ -105,12 +105,14 @@ leads_base_loaded bytes =
 -- where the front has a fault, nothing is loaded
 pub front_refuses : {Y Z : Type 0} (less : Result Z DumpFault) (more : Result Y DumpFault) (y : Y) (f : DumpFault) → Leads less more
     → more ≡ Ok y → less ≡ Err f → ⊥
-front_refuses less more y f leads is fault = let no : ◌≡◌ {A = Result _ DumpFault} (Ok y) (Err f) = sym is ∙ leads f fault in cc
+front_refuses {Y} {Z} less more y f leads is fault = let no : ◌≡◌ {A = Result Y DumpFault} (Ok y) (Err f) = sym is ∙ leads f fault in cc
 
 -- where it has one, memory did not run out
 pub front_reported : {Y Z : Type 0} (error : ReadError) (less : Result Z DumpFault) (more : Result Y DumpFault) (f : DumpFault) → Leads less more
     → Fails error more → IsWantAfter less error → less ≡ Err f → told_fault error ≡ f
-front_reported errors.Memory less more f leads fails want is = let ok : IsOk less = want in rw is at ok in absurd cc
-front_reported {Y} (errors.Fault g) less more f leads fails want is =
+front_reported {Y} {Z} errors.Memory less more f leads fails want is =
+    let no : false ≡ true = subst (λ (r : Result Z DumpFault). IsOk r) is want in
+    absurd cc
+front_reported {Y} {Z} (errors.Fault g) less more f leads fails want is =
     let same : ◌≡◌ {A = Result Y DumpFault} (Err g) (Err f) = sym fails ∙ leads f is in
     cc

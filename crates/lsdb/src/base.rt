@@ -96,8 +96,8 @@ impl<A: Allocator + Copy> Database<A> {
     ///
     /// Of several faults the first from front to back is told. `TooLarge` comes before all others
     /// where the octets are too many, and behind them where the base alone has more octets than
-    /// a dump may have; `OutOfMemory` may stand in place of any that
-    /// lies after the front, as in [`load`](Database::load).
+    /// a dump may have; `OutOfMemory` may stand in place of any that lies after the front, which is
+    /// that of [`load`](Database::load).
     #[tactic(auto, using(crate::proofs::FirstFault::first_told))]
     pub fn load_base(alloc: A, bytes: &[u8]) -> Result<(Database<A>, usize), DumpFault>
         // What is loaded is spelled so.

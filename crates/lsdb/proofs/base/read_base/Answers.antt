@@ -9,14 +9,14 @@ use Rattle.lsdb.proofs.base.read_base.Goals as goal
 few : (bytes : List ℕ) (limit : ℕ) → limit ≡ most_octets bytes → length bytes ≤ limit → length bytes ≤ most_octets bytes
 few bytes limit is le = omega (arith, is, le)
 
-pub returns-then-end-gt-LONGEST_DUMP : goal.returns-then-end-gt-LONGEST_DUMP
-returns-then-end-gt-LONGEST_DUMP g c =
+pub returns-then-end-gt-LONGEST_DUMP-clause-base : goal.returns-then-end-gt-LONGEST_DUMP-clause-base
+returns-then-end-gt-LONGEST_DUMP-clause-base g c =
     let bytes : List ℕ = c.args.bytes.now in
     base_too_large bytes (lists_of (places_of c.in_ok-sections.sections.items)) (at_of c.in_ok-sections.end) (λ i. omega (arith, c.type_inv.bytes i))
-    (few bytes c.most_octets.result c.most_octets.ensures c.if-most_octets-bytes.false) c.in_ok-sections.ensures c.if-end-gt-LONGEST_DUMP.true
+    (few bytes c.most_octets.result c.most_octets.ensures c.if-most_octets-bytes.false) c.in_ok-sections.ensures.base c.if-end-gt-LONGEST_DUMP.true
 
-pub returns : goal.returns
-returns g c =
+pub returns-clause-base : goal.returns-clause-base
+returns-clause-base g c =
     let bytes : List ℕ = c.args.bytes.now in
     base_read bytes (lists_of (places_of c.in_ok-sections.sections.items)) (at_of c.in_ok-sections.end) (λ i. omega (arith, c.type_inv.bytes i))
-    (few bytes c.most_octets.result c.most_octets.ensures c.if-most_octets-bytes.false) c.in_ok-sections.ensures c.if-end-gt-LONGEST_DUMP.false
+    (few bytes c.most_octets.result c.most_octets.ensures c.if-most_octets-bytes.false) c.in_ok-sections.ensures.base c.if-end-gt-LONGEST_DUMP.false
