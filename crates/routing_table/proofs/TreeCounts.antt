@@ -41,7 +41,7 @@ lacks_both trees router xs ys =
     ∙ length-append (areas_without_tree trees router xs) (areas_without_tree trees router ys)
 
 -- where a larger set is asked, no area lacks its tree that did not before
-none_lacks : (some all : TreeSet) (router : RouterId) → IsWithin some all → (areas : List AreaHead)
+pub none_lacks : (some all : TreeSet) (router : RouterId) → IsWithin some all → (areas : List AreaHead)
     → areas_without_tree some router areas ≡ [] → areas_without_tree all router areas ≡ []
 none_lacks some all router within [] none = refl
 none_lacks some all router within (area ∷ areas) none = by (some (id_of area) router) refl (none_lacks some all router within areas) none
