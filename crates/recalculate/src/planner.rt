@@ -136,8 +136,11 @@ impl<A: Allocator + Copy> Planner<A> {
         ensures kept { OnOk result (self.new.kept ≡ less_touched
             (λ area. edit_touches area (state self.old.session) edit.now) self.old.kept) }
         ensures first_kept { self.new.first_kept ≡ self.old.first_kept }
-        ensures tables { OnOk result (self.new.tables ≡ record { last = None;
-            first = self.old.tables.first; asked = self.old.tables.asked }) }
+        ensures tables { OnOk result (self.new.tables ≡ record {
+          last = None;
+          first = self.old.tables.first;
+          asked = self.old.tables.asked;
+        }) }
         ensures step { OnOk result (CarriedOut (edit_request edit.now) self.old self.new) }
     {
         self.study.edit(edit)?;
@@ -161,8 +164,11 @@ impl<A: Allocator + Copy> Planner<A> {
         ensures kept { OnOk result (self.new.kept ≡ less_touched
             (λ area. undo_touches count area self.old.session) self.old.kept) }
         ensures first_kept { self.new.first_kept ≡ self.old.first_kept }
-        ensures tables { OnOk result (self.new.tables ≡ record { last = None;
-            first = self.old.tables.first; asked = self.old.tables.asked }) }
+        ensures tables { OnOk result (self.new.tables ≡ record {
+          last = None;
+          first = self.old.tables.first;
+          asked = self.old.tables.asked;
+        }) }
         ensures step { OnOk result (CarriedOut (undo_request count) self.old self.new) }
     {
         self.study.undo(count as usize)?;
@@ -186,8 +192,11 @@ impl<A: Allocator + Copy> Planner<A> {
         ensures kept { OnOk result (self.new.kept ≡ less_touched
             (λ area. redo_touches count area self.old.session) self.old.kept) }
         ensures first_kept { self.new.first_kept ≡ self.old.first_kept }
-        ensures tables { OnOk result (self.new.tables ≡ record { last = None;
-            first = self.old.tables.first; asked = self.old.tables.asked }) }
+        ensures tables { OnOk result (self.new.tables ≡ record {
+          last = None;
+          first = self.old.tables.first;
+          asked = self.old.tables.asked;
+        }) }
         ensures step { OnOk result (CarriedOut (redo_request count) self.old self.new) }
     {
         self.study.redo(count as usize)?;
@@ -480,8 +489,9 @@ impl<A: Allocator + Copy> Planner<A> {
 
     /// The table that is kept of the database that the session began at, if it is that of a router.
     fn first_table_of(&self, router: RouterId) -> Option<&Rc<Table<A>, A>>
-        ensures { IfSome result (λ table. IsTableOver self.now.session.base self.now.first_kept
-            router table.now.value) }
+        ensures table { IfSome result (λ table. IsTableOver self.now.session.base
+            self.now.first_kept router table.now.value) }
+        ensures first { IfSome result (λ table. self.now.tables.first ≡ Some router) }
     {
         match &self.first_table {
             Some(table) if table.router() == router => Some(table),

@@ -1,7 +1,4 @@
-use Rattle.std.proofs.Common.{◌∙◌, sym, ap, subst}
-use Rattle.std.specs.Ordering.{eq_by_cmp}
-use Rattle.lsa_codec.specs.Order.{area_cmp}
-use Rattle.routing_table.specs.KeptTrees.{GainsOnly}
+use Rattle.std.proofs.Common.{◌∙◌, sym, ap}
 use Rattle.routing_table.specs.AreasTrees.{KeptTreesValue, trees_at, trees_in}
 use Rattle.routing_table.proofs.MapLemmas.{some_found}
 use Rattle.routing_table.proofs.KeptMaps.{area_at, only_there, other_areas, same_graphs, still_within, vertex_found}
@@ -33,8 +30,8 @@ returns-clause-others g c = λ other apart root.
     ∙ ap (λ (areas : KeptTreesValue). trees_in areas other root) c.self.view_is
 
 pub returns-clause-no_more : goal.returns-clause-no_more
-returns-clause-no_more g c =
-    subst (λ (k : KeptTreesValue). GainsOnly (eq_by_cmp area_cmp c.args.area) c.args.router (trees_in k) _) c.self.view_is
-    (only_there c.self.inside.areas.entries _ c.args.area c.grow.new.self
+returns-clause-no_more g c = λ other root has lacked.
+    only_there c.self.inside.areas.entries _ c.args.area c.grow.new.self
     ((c.get_mut.follows.holds c.grow.new.self).3 (some_found (sym c.in-Some.ensures.value))).0
-    c.in-Some.trees.now (sym c.in-Some.ensures.value) c.args.router c.grow.ensures.no_more)
+    c.in-Some.trees.now (sym c.in-Some.ensures.value) c.args.router c.grow.ensures.no_more other root has
+    (ap (λ (areas : KeptTreesValue). trees_in areas other root) c.self.view_is ∙ lacked)
