@@ -99,8 +99,8 @@ fn a_shared_table_is_kept_until_an_edit(rt: HostRuntime) -> Result<(), Fail> {
     Ok(())
 }
 
-/// The growths of the second of two tables of 1.1.1.1, those of the calls that make its tree and its
-/// routes anew, and the trees that the tables calculate.
+/// The growths of the second of two tables of 1.1.1.1, those of the calls that make one with a new
+/// tree, and the trees that the two tables calculate.
 #[derive(Drop)]
 struct TwoTables;
 
@@ -114,16 +114,19 @@ impl Question for TwoTables {
     ) -> Result<(u64, u64, u64), Fail> {
         let _first = growths_of_table(planner, rationed)?;
         let second = growths_of_table(planner, rationed)?;
-        let anew = growths_of_parts(rationed, planner.database(), RouterId(R1))?;
-        Ok((second, anew, planner.runs()))
+        let with_new_tree = growths_of_parts(rationed, planner.database(), RouterId(R1))?;
+        Ok((second, with_new_tree, planner.runs()))
     }
 }
 
 #[test]
 fn a_second_table_asks_for_fewer_growths(rt: HostRuntime) -> Result<(), Fail> {
     let star = star(rt.alloc())?;
-    let (second, anew, runs) = ask(rt.alloc(), &star, &TwoTables)?;
-    assert!(rt; second < anew, "{second}, and {anew} with a new tree");
+    let (second, with_new_tree, runs) = ask(rt.alloc(), &star, &TwoTables)?;
+    assert!(rt;
+        second < with_new_tree,
+        "{second}, and {with_new_tree} with a new tree"
+    );
     assert_eq!(rt; runs, 1);
     Ok(())
 }

@@ -1,5 +1,4 @@
-//! The growths of the calls that make a table anew, beside those that a table over kept trees asks
-//! for.
+//! The growths of the calls that make a table with a new tree.
 
 ghost use Rattle.lsa_codec.specs.declared.address.RouterId.{RouterId as AnyRouter};
 ghost use Rattle.lsdb.specs.declared.section.Section.TheVariants.{Area};
@@ -22,7 +21,7 @@ use std::test::*;
 /// The only area.
 const BACKBONE: AreaId = AreaId(0);
 
-/// The growths that were asked for since so many were left.
+/// The growths since a number of them was left.
 pub(super) fn since(rationed: &Rationed, left: u64) -> u64 {
     left.saturating_sub(rationed.left())
 }

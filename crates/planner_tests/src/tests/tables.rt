@@ -299,8 +299,8 @@ fn change_cost(planner: &mut Planner<&Rationed>, metric: u16) -> Result<(), Fail
     )?)
 }
 
-/// How many trees are calculated after shared tables: after each of two of 1.1.1.1 and one of
-/// 2.2.2.2 behind an edit, and after one of 2.2.2.2 behind another edit.
+/// How many trees are calculated after shared tables: an edit is followed by two of 1.1.1.1 and one
+/// of 2.2.2.2, and a second edit by one of 2.2.2.2.
 #[derive(Drop)]
 struct RunsOfShared;
 
@@ -321,7 +321,8 @@ impl Question for RunsOfShared {
     }
 }
 
-/// A table that is not asked for twice in a row behind one edit is made in one database alone.
+/// A table that is not asked for twice in a row while one edit is done is made in one database
+/// alone.
 #[test]
 fn shared_tables_calculate_trees_where_they_are_wanted_alone(rt: HostRuntime) -> Result<(), Fail> {
     assert_eq!(rt; ask(rt.alloc(), SAMPLE, &RunsOfShared)?, [1, 1, 2, 3]);
