@@ -466,12 +466,23 @@ impl<A: Allocator + Copy> Planner<A> {
             self.old.first_kept) self.old.runs self.new.runs }
         ensures step { Stayed self.old self.new }
     {
-        let last = self.asked;
-        if self.study.done() == 1 && last.is_some_and(|last| last == router) {
-            // Where it can not be made, the table is calculated in the session's database alone.
-            let _ = self.kept_base_table(router);
-        }
+        let again = self.is_asked_again(router);
         self.asked = Some(router);
+        if !again {
+            return;
+        }
+        // Where it cannot be made, the table is calculated in the session's database alone.
+        let _ = self.kept_base_table(router);
+    }
+
+    /// Whether a router's table was the last that was asked for, and one edit is done.
+    fn is_asked_again(&self, router: RouterId) -> bool
+        ensures { result ≡ true → IsAskedAgain router self.now }
+    {
+        match self.asked {
+            Some(last) => last == router && self.study.done() == 1,
+            None => false,
+        }
     }
 
     /// The table that is kept of the database that the session began at, if it is that of a router,
