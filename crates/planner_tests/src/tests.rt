@@ -6,6 +6,7 @@ mod calls;
 
 // Planners.
 mod memory;
+mod parts;
 mod tables;
 mod unchanged;
 

@@ -23,10 +23,10 @@ use Rattle.area_routes.specs.Attached.{is_attached}
 use Rattle.area_routes.specs.declared.stub_links.StubLink.{StubLink}
 use Rattle.area_routes.specs.StubLinks.{AreStubLinksOf}
 use Rattle.routing_table.specs.AreaTrees.{AreaTreesValue, IsAreaOf, has_tree, graph_and_stubs}
-use Rattle.routing_table.proofs.MapLemmas.{Puts, if_found, put_all, put_here, put_other, put_passes, put_tells}
+use Rattle.routing_table.proofs.MapLemmas.{Puts, if_found, put_all, put_gains, put_here, put_other, put_passes, put_tells}
 use Rattle.routing_table.specs.AreasTrees.{AreasTrees, KeptTreesValue, AreAreasOf, AreOfDatabase, IsSpareOf}
 use Rattle.routing_table.specs.AreasTrees.{at_area, trees_at, trees_in, trees_of}
-use Rattle.routing_table.specs.KeptTrees.{IsWithin}
+use Rattle.routing_table.specs.KeptTrees.{GainsOnly, IsWithin}
 
 area_self : (area : AreaId) → eq_by_cmp area_cmp area area ≡ true
 area_self area = sym (unsigned_ties area.0 area.0) ∙ eq-eqb area.0 area.0 refl
@@ -64,6 +64,12 @@ module _ (old new : AreasTrees) (area : AreaId) (t : AreaTreesValue) (puts : Put
     pub still_within : ((root : RouterId) → has_tree s root ≡ true → has_tree t root ≡ true) → IsWithin (trees_of old) (trees_of new)
     still_within keeps other root had =
         put_passes area_cmp area_exact old new area t puts (has_at root) (λ h. keeps root (ap (has_at root) (sym was) ∙ h)) other had
+
+    pub only_there : (router : RouterId) → ((root : RouterId) → has_tree t root ≡ true → has_tree s root ≡ false → root ≡ router)
+        → GainsOnly (eq_by_cmp area_cmp area) router (trees_of old) (trees_of new)
+    only_there router only other root has lacked =
+        let gained = put_gains area_cmp area_exact old new area t puts (has_at root) other has lacked in
+        (only root gained.1 (sym (ap (has_at root) was) ∙ gained.2), ap (eq_by_cmp area_cmp area) gained.0 ∙ area_self area)
 
   pub other_areas : (other : AreaId) → other ≢ area → (root : RouterId) → trees_of new other root ≡ trees_of old other root
   other_areas other apart root = ap (has_at root) (put_other area_cmp area_exact old new area t puts other apart)

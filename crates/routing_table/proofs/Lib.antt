@@ -12,4 +12,5 @@ pub mod TreeMaps
 pub mod PreferenceLemmas
 pub mod KeptMaps
 pub mod TreeCounts
+pub mod KeptLemmas
 mod StubsStay

@@ -55,6 +55,16 @@ module _ {K V : Type 0} (cmp : K → K → Ordering) (exact : CmpEqualImpliesEq 
       by true e h = ap test h ∙ passes (ap (λ r. test (lookup (eq_by_cmp cmp r) old)) (same_key q e) ∙ had)
       by false e h = ap test h ∙ had
 
+  -- a test that passes where it did not is asked at the new entry, passes there, and did not pass there before
+  pub put_gains : (test : Option V → Bool) (q : K) → test (lookup (eq_by_cmp cmp q) new) ≡ true → test (lookup (eq_by_cmp cmp q) old) ≡ false
+      → (q ≡ k) × (test (Some v) ≡ true) × (test (lookup (eq_by_cmp cmp k) old) ≡ false)
+  put_gains test q has lacked = by (eq_by_cmp cmp k q) refl (puts q)
+    where
+      by : (b : Bool) → eq_by_cmp cmp k q ≡ b → lookup (eq_by_cmp cmp q) new ≡ cond b (Some v) (lookup (eq_by_cmp cmp q) old)
+          → (q ≡ k) × (test (Some v) ≡ true) × (test (lookup (eq_by_cmp cmp k) old) ≡ false)
+      by true e h = (sym (same_key q e), sym (ap test h) ∙ has, ap (λ r. test (lookup (eq_by_cmp cmp r) old)) (same_key q e) ∙ lacked)
+      by false e h = absurd (true≢false (sym has ∙ ap test h ∙ lacked))
+
 -- ---- what a look-up found
 
 pub some_found : {X : Type 0} {o : Option X} {x : X} → o ≡ Some x → IsSome o

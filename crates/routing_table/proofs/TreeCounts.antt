@@ -1,7 +1,11 @@
 -- The trees that the areas of a router lack, area after area.
 use Rattle.std.proofs.Common.{◌≡◌, ◌≢◌, ℕ, ◌+◌, ◌<◌, ◌≤◌, Bool, true, false, not, cond, List, [], ◌∷◌, ◌++◌, take, drop, length}
-use Rattle.std.proofs.Common.{Option, Some, None, refl, sym, ap, ◌∙◌, arith}
+use Rattle.std.proofs.Common.{Option, Some, None, refl, sym, ap, ◌∙◌, subst, arith, true≢false}
 use Rattle.std.specs.Prelude.{All}
+use Rattle.std.specs.Cmp.{Equal-is}
+use Rattle.std.specs.Ordering.{eq_by_cmp}
+use Rattle.lsa_codec.specs.Order.{area_cmp}
+use Rattle.lsa_codec.proofs.OrderLemmas.{area_exact}
 use Rattle.std.specs.List.{AllPairs, cons_option, slice_get, slice_index_or}
 use Rattle.std.proofs.lemmas.List.{append-nil, length-append, take-append-drop, take_all}
 use Rattle.std.proofs.lemmas.List.Elements.{All-cons, All-head, All-nil, All-tail, filter-append}
@@ -14,7 +18,7 @@ use Rattle.lsdb.proofs.ListLemmas.{pairs_head, pairs_tail}
 use Rattle.area_routes.specs.Attached.{attached_areas}
 use Rattle.routing_table.specs.AreaTrees.{missing}
 use Rattle.routing_table.specs.Counting.{counted_by, CountsAtMost}
-use Rattle.routing_table.specs.KeptTrees.{TreeSet, IsWithin, areas_without_tree}
+use Rattle.routing_table.specs.KeptTrees.{GainsOnly, TreeSet, IsWithin, areas_without_tree}
 use Rattle.routing_table.proofs.TableLemmas.{among_more, attached_among, counted_twice, joins}
 
 abbrev pub id_of : AreaHead → AreaId
@@ -37,7 +41,7 @@ lacks_both trees router xs ys =
     ∙ length-append (areas_without_tree trees router xs) (areas_without_tree trees router ys)
 
 -- where a larger set is asked, no area lacks its tree that did not before
-none_lacks : (some all : TreeSet) (router : RouterId) → IsWithin some all → (areas : List AreaHead)
+pub none_lacks : (some all : TreeSet) (router : RouterId) → IsWithin some all → (areas : List AreaHead)
     → areas_without_tree some router areas ≡ [] → areas_without_tree all router areas ≡ []
 none_lacks some all router within [] none = refl
 none_lacks some all router within (area ∷ areas) none = by (some (id_of area) router) refl (none_lacks some all router within areas) none
@@ -175,3 +179,22 @@ counts_all most old new is = record { trees = most; few = omega arith; counts = 
 
 pub within_all : (first now next : TreeSet) → IsWithin first now → IsWithin now next → IsWithin first next
 within_all first now next one two area router h = two area router (one area router h)
+
+-- ---- no other tree came
+
+pub none_gained : (passes : AreaId → Bool) (router : RouterId) (trees : TreeSet) → GainsOnly passes router trees trees
+none_gained passes router trees area root has lacked = absurd (true≢false (sym has ∙ lacked))
+
+pub gained_twice : (passes : AreaId → Bool) (router : RouterId) (first now next : TreeSet) → GainsOnly passes router first now
+    → GainsOnly passes router now next → GainsOnly passes router first next
+gained_twice passes router first now next one two area root has lacked = by (now area root) refl
+  where
+    by : (b : Bool) → now area root ≡ b → (root ≡ router) × (passes area ≡ true)
+    by true e = one area root e lacked
+    by false e = two area root has e
+
+pub gained_in : (passes : AreaId → Bool) (router : RouterId) (area : AreaId) (old new : TreeSet) → passes area ≡ true
+    → GainsOnly (eq_by_cmp area_cmp area) router old new → GainsOnly passes router old new
+gained_in passes router area old new is only other root has lacked =
+    let gained = only other root has lacked in
+    (gained.0, subst (λ (a : AreaId). passes a ≡ true) (area_exact area other ((Equal-is (area_cmp area other)).0 gained.1)) is)

@@ -1,5 +1,5 @@
 -- The trees of an area, after one was put among them.
-use Rattle.std.proofs.Common.{◌≡◌, true, List, Some, Result, Ok, Err, IfOk, refl, sym, ap, ◌∙◌}
+use Rattle.std.proofs.Common.{◌≡◌, true, false, List, Some, Result, Ok, Err, IfOk, refl, sym, ap, ◌∙◌}
 use Rattle.std.specs.Prelude.{is_some}
 use Rattle.std.specs.Cmp.{unsigned_ties}
 use Rattle.std.specs.Map.{lookup}
@@ -10,7 +10,7 @@ use Rattle.lsa_codec.specs.Order.{router_cmp}
 use Rattle.lsa_codec.proofs.OrderLemmas.{router_exact}
 use Rattle.area_graph.specs.Topology.{Topology}
 use Rattle.routing_table.specs.AreaTrees.{AreTreesIn, IsTreeIn, RouterTreeValue}
-use Rattle.routing_table.proofs.MapLemmas.{Puts, if_found, put_all, put_here, put_passes}
+use Rattle.routing_table.proofs.MapLemmas.{Puts, if_found, put_all, put_gains, put_here, put_passes}
 
 router_self : (router : RouterId) → eq_by_cmp router_cmp router router ≡ true
 router_self router = sym (unsigned_ties router.0 router.0) ∙ eq-eqb router.0 router.0 refl
@@ -27,6 +27,10 @@ module _ (old new : Trees) (router : RouterId) (t : RouterTreeValue) (puts : Put
 
   pub tree_keeps : (other : RouterId) → is_some (lookup (eq_by_cmp router_cmp other) old) ≡ true → is_some (lookup (eq_by_cmp router_cmp other) new) ≡ true
   tree_keeps other had = put_passes router_cmp router_exact old new router t puts is_some (λ _. refl) other had
+
+  pub only_here : (other : RouterId) → is_some (lookup (eq_by_cmp router_cmp other) new) ≡ true
+      → is_some (lookup (eq_by_cmp router_cmp other) old) ≡ false → other ≡ router
+  only_here other has lacked = (put_gains router_cmp router_exact old new router t puts is_some other has lacked).0
 
 -- ---- what a look-up found
 

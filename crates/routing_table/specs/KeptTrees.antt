@@ -31,3 +31,12 @@ areas_without_tree trees router areas = filter (λ area. not (trees (record { 0 
 -- the trees of the first set are in the second
 abbrev pub IsWithin : TreeSet → TreeSet → Type 0
 IsWithin some all = (area : AreaId) (router : RouterId) → some area router ≡ true → all area router ≡ true
+
+-- the second set has no tree that the first lacks, but those of one router in areas that pass a test
+abbrev pub GainsOnly : (AreaId → Bool) → RouterId → TreeSet → TreeSet → Type 0
+GainsOnly passes router old new =
+    (area : AreaId) (root : RouterId) → new area root ≡ true → old area root ≡ false → (root ≡ router) × (passes area ≡ true)
+
+-- of some areas those in which the second set has the tree of a router, and the first lacks it
+abbrev pub areas_gained : TreeSet → TreeSet → RouterId → List AreaHead → List AreaHead
+areas_gained old new router areas = filter (λ area. new (record { 0 = area.id }) router) (areas_without_tree old router areas)

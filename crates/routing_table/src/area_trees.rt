@@ -1,6 +1,6 @@
 //! The trees of one area.
 
-ghost use Rattle.std.specs.Prelude.{◌≡◌, ℕ, List, true, [], Contains, IfOk, IfSome, OnOk};
+ghost use Rattle.std.specs.Prelude.{◌≡◌, ℕ, List, true, false, [], Contains, IfOk, IfSome, OnOk};
 ghost use Rattle.std.specs.Bool.{OnFalse, OnTrue};
 ghost use Rattle.lsa_codec.specs.declared.address.RouterId.{RouterId as AnyRouter};
 ghost use Rattle.lsdb.specs.declared.section.Section.TheVariants.{Area};
@@ -94,6 +94,8 @@ impl<A: Allocator + Copy> AreaTrees<A> {
         ensures stubs { self.new.stubs ≡ self.old.stubs }
         ensures keeps { (other : AnyRouter) → has_tree self.old other ≡ true
             → has_tree self.new other ≡ true }
+        ensures no_more { (other : AnyRouter) → has_tree self.new other ≡ true
+            → has_tree self.old other ≡ false → other ≡ router }
         ensures grown { OnOk result (has_tree self.new router ≡ true) }
         ensures meter { OnOk result (meter.new
             ≡ counted_by (missing (has_tree self.old router)) meter.old) }

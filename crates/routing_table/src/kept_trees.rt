@@ -1,6 +1,8 @@
 //! The trees of all areas that are kept from table to table.
 
 ghost use Rattle.std.specs.Prelude.{◌≡◌, ◌≢◌, true, [], Some, None, Contains, IsSome, IsSomeAnd, MatchOption, IfOk, OnOk, OnErr, length, option_map};
+ghost use Rattle.std.specs.Ordering.{eq_by_cmp};
+ghost use Rattle.lsa_codec.specs.Order.{area_cmp};
 ghost use Rattle.lsa_codec.specs.declared.address.AreaId.{AreaId as AnyArea};
 ghost use Rattle.lsa_codec.specs.declared.address.RouterId.{RouterId as AnyRouter};
 ghost use Rattle.lsdb.specs.declared.section.Section.TheVariants.{Area};
@@ -12,7 +14,7 @@ ghost use Rattle.area_routes.specs.Attached.{attached_areas, is_attached};
 ghost use Rattle.routing_table.specs.AreaTrees.{IsAreaOf, graph_and_stubs, missing};
 ghost use Rattle.routing_table.specs.AreasTrees.{AreOfDatabase, trees_at, trees_in};
 ghost use Rattle.routing_table.specs.Counting.{counted_by, CountsAtMost};
-ghost use Rattle.routing_table.specs.KeptTrees.{areas_without_tree, IsWithin};
+ghost use Rattle.routing_table.specs.KeptTrees.{areas_without_tree, GainsOnly, IsWithin};
 ghost use Rattle.routing_table.specs.Tables.{results_in};
 
 use crate::area_trees::AreaTrees;
@@ -183,6 +185,8 @@ impl<A: Allocator + Copy> KeptTrees<A> {
         ensures keeps { IsWithin (trees_in self.old) (trees_in self.new) }
         ensures others { (other : AnyArea) → other ≢ area → (root : AnyRouter)
             → trees_in self.new other root ≡ trees_in self.old other root }
+        ensures no_more { GainsOnly (eq_by_cmp area_cmp area) router (trees_in self.old)
+            (trees_in self.new) }
         ensures grown { OnOk result (trees_in self.new area router ≡ true) }
         ensures meter { OnOk result (meter.new
             ≡ counted_by (missing (trees_in self.old area router)) meter.old) }
@@ -211,6 +215,8 @@ impl<A: Allocator + Copy> KeptTrees<A> {
         ensures keeps { IsWithin (trees_in self.old) (trees_in self.new) }
         ensures others { (other : AnyArea) → other ≢ area → (root : AnyRouter)
             → trees_in self.new other root ≡ trees_in self.old other root }
+        ensures no_more { GainsOnly (eq_by_cmp area_cmp area) router (trees_in self.old)
+            (trees_in self.new) }
         ensures grown { OnOk result (trees_in self.new area router ≡ true) }
         ensures meter { OnOk result (meter.new
             ≡ counted_by (missing (trees_in self.old area router)) meter.old) }
@@ -242,8 +248,9 @@ impl<A: Allocator + Copy> KeptTrees<A> {
         }
     }
 
-    /// What the areas give to which a router is attached, in rising order of their IDs. Trees that
-    /// are not there are calculated and kept, and the meter counts them.
+    /// What the areas give to which a router is attached, in rising order of their IDs. The
+    /// router's trees that are not there are calculated and kept, and the meter counts them. No
+    /// tree of another router or area comes, and none goes, also where memory runs out.
     pub fn results_of(
         &mut self,
         alloc: A,
@@ -258,6 +265,8 @@ impl<A: Allocator + Copy> KeptTrees<A> {
         ensures memory { OnErr result (attached_areas (lists_of database.now) router ≢ []) }
         ensures graphs { AreOfDatabase (lists_of database.now) self.new }
         ensures keeps { IsWithin (trees_in self.old) (trees_in self.new) }
+        ensures no_more { GainsOnly (λ area. is_attached (lists_of database.now) area router)
+            router (trees_in self.old) (trees_in self.new) }
         ensures grown { OnOk result (areas_without_tree (trees_in self.new) router
             (attached_areas (lists_of database.now) router) ≡ []) }
         ensures meter { OnOk result (meter.new ≡ counted_by (length (areas_without_tree

@@ -1,6 +1,7 @@
 //! Planners and their memory: growths that are counted, and what comes while growths are refused.
 
 use super::calls::{Question, ask, edit, on_session, redo, undo};
+use super::parts::growths_of_parts;
 use edit_history::{EditFault, RedoFault, UndoFault};
 use edit_script::Edit;
 use lsa_codec::{Addr, AreaId, Lsa, Prefix, RouterId};
@@ -98,7 +99,8 @@ fn a_shared_table_is_kept_until_an_edit(rt: HostRuntime) -> Result<(), Fail> {
     Ok(())
 }
 
-/// The growths of two tables of 1.1.1.1, one after the other, and the trees that they calculate.
+/// The growths of the second of two tables of 1.1.1.1, those of the calls that make one with a new
+/// tree, and the trees that the two tables calculate.
 #[derive(Drop)]
 struct TwoTables;
 
@@ -110,17 +112,21 @@ impl Question for TwoTables {
         planner: &mut Planner<&Rationed>,
         rationed: &Rationed,
     ) -> Result<(u64, u64, u64), Fail> {
-        let first = growths_of_table(planner, rationed)?;
+        let _first = growths_of_table(planner, rationed)?;
         let second = growths_of_table(planner, rationed)?;
-        Ok((first, second, planner.runs()))
+        let with_new_tree = growths_of_parts(rationed, planner.database(), RouterId(R1))?;
+        Ok((second, with_new_tree, planner.runs()))
     }
 }
 
 #[test]
 fn a_second_table_asks_for_fewer_growths(rt: HostRuntime) -> Result<(), Fail> {
     let star = star(rt.alloc())?;
-    let (first, second, runs) = ask(rt.alloc(), &star, &TwoTables)?;
-    assert!(rt; second < first, "{second} after {first}");
+    let (second, with_new_tree, runs) = ask(rt.alloc(), &star, &TwoTables)?;
+    assert!(rt;
+        second < with_new_tree,
+        "{second}, and {with_new_tree} with a new tree"
+    );
     assert_eq!(rt; runs, 1);
     Ok(())
 }

@@ -3,7 +3,7 @@
 use super::calls::{Question, ask, edit, on_session, redo, undo};
 use area_routes::Route;
 use edit_script::{Command, Edit, parse};
-use lsa_codec::RouterId;
+use lsa_codec::{AreaId, RouterId};
 use rationed::Rationed;
 use recalculate::{Planner, Table};
 use samples::{R1, R2, SAMPLE};
@@ -188,6 +188,35 @@ const BEGINNING: &[Step] = &[
     ("compare 1.1.1.1", false, 1),
 ];
 
+/// From the first table of a planner up to one of the beginning.
+const UP_TO_BEGINNING: &[Step] = &[
+    ("table 1.1.1.1", false, 1),
+    ("table 1.1.1.1", false, 1),
+    ("add-summary 0.0.0.0 2.2.2.2 10.8.0.0/16 7", false, 1),
+    ("table 1.1.1.1", false, 1),
+    ("cost 0.0.0.0 1.1.1.1 1 11", false, 1),
+    ("table 1.1.1.1", false, 2),
+    ("undo 2", false, 2),
+    ("table 1.1.1.1", false, 3),
+    ("redo 1", false, 3),
+    ("table 1.1.1.1", false, 3),
+    ("compare 1.1.1.1", false, 4),
+];
+
+/// A table keeps trees of its own router alone, and one of the beginning keeps none.
+const OF_BOTH_ROUTERS: &[Step] = &[
+    ("table 1.1.1.1", false, 1),
+    ("table 2.2.2.2", false, 2),
+    ("table 1.1.1.1", false, 2),
+    ("cost 0.0.0.0 1.1.1.1 1 7", false, 2),
+    ("table 2.2.2.2", false, 3),
+    ("undo 1", false, 3),
+    ("table 1.1.1.1", false, 4),
+    ("compare 2.2.2.2", false, 5),
+    ("compare 2.2.2.2", false, 6),
+    ("table 2.2.2.2", false, 7),
+];
+
 /// Dumps and the steps of a planner of each.
 const RUNS: &[(&[u8], &[Step])] = &[
     (SAMPLE, TOUCHED),
@@ -197,6 +226,8 @@ const RUNS: &[(&[u8], &[Step])] = &[
     (SAMPLE, TABLES),
     (SAMPLE, OTHER_CALLS),
     (SAMPLE, BEGINNING),
+    (SAMPLE, UP_TO_BEGINNING),
+    (SAMPLE, OF_BOTH_ROUTERS),
 ];
 
 #[test]
@@ -245,6 +276,56 @@ impl Question for RunsOfThree {
 #[test]
 fn keeps_the_trees_of_the_beginning(rt: HostRuntime) -> Result<(), Fail> {
     assert_eq!(rt; ask(rt.alloc(), SAMPLE, &RunsOfThree)?, [1, 1, 2]);
+    Ok(())
+}
+
+/// How many trees are calculated after a shared table.
+fn runs_after_shared(planner: &mut Planner<&Rationed>, router: u32) -> Result<u64, Fail> {
+    let _table = planner.shared_table(RouterId(router))?;
+    Ok(planner.runs())
+}
+
+/// The cost of the link of 1.1.1.1 is another.
+fn change_cost(planner: &mut Planner<&Rationed>, metric: u16) -> Result<(), Fail> {
+    let (area, router) = (AreaId(0), RouterId(R1));
+    Ok(edit(
+        planner,
+        &Edit::Cost {
+            area,
+            router,
+            link: 1,
+            metric,
+        },
+    )?)
+}
+
+/// How many trees are calculated after shared tables: an edit is followed by two of 1.1.1.1 and one
+/// of 2.2.2.2, and a second edit by one of 2.2.2.2.
+#[derive(Drop)]
+struct RunsOfShared;
+
+impl Question for RunsOfShared {
+    type Found = [u64; 4];
+
+    fn find(
+        &self,
+        planner: &mut Planner<&Rationed>,
+        _rationed: &Rationed,
+    ) -> Result<[u64; 4], Fail> {
+        change_cost(planner, 7)?;
+        let first = runs_after_shared(planner, R1)?;
+        let again = runs_after_shared(planner, R1)?;
+        let another = runs_after_shared(planner, R2)?;
+        change_cost(planner, 8)?;
+        Ok([first, again, another, runs_after_shared(planner, R2)?])
+    }
+}
+
+/// A table that is not asked for twice in a row while one edit is done is made in one database
+/// alone.
+#[test]
+fn shared_tables_calculate_trees_where_they_are_wanted_alone(rt: HostRuntime) -> Result<(), Fail> {
+    assert_eq!(rt; ask(rt.alloc(), SAMPLE, &RunsOfShared)?, [1, 1, 2, 3]);
     Ok(())
 }
 

@@ -29,8 +29,8 @@ returns-clause-kept g c =
 
 pub returns-clause-step : goal.returns-clause-step
 returns-clause-step g c =
-    subst (λ (p : PlannerValue). CarriedOut (edit c.args.edit.now) p (shown c.edit.new.self c.self.inside.meter c.drop_done.new.trees c.self.inside.first_trees)) c.self.view_is
-    (carries_out (edit c.args.edit.now) c.self.inside.study c.edit.new.self c.self.inside.meter c.self.inside.trees c.drop_done.new.trees c.self.inside.first_trees
+    subst (λ (p : PlannerValue). CarriedOut (edit c.args.edit.now) p (shown c.edit.new.self c.self.inside.meter c.drop_done.new.trees c.self.inside.first_trees _)) c.self.view_is
+    (carries_out (edit c.args.edit.now) c.self.inside.study c.edit.new.self c.self.inside.meter c.self.inside.trees c.drop_done.new.trees c.self.inside.first_trees _ _
     (took c.self.inside.study c.edit.new.self c.args.edit.now c.in_ok-edit.ensures.ok)
     (edit_taken c.self.inside.study c.edit.new.self c.args.edit.now c.in_ok-edit.ensures.ok) c.in_ok-edit.ensures.reached
     (edited_kept c.self.inside.trees c.drop_done.new.trees c.self.inside.study c.edit.new.self c.self.invariant.now

@@ -24,8 +24,8 @@ returns-clause-kept g c =
 
 pub returns-clause-step : goal.returns-clause-step
 returns-clause-step g c =
-    subst (λ (p : PlannerValue). CarriedOut (redo c.args.count) p (shown c.redo.new.self c.self.inside.meter c.drop_done.new.trees c.self.inside.first_trees)) c.self.view_is
-    (carries_out (redo c.args.count) c.self.inside.study c.redo.new.self c.self.inside.meter c.self.inside.trees c.drop_done.new.trees c.self.inside.first_trees
+    subst (λ (p : PlannerValue). CarriedOut (redo c.args.count) p (shown c.redo.new.self c.self.inside.meter c.drop_done.new.trees c.self.inside.first_trees _)) c.self.view_is
+    (carries_out (redo c.args.count) c.self.inside.study c.redo.new.self c.self.inside.meter c.self.inside.trees c.drop_done.new.trees c.self.inside.first_trees _ _
     (c.in_ok-redo.ensures.ok.0 refl)
     (redo_taken c.self.inside.study c.args.count (c.in_ok-redo.ensures.ok.0 refl) ∙ sym c.in_ok-redo.ensures.session) c.redo.ensures.leads
     (redone_kept c.self.inside.trees c.drop_done.new.trees c.self.inside.study c.redo.new.self c.self.invariant.now c.args.count

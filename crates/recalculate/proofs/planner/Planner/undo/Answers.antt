@@ -24,8 +24,8 @@ returns-clause-kept g c =
 
 pub returns-clause-step : goal.returns-clause-step
 returns-clause-step g c =
-    subst (λ (p : PlannerValue). CarriedOut (undo c.args.count) p (shown c.undo.new.self c.self.inside.meter c.drop_undone.new.trees c.self.inside.first_trees)) c.self.view_is
-    (carries_out (undo c.args.count) c.self.inside.study c.undo.new.self c.self.inside.meter c.self.inside.trees c.drop_undone.new.trees c.self.inside.first_trees
+    subst (λ (p : PlannerValue). CarriedOut (undo c.args.count) p (shown c.undo.new.self c.self.inside.meter c.drop_undone.new.trees c.self.inside.first_trees _)) c.self.view_is
+    (carries_out (undo c.args.count) c.self.inside.study c.undo.new.self c.self.inside.meter c.self.inside.trees c.drop_undone.new.trees c.self.inside.first_trees _ _
     (c.in_ok-undo.ensures.ok.0 refl)
     (undo_taken c.self.inside.study c.args.count (c.in_ok-undo.ensures.ok.0 refl) ∙ sym c.in_ok-undo.ensures.session) c.undo.ensures.leads
     (undone_kept c.self.inside.trees c.drop_undone.new.trees c.self.inside.study c.undo.new.self c.self.invariant.now c.args.count

@@ -2,7 +2,7 @@ use Rattle.std.proofs.Common.{◌∙◌, sym, ap}
 use Rattle.area_graph.specs.declared.vertex.Vertex.TheVariants.{Router}
 use Rattle.routing_table.specs.AreaTrees.{AreaTreesValue, has_tree}
 use Rattle.routing_table.proofs.Counted.{one_missing}
-use Rattle.routing_table.proofs.TreeMaps.{tree_keeps, trees_stay}
+use Rattle.routing_table.proofs.TreeMaps.{only_here, tree_keeps, trees_stay}
 use Rattle.routing_table.proofs.area_trees.AreaTrees.grow.Goals as goal
 
 pub returns-in_err-hops-clause-at_most : goal.returns-in_err-hops-clause-at_most
@@ -35,3 +35,8 @@ pub returns-clause-keeps : goal.returns-clause-keeps
 returns-clause-keeps g c = λ other had.
     tree_keeps c.self.inside.trees.entries c.insert.new.self.entries c.args.router _ c.in_ok-insert.ensures.updates.0 other
     (ap (λ (a : AreaTreesValue). has_tree a other) c.self.view_is ∙ had)
+
+pub returns-clause-no_more : goal.returns-clause-no_more
+returns-clause-no_more g c = λ other has lacked.
+    only_here c.self.inside.trees.entries c.insert.new.self.entries c.args.router _ c.in_ok-insert.ensures.updates.0 other has
+    (ap (λ (a : AreaTreesValue). has_tree a other) c.self.view_is ∙ lacked)

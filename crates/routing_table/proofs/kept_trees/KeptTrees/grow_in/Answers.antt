@@ -1,7 +1,7 @@
 use Rattle.std.proofs.Common.{◌∙◌, sym, ap}
 use Rattle.routing_table.specs.AreasTrees.{KeptTreesValue, trees_at, trees_in}
 use Rattle.routing_table.proofs.MapLemmas.{some_found}
-use Rattle.routing_table.proofs.KeptMaps.{area_at, other_areas, same_graphs, still_within, vertex_found}
+use Rattle.routing_table.proofs.KeptMaps.{area_at, only_there, other_areas, same_graphs, still_within, vertex_found}
 use Rattle.routing_table.proofs.kept_trees.KeptTrees.grow_in.Goals as goal
 
 pub grow-requires : goal.grow-requires
@@ -28,3 +28,10 @@ returns-clause-others g c = λ other apart root.
     other_areas c.self.inside.areas.entries _ c.args.area c.grow.new.self
     ((c.get_mut.follows.holds c.grow.new.self).3 (some_found (sym c.in-Some.ensures.value))).0 other apart root
     ∙ ap (λ (areas : KeptTreesValue). trees_in areas other root) c.self.view_is
+
+pub returns-clause-no_more : goal.returns-clause-no_more
+returns-clause-no_more g c = λ other root has lacked.
+    only_there c.self.inside.areas.entries _ c.args.area c.grow.new.self
+    ((c.get_mut.follows.holds c.grow.new.self).3 (some_found (sym c.in-Some.ensures.value))).0
+    c.in-Some.trees.now (sym c.in-Some.ensures.value) c.args.router c.grow.ensures.no_more other root has
+    (ap (λ (areas : KeptTreesValue). trees_in areas other root) c.self.view_is ∙ lacked)

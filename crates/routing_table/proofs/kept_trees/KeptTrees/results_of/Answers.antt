@@ -1,11 +1,13 @@
 use Rattle.std.proofs.Common.{◌∙◌, ◌+◌, refl, sym, ap, subst, arith}
 use Rattle.lsdb.specs.Lists.{AreaHead}
 use Rattle.lsdb.specs.Places.{lists_of}
+use Rattle.area_routes.specs.Attached.{is_attached}
+use Rattle.routing_table.specs.KeptTrees.{GainsOnly}
 use Rattle.routing_table.specs.AreasTrees.{KeptTreesValue, AreOfDatabase, trees_in}
 use Rattle.routing_table.proofs.TableLemmas.{more_results, same_results, all_results}
 use Rattle.routing_table.proofs.TableLemmas.{attached_somewhere, on_err}
 use Rattle.routing_table.proofs.TreeCounts.{IsGrown, all_counted, all_grown, at_most_one_more, counts_all, none_counted_more, none_grown}
-use Rattle.routing_table.proofs.TreeCounts.{none_more_grown, one_counted_more, one_grown, within_all}
+use Rattle.routing_table.proofs.TreeCounts.{gained_in, gained_twice, none_gained, none_more_grown, one_counted_more, one_grown, within_all}
 use Rattle.routing_table.proofs.kept_trees.KeptTrees.results_of.Goals as goal
 use Rattle.routing_table.proofs.kept_trees.KeptTrees.results_of.Goals.{then-is_attached+in_ok-grow+in_ok-result_of+in_ok-push, else-is_attached}
 
@@ -14,6 +16,7 @@ loop-i-init g c = record {
   results = c.new-results.ensures.items;
   graphs = c.requires;
   grown = none_grown (lists_of c.args.database.now) c.args.router (trees_in c.args.self.now);
+  only = none_gained (λ area. is_attached (lists_of c.args.database.now) area c.args.router) c.args.router (trees_in c.args.self.now);
   meter = refl;
 }
 
@@ -34,6 +37,10 @@ loop-i-preserved g c =
                 (one_grown db c.args.router c.loop-i.i head c.area-is_stub.ensures c.known.ensures first
                 (trees_in c.loop-i.self) c.loop-i.invariant.grown joined (trees_in w.grow.new.self)
                 w.in_ok-grow.ensures.keeps w.in_ok-grow.ensures.others w.in_ok-grow.ensures.grown);
+            only = subst (λ (k : KeptTreesValue). GainsOnly (λ area. is_attached db area c.args.router) c.args.router first (trees_in k)) (sym w.self-is)
+                (gained_twice (λ area. is_attached db area c.args.router) c.args.router first (trees_in c.loop-i.self) (trees_in w.grow.new.self)
+                c.loop-i.invariant.only
+                (gained_in (λ area. is_attached db area c.args.router) c.args.router c.area-is_stub.result.0 _ _ joined w.in_ok-grow.ensures.no_more));
             meter = w.meter-is
                 ∙ one_counted_more db c.args.router c.loop-i.i head c.area-is_stub.ensures c.known.ensures first
                 (trees_in c.loop-i.self) c.loop-i.invariant.grown joined
@@ -48,6 +55,8 @@ loop-i-preserved g c =
             grown = subst (λ (k : KeptTreesValue). IsGrown db c.args.router (c.loop-i.i + 1) first (trees_in k)) (sym w.self-is)
                 (none_more_grown db c.args.router c.loop-i.i head c.area-is_stub.ensures c.known.ensures first
                 (trees_in c.loop-i.self) c.loop-i.invariant.grown apart);
+            only = subst (λ (k : KeptTreesValue). GainsOnly (λ area. is_attached db area c.args.router) c.args.router first (trees_in k)) (sym w.self-is)
+                c.loop-i.invariant.only;
             meter = w.meter-is
                 ∙ none_counted_more db c.args.router c.loop-i.i head c.area-is_stub.ensures c.known.ensures first
                 (trees_in c.loop-i.self) c.loop-i.invariant.grown apart
@@ -62,6 +71,9 @@ returns-clause-results g c =
 
 pub returns-clause-keeps : goal.returns-clause-keeps
 returns-clause-keeps g c = c.loop-i.invariant.grown.within
+
+pub returns-clause-no_more : goal.returns-clause-no_more
+returns-clause-no_more g c = c.loop-i.invariant.only
 
 pub returns-clause-grown : goal.returns-clause-grown
 returns-clause-grown g c =
@@ -131,3 +143,24 @@ returns-in_err-push-clause-at_most g c =
     at_most_one_more (lists_of c.args.database.now) c.args.router c.loop-i.i head c.area-is_stub.ensures c.known.ensures
     (trees_in c.args.self.now) (trees_in c.loop-i.self) c.loop-i.invariant.grown
     (sym c.is_attached.ensures ∙ c.if-is_attached.true) c.args.meter.now c.loop-i.meter c.grow.new.meter c.loop-i.invariant.meter c.grow.ensures.at_most
+
+pub returns-in_err-grow-clause-no_more : goal.returns-in_err-grow-clause-no_more
+returns-in_err-grow-clause-no_more g c =
+    gained_twice (λ area. is_attached (lists_of c.args.database.now) area c.args.router) c.args.router (trees_in c.args.self.now)
+    (trees_in c.loop-i.self) (trees_in c.grow.new.self) c.loop-i.invariant.only
+    (gained_in (λ area. is_attached (lists_of c.args.database.now) area c.args.router) c.args.router c.area-is_stub.result.0 _ _
+    (sym c.is_attached.ensures ∙ c.if-is_attached.true) c.grow.ensures.no_more)
+
+pub returns-in_err-result_of-clause-no_more : goal.returns-in_err-result_of-clause-no_more
+returns-in_err-result_of-clause-no_more g c =
+    gained_twice (λ area. is_attached (lists_of c.args.database.now) area c.args.router) c.args.router (trees_in c.args.self.now)
+    (trees_in c.loop-i.self) (trees_in c.grow.new.self) c.loop-i.invariant.only
+    (gained_in (λ area. is_attached (lists_of c.args.database.now) area c.args.router) c.args.router c.area-is_stub.result.0 _ _
+    (sym c.is_attached.ensures ∙ c.if-is_attached.true) c.grow.ensures.no_more)
+
+pub returns-in_err-push-clause-no_more : goal.returns-in_err-push-clause-no_more
+returns-in_err-push-clause-no_more g c =
+    gained_twice (λ area. is_attached (lists_of c.args.database.now) area c.args.router) c.args.router (trees_in c.args.self.now)
+    (trees_in c.loop-i.self) (trees_in c.grow.new.self) c.loop-i.invariant.only
+    (gained_in (λ area. is_attached (lists_of c.args.database.now) area c.args.router) c.args.router c.area-is_stub.result.0 _ _
+    (sym c.is_attached.ensures ∙ c.if-is_attached.true) c.grow.ensures.no_more)
