@@ -1,5 +1,5 @@
 -- How the program ends after a fault: the status, and the line on standard error.
-use Rattle.std.specs.Prelude.{ℕ, List, ◌++◌, codes}
+use Rattle.std.specs.Prelude.{◌≡◌, ℕ, List, ◌++◌, codes}
 use Rattle.lsdb.specs.declared.fault.DumpFault.{DumpFault}
 use Rattle.lsdb.specs.declared.fault.DumpFaultKind.{DumpFaultKind}
 use Rattle.lsdb.specs.declared.fault.DumpFaultKind.TheVariants as kind
@@ -46,3 +46,7 @@ exit_text (Open file.Save) = codes "file: Open save\n"
 abbrev pub not_replaced : ReplaceFault → FileArg → ExitFault
 not_replaced replace.Open name = Open name
 not_replaced replace.Write name = Run run.Write
+
+-- why a file of this name was not replaced
+abbrev pub IsNotReplaced : FileArg → ExitFault → Type 0
+IsNotReplaced name fault = (why : ReplaceFault) × (fault ≡ not_replaced why name)

@@ -1,14 +1,17 @@
 //! The files that the command line names.
 
-ghost use Rattle.std.specs.Prelude.{◌≡◌, false, IfOk, OnErr};
+ghost use Rattle.std.specs.Prelude.{◌≡◌, true, false, is_some, IfErr, IfOk, IfSome, IsOk, OnErr, OnOk, [], Ok};
+ghost use Rattle.streams.specs.Watched.{inner_of};
+ghost use Rattle.replaced_files.specs.Taking.{IsTaken};
 ghost use Rattle.whole_run.specs.Streams.{has_any_failed};
-ghost use Rattle.ospf_plan.specs.Exit.{not_replaced};
+ghost use Rattle.ospf_plan.specs.Exit.{not_replaced, IsNotReplaced};
 
 use crate::arguments::Options;
 use crate::fault::{ExitFault, FileArg};
 use replaced_files::{ReplaceFault, replace_file};
-use std::io::{BufWriter, Read, Write};
-use std::{fs, io};
+use std::alloc::Alloc;
+use std::fs::{self, Files};
+use std::io::{self, BufWriter, Read, Write};
 use streams::Watched;
 use whole_run::{RunFault, SAMPLE, Summary, run};
 
@@ -101,7 +104,9 @@ fn end_replies<W: Write + Drop>(replies: BufWriter<W>) -> Result<(), ExitFault> 
 
 /// A writer to memory, where a file is named.
 fn memory_for(rt: &HostRuntime, path: &Option<String>) -> Option<Watched<Vec<u8>>>
-    ensures { has_any_failed result ≡ false }
+    ensures open { has_any_failed result ≡ false }
+    ensures given { is_some result ≡ is_some path.now }
+    ensures empty { IfSome result (λ writer. (inner_of writer).items ≡ []) }
 {
     match path {
         None => None,
@@ -121,12 +126,17 @@ fn has_failed(writer: &Option<Watched<Vec<u8>>>) -> bool
 
 /// Writes what a script leaves to its file, if one is named. The file is replaced once the new one
 /// is whole.
-fn write_named(
-    rt: &HostRuntime,
+fn write_named<R: Files + Alloc>(
+    rt: &R,
     path: &Option<String>,
     left: Option<Watched<Vec<u8>>>,
     name: FileArg,
-) -> Result<(), ExitFault> {
+) -> Result<(), ExitFault>
+    ensures taken { OnOk result (is_some path.now ≡ true
+        → IfSome left (λ left. IsTaken R.File.contents (inner_of left).items)) }
+    ensures unnamed { is_some path.now ≡ false → IsOk result }
+    ensures fault { IfErr result (IsNotReplaced name) }
+{
     match (path, left) {
         (Some(path), Some(left)) => replace_file(
             rt,

@@ -1,10 +1,13 @@
 //! A file replaced by a new one with another text.
 
+ghost use Rattle.std.specs.Prelude.{◌≡◌, IfErr, OnOk};
+ghost use Rattle.replaced_files.specs.Taking.{IsTaken};
+
 use crate::fault::ReplaceFault;
-use crate::filling::fill;
-use std::fs::{self, File, Permissions};
+use crate::filling::{fill_new, fill_straight};
+use std::alloc::Alloc;
+use std::fs::{self, File, Files, OpenFile, Permissions};
 use std::io::{self, ErrorKind};
-use streams::Watched;
 
 /// How many names are tried for the new file.
 const MOST_NAMES: u32 = 100;
@@ -18,8 +21,11 @@ const MOST_NAMES: u32 = 100;
 /// # Errors
 ///
 /// `Open` for a file that can not be opened for writing, `Write` for one that can not be written.
-/// Then an ordinary file that was there is as it was, unless it was written straight.
-pub fn replace_file(rt: &HostRuntime, path: &str, text: &[u8]) -> Result<(), ReplaceFault> {
+/// Then an ordinary file that was there is as it was, unless it was written straight, and no other
+/// file has changed. An empty path is `Open`.
+pub fn replace_file<R: Files + Alloc>(rt: &R, path: &str, text: &[u8]) -> Result<(), ReplaceFault>
+    ensures taken { OnOk result (IsTaken R.File.contents text.now) }
+{
     match ordinary_path(rt, path) {
         Some(ordinary) => replace(rt, ordinary.as_str(), text),
         None => write_straight(rt, path, text),
@@ -27,9 +33,10 @@ pub fn replace_file(rt: &HostRuntime, path: &str, text: &[u8]) -> Result<(), Rep
 }
 
 /// The path, without links, of the ordinary file that a path leads to or would make.
-fn ordinary_path(rt: &HostRuntime, path: &str) -> Option<String> {
-    // What stands there is open elsewhere, so it is not replaced.
-    if path.starts_with("/dev/") || path.starts_with("/proc/") {
+fn ordinary_path<R: Files + Alloc>(rt: &R, path: &str) -> Option<String<R::A>> {
+    // An empty path names no file, and beside it there is no room for one. What stands below these
+    // folders is open elsewhere, so it is not replaced.
+    if path.is_empty() || path.starts_with("/dev/") || path.starts_with("/proc/") {
         return None;
     }
     match fs::canonicalize(rt, path) {
@@ -43,7 +50,7 @@ fn ordinary_path(rt: &HostRuntime, path: &str) -> Option<String> {
 }
 
 /// The path, where nothing stands: a link that leads nowhere is there, and stays a link.
-fn new_path(rt: &HostRuntime, path: &str) -> Option<String> {
+fn new_path<R: Files + Alloc>(rt: &R, path: &str) -> Option<String<R::A>> {
     match fs::symlink_metadata(rt, path) {
         Err(error) if error.kind() == ErrorKind::NotFound => String::from_str(
             rt.alloc(),
@@ -54,13 +61,13 @@ fn new_path(rt: &HostRuntime, path: &str) -> Option<String> {
 }
 
 /// Replaces an ordinary file, or makes it.
-fn replace(rt: &HostRuntime, path: &str, text: &[u8]) -> Result<(), ReplaceFault> {
+fn replace<R: Files + Alloc>(rt: &R, path: &str, text: &[u8]) -> Result<(), ReplaceFault>
+    ensures taken { OnOk result (IsTaken R.File.contents text.now) }
+{
     let permissions = permissions_of(rt, path)?;
     match new_file(rt, path) {
         Ok((file, beside)) => {
-            let replaced = fill_new(file, permissions, text).and_then(|()| {
-                fs::rename(rt, beside.as_str(), path).map_err(|_| ReplaceFault::Write)
-            });
+            let replaced = put_in_place(rt, file, beside.as_str(), path, permissions, text);
             if replaced.is_err() {
                 // Where it can not be removed either, it stays, and the fault is told.
                 let _ = fs::remove_file(rt, beside.as_str());
@@ -72,8 +79,25 @@ fn replace(rt: &HostRuntime, path: &str, text: &[u8]) -> Result<(), ReplaceFault
     }
 }
 
+/// Writes the text to a file that was made beside another, and lets it take the other's place once
+/// it is whole and on the disk.
+fn put_in_place<R: Files>(
+    rt: &R,
+    file: R::File,
+    beside: &str,
+    path: &str,
+    permissions: Option<Permissions>,
+    text: &[u8],
+) -> Result<(), ReplaceFault>
+    ensures taken { OnOk result (IsTaken R.File.contents text.now) }
+    ensures fault { IfErr result (λ fault. fault ≡ ReplaceFault.Write) }
+{
+    let _filled = fill_new(file, permissions, text)?;
+    fs::rename(rt, beside, path).map_err(|_| ReplaceFault::Write)
+}
+
 /// The permissions of a file that is there, which must take writes.
-fn permissions_of(rt: &HostRuntime, path: &str) -> Result<Option<Permissions>, ReplaceFault> {
+fn permissions_of<R: Files>(rt: &R, path: &str) -> Result<Option<Permissions>, ReplaceFault> {
     match File::options().write(true).open(rt, path) {
         Ok(file) => {
             let found = file.metadata().map_err(|_| ReplaceFault::Open)?;
@@ -93,7 +117,7 @@ fn is_full(kind: ErrorKind) -> bool {
 }
 
 /// Makes a new file beside another, and answers it with its path.
-fn new_file(rt: &HostRuntime, path: &str) -> io::Result<(File, String)> {
+fn new_file<R: Files + Alloc>(rt: &R, path: &str) -> io::Result<(R::File, String<R::A>)> {
     for number in 1..=MOST_NAMES {
         let beside = format!(in rt.alloc(); "{path}.{number}.new")?;
         match File::create_new(rt, beside.as_str()) {
@@ -105,21 +129,10 @@ fn new_file(rt: &HostRuntime, path: &str) -> io::Result<(File, String)> {
     Err(io::Error::from(ErrorKind::AlreadyExists))
 }
 
-/// Writes the text to a new file, which then outlasts a crash of the machine.
-fn fill_new(file: File, permissions: Option<Permissions>, text: &[u8]) -> Result<(), ReplaceFault> {
-    if let Some(permissions) = permissions {
-        file.set_permissions(permissions)
-            .map_err(|_| ReplaceFault::Write)?;
-    }
-    let mut file = Watched::new(file);
-    fill(&mut file, text)?;
-    file.into_inner()
-        .sync_all()
-        .map_err(|_| ReplaceFault::Write)
-}
-
 /// Opens a file as it stands, and writes the text.
-fn write_straight(rt: &HostRuntime, path: &str, text: &[u8]) -> Result<(), ReplaceFault> {
+fn write_straight<R: Files>(rt: &R, path: &str, text: &[u8]) -> Result<(), ReplaceFault>
+    ensures taken { OnOk result (IsTaken R.File.contents text.now) }
+{
     let file = fs::create(rt, path).map_err(|_| ReplaceFault::Open)?;
-    fill(&mut Watched::new(file), text)
+    fill_straight(file, text)
 }

@@ -1,9 +1,9 @@
 //! A whole text read from a watched reader.
 
-ghost use Rattle.std.specs.Prelude.{◌≡◌, ◌+◌, ◌-◌, ◌<◌, ◌≤◌, ◌^◌, ◌↔◌, false, true, vec_len, IfOk, OnOk};
+ghost use Rattle.std.specs.Prelude.{◌≡◌, ◌+◌, ◌-◌, ◌<◌, ◌≤◌, ◌^◌, ◌↔◌, false, true, vec_len, IfOk, OnOk, is_ok, ◌||◌};
 ghost use Rattle.std.specs.Io.KnownBytes.{IsAtEnd};
 ghost use Rattle.streams.specs.declared.reading.ReadFault.TheVariants.{OutOfMemory};
-ghost use Rattle.streams.specs.Watched.{inner_of, has_failed};
+ghost use Rattle.streams.specs.Watched.{inner_of, has_failed, has_ended};
 ghost use Rattle.streams.specs.WholeText.{IsAll, IsLonger, ConsumesAtMost, ReadsBehind};
 
 use crate::watch::Watched;
@@ -52,6 +52,7 @@ pub fn read_more<A: Allocator + Copy, R: Read>(
         (R.remaining (inner_of reader.new)) bytes.old.items bytes.new.items) }
     ensures within { OnOk result (vec_len bytes.new ≤ limit) }
     ensures at_end { OnOk result (IsAtEnd (R.remaining (inner_of reader.new))) }
+    ensures ended { has_ended reader.new ≡ (has_ended reader.old || is_ok result) }
     ensures too_large { result ≡ Err ReadFault.TooLarge
         → ReadsBehind (R.remaining (inner_of reader.old))
         (R.remaining (inner_of reader.new)) bytes.old.items bytes.new.items
@@ -92,6 +93,7 @@ pub fn read_whole<A: Allocator + Copy, R: Read>(
     ensures whole { IfOk result (λ bytes. IsAll (R.remaining (inner_of reader.old)) bytes.items) }
     ensures within { IfOk result (λ bytes. vec_len bytes ≤ limit) }
     ensures at_end { OnOk result (IsAtEnd (R.remaining (inner_of reader.new))) }
+    ensures ended { has_ended reader.new ≡ (has_ended reader.old || is_ok result) }
     ensures too_large { result ≡ Err ReadFault.TooLarge
         → IsLonger (R.remaining (inner_of reader.old)) limit }
     ensures failed { (result ≡ Err ReadFault.Failed) ↔ (has_failed reader.new ≡ true) }

@@ -1,14 +1,15 @@
-//! A reader or a writer that remembers whether it has failed.
+//! A reader or a writer that remembers whether it has failed, has ended and is flushed.
 
-ghost use Rattle.std.specs.Prelude.{◌≡◌, ◌||◌, false, is_err};
+ghost use Rattle.std.specs.Prelude.{◌≡◌, ◌||◌, false, is_err, is_ok};
 ghost use Rattle.std.specs.Io.{ReadsAtMost, WritesAtMost};
 ghost use Rattle.std.specs.Io.KnownBytes.{Keeps, ReadConsumes, WriteAppends};
-ghost use Rattle.streams.specs.Watched.{inner_of, has_failed, is_failed_write};
+ghost use Rattle.streams.specs.Watched.{inner_of, has_failed, has_ended, is_flushed, is_failed_write, is_end};
 
 use std::io;
 use std::io::{Read, Write};
 
-/// A reader or a writer, and whether one of the calls that went through here has failed.
+/// A reader or a writer, and what the calls that went through here showed of it: whether one has
+/// failed, whether a read has found the end, and whether it was flushed after the last write.
 ///
 /// `read`, `write` and `flush` each make one call of the reader or writer inside and hand on its
 /// answer. `Watched` is itself no `Read` and no `Write`: the helpers of those traits call again
@@ -17,17 +18,23 @@ use std::io::{Read, Write};
 pub struct Watched<T> {
     inner: T,
     failed: bool,
+    ended: bool,
+    flushed: bool,
 }
 
 impl<T> Watched<T> {
-    /// Watches a reader or a writer, which has not failed yet.
+    /// Watches a reader or a writer, which has not failed yet, nor ended, and is not flushed.
     pub fn new(inner: T) -> Watched<T>
         ensures inner { inner_of result ≡ inner }
         ensures fresh { has_failed result ≡ false }
+        ensures begins { has_ended result ≡ false }
+        ensures unflushed { is_flushed result ≡ false }
     {
         Watched {
             inner,
             failed: false,
+            ended: false,
+            flushed: false,
         }
     }
 
@@ -35,7 +42,7 @@ impl<T> Watched<T> {
     pub fn into_inner(self) -> T
         ensures { result ≡ inner_of self }
     {
-        let Watched { inner, failed: _ } = self;
+        let Watched { inner, .. } = self;
         inner
     }
 
@@ -46,20 +53,40 @@ impl<T> Watched<T> {
     {
         self.failed
     }
+
+    /// Whether a read has found the end so far: one that gave 0 bytes where there was room.
+    pub fn ended(&self) -> bool
+        ensures { result ≡ has_ended self.now }
+    {
+        self.ended
+    }
+
+    /// Whether it was flushed, without a failure, and nothing was written since.
+    pub fn flushed(&self) -> bool
+        ensures { result ≡ is_flushed self.now }
+    {
+        self.flushed
+    }
 }
 
 impl<R: Read> Watched<R> {
     /// One read into `buf`: the number of bytes that stand at its front now, 0 at the end.
     ///
-    /// An error is handed on, `Interrupted` too, and is remembered.
+    /// An error is handed on, `Interrupted` too, and is remembered, as is the end.
     pub fn read(&mut self, buf: &mut [u8]) -> io::Result<usize>
         ensures bound { ReadsAtMost result buf.new }
         ensures bytes { ReadConsumes (R.remaining (inner_of self.old))
             (R.remaining (inner_of self.new)) result buf.new }
         ensures failed { has_failed self.new ≡ (has_failed self.old || is_err result) }
+        ensures ended { has_ended self.new ≡ (has_ended self.old || is_end result buf.new) }
+        ensures flushed { is_flushed self.new ≡ is_flushed self.old }
     {
         let count = self.inner.read(buf);
         self.failed |= count.is_err();
+        self.ended |= match &count {
+            Ok(count) => *count == 0 && !buf.is_empty(),
+            Err(_) => false,
+        };
         count
     }
 }
@@ -75,7 +102,10 @@ impl<W: Write> Watched<W> {
             (W.contents (inner_of self.new)) result text.now }
         ensures failed { has_failed self.new ≡
             (has_failed self.old || is_failed_write result text.now) }
+        ensures ended { has_ended self.new ≡ has_ended self.old }
+        ensures flushed { is_flushed self.new ≡ false }
     {
+        self.flushed = false;
         let taken = self.inner.write(text);
         self.failed |= match &taken {
             Ok(count) => *count == 0 && !text.is_empty(),
@@ -88,9 +118,12 @@ impl<W: Write> Watched<W> {
     pub fn flush(&mut self) -> io::Result<()>
         ensures bytes { Keeps (W.contents (inner_of self.old)) (W.contents (inner_of self.new)) }
         ensures failed { has_failed self.new ≡ (has_failed self.old || is_err result) }
+        ensures ended { has_ended self.new ≡ has_ended self.old }
+        ensures flushed { is_flushed self.new ≡ is_ok result }
     {
         let flushed = self.inner.flush();
         self.failed |= flushed.is_err();
+        self.flushed = flushed.is_ok();
         flushed
     }
 }

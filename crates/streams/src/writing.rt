@@ -1,8 +1,8 @@
 //! A whole text written to a watched writer.
 
-ghost use Rattle.std.specs.Prelude.{◌≡◌, ◌↔◌, false, true, OnOk, IsErr};
+ghost use Rattle.std.specs.Prelude.{◌≡◌, ◌↔◌, ◌&&◌, ◌==◌, length, false, true, OnOk, IsErr};
 ghost use Rattle.std.specs.Io.KnownBytes.{Appends};
-ghost use Rattle.streams.specs.Watched.{inner_of, has_failed};
+ghost use Rattle.streams.specs.Watched.{inner_of, has_failed, is_flushed};
 ghost use Rattle.streams.specs.WholeText.{AppendsPrefix};
 
 use crate::watch::Watched;
@@ -12,7 +12,8 @@ use std::io::Write;
 #[derive(Clone, Copy, Debug, PartialEq, Eq)]
 pub struct WriteFault;
 
-/// Writes the whole text. It is not flushed.
+/// Writes the whole text. It is not flushed: a writer that was flushed before is so after an empty
+/// text alone.
 ///
 /// # Errors
 ///
@@ -24,6 +25,7 @@ pub fn write_whole<W: Write>(writer: &mut Watched<W>, text: &[u8]) -> Result<(),
     ensures prefix { AppendsPrefix (W.contents (inner_of writer.old))
         (W.contents (inner_of writer.new)) text.now }
     ensures failed { IsErr result ↔ (has_failed writer.new ≡ true) }
+    ensures flushed { is_flushed writer.new ≡ (is_flushed writer.old && (length text.now == 0)) }
 {
     let mut at = 0;
     'writes: while at < text.len() {
@@ -48,6 +50,7 @@ pub fn write_and_flush<W: Write>(writer: &mut Watched<W>, text: &[u8]) -> Result
     ensures prefix { AppendsPrefix (W.contents (inner_of writer.old))
         (W.contents (inner_of writer.new)) text.now }
     ensures failed { IsErr result ↔ (has_failed writer.new ≡ true) }
+    ensures flushed { OnOk result (is_flushed writer.new ≡ true) }
 {
     write_whole(writer, text)?;
     writer.flush().map_err(|_| WriteFault)

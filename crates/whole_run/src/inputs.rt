@@ -2,7 +2,7 @@
 
 ghost use Rattle.std.specs.Prelude.{◌≡◌, ◌≢◌, ◌↔◌, ◌<◌, ◌≤◌, ◌+◌, ◌++◌, ℕ, List, Option, true, false, Ok, vec_len, IfSome, IfOk, IfErr, OnOk};
 ghost use Rattle.std.specs.Io.KnownBytes.{IsAtEnd};
-ghost use Rattle.streams.specs.Watched.{inner_of, has_failed};
+ghost use Rattle.streams.specs.Watched.{inner_of, has_failed, has_ended};
 ghost use Rattle.streams.specs.WholeText.{IsAll, IsLonger, ConsumesAtMost};
 ghost use Rattle.lsdb.specs.Limits.{longest_dump};
 ghost use Rattle.lsdb.specs.Loading.{IsFirstFault};
@@ -122,6 +122,7 @@ pub(crate) fn read_script<A: Allocator + Copy, S: Read>(
     ensures whole { IfOk result (λ text. IsAll (S.remaining (inner_of script.old)) text.items) }
     ensures within { IfOk result (λ text. vec_len text ≤ longest_script) }
     ensures at_end { OnOk result (IsAtEnd (S.remaining (inner_of script.new))) }
+    ensures ended { OnOk result (has_ended script.new ≡ true) }
     ensures fault { IfErr result
         (IsScriptEnd (IsLonger (S.remaining (inner_of script.old)) longest_script)) }
     ensures failed { (result ≡ Err RunFault.Read) ↔ (has_failed script.new ≡ true) }

@@ -1,16 +1,17 @@
-//! What a script leaves, written whole, and all writers flushed.
+//! What a script leaves, written whole and in order, and all writers flushed.
 
 ghost use Rattle.std.specs.Prelude.{◌≡◌, ◌↔◌, ◌||◌, false, true, is_some, OnOk, IsErr};
 ghost use Rattle.std.specs.Io.KnownBytes.{Appends, Keeps};
-ghost use Rattle.streams.specs.Watched.{inner_of, has_failed};
+ghost use Rattle.streams.specs.Watched.{inner_of, has_failed, is_flushed};
 ghost use Rattle.streams.specs.WholeText.{AppendsPrefix};
-ghost use Rattle.whole_run.specs.Streams.{contents_of, has_any_failed};
+ghost use Rattle.whole_run.specs.Streams.{contents_of, has_any_failed, is_any_flushed};
+ghost use Rattle.whole_run.specs.Order.{AreFlushed, RepliesBefore, OutBehind, SaveBehind};
 
 use std::io::Write;
-use streams::{Watched, WriteFault, write_whole};
+use streams::{Watched, WriteFault, write_and_flush};
 
-/// Writes the dump to `out` and the session to `save`, where they are given, and then flushes the
-/// replies and both.
+/// Flushes the replies, then writes the dump to `out` and flushes it, and then the session to
+/// `save`, where they are given. None is begun before the one before it is flushed.
 pub(crate) fn write_ends<W: Write, D: Write, E: Write>(
     dump: &[u8],
     session: &[u8],
@@ -35,15 +36,22 @@ pub(crate) fn write_ends<W: Write, D: Write, E: Write>(
     ensures save_given { is_some save.new ≡ is_some save.old }
     ensures failed { IsErr result ↔ ((has_failed replies.new
         || has_any_failed out.new || has_any_failed save.new) ≡ true) }
+    ensures flushed { OnOk result (AreFlushed replies.new out.new save.new) }
+    ensures replies_before { RepliesBefore replies.new out.old out.new save.old save.new }
+    ensures out_behind { OutBehind
+        (Keeps (W.contents (inner_of replies.old)) (W.contents (inner_of replies.new)))
+        replies.new out.new save.old save.new }
+    ensures save_behind { SaveBehind
+        (Keeps (W.contents (inner_of replies.old)) (W.contents (inner_of replies.new)))
+        (Appends (contents_of D.contents out.old) (contents_of D.contents out.new) dump.now)
+        replies.new out.new save.new }
 {
-    write_given(out, dump)?;
-    write_given(save, session)?;
     flush(replies)?;
-    flush_given(out)?;
-    flush_given(save)
+    write_given(out, dump)?;
+    write_given(save, session)
 }
 
-/// Writes a text to a writer, where one is given.
+/// Writes a text to a writer, where one is given, and flushes it.
 fn write_given<W: Write>(writer: &mut Option<Watched<W>>, text: &[u8]) -> Result<(), WriteFault>
     requires { has_any_failed writer.old ≡ false }
     ensures whole { OnOk result
@@ -52,24 +60,11 @@ fn write_given<W: Write>(writer: &mut Option<Watched<W>>, text: &[u8]) -> Result
         (contents_of W.contents writer.new) text.now }
     ensures given { is_some writer.new ≡ is_some writer.old }
     ensures failed { IsErr result ↔ (has_any_failed writer.new ≡ true) }
+    ensures flushed { OnOk result (is_any_flushed writer.new ≡ true) }
 {
     match writer {
         None => Ok(()),
-        Some(writer) => write_whole(writer, text),
-    }
-}
-
-/// Flushes a writer, where one is given.
-fn flush_given<W: Write>(writer: &mut Option<Watched<W>>) -> Result<(), WriteFault>
-    requires { has_any_failed writer.old ≡ false }
-    ensures bytes { Keeps (contents_of W.contents writer.old)
-        (contents_of W.contents writer.new) }
-    ensures given { is_some writer.new ≡ is_some writer.old }
-    ensures failed { IsErr result ↔ (has_any_failed writer.new ≡ true) }
-{
-    match writer {
-        None => Ok(()),
-        Some(writer) => flush(writer),
+        Some(writer) => write_and_flush(writer, text),
     }
 }
 
@@ -78,6 +73,7 @@ fn flush<W: Write>(writer: &mut Watched<W>) -> Result<(), WriteFault>
     requires { has_failed writer.old ≡ false }
     ensures bytes { Keeps (W.contents (inner_of writer.old)) (W.contents (inner_of writer.new)) }
     ensures failed { IsErr result ↔ (has_failed writer.new ≡ true) }
+    ensures flushed { OnOk result (is_flushed writer.new ≡ true) }
 {
     writer.flush().map_err(|_| WriteFault)
 }

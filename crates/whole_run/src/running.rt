@@ -3,7 +3,7 @@
 
 ghost use Rattle.std.specs.Prelude.{◌≡◌, ◌≢◌, ◌↔◌, ◌||◌, ◌<◌, ◌≤◌, ◌+◌, length, false, true, is_some, OnOk, IfOk, IfErr, IfSome, IsErr};
 ghost use Rattle.std.specs.Io.KnownBytes.{Appends, Keeps, IsAtEnd};
-ghost use Rattle.streams.specs.Watched.{inner_of, has_failed};
+ghost use Rattle.streams.specs.Watched.{inner_of, has_failed, has_ended};
 ghost use Rattle.streams.specs.WholeText.{AppendsPrefix, ConsumesAtMost, IsLonger};
 ghost use Rattle.lsdb.specs.Text.{text};
 ghost use Rattle.edit_history.specs.Session.{state};
@@ -13,6 +13,7 @@ ghost use Rattle.branches.specs.Branches.{sessions_of};
 ghost use Rattle.whole_run.specs.Run.{answers, lines_of, sessions_after, text_of};
 ghost use Rattle.whole_run.specs.Run.{run_answers, run_text, final_dump, final_session};
 ghost use Rattle.whole_run.specs.Streams.{contents_of, has_any_failed};
+ghost use Rattle.whole_run.specs.Order.{AreFlushed, AreUntouched, RepliesBefore, OutBehind, SaveBehind};
 ghost use Rattle.whole_run.specs.WholeRun.{IfBoth, IsSummaryOf, MayEndRun, IsBeforeReplies};
 ghost use Rattle.whole_run.specs.Inputs.{IsAccepted, longest_script, most_read};
 ghost use Rattle.whole_run.specs.steps.Reading.{IsRunEnd};
@@ -29,6 +30,9 @@ use streams::Watched;
 
 /// Reads a dump, or a session, and a script, writes the reply to each line, and then the dump that
 /// branch 0 is left with to `out` and its session to `save`, where they are given.
+///
+/// Each of the three is flushed before the next is begun: where one fails, those before it are
+/// whole, and those after it are as they were.
 pub fn run<A: Allocator + Copy, R: Read, S: Read, W: Write, D: Write, E: Write>(
     alloc: A,
     dump: &mut Watched<R>,
@@ -76,6 +80,26 @@ pub fn run<A: Allocator + Copy, R: Read, S: Read, W: Write, D: Write, E: Write>(
         (λ bytes script. AppendsPrefix (contents_of E.contents save.old)
         (contents_of E.contents save.new) (final_session bytes script)) }
 
+    // In which order it is written.
+    ensures flushed { OnOk result (AreFlushed replies.new out.new save.new) }
+    ensures replies_before { RepliesBefore replies.new out.old out.new save.old save.new }
+    ensures out_behind { OutBehind
+        (IfBoth (R.remaining (inner_of dump.old)) (S.remaining (inner_of script.old))
+        (λ bytes script. Appends (W.contents (inner_of replies.old))
+        (W.contents (inner_of replies.new))
+        (run_text bytes script)))
+        replies.new out.new save.old save.new }
+    ensures save_behind { SaveBehind
+        (IfBoth (R.remaining (inner_of dump.old)) (S.remaining (inner_of script.old))
+        (λ bytes script. Appends (W.contents (inner_of replies.old))
+        (W.contents (inner_of replies.new))
+        (run_text bytes script)))
+        (IfBoth (R.remaining (inner_of dump.old)) (S.remaining (inner_of script.old))
+        (λ bytes script. Appends (contents_of D.contents out.old)
+        (contents_of D.contents out.new)
+        (final_dump bytes script)))
+        replies.new out.new save.new }
+
     // When each fault comes.
     ensures accepted { OnOk result (IfSome (R.remaining (inner_of dump.old)) IsAccepted) }
     ensures within { OnOk result
@@ -95,12 +119,11 @@ pub fn run<A: Allocator + Copy, R: Read, S: Read, W: Write, D: Write, E: Write>(
         Keeps (W.contents (inner_of replies.old)) (W.contents (inner_of replies.new))) }
     ensures unread { IfSome (S.remaining (inner_of script.new)) (λ rest. 0 < length rest →
         Keeps (W.contents (inner_of replies.old)) (W.contents (inner_of replies.new))) }
-    ensures out_untouched { IfErr result (λ fault. fault ≢ RunFault.Write →
-        Keeps (contents_of D.contents out.old)
-        (contents_of D.contents out.new)) }
-    ensures save_untouched { IfErr result (λ fault. fault ≢ RunFault.Write →
-        Keeps (contents_of E.contents save.old)
-        (contents_of E.contents save.new)) }
+    ensures unended { has_ended script.new ≡ false → (replies.new ≡ replies.old)
+        × AreUntouched out.old out.new save.old save.new }
+    ensures out_untouched { IfErr result (λ fault. fault ≢ RunFault.Write → out.new ≡ out.old) }
+    ensures save_untouched { IfErr result (λ fault. fault ≢ RunFault.Write
+        → save.new ≡ save.old) }
     ensures out_given { is_some out.new ≡ is_some out.old }
     ensures save_given { is_some save.new ≡ is_some save.old }
     ensures dump_bounded { ConsumesAtMost (R.remaining (inner_of dump.old))
@@ -162,6 +185,8 @@ fn answer_all<A: Allocator + Copy, R: Read, S: Read, W: Write>(
         Keeps (W.contents (inner_of replies.old)) (W.contents (inner_of replies.new))) }
     ensures unread { IfSome (S.remaining (inner_of script.new)) (λ rest. 0 < length rest →
         Keeps (W.contents (inner_of replies.old)) (W.contents (inner_of replies.new))) }
+    ensures ended { OnOk result (has_ended script.new ≡ true) }
+    ensures unended { has_ended script.new ≡ false → replies.new ≡ replies.old }
     ensures dump_bounded { ConsumesAtMost (R.remaining (inner_of dump.old))
         (R.remaining (inner_of dump.new)) (most_read (R.remaining (inner_of dump.old))) }
     ensures script_bounded { ConsumesAtMost (S.remaining (inner_of script.old))
@@ -210,6 +235,8 @@ fn run_script<A: Allocator + Copy, S: Read, W: Write>(
         Keeps (W.contents (inner_of replies.old)) (W.contents (inner_of replies.new))) }
     ensures unread { IfSome (S.remaining (inner_of script.new)) (λ rest. 0 < length rest →
         Keeps (W.contents (inner_of replies.old)) (W.contents (inner_of replies.new))) }
+    ensures ended { OnOk result (has_ended script.new ≡ true) }
+    ensures unended { has_ended script.new ≡ false → replies.new ≡ replies.old }
     ensures script_bounded { ConsumesAtMost (S.remaining (inner_of script.old))
         (S.remaining (inner_of script.new)) (longest_script + 1) }
 {

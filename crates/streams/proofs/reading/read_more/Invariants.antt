@@ -1,11 +1,12 @@
 use Rattle.std.proofs.Common.{◌≡◌, ◌+◌, ◌-◌, ◌≤◌, ℕ, List, ◌++◌, false, length, vec_len}
 use Rattle.std.specs.Io.KnownBytes.{Consumes}
-use Rattle.streams.specs.Watched.{inner_of, has_failed}
+use Rattle.streams.specs.Watched.{inner_of, has_failed, has_ended}
 use Rattle.streams.proofs.reading.read_more.Given as goal
 
 abbrev pub invariant-chunks : goal.invariant-chunks
 invariant-chunks g l = record {
   still_open : has_failed l.reader ≡ false;
+  not_ended : has_ended l.reader ≡ has_ended l.initial.reader;
   read : (taken : List ℕ)
       × (Consumes (g.R.Read.remaining (inner_of l.initial.reader)) (g.R.Read.remaining (inner_of l.reader)) taken
       × ((l.bytes.items ≡ l.initial.bytes.items ++ taken) × (length taken ≤ l.limit + 1 - vec_len l.initial.bytes)));

@@ -7,4 +7,5 @@ writes-preserved g c = record {
   still_open = search rules;
   within = search rules;
   appended = Appends-take _ _ _ _ _ _ c.writes.invariant.appended c.in-Ok.ensures.bytes;
+  flushed = search rules;
 }

@@ -1,6 +1,6 @@
-use Rattle.std.proofs.Common.{◌≡◌, ◌-◌, ◌≤◌, false, length, take}
+use Rattle.std.proofs.Common.{◌≡◌, ◌-◌, ◌≤◌, ◌&&◌, ◌==◌, false, length, take}
 use Rattle.std.specs.Io.KnownBytes.{Appends}
-use Rattle.streams.specs.Watched.{inner_of, has_failed}
+use Rattle.streams.specs.Watched.{inner_of, has_failed, is_flushed}
 use Rattle.streams.proofs.writing.write_whole.Given as goal
 
 abbrev pub invariant-writes : goal.invariant-writes
@@ -8,6 +8,7 @@ invariant-writes g l = record {
   still_open : has_failed l.writer ≡ false;
   within : l.at ≤ length l.text;
   appended : Appends (g.W.Write.contents (inner_of l.initial.writer)) (g.W.Write.contents (inner_of l.writer)) (take l.at l.text);
+  flushed : is_flushed l.writer ≡ (is_flushed l.initial.writer && (l.at == 0));
 }
 
 abbrev pub decreases-writes : goal.decreases-writes
