@@ -5,7 +5,6 @@
 //! them. [`newest`] answers the newest instance of each LSA among any number of sightings, each
 //! once; flushed LSAs are left out, or kept at MaxAge. The answer depends on which sightings there
 //! are, and not on their order.
-//! sightings there are, and not on their order.
 #![tactic(auto)]
 
 mod area;

@@ -1,9 +1,8 @@
 //! What routers print of their link state databases, in FRR's text form.
 //!
 //! An LSA is rebuilt from the printed fields and must then be an accepted LSA with the very
-//! checksum and length that were printed. The types 1 to 5 are read (RFC 2328, A.4): what `show ip
-//! ospf database` prints with `router`, `network`, `summary`, `asbr-summary` and `external`.
-//! Headings report the kinds of areas.
+//! checksum and length that were printed. The types 1 to 5 are read (RFC 2328, A.4): what
+//! `show ip ospf database` prints with `router`, `network`, `summary`, `asbr-summary` and
 //! `external`. Headings report the kinds of areas.
 #![tactic(auto)]
 

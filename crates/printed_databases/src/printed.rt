@@ -135,8 +135,8 @@ fn begins_here(text: &[u8]) -> bool
     behind_label(Label::Router, text).is_some() || behind_label(Label::Age, text).is_some()
 }
 
-/// Whether a text is what a router prints of its databases: somewhere in it are the words `OSPF
-/// Router with ID` or `LS age:`.
+/// Whether a text is what a router prints of its databases: somewhere in it are the words
+/// `OSPF Router with ID` or `LS age:`.
 pub fn is_printed(text: &[u8]) -> bool
     ensures { result ≡ is_printed (words text.now) }
 {
