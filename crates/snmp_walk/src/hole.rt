@@ -9,7 +9,7 @@ use lsa_codec::{AreaId, Key, LsaFault};
 pub enum Hole {
     /// A row has no usable LSA, for this reason.
     Row(Row, RowFault),
-    /// The value of `ospfImportAsExtern` of the area is none of the three kinds.
+    /// The value of `ospfImportAsExtern` of the area is not one of the three kinds.
     Kind(AreaId),
     /// An object's name has an unknown form, or its index does not fit its table.
     Name,
