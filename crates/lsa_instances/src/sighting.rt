@@ -30,6 +30,10 @@ impl<A: Allocator + Copy> Sighting<A> {
     }
 
     /// The same sighting, with its bytes in memory of this allocator.
+    ///
+    /// # Errors
+    ///
+    /// Memory ran out.
     pub fn clone_of(&self, alloc: A) -> Result<Sighting<A>, AllocError>
         ensures { IfOk result (λ copy. copy ≡ self.now) }
     {

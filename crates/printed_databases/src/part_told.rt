@@ -72,6 +72,10 @@ fn octets_told<A: Allocator + Copy>(
 }
 
 /// The LSA that has this header and, after it, these bytes; or why it cannot be used.
+///
+/// # Errors
+///
+/// Memory ran out.
 pub fn made_told<A: Allocator + Copy>(
     alloc: A,
     area: Option<AreaId>,
