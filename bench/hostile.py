@@ -50,7 +50,7 @@ def dump_of(areas: list[list[bytes]], externals: list[bytes] = []) -> bytes:
 
 
 def as_long_as_may_be(lines: list[str]) -> list[str]:
-    """The lines again and again, as often as they fit into a script of 1,048,576 octets."""
+    """The lines again and again, as often as they fit into a script of 1,048,576 bytes."""
     return lines * (LONGEST_SCRIPT // sum(len(line) + 1 for line in lines))
 
 

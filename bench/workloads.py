@@ -32,14 +32,14 @@ Prefix = tuple[int, int]
 
 
 def lsa(kind: int, ident: int, adv: int, body: bytes, stub: bool = False) -> bytes:
-    """An LSA with its checksum (RFC 2328, 12.1.7), made by sums over all octets at once, since there are many."""
+    """An LSA with its checksum (RFC 2328, 12.1.7), made by sums over all bytes at once, since there are many."""
     head = struct.pack(">BBIII", 0 if stub else 2, kind, ident, adv, 0x80000001)
-    octets = head + b"\0\0" + struct.pack(">H", 20 + len(body)) + body
-    length = len(octets)
-    first = sum(octets) % 255
-    second = sum(map(int.__mul__, octets, WEIGHTS[-length:])) % 255
+    data = head + b"\0\0" + struct.pack(">H", 20 + len(body)) + body
+    length = len(data)
+    first = sum(data) % 255
+    second = sum(map(int.__mul__, data, WEIGHTS[-length:])) % 255
     check = ((length - 15) * first - second) % 255 or 255, (second - (length - 14) * first) % 255 or 255
-    return b"\0\1" + head + bytes(check) + octets[16:]
+    return b"\0\1" + head + bytes(check) + data[16:]
 
 
 @dataclass

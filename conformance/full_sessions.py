@@ -48,7 +48,7 @@ def stopped(dump: bytes, fault: str) -> Case:
 
 
 def lengths():
-    """A dump of version 2 may have 17,825,792 octets, every other one 16,777,216: what is longer is refused before its
+    """A dump of version 2 may have 17,825,792 bytes, every other one 16,777,216: what is longer is refused before its
     content is looked at."""
     empty = session(SAMPLE, [], [])
     fronts = [
@@ -62,42 +62,42 @@ def lengths():
         ("version 3 behind another magic", b"PSWP\3" + empty[5:], LONGEST_DUMP, "L1 BadMagic at 0"),
     ]
     for name, front, most, fault in fronts:
-        yield f"{most} octets, {name}", stopped(filled(front, most), fault)
-        yield f"{most + 1} octets, {name}", stopped(filled(front, most + 1), "L13 TooLarge at 0")
-    yield f"{LONGEST_DUMP + 1} octets, a session", stopped(filled(empty, LONGEST_DUMP + 1), f"L4 TrailingBytes at {len(empty)}")
-    yield f"{LONGEST_SESSION + 1} octets, version 3", stopped(
+        yield f"{most} bytes, {name}", stopped(filled(front, most), fault)
+        yield f"{most + 1} bytes, {name}", stopped(filled(front, most + 1), "L13 TooLarge at 0")
+    yield f"{LONGEST_DUMP + 1} bytes, a session", stopped(filled(empty, LONGEST_DUMP + 1), f"L4 TrailingBytes at {len(empty)}")
+    yield f"{LONGEST_SESSION + 1} bytes, version 3", stopped(
         filled(empty[:4] + b"\3", LONGEST_SESSION + 1), "L13 TooLarge at 0"
     )
 
 
 def longest_bases():
-    """A base may have as many octets as a dump of version 1: with one more it is refused once it is read, whatever follows."""
+    """A base may have as many bytes as a dump of version 1: with one more it is refused once it is read, whatever follows."""
     base, passes = long_dump(84, GROWTHS), long_dump(85, GROWTHS)
     assert (len(base), len(passes)) == (LONGEST_DUMP, LONGEST_DUMP + 1)
     same, drop, info = "cost 0.0.0.0 1.1.1.1 1 10", "drop-link 0.0.0.0 1.1.1.1 2", "info areas 1 lsas 4 as 257 vbits 0 vlinks 0"
     opened = session(base, [same], [drop])
-    yield "a base of 16777216 octets", goes_on(
+    yield "a base of 16777216 bytes", goes_on(
         opened, [("info", f"{info} done 1 undone 1"), ("@1 info", f"{info} done 0 undone 0")], base, opened
     )
     lines = [(ADD_STUB, FULL), ("redo 1", "ok"), (ADD_STUB, "ok"), (ADD_STUB, FULL)]
-    yield "a base of 16777216 octets, and edits", goes_on(opened, lines, base, session(base, [same, drop, ADD_STUB], []))
+    yield "a base of 16777216 bytes, and edits", goes_on(opened, lines, base, session(base, [same, drop, ADD_STUB], []))
     shorter = long_dump(84, (ADD_SUMMARY, ADD_EXTERNAL))
-    yield "a base of 16777216 octets that is shorter now", goes_on(
+    yield "a base of 16777216 bytes that is shorter now", goes_on(
         session(base, [same, drop], []), [("undo 0", "ok")], shorter, session(base, [same, drop], [])
     )
     first = LONGEST_DUMP + 4
-    yield "a base of 16777216 octets, and an edit that adds", stopped(
+    yield "a base of 16777216 bytes, and an edit that adds", stopped(
         session(base, [ADD_STUB], []), f"L15 BadHistory 0 at {first}"
     )
-    yield "a base of 16777216 octets, and an undone edit that adds", stopped(
+    yield "a base of 16777216 bytes, and an undone edit that adds", stopped(
         session(base, [same], [ADD_STUB]), f"L15 BadHistory 1 at {first + len(same) + 1}"
     )
-    yield "a base of 16777216 octets without numbers", stopped(as_base(base), f"L3 Truncated at {LONGEST_DUMP}")
-    yield "a base of 16777217 octets", stopped(session(passes, [], []), "L13 TooLarge at 0")
-    yield "a base of 16777217 octets, and edits", stopped(session(passes, [same], [drop]), "L13 TooLarge at 0")
-    yield "a base of 16777217 octets without numbers", stopped(as_base(passes), "L13 TooLarge at 0")
+    yield "a base of 16777216 bytes without numbers", stopped(as_base(base), f"L3 Truncated at {LONGEST_DUMP}")
+    yield "a base of 16777217 bytes", stopped(session(passes, [], []), "L13 TooLarge at 0")
+    yield "a base of 16777217 bytes, and edits", stopped(session(passes, [same], [drop]), "L13 TooLarge at 0")
+    yield "a base of 16777217 bytes without numbers", stopped(as_base(passes), "L13 TooLarge at 0")
     last = len(passes) - 36
-    yield "a fault at the end of a base of 16777217 octets", stopped(
+    yield "a fault at the end of a base of 16777217 bytes", stopped(
         as_base(passes[:last + 16] + b"\x80\x24" + passes[last + 18:]), f"L9 Lsa Checksum at {last}"
     )
 

@@ -23,17 +23,17 @@ Exchange = tuple[str, str]
 
 
 def dotted(address: int) -> str:
-    return ".".join(str(octet) for octet in address.to_bytes(4, "big"))
+    return ".".join(str(byte) for byte in address.to_bytes(4, "big"))
 
 
 def lsa(kind: int, ident: int, adv: int, body: bytes) -> bytes:
     """An LSA with its checksum (RFC 2328, 12.1.7; RFC 905, annex B)."""
     front = struct.pack(">BBIII", 2, kind, ident, adv, 0x80000001)
-    octets = front + b"\0\0" + struct.pack(">H", 20 + len(body)) + body
-    count = len(octets)
-    first, second = sum(octets), sum(map(int.__mul__, octets, range(count, 0, -1)))
+    data = front + b"\0\0" + struct.pack(">H", 20 + len(body)) + body
+    count = len(data)
+    first, second = sum(data), sum(map(int.__mul__, data, range(count, 0, -1)))
     check = ((count - 15) * first - second) % 255, (second - (count - 14) * first) % 255
-    return b"\0\1" + front + bytes(octet or 255 for octet in check) + octets[16:]
+    return b"\0\1" + front + bytes(byte or 255 for byte in check) + data[16:]
 
 
 def router(ident: int, links: list[Link], flags: int = 0) -> bytes:
@@ -46,7 +46,7 @@ def summary(network: int, mask: int, adv: int, metric: int) -> bytes:
 
 
 def external(network: int, adv: int, metric: int, forward: int = 0) -> bytes:
-    """An AS-external-LSA of a network of 24 bits; the bit E stands in the metric's first octet."""
+    """An AS-external-LSA of a network of 24 bits; the bit E stands in the metric's first byte."""
     return lsa(5, network, adv, struct.pack(">IIII", 0xFFFFFF00, metric, forward, 0))
 
 
@@ -93,7 +93,7 @@ def chain(size: int) -> Case:
 
 
 def longest(count: int) -> Case:
-    """LSAs of 65,535 octets of which nothing is calculated, and one of 241: 256 of them fill a dump."""
+    """LSAs of 65,535 bytes of which nothing is calculated, and one of 241: 256 of them fill a dump."""
     lsas = [lsa(8, place, R1, bytes(LONGEST_LSA - 20)) for place in range(count)] + [lsa(8, count, R1, bytes(221))]
     info = f"info areas 1 lsas {count + 1} as 0 vbits 0 vlinks 0 done 0 undone 0"
     return run_of(dump_of([lsas], []), [("@1 info", info), ("tables", "tables 0"), ("refresh", "ok"), ("undo 1", "ok")])
@@ -288,7 +288,7 @@ def edits(count: int) -> Case:
 # Each network, the size at which it meets a limit, and what there is so many of.
 NETWORKS: list[tuple[Callable[[int], Case], int, str]] = [
     (chain, MOST_LSAS, "routers in a chain"),
-    (longest, LONGEST_DUMP // LONGEST_LSA, "LSAs of 65535 octets"),
+    (longest, LONGEST_DUMP // LONGEST_LSA, "LSAs of 65535 bytes"),
     (externals, MOST_AS_LSAS, "networks outside the AS"),
     (areas, MOST_AREAS, "areas of one router"),
     (links, MOST_LINKS, "links of one router"),

@@ -23,7 +23,7 @@ class Run:
     replies: bytes
     out: bytes
     saved: bytes
-    # The sizes of the address spaces, in octets.
+    # The sizes of the address spaces, in bytes.
     sizes: list[int]
 
 
@@ -62,7 +62,7 @@ def tables() -> Run:
 
 
 def ended_in(size: int, run: Run, program: str, folder: pathlib.Path) -> tuple[int, bytes, str, bytes | None, bytes | None]:
-    """Status, replies, standard error, and the dump and the session written in an address space of so many octets."""
+    """Status, replies, standard error, and the dump and the session written in an address space of so many bytes."""
     dump, out, save = (folder / f"limited.{name}" for name in ("dump", "out", "save"))
     dump.write_bytes(run.dump)
     out.unlink(missing_ok=True)
@@ -82,7 +82,7 @@ def checks(program: str, folder: pathlib.Path):
             status, replies, *left = ended_in(size, run, program, folder)
             is_whole = (status, replies, *left) == (0, run.replies, "", run.out, run.saved)
             is_part = (status, *left) == (5, "memory: OutOfMemory\n", None, None) and run.replies.startswith(replies)
-            yield f"{run.name} in {size} octets of memory", [] if is_whole or is_part else ["status, replies or files"]
+            yield f"{run.name} in {size} bytes of memory", [] if is_whole or is_part else ["status, replies or files"]
             lengths.add(len(replies))
         missing = [] if {0, len(run.replies)} <= lengths else ["the ends, none of the replies and all of them,"]
         missing += [] if len(lengths) > 3 else ["how far the replies come"]

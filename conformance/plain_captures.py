@@ -30,7 +30,7 @@ class Odd(Exception):
 @dataclasses.dataclass
 class Sighting:
     """An LSA in its scope, which is an area, or the AS where that is none; and its moment in nanoseconds since 1970.
-    Of the header of an LSA it has these 20 octets alone."""
+    Of the header of an LSA it has these 20 bytes alone."""
 
     area: int | None
     seen: int | None
@@ -74,11 +74,11 @@ def scope(kind: int, area: int | None) -> int | None:
 class Frame:
     link: int
     seen: int | None
-    octets: bytes
+    data: bytes
     original: int
 
     def is_cut(self) -> bool:
-        return len(self.octets) < self.original
+        return len(self.data) < self.original
 
 
 # The byte order and the nanoseconds of a unit, by the magic number.
@@ -121,8 +121,8 @@ class Pcapng:
         self.interfaces: list[tuple[int, int, int | None]] = []
         self.frames: list[Frame] = []
 
-    def number(self, octets: bytes) -> int:
-        return int.from_bytes(octets, self.order)
+    def number(self, data: bytes) -> int:
+        return int.from_bytes(data, self.order)
 
     def refuse(self, fault: str):
         raise Refused(fault, self.at)
@@ -175,8 +175,8 @@ class Pcapng:
             return 1_000_000
         if len(resolution) != 1:
             return None
-        octet = resolution[0]
-        units = 2 ** (octet - 128) if octet >= 128 else 10 ** octet
+        byte = resolution[0]
+        units = 2 ** (byte - 128) if byte >= 128 else 10 ** byte
         return units if units < 2 ** 64 else None
 
     def interface(self, block: bytes) -> None:
@@ -229,20 +229,20 @@ TAGS = (0x8100, 0x88A8, 0x9100)
 def carried(frame: Frame) -> bytes:
     """What a frame carries as IPv4."""
     if frame.link in (101, 228):
-        return frame.octets
+        return frame.data
     if frame.link not in LINKS:
         raise Odd("OtherLink")
     size, at = LINKS[frame.link]
-    if len(frame.octets) < size:
+    if len(frame.data) < size:
         raise Odd("Truncated")
-    kind, octets = number(frame.octets[at:at + 2]), frame.octets[size:]
+    kind, data = number(frame.data[at:at + 2]), frame.data[size:]
     while kind in TAGS:
-        if len(octets) < 4:
+        if len(data) < 4:
             raise Odd("Truncated")
-        kind, octets = number(octets[2:4]), octets[4:]
+        kind, data = number(data[2:4]), data[4:]
     if kind != 0x0800:
         raise Odd("NotIpv4")
-    return octets
+    return data
 
 
 @dataclasses.dataclass
@@ -257,21 +257,21 @@ class Datagram:
 
 
 def datagram_of(frame: Frame) -> Datagram:
-    octets = carried(frame)
-    if len(octets) < 20:
+    data = carried(frame)
+    if len(data) < 20:
         raise Odd("Truncated")
-    if octets[0] >> 4 != 4:
+    if data[0] >> 4 != 4:
         raise Odd("NotIpv4")
-    if octets[9] != 89:
+    if data[9] != 89:
         raise Odd("NotOspf")
-    header, total = octets[0] % 16 * 4, number(octets[2:4])
-    if header < 20 or total < header or (total > len(octets) and not frame.is_cut()):
+    header, total = data[0] % 16 * 4, number(data[2:4])
+    if header < 20 or total < header or (total > len(data) and not frame.is_cut()):
         raise Odd("BadLength")
-    if len(octets) < header:
+    if len(data) < header:
         raise Odd("Truncated")
-    flags = number(octets[6:8])
-    return Datagram(octets[12:20] + octets[4:6], flags % 8192 * 8, bool(flags & 0x2000), total <= len(octets),
-                    octets[header:total])
+    flags = number(data[6:8])
+    return Datagram(data[12:20] + data[4:6], flags % 8192 * 8, bool(flags & 0x2000), total <= len(data),
+                    data[header:total])
 
 
 def datagrams_of(frames: list[Frame]) -> list[Datagram]:
@@ -299,9 +299,9 @@ def payload_of(first: Datagram, behind: list[Frame]) -> bytes:
 # ---- what packets tell
 
 
-def word_sum(octets: bytes) -> int:
-    octets += b"\0" * (len(octets) % 2)
-    return sum(number(octets[at:at + 2]) for at in range(0, len(octets), 2))
+def word_sum(data: bytes) -> int:
+    data += b"\0" * (len(data) % 2)
+    return sum(number(data[at:at + 2]) for at in range(0, len(data), 2))
 
 
 class Capture:
@@ -341,42 +341,42 @@ class Capture:
         length = number(payload[2:4])
         if length < 24 or (whole and length > len(payload)):
             raise Odd("BadLength")
-        whole, octets = length <= len(payload), payload[:length]
-        if whole and number(octets[14:16]) < 2 and (word_sum(octets[:16]) + word_sum(octets[24:])) % 65535:
+        whole, data = length <= len(payload), payload[:length]
+        if whole and number(data[14:16]) < 2 and (word_sum(data[:16]) + word_sum(data[24:])) % 65535:
             raise Odd("BadChecksum")
         lack = "BadLength" if whole else "Truncated"
-        if octets[1] == 1:
-            self.hello(octets, lack)
-        elif octets[1] == 4:
-            self.update(octets, lack, seen)
-        elif octets[1] == 2:
-            self.headers(octets, 32, lack, seen)
-        elif octets[1] == 5:
-            self.headers(octets, 24, lack, seen)
-        elif octets[1] != 3:
+        if data[1] == 1:
+            self.hello(data, lack)
+        elif data[1] == 4:
+            self.update(data, lack, seen)
+        elif data[1] == 2:
+            self.headers(data, 32, lack, seen)
+        elif data[1] == 5:
+            self.headers(data, 24, lack, seen)
+        elif data[1] != 3:
             raise Odd("OtherType")
 
-    def hello(self, octets: bytes, lack: str) -> None:
-        if len(octets) < 44:
+    def hello(self, data: bytes, lack: str) -> None:
+        if len(data) < 44:
             raise Odd(lack)
-        kind = "ordinary" if octets[30] & 2 else "nssa" if octets[30] & 8 else "stub"
-        self.told.kinds.append((number(octets[8:12]), kind))
+        kind = "ordinary" if data[30] & 2 else "nssa" if data[30] & 8 else "stub"
+        self.told.kinds.append((number(data[8:12]), kind))
 
-    def headers(self, octets: bytes, before: int, lack: str, seen: int | None) -> None:
-        """LSA headers, which fill the packet behind so many octets."""
-        if len(octets) < before:
+    def headers(self, data: bytes, before: int, lack: str, seen: int | None) -> None:
+        """LSA headers, which fill the packet behind so many bytes."""
+        if len(data) < before:
             raise Odd(lack)
-        area = number(octets[8:12])
-        for at in range(before, len(octets) - 19, 20):
-            self.told.headers.append(Sighting(scope(octets[at + 3], area), seen, octets[at:at + 20]))
-        if (len(octets) - before) % 20:
+        area = number(data[8:12])
+        for at in range(before, len(data) - 19, 20):
+            self.told.headers.append(Sighting(scope(data[at + 3], area), seen, data[at:at + 20]))
+        if (len(data) - before) % 20:
             raise Odd(lack)
 
-    def update(self, octets: bytes, lack: str, seen: int | None) -> None:
-        if len(octets) < 28:
+    def update(self, data: bytes, lack: str, seen: int | None) -> None:
+        if len(data) < 28:
             raise Odd(lack)
-        rest = octets[28:]
-        for _ in range(number(octets[24:28])):
+        rest = data[28:]
+        for _ in range(number(data[24:28])):
             length = number(rest[18:20])
             if len(rest) < 20 or (length >= 20 and length > len(rest)):
                 raise Odd(lack)
@@ -386,7 +386,7 @@ class Capture:
             if fault:
                 self.odd[f"RefusedLsa {fault}"] += 1
             else:
-                self.told.sightings.append(Sighting(scope(rest[3], number(octets[8:12])), seen, rest[:length]))
+                self.told.sightings.append(Sighting(scope(rest[3], number(data[8:12])), seen, rest[:length]))
             rest = rest[length:]
 
 
@@ -402,7 +402,7 @@ def told_by_capture(file: bytes) -> Told:
 
 BLANKS = b" \t\n\r"
 OSPF = [1, 3, 6, 1, 2, 1, 14]
-# The table of each name of the OSPF-MIB, the column of its octets, and its columns.
+# The table of each name of the OSPF-MIB, the column of its bytes, and its columns.
 COLUMNS = ["AreaId", "Type", "Lsid", "RouterId", "Sequence", "Age", "Checksum", "Advertisement"]
 TABLES = {4: ("ospfLsdb", 1), 12: ("ospfExtLsdb", 0), 19: ("ospfAsLsdb", 0)}
 NAMES = {"ospfImportAsExtern": (2, 3)} | {
@@ -452,19 +452,19 @@ def arcs_of(name: str) -> list[int] | None:
     return arcs[7:] if arcs[:7] == OSPF else None
 
 
-def octets_of(arcs: list[int], count: int) -> bytes:
+def bytes_of(arcs: list[int], count: int) -> bytes:
     if len(arcs) != count or max(arcs) > 255:
         raise Unreadable
     return bytes(arcs)
 
 
 def hexadecimal(text: bytes) -> bytes | None:
-    digits = bytes(octet for octet in text if octet not in BLANKS)
+    digits = bytes(byte for byte in text if byte not in BLANKS)
     return bytes.fromhex(digits.decode()) if re.fullmatch(rb"([0-9A-Fa-f]{2})*", digits) else None
 
 
-def octets_in(value: bytes) -> bytes | None:
-    """The octets of a value: in hexadecimal, or between quotes."""
+def bytes_in(value: bytes) -> bytes | None:
+    """The bytes of a value: in hexadecimal, or between quotes."""
     if value.startswith(b"Hex-STRING:"):
         return hexadecimal(value.removeprefix(b"Hex-STRING:"))
     quoted = re.fullmatch(rb'"((?:[^"\\]|\\.)*)"[ \t\n\r]*', value.removeprefix(b"STRING: "), re.DOTALL)
@@ -476,7 +476,7 @@ class Walk:
 
     def __init__(self, text: bytes):
         self.text, self.told, self.is_of_mib = text, Told("walk"), False
-        # The rows of which other columns are there, and those of which the octets are.
+        # The rows of which other columns are there, and those of which the bytes are.
         self.columns: set[tuple[bytes, bytes]] = set()
         self.rows: set[tuple[bytes, bytes]] = set()
 
@@ -505,13 +505,13 @@ class Walk:
         index = arcs[3:]
         is_last = value.startswith(b"No more variables left in this MIB View")
         if entry == 1 and (table, column) == (2, 3):
-            area = number(octets_of(index, 4))
+            area = number(bytes_of(index, 4))
             if not is_last:
                 self.kind(area, value)
         elif entry == 1 and table in TABLES:
             in_area = table == 4
-            octets = octets_of(index, 13 if in_area else 9)
-            row = (octets[:4], octets[4:]) if in_area else (b"", octets)
+            data = bytes_of(index, 13 if in_area else 9)
+            row = (data[:4], data[4:]) if in_area else (b"", data)
             if not is_last:
                 self.column(row, column == 7 + TABLES[table][1], value)
         self.is_of_mib = True
@@ -523,13 +523,13 @@ class Walk:
         else:
             self.told.holes.append(f"Kind area {address(area)}")
 
-    def column(self, row: tuple[bytes, bytes], is_octets: bool, value: bytes) -> None:
-        if not is_octets:
+    def column(self, row: tuple[bytes, bytes], is_data: bool, value: bytes) -> None:
+        if not is_data:
             self.columns.add(row)
             return
         self.rows.add(row)
         area, key = row
-        lsa = octets_in(value)
+        lsa = bytes_in(value)
         if lsa is None:
             self.row_hole(row, "NotOctets")
         elif fault := fault_of_lsa(lsa):
