@@ -1,8 +1,8 @@
-"""Dumps that lie: bytes that are set to other values, beside a plain reader of docs/FORMATS.md.
+"""Malformed dumps: bytes that are set to other values, and a plain reader of docs/FORMATS.md to compare with.
 
 Each byte of the sample, and of a saved session on it, is set to each of its 256 values, and both are cut everywhere. Of
 a dump with LSAs of several types, in areas of both kinds, each byte is set to some, as it is and with the checksum of
-its LSA made good again, so that what is tested behind the checksum is reached too. The program must refuse exactly what
+its LSA made good again, so that what is tested after the checksum is reached too. The program must refuse exactly what
 the plain reader refuses, for the same fault at the same offset, and what it opens it must write back byte for byte.
 """
 import os
@@ -52,11 +52,11 @@ def with_checksum(lsa: bytes) -> bytes:
 
 
 def some_values(byte: int) -> set[int]:
-    """Values that a byte is set to: the ends, its neighbours, and its top bit turned."""
+    """Values that a byte is set to: the ends, its neighbors, and its top bit flipped."""
     return {0, 1, 255, (byte + 1) % 256, (byte - 1) % 256, byte ^ 128} - {byte}
 
 
-def lies():
+def variants():
     """The dumps."""
     for whole in (SAMPLE, SESSION):
         for place in range(len(whole)):
@@ -105,11 +105,11 @@ def checks(program: str):
     there are many."""
     tried = accepted = 0
     with tempfile.TemporaryDirectory(dir="/dev/shm" if os.path.isdir("/dev/shm") else None) as folder:
-        for dump in lies():
+        for dump in variants():
             refusal = plain_reader.refusal(dump)
             tried += 1
             accepted += not refusal
             if not is_as_read(program, dump, refusal, pathlib.Path(folder)):
-                yield "dumps that lie", [f"the program and the plain reader of {dump.hex()}"]
+                yield "malformed dumps", [f"the program and the plain reader of {dump.hex()}"]
                 return
-    yield f"{tried} dumps that lie, of which {accepted} are accepted", []
+    yield f"{tried} malformed dumps, of which {accepted} are accepted", []

@@ -1,9 +1,10 @@
-"""Captures and walks that lie, beside a plain reader of docs/CAPTURE.md.
+"""Malformed captures and walks, and a plain reader of docs/CAPTURE.md to compare with.
 
 Small files of each format are cut everywhere, each of their bytes is set to some other values, and fields that are
-lengths or counts to values that lie. Packets are changed too with their checksums made good again, so that what is tested
-behind the checksums is reached. The program must refuse exactly what the plain reader refuses, for the same fault at the
-same offset. Of what it reads it must tell the same number of LSAs and areas, each hole, and what headers name, and write the same dump.
+lengths or counts to wrong values. Packets are changed too with their checksums made good again, so that what is tested
+after the checksums is reached. The program must refuse exactly what the plain reader refuses, for the same fault at the
+same offset. For what it reads it must report the same number of LSAs and
+areas, each finding, and what headers name, and write the same dump.
 """
 import os
 import pathlib
@@ -12,7 +13,7 @@ import struct
 import tempfile
 
 import plain_captures
-from lying import ended, with_checksum, with_byte
+from lying import ended, with_byte, with_checksum
 from plain_reader import number
 
 # The lines of areas without a kind, and of LSAs that headers name.
@@ -39,14 +40,14 @@ def raw(make, *packets: bytes) -> bytes:
 
 
 def instances(make) -> bytes:
-    """Copies of an LSA before its flush and behind it, and an older instance of another."""
+    """Copies of an LSA before its flush and after it, and an older instance of another."""
     older = with_checksum(with_field(SUMMARY, 12, 4, 0x80000001))
     updates = [(make.ONE, SUMMARY), (make.aged(make.ONE, 3600), older), (make.aged(make.ONE, 0),)]
     return raw(make, *(make.update(*lsas) for lsas in updates))
 
 
 def blocks(make, order: str) -> bytes:
-    """A pcapng file with options of its interface, a block that tells nothing, and both packet blocks."""
+    """A pcapng file with options of its interface, a block that is ignored, and both packet blocks."""
     def numbers(form: str, *values: int) -> bytes:
         return struct.pack(order + form, *values)
 
@@ -70,7 +71,7 @@ def named(walk: bytes) -> bytes:
 
 
 def walk(make) -> bytes:
-    """A walk of a stub area, with a row whose bytes are lacking, and an AS-external-LSA."""
+    """A walk of a stub area, with a row whose bytes are missing, and an AS-external-LSA."""
     lines = ".1.3.6.1.2.1.14.2.1.3.0.0.0.1 = INTEGER: 2\n" + make.row(make.ONE, "0.0.0.1.")
     lines += make.column("4.1.5", make.TWO, "INTEGER: 5", "0.0.0.1.")
     pairs = " ".join(f"{byte:02X}" for byte in EXTERNAL)
@@ -101,16 +102,16 @@ def samples(make) -> list[bytes]:
     ]
 
 
-# ---- lies
+# ---- changed files
 
 
 def some_values(byte: int) -> set[int]:
-    """Values that a byte is set to: the ends, the next one, and its top and its lowest bit turned."""
+    """Values that a byte is set to: the ends, the next one, and its top and its lowest bit flipped."""
     return {0, 255, (byte + 1) % 256, byte ^ 128, byte ^ 1} - {byte}
 
 
 def false_values(true: int, size: int) -> set[int]:
-    """Values of a length or a count that lie: the ends, about its own value, and about the lengths of headers."""
+    """Wrong values of a length or a count: the ends, about its own value, and about the lengths of headers."""
     about = {true - 1, true + 1, true + 4, 2 * true, 12, 19, 20, 24, 28, 32, 44, 262_144, 262_145, 16_777_220}
     top = 256 ** size - 1
     return {value for value in about | {0, 1, top, top - 3, top // 2 + 1} if 0 <= value <= top} - {true}
@@ -154,14 +155,14 @@ def good_packets(make):
     for index, lsa in enumerate(lsas):
         for place, byte in enumerate(lsa):
             for value in some_values(byte):
-                lie = with_checksum(with_byte(lsa, place, value))
-                yield make.update(*lsas[:index], lie, *lsas[index + 1:], area=1)
+                changed = with_checksum(with_byte(lsa, place, value))
+                yield make.update(*lsas[:index], changed, *lsas[index + 1:], area=1)
         for place in (18, 22):
             for value in false_values(number(lsa[place:place + 2]), 2):
                 yield make.update(with_checksum(with_field(lsa, place, 2, value)), SUMMARY)
 
 
-def lies(make):
+def variants(make):
     """The files."""
     for whole in samples(make):
         for place, byte in enumerate(whole):
@@ -199,7 +200,7 @@ def is_as_read(program: str, data: bytes, folder: pathlib.Path) -> tuple[bool, b
         return (status, said, error.decode(), left) == (3, b"", f"dump: {refused.fault}\n", None), False
     lines = error.decode().splitlines()
     lacks = plain_captures.unnamed([told]) + plain_captures.named([told])
-    # There may be more holes, of the database.
+    # There may be more findings, of the database.
     is_told = set(holes) <= set(lines) and [line for line in lines if LACK.match(line)] == lacks
     is_told = is_told and status in ((1,) if holes or lacks else (0, 1))
     return is_told and (said.decode(), left) == (f"{file}: {told.line()}\n", dump), True
@@ -210,11 +211,11 @@ def checks(program: str, make):
     The files are in memory where they can be, since there are many."""
     tried = accepted = 0
     with tempfile.TemporaryDirectory(dir="/dev/shm" if os.path.isdir("/dev/shm") else None) as folder:
-        for data in lies(make):
+        for data in variants(make):
             is_same, is_dump = is_as_read(program, data, pathlib.Path(folder))
             tried += 1
             accepted += is_dump
             if not is_same:
-                yield "files that lie", [f"the program and the plain reader of {data.hex()}"]
+                yield "malformed files", [f"the program and the plain reader of {data.hex()}"]
                 return
-    yield f"{tried} files that lie, of which {accepted} make a dump", []
+    yield f"{tried} malformed files, of which {accepted} make a dump", []

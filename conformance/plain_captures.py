@@ -1,8 +1,8 @@
-"""Reads captures and SNMP walks as docs/CAPTURE.md has it, in plain steps: what a file tells, or why it is refused; and
-the dump that files make.
+"""Reads captures and SNMP walks as docs/CAPTURE.md has it, in plain steps: what a file contains, or why it is refused;
+and the dump that files make.
 
 It was written from that page and the descriptions of the formats (draft-ietf-opsawg-pcap, draft-ietf-opsawg-pcapng,
-RFC 791, RFC 2328, RFC 4750), so that it can be put beside the program. Nothing in it is fast.
+RFC 791, RFC 2328, RFC 4750), so that it can be compared with the program. Nothing in it is fast.
 """
 import collections
 import dataclasses
@@ -24,13 +24,13 @@ class Refused(Exception):
 
 
 class Odd(Exception):
-    """Why a frame, or a part of it, can not be used."""
+    """Why a frame, or a part of it, cannot be used."""
 
 
 @dataclasses.dataclass
 class Sighting:
-    """An LSA in its scope, which is an area, or the AS where that is none; and its moment in nanoseconds since 1970.
-    Of the header of an LSA it has these 20 bytes alone."""
+    """An LSA in its scope, which is an area, or the AS where that is `None`; and its moment in nanoseconds since 1970.
+    For the header of an LSA, `lsa` has only its 20 bytes."""
 
     area: int | None
     seen: int | None
@@ -43,8 +43,7 @@ class Sighting:
 
 @dataclasses.dataclass
 class Told:
-    """What a file tells: LSAs, headers of LSAs, the kind of areas as `ordinary`, `stub` or `nssa`, and what is to be told
-    besides."""
+    """What a file contains: LSAs, headers of LSAs, the kinds of areas as `ordinary`, `stub` or `nssa`, and the findings."""
 
     word: str
     sightings: list[Sighting] = dataclasses.field(default_factory=list)
@@ -53,7 +52,7 @@ class Told:
     holes: list[str] = dataclasses.field(default_factory=list)
 
     def line(self) -> str:
-        """What standard output has behind the name of the file."""
+        """What standard output has after the name of the file."""
         areas = {area for area, _ in self.kinds} | {sighting.area for sighting in self.sightings} - {None}
         return f"{self.word}, {len(self.sightings)} LSAs, {len(areas)} areas"
 
@@ -158,16 +157,16 @@ class Pcapng:
         """The value of the first option of this code."""
         while len(options) >= 4:
             found, size = self.number(options[:2]), self.number(options[2:4])
-            behind = 4 + size + -size % 4
-            if found == 0 or behind > len(options):
+            end = 4 + size + -size % 4
+            if found == 0 or end > len(options):
                 return None
             if found == code:
                 return options[4:4 + size]
-            options = options[behind:]
+            options = options[end:]
         return None
 
     def units(self, options: bytes) -> int | None:
-        """The units in a second, where moments are told."""
+        """The units in a second, where time stamps have a known unit."""
         resolution = self.option(options, 9)
         if self.option(options, 14) is not None:
             return None
@@ -285,10 +284,10 @@ def datagrams_of(frames: list[Frame]) -> list[Datagram]:
     return found
 
 
-def payload_of(first: Datagram, behind: list[Frame]) -> bytes:
-    """The payload of a datagram, put together of its fragments."""
+def payload_of(first: Datagram, later: list[Frame]) -> bytes:
+    """The payload of a datagram, joined from its fragments."""
     payload = first.payload
-    for datagram in datagrams_of(behind):
+    for datagram in datagrams_of(later):
         if datagram.name == first.name and datagram.before == len(payload) and datagram.whole:
             payload += datagram.payload
             if not datagram.more:
@@ -296,7 +295,7 @@ def payload_of(first: Datagram, behind: list[Frame]) -> bytes:
     raise Odd("MissingFragment")
 
 
-# ---- what packets tell
+# ---- what packets contain
 
 
 def word_sum(data: bytes) -> int:
@@ -305,7 +304,7 @@ def word_sum(data: bytes) -> int:
 
 
 class Capture:
-    """What the frames of a capture tell."""
+    """What the frames of a capture contain."""
 
     def __init__(self, frames: list[Frame]):
         self.frames, self.told = frames, Told("capture")
@@ -363,7 +362,7 @@ class Capture:
         self.told.kinds.append((number(data[8:12]), kind))
 
     def headers(self, data: bytes, before: int, lack: str, seen: int | None) -> None:
-        """LSA headers, which fill the packet behind so many bytes."""
+        """LSA headers, which fill the packet after this number of bytes."""
         if len(data) < before:
             raise Odd(lack)
         area = number(data[8:12])
@@ -416,7 +415,7 @@ KINDS = {b"1": "ordinary", b"importExternal(1)": "ordinary", b"2": "stub", b"imp
 
 
 class Unreadable(Exception):
-    """A name, or the index in it, can not be read."""
+    """A name, or the index in it, cannot be read."""
 
 
 def objects(text: bytes) -> list[tuple[bytes, bytes]]:
@@ -440,7 +439,7 @@ def arc(word: str) -> int:
 
 
 def arcs_of(name: str) -> list[int] | None:
-    """A name as numbers, and none where it is of something else."""
+    """A name as numbers, or `None` where it is of something else."""
     head, dot, rest = name.partition(".")
     heads = {"": [], "iso": [1], "SNMPv2-SMI::mib-2": OSPF[:6]}
     if not dot or not (head in heads or head.startswith("OSPF-MIB::")):
@@ -472,11 +471,11 @@ def bytes_in(value: bytes) -> bytes | None:
 
 
 class Walk:
-    """What the objects of a walk tell."""
+    """What the objects of a walk contain."""
 
     def __init__(self, text: bytes):
         self.text, self.told, self.is_of_mib = text, Told("walk"), False
-        # The rows of which other columns are there, and those of which the bytes are.
+        # The rows with other columns, and those with the bytes.
         self.columns: set[tuple[bytes, bytes]] = set()
         self.rows: set[tuple[bytes, bytes]] = set()
 
@@ -548,7 +547,7 @@ class Walk:
 
 
 def told_by(file: bytes) -> Told:
-    """What a file tells. Raises `Refused`."""
+    """What a file contains. Raises `Refused`."""
     is_capture = file[:4] == SECTION_HEADER or file[:4] in MAGIC_NUMBERS
     told = told_by_capture(file) if is_capture else Walk(file).read()
     told.holes += [f"Nssa area {address(area)}" for area in {area for area, kind in told.kinds if kind == "nssa"}]
@@ -593,22 +592,22 @@ def newest(sightings: list[Sighting], keeps: bool = False) -> list[Sighting]:
 
 
 def unnamed(files: list[Told], keeps: bool = False) -> list[str]:
-    """The lines of the areas of LSAs that stand, but for the backbone, of which no kind is told."""
+    """The lines of the areas of LSAs that stand, except the backbone, of which no file reports the kind."""
     standing = newest([sighting for file in files for sighting in file.sightings], keeps)
     areas = {sighting.area for sighting in standing} - {None, 0} - {area for file in files for area, _ in file.kinds}
     return [f"database: NoKind area {address(area)}" for area in sorted(areas)]
 
 
 def words(place: tuple) -> str:
-    """What names an LSA, in the words of a line."""
+    """What identifies an LSA, in the words of a line."""
     is_as_wide, area, kind, name, router = place
     key = f"type {kind} id {address(name)} adv {address(router)}"
     return key if is_as_wide else f"area {address(area)} {key}"
 
 
 def named(files: list[Told]) -> list[str]:
-    """The lines of the LSAs that headers below MaxAge name: those that no file has, and those of which all that files
-    have is older, by sequence number and checksum."""
+    """The lines of the LSAs that headers below MaxAge name: those that no file has, and those of which files have only
+    older instances, by sequence number and checksum."""
     shown = collections.defaultdict(list)
     for sighting in (sighting for file in files for sighting in file.sightings):
         shown[sighting.place()].append(instance(sighting.lsa)[:2])
@@ -621,7 +620,7 @@ def named(files: list[Told]) -> list[str]:
 
 
 def contradicted(files: list[Told]) -> list[str]:
-    """The lines of the areas of which files tell both that they are stub areas and that they are none."""
+    """The lines of the areas that files report both as stub areas and as others."""
     kinds: dict[int, set[bool]] = collections.defaultdict(set)
     for area, kind in (kind for file in files for kind in file.kinds):
         kinds[area].add(kind == "stub")
@@ -651,7 +650,7 @@ def ends_of(lsa: bytes, kinds: tuple[int, ...]) -> set[bytes]:
 
 
 def lacking(areas: dict[int, list[bytes]], as_wide: list[bytes]) -> list[str]:
-    """The lines of what a database lacks, as far as its LSAs tell, and of what the planner leaves out of it."""
+    """The lines of what a database lacks, as far as its LSAs show, and of what the planner leaves out of it."""
     lines: list[str] = []
     anywhere: set[bytes] = set()
     for area, lsas in sorted(areas.items()):

@@ -1,7 +1,7 @@
 """Reads what routers print of their databases, as texts and in JSON, and lists of LSA headers, as docs/CAPTURE.md has them,
 in plain steps: what a file contains, or why it is refused; and how a database differs from a list.
 
-It was written from that page, so that it can be put beside the program. Nothing in it is fast.
+It was written from that page, so that it can be compared with the program. Nothing in it is fast.
 """
 import dataclasses
 import json
@@ -384,7 +384,7 @@ class Heading:
 
 
 def heading_in(line: list[bytes]) -> Heading | None:
-    """The heading that a line is. Raises `Unreadable` where it is none."""
+    """The heading that a line is. Raises `Unreadable` where it is not one."""
     for title, kind in TITLES.items():
         text = Text(line)
         if text.begins(title):
@@ -438,7 +438,7 @@ class PrintedList:
             raise Refused("NotAList")
 
     def other_line(self, line: list[bytes], heading: Heading | None) -> Heading | None:
-        """A line that is no heading that is known; it answers the heading of the next."""
+        """A line that is not a known heading; answers the heading of the next line."""
         if Text(line).begins(b"OSPF Router with ID") or Text(line).begins(b"BIRD"):
             return None
         if b"(Area" in line or b"States" in line:

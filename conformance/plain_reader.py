@@ -1,7 +1,7 @@
 """Reads a dump as docs/FORMATS.md has it, in plain steps: which fault it is refused for, if any. Of saved sessions it
 reads those whose edits are all `cost`.
 
-It was written from that page and RFC 2328 alone, so that it can be put beside the program.
+It was written from that page and RFC 2328 alone, so that it can be compared with the program.
 """
 import dataclasses
 import re
@@ -82,7 +82,7 @@ def masks(lsa: bytes) -> list[bytes]:
 
 
 def fault_of_lsa(data: bytes) -> str | None:
-    """The first fault of the LSA at the front of bytes."""
+    """The first fault of the LSA at the front of these bytes."""
     if len(data) < 20:
         return "Truncated"
     length = number(data[18:20])
