@@ -189,21 +189,21 @@ def is_as_read(program: str, data: bytes, folder: pathlib.Path) -> tuple[bool, b
     if left is not None:
         out.unlink()
     try:
-        told = plain_captures.told_by(data)
+        contents = plain_captures.contents_of(data)
     except plain_captures.Refused as refused:
         line = f"{file}: {refused.fault} at {refused.offset}\n"
         return (status, said, error.decode(), left) == (3, b"", line, None), False
-    holes = [f"{file}: {hole}" for hole in told.holes]
+    holes = [f"{file}: {hole}" for hole in contents.holes]
     try:
-        dump = plain_captures.dump_of([told])
+        dump = plain_captures.dump_of([contents])
     except plain_captures.Refused as refused:
         return (status, said, error.decode(), left) == (3, b"", f"dump: {refused.fault}\n", None), False
     lines = error.decode().splitlines()
-    lacks = plain_captures.unnamed([told]) + plain_captures.named([told])
+    lacks = plain_captures.unnamed([contents]) + plain_captures.named([contents])
     # There may be more findings, of the database.
-    is_told = set(holes) <= set(lines) and [line for line in lines if LACK.match(line)] == lacks
-    is_told = is_told and status in ((1,) if holes or lacks else (0, 1))
-    return is_told and (said.decode(), left) == (f"{file}: {told.line()}\n", dump), True
+    is_same = set(holes) <= set(lines) and [line for line in lines if LACK.match(line)] == lacks
+    is_same = is_same and status in ((1,) if holes or lacks else (0, 1))
+    return is_same and (said.decode(), left) == (f"{file}: {contents.line()}\n", dump), True
 
 
 def checks(program: str, make):

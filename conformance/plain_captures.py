@@ -42,7 +42,7 @@ class Sighting:
 
 
 @dataclasses.dataclass
-class Told:
+class Contents:
     """What a file contains: LSAs, headers of LSAs, the kinds of areas as `ordinary`, `stub` or `nssa`, and the findings."""
 
     word: str
@@ -307,17 +307,17 @@ class Capture:
     """What the frames of a capture contain."""
 
     def __init__(self, frames: list[Frame]):
-        self.frames, self.told = frames, Told("capture")
+        self.frames, self.contents = frames, Contents("capture")
         self.odd: collections.Counter[str] = collections.Counter()
 
-    def read(self) -> Told:
+    def read(self) -> Contents:
         for place in range(len(self.frames)):
             try:
                 self.frame(place)
             except Odd as odd:
                 self.odd[str(odd)] += 1
-        self.told.holes = [f"{odd} {count}" for odd, count in self.odd.items() if odd not in ("NotIpv4", "NotOspf")]
-        return self.told
+        self.contents.holes = [f"{odd} {count}" for odd, count in self.odd.items() if odd not in ("NotIpv4", "NotOspf")]
+        return self.contents
 
     def frame(self, place: int) -> None:
         frame = self.frames[place]
@@ -359,7 +359,7 @@ class Capture:
         if len(data) < 44:
             raise Odd(lack)
         kind = "ordinary" if data[30] & 2 else "nssa" if data[30] & 8 else "stub"
-        self.told.kinds.append((number(data[8:12]), kind))
+        self.contents.kinds.append((number(data[8:12]), kind))
 
     def headers(self, data: bytes, before: int, lack: str, seen: int | None) -> None:
         """LSA headers, which fill the packet after this number of bytes."""
@@ -367,7 +367,7 @@ class Capture:
             raise Odd(lack)
         area = number(data[8:12])
         for at in range(before, len(data) - 19, 20):
-            self.told.headers.append(Sighting(scope(data[at + 3], area), seen, data[at:at + 20]))
+            self.contents.headers.append(Sighting(scope(data[at + 3], area), seen, data[at:at + 20]))
         if (len(data) - before) % 20:
             raise Odd(lack)
 
@@ -385,16 +385,16 @@ class Capture:
             if fault:
                 self.odd[f"RefusedLsa {fault}"] += 1
             else:
-                self.told.sightings.append(Sighting(scope(rest[3], number(data[8:12])), seen, rest[:length]))
+                self.contents.sightings.append(Sighting(scope(rest[3], number(data[8:12])), seen, rest[:length]))
             rest = rest[length:]
 
 
-def told_by_capture(file: bytes) -> Told:
+def contents_of_capture(file: bytes) -> Contents:
     frames, end = Pcapng(file).read() if file[:4] == SECTION_HEADER else pcap(file)
-    told = Capture(frames).read()
+    contents = Capture(frames).read()
     if end != len(file):
-        told.holes.append(f"Cut at {end}")
-    return told
+        contents.holes.append(f"Cut at {end}")
+    return contents
 
 
 # ---- walks
@@ -474,27 +474,27 @@ class Walk:
     """What the objects of a walk contain."""
 
     def __init__(self, text: bytes):
-        self.text, self.told, self.is_of_mib = text, Told("walk"), False
+        self.text, self.contents, self.is_of_mib = text, Contents("walk"), False
         # The rows with other columns, and those with the bytes.
         self.columns: set[tuple[bytes, bytes]] = set()
         self.rows: set[tuple[bytes, bytes]] = set()
 
-    def read(self) -> Told:
+    def read(self) -> Contents:
         for name, value in objects(self.text):
             try:
                 self.object(name, value)
             except Unreadable:
-                self.told.holes.append("Name")
+                self.contents.holes.append("Name")
         if not self.is_of_mib:
             raise Refused("UnknownKind", 0)
         for row in self.columns - self.rows:
             self.row_hole(row, "Missing")
-        return self.told
+        return self.contents
 
     def row_hole(self, row: tuple[bytes, bytes], fault: str) -> None:
         area, key = row
         where = f"area {address(area)} " if area else ""
-        self.told.holes.append(f"{fault} {where}type {key[0]} id {address(key[1:5])} adv {address(key[5:])}")
+        self.contents.holes.append(f"{fault} {where}type {key[0]} id {address(key[1:5])} adv {address(key[5:])}")
 
     def object(self, name: bytes, value: bytes) -> None:
         arcs = arcs_of(name.decode("latin-1"))
@@ -518,9 +518,9 @@ class Walk:
     def kind(self, area: int, value: bytes) -> None:
         word = re.match(rb"INTEGER: ([^ \t\n\r]*)", value)
         if word and word[1] in KINDS:
-            self.told.kinds.append((area, KINDS[word[1]]))
+            self.contents.kinds.append((area, KINDS[word[1]]))
         else:
-            self.told.holes.append(f"Kind area {address(area)}")
+            self.contents.holes.append(f"Kind area {address(area)}")
 
     def column(self, row: tuple[bytes, bytes], is_data: bool, value: bytes) -> None:
         if not is_data:
@@ -540,18 +540,18 @@ class Walk:
         elif not area and lsa[3] not in (5, 11):
             self.row_hole(row, "NoArea")
         else:
-            self.told.sightings.append(Sighting(scope(lsa[3], number(area)), None, lsa))
+            self.contents.sightings.append(Sighting(scope(lsa[3], number(area)), None, lsa))
 
 
 # ---- files, and the dump that they make
 
 
-def told_by(file: bytes) -> Told:
+def contents_of(file: bytes) -> Contents:
     """What a file contains. Raises `Refused`."""
     is_capture = file[:4] == SECTION_HEADER or file[:4] in MAGIC_NUMBERS
-    told = told_by_capture(file) if is_capture else Walk(file).read()
-    told.holes += [f"Nssa area {address(area)}" for area in {area for area, kind in told.kinds if kind == "nssa"}]
-    return told
+    contents = contents_of_capture(file) if is_capture else Walk(file).read()
+    contents.holes += [f"Nssa area {address(area)}" for area in {area for area, kind in contents.kinds if kind == "nssa"}]
+    return contents
 
 
 def seconds(lsa: bytes) -> int:
@@ -591,7 +591,7 @@ def newest(sightings: list[Sighting], keeps: bool = False) -> list[Sighting]:
     return found
 
 
-def unnamed(files: list[Told], keeps: bool = False) -> list[str]:
+def unnamed(files: list[Contents], keeps: bool = False) -> list[str]:
     """The lines of the areas of LSAs that stand, except the backbone, of which no file reports the kind."""
     standing = newest([sighting for file in files for sighting in file.sightings], keeps)
     areas = {sighting.area for sighting in standing} - {None, 0} - {area for file in files for area, _ in file.kinds}
@@ -605,7 +605,7 @@ def words(place: tuple) -> str:
     return key if is_as_wide else f"area {address(area)} {key}"
 
 
-def named(files: list[Told]) -> list[str]:
+def named(files: list[Contents]) -> list[str]:
     """The lines of the LSAs that headers below MaxAge name: those that no file has, and those of which files have only
     older instances, by sequence number and checksum."""
     shown = collections.defaultdict(list)
@@ -619,7 +619,7 @@ def named(files: list[Told]) -> list[str]:
             for place in sorted(places)]
 
 
-def contradicted(files: list[Told]) -> list[str]:
+def contradicted(files: list[Contents]) -> list[str]:
     """The lines of the areas that files report both as stub areas and as others."""
     kinds: dict[int, set[bool]] = collections.defaultdict(set)
     for area, kind in (kind for file in files for kind in file.kinds):
@@ -668,7 +668,7 @@ def lacking(areas: dict[int, list[bytes]], as_wide: list[bytes]) -> list[str]:
     return lines + lacks_of(asbrs, anywhere, "asbr") + left_out(as_wide, "")
 
 
-def dump_of(files: list[Told], keeps: bool = False) -> bytes:
+def dump_of(files: list[Contents], keeps: bool = False) -> bytes:
     """The dump that files make, with flushed LSAs where these are kept. Raises `Refused`."""
     standing = newest([sighting for file in files for sighting in file.sightings], keeps)
     kinds = [kind for file in files for kind in file.kinds]

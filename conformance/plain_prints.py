@@ -8,7 +8,7 @@ import json
 import re
 from collections.abc import Callable
 
-from plain_captures import Refused, Sighting, Told, address, is_at_max_age, scope, words
+from plain_captures import Contents, Refused, Sighting, address, is_at_max_age, scope, words
 from plain_reader import fault_of_lsa, number
 
 BLANKS = re.compile(rb"[ \t\n\r]+")
@@ -185,7 +185,7 @@ class PrintReading:
     """What a print contains, read one LSA after another."""
 
     def __init__(self, word: str):
-        self.found, self.unreadable = Told(word), 0
+        self.found, self.unreadable = Contents(word), 0
 
     def lsa(self, header: Header, body: bytes, area: int | None) -> None:
         made = header.lsa(body)
@@ -198,13 +198,13 @@ class PrintReading:
         else:
             self.found.sightings.append(Sighting(scope(header.kind, area), None, made))
 
-    def read(self) -> Told:
+    def read(self) -> Contents:
         if self.unreadable:
             self.found.holes.append(f"Unreadable {self.unreadable}")
         return self.found
 
 
-def read_text(file: bytes) -> Told:
+def read_text(file: bytes) -> Contents:
     """What a router prints as a text."""
     found, reading, area = [word for word in BLANKS.split(file) if word], PrintReading("printed"), None
     for at in range(len(found)):
@@ -334,7 +334,7 @@ def read_array(reading: PrintReading, value, kind: int, area: int | None) -> Non
             reading.unreadable += 1
 
 
-def read_document(file: bytes) -> Told:
+def read_document(file: bytes) -> Contents:
     """What a router prints in JSON. Raises `Refused`."""
     try:
         value = json.loads(file.decode(), object_pairs_hook=Members, parse_int=Number, parse_float=Number,

@@ -102,8 +102,8 @@ def hops(graph: dict[int, list[Edge]], root: int, near: dict[int, int]) -> dict[
             give((1, data), other)
             continue
         found[other].add((2, data))
-        for behind, _, address in tight(other):
-            give((3, data, address), behind)
+        for beyond, _, address in tight(other):
+            give((3, data, address), beyond)
     return found
 
 
