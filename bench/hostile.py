@@ -50,7 +50,7 @@ def dump_of(areas: list[list[bytes]], externals: list[bytes] = []) -> bytes:
 
 
 def as_long_as_may_be(lines: list[str]) -> list[str]:
-    """The lines again and again, as often as they fit into a script of 1,048,576 octets."""
+    """The lines again and again, as often as they fit into a script of 1,048,576 bytes."""
     return lines * (LONGEST_SCRIPT // sum(len(line) + 1 for line in lines))
 
 
@@ -65,7 +65,7 @@ def pair(flags: int = 3) -> list[bytes]:
 
 
 def star(size: int, there: int = 10, flags: int = 0) -> list[bytes]:
-    """A star of so many routers: 1.1.1.1, and routers from 1.1.1.2 on."""
+    """A star of this number of routers: 1.1.1.1, and routers from 1.1.1.2 on."""
     links = [(1, R1 + place, 0x0A000000 + place, there) for place in range(1, size)]
     return [router(R1, links)] + [router(R1 + place, [(1, R1, 1, 10)], flags) for place in range(1, size)]
 
@@ -84,7 +84,7 @@ def parallel() -> tuple[bytes, Scripts]:
 
 
 def identical() -> tuple[bytes, Scripts]:
-    """5,459 links of a router that are all equal, to routers that have as many back."""
+    """5,459 links of a router that are all equal, to routers that have the same number back."""
     lsas = [router(one, [(1, two, 7, 10)] * MOST_LINKS) for one, two in ((R1, R2), (R2, R1))]
     return dump_of([lsas]), {"table": undone([f"cost 0.0.0.0 {ONE} 1 9", f"table {ONE}"], 50)}
 
@@ -125,7 +125,7 @@ def mesh() -> tuple[bytes, Scripts]:
 
 
 def decreasing() -> tuple[bytes, Scripts]:
-    """Routers of which each has links to all after it, the farther the dearer: each distance is lowered again and again."""
+    """Routers of which each has links to all after it, the farther the costlier: each distance is lowered again and again."""
     size = 1000
     lsas = []
     for one in range(size):
@@ -186,7 +186,7 @@ def one_summary() -> tuple[bytes, Scripts]:
 
 
 def strange_summaries() -> tuple[bytes, Scripts]:
-    """8,190 summary-LSAs of one prefix, from as many routers that are not there."""
+    """8,190 summary-LSAs of one prefix, from the same number of routers that are not there."""
     lsas = pair() + [summary(3, 0x14000000, 0x20000000 + place, 8, 7) for place in range(MOST_LSAS - 2)]
     lines = [f"summary 0.0.0.0 {dotted(0x20000000 + place)} 20.0.0.0/8 9" for place in range(MOST_LSAS - 2)]
     return dump_of([lsas]), {"table": [f"table {ONE}"] * 100, "summary": lines, "refresh": ["refresh"] * 200}
@@ -206,7 +206,7 @@ def summaries_of_one() -> tuple[bytes, Scripts]:
 
 
 def boundary_routers() -> tuple[bytes, Scripts]:
-    """4,000 AS boundary routers behind one area border router, and 65,535 AS-external-LSAs of them in turn."""
+    """4,000 AS boundary routers beyond one area border router, and 65,535 AS-external-LSAs of them in turn."""
     boundary = [0x20000000 + place for place in range(4000)]
     lsas = pair() + [summary(4, each, R2, 0, 7) for each in boundary]
     externals = [external(0x40000000 + 256 * place, boundary[place * 7 % 4000], 24, 20) for place in range(MOST_AS_LSAS)]
@@ -250,7 +250,7 @@ def forward_to_hosts() -> tuple[bytes, Scripts]:
 
 
 def forward_past_hosts() -> tuple[bytes, Scripts]:
-    """A million routes to hosts, a default route before them, and forwarding addresses behind them that it alone covers."""
+    """A million routes to hosts, a default route before them, and forwarding addresses after them that it alone covers."""
     default = router(R3, [(1, R2, 1, 1)])
     dump = host_routes(default, [0x3F000000])
     return dump, {"table": [f"table {ONE}", f"add-stub 0.0.0.0 {ONE} 0.0.0.0/0 1", f"table {ONE}"]}
@@ -345,8 +345,8 @@ def same_keys() -> tuple[bytes, Scripts]:
 
 
 def falling_keys() -> tuple[bytes, Scripts]:
-    """55,535 AS-external-LSAs of one router: as many more as a branch may add, each with a Link State ID before all others;
-    and a default route that comes last of the LSAs, so that its prefix covers all and is that of one alone."""
+    """55,535 AS-external-LSAs of one router, and the 10,000 more that a branch may add, each with a Link State ID
+    before all others; and a default route that comes last of the LSAs: its prefix covers all others, and no other LSA has it."""
     count = MOST_AS_LSAS - 10_000
     externals = [external(0x80000000 + 256 * place, R2, 24, 20) for place in range(count - 1)] + [external(0xFFFFFFFF, R2, 0, 20)]
     adds = [f"add-external {TWO} {dotted(0x40000000 - 256 * place)}/24 2 7 0.0.0.0 0" for place in range(10_000)]
@@ -365,20 +365,20 @@ def falling_keys() -> tuple[bytes, Scripts]:
 
 
 def chain_behind_equal_ways() -> tuple[bytes, Scripts]:
-    """2,000 ways of equal cost to a router, and a chain of 4,000 routers behind it: each of them has 2,000 next hops."""
-    ways, behind = 2000, 4000
+    """2,000 ways of equal cost to a router, and a chain of 4,000 routers beyond it: each of them has 2,000 next hops."""
+    ways, beyond = 2000, 4000
     spokes = [0x20000000 + place for place in range(ways)]
     lsas = [router(R1, [(1, each, 0x0A000000 + place, 10) for place, each in enumerate(spokes)])]
     lsas += [router(each, [(1, R1, 1, 10), (1, R3, 2, 10)]) for each in spokes]
-    for place in range(behind):
-        links = [(1, R3 + place + 1, 1, 10)] if place < behind - 1 else [(3, 0x14000000, mask(8), 1)]
+    for place in range(beyond):
+        links = [(1, R3 + place + 1, 1, 10)] if place < beyond - 1 else [(3, 0x14000000, mask(8), 1)]
         links += [(1, R3 + place - 1, 2, 10)] if place else [(1, each, 2, 10) for each in spokes]
         lsas.append(router(R3 + place, links))
     return dump_of([lsas]), {"table": [f"table {ONE}"], "edit_table": undone([f"cost 0.0.0.0 {ONE} 1 11", f"table {ONE}"], 2)}
 
 
 def layers() -> tuple[bytes, Scripts]:
-    """Layers of 60 routers, each joined to all of the next, behind one router: 60 ways to each, and all of them join."""
+    """Layers of 60 routers, each joined to all of the next, beyond one router: 60 ways to each, and all of them join."""
     width, deep = 60, 100
     layer = [[0x20000000 + 256 * depth + place for place in range(width)] for depth in range(deep)]
     lsas = [router(R1, [(1, each, 0x0A000000 + place, 10) for place, each in enumerate(layer[0])])]
@@ -410,7 +410,7 @@ def areas_of_one() -> tuple[bytes, Scripts]:
 
 
 def borders() -> tuple[bytes, Scripts]:
-    """800 area border routers of two areas, in stars, and 7,000 summary-LSAs of them in each: each is due anew."""
+    """800 area border routers of two areas, in stars, and 7,000 summary-LSAs of them in each: the metric of each is calculated again."""
     size = 800
     areas = []
     for ident in (0, 1):

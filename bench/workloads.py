@@ -1,7 +1,7 @@
 #!/usr/bin/env python3
 """Large networks and scripts to measure the planner on. The same seed gives the same files.
 
-`one100` to `one8192`: one area of so many routers, joined by preferential attachment to about five links each, with
+`one100` to `one8192`: one area of this number of routers, joined by preferential attachment to about five links each, with
 costs from 1 to 64 of which many tie, and two stub networks each. `chain8192`: a chain with links of cost 65535.
 `mesh128`: a full mesh. `multi20k` and `multi65k`: a backbone of 200 routers and 16 areas of 200, the last two of them
 stub areas, with two border routers each, LANs, summary-LSAs of both types between all areas, and 20,000 or 65,535
@@ -32,14 +32,14 @@ Prefix = tuple[int, int]
 
 
 def lsa(kind: int, ident: int, adv: int, body: bytes, stub: bool = False) -> bytes:
-    """An LSA with its checksum (RFC 2328, 12.1.7), made by sums over all octets at once, since there are many."""
+    """An LSA with its checksum (RFC 2328, 12.1.7), made by sums over all bytes at once, since there are many."""
     head = struct.pack(">BBIII", 0 if stub else 2, kind, ident, adv, 0x80000001)
-    octets = head + b"\0\0" + struct.pack(">H", 20 + len(body)) + body
-    length = len(octets)
-    first = sum(octets) % 255
-    second = sum(map(int.__mul__, octets, WEIGHTS[-length:])) % 255
+    data = head + b"\0\0" + struct.pack(">H", 20 + len(body)) + body
+    length = len(data)
+    first = sum(data) % 255
+    second = sum(map(int.__mul__, data, WEIGHTS[-length:])) % 255
     check = ((length - 15) * first - second) % 255 or 255, (second - (length - 14) * first) % 255 or 255
-    return b"\0\1" + head + bytes(check) + octets[16:]
+    return b"\0\1" + head + bytes(check) + data[16:]
 
 
 @dataclass
@@ -158,7 +158,7 @@ class Area:
 
 
 def area_of(size: int, step: int, chance: random.Random) -> Area:
-    """A backbone of so many routers without links, with IDs from 1.0.0.1 in such steps."""
+    """A backbone of `size` routers without links, with IDs from 1.0.0.1 in steps of `step`."""
     area = Area(0, chance)
     for place in range(size):
         area.add_router(0x01000001 + step * place)
@@ -236,7 +236,7 @@ class SeveralAreas:
             area.add_lan(0x1E000000 + (area.ident << 16) + 256 * place, routers)
 
     def boundary_routers(self) -> list[tuple[int, Area]]:
-        """AS boundary routers: some of the backbone, and one of each area that is no stub area."""
+        """AS boundary routers: some of the backbone, and one of each area that is not a stub area."""
         found: dict[int, Area] = {}
         for area in self.areas[:1] * 6 + [area for area in self.areas[1:] if not area.stub]:
             router = self.chance.choice([router for router in area.routers() if router not in self.border])
@@ -255,24 +255,24 @@ class SeveralAreas:
     def add_summaries(self) -> None:
         """The summary-LSAs of each border router, with the metrics of RFC 2328, 12.4.3."""
         backbone = self.areas[0]
-        told: dict[tuple[int, Prefix], list[tuple[int, int]]] = {}
+        reachable: dict[tuple[int, Prefix], list[tuple[int, int]]] = {}
         for router, area in self.border.items():
             distances = area.distances(router)
             for (kind, net), cost in sorted(self.dues_of(area, distances).items()):
                 if cost < LS_INFINITY:
-                    told.setdefault((kind, net), []).append((router, cost))
+                    reachable.setdefault((kind, net), []).append((router, cost))
                     backbone.summaries.append((kind, net[0], router, net[1], cost))
         for router, area in self.border.items():
-            self.tell_area(area, router, told)
+            self.announce(area, router, reachable)
 
-    def tell_area(self, area: Area, router: int, told: dict[tuple[int, Prefix], list[tuple[int, int]]]) -> None:
-        """What a border router tells its area: networks and AS boundary routers of the backbone and of other areas."""
+    def announce(self, area: Area, router: int, reachable: dict[tuple[int, Prefix], list[tuple[int, int]]]) -> None:
+        """The summary-LSAs of a border router in its area: networks and AS boundary routers of the backbone and of other areas."""
         backbone = self.areas[0]
         distances = backbone.distances(router)
         own = set(area.prefixes(area.distances(router)))
         dues = self.dues_of(backbone, distances)
         homes = dict(self.boundary)
-        for (kind, net), ways in told.items():
+        for (kind, net), ways in reachable.items():
             costs = [distances["router", other] + cost for other, cost in ways if other != router and ("router", other) in distances]
             if (kind, net) not in dues and costs and not (kind == 4 and homes[net[0]] is area):
                 dues[kind, net] = min(costs)

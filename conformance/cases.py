@@ -50,7 +50,7 @@ class Case:
     status: int
     error: bytes
     out: bytes | None
-    # Whether the run is told to save its session, and what must be saved.
+    # Whether the run has to save its session, and what must be saved.
     saves: bool = False
     save: bytes | None = None
 

@@ -1,5 +1,5 @@
-"""Saved sessions at the limits of docs/FORMATS.md, and dumps that are too long beside a wrong magic or version: made, since
-they are too long to be written down. What they leave follows from that page."""
+"""Saved sessions at the limits of docs/FORMATS.md, and dumps that are too long and have a wrong magic or version: made,
+since they are too long to be written down. What they leave follows from that page."""
 from cases import Case
 from ends import SAMPLE
 from large import POINT_TO_POINT, R1, R2, router
@@ -31,7 +31,7 @@ def filled(front: bytes, length: int) -> bytes:
     return front + bytes(length - len(front))
 
 
-def goes_on(dump: bytes, exchanges: list[Exchange], out: bytes, save: bytes) -> Case:
+def resumed(dump: bytes, exchanges: list[Exchange], out: bytes, save: bytes) -> Case:
     """A run on a saved session that ends well."""
     replies = "".join(f"@{line[1] if line.startswith('@') else '0'} {reply}\n" for line, reply in exchanges)
     script = "".join(f"{line}\n" for line, _ in exchanges)
@@ -48,7 +48,7 @@ def stopped(dump: bytes, fault: str) -> Case:
 
 
 def lengths():
-    """A dump of version 2 may have 17,825,792 octets, every other one 16,777,216: what is longer is refused before its
+    """A dump of version 2 may have 17,825,792 bytes, every other one 16,777,216: what is longer is refused before its
     content is looked at."""
     empty = session(SAMPLE, [], [])
     fronts = [
@@ -58,46 +58,46 @@ def lengths():
         ("a dump", SAMPLE, LONGEST_DUMP, f"L4 TrailingBytes at {len(SAMPLE)}"),
         ("version 3", empty[:4] + b"\3" + empty[5:], LONGEST_DUMP, "L2 BadVersion at 4"),
         ("version 0", empty[:4] + b"\0" + empty[5:], LONGEST_DUMP, "L2 BadVersion at 4"),
-        ("version 2 behind another magic", b"OSWQ" + empty[4:], LONGEST_DUMP, "L1 BadMagic at 0"),
-        ("version 3 behind another magic", b"PSWP\3" + empty[5:], LONGEST_DUMP, "L1 BadMagic at 0"),
+        ("version 2 after another magic", b"OSWQ" + empty[4:], LONGEST_DUMP, "L1 BadMagic at 0"),
+        ("version 3 after another magic", b"PSWP\3" + empty[5:], LONGEST_DUMP, "L1 BadMagic at 0"),
     ]
     for name, front, most, fault in fronts:
-        yield f"{most} octets, {name}", stopped(filled(front, most), fault)
-        yield f"{most + 1} octets, {name}", stopped(filled(front, most + 1), "L13 TooLarge at 0")
-    yield f"{LONGEST_DUMP + 1} octets, a session", stopped(filled(empty, LONGEST_DUMP + 1), f"L4 TrailingBytes at {len(empty)}")
-    yield f"{LONGEST_SESSION + 1} octets, version 3", stopped(
+        yield f"{most} bytes, {name}", stopped(filled(front, most), fault)
+        yield f"{most + 1} bytes, {name}", stopped(filled(front, most + 1), "L13 TooLarge at 0")
+    yield f"{LONGEST_DUMP + 1} bytes, a session", stopped(filled(empty, LONGEST_DUMP + 1), f"L4 TrailingBytes at {len(empty)}")
+    yield f"{LONGEST_SESSION + 1} bytes, version 3", stopped(
         filled(empty[:4] + b"\3", LONGEST_SESSION + 1), "L13 TooLarge at 0"
     )
 
 
 def longest_bases():
-    """A base may have as many octets as a dump of version 1: with one more it is refused once it is read, whatever follows."""
+    """A base has the limit of a dump of version 1: with one byte more it is refused once it is read, whatever follows."""
     base, passes = long_dump(84, GROWTHS), long_dump(85, GROWTHS)
     assert (len(base), len(passes)) == (LONGEST_DUMP, LONGEST_DUMP + 1)
     same, drop, info = "cost 0.0.0.0 1.1.1.1 1 10", "drop-link 0.0.0.0 1.1.1.1 2", "info areas 1 lsas 4 as 257 vbits 0 vlinks 0"
     opened = session(base, [same], [drop])
-    yield "a base of 16777216 octets", goes_on(
+    yield "a base of 16777216 bytes", resumed(
         opened, [("info", f"{info} done 1 undone 1"), ("@1 info", f"{info} done 0 undone 0")], base, opened
     )
     lines = [(ADD_STUB, FULL), ("redo 1", "ok"), (ADD_STUB, "ok"), (ADD_STUB, FULL)]
-    yield "a base of 16777216 octets, and edits", goes_on(opened, lines, base, session(base, [same, drop, ADD_STUB], []))
+    yield "a base of 16777216 bytes, and edits", resumed(opened, lines, base, session(base, [same, drop, ADD_STUB], []))
     shorter = long_dump(84, (ADD_SUMMARY, ADD_EXTERNAL))
-    yield "a base of 16777216 octets that is shorter now", goes_on(
+    yield "a base of 16777216 bytes that is shorter now", resumed(
         session(base, [same, drop], []), [("undo 0", "ok")], shorter, session(base, [same, drop], [])
     )
     first = LONGEST_DUMP + 4
-    yield "a base of 16777216 octets, and an edit that adds", stopped(
+    yield "a base of 16777216 bytes, and an edit that adds", stopped(
         session(base, [ADD_STUB], []), f"L15 BadHistory 0 at {first}"
     )
-    yield "a base of 16777216 octets, and an undone edit that adds", stopped(
+    yield "a base of 16777216 bytes, and an undone edit that adds", stopped(
         session(base, [same], [ADD_STUB]), f"L15 BadHistory 1 at {first + len(same) + 1}"
     )
-    yield "a base of 16777216 octets without numbers", stopped(as_base(base), f"L3 Truncated at {LONGEST_DUMP}")
-    yield "a base of 16777217 octets", stopped(session(passes, [], []), "L13 TooLarge at 0")
-    yield "a base of 16777217 octets, and edits", stopped(session(passes, [same], [drop]), "L13 TooLarge at 0")
-    yield "a base of 16777217 octets without numbers", stopped(as_base(passes), "L13 TooLarge at 0")
+    yield "a base of 16777216 bytes without numbers", stopped(as_base(base), f"L3 Truncated at {LONGEST_DUMP}")
+    yield "a base of 16777217 bytes", stopped(session(passes, [], []), "L13 TooLarge at 0")
+    yield "a base of 16777217 bytes, and edits", stopped(session(passes, [same], [drop]), "L13 TooLarge at 0")
+    yield "a base of 16777217 bytes without numbers", stopped(as_base(passes), "L13 TooLarge at 0")
     last = len(passes) - 36
-    yield "a fault at the end of a base of 16777217 octets", stopped(
+    yield "a fault at the end of a base of 16777217 bytes", stopped(
         as_base(passes[:last + 16] + b"\x80\x24" + passes[last + 18:]), f"L9 Lsa Checksum at {last}"
     )
 
@@ -125,18 +125,18 @@ def full_histories():
                 HISTORY_FULL if done == MOST_EDITS else "refused E2 NoRouter"
             )),
         ]
-        yield name, goes_on(dump, front + refusals, now, dump)
-        yield f"{name}, all undone", goes_on(dump, [(f"undo {done}", "ok")], SAMPLE, all_undone)
+        yield name, resumed(dump, front + refusals, now, dump)
+        yield f"{name}, all undone", resumed(dump, [(f"undo {done}", "ok")], SAMPLE, all_undone)
         forth = [(f"redo {undone}", "ok"), (more, HISTORY_FULL), ("refresh", HISTORY_FULL)]
-        yield f"{name}, all done", goes_on(dump, forth, sample_with(last), session(SAMPLE, costs, []))
+        yield f"{name}, all done", resumed(dump, forth, sample_with(last), session(SAMPLE, costs, []))
         back = forth + [(f"undo {MOST_EDITS}", "ok"), ("undo 1", NO_UNDO), ("info", f"{counts} 0 undone {MOST_EDITS}")]
-        yield f"{name}, all done and undone", goes_on(dump, back, SAMPLE, all_undone)
+        yield f"{name}, all done and undone", resumed(dump, back, SAMPLE, all_undone)
         if done < MOST_EDITS:
             counted = [("info", f"{counts} {done + 1} undone 0"), ("redo 1", NO_REDO)]
-            yield f"{name}, and one more", goes_on(
+            yield f"{name}, and one more", resumed(
                 dump, [(more, "ok")] + counted, sample_with(7), session(SAMPLE, costs[:done] + [more], [])
             )
-    yield "10000 done edits, undone and done one by one", goes_on(
+    yield "10000 done edits, undone and done one by one", resumed(
         session(SAMPLE, costs, []), [("undo 1", "ok")] * MOST_EDITS + [("redo 1", "ok")] * MOST_EDITS, sample_with(last),
         session(SAMPLE, costs, []),
     )

@@ -23,17 +23,17 @@ Exchange = tuple[str, str]
 
 
 def dotted(address: int) -> str:
-    return ".".join(str(octet) for octet in address.to_bytes(4, "big"))
+    return ".".join(str(byte) for byte in address.to_bytes(4, "big"))
 
 
 def lsa(kind: int, ident: int, adv: int, body: bytes) -> bytes:
     """An LSA with its checksum (RFC 2328, 12.1.7; RFC 905, annex B)."""
     front = struct.pack(">BBIII", 2, kind, ident, adv, 0x80000001)
-    octets = front + b"\0\0" + struct.pack(">H", 20 + len(body)) + body
-    count = len(octets)
-    first, second = sum(octets), sum(map(int.__mul__, octets, range(count, 0, -1)))
+    data = front + b"\0\0" + struct.pack(">H", 20 + len(body)) + body
+    count = len(data)
+    first, second = sum(data), sum(map(int.__mul__, data, range(count, 0, -1)))
     check = ((count - 15) * first - second) % 255, (second - (count - 14) * first) % 255
-    return b"\0\1" + front + bytes(octet or 255 for octet in check) + octets[16:]
+    return b"\0\1" + front + bytes(byte or 255 for byte in check) + data[16:]
 
 
 def router(ident: int, links: list[Link], flags: int = 0) -> bytes:
@@ -46,7 +46,7 @@ def summary(network: int, mask: int, adv: int, metric: int) -> bytes:
 
 
 def external(network: int, adv: int, metric: int, forward: int = 0) -> bytes:
-    """An AS-external-LSA of a network of 24 bits; the bit E stands in the metric's first octet."""
+    """An AS-external-LSA of a network of 24 bits; the bit E stands in the metric's first byte."""
     return lsa(5, network, adv, struct.pack(">IIII", 0xFFFFFF00, metric, forward, 0))
 
 
@@ -75,7 +75,7 @@ def table(router: str, lines: list[str]) -> Exchange:
 
 
 def chain(size: int) -> Case:
-    """Links of cost 65535, and a stub network of cost 65535 at the far end: so a way is as dear as it can be."""
+    """Links of cost 65535, and a stub network of cost 65535 at the far end: so no way can cost more."""
     routers = [MANY + place for place in range(size)]
     lsas = []
     for place, ident in enumerate(routers):
@@ -93,7 +93,7 @@ def chain(size: int) -> Case:
 
 
 def longest(count: int) -> Case:
-    """LSAs of 65,535 octets of which nothing is calculated, and one of 241: 256 of them fill a dump."""
+    """LSAs of 65,535 bytes of which nothing is calculated, and one of 241: 256 of them fill a dump."""
     lsas = [lsa(8, place, R1, bytes(LONGEST_LSA - 20)) for place in range(count)] + [lsa(8, count, R1, bytes(221))]
     info = f"info areas 1 lsas {count + 1} as 0 vbits 0 vlinks 0 done 0 undone 0"
     return run_of(dump_of([lsas], []), [("@1 info", info), ("tables", "tables 0"), ("refresh", "ok"), ("undo 1", "ok")])
@@ -144,7 +144,7 @@ def areas(count: int) -> Case:
 
 
 def links(count: int) -> Case:
-    """A router with a link, and stub networks as many as fit."""
+    """A router with a link, and all stub networks that fit."""
     stubs = [(0x14000000 + 256 * place, 0xFFFFFF00, STUB, place % 65536) for place in range(count - 1)]
     lsas = [
         router(R1, [(R2, 0x0A000001, POINT_TO_POINT, 10)]),
@@ -184,14 +184,14 @@ def parallel(count: int) -> Case:
 
 
 def equal_ways(count: int) -> Case:
-    """As many ways of equal cost, each over a router of its own, to a router with a stub network, and to one behind it."""
+    """`count` ways of equal cost, each over a router of its own, to a router with a stub network, and to one beyond it."""
     middle = [MANY + place for place in range(count)]
-    behind = 0x03030303
+    beyond = 0x03030303
     stub = (0x14000000, 0xFF000000, STUB, 5)
     lsas = [
         router(R1, [(ident, 0x0A000000 + place, POINT_TO_POINT, 10) for place, ident in enumerate(middle)]),
-        router(R2, [(ident, 1, POINT_TO_POINT, 10) for ident in middle] + [(behind, 2, POINT_TO_POINT, 1), stub]),
-        router(behind, [(R2, 1, POINT_TO_POINT, 1), (0x15000000, 0xFF000000, STUB, 5)]),
+        router(R2, [(ident, 1, POINT_TO_POINT, 10) for ident in middle] + [(beyond, 2, POINT_TO_POINT, 1), stub]),
+        router(beyond, [(R2, 1, POINT_TO_POINT, 1), (0x15000000, 0xFF000000, STUB, 5)]),
         *(router(ident, [(R1, 1, POINT_TO_POINT, 10), (R2, 2, POINT_TO_POINT, 10)]) for ident in middle),
     ]
     hops = [f"link:{dotted(0x0A000000 + place)}" for place in range(count)]
@@ -208,7 +208,7 @@ def equal_ways(count: int) -> Case:
 
 
 def originators(count: int) -> Case:
-    """So many area border routers at one distance, each with a summary-LSA of the same prefix: each is a next hop."""
+    """`count` area border routers at one distance, each with a summary-LSA of the same prefix: each is a next hop."""
     borders = [MANY + place for place in range(count)]
     lsas = [router(R1, [(ident, 0x0A000000 + place, POINT_TO_POINT, 10) for place, ident in enumerate(borders)])]
     lsas += [router(ident, [(R1, 1, POINT_TO_POINT, 10)], flags=1) for ident in borders]
@@ -233,15 +233,15 @@ HOSTS = 5457
 
 def forwards(count: int) -> Case:
     """Networks outside the AS, of both types of metric, each with a forwarding address that is a host with a route of its
-    own: the stub networks of 32 bits of routers with so many of them."""
+    own: one of the stub networks of 32 bits of these routers."""
     hosts = [0x30000000 + 3 * place for place in range(count)]
-    behind = [MANY + place for place in range(-(-count // HOSTS))]
-    lsas = [router(R1, [(ident, 0x0A000000 + place, POINT_TO_POINT, 10) for place, ident in enumerate(behind)])]
-    for place, ident in enumerate(behind):
+    owners = [MANY + place for place in range(-(-count // HOSTS))]
+    lsas = [router(R1, [(ident, 0x0A000000 + place, POINT_TO_POINT, 10) for place, ident in enumerate(owners)])]
+    for place, ident in enumerate(owners):
         own = [(host, 0xFFFFFFFF, STUB, 1 + host % 7) for host in hosts[HOSTS * place:HOSTS * (place + 1)]]
         lsas.append(router(ident, [(R1, 1, POINT_TO_POINT, 10), *own], flags=2))
     as_wide = [
-        external(0x40000000 + 256 * place, behind[0], place % 2 << 31 | 1 + place % 1000, hosts[place * 7 % count])
+        external(0x40000000 + 256 * place, owners[0], place % 2 << 31 | 1 + place % 1000, hosts[place * 7 % count])
         for place in range(count)
     ]
 
@@ -265,30 +265,30 @@ def forwards(count: int) -> Case:
 
 
 def edits(count: int) -> Case:
-    """So many edits of one summary-LSA, the last of an area that has nearly as many: all are undone, and done again."""
-    told = count * 4 // 5
+    """`count` edits of one summary-LSA, the last of an area with four fifths of `count`: all are undone, and done again."""
+    summaries = count * 4 // 5
     lsas = [
         router(R1, [(R2, 0x0A000001, POINT_TO_POINT, 10)]),
         router(R2, [(R1, 0x0A000002, POINT_TO_POINT, 10)], flags=1),
-        *(summary(0x14000000 + 256 * place, 0xFFFFFF00, R2, 1 + place % 1000) for place in range(told)),
+        *(summary(0x14000000 + 256 * place, 0xFFFFFF00, R2, 1 + place % 1000) for place in range(summaries)),
     ]
-    nets = [dotted(0x14000000 + 256 * place) for place in range(told)]
+    nets = [dotted(0x14000000 + 256 * place) for place in range(summaries)]
     lines = [f"{net}/24 inter {11 + place % 1000} 0 0.0.0.0 link:10.0.0.1" for place, net in enumerate(nets)]
     full, undo, redo = table("1.1.1.1", lines), (f"undo {count}", "ok"), (f"redo {count}", "ok")
     changed = table("1.1.1.1", [*lines[:-1], f"{nets[-1]}/24 inter {10 + count} 0 0.0.0.0 link:10.0.0.1"])
     metrics = [(f"summary 0.0.0.0 2.2.2.2 {nets[-1]}/24 {metric}", "ok") for metric in range(1, count + 1)]
     more = [("refresh", "refused E12 HistoryFull")] if count == MOST_EDITS else []
-    info = f"info areas 1 lsas {told + 2} as 0 vbits 0 vlinks 0 done {count} undone 0"
+    info = f"info areas 1 lsas {summaries + 2} as 0 vbits 0 vlinks 0 done {count} undone 0"
     return run_of(dump_of([lsas], []), [
         full, *metrics, ("info", info), *more, changed, undo, full, redo, changed, *[("undo 1", "ok")] * count, full,
         ("undo 1", "refused U1 NothingToUndo"),
     ])
 
 
-# Each network, the size at which it meets a limit, and what there is so many of.
+# Each network, the size at which it meets a limit, and what the size counts.
 NETWORKS: list[tuple[Callable[[int], Case], int, str]] = [
     (chain, MOST_LSAS, "routers in a chain"),
-    (longest, LONGEST_DUMP // LONGEST_LSA, "LSAs of 65535 octets"),
+    (longest, LONGEST_DUMP // LONGEST_LSA, "LSAs of 65535 bytes"),
     (externals, MOST_AS_LSAS, "networks outside the AS"),
     (areas, MOST_AREAS, "areas of one router"),
     (links, MOST_LINKS, "links of one router"),
@@ -321,7 +321,7 @@ def seconds(case: Case, program: str, folder: pathlib.Path) -> float:
 
 def is_in_proportion(network: Callable[[int], Case], size: int, program: str, folder: pathlib.Path) -> bool:
     """Whether four times the size takes less than nine times the time; with a square it would be sixteen times. Times
-    below a hundredth of a second tell nothing, and a machine that is busy may make one of some runs slow."""
+    below a hundredth of a second show nothing, and a machine that is busy may make one of some runs slow."""
     whole, part = network(size), network(size // 4)
     for _ in range(4):
         least = max(seconds(part, program, folder), 0.01)

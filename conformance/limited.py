@@ -1,8 +1,8 @@
 """Runs in limited address spaces, so that memory truly runs out, in the middle of whatever is done then.
 
 Two runs, of full histories in three branches and of tables with many next hops, are made in ever larger spaces: from one
-in which the program just starts to one that is ample. Each must end well and whole, or for want of memory with a part of
-the replies from their beginning, without a dump and without a session.
+in which the program just starts to one that is ample. Each must end well and whole, or without memory and with a part
+of the replies from their beginning, without a dump and without a session.
 """
 import dataclasses
 import pathlib
@@ -23,12 +23,12 @@ class Run:
     replies: bytes
     out: bytes
     saved: bytes
-    # The sizes of the address spaces, in octets.
+    # The sizes of the address spaces, in bytes.
     sizes: list[int]
 
 
 def sizes(least: float, times: float, count: int) -> list[int]:
-    """So many sizes, from one in MiB on, each so many times the one before."""
+    """`count` sizes, from `least` MiB on, each `times` the one before."""
     return [round(least * (1 << 20) * times**step) for step in range(count)]
 
 
@@ -62,7 +62,7 @@ def tables() -> Run:
 
 
 def ended_in(size: int, run: Run, program: str, folder: pathlib.Path) -> tuple[int, bytes, str, bytes | None, bytes | None]:
-    """Status, replies, standard error, and the dump and the session written in an address space of so many octets."""
+    """Status, replies, standard error, and the dump and the session written in an address space of this size in bytes."""
     dump, out, save = (folder / f"limited.{name}" for name in ("dump", "out", "save"))
     dump.write_bytes(run.dump)
     out.unlink(missing_ok=True)
@@ -75,14 +75,14 @@ def ended_in(size: int, run: Run, program: str, folder: pathlib.Path) -> tuple[i
 
 
 def checks(program: str, folder: pathlib.Path):
-    """The name of each run, and what it ended with otherwise; and what the runs together did not show."""
+    """The name of each run, and how it ended wrongly; and what the runs together did not show."""
     for run in (histories(), tables()):
         lengths = set()
         for size in run.sizes:
             status, replies, *left = ended_in(size, run, program, folder)
             is_whole = (status, replies, *left) == (0, run.replies, "", run.out, run.saved)
             is_part = (status, *left) == (5, "memory: OutOfMemory\n", None, None) and run.replies.startswith(replies)
-            yield f"{run.name} in {size} octets of memory", [] if is_whole or is_part else ["status, replies or files"]
+            yield f"{run.name} in {size} bytes of memory", [] if is_whole or is_part else ["status, replies or files"]
             lengths.add(len(replies))
         missing = [] if {0, len(run.replies)} <= lengths else ["the ends, none of the replies and all of them,"]
         missing += [] if len(lengths) > 3 else ["how far the replies come"]

@@ -1,9 +1,9 @@
-"""Dumps that lie: octets that are set to other values, beside a plain reader of docs/FORMATS.md.
+"""Malformed dumps: bytes that are set to other values, and a plain reader of docs/FORMATS.md to compare with.
 
-Each octet of the sample, and of a saved session on it, is set to each of its 256 values, and both are cut everywhere. Of
-a dump with LSAs of several types, in areas of both kinds, each octet is set to some, as it is and with the checksum of
-its LSA made good again, so that what is tested behind the checksum is reached too. The program must refuse exactly what
-the plain reader refuses, for the same fault at the same offset, and what it opens it must write back octet for octet.
+Each byte of the sample, and of a saved session on it, is set to each of its 256 values, and both are cut everywhere. Of
+a dump with LSAs of several types, in areas of both kinds, each byte is set to some, as it is and with the checksum of
+its LSA made good again, so that what is tested after the checksum is reached too. The program must refuse exactly what
+the plain reader refuses, for the same fault at the same offset, and what it opens it must write back byte for byte.
 """
 import os
 import pathlib
@@ -16,15 +16,15 @@ from ends import SAMPLE
 
 HERE = pathlib.Path(__file__).resolve().parent
 
-# Areas of both kinds, with LSAs of the types 1 to 5 and 7, in 409 octets.
+# Areas of both kinds, with LSAs of the types 1 to 5 and 7, in 409 bytes.
 SEVERAL = read_case(HERE / "sessions" / "v1-0104.case").dump
 
-# The sample after two costs, of which the second is undone, in 155 octets.
+# The sample after two costs, of which the second is undone, in 155 bytes.
 SESSION = (SAMPLE[:4] + b"\x02" + SAMPLE[5:] + b"\0\1\0\1" + b"cost 0.0.0.0 1.1.1.1 1 11\n"
            + b"cost 0.0.0.0 1.1.1.1 1 12\n")
 
 
-def with_octet(dump: bytes, place: int, value: int) -> bytes:
+def with_byte(dump: bytes, place: int, value: int) -> bytes:
     return dump[:place] + bytes([value]) + dump[place + 1:]
 
 
@@ -43,31 +43,31 @@ def lsas_of(dump: bytes) -> list[tuple[int, int]]:
 
 def with_checksum(lsa: bytes) -> bytes:
     """An LSA with the checksum that docs/FORMATS.md makes."""
-    octets = lsa[2:16] + b"\0\0" + lsa[18:]
-    count = len(octets)
-    first = sum(octets)
-    second = sum((count - place) * octet for place, octet in enumerate(octets))
+    data = lsa[2:16] + b"\0\0" + lsa[18:]
+    count = len(data)
+    first = sum(data)
+    second = sum((count - place) * byte for place, byte in enumerate(data))
     made = ((count - 15) * first - second) % 255, (second - (count - 14) * first) % 255
-    return lsa[:16] + bytes(octet or 255 for octet in made) + lsa[18:]
+    return lsa[:16] + bytes(byte or 255 for byte in made) + lsa[18:]
 
 
-def some_values(octet: int) -> set[int]:
-    """Values that an octet is set to: the ends, its neighbours, and its top bit turned."""
-    return {0, 1, 255, (octet + 1) % 256, (octet - 1) % 256, octet ^ 128} - {octet}
+def some_values(byte: int) -> set[int]:
+    """Values that a byte is set to: the ends, its neighbors, and its top bit flipped."""
+    return {0, 1, 255, (byte + 1) % 256, (byte - 1) % 256, byte ^ 128} - {byte}
 
 
-def lies():
+def variants():
     """The dumps."""
     for whole in (SAMPLE, SESSION):
         for place in range(len(whole)):
             yield whole[:place]
-            yield from (with_octet(whole, place, value) for value in range(256))
-    for place, octet in enumerate(SEVERAL):
-        yield from (with_octet(SEVERAL, place, value) for value in some_values(octet))
+            yield from (with_byte(whole, place, value) for value in range(256))
+    for place, byte in enumerate(SEVERAL):
+        yield from (with_byte(SEVERAL, place, value) for value in some_values(byte))
     for begin, end in lsas_of(SEVERAL):
         for place in range(begin, end):
             for value in some_values(SEVERAL[place]):
-                lsa = with_octet(SEVERAL, place, value)[begin:end]
+                lsa = with_byte(SEVERAL, place, value)[begin:end]
                 yield SEVERAL[:begin] + with_checksum(lsa) + SEVERAL[end:]
 
 
@@ -105,11 +105,11 @@ def checks(program: str):
     there are many."""
     tried = accepted = 0
     with tempfile.TemporaryDirectory(dir="/dev/shm" if os.path.isdir("/dev/shm") else None) as folder:
-        for dump in lies():
+        for dump in variants():
             refusal = plain_reader.refusal(dump)
             tried += 1
             accepted += not refusal
             if not is_as_read(program, dump, refusal, pathlib.Path(folder)):
-                yield "dumps that lie", [f"the program and the plain reader of {dump.hex()}"]
+                yield "malformed dumps", [f"the program and the plain reader of {dump.hex()}"]
                 return
-    yield f"{tried} dumps that lie, of which {accepted} are accepted", []
+    yield f"{tried} malformed dumps, of which {accepted} are accepted", []

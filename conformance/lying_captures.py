@@ -1,9 +1,10 @@
-"""Captures and walks that lie, beside a plain reader of docs/CAPTURE.md.
+"""Malformed captures and walks, and a plain reader of docs/CAPTURE.md to compare with.
 
-Small files of each format are cut everywhere, each of their octets is set to some other values, and fields that are
-lengths or counts to values that lie. Packets are changed too with their checksums made good again, so that what is tested
-behind the checksums is reached. The program must refuse exactly what the plain reader refuses, for the same fault at the
-same offset. Of what it reads it must tell the same number of LSAs and areas, each hole, and what headers name, and write the same dump.
+Small files of each format are cut everywhere, each of their bytes is set to some other values, and fields that are
+lengths or counts to wrong values. Packets are changed too with their checksums made good again, so that what is tested
+after the checksums is reached. The program must refuse exactly what the plain reader refuses, for the same fault at the
+same offset. For what it reads it must report the same number of LSAs and
+areas, each finding, and what headers name, and write the same dump.
 """
 import os
 import pathlib
@@ -12,7 +13,7 @@ import struct
 import tempfile
 
 import plain_captures
-from lying import ended, with_checksum, with_octet
+from lying import ended, with_byte, with_checksum
 from plain_reader import number
 
 # The lines of areas without a kind, and of LSAs that headers name.
@@ -26,8 +27,8 @@ EXTERNAL = with_checksum(bytes.fromhex(
 SUMMARY = with_checksum(bytes.fromhex("00070203 0a080000 01010101 80000002 0000 001c ffff0000 00000005"))
 
 
-def with_field(octets: bytes, place: int, size: int, value: int, order: str = "big") -> bytes:
-    return octets[:place] + value.to_bytes(size, order) + octets[place + size:]
+def with_field(data: bytes, place: int, size: int, value: int, order: str = "big") -> bytes:
+    return data[:place] + value.to_bytes(size, order) + data[place + size:]
 
 
 # ---- samples, made by the functions of conformance/capture
@@ -39,14 +40,14 @@ def raw(make, *packets: bytes) -> bytes:
 
 
 def instances(make) -> bytes:
-    """Copies of an LSA before its flush and behind it, and an older instance of another."""
+    """Copies of an LSA before its flush and after it, and an older instance of another."""
     older = with_checksum(with_field(SUMMARY, 12, 4, 0x80000001))
     updates = [(make.ONE, SUMMARY), (make.aged(make.ONE, 3600), older), (make.aged(make.ONE, 0),)]
     return raw(make, *(make.update(*lsas) for lsas in updates))
 
 
 def blocks(make, order: str) -> bytes:
-    """A pcapng file with options of its interface, a block that tells nothing, and both packet blocks."""
+    """A pcapng file with options of its interface, a block that is ignored, and both packet blocks."""
     def numbers(form: str, *values: int) -> bytes:
         return struct.pack(order + form, *values)
 
@@ -70,10 +71,10 @@ def named(walk: bytes) -> bytes:
 
 
 def walk(make) -> bytes:
-    """A walk of a stub area, with a row whose octets are lacking, and an AS-external-LSA."""
+    """A walk of a stub area, with a row whose bytes are missing, and an AS-external-LSA."""
     lines = ".1.3.6.1.2.1.14.2.1.3.0.0.0.1 = INTEGER: 2\n" + make.row(make.ONE, "0.0.0.1.")
     lines += make.column("4.1.5", make.TWO, "INTEGER: 5", "0.0.0.1.")
-    pairs = " ".join(f"{octet:02X}" for octet in EXTERNAL)
+    pairs = " ".join(f"{byte:02X}" for byte in EXTERNAL)
     return (lines + make.column("19.1.7", EXTERNAL, "Hex-STRING: " + pairs, "")).encode()
 
 
@@ -101,16 +102,16 @@ def samples(make) -> list[bytes]:
     ]
 
 
-# ---- lies
+# ---- changed files
 
 
-def some_values(octet: int) -> set[int]:
-    """Values that an octet is set to: the ends, the next one, and its top and its lowest bit turned."""
-    return {0, 255, (octet + 1) % 256, octet ^ 128, octet ^ 1} - {octet}
+def some_values(byte: int) -> set[int]:
+    """Values that a byte is set to: the ends, the next one, and its top and its lowest bit flipped."""
+    return {0, 255, (byte + 1) % 256, byte ^ 128, byte ^ 1} - {byte}
 
 
 def false_values(true: int, size: int) -> set[int]:
-    """Values of a length or a count that lie: the ends, about its own value, and about the lengths of headers."""
+    """Wrong values of a length or a count: the ends, about its own value, and about the lengths of headers."""
     about = {true - 1, true + 1, true + 4, 2 * true, 12, 19, 20, 24, 28, 32, 44, 262_144, 262_145, 16_777_220}
     top = 256 ** size - 1
     return {value for value in about | {0, 1, top, top - 3, top // 2 + 1} if 0 <= value <= top} - {true}
@@ -137,8 +138,8 @@ def lengths(make) -> list[tuple[bytes, str, list[tuple[int, int]]]]:
 
 def summed(make, packet: bytes) -> bytes:
     """A packet with a good checksum of the length that it says."""
-    octets = packet[:max(number(packet[2:4]), 24)]
-    return with_field(packet, 12, 2, make.checksum(octets[:12] + octets[14:16] + octets[24:]))
+    data = packet[:max(number(packet[2:4]), 24)]
+    return with_field(packet, 12, 2, make.checksum(data[:12] + data[14:16] + data[24:]))
 
 
 def good_packets(make):
@@ -146,27 +147,27 @@ def good_packets(make):
     lsas = [make.ONE, EXTERNAL]
     whole = make.update(*lsas, area=1)
     for packet in (whole, make.hello(1, 2)):
-        for place, octet in enumerate(packet):
-            yield from (summed(make, with_octet(packet, place, value)) for value in some_values(octet))
+        for place, byte in enumerate(packet):
+            yield from (summed(make, with_byte(packet, place, value)) for value in some_values(byte))
         for place, size in ((2, 2), (24, 4)):
             true = number(packet[place:place + size])
             yield from (summed(make, with_field(packet, place, size, value)) for value in false_values(true, size))
     for index, lsa in enumerate(lsas):
-        for place, octet in enumerate(lsa):
-            for value in some_values(octet):
-                lie = with_checksum(with_octet(lsa, place, value))
-                yield make.update(*lsas[:index], lie, *lsas[index + 1:], area=1)
+        for place, byte in enumerate(lsa):
+            for value in some_values(byte):
+                changed = with_checksum(with_byte(lsa, place, value))
+                yield make.update(*lsas[:index], changed, *lsas[index + 1:], area=1)
         for place in (18, 22):
             for value in false_values(number(lsa[place:place + 2]), 2):
                 yield make.update(with_checksum(with_field(lsa, place, 2, value)), SUMMARY)
 
 
-def lies(make):
+def variants(make):
     """The files."""
     for whole in samples(make):
-        for place, octet in enumerate(whole):
+        for place, byte in enumerate(whole):
             yield whole[:place]
-            yield from (with_octet(whole, place, value) for value in some_values(octet))
+            yield from (with_byte(whole, place, value) for value in some_values(byte))
     for whole, order, fields in lengths(make):
         for place, size in fields:
             true = int.from_bytes(whole[place:place + size], order)
@@ -178,31 +179,31 @@ def lies(make):
 # ---- runs
 
 
-def is_as_read(program: str, octets: bytes, folder: pathlib.Path) -> tuple[bool, bool]:
+def is_as_read(program: str, data: bytes, folder: pathlib.Path) -> tuple[bool, bool]:
     """Whether the program answers as the plain reader, and whether that is a dump."""
     file, out = folder / "lying", folder / "lying.out"
-    file.write_bytes(octets)
+    file.write_bytes(data)
     words = [program, "--out", str(out), str(file)]
     status, said, error = ended(words, folder / "lying.replies", folder / "lying.error")
     left = out.read_bytes() if out.exists() else None
     if left is not None:
         out.unlink()
     try:
-        told = plain_captures.told_by(octets)
+        contents = plain_captures.contents_of(data)
     except plain_captures.Refused as refused:
         line = f"{file}: {refused.fault} at {refused.offset}\n"
         return (status, said, error.decode(), left) == (3, b"", line, None), False
-    holes = [f"{file}: {hole}" for hole in told.holes]
+    holes = [f"{file}: {hole}" for hole in contents.holes]
     try:
-        dump = plain_captures.dump_of([told])
+        dump = plain_captures.dump_of([contents])
     except plain_captures.Refused as refused:
         return (status, said, error.decode(), left) == (3, b"", f"dump: {refused.fault}\n", None), False
     lines = error.decode().splitlines()
-    lacks = plain_captures.unnamed([told]) + plain_captures.named([told])
-    # There may be more holes, of the database.
-    is_told = set(holes) <= set(lines) and [line for line in lines if LACK.match(line)] == lacks
-    is_told = is_told and status in ((1,) if holes or lacks else (0, 1))
-    return is_told and (said.decode(), left) == (f"{file}: {told.line()}\n", dump), True
+    lacks = plain_captures.unnamed([contents]) + plain_captures.named([contents])
+    # There may be more findings, of the database.
+    is_same = set(holes) <= set(lines) and [line for line in lines if LACK.match(line)] == lacks
+    is_same = is_same and status in ((1,) if holes or lacks else (0, 1))
+    return is_same and (said.decode(), left) == (f"{file}: {contents.line()}\n", dump), True
 
 
 def checks(program: str, make):
@@ -210,11 +211,11 @@ def checks(program: str, make):
     The files are in memory where they can be, since there are many."""
     tried = accepted = 0
     with tempfile.TemporaryDirectory(dir="/dev/shm" if os.path.isdir("/dev/shm") else None) as folder:
-        for octets in lies(make):
-            is_same, is_dump = is_as_read(program, octets, pathlib.Path(folder))
+        for data in variants(make):
+            is_same, is_dump = is_as_read(program, data, pathlib.Path(folder))
             tried += 1
             accepted += is_dump
             if not is_same:
-                yield "files that lie", [f"the program and the plain reader of {octets.hex()}"]
+                yield "malformed files", [f"the program and the plain reader of {data.hex()}"]
                 return
-    yield f"{tried} files that lie, of which {accepted} make a dump", []
+    yield f"{tried} malformed files, of which {accepted} make a dump", []

@@ -37,19 +37,19 @@ def dump_of(backbone: list[bytes], external: list[bytes]) -> bytes:
     return front + b"".join(backbone) + len(external).to_bytes(2, "big") + b"".join(external)
 
 
-def balanced(octet: int) -> bytes:
-    """Three octets that add nothing to the sums of a checksum: modulo 255 the second is -2 times the others."""
-    return bytes([octet, (510 - 2 * octet) % 255, octet])
+def balanced(byte: int) -> bytes:
+    """Three bytes that add nothing to the sums of a checksum: modulo 255 the second is -2 times the others."""
+    return bytes([byte, (510 - 2 * byte) % 255, byte])
 
 
 def longest_opaque(number: int) -> bytes:
-    """An opaque LSA of AS scope of 65,535 octets. The number gives another Link State ID, and no other checksum."""
+    """An opaque LSA of AS scope of 65,535 bytes. The number gives another Link State ID, and no other checksum."""
     header = bytes.fromhex("0001020b01") + balanced(number) + bytes.fromhex("02020202 80000001 79eeffff")
     return header + bytes(65_515)
 
 
 def last_opaque(length: int) -> bytes:
-    """An opaque LSA of AS scope, of 84 octets or of 85."""
+    """An opaque LSA of AS scope, of 84 bytes or of 85."""
     checksum = {84: "15fd0054", 85: "17fa0055"}[length]
     return bytes.fromhex("0001020b 02000000 02020202 80000001" + checksum) + bytes(length - 20)
 
@@ -65,7 +65,7 @@ LONGEST_OPAQUE = [longest_opaque(number) for number in range(255)]
 
 
 def long_dump(length: int, done: tuple[str, ...] = ()) -> bytes:
-    """A dump of 16,777,056 octets and those of its last LSA, and what these growths add."""
+    """A dump of 16,777,056 bytes and those of its last LSA, and what these growths add."""
     backbone = [ROUTER_1_WITH_STUB if ADD_STUB in done else ROUTER_1, ROUTER_2, LONGEST_ROUTER]
     external = LONGEST_OPAQUE + [last_opaque(length)]
     return dump_of(
@@ -85,20 +85,20 @@ def refused(dump: bytes, fault: str) -> Case:
     return Case(dump=dump, script=b"info\n", replies=b"", status=3, error=f"dump: {fault}\n".encode(), out=None)
 
 
-def fault_where_cut(octets: int) -> str:
-    """The fault of the sample that is cut to so many octets."""
+def fault_where_cut(length: int) -> str:
+    """The fault of the sample that is cut to this length in bytes."""
     ends = [(4, 0), (5, 4), (6, 5), (10, 6), (11, 10), (13, 11), (49, 13), (97, 49), (99, 97)]
-    offset = next(offset for end, offset in ends if octets < end)
+    offset = next(offset for end, offset in ends if length < end)
     return f"L9 Lsa Truncated at {offset}" if offset in (13, 49) else f"L3 Truncated at {offset}"
 
 
 def cuts():
-    for octets in range(len(SAMPLE)):
-        yield f"the sample cut to {octets} octets", refused(SAMPLE[:octets], fault_where_cut(octets))
+    for length in range(len(SAMPLE)):
+        yield f"the sample cut to {length} bytes", refused(SAMPLE[:length], fault_where_cut(length))
 
 
 def longest_dumps():
-    """A dump may have 16,777,216 octets: each of three growths reaches the limit, and passes it by one octet."""
+    """A dump may have 16,777,216 bytes: each of three growths reaches the limit, and passes it by one byte."""
     yield "16777216 zeros", refused(bytes(LONGEST_DUMP), "L1 BadMagic at 0")
     yield "16777217 zeros", refused(bytes(LONGEST_DUMP + 1), "L13 TooLarge at 0")
     fits, passes = long_dump(84), long_dump(85)

@@ -1,8 +1,8 @@
-"""Reads captures and SNMP walks as docs/CAPTURE.md has it, in plain steps: what a file tells, or why it is refused; and
-the dump that files make.
+"""Reads captures and SNMP walks as docs/CAPTURE.md has it, in plain steps: what a file contains, or why it is refused;
+and the dump that files make.
 
 It was written from that page and the descriptions of the formats (draft-ietf-opsawg-pcap, draft-ietf-opsawg-pcapng,
-RFC 791, RFC 2328, RFC 4750), so that it can be put beside the program. Nothing in it is fast.
+RFC 791, RFC 2328, RFC 4750), so that it can be compared with the program. Nothing in it is fast.
 """
 import collections
 import dataclasses
@@ -24,13 +24,13 @@ class Refused(Exception):
 
 
 class Odd(Exception):
-    """Why a frame, or a part of it, can not be used."""
+    """Why a frame, or a part of it, cannot be used."""
 
 
 @dataclasses.dataclass
 class Sighting:
-    """An LSA in its scope, which is an area, or the AS where that is none; and its moment in nanoseconds since 1970.
-    Of the header of an LSA it has these 20 octets alone."""
+    """An LSA in its scope, which is an area, or the AS where that is `None`; and its moment in nanoseconds since 1970.
+    For the header of an LSA, `lsa` has only its 20 bytes."""
 
     area: int | None
     seen: int | None
@@ -42,9 +42,8 @@ class Sighting:
 
 
 @dataclasses.dataclass
-class Told:
-    """What a file tells: LSAs, headers of LSAs, the kind of areas as `ordinary`, `stub` or `nssa`, and what is to be told
-    besides."""
+class Contents:
+    """What a file contains: LSAs, headers of LSAs, the kinds of areas as `ordinary`, `stub` or `nssa`, and the findings."""
 
     word: str
     sightings: list[Sighting] = dataclasses.field(default_factory=list)
@@ -53,7 +52,7 @@ class Told:
     holes: list[str] = dataclasses.field(default_factory=list)
 
     def line(self) -> str:
-        """What standard output has behind the name of the file."""
+        """What standard output has after the name of the file."""
         areas = {area for area, _ in self.kinds} | {sighting.area for sighting in self.sightings} - {None}
         return f"{self.word}, {len(self.sightings)} LSAs, {len(areas)} areas"
 
@@ -74,11 +73,11 @@ def scope(kind: int, area: int | None) -> int | None:
 class Frame:
     link: int
     seen: int | None
-    octets: bytes
+    data: bytes
     original: int
 
     def is_cut(self) -> bool:
-        return len(self.octets) < self.original
+        return len(self.data) < self.original
 
 
 # The byte order and the nanoseconds of a unit, by the magic number.
@@ -121,8 +120,8 @@ class Pcapng:
         self.interfaces: list[tuple[int, int, int | None]] = []
         self.frames: list[Frame] = []
 
-    def number(self, octets: bytes) -> int:
-        return int.from_bytes(octets, self.order)
+    def number(self, data: bytes) -> int:
+        return int.from_bytes(data, self.order)
 
     def refuse(self, fault: str):
         raise Refused(fault, self.at)
@@ -158,16 +157,16 @@ class Pcapng:
         """The value of the first option of this code."""
         while len(options) >= 4:
             found, size = self.number(options[:2]), self.number(options[2:4])
-            behind = 4 + size + -size % 4
-            if found == 0 or behind > len(options):
+            end = 4 + size + -size % 4
+            if found == 0 or end > len(options):
                 return None
             if found == code:
                 return options[4:4 + size]
-            options = options[behind:]
+            options = options[end:]
         return None
 
     def units(self, options: bytes) -> int | None:
-        """The units in a second, where moments are told."""
+        """The units in a second, where time stamps have a known unit."""
         resolution = self.option(options, 9)
         if self.option(options, 14) is not None:
             return None
@@ -175,8 +174,8 @@ class Pcapng:
             return 1_000_000
         if len(resolution) != 1:
             return None
-        octet = resolution[0]
-        units = 2 ** (octet - 128) if octet >= 128 else 10 ** octet
+        byte = resolution[0]
+        units = 2 ** (byte - 128) if byte >= 128 else 10 ** byte
         return units if units < 2 ** 64 else None
 
     def interface(self, block: bytes) -> None:
@@ -229,20 +228,20 @@ TAGS = (0x8100, 0x88A8, 0x9100)
 def carried(frame: Frame) -> bytes:
     """What a frame carries as IPv4."""
     if frame.link in (101, 228):
-        return frame.octets
+        return frame.data
     if frame.link not in LINKS:
         raise Odd("OtherLink")
     size, at = LINKS[frame.link]
-    if len(frame.octets) < size:
+    if len(frame.data) < size:
         raise Odd("Truncated")
-    kind, octets = number(frame.octets[at:at + 2]), frame.octets[size:]
+    kind, data = number(frame.data[at:at + 2]), frame.data[size:]
     while kind in TAGS:
-        if len(octets) < 4:
+        if len(data) < 4:
             raise Odd("Truncated")
-        kind, octets = number(octets[2:4]), octets[4:]
+        kind, data = number(data[2:4]), data[4:]
     if kind != 0x0800:
         raise Odd("NotIpv4")
-    return octets
+    return data
 
 
 @dataclasses.dataclass
@@ -257,21 +256,21 @@ class Datagram:
 
 
 def datagram_of(frame: Frame) -> Datagram:
-    octets = carried(frame)
-    if len(octets) < 20:
+    data = carried(frame)
+    if len(data) < 20:
         raise Odd("Truncated")
-    if octets[0] >> 4 != 4:
+    if data[0] >> 4 != 4:
         raise Odd("NotIpv4")
-    if octets[9] != 89:
+    if data[9] != 89:
         raise Odd("NotOspf")
-    header, total = octets[0] % 16 * 4, number(octets[2:4])
-    if header < 20 or total < header or (total > len(octets) and not frame.is_cut()):
+    header, total = data[0] % 16 * 4, number(data[2:4])
+    if header < 20 or total < header or (total > len(data) and not frame.is_cut()):
         raise Odd("BadLength")
-    if len(octets) < header:
+    if len(data) < header:
         raise Odd("Truncated")
-    flags = number(octets[6:8])
-    return Datagram(octets[12:20] + octets[4:6], flags % 8192 * 8, bool(flags & 0x2000), total <= len(octets),
-                    octets[header:total])
+    flags = number(data[6:8])
+    return Datagram(data[12:20] + data[4:6], flags % 8192 * 8, bool(flags & 0x2000), total <= len(data),
+                    data[header:total])
 
 
 def datagrams_of(frames: list[Frame]) -> list[Datagram]:
@@ -285,10 +284,10 @@ def datagrams_of(frames: list[Frame]) -> list[Datagram]:
     return found
 
 
-def payload_of(first: Datagram, behind: list[Frame]) -> bytes:
-    """The payload of a datagram, put together of its fragments."""
+def payload_of(first: Datagram, later: list[Frame]) -> bytes:
+    """The payload of a datagram, joined from its fragments."""
     payload = first.payload
-    for datagram in datagrams_of(behind):
+    for datagram in datagrams_of(later):
         if datagram.name == first.name and datagram.before == len(payload) and datagram.whole:
             payload += datagram.payload
             if not datagram.more:
@@ -296,29 +295,29 @@ def payload_of(first: Datagram, behind: list[Frame]) -> bytes:
     raise Odd("MissingFragment")
 
 
-# ---- what packets tell
+# ---- what packets contain
 
 
-def word_sum(octets: bytes) -> int:
-    octets += b"\0" * (len(octets) % 2)
-    return sum(number(octets[at:at + 2]) for at in range(0, len(octets), 2))
+def word_sum(data: bytes) -> int:
+    data += b"\0" * (len(data) % 2)
+    return sum(number(data[at:at + 2]) for at in range(0, len(data), 2))
 
 
 class Capture:
-    """What the frames of a capture tell."""
+    """What the frames of a capture contain."""
 
     def __init__(self, frames: list[Frame]):
-        self.frames, self.told = frames, Told("capture")
+        self.frames, self.contents = frames, Contents("capture")
         self.odd: collections.Counter[str] = collections.Counter()
 
-    def read(self) -> Told:
+    def read(self) -> Contents:
         for place in range(len(self.frames)):
             try:
                 self.frame(place)
             except Odd as odd:
                 self.odd[str(odd)] += 1
-        self.told.holes = [f"{odd} {count}" for odd, count in self.odd.items() if odd not in ("NotIpv4", "NotOspf")]
-        return self.told
+        self.contents.holes = [f"{odd} {count}" for odd, count in self.odd.items() if odd not in ("NotIpv4", "NotOspf")]
+        return self.contents
 
     def frame(self, place: int) -> None:
         frame = self.frames[place]
@@ -341,42 +340,42 @@ class Capture:
         length = number(payload[2:4])
         if length < 24 or (whole and length > len(payload)):
             raise Odd("BadLength")
-        whole, octets = length <= len(payload), payload[:length]
-        if whole and number(octets[14:16]) < 2 and (word_sum(octets[:16]) + word_sum(octets[24:])) % 65535:
+        whole, data = length <= len(payload), payload[:length]
+        if whole and number(data[14:16]) < 2 and (word_sum(data[:16]) + word_sum(data[24:])) % 65535:
             raise Odd("BadChecksum")
         lack = "BadLength" if whole else "Truncated"
-        if octets[1] == 1:
-            self.hello(octets, lack)
-        elif octets[1] == 4:
-            self.update(octets, lack, seen)
-        elif octets[1] == 2:
-            self.headers(octets, 32, lack, seen)
-        elif octets[1] == 5:
-            self.headers(octets, 24, lack, seen)
-        elif octets[1] != 3:
+        if data[1] == 1:
+            self.hello(data, lack)
+        elif data[1] == 4:
+            self.update(data, lack, seen)
+        elif data[1] == 2:
+            self.headers(data, 32, lack, seen)
+        elif data[1] == 5:
+            self.headers(data, 24, lack, seen)
+        elif data[1] != 3:
             raise Odd("OtherType")
 
-    def hello(self, octets: bytes, lack: str) -> None:
-        if len(octets) < 44:
+    def hello(self, data: bytes, lack: str) -> None:
+        if len(data) < 44:
             raise Odd(lack)
-        kind = "ordinary" if octets[30] & 2 else "nssa" if octets[30] & 8 else "stub"
-        self.told.kinds.append((number(octets[8:12]), kind))
+        kind = "ordinary" if data[30] & 2 else "nssa" if data[30] & 8 else "stub"
+        self.contents.kinds.append((number(data[8:12]), kind))
 
-    def headers(self, octets: bytes, before: int, lack: str, seen: int | None) -> None:
-        """LSA headers, which fill the packet behind so many octets."""
-        if len(octets) < before:
+    def headers(self, data: bytes, before: int, lack: str, seen: int | None) -> None:
+        """LSA headers, which fill the packet after this number of bytes."""
+        if len(data) < before:
             raise Odd(lack)
-        area = number(octets[8:12])
-        for at in range(before, len(octets) - 19, 20):
-            self.told.headers.append(Sighting(scope(octets[at + 3], area), seen, octets[at:at + 20]))
-        if (len(octets) - before) % 20:
+        area = number(data[8:12])
+        for at in range(before, len(data) - 19, 20):
+            self.contents.headers.append(Sighting(scope(data[at + 3], area), seen, data[at:at + 20]))
+        if (len(data) - before) % 20:
             raise Odd(lack)
 
-    def update(self, octets: bytes, lack: str, seen: int | None) -> None:
-        if len(octets) < 28:
+    def update(self, data: bytes, lack: str, seen: int | None) -> None:
+        if len(data) < 28:
             raise Odd(lack)
-        rest = octets[28:]
-        for _ in range(number(octets[24:28])):
+        rest = data[28:]
+        for _ in range(number(data[24:28])):
             length = number(rest[18:20])
             if len(rest) < 20 or (length >= 20 and length > len(rest)):
                 raise Odd(lack)
@@ -386,23 +385,23 @@ class Capture:
             if fault:
                 self.odd[f"RefusedLsa {fault}"] += 1
             else:
-                self.told.sightings.append(Sighting(scope(rest[3], number(octets[8:12])), seen, rest[:length]))
+                self.contents.sightings.append(Sighting(scope(rest[3], number(data[8:12])), seen, rest[:length]))
             rest = rest[length:]
 
 
-def told_by_capture(file: bytes) -> Told:
+def contents_of_capture(file: bytes) -> Contents:
     frames, end = Pcapng(file).read() if file[:4] == SECTION_HEADER else pcap(file)
-    told = Capture(frames).read()
+    contents = Capture(frames).read()
     if end != len(file):
-        told.holes.append(f"Cut at {end}")
-    return told
+        contents.holes.append(f"Cut at {end}")
+    return contents
 
 
 # ---- walks
 
 BLANKS = b" \t\n\r"
 OSPF = [1, 3, 6, 1, 2, 1, 14]
-# The table of each name of the OSPF-MIB, the column of its octets, and its columns.
+# The table of each name of the OSPF-MIB, the column of its bytes, and its columns.
 COLUMNS = ["AreaId", "Type", "Lsid", "RouterId", "Sequence", "Age", "Checksum", "Advertisement"]
 TABLES = {4: ("ospfLsdb", 1), 12: ("ospfExtLsdb", 0), 19: ("ospfAsLsdb", 0)}
 NAMES = {"ospfImportAsExtern": (2, 3)} | {
@@ -416,7 +415,7 @@ KINDS = {b"1": "ordinary", b"importExternal(1)": "ordinary", b"2": "stub", b"imp
 
 
 class Unreadable(Exception):
-    """A name, or the index in it, can not be read."""
+    """A name, or the index in it, cannot be read."""
 
 
 def objects(text: bytes) -> list[tuple[bytes, bytes]]:
@@ -440,7 +439,7 @@ def arc(word: str) -> int:
 
 
 def arcs_of(name: str) -> list[int] | None:
-    """A name as numbers, and none where it is of something else."""
+    """A name as numbers, or `None` where it is of something else."""
     head, dot, rest = name.partition(".")
     heads = {"": [], "iso": [1], "SNMPv2-SMI::mib-2": OSPF[:6]}
     if not dot or not (head in heads or head.startswith("OSPF-MIB::")):
@@ -452,19 +451,19 @@ def arcs_of(name: str) -> list[int] | None:
     return arcs[7:] if arcs[:7] == OSPF else None
 
 
-def octets_of(arcs: list[int], count: int) -> bytes:
+def bytes_of(arcs: list[int], count: int) -> bytes:
     if len(arcs) != count or max(arcs) > 255:
         raise Unreadable
     return bytes(arcs)
 
 
 def hexadecimal(text: bytes) -> bytes | None:
-    digits = bytes(octet for octet in text if octet not in BLANKS)
+    digits = bytes(byte for byte in text if byte not in BLANKS)
     return bytes.fromhex(digits.decode()) if re.fullmatch(rb"([0-9A-Fa-f]{2})*", digits) else None
 
 
-def octets_in(value: bytes) -> bytes | None:
-    """The octets of a value: in hexadecimal, or between quotes."""
+def bytes_in(value: bytes) -> bytes | None:
+    """The bytes of a value: in hexadecimal, or between quotes."""
     if value.startswith(b"Hex-STRING:"):
         return hexadecimal(value.removeprefix(b"Hex-STRING:"))
     quoted = re.fullmatch(rb'"((?:[^"\\]|\\.)*)"[ \t\n\r]*', value.removeprefix(b"STRING: "), re.DOTALL)
@@ -472,30 +471,30 @@ def octets_in(value: bytes) -> bytes | None:
 
 
 class Walk:
-    """What the objects of a walk tell."""
+    """What the objects of a walk contain."""
 
     def __init__(self, text: bytes):
-        self.text, self.told, self.is_of_mib = text, Told("walk"), False
-        # The rows of which other columns are there, and those of which the octets are.
+        self.text, self.contents, self.is_of_mib = text, Contents("walk"), False
+        # The rows with other columns, and those with the bytes.
         self.columns: set[tuple[bytes, bytes]] = set()
         self.rows: set[tuple[bytes, bytes]] = set()
 
-    def read(self) -> Told:
+    def read(self) -> Contents:
         for name, value in objects(self.text):
             try:
                 self.object(name, value)
             except Unreadable:
-                self.told.holes.append("Name")
+                self.contents.holes.append("Name")
         if not self.is_of_mib:
             raise Refused("UnknownKind", 0)
         for row in self.columns - self.rows:
             self.row_hole(row, "Missing")
-        return self.told
+        return self.contents
 
     def row_hole(self, row: tuple[bytes, bytes], fault: str) -> None:
         area, key = row
         where = f"area {address(area)} " if area else ""
-        self.told.holes.append(f"{fault} {where}type {key[0]} id {address(key[1:5])} adv {address(key[5:])}")
+        self.contents.holes.append(f"{fault} {where}type {key[0]} id {address(key[1:5])} adv {address(key[5:])}")
 
     def object(self, name: bytes, value: bytes) -> None:
         arcs = arcs_of(name.decode("latin-1"))
@@ -505,13 +504,13 @@ class Walk:
         index = arcs[3:]
         is_last = value.startswith(b"No more variables left in this MIB View")
         if entry == 1 and (table, column) == (2, 3):
-            area = number(octets_of(index, 4))
+            area = number(bytes_of(index, 4))
             if not is_last:
                 self.kind(area, value)
         elif entry == 1 and table in TABLES:
             in_area = table == 4
-            octets = octets_of(index, 13 if in_area else 9)
-            row = (octets[:4], octets[4:]) if in_area else (b"", octets)
+            data = bytes_of(index, 13 if in_area else 9)
+            row = (data[:4], data[4:]) if in_area else (b"", data)
             if not is_last:
                 self.column(row, column == 7 + TABLES[table][1], value)
         self.is_of_mib = True
@@ -519,17 +518,17 @@ class Walk:
     def kind(self, area: int, value: bytes) -> None:
         word = re.match(rb"INTEGER: ([^ \t\n\r]*)", value)
         if word and word[1] in KINDS:
-            self.told.kinds.append((area, KINDS[word[1]]))
+            self.contents.kinds.append((area, KINDS[word[1]]))
         else:
-            self.told.holes.append(f"Kind area {address(area)}")
+            self.contents.holes.append(f"Kind area {address(area)}")
 
-    def column(self, row: tuple[bytes, bytes], is_octets: bool, value: bytes) -> None:
-        if not is_octets:
+    def column(self, row: tuple[bytes, bytes], is_data: bool, value: bytes) -> None:
+        if not is_data:
             self.columns.add(row)
             return
         self.rows.add(row)
         area, key = row
-        lsa = octets_in(value)
+        lsa = bytes_in(value)
         if lsa is None:
             self.row_hole(row, "NotOctets")
         elif fault := fault_of_lsa(lsa):
@@ -541,18 +540,18 @@ class Walk:
         elif not area and lsa[3] not in (5, 11):
             self.row_hole(row, "NoArea")
         else:
-            self.told.sightings.append(Sighting(scope(lsa[3], number(area)), None, lsa))
+            self.contents.sightings.append(Sighting(scope(lsa[3], number(area)), None, lsa))
 
 
 # ---- files, and the dump that they make
 
 
-def told_by(file: bytes) -> Told:
-    """What a file tells. Raises `Refused`."""
+def contents_of(file: bytes) -> Contents:
+    """What a file contains. Raises `Refused`."""
     is_capture = file[:4] == SECTION_HEADER or file[:4] in MAGIC_NUMBERS
-    told = told_by_capture(file) if is_capture else Walk(file).read()
-    told.holes += [f"Nssa area {address(area)}" for area in {area for area, kind in told.kinds if kind == "nssa"}]
-    return told
+    contents = contents_of_capture(file) if is_capture else Walk(file).read()
+    contents.holes += [f"Nssa area {address(area)}" for area in {area for area, kind in contents.kinds if kind == "nssa"}]
+    return contents
 
 
 def seconds(lsa: bytes) -> int:
@@ -592,23 +591,23 @@ def newest(sightings: list[Sighting], keeps: bool = False) -> list[Sighting]:
     return found
 
 
-def unnamed(files: list[Told], keeps: bool = False) -> list[str]:
-    """The lines of the areas of LSAs that stand, but for the backbone, of which no kind is told."""
+def unnamed(files: list[Contents], keeps: bool = False) -> list[str]:
+    """The lines of the areas of LSAs that stand, except the backbone, of which no file reports the kind."""
     standing = newest([sighting for file in files for sighting in file.sightings], keeps)
     areas = {sighting.area for sighting in standing} - {None, 0} - {area for file in files for area, _ in file.kinds}
     return [f"database: NoKind area {address(area)}" for area in sorted(areas)]
 
 
 def words(place: tuple) -> str:
-    """What names an LSA, in the words of a line."""
+    """What identifies an LSA, in the words of a line."""
     is_as_wide, area, kind, name, router = place
     key = f"type {kind} id {address(name)} adv {address(router)}"
     return key if is_as_wide else f"area {address(area)} {key}"
 
 
-def named(files: list[Told]) -> list[str]:
-    """The lines of the LSAs that headers below MaxAge name: those that no file has, and those of which all that files
-    have is older, by sequence number and checksum."""
+def named(files: list[Contents]) -> list[str]:
+    """The lines of the LSAs that headers below MaxAge name: those that no file has, and those of which files have only
+    older instances, by sequence number and checksum."""
     shown = collections.defaultdict(list)
     for sighting in (sighting for file in files for sighting in file.sightings):
         shown[sighting.place()].append(instance(sighting.lsa)[:2])
@@ -620,8 +619,8 @@ def named(files: list[Told]) -> list[str]:
             for place in sorted(places)]
 
 
-def contradicted(files: list[Told]) -> list[str]:
-    """The lines of the areas of which files tell both that they are stub areas and that they are none."""
+def contradicted(files: list[Contents]) -> list[str]:
+    """The lines of the areas that files report both as stub areas and as others."""
     kinds: dict[int, set[bool]] = collections.defaultdict(set)
     for area, kind in (kind for file in files for kind in file.kinds):
         kinds[area].add(kind == "stub")
@@ -651,7 +650,7 @@ def ends_of(lsa: bytes, kinds: tuple[int, ...]) -> set[bytes]:
 
 
 def lacking(areas: dict[int, list[bytes]], as_wide: list[bytes]) -> list[str]:
-    """The lines of what a database lacks, as far as its LSAs tell, and of what the planner leaves out of it."""
+    """The lines of what a database lacks, as far as its LSAs show, and of what the planner leaves out of it."""
     lines: list[str] = []
     anywhere: set[bytes] = set()
     for area, lsas in sorted(areas.items()):
@@ -669,7 +668,7 @@ def lacking(areas: dict[int, list[bytes]], as_wide: list[bytes]) -> list[str]:
     return lines + lacks_of(asbrs, anywhere, "asbr") + left_out(as_wide, "")
 
 
-def dump_of(files: list[Told], keeps: bool = False) -> bytes:
+def dump_of(files: list[Contents], keeps: bool = False) -> bytes:
     """The dump that files make, with flushed LSAs where these are kept. Raises `Refused`."""
     standing = newest([sighting for file in files for sighting in file.sightings], keeps)
     kinds = [kind for file in files for kind in file.kinds]

@@ -1,7 +1,7 @@
-"""Carries scripts out as docs/FORMATS.md has it, in plain steps: the reply to each line, the dump that is left, and the
+"""Carries out scripts as docs/FORMATS.md defines, in plain steps: the reply to each line, the dump that is left, and the
 session that is saved. It reads saved sessions with edits of every kind, too.
 
-It was written from that page, docs/DECISIONS.md and RFC 2328 alone, so that it can be put beside the program.
+It was written from that page, docs/DECISIONS.md and RFC 2328 alone, so that it can be compared with the program.
 """
 import dataclasses
 import itertools
@@ -85,7 +85,7 @@ def words_of(line: bytes) -> list[bytes]:
 
 
 def command(line: bytes) -> Command | None:
-    """What a line means; none where it has no reply. Raises `Refused`."""
+    """What a line means; `None` where it has no reply. Raises `Refused`."""
     words, branch = words_of(line), 0
     if not words or words[0].startswith(b"#"):
         return None
@@ -490,7 +490,7 @@ class Planner:
         return b"ok"
 
     def shown(self, word: str, router: bytes, state: State) -> bytes:
-        """A table, or what it has otherwise than that of the loaded database."""
+        """A table, or how it differs from that of the loaded database."""
         if not (self.base if word == "compare" else state).areas_of(router):
             raise Refused("N1 NoRouter")
         lines = table(state, router)

@@ -1,14 +1,14 @@
 """Reads what routers print of their databases, as texts and in JSON, and lists of LSA headers, as docs/CAPTURE.md has them,
 in plain steps: what a file contains, or why it is refused; and how a database differs from a list.
 
-It was written from that page, so that it can be put beside the program. Nothing in it is fast.
+It was written from that page, so that it can be compared with the program. Nothing in it is fast.
 """
 import dataclasses
 import json
 import re
 from collections.abc import Callable
 
-from plain_captures import Refused, Sighting, Told, address, is_at_max_age, scope, words
+from plain_captures import Contents, Refused, Sighting, address, is_at_max_age, scope, words
 from plain_reader import fault_of_lsa, number
 
 BLANKS = re.compile(rb"[ \t\n\r]+")
@@ -185,7 +185,7 @@ class PrintReading:
     """What a print contains, read one LSA after another."""
 
     def __init__(self, word: str):
-        self.found, self.unreadable = Told(word), 0
+        self.found, self.unreadable = Contents(word), 0
 
     def lsa(self, header: Header, body: bytes, area: int | None) -> None:
         made = header.lsa(body)
@@ -198,13 +198,13 @@ class PrintReading:
         else:
             self.found.sightings.append(Sighting(scope(header.kind, area), None, made))
 
-    def read(self) -> Told:
+    def read(self) -> Contents:
         if self.unreadable:
             self.found.holes.append(f"Unreadable {self.unreadable}")
         return self.found
 
 
-def read_text(file: bytes) -> Told:
+def read_text(file: bytes) -> Contents:
     """What a router prints as a text."""
     found, reading, area = [word for word in BLANKS.split(file) if word], PrintReading("printed"), None
     for at in range(len(found)):
@@ -334,7 +334,7 @@ def read_array(reading: PrintReading, value, kind: int, area: int | None) -> Non
             reading.unreadable += 1
 
 
-def read_document(file: bytes) -> Told:
+def read_document(file: bytes) -> Contents:
     """What a router prints in JSON. Raises `Refused`."""
     try:
         value = json.loads(file.decode(), object_pairs_hook=Members, parse_int=Number, parse_float=Number,
@@ -384,7 +384,7 @@ class Heading:
 
 
 def heading_in(line: list[bytes]) -> Heading | None:
-    """The heading that a line is. Raises `Unreadable` where it is none."""
+    """The heading that a line is. Raises `Unreadable` where it is not one."""
     for title, kind in TITLES.items():
         text = Text(line)
         if text.begins(title):
@@ -438,7 +438,7 @@ class PrintedList:
             raise Refused("NotAList")
 
     def other_line(self, line: list[bytes], heading: Heading | None) -> Heading | None:
-        """A line that is no heading that is known; it answers the heading of the next."""
+        """A line that is not a known heading; answers the heading of the next line."""
         if Text(line).begins(b"OSPF Router with ID") or Text(line).begins(b"BIRD"):
             return None
         if b"(Area" in line or b"States" in line:

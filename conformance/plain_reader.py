@@ -1,7 +1,7 @@
 """Reads a dump as docs/FORMATS.md has it, in plain steps: which fault it is refused for, if any. Of saved sessions it
 reads those whose edits are all `cost`.
 
-It was written from that page and RFC 2328 alone, so that it can be put beside the program.
+It was written from that page and RFC 2328 alone, so that it can be compared with the program.
 """
 import dataclasses
 import re
@@ -11,8 +11,8 @@ LONGEST_SESSION = 17_825_792
 MOST_EDITS = 10_000
 
 # The one spelling of an address and of a number, and that of the edit `cost`.
-OCTET = rb"(?:25[0-5]|2[0-4][0-9]|1[0-9]{2}|[1-9]?[0-9])"
-ADDRESS = rb"(" + rb"\.".join([OCTET] * 4) + rb")"
+BYTE = rb"(?:25[0-5]|2[0-4][0-9]|1[0-9]{2}|[1-9]?[0-9])"
+ADDRESS = rb"(" + rb"\.".join([BYTE] * 4) + rb")"
 NUMBER = rb"(0|[1-9][0-9]*)"
 COST = re.compile(rb"cost " + rb" ".join([ADDRESS, ADDRESS, NUMBER, NUMBER]))
 
@@ -29,20 +29,20 @@ class Refused(Exception):
         return f"dump: {self.fault} at {self.offset}\n"
 
 
-def number(octets: bytes) -> int:
-    return int.from_bytes(octets, "big")
+def number(data: bytes) -> int:
+    return int.from_bytes(data, "big")
 
 
-def is_mask(octets: bytes) -> bool:
+def is_mask(data: bytes) -> bool:
     """Ones followed by zeros."""
-    return "01" not in format(number(octets), "032b")
+    return "01" not in format(number(data), "032b")
 
 
 def has_good_checksum(lsa: bytes) -> bool:
-    octets = lsa[2:]
-    count = len(octets)
-    first = sum(octets) % 255
-    second = sum((count - place) * octet for place, octet in enumerate(octets)) % 255
+    data = lsa[2:]
+    count = len(data)
+    first = sum(data) % 255
+    second = sum((count - place) * byte for place, byte in enumerate(data)) % 255
     return first == second == 0 and lsa[16:18] != b"\0\0"
 
 
@@ -81,16 +81,16 @@ def masks(lsa: bytes) -> list[bytes]:
     return [lsa[20:24]] if lsa[3] in (2, 3, 5) else []
 
 
-def fault_of_lsa(octets: bytes) -> str | None:
-    """The first fault of the LSA at the front of octets."""
-    if len(octets) < 20:
+def fault_of_lsa(data: bytes) -> str | None:
+    """The first fault of the LSA at the front of these bytes."""
+    if len(data) < 20:
         return "Truncated"
-    length = number(octets[18:20])
+    length = number(data[18:20])
     if length < 20:
         return "Length"
-    if length > len(octets):
+    if length > len(data):
         return "Truncated"
-    lsa = octets[:length]
+    lsa = data[:length]
     if not 1 <= lsa[3] <= 11:
         return "BadType"
     if not has_body(lsa):
@@ -115,28 +115,28 @@ class Reader:
         self.areas: dict[int, dict[bytes, bytes]] = {}
 
     def field(self, size: int) -> bytes:
-        octets = self.dump[self.at:self.at + size]
-        if len(octets) < size:
+        data = self.dump[self.at:self.at + size]
+        if len(data) < size:
             raise Refused("L3 Truncated", self.at)
         self.at += size
-        return octets
+        return data
 
     def lsas(self, count: int, is_as_wide: bool, routers: dict[bytes, bytes]) -> None:
         keys = set()
         for _ in range(count):
-            octets = self.dump[self.at:]
-            fault = fault_of_lsa(octets)
+            data = self.dump[self.at:]
+            fault = fault_of_lsa(data)
             if fault:
                 raise Refused(f"L9 Lsa {fault}", self.at)
-            if (octets[3] in (5, 11)) != is_as_wide:
+            if (data[3] in (5, 11)) != is_as_wide:
                 raise Refused("L10 WrongSection", self.at)
-            key = octets[3:12]
+            key = data[3:12]
             if key in keys:
                 raise Refused("L11 DuplicateLsa", self.at)
             keys.add(key)
-            length = number(octets[18:20])
-            if octets[3] == 1:
-                routers[octets[8:12]] = octets[:length]
+            length = number(data[18:20])
+            if data[3] == 1:
+                routers[data[8:12]] = data[:length]
             self.at += length
 
     def area(self, before: int) -> int:

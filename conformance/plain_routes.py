@@ -1,7 +1,7 @@
 """Calculates routing tables as RFC 2328, section 16, and docs/DECISIONS.md have them, in plain steps; and the metrics that
 `refresh` gives to summary-LSAs (docs/FORMATS.md).
 
-It was written from these alone, so that it can be put beside the program. Nothing in it is fast.
+It was written from these alone, so that it can be compared with the program. Nothing in it is fast.
 """
 import dataclasses
 import functools
@@ -126,7 +126,7 @@ class Route:
 
 
 def best(routes: dict, there, route: Route) -> None:
-    """Takes a route of one kind into account: the least cost, or as good a one beside it."""
+    """Takes a route of one kind into account: the least cost wins, and equal ones are joined."""
     other = routes.get(there)
     if other is None or route.cost < other.cost:
         routes[there] = route

@@ -1,4 +1,4 @@
-"""A ring of 40 routers with ten networks of four neighbouring routers each: the table of each router, worked out by a
+"""A ring of 40 routers with ten networks of four neighboring routers each: the table of each router, worked out by a
 plain program that knows of no shortest-path tree (RFC 2328, 16.1 and 16.1.1): distances by rounds over all edges, and
 each next hop given from the first edges of a path to all that ways of least cost lead to from there."""
 from cases import Case
@@ -44,7 +44,7 @@ def costs(place: int, is_equal: bool) -> tuple[int, int]:
 
 
 def links(place: int, is_equal: bool) -> list[tuple[int, int, int, int]]:
-    """A router's links to both neighbours, to its network unless it is the last of the four, at each eighth place to a
+    """A router's links to both neighbors, to its network unless it is the last of the four, at each eighth place to a
     router that has no link back, and where ways are equal at each tenth place twice more to the next one."""
     front = 0x0A000000 | place << 8
     on, back = costs(place, is_equal)
@@ -102,8 +102,8 @@ def hops(graph: dict[int, list[Edge]], root: int, near: dict[int, int]) -> dict[
             give((1, data), other)
             continue
         found[other].add((2, data))
-        for behind, _, address in tight(other):
-            give((3, data, address), behind)
+        for beyond, _, address in tight(other):
+            give((3, data, address), beyond)
     return found
 
 

@@ -1,4 +1,4 @@
-"""Inputs that are made wrong, for tests/fuzz: bytes, LSAs, dumps, scripts, captures, walks and prints.
+"""Malformed inputs for tests/fuzz: bytes, LSAs, dumps, scripts, captures, walks and prints.
 
 Each function takes a source of chance, so that what it makes is determined by its seed.
 """
@@ -102,7 +102,7 @@ def identifiers(lsas: list[bytes]) -> list[bytes]:
 
 
 def with_numbers(lsa: bytes) -> bytes:
-    """An LSA with the length that it has, and a router-LSA with the number of links that fill it, where such a one is."""
+    """An LSA with the length that it has, and a router-LSA with the number of links that fill it, if one does."""
     lsa = lsa[:18] + (len(lsa) % 65536).to_bytes(2, "big") + lsa[20:]
     if lsa[3] == 1 and len(lsa) >= 24:
         count, at = 0, 24
@@ -220,7 +220,7 @@ def copied(parts: Parts) -> Parts:
 
 
 def change_lsas(chance: random.Random, parts: Parts, others: list[bytes], repaired: bool) -> None:
-    """Changes an LSA, or one more is there, or one less, or one stands elsewhere."""
+    """Changes an LSA, adds, removes or moves one."""
     section = chance.choice([lsas for lsas in parts.sections if lsas] or parts.sections)
     place = chance.randrange(len(section) or 1)
     kind = chance.random()
@@ -240,7 +240,7 @@ def change_lsas(chance: random.Random, parts: Parts, others: list[bytes], repair
 
 
 def change_areas(chance: random.Random, parts: Parts) -> None:
-    """Changes an area, or one more is there, or one less."""
+    """Changes an area, adds or removes one."""
     place = chance.randrange(len(parts.heads) or 1)
     kind = chance.random()
     if not parts.heads or kind < 0.3:
@@ -258,7 +258,7 @@ def change_areas(chance: random.Random, parts: Parts) -> None:
 
 
 def change_history(chance: random.Random, parts: Parts) -> None:
-    """Makes a session of it, or changes its edits."""
+    """Makes it a session, or changes its edits."""
     if parts.version != 2:
         parts.version, parts.lines, parts.done = 2, [], 0
     words = Words(parts)

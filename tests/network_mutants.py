@@ -1,4 +1,4 @@
-"""Files that a network gives, for tests/fuzz: captures, walks, prints and lists, made of LSAs and then made wrong.
+"""Files from a network, for tests/fuzz: captures, walks, prints and lists, made of LSAs and then changed.
 
 Packets, frames and walks are made by the functions of conformance/capture.
 """
@@ -95,7 +95,7 @@ def summed(data: bytes) -> bytes:
 
 
 def datagrams(chance: random.Random, data: bytes) -> list[bytes]:
-    """A packet in a datagram, in fragments or with a header that lies."""
+    """A packet in a datagram, in fragments or with a malformed header."""
     kind, name = chance.random(), chance.choice([1, 1, 2])
     if kind < 0.75 or len(data) < 24:
         made = [make.datagram(data, identification=name)]
@@ -352,7 +352,7 @@ def printed(chance: random.Random, lsas: list[bytes], others: list[bytes]) -> by
 
 
 def changed_value(chance: random.Random, value):
-    """A document with another value, or a member or an element that is gone, or there twice."""
+    """A document with another value, or with a member or an element that is missing or repeated."""
     if isinstance(value, dict) and value:
         name = chance.choice(list(value))
         kind = chance.random()

@@ -7,7 +7,7 @@ COSTS = [1, 1, 2, 4, 4, 8, 10, 10, 10, 20, 64]
 
 
 def dotted(number: int) -> str:
-    return ".".join(str(octet) for octet in number.to_bytes(4, "big"))
+    return ".".join(str(byte) for byte in number.to_bytes(4, "big"))
 
 
 def mask(length: int) -> int:
@@ -16,15 +16,15 @@ def mask(length: int) -> int:
 
 def lsa(kind: int, ident: int, adv: int, body: bytes) -> bytes:
     """An LSA of age 1 with its checksum (RFC 2328, 12.1.7)."""
-    octets = bytearray(struct.pack(">HBBIIIHH", 1, 2, kind, ident, adv, 0x80000001, 0, 20 + len(body)) + body)
-    length = len(octets) - 2
+    data = bytearray(struct.pack(">HBBIIIHH", 1, 2, kind, ident, adv, 0x80000001, 0, 20 + len(body)) + body)
+    length = len(data) - 2
     first = second = 0
-    for octet in octets[2:]:
-        first = (first + octet) % 255
+    for byte in data[2:]:
+        first = (first + byte) % 255
         second = (second + first) % 255
-    octets[16] = ((length - 15) * first - second) % 255 or 255
-    octets[17] = (second - (length - 14) * first) % 255 or 255
-    return bytes(octets)
+    data[16] = ((length - 15) * first - second) % 255 or 255
+    data[17] = (second - (length - 14) * first) % 255 or 255
+    return bytes(data)
 
 
 @dataclass

@@ -1,4 +1,4 @@
--- Lists of holes, area after area.
+-- Lists of findings, area after area.
 use Rattle.std.proofs.Common.{◌≡◌, ◌∙◌, sym, ap, subst, refl, ℕ, ◌+◌, List, [], ◌∷◌, ◌++◌, take, map, Some}
 use Rattle.std.specs.List.{AllZip, flat_map, slice_get}
 use Rattle.std.proofs.lemmas.List.{flat_map_more, take_more}
@@ -22,7 +22,7 @@ module _ (areas : List AreaHead) (i : ℕ) (area : AreaHead) (here : slice_get a
       take_more areas i area (slice_get_within areas i area here)
       ∙ ap (λ a. take i areas ++ a ∷ []) (get_or_from_slice_get areas i area area here)
 
-  -- what all areas give, one area more
+  -- what all areas give, with one more area
   pub given_more : {X : Type 0} (f : AreaHead → List X) (old new more : List X) → old ≡ flat_map f (take i areas) → more ≡ f area
       → new ≡ old ++ more → new ≡ flat_map f (take (i + 1) areas)
   given_more f old new more before one pushed =

@@ -60,7 +60,7 @@ pub record AreHolesOfAs (db : Lists) (holes : List Hole) : Type 0 where
 
 -- ---- the database
 
--- the holes of each area, in the order of the areas, and then those of AS scope
+-- the findings of each area, in the order of the areas, and then those of AS scope
 pub record AreHoles (db : Lists) (holes : List Hole) : Type 0 where
   pub parts : List (List Hole)
   pub last : List Hole

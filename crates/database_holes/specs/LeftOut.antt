@@ -1,4 +1,4 @@
--- What the planner leaves out and LSAs show: not-so-stubby areas, opaque LSAs and virtual links.
+-- What the planner leaves out, where LSAs show it: not-so-stubby areas, opaque LSAs and virtual links.
 use Rattle.std.specs.Prelude.{ℕ, ◌==◌, ◌&&◌, Bool, nat_le, if◌then◌else◌, List, [], ◌∷◌, ◌++◌, length}
 use Rattle.std.specs.List.{count_by, filter, flat_map}
 use Rattle.lsa_codec.specs.declared.link.Link.{Link}
@@ -24,11 +24,11 @@ is_opaque lsa = nat_le link_opaque_lsa (kind_of lsa) && nat_le (kind_of lsa) as_
 abbrev pub virtual_links : List ℕ → List Link
 virtual_links lsa = if kind_of lsa == router_lsa then filter (λ link. is_virtual link.kind) (links_of lsa) else []
 
--- so many of one kind, where there is one
+-- the number of one kind, unless it is 0
 abbrev pub left_out : Section → Feature → ℕ → List Hole
 left_out section feature count = if count == 0 then [] else LeftOut section feature count ∷ []
 
--- all that the LSAs of a section show, in this order, an LSA at any age
+-- all that the LSAs of a section show, in this order, whatever their age
 abbrev pub all_left_out : Section → List (List ℕ) → List Hole
 all_left_out section lsas =
     left_out section Nssa (count_by is_nssa lsas)

@@ -40,14 +40,14 @@ abbrev pub is_summary : ℕ → Bool
 is_summary kind = (kind == summary_lsa) || (kind == asbr_summary_lsa)
 
 -- the routers that a router-LSA's links lead to, those attached to the network of a network-LSA, and the area border
--- router that a summary-LSA is of
+-- router that originated a summary-LSA
 abbrev pub routers_told : List ℕ → List ℕ
 routers_told lsa =
     if kind_of lsa == router_lsa then filter_map router_of_link (links_of lsa) else
     if kind_of lsa == network_lsa then map (λ router. router.0) (attached_of lsa) else
     if is_summary (kind_of lsa) then advertising_router_of lsa ∷ [] else []
 
--- an LSA at MaxAge counts for nothing (12.1.1)
+-- an LSA at MaxAge names nothing (12.1.1)
 abbrev pub routers_named : List ℕ → List ℕ
 routers_named lsa = if is_at_max_age lsa then [] else routers_told lsa
 
@@ -58,13 +58,13 @@ networks_told lsa = if kind_of lsa == router_lsa then filter_map network_of_link
 abbrev pub networks_named : List ℕ → List ℕ
 networks_named lsa = if is_at_max_age lsa then [] else networks_told lsa
 
--- the AS boundary router that an AS-external-LSA is of
+-- the AS boundary router that originated an AS-external-LSA
 abbrev pub asbr_named : List ℕ → Option ℕ
 asbr_named lsa =
     if is_at_max_age lsa then None else
     if kind_of lsa == external_lsa then Some (advertising_router_of lsa) else None
 
--- ---- what an LSA describes, at any age: of a router or network whose LSA was flushed nothing is missing
+-- ---- what an LSA describes, at any age: a router or network whose LSA was flushed is not missing
 
 -- the Link State ID of a router-LSA is the Router ID (12.1.4)
 abbrev pub router_described : List ℕ → Option ℕ

@@ -1,4 +1,4 @@
-//! The holes of the database of a dump.
+//! What the database of a dump lacks.
 
 ghost use Rattle.std.specs.Prelude.{◌≡◌, Ok, IfOk, IfErr};
 ghost use Rattle.lsdb.specs.Lists.{Lists};
@@ -10,7 +10,7 @@ use crate::holes::holes_of;
 use lsdb::{Database, DumpFault, DumpFaultKind};
 use std::alloc::Allocator;
 
-/// The holes of the database whose dump the octets are, as [`holes_of`] answers them.
+/// What the database with this dump lacks, as [`holes_of`] answers it.
 ///
 /// # Errors
 ///

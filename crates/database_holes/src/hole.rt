@@ -23,13 +23,13 @@ pub enum Feature {
 #[derive(Clone, Copy, Debug, PartialEq, Eq)]
 pub enum Hole {
     /// The area has no router-LSA of this router. A link of a router-LSA leads to it, or it is
-    /// attached to the network of a network-LSA, or a summary-LSA of the area is its.
+    /// attached to the network of a network-LSA, or it originated a summary-LSA of the area.
     Router(AreaId, RouterId),
     /// The area has no network-LSA with this Link State ID, and a link leads to the network.
     Network(AreaId, Addr),
-    /// No area has a router-LSA of this router, and an AS-external-LSA is its.
+    /// No area has a router-LSA of this router, which originated an AS-external-LSA.
     Asbr(RouterId),
-    /// The LSAs of a section show so many of these.
+    /// The LSAs of a section show this number of these.
     LeftOut(Section, Feature, usize),
 }
 

@@ -1,4 +1,4 @@
-//! The holes of a database.
+//! What a database lacks.
 
 ghost use Rattle.std.specs.Prelude.{◌≡◌, ◌++◌, IfOk, OnOk, map};
 ghost use Rattle.std.specs.List.{AllZip, filter_map, flat_map};
@@ -18,7 +18,7 @@ use lsa_codec::{Addr, AreaId, RouterId};
 use lsdb::{Database, Section};
 use std::alloc::{AllocError, Allocator};
 
-/// The routers that LSAs of an area name, and no LSA of it describes.
+/// The routers that LSAs of an area name, and that no LSA of the area describes.
 fn missing_routers<A: Allocator + Copy>(
     alloc: A,
     database: &Database<A>,
@@ -34,7 +34,7 @@ fn missing_routers<A: Allocator + Copy>(
     missing(alloc, &named, &described)
 }
 
-/// The networks that LSAs of an area name, and no LSA of it describes.
+/// The networks that LSAs of an area name, and that no LSA of the area describes.
 fn missing_networks<A: Allocator + Copy>(
     alloc: A,
     database: &Database<A>,
@@ -66,7 +66,7 @@ fn routers_anywhere<A: Allocator + Copy>(
     Ok(found)
 }
 
-/// The AS boundary routers of AS-external-LSAs that no LSA of any area describes.
+/// The AS boundary routers of AS-external-LSAs, where no LSA of any area describes them.
 fn missing_asbrs<A: Allocator + Copy>(
     alloc: A,
     database: &Database<A>,
@@ -123,7 +123,7 @@ fn put_asbrs<A: Allocator + Copy>(
     Ok(())
 }
 
-/// The holes of an area.
+/// The findings of an area.
 fn holes_of_area<A: Allocator + Copy>(
     alloc: A,
     database: &Database<A>,
@@ -141,7 +141,7 @@ fn holes_of_area<A: Allocator + Copy>(
     Ok(holes)
 }
 
-/// The holes of AS scope.
+/// The findings of AS scope.
 fn holes_of_as<A: Allocator + Copy>(
     alloc: A,
     database: &Database<A>,
@@ -155,7 +155,7 @@ fn holes_of_as<A: Allocator + Copy>(
     Ok(holes)
 }
 
-/// The holes of each area, in the order of the areas.
+/// The findings of each area, in the order of the areas.
 fn holes_of_areas<A: Allocator + Copy>(
     alloc: A,
     database: &Database<A>,
@@ -171,7 +171,7 @@ fn holes_of_areas<A: Allocator + Copy>(
     Ok(parts)
 }
 
-/// All holes of these lists, one list after another.
+/// All findings of these lists, one list after another.
 fn joined<A: Allocator + Copy>(alloc: A, parts: &[Vec<Hole, A>]) -> Result<Vec<Hole, A>, AllocError>
     ensures { IfOk result (λ holes. holes.items ≡ flat_map (λ part. part.items) parts.now) }
 {
@@ -183,8 +183,8 @@ fn joined<A: Allocator + Copy>(alloc: A, parts: &[Vec<Hole, A>]) -> Result<Vec<H
 }
 
 /// What the database lacks, and what the planner leaves out of it: for each area, in rising order,
-/// the routers that are missing, the networks, and what is left out; and behind that the same of
-/// the LSAs of AS scope. Routers and networks rise, each of them once.
+/// the routers that are missing, the networks, and what is left out; and after that the same of the
+/// LSAs of AS scope. Routers and networks rise, and each stands once.
 ///
 /// # Errors
 ///

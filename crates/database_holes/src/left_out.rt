@@ -1,4 +1,4 @@
-//! What the planner leaves out and LSAs show.
+//! What the planner leaves out, where LSAs show it.
 
 ghost use Rattle.std.specs.Prelude.{◌≡◌, ◌≤◌, ◌++◌, length, IfOk, OnOk, filter};
 ghost use Rattle.std.specs.List.{count_by, flat_map};
@@ -80,7 +80,7 @@ fn virtual_links<A: Allocator + Copy>(
     Ok(found)
 }
 
-/// How many LSAs are of type 7.
+/// The number of LSAs of type 7.
 fn nssa_count<A: Allocator + Copy>(lsas: Lsas<'_, A>) -> usize
     requires { length lsas ≤ 65535 }
     ensures { result ≡ count_by is_nssa lsas.entry }
@@ -88,7 +88,7 @@ fn nssa_count<A: Allocator + Copy>(lsas: Lsas<'_, A>) -> usize
     lsas.filter(|lsa| is_nssa(*lsa)).count()
 }
 
-/// How many LSAs are opaque.
+/// The number of opaque LSAs.
 fn opaque_count<A: Allocator + Copy>(lsas: Lsas<'_, A>) -> usize
     requires { length lsas ≤ 65535 }
     ensures { result ≡ count_by is_opaque lsas.entry }
@@ -96,7 +96,7 @@ fn opaque_count<A: Allocator + Copy>(lsas: Lsas<'_, A>) -> usize
     lsas.filter(|lsa| is_opaque(*lsa)).count()
 }
 
-/// How many LSAs are router-LSAs with bit V.
+/// The number of router-LSAs with bit V.
 fn virtual_ends<A: Allocator + Copy>(lsas: Lsas<'_, A>) -> usize
     requires { length lsas ≤ 65535 }
     ensures { result ≡ count_by has_bit_v lsas.entry }
@@ -104,7 +104,7 @@ fn virtual_ends<A: Allocator + Copy>(lsas: Lsas<'_, A>) -> usize
     lsas.filter(|lsa| has_bit_v(*lsa)).count()
 }
 
-/// Adds what is left out so often, where it is.
+/// Adds what is left out, with its number, unless that is 0.
 fn put_left_out<A: Allocator + Copy>(
     holes: &mut Vec<Hole, A>,
     section: Section,

@@ -1,4 +1,4 @@
-//! What a link state database lacks, as far as its own LSAs tell (RFC 2328, 12.4).
+//! What a link state database lacks, as far as its own LSAs show (RFC 2328, 12.4).
 //!
 //! LSAs name routers and networks that must have LSAs of their own: [`holes_of`] answers those that
 //! have none, and what the planner leaves out of a database. It takes the time of a sort.

@@ -97,7 +97,7 @@ fn networks_of_lsa<A: Allocator + Copy>(alloc: A, lsa: &Lsa<A>) -> Result<Vec<u3
     }
 }
 
-/// The routers that LSAs name, as often as they do.
+/// The routers that LSAs name, each as often as it is named.
 pub(crate) fn routers_named<A: Allocator + Copy>(
     alloc: A,
     lsas: Lsas<'_, A>,
@@ -111,7 +111,7 @@ pub(crate) fn routers_named<A: Allocator + Copy>(
     Ok(named)
 }
 
-/// The transit networks that LSAs name, as often as they do.
+/// The transit networks that LSAs name, each as often as it is named.
 pub(crate) fn networks_named<A: Allocator + Copy>(
     alloc: A,
     lsas: Lsas<'_, A>,
@@ -136,7 +136,7 @@ fn asbr_named<A: Allocator + Copy>(lsa: &Lsa<A>) -> Option<u32>
     Some(key.adv.0)
 }
 
-/// The AS boundary routers of AS-external-LSAs, as often as there is one.
+/// The AS boundary routers of AS-external-LSAs, one for each LSA.
 pub(crate) fn asbrs_named<A: Allocator + Copy>(
     alloc: A,
     lsas: Lsas<'_, A>,

@@ -1,4 +1,4 @@
--- What a list tells, one line after another.
+-- What a list contains, one line after another.
 use Rattle.std.proofs.Common.{◌≡◌, ℕ, Bool, true, false, List, [], ◌∷◌, ◌++◌, append_assoc, Option, refl, sym, ap, ◌∙◌}
 use Rattle.std.specs.Prelude.{map, ◌||◌}
 use Rattle.std.specs.List.{slice_split}
@@ -23,7 +23,7 @@ pub last_line : (text line : List ℕ) → slice_split is_line_feed text ≡ lin
 unfolding lines
 last_line text line e = ap (map words) e
 
--- ---- what they tell
+-- ---- what they contain
 
 step : (heading : Option Heading) (line : Line) (others : List Line)
     → told_in heading (line ∷ others) ≡ told_by heading line (line_kind_of line) ++ told_in (heading_after heading (line_kind_of line)) others

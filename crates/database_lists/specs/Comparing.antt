@@ -30,11 +30,12 @@ lsa_of db place = find (has_key place.key) (lsas_of (scope_section place.scope) 
 
 -- ---- differences
 
--- what the list has where no router has the LSA in use: one that was flushed in the list is not missing (RFC 2328, 14.1)
+-- the change where the database has no usable instance: an LSA that was flushed in the list is not missing (RFC 2328,
+-- 14.1)
 abbrev pub absent : Header → Option Change
 absent header = if headers.is_at_max_age header then None else Some changes.Missing
 
--- what the list has beside the same instance: at MaxAge no router uses it (RFC 2328, 12.1.1)
+-- the change where both have the same instance: at MaxAge no router uses it (RFC 2328, 12.1.1)
 abbrev pub beside_same : Header → List ℕ → Option Change
 beside_same header lsa = if is_at_max_age lsa then absent header else None
 
@@ -43,7 +44,7 @@ change_by header lsa orders.Less = Some changes.Older
 change_by header lsa orders.Equal = beside_same header lsa
 change_by header lsa orders.Greater = Some changes.Newer
 
--- what the list has, beside the LSA that the database has, if it has one
+-- how a header of the list differs from the LSA of the database, if there is one
 abbrev pub change_of : Header → Option (List ℕ) → Option Change
 change_of header None = absent header
 change_of header (Some lsa) = change_by header lsa (instance_id_cmp header.instance (instance_id_of lsa))

@@ -1,4 +1,4 @@
--- Lines that name where the rows below them belong.
+-- Lines that say where the rows below them belong.
 use Rattle.std.specs.Prelude.{ℕ, Bool, true, false, ◌||◌, List, [], ◌∷◌, Option, Some, None, option_map, if◌then◌else◌}
 use Rattle.lsa_codec.specs.LsTypes.{router_lsa, network_lsa, summary_lsa, asbr_summary_lsa, external_lsa, as_opaque_lsa}
 use Rattle.lsa_codec.specs.declared.address.AreaId.{AreaId}
@@ -29,7 +29,7 @@ titles =
     ∷ title link_opaque_lsa label.LinkOpaque ∷ title area_opaque_lsa label.AreaOpaque ∷ title as_opaque_lsa label.AsOpaque
     ∷ []
 
--- the area that is named behind a title, if one is: none where nothing stands there
+-- the area that is named after a title, if one is: none where nothing stands there
 abbrev pub area_behind : Line → Option (Option AreaId)
 area_behind [] = Some None
 area_behind (word ∷ line) = do
@@ -63,12 +63,12 @@ abbrev pub is_one_word : Line → Bool
 is_one_word [] = false
 is_one_word (word ∷ line) = is_bare line
 
--- a line begins with a label, and what stands behind it is of this kind
+-- a line begins with a label, and what follows it is of this kind
 abbrev pub is_followed : (Line → Bool) → Option Line → Bool
 is_followed test None = false
 is_followed test (Some behind) = test behind
 
--- nothing stands behind `Global`, and behind `Link` the name of an interface alone
+-- nothing follows `Global`, and only the name of an interface follows `Link`
 abbrev pub is_global : Line → Bool
 is_global line = is_followed is_bare (behind_label label.Global line)
 
@@ -81,7 +81,7 @@ bare_section line = if is_global line || is_link line then Some (headings.Sectio
 unfoldable pub section_in : Line → Option Heading
 section_in line = or_else (area_section line) (bare_section line)
 
--- ---- what a line is to those below it
+-- ---- what a line means for those below it
 
 abbrev pub is_columns : Line → Bool
 is_columns line = begins_with label.IdColumns line || begins_with label.OpaqueColumns line || begins_with label.TypeColumns line

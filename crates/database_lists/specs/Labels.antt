@@ -28,13 +28,13 @@ text_of label.Bird = codes "BIRD"
 text_of label.States = codes "States"
 text_of label.Age = codes "LS age:"
 
--- the words behind these, where the line begins with these
+-- the words after these, where the line begins with these
 unfoldable pub behind_words : List Word → Line → Option Line
 behind_words [] line = Some line
 behind_words (wanted ∷ front) [] = None
 behind_words (wanted ∷ front) (word ∷ line) = if bytes_eq word wanted then behind_words front line else None
 
--- the words behind a label, where the line begins with it
+-- the words after a label, where the line begins with it
 unfoldable pub behind_label : Label → Line → Option Line
 behind_label label line = behind_words (words (text_of label)) line
 

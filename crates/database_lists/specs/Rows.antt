@@ -10,17 +10,17 @@ use Rattle.database_lists.specs.declared.heading.Heading.TheVariants as headings
 use Rattle.database_lists.specs.declared.row.Row.{Row}
 use Rattle.database_lists.specs.Lines.{Line}
 
--- the number that a word spells in hexadecimal with this many digits, leading zeros among them, where it is at most max:
--- a word that was cut spells none
+-- the number that a word spells in hexadecimal with this many digits, leading zeros among them, where it is at most
+-- max: a word that was cut spells none
 unfoldable pub hex_of : ℕ → ℕ → Word → Option ℕ
 hex_of count max word = if length word == count then hex_up_to max word else None
 
--- the same behind `0x` (48 and 120)
+-- the same after `0x` (48 and 120)
 unfoldable pub marked_hex_of : ℕ → ℕ → Word → Option ℕ
 marked_hex_of count max (first ∷ second ∷ digits) = if first == 48 && second == 120 then hex_of count max digits else None
 marked_hex_of count max _ = None
 
--- the value that the first word says by a rule
+-- the value of the first word by a rule
 abbrev pub value_of : (Word → Option ℕ) → Rule ℕ
 value_of rule line = do
   found ← first_word line
@@ -28,7 +28,7 @@ value_of rule line = do
   Some (value, found.1)
 
 -- a row of a table of this LS type: Link State ID, Advertising Router, LS age in decimal, LS sequence number and LS
--- checksum, in eight and in four hexadecimal digits behind `0x`
+-- checksum, in eight and in four hexadecimal digits after `0x`
 unfoldable pub table_row : ℕ → Line → Option Row
 table_row kind line = do
   id ← value_of address_of line
@@ -58,7 +58,7 @@ section_row line = do
     age = age.0;
   })
 
--- what stands behind these fields has no part in it
+-- what follows these fields is ignored
 abbrev pub row_under : Heading → Line → Option Row
 row_under (headings.Table kind area) line = table_row kind line
 row_under (headings.Section area) line = section_row line

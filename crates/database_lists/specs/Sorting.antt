@@ -1,4 +1,4 @@
--- What a list tells, sorted out.
+-- What a list contains, sorted by kind.
 use Rattle.std.specs.Prelude.{ℕ, Bool, not, ◌&&◌, List, Option, Some, None}
 use Rattle.std.specs.List.{list_any}
 use Rattle.lsa_instances.specs.declared.header.Header.{Header}
@@ -19,7 +19,7 @@ abbrev pub hole_of : LineTold → Option Hole
 hole_of (tells.Header header) = None
 hole_of (tells.Hole hole) = Some hole
 
--- what a text tells
+-- what a text contains
 abbrev pub told_of : List ℕ → List LineTold
 told_of text = told_in None (lines text)
 

@@ -1,4 +1,4 @@
--- What is told of a list, in words: a line for each hole of it, and for each difference.
+-- What a list shows, in words: a line for each finding in it, and for each difference.
 use Rattle.std.specs.Prelude.{◌≡◌, ℕ, Bool, true, false, ◌==◌, List, [], ◌++◌, count_by, codes, decimal, flat_map, if◌then◌else◌}
 use Rattle.lsa_instances.specs.declared.header.Header.{Header}
 use Rattle.lsa_instances.specs.Texts.{key_text, place_text}
@@ -26,12 +26,12 @@ abbrev pub hole_text : Hole → List ℕ
 hole_text (holes.NoArea key) = codes "NoArea " ++ key_text key
 hole_text holes.Unreadable = codes "Unreadable"
 
--- ---- lines, each with its end, behind the name of the list
+-- ---- lines, each with its end, after the name of the list
 
 abbrev pub line_of : List ℕ → List ℕ → List ℕ
 line_of name words = name ++ codes ": " ++ words ++ codes "\n"
 
--- the line of a hole that has a key
+-- the line of a finding that has a key
 abbrev pub keyed_line : List ℕ → Hole → List ℕ
 keyed_line name (holes.NoArea key) = line_of name (hole_text (holes.NoArea key))
 keyed_line name holes.Unreadable = []
@@ -40,7 +40,7 @@ abbrev pub is_unreadable : Hole → Bool
 is_unreadable (holes.NoArea key) = false
 is_unreadable holes.Unreadable = true
 
--- how many lines of the list are not read, where there is one
+-- the number of lines of the list that cannot be read, unless it is 0
 abbrev pub unread_line : List ℕ → ℕ → List ℕ
 unread_line name count = if count == 0 then [] else line_of name (codes "Unreadable " ++ decimal count)
 
@@ -50,7 +50,7 @@ hole_lines name these = flat_map (keyed_line name) these ++ unread_line name (co
 abbrev pub difference_line : List ℕ → Difference → List ℕ
 difference_line name one = line_of name (difference_text one)
 
--- the holes of the list, and then how the database differs from its headers, each difference once
+-- the findings in the list, and then how the database differs from its headers, each difference once
 pub record AreLines (name : List ℕ) (db : Lists) (headers : List Header) (these : List Hole) (lines : List ℕ) : Type 0 where
   pub found : List Difference
   pub once : AreOnce (differences db headers) found

@@ -12,7 +12,7 @@ use std::alloc::{AllocError, Allocator};
 use std::cmp::Ordering;
 use std::fmt;
 
-/// What a list has, beside what a database has of the same LSA.
+/// How an LSA in a list differs from that of a database.
 ///
 /// Its `Display` is its name, as `Missing`.
 #[derive(Clone, Copy, Debug, PartialEq, Eq, PartialOrd, Ord)]
@@ -25,7 +25,7 @@ pub enum Change {
     Older,
 }
 
-/// An LSA that a list has otherwise than a database.
+/// An LSA on which a list and a database differ.
 ///
 /// Its `Display` is a few words on one line, as
 /// `Missing area 0.0.0.1 type 1 id 4.4.4.4 adv 4.4.4.4`. Differences are ordered by what the list
@@ -34,7 +34,7 @@ pub enum Change {
 pub struct Difference {
     /// What the list has.
     pub change: Change,
-    /// Where the LSA is flooded, and what names it there.
+    /// Where the LSA is flooded, and what identifies it there.
     pub place: Place,
 }
 
@@ -77,8 +77,8 @@ fn lsa_of<A: Allocator + Copy>(database: &Database<A>, place: Place) -> Option<&
     database.get(slot)
 }
 
-/// What the list has where no router has the LSA in use. One that was flushed in the list is not
-/// missing (RFC 2328, 14.1).
+/// The change where the database has no usable instance of the LSA. An LSA that was flushed in the
+/// list is not missing (RFC 2328, 14.1).
 fn absent(header: Header) -> Option<Change>
     ensures { result ≡ absent header }
 {
@@ -89,7 +89,7 @@ fn absent(header: Header) -> Option<Change>
     }
 }
 
-/// What the list has beside the same instance.
+/// The change where both have the same instance: none, unless the database has it at MaxAge.
 fn beside_same<A: Allocator + Copy>(header: Header, lsa: &Lsa<A>) -> Option<Change>
     ensures { result ≡ beside_same header lsa.now }
 {
@@ -100,7 +100,7 @@ fn beside_same<A: Allocator + Copy>(header: Header, lsa: &Lsa<A>) -> Option<Chan
     }
 }
 
-/// What the list has, beside the LSA that a database has.
+/// How a header of the list differs from the LSA of the database.
 fn change_from<A: Allocator + Copy>(header: Header, lsa: &Lsa<A>) -> Option<Change>
     ensures { result ≡ change_of header (Some lsa.now) }
 {
@@ -111,7 +111,7 @@ fn change_from<A: Allocator + Copy>(header: Header, lsa: &Lsa<A>) -> Option<Chan
     }
 }
 
-/// What the list has, beside the LSA that a database has, if it has one.
+/// How a header of the list differs from the LSA of the database, if there is one.
 fn change_of<A: Allocator + Copy>(header: Header, lsa: Option<&Lsa<A>>) -> Option<Change>
     ensures { result ≡ change_of header (option_map (λ lsa. lsa.now) lsa.entry) }
 {
@@ -130,12 +130,16 @@ fn difference_of<A: Allocator + Copy>(database: &Database<A>, header: Header) ->
     Some(Difference { change, place })
 }
 
-/// How a database differs from the headers of a list, in their order: what it has not, and what is
-/// newer or older in the list (RFC 2328, 13.1, by sequence number and checksum alone). An LSA that
-/// it has at MaxAge is missing where the list has the same instance below that, since no router
-/// uses the one at MaxAge. An LSA that is flushed in the list is not missing, and what the list has
-/// not is not told. For each header it takes steps in the number of areas and in the logarithm of
-/// the number of LSAs. The only error is want of memory.
+/// How a database differs from the headers of a list, in the order of the list: which LSAs it
+/// lacks, and which are newer or older in the list (RFC 2328, 13.1, by sequence number and checksum
+/// alone). An LSA that it has at MaxAge is missing where the list has the same instance below
+/// MaxAge, since no router uses the one at MaxAge. An LSA that is flushed in the list is not
+/// missing, and LSAs that the list lacks are not reported. The time for each header grows with the
+/// number of areas and with the logarithm of the number of LSAs.
+///
+/// # Errors
+///
+/// Memory ran out.
 pub fn differences<A: Allocator + Copy>(
     alloc: A,
     database: &Database<A>,

@@ -1,4 +1,4 @@
-//! Why a text is no list.
+//! Why a text is not a list.
 
 ghost use Rattle.std.specs.Prelude.{◌≡◌};
 ghost use Rattle.database_lists.specs.declared.fault.ListFault.TheVariants as faults;

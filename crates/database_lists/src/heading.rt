@@ -1,4 +1,4 @@
-//! Lines that name where the rows below them belong.
+//! Lines that say where the rows below them belong.
 
 ghost use Rattle.std.specs.Prelude.{◌≡◌, option_map};
 ghost use Rattle.std.specs.List.{slice_split};
@@ -46,7 +46,7 @@ fn area_of(word: &[u8]) -> Option<AreaId>
     address_of(name).map(AreaId)
 }
 
-/// The area that is named behind a title, if one is.
+/// The area that is named after a title, if one is.
 fn area_behind(line: &[u8]) -> Option<Option<AreaId>>
     ensures { result ≡ area_behind (words line.now) }
 {

@@ -1,4 +1,4 @@
-//! What can not be compared of a list.
+//! What cannot be compared in a list.
 
 ghost use Rattle.std.specs.Prelude.{Some};
 ghost use Rattle.database_lists.specs.Texts.{hole_text};
@@ -6,14 +6,15 @@ ghost use Rattle.database_lists.specs.Texts.{hole_text};
 use lsa_codec::Key;
 use std::fmt;
 
-/// What stands in a list and tells no header: each is to be told, since the database may lack it.
+/// A part of a list that has no usable header. Each of these is reported, since the database may
+/// lack the LSA.
 ///
 /// Its `Display` is a few words on one line, as `Unreadable`.
 #[derive(Clone, Copy, Debug, PartialEq, Eq)]
 pub enum Hole {
-    /// The LSA with this key is of the scope of an area, and stands under a heading of none.
+    /// The LSA with this key has area scope, and stands under a heading without an area.
     NoArea(Key),
-    /// A line under a heading is no row, or a heading is none of those that are known.
+    /// A line under a heading is not a row, or a heading is not one of those that are known.
     Unreadable,
 }
 

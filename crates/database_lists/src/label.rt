@@ -21,13 +21,13 @@ pub(crate) enum Label {
     External,
     /// The title of the table of NSSA-LSAs (RFC 3101).
     Nssa,
-    /// The title of the table of opaque LSAs of links (RFC 5250).
+    /// The title of the table of opaque LSAs of link scope (RFC 5250).
     LinkOpaque,
-    /// The title of the table of opaque LSAs of an area.
+    /// The title of the table of opaque LSAs of area scope (RFC 5250).
     AreaOpaque,
-    /// The title of the table of opaque LSAs of AS scope.
+    /// The title of the table of opaque LSAs of AS scope (RFC 5250).
     AsOpaque,
-    /// Before the Area ID behind a title.
+    /// Before the Area ID after a title.
     InArea,
     /// Before the Area ID of a section.
     Area,
@@ -80,7 +80,7 @@ fn text_of(label: Label) -> &'static [u8]
     }
 }
 
-/// What stands behind these words, where the line begins with these.
+/// What follows these words, where the line begins with them.
 #[tactic(auto, unfolding(crate::specs::Labels::behind_words))]
 fn behind_words<'a>(front: &[u8], line: &'a [u8]) -> Option<&'a [u8]>
     ensures { option_map (λ rest. words rest.now) result
@@ -101,7 +101,7 @@ fn behind_words<'a>(front: &[u8], line: &'a [u8]) -> Option<&'a [u8]>
     Some(rest)
 }
 
-/// What stands behind a label, where the line begins with it.
+/// What follows a label, where the line begins with it.
 #[tactic(auto, unfolding(crate::specs::Labels::behind_label))]
 pub(crate) fn behind_label(label: Label, line: &[u8]) -> Option<&[u8]>
     ensures { option_map (λ rest. words rest.now) result ≡ behind_label label (words line.now) }

@@ -15,7 +15,7 @@ mod line_kind;
 mod row;
 mod title;
 
-// What is told.
+// What a list contains.
 mod fault;
 mod hole;
 mod line_told;
@@ -25,7 +25,7 @@ mod list;
 mod difference;
 mod once;
 
-// What is told of a list, in words.
+// What a list shows, in words.
 mod lines;
 
 pub use difference::{Change, Difference, differences};

@@ -3,14 +3,14 @@
 ghost use Rattle.std.specs.Prelude.{◌≡◌, ◌==◌, ◌<◌, [], ◌∷◌, length, MatchOption, position};
 ghost use Rattle.std.specs.List.{slice_split};
 
-/// The index of the first octet that is `stop`.
+/// The index of the first byte that is `stop`.
 fn first_of(text: &[u8], stop: u8) -> Option<usize>
     ensures { result ≡ position (λ b. b == stop) text.now }
 {
     text.iter().position(|octet| *octet == stop)
 }
 
-/// What stands before the first octet that is `stop`, and behind it.
+/// What stands before the first byte that is `stop`, and after it.
 #[tactic(auto, using(crate::proofs::Split::cut_none, crate::proofs::Split::cut_some, crate::proofs::Split::drop_one))]
 pub(crate) fn cut_at(text: &[u8], stop: u8) -> Option<(&[u8], &[u8])>
     ensures { MatchOption result (slice_split (λ b. b == stop) text.now ≡ text.now ∷ [])

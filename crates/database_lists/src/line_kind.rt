@@ -1,4 +1,4 @@
-//! What a line is to those below it.
+//! What a line means for those below it.
 
 ghost use Rattle.std.specs.Prelude.{◌≡◌};
 ghost use Rattle.printed_databases.specs.Words.{words};
@@ -9,14 +9,14 @@ use crate::heading::{Heading, heading_in};
 use crate::label::{Label, begins_with};
 use printed_databases::next_word;
 
-/// What a line is to those below it.
+/// What a line means for those below it.
 #[derive(Clone, Copy)]
 pub(crate) enum LineKind {
     /// The heading of rows.
     Heading(Heading),
     /// A router or a program names itself: another list may begin.
     Start,
-    /// A heading of rows that are not known.
+    /// A heading of rows of an unknown kind.
     Foreign,
     /// Nothing, or the names of columns.
     Idle,
@@ -82,7 +82,7 @@ fn has_heading_word(line: &[u8]) -> bool
     false
 }
 
-/// What a line is to those below it.
+/// What a line means for those below it.
 #[tactic(auto, unfolding(crate::specs::Headings::line_kind_of))]
 pub(crate) fn line_kind_of(line: &[u8]) -> LineKind
     ensures { result ≡ line_kind_of (words line.now) }

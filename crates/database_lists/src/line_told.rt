@@ -1,4 +1,4 @@
-//! What the lines of a list tell.
+//! What the lines of a list contain.
 
 ghost use Rattle.std.specs.Prelude.{◌≡◌, ◌++◌, IfOk, OnOk, None};
 ghost use Rattle.lsa_instances.specs.Order.{scope_told};
@@ -15,16 +15,16 @@ use lsa_codec::AreaId;
 use lsa_instances::{Header, LINK_OPAQUE_LSA, Place, Scope};
 use std::alloc::{AllocError, Allocator};
 
-/// What a line tells.
+/// What a line contains.
 #[derive(Clone, Copy, Debug)]
 pub(crate) enum LineTold {
     /// A header.
     Header(Header),
-    /// That there is none.
+    /// A finding: the line has no usable header.
     Hole(Hole),
 }
 
-/// What a row tells of an LSA of this scope, or of none.
+/// The header of a row whose LSA has this scope, or a finding where it has none.
 fn in_scope(row: Row, scope: Option<Scope>) -> LineTold
     ensures { result ≡ in_scope row scope }
 {
@@ -41,8 +41,8 @@ fn in_scope(row: Row, scope: Option<Scope>) -> LineTold
     }
 }
 
-/// What a row tells under the heading of an area, or of none. One of an LSA of the scope of a link
-/// tells nothing.
+/// What a row contains under the heading of an area, or of none. A row of an LSA of link scope is
+/// ignored.
 fn row_told(area: Option<AreaId>, row: Option<Row>) -> Option<LineTold>
     ensures { result ≡ row_told area row }
 {
@@ -55,7 +55,7 @@ fn row_told(area: Option<AreaId>, row: Option<Row>) -> Option<LineTold>
     Some(in_scope(row, Scope::of(row.key.kind, area)))
 }
 
-/// Adds what a line tells.
+/// Adds what a line contains.
 fn tell<A: Allocator + Copy>(
     told: &mut Vec<LineTold, A>,
     heading: Option<Heading>,
@@ -80,7 +80,7 @@ fn tell<A: Allocator + Copy>(
     }
 }
 
-/// What the lines of a text tell, from the first line to the last.
+/// What the lines of a text contain, from the first line to the last.
 pub(crate) fn tellings<A: Allocator + Copy>(
     alloc: A,
     text: &[u8],

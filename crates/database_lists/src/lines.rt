@@ -1,4 +1,4 @@
-//! What is told of a list, in lines.
+//! What a list shows, in lines.
 
 ghost use Rattle.std.specs.Prelude.{◌≡◌, ◌++◌, List, IfOk, OnOk, count_by, flat_map};
 ghost use Rattle.std.specs.String.{string_bytes};
@@ -14,7 +14,7 @@ use crate::once::each_once;
 use lsdb::Database;
 use std::alloc::{AllocError, Allocator};
 
-/// Adds the line of a hole that has a key.
+/// Adds the line of a finding that has a key.
 fn push_keyed<A: Allocator + Copy>(
     text: &mut String<A>,
     name: &str,
@@ -29,7 +29,7 @@ fn push_keyed<A: Allocator + Copy>(
     }
 }
 
-/// Adds the lines of the holes that have a key.
+/// Adds the lines of the findings that have a key.
 fn push_all_keyed<A: Allocator + Copy>(
     text: &mut String<A>,
     name: &str,
@@ -44,7 +44,7 @@ fn push_all_keyed<A: Allocator + Copy>(
     Ok(())
 }
 
-/// Whether a line of the list is not read.
+/// Whether the finding is a line of the list that cannot be read.
 fn is_unreadable(hole: Hole) -> bool
     ensures { result ≡ is_unreadable hole }
 {
@@ -54,7 +54,7 @@ fn is_unreadable(hole: Hole) -> bool
     }
 }
 
-/// Adds how many lines of the list are not read, where there is one.
+/// Adds the number of lines of the list that cannot be read, unless it is 0.
 fn push_unread<A: Allocator + Copy>(
     text: &mut String<A>,
     name: &str,
@@ -85,7 +85,7 @@ fn push_differences<A: Allocator + Copy>(
     Ok(())
 }
 
-/// The lines of the holes of a list, and of the differences from it, each once.
+/// The lines of the findings of a list, and of the differences from it, each difference once.
 fn lines_of<A: Allocator + Copy>(
     alloc: A,
     name: &str,
@@ -104,11 +104,15 @@ fn lines_of<A: Allocator + Copy>(
     Ok(text)
 }
 
-/// The lines of what is to be told of a list, beside a database, each behind the name of the list:
-/// what can not be compared, and then how the database differs from the headers, as
-/// [`differences`](crate::differences) answers it; each difference once, however often the list
-/// has the header. As `r4.txt: Missing area 0.0.0.1 type 1 id 4.4.4.4 adv 4.4.4.4`. It takes the
-/// time of a sort. The only error is want of memory.
+/// The lines that report on a list beside a database, each after the name of the list: what cannot
+/// be compared, and then how the database differs from the headers, as
+/// [`differences`](crate::differences) answers it. Each difference stands once, however often the
+/// list has the header; as `r4.txt: Missing area 0.0.0.1 type 1 id 4.4.4.4 adv 4.4.4.4`. It takes
+/// the time of a sort.
+///
+/// # Errors
+///
+/// Memory ran out.
 pub fn list_lines<A: Allocator + Copy>(
     alloc: A,
     name: &str,

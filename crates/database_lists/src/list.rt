@@ -1,4 +1,4 @@
-//! What a list tells, sorted out.
+//! What a list contains, sorted by kind.
 
 ghost use Rattle.std.specs.Prelude.{◌≡◌, IfOk, IfErr, ◌⊎◌, true, false};
 ghost use Rattle.std.specs.List.{filter_map};
@@ -16,16 +16,16 @@ use crate::line_told::{LineTold, tellings};
 use lsa_instances::Header;
 use std::alloc::{AllocError, Allocator, Global};
 
-/// What a list tells, in the order of its lines.
+/// What a list contains, in the order of its lines.
 #[derive(Debug, Drop)]
 pub struct PrintedList<A: Allocator = Global> {
-    /// The headers, as often as rows tell them.
+    /// The headers, one for each row.
     pub headers: Vec<Header, A>,
-    /// What can not be compared.
+    /// What cannot be compared.
     pub holes: Vec<Hole, A>,
 }
 
-/// The header that is told.
+/// The header, if it is one.
 fn header_of(told: LineTold) -> Option<Header>
     ensures { result ≡ header_of told }
 {
@@ -35,7 +35,7 @@ fn header_of(told: LineTold) -> Option<Header>
     }
 }
 
-/// The hole that is told.
+/// The finding, if it is one.
 fn hole_of(told: LineTold) -> Option<Hole>
     ensures { result ≡ hole_of told }
 {
@@ -55,7 +55,7 @@ fn headers_of<A: Allocator + Copy>(
     told.iter().filter_map(|one| header_of(*one)).collect(alloc)
 }
 
-/// The holes.
+/// The findings.
 fn holes_of<A: Allocator + Copy>(alloc: A, told: &[LineTold]) -> Result<Vec<Hole, A>, AllocError>
     ensures { IfOk result (λ holes. holes.items ≡ filter_map hole_of told.now) }
 {
@@ -112,7 +112,7 @@ fn is_list(text: &[u8]) -> bool
 }
 
 /// Reads a list: what FRR prints for `show ip ospf database`, or BIRD for `show ospf lsadb`.
-/// Several lists may stand behind one another.
+/// Several lists may stand one after another.
 ///
 /// # Errors
 ///

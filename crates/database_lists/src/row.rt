@@ -21,7 +21,7 @@ pub(crate) struct Row {
     pub(crate) age: u16,
 }
 
-/// The number that a word spells in hexadecimal with so many digits, where it is at most `max`.
+/// The number that a word spells in `count` hexadecimal digits, where it is at most `max`.
 #[tactic(auto, unfolding(crate::specs::Rows::hex_of))]
 fn hex_of(count: usize, max: u32, word: &[u8]) -> Option<u32>
     ensures value { result ≡ hex_of count max word.now }
@@ -33,8 +33,8 @@ fn hex_of(count: usize, max: u32, word: &[u8]) -> Option<u32>
     hex_up_to(max, word)
 }
 
-/// The number that a word spells in hexadecimal with so many digits behind `0x`, where it is at
-/// most `max`.
+/// The number that a word spells in `count` hexadecimal digits after `0x`, where it is at most
+/// `max`.
 #[tactic(auto, unfolding(crate::specs::Rows::marked_hex_of))]
 fn marked_hex_of(count: usize, max: u32, word: &[u8]) -> Option<u32>
     ensures value { result ≡ marked_hex_of count max word.now }
@@ -46,7 +46,7 @@ fn marked_hex_of(count: usize, max: u32, word: &[u8]) -> Option<u32>
     }
 }
 
-/// The address that stands here, and what stands behind it.
+/// The address that stands here, and what follows it.
 fn address_in(line: &[u8]) -> Option<(u32, &[u8])>
     ensures { option_map (λ found. (found.0, words found.1.now)) result
         ≡ value_of address_of (words line.now) }
@@ -56,7 +56,7 @@ fn address_in(line: &[u8]) -> Option<(u32, &[u8])>
     Some((address, rest))
 }
 
-/// The decimal number that stands here, where it is at most `max`, and what stands behind it.
+/// The decimal number that stands here, where it is at most `max`, and what follows it.
 fn number_in(max: u32, line: &[u8]) -> Option<(u32, &[u8])>
     ensures value { option_map (λ found. (found.0, words found.1.now)) result
         ≡ value_of (number_up_to max) (words line.now) }
@@ -67,8 +67,8 @@ fn number_in(max: u32, line: &[u8]) -> Option<(u32, &[u8])>
     Some((number, rest))
 }
 
-/// The number of so many hexadecimal digits that stands here, where it is at most `max`, and what
-/// stands behind it.
+/// The number of `count` hexadecimal digits that stands here, where it is at most `max`, and what
+/// follows it.
 fn hex_in(count: usize, max: u32, line: &[u8]) -> Option<(u32, &[u8])>
     ensures value { option_map (λ found. (found.0, words found.1.now)) result
         ≡ value_of (hex_of count max) (words line.now) }
@@ -79,8 +79,8 @@ fn hex_in(count: usize, max: u32, line: &[u8]) -> Option<(u32, &[u8])>
     Some((number, rest))
 }
 
-/// The number of so many hexadecimal digits that stands here behind `0x`, where it is at most
-/// `max`, and what stands behind it.
+/// The number of `count` hexadecimal digits that stands here after `0x`, where it is at most `max`,
+/// and what follows it.
 fn marked_in(count: usize, max: u32, line: &[u8]) -> Option<(u32, &[u8])>
     ensures value { option_map (λ found. (found.0, words found.1.now)) result
         ≡ value_of (marked_hex_of count max) (words line.now) }

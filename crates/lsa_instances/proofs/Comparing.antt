@@ -65,7 +65,8 @@ pub never_after : (s : Option ℕ) (age : ℕ) → is_after s s age ≡ false
 never_after None age = refl
 never_after (Some s) age = le-ltb s (s - age * second) (omega arith)
 
--- of two of which the first is flushed, or the second is not, the first stands no earlier by an instance that is not newer
+-- where the first of two is flushed, or the second is not, the first stands no earlier by an instance that is not
+-- newer
 pub no_earlier : (a b : Bool) (o : Ordering) → (b ≡ true) ⊎ (a ≡ false) → is_gt o ≡ false → is_gt (ordering_then (bool_cmp a b) o) ≡ false
 no_earlier true true o s g = g
 no_earlier false true o s g = refl
@@ -97,7 +98,7 @@ above_less q r s l e g =
     both_ways (is_gt (place_cmp r s)) g (ap is_gt more)
 
 module _ {A : Type 0} where
-  -- x stands behind all of these
+  -- x stands after all of these
   pub record Behind (p : List (Sighting A)) (x : Sighting A) : Type 0 where
     pub at : (y : Sighting A) → Contains p y → is_gt (sighting_cmp y x) ≡ false
 

@@ -1,4 +1,4 @@
--- What is kept of flushes tells which of the sightings to come are flushed by those that were looked at.
+-- What is kept of flushes decides which later sightings are flushed by those that were looked at.
 use Rattle.std.proofs.Common.{◌≡◌, ℕ, ◌-◌, ◌*◌, refl, sym, ◌∙◌, ap, inl, inr, List, [], ◌∷◌, ◌++◌, Bool, true, false, not, ◌&&◌, ◌||◌, Option, Some}
 use Rattle.std.proofs.Common.{None, max, arith}
 use Rattle.std.specs.Prelude.{nat_lt}
@@ -78,7 +78,7 @@ module _ {A : Type 0} where
       held = λ f e. any_append (λ y. place_of y ≡ f.place) p (x ∷ []) (k.held f e);
     }
 
-    -- of the LSA of x, an instance that is not newer is stopped by the flush, or by x
+    -- an instance of the LSA of x that is not newer is stopped by the flush, or by x
     same_lsa : (flush : Option Flush) (y : Sighting A) → place_of x ≡ place_of y
         → not (began_after (last_with flush x) y) ≡ (is_stopped flush y || not (began_after x.seen y))
     same_lsa None y e = refl

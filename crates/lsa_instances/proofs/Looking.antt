@@ -1,4 +1,4 @@
--- Looking through sorted sightings: of those that were looked at, the newest are known, and the flushes.
+-- Looking through sorted sightings: the newest of those that were looked at are known, and their flushes.
 use Rattle.std.proofs.Common.{◌≡◌, ℕ, ◌-◌, ◌<◌, ◌⊎◌, refl, sym, ◌∙◌, ap, inl, inr, List, [], ◌∷◌, ◌++◌, length, get_or, take, subst, true, false, not}
 use Rattle.std.proofs.Common.{◌||◌, Some, arith}
 use Rattle.std.specs.Prelude.{All, AllPairs, Contains, slice_get}

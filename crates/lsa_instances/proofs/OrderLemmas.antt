@@ -1,4 +1,4 @@
--- For the crates above too: the orders of this crate are total, and tell all values apart.
+-- For callers too: the orders of this crate are total, and only equal values compare as equal.
 use Rattle.std.proofs.Common.{◌≡◌, ℕ, refl, ap, List}
 use Rattle.std.specs.Cmp.{IsTotalOrder}
 use Rattle.std.specs.Cmp.Lexicographic.{slice_cmp}

@@ -1,4 +1,4 @@
--- The newest of sightings are those of the same sightings in another order, each told any number of times.
+-- The newest of sightings are those of the same sightings in another order, each any number of times.
 use Rattle.std.proofs.Common.{◌≡◌, ◌∙◌, refl, sym, ap, List}
 use Rattle.std.specs.Prelude.{Contains}
 use Rattle.std.specs.Ordering.{bool_cmp, is_gt, ordering_then}

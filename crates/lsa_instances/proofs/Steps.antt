@@ -42,7 +42,7 @@ or_none true b h = refl
 or_none false b h = h
 
 module _ {A : Type 0} where
-  -- of the sightings that were looked at, the newest are known, and the flushes
+  -- of the sightings that were looked at, the newest and the flushes are known
   pub record Looked (flushed : FlushedLsas) (p : List (Sighting A)) (flush : Option Flush) (newest : List (Sighting A)) : Type 0 where
     pub answers : AreNewest flushed p newest
     pub stops : Keeps p flush

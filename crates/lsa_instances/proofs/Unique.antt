@@ -23,7 +23,7 @@ tied_flags false false r s g h = (g, h)
 tied_flags true false r s g h = cc
 tied_flags false true r s g h = cc
 
--- two sightings of one LSA, each the newest, have the same octets
+-- two sightings of one LSA, each the newest, have the same bytes
 same_octets : {A : Type 0} (flushed : FlushedLsas) (told : List (Sighting A)) (x y : Sighting A)
     → IsNewest flushed told x → IsNewest flushed told y → place_of x ≡ place_of y → x.lsa ≡ y.lsa
 same_octets flushed told x y p q e =

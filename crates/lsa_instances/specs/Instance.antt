@@ -11,14 +11,14 @@ use Rattle.lsa_instances.specs.declared.header.InstanceId.{InstanceId}
 abbrev pub sequence_of : List ℕ → ℕ
 sequence_of lsa = number_at 4 12 lsa
 
--- a sequence number as a signed number of 32 bits, counted from the least of them: the top bit changed (12.1.6)
+-- a sequence number as a signed number of 32 bits, counted from the least: its top bit is flipped (12.1.6)
 abbrev pub signed : ℕ → ℕ
 signed sequence = bit_xor sequence 0x8000_0000
 
 abbrev pub signed_sequence_of : List ℕ → ℕ
 signed_sequence_of lsa = signed (sequence_of lsa)
 
--- which instance it is, but for its age
+-- which instance it is, whatever its age
 abbrev pub instance_id_of : List ℕ → InstanceId
 instance_id_of lsa = record { sequence = sequence_of lsa; checksum = checksum_of lsa }
 
@@ -30,17 +30,17 @@ instance_id_cmp a b = ordering_then (nat_cmp (signed a.sequence) (signed b.seque
 abbrev pub seconds_of : List ℕ → ℕ
 seconds_of lsa = bit_and (age_of lsa) 0x7fff
 
--- `Greater` where the first instance is newer: by sequence number, then by checksum, then MaxAge before other ages, then
--- the lesser age. Copies of one instance differ in their age alone; where other octets differ too, which no honest
--- checksum allows, the octets decide
+-- `Greater` where the first instance is newer: by sequence number, then by checksum, then MaxAge before other ages,
+-- then the lower age. Copies of one instance differ in their age alone. Where other bytes differ too, which no correct
+-- checksum allows, the bytes decide
 abbrev pub instance_cmp : List ℕ → List ℕ → Ordering
 instance_cmp a b =
     ordering_then (instance_id_cmp (instance_id_of a) (instance_id_of b))
     (ordering_then (bool_cmp (is_at_max_age a) (is_at_max_age b))
     (ordering_then (nat_cmp (seconds_of b) (seconds_of a)) (slice_cmp nat_cmp a b)))
 
--- the rule in the words of the RFC: newer by sequence number, or at the same by checksum, or at the same alone at
--- MaxAge, or at the same by an age that is less by more than 15 minutes (MaxAgeDiff)
+-- the rule in the words of the RFC: newer by sequence number; or equal in it, and newer by checksum; or equal in both,
+-- and alone at MaxAge; or else by an age that is lower by more than 15 minutes (MaxAgeDiff)
 abbrev pub IsNewerByRule : List ℕ → List ℕ → Type 0
 IsNewerByRule a b =
     (signed_sequence_of b < signed_sequence_of a)

@@ -5,10 +5,10 @@ use Rattle.std.specs.Prelude.{ℕ}
 abbrev pub nssa_lsa : ℕ
 nssa_lsa = 7
 
--- opaque LSAs of the scope of a link (RFC 5250, 3)
+-- opaque LSAs of link scope (RFC 5250, 3)
 abbrev pub link_opaque_lsa : ℕ
 link_opaque_lsa = 9
 
--- opaque LSAs of the scope of an area (RFC 5250, 3)
+-- opaque LSAs of area scope (RFC 5250, 3)
 abbrev pub area_opaque_lsa : ℕ
 area_opaque_lsa = 10

@@ -14,13 +14,13 @@ use Rattle.lsa_instances.specs.declared.sighting.Sighting.{Sighting}
 use Rattle.lsa_instances.specs.Instance.{instance_cmp}
 use Rattle.lsa_instances.specs.Order.{place_cmp, place_of, scope_cmp}
 
--- in nanoseconds
+-- one second, in nanoseconds
 abbrev pub second : ℕ
 second = 1000000000
 
--- whether a copy of this age, seen then, began after the moment: its time stamp less its LS age lies behind it. No,
--- where moment or time stamp are not known. The bit DoNotAge counts as 32,768 seconds more (RFC 1793, 2.2): how long a
--- router has held such a copy its age does not tell
+-- whether a copy of this age, seen then, began after the moment: a copy begins at its time stamp less its LS age. No,
+-- where the moment or the time stamp is not known. The bit DoNotAge counts as 32,768 seconds more (RFC 1793, 2.2): the
+-- age of such a copy does not say how long a router has held it
 abbrev pub is_after : Option ℕ → Option ℕ → ℕ → Bool
 is_after None seen age = false
 is_after (Some moment) None age = false
@@ -38,13 +38,13 @@ flushes f x =
 abbrev pub is_flushed : {A : Type 0} → List (Sighting A) → Sighting A → Bool
 is_flushed told x = list_any (λ f. flushes f x) told
 
--- whether a sighting can not stand: it was flushed, and flushed LSAs are not kept
+-- whether a sighting cannot stand: it was flushed, and flushed LSAs are not kept
 abbrev pub is_left_out : {A : Type 0} → FlushedLsas → List (Sighting A) → Sighting A → Bool
 is_left_out LeftOut told x = is_flushed told x
 is_left_out Kept told x = false
 
--- `Greater` where the first of two sightings of one LSA stands before the second: one that was not flushed before one that
--- was, so that an LSA stands as it was announced again; else the newer instance
+-- `Greater` where the first of two sightings of one LSA stands before the second: one that was not flushed before one
+-- that was, so that an LSA stands as it was announced again; else the newer instance
 abbrev pub standing_cmp : {A : Type 0} → List (Sighting A) → Sighting A → Sighting A → Ordering
 standing_cmp told x y = ordering_then (bool_cmp (is_flushed told y) (is_flushed told x)) (instance_cmp x.lsa y.lsa)
 
@@ -53,7 +53,7 @@ abbrev pub IsNoNewer : {A : Type 0} → FlushedLsas → List (Sighting A) → Si
 IsNoNewer flushed told x y =
     place_of y ≡ place_of x → is_left_out flushed told y ≡ false → is_gt (standing_cmp told y x) ≡ false
 
--- one of those told, that is not left out, and before which none of the same LSA stands
+-- a sighting from the list that is not left out, and before which none of the same LSA stands
 pub record IsNewest {A : Type 0} (flushed : FlushedLsas) (told : List (Sighting A)) (x : Sighting A) : Type 0 where
   pub told_so : Contains told x
   pub lasting : is_left_out flushed told x ≡ false
@@ -72,7 +72,7 @@ pub record AreNewest {A : Type 0} (flushed : FlushedLsas) (told newest : List (S
 abbrev pub AreSame : {X : Type 0} → List X → List X → Type 0
 AreSame xs ys = All (Contains ys) xs × All (Contains xs) ys
 
--- what a database keeps of a sighting
+-- what a database keeps of a sighting: its place and its bytes
 abbrev pub place_and_octets : {A : Type 0} → Sighting A → Place × List ℕ
 place_and_octets x = (place_of x, x.lsa)
 

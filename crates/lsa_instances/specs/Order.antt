@@ -24,7 +24,7 @@ area_of AsWide = 0
 abbrev pub has_as_scope : ℕ → Bool
 has_as_scope kind = (kind == external_lsa) || (kind == as_opaque_lsa)
 
--- the scope of an LSA of this type that is flooded in an area: all others have that of the area
+-- the scope of an LSA of this type that is flooded in an area: the AS for types of AS scope, else the area
 abbrev pub scope_in : AreaId → ℕ → Scope
 scope_in area kind = if has_as_scope kind then AsWide else Area area
 
@@ -32,11 +32,11 @@ abbrev pub area_scope : Option AreaId → Option Scope
 area_scope None = None
 area_scope (Some id) = Some (Area id)
 
--- the scope of an LSA of this type that is told in an area, or in none
+-- the scope of an LSA of this type that is reported in an area, or outside of all areas
 abbrev pub scope_told : ℕ → Option AreaId → Option Scope
 scope_told kind area = if has_as_scope kind then Some AsWide else area_scope area
 
--- areas by their IDs, and behind them the whole AS
+-- areas by their IDs, and after them the whole AS
 abbrev pub scope_cmp : Scope → Scope → Ordering
 scope_cmp a b = ordering_then (nat_cmp (scope_number a) (scope_number b)) (nat_cmp (area_of a) (area_of b))
 

@@ -6,11 +6,11 @@ use Rattle.lsa_instances.specs.declared.place.Place.{Place}
 use Rattle.lsa_instances.specs.declared.place.Scope.{Scope}
 use Rattle.lsa_instances.specs.declared.place.Scope.TheVariants.{Area, AsWide}
 
--- what names an LSA in its scope (RFC 2328, 12.1)
+-- what identifies an LSA in its scope (RFC 2328, 12.1)
 abbrev pub key_text : Key → List ℕ
 key_text key = codes "type " ++ decimal key.kind ++ codes " id " ++ address_text key.id.0 ++ codes " adv " ++ address_text key.adv.0
 
--- the area, with a space behind it; nothing for the whole AS
+-- the area, with a space after it; nothing for the whole AS
 abbrev pub scope_text : Scope → List ℕ
 scope_text (Area area) = codes "area " ++ address_text area.0 ++ codes " "
 scope_text AsWide = []

@@ -1,4 +1,4 @@
-//! Areas, as files tell them.
+//! Areas, as files report them.
 
 ghost use Rattle.std.specs.Prelude.{◌≡◌};
 ghost use Rattle.lsa_instances.specs.Areas.{is_stub_kind};
@@ -17,7 +17,7 @@ pub enum AreaKind {
 }
 
 impl AreaKind {
-    /// Whether it is that of a stub area.
+    /// Whether the area is a stub area.
     pub fn is_stub(self) -> bool
         ensures { result ≡ is_stub_kind self }
     {
@@ -28,7 +28,7 @@ impl AreaKind {
     }
 }
 
-/// An area of which a file tells the kind.
+/// An area and its kind, as a file reports them.
 #[derive(Clone, Copy, Debug, PartialEq, Eq)]
 pub struct ToldArea {
     /// The area.

@@ -15,11 +15,11 @@ use std::alloc::{AllocError, Allocator};
 
 /// The newest instance of each LSA, each once, in order of their places (RFC 2328, 13.1 and 14.1).
 ///
-/// A sighting at MaxAge flushes the instances of its LSA that are not newer, unless the moment at
-/// which a copy began, its time stamp less its LS age, lies behind it: so an LSA that is announced
-/// again is there, perhaps with the same sequence number, and a copy that was under way is not. Of
-/// the copies of one instance the one with the least age stands. An LSA of which all sightings were
-/// flushed is left out, or stands at MaxAge where flushed LSAs are kept.
+/// A sighting at MaxAge flushes the instances of its LSA that are not newer, unless a copy began
+/// after it, where a copy begins at its time stamp less its LS age. So an LSA that is announced
+/// again stands, perhaps with the same sequence number, and a copy that was still under way does
+/// not. Of the copies of one instance the one with the least age stands. An LSA of which all
+/// sightings were flushed is left out, or stands at MaxAge where flushed LSAs are kept.
 ///
 /// # Errors
 ///
@@ -34,7 +34,7 @@ pub fn newest<A: Allocator + Copy>(
     newest_of_sorted(alloc, flushed, sorted(sightings)?)
 }
 
-/// The sightings by their places, and of each LSA the newest first.
+/// The sightings by their places, the newest instance of each LSA first.
 fn sorted<A: Allocator + Copy>(
     sightings: Vec<Sighting<A>, A>,
 ) -> Result<Vec<Sighting<A>, A>, AllocError>
@@ -68,7 +68,7 @@ fn is_last_flush<A: Allocator + Copy>(sightings: &[Sighting<A>], sighting: &Sigh
     }
 }
 
-/// Takes the flush of the LSA of a sighting away, where it stands last.
+/// Removes the flush of a sighting's LSA, where it stands last.
 fn drop_flush<A: Allocator + Copy>(newest: &mut Vec<Sighting<A>, A>, sighting: &Sighting<A>)
     ensures { newest.new.items ≡ without_flush newest.old.items sighting.now }
 {
@@ -91,7 +91,7 @@ fn put_first<A: Allocator + Copy>(
     Ok(())
 }
 
-/// Looks at one sighting more. `flush` is what was seen of flushes before it.
+/// Looks at one more sighting. `flush` is the flush seen before it, if any.
 fn look_at<A: Allocator + Copy>(
     alloc: A,
     flushed: FlushedLsas,
@@ -112,7 +112,7 @@ fn look_at<A: Allocator + Copy>(
     put_first(alloc, newest, sighting)
 }
 
-/// The flush that is known after one sighting more.
+/// The flush that is known after one more sighting.
 fn flush_so_far<A: Allocator + Copy>(flush: Option<Flush>, seen: &Sighting<A>) -> Option<Flush>
     ensures { result ≡ flush_so_far flush seen.now }
 {
@@ -123,7 +123,7 @@ fn flush_so_far<A: Allocator + Copy>(flush: Option<Flush>, seen: &Sighting<A>) -
     }
 }
 
-/// The newest of sightings that are sorted. A copy of each is made.
+/// The newest of sorted sightings. A copy of each is made.
 fn newest_of_sorted<A: Allocator + Copy>(
     alloc: A,
     flushed: FlushedLsas,

@@ -19,9 +19,9 @@ pub(crate) struct Flush {
     pub(crate) last: Option<u64>,
 }
 
-/// Whether a copy began after a moment: its time stamp less its LS age lies behind it. The bit
-/// DoNotAge counts as 32,768 seconds more (RFC 1793, 2.2): how long a router has held such a copy
-/// its age does not tell.
+/// Whether a copy began after a moment: a copy begins at its time stamp less its LS age. The bit
+/// DoNotAge counts as 32,768 seconds more (RFC 1793, 2.2): the age of such a copy does not say how
+/// long a router has held it.
 fn began_after<A: Allocator + Copy>(moment: Option<u64>, copy: &Sighting<A>) -> bool
     ensures { result ≡ began_after moment copy.now }
 {
@@ -32,7 +32,7 @@ fn began_after<A: Allocator + Copy>(moment: Option<u64>, copy: &Sighting<A>) -> 
     }
 }
 
-/// The later of two moments, and none where one of them is not known.
+/// The later of two moments, or `None` where one of them is not known.
 fn latest(a: Option<u64>, b: Option<u64>) -> Option<u64>
     ensures { result ≡ latest a b }
 {
@@ -54,7 +54,7 @@ pub(crate) fn is_stopped<A: Allocator + Copy>(flush: Option<Flush>, copy: &Sight
     }
 }
 
-/// The flush of the LSA of a sighting at MaxAge, where this was seen before.
+/// The flush of the LSA of a sighting at MaxAge, joined with the flush seen before it.
 pub(crate) fn flush_after<A: Allocator + Copy>(flush: Option<Flush>, seen: &Sighting<A>) -> Flush
     ensures { result ≡ flush_after flush seen.now }
 {

@@ -1,4 +1,4 @@
-//! Headers of LSAs, which name instances of LSAs without their bodies (RFC 2328, A.4.1).
+//! Headers of LSAs, which identify instances of LSAs without their bodies (RFC 2328, A.4.1).
 
 ghost use Rattle.std.specs.Prelude.{◌≡◌};
 ghost use Rattle.lsa_instances.specs.Headers.{is_at_max_age};
@@ -10,10 +10,10 @@ use lsa_codec::Lsa;
 use std::alloc::Allocator;
 use std::cmp::Ordering;
 
-/// Which instance of an LSA it is, but for its age.
+/// Which instance of an LSA it is, whatever its age.
 #[derive(Clone, Copy, Debug, PartialEq, Eq)]
 pub struct InstanceId {
-    /// The LS sequence number; it counts as a signed number (RFC 2328, 12.1.6).
+    /// The LS sequence number, which is a signed number of 32 bits (RFC 2328, 12.1.6).
     pub sequence: u32,
     /// The LS checksum.
     pub checksum: u16,

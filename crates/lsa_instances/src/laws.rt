@@ -1,4 +1,4 @@
-//! What holds of the definitions.
+//! Laws of the definitions.
 
 ghost use Rattle.std.specs.Prelude.{◌≡◌, ℕ, All, AllPairs, List, map, IsPermutation, false, true};
 ghost use Rattle.std.specs.List.{Any};
@@ -18,8 +18,8 @@ ghost use Rattle.lsa_instances.specs.Order.{place_of};
 
 use std::alloc::Allocator;
 
-/// The order of the instances of one LSA is total, and compares only equal octets as equal. What
-/// is newer by the rule of RFC 2328, 13.1, is newer in this order. The rule itself is no total
+/// The order of the instances of one LSA is total, and only equal bytes compare as equal. What is
+/// newer by the rule of RFC 2328, 13.1, is newer in this order. The rule itself is not a total
 /// order: of three ages that are ten minutes apart, it has the first newer than the last, and
 /// neither newer than the one between.
 pub fn instance_order()
@@ -29,7 +29,7 @@ pub fn instance_order()
 {}
 
 /// The newest of sightings are the newest of the same sightings in any other order, as of files
-/// that are read in another order, and also where some are told more often.
+/// that are read in another order, and also where some of them are repeated.
 pub fn newest_in_any_order<A: Allocator>()
     ensures same { (flushed : Flushed) (told other newest : List (AnySighting A))
         → IsPermutation told other → AreNewest flushed told newest
@@ -37,7 +37,7 @@ pub fn newest_in_any_order<A: Allocator>()
     ensures again { (flushed : Flushed) (told other newest : List (AnySighting A))
         → AreSame told other → AreNewest flushed told newest → AreNewest flushed other newest }
 
-    // Two answers have the same LSAs, octet for octet, in the same order.
+    // Two answers have the same LSAs, byte for byte, in the same order.
     ensures only { (flushed : Flushed) (told a b : List (AnySighting A))
         → AreNewest flushed told a → AreNewest flushed told b
         → map place_and_octets a ≡ map place_and_octets b }
@@ -51,9 +51,9 @@ pub fn keys_rise<A: Allocator>()
         → AllPairs (λ a b. key_cmp (key_of a) (key_of b) ≡ Less) (lsas_of_scope scope newest) }
 {}
 
-/// What stands of flushed LSAs. Where they are left out, each that stands was not flushed, and none
-/// of its LSA that was not flushed is newer. Where they are kept, each LSA that is told stands: the
-/// same one where one was not flushed, and else one at MaxAge.
+/// What stands of flushed LSAs. Where they are left out, each LSA that stands was not flushed, and
+/// no instance of it that was not flushed is newer. Where they are kept, each LSA that was seen
+/// stands: the same instance where one was not flushed, and else one at MaxAge.
 pub fn flushed_lsas<A: Allocator>()
     ensures left_out { (told : List (AnySighting A)) (x : AnySighting A) → IsNewest LeftOut told x
         → (is_flushed told x ≡ false) × All (λ y. place_of y ≡ place_of x

@@ -1,10 +1,10 @@
 //! Instances of LSAs, and which of them is the newest (RFC 2328, 12.1 and 13.1).
 //!
-//! Files tell LSAs: a walk or a capture shows the same LSA many times, as older and newer
+//! Files contain LSAs: a walk or a capture shows the same LSA many times, as older and newer
 //! instances, and as copies of one instance that differ in their LS age. A [`Sighting`] is one of
-//! them. [`newest`] answers, of any number of sightings, the newest instance of each LSA, each
-//! once; those that were flushed are left out, or kept at MaxAge. What it answers depends on which
-//! sightings there are, and not on their order.
+//! them. [`newest`] answers the newest instance of each LSA among any number of sightings, each
+//! once; flushed LSAs are left out, or kept at MaxAge. The answer depends on which sightings there
+//! are, and not on their order.
 #![tactic(auto)]
 
 mod area;

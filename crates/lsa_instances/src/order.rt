@@ -40,7 +40,7 @@ pub(crate) fn compare_places(a: Place, b: Place) -> Ordering
     a.cmp(&b)
 }
 
-/// Compares two sightings: by place, and of one LSA the newest first.
+/// Compares two sightings: by place, and the newest instance of each LSA first.
 pub(crate) fn compare_sightings<A: Allocator + Copy>(a: &Sighting<A>, b: &Sighting<A>) -> Ordering
     ensures { result ≡ sighting_cmp a.now b.now }
 {

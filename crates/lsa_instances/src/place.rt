@@ -1,4 +1,4 @@
-//! What tells LSAs apart.
+//! Where an LSA is flooded, and which LSA it is there.
 
 ghost use Rattle.std.specs.Prelude.{◌≡◌, Some};
 ghost use Rattle.lsa_instances.specs.Order.{has_as_scope, scope_in, scope_told};
@@ -8,7 +8,7 @@ use lsa_codec::{AS_OPAQUE_LSA, AreaId, EXTERNAL_LSA, Key};
 use std::fmt;
 
 /// The flooding scope of an LSA: one area, or the whole AS (RFC 2328, 13; RFC 5250, 2). Areas are
-/// ordered by their IDs, and the AS stands behind them.
+/// ordered by their IDs, and the AS stands after them.
 #[derive(Clone, Copy, Debug, PartialEq, Eq, PartialOrd, Ord)]
 pub enum Scope {
     /// The area with this ID.
@@ -38,7 +38,7 @@ impl Scope {
         }
     }
 
-    /// The scope of an LSA of this LS type that a file tells in an area, or outside of all areas:
+    /// The scope of an LSA of this LS type that a file reports in an area, or outside of all areas:
     /// the whole AS, where its type has AS scope, else the area. `None` where it needs an area and
     /// has none.
     pub fn of(kind: u8, area: Option<AreaId>) -> Option<Scope>
@@ -60,7 +60,7 @@ impl Scope {
 pub struct Place {
     /// Where the LSA is flooded.
     pub scope: Scope,
-    /// What names it there.
+    /// What identifies it there.
     pub key: Key,
 }
 

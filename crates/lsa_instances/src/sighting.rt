@@ -1,4 +1,4 @@
-//! LSAs as a file tells them.
+//! LSAs as a file contains them.
 
 ghost use Rattle.std.specs.Prelude.{◌≡◌, IfOk};
 ghost use Rattle.lsa_instances.specs.Order.{place_of};
@@ -7,14 +7,14 @@ use crate::place::{Place, Scope};
 use lsa_codec::Lsa;
 use std::alloc::{AllocError, Allocator, Global};
 
-/// An LSA that a file tells: an instance of it, and one of the copies of this instance.
+/// An LSA in a file: an instance of it, and one of the copies of this instance.
 #[derive(Debug, Drop)]
 pub struct Sighting<A: Allocator = Global> {
     /// Where the LSA is flooded.
     pub scope: Scope,
     /// When it was seen, in nanoseconds since 1970; `None` where the file has no time stamps.
     pub seen: Option<u64>,
-    /// The LSA, octet for octet.
+    /// The LSA, byte for byte.
     pub lsa: Lsa<A>,
 }
 
@@ -29,7 +29,11 @@ impl<A: Allocator + Copy> Sighting<A> {
         }
     }
 
-    /// The same sighting, its octets in memory of this allocator.
+    /// The same sighting, with its bytes in memory of this allocator.
+    ///
+    /// # Errors
+    ///
+    /// Memory ran out.
     pub fn clone_of(&self, alloc: A) -> Result<Sighting<A>, AllocError>
         ensures { IfOk result (λ copy. copy ≡ self.now) }
     {

@@ -68,7 +68,7 @@ module _ {R A : Type 0} (remaining : R → Option (List ℕ)) where
       (subst (λ ks. AreTold ks (old ++ told ∷ [])) (sym (known_more remaining xs ys i x l e is))
       (zip_push _ (known remaining (take i ys)) old _ told all one))
 
-  -- ---- the file that tells nothing
+  -- ---- the file that is not read
 
   input_end : (xs ys : List (Watched R)) (i index : ℕ) (x : Watched R) (told : List (FileTold A)) (fault : RunFault) → i < length ys
       → drop i xs ≡ drop i ys → x ≡ get_or xs i x → AreTold (known remaining (take i ys)) told → index ≡ length told

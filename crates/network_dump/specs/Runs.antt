@@ -1,4 +1,4 @@
--- A run over files, where their octets are known.
+-- A run over files, where their bytes are known.
 use Rattle.std.specs.Prelude.{◌≡◌, ◌≢◌, ℕ, List, [], ◌∷◌, ◌++◌, length, map, Option, IfSome}
 use Rattle.std.specs.List.{AllZip}
 use Rattle.lsa_instances.specs.declared.keeping.FlushedLsas.{FlushedLsas}
@@ -13,21 +13,21 @@ use Rattle.streams.specs.declared.watch.Watched.{Watched}
 use Rattle.streams.specs.Watched.{inner_of}
 use Rattle.streams.specs.WholeText.{IsLonger}
 
--- the octets of each file, where they are known
+-- the bytes of each file, where they are known
 abbrev pub known : {R : Type 0} → (R → Option (List ℕ)) → List (Watched R) → List (Option (List ℕ))
 known remaining files = map (λ file. remaining (inner_of file)) files
 
--- the greatest length of a file
+-- the greatest length of a file, in bytes
 abbrev pub longest_file : ℕ
 longest_file = 536870912
 
--- each file tells this, in their order, as far as their octets are known
+-- each file contains this, in order, as far as their bytes are known
 abbrev pub AreTold : {A : Type 0} → List (Option (List ℕ)) → List (FileTold A) → Type 0
 AreTold known told = AllZip (λ octets file. IfSome octets (λ o. IsToldOf o file)) known told
 
 -- ---- one file
 
--- why the file at this place tells nothing: a read failed, it is too long, it is refused, or memory ran out
+-- why the file at this place is not read: a read failed, it is too long, it is refused, or memory ran out
 abbrev pub IsFileEnd : (A : Type 0) → Option (List ℕ) → ℕ → RunFault → Type 0
 IsFileEnd A octets index (Read file) = file ≡ index
 IsFileEnd A octets index (TooLarge file) = (file ≡ index) × IsLonger octets longest_file
@@ -39,7 +39,7 @@ IsFileEnd A octets index OutOfMemory = Unit {0}
 
 -- ---- all files
 
--- the first file that tells nothing, behind others that each tell something
+-- the first file that is not read, after others that are
 pub record IsInputEnd (A : Type 0) (known : List (Option (List ℕ))) (fault : RunFault) : Type 0 where
   pub front : List (Option (List ℕ))
   pub octets : Option (List ℕ)
@@ -62,11 +62,11 @@ IsDumpEnd flushed told OutOfMemory = Unit {0}
 
 -- ---- the run
 
--- all files tell something, and then this holds
+-- all files are read, and then this holds
 abbrev pub AfterAll : (A : Type 0) → List (Option (List ℕ)) → (List (FileTold A) → Type 0) → Type 0
 AfterAll A known P = (told : List (FileTold A)) × (AreTold known told × P told)
 
--- a run ends with the first file that tells nothing, or with what makes no database, or as the dump is written
+-- a run ends with the first file that is not read, or since the files make no database, or as the dump is written
 abbrev pub MayEndRun : (A : Type 0) → FlushedLsas → List (Option (List ℕ)) → RunFault → Type 0
 MayEndRun A flushed known (Read file) = IsInputEnd A known (Read file)
 MayEndRun A flushed known (TooLarge file) = IsInputEnd A known (TooLarge file)

@@ -8,21 +8,22 @@ use sighted_database::JoinFault;
 use std::alloc::{AllocError, AllocFailed};
 use streams::WriteFault;
 
-/// Why a run ended early. Files are counted from 0, and those before the one that is told were
-/// read well.
+/// Why a run ended early. Files are counted from 0. Those before the file of the fault were read
+/// without one.
 #[derive(Clone, Copy, Debug, PartialEq, Eq)]
 pub enum RunFault {
     /// A read of this file has failed. Nothing was written.
     Read(usize),
-    /// This file has more than [`LONGEST_FILE`](crate::LONGEST_FILE) octets. Nothing was written.
+    /// This file has more than [`LONGEST_FILE`](crate::LONGEST_FILE) bytes. Nothing was written.
     TooLarge(usize),
-    /// This file is refused, for what lies in it. It is never want of memory. Nothing was written.
+    /// This file is refused, for this fault, which is never `OutOfMemory`. Nothing was written.
     Refused(usize, FileFault),
-    /// What the files tell makes no database. It is never want of memory. Nothing was written.
+    /// The contents of the files make no database, for this fault, which is never `OutOfMemory`.
+    /// Nothing was written.
     Join(JoinFault),
     /// The writer has failed. It holds a prefix of the dump.
     Write,
-    /// A growth was refused. Nothing was written.
+    /// Memory ran out. Nothing was written.
     OutOfMemory,
 }
 

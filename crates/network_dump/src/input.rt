@@ -13,10 +13,10 @@ use std::alloc::Allocator;
 use std::io::Read;
 use streams::{ReadFault, Watched, read_whole};
 
-/// The greatest length of a file, in octets.
+/// The greatest length of a file, in bytes.
 pub const LONGEST_FILE: usize = 536_870_912;
 
-/// Reads a file whole, and what it tells. Its place among the files is `index`.
+/// Reads a whole file, and what it contains. Its place among the files is `index`, from 0.
 fn read_file<A: Allocator + Copy, R: Read>(
     alloc: A,
     index: usize,
@@ -43,7 +43,7 @@ fn read_file<A: Allocator + Copy, R: Read>(
     }
 }
 
-/// Reads all files, one after another, and what they tell.
+/// Reads all files, one after another, and what they contain.
 pub(crate) fn read_files<A: Allocator + Copy, R: Read>(
     alloc: A,
     files: &mut [Watched<R>],

@@ -1,7 +1,7 @@
-//! The dump that files of a network make, over readers and a writer.
+//! The dump that files from a network make, over readers and a writer.
 //!
-//! [`run`] reads all files, joins what they tell, and writes the dump of the database. The theorem
-//! of the program `ospf-capture` stands on it.
+//! [`run`] reads all files, joins what they contain, and writes the dump of the database. The
+//! theorem of the program `ospf-capture` rests on it.
 #![tactic(auto)]
 
 mod fault;

@@ -31,15 +31,15 @@ fn dump_of<A: Allocator + Copy>(
     }
 }
 
-/// Reads the files, one after another, joins what they tell, and writes the dump of the database
-/// to `out`; flushed LSAs are left out or kept at MaxAge, as is told. The answer is what each file
-/// tells.
+/// Reads the files, one after another, joins what they contain, and writes the dump of the database
+/// to `out`; flushed LSAs are left out, or kept at MaxAge, as `flushed` says. The answer is what
+/// each file contains.
 ///
 /// # Errors
 ///
-/// Want of memory, a writer that has failed, or the first of these that comes: a file that can not
-/// be read, is too long or is refused, in the order of the files; and then what makes no database.
-/// Nothing is written before all files are read and joined.
+/// Memory ran out, the writer failed, or the first of these: a file that cannot be read, is too
+/// long or is refused, in the order of the files; and then why the files make no database. Nothing
+/// is written before all files are read and joined.
 pub fn run<A: Allocator + Copy, R: Read, W: Write>(
     alloc: A,
     flushed: FlushedLsas,
@@ -49,7 +49,7 @@ pub fn run<A: Allocator + Copy, R: Read, W: Write>(
     requires files_open { All (λ file. has_failed file ≡ false) files.old }
     requires out_open { has_failed out.old ≡ false }
 
-    // What is written, where the octets of the files are known.
+    // What is written, where the bytes of the files are known.
     ensures told { IfOk result (λ told. AreTold (known R.remaining files.old) told.items) }
     ensures dump { IfOk result (λ told. (dump : List ℕ) × (IsDump flushed told.items dump
         × Appends (W.contents (inner_of out.old)) (W.contents (inner_of out.new)) dump)) }

@@ -1,4 +1,4 @@
--- A document tells one thing.
+-- A document has one content.
 use Rattle.std.proofs.Common.{◌≡◌, ◌∙◌, ℕ, sym, ap, true≢false, List}
 use Rattle.std.proofs.lemmas.Option.{same_Some}
 use Rattle.std.specs.Prelude.{Bool, true, false, Option, Some, option_map}

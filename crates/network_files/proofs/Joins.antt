@@ -1,4 +1,4 @@
--- What is joined of lists is joined of the files that tell them.
+-- What is joined of lists is joined of the files that contain them.
 use Rattle.std.proofs.Common.{◌≡◌, ◌⊎◌, ◌∙◌, ap, subst, ℕ, List}
 use Rattle.std.specs.Prelude.{Some}
 use Rattle.lsa_instances.specs.declared.keeping.FlushedLsas.{FlushedLsas}

@@ -1,4 +1,4 @@
--- A file tells one thing.
+-- A file has one content.
 use Rattle.std.proofs.Common.{◌≡◌, ◌∙◌, ℕ, sym, ap, Bool, true, false, List}
 use Rattle.capture_files.specs.Captures.{IsOfFormat}
 use Rattle.capture_files.specs.Pcap.{IsPcap}

@@ -1,4 +1,4 @@
--- A file that tells is not refused.
+-- A file that can be read is not refused.
 use Rattle.std.proofs.Common.{◌≡◌, ◌∙◌, ℕ, refl, sym, ap, true≢false, Bool, true, false, List}
 use Rattle.std.proofs.lemmas.Option.{none-some}
 use Rattle.std.specs.Prelude.{◌≢◌, is_ok}
@@ -20,7 +20,7 @@ use Rattle.std.specs.Prelude.{Result, Ok, Err}
 not_both : {X E : Type 0} (r : Result X E) (x : X) (e : E) → r ≡ Ok x → r ≡ Err e → ⊥
 not_both r x e a b = true≢false (ap is_ok (sym a ∙ b))
 
--- what is read so is not refused, but for want of memory
+-- what is read is not refused, unless memory ran out
 abbrev pub IsNotRefused : (List ℕ → CaptureFault → Type 0) → (List ℕ → CaptureText → Type 0) → Type 0
 IsNotRefused IsFault IsRead = (file : List ℕ) (told : CaptureText) (fault : CaptureFault) → IsRead file told → IsFault file fault → fault ≢ captures.OutOfMemory → ⊥
 

@@ -12,14 +12,14 @@ use Rattle.sighted_database.specs.declared.fault.JoinFault.TheVariants.{OutOfMem
 use Rattle.sighted_database.specs.Joining.{Joining, joined}
 use Rattle.sighted_database.specs.Limits.{fault_of}
 
--- what all files tell, one file after another
+-- what all files contain, one file after another
 abbrev pub sightings_of : {A : Type 0} → List (FileTold A) → List (Sighting A)
 sightings_of files = flat_map (λ file. file.sightings.items) files
 
 abbrev pub areas_of : {A : Type 0} → List (FileTold A) → List ToldArea
 areas_of files = flat_map (λ file. file.areas.items) files
 
--- the dump of a database, which is the joining of all that the files tell; flushed LSAs are left out or kept
+-- the dump of a database, which is the joining of all that the files contain; flushed LSAs are left out or kept
 pub record IsDump {A : Type 0} (flushed : FlushedLsas) (files : List (FileTold A)) (dump : List ℕ) : Type 0 where
   pub joining : Joining flushed (sightings_of files) (areas_of files)
   pub database : IsDatabase (joined joining)

@@ -1,4 +1,4 @@
--- What a file tells.
+-- What a file contains.
 use Rattle.std.specs.Prelude.{◌≡◌, ◌≢◌, ℕ, true, false, List, [], Some, None, option_map}
 use Rattle.std.specs.List.{filter_map, list_any}
 use Rattle.std.specs.Str.{IsUtf8}
@@ -30,7 +30,7 @@ use Rattle.snmp_walk.specs.Missing.{AreHoles}
 use Rattle.snmp_walk.specs.ObjectsTold.{told_in as told_in_walk}
 use Rattle.snmp_walk.specs.Sorting as walks
 
--- ---- what is told
+-- ---- the content
 
 -- LSAs, areas and their kinds, and headers of LSAs, each in the order of the file
 pub record Content (A : Type 0) : Type 0 where
@@ -45,7 +45,7 @@ content_of file = record {
   headers = file.headers.items;
 }
 
--- a capture tells what its frames tell
+-- a capture contains what its frames contain
 abbrev pub told_by_frames : {A : Type 0} → List Packet → Content A
 told_by_frames {A} frames = record {
   sightings = filter_map packets.sighting_of (told_in_frames frames);
@@ -53,7 +53,7 @@ told_by_frames {A} frames = record {
   headers = filter_map (packets.header_of {A = A}) (told_in_frames frames);
 }
 
--- a walk tells what its objects tell
+-- a walk contains what its objects contain
 abbrev pub told_by_walk : {A : Type 0} → List ℕ → Content A
 told_by_walk {A} text = record {
   sightings = filter_map walks.sighting_of (told_in_walk text);
@@ -61,7 +61,7 @@ told_by_walk {A} text = record {
   headers = [];
 }
 
--- what a router prints tells what its headings and its LSAs tell, without a moment
+-- a text contains its headings and its LSAs, without time stamps
 abbrev pub told_by_text : {A : Type 0} → List ℕ → Content A
 told_by_text {A} text = record {
   sightings = filter_map prints.sighting_of (told_in_words None (words text));
@@ -69,7 +69,7 @@ told_by_text {A} text = record {
   headers = [];
 }
 
--- what a router prints in JSON tells what the LSAs of its document tell
+-- a document in JSON contains its LSAs
 abbrev pub told_by_json : {A : Type 0} → Json → Content A
 told_by_json {A} json = record {
   sightings = filter_map prints.sighting_of (told_in_json json);
@@ -77,31 +77,31 @@ told_by_json {A} json = record {
   headers = [];
 }
 
--- ---- what can not be used, or is missing
+-- ---- what cannot be used, or is missing
 
 module _ {A : Type 0} where
-  -- these of the frames, in a capture that ends so
+  -- these warnings about the frames, in a capture that ends so
   abbrev pub AreOddFrames : List Odd → End → Oddities A → Type 0
   AreOddFrames odd end (Frames found last) = (found.items ≡ odd) × (last ≡ end)
   AreOddFrames odd end (Rows holes) = ⊥
   AreOddFrames odd end (Texts holes) = ⊥
   AreOddFrames odd end (Documents holes) = ⊥
 
-  -- those of the walk
+  -- the findings of the walk
   abbrev pub AreOddRows : List ℕ → Oddities A → Type 0
   AreOddRows text (Frames found last) = ⊥
   AreOddRows text (Rows holes) = AreHoles {A = A} (told_in_walk text) holes.items
   AreOddRows text (Texts holes) = ⊥
   AreOddRows text (Documents holes) = ⊥
 
-  -- what is printed of LSAs, and tells none
+  -- what is printed of LSAs as a text, and cannot be used
   abbrev pub AreOddTexts : List TextHole → Oddities A → Type 0
   AreOddTexts texts (Frames found last) = ⊥
   AreOddTexts texts (Rows holes) = ⊥
   AreOddTexts texts (Texts holes) = holes.items ≡ texts
   AreOddTexts texts (Documents holes) = ⊥
 
-  -- what is printed of LSAs in JSON, and tells none
+  -- what is printed of LSAs in JSON, and cannot be used
   abbrev pub AreOddDocuments : List TextHole → Oddities A → Type 0
   AreOddDocuments texts (Frames found last) = ⊥
   AreOddDocuments texts (Rows holes) = ⊥
@@ -139,7 +139,7 @@ IsToldAs kinds.Json octets file = IsToldByJson octets file
 IsToldAs kinds.Printed octets file = IsToldByText octets file
 IsToldAs kinds.Walk octets file = IsToldByWalk octets file
 
--- a file with these octets tells this, read as its content says
+-- a file with these bytes contains this, read as its content says
 abbrev pub IsToldOf : {A : Type 0} → List ℕ → FileTold A → Type 0
 IsToldOf octets file = IsToldAs (kind_of octets) octets file
 
@@ -153,7 +153,7 @@ IsRefusalOfCapture octets faults.NotJson = ⊥
 IsRefusalOfCapture octets faults.NoDatabase = ⊥
 IsRefusalOfCapture octets faults.UnknownKind = ⊥
 
--- no object of the OSPF-MIB is there
+-- it has no object of the OSPF-MIB
 abbrev pub IsRefusalOfWalk : (A : Type 0) → List ℕ → FileFault → Type 0
 IsRefusalOfWalk A octets faults.OutOfMemory = Unit {0}
 IsRefusalOfWalk A octets (faults.Capture fault) = ⊥
@@ -169,7 +169,7 @@ IsRefusalOfJson octets faults.NotJson = IsUtf8 octets → document octets ≡ No
 IsRefusalOfJson octets faults.NoDatabase = IsUtf8 octets × (option_map has_database (document octets) ≡ Some false)
 IsRefusalOfJson octets faults.UnknownKind = ⊥
 
--- what a router prints as a text is refused for want of memory alone
+-- what a router prints as a text is refused only where memory ran out
 abbrev pub IsRefusalOfText : FileFault → Type 0
 IsRefusalOfText fault = fault ≡ faults.OutOfMemory
 
@@ -179,6 +179,6 @@ IsRefusalAs A kinds.Json octets fault = IsRefusalOfJson octets fault
 IsRefusalAs A kinds.Printed octets fault = IsRefusalOfText fault
 IsRefusalAs A kinds.Walk octets fault = IsRefusalOfWalk A octets fault
 
--- a file with these octets tells nothing, for this fault
+-- a file with these bytes is refused, for this fault
 abbrev pub IsRefusalOf : (A : Type 0) → List ℕ → FileFault → Type 0
 IsRefusalOf A octets fault = IsRefusalAs A (kind_of octets) octets fault

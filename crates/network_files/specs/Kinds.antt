@@ -1,4 +1,4 @@
--- Kinds of files, told apart by their content.
+-- Kinds of files, by their content.
 use Rattle.std.specs.Prelude.{ℕ, Bool, false, ◌||◌, nat_lt, if◌then◌else◌, List, length}
 use Rattle.std.specs.Option.{is_some}
 use Rattle.capture_files.specs.Pcap.{signature_of}
@@ -13,8 +13,8 @@ use Rattle.printed_json.specs.DocumentsTold.{is_printed_json}
 abbrev pub is_capture : List ℕ → Bool
 is_capture octets = if nat_lt (length octets) 4 then false else has_section octets || is_some (signature_of octets)
 
--- what is no capture is what a router prints in JSON, where it begins with a brace behind white space, or what it prints
--- as a text, where its words say so, and else taken as a walk
+-- a file that is not a capture is what a router prints in JSON, where it begins with a brace after white space; or
+-- what a router prints as a text, where its words say so; and else it is read as a walk
 abbrev pub kind_of : List ℕ → FileKind
 kind_of octets =
     if is_capture octets then Capture else if is_printed_json (words octets) then Json else if is_printed (words octets) then Printed else Walk

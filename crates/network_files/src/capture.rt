@@ -1,4 +1,4 @@
-//! What a packet capture tells.
+//! What a packet capture contains.
 
 ghost use Rattle.std.specs.Prelude.{◌≡◌, IfOk, IfErr};
 ghost use Rattle.capture_files.specs.Captures.{IsCapture};

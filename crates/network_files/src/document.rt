@@ -1,4 +1,4 @@
-//! What a router prints in JSON tells.
+//! What a router prints in JSON.
 
 ghost use Rattle.std.specs.Prelude.{◌≡◌, IfOk, IfErr};
 ghost use Rattle.network_files.specs.FilesTold.{IsToldByJson, IsRefusalOfJson};
@@ -10,7 +10,7 @@ use printed_databases::Printed;
 use printed_json::{JsonFault, read_printed_json};
 use std::alloc::Allocator;
 
-/// What the document tells.
+/// What the document contains.
 fn printed_of<A: Allocator + Copy>(alloc: A, octets: &[u8]) -> Result<Printed<A>, FileFault>
     ensures printed { IfOk result (λ printed. IsReadAs octets.now printed.sightings.items
         printed.kinds.items printed.holes.items) }

@@ -22,7 +22,7 @@ fn put_sightings<A: Allocator + Copy>(
     Ok(())
 }
 
-/// What all files tell of LSAs. A copy of each is made.
+/// The LSAs of all files. A copy of each is made.
 fn sightings_of<A: Allocator + Copy>(
     alloc: A,
     files: &[FileTold<A>],
@@ -36,7 +36,7 @@ fn sightings_of<A: Allocator + Copy>(
     Ok(all)
 }
 
-/// What all files tell of areas.
+/// The reports of areas in all files.
 fn areas_of<A: Allocator + Copy>(
     alloc: A,
     files: &[FileTold<A>],
@@ -50,9 +50,9 @@ fn areas_of<A: Allocator + Copy>(
     Ok(all)
 }
 
-/// The dump of the database that all files together make: its sections are the newest of all
-/// LSAs that the files tell (flushed LSAs left out or kept at MaxAge, as is told), and its areas
-/// those of which they tell the kind and those that have LSAs.
+/// The dump of the database that all files together make. Its sections have the newest instance of
+/// each LSA in the files; flushed LSAs are left out, or kept at MaxAge, as `flushed` says. Its
+/// areas are those whose kind the files report and those that have LSAs.
 ///
 /// # Errors
 ///

@@ -1,4 +1,4 @@
-//! Why a file tells nothing.
+//! Why a file is refused.
 
 ghost use Rattle.std.specs.Prelude.{◌≡◌};
 ghost use Rattle.network_files.specs.declared.fault.FileFault.TheVariants as faults;
@@ -7,10 +7,10 @@ use capture_files::CaptureFault;
 use std::alloc::AllocError;
 use thiserror::Error;
 
-/// Why a file is refused: what lies in it, and where.
+/// Why a file is refused: what is malformed in it, and where.
 #[derive(Clone, Copy, Debug, PartialEq, Eq, Error)]
 pub enum FileFault {
-    /// The file begins as a capture does, and is none, for this fault, which is never
+    /// The file begins as a capture does, and is malformed, for this fault, which is never
     /// `OutOfMemory`.
     #[error("{0}")]
     Capture(CaptureFault),
@@ -21,8 +21,8 @@ pub enum FileFault {
     /// The file is an object in JSON, and has none of the databases that are read.
     #[error("NoDatabase")]
     NoDatabase,
-    /// The file does not begin as a capture does, is not what a router prints, and no line of it is
-    /// an object of the OSPF-MIB.
+    /// The file does not begin as a capture does, is not what a router prints, and no line of it
+    /// has an object of the OSPF-MIB.
     #[error("UnknownKind")]
     UnknownKind,
     /// Memory ran out.

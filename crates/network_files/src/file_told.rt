@@ -1,4 +1,4 @@
-//! What a file tells.
+//! What a file contains.
 
 ghost use Rattle.std.specs.Prelude.{IfOk, IfErr};
 ghost use Rattle.network_files.specs.FilesTold.{IsToldOf, IsRefusalOf};
@@ -16,29 +16,29 @@ use printed_databases::Hole as TextHole;
 use snmp_walk::Hole;
 use std::alloc::{Allocator, Global};
 
-/// What can not be used of a file, or is missing in it.
+/// What cannot be used in a file, or is missing in it.
 #[derive(Debug, Drop)]
 pub enum Oddities<A: Allocator = Global> {
-    /// What is odd of the frames of a capture, and how the capture ends.
+    /// The warnings about the frames of a capture, and how the capture ends.
     Frames(Vec<Odd, A>, End),
-    /// What is missing in a walk, or can not be used of it.
+    /// What is missing in a walk, or cannot be used.
     Rows(Vec<Hole, A>),
-    /// What a router prints of LSAs, and tells none.
+    /// What a router prints of LSAs as a text, and cannot be used.
     Texts(Vec<TextHole, A>),
-    /// What a router prints of LSAs in JSON, and tells none.
+    /// What a router prints of LSAs in JSON, and cannot be used.
     Documents(Vec<TextHole, A>),
 }
 
-/// What a file tells, in the order of the file.
+/// What a file contains, in the order of the file.
 #[derive(Debug, Drop)]
 pub struct FileTold<A: Allocator = Global> {
-    /// The LSAs, octet for octet.
+    /// The LSAs, byte for byte.
     pub sightings: Vec<Sighting<A>, A>,
-    /// The areas whose kind is told, as often as it is.
+    /// The areas and their kinds, one for each report in the file.
     pub areas: Vec<ToldArea, A>,
     /// The headers of LSAs that stand without their bodies, in the packets of a capture.
     pub headers: Vec<Header, A>,
-    /// What can not be used, or is missing.
+    /// What cannot be used, or is missing.
     pub oddities: Oddities<A>,
 }
 
@@ -46,10 +46,10 @@ pub struct FileTold<A: Allocator = Global> {
 ///
 /// # Errors
 ///
-/// A capture is refused for what lies in it. A file that begins with a brace is refused where it
-/// is not JSON, or has none of the databases that are read. A file that is neither a capture nor
-/// what a router prints is refused where no line of it is an object of the OSPF-MIB: then nobody
-/// knows what kind of file it is. Or memory ran out.
+/// A malformed capture is refused. A file that begins with a brace is refused where it is not JSON,
+/// or has none of the databases that are read. A file that is neither a capture nor what a router
+/// prints is refused where no line of it has an object of the OSPF-MIB: its kind is then unknown.
+/// Or memory ran out.
 pub fn told_of<A: Allocator + Copy>(alloc: A, octets: &[u8]) -> Result<FileTold<A>, FileFault>
     ensures told { IfOk result (λ file. IsToldOf octets.now file) }
     ensures fault { IfErr result (λ fault. IsRefusalOf A octets.now fault) }

@@ -20,13 +20,13 @@ const SECTION_HEADER: u32 = 0x0a0d_0d0a;
 pub enum FileKind {
     /// A packet capture: it begins as a file of the pcapng or of the pcap format does.
     Capture,
-    /// What a router prints of its databases in JSON: it is no capture, and its first character
-    /// behind white space is a brace that opens.
+    /// What a router prints of its databases in JSON: it is not a capture, and its first character
+    /// after white space is an opening brace.
     Json,
-    /// What a router prints of its databases as a text: it is none of both, and somewhere in it are
-    /// the words `OSPF Router with ID` or `LS age:`.
+    /// What a router prints of its databases as a text: it is neither of the two, and somewhere in
+    /// it are the words `OSPF Router with ID` or `LS age:`.
     Printed,
-    /// An SNMP walk, as every other file is taken.
+    /// An SNMP walk: every other file is read as one.
     Walk,
 }
 
@@ -49,7 +49,7 @@ fn is_capture(octets: &[u8]) -> bool
 }
 
 impl FileKind {
-    /// The kind of a file with these octets.
+    /// The kind of a file with these bytes.
     pub fn of(octets: &[u8]) -> FileKind
         ensures { result ≡ kind_of octets.now }
     {

@@ -13,7 +13,7 @@ use capture_files::{one_reading_of_pcap, one_reading_of_pcapng};
 use sighted_database::joined_in_any_order;
 use std::alloc::Allocator;
 
-/// The octets of a file determine the LSAs and the kinds of areas that it tells, or that it is
+/// The bytes of a file determine the LSAs and the kinds of areas that it contains, or that it is
 /// refused.
 ///
 /// The function does nothing: its contract is the law.
@@ -21,7 +21,7 @@ pub fn one_telling_of_a_file<A: Allocator>()
     ensures same { (octets : List ℕ) (one two : AnyFile A) → IsToldOf octets one
         → IsToldOf octets two → content_of one ≡ content_of two }
 
-    // A file that tells something is refused for want of memory alone.
+    // A file that can be read is refused only where memory ran out.
     ensures refused { (octets : List ℕ) (file : AnyFile A) (fault : AnyFault) → IsToldOf octets file
         → IsRefusalOf A octets fault → fault ≡ faults.OutOfMemory }
 {
@@ -29,8 +29,8 @@ pub fn one_telling_of_a_file<A: Allocator>()
     one_reading_of_pcapng();
 }
 
-/// The dump that files make depends on which files there are, and not on their order, nor on how
-/// often each of them is given.
+/// The dump that files make depends on which files there are. It depends neither on their order,
+/// nor on how often each of them is given.
 ///
 /// The function does nothing: its contract is the law.
 pub fn files_in_any_order<A: Allocator>()

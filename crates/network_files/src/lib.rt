@@ -1,10 +1,10 @@
-//! What files that a network gives tell, and the dump that all of them make.
+//! What files from a network contain, and the dump that all of them make.
 //!
 //! A file is a packet capture, what a router prints of its databases, as a text or in JSON, or an
-//! SNMP walk, told apart by its content ([`FileKind`]). [`told_of`] reads a file of each kind: its
-//! LSAs, the kinds of areas, and what is odd of it or missing in it. [`dump_of_files`] joins what
-//! all files tell, and answers the dump of the database. It depends on which files there are, and
-//! not on their order.
+//! SNMP walk; its content decides which ([`FileKind`]). [`told_of`] reads a file of each kind: its
+//! LSAs, the kinds of areas, and what cannot be used or is missing. [`dump_of_files`] joins the
+//! contents of all files, and answers the dump of the database. It depends on which files there
+//! are, and not on their order.
 #![tactic(auto)]
 
 mod capture;

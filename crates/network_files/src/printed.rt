@@ -1,4 +1,4 @@
-//! What a router prints tells.
+//! What a router prints as a text.
 
 ghost use Rattle.std.specs.Prelude.{◌≡◌, IfOk, IfErr};
 ghost use Rattle.network_files.specs.FilesTold.{IsToldByText, IsRefusalOfText};
@@ -8,7 +8,7 @@ use crate::file_told::{FileTold, Oddities};
 use printed_databases::{Printed, read_printed};
 use std::alloc::Allocator;
 
-/// Reads what a router prints.
+/// Reads what a router prints as a text.
 pub(crate) fn told_of_text<A: Allocator + Copy>(
     alloc: A,
     octets: &[u8],

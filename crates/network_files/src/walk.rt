@@ -1,4 +1,4 @@
-//! What an SNMP walk tells.
+//! What an SNMP walk contains.
 
 ghost use Rattle.std.specs.Prelude.{◌≡◌, IfOk, IfErr, true, false};
 ghost use Rattle.std.specs.List.{filter_map, list_any};
@@ -12,7 +12,7 @@ use crate::file_told::{FileTold, Oddities};
 use snmp_walk::{Walk, WalkFault, read_walk};
 use std::alloc::Allocator;
 
-/// What the walk tells.
+/// What the walk contains.
 fn walk_of<A: Allocator + Copy>(alloc: A, text: &[u8]) -> Result<Walk<A>, FileFault>
     ensures sightings { IfOk result (λ walk. walk.sightings.items
         ≡ filter_map sighting_of (told_in text.now)) }

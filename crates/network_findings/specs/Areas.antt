@@ -1,4 +1,4 @@
--- The areas that a file tells.
+-- The areas in a file.
 use Rattle.std.specs.Prelude.{◌≡◌, Bool, List, ◌++◌, map, Option, None, Some}
 use Rattle.std.specs.List.{filter_map, list_any}
 use Rattle.std.specs.List.Sorted.{IsStrictlySortedBy}
@@ -13,7 +13,7 @@ abbrev pub area_in : Scope → Option AreaId
 area_in (Area id) = Some id
 area_in AsWide = None
 
--- those of which it tells the kind, and then those of its LSAs, as often as they are told
+-- those whose kind it reports, and then those of its LSAs, each as often as it occurs
 abbrev pub areas_told : {A : Type 0} → FileTold A → List AreaId
 areas_told file = map (λ area. area.id) file.areas.items ++ filter_map (λ sighting. area_in sighting.scope) file.sightings.items
 
@@ -21,7 +21,7 @@ areas_told file = map (λ area. area.id) file.areas.items ++ filter_map (λ sigh
 abbrev pub has : AreaId → List AreaId → Bool
 has id ids = list_any (eq_by_cmp area_cmp id) ids
 
--- the areas that are told, each once, in rising order
+-- these areas, each once, in rising order
 pub record AreOnce (told once : List AreaId) : Type 0 where
   pub which : (id : AreaId) → has id once ≡ has id told
   pub order : IsStrictlySortedBy area_cmp once

@@ -1,4 +1,4 @@
--- Areas whose kinds contradict (RFC 2328, 3.6).
+-- Areas of which files report two kinds (RFC 2328, 3.6).
 use Rattle.std.specs.Prelude.{◌≡◌, ◌&&◌, Bool, true, false, if◌then◌else◌, List, Option, None, Some}
 use Rattle.std.specs.List.{filter_map}
 use Rattle.std.specs.List.Sorted.{IsStrictlySortedBy}
@@ -8,12 +8,12 @@ use Rattle.lsa_instances.specs.Areas.{is_stub_kind}
 use Rattle.network_findings.specs.Areas.{has}
 use Rattle.lsa_instances.specs.declared.area.ToldArea.{ToldArea}
 
--- the area, where it is told to be a stub area, or to be none
+-- the area, where it is reported as a stub area, or as another one
 abbrev pub id_told : Bool → ToldArea → Option AreaId
 id_told true area = if is_stub_kind area.kind then Some area.id else None
 id_told false area = if is_stub_kind area.kind then None else Some area.id
 
--- the areas that are told to be stub areas and to be none, each once, in order
+-- the areas that are reported both as stub areas and as others, each once, in order
 pub record AreContradictions (areas : List ToldArea) (both : List AreaId) : Type 0 where
   pub which : (id : AreaId) → has id both ≡ (has id (filter_map (id_told false) areas) && has id (filter_map (id_told true) areas))
   pub order : IsStrictlySortedBy area_cmp both

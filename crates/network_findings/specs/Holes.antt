@@ -1,4 +1,4 @@
--- What is to be told of a file besides what it gave.
+-- The findings in a file.
 use Rattle.std.specs.Prelude.{◌≡◌, ℕ, Bool, true, false, ◌==◌, List, [], ◌∷◌, ◌++◌, count_by, map, Option, None, Some, if◌then◌else◌}
 use Rattle.std.specs.List.{filter_map}
 use Rattle.capture_files.specs.declared.frame.End.{End}
@@ -40,23 +40,23 @@ number_of (RefusedLsa lsa.RouterId) = 15
 number_of (RefusedLsa lsa.ZeroCost) = 16
 number_of (RefusedLsa lsa.OutOfMemory) = 17
 
--- how often a reason is told
+-- the number of warnings with a reason
 abbrev pub times : List Odd → Odd → ℕ
 times odd reason = count_by (λ one. number_of one == number_of reason) odd
 
--- a reason, with how often it is told, where it is
+-- a reason, with the number of its warnings, unless that is 0
 abbrev pub counted : List Odd → Odd → Option Hole
 counted odd reason = if times odd reason == 0 then None else Some (Frames reason (times odd reason))
 
--- the reasons that are told of frames and of their LSAs: not that a frame carries something else than IPv4, or a datagram
--- something else than OSPF
+-- the reasons that are reported of frames and of their LSAs: not that a frame carries something other than IPv4, or a
+-- datagram something other than OSPF
 abbrev pub reasons : List Odd
 reasons =
     OtherLink ∷ Truncated ∷ BadLength ∷ MissingFragment ∷ OtherVersion ∷ BadChecksum ∷ OtherType ∷ RefusedLsa lsa.Truncated
     ∷ RefusedLsa lsa.Length ∷ RefusedLsa lsa.BadType ∷ RefusedLsa lsa.Body ∷ RefusedLsa lsa.Checksum ∷ RefusedLsa lsa.Mask
     ∷ RefusedLsa lsa.RouterId ∷ RefusedLsa lsa.ZeroCost ∷ []
 
--- what is odd of frames, each reason once
+-- the warnings about frames, each reason once
 abbrev pub frame_holes : List Odd → List Hole
 frame_holes odd = filter_map (counted odd) reasons
 
@@ -64,7 +64,7 @@ abbrev pub end_holes : End → List Hole
 end_holes ends.Whole = []
 end_holes (ends.Cut offset) = Cut offset ∷ []
 
--- what is printed of an LSA that has a key, and tells none
+-- a printed LSA that has a key, and cannot be used
 abbrev pub keyed : TextHole → Option Hole
 keyed (texts.Refused key fault) = Some (Refused key fault)
 keyed (texts.NoArea key) = Some (NoArea key)
@@ -75,15 +75,15 @@ is_unreadable (texts.Refused key fault) = false
 is_unreadable (texts.NoArea key) = false
 is_unreadable texts.Unreadable = true
 
--- how many LSAs are printed whose fields can not be read, where there is one
+-- the number of printed LSAs whose fields cannot be read, unless it is 0
 abbrev pub unread : List TextHole → List Hole
 unread printed = if count_by is_unreadable printed == 0 then [] else Unreadable (count_by is_unreadable printed) ∷ []
 
--- what is printed and tells no LSA: each that has a key, and how many have none
+-- the printed LSAs that cannot be used: each that has a key, and the number of those without one
 abbrev pub text_holes : List TextHole → List Hole
 text_holes printed = filter_map keyed printed ++ unread printed
 
--- what can not be used of a file, or is missing in it
+-- what cannot be used in a file, or is missing in it
 abbrev pub oddity_holes : {A : Type 0} → Oddities A → List Hole
 oddity_holes (oddities.Frames odd end) = frame_holes odd.items ++ end_holes end
 oddity_holes (oddities.Rows rows) = map Walk rows.items
@@ -95,11 +95,11 @@ nssa_of_kind kinds.Ordinary area = None
 nssa_of_kind kinds.Stub area = None
 nssa_of_kind kinds.Nssa area = Some area
 
--- the area, where it is told to be not-so-stubby
+-- the area, where it is reported to be not-so-stubby
 abbrev pub nssa_told : ToldArea → Option AreaId
 nssa_told area = nssa_of_kind area.kind area.id
 
--- all of it, and behind it the not-so-stubby areas, each once, in rising order
+-- all of it, and after it the not-so-stubby areas, each once, in rising order
 pub record AreHoles {A : Type 0} (file : FileTold A) (holes : List Hole) : Type 0 where
   pub nssas : List AreaId
   pub once : AreOnce (filter_map nssa_told file.areas.items) nssas

@@ -1,4 +1,4 @@
--- What a file gave, as a line.
+-- What a file contains, as a line.
 use Rattle.std.specs.Prelude.{◌≡◌, ℕ, List, ◌++◌, codes, decimal, length}
 use Rattle.lsa_codec.specs.declared.address.AreaId.{AreaId}
 use Rattle.network_files.specs.declared.file_told.FileTold.{FileTold}
@@ -21,7 +21,7 @@ line_words name kind lsas areas =
 abbrev pub line_text : {A : Type 0} → List ℕ → FileTold A → ℕ → List ℕ
 line_text name file areas = line_words name (kind_name file.oddities) (length file.sightings.items) areas
 
--- the line of a file, with how many areas it tells, each counted once
+-- the line of a file, with the number of its areas, each counted once
 pub record IsLine {A : Type 0} (name : List ℕ) (file : FileTold A) (line : List ℕ) : Type 0 where
   pub areas : List AreaId
   pub once : AreOnce (areas_told file) areas

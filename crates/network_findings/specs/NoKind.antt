@@ -1,4 +1,4 @@
--- Areas of a database of which no file tells the kind (RFC 2328, 3.6).
+-- Areas of a database of which no file reports the kind (RFC 2328, 3.6).
 use Rattle.std.specs.Prelude.{◌&&◌, Bool, filter, not, List, map}
 use Rattle.lsa_codec.specs.declared.address.AreaId.{AreaId}
 use Rattle.lsa_codec.specs.Areas.{is_backbone}
@@ -13,6 +13,6 @@ ids_of areas = map (λ area. area.id) areas
 abbrev pub areas_in : Lists → List AreaId
 areas_in db = map (λ area. record { 0 = area.id }) (areas_of db)
 
--- those, but for the backbone, of which no kind is told
+-- those, except the backbone, of which no kind is reported
 abbrev pub without_kind : List ToldArea → List AreaId → List AreaId
 without_kind kinds areas = filter (λ id. not (is_backbone id) && not (has id (ids_of kinds))) areas

@@ -1,4 +1,4 @@
--- The words for what is missing in a file, or can not be used.
+-- The words for what is missing in a file, or cannot be used.
 use Rattle.std.specs.Prelude.{ℕ, List, [], ◌++◌, Option, Some, None, codes, decimal}
 use Rattle.lsa_codec.specs.declared.address.AreaId.{AreaId}
 use Rattle.lsa_codec.specs.declared.fault.LsaFault.{LsaFault}
@@ -39,7 +39,7 @@ odd_name odds.BadChecksum = codes "BadChecksum"
 odd_name odds.OtherType = codes "OtherType"
 odd_name (odds.RefusedLsa fault) = lsa_name fault
 
--- why a row of a walk tells no LSA
+-- why a row of a walk has no usable LSA
 abbrev pub row_name : RowFault → List ℕ
 row_name rows.Missing = codes "Missing"
 row_name rows.NotOctets = codes "NotOctets"
@@ -48,7 +48,7 @@ row_name rows.Longer = codes "Longer"
 row_name (rows.OtherKey key) = codes "OtherKey"
 row_name rows.NoArea = codes "NoArea"
 
--- the area of a row, with a space behind it; nothing where the row has none
+-- the area of a row, with a space after it; nothing where the row has none
 abbrev pub area_text : Option AreaId → List ℕ
 area_text None = []
 area_text (Some area) = codes "area " ++ address_text area.0 ++ codes " "

@@ -22,7 +22,7 @@ fn area_in(scope: Scope) -> Option<AreaId>
     }
 }
 
-/// The areas of which the file tells the kind, as often as it tells it.
+/// The areas whose kind the file reports, one for each report.
 pub(crate) fn areas_of_kinds<A: Allocator + Copy>(
     alloc: A,
     kinds: &[ToldArea],
@@ -32,7 +32,7 @@ pub(crate) fn areas_of_kinds<A: Allocator + Copy>(
     kinds.iter().map(|area| area.id).collect(alloc)
 }
 
-/// The areas of LSAs, as often as there is one.
+/// The areas of LSAs, one for each LSA of an area.
 pub(crate) fn areas_of_lsas<A: Allocator + Copy>(
     alloc: A,
     sightings: &[Sighting<A>],
@@ -46,7 +46,7 @@ pub(crate) fn areas_of_lsas<A: Allocator + Copy>(
         .collect(alloc)
 }
 
-/// The areas of which the file tells the kind or an LSA, as often as it tells them.
+/// The areas of the file, one for each report of a kind and for each LSA of an area.
 pub(crate) fn areas_told<A: Allocator + Copy>(
     alloc: A,
     file: &FileTold<A>,

@@ -1,4 +1,4 @@
-//! Areas whose kinds contradict.
+//! Areas of which files report two kinds.
 
 ghost use Rattle.std.specs.Prelude.{◌≡◌, IfOk, true, false, filter};
 ghost use Rattle.std.specs.BTreeSet.{IsFromIterResult, contains};
@@ -13,7 +13,7 @@ use network_files::FileTold;
 use std::alloc::{AllocError, Allocator};
 use std::collections::BTreeSet;
 
-/// The area, if it is told to be a stub area, or, where `is_stub` is false, to be none.
+/// The area, if this reports it as a stub area, or, where `is_stub` is false, as another one.
 fn id_told(is_stub: bool, area: ToldArea) -> Option<AreaId>
     ensures { result ≡ id_told is_stub area }
 {
@@ -24,7 +24,7 @@ fn id_told(is_stub: bool, area: ToldArea) -> Option<AreaId>
     }
 }
 
-/// The areas that are told to be stub areas, or, where `is_stub` is false, to be none.
+/// The areas that are reported as stub areas, or, where `is_stub` is false, as others.
 fn ids_told<A: Allocator + Copy>(
     alloc: A,
     is_stub: bool,
@@ -39,7 +39,7 @@ fn ids_told<A: Allocator + Copy>(
         .collect(alloc)
 }
 
-/// The areas that are among others too.
+/// The areas that are in both sets.
 fn in_both<A: Allocator + Copy>(
     alloc: A,
     ids: &BTreeSet<AreaId, A>,
@@ -54,7 +54,7 @@ fn in_both<A: Allocator + Copy>(
         .collect(alloc)
 }
 
-/// The areas of which files tell the kind, one file after another.
+/// The areas whose kind the files report, one file after another.
 pub(crate) fn areas_of<A: Allocator + Copy>(
     alloc: A,
     files: &[FileTold<A>],
@@ -68,7 +68,7 @@ pub(crate) fn areas_of<A: Allocator + Copy>(
     Ok(all)
 }
 
-/// The areas that are told both to be stub areas and to be none.
+/// The areas that are reported both as stub areas and as others.
 fn both_told<A: Allocator + Copy>(
     alloc: A,
     areas: &[ToldArea],
@@ -80,12 +80,12 @@ fn both_told<A: Allocator + Copy>(
     in_both(alloc, &stubs, &others)
 }
 
-/// The areas of which the files tell both that they are stub areas and that they are none, each
-/// once, in rising order. The dump has them as stub areas.
+/// The areas that the files report both as stub areas and as others, each once, in rising order.
+/// The dump has them as stub areas, except the backbone, which is always ordinary (RFC 2328, 3.6).
 ///
 /// # Errors
 ///
-/// A growth was refused.
+/// Memory ran out.
 pub fn contradictions<A: Allocator + Copy>(
     alloc: A,
     files: &[FileTold<A>],

@@ -1,4 +1,4 @@
-//! What is missing in a file, or can not be used.
+//! What is missing in a file, or cannot be used.
 
 ghost use Rattle.std.specs.Prelude.{◌≡◌, Some};
 ghost use Rattle.network_findings.specs.Texts.{hole_text, lsa_name, lsa_text, odd_name, row_name};
@@ -10,25 +10,25 @@ use ospf_packets::Odd;
 use snmp_walk::{Hole as RowHole, RowFault};
 use std::fmt;
 
-/// What is missing in a file, or can not be used of it.
+/// What is missing in a file, or cannot be used.
 ///
 /// Its `Display` is a few words on one line, as `MissingFragment 3` or `Cut at 4711`.
 #[derive(Clone, Copy, Debug, PartialEq, Eq)]
 pub enum Hole {
-    /// So many frames of a capture, or LSAs in them, can not be used for this reason. It is never
-    /// that a frame carries something else than OSPF.
+    /// This number of frames of a capture, or of LSAs in them, cannot be used for this reason. The
+    /// reason is never that a frame carries something other than OSPF.
     Frames(Odd, usize),
     /// The capture ends in the middle of its last record, which begins at this offset.
     Cut(usize),
-    /// A row of a walk tells nothing, or an object of it can not be read.
+    /// A row of a walk has no usable LSA, or an object of it cannot be read.
     Walk(RowHole),
-    /// What a router prints of the LSA with this key makes none that is accepted, for this fault.
+    /// What a router prints of the LSA with this key makes no LSA that is accepted, for this fault.
     Refused(Key, LsaFault),
-    /// The LSA with this key is printed under no area's heading.
+    /// The LSA with this key is printed under no heading of an area.
     NoArea(Key),
-    /// So many LSAs are printed whose fields can not be read.
+    /// This number of LSAs is printed whose fields cannot be read.
     Unreadable(usize),
-    /// The area is told to be not-so-stubby (RFC 3101), which the planner does not know.
+    /// The area is reported to be not-so-stubby (RFC 3101), which the planner does not support.
     Nssa(AreaId),
 }
 
@@ -67,7 +67,7 @@ fn lsa_name(fault: LsaFault) -> &'static str
     }
 }
 
-/// The name of the reason for which a row tells no LSA.
+/// The name of the reason why a row has no usable LSA.
 fn row_name(fault: RowFault) -> &'static str
     ensures { result.now ≡ row_name fault }
 {
@@ -81,7 +81,7 @@ fn row_name(fault: RowFault) -> &'static str
     }
 }
 
-/// What names an LSA, behind why it is not told.
+/// What identifies an LSA, after the reason why it is not used.
 fn untold(why: &str, area: Option<AreaId>, key: Key) -> Untold<'_>
     ensures { untold_text result ≡ lsa_text why.now area key }
 {

@@ -1,4 +1,4 @@
-//! The holes of a file.
+//! The findings in a file.
 
 ghost use Rattle.std.specs.Prelude.{◌≡◌, ◌++◌, List, IfOk, OnOk, map};
 ghost use Rattle.std.specs.List.{filter_map};
@@ -20,8 +20,8 @@ use snmp_walk::Hole as RowHole;
 use std::alloc::{AllocError, Allocator};
 use std::collections::BTreeSet;
 
-/// The reasons that are told of frames and of their LSAs. That a frame carries something else than
-/// IPv4, or a datagram something else than OSPF, is none.
+/// The reasons that are reported of frames and of their LSAs. That a frame carries something other
+/// than IPv4, or a datagram something other than OSPF, is not reported.
 const REASONS: &[Odd] = &[
     Odd::OtherLink,
     Odd::Truncated,
@@ -66,7 +66,7 @@ fn number_of(odd: Odd) -> u8
     }
 }
 
-/// How often a reason is told, if it is.
+/// A reason with the number of its warnings, unless that is 0.
 fn counted(odd: &[Odd], reason: Odd) -> Option<Hole>
     ensures { result ≡ counted odd.now reason }
 {
@@ -79,7 +79,7 @@ fn counted(odd: &[Odd], reason: Odd) -> Option<Hole>
     }
 }
 
-/// What is odd of frames, each reason once.
+/// The warnings about frames, each reason once.
 fn frame_holes<A: Allocator + Copy>(alloc: A, odd: &[Odd]) -> Result<Vec<Hole, A>, AllocError>
     ensures { IfOk result (λ holes. holes.items ≡ frame_holes odd.now) }
 {
@@ -89,7 +89,7 @@ fn frame_holes<A: Allocator + Copy>(alloc: A, odd: &[Odd]) -> Result<Vec<Hole, A
         .collect(alloc)
 }
 
-/// What is missing at the end of a capture, behind other holes.
+/// Adds what is missing at the end of a capture.
 fn put_end<A: Allocator + Copy>(holes: &mut Vec<Hole, A>, end: End) -> Result<(), AllocError>
     ensures { OnOk result (holes.new.items ≡ holes.old.items ++ end_holes end) }
 {
@@ -99,7 +99,7 @@ fn put_end<A: Allocator + Copy>(holes: &mut Vec<Hole, A>, end: End) -> Result<()
     Ok(())
 }
 
-/// What is printed of an LSA that has a key.
+/// The finding of a printed LSA that has a key.
 fn keyed(text: TextHole) -> Option<Hole>
     ensures { result ≡ keyed text }
 {
@@ -110,7 +110,7 @@ fn keyed(text: TextHole) -> Option<Hole>
     }
 }
 
-/// Whether the fields of an LSA can not be read.
+/// Whether the fields of an LSA cannot be read.
 fn is_unreadable(text: TextHole) -> bool
     ensures { result ≡ is_unreadable text }
 {
@@ -120,7 +120,7 @@ fn is_unreadable(text: TextHole) -> bool
     }
 }
 
-/// How many LSAs can not be read, behind other holes.
+/// Adds the number of LSAs that cannot be read, unless it is 0.
 fn put_unread<A: Allocator + Copy>(
     holes: &mut Vec<Hole, A>,
     texts: &[TextHole],
@@ -134,7 +134,7 @@ fn put_unread<A: Allocator + Copy>(
     Ok(())
 }
 
-/// What is printed of LSAs that have a key.
+/// The findings of printed LSAs that have a key.
 fn keyed_holes<A: Allocator + Copy>(
     alloc: A,
     texts: &[TextHole],
@@ -144,7 +144,7 @@ fn keyed_holes<A: Allocator + Copy>(
     texts.iter().filter_map(|text| keyed(*text)).collect(alloc)
 }
 
-/// What is printed of LSAs and tells none: each that has a key, and how many have none.
+/// The findings of printed LSAs: each that has a key, and the number of those without one.
 fn text_holes<A: Allocator + Copy>(alloc: A, texts: &[TextHole]) -> Result<Vec<Hole, A>, AllocError>
     ensures { IfOk result (λ holes. holes.items ≡ text_holes texts.now) }
 {
@@ -153,7 +153,7 @@ fn text_holes<A: Allocator + Copy>(alloc: A, texts: &[TextHole]) -> Result<Vec<H
     Ok(holes)
 }
 
-/// What is odd of the frames of a capture, and what is missing at its end.
+/// The warnings about the frames of a capture, and what is missing at its end.
 fn capture_holes<A: Allocator + Copy>(
     alloc: A,
     odd: &[Odd],
@@ -166,14 +166,14 @@ fn capture_holes<A: Allocator + Copy>(
     Ok(holes)
 }
 
-/// What is missing in a walk, or can not be used of it.
+/// What is missing in a walk, or cannot be used.
 fn row_holes<A: Allocator + Copy>(alloc: A, rows: &[RowHole]) -> Result<Vec<Hole, A>, AllocError>
     ensures { IfOk result (λ holes. holes.items ≡ map Walk rows.now) }
 {
     rows.iter().map(|row| Hole::Walk(*row)).collect(alloc)
 }
 
-/// What can not be used of a file, or is missing in it.
+/// What cannot be used in a file, or is missing in it.
 fn oddity_holes<A: Allocator + Copy>(
     alloc: A,
     oddities: &Oddities<A>,
@@ -187,7 +187,7 @@ fn oddity_holes<A: Allocator + Copy>(
     }
 }
 
-/// The area, if it is told to be not-so-stubby.
+/// The area, if it is reported to be not-so-stubby.
 fn nssa_told(area: ToldArea) -> Option<AreaId>
     ensures { result ≡ nssa_told area }
 {
@@ -197,7 +197,7 @@ fn nssa_told(area: ToldArea) -> Option<AreaId>
     }
 }
 
-/// The areas that are told to be not-so-stubby, as often as they are.
+/// The areas that are reported to be not-so-stubby, one for each report.
 fn nssas_told<A: Allocator + Copy>(
     alloc: A,
     areas: &[ToldArea],
@@ -210,7 +210,7 @@ fn nssas_told<A: Allocator + Copy>(
         .collect(alloc)
 }
 
-/// A hole for each of these areas.
+/// A finding for each of these areas.
 fn nssas_in<A: Allocator + Copy>(
     alloc: A,
     ids: &BTreeSet<AreaId, A>,
@@ -230,12 +230,12 @@ fn nssa_holes<A: Allocator + Copy>(alloc: A, areas: &[ToldArea]) -> Result<Vec<H
     nssas_in(alloc, &ids)
 }
 
-/// What is to be told of a file besides what it gave: what is odd of its frames and how often, that
-/// it is cut, rows that tell nothing, printed LSAs that tell none, and not-so-stubby areas.
+/// The findings in a file: the warnings about its frames, with their numbers, that it is cut, rows
+/// without a usable LSA, printed LSAs that cannot be used, and not-so-stubby areas.
 ///
 /// # Errors
 ///
-/// A growth was refused.
+/// Memory ran out.
 pub fn holes_of<A: Allocator + Copy>(
     alloc: A,
     file: &FileTold<A>,

@@ -1,9 +1,9 @@
-//! What the files of a network gave, and what is missing in them or can not be used.
+//! What the files of a network contain, and what is missing in them or cannot be used.
 //!
-//! [`file_line`] tells of a file what it gave. [`holes_of`] answers what is to be told of it
-//! besides: each [`Hole`] says that the databases may lack an LSA, or are not to be trusted.
-//! [`contradictions`] answers the areas whose kinds the files tell in two ways, and
-//! [`areas_without_kind`] those areas of a database of which no file tells the kind.
+//! [`file_line`] reports what a file contains, and [`holes_of`] what is missing in it: each
+//! [`Hole`] says that the databases may lack an LSA, or are not to be trusted. [`contradictions`]
+//! answers the areas of which the files report two kinds, and [`areas_without_kind`] those areas of
+//! a database of which no file reports the kind.
 #![tactic(auto)]
 
 mod areas;

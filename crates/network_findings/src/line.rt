@@ -1,4 +1,4 @@
-//! What a file gave, as a line.
+//! What a file contains, as a line.
 
 ghost use Rattle.std.specs.Prelude.{◌≡◌, IfOk};
 ghost use Rattle.std.specs.String.{string_bytes};
@@ -20,7 +20,7 @@ fn kind_name<A: Allocator>(oddities: &Oddities<A>) -> &'static str
     }
 }
 
-/// The line of a file of this name and kind, with so many LSAs and areas.
+/// The line of a file of this name and kind, with these numbers of LSAs and areas.
 fn line_of<A: Allocator + Copy>(
     alloc: A,
     name: &str,
@@ -35,12 +35,13 @@ fn line_of<A: Allocator + Copy>(
     Ok(line)
 }
 
-/// The line of a file, its end included: its name, its kind, how many LSAs it tells, each as often
-/// as it does, and how many areas; as `r4-r5.pcap: capture, 180 LSAs, 1 areas`.
+/// The line of a file, its end included: its name, its kind, the number of its LSAs, where each
+/// repeat counts, and the number of its areas, where none does; as
+/// `r4-r5.pcap: capture, 180 LSAs, 1 areas`.
 ///
 /// # Errors
 ///
-/// A growth was refused.
+/// Memory ran out.
 pub fn file_line<A: Allocator + Copy>(
     alloc: A,
     name: &str,

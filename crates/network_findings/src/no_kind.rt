@@ -1,4 +1,4 @@
-//! Areas of which no file tells the kind.
+//! Areas of which no file reports the kind.
 
 ghost use Rattle.std.specs.Prelude.{◌≡◌, ◌&&◌, IfOk, filter, not};
 ghost use Rattle.std.specs.BTreeSet.{contains};
@@ -31,7 +31,7 @@ fn areas_in<A: Allocator + Copy>(
     Ok(ids)
 }
 
-/// The areas of which the files tell the kind, as often as they do.
+/// The areas whose kind the files report, one for each report.
 fn kind_areas<A: Allocator + Copy>(
     alloc: A,
     files: &[FileTold<A>],
@@ -42,7 +42,7 @@ fn kind_areas<A: Allocator + Copy>(
     areas_of_kinds(alloc, &areas)
 }
 
-/// The areas but for the backbone that are not among others, in the same order.
+/// The areas except the backbone that are not among others, in the same order.
 fn without<A: Allocator + Copy>(
     alloc: A,
     ids: &[AreaId],
@@ -57,13 +57,13 @@ fn without<A: Allocator + Copy>(
         .collect(alloc)
 }
 
-/// The areas of a database of which none of the files tells the kind, in rising order: where it is
-/// the one that they make, it has these as ordinary areas, though they may be stub areas. The
-/// backbone is not told: it is never a stub area (RFC 2328, 3.6).
+/// The areas of a database of which no file reports the kind, in rising order. The database that
+/// these files make has them as ordinary areas, though they may be stub areas. The backbone is not
+/// among them: it is never a stub area (RFC 2328, 3.6).
 ///
 /// # Errors
 ///
-/// A growth was refused.
+/// Memory ran out.
 pub fn areas_without_kind<A: Allocator + Copy>(
     alloc: A,
     database: &Database<A>,

@@ -1,4 +1,4 @@
-//! LSAs that are not told, and why.
+//! LSAs that are not used, and why.
 
 ghost use Rattle.std.specs.Prelude.{Some};
 ghost use Rattle.network_findings.specs.steps.Untold.{untold_text};
@@ -6,16 +6,16 @@ ghost use Rattle.network_findings.specs.steps.Untold.{untold_text};
 use lsa_codec::{AreaId, Key};
 use std::fmt;
 
-/// An LSA that is not told.
+/// An LSA that is not used.
 ///
 /// Its `Display` is a few words, as `Missing area 0.0.0.1 type 1 id 4.4.4.4 adv 4.4.4.4`.
 #[derive(Clone, Copy)]
 pub(crate) struct Untold<'a> {
-    /// Why it is not.
+    /// Why it is not used.
     pub(crate) why: &'a str,
     /// The area where it stands, if there is one.
     pub(crate) area: Option<AreaId>,
-    /// What names it there.
+    /// What identifies it there.
     pub(crate) key: Key,
 }
 

@@ -22,7 +22,7 @@ keep_rule = record (new_rule (codes "keep-flushed")) { long = Some (codes "keep-
 abbrev pub files_rule : Rule
 files_rule = record (new_rule (codes "files")) { action = Some Append; value_names = 1; required = true }
 
--- `--version` tells a version
+-- `--version` prints a version
 abbrev pub with_version : App → App
 with_version app = record app { top = record app.top { has_version = true } }
 

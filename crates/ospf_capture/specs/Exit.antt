@@ -20,7 +20,7 @@ use Rattle.streams.specs.declared.reading.ReadFault.TheVariants as reads
 
 -- ---- faults of a run
 
--- the place of the file that a fault tells of, and 0 where it tells of none
+-- the place of a fault's file, and 0 where the fault has no file
 abbrev pub index_of : RunFault → ℕ
 index_of (runs.Read index) = index
 index_of (runs.TooLarge index) = index
@@ -29,7 +29,7 @@ index_of (runs.Join fault) = 0
 index_of runs.Write = 0
 index_of runs.OutOfMemory = 0
 
--- a fault with the name of that file; the writer is memory, which fails for want of it alone
+-- a fault with the name of that file; the writer is memory, which fails only where memory runs out
 abbrev pub named : Bor (List ℕ) → RunFault → ExitFault
 named name (runs.Read index) = File name Read
 named name (runs.TooLarge index) = File name TooLarge
@@ -62,7 +62,7 @@ refusal_status files.NoDatabase = 3
 refusal_status files.UnknownKind = 3
 refusal_status files.OutOfMemory = 5
 
--- 3 where a file is refused, 4 where it can not be opened, read or written
+-- 3 where a file is refused, 4 where it cannot be opened, read or written
 abbrev pub file_status : FileEnd → ℕ
 file_status Open = 4
 file_status Read = 4
@@ -75,7 +75,7 @@ abbrev pub join_status : JoinFault → ℕ
 join_status joins.OutOfMemory = 5
 join_status _ = 3
 
--- 3 for what is refused, 4 for files and standard output, 5 for want of memory
+-- 3 for what is refused, 4 for files and standard output, 5 where memory ran out
 abbrev pub exit_status : ExitFault → ℕ
 exit_status (File name end) = file_status end
 exit_status (Join fault) = join_status fault
@@ -95,7 +95,7 @@ capture_name (captures.SectionVersion offset) = codes "SectionVersion"
 capture_name (captures.NoInterface offset) = codes "NoInterface"
 capture_name captures.OutOfMemory = codes "OutOfMemory"
 
--- the offset of what lies: the header begins at 0, its version stands at 4
+-- the offset of what is malformed, in bytes: the header begins at 0, and its version stands at 4
 abbrev pub capture_offset : CaptureFault → ℕ
 capture_offset captures.NotACapture = 0
 capture_offset captures.ShortHeader = 0
@@ -114,7 +114,7 @@ refusal_name files.NoDatabase = codes "NoDatabase"
 refusal_name files.UnknownKind = codes "UnknownKind"
 refusal_name files.OutOfMemory = codes "OutOfMemory"
 
--- the offset of what lies, where the fault tells of one
+-- the offset of what is malformed, where the fault has one
 abbrev pub refusal_offset : FileFault → Option ℕ
 refusal_offset (files.Capture fault) = Some (capture_offset fault)
 refusal_offset files.NotJson = None

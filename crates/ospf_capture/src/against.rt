@@ -1,4 +1,4 @@
-//! Lists of the LSAs of other routers, beside the dump.
+//! Lists of the LSAs of other routers, compared with the dump.
 
 use crate::fault::{ExitFault, unlisted, unread};
 use crate::files::open_file;
@@ -29,7 +29,7 @@ pub(crate) fn lists_of<'a>(
     Ok(lists)
 }
 
-/// The lines of what the lists have otherwise than a database.
+/// The lines of the differences between the lists and a database.
 pub(crate) fn against_lines<'a>(
     rt: &HostRuntime,
     names: &[&str],

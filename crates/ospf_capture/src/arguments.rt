@@ -1,4 +1,4 @@
-//! The arguments that the command line gives, or why it gives none.
+//! The arguments of the command line, or why there are none.
 
 ghost use Rattle.std.specs.Prelude.{◌≡◌};
 ghost use Rattle.ospf_capture.specs.declared.arguments.OptionsFault.TheVariants.{OutOfMemory};
@@ -18,7 +18,7 @@ pub(crate) struct Options<'a> {
     pub(crate) flushed: FlushedLsas,
     /// The lists of LSA headers that the dump is compared with.
     pub(crate) against: Vec<&'a str>,
-    /// The files that are read, one at least.
+    /// The files that are read, at least one.
     pub(crate) files: Vec<&'a str>,
 }
 
@@ -26,10 +26,10 @@ pub(crate) struct Options<'a> {
 #[derive(Debug, Drop)]
 pub(crate) enum OptionsFault {
     /// The words are refused, or ask for help or for the version. Its text goes where
-    /// `Error::print` puts it, and its status is `Error::exit_code`. It is never for want of
-    /// memory.
+    /// `Error::print` puts it, and its status is `Error::exit_code`. It never means that memory ran
+    /// out.
     Refused(Error),
-    /// A growth was refused.
+    /// Memory ran out.
     OutOfMemory,
 }
 

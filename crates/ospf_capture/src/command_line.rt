@@ -21,7 +21,7 @@ use std::alloc::{AllocError, Global};
 /// # Errors
 ///
 /// `Refused` for words that clap refuses, `--help` and `--version` among them, with clap's own
-/// error. `OutOfMemory` where a growth was refused.
+/// error. `OutOfMemory` where memory ran out.
 pub(crate) fn options<'a>(alloc: Global, words: &'a [String]) -> Result<Options<'a>, OptionsFault>
     ensures given { IfOk result (IsGiven (map string_bytes words.now)) }
     ensures accepted { OnOk result (fault_of ospf_capture (map string_bytes words.now) ≡ []) }
@@ -70,7 +70,7 @@ fn out_option<'a>(alloc: Global) -> Arg<'a>
         .action(ArgAction::Set)
 }
 
-/// The option `--against LIST`, as often as there are lists.
+/// The option `--against LIST`, once for each list.
 fn against_option<'a>(alloc: Global) -> Arg<'a>
     ensures rule { rule_of result ≡ against_rule }
     ensures local { result.global ≡ false }

@@ -100,7 +100,7 @@ fn refusal_name(fault: FileFault) -> &'static str
     }
 }
 
-/// The offset of what lies, where the fault tells of one. Those of documents in JSON do not.
+/// The offset of what is malformed, in bytes, where the fault has one. Documents in JSON have none.
 fn refusal_offset(fault: FileFault) -> Option<usize>
     ensures { result ≡ refusal_offset fault }
 {
@@ -111,7 +111,7 @@ fn refusal_offset(fault: FileFault) -> Option<usize>
     }
 }
 
-/// The words for the offset of what lies, if there is one.
+/// The words for the offset, if there is one.
 fn at_words<A: Allocator + Copy>(alloc: A, offset: Option<usize>) -> Result<String<A>, AllocError>
     ensures { IfOk result (λ words. string_bytes words ≡ at_text offset) }
 {
@@ -153,7 +153,7 @@ fn file_line<A: Allocator + Copy>(
     }
 }
 
-/// The line of what makes no database.
+/// The line where the files make no database.
 fn join_line(fault: JoinFault) -> &'static str
     ensures { result.now ≡ join_text fault }
 {
@@ -178,10 +178,10 @@ fn line_of<A: Allocator + Copy>(alloc: A, fault: ExitFault<'_>) -> Result<String
 }
 
 /// The exit status and the line for standard error, its line feed included: 3 where a file is
-/// refused or the files make no database, 4 where a file can not be opened, read or written, 5 for
-/// want of memory.
+/// refused or the files make no database, 4 where a file cannot be opened, read or written, 5 where
+/// memory ran out.
 ///
-/// An error is want of memory for the line; the status stands all the same.
+/// Where memory runs out for the line, the answer is an error; the status holds all the same.
 pub(crate) fn exit_line<A: Allocator + Copy>(
     alloc: A,
     fault: ExitFault<'_>,

@@ -13,17 +13,17 @@ use streams::ReadFault;
 /// What is wrong with a file.
 #[derive(Clone, Copy, Debug, PartialEq, Eq)]
 pub(crate) enum FileEnd {
-    /// It can not be opened.
+    /// It cannot be opened.
     Open,
-    /// It can not be read.
+    /// It cannot be read.
     Read,
-    /// It can not be written.
+    /// It cannot be written.
     Write,
-    /// It has too many octets.
+    /// It has too many bytes.
     TooLarge,
-    /// What lies in it is refused.
+    /// Its content is refused.
     Refused(FileFault),
-    /// It is to be a list of LSA headers, and is none.
+    /// It is meant to be a list of LSA headers, and is not one.
     NotAList,
 }
 
@@ -32,9 +32,9 @@ pub(crate) enum FileEnd {
 pub(crate) enum ExitFault<'a> {
     /// What is wrong with the file of this name.
     File(&'a str, FileEnd),
-    /// What all files tell makes no database.
+    /// The contents of all files make no database.
     Join(JoinFault),
-    /// Standard output takes no lines.
+    /// Standard output accepts no lines.
     Output,
     /// Memory ran out.
     Memory,
@@ -52,8 +52,8 @@ impl<'a, T: Drop> From<AllocFailed<T>> for ExitFault<'a> {
     }
 }
 
-/// The fault of a run, with the name of the file. The dump of a run goes to memory, so that its
-/// writer fails for want of that alone.
+/// The fault of a run, with the name of the file. The dump of a run goes to memory, so its writer
+/// fails only where memory runs out.
 pub(crate) fn named(name: &str, fault: RunFault) -> ExitFault<'_>
     ensures { result ≡ named name.entry fault }
 {
@@ -66,7 +66,7 @@ pub(crate) fn named(name: &str, fault: RunFault) -> ExitFault<'_>
     }
 }
 
-/// Why a list can not be read, with its name.
+/// Why a list cannot be read, with its name.
 pub(crate) fn unread(name: &str, fault: ReadFault) -> ExitFault<'_>
     ensures { result ≡ unread name.entry fault }
 {
@@ -77,7 +77,7 @@ pub(crate) fn unread(name: &str, fault: ReadFault) -> ExitFault<'_>
     }
 }
 
-/// Why a text is no list, with its name.
+/// Why a text is not a list, with its name.
 pub(crate) fn unlisted(name: &str, fault: ListFault) -> ExitFault<'_>
     ensures { result ≡ unlisted name.entry fault }
 {
@@ -87,7 +87,7 @@ pub(crate) fn unlisted(name: &str, fault: ListFault) -> ExitFault<'_>
     }
 }
 
-/// The place of the file that the fault tells of, counted from 0, and 0 where it tells of none.
+/// The place of the fault's file, counted from 0; 0 where the fault has no file.
 pub(crate) fn index_of(fault: RunFault) -> usize
     ensures { result ≡ index_of fault }
 {

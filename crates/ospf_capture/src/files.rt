@@ -37,7 +37,7 @@ fn opened<'a>(rt: &HostRuntime, names: &[&'a str]) -> Result<Vec<Watched<File>>,
     Ok(files)
 }
 
-/// The fault of a run, with the name of the file that it tells of.
+/// The fault of a run, with the name of its file.
 fn told_of<'a>(names: &[&'a str], fault: RunFault) -> ExitFault<'a> {
     match names.get(index_of(fault)) {
         Some(name) => named(*name, fault),
@@ -45,7 +45,7 @@ fn told_of<'a>(names: &[&'a str], fault: RunFault) -> ExitFault<'a> {
     }
 }
 
-/// The lines of what each file gave.
+/// The lines of what each file contains.
 fn file_lines<'a>(
     rt: &HostRuntime,
     names: &[&str],
@@ -59,7 +59,7 @@ fn file_lines<'a>(
     Ok(lines)
 }
 
-/// Adds the lines of what is to be told of a file besides.
+/// Adds the lines of the findings in a file.
 fn put_holes<'a>(
     rt: &HostRuntime,
     lines: &mut String,
@@ -74,7 +74,7 @@ fn put_holes<'a>(
     Ok(())
 }
 
-/// The lines of what is to be told of each file besides.
+/// The lines of the findings in each file.
 fn file_hole_lines<'a>(
     rt: &HostRuntime,
     names: &[&str],
@@ -87,8 +87,8 @@ fn file_hole_lines<'a>(
     Ok(lines)
 }
 
-/// The lines of the areas whose kinds the files tell in two ways, and of those in the dump whose
-/// kinds they do not tell.
+/// The lines of the areas of which the files report two kinds, and of those in the dump whose kinds
+/// they do not report.
 fn area_lines<'a>(
     rt: &HostRuntime,
     told: &[FileTold],
@@ -101,7 +101,7 @@ fn area_lines<'a>(
     Ok(lines)
 }
 
-/// The lines of areas, behind what is told of them.
+/// The lines of areas, after what is found about them.
 fn lines_of_areas<'a>(
     rt: &HostRuntime,
     what: &str,
@@ -115,7 +115,7 @@ fn lines_of_areas<'a>(
     Ok(lines)
 }
 
-/// The lines of what is to be told of the files besides, and of what they tell together.
+/// The lines of the findings in each file, and in all of them together.
 fn hole_lines<'a>(
     rt: &HostRuntime,
     names: &[&str],
@@ -130,7 +130,7 @@ fn hole_lines<'a>(
 
 /// The database of the dump that all files make.
 fn database_of<'a>(rt: &HostRuntime, dump: &[u8]) -> Result<Database, ExitFault<'a>> {
-    // It is the dump of a joined database, so that memory alone can be wanting.
+    // It is the dump of a joined database, so only memory can be missing.
     Database::load(rt.alloc(), dump).map_err(|_| ExitFault::Memory)
 }
 
@@ -154,10 +154,10 @@ fn write_dump<'a>(rt: &HostRuntime, path: &'a str, dump: &[u8]) -> Result<(), Ex
     })
 }
 
-/// Reads the lists and the files, tells what each file gave and what is missing, and writes the
-/// dump to its file. The answer is whether nothing was missing.
+/// Reads the lists and the files, reports what each file contains and what is missing, and writes
+/// the dump to its file. The answer is whether nothing is missing.
 ///
-/// The dump is written only once all files are read and joined, and the lines are told.
+/// The dump is written only after all files are read and joined, and the lines are printed.
 pub(crate) fn make_dump<'a>(
     rt: &HostRuntime,
     options: &Options<'a>,
@@ -177,7 +177,7 @@ pub(crate) fn make_dump<'a>(
     io::writer(rt)
         .write_all(given.as_bytes())
         .map_err(|_| ExitFault::Output)?;
-    // Where standard error takes no line, the status alone tells.
+    // Where standard error accepts no line, the status alone reports it.
     let _ = rt.stderr().write_all(holes.as_bytes());
     let _ = rt.stderr().write_all(missing.as_bytes());
     if let Some(path) = options.out {

@@ -1,4 +1,4 @@
-//! What the database that all files make lacks, as far as its own LSAs tell.
+//! What the database that all files make lacks, as far as its own LSAs show.
 
 use crate::fault::ExitFault;
 use database_holes::holes_of;

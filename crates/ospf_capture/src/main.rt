@@ -1,8 +1,8 @@
-//! `ospf-capture`: a dump of a network's link state databases (RFC 2328), made from files that the
-//! network gives: packet captures, SNMP walks, and what its routers print.
+//! `ospf-capture`: a dump of a network's link state databases (RFC 2328), made from files that a
+//! network provides: packet captures, SNMP walks, and what its routers print.
 //!
 //! `run` of the crate `network_dump` is the whole run, over readers and a writer; `main` hands it
-//! the files that the command line names, tells what each gave, and writes the dump.
+//! the files that the command line names, reports what each contains, and writes the dump.
 #![tactic(auto)]
 
 mod against;
@@ -24,7 +24,7 @@ use std::io::{ErrorKind, Write};
 use std::process::ExitCode;
 use std::{env, io};
 
-/// The line where an argument is no text.
+/// The line where an argument is not UTF-8 text.
 const BAD_ARGUMENT: &[u8] = b"error: an argument is not UTF-8 text\n";
 
 fn main(rt: HostRuntime) -> ExitCode {
@@ -55,7 +55,7 @@ fn capture(rt: &HostRuntime, given: &Options<'_>) -> ExitCode {
 
 /// Shows the text of clap, and ends as it says.
 fn refuse(rt: &HostRuntime, error: &Error) -> ExitCode {
-    // Where the text can not be shown, the status alone tells.
+    // Where the text cannot be shown, the status alone reports it.
     let _ = error.print(rt);
     if error.use_stderr() {
         ExitCode::from(2)
@@ -64,12 +64,12 @@ fn refuse(rt: &HostRuntime, error: &Error) -> ExitCode {
     }
 }
 
-/// Ends where the words of the command line can not be had: there is no memory, or one is no text.
+/// Ends where the words of the command line are not available: memory ran out, or one is not text.
 fn end_without_words(rt: &HostRuntime, error: &io::Error) -> ExitCode {
     match error.kind() {
         ErrorKind::OutOfMemory => end(rt, ExitFault::Memory),
         _ => {
-            // Where standard error takes no line, the status alone tells.
+            // Where standard error accepts no line, the status alone reports it.
             let _ = rt.stderr().write_all(BAD_ARGUMENT);
             ExitCode::from(2)
         }
@@ -79,7 +79,8 @@ fn end_without_words(rt: &HostRuntime, error: &io::Error) -> ExitCode {
 /// Writes the line of a fault, and ends with its status.
 fn end(rt: &HostRuntime, fault: ExitFault<'_>) -> ExitCode {
     let (status, line) = exit_line(rt.alloc(), fault);
-    // Where there is no memory for the line, or standard error takes none, the status alone tells.
+    // Without memory for the line, or where standard error accepts none, the status alone reports
+    // it.
     if let Ok(line) = line {
         let _ = rt.stderr().write_all(line.as_bytes());
     }

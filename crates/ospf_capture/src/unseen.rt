@@ -1,4 +1,5 @@
-//! LSAs that headers name: those that no file shows, and those that the files show older.
+//! LSAs that headers name: those that no file shows, and those of which the files show older
+//! instances.
 
 ghost use Rattle.std.specs.Prelude.{IfOk};
 ghost use Rattle.std.specs.String.{string_bytes};

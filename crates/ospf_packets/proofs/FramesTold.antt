@@ -1,4 +1,4 @@
--- What frames tell, one after another.
+-- What frames contain, one after another.
 use Rattle.std.proofs.Common.{◌≡◌, ℕ, ◌+◌, ◌-◌, ◌<◌, ◌≤◌, List, ◌∷◌, ◌++◌, length, map, get_or, take, drop}
 use Rattle.std.proofs.Common.{refl, sym, ap, ◌∙◌, add-one, append_assoc}
 use Rattle.std.proofs.Math.Seq.{drop-cons}

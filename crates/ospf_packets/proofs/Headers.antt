@@ -1,4 +1,4 @@
--- LSA headers, one behind the other.
+-- LSA headers, one after another.
 use Rattle.std.proofs.Common.{◌≡◌, ℕ, ◌+◌, ◌-◌, ◌*◌, ◌/◌, ◌≤◌, List, [], ◌∷◌, ◌++◌, length, map, take, drop, sym, ap, ◌∙◌}
 use Rattle.std.proofs.Common.{append_assoc, arith}
 use Rattle.std.specs.List.{range_with_len}
@@ -10,7 +10,7 @@ use Rattle.ospf_packets.specs.declared.frame_told.FrameTold.TheVariants as tells
 use Rattle.ospf_packets.specs.Headers.{header_in, header_told, whole_headers}
 use Rattle.ospf_packets.proofs.Slices.{rest_at}
 
--- the headers before so many
+-- the first n headers
 abbrev pub first_headers : {A : Type 0} → AreaId → List ℕ → ℕ → List (FrameTold A)
 first_headers area octets n = map (header_told area octets) (range_with_len 0 n)
 

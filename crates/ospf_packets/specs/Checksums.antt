@@ -2,8 +2,8 @@
 use Rattle.std.specs.Prelude.{ℕ, ◌+◌, ◌*◌, ◌%◌, ◌==◌, ◌||◌, Bool, true, false, not, List, [], ◌∷◌, take, drop}
 use Rattle.lsa_codec.specs.Fields.{number_at}
 
--- the sum of the words of 16 bits, the highest octet first, from the high octet of a word on or from its low one; an odd
--- last octet is the high one of its word
+-- the sum of the words of 16 bits, the highest byte first, from the high byte of a word on or from its low one; an odd
+-- last byte is the high one of its word
 unfoldable pub words_from : Bool → List ℕ → ℕ
 words_from is_high [] = 0
 words_from true (octet ∷ octets) = 256 * octet + words_from false octets
@@ -19,8 +19,8 @@ authentication_type_of packet = number_at 2 14 packet
 abbrev pub has_checksum : List ℕ → Bool
 has_checksum packet = authentication_type_of packet == 0 || authentication_type_of packet == 1
 
--- the one's complement sum of all words, the checksum among them and the 8 octets of authentication left out, is ffff: as
--- a number, the sum is a multiple of ffff, which is not 0, since the packet begins with its version
+-- the one's complement sum of all words, with the checksum and without the 8 bytes of authentication, is ffff: as a
+-- number, the sum is a multiple of ffff, which is not 0, since the packet begins with its version
 abbrev pub is_checksum_good : List ℕ → Bool
 is_checksum_good packet =
     not (has_checksum packet) || (sum_of_words (take 16 packet) + sum_of_words (drop 24 packet)) % 65535 == 0

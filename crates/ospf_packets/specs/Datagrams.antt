@@ -6,9 +6,9 @@ use Rattle.ospf_packets.specs.declared.datagram.Datagram.{Datagram}
 use Rattle.ospf_packets.specs.declared.odd.Odd.{Odd}
 use Rattle.ospf_packets.specs.declared.odd.Odd.TheVariants.{NotIpv4, NotOspf, Truncated, BadLength}
 
--- a datagram, or a fragment of one, without where its octets lie in memory: what tells the datagrams of one sender
--- apart; how many octets of the payload stand before those of the fragment, and whether others stand behind them; the
--- octets of the payload that are at hand, and whether they are all that the fragment has
+-- a datagram, or a fragment of one, as values: what distinguishes the datagrams of one sender; the number of bytes of
+-- the payload before those of the fragment, and whether others follow them; the bytes of the payload that are at hand,
+-- and whether they are all that the fragment has
 pub record DatagramText : Type 0 where
   pub source : ℕ
   pub destination : ℕ
@@ -29,11 +29,11 @@ datagram_text datagram = record {
   payload = datagram.payload.now;
 }
 
--- the upper half of the first octet
+-- the upper half of the first byte
 abbrev pub version_of : List ℕ → ℕ
 version_of octets = octet_at 0 octets / 16
 
--- its lower half counts words of four octets
+-- its lower half counts words of four bytes
 abbrev pub header_length_of : List ℕ → ℕ
 header_length_of octets = octet_at 0 octets % 16 * 4
 
@@ -41,7 +41,7 @@ header_length_of octets = octet_at 0 octets % 16 * 4
 abbrev pub total_length_of : List ℕ → ℕ
 total_length_of octets = number_at 2 2 octets
 
--- three flags, of which the last is More Fragments, and the Fragment Offset, in units of eight octets
+-- three flags, of which the last is More Fragments, and the Fragment Offset, in units of eight bytes
 abbrev pub flags_and_offset_of : List ℕ → ℕ
 flags_and_offset_of octets = number_at 2 6 octets
 
@@ -56,15 +56,15 @@ datagram_in octets = record {
   payload = take (total_length_of octets - header_length_of octets) (drop (header_length_of octets) octets);
 }
 
--- the lengths are possible: the header has 20 octets or more and fits into the whole, and the whole is at hand, unless
+-- the lengths are possible: the header has 20 bytes or more and fits into the whole, and the whole is at hand, unless
 -- the frame was cut short
 abbrev pub has_lengths : Bool → List ℕ → Bool
 has_lengths is_cut octets =
     nat_le 20 (header_length_of octets) && nat_le (header_length_of octets) (total_length_of octets)
     && (is_cut || nat_le (total_length_of octets) (length octets))
 
--- the datagram in the octets that a frame carries: one of version 4 and of protocol 89. What stands behind it, as the
--- padding of a short frame, is no part
+-- the datagram in the bytes that a frame carries: one of version 4 and of protocol 89. What follows it, as the padding
+-- of a short frame, is no part of it
 abbrev pub ipv4_of : Bool → List ℕ → Result DatagramText Odd
 ipv4_of is_cut octets =
     if nat_lt (length octets) 20 then Err Truncated

@@ -1,5 +1,5 @@
--- The LSA headers of Database Description and Link State Acknowledgment packets (RFC 2328, A.3.3, A.3.6): they fill the
--- rest of the packet, one behind the other, each of 20 octets (A.4.1).
+-- The LSA headers of Database Description and Link State Acknowledgment packets (RFC 2328, A.3.3, A.3.6): they fill
+-- the rest of the packet, one after another, each of 20 bytes (A.4.1).
 use Rattle.std.specs.Prelude.{ℕ, ◌*◌, ◌/◌, ◌%◌, ◌==◌, Bool, nat_lt, if◌then◌else◌, List, [], ◌∷◌, ◌++◌, length, map, drop}
 use Rattle.std.specs.List.{range_with_len}
 use Rattle.lsa_codec.specs.declared.address.AreaId.{AreaId}
@@ -21,22 +21,22 @@ header_in area octets = record {
 }
 
 module _ {A : Type 0} where
-  -- the header behind so many others
+  -- the header after n others
   abbrev pub header_told : AreaId → List ℕ → ℕ → FrameTold A
   header_told area octets n = tells.Header (header_in area (drop (20 * n) octets))
 
-  -- as many as there is room for
+  -- all headers that are whole
   abbrev pub whole_headers : AreaId → List ℕ → List (FrameTold A)
   whole_headers area octets = map (header_told area octets) (range_with_len 0 (length octets / 20))
 
-  -- fewer octets than a header has are left
+  -- a warning where bytes are left over, fewer than a header has
   abbrev pub left_over : Bool → List ℕ → List (FrameTold A)
   left_over whole octets = if length octets % 20 == 0 then [] else tells.Odd (lack whole) ∷ []
 
   abbrev pub headers_told : Flooded → List ℕ → List (FrameTold A)
   headers_told by octets = whole_headers by.area octets ++ left_over by.whole octets
 
-  -- what a packet tells that has headers behind so many octets
+  -- what a packet contains whose headers stand after this number of bytes
   abbrev pub headers_behind : ℕ → Flooded → List ℕ → List (FrameTold A)
   headers_behind before by packet =
       if nat_lt (length packet) before then tells.Odd (lack by.whole) ∷ []

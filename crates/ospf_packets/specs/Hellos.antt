@@ -1,4 +1,4 @@
--- What the Options of Hello packets say of their area (RFC 2328, 9.5, A.2, A.3.2; RFC 3101, 2.1).
+-- What the Options of Hello packets say about their area (RFC 2328, 9.5, A.2, A.3.2; RFC 3101, 2.1).
 use Rattle.std.specs.Prelude.{ℕ, ◌==◌, not, if◌then◌else◌, List, bit_and}
 use Rattle.lsa_codec.specs.Fields.{octet_at}
 use Rattle.lsa_instances.specs.declared.area.AreaKind.{AreaKind}

@@ -13,20 +13,19 @@ is_tag kind = kind == 0x8100 || kind == 0x88a8 || kind == 0x9100
 abbrev pub untagged : ℕ → List ℕ → Result (List ℕ) Odd
 untagged kind octets = if kind == 0x0800 then Ok octets else Err NotIpv4
 
--- what stands behind an EtherType. Behind that of a tag stand two octets of the tag, and then the EtherType of what is
--- tagged
+-- what follows an EtherType. After that of a tag stand two bytes of the tag, and then the EtherType of what is tagged
 unfoldable pub behind_type : ℕ → List ℕ → Result (List ℕ) Odd
 behind_type kind (a ∷ b ∷ c ∷ d ∷ octets) =
     if is_tag kind then behind_type (number_at 2 2 (a ∷ b ∷ c ∷ d ∷ octets)) octets else untagged kind (a ∷ b ∷ c ∷ d ∷ octets)
 behind_type kind octets = if is_tag kind then Err Truncated else untagged kind octets
 
--- what stands behind a header of so many octets, which has the EtherType at an offset
+-- what follows a header of this size in bytes, which has the EtherType at an offset
 abbrev pub behind_header : ℕ → ℕ → List ℕ → Result (List ℕ) Odd
 behind_header size offset frame =
     if nat_lt (length frame) size then Err Truncated else behind_type (number_at 2 offset frame) (drop size frame)
 
 -- Ethernet has two addresses and the EtherType; Linux cooked captures have it at the end of their header, and those of
--- version 2 at its front; the last two have no header
+-- version 2 at its front; the last two link types have no header
 abbrev pub link_payload : LinkType → List ℕ → Result (List ℕ) Odd
 link_payload link frame =
     if link.0 == 1 then behind_header 14 12 frame

@@ -7,7 +7,7 @@ use Rattle.ospf_packets.specs.declared.odd.Odd.TheVariants.{Truncated, BadLength
 use Rattle.ospf_packets.specs.declared.packet.Packet.{Packet}
 use Rattle.ospf_packets.specs.Checksums.{is_checksum_good}
 
--- a packet without where its octets lie in memory: those that are at hand, and whether they are all of it
+-- a packet as values: the bytes that are at hand, and whether they are all of it
 pub record PacketText : Type 0 where
   pub whole : Bool
   pub octets : List ℕ
@@ -15,7 +15,7 @@ pub record PacketText : Type 0 where
 abbrev pub packet_text : Packet → PacketText
 packet_text packet = record { whole = packet.whole; octets = packet.octets.now }
 
--- why octets are lacking: of what is whole a length lies
+-- why bytes are missing: a wrong length, where the frame is whole, and else a cut
 abbrev pub lack : Bool → Odd
 lack whole = if whole then BadLength else Truncated
 
@@ -25,14 +25,14 @@ version_of packet = octet_at 0 packet
 abbrev pub type_of : List ℕ → ℕ
 type_of packet = octet_at 1 packet
 
--- header and body, without what stands behind them, as a digest (D.4.3)
+-- header and body, without what follows them, as a digest (D.4.3)
 abbrev pub packet_length_of : List ℕ → ℕ
 packet_length_of packet = number_at 2 2 packet
 
 abbrev pub area_id_of : List ℕ → ℕ
 area_id_of packet = number_at 4 8 packet
 
--- the length counts the header, and where the payload is whole no more than this has
+-- the length is at least that of the header, and, where the payload is whole, at most that of the payload
 abbrev pub has_length : Bool → List ℕ → Bool
 has_length whole payload =
     nat_le 24 (packet_length_of payload) && (not whole || nat_le (packet_length_of payload) (length payload))
@@ -43,11 +43,11 @@ packet_in payload = record {
   octets = take (packet_length_of payload) payload;
 }
 
--- of what was cut short the checksum is not known
+-- the checksum of a packet that was cut short cannot be computed
 abbrev pub summed : PacketText → Result PacketText Odd
 summed packet = if packet.whole && not (is_checksum_good packet.octets) then Err BadChecksum else Ok packet
 
--- the packet that a datagram has as its payload, all of it or what is at hand
+-- the packet that is the payload of a datagram: all of it, or what is at hand
 abbrev pub ospf_of : Bool → List ℕ → Result PacketText Odd
 ospf_of whole payload =
     if nat_lt (length payload) 24 then Err (lack whole)

@@ -1,4 +1,4 @@
--- What frames tell, sorted out.
+-- What frames contain, sorted by kind.
 use Rattle.std.specs.Prelude.{Option, Some, None}
 use Rattle.lsa_instances.specs.declared.header.Header.{Header}
 use Rattle.lsa_instances.specs.declared.sighting.Sighting.{Sighting}

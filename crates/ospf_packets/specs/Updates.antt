@@ -1,5 +1,5 @@
--- The LSAs of a Link State Update packet (RFC 2328, A.3.5): their number, and then one behind the other, each as long as
--- its length says.
+-- The LSAs of a Link State Update packet (RFC 2328, A.3.5): their number, and then the LSAs one after another, each as
+-- long as its length says.
 use Rattle.std.specs.Prelude.{ℕ, zero, suc, Bool, nat_lt, if◌then◌else◌, List, [], ◌∷◌, length, take}
 use Rattle.std.specs.Prelude.{drop, Result, Ok, Err}
 use Rattle.lsa_codec.specs.declared.fault.LsaFault.{LsaFault}
@@ -13,7 +13,7 @@ use Rattle.ospf_packets.specs.declared.frame_told.FrameTold.TheVariants as tells
 use Rattle.ospf_packets.specs.declared.update.Flooded.{Flooded}
 use Rattle.ospf_packets.specs.Packets.{lack}
 
--- how many octets the LSA at the front has: its header at least, and no more than are there
+-- the length in bytes of the LSA at the front: at least that of its header, and no more than are there
 abbrev pub lsa_length : Bool → List ℕ → Result ℕ Odd
 lsa_length whole octets =
     if nat_lt (length octets) 20 then Err (lack whole)
@@ -27,7 +27,7 @@ module _ {A : Type 0} where
   decoded_told by (Ok lsa) = tells.Lsa (record { scope = scope_in by.area (kind_of lsa); seen = by.seen; lsa = lsa })
   decoded_told by (Err fault) = tells.Odd (RefusedLsa fault)
 
-  -- an LSA, or why its octets are none
+  -- an LSA, or why its bytes are not one
   abbrev pub lsa_told : Flooded → List ℕ → FrameTold A
   lsa_told by octets = decoded_told by (decoded octets)
 
@@ -35,8 +35,7 @@ module _ {A : Type 0} where
   first_told by octets behind (Err odd) = tells.Odd odd ∷ []
   first_told by octets behind (Ok size) = lsa_told by (take size octets) ∷ behind (drop size octets)
 
-  -- the LSAs at the front, as many as there are to be. Where one of them has no possible length, nobody knows where the
-  -- others begin
+  -- n LSAs at the front. Where the length of one of them is impossible, it is not known where the others begin
   unfoldable pub lsas_told : Flooded → ℕ → List ℕ → List (FrameTold A)
   lsas_told by zero octets = []
   lsas_told by (suc n) octets = first_told by octets (λ rest. lsas_told by n rest) (lsa_length by.whole octets)

@@ -5,8 +5,8 @@ ghost use Rattle.ospf_packets.specs.Checksums.{sum_of_words, has_checksum, is_ch
 
 use crate::field::u16_at;
 
-/// The sum of the words of 16 bits, the highest octet first; an odd last octet is the high one of
-/// its word.
+/// The sum of the words of 16 bits, the highest byte first; an odd last byte is the high one of its
+/// word.
 #[tactic(auto, using(crate::proofs::Words::high_more, crate::proofs::Words::low_more, crate::proofs::Words::none_left))]
 fn sum_of_words(octets: &[u8]) -> u64
     requires { length octets.now < 2 ^ 16 }
@@ -23,7 +23,8 @@ fn sum_of_words(octets: &[u8]) -> u64
     sum
 }
 
-/// Whether the packet has a checksum: with no authentication, and with a simple password.
+/// Whether the packet has a checksum: with no authentication, and with a simple password (RFC 2328,
+/// D.4).
 fn has_checksum(packet: &[u8]) -> bool
     requires { 24 ≤ length packet.now }
     ensures { result ≡ has_checksum packet.now }
@@ -32,7 +33,7 @@ fn has_checksum(packet: &[u8]) -> bool
     kind == 0 || kind == 1
 }
 
-/// Whether the checksum of the packet is good, where it has one. It leaves out the 8 octets of
+/// Whether the checksum of the packet is good, where it has one. It leaves out the 8 bytes of
 /// authentication.
 pub(crate) fn is_checksum_good(packet: &[u8]) -> bool
     requires header { 24 ≤ length packet.now }

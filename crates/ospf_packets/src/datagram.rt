@@ -6,7 +6,7 @@ ghost use Rattle.ospf_packets.specs.Datagrams.{datagram_text, header_length_of, 
 use crate::field::{u16_at, u32_at};
 use crate::odd::Odd;
 
-/// How many octets the header of a datagram has at least.
+/// The length in bytes of the shortest header of a datagram.
 const SHORTEST_HEADER: usize = 20;
 
 /// The protocol number of OSPF.
@@ -21,17 +21,17 @@ pub(crate) struct Datagram<'a> {
     pub(crate) destination: u32,
     /// Identification: what the fragments of one datagram have in common.
     pub(crate) identification: u16,
-    /// How many octets of the payload stand before those of this fragment.
+    /// The number of bytes of the payload before those of this fragment.
     pub(crate) before: u32,
-    /// Whether fragments stand behind this one.
+    /// Whether fragments follow this one.
     pub(crate) more: bool,
-    /// Whether all octets of it are at hand.
+    /// Whether all bytes of it are at hand.
     pub(crate) whole: bool,
-    /// The octets of the payload that are at hand.
+    /// The bytes of the payload that are at hand.
     pub(crate) payload: &'a [u8],
 }
 
-/// How many octets the header has.
+/// The length in bytes of the header.
 fn header_length_of(octets: &[u8]) -> usize
     requires { 20 ≤ length octets.now }
     ensures { result ≡ header_length_of octets.now }
@@ -39,7 +39,7 @@ fn header_length_of(octets: &[u8]) -> usize
     usize::from(octets[0] % 16) * 4
 }
 
-/// How many octets header and payload have.
+/// The length in bytes of header and payload.
 fn total_length_of(octets: &[u8]) -> usize
     requires { 20 ≤ length octets.now }
     ensures { result ≡ total_length_of octets.now }
@@ -57,7 +57,7 @@ fn has_lengths(is_cut: bool, octets: &[u8]) -> bool
     SHORTEST_HEADER <= header && header <= total && (is_cut || total <= octets.len())
 }
 
-/// The datagram at the front of octets that have its header.
+/// The datagram at the front of bytes that have its header.
 fn datagram_in(octets: &[u8]) -> Datagram<'_>
     requires long { 20 ≤ length octets.now }
     requires header { header_length_of octets.now ≤ length octets.now }
@@ -78,7 +78,7 @@ fn datagram_in(octets: &[u8]) -> Datagram<'_>
     }
 }
 
-/// The OSPF datagram in the octets that a frame carries.
+/// The OSPF datagram in the bytes that a frame carries.
 pub(crate) fn ipv4_of(is_cut: bool, octets: &[u8]) -> Result<Datagram<'_>, Odd>
     ensures { MatchResult result
         (λ datagram. ipv4_of is_cut octets.now ≡ Ok (datagram_text datagram))

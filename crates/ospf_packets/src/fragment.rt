@@ -1,4 +1,4 @@
-//! Datagrams that are put together of their fragments (RFC 791, 3.2).
+//! Datagrams that are joined from their fragments (RFC 791, 3.2).
 
 ghost use Rattle.std.specs.Prelude.{◌≡◌, map, option_map, Ok, Err, MatchResult, IfOk};
 ghost use Rattle.capture_files.specs.CaptureTexts.{packet_of};
@@ -11,10 +11,10 @@ use crate::odd::Odd;
 use capture_files::Frame;
 use std::alloc::{AllocError, Allocator};
 
-/// How many frames away from a fragment the others of its datagram are looked for.
+/// The other fragments of a datagram are looked for within this number of frames.
 const MOST_APART: usize = 256;
 
-/// Whether fewer octets of the frame were captured than it had.
+/// Whether the capture has fewer bytes of the frame than it had.
 fn is_cut(frame: &Frame<'_>) -> bool
     ensures { result ≡ is_cut (packet_of frame.now) }
 {
@@ -38,14 +38,15 @@ fn is_same(a: Datagram<'_>, b: Datagram<'_>) -> bool
     a.source == b.source && a.destination == b.destination && a.identification == b.identification
 }
 
-/// Whether it is the fragment behind so many octets of the payload that the first begins.
+/// Whether the fragment continues the datagram of `first`, of which `size` bytes of payload are
+/// known.
 fn goes_on(first: Datagram<'_>, size: usize, fragment: Datagram<'_>) -> bool
     ensures { result ≡ goes_on (datagram_text first.entry) size (datagram_text fragment.entry) }
 {
     is_same(first, fragment) && fragment.before as usize == size && fragment.whole
 }
 
-/// Adds to the payload what a frame adds to it, and answers whether this is the end of it.
+/// Adds to the payload what a frame adds to it, and answers whether this is its end.
 fn add_fragment<A: Allocator + Copy>(
     payload: &mut Vec<u8, A>,
     first: Datagram<'_>,
@@ -68,7 +69,7 @@ fn add_fragment<A: Allocator + Copy>(
 }
 
 /// The payload of the datagram that a fragment begins, where the others stand in these frames, in
-/// their order.
+/// order.
 #[tactic(auto, using(crate::proofs::Joins::onward, crate::proofs::Joins::unended))]
 pub(crate) fn joined<A: Allocator + Copy>(
     alloc: A,
@@ -87,7 +88,7 @@ pub(crate) fn joined<A: Allocator + Copy>(
     Ok(None)
 }
 
-/// Whether the fragment in a frame is the one before.
+/// Whether the fragment in a frame is the one just before this one.
 fn leads_to(fragment: Datagram<'_>, frame: &Frame<'_>) -> bool
     ensures { result ≡ leads_to (datagram_text fragment.entry) (datagram_of (packet_of frame.now)) }
 {
@@ -101,7 +102,7 @@ fn leads_to(fragment: Datagram<'_>, frame: &Frame<'_>) -> bool
     }
 }
 
-/// Whether the fragment before this one stands in one of these frames.
+/// Whether the fragment just before this one stands in one of these frames.
 pub(crate) fn has_front(fragment: Datagram<'_>, frames: &[Frame<'_>]) -> bool
     ensures { result ≡ has_front (datagram_text fragment.entry) (map packet_of frames.now) }
 {
@@ -113,14 +114,14 @@ pub(crate) fn has_front(fragment: Datagram<'_>, frames: &[Frame<'_>]) -> bool
     false
 }
 
-/// The last frames, as many as fragments are looked for in.
+/// The last of the frames, those in which fragments are looked for.
 pub(crate) fn last_few<'b, 'a>(frames: &'b [Frame<'a>]) -> &'b [Frame<'a>]
     ensures { map packet_of result.now ≡ last_few (map packet_of frames.now) }
 {
     &frames[frames.len().saturating_sub(MOST_APART)..]
 }
 
-/// The first frames, as many as fragments are looked for in.
+/// The first of the frames, those in which fragments are looked for.
 pub(crate) fn first_few<'b, 'a>(frames: &'b [Frame<'a>]) -> &'b [Frame<'a>]
     ensures { map packet_of result.now ≡ first_few (map packet_of frames.now) }
 {

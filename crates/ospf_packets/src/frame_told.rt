@@ -1,4 +1,4 @@
-//! What a frame tells.
+//! What a frame contains.
 
 ghost use Rattle.std.specs.Prelude.{◌≡◌, ◌≤◌, ◌++◌, length, map, IfOk, OnOk};
 ghost use Rattle.capture_files.specs.CaptureTexts.{packet_of};
@@ -20,23 +20,23 @@ use lsa_codec::AreaId;
 use lsa_instances::{Header, Sighting, ToldArea};
 use std::alloc::{AllocError, Allocator};
 
-/// How many octets an update packet has before its LSAs.
+/// The number of bytes of an update packet before its LSAs.
 const UPDATE_HEADER: usize = 28;
 
-/// What a frame tells.
+/// What a frame contains, or a warning about it.
 #[derive(Debug, Drop)]
 pub(crate) enum FrameTold<A: Allocator> {
     /// An LSA.
     Lsa(Sighting<A>),
     /// The kind of an area.
     Kind(ToldArea),
-    /// The header of an LSA, which stands without its body.
+    /// The header of an LSA, without its body.
     Header(Header),
-    /// What is odd of it.
+    /// A warning: the frame, or a part of it, is not used.
     Odd(Odd),
 }
 
-/// What the packet says of all of its LSAs.
+/// What the packet says about all of its LSAs.
 fn flooded(seen: Option<u64>, packet: Packet<'_>) -> Flooded
     requires { 24 ≤ length packet.octets.now }
     ensures { result ≡ flooded seen (packet_text packet.entry) }
@@ -48,7 +48,7 @@ fn flooded(seen: Option<u64>, packet: Packet<'_>) -> Flooded
     }
 }
 
-/// Adds what a Hello packet tells.
+/// Adds what a Hello packet contains.
 fn tell_hello<A: Allocator + Copy>(
     told: &mut Vec<FrameTold<A>, A>,
     by: Flooded,
@@ -66,7 +66,7 @@ fn tell_hello<A: Allocator + Copy>(
     Ok(())
 }
 
-/// Adds what a Link State Update packet tells.
+/// Adds what a Link State Update packet contains.
 fn tell_update<A: Allocator + Copy>(
     alloc: A,
     told: &mut Vec<FrameTold<A>, A>,
@@ -83,7 +83,7 @@ fn tell_update<A: Allocator + Copy>(
     tell_lsas(alloc, told, by, count, &packet[UPDATE_HEADER..])
 }
 
-/// Adds what a packet of this type tells.
+/// Adds what a packet of this type contains.
 fn tell_by_type<A: Allocator + Copy>(
     alloc: A,
     told: &mut Vec<FrameTold<A>, A>,
@@ -106,7 +106,7 @@ fn tell_by_type<A: Allocator + Copy>(
     }
 }
 
-/// Adds what the packet tells that a datagram has as its payload, all of it or what is at hand.
+/// Adds what the packet contains that is the payload of a datagram: all of it, or what is at hand.
 fn tell_packet<A: Allocator + Copy>(
     alloc: A,
     told: &mut Vec<FrameTold<A>, A>,
@@ -129,8 +129,8 @@ fn tell_packet<A: Allocator + Copy>(
     }
 }
 
-/// Adds what the datagram tells that this fragment begins, where the others stand in frames
-/// behind it.
+/// Adds what the datagram contains that this fragment begins, where the other fragments stand in
+/// later frames.
 fn tell_joined<A: Allocator + Copy>(
     alloc: A,
     told: &mut Vec<FrameTold<A>, A>,
@@ -150,7 +150,8 @@ fn tell_joined<A: Allocator + Copy>(
     }
 }
 
-/// Adds what a fragment tells that does not begin its datagram.
+/// Adds a warning for a fragment that does not begin its datagram, unless the one just before it is
+/// there.
 fn tell_later<A: Allocator + Copy>(
     told: &mut Vec<FrameTold<A>, A>,
     fragment: Datagram<'_>,
@@ -165,7 +166,7 @@ fn tell_later<A: Allocator + Copy>(
     Ok(())
 }
 
-/// Adds what a frame tells between others.
+/// Adds what a frame contains, which stands between other frames.
 #[tactic(auto, unfolding(crate::specs::FramesTold::frame_told))]
 fn tell_frame<A: Allocator + Copy>(
     alloc: A,
@@ -194,7 +195,7 @@ fn tell_frame<A: Allocator + Copy>(
     }
 }
 
-/// What each frame tells, one after another.
+/// What each frame contains, one after another.
 #[tactic(auto, using(crate::proofs::FramesTold::told_next, crate::proofs::FramesTold::told_all))]
 pub(crate) fn tellings<A: Allocator + Copy>(
     alloc: A,

@@ -12,7 +12,7 @@ use lsa_codec::{Addr, AreaId, Key, RouterId};
 use lsa_instances::{Header, InstanceId, Place, Scope};
 use std::alloc::{AllocError, Allocator};
 
-/// How many octets a Database Description packet has before its LSA headers.
+/// The number of bytes of a Database Description packet before its LSA headers.
 pub(crate) const BEFORE_HEADERS: usize = 32;
 
 /// The LSA header at the front, of an LSA that is flooded in an area.
@@ -39,7 +39,7 @@ fn header_in(area: AreaId, octets: &[u8]) -> Header
     }
 }
 
-/// Adds the LSA headers that stand one behind the other, those that are whole.
+/// Adds the LSA headers that stand one after another, those that are whole.
 fn tell_whole_headers<A: Allocator + Copy>(
     told: &mut Vec<FrameTold<A>, A>,
     area: AreaId,
@@ -54,7 +54,7 @@ fn tell_whole_headers<A: Allocator + Copy>(
     Ok(())
 }
 
-/// Adds what octets tell that are to be filled by LSA headers.
+/// Adds the LSA headers that fill these bytes, and a warning where bytes are left over.
 fn tell_headers<A: Allocator + Copy>(
     told: &mut Vec<FrameTold<A>, A>,
     by: Flooded,
@@ -69,7 +69,7 @@ fn tell_headers<A: Allocator + Copy>(
     Ok(())
 }
 
-/// Adds what a packet tells that has LSA headers behind so many octets.
+/// Adds what a packet contains whose LSA headers stand after this number of bytes.
 pub(crate) fn tell_headers_behind<A: Allocator + Copy>(
     told: &mut Vec<FrameTold<A>, A>,
     by: Flooded,

@@ -1,17 +1,17 @@
-//! What Hello packets tell of their area (RFC 2328, 9.5, A.2 and A.3.2).
+//! What Hello packets report about their area (RFC 2328, 9.5, A.2 and A.3.2).
 
 ghost use Rattle.std.specs.Prelude.{◌≡◌};
 ghost use Rattle.ospf_packets.specs.Hellos.{kind_by_options};
 
 use lsa_instances::AreaKind;
 
-/// Where the Options of a Hello packet stand.
+/// The offset in bytes of the Options of a Hello packet.
 pub(crate) const OPTIONS: usize = 30;
 
-/// How many octets a Hello packet has at least.
+/// The length in bytes of the shortest Hello packet.
 pub(crate) const SHORTEST_HELLO: usize = 44;
 
-/// The kind of area that these Options tell.
+/// The kind of area that these Options report (RFC 2328, A.2; RFC 3101, 2.1).
 pub(crate) fn kind_by_options(options: u8) -> AreaKind
     ensures { result ≡ kind_by_options options }
 {

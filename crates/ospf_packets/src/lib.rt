@@ -1,10 +1,11 @@
-//! What captured frames tell of link state databases: the LSAs of OSPF version 2 packets
-//! (RFC 2328, A.3).
+//! What captured frames contain of link state databases: the LSAs of OSPF version 2 packets (RFC
+//! 2328, A.3).
 //!
 //! A frame is read layer by layer: what it carries by its link type, an IPv4 datagram (RFC 791), an
 //! OSPF packet, and the LSAs of a Link State Update packet or the LSA headers of a Database
-//! Description or Link State Acknowledgment packet. Datagrams are put together of their fragments.
-//! [`read_frames`] answers what the frames of a capture tell, and what is odd of them.
+//! Description or Link State Acknowledgment packet. Datagrams are joined from their fragments.
+//! [`read_frames`] answers what the frames of a capture contain, with warnings about what it cannot
+//! use.
 #![tactic(auto)]
 
 mod checksum;

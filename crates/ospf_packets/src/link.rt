@@ -17,7 +17,7 @@ fn is_tag(kind: u16) -> bool
     kind == 0x8100 || kind == 0x88a8 || kind == 0x9100
 }
 
-/// What stands behind an EtherType that is none of a tag.
+/// What follows an EtherType that is not one of a tag.
 fn untagged(kind: u16, octets: &[u8]) -> Result<&[u8], Odd>
     ensures { MatchResult result
         (λ payload. untagged kind octets.now ≡ Ok payload.now)
@@ -30,7 +30,7 @@ fn untagged(kind: u16, octets: &[u8]) -> Result<&[u8], Odd>
     }
 }
 
-/// What stands behind an EtherType, and behind all tags.
+/// What follows an EtherType and all tags.
 #[tactic(auto, using(crate::proofs::Tags::tagged, crate::proofs::Tags::cut_tag, crate::proofs::Tags::no_tag))]
 fn behind_type(kind: u16, octets: &[u8]) -> Result<&[u8], Odd>
     ensures { MatchResult result
@@ -49,7 +49,7 @@ fn behind_type(kind: u16, octets: &[u8]) -> Result<&[u8], Odd>
     untagged(kind, rest)
 }
 
-/// What stands behind a header of so many octets, which has the EtherType at an offset.
+/// What follows a header of `size` bytes, which has the EtherType at an offset.
 fn behind_header(size: usize, offset: usize, frame: &[u8]) -> Result<&[u8], Odd>
     requires { offset + 2 ≤ size }
     ensures { MatchResult result

@@ -7,19 +7,19 @@ use crate::checksum::is_checksum_good;
 use crate::field::u16_at;
 use crate::odd::Odd;
 
-/// How many octets the header of a packet has.
+/// The length in bytes of the header of a packet.
 pub(crate) const PACKET_HEADER: usize = 24;
 
 /// A packet of version 2.
 #[derive(Clone, Copy, Debug)]
 pub(crate) struct Packet<'a> {
-    /// Whether all octets of it are at hand.
+    /// Whether all bytes of it are at hand.
     pub(crate) whole: bool,
-    /// The octets that are at hand, its header among them.
+    /// The bytes that are at hand, its header among them.
     pub(crate) octets: &'a [u8],
 }
 
-/// Why octets are lacking: of what is whole a length lies.
+/// Why bytes are missing: a wrong length, where the frame is whole, and else a cut.
 pub(crate) fn lack(whole: bool) -> Odd
     ensures { result ≡ lack whole }
 {
@@ -30,7 +30,7 @@ pub(crate) fn lack(whole: bool) -> Odd
     }
 }
 
-/// How many octets the packet has.
+/// The length of the packet in bytes.
 fn packet_length_of(payload: &[u8]) -> usize
     requires { 24 ≤ length payload.now }
     ensures same { result ≡ packet_length_of payload.now }
@@ -48,7 +48,7 @@ fn has_length(whole: bool, payload: &[u8]) -> bool
     PACKET_HEADER <= length && (!whole || length <= payload.len())
 }
 
-/// The packet at the front of octets.
+/// The packet at the front of these bytes.
 fn packet_in(payload: &[u8]) -> Packet<'_>
     requires long { 24 ≤ length payload.now }
     requires header { 24 ≤ packet_length_of payload.now }
@@ -63,7 +63,7 @@ fn packet_in(payload: &[u8]) -> Packet<'_>
     }
 }
 
-/// The packet, where its checksum is not known to be wrong.
+/// The packet, unless its checksum is known to be wrong.
 fn summed(packet: Packet<'_>) -> Result<Packet<'_>, Odd>
     requires long { 24 ≤ length packet.octets.now }
     requires short { length packet.octets.now < 2 ^ 16 }
@@ -78,7 +78,7 @@ fn summed(packet: Packet<'_>) -> Result<Packet<'_>, Odd>
     Ok(packet)
 }
 
-/// The packet that a datagram has as its payload, all of it or what is at hand.
+/// The packet that is the payload of a datagram: all of it, or what is at hand.
 pub(crate) fn ospf_of(whole: bool, payload: &[u8]) -> Result<Packet<'_>, Odd>
     ensures packet { MatchResult result
         (λ packet. ospf_of whole payload.now ≡ Ok (packet_text packet))

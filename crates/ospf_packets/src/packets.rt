@@ -1,4 +1,4 @@
-//! What the frames of a capture tell.
+//! What the frames of a capture contain.
 
 ghost use Rattle.std.specs.Prelude.{◌≡◌, IfOk, map};
 ghost use Rattle.std.specs.List.{filter_map};
@@ -12,20 +12,20 @@ use capture_files::Frame;
 use lsa_instances::{Header, Sighting, ToldArea};
 use std::alloc::{AllocError, Allocator, Global};
 
-/// What frames tell, in their order.
+/// What frames contain, in their order.
 #[derive(Debug, Drop)]
 pub struct Packets<A: Allocator = Global> {
-    /// The LSAs of Link State Update packets, octet for octet.
+    /// The LSAs of Link State Update packets, byte for byte.
     pub sightings: Vec<Sighting<A>, A>,
     /// The kinds of areas, one for each Hello packet.
     pub kinds: Vec<ToldArea, A>,
     /// The LSA headers of Database Description and Link State Acknowledgment packets.
     pub headers: Vec<Header, A>,
-    /// What is odd: at most one for each frame, and one for each LSA that is refused.
+    /// Warnings: at most one for each frame, and one for each LSA that is refused.
     pub odd: Vec<Odd, A>,
 }
 
-/// The LSA that is told.
+/// The LSA, if it is one.
 fn sighting_of<A: Allocator + Copy>(told: FrameTold<A>) -> Option<Sighting<A>>
     ensures { result ≡ sighting_of told }
 {
@@ -35,7 +35,7 @@ fn sighting_of<A: Allocator + Copy>(told: FrameTold<A>) -> Option<Sighting<A>>
     }
 }
 
-/// The kind of an area that is told.
+/// The kind of an area, if it is one.
 fn kind_of<A: Allocator + Copy>(told: &FrameTold<A>) -> Option<ToldArea>
     ensures { result ≡ kind_of told.now }
 {
@@ -45,7 +45,7 @@ fn kind_of<A: Allocator + Copy>(told: &FrameTold<A>) -> Option<ToldArea>
     }
 }
 
-/// The header that is told.
+/// The LSA header, if it is one.
 fn header_of<A: Allocator + Copy>(told: &FrameTold<A>) -> Option<Header>
     ensures { result ≡ header_of told.now }
 {
@@ -55,7 +55,7 @@ fn header_of<A: Allocator + Copy>(told: &FrameTold<A>) -> Option<Header>
     }
 }
 
-/// What is odd.
+/// The warning, if it is one.
 fn odd_of<A: Allocator + Copy>(told: &FrameTold<A>) -> Option<Odd>
     ensures { result ≡ odd_of told.now }
 {
@@ -87,7 +87,7 @@ fn headers_of<A: Allocator + Copy>(
         .collect(alloc)
 }
 
-/// All that is odd.
+/// All warnings.
 fn odds_of<A: Allocator + Copy>(alloc: A, told: &[FrameTold<A>]) -> Result<Vec<Odd, A>, AllocError>
     ensures { IfOk result (λ odd. odd.items ≡ filter_map odd_of told.now) }
 {

@@ -11,21 +11,21 @@ use lsa_codec::{AreaId, Lsa, LsaFault};
 use lsa_instances::{Scope, Sighting};
 use std::alloc::{AllocError, Allocator};
 
-/// How many octets the header of an LSA has.
+/// The length in bytes of the header of an LSA.
 pub(crate) const LSA_HEADER: usize = 20;
 
-/// What a packet says of all of its LSAs.
+/// What a packet says about all of its LSAs.
 #[derive(Clone, Copy, Debug)]
 pub(crate) struct Flooded {
     /// The area in which it was sent.
     pub(crate) area: AreaId,
-    /// When it was seen, in nanoseconds since 1970; `None` where the file does not tell.
+    /// When it was seen, in nanoseconds since 1970; `None` where the file does not say.
     pub(crate) seen: Option<u64>,
-    /// Whether all octets of it are at hand.
+    /// Whether all bytes of it are at hand.
     pub(crate) whole: bool,
 }
 
-/// How many octets the LSA at the front has.
+/// The length in bytes of the LSA at the front.
 fn lsa_length(whole: bool, octets: &[u8]) -> Result<usize, Odd>
     ensures same { result ≡ lsa_length whole octets.now }
     ensures within { IfOk result (λ size. size ≤ length octets.now) }
@@ -43,7 +43,7 @@ fn lsa_length(whole: bool, octets: &[u8]) -> Result<usize, Odd>
     Ok(size)
 }
 
-/// An LSA, or why its octets are none.
+/// An LSA, or why its bytes are not one.
 fn lsa_told<A: Allocator + Copy>(
     alloc: A,
     by: Flooded,
@@ -62,7 +62,7 @@ fn lsa_told<A: Allocator + Copy>(
     }
 }
 
-/// Adds so many LSAs at the front of the octets.
+/// Adds the LSAs at the front of the bytes, as the count of the packet says.
 #[tactic(auto, using(crate::proofs::Lsas::one_more, crate::proofs::Lsas::stopped, crate::proofs::Lsas::all_told))]
 pub(crate) fn tell_lsas<A: Allocator + Copy>(
     alloc: A,

@@ -19,7 +19,7 @@ use Rattle.printed_databases.specs.Printing.{printed_hex, printed_octet, label_w
 use Rattle.printed_databases.proofs.PrintedNumbers.{number_again, hex_again, marked_again, octet_again, address_again}
 use Rattle.printed_databases.proofs.PrintedLabels.{label_again, word_again, value_again}
 
--- ---- texts one behind another
+-- ---- texts one after another
 
 pub behind_three : (a b c rest : List Word) → a ++ b ++ c ++ rest ≡ a ++ (b ++ (c ++ rest))
 behind_three a b c rest = append_assoc (a ++ b) c rest ∙ append_assoc a b (c ++ rest)
@@ -127,7 +127,7 @@ flags_again flags ls_type rest h =
 abbrev name_of : LsType → ℕ → Name
 name_of ls_type id = record { ls_type = ls_type; id = record { 0 = id } }
 
--- up to what is printed behind the Link State ID
+-- up to what is printed after the Link State ID
 up_to_id : (ls_type : LsType) (id : ℕ) (rest : List Word) → id < 2 ^ 32
     → name_as ls_type (label_words (type_label ls_type) ++ (said label.Id (address_text id) ++ rest))
     ≡ (behind_label (id_label ls_type) rest >>= (λ rest. Some (name_of ls_type id, rest)))
@@ -182,7 +182,7 @@ router_no_network_number : (text : List Word) → behind_label label.SummaryNetw
 unfolding behind_label behind_words words text_of
 router_no_network_number text = refl
 
--- the type 4 is printed as the type 3 up to what stands behind the Link State ID
+-- the type 4 is printed as the type 3 up to what follows the Link State ID
 asbr_no_summary : (id : ℕ) (rest : List Word) → id < 2 ^ 32 → name_as types.Summary (name_before types.AsbrSummary id rest) ≡ None
 asbr_no_summary id rest h =
     up_to_id types.Summary id (label_words label.BoundaryRouter ++ rest) h

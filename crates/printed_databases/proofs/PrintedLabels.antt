@@ -1,4 +1,4 @@
--- What is printed behind a label is read behind it.
+-- What is printed after a label is read after it.
 use Rattle.std.proofs.Common.{◌≡◌, ℕ, true, eqb, List, [], ◌∷◌, ◌++◌, append_assoc, Option, Some, None, refl, ap, ◌∙◌}
 use Rattle.std.specs.Prelude.{bytes_eq}
 use Rattle.std.proofs.lemmas.Bool.{and_from, eq-eqb, cond-true}

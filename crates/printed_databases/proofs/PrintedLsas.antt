@@ -1,4 +1,4 @@
--- An LSA that is printed is told.
+-- An LSA that is printed is read again.
 use Rattle.std.proofs.Common.{◌≡◌, ℕ, List, [], ◌∷◌, ◌++◌, append_assoc, Option, Some, ap, ◌∙◌}
 use Rattle.std.specs.Prelude.{Result, Ok, decimal}
 use Rattle.lsa_codec.specs.declared.address.AreaId.{AreaId}
@@ -18,7 +18,7 @@ use Rattle.printed_databases.proofs.PrintedLabels.{label_again}
 use Rattle.printed_databases.proofs.PrintedFields.{behind_four, behind_five, header_again}
 use Rattle.printed_databases.proofs.PrintedBodies.{body_again}
 
--- what is printed behind the label of the age
+-- what is printed after the label of the age
 abbrev pub behind_age : Beside → Header → List Word → List Word
 behind_age beside header rest =
     (decimal header.age_and_options.age ∷ []) ++ (said label.Options (printed_octet header.age_and_options.options)

@@ -72,7 +72,7 @@ behind_digit : (max n d : ℕ) (rest : List ℕ) → d < 16 → hex_behind max n
 unfolding hex_behind
 behind_digit max n d rest h = ap (λ x. x >>= (λ digit. hex_behind max (16 * n + digit) rest)) (digit_again d h)
 
--- the digits of a number are read behind none
+-- the digits of a number are read after none
 behind_hex : (count max n : ℕ) (rest : List ℕ) → n < 16 ^ count → hex_behind max 0 (printed_hex count n ++ rest) ≡ hex_behind max n rest
 behind_hex zero max n rest h = let e : n ≡ 0 = omega arith in rw e refl
 behind_hex (suc count) max n rest h =

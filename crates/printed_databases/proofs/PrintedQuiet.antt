@@ -1,4 +1,4 @@
--- Words at which neither an LSA nor a heading begins, whatever stands behind them.
+-- Words at which neither an LSA nor a heading begins, whatever follows them.
 use Rattle.std.proofs.Common.{◌≡◌, ◌≢◌, ℕ, zero, suc, ◌+◌, ◌/◌, ◌%◌, ◌^◌, ◌<◌, ◌≤◌, Bool, true, false, eqb, ltb, cond, List, [], ◌∷◌, ◌++◌, length}
 use Rattle.std.proofs.Common.{append_assoc, Option, Some, None, refl, sym, ap, subst, ◌∙◌, arith, inl, inr}
 use Rattle.std.specs.Prelude.{decimal, codes, bytes_eq, not, ◌&&◌, ◌||◌}
@@ -71,7 +71,7 @@ module _ {A : Type 0} where
   nothing area word text h k =
       no_heading area word text h ∙ ap (λ (told : List (PartTold A)). told ++ told_in area text) (no_lsas area (word ∷ text) k)
 
--- ---- words at which nothing begins, whatever stands behind them
+-- ---- words at which nothing begins, whatever follows them
 
 abbrev pub may_follow : List Word → Bool
 may_follow [] = false
@@ -132,7 +132,7 @@ plain_word word h =
     plain word (differs (bytes_eq word (codes "(Area")) (word ≡ codes "(Area") (bytes_eq-Decides word (codes "(Area")) h.no_area)
     (differs (bytes_eq word (codes "LS")) (word ≡ codes "LS") (bytes_eq-Decides word (codes "LS")) h.no_lsa)
 
--- the first octet is neither a parenthesis (40) nor an L (76)
+-- the first byte is neither a parenthesis (40) nor an L (76)
 pub record Starts (word : Word) : Type 0 where
   pub octet : ℕ
   pub behind : Word

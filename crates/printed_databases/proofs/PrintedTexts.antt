@@ -1,4 +1,4 @@
--- What is printed behind the label of the age tells nothing more: neither an LSA nor a heading begins there.
+-- What is printed after the label of the age adds nothing more: neither an LSA nor a heading begins there.
 use Rattle.std.proofs.Common.{◌≡◌, ℕ, ◌/◌, ◌%◌, ◌^◌, ◌<◌, Bool, true, false, eqb, ltb, cond, List, [], ◌∷◌, ◌++◌, length}
 use Rattle.std.proofs.Common.{append_assoc, Option, Some, None, refl, sym, ap, ◌∙◌, arith}
 use Rattle.std.specs.Prelude.{decimal, codes, All, Ok}
@@ -236,7 +236,7 @@ begins_ls beside header body rest =
     ∙ ap (λ (front : List Word). front ++ behind_age beside header (body_words body ++ rest)) age_label
 
 module _ {A : Type 0} where
-  -- nothing more is told up to what stands behind the LSA
+  -- nothing more is added up to what follows the LSA
   quiet_behind : (area : Option AreaId) (beside : Beside) (header : Header) (body : Body) (rest : List Word) → ArePlain beside
       → HeaderFits header → BodyFits header body
       → told_in {A = A} area (behind_age beside header (body_words body ++ rest)) ≡ told_in area rest

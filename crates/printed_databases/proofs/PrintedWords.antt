@@ -46,7 +46,7 @@ split_twice p (x ∷ xs) y ys h =
     ap (λ (parts : List Word). cond (p x) ([] ∷ parts) (onto_first x parts)) (split_twice p xs y ys h)
     ∙ one_more (p x) x (slice_split p xs) (slice_split p ys) (omega (arith, length-slice_split p xs))
 
--- a blank stands between the words before it and those behind it
+-- a blank stands between the words before it and those after it
 pub words_beside : (front text : List ℕ) (blank : ℕ) → is_blank blank ≡ true → words (front ++ blank ∷ text) ≡ words front ++ words text
 unfolding words
 words_beside front text blank h =

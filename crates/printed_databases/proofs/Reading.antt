@@ -34,7 +34,7 @@ module _ {X Y : Type 0} (rule : X → Rule Y) where
   first_missed xs i text le = ap (λ (ys : List X). first_of_all rule ys text) (drop_all i xs le)
 
 module _ {X : Type 0} (rule : Rule X) (octets_of : X → List ℕ) where
-  -- so many are read here, and stand behind these octets
+  -- n of them are read here, and stand after these bytes
   abbrev pub with_times : List ℕ → ℕ → List Word → Option (List ℕ)
   with_times octets n text = option_map (λ xs. octets ++ flat_map octets_of xs) (times rule n text)
 

@@ -1,4 +1,4 @@
--- The first part of a text that is split, and so many parts.
+-- The first part of a text that is split, and a number of parts.
 use Rattle.std.proofs.Common.{◌≡◌, ℕ, ◌+◌, ◌<◌, Bool, List, [], ◌∷◌, length, take, drop, Some, None, inl, inr, ◌-◌, refl, ◌∙◌, subst, arith}
 use Rattle.std.specs.List.{slice_split, position, position_or_len}
 use Rattle.std.proofs.lemmas.Bool.{cases_lt, cond-true, cond-false, lt-ltb, le-ltb}
@@ -32,7 +32,7 @@ cut_some p xs i h =
 pub drop_one : (i : ℕ) (xs : List ℕ) → take (length (drop i xs) - 1) (drop 1 (drop i xs)) ≡ drop (i + 1) xs
 drop_one i xs = take_all _ (drop 1 (drop i xs)) (omega (arith, length-drop 1 (drop i xs))) ∙ drop-drop 1 i xs
 
--- ---- so many parts
+-- ---- a number of parts
 
 pub four_parts_more : (p : ℕ → Bool) (xs a b c d : List ℕ) → four_parts (a ∷ b ∷ c ∷ d ∷ slice_split p xs) ≡ None
 four_parts_more p xs a b c d = at_more (slice_split p xs) (omega (arith, length-slice_split p xs)) where

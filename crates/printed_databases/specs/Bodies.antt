@@ -1,4 +1,4 @@
--- What stands behind an LSA's header (RFC 2328, A.4.2 to A.4.5) in the words that FRR prints of it, and its octets.
+-- What follows an LSA's header (RFC 2328, A.4.2 to A.4.5) in the words that FRR prints of it, and its bytes.
 use Rattle.std.specs.Prelude.{ℕ, ◌-◌, ◌/◌, option_map, Bool, true, false, if◌then◌else◌, List, [], ◌∷◌, ◌++◌, drop, Option, Some, None}
 use Rattle.std.specs.Int.{w16, w32, to_be_bytes}
 use Rattle.std.specs.List.{flat_map}
@@ -68,7 +68,7 @@ abbrev pub link_octets : Link → List ℕ
 link_octets link =
     to_be_bytes w32 link.id ++ to_be_bytes w32 link.link_data ++ link_code link.link_type ∷ 0 ∷ to_be_bytes w16 link.metric
 
--- the bits V, E and B, an octet 0, the number of links, and so many links
+-- the bits V, E and B, a byte 0, the number of links, and the links
 unfoldable pub router_in : Option ℕ → List Word → Option (List ℕ)
 router_in flags text = do
   bits ← flags
@@ -80,7 +80,7 @@ router_in flags text = do
 abbrev pub attached_in : Rule ℕ
 attached_in text = value_behind address_of label.Attached text
 
--- the mask, and as many attached routers as an LSA of this length has: 4 octets for each, behind the header and the mask
+-- the mask, and the attached routers that an LSA of this length has: 4 bytes for each, after the header and the mask
 unfoldable pub network_in : ℕ → List Word → Option (List ℕ)
 network_in size text = do
   len ← value_behind mask_length label.Mask text
@@ -96,7 +96,7 @@ summary_in text = do
   metric ← value_behind (number_up_to ls_infinity) label.Metric len.1
   Some (record { len = len.0; metric = metric.0 })
 
--- the mask, and the metric of 24 bits behind an octet 0; there are no metrics for other TOS
+-- the mask, and the metric of 24 bits after a byte 0; there are no metrics for other TOS
 abbrev pub summary_octets : Summary → List ℕ
 summary_octets summary = to_be_bytes w32 (mask_of_len summary.len) ++ to_be_bytes w32 summary.metric
 
@@ -124,8 +124,8 @@ external_in text = do
   tag ← value_behind (number_up_to 0xffffffff) label.Tag forward.1
   Some (record { len = len.0; is_type2 = is_type2.0; metric = metric.0; forward = forward.0; tag = tag.0 })
 
--- the mask, the bit E before seven bits 0, the metric of 24 bits, the forwarding address and the tag; there are no metrics
--- for other TOS
+-- the mask, the bit E before seven bits 0, the metric of 24 bits, the forwarding address and the tag; there are no
+-- metrics for other TOS
 abbrev pub external_octets : External → List ℕ
 external_octets external =
     to_be_bytes w32 (mask_of_len external.len) ++ (if external.is_type2 then 128 else 0) ∷ drop 1 (to_be_bytes w32 external.metric)
@@ -140,6 +140,6 @@ body_as types.Summary flags size text = option_map summary_octets (summary_in te
 body_as types.AsbrSummary flags size text = option_map summary_octets (summary_in text)
 body_as types.External flags size text = option_map external_octets (external_in text)
 
--- the octets behind this header, whose words stand here
+-- the bytes after this header, whose words stand here
 abbrev pub body_in : Header → List Word → Option (List ℕ)
 body_in header text = body_as header.name.ls_type header.flags header.checksum_and_length.size text

@@ -15,7 +15,7 @@ use Rattle.printed_databases.specs.Rules.{◌>>=◌, Rule, first_of_all}
 use Rattle.printed_databases.specs.Numbers.{number_up_to, hex_up_to, marked_up_to, address_of}
 use Rattle.printed_databases.specs.Labels.{behind_label, word_behind, value_behind}
 
--- LS age and options. Behind the number of the options stand a colon, their letters, and the LS flags, which are the
+-- LS age and options. After the number of the options stand a colon, their letters, and the LS flags, which are the
 -- router's own and no part of the LSA
 unfoldable pub age_and_options_in : Rule AgeAndOptions
 age_and_options_in text = do
@@ -29,11 +29,11 @@ abbrev pub rest_or : List Word → Option (List Word) → List Word
 rest_or text None = text
 rest_or text (Some rest) = rest
 
--- the words behind a label, where it stands, else all
+-- the words after a label, where it stands, else all
 unfoldable pub past : Label → List Word → List Word
 past label text = rest_or text (behind_label label text)
 
--- the words behind the names of the bits V, E and B, each of which is printed where the bit is 1
+-- the words after the names of the bits V, E and B, each of which is printed where the bit is 1
 unfoldable pub past_names : List Word → List Word
 past_names text = past label.ShortcutBit (past label.VirtualBit (past label.ExternalBit (past label.BoundaryBit (past label.Letters text))))
 
@@ -41,7 +41,7 @@ abbrev pub flags_or : List Word → Option (ℕ × List Word) → Option ℕ × 
 flags_or text None = (None, text)
 flags_or text (Some flags) = (Some flags.0, past_names flags.1)
 
--- the octet of the bits V, E and B, which is printed of router-LSAs alone
+-- the byte of the bits V, E and B, which is printed only for router-LSAs
 unfoldable pub flags_in : List Word → Option ℕ × List Word
 flags_in text = flags_or text (value_behind (marked_up_to 0xff) label.Flags text)
 
@@ -56,7 +56,7 @@ type_label types.Summary = label.SummaryLsa
 type_label types.AsbrSummary = label.SummaryLsa
 type_label types.External = label.ExternalLsa
 
--- what is printed behind the Link State ID; it alone tells the types 3 and 4 apart
+-- what is printed after the Link State ID; only this distinguishes the types 3 and 4
 abbrev pub id_label : LsType → Label
 id_label types.Router = label.Nothing
 id_label types.Network = label.DesignatedRouter

@@ -16,11 +16,11 @@ abbrev pub first_part : List Word → Word
 first_part [] = []
 first_part (part ∷ parts) = part
 
--- the area that the word behind `(Area` names: the address before the closing parenthesis (41), if there is one
+-- the area that the word after `(Area` names: the address before the closing parenthesis (41), if there is one
 abbrev pub area_of : Word → Option AreaId
 area_of word = option_map (λ address. record { 0 = address }) (address_of (first_part (slice_split (λ b. b == 41) word)))
 
--- the kind of the area, by the mark behind it
+-- the kind of the area, by the mark after it
 abbrev pub kind_in : List Word → AreaKind
 kind_in text =
     if is_some (behind_label label.Stub text) then kinds.Stub else
@@ -37,7 +37,7 @@ abbrev pub area_named : Option AreaId → Option (Word × List Word) → Option 
 area_named area None = area
 area_named area (Some found) = area_of found.0
 
--- the area that a heading here begins, else the area that was begun before
+-- the area that a heading here begins, else the area of the last heading before
 unfoldable pub area_at : Option AreaId → List Word → Option AreaId
 area_at area text = area_named area (word_behind label.Area text)
 

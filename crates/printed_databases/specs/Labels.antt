@@ -1,4 +1,4 @@
--- Labels, as FRR prints them, and the values that stand behind them.
+-- Labels, as FRR prints them, and the values that follow them.
 use Rattle.std.specs.Prelude.{ℕ, ◌∷◌, [], List, codes, bytes_eq, Option, Some, None, if◌then◌else◌}
 use Rattle.printed_databases.specs.declared.label.Label.{Label}
 use Rattle.printed_databases.specs.declared.label.Label.TheVariants as label
@@ -52,26 +52,26 @@ text_of label.Area = codes "(Area"
 text_of label.Stub = codes "[Stub])"
 text_of label.Nssa = codes "[NSSA])"
 
--- the words behind these, where the text begins with these
+-- the words after these, where the text begins with these
 unfoldable pub behind_words : List Word → List Word → Option (List Word)
 behind_words [] text = Some text
 behind_words (wanted ∷ front) [] = None
 behind_words (wanted ∷ front) (word ∷ text) = if bytes_eq word wanted then behind_words front text else None
 
--- the words behind a label, where the text begins with it
+-- the words after a label, where the text begins with it
 unfoldable pub behind_label : Label → List Word → Option (List Word)
 behind_label label text = behind_words (words (text_of label)) text
 
--- the first word, and those behind it
+-- the first word, and those after it
 abbrev pub first_word : List Word → Option (Word × List Word)
 first_word [] = None
 first_word (word ∷ text) = Some (word, text)
 
--- the word behind a label, and the words behind that
+-- the word after a label, and the words after that
 unfoldable pub word_behind : Label → List Word → Option (Word × List Word)
 word_behind label text = behind_label label text >>= first_word
 
--- a value that a word says by this rule, behind a label
+-- a value that a word has by this rule, after a label
 unfoldable pub value_behind : (Word → Option ℕ) → Label → List Word → Option (ℕ × List Word)
 value_behind rule label text = do
   found ← word_behind label text

@@ -1,4 +1,4 @@
--- The octets that the printed fields of a header make (RFC 2328, A.4.1).
+-- The bytes that the printed fields of a header make (RFC 2328, A.4.1).
 use Rattle.std.specs.Prelude.{ℕ, List, ◌∷◌, ◌++◌}
 use Rattle.std.specs.Int.{w16, w32, to_be_bytes}
 use Rattle.lsa_codec.specs.LsTypes.{router_lsa, network_lsa, summary_lsa, asbr_summary_lsa, external_lsa}

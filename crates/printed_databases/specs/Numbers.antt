@@ -6,7 +6,7 @@ use Rattle.std.specs.Str.{all_ascii_digits}
 use Rattle.printed_databases.specs.Words.{Word}
 use Rattle.printed_databases.specs.Rules.{◌>>=◌}
 
--- the value of decimal digits that stand behind the number n
+-- the value of decimal digits that follow the number n
 abbrev pub digits_after : ℕ → List ℕ → ℕ
 digits_after n [] = n
 digits_after n (digit ∷ digits) = digits_after (10 * n + (digit - 48)) digits
@@ -30,7 +30,7 @@ hex_digit octet =
     else if nat_le 97 octet && nat_le octet 102 then Some (octet - 87)
     else None
 
--- the value of hexadecimal digits that stand behind the number n, where it is at most max
+-- the value of hexadecimal digits that follow the number n, where it is at most max
 unfoldable pub hex_behind : ℕ → ℕ → List ℕ → Option ℕ
 hex_behind max n [] = if nat_le n max then Some n else None
 hex_behind max n (octet ∷ octets) = hex_digit octet >>= (λ digit. hex_behind max (16 * n + digit) octets)
@@ -39,12 +39,12 @@ hex_behind max n (octet ∷ octets) = hex_digit octet >>= (λ digit. hex_behind 
 unfoldable pub hex_up_to : ℕ → Word → Option ℕ
 hex_up_to max word = if nat_lt 0 (length word) then hex_behind max 0 word else None
 
--- the number that a word spells in hexadecimal behind `0x` (48 and 120)
+-- the number that a word spells in hexadecimal after `0x` (48 and 120)
 unfoldable pub marked_up_to : ℕ → Word → Option ℕ
 marked_up_to max (first ∷ second ∷ digits) = if first == 48 && second == 120 then hex_up_to max digits else None
 marked_up_to max _ = None
 
--- the length of a mask, behind a slash (47)
+-- the length of a mask, after a slash (47)
 unfoldable pub mask_length : Word → Option ℕ
 mask_length [] = None
 mask_length (slash ∷ digits) = if slash == 47 then number_up_to 32 digits else None
@@ -53,7 +53,7 @@ abbrev pub four_parts : List Word → Option (Word × Word × Word × Word)
 four_parts (a ∷ b ∷ c ∷ d ∷ []) = Some (a, b, c, d)
 four_parts _ = None
 
--- four numbers to 255, the octets of an address, the highest first
+-- four numbers up to 255, the bytes of an address, the highest first
 unfoldable pub address_of_parts : List Word → Option ℕ
 address_of_parts parts = do
   part ← four_parts parts

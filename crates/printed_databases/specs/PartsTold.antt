@@ -1,4 +1,4 @@
--- What the words tell that a router prints of its databases.
+-- What the words contain that a router prints of its databases.
 use Rattle.std.specs.Prelude.{ℕ, List, [], ◌∷◌, ◌++◌, Option, Some, None, Result, Ok, Err}
 use Rattle.lsa_codec.specs.declared.address.AreaId.{AreaId}
 use Rattle.lsa_codec.specs.declared.fault.LsaFault.{LsaFault}
@@ -19,7 +19,7 @@ use Rattle.printed_databases.specs.Fields.{header_in}
 use Rattle.printed_databases.specs.Bodies.{body_in}
 use Rattle.printed_databases.specs.Making.{type_code, header_octets}
 
--- what names an LSA with this header
+-- the key of an LSA with this header
 abbrev pub key_of : Header → Key
 key_of header = record { kind = type_code header.name.ls_type; id = header.name.id; adv = header.origination.adv }
 
@@ -32,7 +32,7 @@ module _ {A : Type 0} where
   decoded_told area key (Err fault) = tells.Hole (holes.Refused key fault)
   decoded_told area key (Ok lsa) = in_scope key lsa (scope_told key.kind area)
 
-  -- the octets that the fields make are an accepted LSA, with the checksum and the length that were printed
+  -- the bytes that the fields make are an accepted LSA, with the checksum and the length that were printed
   abbrev pub made_told : Option AreaId → Header → Option (List ℕ) → PartTold A
   made_told area header None = tells.Hole holes.Unreadable
   made_told area header (Some body) = decoded_told area (key_of header) (decoded (header_octets header ++ body))
@@ -53,14 +53,14 @@ module _ {A : Type 0} where
   lsa_from area text None = []
   lsa_from area text (Some rest) = header_told area (header_in text) ∷ []
 
-  -- what the LSA tells that begins here, if one does
+  -- the LSA that begins here, or why it cannot be used, if one does
   unfoldable pub lsas_at : Option AreaId → List Word → List (PartTold A)
   lsas_at area text = lsa_from area text (behind_label label.Age text)
 
   abbrev pub told_at : Option AreaId → List Word → List (PartTold A)
   told_at area text = kinds_at text ++ lsas_at area text
 
-  -- what is told from here on, in the area that was begun before
+  -- what follows from here on, in the area of the last heading before
   unfoldable pub told_in : Option AreaId → List Word → List (PartTold A)
   told_in area [] = []
   told_in area (word ∷ text) = told_at (area_at area (word ∷ text)) (word ∷ text) ++ told_in (area_at area (word ∷ text)) text

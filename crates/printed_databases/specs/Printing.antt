@@ -14,7 +14,7 @@ use Rattle.printed_databases.specs.Fields.{type_label, id_label}
 
 -- ---- one word
 
--- some octets, and no blank among them
+-- at least one byte, and no blank among them
 pub record IsWord (word : Word) : Type 0 where
   pub some : 0 < length word
   pub no_blank : All (λ octet. is_blank octet ≡ false) word
@@ -23,12 +23,12 @@ pub record IsWord (word : Word) : Type 0 where
 abbrev pub printed_digit : ℕ → ℕ
 printed_digit digit = if nat_lt digit 10 then 48 + digit else 87 + digit
 
--- the last so many hexadecimal digits of a number, zeros before it where it is shorter
+-- the last hexadecimal digits of a number, of this count, with zeros before it where it is shorter
 abbrev pub printed_hex : ℕ → ℕ → Word
 printed_hex zero n = []
 printed_hex (suc count) n = printed_hex count (n / 16) ++ printed_digit (n % 16) ∷ []
 
--- an octet in hexadecimal, behind `0x` (48 and 120), without a zero before it
+-- a byte in hexadecimal, after `0x` (48 and 120), without a zero before it
 abbrev pub printed_octet : ℕ → Word
 printed_octet n = 48 ∷ 120 ∷ (if nat_lt n 16 then printed_hex 1 n else printed_hex 2 n)
 
@@ -36,7 +36,7 @@ printed_octet n = 48 ∷ 120 ∷ (if nat_lt n 16 then printed_hex 1 n else print
 abbrev pub printed_mask : ℕ → Word
 printed_mask len = 47 ∷ decimal len
 
--- ---- labels, and what is said behind them
+-- ---- labels, and what is printed after them
 
 abbrev pub label_words : Label → List Word
 label_words label = words (text_of label)
@@ -70,7 +70,7 @@ names_of_bits flags =
     bit_words flags 1 label.BoundaryBit ++ bit_words flags 2 label.ExternalBit
     ++ bit_words flags 4 label.VirtualBit ++ bit_words flags 16 label.ShortcutBit
 
--- the octet of the bits V, E and B (A.4.2), and behind a colon their names, where one is 1
+-- the byte of the bits V, E and B (A.4.2), and after a colon their names, where one is 1
 abbrev pub flags_words : Option ℕ → List Word
 flags_words None = []
 flags_words (Some flags) =

@@ -1,4 +1,4 @@
--- How an FRR router prints what stands behind the header of an LSA (RFC 2328, A.4.2 to A.4.5), as words.
+-- How an FRR router prints what follows the header of an LSA (RFC 2328, A.4.2 to A.4.5), as words.
 use Rattle.std.specs.Prelude.{◌≡◌, ◌⊎◌, ℕ, ◌+◌, ◌*◌, ◌^◌, ◌<◌, ◌≤◌, Bool, All, List, ◌∷◌, ◌++◌, length, Some, if◌then◌else◌, decimal}
 use Rattle.std.specs.Int.{w16, w32, to_be_bytes}
 use Rattle.std.specs.List.{flat_map}
@@ -22,7 +22,7 @@ link_words link =
     label_words (link_label link.link_type) ++ said (link_id_label link.link_type) (address_text link.id)
     ++ said (data_label link.link_type) (address_text link.link_data) ++ said label.LinkMetric (decimal link.metric)
 
--- how many links there are, and each
+-- the number of links, and each
 abbrev pub router_words : List Link → List Word
 router_words links = said label.LinkCount (decimal (length links)) ++ flat_map link_words links
 
@@ -53,7 +53,8 @@ external_words external =
 
 -- ---- of any type
 
--- the octet of the bits V, E and B and the links; the length of the mask and the attached routers; a summary of either type
+-- the byte of the bits V, E and B and the links; the length of the mask and the attached routers; a summary of either
+-- type
 pub data Body : Type 0 where
   of_router : ℕ → List Link → Body
   of_network : ℕ → List ℕ → Body
@@ -83,7 +84,7 @@ pub record LinkFits (link : Link) : Type 0 where
   pub link_data : link.link_data < 2 ^ 32
   pub metric : link.metric < 2 ^ 16
 
--- the header says the bits V, E and B
+-- the header has these bits V, E and B
 pub record RouterFits (header : Header) (flags : ℕ) (links : List Link) : Type 0 where
   pub ls_type : header.name.ls_type ≡ types.Router
   pub bits : header.flags ≡ Some flags

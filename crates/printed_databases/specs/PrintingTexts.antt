@@ -1,4 +1,4 @@
--- How an FRR router prints headings and LSAs one behind another, as words.
+-- How an FRR router prints headings and LSAs one after another, as words.
 use Rattle.std.specs.Prelude.{◌≢◌, List, [], ◌∷◌, ◌++◌, codes}
 use Rattle.lsa_codec.specs.Spelling.{address_text}
 use Rattle.lsa_instances.specs.declared.area.AreaKind.{AreaKind}

@@ -1,4 +1,4 @@
--- Rules: each reads something from the front of a text, and answers the words behind it.
+-- Rules: each reads something from the front of a text, and answers the words after it.
 use Rattle.std.specs.Prelude.{ℕ, zero, suc, List, [], ◌∷◌, Option, Some, None}
 use Rattle.printed_databases.specs.Words.{Word}
 

@@ -1,4 +1,4 @@
--- What a router prints tells, sorted out.
+-- What a router's print contains, sorted by kind.
 use Rattle.std.specs.Prelude.{Option, Some, None}
 use Rattle.lsa_instances.specs.declared.sighting.Sighting.{Sighting}
 use Rattle.printed_databases.specs.declared.hole.Hole.{Hole}

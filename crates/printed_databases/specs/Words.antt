@@ -12,6 +12,6 @@ is_blank octet = octet == 0x20 || octet == 0x09 || octet == 0x0a || octet == 0x0
 abbrev pub is_nonempty : Word → Bool
 is_nonempty word = nat_lt 0 (length word)
 
--- the words of a text, from left to right: its longest runs of octets that are no blanks
+-- the words of a text, from left to right: its longest runs of bytes that are not blanks
 unfoldable pub words : List ℕ → List Word
 words text = filter is_nonempty (slice_split is_blank text)

@@ -1,4 +1,4 @@
-//! What stands behind the header of an LSA, of whatever type.
+//! What follows the header of an LSA, of whatever type.
 
 ghost use Rattle.std.specs.Prelude.{◌≡◌, IfOk, option_map};
 ghost use Rattle.printed_databases.specs.Words.{words};
@@ -12,7 +12,7 @@ use crate::router::router_in;
 use crate::summary::{summary_in, summary_octets};
 use std::alloc::{AllocError, Allocator};
 
-/// The octets behind the header of a summary-LSA.
+/// The bytes after the header of a summary-LSA.
 fn summary_body<A: Allocator + Copy>(
     alloc: A,
     text: &[u8],
@@ -26,7 +26,7 @@ fn summary_body<A: Allocator + Copy>(
     }
 }
 
-/// The octets behind the header of an AS-external-LSA.
+/// The bytes after the header of an AS-external-LSA.
 fn external_body<A: Allocator + Copy>(
     alloc: A,
     text: &[u8],
@@ -40,7 +40,7 @@ fn external_body<A: Allocator + Copy>(
     }
 }
 
-/// The octets behind this header, whose words stand here.
+/// The bytes after this header, whose words stand here.
 pub(crate) fn body_in<A: Allocator + Copy>(
     alloc: A,
     header: Header,

@@ -1,4 +1,4 @@
-//! The body of an AS-external-LSA (RFC 2328, A.4.5) as it is printed, and its octets.
+//! The body of an AS-external-LSA (RFC 2328, A.4.5) as it is printed, and its bytes.
 
 ghost use Rattle.std.specs.Prelude.{◌≡◌, ◌≤◌, ◌<◌, ◌^◌, IfSome, option_map};
 ghost use Rattle.printed_databases.specs.Words.{words};
@@ -7,7 +7,7 @@ ghost use Rattle.printed_databases.specs.Bodies.{metric_type_in, external_in, ex
 use crate::label::{Label, address_behind, behind_label, mask_behind, number_behind};
 use lsa_codec::{LS_INFINITY, mask_of_len};
 
-/// What an AS-external-LSA has behind its header.
+/// What an AS-external-LSA has after its header.
 #[derive(Clone, Copy)]
 pub struct External {
     /// The length of the network mask, at most 32.
@@ -22,7 +22,7 @@ pub struct External {
     pub tag: u32,
 }
 
-/// Whether the metric is of type 2, and what stands behind its type.
+/// Whether the metric is of type 2, and what follows its type.
 fn metric_type_in(text: &[u8]) -> Option<(bool, &[u8])>
     ensures { option_map (λ found. (found.0, words found.1.now)) result
         ≡ metric_type_in (words text.now) }
@@ -36,7 +36,7 @@ fn metric_type_in(text: &[u8]) -> Option<(bool, &[u8])>
     }
 }
 
-/// The fields behind the header.
+/// The fields after the header.
 #[tactic(auto, unfolding(crate::specs::Bodies::external_in))]
 pub(crate) fn external_in(text: &[u8]) -> Option<External>
     ensures value { result ≡ external_in (words text.now) }
@@ -57,7 +57,7 @@ pub(crate) fn external_in(text: &[u8]) -> Option<External>
     })
 }
 
-/// Their octets: the mask, the bit E and the metric, the forwarding address and the tag.
+/// Their bytes: the mask, the bit E and the metric, the forwarding address and the tag.
 pub fn external_octets(external: External) -> [u8; 16]
     requires { external.len ≤ 32 }
     ensures { result ≡ external_octets external }

@@ -1,5 +1,5 @@
-//! The fields of LSAs, in whatever form a router prints them, and the octets that they make
-//! (RFC 2328, A.4).
+//! The fields of LSAs, in whatever form a router prints them, and the bytes that they make (RFC
+//! 2328, A.4).
 
 pub use crate::external::{External, external_octets};
 pub use crate::header::{

@@ -1,4 +1,4 @@
-//! The header of an LSA (RFC 2328, A.4.1) as it is printed, and its octets.
+//! The header of an LSA (RFC 2328, A.4.1) as it is printed, and its bytes.
 
 ghost use Rattle.std.specs.Prelude.{◌≡◌, option_map};
 ghost use Rattle.printed_databases.specs.Words.{words};
@@ -12,7 +12,7 @@ use crate::label::{
 use crate::ls_type::LsType;
 use lsa_codec::{Addr, LONGEST_LSA, RouterId};
 
-/// How old the LSA is, and what its originator can do.
+/// The age of the LSA, and what its originator can do.
 #[derive(Clone, Copy)]
 pub struct AgeAndOptions {
     /// LS age, in seconds.
@@ -21,7 +21,7 @@ pub struct AgeAndOptions {
     pub options: u8,
 }
 
-/// What names the LSA among those of its Advertising Router.
+/// What identifies the LSA among those of its Advertising Router.
 #[derive(Clone, Copy)]
 pub struct Name {
     /// LS type.
@@ -39,12 +39,12 @@ pub struct Origination {
     pub sequence: u32,
 }
 
-/// What the octets of the LSA are tested by.
+/// What the bytes of the LSA are tested against.
 #[derive(Clone, Copy)]
 pub struct ChecksumAndLength {
     /// LS checksum.
     pub checksum: u16,
-    /// Length, in octets.
+    /// Length, in bytes.
     pub size: u16,
 }
 
@@ -53,7 +53,7 @@ pub struct ChecksumAndLength {
 pub struct Header {
     /// LS age and options.
     pub age_and_options: AgeAndOptions,
-    /// The octet of the bits V, E and B, which is printed of router-LSAs alone, among the fields of
+    /// The byte of the bits V, E and B, which is printed only for router-LSAs, among the fields of
     /// the header.
     pub flags: Option<u8>,
     /// LS type and Link State ID.
@@ -73,7 +73,7 @@ const LS_TYPES: &[LsType] = &[
     LsType::External,
 ];
 
-/// LS age and options, and what stands behind the LS flags.
+/// LS age and options, and what follows the LS flags.
 #[tactic(auto, unfolding(crate::specs::Fields::age_and_options_in))]
 fn age_and_options_in(text: &[u8]) -> Option<(AgeAndOptions, &[u8])>
     ensures { option_map (λ found. (found.0, words found.1.now)) result
@@ -90,7 +90,7 @@ fn age_and_options_in(text: &[u8]) -> Option<(AgeAndOptions, &[u8])>
     Some((age_and_options, rest))
 }
 
-/// What stands behind the names of the bits V, E and B.
+/// What follows the names of the bits V, E and B.
 #[tactic(auto, unfolding(crate::specs::Fields::past_names))]
 fn past_names(text: &[u8]) -> &[u8]
     ensures { words result.now ≡ past_names (words text.now) }
@@ -102,7 +102,7 @@ fn past_names(text: &[u8]) -> &[u8]
     past(Label::ShortcutBit, rest)
 }
 
-/// The octet of the bits V, E and B, where it is printed, and what stands behind it.
+/// The byte of the bits V, E and B, where it is printed, and what follows it.
 #[tactic(auto, unfolding(crate::specs::Fields::flags_in))]
 fn flags_in(text: &[u8]) -> (Option<u8>, &[u8])
     ensures { (result.0, words result.1.now) ≡ flags_in (words text.now) }
@@ -113,7 +113,7 @@ fn flags_in(text: &[u8]) -> (Option<u8>, &[u8])
     }
 }
 
-/// LS type, of this kind, and Link State ID, and what stands behind them.
+/// LS type, of this kind, and Link State ID, and what follows them.
 #[tactic(auto, unfolding(crate::specs::Fields::name_as))]
 fn name_as(ls_type: LsType, text: &[u8]) -> Option<(Name, &[u8])>
     ensures { option_map (λ found. (found.0, words found.1.now)) result
@@ -129,7 +129,7 @@ fn name_as(ls_type: LsType, text: &[u8]) -> Option<(Name, &[u8])>
     Some((name, rest))
 }
 
-/// LS type and Link State ID, and what stands behind them.
+/// LS type and Link State ID, and what follows them.
 fn name_in(text: &[u8]) -> Option<(Name, &[u8])>
     ensures { option_map (λ found. (found.0, words found.1.now)) result
         ≡ name_in (words text.now) }
@@ -142,7 +142,7 @@ fn name_in(text: &[u8]) -> Option<(Name, &[u8])>
     None
 }
 
-/// Advertising Router and LS sequence number, and what stands behind them.
+/// Advertising Router and LS sequence number, and what follows them.
 #[tactic(auto, unfolding(crate::specs::Fields::origination_in))]
 fn origination_in(text: &[u8]) -> Option<(Origination, &[u8])>
     ensures { option_map (λ found. (found.0, words found.1.now)) result
@@ -157,7 +157,7 @@ fn origination_in(text: &[u8]) -> Option<(Origination, &[u8])>
     Some((origination, rest))
 }
 
-/// LS checksum and length, and what stands behind them.
+/// LS checksum and length, and what follows them.
 #[tactic(auto, unfolding(crate::specs::Fields::checksum_and_length_in))]
 fn checksum_and_length_in(text: &[u8]) -> Option<(ChecksumAndLength, &[u8])>
     ensures { option_map (λ found. (found.0, words found.1.now)) result
@@ -172,7 +172,7 @@ fn checksum_and_length_in(text: &[u8]) -> Option<(ChecksumAndLength, &[u8])>
     Some((checksum_and_length, rest))
 }
 
-/// The header of the LSA whose words stand here, and what stands behind it.
+/// The header of the LSA whose words stand here, and what follows it.
 #[tactic(auto, unfolding(crate::specs::Fields::header_in))]
 pub(crate) fn header_in(text: &[u8]) -> Option<(Header, &[u8])>
     ensures { option_map (λ found. (found.0, words found.1.now)) result
@@ -193,7 +193,7 @@ pub(crate) fn header_in(text: &[u8]) -> Option<(Header, &[u8])>
     Some((header, rest))
 }
 
-/// The octets of a header, its checksum and its length as they were printed.
+/// The bytes of a header, with its checksum and its length as they were printed.
 pub fn header_octets(header: Header) -> [u8; 20]
     ensures { result ≡ header_octets header }
 {

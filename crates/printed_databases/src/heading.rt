@@ -10,7 +10,7 @@ use crate::text::cut_at;
 use lsa_codec::AreaId;
 use lsa_instances::{AreaKind, ToldArea};
 
-/// The area that the word behind `(Area` names.
+/// The area that the word after `(Area` names.
 fn area_of(word: &[u8]) -> Option<AreaId>
     ensures { result ≡ area_of word.now }
 {
@@ -24,7 +24,7 @@ fn area_of(word: &[u8]) -> Option<AreaId>
     }
 }
 
-/// The kind of an area, by the mark behind it: `[Stub]`, `[NSSA]`, or none.
+/// The kind of an area, by the mark after it: `[Stub]`, `[NSSA]`, or none.
 fn kind_in(text: &[u8]) -> AreaKind
     ensures { result ≡ kind_in (words text.now) }
 {
@@ -50,7 +50,7 @@ pub(crate) fn heading_at(text: &[u8]) -> Option<ToldArea>
     })
 }
 
-/// The area that a heading here begins, else the area that was begun before.
+/// The area that a heading here begins, else the area of the last heading before.
 #[tactic(auto, unfolding(crate::specs::Headings::area_at))]
 pub(crate) fn area_at(area: Option<AreaId>, text: &[u8]) -> Option<AreaId>
     ensures { result ≡ area_at area (words text.now) }

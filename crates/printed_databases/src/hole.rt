@@ -2,15 +2,16 @@
 
 use lsa_codec::{Key, LsaFault};
 
-/// What is printed and tells no LSA: each is to be told, since the databases may lack it.
+/// What is printed and makes no LSA. Each of these is reported, since the databases may lack the
+/// LSA.
 #[derive(Clone, Copy, Debug, PartialEq, Eq)]
 pub enum Hole {
-    /// The fields of the LSA with this key make none that is accepted, for this fault, which is
-    /// never `OutOfMemory`: it is `Checksum` where something is not printed that the LSA has.
+    /// The fields of the LSA with this key make no LSA that is accepted, for this fault, which is
+    /// never `OutOfMemory`. It is `Checksum` where the LSA has something that is not printed.
     Refused(Key, LsaFault),
-    /// The LSA with this key is printed under no area's heading.
+    /// The LSA with this key is printed under no heading of an area.
     NoArea(Key),
-    /// The fields can not be read: they are those of an LSA of another type than 1 to 5, or
-    /// printed in another way.
+    /// The fields cannot be read: they belong to an LSA of another type than 1 to 5, or are printed
+    /// in another form.
     Unreadable,
 }

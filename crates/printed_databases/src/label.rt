@@ -1,4 +1,4 @@
-//! Labels, as FRR prints them, and the values that stand behind them.
+//! Labels, as FRR prints them, and the values that follow them.
 
 ghost use Rattle.std.specs.Prelude.{◌≡◌, ◌≤◌, IfSome, option_map};
 ghost use Rattle.printed_databases.specs.Words.{words};
@@ -9,7 +9,7 @@ ghost use Rattle.printed_databases.specs.Labels.{text_of, behind_words, behind_l
 use crate::number::{address_of, hex_up_to, marked_up_to, mask_length, number_up_to};
 use crate::text::next_word;
 
-/// What is printed before or behind a value.
+/// What is printed before or after a value.
 #[derive(Clone, Copy)]
 pub(crate) enum Label {
     /// Before the LS age; it begins an LSA.
@@ -20,7 +20,7 @@ pub(crate) enum Label {
     Letters,
     /// Before flags that are no part of the LSA.
     LsFlags,
-    /// Before the octet of the bits V, E and B.
+    /// Before the byte of the bits V, E and B.
     Flags,
     /// The bit B by its name.
     BoundaryBit,
@@ -40,15 +40,15 @@ pub(crate) enum Label {
     ExternalLsa,
     /// Before the Link State ID.
     Id,
-    /// No word: behind the Link State ID of type 1.
+    /// No word: after the Link State ID of type 1.
     Nothing,
-    /// Behind the Link State ID of type 2.
+    /// After the Link State ID of type 2.
     DesignatedRouter,
-    /// Behind the Link State ID of type 3.
+    /// After the Link State ID of type 3.
     SummaryNetwork,
-    /// Behind the Link State ID of type 4.
+    /// After the Link State ID of type 4.
     BoundaryRouter,
-    /// Behind the Link State ID of type 5.
+    /// After the Link State ID of type 5.
     ExternalNetwork,
     /// Before the Advertising Router.
     AdvertisingRouter,
@@ -98,9 +98,9 @@ pub(crate) enum Label {
     Router,
     /// Before the Area ID of a heading.
     Area,
-    /// Behind the Area ID of a stub area.
+    /// After the Area ID of a stub area.
     Stub,
-    /// Behind the Area ID of a not-so-stubby area.
+    /// After the Area ID of a not-so-stubby area.
     Nssa,
 }
 
@@ -158,7 +158,7 @@ fn text_of(label: Label) -> &'static [u8]
     }
 }
 
-/// What stands behind these words, where the text begins with these.
+/// What follows these words, where the text begins with them.
 #[tactic(auto, unfolding(crate::specs::Labels::behind_words))]
 fn behind_words<'a>(front: &[u8], text: &'a [u8]) -> Option<&'a [u8]>
     ensures { option_map (λ rest. words rest.now) result
@@ -179,7 +179,7 @@ fn behind_words<'a>(front: &[u8], text: &'a [u8]) -> Option<&'a [u8]>
     Some(rest)
 }
 
-/// What stands behind a label, where the text begins with it.
+/// What follows a label, where the text begins with it.
 #[tactic(auto, unfolding(crate::specs::Labels::behind_label))]
 pub(crate) fn behind_label(label: Label, text: &[u8]) -> Option<&[u8]>
     ensures { option_map (λ rest. words rest.now) result ≡ behind_label label (words text.now) }
@@ -187,7 +187,7 @@ pub(crate) fn behind_label(label: Label, text: &[u8]) -> Option<&[u8]>
     behind_words(text_of(label), text)
 }
 
-/// What stands behind a label, where the text begins with it, else all of the text.
+/// What follows a label, where the text begins with it, else all of the text.
 #[tactic(auto, unfolding(crate::specs::Fields::past))]
 pub(crate) fn past(label: Label, text: &[u8]) -> &[u8]
     ensures { words result.now ≡ past label (words text.now) }
@@ -198,7 +198,7 @@ pub(crate) fn past(label: Label, text: &[u8]) -> &[u8]
     }
 }
 
-/// The word behind a label, and what stands behind that.
+/// The word after a label, and what follows that.
 #[tactic(auto, unfolding(crate::specs::Labels::word_behind))]
 pub(crate) fn word_behind(label: Label, text: &[u8]) -> Option<(&[u8], &[u8])>
     ensures { option_map (λ found. (found.0.now, words found.1.now)) result
@@ -208,7 +208,7 @@ pub(crate) fn word_behind(label: Label, text: &[u8]) -> Option<(&[u8], &[u8])>
     next_word(rest)
 }
 
-/// The decimal number behind a label, where it is at most `max`, and what stands behind it.
+/// The decimal number after a label, where it is at most `max`, and what follows it.
 #[tactic(auto, unfolding(crate::specs::Labels::value_behind))]
 pub(crate) fn number_behind(max: u32, label: Label, text: &[u8]) -> Option<(u32, &[u8])>
     ensures value { option_map (λ found. (found.0, words found.1.now)) result
@@ -220,7 +220,7 @@ pub(crate) fn number_behind(max: u32, label: Label, text: &[u8]) -> Option<(u32,
     Some((number, rest))
 }
 
-/// The hexadecimal number behind a label, where it is at most `max`, and what stands behind it.
+/// The hexadecimal number after a label, where it is at most `max`, and what follows it.
 #[tactic(auto, unfolding(crate::specs::Labels::value_behind))]
 pub(crate) fn hex_behind(max: u32, label: Label, text: &[u8]) -> Option<(u32, &[u8])>
     ensures value { option_map (λ found. (found.0, words found.1.now)) result
@@ -232,8 +232,7 @@ pub(crate) fn hex_behind(max: u32, label: Label, text: &[u8]) -> Option<(u32, &[
     Some((number, rest))
 }
 
-/// The hexadecimal number behind a label and `0x`, where it is at most `max`, and what stands
-/// behind it.
+/// The hexadecimal number after a label and `0x`, where it is at most `max`, and what follows it.
 #[tactic(auto, unfolding(crate::specs::Labels::value_behind))]
 pub(crate) fn marked_behind(max: u32, label: Label, text: &[u8]) -> Option<(u32, &[u8])>
     ensures value { option_map (λ found. (found.0, words found.1.now)) result
@@ -245,7 +244,7 @@ pub(crate) fn marked_behind(max: u32, label: Label, text: &[u8]) -> Option<(u32,
     Some((number, rest))
 }
 
-/// The length of a mask behind a label, and what stands behind it.
+/// The length of a mask after a label, and what follows it.
 #[tactic(auto, unfolding(crate::specs::Labels::value_behind))]
 pub(crate) fn mask_behind(label: Label, text: &[u8]) -> Option<(u32, &[u8])>
     ensures value { option_map (λ found. (found.0, words found.1.now)) result
@@ -257,7 +256,7 @@ pub(crate) fn mask_behind(label: Label, text: &[u8]) -> Option<(u32, &[u8])>
     Some((length, rest))
 }
 
-/// The address behind a label, and what stands behind it.
+/// The address after a label, and what follows it.
 #[tactic(auto, unfolding(crate::specs::Labels::value_behind))]
 pub(crate) fn address_behind(label: Label, text: &[u8]) -> Option<(u32, &[u8])>
     ensures { option_map (λ found. (found.0, words found.1.now)) result

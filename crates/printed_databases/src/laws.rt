@@ -21,7 +21,7 @@ ghost use Rattle.printed_databases.specs.PrintingTexts.{ArePlain, IsPlain, headi
 
 use std::alloc::Allocator;
 
-/// A header is read back from the words that are printed of it, whatever stands behind them.
+/// A header is read back from the words that are printed of it, whatever follows them.
 ///
 /// The function does nothing: its contract is the law.
 pub fn printed_headers_are_read()
@@ -29,7 +29,7 @@ pub fn printed_headers_are_read()
         → header_in (header_words beside header ++ rest) ≡ Some (header, rest) }
 {}
 
-/// What stands behind a header is read back from the words that are printed of it, as its octets.
+/// What follows a header is read back, as its bytes, from the words that are printed of it.
 ///
 /// The function does nothing: its contract is the law.
 pub fn printed_bodies_are_read()
@@ -51,9 +51,10 @@ pub fn printed_words_are_read()
         → is_blank blank ≡ true → words (join_with_byte blank printed) ≡ printed }
 {}
 
-/// What a text tells whose words are printed, from its front: where an LSA is printed that the
-/// decoder accepts, that LSA, with its octets, in the area of the last heading; where a heading is
-/// printed, the kind of its area; and a word at which neither begins tells nothing.
+/// What a text contains whose words are printed, from its front. Where an LSA is printed that the
+/// decoder accepts, it contains that LSA, byte for byte, in the area of the last heading. Where a
+/// heading is printed, it contains the kind of its area. A word at which neither begins adds
+/// nothing.
 ///
 /// The function does nothing: its contract is the law.
 pub fn printed_lsas_are_told<A: Allocator>()

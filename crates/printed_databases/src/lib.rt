@@ -1,9 +1,9 @@
 //! What routers print of their link state databases, in FRR's text form.
 //!
-//! An LSA is made anew from the printed fields and must then be an accepted LSA with the very
+//! An LSA is rebuilt from the printed fields and must then be an accepted LSA with the very
 //! checksum and length that were printed. The types 1 to 5 are read (RFC 2328, A.4): what
 //! `show ip ospf database` prints with `router`, `network`, `summary`, `asbr-summary` and
-//! `external`. Headings tell the kinds of areas.
+//! `external`. Headings report the kinds of areas.
 #![tactic(auto)]
 
 // Words, and what they say.
@@ -11,7 +11,7 @@ mod label;
 mod number;
 mod text;
 
-// The fields of LSAs, and their octets.
+// The fields of LSAs, and their bytes.
 mod body;
 mod external;
 pub mod fields;
@@ -21,7 +21,7 @@ mod ls_type;
 mod network;
 mod router;
 mod summary;
-// What is told.
+// What a text contains.
 mod hole;
 mod laws;
 mod part_told;

@@ -48,7 +48,7 @@ impl LsType {
         }
     }
 
-    /// What is printed behind the Link State ID.
+    /// What is printed after the Link State ID.
     pub(crate) fn id_label(self) -> Label
         ensures { result ≡ id_label self }
     {

@@ -1,4 +1,4 @@
-//! The body of a network-LSA (RFC 2328, A.4.3) as it is printed, and its octets.
+//! The body of a network-LSA (RFC 2328, A.4.3) as it is printed, and its bytes.
 
 ghost use Rattle.std.specs.Prelude.{◌≡◌, ◌++◌, IfOk, option_map};
 ghost use Rattle.std.specs.Int.{w32, to_be_bytes};
@@ -11,7 +11,7 @@ use crate::label::{Label, address_behind, mask_behind};
 use lsa_codec::mask_of_len;
 use std::alloc::{AllocError, Allocator};
 
-/// Octets, and behind them those of so many attached routers that stand here.
+/// These bytes, and after them those of the attached routers that stand here, of this number.
 fn with_routers<A: Allocator + Copy>(
     mut octets: Vec<u8, A>,
     count: u16,
@@ -32,7 +32,7 @@ fn with_routers<A: Allocator + Copy>(
     Ok(Some(octets))
 }
 
-/// The octets behind the header of a network-LSA of this length.
+/// The bytes after the header of a network-LSA of this length.
 #[tactic(auto, unfolding(crate::specs::Bodies::network_in))]
 pub(crate) fn network_in<A: Allocator + Copy>(
     alloc: A,

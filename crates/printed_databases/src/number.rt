@@ -82,7 +82,7 @@ pub fn hex_up_to(max: u32, word: &[u8]) -> Option<u32>
     hex_digits(max, word)
 }
 
-/// The number that a word spells in hexadecimal behind `0x`, where it is at most `max`.
+/// The number that a word spells in hexadecimal after `0x`, where it is at most `max`.
 #[tactic(auto, unfolding(crate::specs::Numbers::marked_up_to))]
 pub(crate) fn marked_up_to(max: u32, word: &[u8]) -> Option<u32>
     ensures value { result ≡ marked_up_to max word.now }
@@ -94,7 +94,7 @@ pub(crate) fn marked_up_to(max: u32, word: &[u8]) -> Option<u32>
     }
 }
 
-/// The length of a mask, behind a slash.
+/// The length of a mask, after a slash.
 #[tactic(auto, unfolding(crate::specs::Numbers::mask_length))]
 pub(crate) fn mask_length(word: &[u8]) -> Option<u32>
     ensures value { result ≡ mask_length word.now }
@@ -127,7 +127,7 @@ fn four_parts(word: &[u8]) -> Option<(&[u8], &[u8], &[u8], &[u8])>
     }
 }
 
-/// The octet that a word spells.
+/// The byte that a word spells.
 fn octet(word: &[u8]) -> Option<u8>
     ensures { result ≡ number_up_to 255 word.now }
 {

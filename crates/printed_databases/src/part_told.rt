@@ -1,4 +1,4 @@
-//! What the parts of a text tell.
+//! What the parts of a text contain.
 
 ghost use Rattle.std.specs.Prelude.{◌≡◌, ◌++◌, IfOk, OnOk, None};
 ghost use Rattle.printed_databases.specs.Words.{words};
@@ -19,18 +19,18 @@ use lsa_codec::{AreaId, Key, Lsa, LsaFault};
 use lsa_instances::{Scope, Sighting, ToldArea};
 use std::alloc::{AllocError, Allocator};
 
-/// What a part of a text tells.
+/// What a part of a text contains.
 #[derive(Debug, Drop)]
 pub enum PartTold<A: Allocator> {
     /// The LSA that the printed fields make.
     Lsa(Sighting<A>),
     /// The kind of the area of a heading.
     Kind(ToldArea),
-    /// What is printed of an LSA, and tells none.
+    /// A printed LSA that cannot be used.
     Hole(Hole),
 }
 
-/// What names the LSA.
+/// The key of the LSA.
 fn key_of(header: Header) -> Key
     ensures { result ≡ key_of header }
 {
@@ -55,7 +55,7 @@ fn in_scope<A: Allocator + Copy>(area: Option<AreaId>, key: Key, lsa: Lsa<A>) ->
     }
 }
 
-/// What the octets tell that the fields of the LSA with this key make.
+/// What the bytes contain that the fields of the LSA with this key make.
 fn octets_told<A: Allocator + Copy>(
     alloc: A,
     area: Option<AreaId>,
@@ -71,7 +71,11 @@ fn octets_told<A: Allocator + Copy>(
     }
 }
 
-/// What the LSA tells that has this header and, behind it, these octets.
+/// The LSA that has this header and, after it, these bytes; or why it cannot be used.
+///
+/// # Errors
+///
+/// Memory ran out.
 pub fn made_told<A: Allocator + Copy>(
     alloc: A,
     area: Option<AreaId>,
@@ -86,7 +90,7 @@ pub fn made_told<A: Allocator + Copy>(
     octets_told(alloc, area, key_of(header), &octets)
 }
 
-/// What the LSA tells that has this header and whose further words stand here.
+/// The LSA that has this header, and whose further words stand here; or why it cannot be used.
 fn body_told<A: Allocator + Copy>(
     alloc: A,
     area: Option<AreaId>,
@@ -101,7 +105,7 @@ fn body_told<A: Allocator + Copy>(
     }
 }
 
-/// What the LSA tells whose words stand here.
+/// The LSA whose words stand here; or why it cannot be used.
 fn header_told<A: Allocator + Copy>(
     alloc: A,
     area: Option<AreaId>,
@@ -132,7 +136,7 @@ fn tell_kind<A: Allocator + Copy>(
     }
 }
 
-/// Adds what the LSA tells that begins here, if one does.
+/// Adds the LSA that begins here, or why it cannot be used, if one does.
 #[tactic(auto, unfolding(crate::specs::PartsTold::lsas_at))]
 fn tell_lsa<A: Allocator + Copy>(
     alloc: A,
@@ -151,8 +155,8 @@ fn tell_lsa<A: Allocator + Copy>(
     }
 }
 
-/// What the headings and the LSAs of a text tell, in the order of the text. Headings name the areas
-/// of the LSAs.
+/// What the headings and the LSAs of a text contain, in the order of the text. Headings name the
+/// areas of the LSAs.
 pub(crate) fn tellings<A: Allocator + Copy>(
     alloc: A,
     text: &[u8],

@@ -1,4 +1,4 @@
-//! What a router prints, sorted out.
+//! What a router prints, sorted by kind.
 
 ghost use Rattle.std.specs.Prelude.{◌≡◌, IfOk, None};
 ghost use Rattle.std.specs.List.{filter_map};
@@ -14,19 +14,19 @@ use crate::text::next_word;
 use lsa_instances::{Sighting, ToldArea};
 use std::alloc::{AllocError, Allocator, Global};
 
-/// What a router prints tells, in the order of the text.
+/// What a router's print contains, in the order of the text.
 #[derive(Debug, Drop)]
 pub struct Printed<A: Allocator = Global> {
     /// The LSAs that the printed fields make. Each has the very checksum and length that were
     /// printed; a text has no time stamps.
     pub sightings: Vec<Sighting<A>, A>,
-    /// The kinds of areas, as often as headings tell them.
+    /// The kinds of areas, one for each heading of an area.
     pub kinds: Vec<ToldArea, A>,
-    /// What tells no LSA.
+    /// What makes no LSA.
     pub holes: Vec<Hole, A>,
 }
 
-/// The LSA that is told.
+/// The LSA, if it is one.
 fn sighting_of<A: Allocator + Copy>(told: PartTold<A>) -> Option<Sighting<A>>
     ensures { result ≡ sighting_of told }
 {
@@ -36,7 +36,7 @@ fn sighting_of<A: Allocator + Copy>(told: PartTold<A>) -> Option<Sighting<A>>
     }
 }
 
-/// The kind of an area that is told.
+/// The kind of an area, if it is one.
 fn kind_of<A: Allocator + Copy>(told: &PartTold<A>) -> Option<ToldArea>
     ensures { result ≡ kind_of told.now }
 {
@@ -46,7 +46,7 @@ fn kind_of<A: Allocator + Copy>(told: &PartTold<A>) -> Option<ToldArea>
     }
 }
 
-/// The hole that is told.
+/// The finding, if it is one.
 fn hole_of<A: Allocator + Copy>(told: &PartTold<A>) -> Option<Hole>
     ensures { result ≡ hole_of told.now }
 {
@@ -66,7 +66,7 @@ fn kinds_of<A: Allocator + Copy>(
     told.iter().filter_map(|one| kind_of(one)).collect(alloc)
 }
 
-/// The holes.
+/// The findings.
 fn holes_of<A: Allocator + Copy>(alloc: A, told: &[PartTold<A>]) -> Result<Vec<Hole, A>, AllocError>
     ensures { IfOk result (λ holes. holes.items ≡ filter_map hole_of told.now) }
 {
@@ -85,7 +85,11 @@ fn sightings_of<A: Allocator + Copy>(
         .collect(alloc)
 }
 
-/// What is told, sorted out. The only error is want of memory.
+/// The parts, sorted by kind.
+///
+/// # Errors
+///
+/// Memory ran out.
 pub fn sorted<A: Allocator + Copy>(
     alloc: A,
     told: Vec<PartTold<A>, A>,
@@ -106,9 +110,12 @@ pub fn sorted<A: Allocator + Copy>(
 }
 
 /// Reads what a router prints (FRR) for `show ip ospf database` with `router`, `network`,
-/// `summary`, `asbr-summary` or `external`. Several such texts may stand behind one another.
-/// Blanks and line feeds have no part in it but to stand between words. The only error is want of
-/// memory.
+/// `summary`, `asbr-summary` or `external`. Several such texts may stand one after another. Blanks
+/// and line feeds only separate words.
+///
+/// # Errors
+///
+/// Memory ran out.
 pub fn read_printed<A: Allocator + Copy>(alloc: A, text: &[u8]) -> Result<Printed<A>, AllocError>
     ensures sightings { IfOk result (λ printed. printed.sightings.items
         ≡ filter_map sighting_of (told_in None (words text.now))) }

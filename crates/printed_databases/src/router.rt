@@ -1,4 +1,4 @@
-//! The body of a router-LSA (RFC 2328, A.4.2) as it is printed, and its octets.
+//! The body of a router-LSA (RFC 2328, A.4.2) as it is printed, and its bytes.
 
 ghost use Rattle.std.specs.Prelude.{◌≡◌, ◌++◌, IfOk, option_map};
 ghost use Rattle.std.specs.List.{flat_map};
@@ -90,7 +90,7 @@ impl LinkType {
     }
 }
 
-/// A link of this type, and what stands behind it.
+/// A link of this type, and what follows it.
 #[tactic(auto, unfolding(crate::specs::Bodies::link_as))]
 fn link_as(link_type: LinkType, text: &[u8]) -> Option<(Link, &[u8])>
     ensures { option_map (λ found. (found.0, words found.1.now)) result
@@ -109,7 +109,7 @@ fn link_as(link_type: LinkType, text: &[u8]) -> Option<(Link, &[u8])>
     Some((link, rest))
 }
 
-/// A link, and what stands behind it.
+/// A link, and what follows it.
 fn link_in(text: &[u8]) -> Option<(Link, &[u8])>
     ensures { option_map (λ found. (found.0, words found.1.now)) result
         ≡ link_in (words text.now) }
@@ -122,7 +122,7 @@ fn link_in(text: &[u8]) -> Option<(Link, &[u8])>
     None
 }
 
-/// The octets of a link.
+/// The bytes of a link.
 pub fn link_octets(link: Link) -> [u8; 12]
     ensures { result ≡ link_octets link }
 {
@@ -133,7 +133,7 @@ pub fn link_octets(link: Link) -> [u8; 12]
     [i0, i1, i2, i3, d0, d1, d2, d3, code, 0, m0, m1]
 }
 
-/// Octets, and behind them those of so many links that stand here.
+/// These bytes, and after them those of the links that stand here, of this number.
 fn with_links<A: Allocator + Copy>(
     mut octets: Vec<u8, A>,
     count: u16,
@@ -154,7 +154,7 @@ fn with_links<A: Allocator + Copy>(
     Ok(Some(octets))
 }
 
-/// The octets behind the header of a router-LSA with this octet of the bits V, E and B.
+/// The bytes after the header of a router-LSA with this byte of the bits V, E and B.
 #[tactic(auto, unfolding(crate::specs::Bodies::router_in))]
 pub(crate) fn router_in<A: Allocator + Copy>(
     alloc: A,

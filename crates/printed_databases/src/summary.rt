@@ -1,4 +1,4 @@
-//! The body of a summary-LSA (RFC 2328, A.4.4) as it is printed, and its octets.
+//! The body of a summary-LSA (RFC 2328, A.4.4) as it is printed, and its bytes.
 
 ghost use Rattle.std.specs.Prelude.{◌≡◌, ◌≤◌, ◌<◌, ◌^◌, IfSome};
 ghost use Rattle.printed_databases.specs.Words.{words};
@@ -7,7 +7,7 @@ ghost use Rattle.printed_databases.specs.Bodies.{summary_in, summary_octets};
 use crate::label::{Label, mask_behind, number_behind};
 use lsa_codec::{LS_INFINITY, mask_of_len};
 
-/// What a summary-LSA has behind its header.
+/// What a summary-LSA has after its header.
 #[derive(Clone, Copy)]
 pub struct Summary {
     /// The length of the network mask, at most 32.
@@ -16,7 +16,7 @@ pub struct Summary {
     pub metric: u32,
 }
 
-/// The fields behind the header.
+/// The fields after the header.
 #[tactic(auto, unfolding(crate::specs::Bodies::summary_in))]
 pub(crate) fn summary_in(text: &[u8]) -> Option<Summary>
     ensures value { result ≡ summary_in (words text.now) }
@@ -31,7 +31,7 @@ pub(crate) fn summary_in(text: &[u8]) -> Option<Summary>
     })
 }
 
-/// Their octets: the mask and the metric.
+/// Their bytes: the mask and the metric.
 pub fn summary_octets(summary: Summary) -> [u8; 8]
     requires { summary.len ≤ 32 }
     ensures { result ≡ summary_octets summary }

@@ -4,7 +4,7 @@ ghost use Rattle.std.specs.Prelude.{◌≡◌, ◌==◌, ◌<◌, [], ◌∷◌,
 ghost use Rattle.std.specs.List.{slice_split};
 ghost use Rattle.printed_databases.specs.Words.{is_blank, words};
 
-/// Whether an octet is a space, a tab, a line feed or a carriage return.
+/// Whether a byte is a space, a tab, a line feed or a carriage return.
 fn is_blank(octet: u8) -> bool
     ensures { result ≡ is_blank octet }
 {
@@ -18,14 +18,14 @@ fn first_blank(text: &[u8]) -> Option<usize>
     text.iter().position(|octet| is_blank(*octet))
 }
 
-/// The index of the first octet that is `stop`.
+/// The index of the first byte that is `stop`.
 fn first_of(word: &[u8], stop: u8) -> Option<usize>
     ensures { result ≡ position (λ b. b == stop) word.now }
 {
     word.iter().position(|octet| *octet == stop)
 }
 
-/// What stands before the first blank, and behind it.
+/// What stands before the first blank, and after it.
 #[tactic(auto, using(crate::proofs::Split::cut_none, crate::proofs::Split::cut_some, crate::proofs::Split::drop_one))]
 fn cut_at_blank(text: &[u8]) -> Option<(&[u8], &[u8])>
     ensures { MatchOption result (slice_split is_blank text.now ≡ text.now ∷ [])
@@ -39,7 +39,7 @@ fn cut_at_blank(text: &[u8]) -> Option<(&[u8], &[u8])>
     Some((front, &back[1..]))
 }
 
-/// What stands before the first octet that is `stop`, and behind it.
+/// What stands before the first byte that is `stop`, and after it.
 #[tactic(auto, using(crate::proofs::Split::cut_none, crate::proofs::Split::cut_some, crate::proofs::Split::drop_one))]
 pub(crate) fn cut_at(word: &[u8], stop: u8) -> Option<(&[u8], &[u8])>
     ensures { MatchOption result (slice_split (λ b. b == stop) word.now ≡ word.now ∷ [])
@@ -53,7 +53,7 @@ pub(crate) fn cut_at(word: &[u8], stop: u8) -> Option<(&[u8], &[u8])>
     Some((front, &back[1..]))
 }
 
-/// The first word of a text, and the text behind it.
+/// The first word of a text, and the text after it.
 #[tactic(auto, unfolding(crate::specs::Words::words))]
 pub fn next_word(text: &[u8]) -> Option<(&[u8], &[u8])>
     ensures { MatchOption result (words text.now ≡ [])

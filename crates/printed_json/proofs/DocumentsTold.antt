@@ -1,4 +1,4 @@
--- What LSAs and areas tell, one after another.
+-- The LSAs of areas, one after another.
 use Rattle.std.proofs.Common.{◌≡◌, ℕ, ◌+◌, ◌<◌, ◌≤◌, List, [], ◌∷◌, ◌++◌, length, get_or, drop, append_assoc, Option, Bor, refl, sym, ap, ◌∙◌}
 use Rattle.std.proofs.lemmas.List.{append-nil, drop_all}
 use Rattle.json.specs.Json.{Json, Items, no_items, item, Members, no_members, member}

@@ -1,4 +1,4 @@
--- The octets of members, joined one after another.
+-- The bytes of members, joined one after another.
 use Rattle.std.proofs.Common.{◌≡◌, ℕ, ◌+◌, ◌<◌, ◌≤◌, List, ◌∷◌, ◌++◌, length, get_or, drop, add-one, Option, Some, None, Bor, refl, sym, ap, ◌∙◌, append_assoc}
 use Rattle.std.proofs.lemmas.List.{append-nil, drop_all}
 use Rattle.std.proofs.Math.Seq.{drop-cons}
@@ -30,7 +30,7 @@ module _ (told : Json → Option (List ℕ)) where
   ended before = ap Some (append-nil before)
 
 module _ {A : Type 0} (told : Json → Option (List ℕ)) where
-  -- these octets, and those of the members behind them
+  -- these bytes, and those of the members after them
   abbrev pub with_each : List ℕ → List (Bor (List ℕ) × Value A) → Option (List ℕ)
   with_each before members = option_map (λ others. before ++ others) (octets_of_each told (members_view members))
 

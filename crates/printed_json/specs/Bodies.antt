@@ -1,4 +1,4 @@
--- What stands behind an LSA's header (RFC 2328, A.4.2 to A.4.5) in the object that FRR prints of it, and its octets.
+-- What follows an LSA's header (RFC 2328, A.4.2 to A.4.5) in the object that FRR prints of it, and its bytes.
 use Rattle.std.specs.Prelude.{ℕ, codes, option_map, Bool, true, false, if◌then◌else◌, List, [], ◌∷◌, ◌++◌, Option, Some, None}
 use Rattle.std.specs.Int.{w16, w32, to_be_bytes}
 use Rattle.std.specs.Str.{bytes_eq}
@@ -17,7 +17,7 @@ use Rattle.printed_databases.specs.Bodies.{link_octets, summary_octets, external
 use Rattle.printed_databases.specs.Rules.{◌>>=◌}
 use Rattle.printed_json.specs.Members.{text_at, number_at, address_at, members_at}
 
--- the octets that each member tells, one behind another, in the order of the text
+-- the bytes of each member, one after another, in the order of the text
 unfoldable pub octets_of_each : (Json → Option (List ℕ)) → Members → Option (List ℕ)
 octets_of_each told no_members = Some []
 octets_of_each told (member name json members) = do
@@ -60,7 +60,7 @@ link_in json = do
 abbrev pub link_octets_in : Json → Option (List ℕ)
 link_octets_in json = option_map link_octets (link_in json)
 
--- the bits V, E and B, an octet 0, the number of links, and the links
+-- the bits V, E and B, a byte 0, the number of links, and the links
 unfoldable pub router_in : Option ℕ → Json → Option (List ℕ)
 router_in flags json = do
   bits ← flags
@@ -116,6 +116,6 @@ body_as types.Summary flags json = option_map summary_octets (summary_in json)
 body_as types.AsbrSummary flags json = option_map summary_octets (summary_in json)
 body_as types.External flags json = option_map external_octets (external_in json)
 
--- the octets behind this header, of the LSA that the object tells
+-- the bytes after this header, from the object of the LSA
 abbrev pub body_in : Header → Json → Option (List ℕ)
 body_in header json = body_as header.name.ls_type header.flags json

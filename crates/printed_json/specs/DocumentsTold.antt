@@ -1,4 +1,4 @@
--- What a document tells that FRR prints of a database.
+-- What a document contains that FRR prints of a database.
 use Rattle.std.specs.Prelude.{ℕ, codes, Bool, false, ◌||◌, ◌==◌, List, [], ◌∷◌, ◌++◌, Option, Some, None, option_map}
 use Rattle.std.specs.Option.{is_some}
 use Rattle.json.specs.Json.{Json, Items, no_items, item, Members, no_members, member}
@@ -17,7 +17,7 @@ use Rattle.printed_json.specs.Members.{members_at}
 use Rattle.printed_json.specs.Header.{header_in}
 use Rattle.printed_json.specs.Bodies.{body_in}
 
--- the name of the database of the LSAs of this type; it alone tells the types 3 and 4 apart
+-- the name of the database of the LSAs of this type; only this distinguishes the types 3 and 4
 abbrev pub database_name : LsType → List ℕ
 database_name types.Router = codes "routerLinkStates"
 database_name types.Network = codes "networkLinkStates"
@@ -34,11 +34,11 @@ module _ {A : Type 0} where
   header_told area json None = tells.Hole holes.Unreadable
   header_told area json (Some header) = made_told area header (body_in header json)
 
-  -- what the object tells of an LSA of this type, in this area
+  -- the LSA of this type in an object, in this area, or why it cannot be used
   abbrev pub lsa_told : LsType → Option AreaId → Json → PartTold A
   lsa_told ls_type area json = header_told area json (header_in ls_type json)
 
-  -- what the LSAs of an area tell, one after another
+  -- the LSAs of an area, one after another
   unfoldable pub lsas_in : LsType → Option AreaId → Items → List (PartTold A)
   lsas_in ls_type area no_items = []
   lsas_in ls_type area (item json items) = lsa_told ls_type area json ∷ lsas_in ls_type area items
@@ -47,11 +47,11 @@ module _ {A : Type 0} where
   items_told ls_type area None = tells.Hole holes.Unreadable ∷ []
   items_told ls_type area (Some items) = lsas_in ls_type area items
 
-  -- what the array of the LSAs of an area tells
+  -- the LSAs of an area in an array
   abbrev pub array_told : LsType → Option AreaId → Json → List (PartTold A)
   array_told ls_type area json = items_told ls_type area (as_array json)
 
-  -- what areas tell, in the order of the text: each is a member, named by its Area ID
+  -- the LSAs of areas, in the order of the text: each area is a member, named by its Area ID
   unfoldable pub areas_in : LsType → Members → List (PartTold A)
   areas_in ls_type no_members = []
   areas_in ls_type (member name json members) = array_told ls_type (area_named name) json ++ areas_in ls_type members
@@ -63,7 +63,7 @@ module _ {A : Type 0} where
   abbrev pub areas_told : LsType → Json → List (PartTold A)
   areas_told ls_type json = members_told ls_type (members_at (codes "areas") json)
 
-  -- what the database of the LSAs of this type tells; AS-external-LSAs are of no area
+  -- the database of the LSAs of this type; AS-external-LSAs belong to no area
   abbrev pub database_told : LsType → Json → List (PartTold A)
   database_told types.Router json = areas_told types.Router json
   database_told types.Network json = areas_told types.Network json
@@ -75,7 +75,7 @@ module _ {A : Type 0} where
   found_told ls_type None = []
   found_told ls_type (Some database) = database_told ls_type database
 
-  -- what the document tells of the LSAs of this type
+  -- the document's LSAs of this type
   abbrev pub told_of : LsType → Json → List (PartTold A)
   told_of ls_type json = found_told ls_type (get (database_name ls_type) json)
 

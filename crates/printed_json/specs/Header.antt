@@ -19,7 +19,7 @@ age_and_options_in json = do
   options ← options_of letters
   Some (record { age = age; options = options })
 
--- the octet of the bits V, E and B
+-- the byte of the bits V, E and B
 unfoldable pub flags_in : Json → Option ℕ
 flags_in json = do
   flags ← number_at 0xff (codes "flags") json
@@ -39,7 +39,7 @@ checksum_and_length_in json = do
   size ← number_at longest_lsa (codes "length") json
   Some (record { checksum = checksum; size = size })
 
--- the header of an LSA of this type, which the database tells
+-- the header of an LSA of this type, which the database's name says
 unfoldable pub header_in : LsType → Json → Option Header
 header_in ls_type json = do
   age_and_options ← age_and_options_in json

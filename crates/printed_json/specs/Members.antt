@@ -5,13 +5,13 @@ use Rattle.json.specs.Find.{get, as_str, as_number, as_object}
 use Rattle.printed_databases.specs.Rules.{◌>>=◌}
 use Rattle.printed_databases.specs.Numbers.{number_up_to, hex_up_to, address_of}
 
--- the text that the member of this name is
+-- the text of the member of this name
 unfoldable pub text_at : List ℕ → Json → Option (List ℕ)
 text_at name json = do
   found ← get name json
   as_str found
 
--- the number that it is, in decimal digits alone, where it is at most max
+-- its number, in decimal digits alone, where it is at most max
 unfoldable pub number_at : ℕ → List ℕ → Json → Option ℕ
 number_at max name json = do
   found ← get name json

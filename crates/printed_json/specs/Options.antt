@@ -4,7 +4,7 @@ use Rattle.std.specs.Prelude.{ℕ, ◌+◌, ◌==◌, ◌&&◌, codes, List, [],
 use Rattle.std.specs.Cmp.Lexicographic.{pointwise}
 use Rattle.printed_databases.specs.Rules.{◌>>=◌}
 
--- what stands behind these octets, where the text begins with them
+-- what follows these bytes, where the text begins with them
 abbrev pub behind : List ℕ → List ℕ → Option (List ℕ)
 behind front text = if pointwise (λ a b. a == b) (take (length front) text) front then Some (drop (length front) text) else None
 

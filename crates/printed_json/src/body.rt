@@ -1,4 +1,4 @@
-//! What stands behind the header of an LSA, of whatever type.
+//! What follows the header of an LSA, of whatever type.
 
 ghost use Rattle.std.specs.Prelude.{◌≡◌, IfOk, option_map};
 ghost use Rattle.json.specs.Value.{value_view};
@@ -13,7 +13,7 @@ use json::Value;
 use printed_databases::fields::{Header, LsType, external_octets, summary_octets};
 use std::alloc::{AllocError, Allocator};
 
-/// The octets behind the header of a summary-LSA.
+/// The bytes after the header of a summary-LSA.
 fn summary_body<A: Allocator + Copy>(
     alloc: A,
     json: &Value<'_, A>,
@@ -27,7 +27,7 @@ fn summary_body<A: Allocator + Copy>(
     }
 }
 
-/// The octets behind the header of an AS-external-LSA.
+/// The bytes after the header of an AS-external-LSA.
 fn external_body<A: Allocator + Copy>(
     alloc: A,
     json: &Value<'_, A>,
@@ -41,7 +41,7 @@ fn external_body<A: Allocator + Copy>(
     }
 }
 
-/// The octets behind this header, of the LSA that the object tells.
+/// The bytes after this header, from the object of the LSA.
 pub(crate) fn body_in<A: Allocator + Copy>(
     alloc: A,
     header: Header,

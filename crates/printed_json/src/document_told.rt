@@ -1,4 +1,4 @@
-//! What the parts of a document tell.
+//! What the parts of a document contain.
 
 ghost use Rattle.std.specs.Prelude.{◌≡◌, ◌++◌, IfOk};
 ghost use Rattle.json.specs.Value.{value_view, items_view, members_view};
@@ -38,7 +38,7 @@ fn area_named(name: &str) -> Option<AreaId>
     }
 }
 
-/// What the LSA tells that has this header.
+/// The LSA that has this header, or why it cannot be used.
 fn header_told<A: Allocator + Copy>(
     alloc: A,
     area: Option<AreaId>,
@@ -54,7 +54,7 @@ fn header_told<A: Allocator + Copy>(
     }
 }
 
-/// What the LSA of this type tells.
+/// The LSA of this type in an object, or why it cannot be used.
 fn lsa_told<A: Allocator + Copy>(
     alloc: A,
     ls_type: LsType,
@@ -69,7 +69,7 @@ fn lsa_told<A: Allocator + Copy>(
     }
 }
 
-/// What was told, and behind it what the LSAs of an area tell.
+/// What was read before, and after it the LSAs of an area.
 fn with_lsas<'a, A: Allocator + Copy>(
     alloc: A,
     mut told: Vec<PartTold<A>, A>,
@@ -86,7 +86,7 @@ fn with_lsas<'a, A: Allocator + Copy>(
     Ok(told)
 }
 
-/// What was told, and behind it what the array of the LSAs of an area tells.
+/// What was read before, and after it the LSAs of an area in an array.
 fn with_array<A: Allocator + Copy>(
     alloc: A,
     mut told: Vec<PartTold<A>, A>,
@@ -106,7 +106,7 @@ fn with_array<A: Allocator + Copy>(
     }
 }
 
-/// What was told, and behind it what the areas tell that these members are.
+/// What was read before, and after it the LSAs of the areas that these members are.
 fn with_areas<'a, A: Allocator + Copy>(
     alloc: A,
     mut told: Vec<PartTold<A>, A>,
@@ -123,7 +123,7 @@ fn with_areas<'a, A: Allocator + Copy>(
     Ok(told)
 }
 
-/// What was told, and behind it what a database tells that has areas.
+/// What was read before, and after it the LSAs of a database that has areas.
 fn with_all_areas<A: Allocator + Copy>(
     alloc: A,
     mut told: Vec<PartTold<A>, A>,
@@ -142,7 +142,7 @@ fn with_all_areas<A: Allocator + Copy>(
     }
 }
 
-/// What was told, and behind it what the database of the LSAs of this type tells.
+/// What was read before, and after it the database of the LSAs of this type.
 fn with_database<A: Allocator + Copy>(
     alloc: A,
     told: Vec<PartTold<A>, A>,
@@ -160,7 +160,7 @@ fn with_database<A: Allocator + Copy>(
     }
 }
 
-/// What was told, and behind it what the document tells of the LSAs of this type.
+/// What was read before, and after it the document's LSAs of this type.
 fn with_type<A: Allocator + Copy>(
     alloc: A,
     told: Vec<PartTold<A>, A>,
@@ -176,7 +176,7 @@ fn with_type<A: Allocator + Copy>(
     }
 }
 
-/// What a document tells: of the LSAs of each type, in rising order.
+/// What a document contains: the LSAs of each type, in rising order.
 pub(crate) fn tellings<A: Allocator + Copy>(
     alloc: A,
     json: &Value<'_, A>,

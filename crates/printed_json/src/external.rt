@@ -23,7 +23,7 @@ fn is_type2_named(name: &str) -> Option<bool>
     None
 }
 
-/// The fields behind the header.
+/// The fields after the header.
 #[tactic(auto, unfolding(crate::specs::Bodies::external_in))]
 pub(crate) fn external_in<A: Allocator>(json: &Value<'_, A>) -> Option<External>
     ensures value { result ≡ external_in (value_view json.now) }

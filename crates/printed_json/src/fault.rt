@@ -1,11 +1,11 @@
-//! Why a text is no database in JSON.
+//! Why a text is not a database in JSON.
 
 use std::alloc::AllocError;
 
 /// Why a text is not read.
 #[derive(Clone, Copy, Debug, PartialEq, Eq)]
 pub enum JsonFault {
-    /// The allocator refused memory.
+    /// Memory ran out.
     OutOfMemory,
     /// The text is not JSON (RFC 8259) in UTF-8, or it nests deeper than 128 levels.
     NotJson,

@@ -27,7 +27,7 @@ fn age_and_options_in<A: Allocator>(json: &Value<'_, A>) -> Option<AgeAndOptions
     })
 }
 
-/// The octet of the bits V, E and B, which is printed of router-LSAs alone.
+/// The byte of the bits V, E and B, which is printed only for router-LSAs.
 #[tactic(auto, unfolding(crate::specs::Header::flags_in))]
 fn flags_in<A: Allocator>(json: &Value<'_, A>) -> Option<u8>
     ensures { result ≡ flags_in (value_view json.now) }
@@ -62,7 +62,7 @@ fn checksum_and_length_in<A: Allocator>(json: &Value<'_, A>) -> Option<ChecksumA
     })
 }
 
-/// The header of the LSA of this type that the object tells.
+/// The header of the LSA of this type in an object.
 #[tactic(auto, unfolding(crate::specs::Header::header_in))]
 pub(crate) fn header_in<A: Allocator>(ls_type: LsType, json: &Value<'_, A>) -> Option<Header>
     ensures { result ≡ header_in ls_type (value_view json.now) }

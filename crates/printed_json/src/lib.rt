@@ -1,23 +1,24 @@
 //! What routers print of their link state databases, in FRR's JSON.
 //!
 //! The documents are those of `show ip ospf database router json`, and of the same with `network`,
-//! `summary`, `asbr-summary` and `external`. As in `printed_databases`, an LSA is made anew from
-//! the printed fields and must then be an accepted LSA with the very checksum and length that were
-//! printed. Members stay in the order of the text, in which links and attached routers stand.
+//! `summary`, `asbr-summary` and `external`. As in `printed_databases`, an LSA is rebuilt from the
+//! printed fields and must then be an accepted LSA with the very checksum and length that were
+//! printed. Members stay in the order of the text, which is the order of links and attached
+//! routers.
 #![tactic(auto)]
 
-// Members of objects, and what they say.
+// Members of objects, and their values.
 mod member;
 mod options;
 
-// The fields of LSAs, and their octets.
+// The fields of LSAs, and their bytes.
 mod body;
 mod external;
 mod header;
 mod network;
 mod router;
 mod summary;
-// What is told.
+// What a document contains.
 mod document_told;
 mod fault;
 mod printed;

@@ -32,7 +32,7 @@ pub(crate) fn members_of<'v, 'a, A: Allocator>(
     }
 }
 
-/// The text that this member is.
+/// The text of this member.
 #[tactic(auto, unfolding(crate::specs::Members::text_at))]
 pub(crate) fn text_at<'a, A: Allocator>(name: &str, json: &Value<'a, A>) -> Option<&'a str>
     ensures { option_map (λ text. text.now) result ≡ text_at name.now (value_view json.now) }
@@ -41,7 +41,7 @@ pub(crate) fn text_at<'a, A: Allocator>(name: &str, json: &Value<'a, A>) -> Opti
     found.as_str()
 }
 
-/// The number that this member is, where it is at most `max`.
+/// The number of this member, where it is at most `max`.
 #[tactic(auto, unfolding(crate::specs::Members::number_at))]
 pub(crate) fn number_at<A: Allocator>(max: u32, name: &str, json: &Value<'_, A>) -> Option<u32>
     ensures value { result ≡ number_at max name.now (value_view json.now) }

@@ -9,7 +9,7 @@ use json::Value;
 use lsa_codec::mask_of_len;
 use std::alloc::{AllocError, Allocator};
 
-/// Octets, and behind them those of the attached routers that these members are.
+/// These bytes, and after them those of the attached routers that these members are.
 fn with_routers<'a, A: Allocator + Copy>(
     mut octets: Vec<u8, A>,
     members: &[(&'a str, Value<'a, A>)],
@@ -27,7 +27,7 @@ fn with_routers<'a, A: Allocator + Copy>(
     Ok(Some(octets))
 }
 
-/// The octets behind the header of a network-LSA.
+/// The bytes after the header of a network-LSA.
 #[tactic(auto, unfolding(crate::specs::Bodies::network_in))]
 pub(crate) fn network_in<A: Allocator + Copy>(
     alloc: A,

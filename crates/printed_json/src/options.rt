@@ -3,15 +3,15 @@
 ghost use Rattle.std.specs.Prelude.{◌≡◌, ◌≤◌, IfSome, option_map};
 ghost use Rattle.printed_json.specs.Options.{behind, mark_in, last_mark_in, options_of};
 
-/// What stands behind these octets, where the text begins with them.
+/// What follows these bytes, where the text begins with them.
 fn behind<'a>(front: &[u8], text: &'a [u8]) -> Option<&'a [u8]>
     ensures { option_map (λ rest. rest.now) result ≡ behind front.now text.now }
 {
     text.strip_prefix(front)
 }
 
-/// This bit, where the text begins with its letters, or 0, where it begins with a dash, and what
-/// stands behind that.
+/// This bit, where the text begins with its letters, or 0, where it begins with a dash; and what
+/// follows.
 #[tactic(auto, unfolding(crate::specs::Options::mark_in))]
 fn mark_in<'a>(bit: u8, letters: &[u8], text: &'a [u8]) -> Option<(u8, &'a [u8])>
     ensures value { option_map (λ found. (found.0, found.1.now)) result
@@ -25,7 +25,7 @@ fn mark_in<'a>(bit: u8, letters: &[u8], text: &'a [u8]) -> Option<(u8, &'a [u8])
     Some((0, rest))
 }
 
-/// The lowest bit, of which no more stands in the text.
+/// The lowest bit, with which the text ends.
 fn last_mark_in(text: &[u8]) -> Option<u8>
     ensures value { result ≡ last_mark_in text.now }
     ensures bound { IfSome result (λ bit. bit ≤ 1) }
@@ -37,8 +37,8 @@ fn last_mark_in(text: &[u8]) -> Option<u8>
     }
 }
 
-/// The octet of the options whose letters stand here. The highest bit is not printed, and is
-/// taken as 0.
+/// The byte of the options whose letters stand here. The highest bit is not printed, and counts as
+/// 0.
 #[tactic(auto, unfolding(crate::specs::Options::options_of))]
 pub(crate) fn options_of(text: &[u8]) -> Option<u8>
     ensures { result ≡ options_of text.now }

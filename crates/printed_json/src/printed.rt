@@ -1,4 +1,4 @@
-//! What a router prints in JSON, sorted out.
+//! What a router prints in JSON, sorted by kind.
 
 ghost use Rattle.std.specs.Prelude.{◌≡◌, ◌≢◌, Some, None, Err, IfOk, option_map, true, false};
 ghost use Rattle.std.specs.List.{filter_map};
@@ -35,7 +35,7 @@ fn value_of<'a, A: Allocator + Copy>(
     }
 }
 
-/// What a document tells, sorted out.
+/// What a document contains, sorted by kind.
 fn printed_of<A: Allocator + Copy>(alloc: A, json: &Value<'_, A>) -> Result<Printed<A>, AllocError>
     ensures sightings { IfOk result (λ printed. printed.sightings.items
         ≡ filter_map sighting_of (told_in (value_view json.now))) }
@@ -49,8 +49,12 @@ fn printed_of<A: Allocator + Copy>(alloc: A, json: &Value<'_, A>) -> Result<Prin
 }
 
 /// Reads what a router prints (FRR) for `show ip ospf database` with `router json`, and with
-/// `network`, `summary`, `asbr-summary` or `external`. The text is one JSON document; members of
-/// other names have no part in it. No kind of an area is printed.
+/// `network`, `summary`, `asbr-summary` or `external`. The text is one JSON document; members with
+/// other names are ignored. It does not have the kinds of areas.
+///
+/// # Errors
+///
+/// The text is not JSON, it has no database that is read, or memory ran out: see [`JsonFault`].
 pub fn read_printed_json<A: Allocator + Copy>(
     alloc: A,
     text: &[u8],
@@ -79,8 +83,8 @@ pub fn read_printed_json<A: Allocator + Copy>(
     Ok(printed_of(alloc, &json)?)
 }
 
-/// Whether a text can only be an object in JSON: its first word begins with a brace. What a router
-/// prints in JSON does; `read_printed_json` tells whether it is a database.
+/// Whether a text can only be an object in JSON: its first word begins with a brace. This holds of
+/// what a router prints in JSON; [`read_printed_json`] decides whether it is a database.
 pub fn is_printed_json(text: &[u8]) -> bool
     ensures { result ≡ is_printed_json (words text.now) }
 {

@@ -67,7 +67,7 @@ fn link_in<A: Allocator>(json: &Value<'_, A>) -> Option<Link>
     })
 }
 
-/// Octets, and behind them those of the links that these members are.
+/// These bytes, and after them those of the links that these members are.
 fn with_links<'a, A: Allocator + Copy>(
     mut octets: Vec<u8, A>,
     members: &[(&'a str, Value<'a, A>)],
@@ -85,7 +85,7 @@ fn with_links<'a, A: Allocator + Copy>(
     Ok(Some(octets))
 }
 
-/// The octets behind the header of a router-LSA with this octet of the bits V, E and B.
+/// The bytes after the header of a router-LSA with this byte of the bits V, E and B.
 #[tactic(auto, unfolding(crate::specs::Bodies::router_in))]
 pub(crate) fn router_in<A: Allocator + Copy>(
     alloc: A,

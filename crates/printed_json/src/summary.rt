@@ -10,7 +10,7 @@ use lsa_codec::LS_INFINITY;
 use printed_databases::fields::Summary;
 use std::alloc::Allocator;
 
-/// The fields behind the header.
+/// The fields after the header.
 #[tactic(auto, unfolding(crate::specs::Bodies::summary_in))]
 pub(crate) fn summary_in<A: Allocator>(json: &Value<'_, A>) -> Option<Summary>
     ensures value { result ≡ summary_in (value_view json.now) }

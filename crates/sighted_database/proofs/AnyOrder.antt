@@ -1,4 +1,4 @@
--- What is joined of the same sightings and areas, in any order, each told any number of times.
+-- What is joined of the same sightings and areas, in any order, each any number of times.
 use Rattle.std.proofs.Common.{◌≡◌, ℕ, refl, sym, ◌∙◌, ap, subst, inl, inr, Bool, true, false, cond, List, [], ◌∷◌, map, not, ◌==◌, ◌&&◌}
 use Rattle.std.specs.Prelude.{All, Contains, Some}
 use Rattle.std.specs.List.{Any, filter}
@@ -79,7 +79,7 @@ module _ {A : Type 0} where
       subst C (ap (λ (x : Sighting A). x.scope) a.3 ∙ a.4) (in_map (λ (x : Sighting A). x.scope) xs a.0 a.1 a.2) in
       from_map (λ (x : Sighting A). x.scope) ys scope (subst D alike within)
 
-  -- each scope that is told of these stands among the scopes of the others
+  -- each scope of these stands among the scopes of the others
   found : (areas others : List ToldArea) (xs ys : List (Sighting A)) (scopes : List Scope) → AreSame areas others
       → map place_and_octets xs ≡ map place_and_octets ys → AreScopes others ys scopes → (scope : Scope) → IsTold areas xs scope → Contains scopes scope
   found areas others xs ys scopes same e s AsWide h = s.as_there

@@ -1,4 +1,4 @@
--- How many LSAs a scope has, and their octets, while the sightings are looked through.
+-- The number of LSAs of a scope, and their bytes, while the sightings are looked through.
 use Rattle.std.proofs.Common.{◌≡◌, ℕ, ◌+◌, ◌≤◌, true, false, refl, sym, ◌∙◌, ap, List, [], ◌∷◌, ◌++◌, length, map, arith}
 use Rattle.std.specs.List.{concat, filter}
 use Rattle.std.proofs.lemmas.List.{append-nil, length-append, map-append}

@@ -4,7 +4,7 @@ use Rattle.std.specs.Prelude.{All}
 use Rattle.std.proofs.lemmas.List.{map-append, take_more}
 use Rattle.std.proofs.lemmas.List.Elements.{All-append, All-cons, All-nil}
 
--- one item more of those looked at
+-- one more item of those that were looked at
 pub item_more : {X : Type 0} (xs : List X) (i : ℕ) (x : X) → i < length xs → x ≡ get_or xs i x → take (i + 1) xs ≡ take i xs ++ x ∷ []
 item_more {X} xs i x l e = take_more xs i x l ∙ ap (λ (z : X). take i xs ++ z ∷ []) (sym e)
 

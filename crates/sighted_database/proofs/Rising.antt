@@ -31,7 +31,7 @@ tied Greater Greater e h k = cc
 abbrev Before : Scope → Scope → Type 0
 Before a b = scope_cmp a b ≡ Less
 
--- x stands behind none of these
+-- x stands after none of these
 abbrev pub ReachesAll : List Scope → Scope → Type 0
 ReachesAll p x = All (λ y. is_lt (scope_cmp x y) ≡ false) p
 
@@ -56,7 +56,7 @@ module _ (p : List Scope) (x : Scope) (up : ReachesAll p x) (scopes : List Scope
   abbrev last : ℕ
   last = length scopes - 1
 
-  -- the last of the scopes is x, where x does not stand behind it
+  -- the last of the scopes is x, where x does not stand after it
   pub known : is_behind scopes x ≡ false → AreOnce (p ++ x ∷ []) scopes
   known n = record {
     order = k.order;

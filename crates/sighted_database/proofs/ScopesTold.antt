@@ -1,4 +1,4 @@
--- The scopes that are told, each once, are those of the database.
+-- The scopes of the reports, each once, are those of the database.
 use Rattle.std.proofs.Common.{◌≡◌, ℕ, zero, suc, ◌<◌, inl, inr, refl, sym, ◌∙◌, ap, subst, List, [], ◌∷◌, ◌++◌, length, get_or, map, arith}
 use Rattle.std.specs.Prelude.{Contains, IsPermutation}
 use Rattle.std.specs.List.{Any}

@@ -1,5 +1,5 @@
--- The database that sightings make: of each LSA the newest instance, in the section of its scope; flushed LSAs are left out
--- or kept.
+-- The database that sightings make: the newest instance of each LSA, in the section of its scope. Flushed LSAs are
+-- left out or kept.
 use Rattle.std.specs.Prelude.{◌≡◌, ◌⊎◌, Bool, List, map, All, AllPairs, Contains, Option, None, Some, ◌==◌, ◌&&◌, not}
 use Rattle.std.specs.List.{Any, list_any}
 use Rattle.std.specs.declared.cmp.Ordering.TheVariants.{Less}
@@ -15,11 +15,11 @@ use Rattle.lsa_instances.specs.Newest.{AreNewest, lsas_of_scope}
 use Rattle.lsa_instances.specs.Order.{scope_cmp}
 use Rattle.lsdb.specs.Lists.{AreaHead, SectionLsas, Lists}
 
--- whether a file tells that the area is a stub area
+-- whether a file reports the area as a stub area
 abbrev pub any_stub : List ToldArea → AreaId → Bool
 any_stub areas id = list_any (λ area. is_stub_kind area.kind && (area.id.0 == id.0)) areas
 
--- the backbone is no stub area, whatever is told (RFC 2328, 3.6)
+-- the backbone is never a stub area, whatever files report (RFC 2328, 3.6)
 abbrev pub is_stub : List ToldArea → AreaId → Bool
 is_stub areas id = not (is_backbone id) && any_stub areas id
 
@@ -31,7 +31,7 @@ head areas AsWide = None
 abbrev pub section : {A : Type 0} → List ToldArea → List (Sighting A) → Scope → SectionLsas
 section areas newest scope = record { area = head areas scope; lsas = lsas_of_scope scope newest }
 
--- the scope of an area that is told, or of an LSA that stands
+-- the scope of an area that is reported, or of an LSA that stands
 abbrev pub IsTold : {A : Type 0} → List ToldArea → List (Sighting A) → Scope → Type 0
 IsTold areas newest AsWide = Unit {0}
 IsTold areas newest (Area id) = Any (λ area. area.id ≡ id) areas ⊎ Any (λ x. x.scope ≡ Area id) newest
@@ -44,13 +44,13 @@ pub record AreScopes {A : Type 0} (areas : List ToldArea) (newest : List (Sighti
   pub lsas_there : All (λ x. Contains scopes x.scope) newest
   pub as_there : Contains scopes AsWide
 
--- what is told of LSAs and areas, joined: the newest of the LSAs, and the scopes
+-- the LSAs and areas that files report, joined: the newest of the LSAs, and the scopes
 pub record Joining {A : Type 0} (flushed : FlushedLsas) (told : List (Sighting A)) (areas : List ToldArea) : Type 0 where
   pub newest : List (Sighting A)
   pub scopes : List Scope
   pub are_newest : AreNewest flushed told newest
   pub are_scopes : AreScopes areas newest scopes
 
--- the sections: the areas, and behind them the LSAs of AS scope
+-- the sections: the areas, and after them the LSAs of AS scope
 abbrev pub joined : {A : Type 0} {flushed : FlushedLsas} {told : List (Sighting A)} {areas : List ToldArea} → Joining flushed told areas → Lists
 joined {A} {flushed} {told} {areas} joining = map (section areas joining.newest) joining.scopes

@@ -1,4 +1,4 @@
--- Why what is told makes no database.
+-- Why sightings and areas make no database.
 use Rattle.std.specs.Prelude.{Bool, List, length, ◌+◌, nat_lt, not, Option, None, Some, if◌then◌else◌}
 use Rattle.std.specs.List.{list_any}
 use Rattle.lsa_codec.specs.Key.{key_of}
@@ -10,7 +10,7 @@ use Rattle.sighted_database.specs.declared.fault.JoinFault.TheVariants.{Misplace
 use Rattle.sighted_database.specs.Joining.{head}
 use Rattle.std.specs.Prelude.{[]}
 
--- an LSA of AS scope that is told in an area, or one of another type that is told outside of all areas
+-- an LSA of AS scope that is reported in an area, or one of another type that is reported outside of all areas
 abbrev pub is_misplaced : {A : Type 0} → Sighting A → Bool
 is_misplaced x = not (is_in_scope (head [] x.scope) (key_of x.lsa))
 
@@ -18,7 +18,8 @@ is_misplaced x = not (is_in_scope (head [] x.scope) (key_of x.lsa))
 abbrev pub is_overfull : SectionLsas → Bool
 is_overfull section = nat_lt (limit_of section.area) (length section.lsas)
 
--- the first of the faults in this order: an LSA in a wrong scope, too many areas, too many LSAs in a section, too long a dump
+-- the first of the faults in this order: an LSA in a wrong scope, too many areas, too many LSAs in a section, too long
+-- a dump
 abbrev pub fault_of : {A : Type 0} → List (Sighting A) → Lists → Option JoinFault
 fault_of newest db =
     if list_any is_misplaced newest then Some MisplacedLsa else

@@ -1,4 +1,4 @@
-//! What files tell of areas.
+//! What files report about areas.
 
 ghost use Rattle.std.specs.Prelude.{◌≡◌};
 ghost use Rattle.sighted_database.specs.Joining.{any_stub, is_stub};
@@ -6,14 +6,14 @@ ghost use Rattle.sighted_database.specs.Joining.{any_stub, is_stub};
 use lsa_codec::AreaId;
 use lsa_instances::ToldArea;
 
-/// Whether a file tells that the area is a stub area. The backbone is none, whatever is told.
+/// Whether a file reports the area as a stub area. The backbone is never one (RFC 2328, 3.6).
 pub(crate) fn is_stub(areas: &[ToldArea], id: AreaId) -> bool
     ensures { result ≡ is_stub areas.now id }
 {
     id.0 != AreaId::BACKBONE.0 && any_stub(areas, id)
 }
 
-/// Whether the area is told to be a stub area.
+/// Whether one of the reports has the area as a stub area.
 fn any_stub(areas: &[ToldArea], id: AreaId) -> bool
     ensures { result ≡ any_stub areas.now id }
 {

@@ -6,12 +6,12 @@ ghost use Rattle.sighted_database.specs.declared.fault.JoinFault.TheVariants.{Ou
 use std::alloc::{AllocError, AllocFailed};
 use thiserror::Error;
 
-/// Why sightings make no database. Of several faults the first in this order is told, and want of
-/// memory may stand in place of any.
+/// Why sightings make no database. The first fault in this order is returned. `OutOfMemory` may
+/// stand in place of any.
 #[derive(Clone, Copy, Debug, PartialEq, Eq, Error)]
 pub enum JoinFault {
-    /// An LSA of AS scope (type 5 or 11) is told in an area, or one of another type outside of all
-    /// areas.
+    /// An LSA of AS scope (type 5 or 11) is reported in an area, or one of another type outside of
+    /// all areas.
     #[error("MisplacedLsa")]
     MisplacedLsa,
     /// More than 64 areas.
@@ -20,10 +20,10 @@ pub enum JoinFault {
     /// An area has more than 8,192 LSAs, or there are more than 65,535 of AS scope.
     #[error("TooManyLsas")]
     TooManyLsas,
-    /// The dump would have more than 16,777,216 octets.
+    /// The dump would have more than 16,777,216 bytes.
     #[error("TooLong")]
     TooLong,
-    /// A growth was refused.
+    /// Memory ran out.
     #[error("OutOfMemory")]
     OutOfMemory,
 }

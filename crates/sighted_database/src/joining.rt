@@ -1,4 +1,4 @@
-//! Sightings joined to a database.
+//! Sightings joined into a database.
 
 ghost use Rattle.std.specs.Prelude.{◌≡◌, ◌⊎◌, All, IfOk, IfErr, Some, map, List};
 ghost use Rattle.lsdb.specs.Lists.{Lists, IsDatabase};
@@ -16,13 +16,14 @@ use lsa_instances::{FlushedLsas, Scope, Sighting, ToldArea, keys_rise, newest};
 use lsdb::{Database, LONGEST_DUMP, MOST_AREAS, text_laws};
 use std::alloc::Allocator;
 
-/// The database of which the sections are the newest of the sightings (flushed LSAs left out or
-/// kept at MaxAge, as is told), and its areas those that
-/// are told and those that have LSAs, with the kinds that are told: an area that is nowhere told
-/// to be a stub area is ordinary.
+/// The database whose sections have the newest instance of each LSA among the sightings; flushed
+/// LSAs are left out, or kept at MaxAge, as `flushed` says. Its areas are those that are reported
+/// and those that have LSAs. An area is a stub area where a report says so, and else ordinary; the
+/// backbone is always ordinary.
 ///
-/// Of several faults the first in the order of [`JoinFault`] is told, and `OutOfMemory` may stand
-/// in place of any.
+/// # Errors
+///
+/// The first fault in the order of [`JoinFault`]; `OutOfMemory` may stand in place of any.
 pub fn join<A: Allocator + Copy>(
     alloc: A,
     flushed: FlushedLsas,
@@ -72,7 +73,7 @@ fn database_of<A: Allocator + Copy>(
     loaded(alloc, &text)
 }
 
-/// The database that the text is known to spell.
+/// The database that the text is known to spell, byte for byte.
 fn loaded<A: Allocator + Copy>(alloc: A, octets: &[u8]) -> Result<Database<A>, JoinFault>
     requires { (db : Lists) × IsDatabase db × (octets.now ≡ text db) }
     ensures database { IfOk result (λ db. IsDatabase (lists_of db)) }

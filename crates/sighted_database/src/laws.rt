@@ -10,8 +10,9 @@ ghost use Rattle.sighted_database.specs.Joining.{Joining, joined};
 use lsa_instances::newest_in_any_order;
 use std::alloc::Allocator;
 
-/// What [`join`](crate::join) makes depends on which sightings and which areas are told, and not
-/// on their order, as of files that are read in another order, nor on how often each is told.
+/// What [`join`](crate::join) makes depends on which sightings and areas there are. It depends
+/// neither on their order, as of files that are read in another order, nor on how often each is
+/// repeated.
 ///
 /// The function does nothing: its contract is the law.
 pub fn joined_in_any_order<A: Allocator>()

@@ -1,9 +1,9 @@
-//! Sightings of LSAs joined to a link state database, and so to its dump.
+//! Sightings of LSAs, joined into a link state database and so into its dump.
 //!
-//! Files tell sightings: instances of LSAs, each with its scope; and areas, each with its kind.
-//! [`join`] makes the database of which the sections are the newest of them. Its dump is written
-//! by [`lsdb::Database::dump`]. It depends on which sightings and areas there are, and not on
-//! their order.
+//! Files report sightings, which are instances of LSAs, each with its scope; and areas, each with
+//! its kind. [`join`] makes the database whose sections have the newest of them.
+//! [`lsdb::Database::dump`] writes its dump. It depends on which sightings and areas there are, and
+//! not on their order.
 #![tactic(auto)]
 
 mod area;

@@ -11,7 +11,7 @@ use lsa_instances::{Scope, Sighting, ToldArea};
 use std::alloc::{AllocError, Allocator};
 use std::cmp::Ordering;
 
-/// Compares two scopes: areas by their IDs, and behind them the whole AS.
+/// Compares two scopes: areas by their IDs, and after them the whole AS.
 pub(crate) fn compare_scopes(a: Scope, b: Scope) -> Ordering
     ensures { result ≡ scope_cmp a b }
 {
@@ -43,7 +43,7 @@ fn put_scopes<A: Allocator + Copy>(
     Ok(())
 }
 
-/// The scopes that are told, in any order, some of them often.
+/// The scopes of the areas and the sightings, in any order, some of them repeated; and the AS.
 fn scopes_told<A: Allocator + Copy>(
     alloc: A,
     areas: &[ToldArea],
@@ -67,7 +67,7 @@ fn sorted<A: Allocator + Copy>(scopes: Vec<Scope, A>) -> Result<Vec<Scope, A>, A
     Ok(scopes)
 }
 
-/// Scopes that are sorted, each once.
+/// Sorted scopes, each once.
 fn each_once<A: Allocator + Copy>(alloc: A, sorted: &[Scope]) -> Result<Vec<Scope, A>, AllocError>
     requires { IsSorted scope_cmp sorted.now }
     ensures { IfOk result (λ once. AreOnce sorted.now once.items) }
@@ -81,7 +81,7 @@ fn each_once<A: Allocator + Copy>(alloc: A, sorted: &[Scope]) -> Result<Vec<Scop
     Ok(once)
 }
 
-/// Whether the scope stands behind the last of these.
+/// Whether the scope stands after the last of these.
 fn is_behind(scopes: &[Scope], scope: Scope) -> bool
     ensures behind { result ≡ is_behind scopes.now scope }
     ensures wide { IsWide scope }

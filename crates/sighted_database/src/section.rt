@@ -18,10 +18,10 @@ use lsa_instances::{Scope, Sighting, ToldArea, has_as_scope};
 use lsdb::{MOST_LSAS_OF_AREA, MOST_LSAS_OF_AS};
 use std::alloc::{AllocError, Allocator};
 
-/// The first octets of a dump: `OSWP`, and the version.
+/// The first bytes of a dump: `OSWP`, and the version.
 const START: &[u8] = b"OSWP\x01";
 
-/// Whether the LSA is told in a scope that is not that of its type.
+/// Whether the LSA is reported in a scope that is not that of its type.
 fn is_misplaced<A: Allocator + Copy>(sighting: &Sighting<A>) -> bool
     ensures { result ≡ is_misplaced sighting.now }
 {
@@ -32,7 +32,7 @@ fn is_misplaced<A: Allocator + Copy>(sighting: &Sighting<A>) -> bool
     }
 }
 
-/// Whether one of the LSAs is told in a scope that is not that of its type.
+/// Whether one of the LSAs is reported in a scope that is not that of its type.
 pub(crate) fn any_misplaced<A: Allocator + Copy>(newest: &[Sighting<A>]) -> bool
     ensures any { result ≡ list_any is_misplaced newest.now }
     ensures accepted { result ≡ false → All (λ x. IsAccepted x.lsa) newest.now }
@@ -46,7 +46,7 @@ pub(crate) fn any_misplaced<A: Allocator + Copy>(newest: &[Sighting<A>]) -> bool
     false
 }
 
-/// How many LSAs the section of this scope may have.
+/// The number of LSAs that the section of this scope may have.
 fn limit_of(scope: Scope) -> usize
     ensures { result ≡ limit_of (head [] scope) }
 {
@@ -62,7 +62,7 @@ fn is_of_scope<A: Allocator + Copy>(scope: Scope, sighting: &Sighting<A>) -> boo
     compare_scopes(sighting.scope, scope).is_eq()
 }
 
-/// How many LSAs the scope has, and their octets.
+/// The number of LSAs of the scope, and their bytes.
 fn lsas_of_scope<A: Allocator + Copy>(
     alloc: A,
     newest: &[Sighting<A>],
@@ -83,7 +83,7 @@ fn lsas_of_scope<A: Allocator + Copy>(
     Ok((count, octets))
 }
 
-/// The ID of an area and its kind, and nothing for the LSAs of AS scope.
+/// Writes the ID of an area and its kind, and nothing for the LSAs of AS scope.
 fn put_head<A: Allocator + Copy>(
     out: &mut Vec<u8, A>,
     areas: &[ToldArea],

@@ -1,4 +1,4 @@
--- What is told by the rest of a walk.
+-- What the rest of a walk contains.
 use Rattle.std.proofs.Common.{◌≡◌, ℕ, suc, ◌+◌, ◌<◌, ◌≤◌, true, false, cond, eqb, List, [], ◌∷◌, ◌++◌, length, get_or, take, drop, Option, Some, None, refl, sym, ap, ◌∙◌, add-one, append_assoc, arith}
 use Rattle.std.specs.Prelude.{map}
 use Rattle.std.specs.List.{cons_option}
@@ -10,7 +10,7 @@ use Rattle.snmp_walk.specs.Objects.{Object, object_at, later_objects}
 use Rattle.snmp_walk.specs.ObjectsTold.{told_by, told_in}
 use Rattle.snmp_walk.specs.steps.LinesTold.{told_object, told_at, told_behind}
 
--- what the later objects tell
+-- what the later objects contain
 unfoldable pub later_told : {A : Type 0} → List ℕ → List (ObjectTold A)
 later_told text = map told_by (later_objects text)
 

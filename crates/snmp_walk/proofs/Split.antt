@@ -1,4 +1,4 @@
--- The first part of a text that is split, by the position of the first octet at which it is.
+-- The first part of a text that is split, by the position of the first byte at which it is.
 use Rattle.std.proofs.Common.{◌≡◌, ℕ, ◌+◌, ◌<◌, Bool, List, [], ◌∷◌, length, take, drop, Some, None, inl, inr, ◌-◌, ◌∙◌, subst, arith}
 use Rattle.std.specs.List.{slice_split, position, position_or_len}
 use Rattle.std.proofs.lemmas.Bool.{cases_lt, cond-true, cond-false, lt-ltb, le-ltb}

@@ -8,7 +8,7 @@ abbrev pub ◌>>=◌ : {A B : Type 0} → Option A → (A → Option B) → Opti
 (Some x) >>= f = f x
 None >>= f = None
 
--- the value of decimal digits that stand behind the number n
+-- the value of decimal digits that follow the number n
 abbrev pub digits_after : ℕ → List ℕ → ℕ
 digits_after n [] = n
 digits_after n (digit ∷ digits) = digits_after (10 * n + (digit - 48)) digits
@@ -17,7 +17,7 @@ digits_after n (digit ∷ digits) = digits_after (10 * n + (digit - 48)) digits
 unfoldable pub within : ℕ → ℕ → List ℕ → Option ℕ
 within max n digits = if all_ascii_digits digits && nat_le (digits_after n digits) max then Some (digits_after n digits) else None
 
--- a decimal number of 32 bits
+-- a decimal number of at most 32 bits
 unfoldable pub number_of : List ℕ → Option ℕ
 number_of word = if nat_lt 0 (length word) then within 0xffffffff 0 word else None
 
@@ -40,12 +40,12 @@ type_named word =
 abbrev pub arc_of : List ℕ → Option ℕ
 arc_of word = if is_some (number_of word) then number_of word else type_named word
 
--- the arcs that these words spell, behind those that were spelled before
+-- the arcs that these words spell, after those that were spelled before
 unfoldable pub arcs_behind : List ℕ → List (List ℕ) → Option (List ℕ)
 arcs_behind arcs [] = Some arcs
 arcs_behind arcs (word ∷ words) = arc_of word >>= (λ arc. arcs_behind (arcs ++ arc ∷ []) words)
 
--- what the columns of the tables of LSAs are called behind the name of the table, by their numbers in the tables that
+-- what the columns of the tables of LSAs are called after the name of the table, by their numbers in the tables that
 -- are not of areas; those of ospfLsdbTable have one more, since ospfLsdbAreaId is the first
 unfoldable pub column_named : List ℕ → Option ℕ
 column_named word =
@@ -59,7 +59,7 @@ column_named word =
     else if bytes_eq word (codes "Advertisement") then Some 7
     else None
 
--- a table and a column; what is not needed here is taken as the table 0, which there is none of
+-- a table and a column; what is not needed here counts as table 0, which does not exist
 abbrev pub in_table : ℕ → ℕ → Option ℕ → ℕ × ℕ
 in_table table before None = (0, 0)
 in_table table before (Some column) = (table, column + before)
@@ -76,7 +76,7 @@ abbrev pub in_area_table : List ℕ → Option (List ℕ) → ℕ × ℕ
 in_area_table word None = in_external_table word (behind (codes "ospfExtLsdb") word)
 in_area_table word (Some column) = in_table 4 1 (column_named column)
 
--- the table and the column of an object of the OSPF-MIB, by its word there
+-- the table and the column that a word of the OSPF-MIB names
 unfoldable pub object_named : List ℕ → ℕ × ℕ
 object_named word = if bytes_eq word (codes "ospfImportAsExtern") then (2, 3) else in_area_table word (behind (codes "ospfLsdb") word)
 
@@ -88,8 +88,8 @@ abbrev pub named_head : Option (List ℕ) → Option (List ℕ)
 named_head None = None
 named_head (Some word) = Some (ospf ++ (object_named word).0 ∷ 1 ∷ (object_named word).1 ∷ [])
 
--- what the first word of a name stands for: nothing stands before the dot of `.1.3.6`, and `iso` is 1; with the MIB-2
--- alone, and with the OSPF-MIB
+-- what the first word of a name stands for: nothing stands before the dot of `.1.3.6`, and `iso` is 1. The other words
+-- come from MIB-2 and the OSPF-MIB
 unfoldable pub head_of : List ℕ → Option (List ℕ)
 head_of word =
     if bytes_eq word [] then Some []

@@ -1,4 +1,4 @@
--- The objects of a walk: lines NAME = VALUE, and the lines that go on with a value.
+-- The objects of a walk: lines NAME = VALUE, and the lines that continue a value.
 use Rattle.std.specs.Prelude.{ℕ, ◌==◌, ◌&&◌, Bool, false, List, [], ◌∷◌, codes, Option, Some, None, is_some, option_map, if◌then◌else◌}
 use Rattle.std.specs.List.{cons_option}
 use Rattle.snmp_walk.specs.Text.{line_feed, behind, first_word, behind_word}
@@ -8,29 +8,29 @@ pub record Object : Type 0 where
   pub name : List ℕ
   pub value : List ℕ
 
--- what stands behind the first word and ` = `
+-- what follows the first word and ` = `
 abbrev pub assigned : List ℕ → Option (List ℕ)
 assigned text = behind (codes " = ") (behind_word text)
 
--- whether a line begins an object: behind its first word stands ` = `
+-- whether an object begins on a line: ` = ` follows its first word
 abbrev pub begins_object : List ℕ → Bool
 begins_object text = is_some (assigned text)
 
--- whether here is the line feed before a line that begins an object
+-- whether a line feed is here, and a line follows on which an object begins
 abbrev pub ends_value : List ℕ → Bool
 ends_value [] = false
 ends_value (octet ∷ text) = octet == line_feed && begins_object text
 
--- a value goes on up to the line feed before the line that begins the next object, or to the end
+-- a value goes up to the line feed before the line on which the next object begins, or to the end
 unfoldable pub value_in : List ℕ → List ℕ
 value_in [] = []
 value_in (octet ∷ text) = if ends_value (octet ∷ text) then [] else octet ∷ value_in text
 
--- the object that begins here, at the front of a line
+-- the object that begins here, at the start of a line
 abbrev pub object_at : List ℕ → Option Object
 object_at text = option_map (λ value. record { name = first_word text; value = value_in value }) (assigned text)
 
--- those that begin at the front of a later line
+-- those that begin at the start of a later line
 unfoldable pub later_objects : List ℕ → List Object
 later_objects [] = []
 later_objects (octet ∷ text) = if octet == line_feed then cons_option (object_at text) (later_objects text) else later_objects text

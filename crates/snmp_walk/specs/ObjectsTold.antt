@@ -1,4 +1,4 @@
--- What the objects of a walk tell.
+-- What the objects of a walk contain.
 use Rattle.std.specs.Prelude.{ℕ, ◌==◌, ◌&&◌, Bool, not, List, length, map, Option, Some, None, if◌then◌else◌, Result, Ok, Err}
 use Rattle.lsa_codec.specs.declared.address.AreaId.{AreaId}
 use Rattle.lsa_codec.specs.declared.fault.LsaFault.{LsaFault}
@@ -25,7 +25,7 @@ abbrev pub same_key : Key → Key → Bool
 same_key a b = (a.kind == b.kind) && ((a.id.0 == b.id.0) && (a.adv.0 == b.adv.0))
 
 module _ {A : Type 0} where
-  -- that a row has no LSA
+  -- a row has no usable LSA
   abbrev pub fails : Row → RowFault → ObjectTold A
   fails row fault = Hole (holes.Row row fault)
 
@@ -50,7 +50,7 @@ module _ {A : Type 0} where
   decoded_told row octets (Err fault) = fails row (Refused fault)
   decoded_told row octets (Ok lsa) = if length lsa == octets then placed row lsa else fails row Longer
 
-  -- the octets are an accepted LSA, and nothing behind it
+  -- the bytes are an accepted LSA, and nothing follows it
   abbrev pub lsa_told : Row → List ℕ → ObjectTold A
   lsa_told row octets = decoded_told row (length octets) (decoded octets)
 
@@ -72,10 +72,10 @@ module _ {A : Type 0} where
   told_of subjects.Unreadable value = Hole holes.Name
   told_of subjects.Foreign value = Foreign
 
-  -- what an object tells, by its name and its value
+  -- what an object contains, by its name and its value
   abbrev pub told_by : Object → ObjectTold A
   told_by object = told_of (subject_of object.name) object.value
 
-  -- what each object of a walk tells
+  -- what each object of a walk contains
   unfoldable pub told_in : List ℕ → List (ObjectTold A)
   told_in text = map told_by (objects text)

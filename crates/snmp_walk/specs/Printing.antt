@@ -1,17 +1,17 @@
--- How net-snmp prints octets (its functions sprint_realloc_hexstring and sprint_realloc_asciistring).
+-- How net-snmp prints bytes (its functions sprint_realloc_hexstring and sprint_realloc_asciistring).
 use Rattle.std.specs.Prelude.{◌≡◌, ℕ, ◌==◌, ◌||◌, not, Bool, List, [], ◌∷◌, ◌++◌, codes, filter, if◌then◌else◌}
 use Rattle.hex.specs.Hex.{encode_upper}
 use Rattle.snmp_walk.specs.Text.{is_blank}
 
--- the digits of octets, two for each, with blanks between them in any places: a space behind each octet, and a line feed
--- behind each 16
+-- the digits of bytes, two for each, with blanks between them in any places: a space after each byte, and a line feed
+-- after each 16
 abbrev pub AreDigitsOf : List ℕ → List ℕ → Type 0
 AreDigitsOf octets text = filter (λ octet. not (is_blank octet)) text ≡ encode_upper octets
 
 abbrev pub hex_value : List ℕ → List ℕ
 hex_value text = codes "Hex-STRING:" ++ text
 
--- a quote (0x22) and a backslash (0x5c) stand behind a backslash
+-- a backslash stands before a quote (0x22) and before a backslash (0x5c)
 abbrev pub is_special : ℕ → Bool
 is_special octet = octet == 0x22 || octet == 0x5c
 

@@ -1,4 +1,4 @@
--- What a walk tells, sorted out.
+-- What a walk contains, sorted by kind.
 use Rattle.std.specs.Prelude.{Bool, true, false, Option, Some, None}
 use Rattle.lsa_instances.specs.declared.sighting.Sighting.{Sighting}
 use Rattle.snmp_walk.specs.declared.hole.Hole.{Hole}
@@ -32,7 +32,7 @@ module _ {A : Type 0} where
   hole_of tells.Nothing = None
   hole_of tells.Foreign = None
 
-  -- whether it is of the OSPF-MIB; of a name that can not be read nobody knows
+  -- whether it belongs to the OSPF-MIB; a name that cannot be read does not count
   abbrev pub is_of_mib : ObjectTold A → Bool
   is_of_mib (tells.Lsa row sighting) = true
   is_of_mib (tells.Kind area) = true

@@ -10,11 +10,11 @@ use Rattle.snmp_walk.specs.declared.subject.Subject.TheVariants.{Kind, Octets, C
 use Rattle.snmp_walk.specs.Text.{is_dot, behind}
 use Rattle.snmp_walk.specs.Names.{◌>>=◌, ospf, head_of, arcs_behind}
 
--- an arc that is one octet
+-- an arc that is one byte
 abbrev pub octet_of : ℕ → Option ℕ
 octet_of arc = if nat_lt arc 256 then Some arc else None
 
--- four arcs, the octets of an address, the highest first
+-- four arcs, the bytes of an address, the highest first
 unfoldable pub address_of : List ℕ → Option ℕ
 address_of (a ∷ b ∷ c ∷ d ∷ []) = do
   first ← octet_of a
@@ -50,7 +50,7 @@ abbrev pub kind_subject : Option ℕ → Subject
 kind_subject None = Unreadable
 kind_subject (Some area) = Kind (record { 0 = area })
 
--- the column with this number has the octets of the LSA
+-- the column with this number has the bytes of the LSA
 abbrev pub row_subject : ℕ → ℕ → Option Row → Subject
 row_subject octets column None = Unreadable
 row_subject octets column (Some row) = if column == octets then Octets row else Column row
@@ -66,7 +66,7 @@ entry_subject table column index =
     else if column == 3 then kind_subject (address_of index)
     else Other
 
--- the arcs behind that of the MIB: of a table, of its rows (1), of a column, and the index
+-- the arcs after that of the MIB: of a table, of its rows (1), of a column, and the index
 unfoldable pub inner_subject : List ℕ → Subject
 inner_subject (table ∷ entry ∷ column ∷ index) = if entry == 1 then entry_subject table column index else Other
 inner_subject _ = Other

@@ -1,4 +1,4 @@
--- Blanks, dots, and what stands behind the front of a text.
+-- Blanks, dots, and what follows the front of a text.
 use Rattle.std.specs.Prelude.{ℕ, ◌==◌, ◌||◌, Bool, List, length, take, drop, Option, Some, None, bytes_eq, if◌then◌else◌}
 use Rattle.std.specs.List.{position_or_len}
 
@@ -13,7 +13,7 @@ is_blank octet = octet == 0x20 || octet == 0x09 || octet == line_feed || octet =
 abbrev pub is_dot : ℕ → Bool
 is_dot octet = octet == 0x2e
 
--- what stands behind the front, where the text begins with it
+-- what follows the front, where the text begins with it
 abbrev pub behind : List ℕ → List ℕ → Option (List ℕ)
 behind front text = if bytes_eq (take (length front) text) front then Some (drop (length front) text) else None
 
@@ -21,6 +21,6 @@ behind front text = if bytes_eq (take (length front) text) front then Some (drop
 abbrev pub first_word : List ℕ → List ℕ
 first_word text = take (position_or_len is_blank text) text
 
--- the first blank, and what stands behind it
+-- the first blank, and what follows it
 abbrev pub behind_word : List ℕ → List ℕ
 behind_word text = drop (position_or_len is_blank text) text

@@ -1,4 +1,4 @@
--- What the values of objects say, as net-snmp prints them.
+-- The values of objects, as net-snmp prints them.
 use Rattle.std.specs.Prelude.{ℕ, ◌==◌, not, Bool, true, false, List, [], ◌∷◌, ◌++◌, codes, bytes_eq, filter, Option, Some, None, is_some, if◌then◌else◌, Result, Ok, Err}
 use Rattle.std.specs.List.{list_all}
 use Rattle.hex.specs.Hex.{decode_of}
@@ -8,7 +8,7 @@ use Rattle.lsa_instances.specs.declared.area.AreaKind.TheVariants.{Ordinary, Stu
 use Rattle.snmp_walk.specs.Text.{is_blank, behind, first_word}
 use Rattle.snmp_walk.specs.Names.{◌>>=◌}
 
--- what stands in place of a value where the agent shows no more objects: at the last name once more
+-- printed in place of a value where the agent has no more objects, after the last name once more
 abbrev pub is_end_of_view : List ℕ → Bool
 is_end_of_view value = is_some (behind (codes "No more variables left in this MIB View") value)
 
@@ -16,7 +16,7 @@ abbrev pub ok : {A E : Type 0} → Result A E → Option A
 ok (Ok x) = Some x
 ok (Err e) = None
 
--- two hexadecimal digits for each octet; blanks do not count
+-- two hexadecimal digits for each byte; blanks do not count
 abbrev pub pairs_of : List ℕ → Option (List ℕ)
 pairs_of text = ok (decode_of (filter (λ octet. not (is_blank octet)) text))
 
@@ -24,8 +24,8 @@ abbrev pub else_some : {A : Type 0} → Option A → A → A
 else_some (Some x) other = x
 else_some None other = other
 
--- octets between quotes (0x22), behind those that were read before. An octet behind a backslash (0x5c) stands for itself;
--- behind the closing quote stand blanks alone
+-- bytes between quotes (0x22), after those that were read before. A byte after a backslash (0x5c) stands for itself;
+-- only blanks follow the closing quote
 unfoldable pub quoted_behind : List ℕ → Bool → List ℕ → Option (List ℕ)
 quoted_behind octets escaped [] = None
 quoted_behind octets true (octet ∷ text) = quoted_behind (octets ++ octet ∷ []) false text
@@ -34,7 +34,7 @@ quoted_behind octets false (octet ∷ text) =
     else if octet == 0x5c then quoted_behind octets true text
     else quoted_behind (octets ++ octet ∷ []) false text
 
--- octets that are all printable, between quotes; none at all are printed as the quotes alone
+-- printable bytes between quotes; no bytes at all are printed as the quotes alone
 unfoldable pub string_in : List ℕ → Option (List ℕ)
 string_in value = behind (0x22 ∷ []) (else_some (behind (codes "STRING: ") value) value) >>= quoted_behind [] false
 
@@ -42,7 +42,7 @@ abbrev pub octets_behind : List ℕ → Option (List ℕ) → Option (List ℕ)
 octets_behind value None = string_in value
 octets_behind value (Some text) = pairs_of text
 
--- the octets of a value: in hexadecimal, or where they are all printable perhaps as a string
+-- the bytes of a value: in hexadecimal, or, where all are printable, perhaps as a string
 abbrev pub octets_in : List ℕ → Option (List ℕ)
 octets_in value = octets_behind value (behind (codes "Hex-STRING:") value)
 

@@ -1,4 +1,4 @@
-//! Why a text tells nothing of link state databases.
+//! Why a text is not read as a walk.
 
 ghost use Rattle.std.specs.Prelude.{◌≡◌};
 ghost use Rattle.snmp_walk.specs.declared.fault.WalkFault.TheVariants as faults;
@@ -9,7 +9,7 @@ use thiserror::Error;
 /// Why a text is not read as a walk.
 #[derive(Clone, Copy, Debug, PartialEq, Eq, Error)]
 pub enum WalkFault {
-    /// No line of it is an object of the OSPF-MIB.
+    /// No line of it has an object of the OSPF-MIB.
     #[error("NotAWalk")]
     NotAWalk,
     /// Memory ran out.

@@ -3,31 +3,31 @@
 use crate::row::Row;
 use lsa_codec::{AreaId, Key, LsaFault};
 
-/// What is missing in a walk, or can not be used: each is to be told, since the databases may lack
-/// an LSA for it.
+/// What is missing in a walk, or cannot be used. Each of these is reported, since the databases may
+/// lack an LSA because of it.
 #[derive(Clone, Copy, Debug, PartialEq, Eq)]
 pub enum Hole {
-    /// A row tells no LSA, for this reason.
+    /// A row has no usable LSA, for this reason.
     Row(Row, RowFault),
-    /// The value of `ospfImportAsExtern` of the area is none of the three kinds.
+    /// The value of `ospfImportAsExtern` of the area is not one of the three kinds.
     Kind(AreaId),
-    /// An object's name is written in an unknown way, or its index is none of its table.
+    /// An object's name has an unknown form, or its index does not fit its table.
     Name,
 }
 
-/// Why a row tells no LSA.
+/// Why a row has no usable LSA.
 #[derive(Clone, Copy, Debug, PartialEq, Eq)]
 pub enum RowFault {
-    /// The walk has other columns of the row, and not the column of octets: it was cut.
+    /// The walk has other columns of the row, but not the one with the bytes: it was cut.
     Missing,
-    /// The value is not printed as octets.
+    /// The value is not printed as bytes.
     NotOctets,
-    /// The octets are no accepted LSA, for this fault, which is never `OutOfMemory`.
+    /// The bytes are not an accepted LSA, for this fault, which is never `OutOfMemory`.
     Refused(LsaFault),
-    /// Octets stand behind the LSA.
+    /// Bytes follow the LSA.
     Longer,
-    /// The key in the octets is this one, and that of the index another.
+    /// The bytes have this key, and the index another one.
     OtherKey(Key),
-    /// The LSA is of the scope of an area, and stands in a table that is not of areas.
+    /// The LSA has area scope, and stands in a table that is not of areas.
     NoArea,
 }

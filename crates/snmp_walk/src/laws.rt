@@ -7,8 +7,8 @@ ghost use Rattle.snmp_walk.specs.Printing.{AreDigitsOf, between_quotes, hex_valu
 ghost use Rattle.snmp_walk.specs.Text.{is_blank};
 ghost use Rattle.snmp_walk.specs.Values.{octets_in};
 
-/// Octets are read from what net-snmp prints of them: in hexadecimal, as a string, and, as it
-/// prints none at all, as a string without the word `STRING`.
+/// Bytes are read from what net-snmp prints of them: in hexadecimal, as a string, and, where there
+/// are none at all, as a string without the word `STRING`.
 ///
 /// The function does nothing: its contract is the law.
 pub fn printed_octets_are_read()

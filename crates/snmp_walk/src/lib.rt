@@ -1,4 +1,4 @@
-//! What an SNMP walk of a router tells of its link state databases (RFC 4750, the OSPF-MIB).
+//! What an SNMP walk of a router contains of its link state databases (RFC 4750, the OSPF-MIB).
 //!
 //! A walk is what net-snmp's `snmpwalk` and `snmpbulkwalk` print, with `-On -Ox` or in the default
 //! form, with the MIB or without.

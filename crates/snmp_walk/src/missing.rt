@@ -1,4 +1,4 @@
-//! The rows of which a walk has other columns and not the octets.
+//! The rows of which a walk has other columns and not the bytes.
 
 ghost use Rattle.std.specs.Prelude.{◌≡◌, ◌++◌, IfOk, OnOk, not, map, filter};
 ghost use Rattle.std.specs.BTreeSet.{IsFromIterResult, IsOrdered, contains};
@@ -11,7 +11,7 @@ use crate::row::Row;
 use std::alloc::{AllocError, Allocator};
 use std::collections::BTreeSet;
 
-/// The row of another column than that of the octets.
+/// The row of a column other than the bytes.
 fn column_row<A: Allocator + Copy>(told: &ObjectTold<A>) -> Option<Row>
     ensures { result ≡ column_row told.now }
 {
@@ -21,7 +21,7 @@ fn column_row<A: Allocator + Copy>(told: &ObjectTold<A>) -> Option<Row>
     }
 }
 
-/// The row whose octets are there, be they an LSA or not.
+/// The row whose bytes are there, whether they are an LSA or not.
 fn octets_row<A: Allocator + Copy>(told: &ObjectTold<A>) -> Option<Row>
     ensures { result ≡ octets_row told.now }
 {
@@ -32,7 +32,7 @@ fn octets_row<A: Allocator + Copy>(told: &ObjectTold<A>) -> Option<Row>
     }
 }
 
-/// The rows of which there are other columns.
+/// The rows that have other columns.
 fn columns_of<A: Allocator + Copy>(
     alloc: A,
     told: &[ObjectTold<A>],
@@ -44,7 +44,7 @@ fn columns_of<A: Allocator + Copy>(
         .collect(alloc)
 }
 
-/// The rows whose octets are there.
+/// The rows whose bytes are there.
 fn octets_of<A: Allocator + Copy>(
     alloc: A,
     told: &[ObjectTold<A>],
@@ -71,7 +71,7 @@ fn without<A: Allocator + Copy>(
         .collect(alloc)
 }
 
-/// The rows that have other columns and no octets, each once, in order.
+/// The rows that have other columns and no bytes, each once, in order.
 pub(crate) fn rows_missing<A: Allocator + Copy>(
     alloc: A,
     told: &[ObjectTold<A>],
@@ -85,7 +85,7 @@ pub(crate) fn rows_missing<A: Allocator + Copy>(
     without(alloc, &columns, &octets)
 }
 
-/// Adds the rows to the holes.
+/// Adds the rows to the findings.
 pub(crate) fn add_missing<A: Allocator + Copy>(
     holes: &mut Vec<Hole, A>,
     rows: &[Row],

@@ -8,7 +8,7 @@ ghost use Rattle.snmp_walk.specs.Names.{within, number_of, type_named, arc_of, a
 use crate::text::first_dot;
 use std::alloc::{AllocError, Allocator};
 
-/// The value of decimal digits, where it has 32 bits.
+/// The value of decimal digits, where it fits in 32 bits.
 fn digits_value(digits: &[u8]) -> Option<u32>
     ensures { result ≡ within 0xffffffff 0 digits.now }
 {
@@ -76,7 +76,7 @@ fn arc_of(word: &[u8]) -> Option<u32>
     }
 }
 
-/// What stands before the first dot, and behind it.
+/// What stands before the first dot, and after it.
 #[tactic(auto, using(crate::proofs::Split::cut_none, crate::proofs::Split::cut_some, crate::proofs::Split::drop_one))]
 fn cut_at_dot(text: &[u8]) -> Option<(&[u8], &[u8])>
     ensures { MatchOption result (slice_split is_dot text.now ≡ text.now ∷ [])
@@ -90,7 +90,7 @@ fn cut_at_dot(text: &[u8]) -> Option<(&[u8], &[u8])>
     Some((front, &back[1..]))
 }
 
-/// The arcs that the words between dots spell, behind those that were spelled before.
+/// The arcs that the words between dots spell, after those that were spelled before.
 #[tactic(auto, using(crate::proofs::Names::arc_read, crate::proofs::Names::last_read, crate::proofs::Names::unread))]
 pub(crate) fn arcs_behind<A: Allocator + Copy>(
     front: Vec<u32, A>,
@@ -142,7 +142,7 @@ fn column_named(word: &[u8]) -> Option<u32>
     }
 }
 
-/// A table and a column of it. What is not needed here is taken as the table 0.
+/// A table and a column of it. What is not needed here counts as table 0.
 fn in_table(table: u32, before: u32, column: Option<u32>) -> (u32, u32)
     requires { (before ≤ 1) × IfSome column (λ column. column < 8) }
     ensures { result ≡ in_table table before column }
@@ -153,7 +153,7 @@ fn in_table(table: u32, before: u32, column: Option<u32>) -> (u32, u32)
     }
 }
 
-/// The table and the column of an object of the OSPF-MIB, by its word there.
+/// The table and the column that a word of the OSPF-MIB names.
 #[tactic(auto, unfolding(crate::specs::Names::object_named))]
 fn object_named(word: &[u8]) -> (u32, u32)
     ensures { result ≡ object_named word.now }

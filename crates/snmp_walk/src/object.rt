@@ -15,14 +15,14 @@ pub(crate) struct Object<'a> {
     pub(crate) value: &'a [u8],
 }
 
-/// What stands behind the first word and ` = `.
+/// What follows the first word and ` = `.
 fn assigned(text: &[u8]) -> Option<&[u8]>
     ensures { option_map (λ value. value.now) result ≡ assigned text.now }
 {
     text[word_len(text)..].strip_prefix(b" = ".as_slice())
 }
 
-/// Whether a line begins an object.
+/// Whether an object begins on this line.
 fn begins_object(text: &[u8]) -> bool
     ensures { result ≡ begins_object text.now }
 {
@@ -32,7 +32,7 @@ fn begins_object(text: &[u8]) -> bool
     }
 }
 
-/// Whether here is the line feed before a line that begins an object.
+/// Whether a line feed is here, and a line follows on which an object begins.
 fn ends_value(text: &[u8]) -> bool
     ensures { result ≡ ends_value text.now }
 {
@@ -42,7 +42,7 @@ fn ends_value(text: &[u8]) -> bool
     }
 }
 
-/// How many octets the value has at the front of the text: up to the line feed before the next
+/// The length in bytes of the value at the front of the text: up to the line feed before the next
 /// object.
 #[tactic(auto, using(crate::proofs::Values::value_ends, crate::proofs::Values::value_next, crate::proofs::Values::value_whole))]
 fn value_len(text: &[u8]) -> usize
@@ -57,7 +57,7 @@ fn value_len(text: &[u8]) -> usize
     text.len()
 }
 
-/// The object that begins here, at the front of a line.
+/// The object that begins here, at the start of a line.
 pub(crate) fn object_at(text: &[u8]) -> Option<Object<'_>>
     ensures { option_map
         (λ object. record { name = object.name.now; value = object.value.now })

@@ -1,4 +1,4 @@
-//! What one object of a walk tells.
+//! What one object of a walk contains.
 
 ghost use Rattle.std.specs.Prelude.{◌≡◌, IfOk, OnOk, ◌++◌, List, ℕ};
 ghost use Rattle.snmp_walk.specs.ObjectsTold.{same_key, kind_told, placed, lsa_told, octets_told, column_told, told_by, told_in};
@@ -13,7 +13,7 @@ use lsa_codec::{AreaId, Key, Lsa, LsaFault};
 use lsa_instances::{Scope, Sighting, ToldArea};
 use std::alloc::{AllocError, Allocator};
 
-/// What an object tells.
+/// What an object contains.
 #[derive(Debug, Drop)]
 pub(crate) enum ObjectTold<A: Allocator> {
     /// The LSA of a row.
@@ -22,11 +22,11 @@ pub(crate) enum ObjectTold<A: Allocator> {
     Kind(ToldArea),
     /// What is missing.
     Hole(Hole),
-    /// That there is a row.
+    /// Another column of a row.
     Row(Row),
-    /// It is an object of the MIB, and tells nothing.
+    /// An object of the MIB that is not needed here.
     Nothing,
-    /// It is no object of the MIB.
+    /// An object of another MIB.
     Foreign,
 }
 
@@ -37,7 +37,7 @@ fn same_key(a: Key, b: Key) -> bool
     a == b
 }
 
-/// What the value of `ospfImportAsExtern` tells.
+/// The kind of area in a value of `ospfImportAsExtern`.
 fn kind_told<A: Allocator + Copy>(area: AreaId, value: &[u8]) -> ObjectTold<A>
     ensures { result ≡ kind_told area value.now }
 {
@@ -70,7 +70,7 @@ fn placed<A: Allocator + Copy>(row: Row, lsa: Lsa<A>) -> ObjectTold<A>
     }
 }
 
-/// What the octets of a row tell.
+/// What the bytes of a row contain.
 fn lsa_told<A: Allocator + Copy>(
     alloc: A,
     row: Row,
@@ -91,7 +91,7 @@ fn lsa_told<A: Allocator + Copy>(
     }
 }
 
-/// What the column of octets tells.
+/// What the column with the bytes contains.
 fn octets_told<A: Allocator + Copy>(
     alloc: A,
     row: Row,
@@ -108,7 +108,7 @@ fn octets_told<A: Allocator + Copy>(
     }
 }
 
-/// What another column of a row tells.
+/// What another column of a row contains.
 fn column_told<A: Allocator + Copy>(row: Row, value: &[u8]) -> ObjectTold<A>
     ensures { result ≡ column_told row value.now }
 {
@@ -119,7 +119,7 @@ fn column_told<A: Allocator + Copy>(row: Row, value: &[u8]) -> ObjectTold<A>
     }
 }
 
-/// What an object tells.
+/// What an object contains.
 fn told_by<A: Allocator + Copy>(
     alloc: A,
     name: &[u8],
@@ -137,7 +137,7 @@ fn told_by<A: Allocator + Copy>(
     }
 }
 
-/// Adds what the object tells that begins here, at the front of a line.
+/// Adds what the object contains that begins here, at the start of a line.
 #[tactic(auto, unfolding(crate::specs::steps::LinesTold::told_at))]
 fn tell<A: Allocator + Copy>(
     alloc: A,
@@ -155,7 +155,7 @@ fn tell<A: Allocator + Copy>(
     }
 }
 
-/// Adds what the object tells that begins behind the line feed here, if it is one.
+/// Adds what the object contains that begins after the line feed here, if it is one.
 #[tactic(auto, unfolding(crate::specs::steps::LinesTold::told_behind))]
 fn tell_behind<A: Allocator + Copy>(
     alloc: A,
@@ -170,7 +170,7 @@ fn tell_behind<A: Allocator + Copy>(
     }
 }
 
-/// What each object of a walk tells.
+/// What each object of a walk contains.
 #[tactic(auto, using(crate::proofs::ObjectsTold::told_first, crate::proofs::ObjectsTold::told_next, crate::proofs::ObjectsTold::told_all))]
 pub(crate) fn tellings<A: Allocator + Copy>(
     alloc: A,

@@ -14,26 +14,26 @@ use std::alloc::{AllocError, Allocator};
 pub(crate) enum Subject {
     /// The kind of this area: `ospfImportAsExtern`.
     Kind(AreaId),
-    /// The octets of this row's LSA.
+    /// The bytes of this row's LSA.
     Octets(Row),
     /// Another column of this row.
     Column(Row),
     /// Another object of the MIB.
     Other,
-    /// The name, or the index in it, can not be read.
+    /// The name, or the index in it, cannot be read.
     Unreadable,
-    /// The object is none of this MIB.
+    /// The object does not belong to this MIB.
     Foreign,
 }
 
-/// The octet that an arc is.
+/// The byte that an arc is, where it is below 256.
 fn octet_of(arc: u32) -> Option<u8>
     ensures { result ≡ octet_of arc }
 {
     if arc < 256 { Some(arc as u8) } else { None }
 }
 
-/// The address whose octets are these four arcs.
+/// The address whose bytes are these four arcs, the highest first.
 #[tactic(auto, unfolding(crate::specs::Subjects::address_of))]
 fn address_of(arcs: &[u32]) -> Option<u32>
     ensures { result ≡ address_of arcs.now }
@@ -72,7 +72,7 @@ fn as_row(index: &[u32]) -> Option<Row>
     Some(Row { area: None, key })
 }
 
-/// The row of the table of the areas' LSAs.
+/// The row of the table of the LSAs of areas.
 #[tactic(auto, unfolding(crate::specs::Subjects::area_row))]
 fn area_row(index: &[u32]) -> Option<Row>
     ensures { result ≡ area_row index.now }
@@ -86,7 +86,7 @@ fn area_row(index: &[u32]) -> Option<Row>
     })
 }
 
-/// The subject of a row's object: the column of this number has the octets.
+/// The subject of a row's object: the column with this number has the bytes.
 fn row_subject(octets: u32, column: u32, row: Option<Row>) -> Subject
     ensures { result ≡ row_subject octets column row }
 {
@@ -127,7 +127,7 @@ fn entry_subject(table: u32, column: u32, index: &[u32]) -> Subject
     }
 }
 
-/// The subject of an object of the MIB, by the arcs behind that of the MIB.
+/// The subject of an object of the MIB, by the arcs after that of the MIB.
 #[tactic(auto, unfolding(crate::specs::Subjects::inner_subject))]
 fn inner_subject(arcs: &[u32]) -> Subject
     ensures { result ≡ inner_subject arcs.now }

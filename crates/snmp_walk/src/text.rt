@@ -4,7 +4,7 @@ ghost use Rattle.std.specs.Prelude.{◌≡◌, ◌≤◌, position, length};
 ghost use Rattle.std.specs.List.{position_or_len};
 ghost use Rattle.snmp_walk.specs.Text.{is_blank, is_dot};
 
-/// Whether an octet is a space, a tab, a line feed or a carriage return.
+/// Whether a byte is a space, a tab, a line feed or a carriage return.
 pub(crate) fn is_blank(octet: u8) -> bool
     ensures { result ≡ is_blank octet }
 {
@@ -18,7 +18,7 @@ fn first_blank(text: &[u8]) -> Option<usize>
     text.iter().position(|octet| is_blank(*octet))
 }
 
-/// How many octets stand before the first blank.
+/// The number of bytes before the first blank.
 #[tactic(auto, using(crate::proofs::Split::word_some, crate::proofs::Split::word_none))]
 pub(crate) fn word_len(text: &[u8]) -> usize
     ensures value { result ≡ position_or_len is_blank text.now }

@@ -1,4 +1,4 @@
-//! What the values of objects say, as net-snmp prints them.
+//! The values of objects, as net-snmp prints them.
 
 ghost use Rattle.std.specs.Prelude.{◌≡◌, IfOk, option_map, not, filter, false, []};
 ghost use Rattle.std.specs.List.{list_all};
@@ -10,7 +10,7 @@ use hex::FromHexError;
 use lsa_instances::AreaKind;
 use std::alloc::{AllocError, Allocator};
 
-/// Whether this stands in place of a value where the agent shows no more objects.
+/// Whether the agent printed this in place of a value, since it has no more objects.
 pub(crate) fn is_end_of_view(value: &[u8]) -> bool
     ensures { result ≡ is_end_of_view value.now }
 {
@@ -19,7 +19,7 @@ pub(crate) fn is_end_of_view(value: &[u8]) -> bool
         .is_some()
 }
 
-/// The octets that are not blank.
+/// The bytes that are not blank.
 fn without_blanks<A: Allocator + Copy>(alloc: A, text: &[u8]) -> Result<Vec<u8, A>, AllocError>
     ensures { IfOk result (λ digits. digits.items
         ≡ filter (λ octet. not (is_blank octet)) text.now) }
@@ -30,7 +30,7 @@ fn without_blanks<A: Allocator + Copy>(alloc: A, text: &[u8]) -> Result<Vec<u8, 
         .collect(alloc)
 }
 
-/// Octets of two hexadecimal digits each; blanks do not count.
+/// Bytes of two hexadecimal digits each; blanks do not count.
 fn pairs_of<A: Allocator + Copy>(alloc: A, text: &[u8]) -> Result<Option<Vec<u8, A>>, AllocError>
     ensures { IfOk result (λ octets. option_map (λ v. v.items) octets ≡ pairs_of text.now) }
 {
@@ -42,14 +42,14 @@ fn pairs_of<A: Allocator + Copy>(alloc: A, text: &[u8]) -> Result<Option<Vec<u8,
     }
 }
 
-/// Whether all of it is blank.
+/// Whether all bytes are blank.
 fn are_blanks(text: &[u8]) -> bool
     ensures { result ≡ list_all is_blank text.now }
 {
     text.iter().all(|octet| is_blank(*octet))
 }
 
-/// The octets up to the closing quote, behind which stand blanks alone.
+/// The bytes up to the closing quote, where only blanks follow it.
 fn quoted<A: Allocator + Copy>(alloc: A, text: &[u8]) -> Result<Option<Vec<u8, A>>, AllocError>
     ensures { IfOk result (λ octets. option_map (λ v. v.items) octets
         ≡ quoted_behind [] false text.now) }
@@ -74,7 +74,7 @@ fn quoted<A: Allocator + Copy>(alloc: A, text: &[u8]) -> Result<Option<Vec<u8, A
     Ok(None)
 }
 
-/// Octets that are all printable, between quotes; none at all are printed as the quotes alone.
+/// Printable bytes between quotes. No bytes at all are printed as the quotes alone.
 #[tactic(auto, unfolding(crate::specs::Values::string_in))]
 fn string_in<A: Allocator + Copy>(alloc: A, value: &[u8]) -> Result<Option<Vec<u8, A>>, AllocError>
     ensures { IfOk result (λ octets. option_map (λ v. v.items) octets ≡ string_in value.now) }
@@ -86,7 +86,7 @@ fn string_in<A: Allocator + Copy>(alloc: A, value: &[u8]) -> Result<Option<Vec<u
     }
 }
 
-/// The octets of a value: in hexadecimal, or where they are all printable perhaps as a string.
+/// The bytes of a value: in hexadecimal, or, where all are printable, perhaps as a string.
 pub(crate) fn octets_in<A: Allocator + Copy>(
     alloc: A,
     value: &[u8],
@@ -99,7 +99,7 @@ pub(crate) fn octets_in<A: Allocator + Copy>(
     }
 }
 
-/// The kind that the value of `ospfImportAsExtern` names, with a MIB and without.
+/// The kind of area that the value of `ospfImportAsExtern` names, with a MIB and without.
 fn kind_named(word: &[u8]) -> Option<AreaKind>
     ensures { result ≡ kind_named word.now }
 {
@@ -120,7 +120,7 @@ fn kind_named(word: &[u8]) -> Option<AreaKind>
     }
 }
 
-/// The kind of area that a value says.
+/// The kind of area in a value.
 #[tactic(auto, unfolding(crate::specs::Values::kind_in))]
 pub(crate) fn kind_in(value: &[u8]) -> Option<AreaKind>
     ensures { result ≡ kind_in value.now }

@@ -1,4 +1,4 @@
-//! What a walk tells.
+//! What a walk contains.
 
 ghost use Rattle.std.specs.Prelude.{◌≡◌, IfOk, IfErr, ◌⊎◌, true, false};
 ghost use Rattle.std.specs.List.{filter_map, list_any};
@@ -14,18 +14,18 @@ use crate::object_told::{ObjectTold, tellings};
 use lsa_instances::{Sighting, ToldArea};
 use std::alloc::{AllocError, Allocator, Global};
 
-/// What a walk tells, in the order of the walk.
+/// What a walk contains, in the order of the walk.
 #[derive(Debug, Drop)]
 pub struct Walk<A: Allocator = Global> {
-    /// The LSAs, octet for octet; a walk has no time stamps.
+    /// The LSAs, byte for byte; a walk has no time stamps.
     pub sightings: Vec<Sighting<A>, A>,
     /// The kinds of areas.
     pub kinds: Vec<ToldArea, A>,
-    /// What is missing, or can not be used.
+    /// What is missing, or cannot be used.
     pub holes: Vec<Hole, A>,
 }
 
-/// The LSA that an object tells.
+/// The LSA that an object contains.
 fn sighting_of<A: Allocator + Copy>(told: ObjectTold<A>) -> Option<Sighting<A>>
     ensures { result ≡ sighting_of told }
 {
@@ -35,7 +35,7 @@ fn sighting_of<A: Allocator + Copy>(told: ObjectTold<A>) -> Option<Sighting<A>>
     }
 }
 
-/// The kind of an area that an object tells.
+/// The kind of an area that an object contains.
 fn kind_of<A: Allocator + Copy>(told: &ObjectTold<A>) -> Option<ToldArea>
     ensures { result ≡ kind_of told.now }
 {
@@ -45,7 +45,7 @@ fn kind_of<A: Allocator + Copy>(told: &ObjectTold<A>) -> Option<ToldArea>
     }
 }
 
-/// The hole that an object tells.
+/// The finding that an object causes.
 fn hole_of<A: Allocator + Copy>(told: &ObjectTold<A>) -> Option<Hole>
     ensures { result ≡ hole_of told.now }
 {
@@ -55,7 +55,7 @@ fn hole_of<A: Allocator + Copy>(told: &ObjectTold<A>) -> Option<Hole>
     }
 }
 
-/// Whether it is of the OSPF-MIB; of a name that can not be read nobody knows.
+/// Whether it belongs to the OSPF-MIB. A name that cannot be read does not count.
 fn is_of_mib<A: Allocator + Copy>(told: &ObjectTold<A>) -> bool
     ensures { result ≡ is_of_mib told.now }
 {
@@ -85,7 +85,7 @@ fn kinds_of<A: Allocator + Copy>(
         .collect(alloc)
 }
 
-/// The holes that objects tell.
+/// The findings that objects cause.
 fn holes_of<A: Allocator + Copy>(
     alloc: A,
     told: &[ObjectTold<A>],
@@ -113,7 +113,7 @@ fn sightings_of<A: Allocator + Copy>(
 ///
 /// # Errors
 ///
-/// No object of the OSPF-MIB is there, or memory ran out.
+/// The text has no object of the OSPF-MIB, or memory ran out.
 pub fn read_walk<A: Allocator + Copy>(alloc: A, text: &[u8]) -> Result<Walk<A>, WalkFault>
     ensures sightings { IfOk result (λ walk. walk.sightings.items
         ≡ filter_map sighting_of (told_in text.now)) }

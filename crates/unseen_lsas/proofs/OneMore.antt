@@ -106,7 +106,7 @@ flip a b = by (eq_by_cmp lsa_cmp a b) (eq_by_cmp lsa_cmp b a) refl refl
 
 module _ (shown : List Instance) (old new : BTreeMap NamedLsa InstanceId) (one : Instance) (known : AreNewest shown old)
     (put : Updates lsa_cmp old new one.0 (Some (newest_with (get lsa_cmp old one.0) one.1))) where
-  -- whether an instance is shown of an LSA, and what all that are shown are older than
+  -- whether an instance of an LSA is shown, and what is newer than all that are shown
   abbrev IsTold : NamedLsa → Type 0
   IsTold lsa =
       (is_some (get lsa_cmp new lsa) ≡ list_any (is_same_lsa lsa) (shown ++ one ∷ []))

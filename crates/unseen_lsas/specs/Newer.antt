@@ -12,7 +12,7 @@ use Rattle.network_files.specs.declared.file_told.FileTold.{FileTold}
 use Rattle.unseen_lsas.specs.declared.named.NamedLsa.{NamedLsa}
 use Rattle.unseen_lsas.specs.Unseen.{has, lsa_cmp, named_at, shown_by}
 
--- an instance of an LSA, but for its age
+-- an instance of an LSA, whatever its age
 abbrev pub Instance : Type 0
 Instance = NamedLsa × InstanceId
 

@@ -1,4 +1,4 @@
--- The lines of LSAs that headers name, and of which the files show no instance, or older ones alone.
+-- The lines of LSAs that headers name, and of which the files show no instance, or only older ones.
 use Rattle.std.specs.Prelude.{◌≡◌, ℕ, List, ◌++◌, codes, flat_map, if◌then◌else◌}
 use Rattle.lsa_codec.specs.Spelling.{address_text}
 use Rattle.lsa_instances.specs.Texts.{key_text}

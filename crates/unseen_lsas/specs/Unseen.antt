@@ -16,7 +16,7 @@ use Rattle.lsa_instances.specs.Order.{place_of}
 use Rattle.network_files.specs.declared.file_told.FileTold.{FileTold}
 use Rattle.unseen_lsas.specs.declared.named.NamedLsa.{NamedLsa}
 
--- the LSA with a key, where LSAs of a scope are flooded
+-- the LSA with a key, in the scope where it is flooded
 abbrev pub named_in : Scope → Key → NamedLsa
 named_in (Area id) key = record { is_as_wide = false; area = id; key = key }
 named_in AsWide key = record { is_as_wide = true; area = record { 0 = 0 }; key = key }

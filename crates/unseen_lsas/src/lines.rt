@@ -1,4 +1,4 @@
-//! What is told of LSAs that headers name, in lines.
+//! What headers show about LSAs, in lines.
 
 ghost use Rattle.std.specs.Prelude.{◌≡◌, ◌++◌, IfOk, OnOk, flat_map};
 ghost use Rattle.std.specs.String.{string_bytes};
@@ -10,7 +10,7 @@ use crate::newest::newer;
 use network_files::FileTold;
 use std::alloc::{AllocError, Allocator};
 
-/// Adds a line for each LSA, with what is told of it.
+/// Adds a line for each LSA, with this word before it.
 fn push_lines<A: Allocator + Copy>(
     text: &mut String<A>,
     what: &str,
@@ -30,7 +30,7 @@ fn push_lines<A: Allocator + Copy>(
 ///
 /// # Errors
 ///
-/// A growth was refused.
+/// Memory ran out.
 pub fn header_lines<A: Allocator + Copy>(
     alloc: A,
     files: &[FileTold<A>],

@@ -49,12 +49,12 @@ fn missing<A: Allocator + Copy>(
 }
 
 /// The LSAs that the headers of the files name, and of which no file shows an instance, each once,
-/// in order of scope and key. A header at MaxAge names none, and one with DoNotAge below it does:
-/// see [`Header::is_at_max_age`](lsa_instances::Header::is_at_max_age).
+/// in order of scope and key. A header at MaxAge names no LSA; one with DoNotAge and an age below
+/// MaxAge does: see [`Header::is_at_max_age`](lsa_instances::Header::is_at_max_age).
 ///
 /// # Errors
 ///
-/// A growth was refused.
+/// Memory ran out.
 pub fn unseen<A: Allocator + Copy>(
     alloc: A,
     files: &[FileTold<A>],

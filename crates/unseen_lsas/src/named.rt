@@ -8,8 +8,8 @@ use lsa_codec::{AreaId, Key};
 use lsa_instances::{Place, Scope};
 use std::fmt;
 
-/// What names an LSA in the databases of a network: where it is flooded, and its key there (RFC
-/// 2328, 12.1). Areas stand before the whole AS.
+/// What identifies an LSA in the databases of a network: where it is flooded, and its key there
+/// (RFC 2328, 12.1). Areas stand before the whole AS.
 ///
 /// Its `Display` is a few words on one line, as `area 0.0.0.0 type 1 id 1.1.1.1 adv 1.1.1.1`,
 /// without an area for an LSA of AS scope.
@@ -17,9 +17,9 @@ use std::fmt;
 pub struct NamedLsa {
     /// Whether it is flooded in the whole AS.
     pub is_as_wide: bool,
-    /// The area where it is flooded, if that is one; else 0.0.0.0, which means nothing.
+    /// The area where it is flooded, if that is one; else 0.0.0.0, which then has no meaning.
     pub area: AreaId,
-    /// What names it there.
+    /// What identifies it there.
     pub key: Key,
 }
 

@@ -19,7 +19,7 @@ use std::collections::{BTreeMap, BTreeSet};
 /// The newest instance that is shown of each LSA.
 type Newest<A> = BTreeMap<NamedLsa, InstanceId, A>;
 
-/// The instance that is seen, behind its LSA.
+/// The LSA that is seen, and which instance of it.
 fn of_sighting<A: Allocator + Copy>(sighting: &Sighting<A>) -> (NamedLsa, InstanceId)
     ensures { result ≡ of_sighting sighting.now }
 {
@@ -72,7 +72,7 @@ fn newest_shown<A: Allocator + Copy>(
     Ok(newest)
 }
 
-/// Whether an instance of the LSA is shown, and the newest is older than this one.
+/// Whether an instance of the LSA is shown, and the newest of them is older than this one.
 fn is_over_some<A: Allocator + Copy>(
     newest: &Newest<A>,
     lsa: NamedLsa,
@@ -151,12 +151,12 @@ fn in_order<A: Allocator + Copy>(
 
 /// The LSAs of which the files show instances, and a header below MaxAge that is newer than each of
 /// these (RFC 2328, 13.1, by sequence number, then by checksum), each once, in order of scope and
-/// key. An LSA that was announced again with a lower sequence number is none: the higher one is
-/// shown. A header at MaxAge names none: it flushes the LSA (RFC 2328, 14.1).
+/// key. An LSA that was announced again with a lower sequence number is not one of them: the higher
+/// one is shown. A header at MaxAge names no LSA: it flushes it (RFC 2328, 14.1).
 ///
 /// # Errors
 ///
-/// A growth was refused.
+/// Memory ran out.
 pub fn newer<A: Allocator + Copy>(
     alloc: A,
     files: &[FileTold<A>],

@@ -9,7 +9,7 @@ use Rattle.lsa_instances.specs.declared.sighting.Sighting.{Sighting}
 use Rattle.lsa_instances.specs.Order.{place_cmp, place_of}
 use Rattle.lsa_instances.specs.Newest.{began_after}
 
--- the later of two moments, and none where one of them is not known
+-- the later of two moments, or none where one of them is not known
 abbrev pub latest : Option ℕ → Option ℕ → Option ℕ
 latest None b = None
 latest (Some a) None = None
@@ -52,7 +52,7 @@ without_flush newest x = if is_last_flush newest x then take (length newest - 1)
 abbrev pub with_first : {A : Type 0} → List (Sighting A) → Sighting A → List (Sighting A)
 with_first newest x = if is_last newest x then newest else newest ++ x ∷ []
 
--- whether x is flushed, by itself or by what was looked at
+-- whether x is flushed, by itself or by a sighting before it
 abbrev pub is_flushed_so_far : {A : Type 0} → Option Flush → Sighting A → Bool
 is_flushed_so_far flush x = is_at_max_age x.lsa || is_stopped flush x
 
@@ -61,11 +61,11 @@ abbrev pub with_flushed : {A : Type 0} → FlushedLsas → List (Sighting A) →
 with_flushed LeftOut newest x = newest
 with_flushed Kept newest x = with_first newest x
 
--- the newest after one sighting more
+-- the newest after one more sighting
 abbrev pub newest_after : {A : Type 0} → FlushedLsas → Option Flush → List (Sighting A) → Sighting A → List (Sighting A)
 newest_after flushed flush newest x =
     if is_flushed_so_far flush x then with_flushed flushed newest x else with_first (without_flush newest x) x
 
--- the flush that is kept after one sighting more
+-- the flush that is kept after one more sighting
 abbrev pub flush_so_far : {A : Type 0} → Option Flush → Sighting A → Option Flush
 flush_so_far flush x = if is_at_max_age x.lsa then Some (flush_after flush x) else flush

@@ -4,7 +4,7 @@ use Rattle.network_dump.specs.declared.fault.RunFault.{RunFault}
 use Rattle.network_dump.specs.declared.fault.RunFault.TheVariants.{Read, TooLarge, Refused, Join, Write, OutOfMemory}
 use Rattle.network_dump.specs.Runs.{IsInputEnd}
 
--- the files can not all be read
+-- not all files can be read
 abbrev pub IsReadEnd : (A : Type 0) → List (Option (List ℕ)) → RunFault → Type 0
 IsReadEnd A known (Read file) = IsInputEnd A known (Read file)
 IsReadEnd A known (TooLarge file) = IsInputEnd A known (TooLarge file)

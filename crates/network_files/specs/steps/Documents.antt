@@ -1,4 +1,4 @@
--- Steps towards what a document in JSON tells.
+-- Steps towards what a document in JSON contains.
 use Rattle.std.specs.Prelude.{◌≡◌, ℕ, true, List, Some}
 use Rattle.std.specs.List.{filter_map}
 use Rattle.std.specs.Str.{IsUtf8}
@@ -9,7 +9,7 @@ use Rattle.printed_databases.specs.declared.hole.Hole.{Hole as TextHole}
 use Rattle.printed_databases.specs.Sorting as prints
 use Rattle.printed_json.specs.DocumentsTold.{told_in as told_in_json, has_database}
 
--- the file is a document in JSON that has a database, and these are its LSAs, kinds of areas and what tells none
+-- the file is a document in JSON that has a database, with these LSAs, kinds of areas and findings
 pub record IsReadAs {A : Type 0} (octets : List ℕ) (sightings : List (Sighting A)) (kinds : List ToldArea) (holes : List TextHole) : Type 0 where
   pub json : Json
   pub spelled : IsUtf8 octets

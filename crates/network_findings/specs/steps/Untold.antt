@@ -1,4 +1,4 @@
--- An LSA that is not told, and why.
+-- An LSA that is not used, and why.
 use Rattle.std.specs.Prelude.{ℕ, List}
 use Rattle.network_findings.specs.declared.untold.Untold.{Untold}
 use Rattle.network_findings.specs.Texts.{lsa_text}

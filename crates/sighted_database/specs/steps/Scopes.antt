@@ -11,7 +11,7 @@ use Rattle.lsa_instances.specs.Newest.{lsas_of_scope}
 use Rattle.lsa_instances.specs.Order.{scope_cmp, area_of}
 use Rattle.lsa_instances.specs.declared.area.ToldArea.{ToldArea}
 
--- the scopes that are told, in any order, some of them often
+-- the scopes of the areas and the sightings, in any order, some of them repeated; and the AS
 abbrev pub scopes_told : {A : Type 0} → List ToldArea → List (Sighting A) → List Scope
 scopes_told areas newest = map (λ area. Area area.id) areas ++ map (λ x. x.scope) newest ++ AsWide ∷ []
 
@@ -30,7 +30,7 @@ pub record AreOnce (told scopes : List Scope) : Type 0 where
 abbrev pub HaveRisingKeys : {A : Type 0} → List (Sighting A) → Type 0
 HaveRisingKeys newest = (scope : Scope) → AllPairs (λ a b. key_cmp (key_of a) (key_of b) ≡ Less) (lsas_of_scope scope newest)
 
--- whether a scope stands behind the last of others
+-- whether a scope stands after the last of others
 abbrev pub is_after : Option Scope → Scope → Bool
 is_after None scope = true
 is_after (Some last) scope = is_lt (scope_cmp last scope)

@@ -1,4 +1,4 @@
--- Steps towards the LSAs of which a header is newer: of each LSA the newest instance that is shown.
+-- Steps towards the LSAs of which a header is newer: the newest instance of each LSA that is shown.
 use Rattle.std.specs.Prelude.{◌≡◌, ◌&&◌, Bool, true, false, not, if◌then◌else◌, List, Option, None, Some}
 use Rattle.std.specs.BTreeMap.{BTreeMap, get}
 use Rattle.std.specs.List.{filter_map, flat_map, list_all, list_any}
@@ -28,7 +28,7 @@ abbrev pub is_over_some : Option InstanceId → InstanceId → Bool
 is_over_some None instance = false
 is_over_some (Some known) instance = is_lt (instance_id_cmp known instance)
 
--- there is a newest instance of each LSA that is shown, and it is older than what all that are shown are older than
+-- there is a newest instance of each LSA that is shown, and what is newer than it is newer than all that are shown
 pub record AreNewest (shown : List Instance) (newest : BTreeMap NamedLsa InstanceId) : Type 0 where
   pub which : (lsa : NamedLsa) → is_some (get lsa_cmp newest lsa) ≡ list_any (is_same_lsa lsa) shown
   pub over : (lsa : NamedLsa) (instance : InstanceId) → is_over (get lsa_cmp newest lsa) instance ≡ list_all (is_other_or_older lsa instance) shown

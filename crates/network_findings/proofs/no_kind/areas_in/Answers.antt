@@ -8,7 +8,7 @@ use Rattle.lsdb.specs.Places.{lists_of}
 use Rattle.network_findings.proofs.no_kind.areas_in.Goals as goal
 use Rattle.network_findings.proofs.no_kind.areas_in.Invariants.{id_of}
 
--- one area more
+-- one more area
 one_more : (areas : List AreaHead) (i : ℕ) (area : AreaHead) (old : List AreaId) → slice_get areas i ≡ Some area → old ≡ map id_of (take i areas)
     → old ++ id_of area ∷ [] ≡ map id_of (take (i + 1) areas)
 one_more areas i area old here before =

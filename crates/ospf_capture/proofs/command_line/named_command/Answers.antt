@@ -3,7 +3,7 @@ use Rattle.clap.specs.Simple.{app_of_fields}
 use Rattle.ospf_capture.specs.CommandLine.{with_version}
 use Rattle.ospf_capture.proofs.command_line.named_command.Goals as goal
 
--- only the version is of those fields that the parser reads
+-- of the fields that the parser reads, only the version is set
 pub returns : goal.returns
 returns c =
     ap app_of_fields c.after_help.ensures ∙ ap app_of_fields c.version.ensures
