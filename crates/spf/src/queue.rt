@@ -3,7 +3,7 @@
 ghost use Rattle.std.specs.Prelude.{◌≡◌, [], ◌∷◌, IfSome, IfNone, OnOk, IsPermutation, All, false};
 ghost use Rattle.std.specs.Cmp.{back_total, partial_order_from_own_ties, partial_order_from_total};
 ghost use Rattle.std.specs.Cmp.Rules.{comparing};
-ghost use Rattle.std.specs.Ordering.{is_lt, nat_cmp, bool_cmp, on, flip_args, then_cmp, as_partial_cmp};
+ghost use Rattle.std.specs.Ordering.{is_lt, flip_args, as_partial_cmp};
 ghost use Rattle.std.proofs.Common.{rules};
 ghost use Rattle.spf.specs.Candidates.{candidate_cmp, candidate_cmp_total};
 
@@ -42,7 +42,9 @@ impl Ord for Candidate {
 impl PartialOrd for Candidate {
     ghost partial_cmp = { as_partial_cmp (flip_args candidate_cmp) };
 
-    ghost laws = { partial_order_from_own_ties (partial_order_from_total (back_total candidate_cmp_total)) (Prim.search (comparing, rules)) };
+    ghost laws = { partial_order_from_own_ties
+        (partial_order_from_total (back_total candidate_cmp_total))
+        (Prim.search (comparing, rules)) };
 
     fn partial_cmp(&self, other: &Candidate) -> Option<Ordering> {
         Some(self.cmp(other))
