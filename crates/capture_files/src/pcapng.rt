@@ -40,6 +40,7 @@ fn fault_at(lie: Lie, offset: usize) -> CaptureFault
 }
 
 /// Adds what a block in this byte order tells.
+#[tactic(auto, using(crate::proofs::BlockWalk::one_more_kept))]
 fn add<'a, A: Allocator + Copy>(
     reading: &mut Reading<'a, A>,
     order: Order,
