@@ -81,7 +81,7 @@ fn read_block<'a, A: Allocator + Copy>(
     ensures fault { IfErr result
         (λ fault. IsStop offset (next (state_of reading.old) (drop offset file.now)) fault) }
     ensures memory { IfErr result (λ fault. fault ≡ faults.OutOfMemory
-        → IsBlockKept (state_of reading.old) file.now offset) }
+        → IsBlockKept offset file.now (next (state_of reading.old) (drop offset file.now))) }
 {
     let block = match first_block(reading.order, &file[offset..]) {
         Err(lie) => return Err(fault_at(lie, offset)),
