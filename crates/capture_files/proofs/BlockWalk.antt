@@ -29,18 +29,26 @@ next_block file t offset u size h is within = record {
       (one_more start file h.blocks t (drop offset file) u size h.whole is);
 }
 
--- memory ran out behind a block
-pub ran_out : (file : List ℕ) (s : State) (offset : ℕ) → has_section file ≡ true → Reaches file s offset → IsBlockKept s file offset
-    → HasContent file
-ran_out file s offset headed h block = record {
-  last = block.0.0;
-  offset = offset + block.0.1;
-  headed = headed;
-  reached = next_block file s offset block.0.0 block.0.1 h block.1.0 block.1.1.0;
-  kept = block.1.1.1;
-}
+-- the block, after which memory ran out
+kept_block : (offset : ℕ) (file : List ℕ) (found : Result (Option (State × ℕ)) Lie) → IsBlockKept offset file found
+    → (block : State × ℕ) × ((found ≡ Ok (Some block)) × ((offset + block.1 ≤ length file) × HasKept block.0))
+kept_block offset file (Ok (Some block)) h = (block, (refl, h))
+kept_block offset file (Ok None) h = absurd h
+kept_block offset file (Err lie) h = absurd h
 
--- what is kept behind one more
+pub ran_out : (file : List ℕ) (s : State) (offset : ℕ) → has_section file ≡ true → Reaches file s offset
+    → IsBlockKept offset file (next s (drop offset file)) → HasContent file
+ran_out file s offset headed h kept =
+    let block = kept_block offset file (next s (drop offset file)) kept in
+    record {
+      last = block.0.0;
+      offset = offset + block.0.1;
+      headed = headed;
+      reached = next_block file s offset block.0.0 block.0.1 h block.1.0 block.1.1.0;
+      kept = block.1.1.1;
+    }
+
+-- a list with one more element
 pub one_more_kept : {X : Type 0} (xs : List X) (x : X) → xs ++ x ∷ [] ≢ []
 one_more_kept [] x e = absurd cc
 one_more_kept (y ∷ ys) x e = absurd cc

@@ -40,6 +40,7 @@ fn fault_at(lie: Lie, offset: usize) -> CaptureFault
 }
 
 /// Adds what a block in this byte order tells.
+#[tactic(auto, using(crate::proofs::BlockWalk::one_more_kept))]
 fn add<'a, A: Allocator + Copy>(
     reading: &mut Reading<'a, A>,
     order: Order,
@@ -80,7 +81,7 @@ fn read_block<'a, A: Allocator + Copy>(
     ensures fault { IfErr result
         (λ fault. IsStop offset (next (state_of reading.old) (drop offset file.now)) fault) }
     ensures memory { IfErr result (λ fault. fault ≡ faults.OutOfMemory
-        → IsBlockKept (state_of reading.old) file.now offset) }
+        → IsBlockKept offset file.now (next (state_of reading.old) (drop offset file.now))) }
 {
     let block = match first_block(reading.order, &file[offset..]) {
         Err(lie) => return Err(fault_at(lie, offset)),

@@ -1,5 +1,5 @@
 -- Steps towards what the blocks of a section tell.
-use Rattle.std.specs.Prelude.{◌≡◌, ◌⊎◌, ◌≤◌, ◌+◌, ℕ, List, length, drop, Option, Some, Result, Ok, Err}
+use Rattle.std.specs.Prelude.{◌≡◌, ◌⊎◌, ◌≤◌, ◌+◌, ℕ, List, length, Option, Some, None, Result, Ok, Err}
 use Rattle.capture_files.specs.declared.block.Lie.{Lie}
 use Rattle.capture_files.specs.declared.fault.CaptureFault.{CaptureFault}
 use Rattle.capture_files.specs.declared.fault.CaptureFault.TheVariants as faults
@@ -7,7 +7,7 @@ use Rattle.capture_files.specs.declared.part.Part.{Part}
 use Rattle.capture_files.specs.declared.part.Part.TheVariants as parts
 use Rattle.capture_files.specs.CaptureTexts.{packet_of}
 use Rattle.capture_files.specs.Parts.{Content, section, interface, packet, other}
-use Rattle.capture_files.specs.Pcapng.{State, next, HasKept, fault_at}
+use Rattle.capture_files.specs.Pcapng.{State, HasKept, fault_at}
 
 -- what a block that is read tells
 abbrev pub content_of : Part → Content
@@ -21,7 +21,8 @@ abbrev pub IsStop : ℕ → Result (Option (State × ℕ)) Lie → CaptureFault 
 IsStop offset found fault =
     (fault ≡ faults.OutOfMemory) ⊎ ((lie : Lie) × ((fault ≡ fault_at lie offset) × (found ≡ Err lie)))
 
--- the block at this offset is whole, and behind it an interface or a packet is kept
-abbrev pub IsBlockKept : State → List ℕ → ℕ → Type 0
-IsBlockKept s file offset =
-    (block : State × ℕ) × ((next s (drop offset file) ≡ Ok (Some block)) × ((offset + block.1 ≤ length file) × HasKept block.0))
+-- what comes next is a whole block, after which an interface or a packet is kept
+abbrev pub IsBlockKept : ℕ → List ℕ → Result (Option (State × ℕ)) Lie → Type 0
+IsBlockKept offset file (Ok (Some block)) = (offset + block.1 ≤ length file) × HasKept block.0
+IsBlockKept offset file (Ok None) = ⊥
+IsBlockKept offset file (Err lie) = ⊥
