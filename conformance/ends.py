@@ -28,7 +28,8 @@ NOBODY = 65534
 
 @dataclasses.dataclass
 class End:
-    """One run: its words, where `FOLDER` stands for the folder of its files, and how it must end."""
+    """One run, in a folder of its own, and how it must end. In its words `FOLDER` stands for that folder, `EMPTY` for the
+    empty word, and `DESCRIPTOR` for the number under which the program has the file `saved` open."""
 
     name: str
     words: str
@@ -50,6 +51,9 @@ class End:
     before: bytes | None = None
     mode: int = 0o640
     linked: bool = False
+    # The file `out` before the run, and another file that is named `saved.1.new`, if they are there.
+    old_out: bytes | None = None
+    beside: bytes | None = None
     # The octets that a file may have at most; whether a longer one ends the program, as a crash would.
     room: int | None = None
     is_ended: bool = False
@@ -146,6 +150,15 @@ ENDS = [
         before=b"a study", mode=0o604, saved=SESSION),
     End("standard output closed, and an empty script", "--dump FOLDER/dump --save FOLDER/saved", 0, stdin=b"",
         stdout="closed", before=b"a study", saved=BASE),
+    End("a file named saved.1.new beside --save", "--save FOLDER/saved", 0, replies=b"@0 ok\n", stdin=COST,
+        before=b"a study", beside=b"another study", saved=SESSION),
+    End("a file named saved.1.new beside a session that is not there yet", "--save FOLDER/saved", 0, replies=b"@0 ok\n",
+        stdin=COST, beside=b"another study", saved=SESSION),
+    End("an open file as --save, by its descriptor", "--save /proc/self/fd/DESCRIPTOR", 0, replies=b"@0 ok\n", stdin=COST,
+        before=b"a longer study than the session that comes after it. " * 9, saved=SESSION),
+    End("an open file as dump and --save, by its descriptor",
+        "--dump /proc/self/fd/DESCRIPTOR --save /proc/self/fd/DESCRIPTOR", 0, replies=b"@0 ok\n", stdin=COST,
+        before=SAMPLE, saved=SESSION),
     # ---- 2: the command line is refused
     End("an option that is not there", "--frob", 2, f"error: unexpected argument '--frob' found{USAGE}"),
     End("a word that is no option", "dump", 2, f"error: unexpected argument 'dump' found{USAGE}"),
@@ -193,6 +206,13 @@ ENDS = [
     End("no such script", "--script FOLDER/none --out FOLDER/out", 4, "file: Open script\n"),
     End("no such script for a refused dump", "--dump FOLDER/long --script FOLDER/none", 4, "file: Open script\n"),
     End("no such folder for --out", "--out FOLDER/none/out", 4, "file: Open out\n", replies=b"@0 ok\n", stdin=COST),
+    End("an empty path as --out", "--out EMPTY", 4, "file: Open out\n", replies=b"@0 ok\n", stdin=COST),
+    End("an empty path as --out, and a file as --save", "--out EMPTY --save FOLDER/saved", 4, "file: Open out\n",
+        replies=b"@0 ok\n", stdin=COST, before=b"a study", saved=b"a study"),
+    End("an empty path as --save", "--save EMPTY --out FOLDER/out", 4, "file: Open save\n", replies=b"@0 ok\n",
+        stdin=COST, out=EDITED),
+    End("an empty path as dump", "--dump EMPTY", 4, "file: Open dump\n"),
+    End("an empty path as script", "--script EMPTY", 4, "file: Open script\n"),
     End("a dump that may not be read", "--dump FOLDER/locked", 4, "file: Open dump\n", as_nobody=True),
     End("a script that may not be read", "--script FOLDER/locked", 4, "file: Open script\n", as_nobody=True),
     End("a file as --out that may not be written", "--out FOLDER/locked", 4, "file: Open out\n", replies=b"@0 ok\n",
@@ -242,6 +262,16 @@ ENDS = [
         before=b"a study", room=100, saved=b"a study"),
     End("no room for a session that is not there yet", "--save FOLDER/saved", 4, "file: Write\n", replies=b"@0 ok\n",
         stdin=COST, room=100),
+    End("no room for the dump, and files as --out and --save", "--out FOLDER/out --save FOLDER/saved", 4, "file: Write\n",
+        replies=b"@0 ok\n", stdin=COST, old_out=b"a dump", out=b"a dump", before=b"a study", room=98, saved=b"a study"),
+    End("no room for the session, and files as --out and --save", "--out FOLDER/out --save FOLDER/saved", 4,
+        "file: Write\n", replies=b"@0 ok\n", stdin=COST, old_out=b"a dump", out=EDITED, before=b"a study", room=100,
+        saved=b"a study"),
+    End("no room for the replies, and files as --out and --save", "--out FOLDER/out --save FOLDER/saved", 4,
+        "file: Write\n", stdin=COST, stdout="full", old_out=b"a dump", out=b"a dump", before=b"a study",
+        saved=b"a study"),
+    End("no room for the session, and a file named saved.1.new beside it", "--save FOLDER/saved", 4, "file: Write\n",
+        replies=b"@0 ok\n", stdin=COST, before=b"a study", beside=b"another study", room=100, saved=b"a study"),
     End("the program ends while it saves", "--save FOLDER/saved", -signal.SIGXFSZ, replies=b"@0 ok\n", stdin=COST,
         before=b"a study", room=100, is_ended=True, saved=b"a study"),
     End("/dev/full as standard output", "--out FOLDER/out", 4, "file: Write\n", stdin=COST, stdout="full"),
@@ -294,6 +324,10 @@ def make_files(folder: pathlib.Path, case: End) -> None:
     if case.before is not None:
         (folder / "saved").write_bytes(case.before)
         (folder / "saved").chmod(case.mode)
+    if case.old_out is not None:
+        (folder / "out").write_bytes(case.old_out)
+    if case.beside is not None:
+        (folder / "saved.1.new").write_bytes(case.beside)
     if case.linked:
         (folder / "link").symlink_to("saved")
     if "--dump FOLDER/out" in case.words:
@@ -344,8 +378,17 @@ def before_run(case: End):
 
 def ended(case: End, program: str, folder: pathlib.Path, stdout: int, stderr: int) -> subprocess.CompletedProcess:
     """The run of a case."""
-    words = [program] + [word.replace("FOLDER", str(folder)) for word in case.words.split()]
-    how = {"stdout": stdout, "stderr": stderr, "timeout": 120, "preexec_fn": before_run(case)}
+    words = [program] + ["" if word == "EMPTY" else word.replace("FOLDER", str(folder)) for word in case.words.split()]
+    how = {"stdout": stdout, "stderr": stderr, "timeout": 120, "preexec_fn": before_run(case), "cwd": folder}
+    if "DESCRIPTOR" in case.words:
+        with (folder / "saved").open("r+b") as held:
+            number = held.fileno()
+            words = [word.replace("DESCRIPTOR", str(number)) for word in words]
+            run = subprocess.run(words, input=case.stdin, pass_fds=[number], **how)
+            # What was written stands in the file that was open, and not in another of its name.
+            if held.read() != case.saved:
+                run.returncode = -1
+            return run
     if case.is_endless:
         (folder / "front").write_bytes(case.stdin)
         with subprocess.Popen(["cat", str(folder / "front"), "/dev/zero"], stdout=subprocess.PIPE) as endless:
@@ -402,6 +445,7 @@ def saved_differences(case: End, folder: pathlib.Path) -> list[str]:
         found.append("the mode of the session saved")
     if link.is_symlink() != case.linked:
         found.append("the link")
-    if list(folder.glob("*.new")) and not case.is_ended:
+    left = {file.name: file.read_bytes() for file in folder.glob("*.new")}
+    if left != ({} if case.beside is None else {"saved.1.new": case.beside}) and not case.is_ended:
         found.append("files beside")
     return found

@@ -184,7 +184,7 @@ fn a_flush_fails(rt: HostRuntime) -> Result<(), Fail> {
 }
 
 #[test]
-fn a_flush_fails_after_the_dump_is_written(rt: HostRuntime) -> Result<(), Fail> {
+fn the_flush_of_the_replies_fails(rt: HostRuntime) -> Result<(), Fail> {
     let replies = sink(rt.alloc(), NEVER, Failing::FlushErrs);
     let ended = run_to(
         rt.alloc(),
@@ -195,7 +195,8 @@ fn a_flush_fails_after_the_dump_is_written(rt: HostRuntime) -> Result<(), Fail> 
     assert_eq!(rt; ended.result, Err(RunFault::Write));
     assert!(rt; ended.replies.failed);
     assert_eq!(rt; ended.replies.stream.taken.as_slice(), REPLIES);
-    assert_eq!(rt; ended.out.stream.as_slice(), SAMPLE);
+    assert!(rt; ended.out.stream.is_empty());
+    assert!(rt; ended.save.stream.is_empty());
     Ok(())
 }
 
@@ -204,7 +205,9 @@ fn the_flush_of_the_written_dump_fails(rt: HostRuntime) -> Result<(), Fail> {
     let out = sink(rt.alloc(), NEVER, Failing::FlushErrs);
     let ended = run_to(rt.alloc(), Vec::new(rt.alloc()), out, Vec::new(rt.alloc()));
     assert_eq!(rt; ended.result, Err(RunFault::Write));
+    assert_eq!(rt; ended.replies.stream.as_slice(), REPLIES);
     assert_eq!(rt; ended.out.stream.taken.as_slice(), SAMPLE);
+    assert!(rt; ended.save.stream.is_empty());
     Ok(())
 }
 

@@ -1,4 +1,4 @@
-//! Readers and writers that remember whether they have failed.
+//! Readers and writers that remember whether they have failed, ended and are flushed.
 
 use super::text::{NEVER, TEXT};
 use samples::{Failing, FailsOnce, Sink, Source};
@@ -19,6 +19,7 @@ fn watches_a_reader(rt: HostRuntime) -> Result<(), Fail> {
     let fault = reader.read(&mut buf).map_err(|error| error.kind());
     assert_eq!(rt; fault, Err(ErrorKind::Interrupted));
     assert!(rt; reader.failed());
+    assert!(rt; !reader.ended());
     Ok(())
 }
 
@@ -29,6 +30,7 @@ fn remembers_that_a_read_failed(rt: HostRuntime) -> Result<(), Fail> {
     assert!(rt; reader.read(&mut buf).is_err());
     assert_eq!(rt; reader.read(&mut buf)?, 0);
     assert!(rt; reader.failed());
+    assert!(rt; reader.ended());
     assert_eq!(rt; reader.into_inner().calls, 2);
     Ok(())
 }
@@ -43,7 +45,9 @@ fn watches_a_writer(rt: HostRuntime) -> Result<(), Fail> {
         let mut writer = Watched::new(Sink::new(rt.alloc(), 4, 6, failing));
         assert_eq!(rt; writer.write(TEXT)?, 4);
         assert_eq!(rt; writer.write(TEXT)?, 2);
+        assert!(rt; !writer.flushed());
         assert!(rt; writer.flush().is_ok());
+        assert!(rt; writer.flushed());
         assert!(rt; !writer.failed(), "{failing:?}");
         assert_eq!(rt; writer.write(TEXT).map_err(|error| error.kind()), answer);
         assert!(rt; writer.failed(), "{failing:?}");
@@ -67,6 +71,7 @@ fn remembers_that_a_flush_failed(rt: HostRuntime) -> Result<(), Fail> {
     assert!(rt; !writer.failed());
     let fault = writer.flush().map_err(|error| error.kind());
     assert_eq!(rt; fault, Err(ErrorKind::Interrupted));
+    assert!(rt; !writer.flushed());
     assert_eq!(rt; writer.write(TEXT)?, 4);
     assert!(rt; writer.failed());
     Ok(())
