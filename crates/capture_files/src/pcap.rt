@@ -211,8 +211,8 @@ pub(crate) fn end_at(file: &[u8], offset: usize) -> End
 /// `NotACapture` where no magic number of the format stands at the front, `ShortHeader` where the
 /// file ends within its header, `Version` for another major version than 2, `CapturedLength` with
 /// the offset of the first record that says that more octets were captured than there were or than
-/// a capture has, and `OutOfMemory`, which comes only where the header is whole and a record follows
-/// that does not lie.
+/// a capture has, and `OutOfMemory`, which comes only where a whole record follows the header and
+/// does not lie.
 pub fn read_pcap<A: Allocator + Copy>(alloc: A, file: &[u8]) -> Result<Capture<'_, A>, CaptureFault>
     ensures told { IfOk result (λ capture. IsPcap file.now (capture_text capture)) }
     ensures fault { IfErr result (λ fault. IsPcapFault file.now fault) }

@@ -126,8 +126,8 @@ fn read_blocks<A: Allocator + Copy>(
 ///
 /// `NotACapture` where the file does not begin with a Section Header Block, `ByteOrder`,
 /// `BlockLength`, `SectionVersion`, `CapturedLength` and `NoInterface` with the offset of the first
-/// block that lies, and `OutOfMemory`, which comes only behind a block that describes an interface or
-/// has a packet.
+/// block that lies, and `OutOfMemory`, which comes only after a block that describes an interface
+/// or has a packet.
 pub fn read_pcapng<A: Allocator + Copy>(
     alloc: A,
     file: &[u8],

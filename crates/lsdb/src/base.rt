@@ -67,7 +67,8 @@ fn read_base<A: Allocator + Copy>(
     alloc: A,
     bytes: &[u8],
 ) -> Result<(Vec<SectionOf<A>, A>, usize), ReadError>
-    ensures base { Gives (λ x. (lists_of (places_of x.0.items), x.1)) result (base_loaded bytes.now) }
+    ensures base { Gives (λ x. (lists_of (places_of x.0.items), x.1))
+        result (base_loaded bytes.now) }
     ensures memory { IsMemoryAfter (base_front_loaded bytes.now) result }
 {
     if most_octets(bytes) < bytes.len() {
@@ -111,7 +112,7 @@ impl<A: Allocator + Copy> Database<A> {
             (λ base. base_loaded bytes.now ≡ Ok (lists_of base.0, base.1)) }
         ensures fault { IfErr result (λ fault. IsFirstFault fault (base_loaded bytes.now)) }
 
-        // A fault of the front is reported for want of no memory: none is asked for before.
+        // A fault of the front is reported whatever memory there is: none is asked for before.
         ensures front { (fault : DumpFault)
             → base_front_loaded bytes.now ≡ Err fault → result ≡ Err fault }
     {

@@ -237,7 +237,8 @@ pub(crate) fn read_sections<'a, A: Allocator + Copy>(
 
 #[tactic(auto, unfolding(crate::specs::Loading::loaded, crate::specs::Loading::dump_at, crate::specs::Loading::front_loaded, crate::specs::Loading::front_at))]
 fn read_dump<A: Allocator + Copy>(alloc: A, bytes: &[u8]) -> Result<Vec<SectionOf<A>, A>, ReadError>
-    ensures sections { Gives (λ sections. lists_of (places_of sections.items)) result (loaded bytes.now) }
+    ensures sections { Gives (λ sections. lists_of (places_of sections.items))
+        result (loaded bytes.now) }
     ensures memory { IsMemoryAfter (front_loaded bytes.now) result }
 {
     if LONGEST_DUMP < bytes.len() {
@@ -288,7 +289,7 @@ impl<A: Allocator + Copy> Database<A> {
         ensures found { IfOk result (λ db. loaded bytes.now ≡ Ok (lists_of db)) }
         ensures fault { IfErr result (λ fault. IsFirstFault fault (loaded bytes.now)) }
 
-        // A fault of the front is reported for want of no memory: none is asked for before.
+        // A fault of the front is reported whatever memory there is: none is asked for before.
         ensures front { (fault : DumpFault)
             → front_loaded bytes.now ≡ Err fault → result ≡ Err fault }
     {
