@@ -315,7 +315,7 @@ impl<A: Allocator + Copy> Planner<A> {
     ///
     /// As those of [`table`](Planner::table), for that database. The table that was kept may be
     /// gone then.
-    #[tactic(auto, using(crate::proofs::Bases::keeps_other))]
+    #[tactic(auto, using(crate::proofs::Bases::keeps_other, crate::proofs::Asked::gains_none))]
     pub fn kept_base_table(&mut self, router: RouterId) -> Result<Rc<Table<A>, A>, TableFault>
         ensures table { IfOk result
             (λ table. table_in self.old.session.base router ≡ Some table.value) }
@@ -379,6 +379,7 @@ impl<A: Allocator + Copy> Planner<A> {
     /// # Errors
     ///
     /// As those of [`table`](Planner::table).
+    #[tactic(auto, using(crate::proofs::Asked::gains_none, crate::proofs::Asked::none_at_most))]
     pub fn shared_table(&mut self, router: RouterId) -> Result<Rc<Table<A>, A>, TableFault>
         ensures table { IfOk result
             (λ table. table_in (state self.old.session) router ≡ Some table.value) }
@@ -451,6 +452,7 @@ impl<A: Allocator + Copy> Planner<A> {
 
     /// Notes that a router's table is asked for, and keeps its table of the beginning where it is
     /// asked for twice in a row while one edit is done.
+    #[tactic(auto, using(crate::proofs::Asked::gains_none, crate::proofs::Asked::none_at_most))]
     fn ask(&mut self, router: RouterId)
         ensures session { self.new.session ≡ self.old.session }
         ensures kept { self.new.kept ≡ self.old.kept }
