@@ -1,5 +1,5 @@
 -- What asking for a table of one router leaves of the trees that are kept, and of their count.
-use Rattle.std.proofs.Common.{◌≡◌, ◌≢◌, ℕ, ◌+◌, ◌≤◌, Bool, true, false, not, filter, List, [], ◌∷◌, length, cond, Option, Some, None, Result, Ok, Err}
+use Rattle.std.proofs.Common.{◌≡◌, ◌≢◌, ℕ, ◌+◌, ◌≤◌, Bool, true, false, not, filter, List, [], ◌∷◌, length, cond, Option, Some, None, Result, Ok, Err, inl}
 use Rattle.std.proofs.Common.{refl, sym, ap, ◌∙◌, subst, arith, true≢false}
 use Rattle.std.specs.Prelude.{OnErr, OnOk}
 use Rattle.lsa_codec.specs.declared.address.AreaId.{AreaId}
@@ -12,7 +12,7 @@ use Rattle.routing_table.specs.Counting.{CountsAtMost, counted_by}
 use Rattle.routing_table.specs.KeptTrees.{GainsOnly, IsWithin, KeptRouters, TreeSet, areas_gained, areas_without_tree, is_kept}
 use Rattle.routing_table.proofs.KeptLemmas.{none_gained}
 use Rattle.routing_table.proofs.TableLemmas.{counted_twice}
-use Rattle.recalculate.specs.Asking.{GainsTrees, HasTrees, IsAskedAgain, gained, lacking}
+use Rattle.recalculate.specs.Asking.{GainsTrees, HasTrees, HasTreesOfTable, IsAskedAgain, gained, lacking}
 use Rattle.recalculate.specs.Planning.{PlannerValue}
 use Rattle.recalculate.proofs.TreesSpared.{told}
 
@@ -158,3 +158,13 @@ same_runs router p q same =
     let first_kept : q.first_kept ≡ p.first_kept = ap (λ (v : PlannerValue). v.first_kept) same in
     same_counted p.session.base router p q (ap (λ (v : PlannerValue). v.runs) same) first_kept
     ∙ ap (λ n. counted_by n (counted_by (gained p.session.base router p.first_kept q.first_kept) p.runs)) (sym (gained_same (state p.session) router p.kept q.kept kept))
+
+-- as many are counted as were
+pub same_at_most : (most old new : ℕ) → new ≡ old → CountsAtMost most old new
+same_at_most most old new same = record { trees = 0; few = omega arith; counts = same }
+
+-- the trees are those of the table
+pub shared_trees : {X E : Type 0} (o : Result X E) (s : Session) (router : RouterId) (p : PlannerValue) → p.session ≡ s
+    → OnOk o (HasTrees (state s) router p.kept) → OnOk o (HasTreesOfTable router p)
+shared_trees (Ok v) s router p same trees = inl (subst (λ (t : Session). HasTrees (state t) router p.kept) (sym same) trees)
+shared_trees (Err e) s router p same trees = tt

@@ -1,5 +1,5 @@
 -- What a planner shows: its session, how often it calculated trees, and which trees and tables it keeps.
-use Rattle.std.specs.Prelude.{◌≡◌, ℕ, [], Option, Some, IfSome, option_map}
+use Rattle.std.specs.Prelude.{◌≡◌, ℕ, [], Option, Some, None, IfSome, option_map}
 use Rattle.lsa_codec.specs.declared.address.RouterId.{RouterId}
 use Rattle.lsdb.specs.Lists.{Lists}
 use Rattle.area_routes.specs.Attached.{attached_areas}
@@ -14,6 +14,10 @@ pub record KeptTables : Type 0 where
   pub last : Option RouterId
   pub first : Option RouterId
   pub asked : Option RouterId
+
+-- where the last one goes
+abbrev pub without_last : KeptTables → KeptTables
+without_last tables = record { last = None; first = tables.first; asked = tables.asked }
 
 -- a session, how many trees were calculated for its tables, and of which routers of which areas trees are kept: of its database,
 -- and of the database that it began at; and the tables that are kept

@@ -71,7 +71,7 @@ impl<A: Allocator + Copy> Planner<A> {
     ghost use Rattle.recalculate.specs.Asking.{GainsTrees, HasTrees, HasTreesOfTable, IsAskedAgain, gained, lacking};
     ghost use Rattle.recalculate.specs.Calls.{CarriedOut, Stayed};
     ghost use Rattle.recalculate.specs.Counts.{info_of};
-    ghost use Rattle.recalculate.specs.Planning.{IsTableOver};
+    ghost use Rattle.recalculate.specs.Planning.{IsTableOver, without_last};
     ghost use Rattle.routing_table.specs.Counting.{counted_by, CountsAtMost};
     ghost use Rattle.routing_table.specs.KeptTrees.{IsWithin, areas_without_tree, is_kept, less_touched};
     ghost use Rattle.recalculate.specs.Reached.{IsReached};
@@ -136,11 +136,7 @@ impl<A: Allocator + Copy> Planner<A> {
         ensures kept { OnOk result (self.new.kept ≡ less_touched
             (λ area. edit_touches area (state self.old.session) edit.now) self.old.kept) }
         ensures first_kept { self.new.first_kept ≡ self.old.first_kept }
-        ensures tables { OnOk result (self.new.tables ≡ record {
-          last = None;
-          first = self.old.tables.first;
-          asked = self.old.tables.asked;
-        }) }
+        ensures tables { OnOk result (self.new.tables ≡ without_last self.old.tables) }
         ensures step { OnOk result (CarriedOut (edit_request edit.now) self.old self.new) }
     {
         self.study.edit(edit)?;
@@ -164,11 +160,7 @@ impl<A: Allocator + Copy> Planner<A> {
         ensures kept { OnOk result (self.new.kept ≡ less_touched
             (λ area. undo_touches count area self.old.session) self.old.kept) }
         ensures first_kept { self.new.first_kept ≡ self.old.first_kept }
-        ensures tables { OnOk result (self.new.tables ≡ record {
-          last = None;
-          first = self.old.tables.first;
-          asked = self.old.tables.asked;
-        }) }
+        ensures tables { OnOk result (self.new.tables ≡ without_last self.old.tables) }
         ensures step { OnOk result (CarriedOut (undo_request count) self.old self.new) }
     {
         self.study.undo(count as usize)?;
@@ -192,11 +184,7 @@ impl<A: Allocator + Copy> Planner<A> {
         ensures kept { OnOk result (self.new.kept ≡ less_touched
             (λ area. redo_touches count area self.old.session) self.old.kept) }
         ensures first_kept { self.new.first_kept ≡ self.old.first_kept }
-        ensures tables { OnOk result (self.new.tables ≡ record {
-          last = None;
-          first = self.old.tables.first;
-          asked = self.old.tables.asked;
-        }) }
+        ensures tables { OnOk result (self.new.tables ≡ without_last self.old.tables) }
         ensures step { OnOk result (CarriedOut (redo_request count) self.old self.new) }
     {
         self.study.redo(count as usize)?;
@@ -315,7 +303,7 @@ impl<A: Allocator + Copy> Planner<A> {
     ///
     /// As those of [`table`](Planner::table), for that database. The table that was kept may be
     /// gone then.
-    #[tactic(auto, using(crate::proofs::Bases::keeps_other))]
+    #[tactic(auto, using(crate::proofs::Bases::keeps_other, crate::proofs::Asked::gains_none))]
     pub fn kept_base_table(&mut self, router: RouterId) -> Result<Rc<Table<A>, A>, TableFault>
         ensures table { IfOk result
             (λ table. table_in self.old.session.base router ≡ Some table.value) }
@@ -379,6 +367,7 @@ impl<A: Allocator + Copy> Planner<A> {
     /// # Errors
     ///
     /// As those of [`table`](Planner::table).
+    #[tactic(auto, using(crate::proofs::Asked::gains_none, crate::proofs::Asked::none_at_most))]
     pub fn shared_table(&mut self, router: RouterId) -> Result<Rc<Table<A>, A>, TableFault>
         ensures table { IfOk result
             (λ table. table_in (state self.old.session) router ≡ Some table.value) }
@@ -451,6 +440,7 @@ impl<A: Allocator + Copy> Planner<A> {
 
     /// Notes that a router's table is asked for, and keeps its table of the beginning where it is
     /// asked for twice in a row while one edit is done.
+    #[tactic(auto, using(crate::proofs::Asked::gains_none, crate::proofs::Asked::none_at_most))]
     fn ask(&mut self, router: RouterId)
         ensures session { self.new.session ≡ self.old.session }
         ensures kept { self.new.kept ≡ self.old.kept }

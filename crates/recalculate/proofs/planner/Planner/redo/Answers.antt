@@ -2,7 +2,7 @@ use Rattle.std.proofs.Common.{◌∙◌, refl, sym, ap, subst, option_map}
 use Rattle.edit_history.specs.Session.{Session, redo, redo_touches}
 use Rattle.recalculate.specs.Calls.{CarriedOut}
 use Rattle.routing_table.specs.KeptTrees.{less_touched}
-use Rattle.recalculate.specs.Planning.{PlannerValue}
+use Rattle.recalculate.specs.Planning.{PlannerValue, without_last}
 use Rattle.recalculate.proofs.Bases.{goes_on}
 use Rattle.recalculate.proofs.CallsSpare.{carries_out, shown, redo_taken}
 use Rattle.recalculate.proofs.Touches.{redone_kept}
@@ -30,3 +30,6 @@ returns-clause-step g c =
     (redo_taken c.self.inside.study c.args.count (c.in_ok-redo.ensures.ok.0 refl) ∙ sym c.in_ok-redo.ensures.session) c.redo.ensures.leads
     (redone_kept c.self.inside.trees c.drop_done.new.trees c.self.inside.study c.redo.new.self c.self.invariant.now c.args.count
     c.redo.ensures.reached (c.in_ok-redo.ensures.ok.0 refl) c.in_ok-redo.ensures.session c.drop_done.ensures.areas c.drop_done.ensures.spare))
+
+pub returns-clause-tables : goal.returns-clause-tables
+returns-clause-tables g c = ap (λ (p : PlannerValue). without_last p.tables) c.self.view_is
