@@ -1,6 +1,6 @@
 //! The files that the command line names.
 
-ghost use Rattle.std.specs.Prelude.{◌≡◌, true, false, is_some, IfErr, IfOk, IfSome, IsOk, OnErr, OnOk, [], Ok};
+ghost use Rattle.std.specs.Prelude.{◌≡◌, true, false, is_some, IfErr, IfOk, IfSome, IsOk, OnErr, OnOk, []};
 ghost use Rattle.streams.specs.Watched.{inner_of};
 ghost use Rattle.replaced_files.specs.Taking.{IsTaken};
 ghost use Rattle.whole_run.specs.Streams.{has_any_failed};
