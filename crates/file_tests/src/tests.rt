@@ -14,3 +14,6 @@ mod instances;
 
 // Lists beside databases.
 mod lists;
+
+// Calls of which growths are refused.
+mod growths;

@@ -9,4 +9,5 @@ mod branch_calls;
 mod planner_calls;
 mod readers;
 mod route_calls;
+mod session_calls;
 mod text_calls;

@@ -1,18 +1,17 @@
-//! What planners do, on small networks, where sessions are opened and saved without memory, and
-//! what is read and written.
+//! What planners do, on small networks, and what is read and written.
 
 // What is called.
 mod calls;
 
 // Planners.
+mod faults;
 mod memory;
 mod parts;
 mod tables;
 mod unchanged;
 
-// Saved sessions, and their lines.
+// The lines of saved sessions.
 mod lines;
-mod sessions;
 
 // Whole texts.
 mod texts;

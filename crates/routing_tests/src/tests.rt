@@ -9,12 +9,14 @@ mod texts;
 mod cost_changes;
 mod graphs;
 mod hop_lists;
+mod networks;
 mod ring;
 mod trees;
 
 // What an area gives, and routes.
 mod attached;
 mod best_ways;
+mod summarized;
 
 // Which entry of an AS boundary router counts.
 mod preferred;

@@ -282,6 +282,21 @@ pub fn push_compare<A: Allocator + Copy>(
     text.push_str(&changes.lines)
 }
 
+/// The text of what a routing table has otherwise than an earlier one alone, as [`push_compare`]
+/// adds it. An error is want of memory.
+pub fn compare_text<A: Allocator + Copy>(
+    alloc: A,
+    router: RouterId,
+    before: &Table<A>,
+    now: &Table<A>,
+) -> Result<Vec<u8, A>, AllocError>
+    ensures { IfOk result (λ text. text.items ≡ compare_text router before.now now.now) }
+{
+    let mut text = String::new(alloc);
+    push_compare(alloc, &mut text, router, before, now)?;
+    Ok(text.into_bytes())
+}
+
 /// Adds the text of a comparison of a router's table with itself: `compare 1.1.1.1 0`.
 ///
 /// # Errors

@@ -6,5 +6,5 @@ mod line;
 mod piece;
 mod text;
 
-pub use compare::{push_compare, push_no_change};
-pub use text::push_table;
+pub use compare::{compare_text, push_compare, push_no_change};
+pub use text::{push_table, table_text};

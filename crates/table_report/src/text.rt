@@ -1,6 +1,6 @@
 //! The text of a routing table.
 
-ghost use Rattle.std.specs.Prelude.{◌≡◌, ◌++◌, IfSome, OnOk, codes, map, true};
+ghost use Rattle.std.specs.Prelude.{◌≡◌, ◌++◌, IfOk, IfSome, OnOk, codes, map, true};
 ghost use Rattle.std.specs.String.{string_bytes};
 ghost use Rattle.table_report.specs.Texts.{line_of, lines_text, table_text};
 ghost use Rattle.table_report.specs.steps.Parts.{ways_text};
@@ -81,4 +81,13 @@ pub fn push_table<A: Allocator + Copy>(
     let count = routes.len();
     write!(text, "table {router} {count}\n")?;
     push_lines(text, routes)
+}
+
+/// The text of a routing table alone, as [`push_table`] adds it. An error is want of memory.
+pub fn table_text<A: Allocator + Copy>(alloc: A, table: &Table<A>) -> Result<Vec<u8, A>, AllocError>
+    ensures { IfOk result (λ text. text.items ≡ table_text table.now) }
+{
+    let mut text = String::new(alloc);
+    push_table(&mut text, table)?;
+    Ok(text.into_bytes())
 }

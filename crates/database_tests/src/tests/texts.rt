@@ -1,5 +1,6 @@
 //! Texts of numbers, prefixes and faults.
 
+use edit_history::{EditFault, RedoFault, UndoFault};
 use edit_script::ScriptFault;
 use lsa_codec::{Addr, AreaId, Decimal, LsaFault, MakeFault, Metric, Prefix, RouterId};
 use lsdb::{DumpFault, DumpFaultKind, SlotFault};
@@ -137,5 +138,41 @@ fn names_the_faults_of_lines(rt: HostRuntime) -> Result<(), Fail> {
         assert_eq!(rt; (fault.code(), fault.name()), (*code, *name));
         assert!(rt; is_printed(rt.alloc(), fault, name)?, "{name}");
     }
+    Ok(())
+}
+
+/// Why edits are refused: codes and names.
+const EDIT_FAULTS: &[(EditFault, &str, &str)] = &[
+    (EditFault::NoArea, "E1", "NoArea"),
+    (EditFault::NoRouter, "E2", "NoRouter"),
+    (EditFault::NoLink, "E3", "NoLink"),
+    (EditFault::ZeroCost, "E4", "ZeroCost"),
+    (EditFault::SameRouter, "E5", "SameRouter"),
+    (EditFault::NoNetwork, "E6", "NoNetwork"),
+    (EditFault::NoSummary, "E7", "NoSummary"),
+    (EditFault::NoExternal, "E8", "NoExternal"),
+    (EditFault::KeyTaken, "E9", "KeyTaken"),
+    (EditFault::TooLong, "E10", "TooLong"),
+    (EditFault::Full, "E11", "Full"),
+    (EditFault::HistoryFull, "E12", "HistoryFull"),
+    (EditFault::OutOfMemory, "E13", "OutOfMemory"),
+];
+
+#[test]
+fn names_the_faults_of_edits(rt: HostRuntime) -> Result<(), Fail> {
+    for (fault, code, name) in EDIT_FAULTS {
+        assert_eq!(rt; (fault.code(), fault.name()), (*code, *name));
+        assert!(rt; is_printed(rt.alloc(), fault, name)?, "{name}");
+    }
+    Ok(())
+}
+
+#[test]
+fn names_the_faults_of_undo_and_redo(rt: HostRuntime) -> Result<(), Fail> {
+    let (undo, redo) = (UndoFault::NothingToUndo, RedoFault::NothingToRedo);
+    assert_eq!(rt; (undo.code(), undo.name()), ("U1", "NothingToUndo"));
+    assert_eq!(rt; (redo.code(), redo.name()), ("U2", "NothingToRedo"));
+    assert!(rt; is_printed(rt.alloc(), &undo, "NothingToUndo")?);
+    assert!(rt; is_printed(rt.alloc(), &redo, "NothingToRedo")?);
     Ok(())
 }

@@ -1,4 +1,4 @@
 //! Small files made by hand, octet by octet, as the formats have them.
 
 mod pcap;
-mod pcapng;
+pub(super) mod pcapng;

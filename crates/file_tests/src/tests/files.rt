@@ -1,3 +1,3 @@
 mod dumps;
-mod pieces;
+pub(super) mod pieces;
 mod refusals;

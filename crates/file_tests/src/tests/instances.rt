@@ -1,6 +1,6 @@
 //! Real instances of LSAs, their order, and the newest of them.
 
 mod newest;
-mod octets;
+pub(super) mod octets;
 mod order;
 mod scopes;

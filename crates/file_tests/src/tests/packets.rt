@@ -1,7 +1,7 @@
 //! Real frames, what they tell, and what is odd of others.
 
 mod fragments;
-mod frames;
+pub(super) mod frames;
 mod hellos;
 mod odd;
 mod updates;

@@ -9,7 +9,7 @@ use routing_table::{Table, TableFault, table_of};
 use spf::Meter;
 use std::alloc::{AllocError, Global};
 use std::test::*;
-use table_report::push_table;
+use table_report::table_text;
 
 /// The answer that is octets.
 pub(super) fn of_octets(
@@ -31,16 +31,6 @@ pub(super) fn of_routers(
         Ok(routers) => Ok(Some(format!(in alloc; "{routers:?}")?.into_bytes())),
         Err(AllocError) => Ok(None),
     }
-}
-
-/// The text of a table.
-pub(super) fn table_text<'a>(
-    rationed: &'a Rationed,
-    table: &Table<&'a Rationed>,
-) -> Result<Vec<u8, &'a Rationed>, AllocError> {
-    let mut text = String::new(rationed);
-    push_table(&mut text, table)?;
-    Ok(text.into_bytes())
 }
 
 /// The answer that is a table that was made. There is ample memory for its text, and from then on.

@@ -57,7 +57,7 @@ const CALLS: &[Call] = &[
 ];
 
 /// What a planner counts, its dump and its session, saved.
-fn octets_of(alloc: Global, planner: &mut Planner<&Rationed>) -> Result<Vec<u8>, Fail> {
+pub(super) fn octets_of(alloc: Global, planner: &mut Planner<&Rationed>) -> Result<Vec<u8>, Fail> {
     let info = planner.info();
     let mut octets = format!(in alloc; "{info:?}")?.into_bytes();
     octets.extend_from_slice(&planner.dump()?)?;

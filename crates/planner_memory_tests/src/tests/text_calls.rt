@@ -1,6 +1,6 @@
 //! Texts of tables, of their differences and of replies.
 
-use super::answers::{of_octets, table_text};
+use super::answers::of_octets;
 use super::branch_calls::carry_out;
 use super::network::database_of;
 use branches::{Branches, Reply, reply_text, tables_head};
@@ -9,7 +9,7 @@ use rationed::Rationed;
 use refused_growths::{Growing, Seen, growths_of};
 use std::alloc::{AllocError, Global};
 use std::test::*;
-use table_report::push_compare;
+use table_report::{compare_text, table_text};
 
 /// What is called.
 #[derive(Clone, Copy, Debug)]
@@ -71,11 +71,7 @@ fn text_of<'a>(
                 before,
                 now,
             },
-        ) => {
-            let mut text = String::new(rationed);
-            push_compare(rationed, &mut text, *router, before, now)?;
-            Ok(text.into_bytes())
-        }
+        ) => compare_text(rationed, *router, before, now),
         (Call::TablesHead, _) => Ok(tables_head(rationed, 0, 2)?.into_bytes()),
         _ => reply_text(rationed, 0, reply),
     }

@@ -4,11 +4,10 @@
 
 use edit_history::{EditFault, RedoFault, UndoFault};
 use edit_script::Edit;
-use lsdb::DumpFault;
 use rationed::Rationed;
 use recalculate::Planner;
-use saved_sessions::{open, save};
-use std::alloc::{AllocError, Global};
+use saved_sessions::open;
+use std::alloc::Global;
 use std::test::Fail;
 
 /// What is asked of a planner whose growths are counted.
@@ -57,16 +56,4 @@ pub(super) fn undo(planner: &mut Planner<&Rationed>, count: u32) -> Result<(), U
 /// Carries undone edits out again.
 pub(super) fn redo(planner: &mut Planner<&Rationed>, count: u32) -> Result<(), RedoFault> {
     planner.redo(count)
-}
-
-/// Why octets are no session, if they are none.
-pub(super) fn fault_of(rationed: &Rationed, octets: &[u8]) -> Option<DumpFault> {
-    open(rationed, octets).err()
-}
-
-/// The octets of a session that is saved.
-pub(super) fn saved<'a>(
-    planner: &mut Planner<&'a Rationed>,
-) -> Result<Vec<u8, &'a Rationed>, AllocError> {
-    save(planner)
 }

@@ -8,7 +8,7 @@ use std::test::*;
 /// options; 48, the frame `abc`, of 5 octets, on interface 0; 84, a block of another type; 96, an
 /// interface of Linux cooked capture, with if_name (2) and if_tsresol (9, 10 to the power of -9);
 /// 136, the frame `de` on interface 1, at the same number of units.
-const LITTLE: &[u8] = b"\x0a\x0d\x0d\x0a\x1c\0\0\0\x4d\x3c\x2b\x1a\x01\0\0\0\
+pub(in crate::tests) const LITTLE: &[u8] = b"\x0a\x0d\x0d\x0a\x1c\0\0\0\x4d\x3c\x2b\x1a\x01\0\0\0\
     \xff\xff\xff\xff\xff\xff\xff\xff\x1c\0\0\0\
     \x01\0\0\0\x14\0\0\0\x01\0\0\0\0\0\x04\0\x14\0\0\0\
     \x06\0\0\0\x24\0\0\0\0\0\0\0\x01\0\0\0\x07\xf2\x05\x2a\x03\0\0\0\x05\0\0\0abc\0\x24\0\0\0\

@@ -2,7 +2,7 @@
 
 /// A capture of the link between 7.7.7.7 and 1.1.1.1, two frames of it: a Hello packet, and from
 /// octet 118 on a Link State Update packet with that LSA.
-pub(super) const CAPTURE: &[u8] = &[
+pub(in crate::tests) const CAPTURE: &[u8] = &[
     0xd4, 0xc3, 0xb2, 0xa1, 0x02, 0x00, 0x04, 0x00, 0x00, 0x00, 0x00, 0x00, 0x00, 0x00, 0x00, 0x00,
     0x00, 0x00, 0x04, 0x00, 0x01, 0x00, 0x00, 0x00, 0x25, 0xa7, 0x03, 0x6b, 0x92, 0xb1, 0x09, 0x00,
     0x4e, 0x00, 0x00, 0x00, 0x4e, 0x00, 0x00, 0x00, 0x01, 0x00, 0x5e, 0x00, 0x00, 0x05, 0xde, 0x9e,
@@ -22,14 +22,14 @@ pub(super) const CAPTURE: &[u8] = &[
 ];
 
 /// What `snmpbulkwalk -On -Ox` prints of the same: the kind of the area, and the LSA.
-pub(super) const WALK: &[u8] = b".1.3.6.1.2.1.14.2.1.3.0.0.0.2 = INTEGER: 2\n\
+pub(in crate::tests) const WALK: &[u8] = b".1.3.6.1.2.1.14.2.1.3.0.0.0.2 = INTEGER: 2\n\
     .1.3.6.1.2.1.14.4.1.8.0.0.0.2.1.1.1.1.1.1.1.1.1 = \
     Hex-STRING: 00 01 00 01 01 01 01 01 01 01 01 01 80 00 00 04 \n\
     E7 FD 00 30 01 00 00 02 07 07 07 07 0A 02 00 0A \n\
     01 00 00 09 0A 02 00 08 FF FF FF FC 03 00 00 09 \n";
 
 /// What the FRR router 6.6.6.6 prints of the same, at LS age 33.
-pub(super) const TEXT: &[u8] = b"
+pub(in crate::tests) const TEXT: &[u8] = b"
        OSPF Router with ID (6.6.6.6)
 
 
@@ -63,7 +63,7 @@ pub(super) const TEXT: &[u8] = b"
 ";
 
 /// The same LSA as that router prints it in JSON. No kind of an area is printed.
-pub(super) const JSON: &[u8] =
+pub(in crate::tests) const JSON: &[u8] =
     b"{\"routerId\": \"6.6.6.6\", \"routerLinkStates\": {\"areas\": {\"0.0.0.2\": [{\"lsaAge\": \
     33, \"options\": \"*|-|-|-|-|-|-|-\", \"lsaFlags\": 6, \"flags\": 1, \"abr\": true, \
     \"lsaType\": \"router-LSA\", \"linkStateId\": \"1.1.1.1\", \"advertisingRouter\": \

@@ -3,7 +3,7 @@
 //! separate program.
 
 /// 10.91.0.0/16 as it is announced, at age 1.
-pub(super) const ANNOUNCED: &[u8] = &[
+pub(in crate::tests) const ANNOUNCED: &[u8] = &[
     0x00, 0x01, 0x02, 0x05, 0x0a, 0x5b, 0, 0, 0x0a, 0xff, 0, 5, 0x80, 0, 0, 1, 0x84, 0xc3, 0, 0x24,
     0xff, 0xff, 0, 0, 0x80, 0, 0, 0x15, 0, 0, 0, 0, 0, 0, 0, 1,
 ];
@@ -15,7 +15,7 @@ pub(super) const FARTHER: &[u8] = &[
 ];
 
 /// The same as it is flushed, at age 3600.
-pub(super) const FLUSHED: &[u8] = &[
+pub(in crate::tests) const FLUSHED: &[u8] = &[
     0x0e, 0x10, 0x02, 0x05, 0x0a, 0x5b, 0, 0, 0x0a, 0xff, 0, 5, 0x80, 0, 0, 1, 0x84, 0xc3, 0, 0x24,
     0xff, 0xff, 0, 0, 0x80, 0, 0, 0x15, 0, 0, 0, 0, 0, 0, 0, 1,
 ];
@@ -27,20 +27,20 @@ pub(super) const GREATEST: &[u8] = &[
 ];
 
 /// 10.90.0.0/16, of the same router.
-pub(super) const OTHER: &[u8] = &[
+pub(in crate::tests) const OTHER: &[u8] = &[
     0x00, 0x01, 0x02, 0x05, 0x0a, 0x5a, 0, 0, 0x0a, 0xff, 0, 5, 0x80, 0, 0, 1, 0xf0, 0xda, 0, 0x24,
     0xff, 0xff, 0, 0, 0, 0, 0, 0x14, 0, 0, 0, 0, 0, 0, 0, 0,
 ];
 
 /// The router-LSA of 3.3.3.3 with sequence number 80000003, at age 3.
-pub(super) const OLDER: &[u8] = &[
+pub(in crate::tests) const OLDER: &[u8] = &[
     0x00, 0x03, 0x02, 0x01, 3, 3, 3, 3, 3, 3, 3, 3, 0x80, 0, 0, 3, 0xb8, 0xbf, 0, 0x3c, 0, 0, 0, 3,
     0xc0, 0xa8, 1, 0, 0xff, 0xff, 0xff, 0, 3, 0, 0, 0x14, 0x0a, 0, 0, 0, 0xff, 0xff, 0xff, 0xfc, 3,
     0, 0, 0x0a, 0x0a, 1, 3, 0, 0xff, 0xff, 0xff, 0, 3, 0, 0, 3,
 ];
 
 /// The same with sequence number 80000004, at age 1; its checksum is less.
-pub(super) const NEWER: &[u8] = &[
+pub(in crate::tests) const NEWER: &[u8] = &[
     0x00, 0x01, 0x02, 0x01, 3, 3, 3, 3, 3, 3, 3, 3, 0x80, 0, 0, 4, 0x49, 0xfa, 0, 0x48, 0, 0, 0, 4,
     0xc0, 0xa8, 1, 0, 0xff, 0xff, 0xff, 0, 3, 0, 0, 0x14, 4, 4, 4, 4, 0x0a, 0, 0, 1, 1, 0, 0, 0x0a,
     0x0a, 0, 0, 0, 0xff, 0xff, 0xff, 0xfc, 3, 0, 0, 0x0a, 0x0a, 1, 3, 0, 0xff, 0xff, 0xff, 0, 3, 0,

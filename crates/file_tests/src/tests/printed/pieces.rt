@@ -37,7 +37,8 @@ pub(super) const ASBR_OCTETS: &[u8] = &[
 ];
 
 /// The same LSA as the first, with another metric and the checksum of the first.
-pub(super) const OTHER_METRIC: &[u8] = b"Summary Link States (Area 0.0.0.0)\n\n  LS age: 23\n  \
+pub(in crate::tests) const OTHER_METRIC: &[u8] =
+    b"Summary Link States (Area 0.0.0.0)\n\n  LS age: 23\n  \
     Options: 0x2  : *|-|-|-|-|-|E|-\n  LS Flags: 0xb  \n  LS Type: summary-LSA\n  \
     Link State ID: 10.1.0.0 (summary Network Number)\n  Advertising Router: 1.1.1.1\n  \
     LS Seq Number: 80000001\n  Checksum: 0x1136\n  Length: 28\n\n  Network Mask: /30\n        \

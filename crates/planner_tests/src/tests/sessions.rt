@@ -1,4 +1,0 @@
-//! Sessions of which growths are refused.
-
-mod growths;
-mod octets;
