@@ -2,4 +2,3 @@ pub mod Planning
 pub mod Counts
 pub mod Reached
 pub mod Calls
-pub mod Asking
