@@ -1,0 +1,3 @@
+mod Tests
+mod Groups
+mod Within
