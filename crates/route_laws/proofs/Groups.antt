@@ -54,10 +54,10 @@ module _ {K : Type 0} (R : K → K → Ordering) where
     hops : (hop : Hop) → HaveSame (leads_to hop) cs ds
     areas : (area : AreaId) → HaveSame (is_through area) cs ds
 
-  have_both : (q : Candidate K → Bool) (cs ds as bs : List (Candidate K)) → HaveSame q cs ds → HaveSame q as bs → HaveSame q (cs ++ as) (ds ++ bs)
-  have_both q cs ds as bs h k key m none =
-      let parts = or_parts (list_any (is_lower key m) cs) (list_any (is_lower key m) as) (sym (list_any-append (is_lower key m) cs as) ∙ none) in
-      any_both (attains_and key m q) cs ds as bs (h key m parts.0) (k key m parts.1)
+  have_both : (q : Candidate K → Bool) (cs ds es fs : List (Candidate K)) → HaveSame q cs ds → HaveSame q es fs → HaveSame q (cs ++ es) (ds ++ fs)
+  have_both q cs ds es fs h k key m none =
+      let parts = or_parts (list_any (is_lower key m) cs) (list_any (is_lower key m) es) (sym (list_any-append (is_lower key m) cs es) ∙ none) in
+      any_both (attains_and key m q) cs ds es fs (h key m parts.0) (k key m parts.1)
 
   pub best_of_none : HasBestOf [] []
   best_of_none = record {
@@ -69,13 +69,13 @@ module _ {K : Type 0} (R : K → K → Ordering) where
   }
 
   -- group after group
-  pub best_of_both : (cs ds as bs : List (Candidate K)) → HasBestOf cs ds → HasBestOf as bs → HasBestOf (cs ++ as) (ds ++ bs)
-  best_of_both cs ds as bs h k = record {
-    keys = λ key. any_both (is_candidate_to R key) cs ds as bs (h.keys key) (k.keys key);
-    lower = λ key m. any_both (is_lower key m) cs ds as bs (h.lower key m) (k.lower key m);
-    attained = have_both (λ c. true) cs ds as bs h.attained k.attained;
-    hops = λ hop. have_both (leads_to hop) cs ds as bs (h.hops hop) (k.hops hop);
-    areas = λ area. have_both (is_through area) cs ds as bs (h.areas area) (k.areas area);
+  pub best_of_both : (cs ds es fs : List (Candidate K)) → HasBestOf cs ds → HasBestOf es fs → HasBestOf (cs ++ es) (ds ++ fs)
+  best_of_both cs ds es fs h k = record {
+    keys = λ key. any_both (is_candidate_to R key) cs ds es fs (h.keys key) (k.keys key);
+    lower = λ key m. any_both (is_lower key m) cs ds es fs (h.lower key m) (k.lower key m);
+    attained = have_both (λ c. true) cs ds es fs h.attained k.attained;
+    hops = λ hop. have_both (leads_to hop) cs ds es fs (h.hops hop) (k.hops hop);
+    areas = λ area. have_both (is_through area) cs ds es fs (h.areas area) (k.areas area);
   }
 
   best_at : (cs ds : List (Candidate K)) → HasBestOf cs ds → (key : K) (w : Option WayValue)

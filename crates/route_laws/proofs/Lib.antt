@@ -1,3 +1,4 @@
 mod Tests
 mod Groups
 mod Within
+mod One
