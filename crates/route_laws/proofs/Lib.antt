@@ -2,3 +2,4 @@ mod Tests
 mod Groups
 mod Within
 mod One
+mod Between
