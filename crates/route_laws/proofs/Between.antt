@@ -1,7 +1,7 @@
 -- The inter-area routes are the best of all ways over all area border routers.
 use Rattle.std.proofs.Common.{◌≡◌, ℕ, Bool, true, false, cond, not, List, [], ◌∷◌, ◌++◌, map, suc, Option, None, Some, refl, sym, ap, subst, ◌∙◌}
 use Rattle.std.proofs.Common.{arith, ⊎_elim, inl, inr, true≢false}
-use Rattle.std.specs.Prelude.{◌&&◌, ◌==◌}
+use Rattle.std.specs.Prelude.{◌&&◌}
 use Rattle.std.specs.List.{AllPairs, cons_option, filter, filter_map, find, flat_map}
 use Rattle.std.specs.Option.{option_and_then, option_map, option_map_or, option_to_list}
 use Rattle.std.proofs.lemmas.Bool.{and_parts, eqb-true}
@@ -14,7 +14,7 @@ use Rattle.lsa_codec.specs.Prefix.{Net}
 use Rattle.lsdb.specs.declared.section.Section.TheVariants.{Area}
 use Rattle.lsdb.specs.Lists.{AreaHead, IsDatabase, Lists, lsas_of}
 use Rattle.area_graph.specs.Area.{is_router_lsa, used}
-use Rattle.area_graph.proofs.MemberLemmas.{Contains-from_In, In, In-cases, In-left, In-right, Some-same, flat_map-In, map-In}
+use Rattle.area_graph.proofs.MemberLemmas.{Contains-from_In, In, In-cases, In-left, Some-same, flat_map-In, map-In}
 use Rattle.area_routes.specs.declared.entry.EntryKind.{EntryKind}
 use Rattle.area_routes.specs.declared.entry.EntryKind.TheVariants.{Border, AsbrIntra, AsbrInter}
 use Rattle.area_routes.specs.AreaResults.{area_result}
@@ -23,7 +23,7 @@ use Rattle.area_routes.specs.Best.{ways_of}
 use Rattle.area_routes.specs.Candidate.{Candidate}
 use Rattle.area_routes.specs.Entries.{bit_b, bit_e, entries_of, entry_by, flags_of, has_bit, reached_entry}
 use Rattle.area_routes.specs.EntriesOnce.{IsSameWay, StandOnce, results_of}
-use Rattle.area_routes.specs.Inter.{backbone, border_of, by_border, entries_by, entries_of_all, examined, inter_of, network_candidate, network_told, originator_of, routes_by, same_kind, same_router, usable_metric}
+use Rattle.area_routes.specs.Inter.{border_of, by_border, entries_by, entries_of_all, examined, inter_of, network_candidate, network_told, originator_of, routes_by, same_kind, same_router, usable_metric}
 use Rattle.area_routes.specs.InWords.{AreBestWays}
 use Rattle.area_routes.specs.Reached.{ReachedValue, reached_from}
 use Rattle.area_routes.specs.Stubs.{is_lsa_of}
@@ -121,7 +121,6 @@ same_way x e f area of_e of_f =
       area = area;
       kind = is_border e.kind a.0 ∙ sym (is_border f.kind b.0);
     }
-
 
 border_once : (x : RouterId) (area : AreaId) (es : List EntryValue) → ((e : EntryValue) → In es e → e.area ≡ area) → Pairs Differ es
     → Pairs (λ e f. is_border_entry x e ≡ true → is_border_entry x f ≡ true → ⊥) es

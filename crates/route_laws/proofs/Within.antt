@@ -1,5 +1,5 @@
 -- The intra-area routes are the best of all ways within all areas.
-use Rattle.std.proofs.Common.{◌≡◌, List, [], ◌∷◌, map, Some, refl, sym, ap, subst, ◌∙◌}
+use Rattle.std.proofs.Common.{◌≡◌, List, [], ◌∷◌, map, Some, refl, sym, subst, ◌∙◌}
 use Rattle.std.specs.List.{All, flat_map}
 use Rattle.std.proofs.lemmas.List.Elements.{All-head, All-map, All-tail}
 use Rattle.std.proofs.lemmas.Map.Lookups.{CmpEqualImpliesEq}

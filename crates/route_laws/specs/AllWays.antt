@@ -1,8 +1,7 @@
 -- All ways to prefixes within the areas of a router and between areas, of whatever cost (RFC 2328, 16.1 and 16.2).
-use Rattle.std.specs.Prelude.{ℕ, ◌++◌, List, [], Bool, ◌&&◌, Option, map}
+use Rattle.std.specs.Prelude.{ℕ, ◌++◌, List, [], Bool, ◌&&◌, map}
 use Rattle.std.specs.List.{filter, flat_map}
 use Rattle.std.specs.Option.{option_map_or}
-use Rattle.lsa_codec.specs.declared.address.AreaId.{AreaId}
 use Rattle.lsa_codec.specs.declared.address.RouterId.{RouterId}
 use Rattle.lsa_codec.specs.Prefix.{Net}
 use Rattle.lsdb.specs.declared.section.Section.TheVariants.{Area}

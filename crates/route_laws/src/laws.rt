@@ -38,8 +38,8 @@ pub fn intra_routes_are_best()
 pub fn inter_routes_are_best()
     ensures { (db : Lists) (router : RouterId) (intra : List RouteValue) → IsDatabase db
         → AreBestRoutes
-            (ways_between db router (results_in db router (attached_areas db router)) intra)
-            (inter_of db router (results_in db router (attached_areas db router)) intra).routes }
+        (ways_between db router (results_in db router (attached_areas db router)) intra)
+        (inter_of db router (results_in db router (attached_areas db router)) intra).routes }
 {
     orders();
     ways_are_best::<Prefix>();

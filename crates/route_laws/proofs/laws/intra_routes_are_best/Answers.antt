@@ -1,7 +1,4 @@
-use Rattle.std.proofs.Common.{sym, ◌∙◌}
-use Rattle.area_routes.specs.Candidate.{Candidate}
 use Rattle.area_routes.specs.Intra.{intra_of}
-use Rattle.area_routes.specs.Routes.{routes_of}
 use Rattle.routing_table.specs.Tables.{results_in}
 use Rattle.route_laws.specs.AllWays.{ways_within}
 use Rattle.route_laws.proofs.One.{routes_are_one}
