@@ -3,3 +3,4 @@ mod Groups
 mod Within
 mod One
 mod Between
+mod WholeTables

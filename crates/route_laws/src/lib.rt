@@ -8,4 +8,6 @@
 
 mod laws;
 
-pub use laws::{best_routes_are_one, inter_routes_are_best, intra_routes_are_best};
+pub use laws::{
+    best_routes_are_one, inter_routes_are_best, intra_routes_are_best, tables_have_best_routes,
+};
