@@ -1,10 +1,9 @@
 -- The routes of a table are the best of all ways.
-use Rattle.std.proofs.Common.{◌≡◌, List, Some, ap, ◌∙◌}
+use Rattle.std.proofs.Common.{◌≡◌, List, ap, ◌∙◌}
 use Rattle.lsa_codec.specs.declared.address.RouterId.{RouterId}
 use Rattle.lsa_codec.specs.Order.{prefix_cmp}
 use Rattle.lsa_codec.specs.Prefix.{Net}
-use Rattle.lsdb.specs.Lists.{AreaHead, IsDatabase, Lists}
-use Rattle.area_routes.specs.Attached.{attached_areas}
+use Rattle.lsdb.specs.Lists.{AreaHead, Lists}
 use Rattle.area_routes.specs.Best.{ways_of}
 use Rattle.area_routes.specs.Candidate.{Candidate}
 use Rattle.area_routes.specs.Inter.{inter_of}

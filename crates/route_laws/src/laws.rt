@@ -65,8 +65,8 @@ pub fn tables_have_best_routes()
     ensures { (db : Lists) (router : RouterId) (table : TableValue) → IsDatabase db
         → table_in db router ≡ Some table
         → table.routes ≡ preferring (best_inside db router (attached_areas db router))
-            (externals_of db router (best_inside db router (attached_areas db router))
-            (entries_inside db router (attached_areas db router))) }
+        (externals_of db router (best_inside db router (attached_areas db router))
+        (entries_inside db router (attached_areas db router))) }
 {
     rank_order();
     orders();
