@@ -1,0 +1,6 @@
+mod Tests
+mod Groups
+mod Within
+mod One
+mod Between
+mod WholeTables
