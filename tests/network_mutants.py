@@ -226,7 +226,7 @@ def ones(lsa: bytes) -> int:
 
 def is_printable(lsa: bytes) -> bool:
     """Whether what is printed of an LSA has all of its bytes."""
-    if fault_of_lsa(lsa) or lsa[3] > 5 or lsa[2] & 128:
+    if fault_of_lsa(lsa) or number(lsa[18:20]) != len(lsa) or lsa[3] > 5 or lsa[2] & 128:
         return False
     kind, length = lsa[3], len(lsa)
     if kind == 1:
