@@ -32,34 +32,36 @@ id_of area = record { 0 = area.id }
 all_came : (old new : TreeSet) (router : RouterId) (areas : List AreaHead) → areas_without_tree new router areas ≡ []
     → areas_gained old new router areas ≡ areas_without_tree old router areas
 all_came old new router [] none = refl
-all_came old new router (area ∷ areas) none = by (old (record { 0 = area.id }) router) (new (record { 0 = area.id }) router) refl none
+all_came old new router (area ∷ areas) none =
+    by (old (record { 0 = area.id }) router) (new (record { 0 = area.id }) router) refl (all_came old new router areas) none
   where
     passed : AreaHead → Bool
     passed a = new (record { 0 = a.id }) router
 
     by : (was is : Bool) → new (record { 0 = area.id }) router ≡ is
+        → (areas_without_tree new router areas ≡ [] → areas_gained old new router areas ≡ areas_without_tree old router areas)
         → cond (not is) (area ∷ areas_without_tree new router areas) (areas_without_tree new router areas) ≡ []
         → filter passed (cond (not was) (area ∷ areas_without_tree old router areas) (areas_without_tree old router areas))
         ≡ cond (not was) (area ∷ areas_without_tree old router areas) (areas_without_tree old router areas)
-    by true true e h = all_came old new router areas h
-    by false true e h =
+    by true true e rest h = rest h
+    by false true e rest h =
         ap (λ b. cond b (area ∷ areas_gained old new router areas) (areas_gained old new router areas)) e
-        ∙ ap (λ (l : List AreaHead). area ∷ l) (all_came old new router areas h)
-    by was false e h = absurd cc
+        ∙ ap (λ (l : List AreaHead). area ∷ l) (rest h)
+    by was false e rest h = absurd cc
 
 -- where nothing came, none came
 none_came : (trees : TreeSet) (router : RouterId) (areas : List AreaHead) → areas_gained trees trees router areas ≡ []
 none_came trees router [] = refl
-none_came trees router (area ∷ areas) = by (trees (record { 0 = area.id }) router) refl
+none_came trees router (area ∷ areas) = by (trees (record { 0 = area.id }) router) refl (none_came trees router areas)
   where
     passed : AreaHead → Bool
     passed a = trees (record { 0 = a.id }) router
 
-    by : (b : Bool) → trees (record { 0 = area.id }) router ≡ b
+    by : (b : Bool) → trees (record { 0 = area.id }) router ≡ b → areas_gained trees trees router areas ≡ []
         → filter passed (cond (not b) (area ∷ areas_without_tree trees router areas) (areas_without_tree trees router areas)) ≡ []
-    by true e = none_came trees router areas
-    by false e =
-        ap (λ b. cond b (area ∷ areas_gained trees trees router areas) (areas_gained trees trees router areas)) e ∙ none_came trees router areas
+    by true e rest = rest
+    by false e rest =
+        ap (λ b. cond b (area ∷ areas_gained trees trees router areas) (areas_gained trees trees router areas)) e ∙ rest
 
 pub none_at_most : (most n : ℕ) → CountsAtMost most n n
 none_at_most most n = record { trees = 0; few = omega arith; counts = refl }
@@ -114,7 +116,7 @@ module _ (router : RouterId) (p q r : PlannerValue) (session : q.session ≡ p.s
       → r.first_kept ≡ q.first_kept → r.tables.first ≡ q.tables.first
       → OnOk o ((IsAskedAgain router p → r.tables.first ≡ Some router)
       → r.runs ≡ counted_by (gained (state p.session) router p.kept r.kept) (counted_by (gained p.session.base router p.first_kept r.first_kept) p.runs))
-  shared_runs (Ok v) runs trees before first_kept first again =
+  shared_runs (Ok v) runs trees before first_kept first = λ again.
       runs ∙ ap (λ n. counted_by n q.runs)
       (lacks ∙ sym (gained_all (state p.session) router p.kept r.kept (subst (λ (s : Session). HasTrees (state s) router r.kept) session trees)))
       ∙ ap (counted_by (gained (state p.session) router p.kept r.kept))

@@ -1,6 +1,5 @@
 use Rattle.std.proofs.Common.{◌∙◌, Some, ap, refl, sym, subst}
 use Rattle.lsa_codec.specs.declared.address.RouterId.{RouterId}
-use Rattle.routing_table.proofs.TableLemmas.{on_err}
 use Rattle.routing_table.specs.AreasTrees.{routers_of}
 use Rattle.routing_table.specs.KeptTrees.{is_kept}
 use Rattle.routing_table.specs.Tables.{TableValue}
@@ -61,15 +60,6 @@ returns-in_err-clone-2-clause-gains g c =
 pub returns-clause-gains : goal.returns-clause-gains
 returns-clause-gains g c =
     first_gains _ _ c.args.router (routers_of c.base_table_over.new.trees) c.self.view_is c.base_table_over.ensures.keeps c.base_table_over.ensures.no_more
-
-pub returns-in_err-table-clause-gone : goal.returns-in_err-table-clause-gone
-returns-in_err-table-clause-gone g c = on_err _ (λ apart. absurd (apart refl))
-
-pub returns-in_err-table-2-clause-gone : goal.returns-in_err-table-2-clause-gone
-returns-in_err-table-2-clause-gone g c = on_err _ (λ apart. absurd (apart refl))
-
-pub returns-in_err-clone-2-clause-gone : goal.returns-in_err-clone-2-clause-gone
-returns-in_err-clone-2-clause-gone g c = on_err _ (λ apart. absurd (apart refl))
 
 pub returns-clause-first : goal.returns-clause-first
 returns-clause-first g c =
