@@ -79,10 +79,10 @@ def order_differences(program: str, folder: pathlib.Path) -> list[str]:
     found = [] if (run.status, run.replies, run.error) == (0, REPLIES, b"") else ["how the run ended"]
     found += left_differences(folder, EDITED, SESSION)
     found += renamed_when_synced(run, out, len(EDITED)) + renamed_when_synced(run, saved, len(SESSION))
-    told = run.first(r"write\(1, ")
+    replied = run.first(r"write\(1, ")
     begun = [run.first(rf'openat\(AT_FDCWD, "{re.escape(str(path))}(\.1\.new)?", ') for path in (out, saved)]
     ended = run.first(rf'rename\("{re.escape(str(out))}\.1\.new"')
-    return found + ([] if told < begun[0] < ended < begun[1] < len(run.calls) else ["the order of the outputs"])
+    return found + ([] if replied < begun[0] < ended < begun[1] < len(run.calls) else ["the order of the outputs"])
 
 
 def made_at(run: Traced, path: pathlib.Path) -> int:
@@ -99,11 +99,11 @@ def refusals(ample: Traced, folder: pathlib.Path):
     yield "a full disk as the new dump is made", f"openat:error=ENOSPC:when={out}", REPLIES, none
     yield "a full disk as the dump is written", "write:error=ENOSPC:when=2", REPLIES, none
     yield "a full disk as the dump is synced", "fsync:error=ENOSPC:when=1", REPLIES, none
-    yield "a dump that can not be renamed", "rename:error=EACCES:when=1", REPLIES, none
+    yield "a dump that cannot be renamed", "rename:error=EACCES:when=1", REPLIES, none
     yield "a full disk as the new session is made", f"openat:error=ENOSPC:when={saved}", REPLIES, dump
     yield "a full disk as the session is written", "write:error=ENOSPC:when=3", REPLIES, dump
     yield "a full disk as the session is synced", "fsync:error=ENOSPC:when=2", REPLIES, dump
-    yield "a session that can not be renamed", "rename:error=EACCES:when=2", REPLIES, dump
+    yield "a session that cannot be renamed", "rename:error=EACCES:when=2", REPLIES, dump
 
 
 def refused_differences(program: str, folder: pathlib.Path, how: str, replies: bytes, left: tuple[bytes, bytes]) -> list[str]:
@@ -133,7 +133,7 @@ def parser_differences(program: str, folder: pathlib.Path) -> list[str]:
     if len(asked) <= before:
         return ["the growths of the parser, which were not seen,"]
     at = asked[before]
-    # The system tells a heap that does not grow by its end, and not by an error; 0 is below any that is asked for.
+    # A heap that does not grow shows by its end, which the system returns, and not by an error; 0 is below any end.
     refused = {"brk": "retval=0", "mmap": "error=ENOMEM"}
     counts = {name: 1 + sum(call.startswith(f"{name}(") for call in ample.calls[:at]) for name in refused}
     run = traced(program, folder, files, [f"{name}:{refused[name]}:when={n}+" for name, n in counts.items()])

@@ -144,10 +144,10 @@ module _ (router : RouterId) (area : AreaResultValue) (intra : List RouteValue)
           ∙ ap (map (by_border net area.area metric)) (sym (found (is_border_entry (originator_of lsa)) area.entries
           (border_once (originator_of lsa) area.area area.entries through once)))
 
-      by : (told : Option Net) (metric : Option ℕ)
+      by : (prefix : Option Net) (metric : Option ℕ)
           → option_to_list (option_and_then (λ net.
-          option_and_then (λ m. option_map (by_border net area.area m) (border_of area.entries (originator_of lsa))) metric) told)
-          ≡ option_map_or (λ net. option_map_or (ways_over router area intra lsa net) metric []) told []
+          option_and_then (λ m. option_map (by_border net area.area m) (border_of area.entries (originator_of lsa))) metric) prefix)
+          ≡ option_map_or (λ net. option_map_or (ways_over router area intra lsa net) metric []) prefix []
       by None metric = refl
       by (Some net) None = refl
       by (Some net) (Some m) = over net m

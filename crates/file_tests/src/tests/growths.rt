@@ -1,4 +1,4 @@
-//! Calls that read files, and those that put together what files tell: each of their growths
+//! Calls that read files, and those that put together what files contain: each of their growths
 //! refused in turn.
 
 // What the calls are lent, and what they answer.
@@ -49,16 +49,16 @@ const CALLS: &[Call] = &[
 
 /// What `newest` answers of the sightings.
 fn of_newest(alloc: Global, rationed: &Rationed, growths: u64) -> Result<Answer, Fail> {
-    let told = sightings(rationed)?;
+    let observed = sightings(rationed)?;
     rationed.leave(growths);
-    of_sightings(alloc, newest(rationed, FlushedLsas::LeftOut, told))
+    of_sightings(alloc, newest(rationed, FlushedLsas::LeftOut, observed))
 }
 
-/// What `join` answers of the sightings, and of an area that is told of alone.
+/// What `join` answers of the sightings, and of an area of which no LSA was seen.
 fn of_join(alloc: Global, rationed: &Rationed, growths: u64) -> Result<Answer, Fail> {
-    let told = sightings(rationed)?;
+    let observed = sightings(rationed)?;
     rationed.leave(growths);
-    let joined = join(rationed, FlushedLsas::Kept, told, &[AREA]);
+    let joined = join(rationed, FlushedLsas::Kept, observed, &[AREA]);
     of_database(alloc, rationed, joined)
 }
 
@@ -72,7 +72,7 @@ fn of_bytes(alloc: Global, rationed: &Rationed, call: Call, bytes: &[u8]) -> Res
     }
 }
 
-/// What a call answers with so many growths. What it is lent is made with ample memory.
+/// What a call answers after that number of growths. What it is lent is made with ample memory.
 fn answer_with(
     alloc: Global,
     rationed: &Rationed,

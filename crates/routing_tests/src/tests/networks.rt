@@ -71,14 +71,14 @@ fn hops_in(alloc: Global, graph: &Graph) -> Result<String, Fail> {
 }
 
 /// The edges of the graph of a dump, and the next hops of 1.1.1.1.
-fn told(alloc: Global, dump: &[u8]) -> Result<(String, String), Fail> {
+fn edges_and_hops(alloc: Global, dump: &[u8]) -> Result<(String, String), Fail> {
     let graph = graph_of(alloc, dump)?;
     Ok((edges_text(alloc, &graph)?, hops_in(alloc, &graph)?))
 }
 
 #[test]
-fn tells_edges_and_hops_of_two_routers(rt: HostRuntime) -> Result<(), Fail> {
-    let (edges, hops) = told(rt.alloc(), SAMPLE)?;
+fn edges_and_hops_of_two_routers(rt: HostRuntime) -> Result<(), Fail> {
+    let (edges, hops) = edges_and_hops(rt.alloc(), SAMPLE)?;
     assert_eq!(rt;
         edges.as_str(),
         "0: 1 at 10 by 10.0.0.1,\n1: 0 at 10 by 10.0.0.2,\n"
@@ -87,7 +87,7 @@ fn tells_edges_and_hops_of_two_routers(rt: HostRuntime) -> Result<(), Fail> {
     Ok(())
 }
 
-/// The edges of the network of three, of each vertex in the order in which it is told of above.
+/// The edges of the network of three, of each vertex in the order of the text above.
 const EDGES: &str = "\
 0: 3 at 10 by 10.5.0.1, 2 at 5 by 10.0.0.1,
 1: 3 at 10 by 10.5.0.3,
@@ -103,9 +103,9 @@ const HOPS: &str = "\
 ";
 
 #[test]
-fn tells_edges_and_hops_of_a_network(rt: HostRuntime) -> Result<(), Fail> {
+fn edges_and_hops_of_a_network(rt: HostRuntime) -> Result<(), Fail> {
     let dump = dump_of_text(rt.alloc(), THREE)?;
-    let (edges, hops) = told(rt.alloc(), &dump)?;
+    let (edges, hops) = edges_and_hops(rt.alloc(), &dump)?;
     assert_eq!(rt; edges.as_str(), EDGES);
     assert_eq!(rt; hops.as_str(), HOPS);
     Ok(())

@@ -1,4 +1,4 @@
-//! The entry of an AS boundary router of another area, of which a summary-LSA of type 4 tells.
+//! The entry of an AS boundary router of another area, by a summary-LSA of type 4.
 
 use super::texts::hops_text;
 use area_routes::{EntryKind, RouterEntry, inter, intra};

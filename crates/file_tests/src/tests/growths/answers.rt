@@ -24,9 +24,9 @@ fn push_sightings(text: &mut String, sightings: &[Sighting<&Rationed>]) -> Resul
 
 /// Adds the kinds of areas.
 fn push_kinds(text: &mut String, kinds: &[ToldArea]) -> Result<(), Fail> {
-    for told in kinds {
-        let (area, kind) = (told.id, told.kind);
-        write!(text, "{area} {kind:?}\n")?;
+    for area in kinds {
+        let (id, kind) = (area.id, area.kind);
+        write!(text, "{id} {kind:?}\n")?;
     }
     Ok(())
 }
@@ -59,7 +59,7 @@ pub(super) fn of_capture(
     }
 }
 
-/// What packets tell.
+/// What packets contain.
 fn packets_text(alloc: Global, packets: &Packets<&Rationed>) -> Result<String, Fail> {
     let odd = packets.odd.as_slice();
     let mut text = format!(in alloc; "{odd:?}\n")?;
@@ -69,7 +69,7 @@ fn packets_text(alloc: Global, packets: &Packets<&Rationed>) -> Result<String, F
     Ok(text)
 }
 
-/// The answer that is what packets tell.
+/// The answer that is what packets contain.
 pub(super) fn of_packets(
     alloc: Global,
     packets: Result<Packets<&Rationed>, AllocError>,
@@ -80,7 +80,7 @@ pub(super) fn of_packets(
     }
 }
 
-/// What a walk tells.
+/// What a walk contains.
 fn walk_text(alloc: Global, walk: &Walk<&Rationed>) -> Result<String, Fail> {
     let holes = walk.holes.as_slice();
     let mut text = format!(in alloc; "{holes:?}\n")?;
@@ -89,7 +89,7 @@ fn walk_text(alloc: Global, walk: &Walk<&Rationed>) -> Result<String, Fail> {
     Ok(text)
 }
 
-/// The answer that is what a walk tells.
+/// The answer that is what a walk contains.
 pub(super) fn of_walk(
     alloc: Global,
     walk: Result<Walk<&Rationed>, WalkFault>,
@@ -121,7 +121,7 @@ pub(super) fn of_printed(
     }
 }
 
-/// What can not be used of a file.
+/// What cannot be used of a file.
 fn oddities_text(alloc: Global, oddities: &Oddities<&Rationed>) -> Result<String, Fail> {
     match oddities {
         Oddities::Frames(odd, end) => {
@@ -143,7 +143,7 @@ fn oddities_text(alloc: Global, oddities: &Oddities<&Rationed>) -> Result<String
     }
 }
 
-/// What a file tells.
+/// What a file contains.
 fn file_text(alloc: Global, file: &FileTold<&Rationed>) -> Result<String, Fail> {
     let mut text = oddities_text(alloc, &file.oddities)?;
     push_sightings(&mut text, &file.sightings)?;
@@ -152,7 +152,7 @@ fn file_text(alloc: Global, file: &FileTold<&Rationed>) -> Result<String, Fail> 
     Ok(text)
 }
 
-/// The answer that is what a file tells.
+/// The answer that is what a file contains.
 pub(super) fn of_file(
     alloc: Global,
     file: Result<FileTold<&Rationed>, FileFault>,

@@ -18,7 +18,7 @@ use std::test::*;
 /// A row of a walk that was cut: a column of it, and not that of the LSA.
 const CUT_ROW: &[u8] = b".1.3.6.1.2.1.14.4.1.5.0.0.0.0.2.192.168.0.1.1.1.1.1 = INTEGER: 33554560\n";
 
-/// Bytes, and others behind them.
+/// Bytes, and others after them.
 fn two(alloc: Global, front: &[u8], back: &[u8]) -> Result<Vec<u8>, AllocError> {
     let mut bytes = Vec::from_slice(alloc, front)?;
     bytes.extend_from_slice(back)?;
@@ -36,8 +36,8 @@ pub(super) fn read_bytes(alloc: Global, call: Call) -> Result<Vec<u8>, AllocErro
     }
 }
 
-/// Frames that tell LSAs, the kind of an area and headers, fragments among them, and one that
-/// tells nothing.
+/// Frames that contain LSAs, the kind of an area and headers, fragments among them, and one that
+/// contains nothing.
 pub(super) fn frames() -> [Frame<'static>; 7] {
     [
         whole(LinkType::RAW, FRONT),
@@ -57,7 +57,7 @@ const FLUSH: Option<u64> = Some(1_795_401_354_177_222_000);
 
 /// Sightings: two instances of a router-LSA, another instance in another area, an AS-external-LSA
 /// that is flushed, and another one.
-const TOLD: &[(Scope, Option<u64>, &[u8])] = &[
+const OBSERVED: &[(Scope, Option<u64>, &[u8])] = &[
     (Scope::AsWide, SEEN, ANNOUNCED),
     (Scope::Area(AreaId(0)), None, NEWER),
     (Scope::AsWide, FLUSH, FLUSHED),
@@ -66,7 +66,7 @@ const TOLD: &[(Scope, Option<u64>, &[u8])] = &[
     (Scope::AsWide, SEEN, OTHER),
 ];
 
-/// An area of which no LSA is told.
+/// An area of which no LSA was seen.
 pub(super) const AREA: ToldArea = ToldArea {
     id: AreaId(1),
     kind: AreaKind::Stub,
@@ -74,21 +74,21 @@ pub(super) const AREA: ToldArea = ToldArea {
 
 /// Adds a sighting.
 fn add<'a>(
-    told: &mut Vec<Sighting<&'a Rationed>, &'a Rationed>,
+    observed: &mut Vec<Sighting<&'a Rationed>, &'a Rationed>,
     rationed: &'a Rationed,
     sighting: &(Scope, Option<u64>, &[u8]),
 ) -> Result<(), Fail> {
     let (scope, seen, bytes) = *sighting;
     let (lsa, _) = Lsa::decode(rationed, bytes)?;
-    told.push(Sighting { scope, seen, lsa })?;
+    observed.push(Sighting { scope, seen, lsa })?;
     Ok(())
 }
 
 /// The sightings that calls are lent.
 pub(super) fn sightings(rationed: &Rationed) -> Result<Vec<Sighting<&Rationed>, &Rationed>, Fail> {
-    let mut told = Vec::new(rationed);
-    for sighting in TOLD {
-        add(&mut told, rationed, sighting)?;
+    let mut observed = Vec::new(rationed);
+    for sighting in OBSERVED {
+        add(&mut observed, rationed, sighting)?;
     }
-    Ok(told)
+    Ok(observed)
 }
