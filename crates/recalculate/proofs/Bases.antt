@@ -5,15 +5,17 @@ use Rattle.std.proofs.Common.{◌∙◌, sym, ap, arith, subst}
 use Rattle.std.specs.Prelude.{cond, nat_lt}
 use Rattle.lsa_codec.specs.declared.address.RouterId.{RouterId}
 use Rattle.lsdb.specs.Lists.{AreaHead, Lists}
-use Rattle.area_routes.specs.Attached.{attached_areas}
+use Rattle.area_routes.specs.Attached.{attached_areas, is_attached}
 use Rattle.edit_script.specs.declared.edit.Edit.{Edit}
 use Rattle.edit_history.specs.declared.fault.EditFault.{EditFault}
 use Rattle.edit_history.specs.declared.fault.EditFault.TheVariants.{HistoryFull}
 use Rattle.edit_history.specs.Effect.{effect}
 use Rattle.edit_history.specs.Session.{Session, accepted, after_edits, edited, most_edits, moved_back, state}
 use Rattle.routing_table.specs.AreasTrees.{KeptTreesValue, AreOfDatabase, routers_of}
-use Rattle.routing_table.specs.KeptTrees.{IsWithin, KeptRouters, TreeSet, areas_without_tree, is_kept}
+use Rattle.routing_table.specs.KeptTrees.{GainsOnly, IsWithin, KeptRouters, TreeSet, areas_without_tree, is_kept}
 use Rattle.routing_table.specs.Tables.{TableValue, results_in, routes_from, table_by, table_in}
+use Rattle.routing_table.proofs.KeptLemmas.{none_lacks}
+use Rattle.recalculate.specs.Asking.{GainsTrees}
 use Rattle.recalculate.specs.Calls.{Stayed}
 use Rattle.recalculate.specs.Planning.{IsTableOver, KeepsTrees, PlannerValue}
 
@@ -41,7 +43,7 @@ named_by db router (area ∷ areas) table h =
     let is : record { router = router; routes = routes_from db router (results_in db router (area ∷ areas)) } ≡ table = cc in
     sym (ap (λ (t : TableValue). t.router) is)
 
-named : (db : Lists) (router : RouterId) (table : TableValue) → table_in db router ≡ Some table → table.router ≡ router
+pub named : (db : Lists) (router : RouterId) (table : TableValue) → table_in db router ≡ Some table → table.router ≡ router
 unfolding table_in
 named db router table h = named_by db router (attached_areas db router) table h
 
@@ -56,14 +58,14 @@ pub kept_of : (db : Lists) (kept : KeptRouters) (router : RouterId) (table : Tab
     → IsTableOver db kept table.router table → IsTableOver db kept router table
 kept_of db kept router table same over = subst (λ (r : RouterId). IsTableOver db kept r table) same over
 
--- a table of the session's database may be kept as the last one
-pub may_be_last : (db : Lists) (router : RouterId) (table : TableValue) → table_in db router ≡ Some table → table_in db table.router ≡ Some table
-may_be_last db router table shows = subst (λ (r : RouterId). table_in db r ≡ Some table) (sym (named db router table shows)) shows
-
--- the last table that is kept, where it is that of a router
-pub last_of : (db : Lists) (router : RouterId) (table : TableValue) → table.router ≡ router → table_in db table.router ≡ Some table
-    → table_in db router ≡ Some table
-last_of db router table same shows = subst (λ (r : RouterId). table_in db r ≡ Some table) same shows
+-- a table stays one over the trees, where more of them come
+over_more : (db : Lists) (old new : KeptRouters) → IsWithin (is_kept old) (is_kept new) → (o : Option TableValue)
+    → IfSome o (λ table. IsTableOver db old table.router table) → IfSome o (λ table. IsTableOver db new table.router table)
+over_more db old new within None over = tt
+over_more db old new within (Some table) over = record {
+  shows = over.shows;
+  trees = none_lacks (is_kept old) (is_kept new) table.router within (attached_areas db table.router) over.trees;
+}
 
 -- where nothing is kept, it is of each database
 none_kept : (db : Lists) (kept : KeptTreesValue) → kept ≡ record { areas = []; spare = None } → AreOfDatabase db kept
@@ -99,12 +101,30 @@ keeps_other s t trees first_trees after before table last_table same beginning o
 
 -- another table of the session's database, or none, is kept as the last one
 pub keeps_last : (s : Session) (trees first_trees : KeptTreesValue) (first_table before last_table : Option TableValue)
-    → IfSome last_table (λ table. table_in (state s) table.router ≡ Some table) → KeepsTrees s trees first_trees first_table before
+    → IfSome last_table (λ table. IsTableOver (state s) (routers_of trees) table.router table) → KeepsTrees s trees first_trees first_table before
     → KeepsTrees s trees first_trees first_table last_table
 keeps_last s trees first_trees first_table before last_table last keeps =
     record { now = keeps.now; beginning = keeps.beginning; table = keeps.table; last = last }
 
+-- trees of the session's database came
+pub grows_on : (s t : Session) (trees after first_trees : KeptTreesValue) (first_table last_table : Option TableValue) → t ≡ s
+    → AreOfDatabase (state s) after → IsWithin (is_kept (routers_of trees)) (is_kept (routers_of after))
+    → KeepsTrees s trees first_trees first_table last_table → KeepsTrees t after first_trees first_table last_table
+grows_on s t trees after first_trees first_table last_table same now within keeps =
+    subst (λ (u : Session). KeepsTrees u after first_trees first_table last_table) (sym same) (record {
+      now = now;
+      beginning = keeps.beginning;
+      table = keeps.table;
+      last = over_more (state s) (routers_of trees) (routers_of after) within last_table keeps.last;
+    })
+
 -- ---- what a planner shows after it was asked for one
+
+pub first_gains : (p q : PlannerValue) (router : RouterId) (after : KeptRouters) → p ≡ q → IsWithin (is_kept p.first_kept) (is_kept after)
+    → GainsOnly (λ area. is_attached p.session.base area router) router (is_kept p.first_kept) (is_kept after)
+    → GainsTrees q.session.base router q.first_kept after
+first_gains p q router after same keeps no_more =
+    subst (λ (v : PlannerValue). GainsTrees v.session.base router v.first_kept after) same (record { keeps = keeps; no_more = no_more })
 
 pub first_keeps : (p q : PlannerValue) (after : TreeSet) → p ≡ q → IsWithin (is_kept p.first_kept) after → IsWithin (is_kept q.first_kept) after
 first_keeps p q after same keeps = subst (λ (v : PlannerValue). IsWithin (is_kept v.first_kept) after) same keeps

@@ -18,7 +18,7 @@ use Rattle.edit_history.specs.Session.{Session, Request, edit, undo, redo, accep
 use Rattle.recalculate.specs.Calls.{AreMade, Call, CarriedOut, IsTaken, Leads, after_calls, call_touches, calls_touch, request_touches}
 use Rattle.routing_table.specs.AreasTrees.{KeptTreesValue, routers_of}
 use Rattle.routing_table.specs.KeptTrees.{KeptRouters, is_kept, less_touched}
-use Rattle.recalculate.specs.Planning.{PlannerValue}
+use Rattle.recalculate.specs.Planning.{KeptTables, PlannerValue}
 use Rattle.recalculate.specs.Reached.{IsReached}
 use Rattle.recalculate.proofs.Touches.{IsKeptAs, edited_spares, redone_spares, undone_spares}
 
@@ -37,12 +37,12 @@ pub took : (s t : Session) (e : Edit) → edited s e ≡ Ok t → IsTaken (edit 
 took s t e is = subst (λ (r : Result Session EditFault). IsOk r) (sym is) refl
 
 -- what a planner shows that has these trees
-abbrev pub shown : Session → ℕ → (trees first_trees : KeptTreesValue) → PlannerValue
-shown s runs trees first_trees = record { session = s; runs = runs; kept = routers_of trees; first_kept = routers_of first_trees }
+abbrev pub shown : Session → ℕ → (trees first_trees : KeptTreesValue) → KeptTables → PlannerValue
+shown s runs trees first_trees tables = record { session = s; runs = runs; kept = routers_of trees; first_kept = routers_of first_trees; tables = tables }
 
-pub carries_out : (r : Request) (s t : Session) (runs : ℕ) (areas new first_trees : KeptTreesValue) → IsTaken r s → after_request s r ≡ t → IsReached t
-    → IsKeptAs (state t) (request_touches r s) areas new → CarriedOut r (shown s runs areas first_trees) (shown t runs new first_trees)
-carries_out r s t runs areas new first_trees taken is reached kept = record { taken = taken; session = sym is; reached = reached; runs = refl; kept = kept.shown }
+pub carries_out : (r : Request) (s t : Session) (runs : ℕ) (areas new first_trees : KeptTreesValue) (before after : KeptTables) → IsTaken r s → after_request s r ≡ t → IsReached t
+    → IsKeptAs (state t) (request_touches r s) areas new → CarriedOut r (shown s runs areas first_trees before) (shown t runs new first_trees after)
+carries_out r s t runs areas new first_trees before after taken is reached kept = record { taken = taken; session = sym is; reached = reached; runs = refl; kept = kept.shown }
 
 -- ---- the graph of an area stays
 

@@ -2,3 +2,4 @@ pub mod Planning
 pub mod Counts
 pub mod Reached
 pub mod Calls
+pub mod Asking

@@ -11,7 +11,7 @@ mod tables;
 mod touched;
 
 pub use counts::Info;
-pub use laws::untouched_trees_stay;
+pub use laws::{tables_keep_their_own_trees, untouched_trees_stay};
 pub use planner::Planner;
 pub use routing_table::{
     Table, TableFault, routers, routers_are_attached, table_of, tables_are_over_all_paths,

@@ -21,9 +21,9 @@ use std::rc::Rc;
 /// It is seen as its session, which is the loaded database, the edits done and the edits undone, as
 /// how many trees it has calculated, and as which of them it keeps for further tables, of its
 /// database and of the loaded one. After any calls its database is the effect of the done edits, in
-/// order, on the loaded one. The tables that it keeps, one of the loaded database and the last one
-/// of its own, are not seen, nor which router's table was asked for last, nor whether it holds a
-/// copy of the loaded database or a list of the AS-external-LSAs.
+/// order, on the loaded one. It is seen too of which routers it keeps a table, of the loaded
+/// database and of its own, and whose table it was asked for last. Whether it holds a copy of the
+/// loaded database or a list of the AS-external-LSAs is not seen.
 #[derive(Drop)]
 pub struct Planner<A: Allocator = Global> {
     study: Study<A>,
@@ -38,7 +38,7 @@ pub struct Planner<A: Allocator = Global> {
 impl<A: Allocator> Model for Planner<A> {
     ghost use Rattle.std.specs.Prelude.{option_map};
     ghost use Rattle.routing_table.specs.AreasTrees.{routers_of};
-    ghost use Rattle.recalculate.specs.Planning.{KeepsTrees, PlannerValue};
+    ghost use Rattle.recalculate.specs.Planning.{KeepsTrees, PlannerValue, router_of};
 
     ghost Value = { PlannerValue };
 
@@ -47,6 +47,11 @@ impl<A: Allocator> Model for Planner<A> {
       runs = p.meter;
       kept = routers_of p.trees;
       first_kept = routers_of p.first_trees;
+      tables = record {
+        last = router_of (option_map (λ table. table.value) p.last_table);
+        first = router_of (option_map (λ table. table.value) p.first_table);
+        asked = p.asked;
+      };
     } };
 
     ghost invariant = { λ p. KeepsTrees p.study p.trees p.first_trees
@@ -55,7 +60,7 @@ impl<A: Allocator> Model for Planner<A> {
 }
 
 impl<A: Allocator + Copy> Planner<A> {
-    ghost use Rattle.std.specs.Prelude.{◌≡◌, ◌≢◌, ◌≤◌, ◌↔◌, ◌+◌, ◌++◌, [], Ok, Err, Some, length, true, IsOk, OnOk, OnErr, IfOk, IfErr, IfSome, IsErrOf};
+    ghost use Rattle.std.specs.Prelude.{◌≡◌, ◌≢◌, ◌≤◌, ◌↔◌, ◌+◌, ◌++◌, [], Ok, Err, Some, None, length, true, IsOk, OnOk, OnErr, IfOk, IfErr, IfSome, IsErrOf};
     ghost use Rattle.lsdb.specs.BaseText.{base_text};
     ghost use Rattle.lsdb.specs.Lists.{IsDatabase};
     ghost use Rattle.lsdb.specs.Places.{lists_of};
@@ -63,9 +68,10 @@ impl<A: Allocator + Copy> Planner<A> {
     ghost use Rattle.area_routes.specs.Attached.{attached_areas};
     ghost use Rattle.edit_history.specs.declared.fault.EditFault.TheVariants.{HistoryFull, OutOfMemory};
     ghost use Rattle.edit_history.specs.Effect.{edit_touches};
+    ghost use Rattle.recalculate.specs.Asking.{GainsTrees, HasTrees, HasTreesOfTable, IsAskedAgain, gained, lacking};
     ghost use Rattle.recalculate.specs.Calls.{CarriedOut, Stayed};
     ghost use Rattle.recalculate.specs.Counts.{info_of};
-    ghost use Rattle.recalculate.specs.Planning.{IsTableOver};
+    ghost use Rattle.recalculate.specs.Planning.{IsTableOver, without_last};
     ghost use Rattle.routing_table.specs.Counting.{counted_by, CountsAtMost};
     ghost use Rattle.routing_table.specs.KeptTrees.{IsWithin, areas_without_tree, is_kept, less_touched};
     ghost use Rattle.recalculate.specs.Reached.{IsReached};
@@ -81,6 +87,7 @@ impl<A: Allocator + Copy> Planner<A> {
         ensures runs { result.runs ≡ 0 }
         ensures kept { result.kept ≡ [] }
         ensures first_kept { result.first_kept ≡ [] }
+        ensures tables { result.tables ≡ record { last = None; first = None; asked = None } }
     {
         Planner {
             study: Study::new(alloc, database),
@@ -129,6 +136,7 @@ impl<A: Allocator + Copy> Planner<A> {
         ensures kept { OnOk result (self.new.kept ≡ less_touched
             (λ area. edit_touches area (state self.old.session) edit.now) self.old.kept) }
         ensures first_kept { self.new.first_kept ≡ self.old.first_kept }
+        ensures tables { OnOk result (self.new.tables ≡ without_last self.old.tables) }
         ensures step { OnOk result (CarriedOut (edit_request edit.now) self.old self.new) }
     {
         self.study.edit(edit)?;
@@ -152,6 +160,7 @@ impl<A: Allocator + Copy> Planner<A> {
         ensures kept { OnOk result (self.new.kept ≡ less_touched
             (λ area. undo_touches count area self.old.session) self.old.kept) }
         ensures first_kept { self.new.first_kept ≡ self.old.first_kept }
+        ensures tables { OnOk result (self.new.tables ≡ without_last self.old.tables) }
         ensures step { OnOk result (CarriedOut (undo_request count) self.old self.new) }
     {
         self.study.undo(count as usize)?;
@@ -175,6 +184,7 @@ impl<A: Allocator + Copy> Planner<A> {
         ensures kept { OnOk result (self.new.kept ≡ less_touched
             (λ area. redo_touches count area self.old.session) self.old.kept) }
         ensures first_kept { self.new.first_kept ≡ self.old.first_kept }
+        ensures tables { OnOk result (self.new.tables ≡ without_last self.old.tables) }
         ensures step { OnOk result (CarriedOut (redo_request count) self.old self.new) }
     {
         self.study.redo(count as usize)?;
@@ -218,9 +228,9 @@ impl<A: Allocator + Copy> Planner<A> {
     }
 
     /// How many shortest-path trees the planner has calculated for tables. Only
-    /// [`table`](Planner::table), [`base_table`](Planner::base_table) and
-    /// [`kept_base_table`](Planner::kept_base_table) raise it. It stays at its greatest value,
-    /// 2^64 - 1, and takes no memory.
+    /// [`table`](Planner::table), [`shared_table`](Planner::shared_table),
+    /// [`base_table`](Planner::base_table) and [`kept_base_table`](Planner::kept_base_table) raise
+    /// it. It stays at its greatest value, 2^64 - 1, and takes no memory.
     pub fn runs(&self) -> u64
         ensures { result ≡ self.now.runs }
     {
@@ -229,7 +239,8 @@ impl<A: Allocator + Copy> Planner<A> {
 
     /// The routing table of a router in the session's database (RFC 2328, 16). In each area that
     /// the router is attached to its tree is calculated, unless it is kept, and then it is kept.
-    /// The session stays as it is, also after an error, and so do the trees that are kept.
+    /// No tree of another router or area comes. The session stays as it is, also after an error,
+    /// and so do the trees that are kept.
     ///
     /// # Errors
     ///
@@ -250,7 +261,9 @@ impl<A: Allocator + Copy> Planner<A> {
         ensures kept { OnOk result (areas_without_tree (is_kept self.new.kept) router
             (attached_areas (state self.old.session) router) ≡ []) }
         ensures keeps { IsWithin (is_kept self.old.kept) (is_kept self.new.kept) }
+        ensures gains { GainsTrees (state self.old.session) router self.old.kept self.new.kept }
         ensures first_kept { self.new.first_kept ≡ self.old.first_kept }
+        ensures tables { self.new.tables ≡ self.old.tables }
         ensures step { Stayed self.old self.new }
     {
         self.study
@@ -274,6 +287,7 @@ impl<A: Allocator + Copy> Planner<A> {
         ensures no_router { result ≡ Err TableFault.NoRouter → self.new.runs ≡ self.old.runs }
         ensures at_most { CountsAtMost (length (attached_areas self.old.session.base router))
             self.old.runs self.new.runs }
+        ensures tables { self.new.tables ≡ self.old.tables }
         ensures step { Stayed self.old self.new }
     {
         self.study.base_table(router, &mut self.meter)
@@ -289,7 +303,7 @@ impl<A: Allocator + Copy> Planner<A> {
     ///
     /// As those of [`table`](Planner::table), for that database. The table that was kept may be
     /// gone then.
-    #[tactic(auto, using(crate::proofs::Bases::keeps_other))]
+    #[tactic(auto, using(crate::proofs::Bases::keeps_other, crate::proofs::Asked::gains_none))]
     pub fn kept_base_table(&mut self, router: RouterId) -> Result<Rc<Table<A>, A>, TableFault>
         ensures table { IfOk result
             (λ table. table_in self.old.session.base router ≡ Some table.value) }
@@ -305,6 +319,12 @@ impl<A: Allocator + Copy> Planner<A> {
         ensures first_kept { OnOk result (areas_without_tree (is_kept self.new.first_kept) router
             (attached_areas self.old.session.base router) ≡ []) }
         ensures keeps { IsWithin (is_kept self.old.first_kept) (is_kept self.new.first_kept) }
+        ensures gains { GainsTrees self.old.session.base router self.old.first_kept
+            self.new.first_kept }
+        ensures last { self.new.tables.last ≡ self.old.tables.last }
+        ensures first { OnOk result (self.new.tables.first ≡ Some router) }
+        ensures asked { self.new.tables.asked ≡ self.old.tables.asked }
+        ensures gone { OnErr result (self.new.tables.first ≢ None → self.new ≡ self.old) }
         ensures step { Stayed self.old self.new }
     {
         if let Some(table) = self.first_table_of(router) {
@@ -336,16 +356,40 @@ impl<A: Allocator + Copy> Planner<A> {
     /// answered again. Where the table is sure to be the one in the database that the session began
     /// at, and that is kept, it is answered without a calculation too. A table that is asked for
     /// twice in a row, while one edit is done, is calculated in that database, so that it may be
-    /// answered so from then on. The session stays as it is, also after an error.
+    /// answered so from then on. The session stays as it is, also after an error, and so do the
+    /// trees that are kept.
+    ///
+    /// Only the router's own trees come: of the session's database where its table is calculated
+    /// there, and of the other one where it was asked for twice in a row and one edit is done. Each
+    /// that comes counts, and no other, unless memory ran out over the table of the other
+    /// database: then a tree that was begun there counts too.
     ///
     /// # Errors
     ///
     /// As those of [`table`](Planner::table).
+    #[tactic(auto, using(crate::proofs::Asked::gains_none, crate::proofs::Asked::none_at_most))]
     pub fn shared_table(&mut self, router: RouterId) -> Result<Rc<Table<A>, A>, TableFault>
         ensures table { IfOk result
             (λ table. table_in (state self.old.session) router ≡ Some table.value) }
         ensures fault { IfErr result (FaultMeans (table_in (state self.old.session) router)) }
         ensures session { self.new.session ≡ self.old.session }
+        ensures same { self.old.tables.last ≡ Some router → self.new ≡ self.old }
+        ensures trees { OnOk result (HasTreesOfTable router self.new) }
+        ensures gains { GainsTrees (state self.old.session) router self.old.kept self.new.kept }
+        ensures first_gains { GainsTrees self.old.session.base router self.old.first_kept
+            self.new.first_kept }
+        ensures first_kept { ¬ IsAskedAgain router self.old
+            → self.new.first_kept ≡ self.old.first_kept }
+        ensures runs { OnOk result ((IsAskedAgain router self.old
+            → self.new.tables.first ≡ Some router) → self.new.runs ≡ counted_by
+            (gained (state self.old.session) router self.old.kept self.new.kept)
+            (counted_by (gained self.old.session.base router self.old.first_kept
+            self.new.first_kept) self.old.runs)) }
+        ensures at_most { CountsAtMost (lacking (state self.old.session) router self.old.kept
+            + lacking self.old.session.base router self.old.first_kept)
+            self.old.runs self.new.runs }
+        ensures few { ¬ IsAskedAgain router self.old → CountsAtMost
+            (lacking (state self.old.session) router self.old.kept) self.old.runs self.new.runs }
         ensures step { Stayed self.old self.new }
     {
         if let Some(table) = self.last_table_of(router) {
@@ -365,6 +409,14 @@ impl<A: Allocator + Copy> Planner<A> {
             (λ table. table_in (state self.old.session) router ≡ Some table.value) }
         ensures fault { IfErr result (FaultMeans (table_in (state self.old.session) router)) }
         ensures session { self.new.session ≡ self.old.session }
+        ensures trees { OnOk result (HasTrees (state self.old.session) router self.new.kept) }
+        ensures gains { GainsTrees (state self.old.session) router self.old.kept self.new.kept }
+        ensures first_kept { self.new.first_kept ≡ self.old.first_kept }
+        ensures first { self.new.tables.first ≡ self.old.tables.first }
+        ensures runs { OnOk result (self.new.runs ≡ counted_by
+            (lacking (state self.old.session) router self.old.kept) self.old.runs) }
+        ensures at_most { CountsAtMost (lacking (state self.old.session) router self.old.kept)
+            self.old.runs self.new.runs }
         ensures step { Stayed self.old self.new }
     {
         self.last_table = None;
@@ -376,8 +428,9 @@ impl<A: Allocator + Copy> Planner<A> {
 
     /// The table that is kept of the session's database, if it is that of a router.
     fn last_table_of(&self, router: RouterId) -> Option<&Rc<Table<A>, A>>
-        ensures { IfSome result (λ table. table_in (state self.now.session) router
-            ≡ Some table.now.value) }
+        ensures table { IfSome result (λ table. IsTableOver (state self.now.session) self.now.kept
+            router table.now.value) }
+        ensures none { result ≡ None → self.now.tables.last ≢ Some router }
     {
         match &self.last_table {
             Some(table) if table.router() == router => Some(table),
@@ -387,24 +440,47 @@ impl<A: Allocator + Copy> Planner<A> {
 
     /// Notes that a router's table is asked for, and keeps its table of the beginning where it is
     /// asked for twice in a row while one edit is done.
+    #[tactic(auto, using(crate::proofs::Asked::gains_none, crate::proofs::Asked::none_at_most))]
     fn ask(&mut self, router: RouterId)
         ensures session { self.new.session ≡ self.old.session }
         ensures kept { self.new.kept ≡ self.old.kept }
+        ensures gains { GainsTrees self.old.session.base router self.old.first_kept
+            self.new.first_kept }
+        ensures first_kept { ¬ IsAskedAgain router self.old
+            → self.new.first_kept ≡ self.old.first_kept }
+        ensures few { ¬ IsAskedAgain router self.old → self.new.runs ≡ self.old.runs }
+        ensures runs { (IsAskedAgain router self.old → self.new.tables.first ≡ Some router)
+            → self.new.runs ≡ counted_by (gained self.old.session.base router
+            self.old.first_kept self.new.first_kept) self.old.runs }
+        ensures at_most { CountsAtMost (lacking self.old.session.base router
+            self.old.first_kept) self.old.runs self.new.runs }
         ensures step { Stayed self.old self.new }
     {
-        let last = self.asked;
-        if self.study.done() == 1 && last.is_some_and(|last| last == router) {
-            // Where it can not be made, the table is calculated in the session's database alone.
-            let _ = self.kept_base_table(router);
-        }
+        let again = self.is_asked_again(router);
         self.asked = Some(router);
+        if !again {
+            return;
+        }
+        // Where it cannot be made, the table is calculated in the session's database alone.
+        let _ = self.kept_base_table(router);
+    }
+
+    /// Whether a router's table was the last that was asked for, and one edit is done.
+    fn is_asked_again(&self, router: RouterId) -> bool
+        ensures { result ≡ true → IsAskedAgain router self.now }
+    {
+        match self.asked {
+            Some(last) => last == router && self.study.done() == 1,
+            None => false,
+        }
     }
 
     /// The table that is kept of the database that the session began at, if it is that of a router,
     /// and is sure to be its table now.
     fn unchanged_table(&self, router: RouterId) -> Option<&Rc<Table<A>, A>>
-        ensures { IfSome result (λ table. table_in (state self.now.session) router
+        ensures table { IfSome result (λ table. table_in (state self.now.session) router
             ≡ Some table.now.value) }
+        ensures trees { IfSome result (λ table. HasTreesOfTable router self.now) }
     {
         match self.first_table_of(router) {
             Some(table) if self.is_unchanged(router) => Some(table),
@@ -414,8 +490,9 @@ impl<A: Allocator + Copy> Planner<A> {
 
     /// The table that is kept of the database that the session began at, if it is that of a router.
     fn first_table_of(&self, router: RouterId) -> Option<&Rc<Table<A>, A>>
-        ensures { IfSome result (λ table. IsTableOver self.now.session.base self.now.first_kept
-            router table.now.value) }
+        ensures table { IfSome result (λ table. IsTableOver self.now.session.base
+            self.now.first_kept router table.now.value) }
+        ensures first { IfSome result (λ table. self.now.tables.first ≡ Some router) }
     {
         match &self.first_table {
             Some(table) if table.router() == router => Some(table),

@@ -51,12 +51,12 @@ impl<A: Allocator + Copy> Study<A> {
     ghost use Rattle.lsdb.specs.BaseText.{base_text};
     ghost use Rattle.lsdb.specs.Lists.{IsDatabase};
     ghost use Rattle.lsdb.specs.Places.{lists_of};
-    ghost use Rattle.area_routes.specs.Attached.{attached_areas};
+    ghost use Rattle.area_routes.specs.Attached.{attached_areas, is_attached};
     ghost use Rattle.edit_history.specs.declared.fault.EditFault.TheVariants.{HistoryFull, OutOfMemory};
     ghost use Rattle.edit_history.specs.Session.{edits_of, start, state, effects, most_edits, edited, moved_back, moved_on, redo_touches, undo_touches};
     ghost use Rattle.routing_table.specs.AreasTrees.{AreOfDatabase, routers_of};
     ghost use Rattle.routing_table.specs.Counting.{counted_by, CountsAtMost};
-    ghost use Rattle.routing_table.specs.KeptTrees.{IsWithin, areas_without_tree, is_kept};
+    ghost use Rattle.routing_table.specs.KeptTrees.{GainsOnly, IsWithin, areas_without_tree, is_kept};
     ghost use Rattle.recalculate.specs.Counts.{info_of};
     ghost use Rattle.recalculate.specs.Reached.{IsReached};
     ghost use Rattle.routing_table.specs.Tables.{table_in, FaultMeans};
@@ -261,6 +261,8 @@ impl<A: Allocator + Copy> Study<A> {
         ensures kept { OnOk result (areas_without_tree (is_kept (routers_of trees.new)) router
             (attached_areas (state self.old) router) ≡ []) }
         ensures keeps { IsWithin (is_kept (routers_of trees.old)) (is_kept (routers_of trees.new)) }
+        ensures no_more { GainsOnly (λ area. is_attached (state self.old) area router) router
+            (is_kept (routers_of trees.old)) (is_kept (routers_of trees.new)) }
     {
         table_over(&self.database, router, trees, meter, &mut self.externals)
     }
@@ -288,6 +290,8 @@ impl<A: Allocator + Copy> Study<A> {
         ensures kept { OnOk result (areas_without_tree (is_kept (routers_of trees.new)) router
             (attached_areas self.old.base router) ≡ []) }
         ensures keeps { IsWithin (is_kept (routers_of trees.old)) (is_kept (routers_of trees.new)) }
+        ensures no_more { GainsOnly (λ area. is_attached self.old.base area router) router
+            (is_kept (routers_of trees.old)) (is_kept (routers_of trees.new)) }
     {
         self.keep_loaded();
         if let Some(loaded) = self.loaded() {

@@ -1,14 +1,14 @@
 //! Tables over trees that are kept.
 
 ghost use Rattle.std.specs.Prelude.{◌≡◌, [], Err, Some, length, OnOk, IfOk, IfErr};
-ghost use Rattle.area_routes.specs.Attached.{attached_areas};
+ghost use Rattle.area_routes.specs.Attached.{attached_areas, is_attached};
 ghost use Rattle.external_routes.specs.ExternalLsas.{AreListedOf};
 ghost use Rattle.lsdb.specs.declared.section.Section.TheVariants.{AsWide};
 ghost use Rattle.lsdb.specs.Lists.{lsas_of};
 ghost use Rattle.lsdb.specs.Places.{lists_of};
 ghost use Rattle.routing_table.specs.AreasTrees.{AreOfDatabase, routers_of};
 ghost use Rattle.routing_table.specs.Counting.{counted_by, CountsAtMost};
-ghost use Rattle.routing_table.specs.KeptTrees.{IsWithin, areas_without_tree, is_kept};
+ghost use Rattle.routing_table.specs.KeptTrees.{GainsOnly, IsWithin, areas_without_tree, is_kept};
 ghost use Rattle.routing_table.specs.Tables.{table_in, FaultMeans};
 
 use external_routes::ExternalLsas;
@@ -19,8 +19,8 @@ use spf::Meter;
 use std::alloc::Allocator;
 
 /// The routing table of a router in a database, over trees of it that are kept. Those of the router
-/// that are not there are calculated and kept, and the meter counts them. So are its
-/// AS-external-LSAs listed, where they are not, and the list is left.
+/// that are not there are calculated and kept, and the meter counts them; no other tree comes or
+/// goes. So are its AS-external-LSAs listed, where they are not, and the list is left.
 pub(crate) fn table_over<A: Allocator + Copy>(
     database: &Database<A>,
     router: RouterId,
@@ -42,6 +42,8 @@ pub(crate) fn table_over<A: Allocator + Copy>(
     ensures kept { OnOk result (areas_without_tree (is_kept (routers_of trees.new)) router
         (attached_areas (lists_of database.now) router) ≡ []) }
     ensures keeps { IsWithin (is_kept (routers_of trees.old)) (is_kept (routers_of trees.new)) }
+    ensures no_more { GainsOnly (λ area. is_attached (lists_of database.now) area router) router
+        (is_kept (routers_of trees.old)) (is_kept (routers_of trees.new)) }
     ensures lsas { AreListedOf (lsas_of AsWide (lists_of database.now)) lsas.new }
 {
     let alloc = database.alloc();

@@ -1,4 +1,3 @@
-use Rattle.std.proofs.Common.{refl}
 use Rattle.recalculate.proofs.RouteEdits.{routes_touch_none}
 use Rattle.recalculate.proofs.TreesLacking.{all_touched, few_lacking, few_runs}
 use Rattle.recalculate.proofs.laws.untouched_trees_stay.Goals as goal
@@ -11,9 +10,6 @@ returns-clause-few c = λ p router calls reached none made. few_lacking router p
 
 pub returns-clause-runs : goal.returns-clause-runs
 returns-clause-runs c = λ p router calls runs reached none made. few_runs router p none calls reached made runs
-
-pub returns-clause-refused : goal.returns-clause-refused
-returns-clause-refused c = λ p. record { session = refl; keeps = λ area router kept. kept }
 
 pub returns-clause-routes : goal.returns-clause-routes
 returns-clause-routes c = routes_touch_none

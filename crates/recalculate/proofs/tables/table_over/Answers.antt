@@ -1,11 +1,12 @@
 use Rattle.std.proofs.Common.{◌≡◌, [], length, sym, subst}
 use Rattle.std.proofs.lemmas.Result.{err_from_is_err_and}
 use Rattle.lsdb.specs.Places.{lists_of}
-use Rattle.area_routes.specs.Attached.{attached_areas}
+use Rattle.area_routes.specs.Attached.{attached_areas, is_attached}
 use Rattle.routing_table.specs.AreasTrees.{routers_of, trees_in}
 use Rattle.routing_table.specs.Counting.{counted_by, CountsAtMost}
 use Rattle.routing_table.specs.KeptTrees.{IsWithin, TreeSet, areas_without_tree, is_kept}
 use Rattle.routing_table.proofs.TableLemmas.{no_memory, on_ok}
+use Rattle.recalculate.proofs.Asked.{gains_told}
 use Rattle.recalculate.proofs.TreesSpared.{told}
 use Rattle.recalculate.proofs.tables.table_over.Goals as goal
 
@@ -48,3 +49,13 @@ returns-clause-kept g c =
     on_ok c.table_from.result
     (subst (λ (t : TreeSet). areas_without_tree t c.args.router (attached_areas (lists_of c.args.database.now) c.args.router) ≡ [])
     (sym (told c.results_of.new.self)) c.in_ok-results.ensures.grown)
+
+pub returns-in_err-results-clause-no_more : goal.returns-in_err-results-clause-no_more
+returns-in_err-results-clause-no_more g c =
+    gains_told (λ area. is_attached (lists_of c.args.database.now) area c.args.router) c.args.router c.args.trees.now c.results_of.new.self
+    c.results_of.ensures.no_more
+
+pub returns-clause-no_more : goal.returns-clause-no_more
+returns-clause-no_more g c =
+    gains_told (λ area. is_attached (lists_of c.args.database.now) area c.args.router) c.args.router c.args.trees.now c.results_of.new.self
+    c.results_of.ensures.no_more

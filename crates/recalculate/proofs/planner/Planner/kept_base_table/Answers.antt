@@ -1,9 +1,10 @@
-use Rattle.std.proofs.Common.{◌∙◌, refl, sym, subst}
+use Rattle.std.proofs.Common.{◌∙◌, Some, ap, refl, sym, subst}
+use Rattle.lsa_codec.specs.declared.address.RouterId.{RouterId}
 use Rattle.routing_table.specs.AreasTrees.{routers_of}
 use Rattle.routing_table.specs.KeptTrees.{is_kept}
 use Rattle.routing_table.specs.Tables.{TableValue}
 use Rattle.recalculate.specs.Planning.{IsTableOver}
-use Rattle.recalculate.proofs.Bases.{first_keeps, keeps_other, may_be_kept, stayed}
+use Rattle.recalculate.proofs.Bases.{first_gains, first_keeps, keeps_other, named, may_be_kept, stayed}
 use Rattle.recalculate.proofs.planner.Planner.kept_base_table.Goals as goal
 
 pub returns-in_err-table-clause-keeps : goal.returns-in_err-table-clause-keeps
@@ -43,3 +44,24 @@ invariant_of-self-in_err-table-2 g c =
 pub invariant_of-self-in_err-clone-2 : goal.invariant_of-self-in_err-clone-2
 invariant_of-self-in_err-clone-2 g c =
     keeps_other _ _ _ _ _ _ _ _ c.base_table_over.ensures.session c.base_table_over.ensures.graphs tt c.self.invariant
+
+pub returns-in_err-table-clause-gains : goal.returns-in_err-table-clause-gains
+returns-in_err-table-clause-gains g c =
+    first_gains _ _ c.args.router (routers_of c.base_table_over.new.trees) c.self.view_is c.base_table_over.ensures.keeps c.base_table_over.ensures.no_more
+
+pub returns-in_err-table-2-clause-gains : goal.returns-in_err-table-2-clause-gains
+returns-in_err-table-2-clause-gains g c =
+    first_gains _ _ c.args.router (routers_of c.base_table_over.new.trees) c.self.view_is c.base_table_over.ensures.keeps c.base_table_over.ensures.no_more
+
+pub returns-in_err-clone-2-clause-gains : goal.returns-in_err-clone-2-clause-gains
+returns-in_err-clone-2-clause-gains g c =
+    first_gains _ _ c.args.router (routers_of c.base_table_over.new.trees) c.self.view_is c.base_table_over.ensures.keeps c.base_table_over.ensures.no_more
+
+pub returns-clause-gains : goal.returns-clause-gains
+returns-clause-gains g c =
+    first_gains _ _ c.args.router (routers_of c.base_table_over.new.trees) c.self.view_is c.base_table_over.ensures.keeps c.base_table_over.ensures.no_more
+
+pub returns-clause-first : goal.returns-clause-first
+returns-clause-first g c =
+    ap (λ (t : TableValue). Some t.router) (sym (sym c.in_ok-table-2.ensures ∙ sym c.in_ok-clone-2.ensures.cases))
+    ∙ ap (λ (r : RouterId). Some r) (named c.self.inside.study.base c.args.router c.in_ok-table.table c.in_ok-table.ensures.table)

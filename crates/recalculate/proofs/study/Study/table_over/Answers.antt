@@ -1,10 +1,10 @@
 use Rattle.std.proofs.Common.{◌≡◌, [], Some, length, subst, sym}
 use Rattle.std.specs.Prelude.{IfErr, IfOk, OnOk}
 use Rattle.lsdb.specs.Lists.{Lists}
-use Rattle.area_routes.specs.Attached.{attached_areas}
+use Rattle.area_routes.specs.Attached.{attached_areas, is_attached}
 use Rattle.routing_table.specs.AreasTrees.{AreOfDatabase, routers_of}
 use Rattle.routing_table.specs.Counting.{CountsAtMost, counted_by}
-use Rattle.routing_table.specs.KeptTrees.{areas_without_tree, is_kept}
+use Rattle.routing_table.specs.KeptTrees.{GainsOnly, areas_without_tree, is_kept}
 use Rattle.routing_table.specs.Tables.{FaultMeans, table_in}
 use Rattle.recalculate.proofs.Steps.{shown_state}
 use Rattle.recalculate.proofs.study.Study.table_over.Goals as goal
@@ -50,3 +50,10 @@ returns-clause-kept g c =
     subst (λ (db : Lists). OnOk c.table_over.result
     (areas_without_tree (is_kept (routers_of c.table_over.new.trees)) c.args.router (attached_areas db c.args.router) ≡ []))
     same c.table_over.ensures.kept
+
+pub returns-clause-no_more : goal.returns-clause-no_more
+returns-clause-no_more g c =
+    let same = shown_state c.self.inside.database c.self.inside.history.lists c.args.self.now c.self.invariant.links c.self.view_is in
+    subst (λ (db : Lists). GainsOnly (λ area. is_attached db area c.args.router) c.args.router
+    (is_kept (routers_of c.args.trees.now)) (is_kept (routers_of c.table_over.new.trees)))
+    same c.table_over.ensures.no_more
