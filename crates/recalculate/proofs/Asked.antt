@@ -1,6 +1,6 @@
 -- What asking for a table of one router leaves of the trees that are kept, and of their count.
-use Rattle.std.proofs.Common.{◌≡◌, ◌≢◌, ℕ, ◌+◌, ◌≤◌, Bool, true, false, not, filter, List, [], ◌∷◌, length, cond, Option, Some, None, Result, Ok, Err, inl}
-use Rattle.std.proofs.Common.{refl, sym, ap, ◌∙◌, subst, arith, true≢false}
+use Rattle.std.proofs.Common.{◌≡◌, ◌≢◌, ℕ, ◌+◌, ◌≤◌, Bool, true, false, not, filter, List, [], ◌∷◌, length, cond, Some, None, Result, Ok, Err, inl}
+use Rattle.std.proofs.Common.{refl, sym, ap, ◌∙◌, subst, arith}
 use Rattle.std.specs.Prelude.{OnErr, OnOk}
 use Rattle.lsa_codec.specs.declared.address.AreaId.{AreaId}
 use Rattle.lsa_codec.specs.declared.address.RouterId.{RouterId}
@@ -9,7 +9,7 @@ use Rattle.area_routes.specs.Attached.{attached_areas, is_attached}
 use Rattle.edit_history.specs.Session.{Session, state}
 use Rattle.routing_table.specs.AreasTrees.{KeptTreesValue, routers_of, trees_in}
 use Rattle.routing_table.specs.Counting.{CountsAtMost, counted_by}
-use Rattle.routing_table.specs.KeptTrees.{GainsOnly, IsWithin, KeptRouters, TreeSet, areas_gained, areas_without_tree, is_kept}
+use Rattle.routing_table.specs.KeptTrees.{GainsOnly, KeptRouters, TreeSet, areas_gained, areas_without_tree, is_kept}
 use Rattle.routing_table.proofs.KeptLemmas.{none_gained}
 use Rattle.routing_table.proofs.TableLemmas.{counted_twice}
 use Rattle.recalculate.specs.Asking.{GainsTrees, HasTrees, HasTreesOfTable, IsAskedAgain, gained, lacking}
@@ -82,6 +82,11 @@ module _ (db : Lists) (router : RouterId) where
   pub gained_all : (old new : KeptRouters) → HasTrees db router new → gained db router old new ≡ lacking db router old
   gained_all old new all = ap length (all_came (is_kept old) (is_kept new) router (attached_areas db router) all)
 
+-- where none came, as many are counted as were
+pub same_counted : (base : Lists) (router : RouterId) (old new : KeptRouters) (was is : ℕ) → is ≡ was → new ≡ old
+    → is ≡ counted_by (gained base router old new) was
+same_counted base router old new was is runs same = runs ∙ ap (λ n. counted_by n was) (sym (gained_same base router old new same))
+
 -- ---- a table of the beginning, where it is asked for again
 
 module _ (base : Lists) (router : RouterId) (p q : PlannerValue) where
@@ -95,9 +100,6 @@ module _ (base : Lists) (router : RouterId) (p q : PlannerValue) where
       let same = gone there in
       ap (λ (v : PlannerValue). v.runs) same
       ∙ ap (λ n. counted_by n p.runs) (sym (gained_same base router p.first_kept q.first_kept (ap (λ (v : PlannerValue). v.first_kept) same)))
-
-  pub same_counted : q.runs ≡ p.runs → q.first_kept ≡ p.first_kept → q.runs ≡ counted_by (gained base router p.first_kept q.first_kept) p.runs
-  same_counted runs same = runs ∙ ap (λ n. counted_by n p.runs) (sym (gained_same base router p.first_kept q.first_kept same))
 
 -- ---- a shared table: what went before it, and the table
 
@@ -158,7 +160,7 @@ pub same_runs : (router : RouterId) (p q : PlannerValue) → q ≡ p
 same_runs router p q same =
     let kept : q.kept ≡ p.kept = ap (λ (v : PlannerValue). v.kept) same in
     let first_kept : q.first_kept ≡ p.first_kept = ap (λ (v : PlannerValue). v.first_kept) same in
-    same_counted p.session.base router p q (ap (λ (v : PlannerValue). v.runs) same) first_kept
+    same_counted p.session.base router p.first_kept q.first_kept p.runs q.runs (ap (λ (v : PlannerValue). v.runs) same) first_kept
     ∙ ap (λ n. counted_by n (counted_by (gained p.session.base router p.first_kept q.first_kept) p.runs)) (sym (gained_same (state p.session) router p.kept q.kept kept))
 
 -- as many are counted as were

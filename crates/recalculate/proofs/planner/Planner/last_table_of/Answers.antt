@@ -1,4 +1,4 @@
-use Rattle.std.proofs.Common.{◌≡◌, Option, Some, IfSome, ap, option_map, rules, subst}
+use Rattle.std.proofs.Common.{◌≡◌, Option, IfSome, ap, option_map, rules, subst}
 use Rattle.edit_history.specs.Session.{state}
 use Rattle.routing_table.specs.AreasTrees.{routers_of}
 use Rattle.routing_table.specs.Tables.{TableValue}

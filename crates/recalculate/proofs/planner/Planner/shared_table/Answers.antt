@@ -1,7 +1,9 @@
-use Rattle.std.proofs.Common.{◌∙◌, ap, sym, subst}
+use Rattle.std.proofs.Common.{◌≡◌, ◌∙◌, Some, IfOk, refl, sym, subst}
 use Rattle.routing_table.specs.KeptTrees.{KeptRouters}
 use Rattle.recalculate.specs.Asking.{GainsTrees, lacking}
-use Rattle.recalculate.proofs.Asked.{shared_at_most, shared_few, shared_gains, shared_runs, shared_trees}
+use Rattle.edit_history.specs.Session.{Session, state}
+use Rattle.routing_table.specs.Tables.{table_in}
+use Rattle.recalculate.proofs.Asked.{gains_same, same_runs, shared_at_most, shared_few, shared_gains, shared_runs, shared_trees, unchanged_runs}
 use Rattle.recalculate.proofs.Staying.{stayed_twice}
 use Rattle.recalculate.proofs.planner.Planner.shared_table.Goals as goal
 
@@ -38,3 +40,19 @@ pub returns-clause-few : goal.returns-clause-few
 returns-clause-few g c = λ apart.
     shared_few c.args.router c.args.self.now c.ask.new.self c.new_table.new.self c.ask.ensures.session c.ask.ensures.kept
     (c.ask.ensures.few apart) c.new_table.ensures.at_most
+
+pub returns-in-Some-clause-runs : goal.returns-in-Some-clause-runs
+returns-in-Some-clause-runs g c = λ again. same_runs c.args.router c.args.self.now c.args.self.now refl
+
+pub returns-in-Some-unchanged_table-clause-gains : goal.returns-in-Some-unchanged_table-clause-gains
+returns-in-Some-unchanged_table-clause-gains g c =
+    gains_same (state c.args.self.now.session) c.args.router c.args.self.now.kept c.ask.new.self.kept c.ask.ensures.kept
+
+pub returns-in-Some-unchanged_table-clause-runs : goal.returns-in-Some-unchanged_table-clause-runs
+returns-in-Some-unchanged_table-clause-runs g c = λ again.
+    unchanged_runs c.args.router c.args.self.now c.ask.new.self c.ask.new.self c.ask.ensures.session c.ask.ensures.kept c.ask.ensures.runs again
+
+pub returns-clause-table : goal.returns-clause-table
+returns-clause-table g c =
+    subst (λ (s : Session). IfOk c.new_table.result (λ table. table_in (state s) c.args.router ≡ Some table.value))
+    c.ask.ensures.session c.new_table.ensures.table
