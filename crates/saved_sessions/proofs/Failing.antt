@@ -1,37 +1,12 @@
 -- Steps of a reading: the fault that is told of one that fails, and the value of one that does not.
-use Rattle.std.proofs.Common.{◌≡◌, Bool, true, false, cond, Result, Ok, Err, refl, sym, ap, ◌∙◌, subst, inl, inr}
+use Rattle.std.proofs.Common.{◌≡◌, Bool, true, false, cond, Result, Ok, Err, refl, sym, ap, ◌∙◌, inl, inr}
 use Rattle.lsdb.specs.declared.fault.DumpFault.{DumpFault}
-use Rattle.lsdb.specs.declared.fault.DumpFaultKind.{DumpFaultKind}
-use Rattle.lsdb.specs.declared.fault.DumpFaultKind.TheVariants.{BadMagic, BadVersion, Truncated, TrailingBytes, TooManyAreas, AreaOrder, BadAreaKind}
-use Rattle.lsdb.specs.declared.fault.DumpFaultKind.TheVariants.{TooManyLsas, Lsa, WrongSection, DuplicateLsa, BackboneStub, TooLarge, OutOfMemory, BadHistory}
 use Rattle.lsdb.specs.Loading.{◌>>=◌, IsFirstFault}
 use Rattle.saved_sessions.specs.declared.fault.ReadError.{ReadError}
 use Rattle.saved_sessions.specs.declared.fault.ReadError.TheVariants as errors
-use Rattle.saved_sessions.specs.steps.Reading.{Fails, error_by, error_of, told_fault}
+use Rattle.saved_sessions.specs.steps.Reading.{Fails, told_fault}
 
 -- ---- faults
-
-known : {Y : Type 0} (kind : DumpFaultKind) (fault : DumpFault) (read : Result Y DumpFault) → read ≡ Err fault → Fails (error_by kind fault) read
-known {Y} BadMagic fault read is = is
-known {Y} BadVersion fault read is = is
-known {Y} Truncated fault read is = is
-known {Y} TrailingBytes fault read is = is
-known {Y} TooManyAreas fault read is = is
-known {Y} AreaOrder fault read is = is
-known {Y} BadAreaKind fault read is = is
-known {Y} TooManyLsas fault read is = is
-known {Y} (Lsa f) fault read is = is
-known {Y} WrongSection fault read is = is
-known {Y} DuplicateLsa fault read is = is
-known {Y} BackboneStub fault read is = is
-known {Y} TooLarge fault read is = is
-known {Y} OutOfMemory fault read is = tt
-known {Y} (BadHistory line) fault read is = is
-
--- the first fault that loading a database tells is why reading ended
-pub first_fails : {Y : Type 0} (fault : DumpFault) (read : Result Y DumpFault) → IsFirstFault fault read → Fails (error_of fault) read
-first_fails {Y} fault read (inl memory) = subst (λ (f : DumpFault). Fails (error_of f) read) (sym memory) tt
-first_fails {Y} fault read (inr is) = known fault.kind fault read is
 
 -- a reading fails where a step of it fails
 pub fails_on : {A B : Type 0} (e : ReadError) (r : Result A DumpFault) (f : A → Result B DumpFault) → Fails e r → Fails e (r >>= f)

@@ -6,8 +6,8 @@ use Rattle.lsdb.specs.declared.fault.DumpFault.{DumpFault}
 use Rattle.lsdb.specs.declared.fault.DumpFaultKind.{DumpFaultKind}
 use Rattle.lsdb.specs.declared.fault.DumpFaultKind.TheVariants.{Truncated, BadHistory}
 use Rattle.lsdb.specs.Lists.{Lists}
-use Rattle.lsdb.specs.Loading.{◌>>=◌, At, fault, advanced, number_at, ended, loaded}
-use Rattle.lsdb.specs.BaseLoading.{begins_session, base_loaded}
+use Rattle.lsdb.specs.Loading.{◌>>=◌, At, fault, advanced, number_at, ended, loaded, front_loaded}
+use Rattle.lsdb.specs.BaseLoading.{begins_session, base_loaded, base_front_loaded}
 use Rattle.edit_script.specs.declared.edit.Edit.{Edit}
 use Rattle.edit_history.specs.declared.fault.EditFault.{EditFault}
 use Rattle.edit_history.specs.Session.{Session, start, edited, moved_back, most_edits}
@@ -89,3 +89,9 @@ dump_loaded bytes = do
 -- the session that octets of either version tell
 unfoldable pub opened : List ℕ → Result Session DumpFault
 opened bytes = if begins_session bytes then session_loaded bytes else dump_loaded bytes
+
+-- ---- the front: what is read of the bytes before memory is asked for
+
+-- the first LSA of the front, or none, or the first fault of the front
+unfoldable pub front_opened : List ℕ → Result (List ℕ) DumpFault
+front_opened bytes = if begins_session bytes then base_front_loaded bytes else front_loaded bytes

@@ -1,8 +1,8 @@
-//! Why reading a session ends.
+//! Why reading the edits of a session ends.
 
 ghost use Rattle.std.specs.Prelude.{◌≡◌};
 ghost use Rattle.saved_sessions.specs.declared.fault.ReadError.TheVariants.{Memory};
-ghost use Rattle.saved_sessions.specs.steps.Reading.{error_of, told_fault};
+ghost use Rattle.saved_sessions.specs.steps.Reading.{told_fault};
 
 use lsdb::{DumpFault, DumpFaultKind};
 use std::alloc::AllocError;
@@ -22,13 +22,17 @@ impl From<AllocError> for ReadError {
     }
 }
 
-impl From<DumpFault> for ReadError {
-    ghost from_gives = { λ fault e. e ≡ error_of fault };
+/// Want of memory is reported at 0.
+impl From<ReadError> for DumpFault {
+    ghost from_gives = { λ error fault. fault ≡ told_fault error };
 
-    fn from(fault: DumpFault) -> ReadError {
-        match fault.kind {
-            DumpFaultKind::OutOfMemory => ReadError::Memory,
-            _ => ReadError::Fault(fault),
+    fn from(error: ReadError) -> DumpFault {
+        match error {
+            ReadError::Fault(fault) => fault,
+            ReadError::Memory => DumpFault {
+                offset: 0,
+                kind: DumpFaultKind::OutOfMemory,
+            },
         }
     }
 }
@@ -38,17 +42,4 @@ pub(crate) fn fault(offset: usize, kind: DumpFaultKind) -> ReadError
     ensures { result ≡ ReadError.Fault (record { offset = offset; kind = kind }) }
 {
     ReadError::Fault(DumpFault { offset, kind })
-}
-
-/// The fault that is told of a failed reading: want of memory is told at 0.
-pub(crate) fn dump_fault(error: ReadError) -> DumpFault
-    ensures { result ≡ told_fault error }
-{
-    match error {
-        ReadError::Fault(fault) => fault,
-        ReadError::Memory => DumpFault {
-            offset: 0,
-            kind: DumpFaultKind::OutOfMemory,
-        },
-    }
 }

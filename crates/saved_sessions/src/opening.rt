@@ -1,15 +1,13 @@
 //! Opening a saved session.
 
-ghost use Rattle.std.specs.Prelude.{◌≡◌, true, false, [], Ok, IfOk, IfErr};
-ghost use Rattle.lsdb.specs.BaseLoading.{begins_session};
-ghost use Rattle.lsdb.specs.Loading.{IsFirstFault};
+ghost use Rattle.std.specs.Prelude.{◌≡◌, true, false, [], Ok, Err, IfOk, IfErr};
+ghost use Rattle.lsdb.specs.BaseLoading.{base_front_loaded, begins_session};
+ghost use Rattle.lsdb.specs.Loading.{IsFirstFault, front_loaded};
 ghost use Rattle.lsdb.specs.Text.{text};
 ghost use Rattle.edit_history.specs.Session.{start};
-ghost use Rattle.saved_sessions.specs.Opening.{dump_loaded, opened, session_loaded};
+ghost use Rattle.saved_sessions.specs.Opening.{dump_loaded, front_opened, opened, session_loaded};
 ghost use Rattle.saved_sessions.specs.Saved.{saved_text};
-ghost use Rattle.saved_sessions.specs.steps.Reading.{Gives};
 
-use crate::fault::{ReadError, dump_fault, fault};
 use crate::history::read_history;
 use lsdb::{Database, DumpFault, DumpFaultKind};
 use recalculate::Planner;
@@ -28,8 +26,11 @@ pub fn begins_session(bytes: &[u8]) -> bool
 
 /// The session of a dump, version 2.
 #[tactic(auto, unfolding(crate::specs::Opening::session_loaded))]
-fn read_session<A: Allocator + Copy>(alloc: A, bytes: &[u8]) -> Result<Planner<A>, ReadError>
-    ensures session { Gives (λ planner. planner.session) result (session_loaded bytes.now) }
+fn read_session<A: Allocator + Copy>(alloc: A, bytes: &[u8]) -> Result<Planner<A>, DumpFault>
+    ensures found { IfOk result (λ planner. session_loaded bytes.now ≡ Ok planner.session) }
+    ensures fault { IfErr result (λ fault. IsFirstFault fault (session_loaded bytes.now)) }
+    ensures front { (fault : DumpFault)
+        → base_front_loaded bytes.now ≡ Err fault → result ≡ Err fault }
     ensures spelled { IfOk result (λ planner. bytes.now ≡ saved_text planner.session) }
     ensures runs { IfOk result (λ planner. planner.runs ≡ 0) }
     ensures kept { IfOk result (λ planner. planner.kept ≡ []) }
@@ -40,15 +41,19 @@ fn read_session<A: Allocator + Copy>(alloc: A, bytes: &[u8]) -> Result<Planner<A
     let mut planner = Planner::new(alloc, base);
     let end = read_history(alloc, &mut planner, bytes, octets)?;
     if end < bytes.len() {
-        return Err(fault(end, DumpFaultKind::TrailingBytes));
+        let kind = DumpFaultKind::TrailingBytes;
+        return Err(DumpFault { offset: end, kind });
     }
     Ok(planner)
 }
 
 /// The session of a dump, version 1, which has no edits.
 #[tactic(auto, unfolding(crate::specs::Opening::dump_loaded))]
-fn read_dump<A: Allocator + Copy>(alloc: A, bytes: &[u8]) -> Result<Planner<A>, ReadError>
-    ensures session { Gives (λ planner. planner.session) result (dump_loaded bytes.now) }
+fn read_dump<A: Allocator + Copy>(alloc: A, bytes: &[u8]) -> Result<Planner<A>, DumpFault>
+    ensures found { IfOk result (λ planner. dump_loaded bytes.now ≡ Ok planner.session) }
+    ensures fault { IfErr result (λ fault. IsFirstFault fault (dump_loaded bytes.now)) }
+    ensures front { (fault : DumpFault)
+        → front_loaded bytes.now ≡ Err fault → result ≡ Err fault }
     ensures spelled { IfOk result (λ planner. bytes.now ≡ text planner.session.base) }
     ensures start { IfOk result (λ planner. planner.session ≡ start planner.session.base) }
     ensures runs { IfOk result (λ planner. planner.runs ≡ 0) }
@@ -70,8 +75,10 @@ fn read_dump<A: Allocator + Copy>(alloc: A, bytes: &[u8]) -> Result<Planner<A>, 
 /// octets, or 16,777,216 where they do not begin as a session does, and behind the base where this
 /// alone has more octets than a dump may have. `BadHistory` tells the line, counted from 0, that is
 /// not just as an edit is printed or whose edit is refused; it is 10,000, at the numbers, where
-/// there are more edits than may be done. `OutOfMemory` may stand in place of any.
-#[tactic(auto, unfolding(crate::specs::Opening::opened))]
+/// there are more edits than may be done. `OutOfMemory` may stand in place of any that lies after
+/// the front: the magic, the version, the number of areas, and of the first section its head, its
+/// count and its first LSA.
+#[tactic(auto, unfolding(crate::specs::Opening::opened, crate::specs::Opening::front_opened))]
 pub fn open<A: Allocator + Copy>(alloc: A, bytes: &[u8]) -> Result<Planner<A>, DumpFault>
     // What is opened is told so.
     ensures session { begins_session bytes.now ≡ true
@@ -84,17 +91,17 @@ pub fn open<A: Allocator + Copy>(alloc: A, bytes: &[u8]) -> Result<Planner<A>, D
     ensures found { IfOk result (λ planner. opened bytes.now ≡ Ok planner.session) }
     ensures fault { IfErr result (λ fault. IsFirstFault fault (opened bytes.now)) }
 
+    // A fault of the front is reported whatever memory there is: none is asked for before.
+    ensures front { (fault : DumpFault)
+        → front_opened bytes.now ≡ Err fault → result ≡ Err fault }
+
     // No tree was calculated.
     ensures runs { IfOk result (λ planner. planner.runs ≡ 0) }
     ensures kept { IfOk result (λ planner. planner.kept ≡ []) }
 {
-    let read = if begins_session(bytes) {
+    if begins_session(bytes) {
         read_session(alloc, bytes)
     } else {
         read_dump(alloc, bytes)
-    };
-    match read {
-        Ok(planner) => Ok(planner),
-        Err(error) => Err(dump_fault(error)),
     }
 }

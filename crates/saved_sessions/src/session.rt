@@ -1,11 +1,11 @@
 //! Opening and saving as methods of a planner.
 
-ghost use Rattle.std.specs.Prelude.{◌≡◌, true, false, [], Ok, OnOk, IfOk, IfErr};
+ghost use Rattle.std.specs.Prelude.{◌≡◌, true, false, [], Ok, Err, OnOk, IfOk, IfErr};
 ghost use Rattle.lsdb.specs.BaseLoading.{begins_session};
 ghost use Rattle.lsdb.specs.Loading.{IsFirstFault};
 ghost use Rattle.lsdb.specs.Text.{text};
 ghost use Rattle.edit_history.specs.Session.{start};
-ghost use Rattle.saved_sessions.specs.Opening.{opened};
+ghost use Rattle.saved_sessions.specs.Opening.{front_opened, opened};
 ghost use Rattle.saved_sessions.specs.Saved.{CanBeSaved, saved_text};
 
 use crate::opening::open;
@@ -38,6 +38,8 @@ impl<A: Allocator + Copy> SavedSession<A> for Planner<A> {
             × (planner.session ≡ start planner.session.base)) }
         ensures found { IfOk result (λ planner. opened bytes.now ≡ Ok planner.session) }
         ensures fault { IfErr result (λ fault. IsFirstFault fault (opened bytes.now)) }
+        ensures front { (fault : DumpFault)
+            → front_opened bytes.now ≡ Err fault → result ≡ Err fault }
         ensures runs { IfOk result (λ planner. planner.runs ≡ 0) }
         ensures kept { IfOk result (λ planner. planner.kept ≡ []) }
     {

@@ -1,8 +1,6 @@
 -- What a function that reads a part of a saved session tells of it.
 use Rattle.std.specs.Prelude.{◌≡◌, Result, Ok, Err}
 use Rattle.lsdb.specs.declared.fault.DumpFault.{DumpFault}
-use Rattle.lsdb.specs.declared.fault.DumpFaultKind.{DumpFaultKind}
-use Rattle.lsdb.specs.declared.fault.DumpFaultKind.TheVariants.{OutOfMemory}
 use Rattle.lsdb.specs.Loading.{no_memory}
 use Rattle.saved_sessions.specs.declared.fault.ReadError.{ReadError}
 use Rattle.saved_sessions.specs.declared.fault.ReadError.TheVariants as errors
@@ -21,11 +19,3 @@ Gives view (Err e) read = Fails e read
 abbrev pub told_fault : ReadError → DumpFault
 told_fault errors.Memory = no_memory
 told_fault (errors.Fault f) = f
-
--- why reading ended, by the fault that loading a database told
-abbrev pub error_by : DumpFaultKind → DumpFault → ReadError
-error_by OutOfMemory f = errors.Memory
-error_by _ f = errors.Fault f
-
-abbrev pub error_of : DumpFault → ReadError
-error_of f = error_by f.kind f
