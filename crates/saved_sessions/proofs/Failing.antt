@@ -13,12 +13,6 @@ pub fails_on : {A B : Type 0} (e : ReadError) (r : Result A DumpFault) (f : A �
 fails_on {A} {B} errors.Memory r f fails = tt
 fails_on {A} {B} (errors.Fault d) r f fails = ap (λ (x : Result A DumpFault). x >>= f) fails
 
--- the first fault of a step is the first of the reading
-pub first_on : {A B : Type 0} (fault : DumpFault) (r : Result A DumpFault) (f : A → Result B DumpFault) → IsFirstFault fault r
-    → IsFirstFault fault (r >>= f)
-first_on {A} {B} fault r f (inl memory) = inl memory
-first_on {A} {B} fault r f (inr is) = inr (ap (λ (x : Result A DumpFault). x >>= f) is)
-
 -- the fault that is told of a failed reading is the first, or want of memory
 pub first_told : {Y : Type 0} (e : ReadError) (fault : DumpFault) (read : Result Y DumpFault) → fault ≡ told_fault e → Fails e read → IsFirstFault fault read
 first_told {Y} errors.Memory fault read is fails = inl is
