@@ -193,7 +193,7 @@ def is_as_read(program: str, data: bytes, folder: pathlib.Path) -> tuple[bool, b
     except plain_captures.Refused as refused:
         line = f"{file}: {refused.fault} at {refused.offset}\n"
         return (status, said, error.decode(), left) == (3, b"", line, None), False
-    holes = [f"{file}: {hole}" for hole in contents.holes]
+    findings = [f"{file}: {finding}" for finding in contents.findings]
     try:
         dump = plain_captures.dump_of([contents])
     except plain_captures.Refused as refused:
@@ -201,8 +201,8 @@ def is_as_read(program: str, data: bytes, folder: pathlib.Path) -> tuple[bool, b
     lines = error.decode().splitlines()
     lacks = plain_captures.unnamed([contents]) + plain_captures.named([contents])
     # There may be more findings, of the database.
-    is_same = set(holes) <= set(lines) and [line for line in lines if LACK.match(line)] == lacks
-    is_same = is_same and status in ((1,) if holes or lacks else (0, 1))
+    is_same = set(findings) <= set(lines) and [line for line in lines if LACK.match(line)] == lacks
+    is_same = is_same and status in ((1,) if findings or lacks else (0, 1))
     return is_same and (said.decode(), left) == (f"{file}: {contents.line()}\n", dump), True
 
 

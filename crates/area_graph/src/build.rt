@@ -56,7 +56,7 @@ impl<A: Allocator + Copy> Graph<A> {
             (FaultMeans (find (is_section (Area area)) (lists_of database.now))) }
     {
         // Its invariant is needed: its LSAs are accepted, and their keys are distinct.
-        database.known();
+        database.assert_valid();
         let section = Section::Area(area);
         let Some(_) = database.index_of(section) else {
             return Err(GraphFault::NoArea);

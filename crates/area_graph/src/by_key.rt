@@ -74,7 +74,7 @@ pub fn lsa_of_vertex<A: Allocator + Copy>(
     ensures { IfSome result (λ lsa. IsLsaOf (lsas_in database.now section) vertex lsa) }
 {
     // Its invariant is needed: its LSAs are accepted.
-    database.known();
+    database.assert_valid();
     let (least, greatest) = key_range(vertex);
     let mut keys = database.keys_between(section, least, greatest);
     let noted = keys.next()?;

@@ -26,9 +26,9 @@ pub struct Frame<'a> {
     pub link: LinkType,
     /// When it was seen, in nanoseconds since 1970; `None` where the file does not tell.
     pub seen: Option<u64>,
-    /// The octets that the file has of it.
-    pub octets: &'a [u8],
-    /// How many octets it had on the link. Where there are fewer in the file, it was cut short.
+    /// The bytes that the file has of it.
+    pub bytes: &'a [u8],
+    /// How many bytes it had on the link. Where there are fewer in the file, it was cut short.
     pub original: u32,
 }
 

@@ -16,7 +16,7 @@ const IF_TSRESOL: u16 = 9;
 /// The option with an offset of time stamps.
 const IF_TSOFFSET: u16 = 14;
 
-/// A length with the octets behind it, up to a multiple of 4.
+/// A length with the bytes behind it, up to a multiple of 4.
 fn padded(length: u16) -> usize
     ensures { result ≡ padded length }
 {
@@ -52,25 +52,25 @@ fn option_of(order: Order, code: u16, options: &[u8]) -> Option<&[u8]>
 {
     let mut rest = options;
     'options: for _ in 0..options.len() {
-        let Some((found, value, behind)) = first_option(order, rest) else {
+        let Some((found, value, after)) = first_option(order, rest) else {
             return None;
         };
         if found == code {
             return Some(value);
         }
-        rest = behind;
+        rest = after;
     }
     None
 }
 
 /// How many units of time a second has.
-fn units_of(octet: u8) -> Option<u64>
-    ensures { result ≡ units_of octet }
+fn units_of(byte: u8) -> Option<u64>
+    ensures { result ≡ units_of byte }
 {
-    if octet < 128 {
-        10u64.checked_pow(u32::from(octet))
+    if byte < 128 {
+        10u64.checked_pow(u32::from(byte))
     } else {
-        2u64.checked_pow(u32::from(octet - 128))
+        2u64.checked_pow(u32::from(byte - 128))
     }
 }
 
@@ -80,7 +80,7 @@ fn resolution_of(option: Option<&[u8]>) -> Option<u64>
 {
     match option {
         None => Some(1_000_000),
-        Some([octet]) => units_of(*octet),
+        Some([byte]) => units_of(*byte),
         Some(_) => None,
     }
 }
@@ -114,13 +114,13 @@ pub(crate) fn moment_of(units: Option<u64>, stamp: u64) -> Option<u64>
 
 /// What an Interface Description Block tells.
 pub(crate) fn interface_of(block: Block<'_>) -> Interface
-    requires { 20 ≤ length block.octets.now }
+    requires { 20 ≤ length block.bytes.now }
     ensures { result ≡ interface_of (block_text block.entry) }
 {
-    let body = &block.octets[..block.octets.len() - 4];
+    let body = &block.bytes[..block.bytes.len() - 4];
     Interface {
-        link: LinkType(u16_at(block.order, block.octets, 8)),
-        snap: u32_at(block.order, block.octets, 12),
+        link: LinkType(u16_at(block.order, block.bytes, 8)),
+        snap: u32_at(block.order, block.bytes, 12),
         units: units_in(block.order, &body[16..]),
     }
 }

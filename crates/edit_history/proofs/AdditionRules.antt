@@ -40,9 +40,9 @@ pub record AreWide (router : RouterId) (prefix : Net) : Type 0 where
   pub addr : prefix.addr.0 < 2 ^ 32
   pub wide : router.0 < 2 ^ 32
 
-keyed : (kind octets : ℕ) (router : RouterId) (prefix : Net) (x : List ℕ) → IsNewLsa kind prefix router octets x
-    → IsKeyed x (prefix_key kind router prefix) octets
-keyed kind octets router prefix x new = record { key_is = new.key; size_is = new.size }
+keyed : (kind byte_count : ℕ) (router : RouterId) (prefix : Net) (x : List ℕ) → IsNewLsa kind prefix router byte_count x
+    → IsKeyed x (prefix_key kind router prefix) byte_count
+keyed kind byte_count router prefix x new = record { key_is = new.key; size_is = new.size }
 
 -- ---- a summary-LSA
 

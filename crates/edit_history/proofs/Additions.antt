@@ -94,7 +94,7 @@ pub record Gets (db : Lists) (name : Section) (i : ℕ) (x : List ℕ) : Type 0 
   pub found : find (is_section name) db ≡ Some section
   pub named : is_head_of name section.area ≡ true
   pub leads : lists_after (adding name x) db ≡ update_at (with_lsa x) db i
-  pub tells : changes_by (adding name x) db ≡ addition name x ∷ []
+  pub reports : changes_by (adding name x) db ≡ addition name x ∷ []
 
 pub gets : (d : Places) (name : Section) (i : ℕ) (x : List ℕ) → IsDatabase (lists_of d) → IsNamed d name i → Gets (lists_of d) name i x
 gets d name i x sound is_named = by_item (item_at (lists_of d) i) refl is_named.exists where
@@ -119,7 +119,7 @@ gets d name i x sound is_named = by_item (item_at (lists_of d) i) refl is_named.
             ∙ ap (λ (t : SectionLsas). w.low ++ t ∷ lists_after rule w.high) (at_end name x s named)
             ∙ ap (λ (ss : Lists). w.low ++ with_lsa x s ∷ ss) (all_elsewhere name x w.high only.above)
             ∙ sym w.after;
-        tells =
+        reports =
             ap (changes_by rule) w.before
             ∙ changes_mid rule w.low w.high s
             ∙ ap (λ (cs : List Change). cs ++ (section_changes rule s ++ changes_by rule w.high)) (none_changed name x w.low only.below)
@@ -188,9 +188,9 @@ carried d name slot x sound named last empty new =
         tt,
       );
       leads = ap (lists_after (adding name x)) same ∙ g.leads ∙ sym filled;
-      tells =
+      reports =
           ap (changes_by (adding name x)) same
-          ∙ g.tells
+          ∙ g.reports
           ∙ sym (ap (λ (o : Option Place). new_at name (kind_of x) o (slot_at (put e slot (Some x)) slot) ∷ []) empty
           ∙ ap (λ (o : Option Place). new_at name (kind_of x) (Some None) o ∷ []) now);
     }
@@ -214,25 +214,25 @@ planned_new d e edit name x items sound ruled new o =
 -- ---- the refusals
 
 -- the key and the length of a new LSA
-pub record IsKeyed (x : List ℕ) (key : Key) (octets : ℕ) : Type 0 where
+pub record IsKeyed (x : List ℕ) (key : Key) (byte_count : ℕ) : Type 0 where
   pub key_is : key_of x ≡ key
-  pub size_is : length x ≡ octets
+  pub size_is : length x ≡ byte_count
 
 abbrev add_rule : Section → List ℕ → Result (Unit {0}) EditFault → Result Rule EditFault
 add_rule name x room = room >>= λ there. Ok (adding name x)
 
-room_same : (db : Lists) (name : Section) (x : List ℕ) (key : Key) (octets : ℕ) → IsKeyed x key octets
-    → room_for db name (key_of x) (length x) ≡ room_for db name key octets
-room_same db name x key octets keyed = ap (λ (k : Key). room_for db name k (length x)) keyed.key_is ∙ ap (room_for db name key) keyed.size_is
+room_same : (db : Lists) (name : Section) (x : List ℕ) (key : Key) (byte_count : ℕ) → IsKeyed x key byte_count
+    → room_for db name (key_of x) (length x) ≡ room_for db name key byte_count
+room_same db name x key byte_count keyed = ap (λ (k : Key). room_for db name k (length x)) keyed.key_is ∙ ap (room_for db name key) keyed.size_is
 
-pub added_refused : (db : Lists) (name : Section) (x : List ℕ) (key : Key) (octets : ℕ) (fault : EditFault) → IsKeyed x key octets
-    → room_for db name key octets ≡ Err fault → added db name x ≡ Err fault
-added_refused db name x key octets fault keyed is = ap (add_rule name x) (room_same db name x key octets keyed ∙ is)
+pub added_refused : (db : Lists) (name : Section) (x : List ℕ) (key : Key) (byte_count : ℕ) (fault : EditFault) → IsKeyed x key byte_count
+    → room_for db name key byte_count ≡ Err fault → added db name x ≡ Err fault
+added_refused db name x key byte_count fault keyed is = ap (add_rule name x) (room_same db name x key byte_count keyed ∙ is)
 
-pub added_ruled : (db : Lists) (name : Section) (x : List ℕ) (key : Key) (octets : ℕ) → IsKeyed x key octets → room_for db name key octets ≡ has_room
+pub added_ruled : (db : Lists) (name : Section) (x : List ℕ) (key : Key) (byte_count : ℕ) → IsKeyed x key byte_count → room_for db name key byte_count ≡ has_room
     → added db name x ≡ Ok (adding name x)
-added_ruled db name x key octets keyed is = ap (add_rule name x) (room_same db name x key octets keyed ∙ is)
+added_ruled db name x key byte_count keyed is = ap (add_rule name x) (room_same db name x key byte_count keyed ∙ is)
 
-pub new_room : (db : Lists) (name : Section) (x : List ℕ) (key : Key) (octets : ℕ) → IsKeyed x key octets → room_for db name key octets ≡ has_room
+pub new_room : (db : Lists) (name : Section) (x : List ℕ) (key : Key) (byte_count : ℕ) → IsKeyed x key byte_count → room_for db name key byte_count ≡ has_room
     → IsRoom db name (key_of x) (length x)
-new_room db name x key octets keyed is = is_room db name (key_of x) (length x) (room_same db name x key octets keyed ∙ is)
+new_room db name x key byte_count keyed is = is_room db name (key_of x) (length x) (room_same db name x key byte_count keyed ∙ is)

@@ -40,13 +40,13 @@ all_first : (db : Lists) → AllPairs IsBefore (heads_of db) → areas_first (le
 all_first [] pairs = refl
 all_first (s ∷ db) pairs = by s.area refl (all_first db (pairs_tail IsBefore s.area (heads_of db) pairs))
   where
-    none_behind : (rest : Lists) → All (IsBefore None) (heads_of rest) → areas_first (length (areas_of rest)) (None ∷ heads_of rest) ≡ true
-    none_behind [] all = refl
-    none_behind (t ∷ rest) all = absurd (All-head (IsBefore None) t.area (heads_of rest) all)
+    none_after : (rest : Lists) → All (IsBefore None) (heads_of rest) → areas_first (length (areas_of rest)) (None ∷ heads_of rest) ≡ true
+    none_after [] all = refl
+    none_after (t ∷ rest) all = absurd (All-head (IsBefore None) t.area (heads_of rest) all)
 
     by : (area : Option AreaHead) → s.area ≡ area → areas_first (length (areas_of db)) (heads_of db) ≡ true
         → areas_first (length (cons_option area (areas_of db))) (area ∷ heads_of db) ≡ true
-    by None is rest = none_behind db (subst (λ (o : Option AreaHead). All (IsBefore o) (heads_of db)) is (pairs_head IsBefore s.area (heads_of db) pairs))
+    by None is rest = none_after db (subst (λ (o : Option AreaHead). All (IsBefore o) (heads_of db)) is (pairs_head IsBefore s.area (heads_of db) pairs))
     by (Some head) is rest = rest
 
 pub first_of_database : (d : Places) → IsDatabase (lists_of d) → AreasFirst (length (areas_of (lists_of d))) d

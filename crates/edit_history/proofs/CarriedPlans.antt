@@ -33,7 +33,7 @@ applied d e f edit swaps r sound plan is made =
           record {
             same = refl;
             leads = ap (λ (db : Lists). effect db edit) (sym same) ∙ plan.carries.leads;
-            tells = ap (λ (db : Lists). changes db edit) (sym same) ∙ plan.carries.tells;
+            reports = ap (λ (db : Lists). changes db edit) (sym same) ∙ plan.carries.reports;
             can = again.can;
             before = subst (Grown d) (sym again.places) plan.opens;
           }

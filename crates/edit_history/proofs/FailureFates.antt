@@ -92,14 +92,14 @@ in_it name fate head section ps named =
     ∙ ap (λ (n : Section). section_swaps fate section n 0 ps) (sym (name_is name head named))
 
 -- after the section with this name
-none_behind : (name : Section) (fate : List ℕ → Fate) (head : Option AreaHead) (d : Places) (k : ℕ) → is_head_of name head ≡ true
+none_after : (name : Section) (fate : List ℕ → Fate) (head : Option AreaHead) (d : Places) (k : ℕ) → is_head_of name head ≡ true
     → All (IsBefore head) (heads_of (lists_of d)) → swaps_from (within name fate).fates k d ≡ []
-none_behind name fate head [] k named behind = refl
-none_behind name fate head (s ∷ ss) k named behind =
-    let first : IsBefore head s.area = All-head (IsBefore head) s.area (heads_of (lists_of ss)) behind in
+none_after name fate head [] k named beyond = refl
+none_after name fate head (s ∷ ss) k named beyond =
+    let first : IsBefore head s.area = All-head (IsBefore head) s.area (heads_of (lists_of ss)) beyond in
     ap (λ (xs : List SwapData). xs ++ swaps_from (within name fate).fates (suc k) ss)
     (not_in name fate s.area k s.places (head_after name head s.area named first))
-    ∙ none_behind name fate head ss (suc k) named (All-tail (IsBefore head) s.area (heads_of (lists_of ss)) behind)
+    ∙ none_after name fate head ss (suc k) named (All-tail (IsBefore head) s.area (heads_of (lists_of ss)) beyond)
 
 pub before_item : (a : Option AreaHead) (d : Places) (i : ℕ) (t : SectionPlaces) → All (IsBefore a) (heads_of (lists_of d)) → item_at d i ≡ Some t
     → IsBefore a t.area
@@ -118,7 +118,7 @@ one_from name fate (s ∷ ss) k zero n t e order at named =
     let same : s ≡ t = cc in
     let here' : is_head_of name s.area ≡ true = ap (λ (u : SectionPlaces). is_head_of name u.area) same ∙ named in
     ap (λ (xs : List SwapData). section_swaps ((within name fate).fates s.area) k (section_name s.area) 0 s.places ++ xs)
-    (none_behind name fate s.area ss (suc k) here' (pairs_head IsBefore s.area (heads_of (lists_of ss)) order))
+    (none_after name fate s.area ss (suc k) here' (pairs_head IsBefore s.area (heads_of (lists_of ss)) order))
     ∙ append-nil (section_swaps ((within name fate).fates s.area) k (section_name s.area) 0 s.places)
     ∙ in_it name fate s.area k s.places here'
     ∙ ap (λ (m : ℕ). section_swaps fate m name 0 s.places) (let same_number : k ≡ n = omega arith in same_number)

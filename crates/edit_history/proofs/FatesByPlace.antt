@@ -17,7 +17,7 @@ use Rattle.edit_history.specs.Rules.{Fate, stays, removed, rewritten, Fates, by_
 use Rattle.edit_history.specs.Rules.{section_after, changes_by}
 use Rattle.edit_history.specs.Exchange.{SwapData, CanDo, done_places, done_swaps, taken}
 use Rattle.edit_history.specs.steps.Plans.{slot_of, swap_for, section_swaps, swaps_from}
-use Rattle.edit_history.specs.Applied.{told}
+use Rattle.edit_history.specs.Applied.{swap_change}
 use Rattle.edit_history.proofs.RuleOutcomes.{after, change}
 use Rattle.edit_history.proofs.RulesCarriedOut.{CarriesOutRule}
 
@@ -25,7 +25,7 @@ use Rattle.edit_history.proofs.RulesCarriedOut.{CarriesOutRule}
 pub record Leads (d e : Places) (ss : List SwapData) (cs : List Change) : Type 0 where
   pub can : CanDo d ss
   pub leads : done_places d ss ≡ e
-  pub tells : map (told e) (done_swaps d ss) ≡ cs
+  pub reports : map (swap_change e) (done_swaps d ss) ≡ cs
 
 -- every rewritten LSA may take the place of the old one
 abbrev pub IsSafeFate : List ℕ → Fate → Type 0
@@ -79,10 +79,10 @@ walk_swap d m e slot name x v ss cs sound at safe made now rest =
     record {
       can = (subst (λ (o : Option Place). IsSome o) (sym at) refl, next, subst (λ (w : Places). CanDo w ss) (sym made) r.can);
       leads = ap (λ (w : Places). done_places w ss) made ∙ r.leads;
-      tells =
-          ap (λ (w : Places). told e (taken d (record { slot = slot; section = name; kind = kind_of x; other = v })) ∷ map (told e)
+      reports =
+          ap (λ (w : Places). swap_change e (taken d (record { slot = slot; section = name; kind = kind_of x; other = v })) ∷ map (swap_change e)
           (done_swaps w ss)) made
-          ∙ ap (λ (xs : List Change). told e (taken d (record { slot = slot; section = name; kind = kind_of x; other = v })) ∷ xs) r.tells
+          ∙ ap (λ (xs : List Change). swap_change e (taken d (record { slot = slot; section = name; kind = kind_of x; other = v })) ∷ xs) r.reports
           ∙ ap (λ (o : Option Place). one (record {
             section = name;
             kind = kind_of x;
@@ -164,7 +164,7 @@ pub walk : (fates : Fates) (low high : Places) (area : Option AreaHead) (pre pos
     (low ++ section_places area (pre ++ map (place_after fates area) post) ∷ places_after fates high)
     (section_swaps (fates area) section (section_name area) i post ++ swaps_from fates (suc section) high)
     (changed_in fates area post ++ changes_by (by_fates fates) (lists_of high))
-walk fates low [] area pre [] section i safe e g sound = record { can = tt; leads = refl; tells = refl }
+walk fates low [] area pre [] section i safe e g sound = record { can = tt; leads = refl; reports = refl }
 walk fates low (s ∷ high) area pre [] section i safe e g sound =
     passed low high (places_after fates high) (section_places area (pre ++ [])) s
     (section_places s.area (map (place_after fates s.area) s.places)) _ _
@@ -184,7 +184,7 @@ walk fates low high area pre (Some x ∷ post) section i safe e g sound =
 -- all fates, carried out at all places
 pub walked : (fates : Fates) (d : Places) → IsSafe fates → IsDatabase (lists_of d)
     → Leads d (places_after fates d) (swaps_from fates 0 d) (changes_by (by_fates fates) (lists_of d))
-walked fates [] safe sound = record { can = tt; leads = refl; tells = refl }
+walked fates [] safe sound = record { can = tt; leads = refl; reports = refl }
 walked fates (s ∷ ss) safe sound = walk fates [] ss s.area [] s.places 0 0 safe refl refl sound
 
 full-after : (fates : Fates) (area : Option AreaHead) (ps : List Place)
@@ -208,5 +208,5 @@ fates_carried_out fates d safe sound =
     record {
       can = w.can;
       leads = sym (ap lists_of w.leads ∙ lists-after fates d);
-      tells = sym (ap (λ (e : Places). map (told e) (done_swaps d (swaps_from fates 0 d))) w.leads ∙ w.tells);
+      reports = sym (ap (λ (e : Places). map (swap_change e) (done_swaps d (swaps_from fates 0 d))) w.leads ∙ w.reports);
     }

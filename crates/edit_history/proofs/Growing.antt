@@ -12,10 +12,10 @@ use Rattle.edit_history.specs.Effect.{effect, changes}
 use Rattle.edit_history.specs.Exchange.{SwapData, taken, done_places, done_swaps, CanDo, undone_places, CanUndo, RecordData}
 use Rattle.edit_history.specs.Journal.{HistoryData, LinksBack, LinksOn, Links, origin}
 use Rattle.edit_history.specs.Grown.{opened, Grown}
-use Rattle.edit_history.specs.Applied.{Applied, told}
+use Rattle.edit_history.specs.Applied.{Applied, swap_change}
 use Rattle.edit_history.specs.Session.{edits_of, session_of, state, after_edits, unless_refused}
 use Rattle.edit_history.proofs.Exchanged.{some_is}
-use Rattle.edit_history.proofs.Linked.{reverse_cons, whole, all_told}
+use Rattle.edit_history.proofs.Linked.{reverse_cons, whole, all_reported}
 
 abbrev there : Places → SlotId → Place
 there d slot = unwrap_or (slot_at d slot) None
@@ -52,17 +52,17 @@ taken_grown : (d : Places) (n : ℕ) (s : SwapData) → taken (open_at d n) s �
 taken_grown d n s = ap (λ (p : Place). let t : SwapData = record { slot = s.slot; section = s.section; kind = s.kind; other = p } in t)
     (there_grown d n s.slot)
 
-told_grown : (d : Places) (n : ℕ) (s : SwapData) → told (open_at d n) s ≡ told d s
-told_grown d n s = ap (λ (p : Place). let c : Change = record { section = s.section; kind = s.kind; old = s.other; new = p } in c)
+reported_grown : (d : Places) (n : ℕ) (s : SwapData) → swap_change (open_at d n) s ≡ swap_change d s
+reported_grown d n s = ap (λ (p : Place). let c : Change = record { section = s.section; kind = s.kind; old = s.other; new = p } in c)
     (there_grown d n s.slot)
 
 abbrev all_changes : List Change → Result (List Change) EditFault
 all_changes cs = Ok cs
 
-all_told_grown : (d : Places) (n : ℕ) (ss : List SwapData) → map (told (open_at d n)) ss ≡ map (told d) ss
-all_told_grown d n [] = refl
-all_told_grown d n (s ∷ ss) =
-    ap (λ (c : Change). c ∷ map (told (open_at d n)) ss) (told_grown d n s) ∙ ap (λ (cs : List Change). told d s ∷ cs) (all_told_grown d n ss)
+all_reported_grown : (d : Places) (n : ℕ) (ss : List SwapData) → map (swap_change (open_at d n)) ss ≡ map (swap_change d) ss
+all_reported_grown d n [] = refl
+all_reported_grown d n (s ∷ ss) =
+    ap (λ (c : Change). c ∷ map (swap_change (open_at d n)) ss) (reported_grown d n s) ∙ ap (λ (cs : List Change). swap_change d s ∷ cs) (all_reported_grown d n ss)
 
 -- ---- undoing
 
@@ -124,8 +124,8 @@ back_grown d n (r ∷ rs) links =
         can = g.can;
         leads = ap (λ (w : Places). effect (lists_of w) r.edit) g.places ∙ ap (λ (c : Lists). effect c r.edit) (lists_of-open_at u n) ∙ links.0.leads
             ∙ ap whole (sym (lists_of-open_at d n));
-        tells = ap (λ (w : Places). changes (lists_of w) r.edit) g.places ∙ ap (λ (c : Lists). changes c r.edit) (lists_of-open_at u n)
-            ∙ links.0.tells ∙ ap all_changes (sym (all_told_grown d n r.swaps));
+        reports = ap (λ (w : Places). changes (lists_of w) r.edit) g.places ∙ ap (λ (c : Lists). changes c r.edit) (lists_of-open_at u n)
+            ∙ links.0.reports ∙ ap all_changes (sym (all_reported_grown d n r.swaps));
       },
       subst (λ (w : Places). LinksBack w rs) (sym g.places) (back_grown u n rs links.1),
     )
@@ -139,12 +139,12 @@ on_grown d n (r ∷ rs) links =
         can = g.can;
         leads = ap (λ (c : Lists). effect c r.edit) (lists_of-open_at d n) ∙ links.0.leads ∙ ap whole (sym (lists_of-open_at u n))
             ∙ ap (λ (w : Places). whole (lists_of w)) (sym g.places);
-        tells =
+        reports =
             ap (λ (c : Lists). changes c r.edit) (lists_of-open_at d n)
-            ∙ links.0.tells
-            ∙ ap all_changes (sym (all_told_grown u n (done_swaps d r.swaps)))
-            ∙ ap (λ (w : Places). all_told w (done_swaps d r.swaps)) (sym g.places)
-            ∙ ap (λ (ss : List SwapData). all_told (done_places (open_at d n) r.swaps) ss) (sym g.swaps);
+            ∙ links.0.reports
+            ∙ ap all_changes (sym (all_reported_grown u n (done_swaps d r.swaps)))
+            ∙ ap (λ (w : Places). all_reported w (done_swaps d r.swaps)) (sym g.places)
+            ∙ ap (λ (ss : List SwapData). all_reported (done_places (open_at d n) r.swaps) ss) (sym g.swaps);
       },
       subst (λ (w : Places). LinksOn w rs) (sym g.places) (on_grown u n rs links.1),
     )
@@ -217,7 +217,7 @@ recorded d e h edit r links sound applied =
           record {
             can = applied.can;
             leads = ap (λ (c : Lists). effect c r.edit) stays.same ∙ ap (λ (x : Edit). effect (lists_of d) x) applied.same ∙ applied.leads;
-            tells = ap (λ (c : Lists). changes c r.edit) stays.same ∙ ap (λ (x : Edit). changes (lists_of d) x) applied.same ∙ applied.tells;
+            reports = ap (λ (c : Lists). changes c r.edit) stays.same ∙ ap (λ (x : Edit). changes (lists_of d) x) applied.same ∙ applied.reports;
           },
           stays.links.back,
         );

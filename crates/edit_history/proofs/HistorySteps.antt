@@ -5,7 +5,7 @@ use Rattle.lsdb.specs.Places.{Places}
 use Rattle.edit_history.specs.Exchange.{RecordData, undone_places, undone, done_places, redone}
 use Rattle.edit_history.specs.Journal.{HistoryData, Links}
 use Rattle.edit_history.specs.Session.{Session, session_of, StepsBack, StepsOn}
-use Rattle.edit_history.proofs.Cursor.{seen, seen_behind, seen_after_back, seen_ahead, seen_after_on}
+use Rattle.edit_history.proofs.Cursor.{seen, seen_after, seen_after_back, seen_ahead, seen_after_on}
 use Rattle.edit_history.proofs.Linked.{step_back, step_on, session_back, session_on}
 
 -- the step's database and history, and what they show
@@ -18,7 +18,7 @@ pub back_turn : (d : Places) (h : HistoryData) (items : List RecordData) (i j : 
 back_turn d h items i j r view is lt reads links =
     let rs : List RecordData = reverse (take i items) in
     let fs : List RecordData = drop j items in
-    let before : h ≡ record { past = r ∷ rs; future = fs } = sym view ∙ seen_behind items i j r is lt reads in
+    let before : h ≡ record { past = r ∷ rs; future = fs } = sym view ∙ seen_after items i j r is lt reads in
     let after : seen (slice_set items i (undone d r)) i ≡ record { past = rs; future = undone d r ∷ fs } = seen_after_back items i j
     (undone d r) is lt in
     let e : Places = undone_places d r.swaps in
@@ -51,7 +51,7 @@ on_turn d h items i j r view is lt reads links =
 pub back_count : (h : HistoryData) (items : List RecordData) (i j : ℕ) (r v : RecordData) → seen items j ≡ h → j ≡ suc i → i < length items
     → r ≡ get_or items i r → length h.past ≡ length (reverse (take i (slice_set items i v))) + 1
 back_count h items i j r v view is lt reads =
-    let before = sym view ∙ seen_behind items i j r is lt reads in
+    let before = sym view ∙ seen_after items i j r is lt reads in
     let after = seen_after_back items i j v is lt in
     ap (λ (k : HistoryData). length k.past) before ∙ sym (add-one (length (reverse (take i items))))
     ∙ ap (λ (k : HistoryData). length k.past + 1) (sym after)

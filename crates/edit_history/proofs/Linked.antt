@@ -8,7 +8,7 @@ use Rattle.edit_script.specs.declared.edit.Edit.{Edit}
 use Rattle.edit_history.specs.declared.fault.EditFault.{EditFault}
 use Rattle.edit_history.specs.Rules.{Change}
 use Rattle.edit_history.specs.Effect.{effect, changes}
-use Rattle.edit_history.specs.Applied.{told}
+use Rattle.edit_history.specs.Applied.{swap_change}
 use Rattle.edit_history.specs.Exchange.{SwapData, RecordData, undone, redone, undone_places, undone_swaps, done_places}
 use Rattle.edit_history.specs.Journal.{HistoryData, LinksBack, LinksOn, Links, origin}
 use Rattle.edit_history.specs.Session.{Session, edits_of, session_of, StepsBack, StepsOn, moved_back, moved_on}
@@ -17,8 +17,8 @@ use Rattle.edit_history.proofs.Exchanged.{undo_done, do_undone, undone_sound, do
 abbrev pub whole : Lists → Result Lists EditFault
 whole db = Ok db
 
-abbrev pub all_told : Places → List SwapData → Result (List Change) EditFault
-all_told e ss = Ok (map (told e) ss)
+abbrev pub all_reported : Places → List SwapData → Result (List Change) EditFault
+all_reported e ss = Ok (map (swap_change e) ss)
 
 pub step_back : (d : Places) (r : RecordData) (rs fs : List RecordData) → Links d (record { past = r ∷ rs; future = fs })
     → Links (undone_places d r.swaps) (record { past = rs; future = undone d r ∷ fs })
@@ -33,8 +33,8 @@ step_back d r rs fs links =
         record {
           can = again.can;
           leads = links.back.0.leads ∙ ap (λ (e : Places). whole (lists_of e)) (sym again.places);
-          tells = links.back.0.tells ∙ ap (λ (e : Places). all_told e r.swaps) (sym again.places)
-              ∙ ap (all_told (done_places u us)) (sym again.swaps);
+          reports = links.back.0.reports ∙ ap (λ (e : Places). all_reported e r.swaps) (sym again.places)
+              ∙ ap (all_reported (done_places u us)) (sym again.swaps);
         },
         subst (λ (e : Places). LinksOn e fs) (sym again.places) links.on,
       );
@@ -50,7 +50,7 @@ step_on d r rs fs links =
         record {
           can = again.can;
           leads = ap (λ (e : Places). effect (lists_of e) r.edit) again.places ∙ links.on.0.leads;
-          tells = ap (λ (e : Places). changes (lists_of e) r.edit) again.places ∙ links.on.0.tells;
+          reports = ap (λ (e : Places). changes (lists_of e) r.edit) again.places ∙ links.on.0.reports;
         },
         subst (λ (e : Places). LinksBack e rs) (sym again.places) links.back,
       );

@@ -57,9 +57,9 @@ module _ (w : Wanted) (d : Places) (section : ℕ) (router : RouterId) (net : Ne
       }
 
   -- it is not among the first i, where none of them is wanted
-  behind : (i k : ℕ) (e : PlaceOfPrefix) → NoneStands w d section (take i found) → k < length found
+  beyond : (i k : ℕ) (e : PlaceOfPrefix) → NoneStands w d section (take i found) → k < length found
       → stands_at w d section (get_or found k e).index ≡ true → i ≤ k
-  behind i k e before lt stands = ⊎_elim
+  beyond i k e before lt stands = ⊎_elim
       (λ less.
       let short : k < length (take i found) = omega (arith, length-take i found) in
       let miss : stands_at w d section (get_or found k e).index ≡ false =
@@ -73,7 +73,7 @@ module _ (w : Wanted) (d : Places) (section : ℕ) (router : RouterId) (net : Ne
   hit i e lt before stands = first_at w d section (get_or found i e).index stands (λ j x at pass.
       let n = noted_at j x at pass in
       let le : i ≤ n.number =
-      behind i n.number e before n.within (subst (λ (k : ℕ). stands_at w d section k ≡ true) (sym (n.is e)) n.stands) in
+      beyond i n.number e before n.within (subst (λ (k : ℕ). stands_at w d section k ≡ true) (sym (n.is e)) n.stands) in
       ⊎_elim
       (λ less. let below = noted.rising i n.number e less n.within in omega (arith, below, n.is e))
       (λ ge. let same : i ≡ n.number = omega arith in omega (arith, n.is e, ap (λ (k : ℕ). (get_or found k e).index) same))
@@ -94,7 +94,7 @@ module _ (w : Wanted) (d : Places) (section : ℕ) (router : RouterId) (net : Ne
       let n = noted_at j x at pass in
       let e : PlaceOfPrefix = prefix_place j router net in
       let le : i ≤ n.number =
-      behind i n.number e before n.within (subst (λ (k : ℕ). stands_at w d section k ≡ true) (sym (n.is e)) n.stands) in
+      beyond i n.number e before n.within (subst (λ (k : ℕ). stands_at w d section k ≡ true) (sym (n.is e)) n.stands) in
       absurd (omega (arith, n.within)))
 
   pub miss_all : (read : List PlaceOfPrefix) → map (λ (place : PlaceOfPrefix). place) read ≡ found → NoneStands w d section read

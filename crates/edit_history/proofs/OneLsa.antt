@@ -49,7 +49,7 @@ only_one name key x other low high area front back order section named is =
       below = λ k d lt. λ j e within. not_first _ _ (fate_of other) (sections.below k d lt);
       above = λ k d lt. λ j e within. not_first _ _ (fate_of other) (sections.above k d lt);
       before = λ k d lt. not_second _ _ (fate_of other) (keys.before k d lt);
-      behind = λ k d lt. not_second _ _ (fate_of other) (keys.after k d lt);
+      beyond = λ k d lt. not_second _ _ (fate_of other) (keys.after k d lt);
       here = both _ _ (fate_of other) named (own_key key x is);
     }
 
@@ -58,10 +58,10 @@ only_one name key x other low high area front back order section named is =
 abbrev change_at : Section → ℕ → Option Place → Option Place → Change
 change_at section kind old new = record { section = section; kind = kind; old = unwrap_or old None; new = unwrap_or new None }
 
-one_told : (here section : Section) (this kind : ℕ) (old now : Option Place) (x : List ℕ) (other : Place) → here ≡ section → this ≡ kind
+reported_one : (here section : Section) (this kind : ℕ) (old now : Option Place) (x : List ℕ) (other : Place) → here ≡ section → this ≡ kind
     → old ≡ Some (Some x) → now ≡ Some other
     → change_at here this old now ≡ change_at section kind (Some (Some x)) (Some other)
-one_told here section this kind old now x other p q before after =
+reported_one here section this kind old now x other p q before after =
     ap (λ (s : Section). change_at s this old now) p
     ∙ ap (λ (k : ℕ). change_at section k old now) q
     ∙ ap (λ (o : Option Place). change_at section kind o now) before
@@ -89,11 +89,11 @@ exchanged d name key slot lsa other sound named held is next =
     record {
       can = (subst (λ (o : Option Place). IsSome o) (sym held) refl, next, tt);
       leads = ap (lists_after rule) w.before ∙ one_after rule.fates w.low w.high w.area w.front w.back lsa other t ∙ sym w.after;
-      tells =
+      reports =
           ap (changes_by rule) w.before
           ∙ one_change rule.fates w.low w.high w.area w.front w.back lsa other t
           ∙ ap (λ (c : Change). c ∷ [])
-          (sym (one_told name (section_name w.area) key.kind (kind_of lsa) (slot_at d slot) (slot_at (put d slot other) slot) lsa other
+          (sym (reported_one name (section_name w.area) key.kind (kind_of lsa) (slot_at d slot) (slot_at (put d slot other) slot) lsa other
           (name_is name w.area in_section) (sym (ap (λ (k : Key). k.kind) is)) held now));
     }
 

@@ -46,15 +46,15 @@ not_zero : (a b : ℕ) → a < b → (c : Bool) → (b == 0) ≡ c → (b == 0) 
 not_zero a b lt true is = let zero_is : b ≡ 0 = eqb-true b 0 is in absurd (omega (arith, lt, zero_is))
 not_zero a b lt false is = is
 
-behind : (a b : Option AreaHead) → IsBefore a b → IsElsewhere b
-behind None b before = absurd before
-behind (Some h) None before = tt
-behind (Some h) (Some t) before = not_zero h.id t.id before (t.id == 0) refl
+beyond : (a b : Option AreaHead) → IsBefore a b → IsElsewhere b
+beyond None b before = absurd before
+beyond (Some h) None before = tt
+beyond (Some h) (Some t) before = not_zero h.id t.id before (t.id == 0) refl
 
-all_behind : (a : Option AreaHead) (heads : List (Option AreaHead)) → All (IsBefore a) heads → All IsElsewhere heads
-all_behind a [] all = All-nil IsElsewhere
-all_behind a (b ∷ heads) all =
-    All-cons IsElsewhere b heads (behind a b (All-head (IsBefore a) b heads all)) (all_behind a heads (All-tail (IsBefore a) b heads all))
+all_after : (a : Option AreaHead) (heads : List (Option AreaHead)) → All (IsBefore a) heads → All IsElsewhere heads
+all_after a [] all = All-nil IsElsewhere
+all_after a (b ∷ heads) all =
+    All-cons IsElsewhere b heads (beyond a b (All-head (IsBefore a) b heads all)) (all_after a heads (All-tail (IsBefore a) b heads all))
 
 module _ (db : Lists) where
   abbrev middle : Lists
@@ -126,7 +126,7 @@ module _ (db : Lists) where
   joined : (d : Places) → AllPairs IsBefore (heads_of (lists_of d))
       → swaps_from first 0 d ++ swaps_from second 0 (places_after first d) ≡ swaps_from both 0 d
   joined [] order = refl
-  joined (s ∷ ss) order = by_area s.area s.places (all_behind s.area (heads_of (lists_of ss)) (pairs_head IsBefore s.area (heads_of (lists_of ss)) order))
+  joined (s ∷ ss) order = by_area s.area s.places (all_after s.area (heads_of (lists_of ss)) (pairs_head IsBefore s.area (heads_of (lists_of ss)) order))
     where
       by_area : (area : Option AreaHead) (ps : List Place) → All IsElsewhere (heads_of (lists_of ss))
           → swaps_from first 0 (section_places area ps ∷ ss) ++ swaps_from second 0 (places_after first (section_places area ps ∷ ss))

@@ -32,9 +32,9 @@ moved found i j lsa e has = subst (λ (k : ℕ). Contains found (router_place k 
 -- the first place is not noted
 passed : (router : RouterId) (n : ℕ) (p : Place) (ps : List Place) (found : List PlaceOfRouter) → Covers router n (p ∷ ps) found
     → All (λ q. suc n ≤ q.index) found → Covers router (suc n) ps found
-passed router n p ps found covers behind = record {
+passed router n p ps found covers further = record {
   rising = covers.rising;
-  from = behind;
+  from = further;
   whole = λ k lsa at own. moved found (n + suc k) (suc n + k) lsa (omega arith) (covers.whole (suc k) lsa at own);
 }
 
@@ -46,17 +46,17 @@ in_tail q qs p less (suc k, within, is) = (k, omega arith, is)
 taken : (router : RouterId) (n : ℕ) (p : Place) (ps : List Place) (q : PlaceOfRouter) (qs : List PlaceOfRouter) → q.index ≡ n
     → Covers router n (p ∷ ps) (q ∷ qs) → Covers router (suc n) ps qs
 taken router n p ps q qs here' covers =
-    let behind = pairs_head (λ (a b : PlaceOfRouter). a.index < b.index) q qs covers.rising in
+    let further = pairs_head (λ (a b : PlaceOfRouter). a.index < b.index) q qs covers.rising in
     record {
       rising = pairs_tail (λ (a b : PlaceOfRouter). a.index < b.index) q qs covers.rising;
-      from = λ k d lt. omega (arith, behind k d lt);
+      from = λ k d lt. omega (arith, further k d lt);
       whole = λ k lsa at own.
           moved qs (n + suc k) (suc n + k) lsa (omega arith)
           (in_tail q qs (router_place (n + suc k) lsa) (omega arith) (covers.whole (suc k) lsa at own));
     }
 
-all_behind : (n : ℕ) (q : PlaceOfRouter) (qs : List PlaceOfRouter) → suc n ≤ q.index → All (λ r. q.index < r.index) qs → All (λ r. suc n ≤ r.index) (q ∷ qs)
-all_behind n q qs far later = All-cons (λ (r : PlaceOfRouter). suc n ≤ r.index) q qs far (λ k d lt. omega (arith, later k d lt))
+all_after : (n : ℕ) (q : PlaceOfRouter) (qs : List PlaceOfRouter) → suc n ≤ q.index → All (λ r. q.index < r.index) qs → All (λ r. suc n ≤ r.index) (q ∷ qs)
+all_after n q qs far later = All-cons (λ (r : PlaceOfRouter). suc n ≤ r.index) q qs far (λ k d lt. omega (arith, later k d lt))
 
 -- ---- the swaps of noted places
 
@@ -79,9 +79,9 @@ module _ (router : RouterId) (section : ℕ) (name : Section) (look : ℕ → Op
 
   other_router : (n : ℕ) (p : Place) (ps : List Place) (found : List PlaceOfRouter) (x : List ℕ) → Covers router n (p ∷ ps) found
       → All (λ q. suc n ≤ q.index) found → p ≡ Some x → (advertising_router_of x == router.0) ≡ false
-  other_router n p ps found x covers behind is =
+  other_router n p ps found x covers further is =
       ne_eqb (advertising_router_of x) router.0 (λ own.
-      absurd (let far = All-contains (λ (q : PlaceOfRouter). suc n ≤ q.index) found (router_place (n + 0) x) behind
+      absurd (let far = All-contains (λ (q : PlaceOfRouter). suc n ≤ q.index) found (router_place (n + 0) x) further
       (covers.whole 0 x (ap (λ (o : Place). Some o) is) own) in omega arith))
 
   beyond : (n : ℕ) (found : List PlaceOfRouter) → Shows look n [] → All (λ q. n ≤ q.index) found → found_swaps router section name look found ≡ []
@@ -101,9 +101,9 @@ module _ (router : RouterId) (section : ℕ) (name : Section) (look : ℕ → Op
       → found_swaps router section name look found ≡ section_swaps (router_fate router) section name n ps
   swaps_from_index n [] found shows covers = beyond n found shows covers.from
   swaps_from_index n (p ∷ ps) [] shows covers =
-      let behind : All (λ (q : PlaceOfRouter). suc n ≤ q.index) [] = λ k d lt. absurd (omega arith) in
-      swaps_from_index (suc n) ps [] (next n p ps shows) (passed router n p ps [] covers behind)
-      ∙ sym (not_own n p ps (λ x is. other_router n p ps [] x covers behind is))
+      let further : All (λ (q : PlaceOfRouter). suc n ≤ q.index) [] = λ k d lt. absurd (omega arith) in
+      swaps_from_index (suc n) ps [] (next n p ps shows) (passed router n p ps [] covers further)
+      ∙ sym (not_own n p ps (λ x is. other_router n p ps [] x covers further is))
   swaps_from_index n (p ∷ ps) (q ∷ qs) shows covers = ⊎_elim
       (λ same.
       let stands : look q.index ≡ Some p = ap look (let e : q.index ≡ n + 0 = omega arith in e) ∙ shows 0 in
@@ -117,9 +117,9 @@ module _ (router : RouterId) (section : ℕ) (name : Section) (look : ℕ → Op
       let first : n ≤ q.index = All-head (λ (r : PlaceOfRouter). n ≤ r.index) q qs covers.from in
       let far : suc n ≤ q.index = omega arith in
       let later = pairs_head (λ (a b : PlaceOfRouter). a.index < b.index) q qs covers.rising in
-      let behind : All (λ (r : PlaceOfRouter). suc n ≤ r.index) (q ∷ qs) = all_behind n q qs far later in
-      swaps_from_index (suc n) ps (q ∷ qs) (next n p ps shows) (passed router n p ps (q ∷ qs) covers behind)
-      ∙ sym (not_own n p ps (λ x is. other_router n p ps (q ∷ qs) x covers behind is)))
+      let further : All (λ (r : PlaceOfRouter). suc n ≤ r.index) (q ∷ qs) = all_after n q qs far later in
+      swaps_from_index (suc n) ps (q ∷ qs) (next n p ps shows) (passed router n p ps (q ∷ qs) covers further)
+      ∙ sym (not_own n p ps (λ x is. other_router n p ps (q ∷ qs) x covers further is)))
       (cases_eq q.index n)
 
 -- ---- a loop over the noted places of a section

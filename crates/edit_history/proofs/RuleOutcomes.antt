@@ -86,7 +86,7 @@ pub record TouchesOne (fates : Fates) (low high : Lists) (area : Option AreaHead
   pub below : All (AllStay fates) low
   pub above : All (AllStay fates) high
   pub before : All (Stays fates area) front
-  pub behind : All (Stays fates area) back
+  pub beyond : All (Stays fates area) back
   pub here : fates area x ≡ fate_of other
 
 pub one_after : (fates : Fates) (low high : Lists) (area : Option AreaHead) (front back : List (List ℕ)) (x : List ℕ) (other : Place)
@@ -99,7 +99,7 @@ one_after fates low high area front back x other t =
     ∙ ap (λ (ys : List (List ℕ)). ys ++ cons_option (after fates area x) (filter_map (after fates area) back)) (all_stay fates area front t.before)
     ∙ ap (λ (f : Fate). front ++ cons_option (outcome f x) (filter_map (after fates area) back)) t.here
     ∙ ap (λ (p : Place). front ++ cons_option p (filter_map (after fates area) back)) (outcome_is x other)
-    ∙ ap (λ (ys : List (List ℕ)). front ++ cons_option other ys) (all_stay fates area back t.behind) in
+    ∙ ap (λ (ys : List (List ℕ)). front ++ cons_option other ys) (all_stay fates area back t.beyond) in
     map_mid (section_after (by_fates fates)) low high (section_with area (front ++ x ∷ back))
     ∙ ap (λ (ss : Lists). ss ++ section_after (by_fates fates) (section_with area (front ++ x ∷ back)) ∷ lists_after (by_fates fates) high)
     (sections_stay fates low t.below)
@@ -122,7 +122,7 @@ one_change fates low high area front back x other t =
     ∙ ap (λ (ys : List Change). ys ++ cons_option (change fates area x) (filter_map (change fates area) back)) (none_change fates area front t.before)
     ∙ ap (λ (f : Fate). cons_option (change_of (section_name area) x f) (filter_map (change fates area) back)) t.here
     ∙ ap (λ (o : Option Change). cons_option o (filter_map (change fates area) back)) (change_is (section_name area) x other)
-    ∙ ap (λ (ys : List Change). change_to (section_name area) x other ∷ ys) (none_change fates area back t.behind) in
+    ∙ ap (λ (ys : List Change). change_to (section_name area) x other ∷ ys) (none_change fates area back t.beyond) in
     changes_mid (by_fates fates) low high (section_with area (front ++ x ∷ back))
     ∙ ap (λ (ys : List Change). ys ++ (filter_map (change fates area) (front ++ x ∷ back) ++ changes_by (by_fates fates) high))
     (no_changes fates low t.below)

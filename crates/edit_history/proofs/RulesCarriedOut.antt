@@ -9,14 +9,14 @@ use Rattle.edit_history.specs.declared.fault.EditFault.TheVariants.{OutOfMemory}
 use Rattle.edit_history.specs.Rules.{Rule, Change, lists_after, changes_by}
 use Rattle.edit_history.specs.Effect.{rule_of, ◌>>=◌}
 use Rattle.edit_history.specs.Exchange.{SwapData, CanDo, done_places, done_swaps}
-use Rattle.edit_history.specs.Applied.{told, CarriesOut, Planned, IsRefused}
+use Rattle.edit_history.specs.Applied.{swap_change, CarriesOut, Planned, IsRefused}
 use Rattle.edit_history.proofs.CarriedPlans.{grown_same}
 
 -- the swaps do what the rule requires
 pub record CarriesOutRule (d : Places) (rule : Rule) (swaps : List SwapData) : Type 0 where
   pub can : CanDo d swaps
   pub leads : lists_after rule (lists_of d) ≡ lists_of (done_places d swaps)
-  pub tells : changes_by rule (lists_of d) ≡ map (told (done_places d swaps)) (done_swaps d swaps)
+  pub reports : changes_by rule (lists_of d) ≡ map (swap_change (done_places d swaps)) (done_swaps d swaps)
 
 abbrev after_rule : Lists → Result Rule EditFault → Result Lists EditFault
 after_rule db r = r >>= λ rule. Ok (lists_after rule db)
@@ -29,7 +29,7 @@ pub carries : (d : Places) (edit : Edit) (rule : Rule) (swaps : List SwapData) �
 carries d edit rule swaps ruled f = record {
   can = f.can;
   leads = ap (after_rule (lists_of d)) ruled ∙ ap (λ (db : Lists). let a : Result Lists EditFault = Ok db in a) f.leads;
-  tells = ap (changes_of_rule (lists_of d)) ruled ∙ ap (λ (cs : List Change). let a : Result (List Change) EditFault = Ok cs in a) f.tells;
+  reports = ap (changes_of_rule (lists_of d)) ruled ∙ ap (λ (cs : List Change). let a : Result (List Change) EditFault = Ok cs in a) f.reports;
 }
 
 -- no place has to be opened

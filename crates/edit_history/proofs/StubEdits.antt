@@ -21,7 +21,7 @@ use Rattle.edit_history.specs.declared.fault.EditFault.{EditFault}
 use Rattle.edit_history.specs.declared.fault.EditFault.TheVariants.{TooLong, Full, OutOfMemory}
 use Rattle.edit_history.specs.Fault.{fault_of}
 use Rattle.edit_history.specs.Rules.{Rule, rewritten, one_lsa}
-use Rattle.edit_history.specs.Effect.{router_lsa_of, is_dump_full, stub_octets, rule_of, made, ◌>>=◌}
+use Rattle.edit_history.specs.Effect.{router_lsa_of, is_dump_full, stub_bytes, rule_of, made, ◌>>=◌}
 use Rattle.edit_history.specs.Exchange.{SwapData}
 use Rattle.edit_history.specs.Applied.{Planned, IsRefused}
 use Rattle.edit_history.specs.steps.Plans.{IsFirstLsa}
@@ -33,7 +33,7 @@ abbrev full_rule : AreaId → RouterId → List ℕ → Bool → Result Rule Edi
 full_rule area router new full = if full then Err Full else Ok (one_lsa (Area area) (router_key router) (rewritten new))
 
 abbrev made_rule : Lists → AreaId → RouterId → Result (List ℕ) EditFault → Result Rule EditFault
-made_rule db area router new = new >>= λ lsa. full_rule area router lsa (is_dump_full db stub_octets)
+made_rule db area router new = new >>= λ lsa. full_rule area router lsa (is_dump_full db stub_bytes)
 
 stub_row : (db : Lists) (area : AreaId) (router : RouterId) (prefix : Net) (metric : ℕ)
     → rule_of db (AddStub area router prefix metric) ≡ (router_lsa_of db area router >>= λ lsa. made_rule db area router

@@ -22,22 +22,22 @@ use Rattle.edit_history.proofs.Growing.{state_back, state_is}
 use Rattle.edit_history.proofs.Linked.{reverse_cons}
 use Rattle.edit_history.proofs.Returning.{seam_take, seam_drop}
 use Rattle.edit_history.proofs.Sparing.{untouched_stay}
-use Rattle.edit_history.proofs.RecordChanges.{touched_told, touched_done}
+use Rattle.edit_history.proofs.RecordChanges.{touched_reported, touched_done}
 
 -- ---- one record
 
 pub done_touches : (area : AreaId) (d : Places) (r : RecordData) → TakesBack d r.edit r.swaps
     → edit_touches area (lists_of (undone_places d r.swaps)) r.edit ≡ touches area r
-done_touches area d r back = ap (touched_by area) back.tells ∙ sym (touched_told area d r.swaps)
+done_touches area d r back = ap (touched_by area) back.reports ∙ sym (touched_reported area d r.swaps)
 
 pub next_touches : (area : AreaId) (d : Places) (r : RecordData) → CarriesOut d r.edit r.swaps
     → edit_touches area (lists_of d) r.edit ≡ touches area r
 next_touches area d r on =
-    ap (touched_by area) on.tells ∙ sym (touched_told area (done_places d r.swaps) (done_swaps d r.swaps)) ∙ touched_done area d r.swaps
+    ap (touched_by area) on.reports ∙ sym (touched_reported area (done_places d r.swaps) (done_swaps d r.swaps)) ∙ touched_done area d r.swaps
 
 pub applied_touches : (area : AreaId) (d e : Places) (edit : Edit) (r : RecordData) → Applied d e edit r
     → touches area r ≡ edit_touches area (lists_of d) edit
-applied_touches area d e edit r applied = touched_told area e r.swaps ∙ sym (ap (touched_by area) applied.tells)
+applied_touches area d e edit r applied = touched_reported area e r.swaps ∙ sym (ap (touched_by area) applied.reports)
 
 -- ---- the records that are taken back
 

@@ -11,14 +11,14 @@ use Rattle.edit_history.specs.Exchange.{SwapData, RecordData, CanDo, CanUndo, do
 use Rattle.edit_history.specs.Grown.{Grown}
 
 -- the change of a swap that is done: the swap holds the old bytes, and the new ones are at its place
-abbrev pub told : Places → SwapData → Change
-told e s = record { section = s.section; kind = s.kind; old = s.other; new = unwrap_or (slot_at e s.slot) None }
+abbrev pub swap_change : Places → SwapData → Change
+swap_change e s = record { section = s.section; kind = s.kind; old = s.other; new = unwrap_or (slot_at e s.slot) None }
 
 -- the swaps carry the edit out, and then have its changes
 pub record CarriesOut (d : Places) (edit : Edit) (swaps : List SwapData) : Type 0 where
   pub can : CanDo d swaps
   pub leads : effect (lists_of d) edit ≡ Ok (lists_of (done_places d swaps))
-  pub tells : changes (lists_of d) edit ≡ Ok (map (told (done_places d swaps)) (done_swaps d swaps))
+  pub reports : changes (lists_of d) edit ≡ Ok (map (swap_change (done_places d swaps)) (done_swaps d swaps))
 
 -- the swaps carry the edit out, once places were opened for them
 pub record Planned (d e : Places) (edit : Edit) (swaps : List SwapData) : Type 0 where
@@ -29,14 +29,14 @@ pub record Planned (d e : Places) (edit : Edit) (swaps : List SwapData) : Type 0
 pub record TakesBack (e : Places) (edit : Edit) (swaps : List SwapData) : Type 0 where
   pub can : CanUndo e swaps
   pub leads : effect (lists_of (undone_places e swaps)) edit ≡ Ok (lists_of e)
-  pub tells : changes (lists_of (undone_places e swaps)) edit ≡ Ok (map (told e) swaps)
+  pub reports : changes (lists_of (undone_places e swaps)) edit ≡ Ok (map (swap_change e) swaps)
 
 -- the edit led from d to e; the record holds the edit and has its changes, and undoing it leads back to
 -- d, except for places that were opened at the ends of sections
 pub record Applied (d e : Places) (edit : Edit) (r : RecordData) : Type 0 where
   pub same : r.edit ≡ edit
   pub leads : effect (lists_of d) edit ≡ Ok (lists_of e)
-  pub tells : changes (lists_of d) edit ≡ Ok (map (told e) r.swaps)
+  pub reports : changes (lists_of d) edit ≡ Ok (map (swap_change e) r.swaps)
   pub can : CanUndo e r.swaps
   pub before : Grown d (undone_places e r.swaps)
 
@@ -46,6 +46,6 @@ pub record IsRefused (d : Places) (edit : Edit) (fault : EditFault) : Type 0 whe
   pub memory : fault ≡ OutOfMemory → IsOk (effect (lists_of d) edit)
 
 -- the record counts the changes, and touches the areas that they touch
-pub record Tells (r : RecordData) (cs : List Change) : Type 0 where
+pub record Reports (r : RecordData) (cs : List Change) : Type 0 where
   pub count : length r.swaps ≡ length cs
   pub areas : (area : AreaId) → touches area r ≡ touched area cs

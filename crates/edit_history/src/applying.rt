@@ -40,6 +40,6 @@ pub fn apply<A: Allocator + Copy>(
 {
     let swaps = plan(database, edit)?;
     // Its invariant holds after each swap, and so once they are done.
-    database.known();
+    database.assert_valid();
     Ok(Record::commit(database, *edit, swaps))
 }

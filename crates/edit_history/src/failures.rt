@@ -285,7 +285,7 @@ pub(crate) fn plan_fail_link<A: Allocator + Copy>(
     ensures refused { IfErr result (λ f. IsRefused database.now (FailLink area router neighbor) f) }
 {
     // Its invariant is needed after each swap too.
-    database.known();
+    database.assert_valid();
     area_section(database, area)?;
     if router == neighbor {
         return Err(EditFault::SameRouter);
@@ -316,7 +316,7 @@ pub(crate) fn plan_fail_net<A: Allocator + Copy>(
     ensures refused { IfErr result (λ f. IsRefused database.now (FailNet area network) f) }
 {
     // Its invariant is needed after each swap too.
-    database.known();
+    database.assert_valid();
     let number = area_section(database, area)?;
     let Some(_) = first(database, Section::Area(area), &Wanted::Network(network)) else {
         return Err(EditFault::NoNetwork);
@@ -372,7 +372,7 @@ pub(crate) fn plan_fail_router<A: Allocator + Copy>(
     ensures refused { IfErr result (λ f. IsRefused database.now (FailRouter router) f) }
 {
     // Its invariant is needed after each swap too.
-    database.known();
+    database.assert_valid();
     if !has_router(database, router) {
         return Err(EditFault::NoRouter);
     }

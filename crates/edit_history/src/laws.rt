@@ -13,7 +13,7 @@ ghost use Rattle.edit_history.specs.Rules.{Change};
 ghost use Rattle.edit_history.specs.Effect.{effect, changes, edit_touches, graph_lsas};
 ghost use Rattle.edit_history.specs.Exchange.{SwapData, RecordData, CanDo, CanUndo, UndoesAgain, DoesAgain, undone_places, touches};
 ghost use Rattle.edit_history.specs.Grown.{Grown};
-ghost use Rattle.edit_history.specs.Applied.{Applied, TakesBack, CarriesOut, Tells};
+ghost use Rattle.edit_history.specs.Applied.{Applied, TakesBack, CarriesOut, Reports};
 ghost use Rattle.edit_history.specs.Journal.{HistoryData, Links};
 ghost use Rattle.edit_history.specs.Session.{Session, Request, NoneRefused, session_of, start, state, effects, most_edits, edited, edited_by, after_requests, moved_back, moved_on, undo_touches, redo_touches};
 
@@ -87,14 +87,14 @@ pub fn histories_show_sessions()
 
 /// A record counts the changes of its edit, and touches the areas that these touch: when the edit
 /// was carried out, while it is done, and while it is undone.
-pub fn changes_told()
+pub fn changes_reported()
     ensures applied { (d e : Places) (edit : Edit) (r : RecordData) (cs : List Change)
-        → Applied d e edit r → changes (lists_of d) edit ≡ Ok cs → Tells r cs }
+        → Applied d e edit r → changes (lists_of d) edit ≡ Ok cs → Reports r cs }
     ensures done { (e : Places) (r : RecordData) (cs : List Change)
         → TakesBack e r.edit r.swaps
-        → changes (lists_of (undone_places e r.swaps)) r.edit ≡ Ok cs → Tells r cs }
+        → changes (lists_of (undone_places e r.swaps)) r.edit ≡ Ok cs → Reports r cs }
     ensures undone { (d : Places) (r : RecordData) (cs : List Change)
-        → CarriesOut d r.edit r.swaps → changes (lists_of d) r.edit ≡ Ok cs → Tells r cs }
+        → CarriesOut d r.edit r.swaps → changes (lists_of d) r.edit ≡ Ok cs → Reports r cs }
 {}
 
 /// Edits that are undone and redone, or redone and undone, are as they were. Where edits were

@@ -329,7 +329,10 @@ fn are_fewer_of_prefix<A: Allocator + Copy>(
 {
     let (least, greatest) = wanted.key_range();
     let keys = database.keys_between(section, least, greatest);
-    database.places_of_prefix(section, router, prefix).most() <= keys.most()
+    database
+        .places_of_prefix(section, router, prefix)
+        .upper_bound()
+        <= keys.upper_bound()
 }
 
 /// The place of the first wanted LSA of a section, by the section's number. It looks at the smaller

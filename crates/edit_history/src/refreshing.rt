@@ -6,7 +6,7 @@ ghost use Rattle.std.specs.Prelude.{◌≡◌, ◌++◌, IsSome, IfOk, IfErr, On
 ghost use Rattle.lsdb.specs.declared.section.Section.TheVariants.{Area};
 ghost use Rattle.lsdb.specs.Places.{item_at, slot_at, places_in, head_or_none, lists_of};
 ghost use Rattle.edit_script.specs.declared.edit.Edit.TheVariants.{Refresh};
-ghost use Rattle.summary_metrics.specs.Originators.{AreOf};
+ghost use Rattle.summary_metrics.specs.SummaryMetrics.{AreOf};
 ghost use Rattle.summary_metrics.specs.Refreshed.{is_not_backbone};
 ghost use Rattle.edit_history.specs.declared.fault.EditFault.TheVariants.{OutOfMemory};
 ghost use Rattle.edit_history.specs.Rules.{section_name};
@@ -21,7 +21,7 @@ use crate::swap::{Swap, do_swaps, undo_swaps};
 use lsa_codec::AreaId;
 use lsdb::{Database, Section, SlotId};
 use std::alloc::Allocator;
-use summary_metrics::Originators;
+use summary_metrics::SummaryMetrics;
 
 /// The areas of one pass.
 #[derive(Clone, Copy)]
@@ -50,7 +50,7 @@ fn add_metric_swap<A: Allocator + Copy>(
     database: &Database<A>,
     slot: SlotId,
     area: AreaId,
-    known: &mut Originators<A>,
+    known: &mut SummaryMetrics<A>,
     swaps: &mut Vec<Swap<A>, A>,
 ) -> Result<(), EditFault>
     requires { AreOf (lists_of database.now) known.old }
@@ -82,7 +82,7 @@ fn add_area_swaps<A: Allocator + Copy>(
     database: &Database<A>,
     number: usize,
     area: AreaId,
-    known: &mut Originators<A>,
+    known: &mut SummaryMetrics<A>,
     swaps: &mut Vec<Swap<A>, A>,
 ) -> Result<(), EditFault>
     requires number { IsSome (item_at database.now number) }
@@ -110,7 +110,7 @@ fn add_pass_swaps<A: Allocator + Copy>(
     database: &Database<A>,
     number: usize,
     pass: Pass,
-    known: &mut Originators<A>,
+    known: &mut SummaryMetrics<A>,
     swaps: &mut Vec<Swap<A>, A>,
 ) -> Result<(), EditFault>
     requires number { IsSome (item_at database.now number) }
@@ -136,7 +136,7 @@ fn add_pass_swaps<A: Allocator + Copy>(
 fn metric_swaps<A: Allocator + Copy>(
     database: &Database<A>,
     pass: Pass,
-    known: &mut Originators<A>,
+    known: &mut SummaryMetrics<A>,
 ) -> Result<Vec<Swap<A>, A>, EditFault>
     requires { AreOf (lists_of database.now) known.old }
     ensures swaps { IfOk result (λ v. v.items
@@ -156,7 +156,7 @@ fn metric_swaps<A: Allocator + Copy>(
 fn other_swaps<A: Allocator + Copy>(
     database: &mut Database<A>,
     first: &mut [Swap<A>],
-    known: &mut Originators<A>,
+    known: &mut SummaryMetrics<A>,
 ) -> Result<Vec<Swap<A>, A>, EditFault>
     requires can { CanDo database.old first.old }
     requires known { AreOf (lists_of (done_places database.old first.old)) known.old }
@@ -167,7 +167,7 @@ fn other_swaps<A: Allocator + Copy>(
     ensures first { first.new ≡ first.old }
 {
     // Its invariant is needed after each swap too.
-    database.known();
+    database.assert_valid();
     do_swaps(database, first);
     let others = metric_swaps(database, Pass::OtherAreas, known);
     undo_swaps(database, first);
@@ -185,10 +185,10 @@ pub(crate) fn plan_refresh<A: Allocator + Copy>(
     ensures kept { OnErr result (database.new ≡ database.old) }
 {
     // Its invariant is needed after each swap too.
-    database.known();
-    let mut known = Originators::new(database.alloc());
+    database.assert_valid();
+    let mut known = SummaryMetrics::new(database.alloc());
     let mut swaps = metric_swaps(database, Pass::Backbone, &mut known)?;
-    known.forget_told();
+    known.invalidate_backbone();
     let mut others = other_swaps(database, &mut swaps, &mut known)?;
     swaps.append(&mut others)?;
     Ok(swaps)

@@ -11,9 +11,9 @@ use Rattle.lsdb.proofs.Dominated.{size-put}
 -- the same lists
 pub kept_lists : {A : Type 0} → (ss ts : List (SectionOf A)) (kept : ℕ)
     → lists_of (places_of ts) ≡ lists_of (places_of ss) → IsKept ss kept → IsKept ts kept
-kept_lists {A} ss ts kept same h = record { sound = subst IsDatabase (sym same) h.sound; octets = h.octets ∙ ap size (sym same) }
+kept_lists {A} ss ts kept same h = record { sound = subst IsDatabase (sym same) h.sound; byte_count = h.byte_count ∙ ap size (sym same) }
 
--- a place takes no more octets than the dump
+-- a place takes no more bytes than the dump
 pub place_fits : (d : Places) (slot : SlotId) (old : Place) → slot_at d slot ≡ Some old → place_size old ≤ size (lists_of d)
 place_fits d slot old at = omega (arith, size-put d slot old None at)
 
@@ -28,4 +28,4 @@ pub kept_put : {A : Type 0} → (ss ts : List (SectionOf A)) (slot : SlotId) (ol
     → IsKept ss kept → IsKept ts moved
 kept_put {A} ss ts slot old new kept moved same at sound is h =
     let lists : lists_of (places_of ts) ≡ lists_of (put (places_of ss) slot new) = ap (λ (d : Places). lists_of d) same in
-    record { sound = subst IsDatabase (sym lists) sound; octets = is ∙ size_moved (places_of ss) slot old new kept at h.octets ∙ ap size (sym lists) }
+    record { sound = subst IsDatabase (sym lists) sound; byte_count = is ∙ size_moved (places_of ss) slot old new kept at h.byte_count ∙ ap size (sym lists) }

@@ -124,7 +124,7 @@ are_filters places filters is = record {
       ap (λ (f : TransitFilter). may_have network f) (sym same) ∙ lsa_may lsa network own;
 }
 
--- what stands at a place was exchanged, and its filter made anew
+-- what stands at a place was exchanged, and its filter rebuilt
 pub filters_put : (old : List Place) (before : List TransitFilter) (index : ℕ) (v : Place) (places : List Place) (after : List TransitFilter)
     → before ≡ filters_of old → places ≡ set old index v → index < length old
     → after ≡ set before index (filter_of_place (get_or places index None)) → after ≡ filters_of (set old index v)

@@ -83,25 +83,25 @@ distinct_cons same None xs h all = all
 distinct_cons same (Some x) xs h all = (h x refl, all)
 
 -- a name tells the index of its place
-abbrev pub TellsIndex : {X : Type 0} → (ℕ → Place → Option X) → (X → ℕ) → Type 0
-TellsIndex {X} named index = (i : ℕ) (p : Place) (x : X) → named i p ≡ Some x → index x ≡ i
+abbrev pub ReportsIndex : {X : Type 0} → (ℕ → Place → Option X) → (X → ℕ) → Type 0
+ReportsIndex {X} named index = (i : ℕ) (p : Place) (x : X) → named i p ≡ Some x → index x ≡ i
 
-module _ {X : Type 0} (named : ℕ → Place → Option X) (index : X → ℕ) (tells : TellsIndex named index) where
+module _ {X : Type 0} (named : ℕ → Place → Option X) (index : X → ℕ) (reports : ReportsIndex named index) where
   abbrev same_index : X → X → Bool
   same_index a b = eqb (index a) (index b)
 
-  behind : (n m : ℕ) (ps : List Place) → m < n → AllByRecursion (λ y. eqb m (index y) ≡ false) (noted_from named n ps)
-  behind n m [] lt = tt
-  behind n m (p ∷ ps) lt =
+  beyond : (n m : ℕ) (ps : List Place) → m < n → AllByRecursion (λ y. eqb m (index y) ≡ false) (noted_from named n ps)
+  beyond n m [] lt = tt
+  beyond n m (p ∷ ps) lt =
       all_cons (λ y. eqb m (index y) ≡ false) (named n p) (noted_from named (suc n) ps)
-      (λ y is. ne_eqb m (index y) (λ e. absurd (omega (arith, tells n p y is)))) (behind (suc n) m ps (omega arith))
+      (λ y is. ne_eqb m (index y) (λ e. absurd (omega (arith, reports n p y is)))) (beyond (suc n) m ps (omega arith))
 
   differ : (n : ℕ) (ps : List Place) → IsDistinct same_index (noted_from named n ps)
   unfolding IsDistinct
   differ n [] = tt
   differ n (p ∷ ps) =
       distinct_cons same_index (named n p) (noted_from named (suc n) ps)
-      (λ x is. behind (suc n) (index x) ps (omega (arith, tells n p x is))) (differ (suc n) ps)
+      (λ x is. beyond (suc n) (index x) ps (omega (arith, reports n p x is))) (differ (suc n) ps)
 
   pub filled : (order : X → X → Ordering) → IsTotalOrder order → CmpEqualImpliesEq order → X → (ps : List Place) (noted : List X) (room before : ℕ)
       → IsPermutation (noted_from named 0 ps) noted → IsSorted order noted → length ps ≤ before → room ≡ before → length ps ≤ most_places

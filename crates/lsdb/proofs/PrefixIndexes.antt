@@ -16,7 +16,7 @@ use Rattle.lsdb.specs.Places.{Place}
 use Rattle.lsdb.specs.PrefixPlaces.{origin_of, prefix_of, prefix_place, ArePlacesOfPrefix}
 use Rattle.lsdb.specs.steps.PrefixIndex.{IsPartOfOrigin, IsPrefixIndex, origin_cmp, place_cmp, prefix_at}
 use Rattle.lsdb.proofs.OwnedParts.{owned_total, rising_owned}
-use Rattle.lsdb.proofs.PlaceIndexes.{TellsIndex}
+use Rattle.lsdb.proofs.PlaceIndexes.{ReportsIndex}
 
 pub origin_total : IsTotalOrder origin_cmp
 origin_total =
@@ -48,9 +48,9 @@ index_of_name : (i : ℕ) (router : RouterId) (o : Option Net) (x : PlaceOfPrefi
 index_of_name i router None x is = absurd cc
 index_of_name i router (Some net) x is = let same : prefix_place i router net ≡ x = cc in sym (ap (λ (p : PlaceOfPrefix). p.index) same)
 
-pub tells : TellsIndex prefix_at (λ p. p.index)
-tells i None x is = absurd cc
-tells i (Some lsa) x is = index_of_name i (record { 0 = advertising_router_of lsa }) (prefix_of lsa) x is
+pub reports : ReportsIndex prefix_at (λ p. p.index)
+reports i None x is = absurd cc
+reports i (Some lsa) x is = index_of_name i (record { 0 = advertising_router_of lsa }) (prefix_of lsa) x is
 
 pub places_of_prefix : (ps : List Place) (noted latest part : List PlaceOfPrefix) (router : RouterId) (net : Net) (room : ℕ) → IsPrefixIndex ps noted latest room
     → IsPartOfOrigin (latest ++ noted) (origin_of router net) part → ArePlacesOfPrefix ps router net part

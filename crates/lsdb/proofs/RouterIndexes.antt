@@ -11,7 +11,7 @@ use Rattle.lsdb.specs.Places.{Place}
 use Rattle.lsdb.specs.RouterPlaces.{router_place, ArePlacesOfRouter}
 use Rattle.lsdb.specs.steps.RouterIndex.{IsPartOfRouter, IsRouterIndex, place_cmp, router_at}
 use Rattle.lsdb.proofs.OwnedParts.{owned_total, rising_owned}
-use Rattle.lsdb.proofs.PlaceIndexes.{TellsIndex}
+use Rattle.lsdb.proofs.PlaceIndexes.{ReportsIndex}
 
 pub place_total : IsTotalOrder place_cmp
 place_total = owned_total (λ (p : PlaceOfRouter). p.adv) (λ (p : PlaceOfRouter). p.index) router_cmp router_total
@@ -24,9 +24,9 @@ place_exact a b h =
 pub some_place : PlaceOfRouter
 some_place = record { adv = record { 0 = 0 }; index = 0 }
 
-pub tells : TellsIndex router_at (λ p. p.index)
-tells i None x is = absurd cc
-tells i (Some lsa) x is = let same : router_place i lsa ≡ x = cc in sym (ap (λ (p : PlaceOfRouter). p.index) same)
+pub reports : ReportsIndex router_at (λ p. p.index)
+reports i None x is = absurd cc
+reports i (Some lsa) x is = let same : router_place i lsa ≡ x = cc in sym (ap (λ (p : PlaceOfRouter). p.index) same)
 
 pub places_of_router : (ps : List Place) (noted latest part : List PlaceOfRouter) (router : RouterId) (room : ℕ) → IsRouterIndex ps noted latest room
     → IsPartOfRouter (latest ++ noted) router part → ArePlacesOfRouter ps router part

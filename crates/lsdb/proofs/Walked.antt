@@ -20,9 +20,9 @@ use Rattle.lsdb.proofs.Searching.{turn}
 pub first_full : (ps rest : List Place) (i j : ℕ) (lsa : List ℕ) (p : Place) → i < length ps → j ≡ suc i
     → p ≡ get_or ps i p → p ≡ Some lsa → rest ≡ take (length ps - j) (drop j ps) → full (drop i ps) ≡ full ps
     → full ps ≡ lsa ∷ full rest
-first_full ps rest i j lsa p within next here some behind same =
+first_full ps rest i j lsa p within next here some beyond same =
     let t = turn ps i j p within next here in
-    let all : rest ≡ drop j ps = behind ∙ take_all (length ps - j) (drop j ps) (omega (arith, length-drop j ps)) in
+    let all : rest ≡ drop j ps = beyond ∙ take_all (length ps - j) (drop j ps) (omega (arith, length-drop j ps)) in
     sym same ∙ ap (λ (qs : List Place). full qs) t.rest ∙ ap (λ (q : Place). full (q ∷ drop j ps)) some ∙ ap (λ (qs : List Place). lsa ∷ full qs) (sym all)
 
 -- ---- the LSAs of a section

@@ -8,7 +8,7 @@ ghost use Rattle.lsdb.specs.steps.View.{places_of};
 ghost use Rattle.lsdb.specs.steps.Reading.{at_of, Gives, Reads, IsMemoryAfter};
 ghost use Rattle.lsdb.specs.Loading.{IsFirstFault};
 ghost use Rattle.lsdb.specs.BaseText.{base_text};
-ghost use Rattle.lsdb.specs.BaseLoading.{most_octets, session_version_at, base_at, base_loaded, base_front_at, base_front_loaded};
+ghost use Rattle.lsdb.specs.BaseLoading.{most_bytes, session_version_at, base_at, base_loaded, base_front_at, base_front_loaded};
 
 use crate::cursor::Cursor;
 use crate::database::{Database, SectionOf};
@@ -22,12 +22,12 @@ use std::alloc::{AllocError, Allocator};
 /// The version of the format of sessions.
 const SESSION_VERSION: u8 = 2;
 
-/// The octets that the dump of a session begins with: the magic and the version.
+/// The bytes that the dump of a session begins with: the magic and the version.
 const SESSION_START: &[u8] = b"OSWP\x02";
 
-/// The most octets that these may be.
-fn most_octets(bytes: &[u8]) -> usize
-    ensures { result ≡ most_octets bytes.now }
+/// The most bytes that these may be.
+fn most_bytes(bytes: &[u8]) -> usize
+    ensures { result ≡ most_bytes bytes.now }
 {
     if bytes.starts_with(SESSION_START) {
         LONGEST_SESSION
@@ -61,7 +61,7 @@ fn read_base_sections<'a, A: Allocator + Copy>(
     read_sections(alloc, at)
 }
 
-/// The sections of the base, and how many octets stand before what follows it.
+/// The sections of the base, and how many bytes stand before what follows it.
 #[tactic(auto, unfolding(crate::specs::BaseLoading::base_loaded, crate::specs::BaseLoading::base_front_loaded))]
 fn read_base<A: Allocator + Copy>(
     alloc: A,
@@ -71,7 +71,7 @@ fn read_base<A: Allocator + Copy>(
         result (base_loaded bytes.now) }
     ensures memory { IsMemoryAfter (base_front_loaded bytes.now) result }
 {
-    if most_octets(bytes) < bytes.len() {
+    if most_bytes(bytes) < bytes.len() {
         return Err(ReadError::Fault(TOO_LARGE));
     }
     let start = Cursor {
@@ -85,21 +85,21 @@ fn read_base<A: Allocator + Copy>(
     Ok((sections, end.offset))
 }
 
-/// The fault of octets that are more than the limit.
+/// The fault of bytes that are more than the limit.
 const TOO_LARGE: DumpFault = DumpFault {
     offset: 0,
     kind: DumpFaultKind::TooLarge,
 };
 
 impl<A: Allocator + Copy> Database<A> {
-    /// The base of a session, which the octets begin with, and how many octets stand before what
+    /// The base of a session, which the bytes begin with, and how many bytes stand before what
     /// follows it. What follows is not looked at.
     ///
     /// Of several faults the first from front to back is told. `TooLarge` comes before all others
-    /// where the octets are too many, and behind them where the base alone has more octets than
+    /// where the bytes are too many, and behind them where the base alone has more bytes than
     /// a dump may have; `OutOfMemory` may stand in place of any that lies after the front, which is
     /// that of [`load`](Database::load).
-    #[tactic(auto, using(crate::proofs::FirstFault::first_told))]
+    #[tactic(auto, using(crate::proofs::FirstFault::first_reported))]
     pub fn load_base(alloc: A, bytes: &[u8]) -> Result<(Database<A>, usize), DumpFault>
         // What is loaded is spelled so.
         ensures database { IfOk result (λ base. IsDatabase (lists_of base.0)) }
@@ -117,12 +117,15 @@ impl<A: Allocator + Copy> Database<A> {
             → base_front_loaded bytes.now ≡ Err fault → result ≡ Err fault }
     {
         match read_base(alloc, bytes) {
-            Ok((sections, octets)) => Ok((Database::of_sections(alloc, sections, octets), octets)),
+            Ok((sections, byte_count)) => Ok((
+                Database::of_sections(alloc, sections, byte_count),
+                byte_count,
+            )),
             Err(error) => Err(dump_fault(error)),
         }
     }
 
-    /// The octets that the dump of a session with this base begins with. `load_base` makes the
+    /// The bytes that the dump of a session with this base begins with. `load_base` makes the
     /// same database of them.
     #[tactic(auto, unfolding(crate::specs::BaseText::base_text))]
     pub fn dump_base(&self) -> Result<Vec<u8, A>, AllocError>

@@ -15,7 +15,7 @@ impl<A: Allocator + Copy> Database<A> {
         let sections = copy_of_sections(self.alloc, &self.sections)?;
         Ok(Database {
             sections,
-            octets: self.octets,
+            byte_count: self.byte_count,
             alloc: self.alloc,
         })
     }

@@ -30,12 +30,12 @@ pub(crate) struct SectionOf<A: Allocator> {
 ///
 /// The keys of a section's LSAs are distinct, each LSA stands in a section of its own flooding
 /// scope, and the limits hold: 64 areas, 8,192 LSAs in an area, 65,535 of AS scope, and
-/// 16,777,216 octets of dump.
+/// 16,777,216 bytes of dump.
 #[derive(Drop)]
 pub struct Database<A: Allocator = Global> {
     pub(crate) sections: Vec<SectionOf<A>, A>,
-    /// The length of the dump in octets.
-    pub(crate) octets: usize,
+    /// The length of the dump in bytes.
+    pub(crate) byte_count: usize,
     pub(crate) alloc: A,
 }
 
@@ -48,23 +48,23 @@ impl<A: Allocator> Model for Database<A> {
 
     ghost view = { λ a. places_of a.sections.items };
 
-    ghost invariant = { λ a. IsKept a.sections.items a.octets };
+    ghost invariant = { λ a. IsKept a.sections.items a.byte_count };
 }
 
 impl<A: Allocator + Copy> Database<A> {
-    /// The database of these sections, whose dump has so many octets.
+    /// The database of these sections, whose dump has so many bytes.
     pub(crate) fn of_sections(
         alloc: A,
         sections: Vec<SectionOf<A>, A>,
-        octets: usize,
+        byte_count: usize,
     ) -> Database<A>
         requires sound { IsDatabase (lists_of (places_of sections.items)) }
-        requires octets { octets ≡ size (lists_of (places_of sections.items)) }
+        requires byte_count { byte_count ≡ size (lists_of (places_of sections.items)) }
         ensures { result ≡ places_of sections.items }
     {
         Database {
             sections,
-            octets,
+            byte_count,
             alloc,
         }
     }
@@ -74,19 +74,19 @@ impl<A: Allocator + Copy> Database<A> {
         self.alloc
     }
 
-    /// The length of its dump, in octets.
+    /// The length of its dump, in bytes.
     pub fn size(&self) -> usize
         ensures size { result ≡ size (lists_of self.now) }
         ensures limit { result ≤ longest_dump }
     {
-        self.octets
+        self.byte_count
     }
 
     /// What is true of every database: order of the areas, scopes, distinct keys and limits.
     ///
     /// It does nothing when it runs. Contracts see a database as its places alone, so a function
     /// whose proof rests on these facts calls it to have them.
-    pub fn known(&self)
+    pub fn assert_valid(&self)
         ensures { IsDatabase (lists_of self.now) }
     {
         // Opens the value, so that its invariant is known.

@@ -12,7 +12,7 @@ use crate::lsas::Lsas;
 use lsa_codec::Lsa;
 use std::alloc::{AllocError, Allocator};
 
-/// The first four octets of a dump, `OSWP`.
+/// The first four bytes of a dump, `OSWP`.
 pub(crate) const MAGIC: u32 = 0x4f535750;
 
 /// The version of the format of dumps.

@@ -7,7 +7,7 @@ ghost use Rattle.lsdb.specs.Places.{full, section_of, lists_of};
 ghost use Rattle.lsdb.specs.steps.NotedKeys.{AreApart};
 ghost use Rattle.lsdb.specs.steps.View.{head_of, section_places_of, places_of};
 ghost use Rattle.lsdb.specs.Text.{text};
-ghost use Rattle.lsdb.specs.steps.Reading.{at_of, Gives, Reads, IsMemoryAfter, told_fault};
+ghost use Rattle.lsdb.specs.steps.Reading.{at_of, Gives, Reads, IsMemoryAfter, reported_fault};
 ghost use Rattle.lsdb.specs.Loading.{lsa_at, lsas_from, section_at, id_at, kind_at, area_at, areas_from, is_above, magic_at, version_at, area_count_at, sections_at, loaded, IsFirstFault, first_lsa_at, section_front_at, area_front_at, first_section_at, sections_front_at, front_loaded};
 
 use crate::cursor::Cursor;
@@ -261,7 +261,7 @@ fn read_dump<A: Allocator + Copy>(alloc: A, bytes: &[u8]) -> Result<Vec<SectionO
 
 /// The fault that is told of a failed reading.
 pub(crate) fn dump_fault(error: ReadError) -> DumpFault
-    ensures { result ≡ told_fault error }
+    ensures { result ≡ reported_fault error }
 {
     match error {
         ReadError::Fault(fault) => fault,
@@ -273,13 +273,13 @@ pub(crate) fn dump_fault(error: ReadError) -> DumpFault
 }
 
 impl<A: Allocator + Copy> Database<A> {
-    /// The database whose dump the octets are.
+    /// The database whose dump the bytes are.
     ///
     /// Of several faults the first from front to back is told; `TooLarge` comes before all others,
     /// and `OutOfMemory` may stand in place of any that lies after the front: the magic, the
     /// version, the number of areas, and of the first section its head, its count and its first
     /// LSA.
-    #[tactic(auto, using(crate::proofs::FirstFault::first_told))]
+    #[tactic(auto, using(crate::proofs::FirstFault::first_reported))]
     pub fn load(alloc: A, bytes: &[u8]) -> Result<Database<A>, DumpFault>
         // What is loaded is spelled so.
         ensures database { IfOk result (λ db. IsDatabase (lists_of db)) }

@@ -39,7 +39,7 @@ impl<'a, T: Ord + Copy> Merged<'a, T> {
     }
 
     /// How many items are left at most: one that stands in both lists is counted twice.
-    pub fn most(&self) -> usize {
+    pub fn upper_bound(&self) -> usize {
         self.older.len().saturating_add(self.latest.len())
     }
 }

@@ -50,7 +50,7 @@ impl<A: Allocator + Copy> Database<A> {
         let section = &mut self.sections[slot.section];
         let given = place_size(place);
         section.places.swap(slot.index, place);
-        self.octets = self.octets - place_size(place) + given;
+        self.byte_count = self.byte_count - place_size(place) + given;
     }
 
     /// Opens an empty place at the end of a section, by the section's number. The lists of LSAs
@@ -83,7 +83,7 @@ impl<A: Allocator + Copy> Database<A> {
     }
 }
 
-/// How many octets of the dump a place takes.
+/// How many bytes of the dump a place takes.
 fn place_size<A: Allocator + Copy>(place: &Option<Lsa<A>>) -> usize
     ensures { result ≡ place_size place.now }
 {

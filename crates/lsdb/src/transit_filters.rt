@@ -18,7 +18,7 @@ pub struct TransitFilter {
     blocks: u32,
 }
 
-/// How many bits of a field are used: a prime, so that addresses with equal last octets differ.
+/// How many bits of a field are used: a prime, so that addresses with equal last bytes differ.
 const BITS: u32 = 31;
 
 /// The bit of the address of a Designated Router.

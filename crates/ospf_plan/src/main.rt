@@ -44,7 +44,7 @@ fn words(rt: &HostRuntime) -> io::Result<Vec<String>> {
     Ok(env::args(rt)?.collect::<Vec<String>>(rt.alloc())?)
 }
 
-/// A block that is taken and given back, in octets: the C library goes by the size of one of up to
+/// A block that is taken and given back, in bytes: the C library goes by the size of one of up to
 /// 32 MiB.
 const BLOCK: usize = 31 << 20;
 
@@ -68,7 +68,7 @@ fn plan(rt: &HostRuntime, given: &Options) -> ExitCode {
 
 /// Shows the text of clap, and ends as it says.
 fn refuse(rt: &HostRuntime, error: &Error) -> ExitCode {
-    // Where the text can not be shown, the status alone tells.
+    // Where the text cannot be shown, the status alone tells.
     let _ = error.print(rt);
     if error.use_stderr() {
         ExitCode::from(2)
@@ -77,7 +77,7 @@ fn refuse(rt: &HostRuntime, error: &Error) -> ExitCode {
     }
 }
 
-/// Ends where the words of the command line can not be had: there is no memory, or one is no text.
+/// Ends where the words of the command line cannot be had: there is no memory, or one is no text.
 fn end_without_words(rt: &HostRuntime, error: &io::Error) -> ExitCode {
     match error.kind() {
         ErrorKind::OutOfMemory => end(rt, &ExitFault::Run(RunFault::OutOfMemory)),

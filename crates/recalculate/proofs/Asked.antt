@@ -14,14 +14,14 @@ use Rattle.routing_table.proofs.KeptLemmas.{none_gained}
 use Rattle.routing_table.proofs.TableLemmas.{counted_twice}
 use Rattle.recalculate.specs.Asking.{GainsTrees, HasTrees, HasTreesOfTable, IsAskedAgain, gained, lacking}
 use Rattle.recalculate.specs.Planning.{PlannerValue}
-use Rattle.recalculate.proofs.TreesSpared.{told}
+use Rattle.recalculate.proofs.TreesSpared.{reported}
 
 -- what is shown of the trees
-pub gains_told : (passes : AreaId → Bool) (router : RouterId) (old new : KeptTreesValue) → GainsOnly passes router (trees_in old) (trees_in new)
+pub reported_gains : (passes : AreaId → Bool) (router : RouterId) (old new : KeptTreesValue) → GainsOnly passes router (trees_in old) (trees_in new)
     → GainsOnly passes router (is_kept (routers_of old)) (is_kept (routers_of new))
-gains_told passes router old new only =
-    subst (λ (t : TreeSet). GainsOnly passes router t (is_kept (routers_of new))) (sym (told old))
-    (subst (λ (t : TreeSet). GainsOnly passes router (trees_in old) t) (sym (told new)) only)
+reported_gains passes router old new only =
+    subst (λ (t : TreeSet). GainsOnly passes router t (is_kept (routers_of new))) (sym (reported old))
+    (subst (λ (t : TreeSet). GainsOnly passes router (trees_in old) t) (sym (reported new)) only)
 
 -- ---- how many came
 

@@ -16,7 +16,7 @@ use Rattle.edit_history.proofs.HistoryLemmas.{redo_spares, undo_spares}
 use Rattle.routing_table.specs.AreasTrees.{AreasTrees, KeptTreesValue, AreAreasOf, AreOfDatabase, IsSpareOf, routers_by, routers_of}
 use Rattle.routing_table.specs.KeptTrees.{less_touched}
 use Rattle.recalculate.specs.Reached.{IsReached}
-use Rattle.recalculate.proofs.TreesSpared.{told_untouched, untouched, untouched_stay}
+use Rattle.recalculate.proofs.TreesSpared.{reported_untouched, untouched, untouched_stay}
 
 -- ---- the edits that were taken back are the next to be carried out again, and the other way round
 
@@ -90,7 +90,7 @@ kept_as db after is_touched kept new stay is spare all = record {
     areas = subst (λ (l : AreasTrees). AreAreasOf after l) (sym is) (untouched_stay db after is_touched stay kept.areas all.areas);
     spare = spare all;
   };
-  shown = ap (λ (l : AreasTrees). routers_by l) is ∙ told_untouched is_touched kept.areas;
+  shown = ap (λ (l : AreasTrees). routers_by l) is ∙ reported_untouched is_touched kept.areas;
 }
 
 -- the spare graph is that of a database, where it is that of another by which name it goes

@@ -66,7 +66,7 @@ fn area_counts<A: Allocator + Copy>(database: &Database<A>) -> LsaCounts
     ensures { result ≡ counts_of (area_lsas (lists_of database.now)) }
 {
     // For its limits: the counts fit.
-    database.known();
+    database.assert_valid();
     let mut lsas = 0;
     let mut virtual_ends = 0;
     let mut virtual_links = 0;

@@ -28,7 +28,7 @@ pub(crate) fn drop_over_edit<A: Allocator + Copy>(
         → AreListedOf (lsas_of AsWide (lists_of database.now)) externals.new }
 {
     // It does nothing: it says that the database is a valid one.
-    database.known();
+    database.assert_valid();
     if last.changes_as_scope(database.area_count()) {
         *externals = None;
     }

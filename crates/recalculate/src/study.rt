@@ -68,7 +68,7 @@ impl<A: Allocator + Copy> Study<A> {
         ensures { result ≡ start (lists_of database) }
     {
         // That it is a database is what the history's invariant asks for.
-        database.known();
+        database.assert_valid();
         Study {
             database,
             history: History::new(alloc),
@@ -104,7 +104,7 @@ impl<A: Allocator + Copy> Study<A> {
         drop_over_edit(&mut self.externals, &self.database, &record);
         self.history.push(record);
         // That the edit left a database is what the history's invariant asks for.
-        self.database.known();
+        self.database.assert_valid();
         Ok(())
     }
 
@@ -386,7 +386,7 @@ impl<A: Allocator + Copy> Study<A> {
         copy
     }
 
-    /// The octets that the dump of a session with the loaded database begins with. All edits are
+    /// The bytes that the dump of a session with the loaded database begins with. All edits are
     /// taken back for it, and carried out again.
     pub(crate) fn dump_base(&mut self) -> Result<Vec<u8, A>, AllocError>
         ensures dump { IfOk result (λ dump. dump.items ≡ base_text self.old.base) }
@@ -396,7 +396,7 @@ impl<A: Allocator + Copy> Study<A> {
         let done = self.undo_all();
         let database = self.database();
         // It does nothing: it says that the database is a valid one.
-        database.known();
+        database.assert_valid();
         let dump = database.dump_base();
         self.redo_all(done);
         dump

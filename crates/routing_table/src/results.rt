@@ -32,7 +32,7 @@ pub fn graph_of<A: Allocator + Copy>(
     ensures router { IfOk result (λ graph. Contains graph.vertices (Router router)) }
 {
     // For the order of its areas and its keys: an attached router is a vertex of the graph.
-    database.known();
+    database.assert_valid();
     match Graph::build(alloc, database, area) {
         Ok(graph) => Ok(graph),
         Err(GraphFault::OutOfMemory) => Err(AllocError),

@@ -4,7 +4,7 @@ use Rattle.lsdb.specs.declared.fault.DumpFault.{DumpFault}
 use Rattle.lsdb.specs.Loading.{◌>>=◌, IsFirstFault}
 use Rattle.saved_sessions.specs.declared.fault.ReadError.{ReadError}
 use Rattle.saved_sessions.specs.declared.fault.ReadError.TheVariants as errors
-use Rattle.saved_sessions.specs.steps.Reading.{Fails, told_fault}
+use Rattle.saved_sessions.specs.steps.Reading.{Fails, reported_fault}
 
 -- ---- faults
 
@@ -14,9 +14,9 @@ fails_on {A} {B} errors.Memory r f fails = tt
 fails_on {A} {B} (errors.Fault d) r f fails = ap (λ (x : Result A DumpFault). x >>= f) fails
 
 -- the fault that is told of a failed reading is the first, or want of memory
-pub first_told : {Y : Type 0} (e : ReadError) (fault : DumpFault) (read : Result Y DumpFault) → fault ≡ told_fault e → Fails e read → IsFirstFault fault read
-first_told {Y} errors.Memory fault read is fails = inl is
-first_told {Y} (errors.Fault f) fault read is fails = inr (fails ∙ ap (λ (d : DumpFault). Err d) (sym is))
+pub first_reported : {Y : Type 0} (e : ReadError) (fault : DumpFault) (read : Result Y DumpFault) → fault ≡ reported_fault e → Fails e read → IsFirstFault fault read
+first_reported {Y} errors.Memory fault read is fails = inl is
+first_reported {Y} (errors.Fault f) fault read is fails = inr (fails ∙ ap (λ (d : DumpFault). Err d) (sym is))
 
 -- ---- values
 

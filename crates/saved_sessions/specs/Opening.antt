@@ -1,4 +1,4 @@
--- What opening the octets of a saved session answers: the session, or the first fault from front to back.
+-- What opening the bytes of a saved session answers: the session, or the first fault from front to back.
 use Rattle.std.specs.Prelude.{ℕ, zero, suc, ◌+◌, ◌==◌, nat_lt, Bool, List, drop, Option, Some, None, Result, Ok, Err, if◌then◌else◌}
 use Rattle.std.specs.List.{list_any}
 use Rattle.std.specs.Int.{w16}
@@ -15,18 +15,18 @@ use Rattle.session_text.specs.Lines.{line_feed, edit_line}
 
 -- ---- places
 
--- the place behind so many octets
-abbrev pub behind : ℕ → List ℕ → At
-behind octets bytes = record { offset = octets; rest = drop octets bytes }
+-- the place behind so many bytes
+abbrev pub position_after : ℕ → List ℕ → At
+position_after byte_count bytes = record { offset = byte_count; rest = drop byte_count bytes }
 
 -- ---- one line
 
 abbrev pub has_line_feed : List ℕ → Bool
-has_line_feed octets = list_any (λ b. b == line_feed) octets
+has_line_feed bytes = list_any (λ b. b == line_feed) bytes
 
 -- what is wrong with a line that is no line of an edit: no line feed ends it, or it is not just as an edit is printed
 abbrev pub line_fault : ℕ → List ℕ → DumpFaultKind
-line_fault line octets = if has_line_feed octets then BadHistory line else Truncated
+line_fault line bytes = if has_line_feed bytes then BadHistory line else Truncated
 
 abbrev pub edit_found : ℕ → At → Option (Edit × ℕ) → Result (Edit × At) DumpFault
 edit_found line at None = fault at (line_fault line at.rest)
@@ -77,7 +77,7 @@ history_at base at = do
 unfoldable pub session_loaded : List ℕ → Result Session DumpFault
 session_loaded bytes = do
   base ← base_loaded bytes
-  found ← history_at base.0 (behind base.1 bytes)
+  found ← history_at base.0 (position_after base.1 bytes)
   ended found
 
 -- version 1: a database, without edits
@@ -86,7 +86,7 @@ dump_loaded bytes = do
   db ← loaded bytes
   Ok (start db)
 
--- the session that octets of either version tell
+-- the session that bytes of either version tell
 unfoldable pub opened : List ℕ → Result Session DumpFault
 opened bytes = if begins_session bytes then session_loaded bytes else dump_loaded bytes
 

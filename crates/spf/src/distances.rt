@@ -1,4 +1,4 @@
-//! The distances of vertices while they are found, four octets each.
+//! The distances of vertices while they are found, four bytes each.
 
 ghost use Rattle.std.specs.Prelude.{◌≡◌, ◌<◌, ◌+◌, ◌%◌, ◌^◌, length, replicate, slice_set, slice_index_or, IfOk, None};
 ghost use Rattle.spf.specs.steps.Table.{settled_in, unreached};

@@ -20,5 +20,5 @@ abbrev pub AppendsPrefix : Option (List ℕ) → Option (List ℕ) → List ℕ 
 AppendsPrefix old new text = (part : List ℕ) × (StartsWith text part × Appends old new part)
 
 -- the known bytes lost some at their front, which stand behind those that were there before
-abbrev pub ReadsBehind : Option (List ℕ) → Option (List ℕ) → List ℕ → List ℕ → Type 0
-ReadsBehind old new before after = (taken : List ℕ) × (Consumes old new taken × (after ≡ before ++ taken))
+abbrev pub ReadsAfter : Option (List ℕ) → Option (List ℕ) → List ℕ → List ℕ → Type 0
+ReadsAfter old new before after = (taken : List ℕ) × (Consumes old new taken × (after ≡ before ++ taken))

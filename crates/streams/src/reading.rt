@@ -4,7 +4,7 @@ ghost use Rattle.std.specs.Prelude.{◌≡◌, ◌+◌, ◌-◌, ◌<◌, ◌≤
 ghost use Rattle.std.specs.Io.KnownBytes.{IsAtEnd};
 ghost use Rattle.streams.specs.declared.reading.ReadFault.TheVariants.{OutOfMemory};
 ghost use Rattle.streams.specs.Watched.{inner_of, has_failed, has_ended};
-ghost use Rattle.streams.specs.WholeText.{IsAll, IsLonger, ConsumesAtMost, ReadsBehind};
+ghost use Rattle.streams.specs.WholeText.{IsAll, IsLonger, ConsumesAtMost, ReadsAfter};
 
 use crate::watch::Watched;
 use std::alloc::{AllocError, Allocator};
@@ -48,13 +48,13 @@ pub fn read_more<A: Allocator + Copy, R: Read>(
 ) -> Result<(), ReadFault>
     requires open { has_failed reader.old ≡ false }
     requires limit { limit + 1 < 2 ^ 64 }
-    ensures whole { OnOk result (ReadsBehind (R.remaining (inner_of reader.old))
+    ensures whole { OnOk result (ReadsAfter (R.remaining (inner_of reader.old))
         (R.remaining (inner_of reader.new)) bytes.old.items bytes.new.items) }
     ensures within { OnOk result (vec_len bytes.new ≤ limit) }
     ensures at_end { OnOk result (IsAtEnd (R.remaining (inner_of reader.new))) }
     ensures ended { has_ended reader.new ≡ (has_ended reader.old || is_ok result) }
     ensures too_large { result ≡ Err ReadFault.TooLarge
-        → ReadsBehind (R.remaining (inner_of reader.old))
+        → ReadsAfter (R.remaining (inner_of reader.old))
         (R.remaining (inner_of reader.new)) bytes.old.items bytes.new.items
         × (limit < vec_len bytes.new) }
     ensures failed { (result ≡ Err ReadFault.Failed) ↔ (has_failed reader.new ≡ true) }

@@ -32,7 +32,7 @@ pub fn cost_change<A: Allocator + Copy>(
         (lists_of (put database.now slot (Some before.now))) (lists_of database.now)) }
 {
     // Its invariant is needed: the IDs of its areas differ.
-    database.known();
+    database.assert_valid();
     if slot.section >= database.area_count() {
         return None;
     }

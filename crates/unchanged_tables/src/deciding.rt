@@ -52,7 +52,7 @@ pub fn is_unchanged<A: Allocator + Copy>(
         ≡ table_in (lists_of (put database.now slot (Some before.now))) router }
 {
     // Its invariant is needed: the IDs of its areas differ.
-    database.known();
+    database.assert_valid();
     if slot.section >= database.area_count() {
         return false;
     }

@@ -1,4 +1,4 @@
-//! A database, octet by octet, edits of it as lines of scripts, and what the edits lead to.
+//! A database, byte by byte, edits of it as lines of scripts, and what the edits lead to.
 
 use edit_script::Edit;
 use edited_databases::{edited, lines};

@@ -6,13 +6,13 @@ ghost use Rattle.edit_history.specs.Journal.{Links};
 use super::edited::{apply_and_push, back, edited};
 use super::nets::{NETS, edit_of};
 use edit_history::History;
+use failing_alloc::FailingAlloc;
 use lsa_codec::{Addr, Prefix, RouterId};
 use lsdb::Database;
-use rationed::Rationed;
 use std::alloc::{Allocator, Global};
 use std::test::*;
 
-/// A section of `NETS` by its number, the first two octets of a prefix of 16 bits, and the indices
+/// A section of `NETS` by its number, the first two bytes of a prefix of 16 bits, and the indices
 /// of the places there that are noted of 2.2.2.2 and the prefix, each with a space behind it.
 type Row = (usize, u32, &'static str);
 
@@ -21,10 +21,10 @@ fn noted_text<A: Allocator + Copy>(
     alloc: Global,
     database: &Database<A>,
     section: usize,
-    octets: u32,
+    bytes: u32,
 ) -> Result<String, Fail> {
     let mut text = String::new(alloc);
-    let Some(prefix) = Prefix::new(Addr(octets << 16), 16) else {
+    let Some(prefix) = Prefix::new(Addr(bytes << 16), 16) else {
         return Err("a prefix")?;
     };
     if section < database.section_count() {
@@ -42,8 +42,8 @@ fn are_noted<A: Allocator + Copy>(
     database: &Database<A>,
     rows: &[Row],
 ) -> Result<bool, Fail> {
-    for (section, octets, indices) in rows {
-        if noted_text(alloc, database, *section, *octets)?.as_str() != *indices {
+    for (section, bytes, indices) in rows {
+        if noted_text(alloc, database, *section, *bytes)?.as_str() != *indices {
             return Ok(false);
         }
     }
@@ -92,9 +92,9 @@ fn apply_line<A: Allocator + Copy>(
 
 /// Whether the places are noted when the database is loaded, behind the two edits, in a copy, and
 /// when both are taken back where no growth is left.
-fn are_noted_behind_edits<A: Allocator + Copy>(
+fn are_noted_after_edits<A: Allocator + Copy>(
     alloc: Global,
-    rationed: &Rationed,
+    failing: &FailingAlloc,
     database: &mut Database<A>,
     history: &mut History<A>,
 ) -> Result<[bool; 4], Fail>
@@ -109,16 +109,16 @@ fn are_noted_behind_edits<A: Allocator + Copy>(
     apply_line(database, history, "drop-external 2.2.2.2 10.92.0.0/16")?;
     let edited = are_noted(alloc, database, EDITED)?;
     let copied = are_noted_in_copy(alloc, database)?;
-    rationed.leave(0);
+    failing.set_remaining(0);
     back(database, history, 2)?;
     Ok([loaded, edited, copied, are_noted(alloc, database, EDITED)?])
 }
 
 #[test]
 fn notes_the_places_of_a_prefix(rt: HostRuntime) -> Result<(), Fail> {
-    let rationed = Rationed::new(rt.alloc(), u64::MAX);
-    let (mut database, mut history) = edited(&rationed, NETS, &[])?;
-    let noted = are_noted_behind_edits(rt.alloc(), &rationed, &mut database, &mut history)?;
+    let failing = FailingAlloc::new(rt.alloc(), u64::MAX);
+    let (mut database, mut history) = edited(&failing, NETS, &[])?;
+    let noted = are_noted_after_edits(rt.alloc(), &failing, &mut database, &mut history)?;
     assert_eq!(rt; noted, [true; 4]);
     Ok(())
 }

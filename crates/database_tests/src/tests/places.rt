@@ -123,8 +123,8 @@ fn reads_lsas_by_number(rt: HostRuntime) -> Result<(), Fail> {
     Ok(())
 }
 
-/// The octets of the LSA at a place.
-fn octets_at(database: &Database, section: usize, index: usize) -> Option<&[u8]> {
+/// The bytes of the LSA at a place.
+fn bytes_at(database: &Database, section: usize, index: usize) -> Option<&[u8]> {
     database
         .get(SlotId { section, index })
         .map(|lsa| lsa.bytes())
@@ -140,15 +140,15 @@ fn finds_by_key(rt: HostRuntime) -> Result<(), Fail> {
     assert_eq!(rt; database.find(BACKBONE, SECOND_ROUTER), Some(place));
     assert_eq!(rt; database.find(STUB, SECOND_ROUTER), None);
     assert_eq!(rt; database.find(ABSENT, SECOND_ROUTER), None);
-    assert_eq!(rt; octets_at(&database, 0, 1), DUMP.get(49..97));
+    assert_eq!(rt; bytes_at(&database, 0, 1), DUMP.get(49..97));
     Ok(())
 }
 
 #[test]
 fn has_nothing_at_unknown_places(rt: HostRuntime) -> Result<(), Fail> {
     let database = loaded(rt.alloc())?;
-    assert!(rt; octets_at(&database, 0, 2).is_none());
-    assert!(rt; octets_at(&database, 3, 0).is_none());
+    assert!(rt; bytes_at(&database, 0, 2).is_none());
+    assert!(rt; bytes_at(&database, 3, 0).is_none());
     Ok(())
 }
 
@@ -160,7 +160,7 @@ fn seen_without(database: &mut Database, slot: SlotId) -> (usize, usize, bool)
 {
     let mut place: Option<Lsa> = None;
     // That it is a database has to hold after each of the two swaps.
-    database.known();
+    database.assert_valid();
     database.swap(slot, &mut place);
     let seen = (
         database.size(),

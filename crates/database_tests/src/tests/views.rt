@@ -147,8 +147,8 @@ fn external_text(alloc: Global, view: ExternalView<'_>) -> Result<String, Fail> 
 }
 
 /// What the view of an LSA tells; an LSA of another type has none.
-fn view_text(alloc: Global, octets: &[u8]) -> Result<String, Fail> {
-    let (lsa, _) = Lsa::decode(alloc, octets)?;
+fn view_text(alloc: Global, bytes: &[u8]) -> Result<String, Fail> {
+    let (lsa, _) = Lsa::decode(alloc, bytes)?;
     if let Some(view) = lsa.router() {
         return router_text(alloc, view);
     }
@@ -199,9 +199,9 @@ const VIEWS: &[(&[u8], &str)] = &[
 ];
 
 #[test]
-fn tells_the_fields_of_each_type(rt: HostRuntime) -> Result<(), Fail> {
-    for (octets, text) in VIEWS {
-        assert_eq!(rt; view_text(rt.alloc(), octets)?.as_str(), *text);
+fn reads_the_fields_of_each_type(rt: HostRuntime) -> Result<(), Fail> {
+    for (bytes, text) in VIEWS {
+        assert_eq!(rt; view_text(rt.alloc(), bytes)?.as_str(), *text);
     }
     Ok(())
 }

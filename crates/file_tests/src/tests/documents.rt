@@ -1,5 +1,5 @@
 //! Tests of what documents tell.
 
 mod growths;
+mod parsed;
 mod pieces;
-mod told;

@@ -3,5 +3,5 @@
 mod fragments;
 pub(super) mod frames;
 mod hellos;
-mod odd;
 mod updates;
+mod warning;

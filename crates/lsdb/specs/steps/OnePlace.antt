@@ -1,4 +1,4 @@
--- One place: its LSA, its octets, and the first that passes a test.
+-- One place: its LSA, its bytes, and the first that passes a test.
 use Rattle.std.specs.Prelude.{◌≡◌, Bool, false, ℕ, List, length, Some, None, IsSome}
 use Rattle.std.specs.List.{find}
 use Rattle.lsa_codec.specs.declared.key.Key.{Key}
@@ -10,7 +10,7 @@ abbrev pub place_has_key : Key → Place → Bool
 place_has_key key None = false
 place_has_key key (Some lsa) = has_key key lsa
 
--- the octets that a place takes in the dump
+-- the bytes that a place takes in the dump
 abbrev pub place_size : Place → ℕ
 place_size None = 0
 place_size (Some lsa) = length lsa

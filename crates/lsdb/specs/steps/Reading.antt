@@ -35,6 +35,6 @@ IsMemoryAfter front (Ok x) = Unit {0}
 IsMemoryAfter front (Err e) = IsWantAfter front e
 
 -- the fault that is told of a failed reading
-abbrev pub told_fault : ReadError → DumpFault
-told_fault errors.Memory = no_memory
-told_fault (errors.Fault f) = f
+abbrev pub reported_fault : ReadError → DumpFault
+reported_fault errors.Memory = no_memory
+reported_fault (errors.Fault f) = f

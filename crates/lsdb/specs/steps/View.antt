@@ -18,4 +18,4 @@ places_of ss = map section_places_of ss
 -- the sections make a database, and the number kept beside them is the length of its dump
 pub record IsKept {A : Type 0} (sections : List (SectionOf A)) (kept : ℕ) : Type 0 where
   pub sound : IsDatabase (lists_of (places_of sections))
-  pub octets : kept ≡ size (lists_of (places_of sections))
+  pub byte_count : kept ≡ size (lists_of (places_of sections))

@@ -88,7 +88,7 @@ fn runs_over_short_reads_and_writes(rt: HostRuntime) -> Result<(), Fail> {
 }
 
 #[test]
-fn the_dump_fails_at_each_octet(rt: HostRuntime) -> Result<(), Fail> {
+fn the_dump_fails_at_each_byte(rt: HostRuntime) -> Result<(), Fail> {
     for n in 0..SAMPLE.len() + 1 {
         let dump = source(SAMPLE, Some(n));
         let ended = run_without_out(rt.alloc(), dump, SCRIPT, Vec::new(rt.alloc()));
@@ -100,7 +100,7 @@ fn the_dump_fails_at_each_octet(rt: HostRuntime) -> Result<(), Fail> {
 }
 
 #[test]
-fn the_script_fails_at_each_octet(rt: HostRuntime) -> Result<(), Fail> {
+fn the_script_fails_at_each_byte(rt: HostRuntime) -> Result<(), Fail> {
     for n in 0..SCRIPT.len() + 1 {
         let script = source(SCRIPT, Some(n));
         let (replies, out, save) = (
@@ -119,7 +119,7 @@ fn the_script_fails_at_each_octet(rt: HostRuntime) -> Result<(), Fail> {
 }
 
 #[test]
-fn the_replies_fail_at_each_octet(rt: HostRuntime) -> Result<(), Fail> {
+fn the_replies_fail_at_each_byte(rt: HostRuntime) -> Result<(), Fail> {
     for failing in [Failing::WriteErrs, Failing::WriteTakesNone] {
         for n in 0..REPLIES.len() {
             let replies = sink(rt.alloc(), n, failing);
@@ -141,7 +141,7 @@ fn the_replies_fail_at_each_octet(rt: HostRuntime) -> Result<(), Fail> {
 }
 
 #[test]
-fn the_written_dump_fails_at_each_octet(rt: HostRuntime) -> Result<(), Fail> {
+fn the_written_dump_fails_at_each_byte(rt: HostRuntime) -> Result<(), Fail> {
     for failing in [Failing::WriteErrs, Failing::WriteTakesNone] {
         for n in 0..SAMPLE.len() {
             let out = sink(rt.alloc(), n, failing);
@@ -158,7 +158,7 @@ fn the_written_dump_fails_at_each_octet(rt: HostRuntime) -> Result<(), Fail> {
 }
 
 #[test]
-fn the_saved_session_fails_at_each_octet(rt: HostRuntime) -> Result<(), Fail> {
+fn the_saved_session_fails_at_each_byte(rt: HostRuntime) -> Result<(), Fail> {
     for failing in [Failing::WriteErrs, Failing::WriteTakesNone] {
         for n in 0..LEFT.len() {
             let save = sink(rt.alloc(), n, failing);

@@ -16,6 +16,6 @@ Gives view (Ok x) read = read ≡ Ok (view x)
 Gives view (Err e) read = Fails e read
 
 -- the fault that is told of a failed reading
-abbrev pub told_fault : ReadError → DumpFault
-told_fault errors.Memory = no_memory
-told_fault (errors.Fault f) = f
+abbrev pub reported_fault : ReadError → DumpFault
+reported_fault errors.Memory = no_memory
+reported_fault (errors.Fault f) = f

@@ -74,10 +74,10 @@ returns-clause-planned g c =
     c.in_ok-slot.ensures.found c.in_ok-other_slot.ensures.found (sym c.are_linked.ensures ∙ there) in
     let fate = link_fate c.args.router c.args.neighbor in
     let slot = c.in_ok-slot.slot in
-    let carried = section_carried_out c.args.database.now (Area c.args.area) fate slot.section c.known.ensures c.in_ok-slot.ensures.found.named
+    let carried = section_carried_out c.args.database.now (Area c.args.area) fate slot.section c.assert_valid.ensures c.in_ok-slot.ensures.found.named
     (there_too c.args.database.now slot.section c.in_ok-slot.ensures.found.named.exists) (link_safe c.args.router c.args.neighbor) in
     let pair = links_of_pair c.args.database.now c.args.area c.args.router c.args.neighbor slot c.in_ok-other_slot.other_slot c.in_ok-slot.lsa.now
-    c.in_ok-other_slot.other.now c.known.ensures (let apart : (c.args.router.0 == c.args.neighbor.0) ≡ false = search rules in apart)
+    c.in_ok-other_slot.other.now c.assert_valid.ensures (let apart : (c.args.router.0 == c.args.neighbor.0) ≡ false = search rules in apart)
     c.in_ok-slot.ensures.found c.in_ok-other_slot.ensures.found in
     IfOk-weaker c.swaps_of_pair.result _ _ (λ v is. planned_here c.args.database.now (FailLink c.args.area c.args.router c.args.neighbor)
     (within (Area c.args.area) fate) (section_swaps fate slot.section (Area c.args.area) 0 (places_in c.args.database.now slot.section)) v.items

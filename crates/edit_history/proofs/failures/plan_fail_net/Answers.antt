@@ -32,7 +32,7 @@ pub returns-clause-planned : goal.returns-clause-planned
 returns-clause-planned g c =
     let ruled = net_ruled c.args.database.now c.args.area c.args.network c.in_ok-number.number _ c.in_ok-number.ensures.found c.in-Some.ensures.first in
     let fate = net_fate c.args.network in
-    let carried = section_carried_out c.args.database.now (Area c.args.area) fate c.in_ok-number.number c.known.ensures c.in_ok-number.ensures.found
+    let carried = section_carried_out c.args.database.now (Area c.args.area) fate c.in_ok-number.number c.assert_valid.ensures c.in_ok-number.ensures.found
     (there_too c.args.database.now c.in_ok-number.number c.in_ok-number.ensures.found.exists) (net_safe c.args.network) in
     IfOk-weaker c.swaps_of_network.result _ _ (λ v is. planned_here c.args.database.now (FailNet c.args.area c.args.network) (within (Area c.args.area) fate)
     (section_swaps fate c.in_ok-number.number (Area c.args.area) 0

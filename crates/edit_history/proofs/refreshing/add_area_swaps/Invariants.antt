@@ -1,7 +1,7 @@
 use Rattle.std.proofs.Common.{◌≡◌, ◌++◌, drop}
 use Rattle.lsdb.specs.declared.section.Section.TheVariants.{Area}
 use Rattle.lsdb.specs.Places.{places_in, lists_of}
-use Rattle.summary_metrics.specs.Originators.{AreOf}
+use Rattle.summary_metrics.specs.SummaryMetrics.{AreOf}
 use Rattle.edit_history.specs.Refreshing.{metric_fate}
 use Rattle.edit_history.specs.steps.Plans.{section_swaps}
 use Rattle.edit_history.proofs.refreshing.add_area_swaps.Given as goal

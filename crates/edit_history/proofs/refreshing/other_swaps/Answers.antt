@@ -1,7 +1,7 @@
 use Rattle.std.proofs.Common.{sym, ap, ◌∙◌, subst}
 use Rattle.std.proofs.lemmas.Result.{IfOk-weaker}
 use Rattle.lsdb.specs.Places.{Places, lists_of}
-use Rattle.summary_metrics.specs.Originators.{AreOf}
+use Rattle.summary_metrics.specs.SummaryMetrics.{AreOf}
 use Rattle.summary_metrics.specs.Refreshed.{is_not_backbone}
 use Rattle.edit_history.specs.Exchange.{CanUndo, undone_places, undone_swaps}
 use Rattle.edit_history.specs.Refreshing.{pass_fates}
@@ -11,7 +11,7 @@ use Rattle.edit_history.proofs.refreshing.other_swaps.Goals as goal
 
 pub undo_swaps-requires : goal.undo_swaps-requires
 undo_swaps-requires g c =
-    let again = undo_done c.args.database.now c.args.first.now c.known.ensures c.requires.can in
+    let again = undo_done c.args.database.now c.args.first.now c.assert_valid.ensures c.requires.can in
     subst (λ (d : Places). CanUndo d c.do_swaps.new.swaps) (sym c.do_swaps.ensures.database)
     (subst (CanUndo _) (sym c.do_swaps.ensures.swaps) again.can)
 
@@ -22,12 +22,12 @@ returns-clause-swaps g c =
 
 pub returns-clause-database : goal.returns-clause-database
 returns-clause-database g c =
-    let again = undo_done c.args.database.now c.args.first.now c.known.ensures c.requires.can in
+    let again = undo_done c.args.database.now c.args.first.now c.assert_valid.ensures c.requires.can in
     c.undo_swaps.ensures.database ∙ (λ i. undone_places (c.do_swaps.ensures.database i) (c.do_swaps.ensures.swaps i)) ∙ again.places
 
 pub returns-clause-first : goal.returns-clause-first
 returns-clause-first g c =
-    let again = undo_done c.args.database.now c.args.first.now c.known.ensures c.requires.can in
+    let again = undo_done c.args.database.now c.args.first.now c.assert_valid.ensures c.requires.can in
     c.undo_swaps.ensures.swaps ∙ (λ i. undone_swaps (c.do_swaps.ensures.database i) (c.do_swaps.ensures.swaps i)) ∙ again.swaps
 
 pub metric_swaps-others-requires : goal.metric_swaps-others-requires

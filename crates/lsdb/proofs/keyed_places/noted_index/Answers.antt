@@ -1,5 +1,5 @@
 use Rattle.std.proofs.Common.{◌∙◌, sym}
-use Rattle.lsdb.proofs.NotedKeys.{noted_behind, noted_front}
+use Rattle.lsdb.proofs.NotedKeys.{noted_after, noted_front}
 use Rattle.lsdb.proofs.keyed_places.noted_index.Goals as goal
 
 pub returns-in-Some : goal.returns-in-Some
@@ -8,4 +8,4 @@ returns-in-Some c =
 
 pub returns-in-None : goal.returns-in-None
 returns-in-None c =
-    c.index_among-in-None.ensures ∙ sym (noted_behind c.args.latest.now c.args.keys.now c.args.key (sym c.index_among.ensures ∙ c.in-None.is))
+    c.index_among-in-None.ensures ∙ sym (noted_after c.args.latest.now c.args.keys.now c.args.key (sym c.index_among.ensures ∙ c.in-None.is))

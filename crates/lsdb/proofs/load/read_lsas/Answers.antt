@@ -23,16 +23,16 @@ returns-in_err-lsa-clause-lsas g c =
 pub returns-then-not-branch-clause-lsas : goal.returns-then-not-branch-clause-lsas
 returns-then-not-branch-clause-lsas g c =
     let seen = full c.loop.places.items in
-    let told = inserted c.loop.keys seen c.in_ok-lsa.lsa c.key.result c.in_ok-insert.field-0 c.loop.invariant.keys c.key.ensures c.in_ok-insert.ensures.added in
-    let again = not-false (has_key_of seen c.in_ok-lsa.lsa) (sym told ∙ c.if-not-branch.true) in
+    let reported = inserted c.loop.keys seen c.in_ok-lsa.lsa c.key.result c.in_ok-insert.field-0 c.loop.invariant.keys c.key.ensures c.in_ok-insert.ensures.added in
+    let again = not-false (has_key_of seen c.in_ok-lsa.lsa) (sym reported ∙ c.if-not-branch.true) in
     rw c.fault.ensures (lsas_twice (option_map head_of c.args.area) c.args.count c.loop.counter seen (at_of c.loop.at)
     (at_of c.in_ok-lsa.after) c.in_ok-lsa.lsa _ c.loop-test.true c.in_ok-lsa.ensures.lsa again c.loop.invariant.reading)
 
 pub loop-preserved : goal.loop-preserved
 loop-preserved g c =
     let seen = full c.loop.places.items in
-    let told = inserted c.loop.keys seen c.in_ok-lsa.lsa c.key.result c.in_ok-insert.field-0 c.loop.invariant.keys c.key.ensures c.in_ok-insert.ensures.added in
-    let new = not-true (has_key_of seen c.in_ok-lsa.lsa) (sym told ∙ c.if-not-branch.false) in
+    let reported = inserted c.loop.keys seen c.in_ok-lsa.lsa c.key.result c.in_ok-insert.field-0 c.loop.invariant.keys c.key.ensures c.in_ok-insert.ensures.added in
+    let new = not-true (has_key_of seen c.in_ok-lsa.lsa) (sym reported ∙ c.if-not-branch.false) in
     let pushed : full c.push.new.self.items ≡ seen ++ c.in_ok-lsa.lsa ∷ [] =
     ap full c.in_ok-push.ensures.items ∙ full-push c.loop.places.items c.in_ok-lsa.lsa in
     record {

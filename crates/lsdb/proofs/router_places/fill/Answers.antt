@@ -3,12 +3,12 @@ use Rattle.std.specs.List.Sorted.{IsPermutation}
 use Rattle.lsdb.specs.declared.router_places.PlaceOfRouter.{PlaceOfRouter}
 use Rattle.lsdb.specs.steps.RouterIndex.{place_cmp, router_at}
 use Rattle.lsdb.proofs.PlaceIndexes.{filled}
-use Rattle.lsdb.proofs.RouterIndexes.{place_total, place_exact, some_place, tells}
+use Rattle.lsdb.proofs.RouterIndexes.{place_total, place_exact, some_place, reports}
 use Rattle.lsdb.proofs.router_places.fill.Goals as goal
 
 pub returns : goal.returns
 returns g c =
     let facts = c.sort_unstable.ensures in
-    filled router_at (λ p. p.index) tells place_cmp place_total place_exact some_place c.args.places.now c.sort_unstable.new.self.items _ _
+    filled router_at (λ p. p.index) reports place_cmp place_total place_exact some_place c.args.places.now c.sort_unstable.new.self.items _ _
     (subst (λ (noted : List PlaceOfRouter). IsPermutation noted c.sort_unstable.new.self.items) c.put_noted.ensures.noted facts.permutation)
     facts.sorted c.requires.fits (facts.capacity ∙ c.put_noted.ensures.room) c.requires.narrow

@@ -6,7 +6,7 @@ use std::alloc::Global;
 use std::test::Fail;
 use streams::{Watched, WriteFault, write_whole};
 
-/// A writer that takes so many octets at once and fails at a place.
+/// A writer that takes so many bytes at once and fails at a place.
 #[derive(Clone, Copy)]
 struct Taking {
     step: usize,

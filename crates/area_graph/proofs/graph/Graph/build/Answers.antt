@@ -6,4 +6,4 @@ use Rattle.area_graph.proofs.graph.Graph.build.Goals as goal
 
 pub graph_of-requires : goal.graph_of-requires
 graph_of-requires g c = subst (λ (lsas : List (List ℕ)). AreOfArea lsas) (sym c.lsas.ensures.lsas)
-    (are_of_area c.args.area (lists_of c.args.database.now) c.known.ensures)
+    (are_of_area c.args.area (lists_of c.args.database.now) c.assert_valid.ensures)

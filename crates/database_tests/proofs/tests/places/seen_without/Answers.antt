@@ -17,7 +17,7 @@ put_back : (d : Places) (slot : SlotId) (v : Place) → slot_at d slot ≡ Some 
 put_back d slot v at = put-put d slot None v ∙ put-slot_at d slot v at
 
 pub swap-requires-clause-sound : goal.swap-requires-clause-sound
-swap-requires-clause-sound c = emptied c.args.database.now c.args.slot c.requires c.known.ensures
+swap-requires-clause-sound c = emptied c.args.database.now c.args.slot c.requires c.assert_valid.ensures
 
 pub swap-requires-2-clause-exists : goal.swap-requires-2-clause-exists
 swap-requires-2-clause-exists c =
@@ -29,7 +29,7 @@ swap-requires-2-clause-sound c =
     subst (λ (d : Places). IsDatabase (lists_of d))
     (sym (ap (λ (d : Places). put d c.args.slot c.swap.new.place) c.swap.ensures.put
     ∙ put_back c.args.database.now c.args.slot c.swap.new.place c.swap.ensures.place))
-    c.known.ensures
+    c.assert_valid.ensures
 
 pub returns : goal.returns
 returns c =

@@ -14,8 +14,8 @@ pub of_sections-requires-clause-sound : goal.of_sections-requires-clause-sound
 of_sections-requires-clause-sound g c =
     (loaded_takes c.args.bytes.now (lists_of (places_of c.in-Ok.sections.items)) (λ i. omega (arith, c.type_inv.bytes i)) c.in-Ok.ensures.sections).0
 
-pub of_sections-requires-clause-octets : goal.of_sections-requires-clause-octets
-of_sections-requires-clause-octets g c =
+pub of_sections-requires-clause-byte_count : goal.of_sections-requires-clause-byte_count
+of_sections-requires-clause-byte_count g c =
     let db = lists_of (places_of c.in-Ok.sections.items) in
     let spelled : c.args.bytes.now ≡ text db = (loaded_takes c.args.bytes.now db (λ i. omega (arith, c.type_inv.bytes i)) c.in-Ok.ensures.sections).1 in
     ap length spelled ∙ text_size db

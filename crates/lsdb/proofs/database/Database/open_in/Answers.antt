@@ -13,7 +13,7 @@ on_err_from (Err e) p = p
 
 pub invariant_of-self : goal.invariant_of-self
 invariant_of-self g c =
-    kept_lists c.self.inside.sections.items _ c.self.inside.octets
+    kept_lists c.self.inside.sections.items _ c.self.inside.byte_count
     (ap (λ (d : Places). lists_of d) (kept_places c.self.inside.sections.items c.args.section c.index_mut.result.now _
     (rw c.self.view_is c.requires) c.index_mut.ensures.value refl c.in_err-push_empty.ensures.err))
     c.self.invariant
@@ -26,7 +26,7 @@ returns-in_err-push_empty-clause-err g c =
 
 pub invariant_of-self-2 : goal.invariant_of-self-2
 invariant_of-self-2 g c =
-    kept_lists c.self.inside.sections.items _ c.self.inside.octets
+    kept_lists c.self.inside.sections.items _ c.self.inside.byte_count
     (ap (λ (d : Places). lists_of d) (open_places c.self.inside.sections.items c.args.section c.index_mut.result.now _
     (rw c.self.view_is c.requires) c.index_mut.ensures.value refl c.in_ok-push_empty.ensures.ok)
     ∙ lists_of-open_at (places_of c.self.inside.sections.items) c.args.section)

@@ -30,7 +30,7 @@ overflow_sub-self g c =
     let at : slot_at (places_of ss) c.args.slot ≡ Some c.swap.new.place =
     swap_read ss c.args.slot c.index_mut-section.result.now c.swap.new.place
     (rw c.self.view_is c.requires.exists) c.index_mut-section.ensures.value c.swap.ensures.place in
-    omega (arith, place_fits (places_of ss) c.args.slot c.swap.new.place at, c.place_size.ensures, c.self.invariant.octets)
+    omega (arith, place_fits (places_of ss) c.args.slot c.swap.new.place at, c.place_size.ensures, c.self.invariant.byte_count)
 
 pub overflow_add-self : goal.overflow_add-self
 overflow_add-self g c =
@@ -41,8 +41,8 @@ overflow_add-self g c =
     let sound : IsDatabase (lists_of (put (places_of ss) c.args.slot c.args.place.now)) = rw c.self.view_is c.requires.sound in
     omega (
       arith,
-      size_moved (places_of ss) c.args.slot c.swap.new.place c.args.place.now c.self.inside.octets at
-          c.self.invariant.octets,
+      size_moved (places_of ss) c.args.slot c.swap.new.place c.args.place.now c.self.inside.byte_count at
+          c.self.invariant.byte_count,
       c.place_size.ensures,
       c.place_size-given.ensures,
       sound.small,
@@ -52,7 +52,7 @@ pub invariant_of-self : goal.invariant_of-self
 invariant_of-self g c =
     let ss = c.self.inside.sections.items in
     let exists : IsSome (slot_at (places_of ss) c.args.slot) = rw c.self.view_is c.requires.exists in
-    kept_put ss _ c.args.slot c.swap.new.place c.args.place.now c.self.inside.octets _
+    kept_put ss _ c.args.slot c.swap.new.place c.args.place.now c.self.inside.byte_count _
     (swap_put ss c.args.slot c.index_mut-section.result.now _ c.args.place.now exists c.index_mut-section.ensures.value refl c.swap.ensures.put)
     (swap_read ss c.args.slot c.index_mut-section.result.now c.swap.new.place exists c.index_mut-section.ensures.value c.swap.ensures.place)
     (rw c.self.view_is c.requires.sound)

@@ -28,7 +28,7 @@ invariant_of-self-2 g c =
     c.push.ensures ∙ ap (pushed c.in_ok-record.record) c.reserve.ensures.lists in
     let more =
     recorded c.self.inside.database c.apply.new.database c.self.inside.history.lists c.args.edit.now
-    c.in_ok-record.record c.self.invariant.links c.known.ensures c.in_ok-record.ensures.applied in
+    c.in_ok-record.record c.self.invariant.links c.assert_valid.ensures c.in_ok-record.ensures.applied in
     record {
       links = subst (λ (h : HistoryData). Links c.apply.new.database h) (sym now) more.links;
       few = omega (
@@ -47,7 +47,7 @@ pub returns-clause-ok : goal.returns-clause-ok
 returns-clause-ok g c =
     ap (λ s. edited s c.args.edit.now) (sym c.self.view_is)
     ∙ edited_accepted c.self.inside.database c.apply.new.database c.self.inside.history.lists c.args.edit.now c.in_ok-record.record
-    (omega (arith, c.done.ensures, c.if-done-ge-MOST_EDITS.false)) c.self.invariant.links c.known.ensures c.in_ok-record.ensures.applied
+    (omega (arith, c.done.ensures, c.if-done-ge-MOST_EDITS.false)) c.self.invariant.links c.assert_valid.ensures c.in_ok-record.ensures.applied
     ∙ ap (λ (h : HistoryData). answer (session_of c.apply.new.database h)) (sym (c.push.ensures ∙ ap (pushed c.in_ok-record.record) c.reserve.ensures.lists))
 
 pub returns-clause-reached : goal.returns-clause-reached
@@ -56,6 +56,6 @@ returns-clause-reached g c = record {
   history = c.push.new.self.lists;
   links = subst (λ (h : HistoryData). Links c.apply.new.database h) (sym (c.push.ensures ∙ ap (pushed c.in_ok-record.record) c.reserve.ensures.lists))
       (recorded c.self.inside.database c.apply.new.database c.self.inside.history.lists c.args.edit.now
-      c.in_ok-record.record c.self.invariant.links c.known.ensures c.in_ok-record.ensures.applied).links;
+      c.in_ok-record.record c.self.invariant.links c.assert_valid.ensures c.in_ok-record.ensures.applied).links;
   shows = refl;
 }
