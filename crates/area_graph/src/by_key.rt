@@ -1,7 +1,7 @@
 //! The LSA in use of a vertex, found by its key.
 
 ghost use Rattle.std.specs.Prelude.{◌≡◌, Some, true, IsSome, IfSome};
-ghost use Rattle.lsdb.specs.Places.{item_at, slot_at, lsas_in};
+ghost use Rattle.lsdb.specs.Slots.{item_at, slot_at, lsas_in};
 ghost use Rattle.area_graph.specs.declared.vertex.Vertex.TheVariants.{Network};
 ghost use Rattle.area_graph.specs.Area.{is_vertex_lsa, vertex_of};
 ghost use Rattle.area_graph.specs.InUse.{IsLsaOf};

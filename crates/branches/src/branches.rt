@@ -2,7 +2,7 @@
 
 ghost use Rattle.std.specs.Prelude.{◌≡◌, ◌⊎◌, ◌<◌, ◌==◌, ◌++◌, Ok, IfOk, OnOk, OnErr, IsOk, true, false, length};
 ghost use Rattle.std.specs.String.{string_bytes};
-ghost use Rattle.lsdb.specs.Places.{lists_of};
+ghost use Rattle.lsdb.specs.Slots.{lists_of};
 ghost use Rattle.lsdb.specs.Text.{text};
 ghost use Rattle.edit_history.specs.Session.{start, state};
 ghost use Rattle.routing_table.specs.Routers.{attached_routers};

@@ -2,7 +2,7 @@
 
 ghost use Rattle.std.specs.Prelude.{◌≡◌, ◌++◌, IfOk, OnOk, OnErr, IsOk, false, filter_map, length, option_map, option_to_list};
 ghost use Rattle.std.specs.String.{string_bytes};
-ghost use Rattle.lsdb.specs.Places.{lists_of};
+ghost use Rattle.lsdb.specs.Slots.{lists_of};
 ghost use Rattle.edit_history.specs.Session.{accepted_or, state, edited};
 ghost use Rattle.routing_table.specs.Routers.{attached_routers};
 ghost use Rattle.routing_table.specs.Tables.{table_in};

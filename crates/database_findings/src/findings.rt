@@ -3,7 +3,7 @@
 ghost use Rattle.std.specs.Prelude.{◌≡◌, ◌++◌, IfOk, OnOk, map};
 ghost use Rattle.std.specs.List.{AllZip, filter_map, flat_map};
 ghost use Rattle.lsdb.specs.Lists.{areas_of, lsas_of};
-ghost use Rattle.lsdb.specs.Places.{lists_of};
+ghost use Rattle.lsdb.specs.Slots.{lists_of};
 ghost use Rattle.lsdb.specs.declared.section.Section.TheVariants.{Area, AsWide};
 ghost use Rattle.database_findings.specs.Findings.{AreFindings, AreFindingsOfArea, AreFindingsOfAs, AreMissing, IsPartOf, asbr_finding, network_finding, router_finding, routers_anywhere};
 ghost use Rattle.database_findings.specs.Naming.{asbr_named, network_described, networks_named, router_described, routers_named};

@@ -4,7 +4,7 @@ ghost use Rattle.std.specs.Prelude.{◌≡◌, ◌≤◌, ◌++◌, length, IfOk
 ghost use Rattle.std.specs.List.{count_by, flat_map};
 ghost use Rattle.lsdb.specs.Counts.{has_bit_v, is_virtual};
 ghost use Rattle.lsdb.specs.Lists.{lsas_of};
-ghost use Rattle.lsdb.specs.Places.{lists_of};
+ghost use Rattle.lsdb.specs.Slots.{lists_of};
 ghost use Rattle.database_findings.specs.LeftOut.{is_nssa, is_opaque, virtual_links, left_out, all_left_out};
 
 use crate::finding::{DatabaseFinding, Feature};

@@ -13,7 +13,7 @@ mod views;
 mod bases;
 mod filters;
 mod noted;
-mod places;
+mod slots;
 
 // Scripts.
 mod lines;

@@ -15,10 +15,10 @@ use Rattle.lsdb.specs.declared.slot.SlotId.{SlotId}
 use Rattle.lsdb.specs.Limits.{longest_dump}
 use Rattle.lsdb.specs.Lists.{AreaHead, SectionLsas, Lists, IsBefore, IsDatabase, heads_of, is_head_of, is_section, is_in_scope, limit_of, has_key}
 use Rattle.lsdb.specs.Lists.{lsas_of, size}
-use Rattle.lsdb.specs.Places.{Place, Places, item_at, slot_at, put, update_at, open_at, lists_of, places_in, lsas_or_none, IsNamed}
+use Rattle.lsdb.specs.Slots.{Slot, Slots, item_at, slot_at, put, update_at, open_at, lists_of, slots_in, lsas_or_none, IsNamed}
 use Rattle.lsdb.proofs.ListLemmas.{map_mid}
-use Rattle.lsdb.proofs.PlaceLemmas.{slot_at-put, lists_of-open_at}
-use Rattle.lsdb.proofs.PlaceLemmas.{with_lsa, Fits, lists-new, added_safe, split}
+use Rattle.lsdb.proofs.SlotLemmas.{slot_at-put, lists_of-open_at}
+use Rattle.lsdb.proofs.SlotLemmas.{with_lsa, Fits, lists-new, added_safe, split}
 use Rattle.edit_script.specs.declared.edit.Edit.{Edit}
 use Rattle.edit_history.specs.declared.fault.EditFault.{EditFault}
 use Rattle.edit_history.specs.Rules.{stays, Rule, adding, kept_lsas, fated_changes, section_after, lists_after, Change, addition, section_name}
@@ -96,7 +96,7 @@ pub record Gets (db : Lists) (name : Section) (i : ℕ) (x : List ℕ) : Type 0 
   pub leads : lists_after (adding name x) db ≡ update_at (with_lsa x) db i
   pub reports : changes_by (adding name x) db ≡ addition name x ∷ []
 
-pub gets : (d : Places) (name : Section) (i : ℕ) (x : List ℕ) → IsDatabase (lists_of d) → IsNamed d name i → Gets (lists_of d) name i x
+pub gets : (d : Slots) (name : Section) (i : ℕ) (x : List ℕ) → IsDatabase (lists_of d) → IsNamed d name i → Gets (lists_of d) name i x
 gets d name i x sound is_named = by_item (item_at (lists_of d) i) refl is_named.exists where
   here : (s : SectionLsas) → item_at (lists_of d) i ≡ Some s → Gets (lists_of d) name i x
   here s at =
@@ -166,14 +166,14 @@ fits db name i x g new =
 
 -- ---- the plan
 
-abbrev new_at : Section → ℕ → Option Place → Option Place → Change
+abbrev new_at : Section → ℕ → Option Slot → Option Slot → Change
 new_at name kind old now = record { section = name; kind = kind; old = unwrap_or old None; new = unwrap_or now None }
 
 abbrev fills : SlotId → Section → List ℕ → SwapData
 fills slot name x = record { slot = slot; section = name; kind = kind_of x; other = Some x }
 
-carried : (d : Places) (name : Section) (slot : SlotId) (x : List ℕ) → IsDatabase (lists_of d) → IsNamed d name slot.section
-    → slot.index ≡ length (places_in d slot.section) → slot_at (open_at d slot.section) slot ≡ Some None → IsNew (lists_of d) name x
+carried : (d : Slots) (name : Section) (slot : SlotId) (x : List ℕ) → IsDatabase (lists_of d) → IsNamed d name slot.section
+    → slot.index ≡ length (slots_in d slot.section) → slot_at (open_at d slot.section) slot ≡ Some None → IsNew (lists_of d) name x
     → CarriesOutRule (open_at d slot.section) (adding name x) (fills slot name x ∷ [])
 carried d name slot x sound named last empty new =
     let e = open_at d slot.section in
@@ -183,7 +183,7 @@ carried d name slot x sound named last empty new =
     let now : slot_at (put e slot (Some x)) slot ≡ Some (Some x) = slot_at-put e slot (Some x) None empty in
     record {
       can = (
-        subst (λ (o : Option Place). IsSome o) (sym empty) refl,
+        subst (λ (o : Option Slot). IsSome o) (sym empty) refl,
         subst IsDatabase (sym filled) (added_safe (lists_of d) slot.section g.section x g.at (fits (lists_of d) name slot.section x g new) sound),
         tt,
       );
@@ -191,17 +191,17 @@ carried d name slot x sound named last empty new =
       reports =
           ap (changes_by (adding name x)) same
           ∙ g.reports
-          ∙ sym (ap (λ (o : Option Place). new_at name (kind_of x) o (slot_at (put e slot (Some x)) slot) ∷ []) empty
-          ∙ ap (λ (o : Option Place). new_at name (kind_of x) (Some None) o ∷ []) now);
+          ∙ sym (ap (λ (o : Option Slot). new_at name (kind_of x) o (slot_at (put e slot (Some x)) slot) ∷ []) empty
+          ∙ ap (λ (o : Option Slot). new_at name (kind_of x) (Some None) o ∷ []) now);
     }
 
-pub planned_new : (d e : Places) (edit : Edit) (name : Section) (x : List ℕ) (items : List SwapData) → IsDatabase (lists_of d)
+pub planned_new : (d e : Slots) (edit : Edit) (name : Section) (x : List ℕ) (items : List SwapData) → IsDatabase (lists_of d)
     → rule_of (lists_of d) edit ≡ Ok (adding name x) → IsNew (lists_of d) name x → Opens d e name x items → Planned d e edit items
 planned_new d e edit name x items sound ruled new o =
     subst (λ (ss : List SwapData). Planned d e edit ss) (sym o.swap)
-    (subst (λ (w : Places). Planned d w edit (fills o.slot name x ∷ [])) (sym o.opens.opened) here) where
+    (subst (λ (w : Slots). Planned d w edit (fills o.slot name x ∷ [])) (sym o.opens.opened) here) where
       empty : slot_at (open_at d o.slot.section) o.slot ≡ Some None
-      empty = ap (λ (w : Places). slot_at w o.slot) (sym o.opens.opened) ∙ o.opens.empty
+      empty = ap (λ (w : Slots). slot_at w o.slot) (sym o.opens.opened) ∙ o.opens.empty
 
       here : Planned d (open_at d o.slot.section) edit (fills o.slot name x ∷ [])
       here = record {

@@ -7,12 +7,12 @@ ghost use Rattle.lsa_codec.specs.Links.{links_of};
 ghost use Rattle.lsa_codec.specs.LsTypes.{router_lsa};
 ghost use Rattle.lsa_codec.specs.Making.{leads_to};
 ghost use Rattle.lsdb.specs.declared.section.Section.TheVariants.{Area};
-ghost use Rattle.lsdb.specs.Places.{item_at, slot_at, places_in, head_or_none};
+ghost use Rattle.lsdb.specs.Slots.{item_at, slot_at, slots_in, head_or_none};
 ghost use Rattle.edit_script.specs.declared.edit.Edit.TheVariants.{FailLink, FailNet, FailRouter};
 ghost use Rattle.edit_history.specs.declared.fault.EditFault.TheVariants.{OutOfMemory};
 ghost use Rattle.edit_history.specs.Rules.{section_name};
 ghost use Rattle.edit_history.specs.Effect.{are_linked, link_fate, net_fate, router_fate};
-ghost use Rattle.edit_history.specs.steps.Plans.{swap_for, place_swap, section_swaps};
+ghost use Rattle.edit_history.specs.steps.Plans.{swap_for, slot_swap, section_swaps};
 ghost use Rattle.edit_history.specs.steps.Failing.{fate_by, in_order, pair_swaps, shortened};
 ghost use Rattle.edit_history.specs.Applied.{Planned, IsRefused};
 
@@ -147,7 +147,7 @@ fn add_swap<A: Allocator + Copy>(
 ) -> Result<(), EditFault>
     ensures swaps { OnOk result
         (swaps.new.items ≡ swaps.old.items
-        ++ option_to_list (place_swap (fate_by failure) slot section (slot_at database.now slot))) }
+        ++ option_to_list (slot_swap (fate_by failure) slot section (slot_at database.now slot))) }
     ensures memory { IfErr result (λ fault. fault ≡ OutOfMemory) }
 {
     let Some(lsa) = database.get(slot) else {
@@ -175,7 +175,7 @@ fn add_swaps_of_network<A: Allocator + Copy>(
     requires { IsSome (item_at database.now number) }
     ensures swaps { OnOk result
         (swaps.new.items ≡ swaps.old.items
-        ++ section_swaps (net_fate network) number section 0 (places_in database.now number)) }
+        ++ section_swaps (net_fate network) number section 0 (slots_in database.now number)) }
     ensures memory { IfErr result (λ fault. fault ≡ OutOfMemory) }
 {
     let filters = database.transit_filters(number);
@@ -204,7 +204,7 @@ fn swaps_of_network<A: Allocator + Copy>(
     requires { IsSome (item_at database.now number) }
     ensures swaps { IfOk result
         (λ v. v.items
-        ≡ section_swaps (net_fate network) number (Area area) 0 (places_in database.now number)) }
+        ≡ section_swaps (net_fate network) number (Area area) 0 (slots_in database.now number)) }
     ensures memory { IfErr result (λ fault. fault ≡ OutOfMemory) }
 {
     let mut swaps = Vec::new(database.alloc());
@@ -226,17 +226,17 @@ fn in_order(one: SlotId, other: SlotId) -> (SlotId, SlotId)
 /// The swaps of two places, in their order. The only error is that memory ran out.
 fn swaps_of_pair<A: Allocator + Copy>(
     database: &Database<A>,
-    places: (SlotId, SlotId),
+    slots: (SlotId, SlotId),
     section: Section,
     failure: Failure,
 ) -> Result<Vec<Swap<A>, A>, EditFault>
     ensures swaps { IfOk result
-        (λ v. v.items ≡ pair_swaps (fate_by failure) section database.now places) }
+        (λ v. v.items ≡ pair_swaps (fate_by failure) section database.now slots) }
     ensures memory { IfErr result (λ fault. fault ≡ OutOfMemory) }
 {
     let mut swaps = Vec::new(database.alloc());
-    add_swap(database, places.0, section, failure, &mut swaps)?;
-    add_swap(database, places.1, section, failure, &mut swaps)?;
+    add_swap(database, slots.0, section, failure, &mut swaps)?;
+    add_swap(database, slots.1, section, failure, &mut swaps)?;
     Ok(swaps)
 }
 
@@ -296,10 +296,10 @@ pub(crate) fn plan_fail_link<A: Allocator + Copy>(
         return Err(EditFault::NoLink);
     }
     // No other LSA changes, so none is looked at.
-    let places = in_order(slot, other_slot);
+    let slots = in_order(slot, other_slot);
     swaps_of_pair(
         database,
-        places,
+        slots,
         Section::Area(area),
         Failure::Links(router, neighbor),
     )
@@ -348,14 +348,14 @@ fn add_swaps_of_router<A: Allocator + Copy>(
         (swaps.new.items ≡ swaps.old.items
         ++ section_swaps (router_fate router) number
         (section_name (head_or_none (item_at database.now number))) 0
-        (places_in database.now number)) }
+        (slots_in database.now number)) }
     ensures memory { IfErr result (λ fault. fault ≡ OutOfMemory) }
 {
     let section = section_name(database, number);
-    for place in database.places_of_router(number, router) {
+    for entry in database.slots_of_router(number, router) {
         let slot = SlotId {
             section: number,
-            index: place.index as usize,
+            index: entry.index as usize,
         };
         add_swap(database, slot, section, Failure::Router(router), swaps)?;
     }

@@ -1,7 +1,7 @@
 //! The limits of a database: whether there is room for more.
 
 ghost use Rattle.std.specs.Prelude.{◌≡◌, Err, IfErr, OnOk};
-ghost use Rattle.lsdb.specs.Places.{lists_of};
+ghost use Rattle.lsdb.specs.Slots.{lists_of};
 ghost use Rattle.edit_history.specs.Effect.{is_dump_full, most_lsas, is_full, room_for, has_room};
 
 use crate::fault::EditFault;

@@ -5,8 +5,8 @@ ghost use Rattle.std.specs.List.{find, list_any};
 ghost use Rattle.lsa_codec.specs.Key.{router_key};
 ghost use Rattle.lsdb.specs.declared.section.Section.TheVariants.{Area};
 ghost use Rattle.lsdb.specs.Lists.{is_section, has_key, lsas_of};
-ghost use Rattle.lsdb.specs.Places.{item_at, slot_at, lists_of, lsas_in, IsFirstPlace, IsNamed};
-ghost use Rattle.lsdb.specs.PrefixPlaces.{prefix_of};
+ghost use Rattle.lsdb.specs.Slots.{item_at, slot_at, lists_of, lsas_in, IsFirstSlot, IsNamed};
+ghost use Rattle.lsdb.specs.PrefixSlots.{prefix_of};
 ghost use Rattle.edit_history.specs.declared.fault.EditFault.TheVariants.{NoArea, NoRouter};
 ghost use Rattle.edit_history.specs.Effect.{router_lsa_of, has_router, is_network, is_prefix, is_originated_for};
 ghost use Rattle.edit_history.specs.steps.Plans.{IsFirstLsa, is_wanted, passes};
@@ -275,7 +275,7 @@ fn first_by_keys<A: Allocator + Copy>(
 ) -> Option<SlotId>
     requires { IsSome (item_at database.now section) }
     ensures { MatchOption result (find (is_wanted wanted.now) (lsas_in database.now section) ≡ None)
-        (IsFirstPlace database.now section (is_wanted wanted.now)) }
+        (IsFirstSlot database.now section (is_wanted wanted.now)) }
 {
     let (least, greatest) = wanted.key_range();
     let mut first = None;
@@ -302,12 +302,12 @@ fn first_of_prefix<A: Allocator + Copy>(
     requires exists { IsSome (item_at database.now section) }
     requires own { AreOriginatedFor router prefix (is_wanted wanted.now) }
     ensures { MatchOption result (find (is_wanted wanted.now) (lsas_in database.now section) ≡ None)
-        (IsFirstPlace database.now section (is_wanted wanted.now)) }
+        (IsFirstSlot database.now section (is_wanted wanted.now)) }
 {
-    for place in database.places_of_prefix(section, router, prefix) {
+    for entry in database.slots_of_prefix(section, router, prefix) {
         let slot = SlotId {
             section,
-            index: place.index as usize,
+            index: entry.index as usize,
         };
         if is_wanted_at(database, slot, wanted) {
             return Some(slot);
@@ -330,7 +330,7 @@ fn are_fewer_of_prefix<A: Allocator + Copy>(
     let (least, greatest) = wanted.key_range();
     let keys = database.keys_between(section, least, greatest);
     database
-        .places_of_prefix(section, router, prefix)
+        .slots_of_prefix(section, router, prefix)
         .upper_bound()
         <= keys.upper_bound()
 }
@@ -344,7 +344,7 @@ fn first_in<A: Allocator + Copy>(
 ) -> Option<SlotId>
     requires { IsSome (item_at database.now section) }
     ensures { MatchOption result (find (is_wanted wanted.now) (lsas_in database.now section) ≡ None)
-        (IsFirstPlace database.now section (is_wanted wanted.now)) }
+        (IsFirstSlot database.now section (is_wanted wanted.now)) }
 {
     let Some((router, prefix)) = wanted.origin() else {
         return first_by_keys(database, section, wanted);

@@ -2,7 +2,7 @@
 
 ghost use Rattle.std.specs.Prelude.{◌≡◌, ◌<◌, ◌^◌, IsSome, IfOk, IfErr, OnErr};
 ghost use Rattle.lsa_codec.specs.Prefix.{IsNet};
-ghost use Rattle.lsdb.specs.Places.{item_at, head_or_none};
+ghost use Rattle.lsdb.specs.Slots.{item_at, head_or_none};
 ghost use Rattle.edit_script.specs.declared.edit.Edit.TheVariants.{Summary, AddSummary, AddExternal, DropExternal};
 ghost use Rattle.edit_history.specs.declared.fault.EditFault.TheVariants.{OutOfMemory};
 ghost use Rattle.edit_history.specs.Effect.{options_in, is_type2};

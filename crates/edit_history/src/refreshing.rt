@@ -4,15 +4,15 @@
 
 ghost use Rattle.std.specs.Prelude.{◌≡◌, ◌++◌, IsSome, IfOk, IfErr, OnOk, OnErr, option_to_list};
 ghost use Rattle.lsdb.specs.declared.section.Section.TheVariants.{Area};
-ghost use Rattle.lsdb.specs.Places.{item_at, slot_at, places_in, head_or_none, lists_of};
+ghost use Rattle.lsdb.specs.Slots.{item_at, slot_at, slots_in, head_or_none, lists_of};
 ghost use Rattle.edit_script.specs.declared.edit.Edit.TheVariants.{Refresh};
 ghost use Rattle.summary_metrics.specs.SummaryMetrics.{AreOf};
 ghost use Rattle.summary_metrics.specs.Refreshed.{is_not_backbone};
 ghost use Rattle.edit_history.specs.declared.fault.EditFault.TheVariants.{OutOfMemory};
 ghost use Rattle.edit_history.specs.Rules.{section_name};
 ghost use Rattle.edit_history.specs.Refreshing.{metric_fate, pass_fates};
-ghost use Rattle.edit_history.specs.Exchange.{CanDo, done_places};
-ghost use Rattle.edit_history.specs.steps.Plans.{place_swap, section_swaps, swaps_from};
+ghost use Rattle.edit_history.specs.Exchange.{CanDo, done_slots};
+ghost use Rattle.edit_history.specs.steps.Plans.{slot_swap, section_swaps, swaps_from};
 ghost use Rattle.edit_history.specs.steps.Passing.{chosen};
 ghost use Rattle.edit_history.specs.Applied.{Planned, IsRefused};
 
@@ -56,7 +56,7 @@ fn add_metric_swap<A: Allocator + Copy>(
     requires { AreOf (lists_of database.now) known.old }
     ensures swaps { OnOk result
         (swaps.new.items ≡ swaps.old.items
-        ++ option_to_list (place_swap (metric_fate (lists_of database.now) area) slot (Area area)
+        ++ option_to_list (slot_swap (metric_fate (lists_of database.now) area) slot (Area area)
         (slot_at database.now slot))) }
     ensures memory { IfErr result (λ fault. fault ≡ OutOfMemory) }
     ensures known { AreOf (lists_of database.now) known.new }
@@ -90,11 +90,11 @@ fn add_area_swaps<A: Allocator + Copy>(
     ensures swaps { OnOk result
         (swaps.new.items ≡ swaps.old.items
         ++ section_swaps (metric_fate (lists_of database.now) area) number (Area area) 0
-        (places_in database.now number)) }
+        (slots_in database.now number)) }
     ensures memory { IfErr result (λ fault. fault ≡ OutOfMemory) }
     ensures known { AreOf (lists_of database.now) known.new }
 {
-    for index in 0..database.place_count(number) {
+    for index in 0..database.slot_count(number) {
         let slot = SlotId {
             section: number,
             index,
@@ -119,7 +119,7 @@ fn add_pass_swaps<A: Allocator + Copy>(
         (let head = head_or_none (item_at database.now number) in
         swaps.new.items ≡ swaps.old.items
         ++ section_swaps (pass_fates (chosen pass) (lists_of database.now) head) number
-        (section_name head) 0 (places_in database.now number)) }
+        (section_name head) 0 (slots_in database.now number)) }
     ensures memory { IfErr result (λ fault. fault ≡ OutOfMemory) }
     ensures known { AreOf (lists_of database.now) known.new }
 {
@@ -159,8 +159,8 @@ fn other_swaps<A: Allocator + Copy>(
     known: &mut SummaryMetrics<A>,
 ) -> Result<Vec<Swap<A>, A>, EditFault>
     requires can { CanDo database.old first.old }
-    requires known { AreOf (lists_of (done_places database.old first.old)) known.old }
-    ensures swaps { IfOk result (λ v. let d = done_places database.old first.old in
+    requires known { AreOf (lists_of (done_slots database.old first.old)) known.old }
+    ensures swaps { IfOk result (λ v. let d = done_slots database.old first.old in
         v.items ≡ swaps_from (pass_fates is_not_backbone (lists_of d)) 0 d) }
     ensures memory { IfErr result (λ fault. fault ≡ OutOfMemory) }
     ensures database { database.new ≡ database.old }

@@ -2,9 +2,9 @@
 
 ghost use Rattle.std.specs.Prelude.{◌≡◌, ◌∷◌, [], IsSome, IfSome, IfOk, Some};
 ghost use Rattle.lsdb.specs.Lists.{IsDatabase};
-ghost use Rattle.lsdb.specs.Places.{put, slot_at, lists_of};
+ghost use Rattle.lsdb.specs.Slots.{put, slot_at, lists_of};
 ghost use Rattle.edit_history.specs.Effect.{is_of_graph};
-ghost use Rattle.edit_history.specs.Exchange.{CanDo, CanUndo, is_of_as_scope, taken, done_places, done_swaps, undone_places, undone_swaps};
+ghost use Rattle.edit_history.specs.Exchange.{CanDo, CanUndo, is_of_as_scope, taken, done_slots, done_swaps, undone_slots, undone_swaps};
 
 use lsa_codec::{AreaId, Lsa};
 use lsdb::{Database, Section, SlotId};
@@ -101,7 +101,7 @@ pub(crate) fn one_swap<A: Allocator + Copy>(
 /// Does swaps, from the first to the last.
 pub(crate) fn do_swaps<A: Allocator + Copy>(database: &mut Database<A>, swaps: &mut [Swap<A>])
     requires { CanDo database.old swaps.old }
-    ensures database { database.new ≡ done_places database.old swaps.old }
+    ensures database { database.new ≡ done_slots database.old swaps.old }
     ensures swaps { swaps.new ≡ done_swaps database.old swaps.old }
 {
     for i in 0..swaps.len() {
@@ -113,7 +113,7 @@ pub(crate) fn do_swaps<A: Allocator + Copy>(database: &mut Database<A>, swaps: &
 /// Undoes swaps, from the last to the first.
 pub(crate) fn undo_swaps<A: Allocator + Copy>(database: &mut Database<A>, swaps: &mut [Swap<A>])
     requires { CanUndo database.old swaps.old }
-    ensures database { database.new ≡ undone_places database.old swaps.old }
+    ensures database { database.new ≡ undone_slots database.old swaps.old }
     ensures swaps { swaps.new ≡ undone_swaps database.old swaps.old }
 {
     for i in (0..swaps.len()).rev() {

@@ -1,7 +1,7 @@
 //! Databases after edits, with their histories.
 
 ghost use Rattle.std.specs.Prelude.{◌≡◌, ◌≢◌, ◌≤◌, ◌↔◌, length, true, All, Ok, Err, IsOk, IfOk, IfErr, OnOk, OnErr};
-ghost use Rattle.lsdb.specs.Places.{lists_of};
+ghost use Rattle.lsdb.specs.Slots.{lists_of};
 ghost use Rattle.edit_history.specs.Effect.{effect};
 ghost use Rattle.edit_history.specs.Journal.{Links};
 ghost use Rattle.edit_history.specs.Session.{Session, session_of, state, moved_back, moved_on};

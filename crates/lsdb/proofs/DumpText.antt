@@ -253,9 +253,9 @@ database_sections db rest good =
     let listed : List ℕ = flat_map section_text s.areas in
     let last : List ℕ = lsas_text s.wide.lsas in
     let pieces : flat_map section_text whole ≡ listed ++ last = flat_map-push s.areas wide ∙ ap (λ (t : List ℕ). listed ++ t) (wide_text wide refl) in
-    let place : 6 + length listed + length last ≡ size whole = omega (arith, sections_size whole, ap length pieces, length-append listed last) in
+    let slot : 6 + length listed + length last ≡ size whole = omega (arith, sections_size whole, ap length pieces, length-append listed last) in
     subst (λ (d : Lists). sections_at (here 5 (sections_text d ++ rest)) ≡ Ok (d, here (size d) rest)) (sym is)
-    (sections_again s.areas s.wide.lsas rest next few (all_at_mid IsSection s.areas [] wide sections) ∙ ap (λ (k : ℕ). done (whole, here k rest)) place)
+    (sections_again s.areas s.wide.lsas rest next few (all_at_mid IsSection s.areas [] wide sections) ∙ ap (λ (k : ℕ). done (whole, here k rest)) slot)
 
 dump_again : (db : Lists) → IsDatabase db → dump_at (beginning (text db)) ≡ Ok db
 unfolding dump_at

@@ -164,8 +164,8 @@ lsas_again : (area : Option AreaHead) (lsas seen : List (List ℕ)) (o : ℕ) (r
 unfolding lsas_from
 lsas_again area [] seen o rest good =
     let same : seen ≡ seen ++ [] = sym (append-nil seen) in
-    let place : o ≡ o + 0 = omega arith in
-    ap (λ (x : List (List ℕ)). done (x, here o rest)) same ∙ ap (λ (k : ℕ). done (seen ++ [], here k rest)) place
+    let slot : o ≡ o + 0 = omega arith in
+    ap (λ (x : List (List ℕ)). done (x, here o rest)) same ∙ ap (λ (k : ℕ). done (seen ++ [], here k rest)) slot
 lsas_again area (lsa ∷ lsas) seen o rest good =
     let at = here o (lsa ++ (concat lsas ++ rest)) in
     let regrouped : concat (lsa ∷ lsas) ++ rest ≡ lsa ++ (concat lsas ++ rest) = append_assoc lsa (concat lsas) rest in
@@ -173,14 +173,14 @@ lsas_again area (lsa ∷ lsas) seen o rest good =
     let m = middle area seen lsa lsas good in
     let first = lsa_again area lsa o (concat lsas ++ rest) m.accepted m.scope in
     let others = lsas_again area lsas (seen ++ lsa ∷ []) (o + length lsa) rest (subst (AreLsas area) (sym moved) good) in
-    let place : o + length lsa + length (concat lsas) ≡ o + length (concat (lsa ∷ lsas)) = omega (arith, length-append lsa (concat lsas)) in
+    let slot : o + length lsa + length (concat lsas) ≡ o + length (concat (lsa ∷ lsas)) = omega (arith, length-append lsa (concat lsas)) in
     ap (λ (bytes : List ℕ). lsas_from area (suc (length lsas)) seen (here o bytes)) regrouped
     ∙ ap (λ (r : Result (List ℕ × At) DumpFault). r >>= next_lsas area (length lsas) seen at) first
     ∙ ap (λ (b : Bool). cond b (Err (fault_at at DuplicateLsa))
     (lsas_from area (length lsas) (seen ++ lsa ∷ []) (here (o + length lsa) (concat lsas ++ rest)))) m.new
     ∙ others
     ∙ ap (λ (x : List (List ℕ)). done (x, here (o + length lsa + length (concat lsas)) rest)) moved
-    ∙ ap (λ (k : ℕ). done (seen ++ lsa ∷ lsas, here k rest)) place
+    ∙ ap (λ (k : ℕ). done (seen ++ lsa ∷ lsas, here k rest)) slot
 
 -- ---- a section
 
@@ -242,8 +242,8 @@ section_again area lsas o rest good =
     ∙ number_again w16 (2 ^ 16) wide16 (length lsas) o (concat lsas ++ rest) (omega (arith, limit_fits area)) in
     let within : ltb (limit_of area) (length lsas) ≡ false = le-ltb _ _ few in
     let others = lsas_again area lsas [] (o + 2) rest (record { accepted = good.accepted; scope = good.keys.scope; distinct = good.keys.distinct }) in
-    let place : o + 2 + length (concat lsas) ≡ o + length (lsas_text lsas) = omega (arith, length-append (to_be_bytes w16 (length lsas)) (concat lsas)) in
+    let slot : o + 2 + length (concat lsas) ≡ o + length (lsas_text lsas) = omega (arith, length-append (to_be_bytes w16 (length lsas)) (concat lsas)) in
     ap (λ (r : Result (ℕ × At) DumpFault). r >>= λ count. counted_at area at count >>= made area) read
     ∙ ap (λ (b : Bool). cond b (Err (fault_at at TooManyLsas)) (lsas_from area (length lsas) [] (here (o + 2) (concat lsas ++ rest))) >>= made area) within
     ∙ ap (λ (r : Result (List (List ℕ) × At) DumpFault). r >>= made area) others
-    ∙ ap (λ (k : ℕ). done (section_with area lsas, here k rest)) place
+    ∙ ap (λ (k : ℕ). done (section_with area lsas, here k rest)) slot

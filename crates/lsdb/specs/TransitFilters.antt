@@ -7,7 +7,7 @@ use Rattle.lsa_codec.specs.Links.{links_of}
 use Rattle.lsa_codec.specs.LsTypes.{router_lsa, network_lsa}
 use Rattle.lsa_codec.specs.Making.{leads_to_net}
 use Rattle.lsdb.specs.declared.transit_filters.TransitFilter.{TransitFilter}
-use Rattle.lsdb.specs.Places.{Place, item_at}
+use Rattle.lsdb.specs.Slots.{Slot, item_at}
 
 -- an LSA is of the transit network whose Designated Router has this address: a router-LSA with a link to it (RFC 2328, A.4.2),
 -- or the network-LSA of it (A.4.3)
@@ -28,7 +28,7 @@ abbrev pub may_have : Addr → TransitFilter → Bool
 may_have network filter = not (bit_and filter.networks (network_bit network) == 0) && not (bit_and filter.blocks (block_bit network) == 0)
 
 -- a filter for each place, which may have each network that the LSA there is of
-pub record AreTransitFilters (places : List Place) (filters : List TransitFilter) : Type 0 where
-  pub count : length filters ≡ length places
-  pub whole : (index : ℕ) (lsa : List ℕ) (filter : TransitFilter) (network : Addr) → item_at places index ≡ Some (Some lsa)
+pub record AreTransitFilters (slots : List Slot) (filters : List TransitFilter) : Type 0 where
+  pub count : length filters ≡ length slots
+  pub whole : (index : ℕ) (lsa : List ℕ) (filter : TransitFilter) (network : Addr) → item_at slots index ≡ Some (Some lsa)
       → item_at filters index ≡ Some filter → is_of_network network lsa ≡ true → may_have network filter ≡ true

@@ -3,8 +3,8 @@
 ghost use Rattle.std.specs.Prelude.{◌≡◌, ◌≤◌, ◌++◌, ℕ, List, length, take, Ok, Err, IfOk, IfErr};
 ghost use Rattle.lsdb.specs.Limits.{longest_session};
 ghost use Rattle.lsdb.specs.Lists.{Lists, IsDatabase, size};
-ghost use Rattle.lsdb.specs.Places.{lists_of};
-ghost use Rattle.lsdb.specs.steps.View.{places_of};
+ghost use Rattle.lsdb.specs.Slots.{lists_of};
+ghost use Rattle.lsdb.specs.steps.View.{slots_of};
 ghost use Rattle.lsdb.specs.steps.Reading.{at_of, Gives, Reads, IsMemoryAfter};
 ghost use Rattle.lsdb.specs.Loading.{IsFirstFault};
 ghost use Rattle.lsdb.specs.BaseText.{base_text};
@@ -53,7 +53,7 @@ fn read_base_sections<'a, A: Allocator + Copy>(
     alloc: A,
     at: Cursor<'a>,
 ) -> Result<(Vec<SectionOf<A>, A>, Cursor<'a>), ReadError>
-    ensures base { Gives (λ x. (lists_of (places_of x.0.items), at_of x.1))
+    ensures base { Gives (λ x. (lists_of (slots_of x.0.items), at_of x.1))
         result (base_at (at_of at.entry)) }
     ensures memory { IsMemoryAfter (base_front_at (at_of at.entry)) result }
 {
@@ -67,7 +67,7 @@ fn read_base<A: Allocator + Copy>(
     alloc: A,
     bytes: &[u8],
 ) -> Result<(Vec<SectionOf<A>, A>, usize), ReadError>
-    ensures base { Gives (λ x. (lists_of (places_of x.0.items), x.1))
+    ensures base { Gives (λ x. (lists_of (slots_of x.0.items), x.1))
         result (base_loaded bytes.now) }
     ensures memory { IsMemoryAfter (base_front_loaded bytes.now) result }
 {

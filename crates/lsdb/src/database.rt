@@ -3,10 +3,10 @@
 ghost use Rattle.std.specs.Prelude.{◌≡◌, ◌≤◌};
 ghost use Rattle.lsdb.specs.Limits.{longest_dump};
 ghost use Rattle.lsdb.specs.Lists.{IsDatabase, size};
-ghost use Rattle.lsdb.specs.Places.{lists_of};
-ghost use Rattle.lsdb.specs.steps.View.{places_of};
+ghost use Rattle.lsdb.specs.Slots.{lists_of};
+ghost use Rattle.lsdb.specs.steps.View.{slots_of};
 
-use crate::keyed_places::KeyedPlaces;
+use crate::keyed_slots::KeyedSlots;
 use lsa_codec::AreaId;
 use std::alloc::{Allocator, Global};
 use std::marker::Model;
@@ -22,7 +22,7 @@ pub(crate) struct Head {
 #[derive(Drop)]
 pub(crate) struct SectionOf<A: Allocator> {
     pub(crate) area: Option<Head>,
-    pub(crate) places: KeyedPlaces<A>,
+    pub(crate) slots: KeyedSlots<A>,
 }
 
 /// A link state database: areas in rising order of their IDs, and the LSAs of AS scope behind
@@ -40,13 +40,13 @@ pub struct Database<A: Allocator = Global> {
 }
 
 impl<A: Allocator> Model for Database<A> {
-    ghost use Rattle.lsdb.specs.Places.{Places};
+    ghost use Rattle.lsdb.specs.Slots.{Slots};
 
-    ghost Value = { Places };
+    ghost Value = { Slots };
 
-    ghost use Rattle.lsdb.specs.steps.View.{places_of, IsKept};
+    ghost use Rattle.lsdb.specs.steps.View.{slots_of, IsKept};
 
-    ghost view = { λ a. places_of a.sections.items };
+    ghost view = { λ a. slots_of a.sections.items };
 
     ghost invariant = { λ a. IsKept a.sections.items a.byte_count };
 }
@@ -58,9 +58,9 @@ impl<A: Allocator + Copy> Database<A> {
         sections: Vec<SectionOf<A>, A>,
         byte_count: usize,
     ) -> Database<A>
-        requires sound { IsDatabase (lists_of (places_of sections.items)) }
-        requires byte_count { byte_count ≡ size (lists_of (places_of sections.items)) }
-        ensures { result ≡ places_of sections.items }
+        requires sound { IsDatabase (lists_of (slots_of sections.items)) }
+        requires byte_count { byte_count ≡ size (lists_of (slots_of sections.items)) }
+        ensures { result ≡ slots_of sections.items }
     {
         Database {
             sections,

@@ -17,8 +17,8 @@ pub struct Merged<'a, T: Ord + Copy> {
 
 /// For how many of the latest notes of so many places there is room at first. An insertion among
 /// them moves few, and seldom are all noted anew.
-pub(crate) fn latest_count(places: usize) -> usize {
-    places / 32 + 16
+pub(crate) fn latest_count(slots: usize) -> usize {
+    slots / 32 + 16
 }
 
 impl<'a, T: Ord + Copy> Model for Merged<'a, T> {

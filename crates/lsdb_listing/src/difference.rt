@@ -1,7 +1,7 @@
 //! How a database differs from the headers of a list.
 
 ghost use Rattle.std.specs.Prelude.{◌≡◌, IfOk, Some, option_map};
-ghost use Rattle.lsdb.specs.Places.{lists_of};
+ghost use Rattle.lsdb.specs.Slots.{lists_of};
 ghost use Rattle.lsdb_listing.specs.Comparing.{scope_section, lsa_of, absent, beside_same, change_of, difference_of, differences};
 ghost use Rattle.lsdb_listing.specs.Texts.{change_text, difference_text};
 

@@ -2,7 +2,7 @@
 
 ghost use Rattle.std.specs.Prelude.{◌≡◌, ◌++◌, List, IfOk, OnOk, count_by, flat_map};
 ghost use Rattle.std.specs.String.{string_bytes};
-ghost use Rattle.lsdb.specs.Places.{lists_of};
+ghost use Rattle.lsdb.specs.Slots.{lists_of};
 ghost use Rattle.lsdb_listing.specs.declared.difference.Difference.{Difference as AnyDifference};
 ghost use Rattle.lsdb_listing.specs.Once.{AreOnce};
 ghost use Rattle.lsdb_listing.specs.Texts.{difference_line, finding_lines, is_unreadable, keyed_line, unread_line, AreLines};

@@ -2,7 +2,7 @@
 
 ghost use Rattle.std.specs.Prelude.{◌≡◌, ◌⊎◌, All, IfOk, IfErr, Some, map, List};
 ghost use Rattle.lsdb.specs.Lists.{Lists, IsDatabase};
-ghost use Rattle.lsdb.specs.Places.{lists_of};
+ghost use Rattle.lsdb.specs.Slots.{lists_of};
 ghost use Rattle.lsdb.specs.Text.{text};
 ghost use Rattle.lsdb_merge.specs.Joining.{AreScopes, Joining, joined, section};
 ghost use Rattle.lsdb_merge.specs.Limits.{fault_of};

@@ -4,7 +4,7 @@ ghost use Rattle.std.specs.Prelude.{◌≡◌, ◌&&◌, IfOk, filter, not};
 ghost use Rattle.std.specs.BTreeSet.{contains};
 ghost use Rattle.lsa_codec.specs.Areas.{is_backbone};
 ghost use Rattle.lsa_codec.specs.Order.{area_cmp};
-ghost use Rattle.lsdb.specs.Places.{lists_of};
+ghost use Rattle.lsdb.specs.Slots.{lists_of};
 ghost use Rattle.network_files.specs.Dumps.{areas_of};
 ghost use Rattle.network_findings.specs.NoKind.{areas_in, ids_of, without_kind};
 

@@ -61,13 +61,13 @@ pub undone_spares : (s : Session) (k : ℕ) (area : AreaId) → IsReached s → 
     → graph_lsas area (state (moved_back k s)) ≡ graph_lsas area (state s)
 undone_spares s k area reached =
     subst (λ (t : Session). undo_touches k area t ≡ false → graph_lsas area (state (moved_back k t)) ≡ graph_lsas area (state t)) reached.shows
-    (undo_spares reached.places reached.history k area reached.links)
+    (undo_spares reached.slots reached.history k area reached.links)
 
 pub redone_spares : (s : Session) (k : ℕ) (area : AreaId) → IsReached s → redo_touches k area s ≡ false
     → graph_lsas area (state (moved_on k s)) ≡ graph_lsas area (state s)
 redone_spares s k area reached =
     subst (λ (t : Session). redo_touches k area t ≡ false → graph_lsas area (state (moved_on k t)) ≡ graph_lsas area (state t)) reached.shows
-    (redo_spares reached.places reached.history k area reached.links)
+    (redo_spares reached.slots reached.history k area reached.links)
 
 pub edited_spares : (s t : Session) (e : Edit) (area : AreaId) → IsReached t → edited s e ≡ Ok t
     → edit_touches area (state s) e ≡ false → graph_lsas area (state t) ≡ graph_lsas area (state s)

@@ -2,7 +2,7 @@
 
 ghost use Rattle.std.specs.Prelude.{◌≡◌};
 ghost use Rattle.lsdb.specs.Counts.{counts_of};
-ghost use Rattle.lsdb.specs.Places.{lists_of};
+ghost use Rattle.lsdb.specs.Slots.{lists_of};
 ghost use Rattle.routing_table.specs.AreaLsas.{area_lsas};
 ghost use Rattle.edit_history.specs.Session.{start};
 ghost use Rattle.recalculate.specs.Counts.{info_of};

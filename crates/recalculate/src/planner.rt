@@ -63,7 +63,7 @@ impl<A: Allocator + Copy> Planner<A> {
     ghost use Rattle.std.specs.Prelude.{◌≡◌, ◌≢◌, ◌≤◌, ◌↔◌, ◌+◌, ◌++◌, [], Ok, Err, Some, None, length, true, IsOk, OnOk, OnErr, IfOk, IfErr, IfSome, IsErrOf};
     ghost use Rattle.lsdb.specs.BaseText.{base_text};
     ghost use Rattle.lsdb.specs.Lists.{IsDatabase};
-    ghost use Rattle.lsdb.specs.Places.{lists_of};
+    ghost use Rattle.lsdb.specs.Slots.{lists_of};
     ghost use Rattle.lsdb.specs.Text.{text};
     ghost use Rattle.area_routes.specs.Attached.{attached_areas};
     ghost use Rattle.edit_history.specs.declared.fault.EditFault.TheVariants.{HistoryFull, OutOfMemory};

@@ -50,7 +50,7 @@ impl<A: Allocator + Copy> Study<A> {
     ghost use Rattle.std.specs.Prelude.{◌≡◌, ◌≢◌, ◌≤◌, ◌↔◌, ◌+◌, ◌++◌, [], Ok, Err, Some, length, true, IsOk, OnOk, OnErr, IfOk, IfErr, IfSome, IsErrOf};
     ghost use Rattle.lsdb.specs.BaseText.{base_text};
     ghost use Rattle.lsdb.specs.Lists.{IsDatabase};
-    ghost use Rattle.lsdb.specs.Places.{lists_of};
+    ghost use Rattle.lsdb.specs.Slots.{lists_of};
     ghost use Rattle.area_routes.specs.Attached.{attached_areas, is_attached};
     ghost use Rattle.edit_history.specs.declared.fault.EditFault.TheVariants.{HistoryFull, OutOfMemory};
     ghost use Rattle.edit_history.specs.Session.{edits_of, start, state, effects, most_edits, edited, moved_back, moved_on, redo_touches, undo_touches};

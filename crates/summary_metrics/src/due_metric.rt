@@ -2,7 +2,7 @@
 
 ghost use Rattle.std.specs.Prelude.{◌≡◌, ◌≤◌, ◌==◌, true, not, if◌then◌else◌, Some, None, IfSome};
 ghost use Rattle.lsa_codec.specs.Views.{ls_infinity, metric_of};
-ghost use Rattle.lsdb.specs.Places.{lists_of};
+ghost use Rattle.lsdb.specs.Slots.{lists_of};
 ghost use Rattle.area_routes.specs.Inter.{originator_of};
 ghost use Rattle.external_routes.specs.Summaries.{is_covered};
 ghost use Rattle.summary_metrics.specs.Refreshed.{results_of};

@@ -4,7 +4,7 @@ ghost use Rattle.std.specs.Prelude.{◌≡◌, ◌≤◌, true, IfSome, IfOk, On
 ghost use Rattle.lsa_codec.specs.Areas.{is_backbone};
 ghost use Rattle.lsa_codec.specs.Views.{ls_infinity};
 ghost use Rattle.lsdb.specs.Lists.{IsDatabase, Lists};
-ghost use Rattle.lsdb.specs.Places.{lists_of};
+ghost use Rattle.lsdb.specs.Slots.{lists_of};
 ghost use Rattle.external_routes.specs.Summaries.{borders, is_covered};
 ghost use Rattle.summary_metrics.specs.Refreshed.{refreshed_areas, stale_metric};
 ghost use Rattle.summary_metrics.specs.SummaryMetrics.{AreInside, AreOf};

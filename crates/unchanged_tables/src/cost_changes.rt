@@ -2,7 +2,7 @@
 
 ghost use Rattle.std.specs.Prelude.{IfSome, Some};
 ghost use Rattle.lsdb.specs.Lists.{IsDatabase};
-ghost use Rattle.lsdb.specs.Places.{lists_of, put};
+ghost use Rattle.lsdb.specs.Slots.{lists_of, put};
 ghost use Rattle.unchanged_tables.specs.CostChanges.{IsCostChange};
 
 use area_graph::CostChange;

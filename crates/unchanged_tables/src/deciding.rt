@@ -3,7 +3,7 @@
 ghost use Rattle.std.specs.Prelude.{◌≡◌, true, Some};
 ghost use Rattle.std.specs.Bool.{OnTrue};
 ghost use Rattle.lsdb.specs.Lists.{IsDatabase};
-ghost use Rattle.lsdb.specs.Places.{lists_of, put};
+ghost use Rattle.lsdb.specs.Slots.{lists_of, put};
 ghost use Rattle.routing_table.specs.AreasTrees.{AreOfDatabase};
 ghost use Rattle.routing_table.specs.Tables.{table_in};
 ghost use Rattle.unchanged_tables.specs.Steady.{IsElsewhere, is_foreign};

@@ -132,7 +132,7 @@ fn growths_of_opening(alloc: Global, dump: &[u8]) -> Result<u64, Fail> {
 /// A list of LSAs that was loaded has room for a power of two, and each of its three indexes and
 /// the list of its filters for all of them.
 #[test]
-fn a_refused_place_changes_nothing(rt: HostRuntime) -> Result<(), Fail> {
+fn a_refused_slot_changes_nothing(rt: HostRuntime) -> Result<(), Fail> {
     for (lsas, growths) in [(7, 4), (8, 5), (16, 5)] {
         let dump = area_of(rt.alloc(), lsas)?;
         assert_eq!(rt;

@@ -28,8 +28,8 @@ fn noted_text<A: Allocator + Copy>(
         return Err("a prefix")?;
     };
     if section < database.section_count() {
-        for place in database.places_of_prefix(section, RouterId(0x02020202), prefix) {
-            let index = place.index;
+        for slot in database.slots_of_prefix(section, RouterId(0x02020202), prefix) {
+            let index = slot.index;
             text.push_str(&format!(in alloc; "{index} ")?)?;
         }
     }
@@ -115,7 +115,7 @@ fn are_noted_after_edits<A: Allocator + Copy>(
 }
 
 #[test]
-fn notes_the_places_of_a_prefix(rt: HostRuntime) -> Result<(), Fail> {
+fn notes_the_slots_of_a_prefix(rt: HostRuntime) -> Result<(), Fail> {
     let failing = FailingAlloc::new(rt.alloc(), u64::MAX);
     let (mut database, mut history) = edited(&failing, NETS, &[])?;
     let noted = are_noted_after_edits(rt.alloc(), &failing, &mut database, &mut history)?;

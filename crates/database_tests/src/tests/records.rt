@@ -1,7 +1,7 @@
 //! Records: they tell their edit, and go back and on without memory.
 
 ghost use Rattle.lsdb.specs.Lists.{IsDatabase};
-ghost use Rattle.lsdb.specs.Places.{lists_of};
+ghost use Rattle.lsdb.specs.Slots.{lists_of};
 ghost use Rattle.edit_history.specs.Exchange.{CanUndo};
 
 use super::growths::growths_of;

@@ -109,7 +109,7 @@ fn indexes<A: Allocator + Copy>(
 }
 
 #[test]
-fn a_removed_lsa_comes_back_to_its_place(rt: HostRuntime) -> Result<(), Fail> {
+fn a_removed_lsa_comes_back_to_its_slot(rt: HostRuntime) -> Result<(), Fail> {
     let (mut database, mut history) = edited(rt.alloc(), NETS, &[])?;
     assert_eq!(rt; index(&database), Some(1));
     let indexes = indexes(&mut database, &mut history)?;

@@ -7,5 +7,5 @@ use Rattle.edit_history.specs.Exchange.{SwapData, RecordData}
 pub record HoldsOne (r : RecordData) (slot : SlotId) (lsa : List ℕ) : Type 0 where
   pub swap : SwapData
   pub alone : r.swaps ≡ swap ∷ []
-  pub place : swap.slot ≡ slot
+  pub same_slot : swap.slot ≡ slot
   pub held : swap.other ≡ Some lsa

@@ -1,4 +1,4 @@
-use Rattle.lsdb.specs.Places.{lists_of}
+use Rattle.lsdb.specs.Slots.{lists_of}
 use Rattle.branches.proofs.AllTables.{count_found}
 use Rattle.branches.proofs.commands.routers_with_table.Goals as goal
 

@@ -1,7 +1,7 @@
 use Rattle.std.proofs.Common.{◌∷◌, [], ap, map, ◌∙◌}
 use Rattle.std.proofs.lemmas.List.{map-append}
 use Rattle.lsdb.specs.Lists.{AreaHead, areas_of}
-use Rattle.lsdb.specs.Places.{lists_of}
+use Rattle.lsdb.specs.Slots.{lists_of}
 use Rattle.database_findings.specs.Findings.{IsPartOf}
 use Rattle.database_findings.proofs.Parts.{zip_more}
 use Rattle.database_findings.proofs.findings.findings_of_areas.Goals as goal

@@ -1,7 +1,7 @@
 use Rattle.std.proofs.Common.{◌≡◌, take}
 use Rattle.std.specs.List.{filter_map, flat_map}
 use Rattle.lsdb.specs.Lists.{areas_of}
-use Rattle.lsdb.specs.Places.{lists_of}
+use Rattle.lsdb.specs.Slots.{lists_of}
 use Rattle.database_findings.specs.Findings.{lsas_of_area}
 use Rattle.database_findings.specs.Naming.{router_described}
 use Rattle.database_findings.proofs.findings.routers_anywhere.Given as goal

@@ -1,5 +1,5 @@
 use Rattle.std.proofs.Common.{sym, ◌∙◌}
-use Rattle.lsdb.specs.Places.{lists_of}
+use Rattle.lsdb.specs.Slots.{lists_of}
 use Rattle.edit_history.proofs.Searches.{key_placed}
 use Rattle.edit_history.proofs.RoomForLsas.{taken, full, room}
 use Rattle.edit_history.proofs.limits.check_room.Goals as goal

@@ -1,6 +1,6 @@
 use Rattle.std.proofs.Common.{◌++◌, List, flat_map, ap, subst, ◌∙◌}
 use Rattle.std.proofs.lemmas.Result.{IfOk-weaker}
-use Rattle.lsdb.specs.Places.{lists_of}
+use Rattle.lsdb.specs.Slots.{lists_of}
 use Rattle.lsdb_listing.specs.declared.finding.ListFinding.{ListFinding}
 use Rattle.lsdb_listing.specs.Comparing.{differences}
 use Rattle.lsdb_listing.specs.Once.{AreOnce}

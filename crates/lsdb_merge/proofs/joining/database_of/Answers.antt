@@ -1,7 +1,7 @@
 use Rattle.std.proofs.Common.{◌≡◌, ◌≤◌, ◌<◌, ◌∙◌, inr, sym, ap, length, map, arith}
 use Rattle.lsdb.specs.Limits.{longest_dump}
 use Rattle.lsdb.specs.Lists.{IsDatabase, Lists, size}
-use Rattle.lsdb.specs.Places.{lists_of}
+use Rattle.lsdb.specs.Slots.{lists_of}
 use Rattle.lsdb_merge.specs.Joining.{section}
 use Rattle.lsdb_merge.proofs.Joined.{if_both, is_database, too_long}
 use Rattle.lsdb_merge.proofs.joining.database_of.Goals as goal

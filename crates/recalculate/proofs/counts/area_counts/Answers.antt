@@ -1,6 +1,6 @@
 use Rattle.std.proofs.Common.{◌<◌, arith, length}
 use Rattle.lsdb.specs.Lists.{areas_of}
-use Rattle.lsdb.specs.Places.{lists_of}
+use Rattle.lsdb.specs.Slots.{lists_of}
 use Rattle.recalculate.proofs.Totals.{areas_few, counts_more, section_there}
 use Rattle.recalculate.proofs.counts.area_counts.Goals as goal
 

@@ -1,6 +1,6 @@
 use Rattle.std.proofs.Common.{◌≡◌, [], length, sym, subst}
 use Rattle.std.proofs.lemmas.Result.{err_from_is_err_and}
-use Rattle.lsdb.specs.Places.{lists_of}
+use Rattle.lsdb.specs.Slots.{lists_of}
 use Rattle.area_routes.specs.Attached.{attached_areas, is_attached}
 use Rattle.routing_table.specs.AreasTrees.{routers_of, trees_in}
 use Rattle.routing_table.specs.Counting.{counted_by, CountsAtMost}

@@ -1,5 +1,5 @@
 use Rattle.std.proofs.Common.{sym, subst, List, ℕ}
-use Rattle.lsdb.specs.Places.{lists_of}
+use Rattle.lsdb.specs.Slots.{lists_of}
 use Rattle.area_graph.specs.Graphs.{AreOfArea}
 use Rattle.area_graph.proofs.GraphLemmas.{are_of_area}
 use Rattle.area_graph.proofs.graph.Graph.build.Goals as goal

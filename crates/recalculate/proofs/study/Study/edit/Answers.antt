@@ -1,7 +1,7 @@
 use Rattle.std.proofs.Common.{◌≡◌, IfSome, length, refl, sym, ap, ◌∙◌, subst, arith}
 use Rattle.std.proofs.lemmas.Result.{err_from_is_err_and}
 use Rattle.lsdb.specs.Lists.{Lists}
-use Rattle.lsdb.specs.Places.{lists_of}
+use Rattle.lsdb.specs.Slots.{lists_of}
 use Rattle.edit_history.specs.Journal.{HistoryData, Links}
 use Rattle.edit_history.specs.Session.{session_of, edited}
 use Rattle.edit_history.proofs.HistoryLemmas.{recorded}
@@ -38,8 +38,8 @@ invariant_of-self-2 g c =
         c.done.ensures,
         c.if-done-ge-MOST_EDITS.false,
       );
-      loaded = subst (λ (h : HistoryData). IfSome c.self.inside.loaded (λ places. lists_of places ≡ (session_of c.apply.new.database h).base)) (sym now)
-          (subst (λ (db : Lists). IfSome c.self.inside.loaded (λ places. lists_of places ≡ db)) (sym more.base) c.self.invariant.loaded);
+      loaded = subst (λ (h : HistoryData). IfSome c.self.inside.loaded (λ slots. lists_of slots ≡ (session_of c.apply.new.database h).base)) (sym now)
+          (subst (λ (db : Lists). IfSome c.self.inside.loaded (λ slots. lists_of slots ≡ db)) (sym more.base) c.self.invariant.loaded);
       externals = c.drop_over_edit.ensures c.self.inside.database c.args.edit.now c.in_ok-record.ensures.applied c.self.invariant.externals;
     }
 
@@ -52,7 +52,7 @@ returns-clause-ok g c =
 
 pub returns-clause-reached : goal.returns-clause-reached
 returns-clause-reached g c = record {
-  places = c.apply.new.database;
+  slots = c.apply.new.database;
   history = c.push.new.self.lists;
   links = subst (λ (h : HistoryData). Links c.apply.new.database h) (sym (c.push.ensures ∙ ap (pushed c.in_ok-record.record) c.reserve.ensures.lists))
       (recorded c.self.inside.database c.apply.new.database c.self.inside.history.lists c.args.edit.now

@@ -1,4 +1,4 @@
-use Rattle.lsdb.specs.Places.{lists_of}
+use Rattle.lsdb.specs.Slots.{lists_of}
 use Rattle.routing_table.proofs.KeptMaps.{has_vertex}
 use Rattle.routing_table.proofs.kept_trees.KeptTrees.grow.Goals as goal
 

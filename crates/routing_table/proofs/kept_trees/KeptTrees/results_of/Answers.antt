@@ -1,6 +1,6 @@
 use Rattle.std.proofs.Common.{◌∙◌, ◌+◌, refl, sym, ap, subst, arith}
 use Rattle.lsdb.specs.Lists.{AreaHead}
-use Rattle.lsdb.specs.Places.{lists_of}
+use Rattle.lsdb.specs.Slots.{lists_of}
 use Rattle.area_routes.specs.Attached.{is_attached}
 use Rattle.routing_table.specs.KeptTrees.{GainsOnly}
 use Rattle.routing_table.specs.AreasTrees.{KeptTreesValue, AreOfDatabase, trees_in}

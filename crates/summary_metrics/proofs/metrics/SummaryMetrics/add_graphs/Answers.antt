@@ -1,4 +1,4 @@
-use Rattle.lsdb.specs.Places.{lists_of}
+use Rattle.lsdb.specs.Slots.{lists_of}
 use Rattle.summary_metrics.proofs.KnownMetrics.{more_trees, trees_known}
 use Rattle.summary_metrics.proofs.metrics.SummaryMetrics.add_graphs.Goals as goal
 

@@ -1,5 +1,5 @@
 use Rattle.std.proofs.Common.{◌∙◌, sym, subst}
-use Rattle.lsdb.specs.Places.{lists_of}
+use Rattle.lsdb.specs.Slots.{lists_of}
 use Rattle.summary_metrics.specs.SummaryMetrics.{AreOf, SummaryMetricsValue}
 use Rattle.summary_metrics.proofs.AttachedIds.{borders_by_ids}
 use Rattle.summary_metrics.proofs.KnownMetrics.{Attached, attached_found, known_as, more_attached, trees_known}

@@ -1,6 +1,6 @@
 use Rattle.std.proofs.Common.{sym, subst}
 use Rattle.lsa_codec.specs.declared.key.Key.{Key}
-use Rattle.lsdb.specs.Places.{lists_of}
+use Rattle.lsdb.specs.Slots.{lists_of}
 use Rattle.summary_metrics.specs.SummaryMetrics.{AreInside, AreOf, SummaryMetricsValue}
 use Rattle.summary_metrics.proofs.KnownMetrics.{Known, inside_found, known_as, more_inside, stale_is}
 use Rattle.summary_metrics.proofs.metrics.SummaryMetrics.covered_metric.Goals as goal

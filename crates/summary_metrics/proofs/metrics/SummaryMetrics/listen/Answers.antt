@@ -1,5 +1,5 @@
 use Rattle.std.proofs.Common.{ℕ, List, subst}
-use Rattle.lsdb.specs.Places.{lists_of}
+use Rattle.lsdb.specs.Slots.{lists_of}
 use Rattle.summary_metrics.specs.BackboneSummaries.{AreAnnounced}
 use Rattle.summary_metrics.proofs.KnownMetrics.{more_announced}
 use Rattle.summary_metrics.proofs.metrics.SummaryMetrics.listen.Goals as goal

@@ -1,6 +1,6 @@
 use Rattle.std.proofs.Common.{◌≡◌, true, ◌∙◌, sym, subst}
 use Rattle.lsa_codec.specs.declared.key.Key.{Key}
-use Rattle.lsdb.specs.Places.{lists_of}
+use Rattle.lsdb.specs.Slots.{lists_of}
 use Rattle.external_routes.specs.Summaries.{borders}
 use Rattle.summary_metrics.proofs.KnownMetrics.{calculated_covered}
 use Rattle.summary_metrics.proofs.metrics.SummaryMetrics.stale_metric.Goals as goal
