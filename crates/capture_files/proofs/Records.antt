@@ -1,4 +1,4 @@
--- Records one behind the other.
+-- Records one after the other.
 use Rattle.std.proofs.Common.{◌≡◌, ℕ, ◌+◌, ◌≤◌, true, false, List, [], ◌∷◌, ◌++◌, length, drop, Some, None, Result, Ok}
 use Rattle.std.proofs.Common.{refl, sym, ap, ◌∙◌, subst, arith, ◌⊎◌, inl, inr, length-drop}
 use Rattle.std.proofs.lemmas.List.{drop-drop}
@@ -44,7 +44,7 @@ parsed_flaw file fault form packets offset headed within records parsed =
     } in
     subst (IsPcapFault file) (sym parsed.0) flaw
 
--- behind the header stands the record that is read, or the first of those before it
+-- after the header stands the record that is read, or the first of those before it
 pub first_record : (form : Form) (file : List ℕ) (packets : List Packet) (offset : ℕ) (packet : Packet) → header file ≡ Ok form
     → AreRecords form (drop 24 file) packets (drop offset file) → is_malformed form (drop offset file) ≡ false
     → record_of form (drop offset file) ≡ Some packet → HasRecord file

@@ -5,15 +5,15 @@ use Rattle.capture_files.specs.declared.order.Order.{Order}
 use Rattle.capture_files.specs.Fields.{number_at}
 use Rattle.capture_files.specs.Blocks.{BlockText}
 
--- with bytes behind it up to a multiple of 4
+-- with bytes after it up to a multiple of 4
 abbrev pub padded : ℕ → ℕ
 padded n = (n + 3) / 4 * 4
 
--- the bytes of an option behind its code and length
+-- the bytes of an option after its code and length
 abbrev pub value_length : Order → List ℕ → ℕ
 value_length order options = number_at order 2 2 options
 
--- the code and the value of the first option, and what stands behind it; the code 0 ends the options, and so does one
+-- the code and the value of the first option, and what stands after it; the code 0 ends the options, and so does one
 -- that is not whole
 abbrev pub first_option : Order → List ℕ → Option (ℕ × List ℕ × List ℕ)
 first_option order options =

@@ -59,7 +59,7 @@ abbrev pub moment_of : Form → List ℕ → ℕ
 moment_of form bytes =
     number_at form.order 4 0 bytes * 1000000000 + number_at form.order 4 4 bytes * length_of_fraction form.fraction
 
--- how many bytes of the frame the record has, behind its header
+-- how many bytes of the frame the record has, after its header
 abbrev pub captured_of : Form → List ℕ → ℕ
 captured_of form bytes = number_at form.order 4 8 bytes
 
@@ -92,7 +92,7 @@ record_of form bytes =
     else if nat_lt (length bytes) (16 + captured_of form bytes) then None
     else Some (packet_in form bytes)
 
--- the bytes are whole records of these packets, none of which lies, one behind the other, and then the rest
+-- the bytes are whole records of these packets, none of which lies, one after the other, and then the rest
 abbrev pub AreRecords : Form → List ℕ → List Packet → List ℕ → Type 0
 AreRecords form bytes [] rest = bytes ≡ rest
 AreRecords form bytes (packet ∷ packets) rest =
@@ -104,7 +104,7 @@ AreRecords form bytes (packet ∷ packets) rest =
 abbrev pub end_at : List ℕ → ℕ → End
 end_at file offset = if offset == length file then Whole else Cut offset
 
--- the file has a header, and behind it whole records of these packets up to an offset, at which no whole record stands
+-- the file has a header, and after it whole records of these packets up to an offset, at which no whole record stands
 pub record IsPcap (file : List ℕ) (parsed : CaptureText) : Type 0 where
   pub form : Form
   pub offset : ℕ
@@ -115,7 +115,7 @@ pub record IsPcap (file : List ℕ) (parsed : CaptureText) : Type 0 where
   pub last : record_of form (drop offset file) ≡ None
   pub ended : parsed.end ≡ end_at file offset
 
--- behind a header and whole records a record lies at this offset
+-- after a header and whole records a record lies at this offset
 pub record IsMalformedAt (file : List ℕ) (offset : ℕ) : Type 0 where
   pub form : Form
   pub packets : List Packet
@@ -124,7 +124,7 @@ pub record IsMalformedAt (file : List ℕ) (offset : ℕ) : Type 0 where
   pub records : AreRecords form (drop 24 file) packets (drop offset file)
   pub malformed : is_malformed form (drop offset file) ≡ true
 
--- a whole record that does not lie stands right behind the header: no memory is asked for before
+-- a whole record that does not lie stands right after the header: no memory is asked for before
 pub record HasRecord (file : List ℕ) : Type 0 where
   pub form : Form
   pub packet : Packet

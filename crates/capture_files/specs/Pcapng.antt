@@ -30,7 +30,7 @@ state_of reading =
 abbrev pub start : State
 start = record { order = Big; interfaces = []; packets = [] }
 
--- behind a block in this byte order; a new section has no interface yet
+-- after a block in this byte order; a new section has no interface yet
 abbrev pub after : State → Order → Content → State
 after s order section = record { order = order; interfaces = []; packets = s.packets }
 after s order (interface i) = record { order = order; interfaces = s.interfaces ++ i ∷ []; packets = s.packets }
@@ -46,11 +46,11 @@ past_first s (Err flaw) = Err flaw
 past_first s (Ok None) = Ok None
 past_first s (Ok (Some block)) = past s block (parsed_by s.interfaces block)
 
--- what comes behind the block at the front of the bytes, and how many bytes it has; none where no whole block stands there
+-- what comes after the block at the front of the bytes, and how many bytes it has; none where no whole block stands there
 unfoldable pub next : State → List ℕ → Result (Option (State × ℕ)) Flaw
 next s bytes = past_first s (first_block s.order bytes)
 
--- from one state on the bytes are whole blocks, each with the state behind it and its length, and then the rest
+-- from one state on the bytes are whole blocks, each with the state after it and its length, and then the rest
 abbrev pub AreBlocks : State → List ℕ → List (State × ℕ) → State → List ℕ → Type 0
 AreBlocks s bytes [] last rest = (s ≡ last) × (bytes ≡ rest)
 AreBlocks s bytes (block ∷ blocks) last rest =
@@ -76,7 +76,7 @@ pub record IsPcapng (file : List ℕ) (parsed : CaptureText) : Type 0 where
   pub packets : parsed.packets ≡ last.packets
   pub ended : parsed.end ≡ end_at file offset
 
--- behind whole blocks a block lies at this offset
+-- after whole blocks a block lies at this offset
 pub record IsFlawIn (file : List ℕ) (offset : ℕ) (flaw : Flaw) : Type 0 where
   pub last : State
   pub headed : has_section file ≡ true

@@ -65,7 +65,7 @@ fn order_of(order: Order, bytes: &[u8]) -> Option<Order>
     }
 }
 
-/// The block of so many bytes.
+/// The block of this number of bytes.
 fn sized_block(order: Order, total: usize, bytes: &[u8]) -> Result<Option<Block<'_>>, Flaw>
     ensures block { MatchResult result
         (λ block. sized_block order total bytes.now ≡ Ok (option_map block_text block))

@@ -16,14 +16,14 @@ const IF_TSRESOL: u16 = 9;
 /// The option with an offset of time stamps.
 const IF_TSOFFSET: u16 = 14;
 
-/// A length with the bytes behind it, up to a multiple of 4.
+/// A length with the bytes after it, up to a multiple of 4.
 fn padded(length: u16) -> usize
     ensures { result ≡ padded length }
 {
     (usize::from(length) + 3) / 4 * 4
 }
 
-/// An option: its code, its value, and what stands behind it.
+/// An option: its code, its value, and what stands after it.
 type FirstOption<'a> = Option<(u16, &'a [u8], &'a [u8])>;
 
 /// The first option, where a whole one stands there.

@@ -119,7 +119,7 @@ fn moment_of(form: Form, bytes: &[u8]) -> u64
     seconds * 1_000_000_000 + fractions * length_of_fraction(form.fraction)
 }
 
-/// Whether the record at the front of the bytes has a captured length that lies.
+/// Whether the record at the front of the bytes has a captured malformed length.
 fn is_malformed(form: Form, bytes: &[u8]) -> bool
     ensures { result ≡ is_malformed form bytes.now }
 {

@@ -1,4 +1,4 @@
-//! Views, places, records and texts, and what is answered where memory runs out.
+//! Views, slots, records and texts, and what is answered where memory runs out.
 
 // What answers something new.
 mod calls;

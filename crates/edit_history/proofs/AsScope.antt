@@ -52,7 +52,7 @@ all_first (s ∷ db) pairs = by s.area refl (all_first db (pairs_tail IsBefore s
 pub first_of_database : (d : Slots) → IsDatabase (lists_of d) → AreasFirst (length (areas_of (lists_of d))) d
 first_of_database d sound = all_first (lists_of d) sound.heads.order
 
--- ---- one place
+-- ---- one slot
 
 module _ (g : List Slot → List Slot) where
   abbrev with_slots : SectionSlots → SectionSlots
@@ -79,7 +79,7 @@ module _ (g : List Slot → List Slot) where
       ap (cond (is_as_wide s.area) (Some (section_of s)))
       (found_kept d n i (and_parts (is_some s.area) (areas_first n (heads_of (lists_of d))) first).1 (omega (arith, below)))
 
--- what stays from places to places: the first n sections are areas, and the LSAs of AS scope are
+-- what stays from slots to slots: the first n sections are areas, and the LSAs of AS scope are
 -- the same
 record Stays (n : ℕ) (d e : Slots) : Type 0 where
   pub first : AreasFirst n e

@@ -16,7 +16,7 @@ use Rattle.edit_history.specs.steps.Searching.{HaveKeysBetween, is_wanted_by_key
 use Rattle.edit_history.proofs.Searches.{lsas_full, slot_there}
 use Rattle.edit_history.proofs.WantedKeys.{has_marked_key}
 
--- ---- the least place that passes is the first
+-- ---- the least slot that passes is the first
 
 first_is : (test : List ℕ → Bool) (ps : List Slot) (m : ℕ) (lsa : List ℕ) → item_at ps m ≡ Some (Some lsa) → test lsa ≡ true
     → ((i : ℕ) (x : List ℕ) → i < m → item_at ps i ≡ Some (Some x) → test x ≡ false) → find test (full ps) ≡ Some lsa

@@ -13,7 +13,7 @@ use Rattle.edit_history.proofs.Exchanged.{undo_done}
 pub grown_same : (d e : Slots) → e ≡ d → Grown d e
 grown_same d e same = ([], same)
 
--- opened places do not change the lists
+-- opened slots do not change the lists
 pub opened_lists : (d : Slots) (sections : List ℕ) → lists_of (opened d sections) ≡ lists_of d
 opened_lists d [] = refl
 opened_lists d (s ∷ ss) = opened_lists (open_at d s) ss ∙ lists_of-open_at d s

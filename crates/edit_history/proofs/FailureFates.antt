@@ -163,7 +163,7 @@ pub router_carried_out : (d : Slots) (router : RouterId) → IsDatabase (lists_o
     → CarriesOutRule d (by_fates (λ head. router_fate router)) (swaps_from (λ head. router_fate router) 0 d)
 router_carried_out d router sound = fates_carried_out (λ head. router_fate router) d (λ head x accepted. router_safe router x accepted) sound
 
--- ---- one more place, one more section
+-- ---- one more slot, one more section
 
 pub swaps_at : (fate : List ℕ → Fate) (section : ℕ) (name : Section) (i : ℕ) (p : Slot) (rest : List Slot)
     → section_swaps fate section name i (p ∷ rest) ≡ option_to_list

@@ -1,4 +1,4 @@
--- Fates carried out place by place, from the first section to the last.
+-- Fates carried out slot by slot, from the first section to the last.
 use Rattle.std.proofs.Common.{◌≡◌, ℕ, zero, suc, List, [], ◌∷◌, ◌++◌, length, map, append_assoc, length-append, Option, Some, None, refl, sym, ap, ◌∙◌}
 use Rattle.std.proofs.Common.{subst, arith}
 use Rattle.std.specs.Prelude.{All, IsSome, unwrap_or}
@@ -46,7 +46,7 @@ slot_after fates area (Some x) = outcome (fates area x) x
 abbrev pub slots_after : Fates → Slots → Slots
 slots_after fates d = map (λ s. section_slots s.area (map (slot_after fates s.area) s.slots)) d
 
--- ---- one place in the middle
+-- ---- one slot in the middle
 
 list_mid : (pre post : List Slot) (p v : Slot) (i : ℕ) → i ≡ length pre
     → (put_slot v (pre ++ p ∷ post) i ≡ pre ++ v ∷ post) × (item_at (pre ++ p ∷ post) i ≡ Some p)
@@ -93,7 +93,7 @@ walk_swap d m e slot name x v ss cs sound at safe made now rest =
           ∙ ap (λ (o : Option Slot). one (record { section = name; kind = kind_of x; old = Some x; new = unwrap_or o None })) now;
     }
 
--- ---- all places
+-- ---- all slots
 
 abbrev changed_in : Fates → Option AreaHead → List Slot → List Change
 changed_in fates area ps = filter_map (change fates area) (full ps)
@@ -121,7 +121,7 @@ walk_slot fates low high area pre post x (rewritten new) section i safe fits e g
     let there = slot_mid low (slots_after fates high) area pre (map (slot_after fates area) post) (Some new) None section i e g in
     walk_swap _ _ _ (slot_of section i) (section_name area) x (Some new) _ _ sound here.1 fits here.0 there.1 (rest (Some new))
 
--- the place that was passed is among those before it
+-- the slot that was passed is among those before it
 shifted : (low high high' : Slots) (area : Option AreaHead) (pre post post' : List Slot) (v : Slot) (ss : List SwapData) (cs : List Change)
     → (IsDatabase (lists_of (low ++ section_slots area ((pre ++ v ∷ []) ++ post) ∷ high))
     → Leads (low ++ section_slots area ((pre ++ v ∷ []) ++ post) ∷ high) (low ++ section_slots area ((pre ++ v ∷ []) ++ post') ∷ high') ss cs)
@@ -148,7 +148,7 @@ passed low high high' l s s' ss cs walks sound =
 pushed : {X : Type 0} (xs : List X) (x : X) (n : ℕ) → n ≡ length xs → suc n ≡ length (xs ++ x ∷ [])
 pushed xs x n e = omega (arith, e, length-append xs (x ∷ []))
 
--- an LSA at a place is accepted
+-- an LSA at a slot is accepted
 pub accepted_at : (d : Slots) (slot : SlotId) (x : List ℕ) → slot_at d slot ≡ Some (Some x) → IsDatabase (lists_of d) → IsAccepted x
 accepted_at d slot x at sound =
     let w = between d slot (Some x) None at in
@@ -156,7 +156,7 @@ accepted_at d slot x at sound =
     let section : IsSection s = all_at_mid IsSection w.low w.high s (subst (All IsSection) w.before sound.sections) in
     all_at_mid IsAccepted w.front w.back x section.accepted
 
--- the walk on from place i of a section
+-- the walk on from slot i of a section
 pub walk : (fates : Fates) (low high : Slots) (area : Option AreaHead) (pre post : List Slot) (section i : ℕ) → IsSafe fates → section ≡ length low
     → i ≡ length pre
     → IsDatabase (lists_of (low ++ section_slots area (pre ++ post) ∷ high))
@@ -181,7 +181,7 @@ walk fates low high area pre (Some x ∷ post) section i safe e g sound =
     (walk fates low high area (pre ++ v ∷ []) post section (suc i) safe e (pushed pre v i g))) in
     w
 
--- all fates, carried out at all places
+-- all fates, carried out at all slots
 pub walked : (fates : Fates) (d : Slots) → IsSafe fates → IsDatabase (lists_of d)
     → Leads d (slots_after fates d) (swaps_from fates 0 d) (changes_by (by_fates fates) (lists_of d))
 walked fates [] safe sound = record { can = tt; leads = refl; reports = refl }
@@ -194,14 +194,14 @@ full-after fates area (None ∷ ps) = full-after fates area ps
 full-after fates area (Some x ∷ ps) =
     full-cons (outcome (fates area x) x) (map (slot_after fates area) ps) ∙ ap (cons_option (outcome (fates area x) x)) (full-after fates area ps)
 
--- the places hold what the fates leave of the lists
+-- the slots hold what the fates leave of the lists
 pub lists-after : (fates : Fates) (d : Slots) → lists_of (slots_after fates d) ≡ lists_after (by_fates fates) (lists_of d)
 lists-after fates [] = refl
 lists-after fates (s ∷ ss) =
     ap (λ (xs : List (List ℕ)). section_with s.area xs ∷ lists_of (slots_after fates ss)) (full-after fates s.area s.slots)
     ∙ ap (λ (ts : Lists). section_after (by_fates fates) (section_of s) ∷ ts) (lists-after fates ss)
 
--- the swaps of all places do what the fates require
+-- the swaps of all slots do what the fates require
 pub fates_carried_out : (fates : Fates) (d : Slots) → IsSafe fates → IsDatabase (lists_of d) → CarriesOutRule d (by_fates fates) (swaps_from fates 0 d)
 fates_carried_out fates d safe sound =
     let w = walked fates d safe sound in

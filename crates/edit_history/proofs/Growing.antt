@@ -1,4 +1,4 @@
--- Places that are opened at the ends of sections do not change what a history does.
+-- Slots that are opened at the ends of sections do not change what a history does.
 use Rattle.std.proofs.Common.{◌≡◌, ℕ, zero, suc, List, [], ◌∷◌, ◌++◌, Option, None, Result, Ok, refl, sym, ap, ◌∙◌, subst}
 use Rattle.std.specs.Prelude.{IsSome, unwrap_or, reverse, map}
 use Rattle.lsdb.specs.Lists.{Lists, IsDatabase}
@@ -29,7 +29,7 @@ same_put d n slot v some = put-open_at d n slot v (there d slot) (some_is (slot_
 still_sound : (d : Slots) (n : ℕ) → IsDatabase (lists_of d) → IsDatabase (lists_of (open_at d n))
 still_sound d n h = subst (λ (c : Lists). IsDatabase c) (sym (lists_of-open_at d n)) h
 
--- ---- the LSA at a place, where it exists
+-- ---- the LSA at a slot, where it exists
 
 slot_grown : (ps : List Slot) (i : ℕ) → unwrap_or (item_at (ps ++ None ∷ []) i) None ≡ unwrap_or (item_at ps i) None
 slot_grown [] zero = refl

@@ -37,9 +37,9 @@ state_on_one d r rs fs links =
     let moved : session_of e k ≡ moved_on 1 s = on_more s s (session_of e k) 0 1 refl (on_none s) (session_on d r rs fs links) in
     ap (λ (t : Session). state t) (sym moved) ∙ state_is e k (step_on d r rs fs links)
 
--- ---- the one place of a record
+-- ---- the one slot of a record
 
--- the place exists, and with this LSA there the places are those of a sound database
+-- the slot exists, and with this LSA there the slots are those of a sound database
 record Exchanges (d : Slots) (slot : SlotId) (lsa : List ℕ) (e : Slots) : Type 0 where
   pub there : IsSome (slot_at d slot)
   pub leads : e ≡ put d slot (Some lsa)

@@ -73,7 +73,7 @@ router_lsa_is d area router slot lsa at =
 pub same_slot : (o : Slot) (lsa : List ℕ) (p : Option Slot) → p ≡ Some o → p ≡ Some (Some lsa) → o ≡ Some lsa
 same_slot o lsa p is held = let two : (let q : Option Slot = Some o in q) ≡ Some (Some lsa) = sym is ∙ held in cc
 
--- the LSA of a key that was found, and read at its place
+-- the LSA of a key that was found, and read at its slot
 pub first_of_key : (d : Slots) (name : Section) (key named_key : Key) (slot : SlotId) (lsa : List ℕ) → key ≡ named_key → IsSlotOf d name key slot
     → slot_at d slot ≡ Some (Some lsa) → IsFirstLsa d name (has_key named_key) slot lsa
 first_of_key d name key named_key slot lsa is at_slot held = record {

@@ -34,7 +34,7 @@ net_stays network lsa other = by_router (kind_of lsa == router_lsa) refl other w
       ∙ ap (λ (c : Bool). cut (if c then Ok (with_links (filter (λ link. not (leads_to_net network link)) (links_of lsa)) lsa) else Err NoLink)) none
   by_router false is none = ap (λ (c : Bool). if c then removed else stays) none
 
--- the LSA at a place is not of a network that its filter does not have
+-- the LSA at a slot is not of a network that its filter does not have
 pub not_of : (network : Addr) (slots : List Slot) (filters : List TransitFilter) (i : ℕ) (d : TransitFilter) (lsa : List ℕ)
     → AreTransitFilters slots filters → i < length filters → may_have network (get_or filters i d) ≡ false
     → item_at slots i ≡ Some (Some lsa) → is_of_network network lsa ≡ false

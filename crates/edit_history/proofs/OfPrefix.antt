@@ -1,4 +1,4 @@
--- The first wanted LSA, among the places that are noted of its router and its prefix.
+-- The first wanted LSA, among the slots that are noted of its router and its prefix.
 use Rattle.std.proofs.Common.{◌≡◌, ℕ, ◌+◌, ◌<◌, ◌≤◌, Bool, true, false, List, [], ◌∷◌, ◌++◌, length, map, take, get_or, Option, Some, None, ◌==◌, sym, ap, ◌∙◌, subst, arith, ⊎_elim}
 use Rattle.std.specs.Prelude.{All}
 use Rattle.std.specs.List.{find}
@@ -17,7 +17,7 @@ use Rattle.edit_history.specs.steps.Searching.{AreOriginatedFor}
 use Rattle.edit_history.proofs.Candidates.{stands_at, first_at, none_at}
 use Rattle.edit_history.proofs.Searches.{slot_there}
 
--- there is no wanted LSA at any of these places
+-- there is no wanted LSA at any of these slots
 abbrev pub NoneStands : Wanted → Slots → ℕ → List SlotOfPrefix → Type 0
 NoneStands w d section found = All (λ slot. stands_at w d section slot.index ≡ false) found
 
@@ -30,14 +30,14 @@ none_more w d section found e before miss =
     let P : SlotOfPrefix → Type 0 = λ slot. stands_at w d section slot.index ≡ false in
     All-append P found (e ∷ []) before (All-cons P e [] miss (All-nil P))
 
--- ---- all places of the router and the prefix
+-- ---- all slots of the router and the prefix
 
 false_and_true : (b : Bool) → b ≡ false → b ≡ true → ⊥
 false_and_true b no' yes' = absurd (let e : false ≡ true = sym no' ∙ yes' in cc)
 
 module _ (w : Wanted) (d : Slots) (section : ℕ) (router : RouterId) (net : Net) (found : List SlotOfPrefix)
     (noted : AreSlotsOfPrefix (slots_in d section) router net found) (own : AreOriginatedFor router net (is_wanted w)) where
-  -- a wanted LSA is at a place that is noted
+  -- a wanted LSA is at a slot that is noted
   record IsNoted (i : ℕ) : Type 0 where
     number : ℕ
     within : number < length found

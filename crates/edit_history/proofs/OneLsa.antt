@@ -72,7 +72,7 @@ reported_one here section this kind old now x other p q before after =
 abbrev pub one_swap : SlotId → Section → ℕ → Slot → SwapData
 one_swap slot name kind other = record { slot = slot; section = name; kind = kind; other = other }
 
--- an LSA of a section gives its place to another, or leaves it
+-- an LSA of a section gives its slot to another, or leaves it
 pub exchanged : (d : Slots) (name : Section) (key : Key) (slot : SlotId) (lsa : List ℕ) (other : Slot) → IsDatabase (lists_of d)
     → IsNamed d name slot.section → slot_at d slot ≡ Some (Some lsa) → key_of lsa ≡ key
     → IsDatabase (lists_of (put d slot other)) → CarriesOutRule d (one_lsa name key (fate_of other)) (one_swap slot name key.kind other ∷ [])

@@ -1,4 +1,4 @@
--- The swaps of a section where no more than two places change.
+-- The swaps of a section where no more than two slots change.
 use Rattle.std.proofs.Common.{◌≡◌, ◌≢◌, ℕ, zero, suc, ◌+◌, ◌<◌, ◌≤◌, Bool, true, false, List, [], ◌∷◌, ◌++◌, map, Option, Some, None, refl, sym, ap, ◌∙◌, subst, arith, ⊎_elim}
 use Rattle.std.specs.Prelude.{All, AllPairs, option_to_list, nat_le, if◌then◌else◌, ◌==◌}
 use Rattle.std.specs.List.{cons_option}
@@ -28,10 +28,10 @@ use Rattle.edit_history.proofs.Searches.{there_too}
 use Rattle.edit_history.proofs.FailureFates.{HasSection, before_item, has_section, list_item, swaps_at}
 use Rattle.edit_history.proofs.RouterSwaps.{slot_is}
 
--- ---- fates by place
+-- ---- fates by slot
 
 module _ (fate : List ℕ → Fate) (section : ℕ) (name : Section) where
-  -- all LSAs at these places stay, except for some
+  -- all LSAs at these slots stay, except for some
   abbrev Stays : (ℕ → Type 0) → List Slot → Type 0
   Stays But ps = (k : ℕ) (x : List ℕ) → item_at ps k ≡ Some (Some x) → (But k → ⊥) → fate x ≡ stays
 
@@ -91,7 +91,7 @@ module _ (fate : List ℕ → Fate) (section : ℕ) (name : Section) where
       ∙ ap (λ (k : ℕ). swap_at (0 + i) (item_at (slots_in d section) i) ++ swap_at k (item_at (slots_in d section) j)) (let e : j ≡ 0 + j = omega arith in e)
       ∙ sym (two_swaps 0 i j (slots_in d section) lt still)
 
--- ---- one key, one place
+-- ---- one key, one slot
 
 full_all : (P : List ℕ → Type 0) (ps : List Slot) (i : ℕ) (x : List ℕ) → All P (full ps) → item_at ps i ≡ Some (Some x) → P x
 full_all P [] i x all at = absurd cc

@@ -1,4 +1,4 @@
--- The swaps of the places that are noted of a router are those of all places of the section.
+-- The swaps of the slots that are noted of a router are those of all slots of the section.
 use Rattle.std.proofs.Common.{◌≡◌, ℕ, zero, suc, ◌+◌, ◌-◌, ◌<◌, ◌≤◌, Bool, false, List, [], ◌∷◌, ◌++◌, map, append_assoc, Option, Some, None, refl, sym, ap, ◌∙◌, subst, arith, ⊎_elim}
 use Rattle.std.specs.Prelude.{All, AllPairs, Contains, option_to_list, if◌then◌else◌, ◌==◌}
 use Rattle.std.specs.List.{cons_option}
@@ -18,9 +18,9 @@ use Rattle.edit_history.specs.Exchange.{SwapData}
 use Rattle.edit_history.specs.steps.Plans.{slot_of, swap_for, section_swaps, slot_swap}
 use Rattle.edit_history.proofs.FailureFates.{swaps_at}
 
--- ---- places in rising order, from index n on
+-- ---- slots in rising order, from index n on
 
--- all of a router's LSAs at these places, of which the first has index n, are at places that are noted
+-- all of a router's LSAs at these slots, of which the first has index n, are at slots that are noted
 record Covers (router : RouterId) (n : ℕ) (ps : List Slot) (found : List SlotOfRouter) : Type 0 where
   rising : AllPairs (λ a b. a.index < b.index) found
   from : All (λ q. n ≤ q.index) found
@@ -29,7 +29,7 @@ record Covers (router : RouterId) (n : ℕ) (ps : List Slot) (found : List SlotO
 moved : (found : List SlotOfRouter) (i j : ℕ) (lsa : List ℕ) → i ≡ j → Contains found (router_slot i lsa) → Contains found (router_slot j lsa)
 moved found i j lsa e has = subst (λ (k : ℕ). Contains found (router_slot k lsa)) e has
 
--- the first place is not noted
+-- the first slot is not noted
 passed : (router : RouterId) (n : ℕ) (p : Slot) (ps : List Slot) (found : List SlotOfRouter) → Covers router n (p ∷ ps) found
     → All (λ q. suc n ≤ q.index) found → Covers router (suc n) ps found
 passed router n p ps found covers further = record {
@@ -42,7 +42,7 @@ in_tail : (q : SlotOfRouter) (qs : List SlotOfRouter) (p : SlotOfRouter) → q.i
 in_tail q qs p less (zero, within, is) = absurd (omega (arith, ap (λ (r : SlotOfRouter). r.index) is))
 in_tail q qs p less (suc k, within, is) = (k, omega arith, is)
 
--- the first place is noted
+-- the first slot is noted
 taken : (router : RouterId) (n : ℕ) (p : Slot) (ps : List Slot) (q : SlotOfRouter) (qs : List SlotOfRouter) → q.index ≡ n
     → Covers router n (p ∷ ps) (q ∷ qs) → Covers router (suc n) ps qs
 taken router n p ps q qs here' covers =
@@ -58,14 +58,14 @@ taken router n p ps q qs here' covers =
 all_after : (n : ℕ) (q : SlotOfRouter) (qs : List SlotOfRouter) → suc n ≤ q.index → All (λ r. q.index < r.index) qs → All (λ r. suc n ≤ r.index) (q ∷ qs)
 all_after n q qs far later = All-cons (λ (r : SlotOfRouter). suc n ≤ r.index) q qs far (λ k d lt. omega (arith, later k d lt))
 
--- ---- the swaps of noted places
+-- ---- the swaps of noted slots
 
 abbrev pub found_swaps : RouterId → ℕ → Section → (ℕ → Option Slot) → List SlotOfRouter → List SwapData
 found_swaps router section name look [] = []
 found_swaps router section name look (q ∷ qs) =
     option_to_list (slot_swap (router_fate router) (slot_of section q.index) name (look q.index)) ++ found_swaps router section name look qs
 
--- the LSAs at the places, of which the first has index n
+-- the LSAs at the slots, of which the first has index n
 abbrev Shows : (ℕ → Option Slot) → ℕ → List Slot → Type 0
 Shows look n ps = (k : ℕ) → look (n + k) ≡ item_at ps k
 
@@ -122,7 +122,7 @@ module _ (router : RouterId) (section : ℕ) (name : Section) (look : ℕ → Op
       ∙ sym (not_own n p ps (λ x is. other_router n p ps (q ∷ qs) x covers further is)))
       (cases_eq q.index n)
 
--- ---- a loop over the noted places of a section
+-- ---- a loop over the noted slots of a section
 
 pub slot_is : (d : Slots) (section i : ℕ) → slot_at d (slot_of section i) ≡ item_at (slots_in d section) i
 slot_is d section i = by_item (item_at d section) where

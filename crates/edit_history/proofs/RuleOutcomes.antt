@@ -65,7 +65,7 @@ no_changes fates (s ∷ ss) h =
 
 -- ---- a rule that touches one LSA alone
 
--- the fate of an LSA whose place gets this
+-- the fate of an LSA whose slot gets this
 abbrev pub fate_of : Slot → Fate
 fate_of None = removed
 fate_of (Some new) = rewritten new

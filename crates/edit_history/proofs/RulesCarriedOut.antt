@@ -32,7 +32,7 @@ carries d edit rule swaps ruled f = record {
   reports = ap (changes_of_rule (lists_of d)) ruled ∙ ap (λ (cs : List Change). let a : Result (List Change) EditFault = Ok cs in a) f.reports;
 }
 
--- no place has to be opened
+-- no slot has to be opened
 pub planned_here : (d : Slots) (edit : Edit) (rule : Rule) (swaps items : List SwapData) → rule_of (lists_of d) edit ≡ Ok rule → CarriesOutRule d rule swaps
     → items ≡ swaps → Planned d d edit items
 planned_here d edit rule swaps items ruled f is =

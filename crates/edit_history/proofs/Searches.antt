@@ -66,7 +66,7 @@ lists_count (s ∷ ss) = ap suc (lists_count ss)
 pub exists_in_lists : (d : Slots) (i : ℕ) → i < length d → IsSome (item_at (lists_of d) i)
 exists_in_lists d i lt = exists_at (lists_of d) i (omega (arith, lists_count d))
 
--- ---- the places of a section
+-- ---- the slots of a section
 
 pub lsas_full : (d : Slots) (section : ℕ) → lsas_in d section ≡ full (slots_in d section)
 lsas_full [] section = refl

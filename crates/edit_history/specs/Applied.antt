@@ -10,7 +10,7 @@ use Rattle.edit_history.specs.Effect.{effect, changes, touched}
 use Rattle.edit_history.specs.Exchange.{SwapData, RecordData, CanDo, CanUndo, done_slots, done_swaps, undone_slots, touches}
 use Rattle.edit_history.specs.Grown.{Grown}
 
--- the change of a swap that is done: the swap holds the old bytes, and the new ones are at its place
+-- the change of a swap that is done: the swap holds the old bytes, and the new ones are at its slot
 abbrev pub swap_change : Slots → SwapData → Change
 swap_change e s = record { section = s.section; kind = s.kind; old = s.other; new = unwrap_or (slot_at e s.slot) None }
 
@@ -20,7 +20,7 @@ pub record CarriesOut (d : Slots) (edit : Edit) (swaps : List SwapData) : Type 0
   pub leads : effect (lists_of d) edit ≡ Ok (lists_of (done_slots d swaps))
   pub reports : changes (lists_of d) edit ≡ Ok (map (swap_change (done_slots d swaps)) (done_swaps d swaps))
 
--- the swaps carry the edit out, once places were opened for them
+-- the swaps carry the edit out, once slots were opened for them
 pub record Planned (d e : Slots) (edit : Edit) (swaps : List SwapData) : Type 0 where
   pub opens : Grown d e
   pub carries : CarriesOut e edit swaps
@@ -32,7 +32,7 @@ pub record TakesBack (e : Slots) (edit : Edit) (swaps : List SwapData) : Type 0 
   pub reports : changes (lists_of (undone_slots e swaps)) edit ≡ Ok (map (swap_change e) swaps)
 
 -- the edit led from d to e; the record holds the edit and has its changes, and undoing it leads back to
--- d, except for places that were opened at the ends of sections
+-- d, except for slots that were opened at the ends of sections
 pub record Applied (d e : Slots) (edit : Edit) (r : RecordData) : Type 0 where
   pub same : r.edit ≡ edit
   pub leads : effect (lists_of d) edit ≡ Ok (lists_of e)

@@ -1,4 +1,4 @@
--- A record's swaps: each exchanges the LSA that it holds with the one at its place. They are done from
+-- A record's swaps: each exchanges the LSA that it holds with the one at its slot. They are done from
 -- the first to the last, and undone from the last to the first.
 use Rattle.std.specs.Prelude.{◌≡◌, ℕ, Bool, List, [], ◌∷◌, None, IsSome, nat_le, unwrap_or}
 use Rattle.std.specs.List.{list_any}
@@ -10,7 +10,7 @@ use Rattle.lsdb.specs.Slots.{Slot, Slots, put, slot_at, lists_of}
 use Rattle.edit_script.specs.declared.edit.Edit.{Edit}
 use Rattle.edit_history.specs.Effect.{is_of_graph}
 
--- a place, the section and the LS type of the LSA there, and the bytes that the database lacks: the old
+-- a slot, the section and the LS type of the LSA there, and the bytes that the database lacks: the old
 -- ones once the edit is done, the new ones once it is undone
 pub record SwapData : Type 0 where
   pub slot : SlotId
@@ -27,7 +27,7 @@ pub record RecordData : Type 0 where
 abbrev pub touches : AreaId → RecordData → Bool
 touches area r = list_any (λ (s : SwapData). is_of_graph area s.section s.kind) r.swaps
 
--- whether the place is one of AS scope, in a section after the areas of the database
+-- whether the slot is one of AS scope, in a section after the areas of the database
 abbrev pub is_of_as_scope : ℕ → SwapData → Bool
 is_of_as_scope areas s = nat_le areas s.slot.section
 
@@ -35,7 +35,7 @@ is_of_as_scope areas s = nat_le areas s.slot.section
 abbrev pub changes_as_scope : ℕ → RecordData → Bool
 changes_as_scope areas r = list_any (is_of_as_scope areas) r.swaps
 
--- the swap once it has taken what is at its place
+-- the swap once it has taken what is at its slot
 abbrev pub taken : Slots → SwapData → SwapData
 taken d s = record { slot = s.slot; section = s.section; kind = s.kind; other = unwrap_or (slot_at d s.slot) None }
 
@@ -49,7 +49,7 @@ abbrev pub done_swaps : Slots → List SwapData → List SwapData
 done_swaps d [] = []
 done_swaps d (s ∷ ss) = taken d s ∷ done_swaps (put d s.slot s.other) ss
 
--- each place exists, and each state on the way is a database
+-- each slot exists, and each state on the way is a database
 abbrev pub CanDo : Slots → List SwapData → Type 0
 CanDo d [] = Unit {0}
 CanDo d (s ∷ ss) = IsSome (slot_at d s.slot) × IsDatabase (lists_of (put d s.slot s.other)) × CanDo (put d s.slot s.other) ss

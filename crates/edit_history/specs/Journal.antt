@@ -32,7 +32,7 @@ pub record Links (d : Slots) (h : HistoryData) : Type 0 where
   pub back : LinksBack d h.past
   pub on : LinksOn d h.future
 
--- the places with all done records taken back
+-- the slots with all done records taken back
 abbrev pub origin : Slots → List RecordData → Slots
 origin d [] = d
 origin d (r ∷ rs) = origin (undone_slots d r.swaps) rs

@@ -12,17 +12,17 @@ use lsa_codec::Lsa;
 use lsdb::SlotId;
 use std::alloc::{Allocator, Global};
 
-/// An LSA that an edit, or taking one back, rewrote or removed: its place, and the LSA as it was
+/// An LSA that an edit, or taking one back, rewrote or removed: its slot, and the LSA as it was
 /// before.
 #[derive(Drop)]
 pub struct Change<'a, A: Allocator = Global> {
-    /// The place.
+    /// The slot.
     pub slot: SlotId,
     /// The LSA that was there.
     pub before: &'a Lsa<A>,
 }
 
-/// The place and the LSA that a record holds, where it is of one place and the database lacks an
+/// The slot and the LSA that a record holds, where it is of one slot and the database lacks an
 /// LSA there.
 fn held_change<A: Allocator + Copy>(kept: &Record<A>) -> Option<Change<'_, A>>
     ensures { IfSome result (λ change. HoldsOne kept.now change.slot change.before.now) }

@@ -52,7 +52,7 @@ fn shortened<A: Allocator + Copy>(
     }
 }
 
-/// The swap for an LSA at a place where the point-to-point links between two routers are removed.
+/// The swap for an LSA at a slot where the point-to-point links between two routers are removed.
 fn swap_for_links<A: Allocator + Copy>(
     alloc: A,
     slot: SlotId,
@@ -75,7 +75,7 @@ fn swap_for_links<A: Allocator + Copy>(
     Ok(None)
 }
 
-/// The swap for an LSA at a place where a network is removed.
+/// The swap for an LSA at a slot where a network is removed.
 fn swap_for_network<A: Allocator + Copy>(
     alloc: A,
     slot: SlotId,
@@ -97,7 +97,7 @@ fn swap_for_network<A: Allocator + Copy>(
     Ok(None)
 }
 
-/// The swap for an LSA at a place where a router is removed.
+/// The swap for an LSA at a slot where a router is removed.
 fn swap_for_router<A: Allocator + Copy>(
     slot: SlotId,
     section: Section,
@@ -114,7 +114,7 @@ fn swap_for_router<A: Allocator + Copy>(
 }
 
 impl Failure {
-    /// The swap of this failure for an LSA at a place; none where the LSA stays. The only error is
+    /// The swap of this failure for an LSA at a slot; none where the LSA stays. The only error is
     /// that memory ran out.
     fn swap<A: Allocator + Copy>(
         self,
@@ -137,7 +137,7 @@ impl Failure {
     }
 }
 
-/// Adds the swap of a place, if it has one. The only error is that memory ran out.
+/// Adds the swap of a slot, if it has one. The only error is that memory ran out.
 fn add_swap<A: Allocator + Copy>(
     database: &Database<A>,
     slot: SlotId,
@@ -162,7 +162,7 @@ fn add_swap<A: Allocator + Copy>(
     Ok(())
 }
 
-/// Adds the swaps of the places of a section where a network is removed, by the section's number
+/// Adds the swaps of the slots of a section where a network is removed, by the section's number
 /// and its name. It looks only at LSAs that may be of the network. The only error is that memory
 /// ran out.
 fn add_swaps_of_network<A: Allocator + Copy>(
@@ -193,7 +193,7 @@ fn add_swaps_of_network<A: Allocator + Copy>(
     Ok(())
 }
 
-/// The swaps of the places of an area where a network is removed, by the area's number and its ID.
+/// The swaps of the slots of an area where a network is removed, by the area's number and its ID.
 /// The only error is that memory ran out.
 fn swaps_of_network<A: Allocator + Copy>(
     database: &Database<A>,
@@ -212,7 +212,7 @@ fn swaps_of_network<A: Allocator + Copy>(
     Ok(swaps)
 }
 
-/// Two places, in the order of their section.
+/// Two slots, in the order of their section.
 fn in_order(one: SlotId, other: SlotId) -> (SlotId, SlotId)
     ensures { result ≡ in_order one other }
 {
@@ -223,7 +223,7 @@ fn in_order(one: SlotId, other: SlotId) -> (SlotId, SlotId)
     }
 }
 
-/// The swaps of two places, in their order. The only error is that memory ran out.
+/// The swaps of two slots, in their order. The only error is that memory ran out.
 fn swaps_of_pair<A: Allocator + Copy>(
     database: &Database<A>,
     slots: (SlotId, SlotId),
@@ -335,8 +335,8 @@ fn section_name<A: Allocator + Copy>(database: &Database<A>, number: usize) -> S
     }
 }
 
-/// Adds the swaps of the places of a section where a router is removed, by the section's number. It
-/// looks only at the places that are noted of the router. The only error is that memory ran out.
+/// Adds the swaps of the slots of a section where a router is removed, by the section's number. It
+/// looks only at the slots that are noted of the router. The only error is that memory ran out.
 fn add_swaps_of_router<A: Allocator + Copy>(
     database: &Database<A>,
     number: usize,

@@ -165,7 +165,7 @@ impl<A: Allocator + Copy> History<A> {
     /// Takes the last `count` done edits back. It takes no memory.
     ///
     /// A `count` of 0 is accepted. The database is the one that the history left, except for empty
-    /// places that were opened since.
+    /// slots that were opened since.
     ///
     /// # Errors
     ///
@@ -190,7 +190,7 @@ impl<A: Allocator + Copy> History<A> {
     /// Carries the first `count` undone edits out again. It takes no memory.
     ///
     /// A `count` of 0 is accepted. The database is the one that the history left, except for empty
-    /// places that were opened since.
+    /// slots that were opened since.
     ///
     /// # Errors
     ///

@@ -19,7 +19,7 @@ ghost use Rattle.edit_history.specs.Session.{Session, Request, NoneRefused, sess
 
 use summary_metrics::summaries_settle;
 
-/// What is done is undone again, to the same places and swaps, and the other way round.
+/// What is done is undone again, to the same slots and swaps, and the other way round.
 pub fn inverses()
     ensures undo { (d : Slots) (ss : List SwapData)
         → IsDatabase (lists_of d) → CanDo d ss → UndoesAgain d ss }
@@ -54,7 +54,7 @@ pub fn no_edit_is_refused()
 /// A history is linked to its database, as [`undo`](crate::History::undo) and
 /// [`redo`](crate::History::redo) require: one without edits to every database, and one to which a
 /// record was pushed to the database that [`apply`](crate::apply) left. It stays linked where
-/// places were opened since.
+/// slots were opened since.
 pub fn histories_are_linked()
     ensures start { (d : Slots) → IsDatabase (lists_of d)
         → Links d (record { past = []; future = [] }) }

@@ -166,7 +166,7 @@ pub(crate) fn area_section<A: Allocator + Copy>(
 }
 
 /// The router-LSA that a router originated for an area that is there (RFC 2328, 12.4.1), and its
-/// place.
+/// slot.
 pub(crate) fn router_lsa_in<A: Allocator + Copy>(
     database: &Database<A>,
     area: AreaId,
@@ -189,7 +189,7 @@ pub(crate) fn router_lsa_in<A: Allocator + Copy>(
     Ok((slot, lsa))
 }
 
-/// The router-LSA that a router originated for an area (RFC 2328, 12.4.1), and its place.
+/// The router-LSA that a router originated for an area (RFC 2328, 12.4.1), and its slot.
 pub(crate) fn router_lsa<A: Allocator + Copy>(
     database: &Database<A>,
     area: AreaId,
@@ -229,7 +229,7 @@ pub(crate) fn has_router<A: Allocator + Copy>(database: &Database<A>, router: Ro
     false
 }
 
-/// Whether a wanted LSA is at a place.
+/// Whether a wanted LSA is at a slot.
 fn is_wanted_at<A: Allocator + Copy>(database: &Database<A>, slot: SlotId, wanted: &Wanted) -> bool
     ensures { result ≡ passes (is_wanted wanted.now) (slot_at database.now slot) }
 {
@@ -239,8 +239,8 @@ fn is_wanted_at<A: Allocator + Copy>(database: &Database<A>, slot: SlotId, wante
     wanted.is_met_by(lsa)
 }
 
-/// Whether a wanted LSA is at the place that is noted of a key. Where the key shows that it is
-/// another, the place is not looked at.
+/// Whether a wanted LSA is at the slot that is noted of a key. Where the key shows that it is
+/// another, the slot is not looked at.
 fn is_wanted_by_key<A: Allocator + Copy>(
     database: &Database<A>,
     section: usize,
@@ -266,8 +266,8 @@ fn lesser(first: Option<usize>, second: usize) -> usize
     }
 }
 
-/// The place of the first wanted LSA of a section, by the section's number. It looks only at the
-/// places of LSAs with a key that may be a wanted LSA's.
+/// The slot of the first wanted LSA of a section, by the section's number. It looks only at the
+/// slots of LSAs with a key that may be a wanted LSA's.
 fn first_by_keys<A: Allocator + Copy>(
     database: &Database<A>,
     section: usize,
@@ -290,8 +290,8 @@ fn first_by_keys<A: Allocator + Copy>(
     Some(SlotId { section, index })
 }
 
-/// The place of the first wanted LSA of a section, by the section's number, where its router and
-/// its prefix are known. It looks only at the places that are noted of both, up to that LSA.
+/// The slot of the first wanted LSA of a section, by the section's number, where its router and
+/// its prefix are known. It looks only at the slots that are noted of both, up to that LSA.
 fn first_of_prefix<A: Allocator + Copy>(
     database: &Database<A>,
     section: usize,
@@ -316,7 +316,7 @@ fn first_of_prefix<A: Allocator + Copy>(
     None
 }
 
-/// Whether the number of places noted of a router and a prefix is at most the number of keys that a
+/// Whether the number of slots noted of a router and a prefix is at most the number of keys that a
 /// wanted LSA may have.
 fn are_fewer_of_prefix<A: Allocator + Copy>(
     database: &Database<A>,
@@ -335,8 +335,8 @@ fn are_fewer_of_prefix<A: Allocator + Copy>(
         <= keys.upper_bound()
 }
 
-/// The place of the first wanted LSA of a section, by the section's number. It looks at the smaller
-/// of two sets: the places of its router and prefix, or the LSAs with a key that may be its.
+/// The slot of the first wanted LSA of a section, by the section's number. It looks at the smaller
+/// of two sets: the slots of its router and prefix, or the LSAs with a key that may be its.
 fn first_in<A: Allocator + Copy>(
     database: &Database<A>,
     section: usize,
@@ -355,7 +355,7 @@ fn first_in<A: Allocator + Copy>(
     first_by_keys(database, section, wanted)
 }
 
-/// The first wanted LSA of a section, and its place.
+/// The first wanted LSA of a section, and its slot.
 pub(crate) fn first<'a, A: Allocator + Copy>(
     database: &'a Database<A>,
     section: Section,

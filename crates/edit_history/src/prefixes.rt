@@ -83,7 +83,7 @@ fn new_key(kind: u8, router: RouterId, prefix: Prefix) -> Key
     }
 }
 
-/// The swap that puts a new LSA at the end of a section, where a place is opened for it. The only
+/// The swap that puts a new LSA at the end of a section, where a slot is opened for it. The only
 /// error is that memory ran out.
 fn plan_new<A: Allocator + Copy>(
     database: &mut Database<A>,

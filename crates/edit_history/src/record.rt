@@ -86,7 +86,7 @@ impl<A: Allocator + Copy> Record<A> {
 /// Takes an edit back: the database is again the one before it, byte for byte. It takes no
 /// memory.
 ///
-/// The database is the one after the edit. Empty places at the ends of sections that were opened
+/// The database is the one after the edit. Empty slots at the ends of sections that were opened
 /// since do not matter.
 pub fn revert<A: Allocator + Copy>(database: &mut Database<A>, last: &mut Record<A>)
     requires { CanUndo database.old last.old.swaps }
@@ -99,7 +99,7 @@ pub fn revert<A: Allocator + Copy>(database: &mut Database<A>, last: &mut Record
 /// Carries an edit out again: the database is again the one after it, byte for byte. It takes no
 /// memory.
 ///
-/// The database is the one before the edit. Empty places at the ends of sections that were opened
+/// The database is the one before the edit. Empty slots at the ends of sections that were opened
 /// since do not matter.
 pub fn replay<A: Allocator + Copy>(database: &mut Database<A>, next: &mut Record<A>)
     requires { CanDo database.old next.old.swaps }

@@ -44,7 +44,7 @@ impl Pass {
     }
 }
 
-/// Adds the swap of a place of an area, if the LSA there should have another metric. The only error
+/// Adds the swap of a slot of an area, if the LSA there should have another metric. The only error
 /// is that memory ran out.
 fn add_metric_swap<A: Allocator + Copy>(
     database: &Database<A>,
@@ -76,7 +76,7 @@ fn add_metric_swap<A: Allocator + Copy>(
     Ok(())
 }
 
-/// Adds the swaps of the places of an area, by its number and its ID. The only error is that memory
+/// Adds the swaps of the slots of an area, by its number and its ID. The only error is that memory
 /// ran out.
 fn add_area_swaps<A: Allocator + Copy>(
     database: &Database<A>,
@@ -104,7 +104,7 @@ fn add_area_swaps<A: Allocator + Copy>(
     Ok(())
 }
 
-/// Adds the swaps of the places of a section, by its number, if it is an area of the pass. The only
+/// Adds the swaps of the slots of a section, by its number, if it is an area of the pass. The only
 /// error is that memory ran out.
 fn add_pass_swaps<A: Allocator + Copy>(
     database: &Database<A>,

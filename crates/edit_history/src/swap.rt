@@ -1,4 +1,4 @@
-//! One place that an edit changes, and the LSA that the database lacks there.
+//! One slot that an edit changes, and the LSA that the database lacks there.
 
 ghost use Rattle.std.specs.Prelude.{◌≡◌, ◌∷◌, [], IsSome, IfSome, IfOk, Some};
 ghost use Rattle.lsdb.specs.Lists.{IsDatabase};
@@ -11,7 +11,7 @@ use lsdb::{Database, Section, SlotId};
 use std::alloc::{AllocError, Allocator, Global};
 use std::marker::Model;
 
-/// A place, the section and the LS type of the LSA there, and the LSA that the database lacks: the
+/// A slot, the section and the LS type of the LSA there, and the LSA that the database lacks: the
 /// old one once the edit is done, the new one once it is undone.
 #[derive(Drop)]
 pub(crate) struct Swap<A: Allocator = Global> {
@@ -31,7 +31,7 @@ impl<A: Allocator> Model for Swap<A> {
 }
 
 impl<A: Allocator + Copy> Swap<A> {
-    /// The swap that puts another LSA, or none, at a place.
+    /// The swap that puts another LSA, or none, at a slot.
     pub(crate) fn new(slot: SlotId, section: Section, kind: u8, other: Option<Lsa<A>>) -> Swap<A>
         ensures { result ≡ record { slot = slot; section = section; kind = kind; other = other } }
     {
@@ -43,7 +43,7 @@ impl<A: Allocator + Copy> Swap<A> {
         }
     }
 
-    /// The place.
+    /// The slot.
     pub(crate) fn slot(&self) -> SlotId
         ensures { result ≡ self.now.slot }
     {
@@ -67,7 +67,7 @@ impl<A: Allocator + Copy> Swap<A> {
         }
     }
 
-    /// Whether its place is one of AS scope: their section comes after those of the areas. The
+    /// Whether its slot is one of AS scope: their section comes after those of the areas. The
     /// database has `areas` areas.
     pub(crate) fn is_of_as_scope(&self, areas: usize) -> bool
         ensures { result ≡ is_of_as_scope areas self.now }
@@ -75,7 +75,7 @@ impl<A: Allocator + Copy> Swap<A> {
         areas <= self.slot.section
     }
 
-    /// Exchanges the LSA that it holds with the one at the place.
+    /// Exchanges the LSA that it holds with the one at the slot.
     fn exchange(&mut self, database: &mut Database<A>)
         requires exists { IsSome (slot_at database.old self.old.slot) }
         requires sound { IsDatabase (lists_of (put database.old self.old.slot self.old.other)) }

@@ -18,11 +18,11 @@ use Rattle.lsdb.proofs.KeyLemmas.{own_key}
 use Rattle.lsdb.proofs.Middle.{all_mid, map_mid, map_two}
 use Rattle.lsdb.proofs.Dominated.{size_around}
 
--- the section with an LSA behind its last one
+-- the section with an LSA after its last one
 abbrev pub with_lsa : List ℕ → SectionLsas → SectionLsas
 with_lsa x s = record { area = s.area; lsas = s.lsas ++ x ∷ [] }
 
--- ---- the places
+-- ---- the slots
 
 full-new : (x : List ℕ) (ps : List Slot) (n : ℕ) → n ≡ length ps → full (put_slot (Some x) (ps ++ None ∷ []) n) ≡ full ps ++ x ∷ []
 full-new x [] zero e = refl
@@ -31,7 +31,7 @@ full-new x (p ∷ ps) zero e = absurd (omega arith)
 full-new x (None ∷ ps) (suc n) e = full-new x ps n (omega arith)
 full-new x (Some y ∷ ps) (suc n) e = ap (λ (ys : List (List ℕ)). y ∷ ys) (full-new x ps n (omega arith))
 
--- a place that was opened at the end of a section, and then filled
+-- a slot that was opened at the end of a section, and then filled
 pub lists-new : (x : List ℕ) (d : Slots) (section n : ℕ) → n ≡ length (slots_in d section)
     → lists_of (put (open_at d section) (record { section = section; index = n }) (Some x)) ≡ update_at (with_lsa x) (lists_of d) section
 lists-new x [] section n e = refl

@@ -32,7 +32,7 @@ has_area : (db : Lists) (i : ℕ) (head : AreaHead) → AllPairs IsBefore (heads
 has_area [] i head pairs at = absurd cc
 has_area (s ∷ db) i head pairs at = by s.area refl i at (λ j there. has_area db j head (pairs_tail IsBefore s.area (heads_of db) pairs) there)
   where
-    -- nothing stands behind the LSAs of AS scope
+    -- nothing stands after the LSAs of AS scope
     last : (db : Lists) → All (IsBefore None) (heads_of db) → areas_of db ≡ []
     last [] h = refl
     last (t ∷ ts) h = absurd (All-head (IsBefore None) t.area (heads_of ts) h)

@@ -179,7 +179,7 @@ IsAfter before None = ⊥
 IsAfter None (Some a) = Unit {0}
 IsAfter (Some before) (Some a) = before.id < a.id
 
--- areas that may stand behind one with the head before
+-- areas that may stand after one with the head before
 pub record AreNext (before : Option AreaHead) (areas : Lists) : Type 0 where
   pub sections : All IsSection areas
   pub ids : All HasWideId (heads_of areas)

@@ -1,4 +1,4 @@
--- The areas stand first, and one section behind them.
+-- The areas stand first, and one section after them.
 use Rattle.std.proofs.Common.{◌≡◌, ℕ, zero, suc, ◌<◌, true, List, [], ◌∷◌, length, get_or, Option, Some, None, refl, sym, ap, ◌∙◌, subst, arith}
 use Rattle.std.specs.Prelude.{AllPairs, IsSome, slice_get, option_map}
 use Rattle.std.specs.List.{list_any, filter_map, cons_option}
@@ -15,7 +15,7 @@ areas_seen : (db : Lists) → areas_of db ≡ areas_in (heads_of db)
 areas_seen [] = refl
 areas_seen (s ∷ db) = ap (cons_option s.area) (areas_seen db)
 
--- nothing stands behind the LSAs of AS scope
+-- nothing stands after the LSAs of AS scope
 last_head : (head : Option AreaHead) (heads : List (Option AreaHead)) → AllPairs IsBefore (None ∷ head ∷ heads) → ⊥
 last_head head heads pairs = pairs zero (suc zero) None (omega arith) (omega arith)
 

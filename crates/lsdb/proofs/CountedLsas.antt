@@ -55,7 +55,7 @@ same_counts : (k l m n p q : ℕ) → k ≡ l → m ≡ n → p ≡ q
     let b : LsaCounts = record { lsas = l; virtual_ends = n; virtual_links = q } in a ≡ b
 same_counts k l m n p q e f g = rw (e, f, g) refl
 
--- ---- one place more
+-- ---- one slot more
 
 full_two : (ps qs : List Slot) → full (ps ++ qs) ≡ full ps ++ full qs
 full_two [] qs = refl
@@ -86,7 +86,7 @@ more_few i so_far one new few this now = rw now (record {
   virtual_links = omega (arith, few.virtual_links, this.virtual_links);
 })
 
--- ---- one place exchanged
+-- ---- one slot exchanged
 
 sum_first : (f : List ℕ → ℕ) (p : Slot) (ps : List Slot) → sum_by f (full (p ∷ ps)) ≡ sum_by f (full (p ∷ [])) + sum_by f (full ps)
 sum_first f None ps = omega arith

@@ -1,4 +1,4 @@
--- A place takes an LSA that may stand for the one there, or is emptied: the places still make a database.
+-- A slot takes an LSA that may stand for the one there, or is emptied: the slots still make a database.
 use Rattle.std.proofs.Common.{◌≡◌, ◌≢◌, ℕ, zero, suc, ◌+◌, ◌≤◌, true, List, [], ◌∷◌, ◌++◌, length, map, Option, Some, None, refl, sym, ap, ◌∙◌, subst, arith}
 use Rattle.std.specs.Prelude.{All}
 use Rattle.std.specs.List.{cons_option, sum_by}
@@ -13,7 +13,7 @@ use Rattle.lsdb.specs.Slots.{Slot, Slots, SectionSlots, item_at, put_slot, put, 
 use Rattle.lsdb.specs.steps.OneSlot.{IsPutSafe, slot_size}
 use Rattle.lsdb.proofs.Middle.{all_mid, all_without, pairs_without, map_mid, map_two, length_mid}
 
--- ---- the lists around one place
+-- ---- the lists around one slot
 
 pub record Around (ps : List Slot) (i : ℕ) (old new : Slot) : Type 0 where
   pub front : List (List ℕ)
@@ -46,7 +46,7 @@ around (Some x ∷ ps) (suc i) old new h =
 abbrev pub section_with : Option AreaHead → List (List ℕ) → SectionLsas
 section_with area lsas = record { area = area; lsas = lsas }
 
--- the whole database around one place
+-- the whole database around one slot
 pub record Between (d : Slots) (slot : SlotId) (old new : Slot) : Type 0 where
   pub low : Lists
   pub high : Lists
@@ -149,7 +149,7 @@ pub size_around : (low high : Lists) (s : SectionLsas)
     → sum_by section_size (low ++ s ∷ high) ≡ section_size s + (sum_by section_size low + sum_by section_size high)
 size_around low high s = omega (arith, sum_by-append section_size low (s ∷ high), sum_by-cons section_size s high)
 
--- a write to one place changes the size by what it takes and leaves
+-- a write to one slot changes the size by what it takes and leaves
 pub size-put : (d : Slots) (slot : SlotId) (old new : Slot) → slot_at d slot ≡ Some old
     → size (lists_of (put d slot new)) + slot_size old ≡ size (lists_of d) + slot_size new
 size-put d slot old new h =
@@ -178,7 +178,7 @@ smaller (Some x) None safe = omega arith
 smaller None None safe = omega arith
 smaller None (Some y) safe = absurd safe
 
--- a place that is emptied, or takes an LSA that may stand for the one there, leaves a database
+-- a slot that is emptied, or takes an LSA that may stand for the one there, leaves a database
 pub put_safe : (d : Slots) (slot : SlotId) (old new : Slot) → slot_at d slot ≡ Some old → IsPutSafe old new
     → IsDatabase (lists_of d) → IsDatabase (lists_of (put d slot new))
 put_safe d slot old new h safe db =
@@ -192,7 +192,7 @@ put_safe d slot old new h safe db =
       small = omega (arith, size-put d slot old new h, smaller old new safe, db.small);
     }
 
--- a place takes an LSA of the same key that is longer, where the dump has room for it
+-- a slot takes an LSA of the same key that is longer, where the dump has room for it
 pub extended_safe : (d : Slots) (slot : SlotId) (x y : List ℕ) → slot_at d slot ≡ Some (Some x)
     → IsAccepted y → key_of y ≡ key_of x → size (lists_of d) + length y ≤ longest_dump + length x
     → IsDatabase (lists_of d) → IsDatabase (lists_of (put d slot (Some y)))

@@ -13,7 +13,7 @@ pub kept_lists : {A : Type 0} → (ss ts : List (SectionOf A)) (kept : ℕ)
     → lists_of (slots_of ts) ≡ lists_of (slots_of ss) → IsKept ss kept → IsKept ts kept
 kept_lists {A} ss ts kept same h = record { sound = subst IsDatabase (sym same) h.sound; byte_count = h.byte_count ∙ ap size (sym same) }
 
--- a place takes no more bytes than the dump
+-- a slot takes no more bytes than the dump
 pub slot_size_fits : (d : Slots) (slot : SlotId) (old : Slot) → slot_at d slot ≡ Some old → slot_size old ≤ size (lists_of d)
 slot_size_fits d slot old at = omega (arith, size-put d slot old None at)
 
@@ -21,7 +21,7 @@ pub size_moved : (d : Slots) (slot : SlotId) (old new : Slot) (kept : ℕ) → s
     → kept ≡ size (lists_of d) → kept - slot_size old + slot_size new ≡ size (lists_of (put d slot new))
 size_moved d slot old new kept at is = omega (arith, size-put d slot old new at, slot_size_fits d slot old at, is)
 
--- one place was exchanged
+-- one slot was exchanged
 pub kept_put : {A : Type 0} → (ss ts : List (SectionOf A)) (slot : SlotId) (old new : Slot) (kept moved : ℕ)
     → slots_of ts ≡ put (slots_of ss) slot new → slot_at (slots_of ss) slot ≡ Some old
     → IsDatabase (lists_of (put (slots_of ss) slot new)) → moved ≡ kept - slot_size old + slot_size new

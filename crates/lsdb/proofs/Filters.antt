@@ -93,7 +93,7 @@ pub one_link_more : (links : List Link) (filter : TransitFilter) (link : Link)
 one_link_more [] filter link = refl
 one_link_more (other ∷ links) filter link = one_link_more links (with_link filter other) link
 
--- ---- LSAs and places
+-- ---- LSAs and slots
 
 lsa_may : (lsa : List ℕ) (network : Addr) → is_of_network network lsa ≡ true → may_have network (filter_of_lsa lsa) ≡ true
 lsa_may lsa network own = by_router (kind_of lsa == router_lsa) own where
@@ -124,7 +124,7 @@ are_filters slots filters is = record {
       ap (λ (f : TransitFilter). may_have network f) (sym same) ∙ lsa_may lsa network own;
 }
 
--- what stands at a place was exchanged, and its filter rebuilt
+-- what stands at a slot was exchanged, and its filter rebuilt
 pub filters_put : (old : List Slot) (before : List TransitFilter) (index : ℕ) (v : Slot) (slots : List Slot) (after : List TransitFilter)
     → before ≡ filters_of old → slots ≡ set old index v → index < length old
     → after ≡ set before index (filter_of_slot (get_or slots index None)) → after ≡ filters_of (set old index v)
@@ -139,7 +139,7 @@ filters_put old before index v slots after sound put within is =
     set_here (q ∷ ps) zero p lt = refl
     set_here (q ∷ ps) (suc i) p lt = set_here ps i p (omega arith)
 
--- an empty place was opened
+-- an empty slot was opened
 pub filters_opened : (old slots : List Slot) (before after : List TransitFilter) → before ≡ filters_of old → slots ≡ old ++ None ∷ []
     → after ≡ before ++ no_networks ∷ [] → after ≡ filters_of slots
 filters_opened old slots before after sound opened is =

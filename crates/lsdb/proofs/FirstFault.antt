@@ -1,4 +1,4 @@
--- The fault that is told of a failed reading is the first, or want of memory.
+-- The fault that is reported of a failed reading is the first, or want of memory.
 use Rattle.std.proofs.Common.{◌≡◌, Result, Err, inl, inr, ap, ◌∙◌, sym}
 use Rattle.lsdb.specs.declared.fault.DumpFault.{DumpFault}
 use Rattle.lsdb.specs.declared.fault.ReadError.{ReadError}

@@ -1,4 +1,4 @@
--- The LSAs of places, one after another.
+-- The LSAs of slots, one after another.
 use Rattle.std.proofs.Common.{◌≡◌, ℕ, ◌+◌, ◌<◌, List, [], ◌∷◌, ◌++◌, length, get_or, take, Some, None, refl, sym, ap, ◌∙◌, append_assoc}
 use Rattle.std.specs.List.{concat}
 use Rattle.std.proofs.lemmas.List.{append-nil, take_more}
@@ -21,7 +21,7 @@ pub concat-push : (xs : List (List ℕ)) (y : List ℕ) → concat (xs ++ y ∷ 
 concat-push [] y = append-nil y
 concat-push (x ∷ xs) y = ap (λ (t : List ℕ). x ++ t) (concat-push xs y) ∙ sym (append_assoc x (concat xs) y)
 
--- the LSA of one place more is written behind the others
+-- the LSA of one slot more is written after the others
 pub written_full : (ps : List Slot) (i : ℕ) (p : Slot) (x start old new : List ℕ) → i < length ps
     → p ≡ get_or ps i p → p ≡ Some x → new ≡ old ++ x → old ≡ start ++ concat (full (take i ps))
     → new ≡ start ++ concat (full (take (i + 1) ps))

@@ -160,7 +160,7 @@ part_between keys rest low high start end rising is first last =
       whole = whole_part keys low high start end first ends;
     })
 
--- ---- the keys of the LSAs at places
+-- ---- the keys of the LSAs at slots
 
 at_pair : (keys : List KeyAt) (k : ℕ) (e : KeyAt) → get_or (pairs_of keys) k (e.key, e.index) ≡ (e.key, e.index) → get_or keys k e ≡ e
 at_pair [] k e h = refl

@@ -1,4 +1,4 @@
--- The keys noted beside the places: what is found by it, and what an exchange of one place leaves of it.
+-- The keys noted beside the slots: what is found by it, and what an exchange of one slot leaves of it.
 use Rattle.std.proofs.Common.{◌≡◌, ℕ, zero, suc, ◌+◌, ◌^◌, ◌<◌, ◌≤◌, Bool, true, false, cond, List, [], ◌∷◌, ◌++◌, length, take, get_or, set, Option, Some, None, Result, Ok, Err, IfOk, IfErr, refl, sym, ap, subst, ◌∙◌, arith, length-append, ◌⊎◌, inl, inr, ⊎_elim}
 use Rattle.std.specs.Prelude.{All, IsSome}
 use Rattle.std.proofs.lemmas.List.Elements.{All-nil, All-cons, All-head, All-tail, All-append}
@@ -25,7 +25,7 @@ use Rattle.lsdb.proofs.Seen.{slot_set}
 
 -- ---- finding
 
--- no LSA of the places has the key
+-- no LSA of the slots has the key
 abbrev NoneHas : List Slot → Key → Type 0
 NoneHas ps key = (j : ℕ) (x : List ℕ) → item_at ps j ≡ Some (Some x) → has_key key x ≡ false
 
@@ -51,7 +51,7 @@ by_truth : (b : Bool) → (b ≡ true → true ≡ false) → b ≡ false
 by_truth true h = h refl
 by_truth false h = refl
 
--- an LSA that has the key stands at the place that is noted of it
+-- an LSA that has the key stands at the slot that is noted of it
 noted_of : (ps : List Slot) (keys latest : List KeyAt) (key : Key) (j : ℕ) (x : List ℕ) → AreNoted ps keys latest → item_at ps j ≡ Some (Some x)
     → has_key key x ≡ true → noted_index (latest ++ keys) key ≡ Some j
 noted_of ps keys latest key j x sound at has =
@@ -69,7 +69,7 @@ missing_by_index ps keys latest key sound none =
     let both : None ≡ Some j = sym none ∙ noted_of ps keys latest key j x sound at_j has in
     absurd cc))
 
--- the LSA at the place that is noted has another key, or is gone
+-- the LSA at the slot that is noted has another key, or is gone
 missing_at : (ps : List Slot) (keys latest : List KeyAt) (key : Key) (i : ℕ) → AreNoted ps keys latest → noted_index (latest ++ keys) key ≡ Some i
     → ((p : Slot) → item_at ps i ≡ Some p → slot_has_key key p ≡ false) → find (has_key key) (full ps) ≡ None
 missing_at ps keys latest key i sound is none =
@@ -78,7 +78,7 @@ missing_at ps keys latest key i sound is none =
     let same : i ≡ j = cc in
     has_not (item_at ps i) key x (ap (item_at ps) same ∙ at_j) has none))
 
--- the LSA at the place that is noted has the key: it is the first
+-- the LSA at the slot that is noted has the key: it is the first
 pub found_at : (ps : List Slot) (keys latest : List KeyAt) (key : Key) (i : ℕ) (p : Slot) → AreNoted ps keys latest
     → item_at ps i ≡ Some p → slot_has_key key p ≡ true → IsFirstIndex ps (has_key key) i
 found_at ps keys latest key i None sound at has = absurd cc
@@ -94,7 +94,7 @@ found_at ps keys latest key i (Some lsa) sound at has =
 
 -- ---- exchanging
 
--- a place of the new ones is the one exchanged, or as before
+-- a slot of the new ones is the one exchanged, or as before
 pub slot_after : (v : Slot) (ps : List Slot) (n i : ℕ) (lsa : List ℕ) → item_at (put_slot v ps n) i ≡ Some (Some lsa)
     → ((i ≡ n) × (v ≡ Some lsa)) ⊎ (item_at ps i ≡ Some (Some lsa))
 slot_after v [] n i lsa at = absurd cc
@@ -139,7 +139,7 @@ module _ (ps : List Slot) (n : ℕ) (v : Slot) (lsa : List ℕ) (key : Key) (key
   here : item_at (put_slot v ps n) n ≡ Some (Some lsa)
   here = here_after v ps n lt ∙ ap (λ (p : Slot). Some p) is
 
-  -- the place of the new LSA is noted of its key now
+  -- the slot of the new LSA is noted of its key now
   pub noted : (new : List KeyAt) → AreApart (put_slot v ps n) → Notes latest new key n → AreNoted (put_slot v ps n) keys new
   noted new apart notes = record {
     rising = sound.rising;
@@ -157,7 +157,7 @@ module _ (ps : List Slot) (n : ℕ) (v : Slot) (lsa : List ℕ) (key : Key) (key
         absurd (let no' : true ≡ false = sym itself ∙ other in cc))
         (λ h. sound.whole i x h) (slot_after v ps n i x at)
 
-  -- the place was noted of the key of the new LSA before
+  -- the slot was noted of the key of the new LSA before
   pub noted_before : noted_index (latest ++ keys) key ≡ Some n → AreNoted (put_slot v ps n) keys latest
   noted_before has = record {
     rising = sound.rising;

@@ -1,4 +1,4 @@
--- Each LSA's key with the index of its place: told apart, and in order once sorted.
+-- Each LSA's key with the index of its slot: distinguished, and in order once sorted.
 use Rattle.std.proofs.Common.{◌≡◌, ◌≢◌, ℕ, zero, suc, ◌+◌, ◌<◌, true, false, List, [], ◌∷◌, ◌++◌, map, get_or, drop, length, Some, None, refl, sym, ap, subst, ◌∙◌, arith, append_assoc}
 use Rattle.std.specs.Prelude.{AllPairs}
 use Rattle.std.specs.List.{Contains, IsDistinct}
@@ -29,7 +29,7 @@ named n [] = refl
 named n (None ∷ ps) = named (suc n) ps
 named n (Some x ∷ ps) = ap (λ (ks : List Key). key_of x ∷ ks) (named (suc n) ps)
 
--- ---- a loop over the places
+-- ---- a loop over the slots
 
 abbrev pub KeysSoFar : List Slot → ℕ → List KeyAt → Type 0
 KeysSoFar ps i done = done ++ keys_from i (drop i ps) ≡ keys_from 0 ps
@@ -84,7 +84,7 @@ own_slot ps apart i lsa at = lookup-from_Contains laws (key_of lsa) i (pairs_of 
 some_of : (i j : ℕ) → Some i ≡ Some j → i ≡ j
 some_of i j e = cc
 
--- one key, one place
+-- one key, one slot
 pub one_slot : (ps : List Slot) → AreApart ps → (i j : ℕ) (a b : List ℕ) → item_at ps i ≡ Some (Some a) → item_at ps j ≡ Some (Some b) → key_of a ≡ key_of b → i ≡ j
 one_slot ps apart i j a b at_i at_j same =
     some_of i j (sym (own_slot ps apart i a at_i) ∙ ap (noted_index (keys_from 0 ps)) same ∙ own_slot ps apart j b at_j)

@@ -20,7 +20,7 @@ use Rattle.lsdb.specs.steps.NotedKeys.{pairs_of, noted_index, IsRising, IsFoundA
 use Rattle.lsdb.proofs.Keys.{is_at_key}
 use Rattle.lsdb.proofs.Searching.{turn_map}
 
--- ---- keys that the order does not tell apart are the same
+-- ---- keys that the order does not distinguish are the same
 
 by_cmp : eq_by_cmp key_cmp ≡ same_key
 by_cmp = λ i a b. is_at_key a b i

@@ -1,4 +1,4 @@
--- The index of the places of each router for each prefix: its order, and what it answers.
+-- The index of the slots of each router for each prefix: its order, and what it answers.
 use Rattle.std.proofs.Common.{◌≡◌, ◌∙◌, ℕ, List, ◌++◌, Option, Some, None, refl, sym, ap}
 use Rattle.std.specs.Prelude.{option_map}
 use Rattle.std.specs.Cmp.{IsTotalOrder}

@@ -1,4 +1,4 @@
--- The index of the places of each router: its order, and what it answers.
+-- The index of the slots of each router: its order, and what it answers.
 use Rattle.std.proofs.Common.{◌≡◌, ℕ, List, ◌++◌, Some, None, refl, sym, ap}
 use Rattle.std.specs.Cmp.{IsTotalOrder}
 use Rattle.std.specs.Ordering.{nat_cmp}

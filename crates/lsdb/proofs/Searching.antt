@@ -52,7 +52,7 @@ find_miss p xs rest i x front fail same = sym (ap (find p) front ∙ ap (λ b. c
 pub find_none : {X : Type 0} (p : X → Bool) (xs : List X) (i : ℕ) → length xs ≤ i → find p (drop i xs) ≡ find p xs → find p xs ≡ None
 find_none p xs i end same = sym same ∙ ap (find p) (drop_all i xs end)
 
--- ---- in the full places
+-- ---- in the full slots
 
 full_hit : (key : Key) (p : Slot) (rest : List Slot) → slot_has_key key p ≡ true → (p ≡ find (has_key key) (full (p ∷ rest))) × IsSome p
 full_hit key None rest pass = absurd cc
@@ -101,7 +101,7 @@ section_turn {A} ss i j s lt e h = subst (λ (xs : Lists). Turn xs i j (shown s)
 pub section_count : {A : Type 0} → (ss : List (SectionOf A)) → length (lists_of (slots_of ss)) ≡ length ss
 section_count {A} ss = ap length (shown_all ss) ∙ length-map ss shown
 
--- what is found in the places of a section is found in the database
+-- what is found in the slots of a section is found in the database
 pub found_in : {A : Type 0}
     → (ss : List (SectionOf A)) (section index : ℕ) (s : SectionOf A) (slots : List Slot) (key : Key)
     → IsSome (item_at (lists_of (slots_of ss)) section) → s ≡ get_or ss section s → slots ≡ s.slots

@@ -72,7 +72,7 @@ lsas_push area seen lsa old accepted scope new =
       distinct = apart_push seen lsa old.distinct new;
     }
 
--- an LSA behind others
+-- an LSA after others
 record Middle (area : Option AreaHead) (seen : List (List ℕ)) (lsa : List ℕ) : Type 0 where
   pub accepted : IsAccepted lsa
   pub scope : is_in_scope area (key_of lsa) ≡ true

@@ -1,4 +1,4 @@
--- What the places of a section name, in an index: noted anew, and kept as places are exchanged and opened.
+-- What the slots of a section name, in an index: noted again, and kept as slots are exchanged and opened.
 use Rattle.std.proofs.Common.{◌≡◌, ℕ, zero, suc, ◌+◌, ◌<◌, ◌≤◌, Bool, true, false, List, [], ◌∷◌, ◌++◌, length, drop, get_or, set, eqb, Option, Some, None, refl, sym, ap, subst, ◌∙◌, arith, append_assoc, length-append, ⊎_elim, ◌⊎◌, inl, inr}
 use Rattle.std.specs.Prelude.{◌≢◌, Contains}
 use Rattle.std.specs.Cmp.{IsTotalOrder}
@@ -19,7 +19,7 @@ use Rattle.lsdb.proofs.KeyedSlotLists.{count_after}
 use Rattle.lsdb.proofs.Searching.{turn}
 use Rattle.lsdb.proofs.Seen.{slot_set}
 
--- ---- a loop over the places
+-- ---- a loop over the slots
 
 abbrev pub NotedSoFar : {X : Type 0} → (ℕ → Slot → Option X) → List Slot → ℕ → List X → Type 0
 NotedSoFar named ps i done = done ++ noted_from named i (drop i ps) ≡ noted_from named 0 ps
@@ -43,7 +43,7 @@ noted_one {X} named ps i j p name done lt e here one so_far =
     subst (λ (k : ℕ). NotedSoFar named ps k (done ++ name ∷ [])) (sym e)
     (append_assoc done (name ∷ []) more ∙ sym (ap (λ (es : List X). done ++ es) rest) ∙ so_far)
 
--- ---- noted anew
+-- ---- noted again
 
 in_cons : {X : Type 0} (o : Option X) (xs : List X) (x : X) → Contains xs x → Contains (cons_option o xs) x
 in_cons None xs x has = has
@@ -82,7 +82,7 @@ unfolding IsDistinct
 distinct_cons same None xs h all = all
 distinct_cons same (Some x) xs h all = (h x refl, all)
 
--- a name tells the index of its place
+-- a name tells the index of its slot
 abbrev pub ReportsIndex : {X : Type 0} → (ℕ → Slot → Option X) → (X → ℕ) → Type 0
 ReportsIndex {X} named index = (i : ℕ) (p : Slot) (x : X) → named i p ≡ Some x → index x ≡ i
 
@@ -123,7 +123,7 @@ module _ {X : Type 0} (named : ℕ → Slot → Option X) (index : X → ℕ) (r
     narrow = narrow;
   }
 
--- ---- one place
+-- ---- one slot
 
 module _ {X : Type 0} (order : X → X → Ordering) (named : ℕ → Slot → Option X) where
   named_there : (ps : List Slot) (index : ℕ) (p : Slot) (name : X) (noted latest new : List X) (room : ℕ) → index < length ps
@@ -160,7 +160,7 @@ module _ {X : Type 0} (order : X → X → Ordering) (named : ℕ → Slot → O
   noted_before ps index p name noted latest room lt here is has but =
       named_there ps index p name noted latest latest room lt here is but.latest_rising (Contains-append_right latest noted name has) (λ x there. there) but
 
-  -- the place names nothing
+  -- the slot names nothing
   pub none_there : (ps : List Slot) (index : ℕ) (p : Slot) (noted latest : List X) (room : ℕ) → index < length ps → p ≡ get_or ps index p
       → named index p ≡ None → IsIndexBut order named index ps noted latest room → IsIndex order named ps noted latest room
   none_there ps index p noted latest room lt here is but = record {
@@ -177,7 +177,7 @@ module _ {X : Type 0} (order : X → X → Ordering) (named : ℕ → Slot → O
     narrow = but.narrow;
   }
 
--- ---- places exchanged, opened and found
+-- ---- slots exchanged, opened and found
 
 item_after : (v : Slot) (ps : List Slot) (n i : ℕ) (p : Slot) → i ≢ n → item_at (put_slot v ps n) i ≡ Some p → item_at ps i ≡ Some p
 item_after v [] n i p other at = at

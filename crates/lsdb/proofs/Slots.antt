@@ -1,4 +1,4 @@
--- What a write to one place changes.
+-- What a write to one slot changes.
 use Rattle.std.proofs.Common.{◌≡◌, ℕ, zero, suc, List, [], ◌∷◌, ◌++◌, Some, None, refl, sym, ap}
 use Rattle.lsdb.specs.declared.slot.SlotId.{SlotId}
 use Rattle.lsdb.specs.Lists.{SectionLsas}
@@ -43,11 +43,11 @@ read_at v w [] section i h = absurd cc
 read_at v w (s ∷ ss) zero i h = item_at-put_slot v w s.slots i h
 read_at v w (s ∷ ss) (suc section) i h = read_at v w ss section i h
 
--- a second write to a place covers the first
+-- a second write to a slot covers the first
 pub put-put : (d : Slots) (slot : SlotId) (v w : Slot) → put (put d slot v) slot w ≡ put d slot w
 put-put d slot v w = twice_at v w d slot.section slot.index
 
--- a place that is written back
+-- a slot that is written back
 pub put-slot_at : (d : Slots) (slot : SlotId) (v : Slot) → slot_at d slot ≡ Some v → put d slot v ≡ d
 put-slot_at d slot v h = same_at v d slot.section slot.index h
 
@@ -55,7 +55,7 @@ put-slot_at d slot v h = same_at v d slot.section slot.index h
 pub slot_at-put : (d : Slots) (slot : SlotId) (v w : Slot) → slot_at d slot ≡ Some w → slot_at (put d slot v) slot ≡ Some v
 slot_at-put d slot v w h = read_at v w d slot.section slot.index h
 
--- ---- a place is opened
+-- ---- a slot is opened
 
 item_at-grown : (v w : Slot) (ps : List Slot) (i : ℕ) → item_at ps i ≡ Some w → item_at (ps ++ v ∷ []) i ≡ Some w
 item_at-grown v w [] i h = absurd cc
@@ -100,7 +100,7 @@ pub put-open_at : (d : Slots) (section : ℕ) (slot : SlotId) (v w : Slot) → s
     → put (open_at d section) slot v ≡ open_at (put d slot v) section
 put-open_at d section slot v w h = grown_put v w d slot.section slot.index section h
 
--- an empty place isn't seen
+-- an empty slot isn't seen
 pub lists_of-open_at : (d : Slots) (section : ℕ) → lists_of (open_at d section) ≡ lists_of d
 lists_of-open_at [] section = refl
 lists_of-open_at (s ∷ ss) zero = ap (λ (xs : List (List ℕ)). record { area = s.area; lsas = xs } ∷ lists_of ss) (full-grown s.slots)

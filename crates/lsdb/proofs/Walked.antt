@@ -1,4 +1,4 @@
--- The full places of a section, from the front.
+-- The full slots of a section, from the front.
 use Rattle.std.proofs.Common.{◌≡◌, ℕ, zero, suc, ◌-◌, ◌<◌, ◌≤◌, List, [], ◌∷◌, length, take, drop, get_or, Option, Some, None, Bor, refl, sym, ap, ◌∙◌, arith}
 use Rattle.std.proofs.Common.{rules, length-drop}
 use Rattle.std.specs.Prelude.{All, IsSome, MatchOption}
@@ -16,7 +16,7 @@ use Rattle.lsdb.specs.steps.View.{slots_of}
 use Rattle.lsdb.proofs.CountedLsas.{counts_few}
 use Rattle.lsdb.proofs.Searching.{turn}
 
--- the first full place, and the places behind it
+-- the first full slot, and the slots after it
 pub first_full : (ps rest : List Slot) (i j : ℕ) (lsa : List ℕ) (p : Slot) → i < length ps → j ≡ suc i
     → p ≡ get_or ps i p → p ≡ Some lsa → rest ≡ take (length ps - j) (drop j ps) → full (drop i ps) ≡ full ps
     → full ps ≡ lsa ∷ full rest
@@ -55,7 +55,7 @@ counts_few_at (s ∷ db) zero h =
     counts_few s.lsas one.accepted (section_few s one)
 counts_few_at (s ∷ db) (suc section) h = counts_few_at db section (All-tail IsSection s db h)
 
--- ---- one place of a section
+-- ---- one slot of a section
 
 slot_here : {A : Type 0} → (ss : List (SectionOf A)) (section i : ℕ) (s : SectionOf A) → section < length ss → s ≡ get_or ss section s
     → slot_in (item_at (slots_of ss) section) i ≡ item_at s.slots i
@@ -73,11 +73,11 @@ module _ {A : Type 0} (ss : List (SectionOf A)) (slot : SlotId) (s : SectionOf A
   stands : slot_at (slots_of ss) slot ≡ item_at ps slot.index
   stands = slot_here ss slot.section slot.index s lt is ∙ ap (λ (qs : List Slot). item_at qs slot.index) (sym here)
 
-  -- there is no such place
+  -- there is no such slot
   pub lsa_beyond : length ps ≤ slot.index → lsa_at (slots_of ss) slot ≡ None
   lsa_beyond le = ap lsa_or_none (stands ∙ item_beyond ps slot.index le)
 
-  -- what stands at the place
+  -- what stands at the slot
   pub lsa_there : (p : Slot) (r : Option (Bor (List ℕ))) → slot.index < length ps → p ≡ get_or ps slot.index p → option_copied r ≡ p
       → MatchOption r (lsa_at (slots_of ss) slot ≡ None) (λ lsa. slot_at (slots_of ss) slot ≡ Some (Some lsa.now))
   lsa_there p None within read same = ap lsa_or_none (stands ∙ (turn ps slot.index (suc slot.index) p within refl read).here ∙ ap (λ (q : Slot). Some q) (sym same))

@@ -56,7 +56,7 @@ section_next {A} ss i j s start old new lt step is pushed so_far =
     ∙ ap (λ (x : List ℕ). front ++ x) (flat_map-cons section_text (shown s) [] ∙ append-nil piece) in
     pushed ∙ ap (λ (x : List ℕ). x ++ piece) so_far ∙ append_assoc start front piece ∙ ap (λ (x : List ℕ). start ++ x) (sym more)
 
--- the number of areas, behind what was written before
+-- the number of areas, after what was written before
 abbrev pub counted : List ℕ → Lists → List ℕ
 counted start db = start ++ to_be_bytes w8 (area_count db)
 

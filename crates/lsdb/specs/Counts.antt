@@ -37,7 +37,7 @@ counts_of lsas = record {
   virtual_links = sum_by virtual_link_count lsas;
 }
 
--- no more than at most so many LSAs count, of which none is longer than an LSA may be
+-- no more than at most this number of LSAs count, of which none is longer than an LSA may be
 pub record AreFew (most : ℕ) (counts : LsaCounts) : Type 0 where
   pub lsas : counts.lsas ≤ most
   pub virtual_ends : counts.virtual_ends ≤ most

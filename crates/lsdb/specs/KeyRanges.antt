@@ -14,7 +14,7 @@ use Rattle.lsdb.specs.Slots.{Slot, item_at}
 abbrev pub pairs_of : List KeyAt → List (Key × ℕ)
 pairs_of keys = map (λ noted. (noted.key, noted.index)) keys
 
--- each key is less than those behind it
+-- each key is less than those after it
 abbrev pub IsRising : List KeyAt → Type 0
 IsRising keys = IsStrictlySortedBy key_cmp (keys_of (pairs_of keys))
 
@@ -32,7 +32,7 @@ pub record HaveWidths (lsa : List ℕ) : Type 0 where
   pub id : link_state_id_of lsa < 2 ^ 32
   pub adv : advertising_router_of lsa < 2 ^ 32
 
--- keys of a section from one key to another, in order and each once with one index, among them that of each LSA there, with the index of its place
+-- keys of a section from one key to another, in order and each once with one index, among them that of each LSA there, with the index of its slot
 pub record AreKeysBetween (slots : List Slot) (low high : Key) (keys : List KeyAt) : Type 0 where
   pub rising : IsStrictlySortedBy noted_cmp keys
   pub within : All (λ noted. is_between low high noted.key ≡ true) keys

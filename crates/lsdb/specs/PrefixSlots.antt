@@ -1,4 +1,4 @@
--- The places of a section at which LSAs of one router for one prefix stand.
+-- The slots of a section at which LSAs of one router for one prefix stand.
 use Rattle.std.specs.Prelude.{◌≡◌, ◌<◌, ◌==◌, ◌||◌, ℕ, List, Option, Some, None, All, AllPairs, Contains, if◌then◌else◌}
 use Rattle.lsa_codec.specs.declared.address.RouterId.{RouterId}
 use Rattle.lsa_codec.specs.Fields.{kind_of, advertising_router_of}
@@ -17,11 +17,11 @@ prefix_of lsa = if (kind_of lsa == summary_lsa) || (kind_of lsa == external_lsa)
 abbrev pub origin_of : RouterId → Net → Origin
 origin_of router net = record { adv = router; network = net.addr; mask_length = net.len }
 
--- the place with that index, at which an LSA of a router for a prefix stands
+-- the slot with that index, at which an LSA of a router for a prefix stands
 abbrev pub prefix_slot : ℕ → RouterId → Net → SlotOfPrefix
 prefix_slot index router net = record { origin = origin_of router net; index = index }
 
--- places of one router for one prefix in rising order of their indices, among them that of each LSA with this Advertising
+-- slots of one router for one prefix in rising order of their indices, among them that of each LSA with this Advertising
 -- Router and this prefix
 pub record AreSlotsOfPrefix (slots : List Slot) (router : RouterId) (net : Net) (found : List SlotOfPrefix) : Type 0 where
   pub rising : AllPairs (λ a b. a.index < b.index) found

@@ -1,4 +1,4 @@
--- Which transit networks the LSAs of a section may be of, place by place.
+-- Which transit networks the LSAs of a section may be of, slot by slot.
 use Rattle.std.specs.Prelude.{◌≡◌, ◌^◌, ◌/◌, ◌%◌, ◌==◌, ◌&&◌, ℕ, Bool, true, not, bit_and, if◌then◌else◌, List, length, Some}
 use Rattle.std.specs.List.{list_any}
 use Rattle.lsa_codec.specs.declared.address.Addr.{Addr}
@@ -27,7 +27,7 @@ block_bit network = 2 ^ (network.0 / 65536 % 31)
 abbrev pub may_have : Addr → TransitFilter → Bool
 may_have network filter = not (bit_and filter.networks (network_bit network) == 0) && not (bit_and filter.blocks (block_bit network) == 0)
 
--- a filter for each place, which may have each network that the LSA there is of
+-- a filter for each slot, which may have each network that the LSA there is of
 pub record AreTransitFilters (slots : List Slot) (filters : List TransitFilter) : Type 0 where
   pub count : length filters ≡ length slots
   pub whole : (index : ℕ) (lsa : List ℕ) (filter : TransitFilter) (network : Addr) → item_at slots index ≡ Some (Some lsa)

@@ -47,7 +47,7 @@ fn read_session_version(at: Cursor<'_>) -> Result<Cursor<'_>, DumpFault>
     Ok(rest)
 }
 
-/// Magic, version, the areas, and behind them the LSAs of AS scope.
+/// Magic, version, the areas, and after them the LSAs of AS scope.
 #[tactic(auto, unfolding(crate::specs::BaseLoading::base_at, crate::specs::BaseLoading::base_front_at))]
 fn read_base_sections<'a, A: Allocator + Copy>(
     alloc: A,
@@ -95,8 +95,8 @@ impl<A: Allocator + Copy> Database<A> {
     /// The base of a session, which the bytes begin with, and how many bytes stand before what
     /// follows it. What follows is not looked at.
     ///
-    /// Of several faults the first from front to back is told. `TooLarge` comes before all others
-    /// where the bytes are too many, and behind them where the base alone has more bytes than
+    /// Of several faults the first from front to back is reported. `TooLarge` comes before all
+    /// others where the bytes are too many, and after them where the base alone has more bytes than
     /// a dump may have; `OutOfMemory` may stand in place of any that lies after the front, which is
     /// that of [`load`](Database::load).
     #[tactic(auto, using(crate::proofs::FirstFault::first_reported))]
@@ -107,7 +107,7 @@ impl<A: Allocator + Copy> Database<A> {
             (λ base. take base.1 bytes.now ≡ base_text (lists_of base.0)) }
         ensures within { IfOk result (λ base. base.1 ≤ length bytes.now) }
 
-        // What is spelled so is loaded, unless memory runs out; else the first fault is told.
+        // What is spelled so is loaded, unless memory runs out; else the first fault is reported.
         ensures found { IfOk result
             (λ base. base_loaded bytes.now ≡ Ok (lists_of base.0, base.1)) }
         ensures fault { IfErr result (λ fault. IsFirstFault fault (base_loaded bytes.now)) }

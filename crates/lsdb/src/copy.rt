@@ -8,7 +8,7 @@ use lsa_codec::Lsa;
 use std::alloc::{AllocError, Allocator};
 
 impl<A: Allocator + Copy> Database<A> {
-    /// A database with the same LSAs at the same places, with an allocator like its own.
+    /// A database with the same LSAs at the same slots, with an allocator like its own.
     pub fn clone_of(&self) -> Result<Database<A>, AllocError>
         ensures { IfOk result (λ copy. copy ≡ self.now) }
     {
@@ -38,7 +38,7 @@ fn copy_of_sections<A: Allocator + Copy>(
     Ok(copy)
 }
 
-/// A copy of each place.
+/// A copy of each slot.
 pub(crate) fn copy_of_slots<A: Allocator + Copy>(
     alloc: A,
     slots: &[Option<Lsa<A>>],

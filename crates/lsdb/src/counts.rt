@@ -37,7 +37,7 @@ impl LsaCounts {
         }
     }
 
-    /// The counts of the LSA at a place.
+    /// The counts of the LSA at a slot.
     pub(crate) fn of_slot<A: Allocator + Copy>(slot: &Option<Lsa<A>>) -> LsaCounts
         ensures counts { result ≡ counts_of (full (slot.now ∷ [])) }
         ensures few { AreFew 1 result }
@@ -52,7 +52,7 @@ impl LsaCounts {
         }
     }
 
-    /// The counts of the LSAs at places. It goes through them.
+    /// The counts of the LSAs at slots. It goes through them.
     pub(crate) fn of_slots<A: Allocator + Copy>(slots: &[Option<Lsa<A>>]) -> LsaCounts
         requires { length slots.now ≤ most_lsas_of_as }
         ensures { result ≡ counts_of (full slots.now) }

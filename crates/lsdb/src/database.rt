@@ -18,15 +18,15 @@ pub(crate) struct Head {
     pub(crate) is_stub: bool,
 }
 
-/// The places of one area, or, without an area, of the LSAs of AS scope.
+/// The slots of one area, or, without an area, of the LSAs of AS scope.
 #[derive(Drop)]
 pub(crate) struct SectionOf<A: Allocator> {
     pub(crate) area: Option<Head>,
     pub(crate) slots: KeyedSlots<A>,
 }
 
-/// A link state database: areas in rising order of their IDs, and the LSAs of AS scope behind
-/// them, each a list of places. Contracts see it as these lists of places.
+/// A link state database: areas in rising order of their IDs, and the LSAs of AS scope after
+/// them, each a list of slots. Contracts see it as these lists of slots.
 ///
 /// The keys of a section's LSAs are distinct, each LSA stands in a section of its own flooding
 /// scope, and the limits hold: 64 areas, 8,192 LSAs in an area, 65,535 of AS scope, and
@@ -52,7 +52,7 @@ impl<A: Allocator> Model for Database<A> {
 }
 
 impl<A: Allocator + Copy> Database<A> {
-    /// The database of these sections, whose dump has so many bytes.
+    /// The database of these sections, whose dump has this number of bytes.
     pub(crate) fn of_sections(
         alloc: A,
         sections: Vec<SectionOf<A>, A>,
@@ -84,7 +84,7 @@ impl<A: Allocator + Copy> Database<A> {
 
     /// What is true of every database: order of the areas, scopes, distinct keys and limits.
     ///
-    /// It does nothing when it runs. Contracts see a database as its places alone, so a function
+    /// It does nothing when it runs. Contracts see a database as its slots alone, so a function
     /// whose proof rests on these facts calls it to have them.
     pub fn assert_valid(&self)
         ensures { IsDatabase (lists_of self.now) }

@@ -43,7 +43,7 @@ fn put_lsas<A: Allocator + Copy>(
     Ok(())
 }
 
-/// How many LSAs the places hold.
+/// How many LSAs the slots hold.
 fn count_of<A: Allocator + Copy>(slots: &[Option<Lsa<A>>]) -> usize
     requires { length (full slots.now) < 2 ^ 16 }
     ensures { result ≡ length (full slots.now) }

@@ -19,7 +19,7 @@ pub enum DumpFaultKind {
     /// The dump ends inside a field of the container: magic, version, a count, an area's ID or
     /// kind.
     Truncated,
-    /// Bytes stand behind the last LSA.
+    /// Bytes stand after the last LSA.
     TrailingBytes,
     /// More than 64 areas.
     TooManyAreas,
@@ -31,11 +31,11 @@ pub enum DumpFaultKind {
     TooManyLsas,
     /// The bytes are no accepted LSA. The fault is never `OutOfMemory`.
     Lsa(LsaFault),
-    /// An LSA of AS scope (type 5 or 11) in an area, or one of another type behind the areas.
+    /// An LSA of AS scope (type 5 or 11) in an area, or one of another type after the areas.
     WrongSection,
     /// The section has an LSA with the same key before.
     DuplicateLsa,
-    /// The backbone, area 0.0.0.0, is told to be a stub area (RFC 2328, 3.6).
+    /// The backbone, area 0.0.0.0, is reported to be a stub area (RFC 2328, 3.6).
     BackboneStub,
     /// More than 16,777,216 bytes.
     TooLarge,

@@ -1,4 +1,4 @@
-//! The places of one section, and where each key stands.
+//! The slots of one section, and where each key stands.
 
 ghost use Rattle.std.specs.Prelude.{◌≡◌, ◌<◌, ◌≤◌, ◌++◌, None, [], ◌∷◌, Some, length, OnOk, OnErr, IfOk, IfErr, true, MatchOption, vec_capacity, All};
 ghost use Rattle.std.specs.List.{find};
@@ -25,30 +25,30 @@ use std::alloc::{AllocError, Allocator};
 use std::marker::Model;
 use std::mem;
 
-/// A key, and the index of the place at which its LSA was put last.
+/// A key, and the index of the slot at which its LSA was put last.
 #[derive(Clone, Copy, Debug, PartialEq, Eq, PartialOrd, Ord)]
 pub struct KeyAt {
     /// The key.
     pub key: Key,
-    /// The index among the section's places. The LSA may have gone since, and another stand there.
+    /// The index among the section's slots. The LSA may have gone since, and another stand there.
     pub index: usize,
 }
 
-/// The places of one section, and beside them where each key and the LSAs of each router, and of
-/// each router for each prefix, stand, so that these are found without going through the places.
-/// Contracts see the places.
+/// The slots of one section, and beside them where each key and the LSAs of each router, and of
+/// each router for each prefix, stand, so that these are found without going through the slots.
+/// Contracts see the slots.
 #[derive(Drop)]
 pub(crate) struct KeyedSlots<A: Allocator> {
     slots: Vec<Option<Lsa<A>>, A>,
-    /// For each place the filter of the transit networks of the LSA there.
+    /// For each slot the filter of the transit networks of the LSA there.
     filters: Vec<TransitFilter, A>,
-    /// In rising order of the keys. The key of an LSA that is gone stays until all are noted anew.
+    /// In rising order of the keys. The key of an LSA that is gone stays until all are noted again.
     keys: Vec<KeyAt, A>,
     /// The keys noted since then, in rising order: few, so that another is soon among them.
     latest: Vec<KeyAt, A>,
-    /// At which places LSAs of each router stand.
+    /// At which slots LSAs of each router stand.
     routers: RouterSlots<A>,
-    /// At which places LSAs of each router for each prefix stand.
+    /// At which slots LSAs of each router for each prefix stand.
     prefixes: PrefixSlots<A>,
     /// What the LSAs count.
     counts: LsaCounts,
@@ -78,7 +78,7 @@ impl<A: Allocator> Model for KeyedSlots<A> {
 }
 
 impl<A: Allocator + Copy> KeyedSlots<A> {
-    /// These places, of whose LSAs no two have one key. The error is want of memory.
+    /// These slots, of whose LSAs no two have one key. The error is want of memory.
     pub(crate) fn of(alloc: A, slots: Vec<Option<Lsa<A>>, A>) -> Result<KeyedSlots<A>, AllocError>
         requires apart { AreApart slots.items }
         requires few { length slots.items ≤ most_lsas_of_as }
@@ -102,7 +102,7 @@ impl<A: Allocator + Copy> KeyedSlots<A> {
         })
     }
 
-    /// The places in order.
+    /// The slots in order.
     pub(crate) fn as_slice(&self) -> &[Option<Lsa<A>>]
         ensures { result.now ≡ self.now }
     {
@@ -116,7 +116,7 @@ impl<A: Allocator + Copy> KeyedSlots<A> {
         self.counts
     }
 
-    /// The index of the place with the LSA of a key; `None` where no place has it. It takes no
+    /// The index of the slot with the LSA of a key; `None` where no slot has it. It takes no
     /// memory.
     pub(crate) fn find(&self, key: Key) -> Option<usize>
         ensures { MatchOption result (find (has_key key) (full self.now) ≡ None)
@@ -136,14 +136,14 @@ impl<A: Allocator + Copy> KeyedSlots<A> {
         Merged::of(older, noted_between(&self.latest, low, high))
     }
 
-    /// The places that are noted of a router, in rising order of their indices. It takes no memory.
+    /// The slots that are noted of a router, in rising order of their indices. It takes no memory.
     pub(crate) fn slots_of_router(&self, router: RouterId) -> Merged<'_, SlotOfRouter>
         ensures { AreSlotsOfRouter self.now router result }
     {
         self.routers.of_router(router)
     }
 
-    /// The places that are noted of a router and a prefix, in rising order of their indices. It
+    /// The slots that are noted of a router and a prefix, in rising order of their indices. It
     /// takes no memory.
     pub(crate) fn slots_of_prefix(
         &self,
@@ -156,14 +156,14 @@ impl<A: Allocator + Copy> KeyedSlots<A> {
         self.prefixes.of_origin(&origin)
     }
 
-    /// For each place the filter of the transit networks of the LSA there.
+    /// For each slot the filter of the transit networks of the LSA there.
     pub(crate) fn transit_filters(&self) -> &[TransitFilter]
         ensures { AreTransitFilters self.now result.now }
     {
         &self.filters
     }
 
-    /// Exchanges what stands at one place, and nothing else. It takes no memory.
+    /// Exchanges what stands at one slot, and nothing else. It takes no memory.
     pub(crate) fn swap(&mut self, index: usize, content: &mut Option<Lsa<A>>)
         requires within { index < length self.old }
         requires sound { FitSection (put_slot content.old self.old index) }
@@ -192,7 +192,7 @@ impl<A: Allocator + Copy> KeyedSlots<A> {
         }
     }
 
-    /// The same places. The error is want of memory.
+    /// The same slots. The error is want of memory.
     pub(crate) fn clone_of(&self, alloc: A) -> Result<KeyedSlots<A>, AllocError>
         ensures { IfOk result (λ copy. copy ≡ self.now) }
     {
@@ -216,7 +216,7 @@ impl<A: Allocator + Copy> KeyedSlots<A> {
         })
     }
 
-    /// Opens an empty place behind the others. The error is want of memory; the places are then
+    /// Opens an empty slot behind the others. The error is want of memory; the slots are then
     /// as before.
     pub(crate) fn push_empty(&mut self) -> Result<(), AllocError>
         ensures ok { OnOk result (self.new ≡ self.old ++ None ∷ []) }
@@ -243,7 +243,7 @@ fn key_of<A: Allocator + Copy>(lsa: &Lsa<A>) -> Key
     lsa.key()
 }
 
-/// Whether an LSA with this key stands at a place.
+/// Whether an LSA with this key stands at a slot.
 fn has_key<A: Allocator + Copy>(content: &Option<Lsa<A>>, key: Key) -> bool
     ensures { result ≡ slot_has_key key content.now }
 {
@@ -308,7 +308,7 @@ fn noted_between(keys: &[KeyAt], low: Key, high: Key) -> &[KeyAt]
     &rest[..end]
 }
 
-/// Notes at which place the LSA of a key stands now, and answers whether it did: where the key is
+/// Notes at which slot the LSA of a key stands now, and answers whether it did: where the key is
 /// new, and there is no room for it, nothing is noted. It takes no memory.
 fn note<A: Allocator + Copy>(keys: &mut Vec<KeyAt, A>, key: Key, index: usize) -> bool
     requires { IsRising keys.old.items }
@@ -340,7 +340,7 @@ fn fill<A: Allocator + Copy>(keys: &mut Vec<KeyAt, A>, slots: &[Option<Lsa<A>>])
     keys.sort_unstable_by_key(|noted| noted.key);
 }
 
-/// Each LSA's key with the index of its place, in order of the places.
+/// Each LSA's key with the index of its slot, in order of the slots.
 fn put_keys<A: Allocator + Copy>(keys: &mut Vec<KeyAt, A>, slots: &[Option<Lsa<A>>])
     requires { length slots.now ≤ vec_capacity keys.old }
     ensures keys { keys.new.items ≡ keys_from 0 slots.now }

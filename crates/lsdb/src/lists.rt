@@ -1,4 +1,4 @@
-//! The lists that the full places make: areas, and the LSAs of each section.
+//! The lists that the full slots make: areas, and the LSAs of each section.
 
 ghost use Rattle.std.specs.Prelude.{◌≡◌, ◌<◌, ◌≤◌, Some, IsSome, length, slice_get, option_map};
 ghost use Rattle.lsdb.specs.Counts.{AreFew, counts_of};

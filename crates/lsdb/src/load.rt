@@ -61,7 +61,7 @@ fn read_lsa<'a, A: Allocator + Copy>(
     }
 }
 
-/// So many LSAs, each at a place of its own. The set of keys saves a search for each LSA.
+/// So many LSAs, each at a slot of its own. The set of keys saves a search for each LSA.
 fn read_lsas<'a, A: Allocator + Copy>(
     alloc: A,
     area: Option<Head>,
@@ -218,7 +218,7 @@ fn read_area_count(at: Cursor<'_>) -> Result<(u8, Cursor<'_>), DumpFault>
     Ok((count, rest))
 }
 
-/// The areas, and behind them the LSAs of AS scope.
+/// The areas, and after them the LSAs of AS scope.
 #[tactic(auto, unfolding(crate::specs::Loading::sections_at))]
 pub(crate) fn read_sections<'a, A: Allocator + Copy>(
     alloc: A,
@@ -259,7 +259,7 @@ fn read_dump<A: Allocator + Copy>(alloc: A, bytes: &[u8]) -> Result<Vec<SectionO
     Ok(sections)
 }
 
-/// The fault that is told of a failed reading.
+/// The fault that is reported of a failed reading.
 pub(crate) fn dump_fault(error: ReadError) -> DumpFault
     ensures { result ≡ reported_fault error }
 {
@@ -275,9 +275,9 @@ pub(crate) fn dump_fault(error: ReadError) -> DumpFault
 impl<A: Allocator + Copy> Database<A> {
     /// The database whose dump the bytes are.
     ///
-    /// Of several faults the first from front to back is told; `TooLarge` comes before all others,
-    /// and `OutOfMemory` may stand in place of any that lies after the front: the magic, the
-    /// version, the number of areas, and of the first section its head, its count and its first
+    /// Of several faults the first from front to back is reported; `TooLarge` comes before all
+    /// others, and `OutOfMemory` may stand in place of any that lies after the front: the magic,
+    /// the version, the number of areas, and of the first section its head, its count and its first
     /// LSA.
     #[tactic(auto, using(crate::proofs::FirstFault::first_reported))]
     pub fn load(alloc: A, bytes: &[u8]) -> Result<Database<A>, DumpFault>
@@ -285,7 +285,7 @@ impl<A: Allocator + Copy> Database<A> {
         ensures database { IfOk result (λ db. IsDatabase (lists_of db)) }
         ensures spelled { IfOk result (λ db. bytes.now ≡ text (lists_of db)) }
 
-        // What is spelled so is loaded, unless memory runs out; else the first fault is told.
+        // What is spelled so is loaded, unless memory runs out; else the first fault is reported.
         ensures found { IfOk result (λ db. loaded bytes.now ≡ Ok (lists_of db)) }
         ensures fault { IfErr result (λ fault. IsFirstFault fault (loaded bytes.now)) }
 

@@ -36,7 +36,7 @@ impl<A: Allocator + Copy> Database<A> {
         None
     }
 
-    /// The place of the LSA with a key in a section, by the section's number.
+    /// The slot of the LSA with a key in a section, by the section's number.
     pub fn find_in(&self, section: usize, key: Key) -> Option<SlotId>
         requires { IsSome (item_at (lists_of self.now) section) }
         ensures { MatchOption result (find (has_key key) (lsas_in self.now section) ≡ None)
@@ -50,7 +50,7 @@ impl<A: Allocator + Copy> Database<A> {
 
     /// The keys that are noted of a section from `low` to `high`, both included, in their order,
     /// by the section's number. Among them is the key of each LSA there, with the index of its
-    /// place; but also keys of LSAs that have gone, so what stands at a place is to be looked at.
+    /// slot; but also keys of LSAs that have gone, so what stands at a slot is to be looked at.
     /// It takes no memory, and its steps are in the logarithm of the number of keys.
     pub fn keys_between(&self, section: usize, low: Key, high: Key) -> Merged<'_, KeyAt>
         requires { IsSome (item_at self.now section) }
@@ -59,10 +59,10 @@ impl<A: Allocator + Copy> Database<A> {
         self.sections[section].slots.keys_between(low, high)
     }
 
-    /// The places that are noted of a router in a section, in rising order of their indices, by the
+    /// The slots that are noted of a router in a section, in rising order of their indices, by the
     /// section's number. Among them is that of each LSA there with this Advertising Router; but
-    /// also places of such LSAs that have gone, so what stands there is to be looked at. It takes
-    /// no memory, and its steps are in the logarithm of the number of places.
+    /// also slots of such LSAs that have gone, so what stands there is to be looked at. It takes
+    /// no memory, and its steps are in the logarithm of the number of slots.
     pub fn slots_of_router(&self, section: usize, router: RouterId) -> Merged<'_, SlotOfRouter>
         requires { IsSome (item_at self.now section) }
         ensures { AreSlotsOfRouter (slots_in self.now section) router result }
@@ -70,11 +70,11 @@ impl<A: Allocator + Copy> Database<A> {
         self.sections[section].slots.slots_of_router(router)
     }
 
-    /// The places that are noted of a router and a prefix in a section, in rising order of their
+    /// The slots that are noted of a router and a prefix in a section, in rising order of their
     /// indices, by the section's number. Among them is that of each LSA there with this
-    /// Advertising Router and this prefix (`prefix_of`); but also places of such LSAs that have
+    /// Advertising Router and this prefix (`prefix_of`); but also slots of such LSAs that have
     /// gone, so what stands there is to be looked at. It takes no memory, and its steps are in the
-    /// logarithm of the number of places.
+    /// logarithm of the number of slots.
     pub fn slots_of_prefix(
         &self,
         section: usize,
@@ -87,7 +87,7 @@ impl<A: Allocator + Copy> Database<A> {
         self.sections[section].slots.slots_of_prefix(router, prefix)
     }
 
-    /// For each place of a section, by the section's number, the filter of the transit networks of
+    /// For each slot of a section, by the section's number, the filter of the transit networks of
     /// the LSA there: those of the transit links of a router-LSA, and of a network-LSA its own.
     pub fn transit_filters(&self, section: usize) -> &[TransitFilter]
         requires { IsSome (item_at self.now section) }
@@ -96,7 +96,7 @@ impl<A: Allocator + Copy> Database<A> {
         self.sections[section].slots.transit_filters()
     }
 
-    /// The place of the LSA with a key in a section; `None` where the section has no such LSA,
+    /// The slot of the LSA with a key in a section; `None` where the section has no such LSA,
     /// and where there is no such section.
     pub fn find(&self, section: Section, key: Key) -> Option<SlotId>
         ensures { MatchOption result (find (has_key key) (lsas_of section (lists_of self.now))

@@ -25,7 +25,7 @@ impl<'a, A: Allocator> Model for Lsas<'a, A> {
 }
 
 impl<'a, A: Allocator + Copy> Lsas<'a, A> {
-    /// The LSAs of the full places.
+    /// The LSAs of the full slots.
     pub(crate) fn of(slots: &'a [Option<Lsa<A>>]) -> Lsas<'a, A>
         ensures { result ≡ full slots.now }
     {
@@ -47,7 +47,7 @@ impl<'a, A: Allocator + Copy> Iterator for Lsas<'a, A> {
     }
 }
 
-/// The LSA at the first full place, and the places behind it.
+/// The LSA at the first full slot, and the slots after it.
 fn first_full<'a, A: Allocator + Copy>(
     slots: &'a [Option<Lsa<A>>],
 ) -> Option<(&'a Lsa<A>, &'a [Option<Lsa<A>>])>

@@ -1,4 +1,4 @@
-//! The places of one section by the Advertising Routers and the prefixes of their LSAs.
+//! The slots of one section by the Advertising Routers and the prefixes of their LSAs.
 
 ghost use Rattle.std.specs.Prelude.{◌≡◌, ◌^◌, ◌<◌, ◌≤◌, ◌++◌, [], true, length, OnOk, IfOk, vec_capacity, Contains};
 ghost use Rattle.lsdb.specs.Limits.{most_lsas_of_as};
@@ -35,29 +35,29 @@ impl Origin {
     }
 }
 
-/// A router and a prefix, and the index of a place at which an LSA was put that this router
+/// A router and a prefix, and the index of a slot at which an LSA was put that this router
 /// originated for this prefix.
 #[derive(Clone, Copy, Debug, PartialEq, Eq, PartialOrd, Ord)]
 pub struct SlotOfPrefix {
     /// The Advertising Router and the prefix of the LSA.
     pub origin: Origin,
-    /// The index among the section's places. The LSA may have gone since, and another stand there.
+    /// The index among the section's slots. The LSA may have gone since, and another stand there.
     pub index: u32,
 }
 
-/// At which places of one section LSAs of each router for each prefix stand, so that they are
-/// found without going through the places.
+/// At which slots of one section LSAs of each router for each prefix stand, so that they are
+/// found without going through the slots.
 #[derive(Drop)]
 pub(crate) struct PrefixSlots<A: Allocator> {
-    /// In rising order of the routers, of the prefixes, and of the indices. The place of an LSA
+    /// In rising order of the routers, of the prefixes, and of the indices. The slot of an LSA
     /// that is gone stays until its room is wanted.
     pub(crate) noted: Vec<SlotOfPrefix, A>,
-    /// Those noted since all were noted anew, in the same order.
+    /// Those noted since all were noted again, in the same order.
     pub(crate) latest: Vec<SlotOfPrefix, A>,
 }
 
 impl<A: Allocator + Copy> PrefixSlots<A> {
-    /// Those of these places. The error is want of memory.
+    /// Those of these slots. The error is want of memory.
     pub(crate) fn of(alloc: A, slots: &[Option<Lsa<A>>]) -> Result<PrefixSlots<A>, AllocError>
         requires { length slots.now ≤ most_lsas_of_as }
         ensures { IfOk result
@@ -70,7 +70,7 @@ impl<A: Allocator + Copy> PrefixSlots<A> {
         Ok(PrefixSlots { noted, latest })
     }
 
-    /// The same, with room for so many places. The error is want of memory.
+    /// The same, with room for this number of slots. The error is want of memory.
     pub(crate) fn clone_of(&self, alloc: A, count: usize) -> Result<PrefixSlots<A>, AllocError>
         ensures same { IfOk result (λ copy. copy.noted.items ≡ self.now.noted.items) }
         ensures latest { IfOk result (λ copy. copy.latest.items ≡ self.now.latest.items) }
@@ -84,8 +84,8 @@ impl<A: Allocator + Copy> PrefixSlots<A> {
         Ok(PrefixSlots { noted, latest })
     }
 
-    /// Makes room to note so many places. The error is want of memory, or that they are more than
-    /// an index can tell apart; nothing that is noted changes.
+    /// Makes room to note this number of slots. The error is want of memory, or that they are more
+    /// than an index can distinguish; nothing that is noted changes.
     pub(crate) fn reserve_for(&mut self, count: usize) -> Result<(), AllocError>
         ensures same { self.new.noted.items ≡ self.old.noted.items }
         ensures latest { self.new.latest.items ≡ self.old.latest.items }
@@ -102,7 +102,7 @@ impl<A: Allocator + Copy> PrefixSlots<A> {
         self.latest.reserve(wanted)
     }
 
-    /// Notes one of the places, at which something else stands now. It takes no memory.
+    /// Notes one of the slots, at which something else stands now. It takes no memory.
     pub(crate) fn note_slot(&mut self, slots: &[Option<Lsa<A>>], index: usize)
         requires within { index < length slots.now }
         requires others { IsPrefixIndexBut index slots.now self.old.noted.items
@@ -122,7 +122,7 @@ impl<A: Allocator + Copy> PrefixSlots<A> {
         }
     }
 
-    /// The places that are noted of a router and a prefix, in rising order of their indices. It
+    /// The slots that are noted of a router and a prefix, in rising order of their indices. It
     /// takes no memory.
     pub(crate) fn of_origin(&self, origin: &Origin) -> Merged<'_, SlotOfPrefix>
         requires noted { AreRising self.now.noted.items }
@@ -150,7 +150,7 @@ pub fn prefix_of<A: Allocator + Copy>(lsa: &Lsa<A>) -> Option<Prefix>
     Some(external.net())
 }
 
-/// The place with that index, of the router and the prefix whose LSA stands there, if one does
+/// The slot with that index, of the router and the prefix whose LSA stands there, if one does
 /// that has a prefix.
 fn prefix_at<A: Allocator + Copy>(slot: &Option<Lsa<A>>, index: usize) -> Option<SlotOfPrefix>
     requires { index < most_slots }
@@ -168,7 +168,7 @@ fn prefix_at<A: Allocator + Copy>(slot: &Option<Lsa<A>>, index: usize) -> Option
     })
 }
 
-/// Of places those of one router and prefix. It takes two binary searches.
+/// Of slots those of one router and prefix. It takes two binary searches.
 fn part_of_origin<'a>(noted: &'a [SlotOfPrefix], origin: &Origin) -> &'a [SlotOfPrefix]
     requires { AreRising noted.now }
     ensures { IsPartOfOrigin noted.now origin.now result.now }
@@ -179,7 +179,7 @@ fn part_of_origin<'a>(noted: &'a [SlotOfPrefix], origin: &Origin) -> &'a [SlotOf
     &rest[..end]
 }
 
-/// Whether a place is among these.
+/// Whether a slot is among these.
 fn is_noted(noted: &[SlotOfPrefix], slot: &SlotOfPrefix) -> bool
     requires { AreRising noted.now }
     ensures { result ≡ true → Contains noted.now slot.now }
@@ -187,7 +187,7 @@ fn is_noted(noted: &[SlotOfPrefix], slot: &SlotOfPrefix) -> bool
     noted.binary_search(slot).is_ok()
 }
 
-/// Notes a place of a router and a prefix, and answers whether it did: where it was not noted, and
+/// Notes a slot of a router and a prefix, and answers whether it did: where it was not noted, and
 /// there is no room for it, nothing is. It takes no memory.
 fn note<A: Allocator + Copy>(noted: &mut Vec<SlotOfPrefix, A>, slot: &SlotOfPrefix) -> bool
     requires { AreRising noted.old.items }
@@ -205,7 +205,7 @@ fn note<A: Allocator + Copy>(noted: &mut Vec<SlotOfPrefix, A>, slot: &SlotOfPref
     true
 }
 
-/// Notes the places of all LSAs with a prefix anew. It takes no memory.
+/// Notes the slots of all LSAs with a prefix anew. It takes no memory.
 fn fill<A: Allocator + Copy>(noted: &mut Vec<SlotOfPrefix, A>, slots: &[Option<Lsa<A>>])
     requires fits { length slots.now ≤ vec_capacity noted.old }
     requires narrow { length slots.now ≤ most_slots }
@@ -216,7 +216,7 @@ fn fill<A: Allocator + Copy>(noted: &mut Vec<SlotOfPrefix, A>, slots: &[Option<L
     noted.sort_unstable();
 }
 
-/// The places of all LSAs with a prefix, in order of the places.
+/// The slots of all LSAs with a prefix, in order of the slots.
 fn put_noted<A: Allocator + Copy>(noted: &mut Vec<SlotOfPrefix, A>, slots: &[Option<Lsa<A>>])
     requires fits { length slots.now ≤ vec_capacity noted.old }
     requires narrow { length slots.now ≤ most_slots }

@@ -18,7 +18,7 @@ pub(crate) fn fault(at: Cursor<'_>, kind: DumpFaultKind) -> DumpFault
     }
 }
 
-/// The place so many bytes further on.
+/// The place this number of bytes further on.
 pub(crate) fn advanced(at: Cursor<'_>, count: usize) -> Cursor<'_>
     requires { count ≤ length at.rest.now }
     ensures { at_of result ≡ advanced count (at_of at.entry) }

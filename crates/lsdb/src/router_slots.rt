@@ -1,4 +1,4 @@
-//! The places of one section by the Advertising Routers of their LSAs.
+//! The slots of one section by the Advertising Routers of their LSAs.
 
 ghost use Rattle.std.specs.Prelude.{◌≡◌, ◌^◌, ◌<◌, ◌≤◌, ◌++◌, [], true, length, OnOk, IfOk, vec_capacity, Contains};
 ghost use Rattle.lsdb.specs.Limits.{most_lsas_of_as};
@@ -9,31 +9,31 @@ use crate::merged::{Merged, latest_count};
 use lsa_codec::{Lsa, RouterId};
 use std::alloc::{AllocError, Allocator};
 
-/// How many places can be told apart by an index of 32 bits.
+/// How many slots can be distinguished by an index of 32 bits.
 pub(crate) const MOST_SLOTS: usize = 1 << 32;
 
-/// A router, and the index of a place at which an LSA was put that it originated.
+/// A router, and the index of a slot at which an LSA was put that it originated.
 #[derive(Clone, Copy, Debug, PartialEq, Eq, PartialOrd, Ord)]
 pub struct SlotOfRouter {
     /// The Advertising Router of the LSA.
     pub adv: RouterId,
-    /// The index among the section's places. The LSA may have gone since, and another stand there.
+    /// The index among the section's slots. The LSA may have gone since, and another stand there.
     pub index: u32,
 }
 
-/// At which places of one section LSAs of each router stand, so that they are found without going
-/// through the places.
+/// At which slots of one section LSAs of each router stand, so that they are found without going
+/// through the slots.
 #[derive(Drop)]
 pub(crate) struct RouterSlots<A: Allocator> {
-    /// In rising order of the routers, and of the indices. The place of an LSA that is gone stays
+    /// In rising order of the routers, and of the indices. The slot of an LSA that is gone stays
     /// until its room is wanted.
     pub(crate) noted: Vec<SlotOfRouter, A>,
-    /// Those noted since all were noted anew, in the same order.
+    /// Those noted since all were noted again, in the same order.
     pub(crate) latest: Vec<SlotOfRouter, A>,
 }
 
 impl<A: Allocator + Copy> RouterSlots<A> {
-    /// Those of these places. The error is want of memory.
+    /// Those of these slots. The error is want of memory.
     pub(crate) fn of(alloc: A, slots: &[Option<Lsa<A>>]) -> Result<RouterSlots<A>, AllocError>
         requires { length slots.now ≤ most_lsas_of_as }
         ensures { IfOk result
@@ -46,7 +46,7 @@ impl<A: Allocator + Copy> RouterSlots<A> {
         Ok(RouterSlots { noted, latest })
     }
 
-    /// The same, with room for so many places. The error is want of memory.
+    /// The same, with room for this number of slots. The error is want of memory.
     pub(crate) fn clone_of(&self, alloc: A, count: usize) -> Result<RouterSlots<A>, AllocError>
         ensures same { IfOk result (λ copy. copy.noted.items ≡ self.now.noted.items) }
         ensures latest { IfOk result (λ copy. copy.latest.items ≡ self.now.latest.items) }
@@ -60,8 +60,8 @@ impl<A: Allocator + Copy> RouterSlots<A> {
         Ok(RouterSlots { noted, latest })
     }
 
-    /// Makes room to note so many places. The error is want of memory, or that they are more than
-    /// an index can tell apart; nothing that is noted changes.
+    /// Makes room to note this number of slots. The error is want of memory, or that they are more
+    /// than an index can distinguish; nothing that is noted changes.
     pub(crate) fn reserve_for(&mut self, count: usize) -> Result<(), AllocError>
         ensures same { self.new.noted.items ≡ self.old.noted.items }
         ensures latest { self.new.latest.items ≡ self.old.latest.items }
@@ -78,7 +78,7 @@ impl<A: Allocator + Copy> RouterSlots<A> {
         self.latest.reserve(wanted)
     }
 
-    /// Notes one of the places, at which something else stands now. It takes no memory.
+    /// Notes one of the slots, at which something else stands now. It takes no memory.
     pub(crate) fn note_slot(&mut self, slots: &[Option<Lsa<A>>], index: usize)
         requires within { index < length slots.now }
         requires others { IsRouterIndexBut index slots.now self.old.noted.items
@@ -98,7 +98,7 @@ impl<A: Allocator + Copy> RouterSlots<A> {
         }
     }
 
-    /// The places that are noted of a router, in rising order of their indices. It takes no memory.
+    /// The slots that are noted of a router, in rising order of their indices. It takes no memory.
     pub(crate) fn of_router(&self, router: RouterId) -> Merged<'_, SlotOfRouter>
         requires noted { AreRising self.now.noted.items }
         requires latest { AreRising self.now.latest.items }
@@ -111,7 +111,7 @@ impl<A: Allocator + Copy> RouterSlots<A> {
     }
 }
 
-/// The place with that index, of the router whose LSA stands there, if one does.
+/// The slot with that index, of the router whose LSA stands there, if one does.
 fn router_at<A: Allocator + Copy>(slot: &Option<Lsa<A>>, index: usize) -> Option<SlotOfRouter>
     requires { index < most_slots }
     ensures { result ≡ router_at index slot.now }
@@ -125,7 +125,7 @@ fn router_at<A: Allocator + Copy>(slot: &Option<Lsa<A>>, index: usize) -> Option
     })
 }
 
-/// Of places those of one router. It takes two binary searches.
+/// Of slots those of one router. It takes two binary searches.
 fn part_of_router(noted: &[SlotOfRouter], router: RouterId) -> &[SlotOfRouter]
     requires { AreRising noted.now }
     ensures { IsPartOfRouter noted.now router result.now }
@@ -136,7 +136,7 @@ fn part_of_router(noted: &[SlotOfRouter], router: RouterId) -> &[SlotOfRouter]
     &rest[..end]
 }
 
-/// Whether a place is among these.
+/// Whether a slot is among these.
 fn is_noted(noted: &[SlotOfRouter], slot: SlotOfRouter) -> bool
     requires { AreRising noted.now }
     ensures { result ≡ true → Contains noted.now slot }
@@ -144,7 +144,7 @@ fn is_noted(noted: &[SlotOfRouter], slot: SlotOfRouter) -> bool
     noted.binary_search(&slot).is_ok()
 }
 
-/// Notes a place of a router, and answers whether it did: where it was not noted, and there is no
+/// Notes a slot of a router, and answers whether it did: where it was not noted, and there is no
 /// room for it, nothing is. It takes no memory.
 fn note<A: Allocator + Copy>(noted: &mut Vec<SlotOfRouter, A>, slot: SlotOfRouter) -> bool
     requires { AreRising noted.old.items }
@@ -162,7 +162,7 @@ fn note<A: Allocator + Copy>(noted: &mut Vec<SlotOfRouter, A>, slot: SlotOfRoute
     true
 }
 
-/// Notes the places of all LSAs anew. It takes no memory.
+/// Notes the slots of all LSAs anew. It takes no memory.
 fn fill<A: Allocator + Copy>(noted: &mut Vec<SlotOfRouter, A>, slots: &[Option<Lsa<A>>])
     requires fits { length slots.now ≤ vec_capacity noted.old }
     requires narrow { length slots.now ≤ most_slots }
@@ -173,7 +173,7 @@ fn fill<A: Allocator + Copy>(noted: &mut Vec<SlotOfRouter, A>, slots: &[Option<L
     noted.sort_unstable();
 }
 
-/// The places of all LSAs, in order of the places.
+/// The slots of all LSAs, in order of the slots.
 fn put_noted<A: Allocator + Copy>(noted: &mut Vec<SlotOfRouter, A>, slots: &[Option<Lsa<A>>])
     requires fits { length slots.now ≤ vec_capacity noted.old }
     requires narrow { length slots.now ≤ most_slots }

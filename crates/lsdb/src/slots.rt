@@ -1,4 +1,4 @@
-//! Places: what stands at one, exchanging it, and opening one.
+//! Slots: what stands at one, exchanging it, and opening one.
 
 ghost use Rattle.std.specs.Prelude.{◌≡◌, ◌↔◌, Some, None, Err, IsSome, OnOk, OnErr, IfOk, MatchOption, length};
 ghost use Rattle.std.specs.List.{find};
@@ -21,7 +21,7 @@ impl<A: Allocator + Copy> Database<A> {
         self.sections.len()
     }
 
-    /// How many places a section has, the empty ones included.
+    /// How many slots a section has, the empty ones included.
     pub fn slot_count(&self, section: usize) -> usize
         requires { IsSome (item_at self.now section) }
         ensures { result ≡ length (slots_in self.now section) }
@@ -29,7 +29,7 @@ impl<A: Allocator + Copy> Database<A> {
         self.sections[section].slots.as_slice().len()
     }
 
-    /// The LSA at a place; `None` where the place is empty, and where there is no such place.
+    /// The LSA at a slot; `None` where the slot is empty, and where there is no such slot.
     pub fn get(&self, slot: SlotId) -> Option<&Lsa<A>>
         ensures { MatchOption result (lsa_at self.now slot ≡ None)
             (λ lsa. slot_at self.now slot ≡ Some (Some lsa.now)) }
@@ -39,7 +39,7 @@ impl<A: Allocator + Copy> Database<A> {
         content.as_ref()
     }
 
-    /// Exchanges what stands at one place, and nothing else.
+    /// Exchanges what stands at one slot, and nothing else.
     pub fn swap(&mut self, slot: SlotId, content: &mut Option<Lsa<A>>)
         requires exists { IsSome (slot_at self.old slot) }
         requires sound { IsDatabase (lists_of (put self.old slot content.old)) }
@@ -53,7 +53,7 @@ impl<A: Allocator + Copy> Database<A> {
         self.byte_count = self.byte_count - slot_size(content) + given;
     }
 
-    /// Opens an empty place at the end of a section, by the section's number. The lists of LSAs
+    /// Opens an empty slot at the end of a section, by the section's number. The lists of LSAs
     /// stay as they are.
     pub fn open_in(&mut self, section: usize) -> Result<SlotId, AllocError>
         requires { IsSome (item_at self.old section) }
@@ -69,7 +69,7 @@ impl<A: Allocator + Copy> Database<A> {
         Ok(SlotId { section, index })
     }
 
-    /// Opens an empty place at the end of a section. The lists of LSAs stay as they are.
+    /// Opens an empty slot at the end of a section. The lists of LSAs stay as they are.
     pub fn open_slot(&mut self, section: Section) -> Result<SlotId, SlotFault>
         ensures ok { IfOk result (OpensSlot self.old self.new section) }
         ensures no_area { (result ≡ Err NoArea) ↔ (find (is_section section) (lists_of self.old)
@@ -83,7 +83,7 @@ impl<A: Allocator + Copy> Database<A> {
     }
 }
 
-/// How many bytes of the dump a place takes.
+/// How many bytes of the dump a slot takes.
 fn slot_size<A: Allocator + Copy>(content: &Option<Lsa<A>>) -> usize
     ensures { result ≡ slot_size content.now }
 {

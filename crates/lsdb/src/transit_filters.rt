@@ -1,4 +1,4 @@
-//! Which transit networks the LSAs of one section may be of, place by place.
+//! Which transit networks the LSAs of one section may be of, slot by slot.
 
 ghost use Rattle.std.specs.Prelude.{◌≡◌, ◌<◌, IfOk, None, length, slice_index_or, slice_set};
 ghost use Rattle.lsdb.specs.TransitFilters.{block_bit, may_have, network_bit};
@@ -14,7 +14,7 @@ pub struct TransitFilter {
     /// A bit for each address, by its remainder.
     networks: u32,
     /// A bit for each block of 65,536 addresses, by its remainder. So a router with many links in
-    /// few blocks is told apart too.
+    /// few blocks is distinguished too.
     blocks: u32,
 }
 
@@ -99,7 +99,7 @@ impl TransitFilter {
         TransitFilter::empty()
     }
 
-    /// The filter of the networks of the LSA at a place.
+    /// The filter of the networks of the LSA at a slot.
     pub(crate) fn of_slot<A: Allocator + Copy>(slot: &Option<Lsa<A>>) -> TransitFilter
         ensures { result ≡ filter_of_slot slot.now }
     {
@@ -110,7 +110,7 @@ impl TransitFilter {
     }
 }
 
-/// The filters of the LSAs at places, in order. The error is want of memory.
+/// The filters of the LSAs at slots, in order. The error is want of memory.
 pub(crate) fn filters_of<A: Allocator + Copy>(
     alloc: A,
     slots: &[Option<Lsa<A>>],
@@ -124,7 +124,7 @@ pub(crate) fn filters_of<A: Allocator + Copy>(
     Ok(filters)
 }
 
-/// Makes the filter of one place anew, at which something else stands now. It takes no memory.
+/// Makes the filter of one slot anew, at which something else stands now. It takes no memory.
 pub(crate) fn put_filter<A: Allocator + Copy>(
     filters: &mut Vec<TransitFilter, A>,
     slots: &[Option<Lsa<A>>],

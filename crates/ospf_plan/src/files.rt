@@ -82,7 +82,7 @@ fn run_script<R: Read + Drop, S: Read + Drop>(
     Ok(summary)
 }
 
-/// For so many bytes of replies there is room before they are written.
+/// For this number of bytes of replies there is room before they are written.
 const REPLY_ROOM: usize = 65_536;
 
 /// A writer that hands on many replies at once. Where a run ends before they are flushed, those

@@ -68,7 +68,7 @@ fn plan(rt: &HostRuntime, given: &Options) -> ExitCode {
 
 /// Shows the text of clap, and ends as it says.
 fn refuse(rt: &HostRuntime, error: &Error) -> ExitCode {
-    // Where the text cannot be shown, the status alone tells.
+    // Where the text cannot be shown, the status alone reports it.
     let _ = error.print(rt);
     if error.use_stderr() {
         ExitCode::from(2)
@@ -82,7 +82,7 @@ fn end_without_words(rt: &HostRuntime, error: &io::Error) -> ExitCode {
     match error.kind() {
         ErrorKind::OutOfMemory => end(rt, &ExitFault::Run(RunFault::OutOfMemory)),
         _ => {
-            // Where standard error takes no line, the status alone tells.
+            // Where standard error takes no line, the status alone reports it.
             let _ = rt.stderr().write_all(BAD_ARGUMENT);
             ExitCode::from(2)
         }
@@ -92,7 +92,8 @@ fn end_without_words(rt: &HostRuntime, error: &io::Error) -> ExitCode {
 /// Writes the line of a fault, and ends with its status.
 fn end(rt: &HostRuntime, fault: &ExitFault) -> ExitCode {
     let (status, line) = exit_line(rt.alloc(), fault);
-    // Where there is no memory for the line, or standard error takes none, the status alone tells.
+    // Where there is no memory for the line, or standard error takes none, the status alone reports
+    // it.
     if let Ok(line) = line {
         let _ = rt.stderr().write_all(line.as_slice());
     }

@@ -101,7 +101,7 @@ module _ (base : Lists) (router : RouterId) (p q : PlannerValue) where
       ap (λ (v : PlannerValue). v.runs) same
       ∙ ap (λ n. counted_by n p.runs) (sym (gained_same base router p.first_kept q.first_kept (ap (λ (v : PlannerValue). v.first_kept) same)))
 
--- ---- a shared table: what went before it, and the table
+-- ---- a cached table: what went before it, and the table
 
 module _ (router : RouterId) (p q r : PlannerValue) (session : q.session ≡ p.session) (kept : q.kept ≡ p.kept) where
   lacks : lacking (state q.session) router q.kept ≡ lacking (state p.session) router p.kept

@@ -218,7 +218,7 @@ impl<A: Allocator + Copy> Planner<A> {
     }
 
     /// The records of the edits: of those that are done, in the order in which they were carried
-    /// out, and behind them of those that are undone, in the order in which
+    /// out, and after them of those that are undone, in the order in which
     /// [`redo`](Planner::redo) takes them. There are at most 10,000. It takes no memory.
     pub fn records(&self) -> &[Record<A>]
         ensures edits { edits_of result.now ≡ self.now.session.done ++ self.now.session.undone }

@@ -108,7 +108,7 @@ impl<A: Allocator + Copy> Study<A> {
         Ok(())
     }
 
-    /// Takes the last `count` done edits back, if so many are done. It takes no memory.
+    /// Takes the last `count` done edits back, if that many are done. It takes no memory.
     pub(crate) fn undo(&mut self, count: usize) -> Result<(), UndoFault>
         ensures ok { IsOk result ↔ (count ≤ length self.old.done) }
         ensures session { OnOk result (self.new ≡ moved_back count self.old) }
@@ -120,7 +120,8 @@ impl<A: Allocator + Copy> Study<A> {
         self.history.undo(&mut self.database, count)
     }
 
-    /// Carries the first `count` undone edits out again, if so many are undone. It takes no memory.
+    /// Carries the first `count` undone edits out again, if that many are undone. It takes no
+    /// memory.
     pub(crate) fn redo(&mut self, count: usize) -> Result<(), RedoFault>
         ensures ok { IsOk result ↔ (count ≤ length self.old.undone) }
         ensures session { OnOk result (self.new ≡ moved_on count self.old) }
@@ -132,7 +133,7 @@ impl<A: Allocator + Copy> Study<A> {
         self.history.redo(&mut self.database, count)
     }
 
-    /// Whether one of the last `count` done edits touches an area, where so many are done: it
+    /// Whether one of the last `count` done edits touches an area, where that many are done: it
     /// rewrote, removed or added a router-LSA or network-LSA of it. It takes no memory.
     #[tactic(auto, using(edit_history::proofs::HistoryLemmas::done_len))]
     pub(crate) fn undo_touches(&self, count: usize, area: AreaId) -> bool
@@ -141,8 +142,8 @@ impl<A: Allocator + Copy> Study<A> {
         count <= self.history.done() && self.history.undo_touches(count, area)
     }
 
-    /// Whether one of the first `count` undone edits touches an area, where so many are undone. It
-    /// takes no memory.
+    /// Whether one of the first `count` undone edits touches an area, where that many are undone.
+    /// It takes no memory.
     #[tactic(auto, using(edit_history::proofs::HistoryLemmas::undone_len))]
     pub(crate) fn redo_touches(&self, count: usize, area: AreaId) -> bool
         ensures { count ≤ length self.now.undone → result ≡ redo_touches count area self.now }
@@ -204,7 +205,7 @@ impl<A: Allocator + Copy> Study<A> {
         self.history.undone()
     }
 
-    /// The records of the edits: of those that are done, in order, and behind them of those that
+    /// The records of the edits: of those that are done, in order, and after them of those that
     /// are undone, the next to be redone first. It takes no memory.
     #[tactic(auto, using(edit_history::proofs::HistoryLemmas::done_len, edit_history::proofs::HistoryLemmas::undone_len))]
     pub(crate) fn records(&self) -> &[Record<A>]
@@ -408,7 +409,7 @@ impl<A: Allocator + Copy> Study<A> {
         ensures session { self.new ≡ moved_back (length self.old.done) self.old }
     {
         let done = self.done();
-        // It is not refused: so many are done.
+        // It is not refused: that many are done.
         let _ = self.undo(done);
         done
     }
@@ -418,7 +419,7 @@ impl<A: Allocator + Copy> Study<A> {
         requires { count ≤ length self.old.undone }
         ensures { self.new ≡ moved_on count self.old }
     {
-        // It is not refused: so many are undone.
+        // It is not refused: that many are undone.
         let _ = self.redo(count);
     }
 }

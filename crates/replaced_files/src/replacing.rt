@@ -69,7 +69,7 @@ fn replace<R: Files + Alloc>(rt: &R, path: &str, text: &[u8]) -> Result<(), Repl
         Ok((file, beside)) => {
             let replaced = put_in_place(rt, file, beside.as_str(), path, permissions, text);
             if replaced.is_err() {
-                // Where it cannot be removed either, it stays, and the fault is told.
+                // Where it cannot be removed either, it stays, and the fault is reported.
                 let _ = fs::remove_file(rt, beside.as_str());
             }
             replaced

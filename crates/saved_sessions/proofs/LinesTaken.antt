@@ -97,7 +97,7 @@ lines_take law (suc n) line base done at t after e =
           ∙ ap (λ (xs : List ℕ). xs ++ after.rest) (sym (flat_map-cons line_of one.edit more.edits));
     }
 
--- a line that is found behind so many bytes lies within them all
+-- a line that is found after this number of bytes lies within them all
 pub lies_within : LineIsSpelled → (bytes : List ℕ) (offset : ℕ) (found : Option (Edit × ℕ)) (edit : Edit) (byte_count : ℕ)
     → found ≡ edit_line (take (length bytes - offset) (drop offset bytes)) → found ≡ Some (edit, byte_count) → offset ≤ length bytes
     → offset + byte_count ≤ length bytes

@@ -1,4 +1,4 @@
--- A session is not loaded where its edits are not, and bytes behind the edits are its fault.
+-- A session is not loaded where its edits are not, and bytes after the edits are its fault.
 use Rattle.std.proofs.Common.{◌≡◌, ℕ, zero, suc, ◌<◌, false, cond, List, [], ◌∷◌, length, drop, Ok, Err, ap, ◌∙◌, subst, sym, arith}
 use Rattle.std.specs.Prelude.{◌==◌, Result}
 use Rattle.std.proofs.Math.Dec.{eqb-suc-zero}

@@ -15,7 +15,7 @@ use Rattle.session_text.specs.Lines.{line_feed, edit_line}
 
 -- ---- places
 
--- the place behind so many bytes
+-- the place behind this number of bytes
 abbrev pub position_after : ℕ → List ℕ → At
 position_after byte_count bytes = record { offset = byte_count; rest = drop byte_count bytes }
 
@@ -73,7 +73,7 @@ history_at base at = do
 
 -- ---- the session
 
--- version 2: the base, and behind it the edits
+-- version 2: the base, and after it the edits
 unfoldable pub session_loaded : List ℕ → Result Session DumpFault
 session_loaded bytes = do
   base ← base_loaded bytes

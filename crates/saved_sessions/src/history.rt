@@ -32,7 +32,7 @@ fn line_fault(line: u16, bytes: &[u8]) -> DumpFaultKind
     }
 }
 
-/// The edit of the line at an offset, and the offset behind the line.
+/// The edit of the line at an offset, and the offset after the line.
 fn read_edit<A: Allocator + Copy>(
     alloc: A,
     line: u16,
@@ -53,7 +53,7 @@ fn read_edit<A: Allocator + Copy>(
     }
 }
 
-/// Carries out the edit of the line at an offset, and answers the offset behind the line.
+/// Carries out the edit of the line at an offset, and answers the offset after the line.
 #[tactic(auto, using(crate::proofs::Doing::one_more), unfolding(crate::specs::Opening::line_at))]
 fn carry_out_line<A: Allocator + Copy>(
     alloc: A,
@@ -79,7 +79,7 @@ fn carry_out_line<A: Allocator + Copy>(
     }
 }
 
-/// Carries out the edits of so many lines, in turn, and answers the offset behind them.
+/// Carries out the edits of this number of lines, in turn, and answers the offset after them.
 fn carry_out_lines<A: Allocator + Copy>(
     alloc: A,
     planner: &mut Planner<A>,
@@ -103,8 +103,8 @@ fn carry_out_lines<A: Allocator + Copy>(
     Ok(end)
 }
 
-/// Carries out the edits behind the base, and takes the undone ones back. The planner has no edits
-/// before. The offset behind the edits is answered.
+/// Carries out the edits after the base, and takes the undone ones back. The planner has no edits
+/// before. The offset after the edits is answered.
 #[tactic(auto, unfolding(crate::specs::Opening::history_at))]
 pub(crate) fn read_history<A: Allocator + Copy>(
     alloc: A,

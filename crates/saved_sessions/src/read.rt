@@ -13,7 +13,7 @@ use lsdb::DumpFaultKind;
 /// The edits that may be done at a time.
 const MOST_EDITS: u16 = 10_000;
 
-/// The number of two bytes behind so many.
+/// The number of two bytes after so many.
 fn read_number(bytes: &[u8], offset: usize) -> Result<u16, ReadError>
     requires { offset ≤ length bytes.now }
     ensures number { Gives (λ number. (number, position_after (offset + 2) bytes.now))
@@ -27,7 +27,7 @@ fn read_number(bytes: &[u8], offset: usize) -> Result<u16, ReadError>
     Ok(u16::from_be_bytes([rest[0], rest[1]]))
 }
 
-/// How many edits are done and how many are undone, and the offset behind these numbers.
+/// How many edits are done and how many are undone, and the offset after these numbers.
 #[tactic(auto, unfolding(crate::specs::Opening::counts_at))]
 pub(crate) fn read_counts(bytes: &[u8], offset: usize) -> Result<(u16, u16, usize), ReadError>
     requires { offset ≤ length bytes.now }

@@ -32,7 +32,7 @@ impl From<AllocError> for ReadFault {
 /// How many bytes one read may give.
 const CHUNK: usize = 4096;
 
-/// Reads on behind the bytes that were read before, where there are at most `limit` in all.
+/// Reads on after the bytes that were read before, where there are at most `limit` in all.
 ///
 /// At most one byte past the limit is read, so reading ends for an endless reader too. After
 /// `TooLarge` one may read on, up to another limit.
@@ -40,7 +40,7 @@ const CHUNK: usize = 4096;
 /// # Errors
 ///
 /// `Failed` exactly where a read failed, `TooLarge` where there are more than `limit` bytes, with
-/// what was read behind the others, and `OutOfMemory` where a growth was refused.
+/// what was read after the others, and `OutOfMemory` where a growth was refused.
 pub fn read_more<A: Allocator + Copy, R: Read>(
     reader: &mut Watched<R>,
     bytes: &mut Vec<u8, A>,

@@ -15,10 +15,10 @@ pub byte_before : (mark n : ℕ) (old new : List ℕ) → mark < 128 → n < 256
 byte_before mark n old new fits low is ascii =
     subst IsAscii (sym is) (IsAscii-cons mark (decimal n ++ old) fits (IsAscii-append (decimal n) old (IsAscii-decimal n (omega arith)) ascii))
 
--- what stands behind the first character
+-- what stands after the first character
 pub after_ascii : (start : ℕ) (buffer : List ℕ) → IsAscii (drop start buffer) → IsAscii (drop (start + 1) buffer)
 after_ascii start buffer ascii = subst IsAscii (drop-drop 1 start buffer) (IsAscii-drop (drop start buffer) 1 ascii)
 
--- nothing stands behind the end
+-- nothing stands after the end
 pub none_is_ascii : (buffer : List ℕ) (n : ℕ) → length buffer ≤ n → IsAscii (drop n buffer)
 none_is_ascii buffer n long = subst IsAscii (sym (drop_all n buffer long)) IsAscii-nil

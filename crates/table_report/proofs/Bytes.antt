@@ -11,7 +11,7 @@ use Rattle.std.proofs.lemmas.Slice.Eq.{bytes_eq-Decides}
 use borrow.Rule.Slice.PartMut.{mid_of, put_mid}
 use mir.Val.{bool_byte}
 
--- a number as text, behind as many dots as make it four characters
+-- a number as text, after as many dots as make it four characters
 abbrev pub dotted : ℕ → List ℕ
 dotted n = replicate (4 - length (decimal n)) 46 ++ decimal n
 
@@ -152,6 +152,6 @@ module _ (n : ℕ) (high : n < 256) (end : ℕ) (old : List ℕ) (room : 4 ≤ e
       ∙ drop-set (left ++ right) start mark (omega (arith, long, length-append left right))
       ∙ ap (λ l. mark ∷ l) (drop_at left right (start + 1) long)
 
--- what stands behind the first character
+-- what stands after the first character
 pub after_first : (start x : ℕ) (rest buffer : List ℕ) → drop start buffer ≡ x ∷ rest → drop (start + 1) buffer ≡ rest
 after_first start x rest buffer is = sym (drop-drop 1 start buffer) ∙ ap (drop 1) is

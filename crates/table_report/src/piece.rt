@@ -19,7 +19,7 @@ use std::alloc::{AllocError, Allocator};
 /// How many bytes a buffer has: more than any piece.
 pub(crate) const ROOM: usize = 128;
 
-/// The end of a buffer, behind which nothing stands.
+/// The end of a buffer, after which nothing stands.
 pub(crate) fn end_of(buffer: &[u8; ROOM]) -> usize
     ensures end { result ≡ 128 }
     ensures nothing { drop result buffer.now ≡ [] }
@@ -40,7 +40,7 @@ pub(crate) fn write_character(character: u8, buffer: &mut [u8; ROOM], end: usize
     end - 1
 }
 
-/// Each byte as a number, behind as many dots as make it four characters.
+/// Each byte as a number, after as many dots as make it four characters.
 static BYTES: [u8; 1024] = *b"\
     ...0...1...2...3...4...5...6...7...8...9\
     ..10..11..12..13..14..15..16..17..18..19\
@@ -69,7 +69,7 @@ static BYTES: [u8; 1024] = *b"\
     .240.241.242.243.244.245.246.247.248.249\
     .250.251.252.253.254.255";
 
-/// The text of a byte as a number, behind as many dots as make it four characters.
+/// The text of a byte as a number, after as many dots as make it four characters.
 fn dotted(byte: u8) -> &'static [u8]
     ensures { result.now ≡ replicate (4 - length (decimal byte)) 46 ++ decimal byte }
 {
@@ -77,7 +77,7 @@ fn dotted(byte: u8) -> &'static [u8]
     &BYTES[place..place + 4]
 }
 
-/// Writes a character, and behind it a byte as a number.
+/// Writes a character, and after it a byte as a number.
 fn write_marked(mark: u8, byte: u8, buffer: &mut [u8; ROOM], end: usize) -> usize
     requires room { (4 ≤ end) × (end ≤ 128) }
     requires ascii { mark < 128 }

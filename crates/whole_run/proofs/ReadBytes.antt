@@ -92,7 +92,7 @@ dump_read (Some bytes) = dump_read_by (begins_session bytes) where
   dump_read_by true = omega arith
   dump_read_by false = omega arith
 
--- the bytes behind a front that is too long for a dump are read on, where the front begins a session
+-- the bytes after a front that is too long for a dump are read on, where the front begins a session
 after_few : (x y front : List ℕ) (n : ℕ) (b : Bool) → begins_session front ≡ b → x ≡ front ++ y → longest_dump < length front
     → length front ≤ longest_dump + 1 → n ≤ cond b (longest_session + 1 - length front) 0 → length front + n ≤ most_bytes x + 1
 after_few x y front n true e is long few more =

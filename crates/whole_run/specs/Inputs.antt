@@ -20,6 +20,6 @@ abbrev pub most_read : Option (List ℕ) → ℕ
 most_read None = longest_session + 1
 most_read (Some bytes) = most_bytes bytes + 1
 
--- a script may have so many bytes: 2^20
+-- a script may have this number of bytes: 2^20
 abbrev pub longest_script : ℕ
 longest_script = 1048576

@@ -23,7 +23,7 @@ use streams::{ReadFault, Watched, read_more, read_whole};
 /// The greatest length of a script, in bytes.
 pub(crate) const SCRIPT_LIMIT: usize = 1_048_576;
 
-/// Reads on behind more bytes than a dump without edits may have: those of a session may be more.
+/// Reads on after more bytes than a dump without edits may have: those of a session may be more.
 fn read_on<A: Allocator + Copy, R: Read>(
     dump: &mut Watched<R>,
     front: Vec<u8, A>,

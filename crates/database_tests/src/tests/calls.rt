@@ -210,7 +210,7 @@ const NO_MEMORY: DumpFault = DumpFault {
     kind: DumpFaultKind::OutOfMemory,
 };
 
-/// What is seen of a call with so many growths, and then with ample memory.
+/// What is seen of a call with this number of growths, and then with ample memory.
 fn outcome_on<'a>(
     alloc: Global,
     failing: &'a FailingAlloc,

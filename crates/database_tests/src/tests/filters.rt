@@ -5,8 +5,8 @@ use lsa_codec::Addr;
 use lsdb::Database;
 use std::test::*;
 
-/// Whether the filter of a place of the backbone may have a network; `None` where there is no such
-/// place.
+/// Whether the filter of a slot of the backbone may have a network; `None` where there is no such
+/// slot.
 fn may_have(database: &Database, index: usize, network: u32) -> Option<bool> {
     if database.section_count() == 0 {
         return None;
@@ -18,7 +18,7 @@ fn may_have(database: &Database, index: usize, network: u32) -> Option<bool> {
 /// The network 10.5.0.3.
 const NETWORK: u32 = 0x0a05_0003;
 
-/// The places of the backbone, and whether the LSA there is of the network: the router-LSA of
+/// The slots of the backbone, and whether the LSA there is of the network: the router-LSA of
 /// 1.1.1.1, the network-LSA, the router-LSAs of 2.2.2.2, which has no transit link, and of 3.3.3.3,
 /// a summary-LSA, and the router-LSA of 4.4.4.4.
 const SLOTS: &[(usize, bool)] = &[

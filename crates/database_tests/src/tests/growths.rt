@@ -45,8 +45,8 @@ pub(super) fn is_refused_with(
     Ok(refusal == Some(fault) && is_after(alloc, &database, &[])?)
 }
 
-/// Whether an edit of a line is refused for want of memory with so many growths, changes nothing,
-/// and is then carried out with ample memory.
+/// Whether an edit of a line is refused for want of memory with this number of growths, changes
+/// nothing, and is then carried out with ample memory.
 fn is_refused_and_then_done<A: Allocator + Copy>(
     alloc: Global,
     failing: &FailingAlloc,
@@ -91,8 +91,8 @@ fn refused_growths_change_nothing(rt: HostRuntime) -> Result<(), Fail> {
     Ok(())
 }
 
-/// Whether a place is opened at the end of the backbone with so many growths. Where none is, the
-/// database stays that of its dump, and the same call then opens it with ample memory.
+/// Whether a slot is opened at the end of the backbone with this number of growths. Where none is,
+/// the database stays that of its dump, and the same call then opens it with ample memory.
 fn is_opened<A: Allocator + Copy>(
     failing: &FailingAlloc,
     database: &mut Database<A>,
@@ -119,7 +119,7 @@ fn is_opened_with(alloc: Global, dump: &[u8], growths: u64) -> Result<bool, Fail
     is_opened(&failing, &mut database, dump, growths)
 }
 
-/// How many growths it takes to open a place at the end of the backbone of a dump.
+/// How many growths it takes to open a slot at the end of the backbone of a dump.
 fn growths_of_opening(alloc: Global, dump: &[u8]) -> Result<u64, Fail> {
     for growths in 0..MANY {
         if is_opened_with(alloc, dump, growths)? {

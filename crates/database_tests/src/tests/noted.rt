@@ -1,4 +1,4 @@
-//! The places that are noted of a router and a prefix: once a dump is loaded, after edits, after
+//! The slots that are noted of a router and a prefix: once a dump is loaded, after edits, after
 //! they are taken back while each growth is refused, and in a copy.
 
 ghost use Rattle.edit_history.specs.Journal.{Links};
@@ -13,10 +13,10 @@ use std::alloc::{Allocator, Global};
 use std::test::*;
 
 /// A section of `NETS` by its number, the first two bytes of a prefix of 16 bits, and the indices
-/// of the places there that are noted of 2.2.2.2 and the prefix, each with a space behind it.
+/// of the slots there that are noted of 2.2.2.2 and the prefix, each with a space after it.
 type Row = (usize, u32, &'static str);
 
-/// The indices of the places in a section that are noted of 2.2.2.2 and a prefix of 16 bits.
+/// The indices of the slots in a section that are noted of 2.2.2.2 and a prefix of 16 bits.
 fn noted_text<A: Allocator + Copy>(
     alloc: Global,
     database: &Database<A>,
@@ -36,7 +36,7 @@ fn noted_text<A: Allocator + Copy>(
     Ok(text)
 }
 
-/// Whether these places are noted of 2.2.2.2 and their prefixes.
+/// Whether these slots are noted of 2.2.2.2 and their prefixes.
 fn are_noted<A: Allocator + Copy>(
     alloc: Global,
     database: &Database<A>,
@@ -61,7 +61,7 @@ const LOADED: &[Row] = &[
     (2, 0x0a09, ""),
 ];
 
-/// After the two edits: a new place is noted, and that of the LSA that is gone stays.
+/// After the two edits: a new slot is noted, and that of the LSA that is gone stays.
 const EDITED: &[Row] = &[
     (0, 0x0a14, "4 5 "),
     (2, 0x0a5b, "0 "),
@@ -90,7 +90,7 @@ fn apply_line<A: Allocator + Copy>(
     Ok(apply_and_push(database, history, &edit)?)
 }
 
-/// Whether the places are noted when the database is loaded, behind the two edits, in a copy, and
+/// Whether the slots are noted when the database is loaded, after the two edits, in a copy, and
 /// when both are taken back where no growth is left.
 fn are_noted_after_edits<A: Allocator + Copy>(
     alloc: Global,

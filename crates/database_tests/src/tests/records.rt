@@ -45,7 +45,7 @@ fn goes_and_comes<A: Allocator + Copy>(
     Ok(is_back && is_after(alloc, database, &[line])?)
 }
 
-/// Whether an edit changes so many LSAs, and goes and comes where no growth is left.
+/// Whether an edit changes this number of LSAs, and goes and comes where no growth is left.
 fn takes_no_memory(alloc: Global, line: &str, changed: usize) -> Result<bool, Fail> {
     let edit = edit_of(line)?;
     let growths = growths_of(alloc, NETS, &edit)?;

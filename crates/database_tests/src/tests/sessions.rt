@@ -1,4 +1,4 @@
-//! Undo and redo: they take no memory, and removed LSAs come back to their places.
+//! Undo and redo: they take no memory, and removed LSAs come back to their slots.
 
 ghost use Rattle.edit_history.specs.Journal.{Links};
 
@@ -91,7 +91,7 @@ fn index<A: Allocator + Copy>(database: &Database<A>) -> Option<usize> {
     if section == 2 { Some(index) } else { None }
 }
 
-/// Where that LSA stands when it is removed, when it is added anew, and when both are undone.
+/// Where that LSA stands when it is removed, when it is added again, and when both are undone.
 fn indexes<A: Allocator + Copy>(
     database: &mut Database<A>,
     history: &mut History<A>,

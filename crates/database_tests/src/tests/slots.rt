@@ -1,4 +1,4 @@
-//! Readers, places and copies of one database.
+//! Readers, slots and copies of one database.
 
 ghost use Rattle.std.specs.Prelude.{◌≡◌, IsSome};
 ghost use Rattle.lsdb.specs.Slots.{slot_at};
@@ -123,7 +123,7 @@ fn reads_lsas_by_number(rt: HostRuntime) -> Result<(), Fail> {
     Ok(())
 }
 
-/// The bytes of the LSA at a place.
+/// The bytes of the LSA at a slot.
 fn bytes_at(database: &Database, section: usize, index: usize) -> Option<&[u8]> {
     database
         .get(SlotId { section, index })
@@ -152,7 +152,7 @@ fn has_nothing_at_unknown_slots(rt: HostRuntime) -> Result<(), Fail> {
     Ok(())
 }
 
-/// What is seen of a database while a place is empty: its size and the LSAs of the backbone. The
+/// What is seen of a database while a slot is empty: its size and the LSAs of the backbone. The
 /// LSA is put back at the end.
 fn seen_without(database: &mut Database, slot: SlotId) -> (usize, usize, bool)
     requires { IsSome (slot_at database.old slot) }
@@ -181,7 +181,7 @@ fn removes_and_puts_back(rt: HostRuntime) -> Result<(), Fail> {
     Ok(())
 }
 
-/// The place that is opened in a section, and whether it is empty.
+/// The slot that is opened in a section, and whether it is empty.
 fn opened(database: &mut Database, section: Section) -> Result<(usize, usize, bool), SlotFault> {
     let slot = database.open_slot(section)?;
     Ok((slot.section, slot.index, database.get(slot).is_none()))

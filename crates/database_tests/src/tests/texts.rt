@@ -106,7 +106,7 @@ fn shows_faults(rt: HostRuntime) -> Result<(), Fail> {
     Ok(())
 }
 
-/// The faults of places, and their names.
+/// The faults of slots, and their names.
 const SLOT_FAULTS: &[(SlotFault, &str)] = &[
     (SlotFault::NoArea, "NoArea"),
     (SlotFault::OutOfMemory, "OutOfMemory"),

@@ -29,14 +29,14 @@ shortened slot name (Err make.ZeroCost) = Err OutOfMemory
 shortened slot name (Err make.TooLong) = Err OutOfMemory
 shortened slot name (Err make.OutOfMemory) = Err OutOfMemory
 
--- two places of a section in their order
+-- two slots of a section in their order
 abbrev pub in_order : SlotId → SlotId → SlotId × SlotId
 in_order one other = if nat_le one.index other.index then (one, other) else (other, one)
 
--- the swap that carries a fate out at a place, if there is one
+-- the swap that carries a fate out at a slot, if there is one
 abbrev pub swaps_at_slot : (List ℕ → Fate) → Section → Slots → SlotId → List SwapData
 swaps_at_slot fate name d slot = option_to_list (slot_swap fate slot name (slot_at d slot))
 
--- the swaps of two places
+-- the swaps of two slots
 abbrev pub pair_swaps : (List ℕ → Fate) → Section → Slots → SlotId × SlotId → List SwapData
 pair_swaps fate name d slots = swaps_at_slot fate name d slots.0 ++ swaps_at_slot fate name d slots.1

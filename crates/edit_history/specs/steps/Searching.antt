@@ -31,7 +31,7 @@ may_have (wanted.Network network) key = true
 may_have (wanted.Summary router prefix) key = key.adv.0 == router.0
 may_have (wanted.External router prefix) key = key.adv.0 == router.0
 
--- whether a wanted LSA is at the place that is noted of a key
+-- whether a wanted LSA is at the slot that is noted of a key
 abbrev pub is_wanted_by_key : Wanted → Slots → ℕ → KeyAt → Bool
 is_wanted_by_key w d section noted = may_have w noted.key && passes (is_wanted w) (slot_at d (slot_of section noted.index))
 

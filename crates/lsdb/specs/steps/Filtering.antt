@@ -39,6 +39,6 @@ abbrev pub filter_of_slot : Slot → TransitFilter
 filter_of_slot None = no_networks
 filter_of_slot (Some lsa) = filter_of_lsa lsa
 
--- for each place that of the LSA there
+-- for each slot that of the LSA there
 abbrev pub filters_of : List Slot → List TransitFilter
 filters_of slots = map filter_of_slot slots

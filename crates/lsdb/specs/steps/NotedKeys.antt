@@ -1,4 +1,4 @@
--- The keys of a section's LSAs, each noted with the index of a place, and kept beside the places.
+-- The keys of a section's LSAs, each noted with the index of a slot, and kept beside the slots.
 use Rattle.std.specs.Prelude.{◌≡◌, ◌<◌, ◌≤◌, ℕ, suc, true, cond, List, [], ◌∷◌, ◌++◌, length, map, Option, Some, None, slice_index_or, All, Contains}
 use Rattle.std.specs.Map.{lookup}
 use Rattle.std.specs.declared.cmp.Ordering.TheVariants.{Less}
@@ -23,13 +23,13 @@ noted_index keys key = lookup (same_key key) (pairs_of keys)
 abbrev pub AreApart : List Slot → Type 0
 AreApart slots = AreDistinct (map key_of (full slots))
 
--- keys rise, also the latest, and the index of each LSA's place is noted of its key, first of all among the latest
+-- keys rise, also the latest, and the index of each LSA's slot is noted of its key, first of all among the latest
 pub record AreNoted (slots : List Slot) (keys latest : List KeyAt) : Type 0 where
   pub rising : IsRising keys
   pub latest_rising : IsRising latest
   pub whole : (i : ℕ) (lsa : List ℕ) → item_at slots i ≡ Some (Some lsa) → noted_index (latest ++ keys) (key_of lsa) ≡ Some i
 
--- and there is room for a key of each place, the keys have their widths, and the LSAs are counted
+-- and there is room for a key of each slot, the keys have their widths, and the LSAs are counted
 pub record IsKeyed (slots : List Slot) (keys latest : List KeyAt) (room : ℕ) (counts : LsaCounts) : Type 0 where
   pub sound : AreNoted slots keys latest
   pub fits : length slots ≤ room
@@ -42,7 +42,7 @@ pub record FitSection (slots : List Slot) : Type 0 where
   pub few : length (full slots) ≤ most_lsas_of_as
   pub apart : AreApart slots
 
--- each LSA's key with the index of its place, in order of the places, of which the first has index n
+-- each LSA's key with the index of its slot, in order of the slots, of which the first has index n
 abbrev pub keys_from : ℕ → List Slot → List KeyAt
 keys_from n [] = []
 keys_from n (None ∷ ps) = keys_from (suc n) ps

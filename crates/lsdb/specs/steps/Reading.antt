@@ -15,7 +15,7 @@ abbrev pub Reads : {X Y : Type 0} → (X → Y) → Result X DumpFault → Resul
 Reads view (Ok x) read = read ≡ Ok (view x)
 Reads view (Err f) read = read ≡ Err f
 
--- reading ended for want of memory, or with the fault that is told
+-- reading ended for want of memory, or with the fault that is reported
 abbrev pub Fails : {Y : Type 0} → ReadError → Result Y DumpFault → Type 0
 Fails errors.Memory read = Unit {0}
 Fails (errors.Fault f) read = read ≡ Err f
@@ -34,7 +34,7 @@ abbrev pub IsMemoryAfter : {X Z : Type 0} → Result Z DumpFault → Result X Re
 IsMemoryAfter front (Ok x) = Unit {0}
 IsMemoryAfter front (Err e) = IsWantAfter front e
 
--- the fault that is told of a failed reading
+-- the fault that is reported of a failed reading
 abbrev pub reported_fault : ReadError → DumpFault
 reported_fault errors.Memory = no_memory
 reported_fault (errors.Fault f) = f

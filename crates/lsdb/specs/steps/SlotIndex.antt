@@ -1,4 +1,4 @@
--- An index of the places of a section: what the LSAs there name, each with the index of its place, in rising order.
+-- An index of the slots of a section: what the LSAs there name, each with the index of its slot, in rising order.
 use Rattle.std.specs.Prelude.{◌≡◌, ◌≢◌, ◌^◌, ◌<◌, ◌≤◌, ℕ, suc, List, [], ◌∷◌, ◌++◌, length, Option, Some, All, Contains}
 use Rattle.std.specs.List.{cons_option}
 use Rattle.std.specs.List.Sorted.{IsStrictlySortedBy}
@@ -9,7 +9,7 @@ use Rattle.lsdb.specs.Slots.{Slot, item_at}
 abbrev pub most_slots : ℕ
 most_slots = 2 ^ 32
 
--- what each place names is noted, in rising order, or among the latest, in rising order too, and there is room to note a name of each place
+-- what each slot names is noted, in rising order, or among the latest, in rising order too, and there is room to note a name of each slot
 pub record IsIndex {X : Type 0} (order : X → X → Ordering) (named : ℕ → Slot → Option X) (slots : List Slot) (noted latest : List X) (room : ℕ)
     : Type 0 where
   pub rising : IsStrictlySortedBy order noted
@@ -18,7 +18,7 @@ pub record IsIndex {X : Type 0} (order : X → X → Ordering) (named : ℕ → 
   pub fits : length slots ≤ room
   pub narrow : length slots ≤ most_slots
 
--- the same, but what one place names may not be noted
+-- the same, but what one slot names may not be noted
 pub record IsIndexBut {X : Type 0} (order : X → X → Ordering) (named : ℕ → Slot → Option X) (index : ℕ) (slots : List Slot)
     (noted latest : List X) (room : ℕ)
     : Type 0 where
@@ -28,7 +28,7 @@ pub record IsIndexBut {X : Type 0} (order : X → X → Ordering) (named : ℕ �
   pub fits : length slots ≤ room
   pub narrow : length slots ≤ most_slots
 
--- what places name, in their order, of which the first has index n
+-- what slots name, in their order, of which the first has index n
 abbrev pub noted_from : {X : Type 0} → (ℕ → Slot → Option X) → ℕ → List Slot → List X
 noted_from named n [] = []
 noted_from named n (p ∷ ps) = cons_option (named n p) (noted_from named (suc n) ps)

@@ -1,4 +1,4 @@
--- What is seen of the places in memory.
+-- What is seen of the slots in memory.
 use Rattle.std.specs.Prelude.{ℕ, List, map, option_map}
 use Rattle.std.specs.Prelude.{◌≡◌}
 use Rattle.lsdb.specs.Lists.{AreaHead, IsDatabase, size}

@@ -32,7 +32,7 @@ fn reported(alloc: Global, lent: &Lent<'_>) -> Result<String, Fail> {
     Ok(text)
 }
 
-/// The same while so many growths are left. It is a failure if one was asked for.
+/// The same while this number of growths are left. It is a failure if one was asked for.
 fn reported_with(alloc: Global, growths: u64) -> Result<String, Fail> {
     let failing = FailingAlloc::new(alloc, u64::MAX);
     let lent = lend(&failing)?;
@@ -49,7 +49,7 @@ fn reported_with(alloc: Global, growths: u64) -> Result<String, Fail> {
 fn preferred_entries_and_metrics_take_no_memory(rt: HostRuntime) -> Result<(), Fail> {
     let ample = reported_with(rt.alloc(), 1_000)?;
     let refused = reported_with(rt.alloc(), 0)?;
-    // 10.2.0.0/16 is told of by 1.1.1.1: over the link of cost 10, and at 1 behind 2.2.2.2.
+    // 10.2.0.0/16 is reported of by 1.1.1.1: over the link of cost 10, and at 1 after 2.2.2.2.
     assert!(rt; ample.ends_with(" true 11"), "{ample}");
     assert_eq!(rt; refused, ample);
     Ok(())

@@ -120,7 +120,7 @@ fn area_by<'a>(
     AreaResult::build(failing, database, area, graph, tree, hops, &stubs)
 }
 
-/// What an area gives with so many growths, and then with ample memory.
+/// What an area gives with this number of growths, and then with ample memory.
 fn area_on<'a>(
     alloc: Global,
     failing: &'a FailingAlloc,
@@ -244,7 +244,7 @@ fn answer_of<'a>(
     }
 }
 
-/// What a call answers with so many growths, and then with ample memory.
+/// What a call answers with this number of growths, and then with ample memory.
 fn answers_with<'a>(
     alloc: Global,
     failing: &'a FailingAlloc,

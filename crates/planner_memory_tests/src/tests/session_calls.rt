@@ -23,7 +23,7 @@ const CALLS: &[Call] = &[Call::Open, Call::OpenDump, Call::Save];
 /// How many edits are done and undone, and their lines.
 const HISTORY: &[u8] = b"\0\x01\0\x01cost 0.0.0.0 1.1.1.1 1 11\ncost 0.0.0.0 1.1.1.1 1 12\n";
 
-/// The bytes of a session on the network: its dump with version 2, and the history behind it.
+/// The bytes of a session on the network: its dump with version 2, and the history after it.
 fn session(alloc: Global) -> Result<Vec<u8>, AllocError> {
     let mut bytes = Vec::new(alloc);
     bytes.extend_from_slice(b"OSWP\x02")?;

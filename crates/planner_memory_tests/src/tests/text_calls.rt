@@ -92,7 +92,7 @@ fn outcome_on<'a>(
     Ok(Outcome::of_answers(alloc, first, then))
 }
 
-/// What is seen of a call on the reply to its line, behind the edits. No function hands the reply
+/// What is seen of a call on the reply to its line, after the edits. No function hands the reply
 /// out: the kit gets no proof of one that answers what `step` does.
 fn outcome_after<'a>(
     alloc: Global,

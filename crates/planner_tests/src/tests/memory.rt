@@ -79,7 +79,7 @@ fn growths_of_cached(
     Ok(before.saturating_sub(failing.remaining()))
 }
 
-/// Whether a shared table that is asked for again takes no growth, and takes some behind an edit.
+/// Whether a cached table that is asked for again takes no growth, and takes some after an edit.
 #[derive(Drop)]
 struct CachedTables;
 
@@ -137,7 +137,7 @@ fn a_second_table_asks_for_fewer_growths(rt: HostRuntime) -> Result<(), Fail> {
     Ok(())
 }
 
-/// The growths of a table of 1.1.1.1 behind an edit.
+/// The growths of a table of 1.1.1.1 after an edit.
 fn growths_after(
     planner: &mut Planner<&FailingAlloc>,
     failing: &FailingAlloc,
@@ -154,7 +154,7 @@ const DROPPED: Edit = Edit::DropLink {
     link: 1,
 };
 
-/// The growths of a table behind a cost, behind the undo of it, and behind an edit that drops a
+/// The growths of a table after a cost, after the undo of it, and after an edit that drops a
 /// link, and the trees that they and the first table calculate.
 #[derive(Drop)]
 struct TablesAfterEdits;
@@ -203,7 +203,7 @@ fn growths_at_the_beginning(
     Ok(before.saturating_sub(failing.remaining()))
 }
 
-/// The growths of tables at the beginning: of 1.1.1.1, of it behind an edit and behind its undo, of
+/// The growths of tables at the beginning: of 1.1.1.1, of it after an edit and after its undo, of
 /// 2.2.2.2, and of 1.1.1.1 again.
 #[derive(Drop)]
 struct FiveTables;
@@ -250,7 +250,7 @@ fn growths_of_base(
 /// 11 on, and of a copy of that database. The third one is of the router of the first.
 #[derive(Drop)]
 struct TablesAfterCosts {
-    /// The cost behind the last one.
+    /// The cost after the last one.
     end: u16,
 }
 
@@ -352,7 +352,7 @@ fn goes_back_at_once(planner: &mut Planner<&FailingAlloc>) -> bool {
     undo(planner, 10) == Ok(()) && has_first(planner, LOADED)
 }
 
-/// Whether ten costs stay, go and come where no growth is left behind them.
+/// Whether ten costs stay, go and come where no growth is left after them.
 #[derive(Drop)]
 struct CostsThatStay;
 
@@ -394,7 +394,7 @@ fn summary(alloc: Global, number: u32) -> Result<Vec<u8>, Fail> {
     Ok(Vec::from_slice(alloc, summary.bytes())?)
 }
 
-/// The sample with 98 summary-LSAs of 2.2.2.2 behind its router-LSAs: an area of 100 LSAs.
+/// The sample with 98 summary-LSAs of 2.2.2.2 after its router-LSAs: an area of 100 LSAs.
 fn hundred_lsas(alloc: Global) -> Result<Vec<u8>, Fail> {
     let mut dump = Vec::from_slice(alloc, SAMPLE.get(..97).ok_or("the area")?)?;
     for number in 0..98 {

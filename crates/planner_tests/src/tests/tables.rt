@@ -283,7 +283,7 @@ fn keeps_the_trees_of_the_beginning(rt: HostRuntime) -> Result<(), Fail> {
     Ok(())
 }
 
-/// How many trees are calculated after a shared table.
+/// How many trees are calculated after a cached table.
 fn runs_after_cached(planner: &mut Planner<&FailingAlloc>, router: u32) -> Result<u64, Fail> {
     let _table = planner.cached_table(RouterId(router))?;
     Ok(planner.runs())
@@ -303,7 +303,7 @@ fn change_cost(planner: &mut Planner<&FailingAlloc>, metric: u16) -> Result<(), 
     )?)
 }
 
-/// How many trees are calculated after shared tables: an edit is followed by two of 1.1.1.1 and one
+/// How many trees are calculated after cached tables: an edit is followed by two of 1.1.1.1 and one
 /// of 2.2.2.2, and a second edit by one of 2.2.2.2.
 #[derive(Drop)]
 struct RunsOfCached;
@@ -376,7 +376,7 @@ fn begins_at_the_sample(
     is_base_the_sample(planner)
 }
 
-/// Behind the first line many edits are done, of so few LSAs: the second table of the beginning
+/// After the first line many edits are done, of so few LSAs: the second table of the beginning
 /// makes a copy of that database.
 const OVER_A_COPY: &[&str] = &[
     "cost 0.0.0.0 1.1.1.1 1 7",
@@ -393,7 +393,7 @@ const OVER_A_COPY: &[&str] = &[
     "fail-router 1.1.1.1",
 ];
 
-/// The first line that is refused, or behind which the beginning is another.
+/// The first line that is refused, or after which the beginning is another.
 #[derive(Drop)]
 struct OtherBeginning;
 

@@ -9,7 +9,7 @@ use spf::{Meter, SpfFault, Tree};
 use std::alloc::Global;
 use std::test::*;
 
-/// The root of a tree, and the vertices that it reaches behind it: the first, and the second.
+/// The root of a tree, and the vertices that it reaches after it: the first, and the second.
 fn turns_of(tree: &Tree) -> (usize, Option<usize>, Option<usize>) {
     (tree.root(), tree.settled(1), tree.settled(2))
 }
@@ -122,7 +122,7 @@ fn failing_tree<'a>(failing: &'a FailingAlloc, graph: &Graph<&'a FailingAlloc>) 
     (before, failing.remaining(), fault, meter.count())
 }
 
-/// The same in the sample, with so many growths.
+/// The same in the sample, with this number of growths.
 fn failing_sample(alloc: Global, growths: u64) -> Result<Outcome, Fail> {
     let failing = FailingAlloc::new(alloc, growths);
     let graph = sample_graph(&failing)?;

@@ -34,6 +34,6 @@ IsRunEnd long TooLarge = long
 abbrev pub IsTooLong : List ℕ → Type 0
 IsTooLong bytes = most_bytes bytes < length bytes
 
--- how many bytes are read at most behind those that are too many for a dump without edits
+-- how many bytes are read at most after those that are too many for a dump without edits
 abbrev pub most_after : List ℕ → ℕ
 most_after front = if begins_session front then longest_session + 1 - length front else 0

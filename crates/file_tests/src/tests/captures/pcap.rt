@@ -1,4 +1,4 @@
-//! Files of the pcap format: both byte orders, both units, cuts and lengths that lie.
+//! Files of the pcap format: both byte orders, both units, cuts and malformed length.
 
 use capture_files::{CaptureFault, End, LinkType, read_pcap};
 use std::alloc::Global;

@@ -1,4 +1,4 @@
-//! Files of the pcapng format: sections, interfaces, units of time, cuts and lengths that lie.
+//! Files of the pcapng format: sections, interfaces, units of time, cuts and malformed length.
 
 use capture_files::{CaptureFault, End, LinkType, read_capture};
 use std::alloc::Global;

@@ -18,7 +18,7 @@ fn is_parsed(failing: &FailingAlloc<Global>) -> bool {
     }
 }
 
-/// The fault of reading the document with so many blocks, if there is one.
+/// The fault of reading the document with this number of blocks, if there is one.
 fn fault(failing: &FailingAlloc<Global>, granted: u64) -> Option<JsonFault> {
     failing.set_remaining(granted);
     read_printed_json(failing, LINKS).err()

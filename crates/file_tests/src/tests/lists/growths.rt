@@ -7,7 +7,7 @@ use lsdb_listing::{ListFault, differences, list_lines, read_list};
 use std::alloc::Global;
 use std::test::*;
 
-/// The fault of reading a list with so many blocks, if there is one.
+/// The fault of reading a list with this number of blocks, if there is one.
 fn list_fault(failing: &FailingAlloc<Global>) -> Option<ListFault> {
     read_list(failing, TABLES).err()
 }

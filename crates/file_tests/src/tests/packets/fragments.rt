@@ -5,7 +5,7 @@ use capture_files::LinkType;
 use ospf_packets::{FrameWarning, Packets, read_frames};
 use std::test::*;
 
-/// Whether both LSAs are told, and nothing is odd.
+/// Whether both LSAs are reported, and nothing is odd.
 fn is_whole(packets: &Packets) -> bool {
     match packets.observations.as_slice() {
         [first, second] => {
@@ -17,7 +17,7 @@ fn is_whole(packets: &Packets) -> bool {
     }
 }
 
-/// Whether so many fragments are missing, nothing else is odd, and no LSA is told.
+/// Whether this number of fragments are missing, nothing else is odd, and no LSA is reported.
 fn is_missing(packets: &Packets, count: usize) -> bool {
     let missing = packets
         .warnings

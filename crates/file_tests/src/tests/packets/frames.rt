@@ -41,7 +41,7 @@ pub(super) const TAGGED: &[u8] = &[
     0x00, 0x01, 0x31, 0xbe, 0x00, 0x1c, 0x00, 0x01, 0x00, 0x04, 0x10, 0x00, 0x00, 0x00,
 ];
 
-/// Ethernet. An update with the same LSA, from byte 62 on; behind the packet stand 16 bytes of a
+/// Ethernet. An update with the same LSA, from byte 62 on; after the packet stand 16 bytes of a
 /// digest (RFC 2328, D.4.3).
 pub(super) const DIGEST: &[u8] = &[
     0x01, 0x00, 0x5e, 0x00, 0x00, 0x05, 0xae, 0x89, 0x9c, 0xe9, 0xd6, 0xd4, 0x08, 0x00, 0x45, 0xc0,
@@ -130,7 +130,7 @@ pub(in crate::tests) const BACK: &[u8] = &[
 /// When frames were seen, in nanoseconds since 1970.
 pub(super) const SEEN: Option<u64> = Some(1_795_401_986_568_756_000);
 
-/// A frame of which so many bytes were on the link.
+/// A frame of which this number of bytes were on the link.
 pub(super) fn cut(link: LinkType, bytes: &[u8], original: u32) -> Frame<'_> {
     Frame {
         link,
@@ -176,7 +176,7 @@ pub(super) fn with_word(
     with(alloc, &changed, place.saturating_add(1), low)
 }
 
-/// Whether one LSA alone is told, with these bytes and this scope, and nothing is odd.
+/// Whether one LSA alone is reported, with these bytes and this scope, and nothing is odd.
 pub(super) fn is_only(packets: &Packets, scope: Scope, bytes: &[u8]) -> bool {
     match packets.observations.as_slice() {
         [one] => {
@@ -187,7 +187,7 @@ pub(super) fn is_only(packets: &Packets, scope: Scope, bytes: &[u8]) -> bool {
     }
 }
 
-/// Whether this alone is odd of the frames, and so many LSAs are told.
+/// Whether this alone is odd of the frames, and this number of LSAs are reported.
 pub(super) fn is_warning(packets: &Packets, warning: FrameWarning, lsas: usize) -> bool {
     match packets.warnings.as_slice() {
         [one] => *one == warning && packets.observations.len() == lsas,

@@ -9,7 +9,7 @@ use ospf_packets::{FrameWarning, read_frames};
 use std::alloc::Global;
 use std::test::*;
 
-/// Whether this alone is odd of the update with another byte at a place, and no LSA is told.
+/// Whether this alone is odd of the update with another byte at a place, and no LSA is reported.
 fn is_warning_with(
     alloc: Global,
     place: usize,
@@ -41,7 +41,7 @@ fn what_is_no_ospf_is_passed_over(rt: HostRuntime) -> Result<(), Fail> {
     let alloc = rt.alloc();
     let packets = read(alloc, LinkType(127), UPDATE)?;
     assert!(rt; is_warning(&packets, FrameWarning::OtherLink, 0));
-    // ARP, IPv6, an IPv6 header behind the EtherType of IPv4, and TCP.
+    // ARP, IPv6, an IPv6 header after the EtherType of IPv4, and TCP.
     assert!(rt; is_warning_with(alloc, 13, 0x06, FrameWarning::NotIpv4)?);
     assert!(rt; is_warning_with(alloc, 12, 0x86, FrameWarning::NotIpv4)?);
     assert!(rt; is_warning_with(alloc, 14, 0x65, FrameWarning::NotIpv4)?);

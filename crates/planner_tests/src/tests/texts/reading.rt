@@ -6,8 +6,8 @@ use std::alloc::{AllocError, Global};
 use std::test::Fail;
 use streams::{ReadFault, Watched, read_more, read_whole};
 
-/// A text, read up to a limit from a reader that gives so many bytes at once and fails at a place,
-/// and whether the reader is known to have failed.
+/// A text, read up to a limit from a reader that gives this number of bytes at once and fails at a
+/// place, and whether the reader is known to have failed.
 fn read(
     alloc: Global,
     text: &[u8],

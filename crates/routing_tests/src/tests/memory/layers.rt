@@ -1,5 +1,5 @@
 //! Graphs, trees and hops with few growths. Each function lends a call what it wants with ample
-//! memory, and calls it twice: with so many growths, and then with ample memory again.
+//! memory, and calls it twice: with this number of growths, and then with ample memory again.
 
 ghost use Rattle.area_graph.specs.declared.vertex.Vertex.{Vertex};
 ghost use Rattle.spf.specs.Distances.{IsTreeOf};
@@ -17,7 +17,7 @@ use spf::{Meter, SpfFault, Tree};
 use std::alloc::Global;
 use std::test::*;
 
-/// What a call answers with so many growths, and what the same call answers then.
+/// What a call answers with this number of growths, and what the same call answers then.
 type Answers = (Answer, Answer);
 
 /// The text of a graph that was built.

@@ -149,7 +149,7 @@ fn push_lsa(text: &mut String, lsa: &Lsa<&FailingAlloc>) -> Result<(), Fail> {
     push_others(text, lsa)
 }
 
-/// The database and its LSAs are read while so many growths are left.
+/// The database and its LSAs are read while this number of growths are left.
 fn read_database(
     alloc: Global,
     failing: &FailingAlloc,
@@ -189,7 +189,7 @@ fn numbered_text(alloc: Global, graph: &Graph<&FailingAlloc>) -> Result<String, 
     Ok(text)
 }
 
-/// The tree of a graph is read while so many growths are left.
+/// The tree of a graph is read while this number of growths are left.
 fn read_tree<'a>(
     alloc: Global,
     failing: &'a FailingAlloc,
@@ -201,7 +201,7 @@ fn read_tree<'a>(
     tree_text(alloc, &tree)
 }
 
-/// The hops of that tree are read while so many growths are left.
+/// The hops of that tree are read while this number of growths are left.
 fn read_hops<'a>(
     alloc: Global,
     failing: &'a FailingAlloc,
@@ -213,7 +213,7 @@ fn read_hops<'a>(
     Ok(text.ok_or("hops")?)
 }
 
-/// A graph is read, or what is made of it, while so many growths are left.
+/// A graph is read, or what is made of it, while this number of growths are left.
 fn read_on_graph<'a>(
     alloc: Global,
     failing: &'a FailingAlloc,
@@ -242,7 +242,7 @@ fn read_graph(
     read_on_graph(alloc, failing, &graph, call, growths)
 }
 
-/// What is told of a length, and of numbers by its mask.
+/// What is reported of a length, and of numbers by its mask.
 fn push_mask(text: &mut String, len: u8) -> Result<(), Fail>
     requires { len ≤ 32 }
 {
@@ -254,7 +254,7 @@ fn push_mask(text: &mut String, len: u8) -> Result<(), Fail>
     Ok(())
 }
 
-/// What is told of masks and prefixes while so many growths are left. These calls get no
+/// What is reported of masks and prefixes while this number of growths are left. These calls get no
 /// allocator.
 fn read_masks(alloc: Global, failing: &FailingAlloc, growths: u64) -> Result<String, Fail> {
     failing.set_remaining(growths);
@@ -265,7 +265,7 @@ fn read_masks(alloc: Global, failing: &FailingAlloc, growths: u64) -> Result<Str
     Ok(text)
 }
 
-/// What is read while so many growths are left.
+/// What is read while this number of growths are left.
 fn read(alloc: Global, failing: &FailingAlloc, call: Call, growths: u64) -> Result<String, Fail> {
     match call {
         Call::Database | Call::Lsas => read_database(alloc, failing, call, growths),

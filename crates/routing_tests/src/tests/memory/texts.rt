@@ -30,7 +30,7 @@ pub(super) fn graph_text(alloc: Global, graph: &Graph<&FailingAlloc>) -> Result<
     Ok(text)
 }
 
-/// Adds the vertices that a tree reaches, by their turns, and that none comes behind them.
+/// Adds the vertices that a tree reaches, by their turns, and that none comes after them.
 fn push_settled(text: &mut String, tree: &Tree<&FailingAlloc>) -> Result<(), Fail> {
     for turn in 0..tree.order().len() {
         let settled = tree.settled(turn);

@@ -12,7 +12,7 @@ emptied d slot some db = by_place (slot_at d slot) refl some where
   by_place None e some = absurd (search rules)
   by_place (Some v) e some = put_safe d slot v None e tt db
 
--- what was taken goes back to its place
+-- what was taken goes back to its slot
 put_back : (d : Slots) (slot : SlotId) (v : Slot) → slot_at d slot ≡ Some v → put (put d slot None) slot v ≡ d
 put_back d slot v at = put-put d slot None v ∙ put-slot_at d slot v at
 
