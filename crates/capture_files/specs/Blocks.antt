@@ -12,7 +12,7 @@ use Rattle.capture_files.specs.Fields.{number_at}
 abbrev pub section_header : ℕ
 section_header = 0x0a0d0d0a
 
--- a block without where it lies in memory: the byte order of its section, and all of its bytes
+-- a block, without its location in memory: the byte order of its section, and all of its bytes
 pub record BlockText : Type 0 where
   pub order : Order
   pub bytes : List ℕ
@@ -30,7 +30,7 @@ parsed_order bytes =
     else if number_at Little 4 8 bytes == 0x1a2b3c4d then Some Little
     else None
 
--- a Section Header Block tells the byte order of its section, which holds up to the next one
+-- a Section Header Block contains the byte order of its section, which holds up to the next one
 abbrev pub order_of : Order → List ℕ → Option Order
 order_of order bytes = if number_at Big 4 0 bytes == section_header then parsed_order bytes else Some order
 

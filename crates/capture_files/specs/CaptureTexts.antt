@@ -1,4 +1,4 @@
--- What a capture file tells, without where its bytes lie in memory.
+-- What a capture file contains, without the location of its bytes in memory.
 use Rattle.std.specs.Prelude.{ℕ, List, map, Option}
 use Rattle.capture_files.specs.declared.frame.Capture.{Capture}
 use Rattle.capture_files.specs.declared.frame.End.{End}

@@ -30,7 +30,7 @@ abbrev pub value_or : ℕ → (List ℕ → Option (List ℕ)) → Option (ℕ �
 value_or code after None = None
 value_or code after (Some option) = if option.0 == code then Some option.1 else after option.2
 
--- the value of the first option of this code among the first so many
+-- the value of the first option of this code among the first options, up to this number
 unfoldable pub option_among : ℕ → Order → ℕ → List ℕ → Option (List ℕ)
 option_among zero order code options = None
 option_among (suc n) order code options =
@@ -52,7 +52,7 @@ abbrev pub resolution_of : Option (List ℕ) → Option ℕ
 resolution_of None = Some 1000000
 resolution_of (Some value) = if length value == 1 then units_of (slice_index value 0) else None
 
--- time stamps that are shifted by if_tsoffset are not told
+-- time stamps that are shifted by if_tsoffset are not read
 abbrev pub parsed_units : Option (List ℕ) → Option (List ℕ) → Option ℕ
 parsed_units None resolution = resolution_of resolution
 parsed_units (Some offset) resolution = None
@@ -68,7 +68,7 @@ moment_of (Some units) stamp = if units == 0 then None else if_small (stamp * 10
 abbrev pub options_of : BlockText → List ℕ
 options_of block = drop 16 (take (length block.bytes - 4) block.bytes)
 
--- what an Interface Description Block of 20 bytes or more tells
+-- what an Interface Description Block of 20 bytes or more contains
 abbrev pub interface_of : BlockText → Interface
 interface_of block = record {
   link = record { 0 = number_at block.order 2 8 block.bytes };

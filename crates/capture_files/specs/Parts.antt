@@ -1,4 +1,4 @@
--- What the blocks of a section tell (draft-ietf-opsawg-pcapng, 4).
+-- What the blocks of a section contain (draft-ietf-opsawg-pcapng, 4).
 use Rattle.std.specs.Prelude.{ℕ, ◌+◌, ◌*◌, ◌==◌, nat_lt, min, if◌then◌else◌, List, length, take, drop, slice_get, Option, Some, None, Result, Ok, Err}
 use Rattle.capture_files.specs.declared.block.Flaw.{Flaw}
 use Rattle.capture_files.specs.declared.block.Flaw.TheVariants.{BlockLength, SectionVersion, BlockCaptured, NoInterface}
@@ -54,7 +54,7 @@ parsed_enhanced interfaces block =
     if nat_lt (length block.bytes) 32 then Err BlockLength
     else enhanced_on (slice_get interfaces (field 4 8 block)) block
 
--- 4.4: as many bytes as there were, and no more than the first interface captures
+-- 4.4: the number of bytes that there were, and no more than the first interface captures
 abbrev pub simple_captured : Interface → BlockText → ℕ
 simple_captured i block = if i.snap == 0 then field 4 8 block else min (field 4 8 block) i.snap
 
@@ -76,7 +76,7 @@ abbrev pub parsed_simple : List Interface → BlockText → Result Content Flaw
 parsed_simple interfaces block =
     if nat_lt (length block.bytes) 16 then Err BlockLength else simple_on (slice_get interfaces 0) block
 
--- what a block tells, by its type; blocks of other types are passed over
+-- what a block contains, by its type; blocks of other types are passed over
 unfoldable pub parsed_by : List Interface → BlockText → Result Content Flaw
 parsed_by interfaces block =
     if kind_of block == section_header then parsed_section block

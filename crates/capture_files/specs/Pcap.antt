@@ -17,7 +17,7 @@ use Rattle.capture_files.specs.CaptureTexts.{Packet, CaptureText}
 
 -- ---- the header of the file
 
--- the unit of the fractions of a second, as the magic number tells it
+-- the unit of the fractions of a second, as the magic number says
 abbrev pub fraction_of : ℕ → Option Fraction
 fraction_of magic = if magic == 0xa1b2c3d4 then Some Micro else if magic == 0xa1b23c4d then Some Nano else None
 
@@ -92,7 +92,7 @@ record_of form bytes =
     else if nat_lt (length bytes) (16 + captured_of form bytes) then None
     else Some (packet_in form bytes)
 
--- the bytes are whole records of these packets, none of which lies, one after the other, and then the rest
+-- the bytes are whole well-formed records of these packets, one after the other, and then the rest
 abbrev pub AreRecords : Form → List ℕ → List Packet → List ℕ → Type 0
 AreRecords form bytes [] rest = bytes ≡ rest
 AreRecords form bytes (packet ∷ packets) rest =
@@ -115,7 +115,7 @@ pub record IsPcap (file : List ℕ) (parsed : CaptureText) : Type 0 where
   pub last : record_of form (drop offset file) ≡ None
   pub ended : parsed.end ≡ end_at file offset
 
--- after a header and whole records a record lies at this offset
+-- after a header and whole records the record at this offset is malformed
 pub record IsMalformedAt (file : List ℕ) (offset : ℕ) : Type 0 where
   pub form : Form
   pub packets : List Packet
@@ -124,7 +124,7 @@ pub record IsMalformedAt (file : List ℕ) (offset : ℕ) : Type 0 where
   pub records : AreRecords form (drop 24 file) packets (drop offset file)
   pub malformed : is_malformed form (drop offset file) ≡ true
 
--- a whole record that does not lie stands right after the header: no memory is asked for before
+-- a whole well-formed record stands right after the header: no memory is asked for before
 pub record HasRecord (file : List ℕ) : Type 0 where
   pub form : Form
   pub packet : Packet

@@ -26,7 +26,7 @@ abbrev pub state_of : {A : Type 0} → Reading A → State
 state_of reading =
     record { order = reading.order; interfaces = reading.interfaces.items; packets = map packet_of reading.frames.items }
 
--- before the first block, which tells the byte order
+-- before the first block, which shows the byte order
 abbrev pub start : State
 start = record { order = Big; interfaces = []; packets = [] }
 
@@ -76,7 +76,7 @@ pub record IsPcapng (file : List ℕ) (parsed : CaptureText) : Type 0 where
   pub packets : parsed.packets ≡ last.packets
   pub ended : parsed.end ≡ end_at file offset
 
--- after whole blocks a block lies at this offset
+-- after whole blocks the block at this offset is malformed
 pub record IsFlawIn (file : List ℕ) (offset : ℕ) (flaw : Flaw) : Type 0 where
   pub last : State
   pub headed : has_section file ≡ true

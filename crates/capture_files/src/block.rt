@@ -15,7 +15,7 @@ const SHORTEST_BLOCK: usize = 12;
 /// The most bytes of a block, as readers of the format take them.
 const LONGEST_BLOCK: usize = 16_777_216;
 
-/// What lies in a block.
+/// What is malformed in a block.
 #[derive(Clone, Copy, Debug, PartialEq, Eq)]
 pub(crate) enum Flaw {
     /// No byte order in which the byte-order magic is known.

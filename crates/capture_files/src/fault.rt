@@ -6,7 +6,7 @@ ghost use Rattle.capture_files.specs.declared.fault.CaptureFault.TheVariants.{Ou
 use std::alloc::{AllocError, AllocFailed};
 use thiserror::Error;
 
-/// Why a file is refused, and the offset in bytes of what lies, where there is one.
+/// Why a file is rejected, and the offset of what is malformed, in bytes, where there is one.
 #[derive(Clone, Copy, Debug, PartialEq, Eq, Error)]
 pub enum CaptureFault {
     /// The file does not begin as a capture file does.

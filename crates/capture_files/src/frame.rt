@@ -24,7 +24,7 @@ impl LinkType {
 pub struct Frame<'a> {
     /// The link on which it was.
     pub link: LinkType,
-    /// When it was seen, in nanoseconds since 1970; `None` where the file does not tell.
+    /// When it was seen, in nanoseconds since 1970; `None` where the file does not say.
     pub seen: Option<u64>,
     /// The bytes that the file has of it.
     pub bytes: &'a [u8],
@@ -41,7 +41,7 @@ pub enum End {
     Cut(usize),
 }
 
-/// What a capture file tells.
+/// What a capture file contains.
 #[derive(Debug, Drop)]
 pub struct Capture<'a, A: Allocator = Global> {
     /// The frames in the order of the file, which need not be that of time.

@@ -9,6 +9,6 @@ pub(crate) struct Interface {
     pub(crate) link: LinkType,
     /// The most bytes that are captured of a frame; 0 where there is no limit.
     pub(crate) snap: u32,
-    /// How many units of time a second has; `None` where time stamps are not told.
+    /// How many units of time a second has; `None` where time stamps are not read.
     pub(crate) units: Option<u64>,
 }

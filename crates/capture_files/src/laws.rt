@@ -6,8 +6,8 @@ ghost use Rattle.capture_files.specs.CaptureTexts.{CaptureText};
 ghost use Rattle.capture_files.specs.Pcap.{IsPcap, IsMalformedAt};
 ghost use Rattle.capture_files.specs.Pcapng.{IsPcapng, IsFlawIn};
 
-/// A file of the pcap format tells one list of frames and one end, or has one first record that
-/// lies, and never both.
+/// A file of the pcap format contains one list of frames and one end, or has one first malformed
+/// record, and never both.
 ///
 /// The function does nothing: its contract is the law.
 pub fn one_reading_of_pcap()
@@ -18,8 +18,8 @@ pub fn one_reading_of_pcap()
         → m ≡ n }
 {}
 
-/// A file of the pcapng format tells one list of frames and one end, or has one first block that
-/// lies, and never both.
+/// A file of the pcapng format contains one list of frames and one end, or has one first malformed
+/// block, and never both.
 ///
 /// The function does nothing: its contract is the law.
 pub fn one_reading_of_pcapng()

@@ -1,4 +1,4 @@
-//! What options tell of interfaces and time stamps (draft-ietf-opsawg-pcapng, 3.5 and 4.2).
+//! What options say about interfaces and time stamps (draft-ietf-opsawg-pcapng, 3.5 and 4.2).
 
 ghost use Rattle.std.specs.Prelude.{◌≡◌, ◌≤◌, ◌<◌, ◌+◌, ◌*◌, ◌^◌, length, option_map, Some, None, IfSome};
 ghost use Rattle.capture_files.specs.Blocks.{block_text};
@@ -74,7 +74,7 @@ fn units_of(byte: u8) -> Option<u64>
     }
 }
 
-/// The units that the option if_tsresol tells.
+/// The units in the option if_tsresol.
 fn resolution_of(option: Option<&[u8]>) -> Option<u64>
     ensures { result ≡ resolution_of (option_map (λ value. value.now) option.entry) }
 {
@@ -85,7 +85,7 @@ fn resolution_of(option: Option<&[u8]>) -> Option<u64>
     }
 }
 
-/// The units of time stamps, as options tell them.
+/// The units of time stamps, from the options.
 fn units_in(order: Order, options: &[u8]) -> Option<u64>
     ensures { result ≡ units_in order options.now }
 {
@@ -112,7 +112,7 @@ pub(crate) fn moment_of(units: Option<u64>, stamp: u64) -> Option<u64>
     }
 }
 
-/// What an Interface Description Block tells.
+/// What an Interface Description Block contains.
 pub(crate) fn interface_of(block: Block<'_>) -> Interface
     requires { 20 ≤ length block.bytes.now }
     ensures { result ≡ interface_of (block_text block.entry) }

@@ -1,4 +1,4 @@
-//! What the blocks of a section tell (draft-ietf-opsawg-pcapng, 4).
+//! What the blocks of a section contain (draft-ietf-opsawg-pcapng, 4).
 
 ghost use Rattle.std.specs.Prelude.{◌≡◌, ◌≤◌, ◌+◌, length, Ok, Err, Some, None, MatchResult, slice_get};
 ghost use Rattle.capture_files.specs.Blocks.{block_text};
@@ -20,7 +20,7 @@ const SIMPLE_PACKET: u32 = 3;
 /// The type of an Enhanced Packet Block.
 const ENHANCED_PACKET: u32 = 6;
 
-/// What a block tells.
+/// What a block contains.
 #[derive(Clone, Copy, Debug)]
 pub(crate) enum Part<'a> {
     /// A new section begins.
@@ -33,7 +33,7 @@ pub(crate) enum Part<'a> {
     Other,
 }
 
-/// What a Section Header Block tells.
+/// What a Section Header Block contains.
 fn parsed_section(block: Block<'_>) -> Result<Part<'_>, Flaw>
     requires { 12 ≤ length block.bytes.now }
     ensures { MatchResult result
@@ -49,7 +49,7 @@ fn parsed_section(block: Block<'_>) -> Result<Part<'_>, Flaw>
     Ok(Part::Section)
 }
 
-/// What an Interface Description Block tells.
+/// What an Interface Description Block contains.
 fn parsed_interface(block: Block<'_>) -> Result<Part<'_>, Flaw>
     requires { 12 ≤ length block.bytes.now }
     ensures { MatchResult result
@@ -72,7 +72,7 @@ fn stamp_of(block: Block<'_>) -> u64
     upper * 4_294_967_296 + lower
 }
 
-/// What an Enhanced Packet Block tells of a frame on this interface.
+/// What an Enhanced Packet Block contains of a frame on this interface.
 fn enhanced_on(interface: Option<Interface>, block: Block<'_>) -> Result<Part<'_>, Flaw>
     requires { 32 ≤ length block.bytes.now }
     ensures { MatchResult result
@@ -106,7 +106,7 @@ fn interface_at(interfaces: &[Interface], number: u32) -> Option<Interface>
     interfaces.get(number as usize).copied()
 }
 
-/// What an Enhanced Packet Block tells.
+/// What an Enhanced Packet Block contains.
 fn parsed_enhanced<'a>(interfaces: &[Interface], block: Block<'a>) -> Result<Part<'a>, Flaw>
     requires { 12 ≤ length block.bytes.now }
     ensures { MatchResult result
@@ -133,7 +133,7 @@ fn simple_captured(interface: Interface, block: Block<'_>) -> u32
     }
 }
 
-/// What a Simple Packet Block tells of a frame on this interface.
+/// What a Simple Packet Block contains of a frame on this interface.
 fn simple_on(interface: Option<Interface>, block: Block<'_>) -> Result<Part<'_>, Flaw>
     requires { 16 ≤ length block.bytes.now }
     ensures { MatchResult result
@@ -155,7 +155,7 @@ fn simple_on(interface: Option<Interface>, block: Block<'_>) -> Result<Part<'_>,
     }))
 }
 
-/// What a Simple Packet Block tells. Its interface is the first one of its section.
+/// What a Simple Packet Block contains. Its interface is the first one of its section.
 fn parsed_simple<'a>(interfaces: &[Interface], block: Block<'a>) -> Result<Part<'a>, Flaw>
     requires { 12 ≤ length block.bytes.now }
     ensures { MatchResult result
@@ -168,7 +168,7 @@ fn parsed_simple<'a>(interfaces: &[Interface], block: Block<'a>) -> Result<Part<
     simple_on(interfaces.first().copied(), block)
 }
 
-/// What a block tells in a section of these interfaces.
+/// What a block contains in a section of these interfaces.
 #[tactic(auto, unfolding(crate::specs::Parts::parsed_by))]
 pub(crate) fn parsed_by<'a>(interfaces: &[Interface], block: Block<'a>) -> Result<Part<'a>, Flaw>
     requires { 12 ≤ length block.bytes.now }

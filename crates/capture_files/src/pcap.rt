@@ -37,7 +37,7 @@ pub(crate) struct Form {
     link: LinkType,
 }
 
-/// The unit that a magic number tells.
+/// The unit that a magic number stands for.
 fn fraction_of(magic: u32) -> Option<Fraction>
     ensures { result ≡ fraction_of magic }
 {
@@ -48,7 +48,7 @@ fn fraction_of(magic: u32) -> Option<Fraction>
     }
 }
 
-/// The unit that the magic number tells in a byte order, if it is known there.
+/// The unit that the magic number stands for in a byte order, if it is known there.
 fn signature_in(order: Order, file: &[u8]) -> Option<(Order, Fraction)>
     requires { 4 ≤ length file.now }
     ensures { result ≡ signature_in order file.now }
@@ -59,7 +59,7 @@ fn signature_in(order: Order, file: &[u8]) -> Option<(Order, Fraction)>
     }
 }
 
-/// The byte order and the unit that the magic number tells.
+/// The byte order and the unit that the magic number stands for.
 fn signature_of(file: &[u8]) -> Option<(Order, Fraction)>
     requires { 4 ≤ length file.now }
     ensures { result ≡ signature_of file.now }
@@ -119,7 +119,7 @@ fn moment_of(form: Form, bytes: &[u8]) -> u64
     seconds * 1_000_000_000 + fractions * length_of_fraction(form.fraction)
 }
 
-/// Whether the record at the front of the bytes has a captured malformed length.
+/// Whether the record at the front of the bytes has a malformed captured length.
 fn is_malformed(form: Form, bytes: &[u8]) -> bool
     ensures { result ≡ is_malformed form bytes.now }
 {
@@ -150,7 +150,7 @@ fn record_of(form: Form, bytes: &[u8]) -> Option<Frame<'_>>
     })
 }
 
-/// The frame of the record at an offset, where a whole record stands there that does not lie.
+/// The frame of the record at an offset, where a whole well-formed record stands there.
 fn next_frame(form: Form, file: &[u8], offset: usize) -> Result<Option<Frame<'_>>, CaptureFault>
     requires { offset ≤ length file.now }
     ensures packet { IfOk result
@@ -212,7 +212,7 @@ pub(crate) fn end_at(file: &[u8], offset: usize) -> End
 /// file ends within its header, `Version` for another major version than 2, `CapturedLength` with
 /// the offset of the first record that says that more bytes were captured than there were or than
 /// a capture has, and `OutOfMemory`, which comes only where a whole record follows the header and
-/// does not lie.
+/// is well-formed.
 pub fn read_pcap<A: Allocator + Copy>(alloc: A, file: &[u8]) -> Result<Capture<'_, A>, CaptureFault>
     ensures parsed { IfOk result (λ capture. IsPcap file.now (capture_text capture)) }
     ensures fault { IfErr result (λ fault. IsPcapFault file.now fault) }

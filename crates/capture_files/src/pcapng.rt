@@ -26,7 +26,7 @@ pub(crate) fn has_section(file: &[u8]) -> bool
     u32_at(Order::Big, file, 0) == SECTION_HEADER
 }
 
-/// The fault of a block at an offset that lies.
+/// The fault of a malformed block at an offset.
 fn fault_at(flaw: Flaw, offset: usize) -> CaptureFault
     ensures { result ≡ fault_at flaw offset }
 {
@@ -39,7 +39,7 @@ fn fault_at(flaw: Flaw, offset: usize) -> CaptureFault
     }
 }
 
-/// Adds what a block in this byte order tells.
+/// Adds what a block in this byte order contains.
 #[tactic(auto, using(crate::proofs::BlockWalk::one_more_kept))]
 fn add<'a, A: Allocator + Copy>(
     reading: &mut Reading<'a, A>,
@@ -96,7 +96,7 @@ fn read_block<'a, A: Allocator + Copy>(
     Ok(Some(block.bytes.len()))
 }
 
-/// What the whole blocks of the file tell, and the offset at which the last of them ends.
+/// What the whole blocks of the file contain, and the offset at which the last of them ends.
 fn read_blocks<A: Allocator + Copy>(
     alloc: A,
     file: &[u8],
@@ -126,7 +126,7 @@ fn read_blocks<A: Allocator + Copy>(
 ///
 /// `NotACapture` where the file does not begin with a Section Header Block, `ByteOrder`,
 /// `BlockLength`, `SectionVersion`, `CapturedLength` and `NoInterface` with the offset of the first
-/// block that lies, and `OutOfMemory`, which comes only after a block that describes an interface
+/// malformed block, and `OutOfMemory`, which comes only after a block that describes an interface
 /// or has a packet.
 pub fn read_pcapng<A: Allocator + Copy>(
     alloc: A,

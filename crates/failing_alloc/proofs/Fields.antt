@@ -1,5 +1,5 @@
 -- What a walk has of a `&` to a `FailingAlloc`, and of a call of `Allowance::spend`. Assumes `Logic`.
---     Ration                     the row of the field with the count
+--     Allowance                  the row of the field with the count
 --     lent                       the `&self` of both functions, at a signature with two lifetimes
 --     inner_at, allowance_at         where the two fields of the value at a place are
 --     fields                     of `&self` there is a `&` to each field

@@ -13,7 +13,7 @@ pub(crate) struct Allowance {
 }
 
 impl Allowance {
-    /// A ration of which nothing is spent.
+    /// An allowance of which nothing is spent.
     pub(crate) fn new(limit: u64) -> Allowance
         ensures limit { result.limit ≡ limit }
     {

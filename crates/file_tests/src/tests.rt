@@ -1,4 +1,5 @@
-//! What captures, walks and printed databases tell, and what the files of a network make together.
+//! What captures, walks and printed databases contain, and what the files of a network make
+//! together.
 
 // Files: real ones, cut and damaged ones, and some made by hand, byte by byte.
 mod captures;

@@ -51,7 +51,7 @@ base_takes at db after fits e =
     let all = Takes-then at m a.0 (v ++ sections_text db) after t0 beyond in
     record { takes = subst (λ (t : List ℕ). Takes at t after) (sym (base-split db)) all; heads = t2.heads; sections = t2.sections }
 
--- as many bytes stand before what follows as the dump of the base has
+-- the number of bytes before what follows is that of the dump of the base
 pub base_ends : (bytes : List ℕ) (db : Lists) (after : At) → IsBytes bytes → base_at (beginning bytes) ≡ Ok (db, after) → after.offset ≡ size db
 base_ends bytes db after fits e = omega (arith, (base_takes (beginning bytes) db after fits e).takes.moved, base_size db)
 

@@ -82,7 +82,7 @@ unfolding IsDistinct
 distinct_cons same None xs h all = all
 distinct_cons same (Some x) xs h all = (h x refl, all)
 
--- a name tells the index of its slot
+-- a name contains the index of its slot
 abbrev pub ReportsIndex : {X : Type 0} → (ℕ → Slot → Option X) → (X → ℕ) → Type 0
 ReportsIndex {X} named index = (i : ℕ) (p : Slot) (x : X) → named i p ≡ Some x → index x ≡ i
 

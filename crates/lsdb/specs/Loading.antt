@@ -13,7 +13,7 @@ use Rattle.lsdb.specs.Lists.{AreaHead, SectionLsas, Lists, is_in_scope, limit_of
 use Rattle.lsdb.specs.Limits.{most_areas, longest_dump}
 use Rattle.lsdb.specs.Text.{magic, version}
 
--- a place in the dump: how many bytes stand before it, and those that follow
+-- a position in the dump: how many bytes stand before it, and those that follow
 pub record At : Type 0 where
   pub offset : ℕ
   pub rest : List ℕ
@@ -29,7 +29,7 @@ fault at kind = Err (record { offset = at.offset; kind = kind })
 abbrev pub advanced : ℕ → At → At
 advanced n at = record { offset = at.offset + n; rest = drop n at.rest }
 
--- a number of the container, and the place after it
+-- a number of the container, and the position after it
 abbrev pub number_at : Width → At → Result (ℕ × At) DumpFault
 number_at w at =
     if nat_lt (length at.rest) (byte_len w) then fault at Truncated else
@@ -37,7 +37,7 @@ number_at w at =
 
 -- ---- the LSAs of a section
 
--- an LSA that was decoded, and the place after it
+-- an LSA that was decoded, and the position after it
 abbrev pub placed : Option AreaHead → At → Result (List ℕ) LsaFault → Result (List ℕ × At) DumpFault
 placed area at (Err f) = fault at (Lsa f)
 placed area at (Ok lsa) = if is_in_scope area (key_of lsa) then Ok (lsa, advanced (length lsa) at) else fault at WrongSection

@@ -97,8 +97,8 @@ impl<A: Allocator + Copy> Database<A> {
     ///
     /// Of several faults the first from front to back is reported. `TooLarge` comes before all
     /// others where the bytes are too many, and after them where the base alone has more bytes than
-    /// a dump may have; `OutOfMemory` may stand in place of any that lies after the front, which is
-    /// that of [`load`](Database::load).
+    /// a dump may have; `OutOfMemory` may stand in place of any that comes after the front, which
+    /// is that of [`load`](Database::load).
     #[tactic(auto, using(crate::proofs::FirstFault::first_reported))]
     pub fn load_base(alloc: A, bytes: &[u8]) -> Result<(Database<A>, usize), DumpFault>
         // What is loaded is spelled so.

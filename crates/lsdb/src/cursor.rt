@@ -1,4 +1,4 @@
-//! A place in a dump.
+//! A position in a dump.
 
 ghost use Rattle.std.specs.Prelude.{◌+◌, ◌<◌, ◌^◌, length};
 

@@ -216,7 +216,7 @@ impl<A: Allocator + Copy> KeyedSlots<A> {
         })
     }
 
-    /// Opens an empty slot behind the others. The error is want of memory; the slots are then
+    /// Opens an empty slot after the others. The error is want of memory; the slots are then
     /// as before.
     pub(crate) fn push_empty(&mut self) -> Result<(), AllocError>
         ensures ok { OnOk result (self.new ≡ self.old ++ None ∷ []) }
@@ -328,7 +328,7 @@ fn note<A: Allocator + Copy>(keys: &mut Vec<KeyAt, A>, key: Key, index: usize) -
     true
 }
 
-/// Notes all keys anew. It takes no memory.
+/// Notes all keys again. It takes no memory.
 fn fill<A: Allocator + Copy>(keys: &mut Vec<KeyAt, A>, slots: &[Option<Lsa<A>>])
     requires apart { AreApart slots.now }
     requires fits { length slots.now ≤ vec_capacity keys.old }

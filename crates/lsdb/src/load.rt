@@ -61,7 +61,7 @@ fn read_lsa<'a, A: Allocator + Copy>(
     }
 }
 
-/// So many LSAs, each at a slot of its own. The set of keys saves a search for each LSA.
+/// This number of LSAs, each at a slot of its own. The set of keys saves a search for each LSA.
 fn read_lsas<'a, A: Allocator + Copy>(
     alloc: A,
     area: Option<Head>,
@@ -276,7 +276,7 @@ impl<A: Allocator + Copy> Database<A> {
     /// The database whose dump the bytes are.
     ///
     /// Of several faults the first from front to back is reported; `TooLarge` comes before all
-    /// others, and `OutOfMemory` may stand in place of any that lies after the front: the magic,
+    /// others, and `OutOfMemory` may stand in place of any that comes after the front: the magic,
     /// the version, the number of areas, and of the first section its head, its count and its first
     /// LSA.
     #[tactic(auto, using(crate::proofs::FirstFault::first_reported))]

@@ -15,8 +15,8 @@ pub struct Merged<'a, T: Ord + Copy> {
     latest: &'a [T],
 }
 
-/// For how many of the latest notes of this number of slots there is room at first. An insertion
-/// among them moves few, and seldom are all noted again.
+/// For this number of slots, the number of the latest notes for which there is room at first. An
+/// insertion among them moves few, and seldom are all noted again.
 pub(crate) fn latest_count(slots: usize) -> usize {
     slots / 32 + 16
 }

@@ -205,7 +205,7 @@ fn note<A: Allocator + Copy>(noted: &mut Vec<SlotOfPrefix, A>, slot: &SlotOfPref
     true
 }
 
-/// Notes the slots of all LSAs with a prefix anew. It takes no memory.
+/// Notes the slots of all LSAs with a prefix again. It takes no memory.
 fn fill<A: Allocator + Copy>(noted: &mut Vec<SlotOfPrefix, A>, slots: &[Option<Lsa<A>>])
     requires fits { length slots.now ≤ vec_capacity noted.old }
     requires narrow { length slots.now ≤ most_slots }

@@ -162,7 +162,7 @@ fn note<A: Allocator + Copy>(noted: &mut Vec<SlotOfRouter, A>, slot: SlotOfRoute
     true
 }
 
-/// Notes the slots of all LSAs anew. It takes no memory.
+/// Notes the slots of all LSAs again. It takes no memory.
 fn fill<A: Allocator + Copy>(noted: &mut Vec<SlotOfRouter, A>, slots: &[Option<Lsa<A>>])
     requires fits { length slots.now ≤ vec_capacity noted.old }
     requires narrow { length slots.now ≤ most_slots }

@@ -124,7 +124,7 @@ pub(crate) fn filters_of<A: Allocator + Copy>(
     Ok(filters)
 }
 
-/// Makes the filter of one slot anew, at which something else stands now. It takes no memory.
+/// Rebuilds the filter of one slot, at which something else stands now. It takes no memory.
 pub(crate) fn put_filter<A: Allocator + Copy>(
     filters: &mut Vec<TransitFilter, A>,
     slots: &[Option<Lsa<A>>],

@@ -49,8 +49,8 @@ fn words(rt: &HostRuntime) -> io::Result<Vec<String>> {
 const BLOCK: usize = 31 << 20;
 
 /// Takes a block of memory and gives it back. By its size the C library's allocator then goes: it
-/// gives less memory than twice as much back to the kernel, which would clear it anew for the lists
-/// of each table.
+/// gives less memory than twice as much back to the kernel, which would clear it again for the
+/// lists of each table.
 fn keep_heap(alloc: Global) {
     // Where there is no block, the program is slower and does the same.
     let mut block: Vec<u8> = Vec::new(alloc);

@@ -31,7 +31,7 @@ module _ (d e : Slots) (h k : HistoryData) (copy : Option Slots) (before after :
   abbrev WasStudied : Type 0
   WasStudied = IsStudied d h copy before
 
-  -- it led to a session of the same base, with as many edits
+  -- it led to a session of the same base, with the same number of edits
   led : (s : Session) → session_of e k ≡ s → s.base ≡ (session_of d h).base → edit_count s ≡ edit_count (session_of d h)
       → IsListOf (state s) after → WasStudied → IsStudied e k copy after
   led s is base edits listed studied = record {

@@ -34,7 +34,7 @@ pub(crate) fn drop_over_edit<A: Allocator + Copy>(
     }
 }
 
-/// Drops the list where one of the last `count` done edits changed an LSA of AS scope, if so many
+/// Drops the list where one of the last `count` done edits changed an LSA of AS scope, if that many
 /// are done. It takes no memory.
 pub(crate) fn drop_over_undo<A: Allocator + Copy>(
     externals: &mut Option<ExternalLsas<A>>,

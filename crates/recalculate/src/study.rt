@@ -403,7 +403,7 @@ impl<A: Allocator + Copy> Study<A> {
         dump
     }
 
-    /// Takes all done edits back, and tells how many they were.
+    /// Takes all done edits back, and returns their number.
     fn undo_all(&mut self) -> usize
         ensures count { result ≡ length self.old.done }
         ensures session { self.new ≡ moved_back (length self.old.done) self.old }

@@ -35,7 +35,7 @@ module _ {K V : Type 0} (cmp : K → K → Ordering) (exact : CmpEqualImpliesEq 
       by true e h = absurd (apart (sym (same_key q e)))
       by false e h = h
 
-  -- what a look-up tells stays, where the new entry tells the same as the one that was there
+  -- the result of a look-up stays, where the new entry has the same as the one that was there
   pub put_reports : {X : Type 0} (report : Option V → X) → report (Some v) ≡ report (lookup (eq_by_cmp cmp k) old)
       → (q : K) → report (lookup (eq_by_cmp cmp q) new) ≡ report (lookup (eq_by_cmp cmp q) old)
   put_reports report same q = by (eq_by_cmp cmp k q) refl (puts q)

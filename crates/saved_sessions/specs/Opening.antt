@@ -13,9 +13,9 @@ use Rattle.edit_history.specs.declared.fault.EditFault.{EditFault}
 use Rattle.edit_history.specs.Session.{Session, start, edited, moved_back, most_edits}
 use Rattle.session_text.specs.Lines.{line_feed, edit_line}
 
--- ---- places
+-- ---- positions
 
--- the place behind this number of bytes
+-- the position after this number of bytes
 abbrev pub position_after : ℕ → List ℕ → At
 position_after byte_count bytes = record { offset = byte_count; rest = drop byte_count bytes }
 
@@ -32,7 +32,7 @@ abbrev pub edit_found : ℕ → At → Option (Edit × ℕ) → Result (Edit × 
 edit_found line at None = fault at (line_fault line at.rest)
 edit_found line at (Some found) = Ok (found.0, advanced found.1 at)
 
--- the edit of the line at a place, and the place behind the line
+-- the edit of the line at a position, and the position after the line
 abbrev pub edit_at : ℕ → At → Result (Edit × At) DumpFault
 edit_at line at = edit_found line at (edit_line at.rest)
 
@@ -41,7 +41,7 @@ abbrev pub edit_done : ℕ → At → Result Session EditFault → Result Sessio
 edit_done line at (Ok s) = Ok s
 edit_done line at (Err refusal) = fault at (BadHistory line)
 
--- the session with the edit of one line carried out, and the place behind the line
+-- the session with the edit of one line carried out, and the position after the line
 unfoldable pub line_at : ℕ → Session → At → Result (Session × At) DumpFault
 line_at line s at = do
   found ← edit_at line at
@@ -57,7 +57,7 @@ lines_from (suc n) line s at = do
   next ← line_at line s at
   lines_from n (line + 1) next.0 next.1
 
--- how many edits are done, how many are undone, and the place behind these numbers
+-- how many edits are done, how many are undone, and the position after these numbers
 unfoldable pub counts_at : At → Result (ℕ × ℕ × At) DumpFault
 counts_at at = do
   done ← number_at w16 at
@@ -86,7 +86,7 @@ dump_loaded bytes = do
   db ← loaded bytes
   Ok (start db)
 
--- the session that bytes of either version tell
+-- the session in bytes of either version
 unfoldable pub opened : List ℕ → Result Session DumpFault
 opened bytes = if begins_session bytes then session_loaded bytes else dump_loaded bytes
 

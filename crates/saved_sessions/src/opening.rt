@@ -73,21 +73,21 @@ fn read_dump<A: Allocator + Copy>(alloc: A, bytes: &[u8]) -> Result<Planner<A>, 
 ///
 /// The first fault from front to back. `TooLarge` comes before all others for more than 17,825,792
 /// bytes, or 16,777,216 where they do not begin as a session does, and after the base where this
-/// alone has more bytes than a dump may have. `BadHistory` tells the line, counted from 0, that is
+/// alone has more bytes than a dump may have. `BadHistory` gives the line, counted from 0, that is
 /// not just as an edit is printed or whose edit is refused; it is 10,000, at the numbers, where
 /// there are more edits than may be done. `OutOfMemory` may stand in place of any that lies after
 /// the front: the magic, the version, the number of areas, and of the first section its head, its
 /// count and its first LSA.
 #[tactic(auto, unfolding(crate::specs::Opening::opened, crate::specs::Opening::front_opened))]
 pub fn open<A: Allocator + Copy>(alloc: A, bytes: &[u8]) -> Result<Planner<A>, DumpFault>
-    // What is opened is reported so.
+    // The bytes are the text of what is opened.
     ensures session { begins_session bytes.now ≡ true
         → IfOk result (λ planner. bytes.now ≡ saved_text planner.session) }
     ensures dump { begins_session bytes.now ≡ false
         → IfOk result (λ planner. (bytes.now ≡ text planner.session.base)
         × (planner.session ≡ start planner.session.base)) }
 
-    // What is reported so is opened, unless memory runs out; else the first fault is reported.
+    // Each such text is opened, unless memory runs out; else the first fault is reported.
     ensures found { IfOk result (λ planner. opened bytes.now ≡ Ok planner.session) }
     ensures fault { IfErr result (λ fault. IsFirstFault fault (opened bytes.now)) }
 

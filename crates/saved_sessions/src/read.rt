@@ -13,7 +13,7 @@ use lsdb::DumpFaultKind;
 /// The edits that may be done at a time.
 const MOST_EDITS: u16 = 10_000;
 
-/// The number of two bytes after so many.
+/// The number of two bytes after this number of bytes.
 fn read_number(bytes: &[u8], offset: usize) -> Result<u16, ReadError>
     requires { offset ≤ length bytes.now }
     ensures number { Gives (λ number. (number, position_after (offset + 2) bytes.now))

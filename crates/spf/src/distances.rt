@@ -30,7 +30,7 @@ impl<A: Allocator> Model for DistanceTable<A> {
 }
 
 impl<A: Allocator + Copy> DistanceTable<A> {
-    /// So many vertices, none of them reached.
+    /// This number of vertices, none of them reached.
     pub(crate) fn new(alloc: A, count: usize) -> Result<DistanceTable<A>, AllocError>
         ensures { IfOk result (λ table. table ≡ replicate count unreached) }
     {

@@ -11,7 +11,7 @@ use Rattle.std.proofs.lemmas.Slice.Eq.{bytes_eq-Decides}
 use borrow.Rule.Slice.PartMut.{mid_of, put_mid}
 use mir.Val.{bool_byte}
 
--- a number as text, after as many dots as make it four characters
+-- a number as text, after the dots that make it four characters
 abbrev pub dotted : ℕ → List ℕ
 dotted n = replicate (4 - length (decimal n)) 46 ++ decimal n
 

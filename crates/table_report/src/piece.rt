@@ -2,7 +2,7 @@
 //!
 //! A piece is written into a buffer on the stack, from its end to its start, and then added to a
 //! text at once. A function that writes puts its piece before what stands in the buffer from `end`
-//! on, and tells where the piece starts.
+//! on, and returns where the piece starts.
 
 ghost use Rattle.std.specs.Prelude.{◌≡◌, ◌+◌, ◌-◌, ◌<◌, ◌≤◌, ◌∷◌, ◌++◌, [], IsAscii, OnOk, codes, decimal, drop, length, replicate};
 ghost use Rattle.std.specs.String.{string_bytes};
@@ -40,7 +40,7 @@ pub(crate) fn write_character(character: u8, buffer: &mut [u8; ROOM], end: usize
     end - 1
 }
 
-/// Each byte as a number, after as many dots as make it four characters.
+/// Each byte as a number, after the dots that make it four characters.
 static BYTES: [u8; 1024] = *b"\
     ...0...1...2...3...4...5...6...7...8...9\
     ..10..11..12..13..14..15..16..17..18..19\
@@ -69,7 +69,7 @@ static BYTES: [u8; 1024] = *b"\
     .240.241.242.243.244.245.246.247.248.249\
     .250.251.252.253.254.255";
 
-/// The text of a byte as a number, after as many dots as make it four characters.
+/// The text of a byte as a number, after the dots that make it four characters.
 fn dotted(byte: u8) -> &'static [u8]
     ensures { result.now ≡ replicate (4 - length (decimal byte)) 46 ++ decimal byte }
 {

@@ -47,7 +47,7 @@ pub if_too_long : (known : Option (List ℕ)) → IfSome known IsTooLong → IfS
 if_too_long None long = tt
 if_too_long (Some bytes) long = too_long bytes long
 
--- ---- the front tells how many there may be
+-- ---- the front decides how many there may be
 
 begins_longer : (front rest : List ℕ) → 5 ≤ length front → begins_session (front ++ rest) ≡ begins_session front
 begins_longer [] rest long = absurd (omega (arith, long))

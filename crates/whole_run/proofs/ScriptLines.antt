@@ -140,7 +140,7 @@ few_answers s [] = search rules
 few_answers s (line ∷ lines) =
     omega (arith, length-append (answered s line) (answers (next s line) lines), one_answer s (meaning line), few_answers (next s line) lines)
 
--- there are at most as many lines as bytes, and one
+-- the number of lines is at most that of bytes, and one
 few_lines : (script : List ℕ) → length (lines_of script) ≤ length script + 1
 few_lines script = omega (
   arith,

@@ -1,4 +1,4 @@
--- Steps towards what the blocks of a section tell.
+-- Steps towards what the blocks of a section contain.
 use Rattle.std.specs.Prelude.{◌≡◌, ◌⊎◌, ◌≤◌, ◌+◌, ℕ, List, length, Option, Some, None, Result, Ok, Err}
 use Rattle.capture_files.specs.declared.block.Flaw.{Flaw}
 use Rattle.capture_files.specs.declared.fault.CaptureFault.{CaptureFault}
@@ -9,14 +9,14 @@ use Rattle.capture_files.specs.CaptureTexts.{packet_of}
 use Rattle.capture_files.specs.Parts.{Content, section, interface, packet, other}
 use Rattle.capture_files.specs.Pcapng.{State, HasKept, fault_at}
 
--- what a block that is read tells
+-- what a block that is read contains
 abbrev pub content_of : Part → Content
 content_of parts.Section = section
 content_of (parts.Described i) = interface i
 content_of (parts.Captured frame) = packet (packet_of frame)
 content_of parts.Other = other
 
--- memory ran out, or a block at this offset has a lie
+-- memory ran out, or the block at this offset is malformed
 abbrev pub IsStop : ℕ → Result (Option (State × ℕ)) Flaw → CaptureFault → Type 0
 IsStop offset found fault =
     (fault ≡ faults.OutOfMemory) ⊎ ((flaw : Flaw) × ((fault ≡ fault_at flaw offset) × (found ≡ Err flaw)))

@@ -126,7 +126,7 @@ fn growths_of_opening(alloc: Global, dump: &[u8]) -> Result<u64, Fail> {
             return Ok(growths);
         }
     }
-    Err("a place")?
+    Err("a slot")?
 }
 
 /// A list of LSAs that was loaded has room for a power of two, and each of its three indexes and

@@ -1,4 +1,4 @@
-//! Records: they tell their edit, and go back and on without memory.
+//! Records: they report their edit, and go back and on without memory.
 
 ghost use Rattle.lsdb.specs.Lists.{IsDatabase};
 ghost use Rattle.lsdb.specs.Slots.{lists_of};

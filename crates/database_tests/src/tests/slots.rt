@@ -174,7 +174,7 @@ fn seen_without(database: &mut Database, slot: SlotId) -> (usize, usize, bool)
 #[test]
 fn removes_and_puts_back(rt: HostRuntime) -> Result<(), Fail> {
     let mut database = loaded(rt.alloc())?;
-    let slot = database.find(BACKBONE, SECOND_ROUTER).ok_or("a place")?;
+    let slot = database.find(BACKBONE, SECOND_ROUTER).ok_or("a slot")?;
     assert_eq!(rt; seen_without(&mut database, slot), (122, 1, true));
     assert_eq!(rt; database.size(), 170);
     assert!(rt; is_dumped(&database)?);

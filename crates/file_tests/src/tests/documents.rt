@@ -1,4 +1,4 @@
-//! Tests of what documents tell.
+//! Tests of what documents contain.
 
 mod growths;
 mod parsed;

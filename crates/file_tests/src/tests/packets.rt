@@ -1,4 +1,4 @@
-//! Real frames, what they tell, and what is odd of others.
+//! Real frames, what they contain, and the warnings about others.
 
 mod fragments;
 pub(super) mod frames;

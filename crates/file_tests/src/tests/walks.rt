@@ -1,4 +1,4 @@
-//! What pieces of walks tell. The walks are of FRR routers, and each value that is expected was
+//! What pieces of walks contain. The walks are of FRR routers, and each value that is expected was
 //! worked out by hand from the columns of RFC 4750.
 
 mod findings;

@@ -1,4 +1,4 @@
--- What a function that reads a part of a dump tells of it.
+-- What a function that reads a part of a dump returns.
 use Rattle.std.specs.Prelude.{◌≡◌, Result, Ok, Err, IsOk}
 use Rattle.lsdb.specs.declared.cursor.Cursor.{Cursor}
 use Rattle.lsdb.specs.declared.fault.DumpFault.{DumpFault}
@@ -6,7 +6,7 @@ use Rattle.lsdb.specs.declared.fault.ReadError.{ReadError}
 use Rattle.lsdb.specs.declared.fault.ReadError.TheVariants as errors
 use Rattle.lsdb.specs.Loading.{At, no_memory}
 
--- a place in a dump, without where its bytes lie in memory
+-- a position in a dump, without the location of its bytes in memory
 abbrev pub at_of : Cursor → At
 at_of at = record { offset = at.offset; rest = at.rest.now }
 

@@ -1,4 +1,4 @@
-//! Calls that take no memory and answer nothing that could tell of want of it.
+//! Calls that take no memory and answer nothing that could report want of it.
 
 use super::route_calls::{Lent, lend};
 use external_routes::{covered, due, preferred};
@@ -49,7 +49,7 @@ fn reported_with(alloc: Global, growths: u64) -> Result<String, Fail> {
 fn preferred_entries_and_metrics_take_no_memory(rt: HostRuntime) -> Result<(), Fail> {
     let ample = reported_with(rt.alloc(), 1_000)?;
     let refused = reported_with(rt.alloc(), 0)?;
-    // 10.2.0.0/16 is reported of by 1.1.1.1: over the link of cost 10, and at 1 after 2.2.2.2.
+    // 10.2.0.0/16 is announced by 1.1.1.1: over the link of cost 10, and at 1 after 2.2.2.2.
     assert!(rt; ample.ends_with(" true 11"), "{ample}");
     assert_eq!(rt; refused, ample);
     Ok(())

@@ -69,7 +69,7 @@ fn growths_of_table(
     Ok(before.saturating_sub(failing.remaining()))
 }
 
-/// The growths of a table of 1.1.1.1 that is shared with the planner.
+/// The growths of a table of 1.1.1.1 that the planner caches.
 fn growths_of_cached(
     planner: &mut Planner<&FailingAlloc>,
     failing: &FailingAlloc,
@@ -182,11 +182,11 @@ fn a_table_after_a_cost_asks_for_no_graph(rt: HostRuntime) -> Result<(), Fail> {
     let ([cost, undo, drop], runs) = ask(rt.alloc(), &star, &TablesAfterEdits)?;
     assert!(rt;
         cost < drop,
-        "{cost} behind a cost, {drop} behind a dropped link"
+        "{cost} after a cost, {drop} after a dropped link"
     );
     assert!(rt;
         undo < drop,
-        "{undo} behind an undo, {drop} behind a dropped link"
+        "{undo} after an undo, {drop} after a dropped link"
     );
     assert_eq!(rt; runs, 4);
     Ok(())

@@ -57,7 +57,7 @@ impl<'t, 'r> Question for SameTable<'t, 'r> {
     }
 }
 
-/// Asks for a table, and tells whether it is refused. A table that is not that of a fresh planner
+/// Asks for a table, and returns whether it is refused. A table that is not that of a fresh planner
 /// of the dumped database is a failure.
 fn is_table_refused(
     planner: &mut Planner<&FailingAlloc>,
@@ -75,7 +75,7 @@ fn is_table_refused(
     }
 }
 
-/// Carries a line of a script out, and tells whether it is refused. `tables` asks for the routers
+/// Carries a line of a script out, and returns whether it is refused. `tables` asks for the routers
 /// alone, and `compare` for a table of the database of the beginning.
 pub(super) fn is_refused(
     planner: &mut Planner<&FailingAlloc>,

@@ -1,4 +1,4 @@
--- What a function that reads a part of a saved session tells of it.
+-- What a function that reads a part of a saved session returns.
 use Rattle.std.specs.Prelude.{◌≡◌, Result, Ok, Err}
 use Rattle.lsdb.specs.declared.fault.DumpFault.{DumpFault}
 use Rattle.lsdb.specs.Loading.{no_memory}

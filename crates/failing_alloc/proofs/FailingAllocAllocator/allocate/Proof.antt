@@ -82,7 +82,7 @@ allocate_spec 𝓤 𝓛 𝓜 𝓡 wired Y laws g d drops bound _ =
     move ! (1 ∷ []) $ split ! $ heard ! _ (λ lives. heard ! _ (λ layout. split ! $ split ! $ move ! (2 ∷ []) $ split ! $
     use1 𝓛 (‵ (seen Z κ₁ at_inner h) ⊛ ‵ (hidden_shr Allowance κ₁ r.now.allowance at_allowance.0 at_allowance.1))
     (fields Z 𝓛 κ₁ κ₂ r) $ split ! $ keep ! (3 ∷ 1 ∷ 0 ∷ 4 ∷ []) $
-    -- [the token of κ₁; the `&` to the ration; the `&` to the inner allocator; the token of κ₂; the locals]
+    -- [the token of κ₁; the `&` to the allowance; the `&` to the inner allocator; the token of κ₂; the locals]
     enter ! _ _ _ _ _ $ alloc_all ! (λ l. pass_all ! refl ((tt, tt), ((tt, record { fits = n_fits }), ((tt, record { fits = m_fits }), tt))) $
     sets ! (addr ! (through ! refl (fld ! refl (stop !)))) refl (tt, tt) $
     let S = Spend 𝓛 𝓜.mem 𝓡.returns in let z = spends 𝓛 𝓜.mem 𝓡.returns κ₁ q₁ at_allowance r.now.allowance in

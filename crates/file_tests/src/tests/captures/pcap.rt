@@ -1,4 +1,4 @@
-//! Files of the pcap format: both byte orders, both units, cuts and malformed length.
+//! Files of the pcap format: both byte orders, both units, cuts and malformed lengths.
 
 use capture_files::{CaptureFault, End, LinkType, read_pcap};
 use std::alloc::Global;
@@ -17,7 +17,7 @@ const BIG: &[u8] =
     b"\xa1\xb2\xc3\xd4\x00\x02\x00\x04\0\0\0\0\0\0\0\0\x00\x04\x00\x00\x00\x00\x00\x71\
     \x00\x00\x00\x01\x00\x00\x00\x02\x00\x00\x00\x01\x00\x00\x00\x01x";
 
-/// What a frame tells: its link, its moment, its bytes, and how many it had on the link.
+/// What a frame contains: its link, its moment, its bytes, and how many it had on the link.
 type Parsed<'a> = (LinkType, Option<u64>, &'a [u8], u32);
 
 /// The frames of `LITTLE`.
@@ -46,7 +46,7 @@ fn read(alloc: Global, file: &[u8]) -> Result<(usize, End), CaptureFault> {
     Ok((capture.frames.len(), capture.end))
 }
 
-/// Whether a file ends whole, with frames that tell this.
+/// Whether a file ends whole, with frames that contain this.
 fn has_frames(alloc: Global, file: &[u8], frames: &[Parsed<'_>]) -> Result<bool, CaptureFault> {
     let capture = read_pcap(alloc, file)?;
     for (frame, parsed) in capture.frames.iter().zip(frames.iter()) {
@@ -114,7 +114,7 @@ const REFUSED: &[(&[u8], CaptureFault)] = &[
     (OTHER_VERSION, CaptureFault::Version),
 ];
 
-/// Files whose captured lengths lie, and what they are refused for.
+/// Files with malformed captured lengths, and what they are rejected for.
 const LENGTHS_THAT_LIE: &[(&[u8], CaptureFault)] = &[
     (LONGER, CaptureFault::CapturedLength(24)),
     (HUGE, CaptureFault::CapturedLength(24)),

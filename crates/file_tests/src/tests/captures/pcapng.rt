@@ -1,4 +1,4 @@
-//! Files of the pcapng format: sections, interfaces, units of time, cuts and malformed length.
+//! Files of the pcapng format: sections, interfaces, units of time, cuts and malformed lengths.
 
 use capture_files::{CaptureFault, End, LinkType, read_capture};
 use std::alloc::Global;
@@ -24,7 +24,7 @@ const BIG: &[u8] = b"\x0a\x0d\x0d\x0a\0\0\0\x1c\x1a\x2b\x3c\x4d\0\x01\0\0\
     \0\0\0\x01\0\0\0\x14\0\x65\0\0\0\0\0\x02\0\0\0\x14\
     \0\0\0\x03\0\0\0\x14\0\0\0\x07xy\0\0\0\0\0\x14";
 
-/// What a frame tells: its link, its moment, its bytes, and how many it had on the link.
+/// What a frame contains: its link, its moment, its bytes, and how many it had on the link.
 type Parsed<'a> = (LinkType, Option<u64>, &'a [u8], u32);
 
 /// The frames of `LITTLE`.
@@ -43,7 +43,7 @@ fn read(alloc: Global, file: &[u8]) -> Result<(usize, End), CaptureFault> {
     Ok((capture.frames.len(), capture.end))
 }
 
-/// Whether a file ends whole, with frames that tell this.
+/// Whether a file ends whole, with frames that contain this.
 fn has_frames(alloc: Global, file: &[u8], frames: &[Parsed<'_>]) -> Result<bool, CaptureFault> {
     let capture = read_capture(alloc, file)?;
     for (frame, parsed) in capture.frames.iter().zip(frames.iter()) {
@@ -96,7 +96,7 @@ const TWOFOLD: &[u8] = b"\x0a\x0d\x0d\x0a\0\0\0\x1c\x1a\x2b\x3c\x4d\0\x01\0\0\
 const WITHOUT: &[u8] = b"\x0a\x0d\x0d\x0a\0\0\0\x1c\x1a\x2b\x3c\x4d\0\x01\0\0\
     \xff\xff\xff\xff\xff\xff\xff\xff\0\0\0\x1c\0\0\0\x03\0\0\0\x10\0\0\0\0\0\0\0\x10";
 
-/// Blocks that lie, and what the file is refused for.
+/// Malformed blocks, and what the file is rejected for.
 const REFUSED: &[(&[u8], CaptureFault)] = &[
     (STRANGER, CaptureFault::ByteOrder(0)),
     (SHORT, CaptureFault::BlockLength(0)),

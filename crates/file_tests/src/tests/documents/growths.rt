@@ -6,7 +6,7 @@ use frr_json::{JsonFault, read_printed_json};
 use std::alloc::Global;
 use std::test::*;
 
-/// With ample memory the document tells its LSA, and nothing else.
+/// With ample memory the document contains its LSA, and nothing else.
 fn is_parsed(failing: &FailingAlloc<Global>) -> bool {
     failing.set_remaining(u64::MAX);
     let Ok(printed) = read_printed_json(failing, LINKS) else {
@@ -31,13 +31,13 @@ fn each_growth_of_a_document_refused(rt: HostRuntime) -> Result<(), Fail> {
     let needed = u64::MAX - failing.remaining();
     assert!(rt;
         needed > 4,
-        "the value, what it tells, the LSA, and its octets"
+        "the value, what it contains, the LSA, and its bytes"
     );
     for granted in 0..needed {
         assert_eq!(rt; fault(&failing, granted), Some(JsonFault::OutOfMemory));
         assert!(rt;
             is_parsed(&failing),
-            "behind a refusal with {granted} growths"
+            "after a refusal with {granted} growths"
         );
     }
     Ok(())

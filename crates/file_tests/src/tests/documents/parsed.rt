@@ -1,4 +1,4 @@
-//! LSAs, and why a document tells none.
+//! LSAs, and why a document contains none.
 
 use super::pieces::{
     ASBR, ASBR_BYTES, LINKS, LINKS_BYTES, NETWORK, NETWORK_BYTES, NO_AREA, OTHER_METRIC, ROUTER,
@@ -12,7 +12,7 @@ use lsa_instances::Scope;
 use std::alloc::Global;
 use std::test::*;
 
-/// The document tells one LSA alone, of this scope and with these bytes.
+/// The document contains one LSA alone, of this scope and with these bytes.
 fn contains_only(alloc: Global, text: &[u8], scope: Scope, bytes: &[u8]) -> Result<bool, Fail> {
     let Ok(printed) = read_printed_json(alloc, text) else {
         return Ok(false);
@@ -23,7 +23,7 @@ fn contains_only(alloc: Global, text: &[u8], scope: Scope, bytes: &[u8]) -> Resu
     })
 }
 
-/// The document tells these holes and no LSA.
+/// The document gives these findings and no LSA.
 fn lacks(alloc: Global, text: &[u8], findings: &[TextFinding]) -> bool {
     match read_printed_json(alloc, text) {
         Ok(printed) => printed.observations.is_empty() && printed.findings.as_slice() == findings,

@@ -1,4 +1,4 @@
-//! Files that tell nothing.
+//! Files that are rejected.
 
 use super::pieces::CAPTURE;
 use capture_files::CaptureFault;

@@ -1,4 +1,4 @@
-//! What lists tell, and which texts are none.
+//! What lists contain, and which texts are none.
 
 use super::pieces::{OF_LINKS, SECTIONS, STUB_AREA, TABLES, WHOLE_LSA};
 use lsa_codec::{Addr, AreaId, Key, RouterId};
@@ -29,7 +29,7 @@ fn header(
     }
 }
 
-/// The text tells two headers alone, these.
+/// The text contains these two headers alone.
 fn contains(alloc: Global, text: &[u8], first: Header, second: Header) -> Result<bool, Fail> {
     let list = read_list(alloc, text)?;
     Ok(
@@ -41,7 +41,7 @@ fn contains(alloc: Global, text: &[u8], first: Header, second: Header) -> Result
     )
 }
 
-/// The text tells one hole alone, this.
+/// The text gives this finding alone.
 fn lacks(alloc: Global, text: &[u8], finding: ListFinding) -> Result<bool, Fail> {
     let list = read_list(alloc, text)?;
     Ok(list.headers.is_empty() && list.findings.as_slice() == [finding].as_slice())

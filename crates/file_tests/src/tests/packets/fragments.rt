@@ -5,7 +5,7 @@ use capture_files::LinkType;
 use ospf_packets::{FrameWarning, Packets, read_frames};
 use std::test::*;
 
-/// Whether both LSAs are reported, and nothing is odd.
+/// Whether both LSAs are read, without a warning.
 fn is_whole(packets: &Packets) -> bool {
     match packets.observations.as_slice() {
         [first, second] => {
@@ -17,7 +17,7 @@ fn is_whole(packets: &Packets) -> bool {
     }
 }
 
-/// Whether this number of fragments are missing, nothing else is odd, and no LSA is reported.
+/// Whether this number of fragments are missing, without another warning, and no LSA is read.
 fn is_missing(packets: &Packets, count: usize) -> bool {
     let missing = packets
         .warnings
@@ -35,7 +35,7 @@ fn fragments_are_put_together(rt: HostRuntime) -> Result<(), Fail> {
     assert!(rt; is_whole(&read_frames(alloc, &[front, middle, back])?));
     // A fragment that is seen twice.
     assert!(rt; is_whole(&read_frames(alloc, &[front, middle, middle, back])?));
-    // A frame between fragments tells what it tells alone.
+    // A frame between fragments contains what it contains alone.
     let update = whole(LinkType::ETHERNET, UPDATE);
     let packets = read_frames(alloc, &[front, update, middle, back])?;
     assert_eq!(rt; packets.observations.len(), 3);

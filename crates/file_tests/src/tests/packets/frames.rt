@@ -145,7 +145,7 @@ pub(in crate::tests) fn whole(link: LinkType, bytes: &[u8]) -> Frame<'_> {
     cut(link, bytes, bytes.len().min(65_535) as u32)
 }
 
-/// What a frame tells.
+/// What a frame contains.
 pub(super) fn read(alloc: Global, link: LinkType, bytes: &[u8]) -> Result<Packets, AllocError> {
     read_frames(alloc, &[whole(link, bytes)])
 }
@@ -176,7 +176,7 @@ pub(super) fn with_word(
     with(alloc, &changed, place.saturating_add(1), low)
 }
 
-/// Whether one LSA alone is reported, with these bytes and this scope, and nothing is odd.
+/// Whether one LSA alone is read, with these bytes and this scope, without a warning.
 pub(super) fn is_only(packets: &Packets, scope: Scope, bytes: &[u8]) -> bool {
     match packets.observations.as_slice() {
         [one] => {
@@ -187,7 +187,7 @@ pub(super) fn is_only(packets: &Packets, scope: Scope, bytes: &[u8]) -> bool {
     }
 }
 
-/// Whether this alone is odd of the frames, and this number of LSAs are reported.
+/// Whether this is the only warning about the frames, and this number of LSAs are read.
 pub(super) fn is_warning(packets: &Packets, warning: FrameWarning, lsas: usize) -> bool {
     match packets.warnings.as_slice() {
         [one] => *one == warning && packets.observations.len() == lsas,

@@ -1,4 +1,4 @@
-//! The kinds of areas that Hello packets tell.
+//! The kinds of areas in Hello packets.
 
 use super::frames::{PASSWORD, STUB_HELLO, read, with, with_word};
 use capture_files::LinkType;
@@ -7,7 +7,7 @@ use lsa_instances::{AreaKind, AreaReport};
 use std::alloc::Global;
 use std::test::*;
 
-/// What a frame tells of an area.
+/// What a frame contains of an area.
 fn parsed(alloc: Global, bytes: &[u8]) -> Result<Option<AreaReport>, Fail> {
     let packets = read(alloc, LinkType::ETHERNET, bytes)?;
     Ok(packets.kinds.first().copied())

@@ -1,4 +1,4 @@
-//! What is odd of frames.
+//! Warnings about frames.
 
 use super::frames::{
     DIGEST, STUB_HELLO, TWO_LSAS, UPDATE, cut, is_warning, read, whole, with, with_word,
@@ -9,7 +9,8 @@ use ospf_packets::{FrameWarning, read_frames};
 use std::alloc::Global;
 use std::test::*;
 
-/// Whether this alone is odd of the update with another byte at a place, and no LSA is reported.
+/// Whether this is the only warning about the update with another byte at a place, and no LSA is
+/// read.
 fn is_warning_with(
     alloc: Global,
     place: usize,
@@ -21,7 +22,8 @@ fn is_warning_with(
     Ok(is_warning(&packets, warning, 0))
 }
 
-/// Whether this alone is odd of the update with another word at a place, and with this checksum.
+/// Whether this is the only warning about the update with another word at a place, and with this
+/// checksum.
 fn is_warning_summed(
     alloc: Global,
     place: usize,

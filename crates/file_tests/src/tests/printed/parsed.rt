@@ -1,4 +1,4 @@
-//! LSAs, and why a text tells none.
+//! LSAs, and why a text contains none.
 
 use super::pieces::{
     ASBR, ASBR_BYTES, BORDER, BORDER_BYTES, EXTERNALS, NETWORK, NETWORK_BYTES, OPAQUE,
@@ -11,7 +11,7 @@ use lsa_instances::{AreaKind, AreaReport, Scope};
 use std::alloc::Global;
 use std::test::*;
 
-/// The text tells one LSA alone, in this area and with these bytes.
+/// The text contains one LSA alone, in this area and with these bytes.
 fn contains_only(alloc: Global, text: &[u8], area: AreaId, bytes: &[u8]) -> Result<bool, Fail> {
     let printed = read_printed(alloc, text)?;
     Ok(match printed.observations.as_slice() {

@@ -6,7 +6,7 @@ use snmp_walk::{Row, RowFault, WalkFault, WalkFinding, read_walk};
 use std::alloc::Global;
 use std::test::*;
 
-/// The walk tells no LSA, and this hole alone.
+/// The walk contains no LSA, and gives this finding alone.
 fn lacks_only(alloc: Global, text: &[u8], finding: WalkFinding) -> Result<bool, Fail> {
     let walk = parsed(alloc, text)?;
     Ok(walk.observations.is_empty() && walk.findings.as_slice() == [finding].as_slice())

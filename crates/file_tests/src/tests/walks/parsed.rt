@@ -6,7 +6,7 @@ use lsa_instances::{AreaKind, AreaReport, Scope};
 use std::alloc::Global;
 use std::test::*;
 
-/// The walk tells one LSA alone, in this scope and with these bytes.
+/// The walk contains one LSA alone, in this scope and with these bytes.
 fn contains_only(alloc: Global, text: &[u8], scope: Scope, bytes: &[u8]) -> Result<bool, Fail> {
     let walk = parsed(alloc, text)?;
     Ok(match walk.observations.as_slice() {

@@ -34,7 +34,7 @@ pub(super) const EXTERNAL_KEY: Key = Key {
     adv: RouterId(0x0303_0303),
 };
 
-/// What a text tells.
+/// What a text contains.
 pub(super) fn parsed(alloc: Global, text: &[u8]) -> Result<Walk, Fail> {
     Ok(read_walk(alloc, text)?)
 }

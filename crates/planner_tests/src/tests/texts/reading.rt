@@ -41,7 +41,7 @@ fn fault_of(
     (read.err(), failed)
 }
 
-/// So many bytes 0.
+/// This number of bytes 0.
 fn zeros(alloc: Global, count: usize) -> Result<Vec<u8>, AllocError> {
     vec![in alloc; 0u8; count]
 }

@@ -66,7 +66,7 @@ pub(super) fn tree(alloc: Global, failing: &FailingAlloc, growths: u64) -> Resul
     Ok((first, then))
 }
 
-/// The text of the hops of a tree. So many growths are left when they are read.
+/// The text of the hops of a tree. This number of growths are left when they are read.
 pub(super) fn of_hops<'a>(
     alloc: Global,
     failing: &'a FailingAlloc,

@@ -1,4 +1,4 @@
-//! Calls that take no memory and answer nothing that could tell of want of it.
+//! Calls that take no memory and answer nothing that could report want of it.
 
 ghost use Rattle.std.specs.Prelude.{◌≤◌};
 
@@ -242,7 +242,7 @@ fn read_graph(
     read_on_graph(alloc, failing, &graph, call, growths)
 }
 
-/// What is reported of a length, and of numbers by its mask.
+/// What is answered for a length, and for numbers under its mask.
 fn push_mask(text: &mut String, len: u8) -> Result<(), Fail>
     requires { len ≤ 32 }
 {
@@ -254,8 +254,8 @@ fn push_mask(text: &mut String, len: u8) -> Result<(), Fail>
     Ok(())
 }
 
-/// What is reported of masks and prefixes while this number of growths are left. These calls get no
-/// allocator.
+/// What is answered for masks and prefixes while this number of growths are left. These calls get
+/// no allocator.
 fn read_masks(alloc: Global, failing: &FailingAlloc, growths: u64) -> Result<String, Fail> {
     failing.set_remaining(growths);
     let mut text = String::new(alloc);
