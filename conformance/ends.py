@@ -180,9 +180,9 @@ ENDS = [
     End("an option that is not there, and nobody hears", "--frob", 2, stderr="full"),
     # ---- 3: the dump is refused
     End("a byte after the dump", "--dump FOLDER/long --out FOLDER/out", 3, "dump: L4 TrailingBytes at 99\n"),
-    End("a refused dump before a script that can not be read", "--dump FOLDER/long --script FOLDER", 3,
+    End("a refused dump before a script that cannot be read", "--dump FOLDER/long --script FOLDER", 3,
         "dump: L4 TrailingBytes at 99\n"),
-    End("a truncated dump before a script that can not be read", "--dump FOLDER/short --script FOLDER", 3,
+    End("a truncated dump before a script that cannot be read", "--dump FOLDER/short --script FOLDER", 3,
         "dump: L3 Truncated at 97\n"),
     End("an empty dump", "--dump /dev/null", 3, "dump: L3 Truncated at 0\n"),
     End("an endless dump", "--dump /dev/zero", 3, "dump: L13 TooLarge at 0\n"),
@@ -200,7 +200,7 @@ ENDS = [
     End("a refused dump, and standard error closed", "--dump FOLDER/long --out FOLDER/out", 3, stderr="closed"),
     End("a refused dump that is --out too, and standard error closed", "--dump FOLDER/saved --out FOLDER/saved", 3,
         stderr="closed", before=SESSION[:-1], saved=SESSION[:-1]),
-    # ---- 4: a file can not be opened, read or written
+    # ---- 4: a file cannot be opened, read or written
     End("no such dump", "--dump FOLDER/none --out FOLDER/out", 4, "file: Open dump\n"),
     End("no such dump and no such script", "--dump FOLDER/none --script FOLDER/none", 4, "file: Open dump\n"),
     End("no such script", "--script FOLDER/none --out FOLDER/out", 4, "file: Open script\n"),

@@ -1,9 +1,9 @@
 //! Link state databases: the LSAs of each area and those of AS scope (RFC 2328, 12.2).
 //!
 //! A [`Database`] keeps each LSA at a *slot* of its own. A slot holds one LSA or is empty, and
-//! keeps its [`SlotId`] for as long as the database lives: an LSA that is removed leaves an empty
-//! slot behind, and all others stay where they are. So an edit can be undone by putting the old
-//! LSAs back, each at its slot, and the LSAs then stand in the order in which they stood before.
+//! keeps its [`SlotId`] for as long as the database lives: an LSA that is removed leaves its slot
+//! empty, and all others stay where they are. So an edit can be undone by putting the old LSAs
+//! back, each at its slot, and the LSAs then stand in the order in which they stood before.
 //!
 //! The sections of a database are numbered: the areas come first, in rising order of their IDs,
 //! and the LSAs of AS scope last. Each reader is there by the name of a section and, with `_in`,
