@@ -11,7 +11,7 @@ from pathlib import Path
 sys.path.insert(0, str(Path(__file__).resolve().parent.parent / "conformance"))
 
 import plain_planner  # noqa: E402
-from lying import with_checksum  # noqa: E402
+from malformed import with_checksum  # noqa: E402
 from plain_reader import links, number  # noqa: E402
 
 # Numbers about which something changes: limits of the formats, lengths of their parts, ends of ranges.

@@ -13,7 +13,7 @@ import struct
 import tempfile
 
 import plain_captures
-from lying import ended, with_byte, with_checksum
+from malformed import ended, with_byte, with_checksum
 from plain_reader import number
 
 # The lines of areas without a kind, and of LSAs that headers name.
@@ -181,10 +181,10 @@ def variants(make):
 
 def is_as_read(program: str, data: bytes, folder: pathlib.Path) -> tuple[bool, bool]:
     """Whether the program answers as the plain reader, and whether that is a dump."""
-    file, out = folder / "lying", folder / "lying.out"
+    file, out = folder / "malformed", folder / "malformed.out"
     file.write_bytes(data)
     words = [program, "--out", str(out), str(file)]
-    status, said, error = ended(words, folder / "lying.replies", folder / "lying.error")
+    status, said, error = ended(words, folder / "malformed.replies", folder / "malformed.error")
     left = out.read_bytes() if out.exists() else None
     if left is not None:
         out.unlink()

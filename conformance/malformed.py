@@ -89,11 +89,11 @@ def ended(words: list[str], replies: pathlib.Path, error: pathlib.Path) -> tuple
 
 def is_as_read(program: str, dump: bytes, refusal: str, folder: pathlib.Path) -> bool:
     """Whether the program refuses a dump so, or opens it where it is not to be refused."""
-    file, out = folder / "lying.oswp", folder / "lying.out"
+    file, out = folder / "malformed.oswp", folder / "malformed.out"
     file.write_bytes(dump)
     back = "--save" if plain_reader.is_session(dump) else "--out"
     words = [program, "--dump", str(file), "--script", "/dev/null", back, str(out)]
-    run = ended(words, folder / "lying.replies", folder / "lying.error")
+    run = ended(words, folder / "malformed.replies", folder / "malformed.error")
     left = out.read_bytes() if out.exists() else None
     if left is not None:
         out.unlink()
