@@ -1,7 +1,7 @@
 //! Instances of LSAs, and which of them is the newest (RFC 2328, 12.1 and 13.1).
 //!
 //! Files contain LSAs: a walk or a capture shows the same LSA many times, as older and newer
-//! instances, and as copies of one instance that differ in their LS age. A [`Observation`] is one
+//! instances, and as copies of one instance that differ in their LS age. An [`Observation`] is one
 //! of them. [`newest`] answers the newest instance of each LSA among any number of observations,
 //! each once; flushed LSAs are left out, or kept at MaxAge. The answer depends on which
 //! observations there are, and not on their order.

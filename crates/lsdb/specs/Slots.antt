@@ -49,7 +49,7 @@ abbrev pub slot_in : Option SectionSlots → ℕ → Option Slot
 slot_in None i = None
 slot_in (Some s) i = item_at s.slots i
 
--- the slot at a slot, if it exists
+-- the content of a slot, if the slot exists
 abbrev pub slot_at : Slots → SlotId → Option Slot
 slot_at d slot = slot_in (item_at d slot.section) slot.index
 
@@ -64,7 +64,7 @@ lsa_at d slot = lsa_or_none (slot_at d slot)
 abbrev pub put_slot : Slot → List Slot → ℕ → List Slot
 put_slot v ps i = update_at (λ _. v) ps i
 
--- the slots with v at a slot
+-- the slots, with v in one of them
 abbrev pub put : Slots → SlotId → Slot → Slots
 put d slot v = update_at (λ s. record { area = s.area; slots = put_slot v s.slots slot.index }) d slot.section
 
