@@ -3,7 +3,7 @@ use Rattle.std.specs.Prelude.{OnErr, Result, Ok, Err}
 use Rattle.lsdb.specs.Slots.{Slot, Slots, open_at, slot_in, item_at, lists_of}
 use Rattle.lsdb.specs.steps.View.{slots_of}
 use Rattle.lsdb.proofs.Seen.{open_slots, kept_slots, slot_opened}
-use Rattle.lsdb.proofs.Slots.{lists_of-open_at}
+use Rattle.lsdb.proofs.SlotWrites.{lists_of-open_at}
 use Rattle.lsdb.proofs.DumpLength.{kept_lists}
 use Rattle.lsdb.proofs.database.Database.open_in.Goals as goal
 
