@@ -8,7 +8,7 @@ use Rattle.std.specs.Ordering.{eq_by_cmp, is_eq, is_lt, ordering_reverse}
 use Rattle.std.specs.declared.cmp.Ordering.TheVariants.{Less, Greater}
 use Rattle.std.proofs.lemmas.Cmp.{eq_by_cmp_equiv}
 use Rattle.std.proofs.lemmas.Map.{NonePasses, lookup-none, lookup-insert}
-use Rattle.std.proofs.lemmas.Map.Entries.{lookup_from_slot}
+use Rattle.std.proofs.lemmas.Map.Entries.{lookup_from_place}
 use Rattle.std.proofs.lemmas.Map.Keys.{IsDistinct-from_sorted}
 use Rattle.std.proofs.lemmas.List.Sorted.{searchable_from_sorted}
 use Rattle.lsa_codec.specs.declared.key.Key.{Key}
@@ -91,7 +91,7 @@ pub noted_at : (keys : List KeyAt) (key : Key) (at : ℕ) (e : KeyAt) → IsRisi
 noted_at keys key at e rising pair is =
     let same : e.key ≡ key = ap (λ (x : KeyAt). x.key) is ∙ pair.has_key e in
     let here : slice_get (pairs_of keys) at ≡ Some (e.key, e.index) = (turn_map (λ (noted : KeyAt). (noted.key, noted.index)) keys at (suc at) e pair.within refl is).here in
-    subst (λ (k : Key). noted_index keys k ≡ Some e.index) same (lookup_from_slot laws (pairs_of keys) at e.key e.index (distinct keys rising) here)
+    subst (λ (k : Key). noted_index keys k ≡ Some e.index) same (lookup_from_place laws (pairs_of keys) at e.key e.index (distinct keys rising) here)
 
 below_or_not : (k i : ℕ) → (k < i) ⊎ (i ≤ k)
 below_or_not k zero = inr (omega arith)
