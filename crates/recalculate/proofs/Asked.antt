@@ -82,7 +82,7 @@ module _ (db : Lists) (router : RouterId) where
   pub gained_all : (old new : KeptRouters) → HasTrees db router new → gained db router old new ≡ lacking db router old
   gained_all old new all = ap length (all_came (is_kept old) (is_kept new) router (attached_areas db router) all)
 
--- where none came, as many are counted as were
+-- where none came, the count stays
 pub same_counted : (base : Lists) (router : RouterId) (old new : KeptRouters) (was is : ℕ) → is ≡ was → new ≡ old
     → is ≡ counted_by (gained base router old new) was
 same_counted base router old new was is runs same = runs ∙ ap (λ n. counted_by n was) (sym (gained_same base router old new same))
@@ -163,7 +163,7 @@ same_runs router p q same =
     same_counted p.session.base router p.first_kept q.first_kept p.runs q.runs (ap (λ (v : PlannerValue). v.runs) same) first_kept
     ∙ ap (λ n. counted_by n (counted_by (gained p.session.base router p.first_kept q.first_kept) p.runs)) (sym (gained_same (state p.session) router p.kept q.kept kept))
 
--- as many are counted as were
+-- the count stays
 pub same_at_most : (most old new : ℕ) → new ≡ old → CountsAtMost most old new
 same_at_most most old new same = record { trees = 0; few = omega arith; counts = same }
 
