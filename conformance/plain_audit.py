@@ -73,8 +73,8 @@ MEANINGS: dict[str, tuple[str, str, str]] = {
     "drained": ("note", "all its links cost 65535, so little passes through it", "look whether it is still in maintenance"),
     "unreached-router": ("note", "no router of the area reaches it: it is down or cut off", "look whether it is up"),
     "orphan-lsa": ("note", "its originator is not described, so nobody uses it", "it ages out"),
-    "opaque": ("note", "nothing is calculated from it", "nothing"),
-    "max-age": ("note", "it is being flushed, and no table uses it", "nothing"),
+    "opaque": ("note", "nothing is calculated from it", "no action"),
+    "max-age": ("note", "it is being flushed, and no table uses it", "no action"),
 }
 
 
@@ -170,9 +170,14 @@ class Audit:
         after = {(area, lsa[3:12]): lsa for area, _, lsas in self.refreshed().areas for lsa in lsas}
         for area, lsa in self.lsas(3, 4):
             metric, due = number(lsa[25:28]), number(after[area, lsa[3:12]][25:28])
-            if metric != due and (metric == RAISED) == is_raised:
+            if metric != due and (metric == RAISED) == is_raised and not self.is_of_itself(area, lsa):
                 shown = "none" if due == INFINITY else str(due)
                 yield *self.name(area, lsa), f" metric {metric} due {shown}"
+
+    def is_of_itself(self, area: int, lsa: bytes) -> bool:
+        """Whether a boundary router announces itself (FRR does): no table uses that where its bit E is set."""
+        router = self.now.graph(area).routers.get(lsa[8:12])
+        return lsa[3] == 4 and lsa[4:8] == lsa[8:12] and router is not None and bool(router[20] & 2)
 
     def find_summary_missing(self) -> Iterator[Text]:
         after = self.refreshed()

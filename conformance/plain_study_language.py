@@ -62,7 +62,7 @@ CONDITIONS: dict[str, str] = {
     "blackholes": "none",
     "same": "[ROUTER]",
     "changes": "<= NUMBER",
-    "audit": "clean",
+    "audit": "clean | only KIND..",
 }
 KINDS = ("intra", "inter", "ext1", "ext2", "own")
 OPERATORS = ("<=", "=", ">=")
@@ -330,6 +330,7 @@ class Condition:
     other: bytes | None = None
     number: int = 0
     nets: tuple = ()
+    kinds: tuple[str, ...] = ()
 
 
 class Cursor:
@@ -442,12 +443,16 @@ def read_changes(cursor: Cursor, made: Condition) -> None:
     made.form, made.number = cursor.keyword(("<=",)), cursor.take("NUMBER")
 
 
-def read_clean(cursor: Cursor, made: Condition) -> None:
-    made.form = cursor.keyword(("clean",))
+def read_audit(cursor: Cursor, made: Condition) -> None:
+    made.form = cursor.keyword(("clean", "only"))
+    if made.form == "only":
+        made.kinds = (cursor.take("KIND"),)
+        while not cursor.is_at_end():
+            made.kinds += (cursor.take("KIND"),)
 
 
 READERS: dict[str, Callable[[Cursor, Condition], None]] = {
     "route": read_route, "no-route": read_no_route, "hops": read_hops, "path": read_path, "lost": read_pairs,
     "gone": read_pairs, "loops": read_none, "microloops": read_microloops, "blackholes": read_none,
-    "same": read_same, "changes": read_changes, "audit": read_clean,
+    "same": read_same, "changes": read_changes, "audit": read_audit,
 }

@@ -4,7 +4,6 @@ It was written from that page alone, over the edits of plain_planner.py.
 """
 import dataclasses
 import functools
-import os.path
 from typing import Callable
 
 import plain_planner
@@ -15,11 +14,11 @@ from plain_planner import Branch, State, links_of
 from plain_reader import MOST_EDITS, number
 from plain_routes import dotted, net_of
 from plain_study_answers import (
-    Comparison, GROUPS, Shown, Value, change_line, cost_text, described, explain_lines, explain_value, help_line,
-    help_value, hole_line, link_text, links_lines, links_value, listed, loop_line, network_line, networks_value,
+    Comparison, Shown, Value, change_line, cost_text, described, explain_lines, explain_value, help_line, help_value,
+    hole_line, link_text, links_lines, links_value, listed, loop_line, network_line, networks_value, network_of,
     pair_line, path_lines, path_value, route_text, route_value, router_line, router_value, routes_value, shown_net,
 )
-from plain_study_language import AUDIT_KINDS, Condition, EDITS, Fault, HELP, Line, Names, line_of, nearest
+from plain_study_language import Condition, EDITS, Fault, HELP, Line, Names, escaped, line_of, nearest
 
 database_of = functools.lru_cache(16)(Database)
 
@@ -59,7 +58,7 @@ class Session:
             return self.answered(line)
         except Fault as fault:
             code, name = fault.code.split(" ")
-            value = {"code": code, "name": name, "at": escaped_at(fault), "hint": fault.hint}
+            value = {"code": code, "name": name, "at": escaped(fault.at), "hint": fault.hint}
             what = "fault" if fault.what == "script" else "refused"
             return Reply(what, fault.shown(), [], value, line, fault.explained())
 
@@ -73,11 +72,6 @@ class Session:
         if line.word in ("table", "tables", "compare", "info"):
             return answers.old()
         return ANSWERS[line.word](answers)
-
-
-def escaped_at(fault: Fault) -> str:
-    from plain_study_language import escaped
-    return escaped(fault.at)
 
 
 def several(items: list[str]) -> str:
@@ -392,9 +386,11 @@ class Answers:
 
     def check_audit(self, condition: Condition, shown: Shown) -> tuple[bool, str]:
         findings = Audit(self.now, self.loaded).findings()
-        wrong = {kind: places for kind, places in findings.items() if places and MEANINGS[kind][0] == "wrong"}
-        texts = ", ".join(f"{kind} {len(places)}" for kind, places in wrong.items())
-        return not wrong, f"wrong {len(wrong)}" + (f": {texts}" if wrong else "")
+        wrong = {kind: len(places) for kind, places in findings.items() if places and MEANINGS[kind][0] == "wrong"}
+        others = {kind: count for kind, count in wrong.items() if kind not in condition.kinds}
+        texts = ", ".join(f"{kind} {count}" for kind, count in others.items())
+        front = f"wrong {len(wrong)}, not listed {len(others)}" if condition.kinds else f"wrong {len(wrong)}"
+        return not others, front + (f": {texts}" if others else "")
 
 
 def no_loops(name: str, loops: list[Value], shown: Shown) -> tuple[bool, str]:
@@ -449,12 +445,7 @@ def state_link(state: State, area: bytes, router: Router, place: int) -> Value:
     lsas = state.sections[state.place(area)]
     links = {lsa[8:12]: plain_routes.links(lsa) for lsa in lsas if lsa[3] == 1}
     graph = plain_routes.graph_of(lsas)
-
-    def network(there: bytes):
-        lsa = graph.networks.get(there)
-        return (shown_net(net_of(there, lsa[20:24])), graph.attached(there)) if lsa else None
-
-    return described(links, network, number(area), router, place - 1)
+    return described(links, lambda there: network_of(graph, there), number(area), router, place - 1)
 
 
 @dataclasses.dataclass
