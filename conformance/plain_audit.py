@@ -212,20 +212,22 @@ class Audit:
                 for kind, there, _, _ in links:
                     if kind == 1 and there not in known:
                         named.setdefault(there, router)
-            for network in sorted(self.now.graph(area).networks):
+            for network, lsa in self.linked_networks(area):
                 for there in self.now.graph(area).attached(network) - known:
-                    by = self.now.graph(area).networks[network][8:12]
-                    named[there] = min(by, named.get(there, by))
+                    named[there] = min(lsa[8:12], named.get(there, lsa[8:12]))
             for router, by in sorted(named.items()):
                 yield f"area {shown_number(area)} router ", router, " named by ", by
+
+    def linked_networks(self, area: int) -> list[tuple[bytes, bytes]]:
+        """The network-LSAs in use that have an edge, by Link State ID."""
+        graph = self.now.graph(area)
+        return [(ident, lsa) for ident, lsa in sorted(graph.networks.items()) if graph.edges["network", ident]]
 
     def find_several_networks(self) -> Iterator[Text]:
         found: dict[Net, list[tuple[int, bytes]]] = {}
         for area, _, _ in self.now.areas:
-            graph = self.now.graph(area)
-            for ident, lsa in sorted(graph.networks.items()):
-                if graph.edges["network", ident]:
-                    found.setdefault(net_of(ident, lsa[20:24]), []).append((area, ident))
+            for ident, lsa in self.linked_networks(area):
+                found.setdefault(net_of(ident, lsa[20:24]), []).append((area, ident))
         for net, places in sorted(found.items()):
             if len(places) > 1:
                 yield (f"{shown_net(net)} networks " + ",".join(dotted(ident) for _, ident in places),)

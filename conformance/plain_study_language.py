@@ -111,13 +111,18 @@ def escaped(word: bytes) -> str:
     return front + (".." if len(word) > 64 else "")
 
 
+def likeness(word: str, other: str) -> int:
+    """The length of the common front of two words and that of their common end together."""
+    return len(os.path.commonprefix([word, other])) + len(os.path.commonprefix([word[::-1], other[::-1]]))
+
+
 def nearest(word: str, others: Sequence[str]) -> str | None:
-    """Of several words the first that has the longest common front with a word; none where there are none."""
-    return max(others, key=lambda other: len(os.path.commonprefix([word, other])), default=None)
+    """Of several words the first that is most like a word; none where there are none."""
+    return max(others, key=lambda other: likeness(word, other), default=None)
 
 
-def has_common_front(word: str, other: str | None) -> bool:
-    return other is not None and word[:1] == other[:1] != ""
+def is_like(word: str, other: str | None) -> bool:
+    return other is not None and likeness(word, other) > 0
 
 
 # ---- names
@@ -207,7 +212,7 @@ class Reading:
         if name in self.names.addresses:
             return self.names.addresses[name]
         near = nearest(name, sorted(self.names.addresses))
-        return self.address(word, f"names have {near}" if has_common_front(name, near) else "")
+        return self.address(word, f"names have {near}" if is_like(name, near) else "")
 
     def address(self, word: bytes, hint: str) -> bytes:
         if not ADDRESS.fullmatch(word):
@@ -247,7 +252,7 @@ def bad_word(word: bytes, words: Sequence[str]) -> Fault:
     name = word.decode("latin-1")
     near = nearest(name, words)
     if len(words) > 8:
-        return Fault("script", "S9 BadWord", word, f"did you mean {near}" if has_common_front(name, near) else "see help")
+        return Fault("script", "S9 BadWord", word, f"did you mean {near}" if is_like(name, near) else "see help")
     return Fault("script", "S9 BadWord", word, "one of " + " ".join(words) if len(words) > 1 else words[0])
 
 
@@ -285,7 +290,7 @@ def line_of(text: bytes, names: Names) -> Line | None:
     word = words[0].decode("latin-1")
     if word not in HELP:
         near = nearest(word, tuple(HELP))
-        hint = f"did you mean {near}" if has_common_front(word, near) else "see help"
+        hint = f"did you mean {near}" if is_like(word, near) else "see help"
         raise Fault("script", "S2 UnknownWord", words[0], hint)
     if word == "expect":
         return Line(branch, word, words[1:], [], condition_of(words, names))
@@ -370,7 +375,7 @@ def condition_of(words: list[bytes], names: Names) -> Condition:
     word = cursor.peek().decode("latin-1")
     if word not in CONDITIONS:
         near = nearest(word, tuple(CONDITIONS))
-        hint = f"did you mean {near}" if has_common_front(word, near) else "one of " + " ".join(CONDITIONS)
+        hint = f"did you mean {near}" if is_like(word, near) else "one of " + " ".join(CONDITIONS)
         raise Fault("script", "S2 UnknownWord", cursor.peek(), hint)
     cursor.place += 1
     cursor.shape = f"expect {word} {CONDITIONS[word]}"

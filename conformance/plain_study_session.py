@@ -467,9 +467,6 @@ class Refusals:
     def value(self, name: str):
         return self.line.values[self.role(name)]
 
-    def shown(self, router: Router) -> str:
-        return self.answers.shown.router(dotted(router))
-
     def area_place(self) -> int:
         return self.branch.state.place(self.value("AREA"))
 
@@ -499,7 +496,7 @@ class Refusals:
         return self.role(role), f"area {area} has {near}" if near else f"area {area} has no router"
 
     def hint_E3(self) -> tuple[int, str]:
-        router = self.shown(self.value("ROUTER"))
+        router = dotted(self.value("ROUTER"))
         if self.line.word == "fail-link":
             return self.role("NEIGHBOR"), f"{router} has no point-to-point link to it"
         count = len(links_of(self.branch.state.router(self.area_place(), self.value("ROUTER"))))
@@ -519,11 +516,11 @@ class Refusals:
 
     def hint_E7(self) -> tuple[int, str]:
         count = self.announced(self.branch.state.sections[self.area_place()], 3)
-        return self.role("PREFIX"), f"{self.shown(self.value('ROUTER'))} has {count} summaries in the area"
+        return self.role("PREFIX"), f"{dotted(self.value('ROUTER'))} has {count} summaries in the area"
 
     def hint_E8(self) -> tuple[int, str]:
         count = self.announced(self.branch.state.sections[-1], 5)
-        return self.role("PREFIX"), f"{self.shown(self.value('ROUTER'))} has {count} externals"
+        return self.role("PREFIX"), f"{dotted(self.value('ROUTER'))} has {count} externals"
 
     def announced(self, lsas: tuple[bytes, ...], kind: int) -> int:
         return sum(lsa[3] == kind and lsa[8:12] == self.value("ROUTER") for lsa in lsas)
