@@ -139,6 +139,7 @@ class Printer:
     def reply(self, path: str, place: int, reply: Reply) -> None:
         sys.stdout.write(document(path, place, reply) + "\n" if self.is_json else reply.text())
         if reply.error:
+            sys.stdout.flush()
             sys.stderr.write(f"{path}:{place}: {reply.error}\n")
 
     def summary(self, counts: Counts) -> None:
