@@ -233,9 +233,10 @@ class Reading:
         """The number of a link, or what names it: an address or the prefix of a stub network."""
         if ADDRESS.fullmatch(word) or word.decode("latin-1") in self.names.addresses:
             return self.named(word)
-        if b"/" in word:
+        try:
             return self.prefix(word)
-        return self.number(word, "LINK", 0, SHORT)
+        except Fault:
+            return self.number(word, "LINK", 0, SHORT)
 
     def number(self, word: bytes, role: str, least: int, most: int) -> int:
         if not NUMBER.fullmatch(word) or not least <= int(word[:20]) <= most:
