@@ -107,8 +107,13 @@ class Audit:
             for router in sorted(self.now.graph(area).routers):
                 yield area, router
 
-    def border_routers(self) -> list[Router]:
-        return [router for router in self.now.routers if len(self.now.attached(router)) > 1]
+    def is_linked(self, router: Router) -> bool:
+        """Whether a router has an edge in some area; one without is down or cut off, and concerns nobody."""
+        return any(self.now.graph(area).edges["router", router] for area in self.now.attached(router))
+
+    def is_border(self, router: Router) -> bool:
+        """Whether a router has several areas, and an edge in one."""
+        return len(self.now.attached(router)) > 1 and self.is_linked(router)
 
     def refreshed(self) -> Database:
         return Database(plain_planner.refresh(self.now.state))
@@ -128,22 +133,21 @@ class Audit:
 
     def find_area_missing(self) -> Iterator[Text]:
         return (self.name(area, lsa) for area, lsa in self.lsas(1)
-                if lsa[20] & 1 and len(self.now.attached(lsa[8:12])) == 1)
+                if lsa[20] & 1 and len(self.now.attached(lsa[8:12])) == 1 and self.is_linked(lsa[8:12]))
 
     def find_abr_without_backbone(self) -> Iterator[Text]:
-        for router in self.border_routers():
+        for router in filter(self.is_border, self.now.routers):
             if BACKBONE not in self.now.attached(router) or not self.now.graph(BACKBONE).edges["router", router]:
                 yield "router ", router
 
     def find_abr_without_bit_b(self) -> Iterator[Text]:
         for area, lsa in self.lsas(1):
-            if len(self.now.attached(lsa[8:12])) > 1 and not lsa[20] & 1:
+            if self.is_border(lsa[8:12]) and not lsa[20] & 1:
                 yield self.name(area, lsa)
 
     def find_split_area(self) -> Iterator[Text]:
         for area, _, _ in self.now.areas:
-            parts = [part for part in self.parts(area)
-                     if len(part) > 1 or len(self.now.attached(part[0])) > 1]
+            parts = [part for part in self.parts(area) if len(part) > 1 or self.is_border(part[0])]
             if len(parts) > 1:
                 texts = [joined(part) for part in parts]
                 yield (f"area {shown_number(area)} parts ", *texts[0],
@@ -170,7 +174,8 @@ class Audit:
         after = {(area, lsa[3:12]): lsa for area, _, lsas in self.refreshed().areas for lsa in lsas}
         for area, lsa in self.lsas(3, 4):
             metric, due = number(lsa[25:28]), number(after[area, lsa[3:12]][25:28])
-            if metric != due and (metric == RAISED) == is_raised and not self.is_of_itself(area, lsa):
+            if (metric != due and (metric == RAISED) == is_raised and self.is_border(lsa[8:12])
+                    and not self.is_of_itself(area, lsa)):
                 shown = "none" if due == INFINITY else str(due)
                 yield *self.name(area, lsa), f" metric {metric} due {shown}"
 
@@ -183,7 +188,7 @@ class Audit:
         after = self.refreshed()
         for area, kind, lsas in after.areas:
             for router in sorted(after.graph(area).routers):
-                if len(after.attached(router)) > 1 and after.router_lsa(area, router)[20] & 1:
+                if self.is_border(router) and after.router_lsa(area, router)[20] & 1:
                     yield from missing_summaries(after, area, kind, router)
 
     def find_rfc1583(self) -> Iterator[Text]:
@@ -200,7 +205,7 @@ class Audit:
     def find_external_without_bit_e(self) -> Iterator[Text]:
         for area, lsa in self.lsas(5):
             areas = self.now.attached(lsa[8:12])
-            if areas and number(lsa[25:28]) != INFINITY and not any(
+            if self.is_linked(lsa[8:12]) and number(lsa[25:28]) != INFINITY and not any(
                     self.now.router_lsa(one, lsa[8:12])[20] & 2 for one in areas):
                 yield self.name(area, lsa)
 
@@ -227,10 +232,18 @@ class Audit:
         found: dict[Net, list[tuple[int, bytes]]] = {}
         for area, _, _ in self.now.areas:
             for ident, lsa in self.linked_networks(area):
-                found.setdefault(net_of(ident, lsa[20:24]), []).append((area, ident))
+                if self.is_in_use(area, ident):
+                    found.setdefault(net_of(ident, lsa[20:24]), []).append((area, ident))
         for net, places in sorted(found.items()):
             if len(places) > 1:
                 yield (f"{shown_net(net)} networks " + ",".join(dotted(ident) for _, ident in places),)
+
+    def is_in_use(self, area: int, network: bytes) -> bool:
+        """Whether a network has several routers, or one that has an edge elsewhere: a dead router's own is no such one."""
+        routers = {there[1] for there, _, _ in self.now.graph(area).edges["network", network]}
+        return len(routers) > 1 or any(there != ("network", network) for router in routers
+                                       for one in self.now.attached(router)
+                                       for there, _, _ in self.now.graph(one).edges["router", router])
 
     def find_duplicate_address(self) -> Iterator[Text]:
         found: dict[bytes, set[Router]] = {}

@@ -10,6 +10,7 @@ plain_planner.py and plain_routes.py. It has no prompt.
 import argparse
 import dataclasses
 import json
+import os
 import sys
 from typing import BinaryIO
 
@@ -178,6 +179,7 @@ def run(arguments: list[str]) -> int:
                 file.write(session.planner.branch(0).state.dump())
         except OSError:
             raise Ended(4, "file: Open out") from None
+    sys.stdout.flush()
     return 0
 
 
@@ -187,6 +189,11 @@ def main() -> int:
     except Ended as ended:
         sys.stderr.write(ended.line + "\n")
         return ended.status
+    except BrokenPipeError:
+        # What is left in the buffer goes nowhere.
+        os.dup2(os.open(os.devnull, os.O_WRONLY), sys.stdout.fileno())
+        sys.stderr.write("file: Write\n")
+        return 4
 
 
 if __name__ == "__main__":
