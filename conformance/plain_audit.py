@@ -3,7 +3,7 @@ defines both. It was written from that page and RFC 2328 alone.
 """
 import dataclasses
 import itertools
-from typing import Iterator
+from typing import Collection, Iterator
 from unittest import mock
 
 import plain_planner
@@ -30,6 +30,7 @@ def text_of(shown: Shown, parts: Text) -> str:
 
 
 def joined(routers: list[Router], between: str = ",") -> Text:
+    """Routers, joined by a word."""
     parts: list[Part] = []
     for router in routers:
         parts += [between, router] if parts else [router]
@@ -100,9 +101,11 @@ class Audit:
                     yield area, lsa
 
     def name(self, area: int | None, lsa: bytes) -> Text:
+        """The place of an LSA."""
         return (lsa_value(area, lsa),)
 
     def routers_in(self) -> Iterator[tuple[int, Router]]:
+        """The routers of each area."""
         for area, _, _ in self.now.areas:
             for router in sorted(self.now.graph(area).routers):
                 yield area, router
@@ -116,36 +119,44 @@ class Audit:
         return len(self.now.attached(router)) > 1 and self.is_linked(router)
 
     def refreshed(self) -> Database:
+        """The database that `refresh` gives."""
         return Database(plain_planner.refresh(self.now.state))
 
     # ---- what can make a table wrong
 
     def find_nssa(self) -> Iterator[Text]:
+        """Type 7 LSAs."""
         return (self.name(*item) for item in self.lsas(7))
 
     def find_area_kind(self) -> Iterator[Text]:
+        """Router-LSAs whose bit E does not fit their area."""
         kinds = {area: kind for area, kind, _ in self.now.areas}
         return (self.name(area, lsa) for area, lsa in self.lsas(1) if bool(lsa[2] & 2) == bool(kinds[area]))
 
     def find_virtual_link(self) -> Iterator[Text]:
+        """Router-LSAs with bit V or a virtual link."""
         return (self.name(area, lsa) for area, lsa in self.lsas(1)
                 if lsa[20] & 4 or any(link[8] == 4 for link in links_of(lsa)))
 
     def find_area_missing(self) -> Iterator[Text]:
+        """Border routers with one area."""
         return (self.name(area, lsa) for area, lsa in self.lsas(1)
                 if lsa[20] & 1 and len(self.now.attached(lsa[8:12])) == 1 and self.is_linked(lsa[8:12]))
 
     def find_abr_without_backbone(self) -> Iterator[Text]:
+        """Border routers without an edge in the backbone."""
         for router in filter(self.is_border, self.now.routers):
             if BACKBONE not in self.now.attached(router) or not self.now.graph(BACKBONE).edges["router", router]:
                 yield "router ", router
 
     def find_abr_without_bit_b(self) -> Iterator[Text]:
+        """Border routers that do not call themselves so."""
         for area, lsa in self.lsas(1):
             if self.is_border(lsa[8:12]) and not lsa[20] & 1:
                 yield self.name(area, lsa)
 
     def find_split_area(self) -> Iterator[Text]:
+        """Areas in parts."""
         for area, _, _ in self.now.areas:
             parts = [part for part in self.parts(area) if len(part) > 1 or self.is_border(part[0])]
             if len(parts) > 1:
@@ -164,9 +175,11 @@ class Audit:
         return found
 
     def find_summary_raised(self) -> Iterator[Text]:
+        """Summaries of a drained border router."""
         return self.not_due(True)
 
     def find_summary_not_due(self) -> Iterator[Text]:
+        """Other summaries that `refresh` changes."""
         return self.not_due(False)
 
     def not_due(self, is_raised: bool) -> Iterator[Text]:
@@ -185,6 +198,7 @@ class Audit:
         return lsa[3] == 4 and lsa[4:8] == lsa[8:12] and router is not None and bool(router[20] & 2)
 
     def find_summary_missing(self) -> Iterator[Text]:
+        """Summaries that RFC 2328 announces and that are not there."""
         after = self.refreshed()
         for area, kind, lsas in after.areas:
             for router in sorted(after.graph(area).routers):
@@ -192,6 +206,7 @@ class Audit:
                     yield from missing_summaries(after, area, kind, router)
 
     def find_rfc1583(self) -> Iterator[Text]:
+        """External routes that depend on RFC1583Compatibility."""
         for router in self.now.routers:
             inside = plain_routes.inside(self.now.areas, router)
             right = plain_routes.externals(inside, self.now.areas, self.now.as_wide, router)
@@ -203,6 +218,7 @@ class Audit:
                     yield "router ", router, f" {shown_net(net)}"
 
     def find_external_without_bit_e(self) -> Iterator[Text]:
+        """External LSAs whose originator has bit E nowhere."""
         for area, lsa in self.lsas(5):
             areas = self.now.attached(lsa[8:12])
             if self.is_linked(lsa[8:12]) and number(lsa[25:28]) != INFINITY and not any(
@@ -210,6 +226,7 @@ class Audit:
                 yield self.name(area, lsa)
 
     def find_undescribed_router(self) -> Iterator[Text]:
+        """Routers that are named and not described."""
         for area, _, lsas in self.now.areas:
             known = {lsa[8:12] for lsa in (*lsas, *self.loaded.area_lsas(area)) if lsa[3] == 1}
             named: dict[Router, Router] = {}
@@ -229,6 +246,7 @@ class Audit:
         return [(ident, lsa) for ident, lsa in sorted(graph.networks.items()) if graph.edges["network", ident]]
 
     def find_several_networks(self) -> Iterator[Text]:
+        """Prefixes of several networks in use."""
         found: dict[Net, list[tuple[int, bytes]]] = {}
         for area, _, _ in self.now.areas:
             for ident, lsa in self.linked_networks(area):
@@ -246,6 +264,7 @@ class Audit:
                                        for there, _, _ in self.now.graph(one).edges["router", router])
 
     def find_duplicate_address(self) -> Iterator[Text]:
+        """Addresses of several routers."""
         found: dict[bytes, set[Router]] = {}
         for _, router, link in self.links():
             if link[0] in (1, 2) and link[2][0]:
@@ -255,6 +274,7 @@ class Audit:
                 yield f"{dotted(address)} routers ", *joined(sorted(routers))
 
     def links(self) -> Iterator[tuple[int, Router, tuple]]:
+        """The links of all live router-LSAs."""
         for area, router in self.routers_in():
             for link in self.now.graph(area).links[router]:
                 yield area, router, link
@@ -262,6 +282,7 @@ class Audit:
     # ---- notes
 
     def find_own_external(self) -> Iterator[Text]:
+        """Own externals for which the table has a route."""
         for router in self.now.routers:
             table, entries = self.now.table(router), self.now.entries(router)
             for net in sorted(table):
@@ -269,6 +290,7 @@ class Audit:
                     yield "router ", router, f" {shown_net(net)}"
 
     def find_forward_unreached(self) -> Iterator[Text]:
+        """External LSAs whose forwarding address has no route."""
         for area, lsa in self.lsas(5):
             if any(lsa[28:32]) and number(lsa[25:28]) != INFINITY and not any(
                     plain_routes.match(plain_routes.inside(self.now.areas, router).routes, lsa[28:32])
@@ -276,6 +298,7 @@ class Audit:
                 yield self.name(area, lsa)
 
     def find_one_way_link(self) -> Iterator[Text]:
+        """Links without one back."""
         for area, _, _ in self.now.areas:
             graph = self.now.graph(area)
             for router, links in sorted(graph.links.items()):
@@ -291,6 +314,7 @@ class Audit:
                     yield *self.name(area, lsa), " member ", router
 
     def find_unequal_cost(self) -> Iterator[Text]:
+        """Point-to-point links with other costs back."""
         for area, router in self.routers_in():
             links = self.now.graph(area).links
             for place, (kind, there, _, cost) in enumerate(links[router]):
@@ -300,6 +324,7 @@ class Audit:
                            f" cost {cost} back {'/'.join(map(str, back))}")
 
     def find_point_to_multipoint(self) -> Iterator[Text]:
+        """Interfaces with links to several routers."""
         for area, router in self.routers_in():
             found: dict[bytes, set[Router]] = {}
             for there, _, data in self.now.graph(area).edges["router", router]:
@@ -311,18 +336,21 @@ class Audit:
                            *joined(sorted(others)))
 
     def find_drained(self) -> Iterator[Text]:
+        """Router-LSAs whose links all cost 65535."""
         for area, lsa in self.lsas(1):
             costs = [link[3] for link in plain_routes.links(lsa) if link[0] in (1, 2)]
             if costs and set(costs) == {DRAINED}:
                 yield self.name(area, lsa)
 
     def find_unreached_router(self) -> Iterator[Text]:
+        """Routers without an edge."""
         for area, lsa in self.lsas(1):
             graph = self.now.graph(area)
             if len(graph.routers) > 1 and not graph.edges["router", lsa[8:12]]:
                 yield self.name(area, lsa)
 
     def find_orphan_lsa(self) -> Iterator[Text]:
+        """LSAs whose originator is not described."""
         for area, lsa in self.lsas(2, 3, 4, 5):
             if area is not None and lsa[8:12] not in self.now.graph(area).routers:
                 yield self.name(area, lsa)
@@ -331,9 +359,11 @@ class Audit:
                 yield self.name(area, lsa)
 
     def find_opaque(self) -> Iterator[Text]:
+        """LSAs from which nothing is calculated."""
         return (self.name(*item) for item in self.lsas(6, 8, 9, 10, 11))
 
     def find_max_age(self) -> Iterator[Text]:
+        """LSAs at MaxAge."""
         sections = [(area, lsas) for area, _, lsas in self.now.areas] + [(None, self.now.as_wide)]
         for area, lsas in sections:
             for lsa in sorted(lsas, key=lambda lsa: (lsa[3], lsa[4:8], lsa[8:12])):
@@ -364,17 +394,20 @@ def missing_summaries(database: Database, area: int, kind: int, router: Router) 
             yield front + "asbr-summary ", asbr, " by ", router, f" metric {way.cost}"
 
 
-def is_due(area: int, areas, way: plain_routes.Route) -> bool:
+def is_due(area: int, areas: Collection[int], way: plain_routes.Route) -> bool:
+    """Whether 12.4.3 announces a route into an area."""
     return area not in areas and not (area == BACKBONE and way.kind == "inter") and way.cost < INFINITY
 
 
 def audit_value(findings: dict[str, list[Text]], shown: Shown) -> list[Value]:
+    """The kinds that have a place."""
     return [{"class": MEANINGS[kind][0], "kind": kind, "count": len(places), "first": text_of(shown, places[0]),
              "meaning": MEANINGS[kind][1], "action": MEANINGS[kind][2]}
             for kind, places in findings.items() if places]
 
 
 def finding_line(item: Value) -> str:
+    """A line of `audit`."""
     return f"{item['class']} {item['kind']} {item['count']} {item['first']}: {item['meaning']}; {item['action']}"
 
 
@@ -391,11 +424,13 @@ class Difference:
     what: Text
 
     def text(self, shown: Shown) -> str:
+        """The line of `differences`."""
         name = lsa_text(shown, self.lsa) if self.lsa else f"area {shown_number(self.area)}"
         front = name if self.change == "changed" else f"{self.change} {name}"
         return f"{front}: {text_of(shown, self.what)}"
 
     def value(self, shown: Shown) -> Value:
+        """The JSON of it."""
         return {"change": self.change, "area": None if self.area is None else shown_number(self.area), "lsa": self.lsa,
                 "what": text_of(shown, self.what)}
 
@@ -415,6 +450,7 @@ AREA_KINDS = ("ordinary", "stub")
 
 
 def area_differences(area: int, old: tuple | None, new: tuple | None) -> list[Difference]:
+    """How the kind of an area differs, or that it came or went."""
     if old and new:
         what = f"kind {AREA_KINDS[old[0]]} -> {AREA_KINDS[new[0]]}"
         return [Difference("changed", area, None, (what,))] if old[0] != new[0] else []
@@ -452,15 +488,18 @@ def detail(lsa: bytes) -> str:
 
 
 def external_fields(lsa: bytes) -> dict[str, str]:
+    """The fields of an AS-external-LSA but for its mask."""
     return {"type": str(1 + (lsa[24] >> 7)), "metric": str(number(lsa[25:28])), "forward": dotted(lsa[28:32]),
             "tag": str(number(lsa[32:36]))}
 
 
 def mask_of(lsa: bytes) -> str:
+    """The length of a mask."""
     return f"/{number(lsa[20:24]).bit_count()}"
 
 
 def lsa_changes(old: bytes, new: bytes) -> list[Text]:
+    """How two LSAs of one key differ."""
     if new[3] == 1:
         return router_changes(old, new)
     if new[3] > 5:
@@ -483,10 +522,12 @@ def fields(lsa: bytes) -> dict[str, str]:
 
 
 def bits_of(lsa: bytes) -> str:
+    """The bits of a router-LSA."""
     return "".join(letter for letter, bit in (("V", 4), ("E", 2), ("B", 1)) if lsa[20] & bit) or "-"
 
 
 def router_changes(old: bytes, new: bytes) -> list[Text]:
+    """How the bits and links of a router-LSA differ."""
     found: list[Text] = []
     if bits_of(old) != bits_of(new):
         found.append((f"bits {bits_of(old)} -> {bits_of(new)}",))
@@ -503,6 +544,7 @@ def router_changes(old: bytes, new: bytes) -> list[Text]:
 
 
 def link_name(place: int, link: tuple[int, bytes, bytes, int]) -> Text:
+    """The name of a link."""
     kind, ident, data, _ = link
     front = f"#{place + 1} {LINK_TYPES.get(kind, f'type {kind}')}"
     if kind == 3:

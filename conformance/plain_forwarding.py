@@ -41,6 +41,7 @@ class Way:
 
     @property
     def out(self) -> bytes | None:
+        """The interface, by its Link Data."""
         return self.hop[1] if len(self.hop) > 1 else None
 
 
@@ -62,6 +63,7 @@ class Entry:
         return self.metric, self.cost
 
     def is_same(self, other: "Entry") -> bool:
+        """Whether a router does the same with both."""
         if self.kind == other.kind == "own":
             return True
         return self == other
@@ -84,6 +86,7 @@ class Database:
         self._entries: dict[Router, dict[Net, Entry]] = {}
 
     def area_lsas(self, area: int) -> tuple[bytes, ...]:
+        """The LSAs of an area, none where there is no such area."""
         return next((lsas for ident, _, lsas in self.areas if ident == area), ())
 
     def attached(self, router: Router) -> list[int]:
@@ -91,12 +94,15 @@ class Database:
         return [area for area, _, lsas in self.areas if plain_routes.is_attached(lsas, router)]
 
     def graph(self, area: int) -> plain_routes.Graph:
+        """The graph of an area (16.1)."""
         return plain_routes.graph_of(self.area_lsas(area))
 
     def tree(self, area: int, root: Router) -> dict:
+        """Distances and hops in an area from a router."""
         return plain_routes.tree(self.area_lsas(area), root)
 
     def router_lsa(self, area: int, router: Router) -> bytes:
+        """The live router-LSA of a router in an area."""
         return self.graph(area).routers[router]
 
     @functools.cached_property
@@ -111,9 +117,11 @@ class Database:
         return found
 
     def own(self, router: Router) -> dict[Net, bytes]:
+        """The own externals of a router."""
         return self.as_routes.get(router, {})
 
     def table(self, router: Router) -> dict[Net, Route]:
+        """The routing table of an attached router."""
         inside = plain_routes.inside(self.areas, router)
         return plain_routes.externals(inside, self.areas, self.as_wide, router) | inside.routes
 
@@ -135,6 +143,7 @@ class Database:
         return Entry(route.kind, route.cost, route.cost2, area, tuple(ways))
 
     def ways(self, router: Router, net: Net, route: Route, hop: tuple) -> list[Way]:
+        """The ways that a hop of a route stands for."""
         if hop[0] == CONNECTED:
             return [Way(hop, None, "exit" if route.kind.startswith("ext") else "direct")]
         if hop[0] == ATTACHED:
@@ -181,6 +190,7 @@ class Database:
 
 
 def as_rank(lsa: bytes) -> tuple:
+    """The order in which a router's own AS-external-LSAs of one prefix are taken."""
     return lsa[24] >> 7, number(lsa[25:28]), lsa[4:8]
 
 
@@ -190,6 +200,7 @@ def is_of_router(route: Route) -> bool:
 
 
 def own_entry(lsa: bytes) -> Entry:
+    """The entry of an own external."""
     kind = "ext2" if lsa[24] & 128 else "ext1"
     return Entry("own", 0, number(lsa[25:28]), None, (), kind, lsa[28:32])
 
@@ -206,14 +217,17 @@ class Forwarding:
 
     @functools.cached_property
     def matches(self) -> dict[Router, Match | None]:
+        """The match of each router."""
         return {router: self.database.match(router, self.net) for router in self.database.routers}
 
     def next_of(self, router: Router) -> set[Router]:
+        """The routers to which a router sends."""
         match = self.matches[router]
         return {way.router for way in match.entry.ways if way.router is not None} if match else set()
 
     @functools.cached_property
     def edges(self) -> dict[Router, set[Router]]:
+        """The edges of the graph, by router."""
         return {router: self.next_of(router) for router in self.database.routers}
 
     def ends_at(self, router: Router) -> set[str]:
@@ -299,17 +313,21 @@ class Reason:
 
     @property
     def sum(self) -> int:
+        """What the candidate costs."""
         return (self.distance or 0) + (self.metric or 0)
 
     def lost(self, rule: str) -> "Reason":
+        """Takes the candidate out, by a rule."""
         self.rule = rule
         return self
 
     def is_open(self) -> bool:
+        """Whether no rule has decided yet."""
         return not self.rule
 
 
 def used_targets(found: list[Reason]) -> set[tuple[int, Vertex]]:
+    """The vertices to which the used candidates lead, each with its area."""
     return {target for reason in found if reason.is_used for target in reason.targets}
 
 
@@ -329,6 +347,7 @@ def reasons(database: Database, router: Router, net: Net) -> list[Reason]:
 
 
 def close(found: list[Reason], rule: str) -> None:
+    """Takes out all candidates that are left, by one rule."""
     for reason in found:
         if reason.is_open():
             reason.lost(rule)
@@ -343,6 +362,7 @@ def settle(found: list[Reason], lost: str, used: str) -> None:
 
 
 def intra_reasons(database: Database, area: int, router: Router, net: Net) -> list[Reason]:
+    """The candidates within an area: its networks of the prefix, and the stub links."""
     found = network_reasons(database, area, router, net)
     tree = database.tree(area, router)
     lsas = sorted((lsa for lsa in database.area_lsas(area) if lsa[3] == 1), key=lambda lsa: lsa[8:12])
@@ -365,6 +385,7 @@ def placed(reason: Reason, tree: dict, vertex: Vertex) -> Reason:
 
 
 def network_reasons(database: Database, area: int, router: Router, net: Net) -> list[Reason]:
+    """The network-LSAs of the prefix in an area, of which one is used at most (docs/DECISIONS.md)."""
     graph, tree, found = database.graph(area), database.tree(area, router), []
     lsas = [lsa for lsa in database.area_lsas(area) if lsa[3] == 2 and net_of(lsa[4:8], lsa[20:24]) == net]
     for lsa in sorted(lsas, key=lambda lsa: (lsa[4:8], lsa[8:12])):
@@ -387,6 +408,7 @@ def examined_area(database: Database, router: Router) -> int:
 
 
 def inter_reasons(database: Database, router: Router, net: Net) -> list[Reason]:
+    """The type 3 summary-LSAs of the prefix in the areas of a router."""
     found = []
     for area in database.attached(router):
         lsas = [lsa for lsa in database.area_lsas(area) if lsa[3] == 3 and net_of(lsa[4:8], lsa[20:24]) == net]
@@ -396,6 +418,7 @@ def inter_reasons(database: Database, router: Router, net: Net) -> list[Reason]:
 
 
 def summary_reason(database: Database, area: int, router: Router, lsa: bytes) -> Reason:
+    """A summary-LSA as a candidate, taken out by the first rule of 16.2 that does so."""
     origin, tree = ("router", lsa[8:12]), database.tree(area, router)
     reason = Reason(area, lsa, metric=number(lsa[25:28]), targets=((area, origin),))
     if area != examined_area(database, router):
@@ -415,11 +438,13 @@ def summary_reason(database: Database, area: int, router: Router, lsa: bytes) ->
 
 
 def external_reasons(database: Database, router: Router, net: Net) -> list[Reason]:
+    """The AS-external-LSAs of the prefix."""
     lsas = [lsa for lsa in database.as_wide if lsa[3] == 5 and net_of(lsa[4:8], lsa[20:24]) == net]
     return [external_reason(database, router, lsa) for lsa in sorted(lsas, key=lambda lsa: (lsa[8:12], lsa[4:8]))]
 
 
 def external_reason(database: Database, router: Router, lsa: bytes) -> Reason:
+    """An AS-external-LSA as a candidate, taken out by the first rule of 16.4 (1) to (3) that does so."""
     reason = Reason(None, lsa, metric=number(lsa[25:28]))
     if all(kind for area, kind, _ in database.areas if area in database.attached(router)):
         return reason.lost("3.6 stub areas alone")
@@ -519,5 +544,6 @@ def resting_lsas(database: Database, router: Router, found: list[Reason]) -> set
 
 
 def vertex_lsa(database: Database, area: int, vertex: Vertex) -> bytes:
+    """The LSA of a vertex."""
     graph = database.graph(area)
     return graph.routers[vertex[1]] if vertex[0] == "router" else graph.networks[vertex[1]]

@@ -31,6 +31,7 @@ class Ended(Exception):
 
 
 def options(arguments: list[str]) -> argparse.Namespace:
+    """The command line."""
     parser = argparse.ArgumentParser("ospf-study", allow_abbrev=False)
     parser.add_argument("--dump", required=True)
     parser.add_argument("--baseline")
@@ -44,6 +45,7 @@ def options(arguments: list[str]) -> argparse.Namespace:
 
 
 def opened(path: str, what: str) -> BinaryIO:
+    """Opens a file. Raises `Ended`."""
     try:
         return open(path, "rb")
     except OSError:
@@ -51,6 +53,7 @@ def opened(path: str, what: str) -> BinaryIO:
 
 
 def contents(file: BinaryIO, most: int | None = None) -> bytes:
+    """Reads a file, which has a number of bytes at most. Raises `Ended`."""
     try:
         text = file.read() if most is None else file.read(most + 1)
     except OSError:
@@ -109,6 +112,7 @@ class Counts:
     failed: int = 0
 
     def add(self, reply: Reply) -> None:
+        """Counts a reply."""
         self.lines += 1
         self.refused += reply.answer in ("refused", "fault")
         is_expectation = reply.line is not None and reply.line.word == "expect" and reply.answer in ("ok", "failed")
@@ -116,6 +120,7 @@ class Counts:
         self.failed += reply.answer == "failed"
 
     def is_good(self) -> bool:
+        """Whether every line was accepted."""
         return self.refused == self.failed == 0
 
 
@@ -128,6 +133,7 @@ def document(path: str, place: int, reply: Reply) -> str:
 
 
 def compact(value: dict) -> str:
+    """The JSON of a value, without spaces."""
     return json.dumps(value, separators=(",", ":"), ensure_ascii=False)
 
 
@@ -138,12 +144,14 @@ class Printer:
         self.is_json = is_json
 
     def reply(self, path: str, place: int, reply: Reply) -> None:
+        """Prints a reply, and its line on standard error."""
         sys.stdout.write(document(path, place, reply) + "\n" if self.is_json else reply.text())
         if reply.error:
             sys.stdout.flush()
             sys.stderr.write(f"{path}:{place}: {reply.error}\n")
 
     def summary(self, counts: Counts) -> None:
+        """Prints the last line."""
         result = "ok" if counts.is_good() else "failed"
         values = dataclasses.asdict(counts)
         if self.is_json:
@@ -168,6 +176,7 @@ def carried_out(chosen: argparse.Namespace, inputs: Inputs, session: Session) ->
 
 
 def run(arguments: list[str]) -> int:
+    """Runs the program, and returns its status. Raises `Ended`."""
     chosen = options(arguments)
     inputs = inputs_of(chosen)
     session = session_of(chosen, inputs)
@@ -184,6 +193,7 @@ def run(arguments: list[str]) -> int:
 
 
 def main() -> int:
+    """Runs the program, with its line on standard error where it ends early."""
     try:
         return run(sys.argv[1:])
     except Ended as ended:

@@ -3,11 +3,12 @@
 It was written from that page and RFC 2328 alone, over the LSAs of a database and plain_forwarding.py.
 """
 import dataclasses
-from typing import Callable
+from typing import Callable, Iterable
 
 import plain_routes
 from plain_forwarding import (
     Database, Entry, Forwarding, Reason, Router, Way, atoms, covers, cycles, least_ways, reasons, resting_lsas,
+    used_targets,
 )
 from plain_planner import is_for
 from plain_reader import number
@@ -18,14 +19,17 @@ Value = dict
 
 
 def shown_number(value: int) -> str:
+    """A number as an address."""
     return dotted(value.to_bytes(4, "big"))
 
 
 def shown_net(net: Net) -> str:
+    """A prefix."""
     return f"{shown_number(net[0])}/{net[1]}"
 
 
-def listed(items) -> str:
+def listed(items: Iterable[str]) -> str:
+    """A list of words."""
     return ",".join(items) or "-"
 
 
@@ -36,9 +40,11 @@ class Shown:
     names: Names
 
     def router(self, ident: str) -> str:
+        """The name of a router."""
         return self.names.of(bytes(map(int, ident.split("."))))
 
     def routers(self, idents: list[str]) -> str:
+        """The names of routers."""
         return listed(map(self.router, idents))
 
 
@@ -46,6 +52,7 @@ class Shown:
 
 
 def lsa_value(area: int | None, lsa: bytes) -> Value:
+    """What names an LSA."""
     made = {"area": None if area is None else shown_number(area), "type": lsa[3], "id": dotted(lsa[4:8]),
             "router": dotted(lsa[8:12])}
     if lsa[3] in (2, 3, 5):
@@ -102,6 +109,7 @@ def is_one_subnet(links: list[RawLink], place: int, data: bytes) -> bool:
 
 
 def link_value(database: Database, area: int, router: Router, place: int) -> Value:
+    """What a link of a live router-LSA is."""
     graph = database.graph(area)
     return described(graph.links, lambda there: network_of(graph, there), area, router, place)
 
@@ -134,6 +142,7 @@ def described(links: dict[Router, list[RawLink]], network: Callable, area: int, 
 
 
 def stub_value(links: list[RawLink], place: int) -> Value:
+    """The stub network of an interface."""
     return {"number": place + 1, "prefix": shown_net(net_of(*links[place][1:3])), "cost": links[place][3]}
 
 
@@ -149,6 +158,7 @@ def link_text(shown: Shown, link: Value, has_cost: bool = True) -> str:
 
 
 def cost_text(link: Value) -> str:
+    """The part of a description from the cost on."""
     text = f", cost {link['cost']}"
     if "back" in link:
         text += ", back " + ("/".join(map(str, link["back"])) or "none")
@@ -165,11 +175,13 @@ def cost_text(link: Value) -> str:
 
 
 def links_value(database: Database, routers: list[Router]) -> list[Value]:
+    """The links of routers."""
     return [link_value(database, area, router, place) for router in routers for area in database.attached(router)
             for place in range(len(database.graph(area).links[router]))]
 
 
 def links_lines(shown: Shown, links: list[Value]) -> list[str]:
+    """The lines of `links`."""
     return [f"{shown.router(link['router'])} area {link['area']} {link_text(shown, link)}" for link in links]
 
 
@@ -177,6 +189,7 @@ def links_lines(shown: Shown, links: list[Value]) -> list[str]:
 
 
 def router_value(database: Database, names: Names, router: Router) -> Value:
+    """A router, as `routers` shows it."""
     areas = database.attached(router)
     lsas = [database.router_lsa(area, router) for area in areas]
     kinds = [link[0] for area in areas for link in database.graph(area).links[router]]
@@ -189,11 +202,13 @@ def router_value(database: Database, names: Names, router: Router) -> Value:
 
 
 def router_line(value: Value) -> str:
+    """A line of `routers`."""
     return (f"{value['router']} {value['name'] or '-'} areas {listed(value['areas'])} roles {listed(value['roles'])}"
             f" links {value['links']} transit {value['transit']} stubs {value['stubs']}")
 
 
 def networks_value(database: Database) -> list[Value]:
+    """The network-LSAs in use."""
     found = []
     for area, _, _ in database.areas:
         graph = database.graph(area)
@@ -209,6 +224,7 @@ def networks_value(database: Database) -> list[Value]:
 
 
 def network_line(shown: Shown, value: Value) -> str:
+    """A line of `networks`."""
     one_way = f" one-way {shown.routers(value['one_way'])}" if value["one_way"] else ""
     return (f"{value['prefix']} area {value['area']} dr {shown.router(value['router'])} {value['address']}"
             f" members {shown.routers(value['members'])}{one_way}")
@@ -218,6 +234,7 @@ def network_line(shown: Shown, value: Value) -> str:
 
 
 def way_value(database: Database, router: Router, way: Way) -> Value:
+    """A way of an entry."""
     made: Value = {"kind": way.kind, "out": dotted(way.out) if way.out else None}
     if way.kind == "via":
         made |= {"router": dotted(way.router), "addresses": far_addresses(database, router, way)}
@@ -240,6 +257,7 @@ def far_addresses(database: Database, router: Router, way: Way) -> list[str]:
 
 
 def route_value(database: Database, router: Router, net: Net, entry: Entry) -> Value:
+    """An entry of a router."""
     made: Value = {"prefix": shown_net(net), "kind": entry.kind}
     if entry.kind == "own":
         return made | {"external": entry.external, "metric": entry.metric,
@@ -250,6 +268,7 @@ def route_value(database: Database, router: Router, net: Net, entry: Entry) -> V
 
 
 def way_text(shown: Shown, way: Value) -> str:
+    """A way."""
     out = f" out {way['out']}" if way["out"] else ""
     if way["kind"] == "via":
         return f"via {shown.router(way['router'])} {'/'.join(way['addresses'])}{out}"
@@ -275,6 +294,7 @@ def route_text(shown: Shown, route: Value) -> str:
 
 
 def routes_value(database: Database, router: Router, address: bytes | None) -> list[Value]:
+    """The entries of a router, or its match for an address."""
     if address is None:
         found = sorted(database.entries(router).items())
     else:
@@ -287,6 +307,7 @@ def routes_value(database: Database, router: Router, address: bytes | None) -> l
 
 
 def path_value(database: Database, start: Router, address: bytes) -> Value:
+    """All walks from a router to an address: its steps, ends and loops."""
     graph = Forwarding(database, (number(address), 32))
     order = [router for level in graph.levels(start) for router in level]
     loops = cycles({router: graph.edges[router] for router in order})
@@ -299,6 +320,7 @@ def path_value(database: Database, start: Router, address: bytes) -> Value:
 
 
 def steps_of(database: Database, graph: Forwarding, router: Router) -> list[Value]:
+    """What a router does with a packet, a step for each way."""
     match = graph.matches[router]
     made: Value = {"router": dotted(router)}
     if match is None:
@@ -311,6 +333,7 @@ def steps_of(database: Database, graph: Forwarding, router: Router) -> list[Valu
 
 
 def step_value(database: Database, router: Router, way: Way) -> Value:
+    """The step of a way."""
     value = way_value(database, router, way)
     if way.kind == "via":
         return {"to": value["router"], "out": value["out"], "cost": database.step_cost(router, way)}
@@ -320,6 +343,7 @@ def step_value(database: Database, router: Router, way: Way) -> Value:
 
 
 def step_text(shown: Shown, step: Value) -> str:
+    """A line of `path`."""
     front = shown.router(step["router"])
     if step.get("end") == "blackhole":
         return f"{front} blackhole"
@@ -332,6 +356,7 @@ def step_text(shown: Shown, step: Value) -> str:
 
 
 def path_lines(shown: Shown, value: Value) -> list[str]:
+    """The lines of `path`."""
     return ([step_text(shown, step) for step in value["steps"]]
             + [f"loop {shown.routers(loop)}" for loop in value["loops"]])
 
@@ -343,35 +368,40 @@ SECTIONS = {"intra": "16.1 intra-area", "inter": "16.2 inter-area", "ext1": "16.
 
 
 def explain_value(database: Database, router: Router, net: Net) -> Value:
+    """Why a route is what it is."""
     entry, found = database.entries(router).get(net), reasons(database, router, net)
+    targets = used_targets(found)
     rests = [lsa_value(area, lsa) for area, lsa in sorted(resting_lsas(database, router, found), key=lsa_order)]
     return {"router": dotted(router), "prefix": shown_net(net),
             "route": route_value(database, router, net, entry) if entry else None,
             "rule": SECTIONS[entry.kind] if entry else None,
             "candidates": [reason_value(reason) for reason in found],
             "ways": [way for area, edges in least_ways(database, router, found).items()
-                     for way in least_steps(database, area, router, edges)],
+                     for way in least_steps(database, area, router, edges, targets)],
             "rests": rests}
 
 
 def lsa_order(item: tuple[int | None, bytes]) -> tuple:
+    """The order of LSAs: by area, those of the AS last, then by type, ID and originator."""
     area, lsa = item
     return area is None, area or 0, lsa[3], lsa[4:8], lsa[8:12]
 
 
 def reason_value(reason: Reason) -> Value:
+    """A candidate."""
     return {"used": reason.is_used, "lsa": lsa_value(reason.area, reason.lsa), "link": reason.link or None,
             "distance": reason.distance, "metric": reason.metric, "rule": reason.rule}
 
 
-def least_steps(database: Database, area: int, root: Router, edges: set) -> list[Value]:
-    """The edges on least paths from router to router, in order of distance; a last one may lead to a network."""
+def least_steps(database: Database, area: int, root: Router, edges: set, targets: set) -> list[Value]:
+    """The edges on least paths from router to router, in order of distance; one to a target may lead to a network."""
     tree, made = database.tree(area, root), []
     after = {network: [edge for edge in edges if edge[0] == network] for _, network, _, _ in edges}
     for before, there, cost, data in edges:
         if before[0] == "network":
             continue
-        ends = [edge[1] for edge in after[there]] if there[0] == "network" and after[there] else [there]
+        ends = [edge[1] for edge in after[there]] if there[0] == "network" else [there]
+        ends += [there] if there[0] == "network" and (area, there) in targets else []
         for end in ends:
             over = dotted(there[1]) if end != there else None
             order = tree[before][0], before[1], end[0] == "network", end[1], data, over or ""
@@ -382,6 +412,7 @@ def least_steps(database: Database, area: int, root: Router, edges: set) -> list
 
 
 def explain_lines(shown: Shown, value: Value) -> list[str]:
+    """The lines of `explain`."""
     route = f"route {route_text(shown, value['route'])}" if value["route"] else "no route"
     return ([route, f"rule {value['rule'] or 'none'}"]
             + [reason_text(shown, reason) for reason in value["candidates"]]
@@ -390,6 +421,7 @@ def explain_lines(shown: Shown, value: Value) -> list[str]:
 
 
 def reason_text(shown: Shown, reason: Value) -> str:
+    """The line of a candidate."""
     link = f" #{reason['link']}" if reason["link"] else ""
     distance = "" if reason["distance"] is None else f" distance {reason['distance']}"
     front = "used" if reason["used"] else "lost"
@@ -397,6 +429,7 @@ def reason_text(shown: Shown, reason: Value) -> str:
 
 
 def least_text(shown: Shown, way: Value) -> str:
+    """The line of a step on a least path."""
     to = f"network {way['to']}" if way["is_network"] else shown.router(way["to"])
     over = f" over {way['over']}" if way["over"] else ""
     return (f"way area {way['area']} {shown.router(way['router'])} -> {to} out {way['out']}{over} cost {way['cost']}"
@@ -418,6 +451,7 @@ def announcers(base: Database, now: Database, net: Net) -> set[Router]:
 
 
 def is_announcing(lsa: bytes, kind: int, net: Net) -> bool:
+    """Whether an LSA is live, for the prefix, and of another metric than LSInfinity."""
     address = net[0].to_bytes(4, "big")
     return is_live(lsa) and is_for(lsa, kind, lsa[8:12], (address, net[1])) and number(lsa[25:28]) != INFINITY
 
@@ -438,6 +472,7 @@ class Comparison:
     now: Database
 
     def common(self) -> list[Router]:
+        """The routers that are attached in both."""
         return sorted(set(self.base.routers) & set(self.now.routers))
 
     def missing(self, has_announcer: bool) -> list[Value]:
@@ -454,6 +489,7 @@ class Comparison:
         return found
 
     def changes(self, router: Router | None) -> Value:
+        """All changes, or those of one router, with their numbers by group."""
         routers = sorted(set(self.base.routers) | set(self.now.routers)) if router is None else [router]
         found, unchanged = [], 0
         for one in routers:
@@ -469,6 +505,7 @@ class Comparison:
                 "changes": found}
 
     def changes_of(self, router: Router) -> tuple[list[Value], int]:
+        """The changes of a router that is attached in both, and the number of equal entries."""
         old, new = self.base.entries(router), self.now.entries(router)
         found = []
         for net in sorted(old.keys() | new.keys()):
@@ -513,15 +550,18 @@ class Comparison:
 
 
 def loop_value(net: Net, loop: tuple[Router, ...]) -> Value:
+    """A loop of an atom."""
     return {"prefix": shown_net(net), "routers": list(map(dotted, loop))}
 
 
 def pair_line(shown: Shown, pair: Value) -> str:
+    """A line of `lost` or `gone`."""
     announced = f" announced {shown.routers(pair['announced'])}" if pair["announced"] else ""
     return f"{shown.router(pair['router'])} {pair['prefix']} was {route_text(shown, pair['was'])}{announced}"
 
 
 def change_line(shown: Shown, item: Value) -> str:
+    """A line of `changes`."""
     front = f"{item['change']} {shown.router(item['router'])}"
     now = f" {route_text(shown, item['now'])}" if item["now"] else ""
     was = f" was {route_text(shown, item['was'])}" if item["was"] else ""
@@ -529,10 +569,12 @@ def change_line(shown: Shown, item: Value) -> str:
 
 
 def loop_line(shown: Shown, loop: Value) -> str:
+    """The line of a loop."""
     return f"loop {loop['prefix']} at {shown.routers(loop['routers'])}"
 
 
 def hole_line(shown: Shown, hole: Value) -> str:
+    """The line of a blackhole."""
     return f"blackhole {hole['prefix']} at {shown.router(hole['router'])} from {shown.routers(hole['from'])}"
 
 
@@ -540,6 +582,7 @@ def hole_line(shown: Shown, hole: Value) -> str:
 
 
 def help_value(word: str | None) -> list[Value]:
+    """The words with their meanings, or one of them."""
     found = [{"line": grammar(one), "meaning": HELP[one][1]} for one in HELP if word in (None, one)]
     if word in (None, "expect"):
         found += [{"line": f"expect {one} {shape}".rstrip(), "meaning": None} for one, shape in CONDITIONS.items()]
@@ -547,4 +590,5 @@ def help_value(word: str | None) -> list[Value]:
 
 
 def help_line(item: Value) -> str:
+    """A line of `help`."""
     return item["line"] + (f": {item['meaning']}" if item["meaning"] else "")

@@ -5,12 +5,15 @@ It was written from that page and docs/FORMATS.md alone.
 import dataclasses
 import os.path
 import re
-from typing import Callable, Sequence
+from typing import Any, Callable, Sequence
 
 import plain_planner
 from plain_planner import ADDRESS, LENGTH, NUMBER, mask
 from plain_reader import number
 from plain_routes import dotted
+
+# An argument: an address, a prefix, a number or a word, by its place.
+Value = Any
 
 # ---- words
 
@@ -86,6 +89,7 @@ MOST = {("cost", "METRIC"): SHORT, ("add-stub", "METRIC"): SHORT, ("summary", "M
 
 
 def grammar(word: str) -> str:
+    """A word with its arguments."""
     return f"{word} {HELP[word][0]}".rstrip()
 
 
@@ -99,9 +103,11 @@ class Fault(Exception):
     hint: str = ""
 
     def shown(self) -> str:
+        """The reply to the line."""
         return f"{self.what} {self.code}"
 
     def explained(self) -> str:
+        """The line on standard error."""
         return f"{self.what} {self.code} {escaped(self.at)} ({self.hint})"
 
 
@@ -122,6 +128,7 @@ def nearest(word: str, others: Sequence[str]) -> str | None:
 
 
 def is_like(word: str, other: str | None) -> bool:
+    """Whether two words have anything in common at their ends."""
     return other is not None and likeness(word, other) > 0
 
 
@@ -136,6 +143,7 @@ class Names:
         self.first: dict[bytes, str] = {}
 
     def of(self, router: bytes) -> str:
+        """The name of a router, or its Router ID."""
         return self.first.get(router, dotted(router))
 
 
@@ -162,6 +170,7 @@ def read_names(text: bytes) -> Names:
 
 
 def add_names(names: Names, line: int, words: list[bytes]) -> None:
+    """Takes the names of a line into account. Raises `BadNames`."""
     if not ADDRESS.fullmatch(words[0]):
         raise BadNames(line, "H1 BadAddress", words[0])
     if len(words) == 1:
@@ -188,7 +197,7 @@ class Reading:
     word: str
     names: Names
 
-    def argument(self, role: str, word: bytes):
+    def argument(self, role: str, word: bytes) -> Value:
         """The value of a word in its place. Raises `Fault`."""
         if role in ("ROUTER", "NEIGHBOR", "ADDRESS"):
             return self.named(word)
@@ -215,11 +224,13 @@ class Reading:
         return self.address(word, f"names have {near}" if is_like(name, near) else "")
 
     def address(self, word: bytes, hint: str) -> bytes:
+        """An address. Raises `Fault` with a hint."""
         if not ADDRESS.fullmatch(word):
             raise Fault("script", "S6 BadAddress", word, hint or "an address is four numbers, 0 to 255")
         return bytes(map(int, word.split(b".")))
 
     def prefix(self, word: bytes) -> tuple[int, int]:
+        """A prefix: address and length. Raises `Fault`."""
         front, slash, back = word.partition(b"/")
         if not slash or not ADDRESS.fullmatch(front) or not LENGTH.fullmatch(back):
             raise Fault("script", "S7 BadPrefix", word, "a prefix is an address, / and a length 0 to 32")
@@ -239,17 +250,20 @@ class Reading:
             return self.number(word, "LINK", 0, SHORT)
 
     def number(self, word: bytes, role: str, least: int, most: int) -> int:
+        """A number within a range. Raises `Fault`."""
         if not NUMBER.fullmatch(word) or not least <= int(word[:20]) <= most:
             raise Fault("script", "S5 BadNumber", word, f"{role} is {least} to {most}")
         return int(word)
 
     def one_of(self, word: bytes, words: Sequence[str]) -> str:
+        """One of several words. Raises `Fault`."""
         if word.decode("latin-1") not in words:
             raise bad_word(word, words)
         return word.decode("latin-1")
 
 
 def bad_word(word: bytes, words: Sequence[str]) -> Fault:
+    """The fault of a word that is none of those that may stand there."""
     name = word.decode("latin-1")
     near = nearest(name, words)
     if len(words) > 8:
@@ -273,6 +287,7 @@ class Line:
     is_old: bool = False
 
     def at(self, place: int) -> bytes:
+        """A word after the first, as it was written."""
         return self.words[place]
 
 
@@ -300,6 +315,7 @@ def line_of(text: bytes, names: Names) -> Line | None:
 
 
 def is_old(text: bytes) -> bool:
+    """Whether `ospf-plan` takes a line."""
     try:
         return plain_planner.command(text) is not None
     except plain_planner.Refused:
@@ -347,29 +363,35 @@ class Cursor:
         self.shape = grammar("expect")
 
     def is_at_end(self) -> bool:
+        """Whether no word is left."""
         return self.place == len(self.words)
 
     def peek(self) -> bytes:
+        """The next word. Raises `Fault` where there is none."""
         if self.is_at_end():
             raise Fault("script", "S3 MissingWord", self.words[-1], self.shape)
         return self.words[self.place]
 
-    def take(self, role: str):
+    def take(self, role: str) -> Value:
+        """Takes the value of the next word."""
         value = self.reading.argument(role, self.peek())
         self.place += 1
         return value
 
     def keyword(self, words: Sequence[str]) -> str:
+        """Takes the next word, which must be one of several."""
         value = self.reading.one_of(self.peek(), words)
         self.place += 1
         return value
 
     def end(self) -> None:
+        """Tests that no word is left."""
         if not self.is_at_end():
             raise Fault("script", "S4 ExtraWord", self.words[self.place], self.shape)
 
 
 def condition_of(words: list[bytes], names: Names) -> Condition:
+    """The condition of an expectation. Raises `Fault`."""
     cursor = Cursor(words, names)
     is_not = cursor.peek() == b"not"
     cursor.place += is_not
@@ -387,6 +409,7 @@ def condition_of(words: list[bytes], names: Names) -> Condition:
 
 
 def read_route(cursor: Cursor, made: Condition) -> None:
+    """`route ROUTER PREFIX [KIND] [via NEIGHBOR,..] [cost OP NUMBER]`."""
     made.router, made.net = cursor.take("ROUTER"), cursor.take("PREFIX")
     left = [*KINDS, "via", "cost"]
     while left and not cursor.is_at_end():
@@ -407,15 +430,18 @@ def take_routers(cursor: Cursor) -> frozenset[bytes]:
 
 
 def read_no_route(cursor: Cursor, made: Condition) -> None:
+    """`no-route ROUTER PREFIX`."""
     made.router, made.net = cursor.take("ROUTER"), cursor.take("PREFIX")
 
 
 def read_hops(cursor: Cursor, made: Condition) -> None:
+    """`hops ROUTER PREFIX OP NUMBER`."""
     read_no_route(cursor, made)
     made.form, made.number = cursor.keyword(OPERATORS), cursor.take("NUMBER")
 
 
 def read_path(cursor: Cursor, made: Condition) -> None:
+    """`path ROUTER ADDRESS via ROUTER`, `avoids ROUTER` or `delivered`."""
     made.router, made.address = cursor.take("ROUTER"), cursor.take("ADDRESS")
     made.form = cursor.keyword(("via", "avoids", "delivered"))
     if made.form != "delivered":
@@ -423,6 +449,7 @@ def read_path(cursor: Cursor, made: Condition) -> None:
 
 
 def read_pairs(cursor: Cursor, made: Condition) -> None:
+    """`none`, `<= NUMBER` or `only PREFIX..`, of lost or gone pairs."""
     made.form = cursor.keyword(("none", "<=", "only"))
     if made.form == "<=":
         made.number = cursor.take("NUMBER")
@@ -433,23 +460,28 @@ def read_pairs(cursor: Cursor, made: Condition) -> None:
 
 
 def read_none(cursor: Cursor, made: Condition) -> None:
+    """`none`."""
     made.form = cursor.keyword(("none",))
 
 
 def read_microloops(cursor: Cursor, made: Condition) -> None:
+    """`microloops [COUNT] none`."""
     made.number = cursor.take("COUNT") if cursor.peek()[:1].isdigit() else 1
     read_none(cursor, made)
 
 
 def read_same(cursor: Cursor, made: Condition) -> None:
+    """`same [ROUTER]`."""
     made.router = None if cursor.is_at_end() else cursor.take("ROUTER")
 
 
 def read_changes(cursor: Cursor, made: Condition) -> None:
+    """`changes <= NUMBER`."""
     made.form, made.number = cursor.keyword(("<=",)), cursor.take("NUMBER")
 
 
 def read_audit(cursor: Cursor, made: Condition) -> None:
+    """`audit clean` or `audit only KIND..`."""
     made.form = cursor.keyword(("clean", "only"))
     if made.form == "only":
         made.kinds = (cursor.take("KIND"),)

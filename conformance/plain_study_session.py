@@ -4,7 +4,7 @@ It was written from that page alone, over the edits of plain_planner.py.
 """
 import dataclasses
 import functools
-from typing import Callable
+from typing import Any, Callable
 
 import plain_planner
 import plain_routes
@@ -35,6 +35,7 @@ class Reply:
     error: str = ""
 
     def text(self) -> str:
+        """The reply as text."""
         front = self.head if self.line is None else f"@{self.line.branch} {self.head}"
         return "".join(line + "\n" for line in [front, *self.lines])
 
@@ -63,6 +64,7 @@ class Session:
             return Reply(what, fault.shown(), [], value, line, fault.explained())
 
     def answered(self, line: Line) -> Reply:
+        """Carries out a line. Raises `Fault`."""
         branch = self.planner.branch(line.branch)
         answers = Answers(self, line, branch)
         if line.word in EDITS:
@@ -81,6 +83,7 @@ def several(items: list[str]) -> str:
 
 
 def counted(name: str, items: list[str]) -> str:
+    """A number of texts, and the first of them."""
     return f"{name} {len(items)}" + (f": {several(items)}" if items else "")
 
 
@@ -94,22 +97,27 @@ class Answers:
 
     @property
     def now(self) -> Database:
+        """The present database of the branch."""
         return database_of(self.branch.state)
 
     @property
     def loaded(self) -> Database:
+        """The loaded database."""
         return database_of(self.session.planner.base)
 
     @property
     def base(self) -> Database:
+        """The baseline."""
         return database_of(self.session.baseline) if self.session.baseline else self.loaded
 
     @property
     def shown(self) -> Shown:
+        """Shows routers by their names."""
         return Shown(self.session.names)
 
     @property
     def compared(self) -> Comparison:
+        """The present database beside the baseline."""
         return Comparison(self.base, self.now)
 
     def listing(self, value: Value, lines: list[str], front: str = "", after: str = "") -> Reply:
@@ -132,6 +140,7 @@ class Answers:
         return b""
 
     def router_hint(self, router: Router) -> str:
+        """What would have been right for a router that is not attached."""
         if router in self.base.routers:
             return "it is in the baseline alone"
         near = nearest(dotted(router), list(map(dotted, self.now.routers)))
@@ -140,6 +149,7 @@ class Answers:
     # ---- old words
 
     def edit(self) -> Reply:
+        """Carries out an edit, and says what it changed where that is wanted. Raises `Fault`."""
         before = self.branch.state
         roles = HELP[self.line.word][0].split()
         if "LINK" in roles and not isinstance(self.line.values[roles.index("LINK")], int):
@@ -153,7 +163,7 @@ class Answers:
             return Reply("ok", "ok", [], {}, self.line)
         return self.said(before)
 
-    def link_number(self, area: bytes, router: Router, link) -> int:
+    def link_number(self, area: bytes, router: Router, link: bytes | tuple[int, int]) -> int:
         """The number of a link that is named by its address, its neighbor or its prefix. Raises `Fault`."""
         try:
             if len(self.branch.done) >= MOST_EDITS:
@@ -167,6 +177,7 @@ class Answers:
         return found[0] if found else 0
 
     def refusal(self, code: str) -> Fault:
+        """The refusal of this line, with its word and hint."""
         return Refusals(self, self.line, self.branch).fault(code)
 
     def said(self, before: State) -> Reply:
@@ -186,6 +197,7 @@ class Answers:
                      {"differences": [item.value(plain) for item in found]}, self.line)
 
     def move(self) -> Reply:
+        """Undoes or redoes. Raises `Fault`."""
         try:
             getattr(self.branch, self.line.word)(self.line.values[0])
         except plain_planner.Refused as refused:
@@ -206,10 +218,12 @@ class Answers:
     # ---- see
 
     def routers(self) -> Reply:
+        """The word `routers`."""
         found = [router_value(self.now, self.session.names, router) for router in self.now.routers]
         return self.listing({"routers": found}, list(map(router_line, found)))
 
     def links(self) -> Reply:
+        """The word `links`."""
         routers = [self.attached(router) for router in self.line.values] or self.now.routers
         found = links_value(self.now, routers)
         return self.listing({"links": found}, links_lines(self.shown, found), self.front())
@@ -220,10 +234,12 @@ class Answers:
                         + [dotted(value) for value in self.line.values[1:]])
 
     def networks(self) -> Reply:
+        """The word `networks`."""
         found = networks_value(self.now)
         return self.listing({"networks": found}, [network_line(self.shown, item) for item in found])
 
     def routes(self) -> Reply:
+        """The word `routes`."""
         router, *address = self.line.values
         found = routes_value(self.now, self.attached(router), address[0] if address else None)
         lines = [f"{item['prefix']} {route_text(self.shown, item)}" for item in found]
@@ -231,17 +247,20 @@ class Answers:
         return self.listing(value, lines, self.front())
 
     def path(self) -> Reply:
+        """The word `path`."""
         router, address = self.line.values
         value = path_value(self.now, self.attached(router), address)
         return self.listing(value, path_lines(self.shown, value), self.front(), listed(value["ends"]))
 
     def explain(self) -> Reply:
+        """The word `explain`."""
         router, net = self.line.values
         value = explain_value(self.now, self.attached(router), net)
         front = f"{self.shown.router(dotted(router))} {shown_net(net)}"
         return self.listing(value, explain_lines(self.shown, value), front)
 
     def changes(self) -> Reply:
+        """The word `changes`."""
         router = self.line.values[0] if self.line.values else None
         if router is not None:
             self.attached(router, self.now, self.base)
@@ -250,15 +269,18 @@ class Answers:
         return self.listing(value, [change_line(self.shown, item) for item in value["changes"]], self.front(), counts)
 
     def differences(self) -> Reply:
+        """The word `differences`."""
         found, plain = differences(self.base, self.now), Shown(Names())
         value = {"differences": [item.value(plain) for item in found]}
         return self.listing(value, [item.text(self.shown) for item in found])
 
     def pairs(self) -> Reply:
+        """The words `lost` and `gone`."""
         found = self.compared.missing(self.line.word == "lost")
         return self.listing({"pairs": found}, [pair_line(self.shown, item) for item in found])
 
     def loops(self) -> Reply:
+        """The word `loops`."""
         value = self.compared.loops()
         lines = ([loop_line(self.shown, item) for item in value["loops"]]
                  + [hole_line(self.shown, item) for item in value["blackholes"]])
@@ -266,6 +288,7 @@ class Answers:
         return self.listing(value, lines, "", after)
 
     def microloops(self) -> Reply:
+        """The word `microloops`."""
         count = self.line.values[0] if self.line.values else 1
         found = self.changeover(count).microloops()
         value = {"count": count, "loops": found}
@@ -283,6 +306,7 @@ class Answers:
         return Comparison(database_of(before), self.now)
 
     def audit(self) -> Reply:
+        """The word `audit`."""
         findings, plain = Audit(self.now, self.loaded).findings(), Shown(Names())
         if self.line.values:
             kind = self.line.values[0]
@@ -294,10 +318,12 @@ class Answers:
         return self.listing({"wrong": wrong, "findings": value}, lines, "", f"wrong {wrong}")
 
     def log(self) -> Reply:
+        """The word `log`."""
         lines = [line.decode() for line, _ in self.branch.done]
         return self.listing({"lines": lines}, lines)
 
     def help(self) -> Reply:
+        """The word `help`."""
         word = self.line.values[0] if self.line.values else None
         found = help_value(word)
         return self.listing({"words": found}, list(map(help_line, found)), word or "")
@@ -305,6 +331,7 @@ class Answers:
     # ---- expect
 
     def expect(self) -> Reply:
+        """The word `expect`: ok where the condition holds, and failed with what was found where not."""
         condition = self.line.condition
         holds, found = CHECKS[condition.word](self, condition, self.shown)
         plain = CHECKS[condition.word](self, condition, Shown(Names()))[1]
@@ -314,16 +341,20 @@ class Answers:
         return Reply("failed", f"failed {found}", [], value, self.line, f"failed {found}")
 
     def entry(self, condition: Condition) -> Entry | None:
+        """The entry of an attached router for exactly the prefix. Raises `Fault`."""
         return self.now.entries(self.attached(condition.router)).get(condition.net)
 
     def known(self, router: Router) -> Router:
+        """A router that is attached now or in the baseline. Raises `Fault`."""
         return self.attached(router, self.now, self.base)
 
     def found_route(self, condition: Condition, shown: Shown) -> str:
+        """The route that is there, as a text."""
         entry = self.entry(condition)
         return route_text(shown, route_value(self.now, condition.router, condition.net, entry)) if entry else "no route"
 
     def check_route(self, condition: Condition, shown: Shown) -> tuple[bool, str]:
+        """Whether `route` holds, and what was found; so the others below."""
         entry = self.entry(condition)
         for router in sorted(condition.via or ()):
             self.known(router)
@@ -335,14 +366,17 @@ class Answers:
         return holds, self.found_route(condition, shown)
 
     def check_no_route(self, condition: Condition, shown: Shown) -> tuple[bool, str]:
+        """Whether `no-route` holds."""
         return self.entry(condition) is None, self.found_route(condition, shown)
 
     def check_hops(self, condition: Condition, shown: Shown) -> tuple[bool, str]:
+        """Whether `hops` holds."""
         entry = self.entry(condition)
         hops = 0 if entry is None else max(1, len(entry.ways))
         return compares(hops, condition.form, condition.number), f"hops {hops}"
 
     def check_path(self, condition: Condition, shown: Shown) -> tuple[bool, str]:
+        """Whether `path` holds, with `via`, `avoids` or `delivered`."""
         start = self.attached(condition.router)
         if condition.other is not None:
             self.known(condition.other)
@@ -356,6 +390,7 @@ class Answers:
         return passes(graph, start, condition.other), found
 
     def check_pairs(self, condition: Condition, shown: Shown) -> tuple[bool, str]:
+        """Whether `lost` or `gone` holds."""
         pairs = self.compared.missing(condition.word == "lost")
         texts = [f"{shown.router(pair['router'])} {pair['prefix']}" for pair in pairs]
         if condition.form == "only":
@@ -366,17 +401,21 @@ class Answers:
         return len(pairs) <= most, counted(condition.word, texts)
 
     def check_loops(self, condition: Condition, shown: Shown) -> tuple[bool, str]:
+        """Whether `loops none` holds."""
         return no_loops("loops", self.compared.loops()["loops"], shown)
 
     def check_microloops(self, condition: Condition, shown: Shown) -> tuple[bool, str]:
+        """Whether `microloops none` holds."""
         return no_loops("microloops", self.changeover(condition.number).microloops(), shown)
 
     def check_blackholes(self, condition: Condition, shown: Shown) -> tuple[bool, str]:
+        """Whether `blackholes none` holds."""
         holes = self.compared.loops()["blackholes"]
         return not holes, counted("blackholes", [hole_line(shown, hole).split(" ", 1)[1].partition(" from ")[0]
                                                  for hole in holes])
 
     def check_changes(self, condition: Condition, shown: Shown) -> tuple[bool, str]:
+        """Whether `same` or `changes <=` holds."""
         if condition.router is not None:
             self.known(condition.router)
         found = self.compared.changes(condition.router)["changes"]
@@ -385,6 +424,7 @@ class Answers:
         return len(found) <= condition.number, counted("changes", texts)
 
     def check_audit(self, condition: Condition, shown: Shown) -> tuple[bool, str]:
+        """Whether `audit clean` or `audit only` holds."""
         findings = Audit(self.now, self.loaded).findings()
         wrong = {kind: len(places) for kind, places in findings.items() if places and MEANINGS[kind][0] == "wrong"}
         others = {kind: count for kind, count in wrong.items() if kind not in condition.kinds}
@@ -394,6 +434,7 @@ class Answers:
 
 
 def no_loops(name: str, loops: list[Value], shown: Shown) -> tuple[bool, str]:
+    """Whether there is no loop, and what there is."""
     return not loops, counted(name, [loop_line(shown, loop).partition(" ")[2] for loop in loops])
 
 
@@ -408,6 +449,7 @@ def passes(graph: Forwarding, start: Router, other: Router) -> bool:
 
 
 def compares(value: int, form: str, other: int) -> bool:
+    """Whether a number compares to another as a word says."""
     return {"<=": value <= other, "=": value == other, ">=": value >= other}[form]
 
 
@@ -426,13 +468,14 @@ ANSWERS: dict[str, Callable[[Answers], Reply]] = {
 
 # ---- edits
 
-def spelled_value(role: str, value) -> str:
+def spelled_value(role: str, value: bytes | int | tuple[int, int]) -> str:
+    """The one spelling of an argument."""
     if isinstance(value, bytes):
         return dotted(value)
     return shown_net(value) if role == "PREFIX" else str(value)
 
 
-def is_named(link: tuple, name) -> bool:
+def is_named(link: tuple, name: bytes | tuple[int, int]) -> bool:
     """Whether an address, a neighbor's Router ID or a prefix names a link."""
     kind, ident, data, _ = link
     if isinstance(name, tuple):
@@ -457,28 +500,35 @@ class Refusals:
     branch: Branch
 
     def fault(self, code: str) -> Fault:
+        """The refusal of a code."""
         place, hint = getattr(self, "hint_" + code.split(" ")[0])()
         at = self.line.word.encode() if place is None else self.line.at(place)
         return Fault("refused", code, at, hint)
 
     def role(self, name: str) -> int:
+        """The place of an argument."""
         return HELP[self.line.word][0].split().index(name)
 
-    def value(self, name: str):
+    def value(self, name: str) -> Any:
+        """The value of an argument."""
         return self.line.values[self.role(name)]
 
     def area_place(self) -> int:
+        """The place of the area of the line."""
         return self.branch.state.place(self.value("AREA"))
 
     def routers_in(self, place: int) -> set[Router]:
+        """The routers with a router-LSA of any age in an area."""
         return {lsa[8:12] for lsa in self.branch.state.sections[place] if lsa[3] == 1}
 
     def hint_E1(self) -> tuple[int, str]:
+        """NoArea."""
         areas = [dotted(ident.to_bytes(4, "big")) for ident, _ in self.branch.state.heads]
         near = nearest(dotted(self.value("AREA")), areas)
         return self.role("AREA"), f"the database has {near}" if near else "the database has no area"
 
     def hint_E2(self) -> tuple[int, str]:
+        """NoRouter: another area that has it, or the nearest one here."""
         role = "ROUTER"
         if "AREA" not in HELP[self.line.word][0].split():
             routers = {router for place in range(len(self.branch.state.heads)) for router in self.routers_in(place)}
@@ -496,6 +546,7 @@ class Refusals:
         return self.role(role), f"area {area} has {near}" if near else f"area {area} has no router"
 
     def hint_E3(self) -> tuple[int, str]:
+        """NoLink."""
         router = dotted(self.value("ROUTER"))
         if self.line.word == "fail-link":
             return self.role("NEIGHBOR"), f"{router} has no point-to-point link to it"
@@ -503,51 +554,64 @@ class Refusals:
         return self.role("LINK"), f"{router} has links 1 to {count}" if count else f"{router} has no link"
 
     def hint_E4(self) -> tuple[int, str]:
+        """ZeroCost."""
         return self.role("METRIC"), "a link of this type costs 1 to 65535"
 
     def hint_E5(self) -> tuple[int, str]:
+        """SameRouter."""
         return self.role("NEIGHBOR"), "name the two ends"
 
     def hint_E6(self) -> tuple[int, str]:
+        """NoNetwork."""
         area = dotted(self.value("AREA"))
         networks = sorted({lsa[4:8] for lsa in self.branch.state.sections[self.area_place()] if lsa[3] == 2})
         near = nearest(dotted(self.value("ADDRESS")), list(map(dotted, networks)))
         return self.role("ADDRESS"), f"area {area} has {near}" if near else f"area {area} has no network"
 
     def hint_E7(self) -> tuple[int, str]:
+        """NoSummary."""
         count = self.announced(self.branch.state.sections[self.area_place()], 3)
         return self.role("PREFIX"), f"{dotted(self.value('ROUTER'))} has {count} summaries in the area"
 
     def hint_E8(self) -> tuple[int, str]:
+        """NoExternal."""
         count = self.announced(self.branch.state.sections[-1], 5)
         return self.role("PREFIX"), f"{dotted(self.value('ROUTER'))} has {count} externals"
 
     def announced(self, lsas: tuple[bytes, ...], kind: int) -> int:
+        """The number of LSAs of a type that the router of the line has among these."""
         return sum(lsa[3] == kind and lsa[8:12] == self.value("ROUTER") for lsa in lsas)
 
     def hint_E9(self) -> tuple[int, str]:
+        """KeyTaken."""
         other = "summary changes it" if self.line.word == "add-summary" else "drop-external removes it"
         return self.role("PREFIX"), other
 
     def hint_E10(self) -> tuple[int, str]:
+        """TooLong."""
         return self.role("ROUTER"), "its router-LSA is full"
 
     def hint_E11(self) -> tuple[None, str]:
+        """Full."""
         return None, "a limit of the dump is reached"
 
     def hint_E12(self) -> tuple[None, str]:
+        """HistoryFull."""
         return None, "10000 edits are done"
 
     def hint_U1(self) -> tuple[int, str]:
+        """NothingToUndo."""
         return 0, f"{len(self.branch.done)} edits are done"
 
     def hint_U2(self) -> tuple[int, str]:
+        """NothingToRedo."""
         return 0, f"{len(self.branch.undone)} edits are undone"
 
 
 # ---- JSON of the old words
 
 def old_value(word: str, head: str, lines: list[str]) -> Value:
+    """The values of a reply of `ospf-plan`."""
     if word == "info":
         words = head.split(" ")[1:]
         return dict(zip(words[::2], map(int, words[1::2])))
@@ -565,12 +629,14 @@ def old_value(word: str, head: str, lines: list[str]) -> Value:
 
 
 def table_value(line: str) -> Value:
+    """The values of a line of a table."""
     prefix, kind, cost, cost2, area, hops = line.split(" ")
     return {"prefix": prefix, "kind": kind, "cost": int(cost), "cost2": int(cost2),
             "area": None if area == "-" else area, "hops": hops.split(",")}
 
 
 def compare_value(line: str) -> Value:
+    """The values of a line of a comparison."""
     sign, now, was = line[0], *(line[2:].split(" was ") + [""])[:2]
     if sign == "-":
         return {"sign": sign, "now": None, "was": table_value(now)}
