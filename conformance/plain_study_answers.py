@@ -529,14 +529,15 @@ class Comparison:
 
     def loops(self) -> Value:
         """The loops of the present database, and the blackholes that the baseline does not have."""
-        loops, holes = [], []
+        loops, blackholes = [], []
         for net in atoms([self.base, self.now]):
             now, base = Forwarding(self.now, net), Forwarding(self.base, net)
             loops += [loop_value(net, loop) for loop in cycles(now.edges)]
             for router in sorted(now.blackholes() - base.blackholes()):
                 senders = sorted(sender for sender in now.edges if router in now.edges[sender])
-                holes.append({"prefix": shown_net(net), "router": dotted(router), "from": list(map(dotted, senders))})
-        return {"loops": loops, "blackholes": holes}
+                blackholes.append({"prefix": shown_net(net), "router": dotted(router),
+                                   "from": list(map(dotted, senders))})
+        return {"loops": loops, "blackholes": blackholes}
 
     def microloops(self) -> list[Value]:
         """The cycles of both forwarding graphs together, with the database before an event as the baseline."""
@@ -573,9 +574,10 @@ def loop_line(shown: Shown, loop: Value) -> str:
     return f"loop {loop['prefix']} at {shown.routers(loop['routers'])}"
 
 
-def hole_line(shown: Shown, hole: Value) -> str:
+def blackhole_line(shown: Shown, blackhole: Value) -> str:
     """The line of a blackhole."""
-    return f"blackhole {hole['prefix']} at {shown.router(hole['router'])} from {shown.routers(hole['from'])}"
+    front = f"blackhole {blackhole['prefix']} at {shown.router(blackhole['router'])}"
+    return f"{front} from {shown.routers(blackhole['from'])}"
 
 
 # ---- help

@@ -15,7 +15,7 @@ from plain_reader import MOST_EDITS, number
 from plain_routes import dotted, net_of
 from plain_study_answers import (
     Comparison, Shown, Value, change_line, cost_text, described, explain_lines, explain_value, help_line, help_value,
-    hole_line, link_text, links_lines, links_value, listed, loop_line, network_line, networks_value, network_of,
+    blackhole_line, link_text, links_lines, links_value, listed, loop_line, network_line, networks_value, network_of,
     pair_line, path_lines, path_value, route_text, route_value, router_line, router_value, routes_value, shown_net,
 )
 from plain_study_language import Condition, EDITS, Fault, HELP, Line, Names, escaped, line_of, nearest
@@ -283,7 +283,7 @@ class Answers:
         """The word `loops`."""
         value = self.compared.loops()
         lines = ([loop_line(self.shown, item) for item in value["loops"]]
-                 + [hole_line(self.shown, item) for item in value["blackholes"]])
+                 + [blackhole_line(self.shown, item) for item in value["blackholes"]])
         after = f"loops {len(value['loops'])} blackholes {len(value['blackholes'])}"
         return self.listing(value, lines, "", after)
 
@@ -410,9 +410,8 @@ class Answers:
 
     def check_blackholes(self, condition: Condition, shown: Shown) -> tuple[bool, str]:
         """Whether `blackholes none` holds."""
-        holes = self.compared.loops()["blackholes"]
-        return not holes, counted("blackholes", [hole_line(shown, hole).split(" ", 1)[1].partition(" from ")[0]
-                                                 for hole in holes])
+        lines = [blackhole_line(shown, blackhole) for blackhole in self.compared.loops()["blackholes"]]
+        return not lines, counted("blackholes", [line.partition(" ")[2].partition(" from ")[0] for line in lines])
 
     def check_changes(self, condition: Condition, shown: Shown) -> tuple[bool, str]:
         """Whether `same` or `changes <=` holds."""
