@@ -9,7 +9,7 @@ use Rattle.lsdb_merge.proofs.section.any_misplaced.Goals as goal
 pub loop-observation-preserved : goal.loop-observation-preserved
 loop-observation-preserved g c =
     all_next IsPlaced c.args.newest.now c.loop-observation.observation-index c.observation-item.result c.loop-observation-test.true c.observation-item.is
-    (record { placed = sym c.is_misplaced.ensures ∙ c.if-is_misplaced.false; accepted = c.bytes-lsa_bytes.ensures.accepted }) c.loop-observation.invariant
+    (record { placed = sym c.is_misplaced.ensures ∙ c.if-is_misplaced.false; accepted = c.bytes-bytes.ensures.accepted }) c.loop-observation.invariant
 
 pub returns-clause-any : goal.returns-clause-any
 returns-clause-any g c =
