@@ -364,7 +364,7 @@ def falling_keys() -> tuple[bytes, Scripts]:
     }
 
 
-def chain_behind_equal_ways() -> tuple[bytes, Scripts]:
+def chain_after_equal_ways() -> tuple[bytes, Scripts]:
     """2,000 ways of equal cost to a router, and a chain of 4,000 routers beyond it: each of them has 2,000 next hops."""
     ways, beyond = 2000, 4000
     spokes = [0x20000000 + place for place in range(ways)]
@@ -493,7 +493,7 @@ NETWORKS = {
     for made in (
         parallel, identical, two_way, hub, mesh, decreasing, lan, same_lan, lans_of_one_prefix, one_stub_network,
         one_summary, strange_summaries, summaries_of_one, boundary_routers, one_external, forward_to_hosts,
-        forward_past_hosts, nested, one_edit, many_lsas, same_keys, falling_keys, chain_behind_equal_ways, layers, lonely, star_tables,
+        forward_past_hosts, nested, one_edit, many_lsas, same_keys, falling_keys, chain_after_equal_ways, layers, lonely, star_tables,
         areas_of_one, borders, pairs, small_lan, many_areas, deep_history, one_record,
     )
 }

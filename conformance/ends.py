@@ -8,7 +8,7 @@ import shutil
 import signal
 import subprocess
 
-# The built-in sample: docs/FORMATS.md has its octets.
+# The built-in sample: docs/FORMATS.md has its bytes.
 SAMPLE = bytes.fromhex(
     "4f535750 01 01 00000000 00 0002"
     "00010201 01010101 01010101 80000001 d55a0024 00000001 02020202 0a000001 0100000a"
@@ -41,7 +41,7 @@ class End:
     is_endless: bool = False
     # Where standard output goes, as `output_to` has it. A file gets a part of the replies, from their beginning.
     stdout: str = "pipe"
-    # The same of standard error; where it is no pipe, the status alone tells.
+    # The same of standard error; where it is no pipe, the status alone reports it.
     stderr: str = "pipe"
     # What must stand in the file `out` of the folder; `None` where there may be no such file.
     out: bytes | None = None
@@ -54,7 +54,7 @@ class End:
     # The file `out` before the run, and another file that is named `saved.1.new`, if they are there.
     old_out: bytes | None = None
     beside: bytes | None = None
-    # The octets that a file may have at most; whether a longer one ends the program, as a crash would.
+    # The bytes that a file may have at most; whether a longer one ends the program, as a crash would.
     room: int | None = None
     is_ended: bool = False
     memory: int | None = None
@@ -78,7 +78,7 @@ EDITED_TABLE = b"@0 table 1.1.1.1 1\n10.2.0.0/16 intra 65540 0 0.0.0.0 link:10.0
 SESSION = SAMPLE[:4] + b"\x02" + SAMPLE[5:] + b"\0\1\0\0" + COST
 BASE = SAMPLE[:4] + b"\x02" + SAMPLE[5:] + b"\0\0\0\0"
 
-# Lines of the longest script, which has 1,048,576 octets.
+# Lines of the longest script, which has 1,048,576 bytes.
 COMMENTS = b"# sixteen bytes\n" * 65_536
 
 
@@ -123,7 +123,7 @@ ENDS = [
     End("a full history of one branch", "--out FOLDER/out", 0, stdin=full_history(b"@1 ")
         + b"cost 0.0.0.0 1.1.1.1 1 13\n@1 undo 1\n", replies=full_history_replies(b"@1 ")
         + b"@0 ok\n@1 refused U1 NothingToUndo\n", out=with_metric(b"\x00\x0d", bytes.fromhex("0c21"))),
-    End("a script of 1,048,576 octets", "--out FOLDER/out", 0, stdin=COMMENTS, out=SAMPLE),
+    End("a script of 1,048,576 bytes", "--out FOLDER/out", 0, stdin=COMMENTS, out=SAMPLE),
     End("standard input as dump, and a script", "--dump /dev/stdin --script FOLDER/script --out FOLDER/out", 0,
         replies=b"@0 ok\n", stdin=SAMPLE, out=EDITED),
     End("standard input as dump, which leaves no script", "--dump /dev/stdin --out FOLDER/out", 0, stdin=EDITED,
@@ -179,10 +179,10 @@ ENDS = [
     End("an option that is not there, and standard error closed", "--frob", 2, stderr="closed"),
     End("an option that is not there, and nobody hears", "--frob", 2, stderr="full"),
     # ---- 3: the dump is refused
-    End("an octet behind the dump", "--dump FOLDER/long --out FOLDER/out", 3, "dump: L4 TrailingBytes at 99\n"),
-    End("a refused dump before a script that can not be read", "--dump FOLDER/long --script FOLDER", 3,
+    End("a byte after the dump", "--dump FOLDER/long --out FOLDER/out", 3, "dump: L4 TrailingBytes at 99\n"),
+    End("a refused dump before a script that cannot be read", "--dump FOLDER/long --script FOLDER", 3,
         "dump: L4 TrailingBytes at 99\n"),
-    End("a truncated dump before a script that can not be read", "--dump FOLDER/short --script FOLDER", 3,
+    End("a truncated dump before a script that cannot be read", "--dump FOLDER/short --script FOLDER", 3,
         "dump: L3 Truncated at 97\n"),
     End("an empty dump", "--dump /dev/null", 3, "dump: L3 Truncated at 0\n"),
     End("an endless dump", "--dump /dev/zero", 3, "dump: L13 TooLarge at 0\n"),
@@ -200,7 +200,7 @@ ENDS = [
     End("a refused dump, and standard error closed", "--dump FOLDER/long --out FOLDER/out", 3, stderr="closed"),
     End("a refused dump that is --out too, and standard error closed", "--dump FOLDER/saved --out FOLDER/saved", 3,
         stderr="closed", before=SESSION[:-1], saved=SESSION[:-1]),
-    # ---- 4: a file can not be opened, read or written
+    # ---- 4: a file cannot be opened, read or written
     End("no such dump", "--dump FOLDER/none --out FOLDER/out", 4, "file: Open dump\n"),
     End("no such dump and no such script", "--dump FOLDER/none --script FOLDER/none", 4, "file: Open dump\n"),
     End("no such script", "--script FOLDER/none --out FOLDER/out", 4, "file: Open script\n"),
@@ -243,8 +243,8 @@ ENDS = [
         stdin=None, stdout="closed"),
     End("an endless script", "--script /dev/zero --out FOLDER/out", 4, "file: TooLarge\n"),
     End("an endless script on standard input", "--out FOLDER/out", 4, "file: TooLarge\n", stdin=COST, is_endless=True),
-    End("a script of 1,048,577 octets", "--out FOLDER/out", 4, "file: TooLarge\n", stdin=COMMENTS + b"#"),
-    End("a script of 1,048,577 octets, and a file as --save", "--save FOLDER/saved", 4, "file: TooLarge\n",
+    End("a script of 1,048,577 bytes", "--out FOLDER/out", 4, "file: TooLarge\n", stdin=COMMENTS + b"#"),
+    End("a script of 1,048,577 bytes, and a file as --save", "--save FOLDER/saved", 4, "file: TooLarge\n",
         stdin=COMMENTS + b"#", before=b"a study", saved=b"a study"),
     End("/dev/full as --out", "--out /dev/full", 4, "file: Write\n", replies=b"@0 ok\n", stdin=COST),
     End("/dev/full as --out, and a file as --save", "--out /dev/full --save FOLDER/saved", 4, "file: Write\n",
@@ -297,7 +297,7 @@ ENDS = [
         saved=b"a study"),
     End("a file as standard output without room for the first line", "--out FOLDER/out", 4, "file: Write\n", stdin=b"info\n",
         replies=NO_EDITS, stdout="file", room=10),
-    End("a file as standard output without room for the last octet", "--out FOLDER/out", 4, "file: Write\n",
+    End("a file as standard output without room for the last byte", "--out FOLDER/out", 4, "file: Write\n",
         stdin=b"info\n" * 100_000, replies=NO_EDITS * 100_000, stdout="file", room=100_000 * len(NO_EDITS) - 1),
     End("a pipe that nobody reads, and nobody hears", "--save FOLDER/saved", 4, stdin=COST, stdout="unread",
         stderr="full"),

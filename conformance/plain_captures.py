@@ -23,12 +23,12 @@ class Refused(Exception):
     offset: int | None = None
 
 
-class Odd(Exception):
+class FrameWarning(Exception):
     """Why a frame, or a part of it, cannot be used."""
 
 
 @dataclasses.dataclass
-class Sighting:
+class Observation:
     """An LSA in its scope, which is an area, or the AS where that is `None`; and its moment in nanoseconds since 1970.
     For the header of an LSA, `lsa` has only its 20 bytes."""
 
@@ -46,15 +46,15 @@ class Contents:
     """What a file contains: LSAs, headers of LSAs, the kinds of areas as `ordinary`, `stub` or `nssa`, and the findings."""
 
     word: str
-    sightings: list[Sighting] = dataclasses.field(default_factory=list)
-    headers: list[Sighting] = dataclasses.field(default_factory=list)
+    observations: list[Observation] = dataclasses.field(default_factory=list)
+    headers: list[Observation] = dataclasses.field(default_factory=list)
     kinds: list[tuple[int, str]] = dataclasses.field(default_factory=list)
-    holes: list[str] = dataclasses.field(default_factory=list)
+    findings: list[str] = dataclasses.field(default_factory=list)
 
     def line(self) -> str:
         """What standard output has after the name of the file."""
-        areas = {area for area, _ in self.kinds} | {sighting.area for sighting in self.sightings} - {None}
-        return f"{self.word}, {len(self.sightings)} LSAs, {len(areas)} areas"
+        areas = {area for area, _ in self.kinds} | {observation.area for observation in self.observations} - {None}
+        return f"{self.word}, {len(self.observations)} LSAs, {len(areas)} areas"
 
 
 def address(value: int | bytes) -> str:
@@ -230,17 +230,17 @@ def carried(frame: Frame) -> bytes:
     if frame.link in (101, 228):
         return frame.data
     if frame.link not in LINKS:
-        raise Odd("OtherLink")
+        raise FrameWarning("OtherLink")
     size, at = LINKS[frame.link]
     if len(frame.data) < size:
-        raise Odd("Truncated")
+        raise FrameWarning("Truncated")
     kind, data = number(frame.data[at:at + 2]), frame.data[size:]
     while kind in TAGS:
         if len(data) < 4:
-            raise Odd("Truncated")
+            raise FrameWarning("Truncated")
         kind, data = number(data[2:4]), data[4:]
     if kind != 0x0800:
-        raise Odd("NotIpv4")
+        raise FrameWarning("NotIpv4")
     return data
 
 
@@ -258,16 +258,16 @@ class Datagram:
 def datagram_of(frame: Frame) -> Datagram:
     data = carried(frame)
     if len(data) < 20:
-        raise Odd("Truncated")
+        raise FrameWarning("Truncated")
     if data[0] >> 4 != 4:
-        raise Odd("NotIpv4")
+        raise FrameWarning("NotIpv4")
     if data[9] != 89:
-        raise Odd("NotOspf")
+        raise FrameWarning("NotOspf")
     header, total = data[0] % 16 * 4, number(data[2:4])
     if header < 20 or total < header or (total > len(data) and not frame.is_cut()):
-        raise Odd("BadLength")
+        raise FrameWarning("BadLength")
     if len(data) < header:
-        raise Odd("Truncated")
+        raise FrameWarning("Truncated")
     flags = number(data[6:8])
     return Datagram(data[12:20] + data[4:6], flags % 8192 * 8, bool(flags & 0x2000), total <= len(data),
                     data[header:total])
@@ -279,7 +279,7 @@ def datagrams_of(frames: list[Frame]) -> list[Datagram]:
     for frame in frames:
         try:
             found.append(datagram_of(frame))
-        except Odd:
+        except FrameWarning:
             pass
     return found
 
@@ -292,7 +292,7 @@ def payload_of(first: Datagram, later: list[Frame]) -> bytes:
             payload += datagram.payload
             if not datagram.more:
                 return payload
-    raise Odd("MissingFragment")
+    raise FrameWarning("MissingFragment")
 
 
 # ---- what packets contain
@@ -308,15 +308,15 @@ class Capture:
 
     def __init__(self, frames: list[Frame]):
         self.frames, self.contents = frames, Contents("capture")
-        self.odd: collections.Counter[str] = collections.Counter()
+        self.warnings: collections.Counter[str] = collections.Counter()
 
     def read(self) -> Contents:
         for place in range(len(self.frames)):
             try:
                 self.frame(place)
-            except Odd as odd:
-                self.odd[str(odd)] += 1
-        self.contents.holes = [f"{odd} {count}" for odd, count in self.odd.items() if odd not in ("NotIpv4", "NotOspf")]
+            except FrameWarning as warning:
+                self.warnings[str(warning)] += 1
+        self.contents.findings = [f"{warning} {count}" for warning, count in self.warnings.items() if warning not in ("NotIpv4", "NotOspf")]
         return self.contents
 
     def frame(self, place: int) -> None:
@@ -326,7 +326,7 @@ class Capture:
             fronts = datagrams_of(self.frames[max(place - MOST_APART, 0):place])
             if not any(front.name == datagram.name and front.more and front.before + len(front.payload) == datagram.before
                        for front in fronts):
-                raise Odd("MissingFragment")
+                raise FrameWarning("MissingFragment")
         elif datagram.more and datagram.whole:
             self.packet(payload_of(datagram, self.frames[place + 1:place + 1 + MOST_APART]), True, frame.seen)
         else:
@@ -334,15 +334,15 @@ class Capture:
 
     def packet(self, payload: bytes, whole: bool, seen: int | None) -> None:
         if len(payload) < 24:
-            raise Odd("BadLength" if whole else "Truncated")
+            raise FrameWarning("BadLength" if whole else "Truncated")
         if payload[0] != 2:
-            raise Odd("OtherVersion")
+            raise FrameWarning("OtherVersion")
         length = number(payload[2:4])
         if length < 24 or (whole and length > len(payload)):
-            raise Odd("BadLength")
+            raise FrameWarning("BadLength")
         whole, data = length <= len(payload), payload[:length]
         if whole and number(data[14:16]) < 2 and (word_sum(data[:16]) + word_sum(data[24:])) % 65535:
-            raise Odd("BadChecksum")
+            raise FrameWarning("BadChecksum")
         lack = "BadLength" if whole else "Truncated"
         if data[1] == 1:
             self.hello(data, lack)
@@ -353,39 +353,39 @@ class Capture:
         elif data[1] == 5:
             self.headers(data, 24, lack, seen)
         elif data[1] != 3:
-            raise Odd("OtherType")
+            raise FrameWarning("OtherType")
 
     def hello(self, data: bytes, lack: str) -> None:
         if len(data) < 44:
-            raise Odd(lack)
+            raise FrameWarning(lack)
         kind = "ordinary" if data[30] & 2 else "nssa" if data[30] & 8 else "stub"
         self.contents.kinds.append((number(data[8:12]), kind))
 
     def headers(self, data: bytes, before: int, lack: str, seen: int | None) -> None:
         """LSA headers, which fill the packet after this number of bytes."""
         if len(data) < before:
-            raise Odd(lack)
+            raise FrameWarning(lack)
         area = number(data[8:12])
         for at in range(before, len(data) - 19, 20):
-            self.contents.headers.append(Sighting(scope(data[at + 3], area), seen, data[at:at + 20]))
+            self.contents.headers.append(Observation(scope(data[at + 3], area), seen, data[at:at + 20]))
         if (len(data) - before) % 20:
-            raise Odd(lack)
+            raise FrameWarning(lack)
 
     def update(self, data: bytes, lack: str, seen: int | None) -> None:
         if len(data) < 28:
-            raise Odd(lack)
+            raise FrameWarning(lack)
         rest = data[28:]
         for _ in range(number(data[24:28])):
             length = number(rest[18:20])
             if len(rest) < 20 or (length >= 20 and length > len(rest)):
-                raise Odd(lack)
+                raise FrameWarning(lack)
             if length < 20:
-                raise Odd("BadLength")
+                raise FrameWarning("BadLength")
             fault = fault_of_lsa(rest[:length])
             if fault:
-                self.odd[f"RefusedLsa {fault}"] += 1
+                self.warnings[f"RefusedLsa {fault}"] += 1
             else:
-                self.contents.sightings.append(Sighting(scope(rest[3], number(data[8:12])), seen, rest[:length]))
+                self.contents.observations.append(Observation(scope(rest[3], number(data[8:12])), seen, rest[:length]))
             rest = rest[length:]
 
 
@@ -393,7 +393,7 @@ def contents_of_capture(file: bytes) -> Contents:
     frames, end = Pcapng(file).read() if file[:4] == SECTION_HEADER else pcap(file)
     contents = Capture(frames).read()
     if end != len(file):
-        contents.holes.append(f"Cut at {end}")
+        contents.findings.append(f"Cut at {end}")
     return contents
 
 
@@ -484,17 +484,17 @@ class Walk:
             try:
                 self.object(name, value)
             except Unreadable:
-                self.contents.holes.append("Name")
+                self.contents.findings.append("Name")
         if not self.is_of_mib:
             raise Refused("UnknownKind", 0)
         for row in self.columns - self.rows:
-            self.row_hole(row, "Missing")
+            self.row_finding(row, "Missing")
         return self.contents
 
-    def row_hole(self, row: tuple[bytes, bytes], fault: str) -> None:
+    def row_finding(self, row: tuple[bytes, bytes], fault: str) -> None:
         area, key = row
         where = f"area {address(area)} " if area else ""
-        self.contents.holes.append(f"{fault} {where}type {key[0]} id {address(key[1:5])} adv {address(key[5:])}")
+        self.contents.findings.append(f"{fault} {where}type {key[0]} id {address(key[1:5])} adv {address(key[5:])}")
 
     def object(self, name: bytes, value: bytes) -> None:
         arcs = arcs_of(name.decode("latin-1"))
@@ -520,7 +520,7 @@ class Walk:
         if word and word[1] in KINDS:
             self.contents.kinds.append((area, KINDS[word[1]]))
         else:
-            self.contents.holes.append(f"Kind area {address(area)}")
+            self.contents.findings.append(f"Kind area {address(area)}")
 
     def column(self, row: tuple[bytes, bytes], is_data: bool, value: bytes) -> None:
         if not is_data:
@@ -530,17 +530,17 @@ class Walk:
         area, key = row
         lsa = bytes_in(value)
         if lsa is None:
-            self.row_hole(row, "NotOctets")
+            self.row_finding(row, "NotOctets")
         elif fault := fault_of_lsa(lsa):
-            self.row_hole(row, f"RefusedLsa {fault}")
+            self.row_finding(row, f"RefusedLsa {fault}")
         elif number(lsa[18:20]) != len(lsa):
-            self.row_hole(row, "Longer")
+            self.row_finding(row, "Longer")
         elif lsa[3:12] != key:
-            self.row_hole(row, "OtherKey")
+            self.row_finding(row, "OtherKey")
         elif not area and lsa[3] not in (5, 11):
-            self.row_hole(row, "NoArea")
+            self.row_finding(row, "NoArea")
         else:
-            self.contents.sightings.append(Sighting(scope(lsa[3], number(area)), None, lsa))
+            self.contents.observations.append(Observation(scope(lsa[3], number(area)), None, lsa))
 
 
 # ---- files, and the dump that they make
@@ -550,7 +550,7 @@ def contents_of(file: bytes) -> Contents:
     """What a file contains. Raises `Refused`."""
     is_capture = file[:4] == SECTION_HEADER or file[:4] in MAGIC_NUMBERS
     contents = contents_of_capture(file) if is_capture else Walk(file).read()
-    contents.holes += [f"Nssa area {address(area)}" for area in {area for area, kind in contents.kinds if kind == "nssa"}]
+    contents.findings += [f"Nssa area {address(area)}" for area in {area for area, kind in contents.kinds if kind == "nssa"}]
     return contents
 
 
@@ -569,20 +569,20 @@ def instance(lsa: bytes) -> tuple:
     return sequence, lsa[16:18], is_at_max_age(lsa), -seconds(lsa), lsa
 
 
-def began_after(copy: Sighting, moment: int | None) -> bool:
+def began_after(copy: Observation, moment: int | None) -> bool:
     return moment is not None and copy.seen is not None and copy.seen - number(copy.lsa[:2]) * SECOND > moment
 
 
-def flushes(flush: Sighting, copy: Sighting) -> bool:
+def flushes(flush: Observation, copy: Observation) -> bool:
     return (is_at_max_age(flush.lsa) and instance(copy.lsa) <= instance(flush.lsa)
             and not began_after(copy, flush.seen))
 
 
-def newest(sightings: list[Sighting], keeps: bool = False) -> list[Sighting]:
+def newest(observations: list[Observation], keeps: bool = False) -> list[Observation]:
     """The newest of each LSA that stands, in order; where flushed LSAs are kept, also of those that were flushed."""
     places = collections.defaultdict(list)
-    for sighting in sightings:
-        places[sighting.place()].append(sighting)
+    for observation in observations:
+        places[observation.place()].append(observation)
     found = []
     for place in sorted(places):
         standing = [copy for copy in places[place] if not any(flushes(flush, copy) for flush in places[place])]
@@ -593,8 +593,8 @@ def newest(sightings: list[Sighting], keeps: bool = False) -> list[Sighting]:
 
 def unnamed(files: list[Contents], keeps: bool = False) -> list[str]:
     """The lines of the areas of LSAs that stand, except the backbone, of which no file reports the kind."""
-    standing = newest([sighting for file in files for sighting in file.sightings], keeps)
-    areas = {sighting.area for sighting in standing} - {None, 0} - {area for file in files for area, _ in file.kinds}
+    standing = newest([observation for file in files for observation in file.observations], keeps)
+    areas = {observation.area for observation in standing} - {None, 0} - {area for file in files for area, _ in file.kinds}
     return [f"database: NoKind area {address(area)}" for area in sorted(areas)]
 
 
@@ -609,8 +609,8 @@ def named(files: list[Contents]) -> list[str]:
     """The lines of the LSAs that headers below MaxAge name: those that no file has, and those of which files have only
     older instances, by sequence number and checksum."""
     shown = collections.defaultdict(list)
-    for sighting in (sighting for file in files for sighting in file.sightings):
-        shown[sighting.place()].append(instance(sighting.lsa)[:2])
+    for observation in (observation for file in files for observation in file.observations):
+        shown[observation.place()].append(instance(observation.lsa)[:2])
     headers = [header for file in files for header in file.headers if not is_at_max_age(header.lsa)]
     unseen = {header.place() for header in headers if header.place() not in shown}
     newer = {header.place() for header in headers
@@ -670,10 +670,10 @@ def lacking(areas: dict[int, list[bytes]], as_wide: list[bytes]) -> list[str]:
 
 def dump_of(files: list[Contents], keeps: bool = False) -> bytes:
     """The dump that files make, with flushed LSAs where these are kept. Raises `Refused`."""
-    standing = newest([sighting for file in files for sighting in file.sightings], keeps)
+    standing = newest([observation for file in files for observation in file.observations], keeps)
     kinds = [kind for file in files for kind in file.kinds]
-    areas = sorted({area for area, _ in kinds} | {sighting.area for sighting in standing} - {None})
-    lsas = {area: [sighting.lsa for sighting in standing if sighting.area == area] for area in [*areas, None]}
+    areas = sorted({area for area, _ in kinds} | {observation.area for observation in standing} - {None})
+    lsas = {area: [observation.lsa for observation in standing if observation.area == area] for area in [*areas, None]}
     if len(areas) > 64:
         raise Refused("TooManyAreas")
     if any(len(lsas[area]) > 8192 for area in areas) or len(lsas[None]) > 65535:

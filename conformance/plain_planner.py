@@ -9,7 +9,7 @@ import re
 
 import plain_reader
 import plain_routes
-from lying import with_checksum
+from malformed import with_checksum
 from plain_reader import LONGEST_DUMP, MOST_EDITS, number
 
 MOST_LSAS, MOST_LSAS_OF_AS, LONGEST_LSA = 8192, 65535, 65535

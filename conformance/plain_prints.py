@@ -8,7 +8,7 @@ import json
 import re
 from collections.abc import Callable
 
-from plain_captures import Contents, Refused, Sighting, address, is_at_max_age, scope, words
+from plain_captures import Contents, Refused, Observation, address, is_at_max_age, scope, words
 from plain_reader import fault_of_lsa, number
 
 BLANKS = re.compile(rb"[ \t\n\r]+")
@@ -192,15 +192,15 @@ class PrintReading:
         key = f"type {header.kind} id {address(header.name)} adv {address(header.router)}"
         fault = fault_of_lsa(made) or ("Body" if header.length != len(made) else None)
         if fault:
-            self.found.holes.append(f"RefusedLsa {fault} {key}")
+            self.found.findings.append(f"RefusedLsa {fault} {key}")
         elif area is None and header.kind != 5:
-            self.found.holes.append(f"NoArea {key}")
+            self.found.findings.append(f"NoArea {key}")
         else:
-            self.found.sightings.append(Sighting(scope(header.kind, area), None, made))
+            self.found.observations.append(Observation(scope(header.kind, area), None, made))
 
     def read(self) -> Contents:
         if self.unreadable:
-            self.found.holes.append(f"Unreadable {self.unreadable}")
+            self.found.findings.append(f"Unreadable {self.unreadable}")
         return self.found
 
 
@@ -421,7 +421,7 @@ class PrintedList:
     """A list: its headers, each with its area, and its lines of what cannot be read. Raises `Refused`."""
 
     def __init__(self, file: bytes):
-        self.headers: list[Sighting] = []
+        self.headers: list[Observation] = []
         self.no_area: list[str] = []
         self.unreadable, is_list, heading = 0, False, None
         for line in ([word for word in BLANKS.split(line) if word] for line in file.split(b"\n")):
@@ -458,11 +458,11 @@ class PrintedList:
         if kind not in (5, 11) and heading.area is None:
             self.no_area.append(f"NoArea type {kind} id {address(header[4:8])} adv {address(header[8:12])}")
         else:
-            self.headers.append(Sighting(scope(kind, heading.area), None, header))
+            self.headers.append(Observation(scope(kind, heading.area), None, header))
 
     def lines(self, areas: dict[int, list[bytes]], as_wide: list[bytes]) -> list[str]:
         """The lines of what is not read, and of how a database differs."""
-        stands = {Sighting(area, None, lsa).place(): lsa for area, lsas in [*areas.items(), (None, as_wide)] for lsa in lsas}
+        stands = {Observation(area, None, lsa).place(): lsa for area, lsas in [*areas.items(), (None, as_wide)] for lsa in lsas}
         found: set[tuple[int, tuple]] = set()
         for header in self.headers:
             place = header.place()

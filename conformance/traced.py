@@ -29,7 +29,7 @@ class Traced:
     calls: list[str]
 
     def first(self, pattern: str) -> int:
-        """The place of the first call that matches, or behind the last one."""
+        """The place of the first call that matches, or after the last one."""
         return next((at for at, call in enumerate(self.calls) if re.match(pattern, call)), len(self.calls))
 
 
@@ -122,7 +122,7 @@ def growths(run: Traced, end: int) -> list[int]:
 def parser_differences(program: str, folder: pathlib.Path) -> list[str]:
     """How the program ends otherwise where the parser of the command line has no memory for two long words.
 
-    `--version` needs none for the words behind it, so the heap of that run grows as it does before the parser."""
+    `--version` needs none for the words after it, so the heap of that run grows as it does before the parser."""
     files = ["--dump", LONG_WORD, "--script", LONG_WORD]
     shown = traced(program, folder, ["--version", LONG_WORD, "--", LONG_WORD], [])
     ample = traced(program, folder, files, [])

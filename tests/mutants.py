@@ -11,7 +11,7 @@ from pathlib import Path
 sys.path.insert(0, str(Path(__file__).resolve().parent.parent / "conformance"))
 
 import plain_planner  # noqa: E402
-from lying import with_checksum  # noqa: E402
+from malformed import with_checksum  # noqa: E402
 from plain_reader import links, number  # noqa: E402
 
 # Numbers about which something changes: limits of the formats, lengths of their parts, ends of ranges.
@@ -371,7 +371,7 @@ def prefix_of(address: bytes, mask: bytes) -> bytes:
     return dotted(ident.to_bytes(4, "big")) + b"/%d" % length
 
 
-ODD_WORDS = [b"", b"@0", b"@7", b"@8", b"@", b"@00", b"#", b"# x", b"0", b"00", b"01", b"-1", b"+1", b"1e3", b"65535",
+UNUSUAL_WORDS = [b"", b"@0", b"@7", b"@8", b"@", b"@00", b"#", b"# x", b"0", b"00", b"01", b"-1", b"+1", b"1e3", b"65535",
              b"65536", b"16777215", b"16777216", b"4294967295", b"4294967296", b"99999999999999999999999", b"0.0.0.0",
              b"255.255.255.255", b"256.0.0.0", b"1.1.1", b"1.1.1.1.1", b"01.1.1.1", b"1..1.1", b".1.1.1", b"1.1.1.1/32",
              b"0.0.0.0/0", b"10.0.0.0/8", b"10.0.0.0/08", b"10.0.0.1/8", b"10.0.0.0/33", b"10.0.0.0/", b"/8",
@@ -384,9 +384,9 @@ def changed_line(chance: random.Random, line: bytes) -> bytes:
     words = line.split(b" ")
     place, kind = chance.randrange(len(words)), chance.random()
     if kind < 0.4:
-        words[place] = chance.choice(ODD_WORDS)
+        words[place] = chance.choice(UNUSUAL_WORDS)
     elif kind < 0.5:
-        words.insert(place, chance.choice(ODD_WORDS))
+        words.insert(place, chance.choice(UNUSUAL_WORDS))
     elif kind < 0.6:
         words.pop(place)
     elif kind < 0.7:
@@ -443,9 +443,9 @@ def changed_text_line(chance: random.Random, line: bytes) -> bytes:
     """A line with another word or number in one place."""
     found = list(WORD.finditer(line))
     if not found or chance.random() < 0.15:
-        return changed_bytes(chance, line, line, 1) if line else chance.choice(ODD_WORDS)
+        return changed_bytes(chance, line, line, 1) if line else chance.choice(UNUSUAL_WORDS)
     word = chance.choice(found)
-    values = [chance.choice(ODD_WORDS), b"%d" % chance.choice(LIMITS), b"%x" % chance.choice(LIMITS), b"",
+    values = [chance.choice(UNUSUAL_WORDS), b"%d" % chance.choice(LIMITS), b"%x" % chance.choice(LIMITS), b"",
               chance.choice(found)[0], changed_bytes(chance, word[0], word[0], 1)]
     return line[:word.start()] + chance.choice(values) + line[word.end():]
 

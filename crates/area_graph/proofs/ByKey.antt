@@ -10,13 +10,13 @@ use Rattle.lsa_codec.specs.declared.key.Key.{Key}
 use Rattle.lsa_codec.specs.Accepted.{IsAccepted}
 use Rattle.lsa_codec.specs.Fields.{kind_of, link_state_id_of, advertising_router_of}
 use Rattle.lsa_codec.specs.Key.{key_of, router_key}
-use Rattle.lsdb.specs.declared.keyed_places.KeyAt.{KeyAt}
+use Rattle.lsdb.specs.declared.keyed_slots.KeyAt.{KeyAt}
 use Rattle.lsdb.specs.declared.slot.SlotId.{SlotId}
 use Rattle.std.specs.Iterator.{YieldsFirst}
 use Rattle.std.specs.Option.{is_some}
 use Rattle.lsdb.specs.KeyRanges.{AreKeysBetween}
 use Rattle.lsdb.specs.Lists.{IsDatabase, IsSection, Lists}
-use Rattle.lsdb.specs.Places.{Place, Places, SectionPlaces, full, item_at, lists_of, lsas_in, lsas_or_none, place_in, places_in, places_or_none, slot_at}
+use Rattle.lsdb.specs.Slots.{Slot, Slots, SectionSlots, full, item_at, lists_of, lsas_in, lsas_or_none, slot_in, slots_in, slots_or_none, slot_at}
 use Rattle.lsdb.proofs.KeyLemmas.{between_fields}
 use Rattle.area_graph.specs.declared.vertex.Vertex.{Vertex}
 use Rattle.area_graph.specs.declared.vertex.Vertex.TheVariants.{Network, Router}
@@ -53,27 +53,27 @@ network_between network lsa accepted widths live e =
 
 -- ---- places and their LSAs
 
-item_in : (ps : List Place) (lsa : List ℕ) → In (full ps) lsa → (i : ℕ) × (item_at ps i ≡ Some (Some lsa))
+item_in : (ps : List Slot) (lsa : List ℕ) → In (full ps) lsa → (i : ℕ) × (item_at ps i ≡ Some (Some lsa))
 item_in [] lsa i = absurd i
 item_in (None ∷ ps) lsa i = let r = item_in ps lsa i in (suc r.0, r.1)
 item_in (Some x ∷ ps) lsa (inl p) = (0, ap (λ (y : List ℕ). Some (Some y)) p)
 item_in (Some x ∷ ps) lsa (inr i) = let r = item_in ps lsa i in (suc r.0, r.1)
 
-in_full : (ps : List Place) (i : ℕ) (lsa : List ℕ) → item_at ps i ≡ Some (Some lsa) → In (full ps) lsa
+in_full : (ps : List Slot) (i : ℕ) (lsa : List ℕ) → item_at ps i ≡ Some (Some lsa) → In (full ps) lsa
 in_full [] i lsa at = absurd cc
 in_full (None ∷ ps) zero lsa at = absurd cc
 in_full (None ∷ ps) (suc i) lsa at = in_full ps i lsa at
 in_full (Some x ∷ ps) zero lsa at = inl cc
 in_full (Some x ∷ ps) (suc i) lsa at = inr (in_full ps i lsa at)
 
-lsas_full : (d : Places) (section : ℕ) → lsas_in d section ≡ full (places_in d section)
+lsas_full : (d : Slots) (section : ℕ) → lsas_in d section ≡ full (slots_in d section)
 lsas_full [] section = refl
 lsas_full (s ∷ ss) zero = refl
 lsas_full (s ∷ ss) (suc section) = lsas_full ss section
 
-there_place : (d : Places) (slot : SlotId) (p : Place) → slot_at d slot ≡ Some p → item_at (places_in d slot.section) slot.index ≡ Some p
+there_place : (d : Slots) (slot : SlotId) (p : Slot) → slot_at d slot ≡ Some p → item_at (slots_in d slot.section) slot.index ≡ Some p
 there_place d slot p e = by_item (item_at d slot.section) e where
-  by_item : (o : Option SectionPlaces) → place_in o slot.index ≡ Some p → item_at (places_or_none o) slot.index ≡ Some p
+  by_item : (o : Option SectionSlots) → slot_in o slot.index ≡ Some p → item_at (slots_or_none o) slot.index ≡ Some p
   by_item None e = absurd cc
   by_item (Some s) e = e
 
@@ -97,16 +97,16 @@ pub one_key : (keys rest left : List KeyAt) (noted : KeyAt) (second : Option Key
 one_key keys rest left noted None is none steps = ap length is ∙ ap (λ (ks : List KeyAt). suc (length ks)) steps.0
 one_key keys rest left noted (Some e) is none steps = absurd cc
 
-module _ (d : Places) (section : ℕ) (vertex : Vertex) (low high : Key) (keys : List KeyAt) (sound : IsDatabase (lists_of d))
-    (keyed : AreKeysBetween (places_in d section) low high keys) (covered : HasKeysBetween vertex low high) (one : length keys ≡ 1) where
+module _ (d : Slots) (section : ℕ) (vertex : Vertex) (low high : Key) (keys : List KeyAt) (sound : IsDatabase (lists_of d))
+    (keyed : AreKeysBetween (slots_in d section) low high keys) (covered : HasKeysBetween vertex low high) (one : length keys ≡ 1) where
   -- an LSA of the vertex at a place of the section
   record Stands (i : ℕ) (lsa : List ℕ) : Type 0 where
-    at : item_at (places_in d section) i ≡ Some (Some lsa)
+    at : item_at (slots_in d section) i ≡ Some (Some lsa)
     live : is_vertex_lsa lsa ≡ true
     own : vertex_of lsa ≡ vertex
 
-  in_section : (i : ℕ) (lsa : List ℕ) → item_at (places_in d section) i ≡ Some (Some lsa) → In (lsas_in d section) lsa
-  in_section i lsa at = subst (λ (xs : List (List ℕ)). In xs lsa) (sym (lsas_full d section)) (in_full (places_in d section) i lsa at)
+  in_section : (i : ℕ) (lsa : List ℕ) → item_at (slots_in d section) i ≡ Some (Some lsa) → In (lsas_in d section) lsa
+  in_section i lsa at = subst (λ (xs : List (List ℕ)). In xs lsa) (sym (lsas_full d section)) (in_full (slots_in d section) i lsa at)
 
   noted : (i : ℕ) (lsa : List ℕ) → Stands i lsa → In keys (record { key = key_of lsa; index = i })
   noted i lsa s =
@@ -117,7 +117,7 @@ module _ (d : Places) (section : ℕ) (vertex : Vertex) (low high : Key) (keys :
   one_lsa : (i j : ℕ) (a b : List ℕ) → Stands i a → Stands j b → a ≡ b
   one_lsa i j a b s t =
       let same : i ≡ j = ap (λ (k : KeyAt). k.index) (only keys _ _ one (noted i a s) (noted j b t)) in
-      let both : Some (Some a) ≡ Some (Some b) = sym s.at ∙ ap (item_at (places_in d section)) same ∙ t.at in
+      let both : Some (Some a) ≡ Some (Some b) = sym s.at ∙ ap (item_at (slots_in d section)) same ∙ t.at in
       cc
 
   -- no other outranks it
@@ -126,7 +126,7 @@ module _ (d : Places) (section : ℕ) (vertex : Vertex) (low high : Key) (keys :
       let other = list_any-In (is_outranked_by lsa) (vertex_lsas (lsas_in d section)) any in
       let m = other.0 in
       let live = filter-In is_vertex_lsa (lsas_in d section) m other.1 in
-      let here = item_in (places_in d section) m (subst (λ (xs : List (List ℕ)). In xs m) (lsas_full d section) live.0) in
+      let here = item_in (slots_in d section) m (subst (λ (xs : List (List ℕ)). In xs m) (lsas_full d section) live.0) in
       let outer = and_parts (is_network_lsa lsa) (outranks (link_state_id_of lsa) (advertising_router_of lsa) m) other.2 in
       let kinds = and_parts (is_network_lsa m) _ outer.1 in
       let ids = and_parts _ _ kinds.1 in
@@ -144,8 +144,8 @@ module _ (d : Places) (section : ℕ) (vertex : Vertex) (low high : Key) (keys :
   unfolding used
   in_use slot same lsa at live own =
       let lsas = lsas_in d section in
-      let here : item_at (places_in d section) slot.index ≡ Some (Some lsa) =
-      ap (λ n. item_at (places_in d n) slot.index) (sym same) ∙ there_place d slot (Some lsa) at in
+      let here : item_at (slots_in d section) slot.index ≡ Some (Some lsa) =
+      ap (λ n. item_at (slots_in d n) slot.index) (sym same) ∙ there_place d slot (Some lsa) at in
       let s : Stands slot.index lsa = record { at = here; live = live; own = own } in
       let top : list_any (is_outranked_by lsa) (vertex_lsas lsas) ≡ false = false_from_ne_true _ (highest_one slot.index lsa s) in
       record {

@@ -4,7 +4,7 @@ ghost use Rattle.std.specs.Prelude.{IfOk, IfErr, IsSome};
 ghost use Rattle.std.specs.List.{find};
 ghost use Rattle.lsdb.specs.declared.section.Section.TheVariants.{Area};
 ghost use Rattle.lsdb.specs.Lists.{is_section, lsas_of};
-ghost use Rattle.lsdb.specs.Places.{lists_of};
+ghost use Rattle.lsdb.specs.Slots.{lists_of};
 ghost use Rattle.area_graph.specs.Graphs.{IsGraphOf, FaultMeans, AreOfArea};
 
 use crate::back_links::BackLinks;
@@ -56,7 +56,7 @@ impl<A: Allocator + Copy> Graph<A> {
             (FaultMeans (find (is_section (Area area)) (lists_of database.now))) }
     {
         // Its invariant is needed: its LSAs are accepted, and their keys are distinct.
-        database.known();
+        database.assert_valid();
         let section = Section::Area(area);
         let Some(_) = database.index_of(section) else {
             return Err(GraphFault::NoArea);

@@ -1,7 +1,7 @@
 //! The LSA in use of a vertex, found by its key.
 
 ghost use Rattle.std.specs.Prelude.{◌≡◌, Some, true, IsSome, IfSome};
-ghost use Rattle.lsdb.specs.Places.{item_at, slot_at, lsas_in};
+ghost use Rattle.lsdb.specs.Slots.{item_at, slot_at, lsas_in};
 ghost use Rattle.area_graph.specs.declared.vertex.Vertex.TheVariants.{Network};
 ghost use Rattle.area_graph.specs.Area.{is_vertex_lsa, vertex_of};
 ghost use Rattle.area_graph.specs.InUse.{IsLsaOf};
@@ -74,7 +74,7 @@ pub fn lsa_of_vertex<A: Allocator + Copy>(
     ensures { IfSome result (λ lsa. IsLsaOf (lsas_in database.now section) vertex lsa) }
 {
     // Its invariant is needed: its LSAs are accepted.
-    database.known();
+    database.assert_valid();
     let (least, greatest) = key_range(vertex);
     let mut keys = database.keys_between(section, least, greatest);
     let noted = keys.next()?;

@@ -16,7 +16,7 @@ use Rattle.lsa_codec.specs.Order.{prefix_cmp}
 use Rattle.area_routes.specs.Values.{OfferValue}
 use Rattle.area_routes.specs.Reached.{ReachedValue}
 use Rattle.area_routes.specs.Networks.{networks, beats, network_offer}
-use Rattle.area_routes.specs.steps.Standings.{standing_of, stands_before, is_behind, any_before, AreStandingsOf, unbeaten}
+use Rattle.area_routes.specs.steps.Standings.{standing_of, stands_before, is_after, any_before, AreStandingsOf, unbeaten}
 use Rattle.area_graph.proofs.MemberLemmas.{Some-same}
 use Rattle.lsa_codec.proofs.OrderLemmas.{prefix_exact}
 
@@ -43,14 +43,14 @@ or_false true = refl
 or_false false = refl
 
 -- where the best is before b, b itself precedes nothing more
-behind_stays : (o : Option Standing) (b s : Standing) → is_behind o b ≡ true → (is_behind o s || stands_before b s) ≡ is_behind o s
-behind_stays None b s h = absurd (true≢false (sym h))
-behind_stays (Some a) b s h = or_absorbs (stands_before a s) (stands_before b s) (λ q. before_trans a.distance b.distance s.distance a.id.0 b.id.0 s.id.0 h q)
+after_stays : (o : Option Standing) (b s : Standing) → is_after o b ≡ true → (is_after o s || stands_before b s) ≡ is_after o s
+after_stays None b s h = absurd (true≢false (sym h))
+after_stays (Some a) b s h = or_absorbs (stands_before a s) (stands_before b s) (λ q. before_trans a.distance b.distance s.distance a.id.0 b.id.0 s.id.0 h q)
 
 -- where the best is not before b, b precedes all that the best precedes
-behind_rises : (o : Option Standing) (b s : Standing) → is_behind o b ≡ false → (is_behind o s || stands_before b s) ≡ stands_before b s
-behind_rises None b s h = refl
-behind_rises (Some a) b s h = or_absorbed (stands_before a s) (stands_before b s) (λ q. before_or a.distance b.distance s.distance a.id.0 b.id.0 s.id.0 q h)
+after_rises : (o : Option Standing) (b s : Standing) → is_after o b ≡ false → (is_after o s || stands_before b s) ≡ stands_before b s
+after_rises None b s h = refl
+after_rises (Some a) b s h = or_absorbed (stands_before a s) (stands_before b s) (λ q. before_or a.distance b.distance s.distance a.id.0 b.id.0 s.id.0 q h)
 
 -- ---- one more network
 
@@ -65,35 +65,35 @@ any_push ns r net s =
 
 module _ (ns : List ReachedValue) (r : ReachedValue) (old : BTreeMap Net Standing) (are : AreStandingsOf ns old) (kind : is_network_lsa r.lsa ≡ true) where
   -- where the best is before it, the best stay
-  pub standings_stay : is_behind (get prefix_cmp old (net_of_lsa r.lsa)) (standing_of r) ≡ true → AreStandingsOf (ns ++ networks (r ∷ [])) old
-  standings_stay behind = subst (λ (b : Bool). AreStandingsOf (ns ++ cond b (r ∷ []) []) old) (sym kind) more
+  pub standings_stay : is_after (get prefix_cmp old (net_of_lsa r.lsa)) (standing_of r) ≡ true → AreStandingsOf (ns ++ networks (r ∷ [])) old
+  standings_stay after = subst (λ (b : Bool). AreStandingsOf (ns ++ cond b (r ∷ []) []) old) (sym kind) more
     where
       more : AreStandingsOf (ns ++ r ∷ []) old
       more net s = any_push ns r net s ∙ ap (λ b. b || (eq_by_cmp prefix_cmp (net_of_lsa r.lsa) net && stands_before (standing_of r) s))
           (are net s) ∙ by (eq_by_cmp prefix_cmp (net_of_lsa r.lsa) net) refl
         where
           by : (b : Bool) → eq_by_cmp prefix_cmp (net_of_lsa r.lsa) net ≡ b
-              → (is_behind (get prefix_cmp old net) s || (b && stands_before (standing_of r) s)) ≡ is_behind (get prefix_cmp old net) s
-          by true e = behind_stays (get prefix_cmp old net) (standing_of r) s
-              (subst (λ (n : Net). is_behind (get prefix_cmp old n) (standing_of r) ≡ true) (same_net (net_of_lsa r.lsa) net e) behind)
-          by false e = or_false (is_behind (get prefix_cmp old net) s)
+              → (is_after (get prefix_cmp old net) s || (b && stands_before (standing_of r) s)) ≡ is_after (get prefix_cmp old net) s
+          by true e = after_stays (get prefix_cmp old net) (standing_of r) s
+              (subst (λ (n : Net). is_after (get prefix_cmp old n) (standing_of r) ≡ true) (same_net (net_of_lsa r.lsa) net e) after)
+          by false e = or_false (is_after (get prefix_cmp old net) s)
 
   -- where it is not, this one is the best of its prefix
-  pub standings_rise : (new : BTreeMap Net Standing) → is_behind (get prefix_cmp old (net_of_lsa r.lsa)) (standing_of r) ≡ false
+  pub standings_rise : (new : BTreeMap Net Standing) → is_after (get prefix_cmp old (net_of_lsa r.lsa)) (standing_of r) ≡ false
       → Updates prefix_cmp old new (net_of_lsa r.lsa) (Some (standing_of r)) → AreStandingsOf (ns ++ networks (r ∷ [])) new
   standings_rise new ahead updates = subst (λ (b : Bool). AreStandingsOf (ns ++ cond b (r ∷ []) []) new) (sym kind) more
     where
       more : AreStandingsOf (ns ++ r ∷ []) new
       more net s =
           any_push ns r net s ∙ ap (λ b. b || (eq_by_cmp prefix_cmp (net_of_lsa r.lsa) net && stands_before (standing_of r) s)) (are net s)
-          ∙ by (eq_by_cmp prefix_cmp (net_of_lsa r.lsa) net) refl ∙ sym (ap (λ (o : Option Standing). is_behind o s) (updates.0 net))
+          ∙ by (eq_by_cmp prefix_cmp (net_of_lsa r.lsa) net) refl ∙ sym (ap (λ (o : Option Standing). is_after o s) (updates.0 net))
         where
           by : (b : Bool) → eq_by_cmp prefix_cmp (net_of_lsa r.lsa) net ≡ b
-              → (is_behind (get prefix_cmp old net) s || (b && stands_before (standing_of r) s)) ≡ is_behind
+              → (is_after (get prefix_cmp old net) s || (b && stands_before (standing_of r) s)) ≡ is_after
               (cond b (Some (standing_of r)) (get prefix_cmp old net)) s
-          by true e = behind_rises (get prefix_cmp old net) (standing_of r) s
-              (subst (λ (n : Net). is_behind (get prefix_cmp old n) (standing_of r) ≡ false) (same_net (net_of_lsa r.lsa) net e) ahead)
-          by false e = or_false (is_behind (get prefix_cmp old net) s)
+          by true e = after_rises (get prefix_cmp old net) (standing_of r) s
+              (subst (λ (n : Net). is_after (get prefix_cmp old n) (standing_of r) ≡ false) (same_net (net_of_lsa r.lsa) net e) ahead)
+          by false e = or_false (is_after (get prefix_cmp old net) s)
 
 -- where the vertex of an LSA has a prefix, it is a network, of this prefix
 pub prefix_of_network : (b : Bool) (net of_lsa : Net) → Some net ≡ cond b (Some of_lsa) None → (b ≡ true) × (net ≡ of_lsa)

@@ -5,7 +5,7 @@ use Rattle.std.specs.Option.{option_and_then, option_map}
 use Rattle.lsa_codec.specs.declared.address.RouterId.{RouterId}
 use Rattle.lsa_codec.specs.Order.{router_cmp}
 use Rattle.area_routes.specs.Best.{ways_of}
-use Rattle.area_routes.specs.Inter.{asbr_candidate, asbr_entry, asbr_told, border_of, by_border, candidate_to, inter_entries, inter_routes, network_candidate, network_told, originator_of, usable_metric}
+use Rattle.area_routes.specs.Inter.{asbr_candidate, asbr_entry, announced_asbr, border_of, by_border, candidate_to, inter_entries, inter_routes, network_candidate, announced_network, originator_of, usable_metric}
 use Rattle.area_routes.specs.Routes.{routes_of}
 use Rattle.area_routes.specs.Values.{AreaResultValue, RouteValue}
 use Rattle.area_routes.specs.steps.EntryIndex.{IsBorderless}
@@ -27,9 +27,9 @@ module _ (router : RouterId) (area : AreaResultValue) (borderless : IsBorderless
   pub no_routes : (intra : List RouteValue) (lsas : List (List ℕ)) → [] ≡ inter_routes router area intra lsas
   no_routes intra lsas =
       sym (ap routes_of (filter_none (network_candidate router area intra)
-      (λ lsa. then_none (candidate_to router area lsa) (no_candidate lsa) (network_told intra lsa)) lsas))
+      (λ lsa. then_none (candidate_to router area lsa) (no_candidate lsa) (announced_network intra lsa)) lsas))
 
   pub no_entries : (lsas : List (List ℕ)) → [] ≡ inter_entries router area lsas
   no_entries lsas =
       sym (ap (λ cs. map (asbr_entry area.area) (ways_of router_cmp cs)) (filter_none (asbr_candidate router area)
-      (λ lsa. then_none (candidate_to router area lsa) (no_candidate lsa) (asbr_told router area lsa)) lsas))
+      (λ lsa. then_none (candidate_to router area lsa) (no_candidate lsa) (announced_asbr router area lsa)) lsas))

@@ -13,8 +13,8 @@ use Rattle.area_graph.specs.Area.{is_live}
 use Rattle.area_routes.specs.declared.entry.EntryKind.TheVariants.{Border}
 use Rattle.area_routes.specs.Best.{ways_of}
 use Rattle.area_routes.specs.Candidate.{Candidate}
-use Rattle.area_routes.specs.Inter.{asbr_candidate, asbr_entry, asbr_told, border_of, by_border, candidate_to, is_summary, is_usable}
-use Rattle.area_routes.specs.Inter.{network_candidate, network_told, originator_of, same_kind, same_router}
+use Rattle.area_routes.specs.Inter.{asbr_candidate, asbr_entry, announced_asbr, border_of, by_border, candidate_to, is_summary, is_usable}
+use Rattle.area_routes.specs.Inter.{network_candidate, announced_network, originator_of, same_kind, same_router}
 use Rattle.lsa_codec.specs.Order.{router_cmp}
 use Rattle.area_routes.specs.Values.{AreaResultValue, ResultBelow, EntriesBelow, EntryValue, RouteValue}
 use Rattle.area_routes.proofs.Bounds.{All-filter_map, found_has, ways_have}
@@ -46,18 +46,18 @@ module _ (router : RouterId) (area : AreaResultValue) (below : ResultBelow (2 ^ 
           (λ e. same_kind e.kind Border && same_router e.router (originator_of lsa)) area.entries below.entries)
       by false u = tt
 
-  told_below : {K : Type 0} (lsa : List ℕ) (told : Option K) → IfSome (option_and_then (candidate_to router area lsa) told) (λ c. c.rank.cost < 2 ^ 34)
-  told_below lsa None = tt
-  told_below lsa (Some key) = candidate_below lsa key
+  announced_below : {K : Type 0} (lsa : List ℕ) (announced : Option K) → IfSome (option_and_then (candidate_to router area lsa) announced) (λ c. c.rank.cost < 2 ^ 34)
+  announced_below lsa None = tt
+  announced_below lsa (Some key) = candidate_below lsa key
 
   pub networks_below : (intra : List RouteValue) (lsas : List (List ℕ))
       → All (λ c. c.rank.cost < 2 ^ 34) (filter_map (network_candidate router area intra) lsas)
   networks_below intra lsas = All-filter_map (λ (c : Candidate Net). c.rank.cost < 2 ^ 34)
-      (network_candidate router area intra) (λ lsa. told_below lsa (network_told intra lsa)) lsas
+      (network_candidate router area intra) (λ lsa. announced_below lsa (announced_network intra lsa)) lsas
 
   pub asbrs_below : (lsas : List (List ℕ)) → All (λ c. c.rank.cost < 2 ^ 34) (filter_map (asbr_candidate router area) lsas)
   asbrs_below lsas = All-filter_map (λ (c : Candidate RouterId). c.rank.cost < 2 ^ 34)
-      (asbr_candidate router area) (λ lsa. told_below lsa (asbr_told router area lsa)) lsas
+      (asbr_candidate router area) (λ lsa. announced_below lsa (announced_asbr router area lsa)) lsas
 
 pub entries_below : (bound : ℕ) (area : AreaId) (cs : List (Candidate RouterId)) → All (λ c. c.rank.cost < bound) cs
     → EntriesBelow bound (map (asbr_entry area) (ways_of router_cmp cs))

@@ -148,10 +148,10 @@ module _ {K : Type 0} {R : K → K → Ordering} (o : IsTotalOrder R) where
   before_later k m (x ∷ xs) h a = (o.trans x k m a.0 h, before_later k m xs h a.1)
 
 module _ {K V : Type 0} {R : K → K → Ordering} (o : IsTotalOrder R) where
-  none_behind : (k : K) (es : List (K × V)) → Before R k (keys_of es) → lookup (eq_by_cmp R k) es ≡ None
-  none_behind k [] a = refl
-  none_behind k (e ∷ es) a =
-      ap (λ r. cond (is_eq r) (Some e.1) (lookup (eq_by_cmp R k) es)) (o.antisymm k e.0 ∙ ap ordering_reverse a.0) ∙ none_behind k es a.1
+  none_after : (k : K) (es : List (K × V)) → Before R k (keys_of es) → lookup (eq_by_cmp R k) es ≡ None
+  none_after k [] a = refl
+  none_after k (e ∷ es) a =
+      ap (λ r. cond (is_eq r) (Some e.1) (lookup (eq_by_cmp R k) es)) (o.antisymm k e.0 ∙ ap ordering_reverse a.0) ∙ none_after k es a.1
 
   -- what is found with one more entry after the others
   lookup_push : (es : List (K × V)) (k : K) (v : V) → Before R k (keys_of es)
@@ -205,7 +205,7 @@ module _ {K : Type 0} {R : K → K → Ordering} (o : IsTotalOrder R) (exact : C
         record {
           has = ways_push o exact ways (ways ++ (x.key, fresh x) ∷ []) cs x runs.has
               (λ q. lookup_push o ways x.key (fresh x) before q
-              ∙ ap (λ (w : Option WayValue). cond (is_at (R x.key) q) (Some (merge w x)) (lookup (eq_by_cmp R q) ways)) (sym (none_behind o x.key ways before)));
+              ∙ ap (λ (w : Option WayValue). cond (is_at (R x.key) q) (Some (merge w x)) (lookup (eq_by_cmp R q) ways)) (sym (none_after o x.key ways before)));
           rises = subst (IsStrictlySortedBy R) (sym keys) (rise_push R (keys_of ways) x.key runs.rises before);
           known = λ k h. (let both = keys_more k h in
               subst (UpTo R k) (sym keys) (all_both (λ q. is_gt (R q k) ≡ false) (keys_of ways) (x.key ∷ []) both.0 both.1));

@@ -101,7 +101,7 @@ module _ (root : RouterId) (D : ℕ → Option ℕ) (H : ℕ → List Hop) where
     offers_from [] n fit = refl
     offers_from (lsa ∷ lsas) n fit =
         filter_map-append over (stub_links_of n lsa) (stub_links_from (n + 1) lsas)
-        ∙ ap (λ (l : List OfferValue). filter_map over (stub_links_of n lsa) ++ l) (offers_from lsas (n + 1) behind)
+        ∙ ap (λ (l : List OfferValue). filter_map over (stub_links_of n lsa) ++ l) (offers_from lsas (n + 1) after)
         ∙ by (distance (vertex_of lsa)) (at_n ∙ here.0)
       where
         n_is : n ≡ n + 0
@@ -113,8 +113,8 @@ module _ (root : RouterId) (D : ℕ → Option ℕ) (H : ℕ → List Hop) where
         at_n : D n ≡ D (n + 0)
         at_n = ap D n_is
 
-        behind : Fit (n + 1) lsas
-        behind k x at = let moved : (n + 1) + k ≡ n + suc k = omega arith in
+        after : Fit (n + 1) lsas
+        after k x at = let moved : (n + 1) + k ≡ n + suc k = omega arith in
             let there = fit (suc k) x at in
             (ap D moved ∙ there.0, ap H moved ∙ there.1)
 

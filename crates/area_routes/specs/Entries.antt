@@ -2,7 +2,7 @@
 use Rattle.std.specs.Prelude.{ℕ, Bool, ◌&&◌, ◌==◌, not, bit_and, if◌then◌else◌, List, [], ◌∷◌, ◌++◌, flat_map}
 use Rattle.lsa_codec.specs.declared.address.AreaId.{AreaId}
 use Rattle.lsa_codec.specs.declared.address.RouterId.{RouterId}
-use Rattle.lsa_codec.specs.Fields.{octet_at, link_state_id_of}
+use Rattle.lsa_codec.specs.Fields.{byte_at, link_state_id_of}
 use Rattle.area_graph.specs.Area.{is_router_lsa}
 use Rattle.area_routes.specs.declared.entry.EntryKind.{EntryKind}
 use Rattle.area_routes.specs.declared.entry.EntryKind.TheVariants.{Border, AsbrIntra}
@@ -12,7 +12,7 @@ use Rattle.area_routes.specs.Stubs.{is_lsa_of}
 
 -- the flags of a router-LSA
 abbrev pub flags_of : List ℕ → ℕ
-flags_of lsa = octet_at 20 lsa
+flags_of lsa = byte_at 20 lsa
 
 abbrev pub has_bit : ℕ → ℕ → Bool
 has_bit bit flags = not (bit_and flags bit == 0)

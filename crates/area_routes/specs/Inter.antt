@@ -80,8 +80,8 @@ abbrev pub usable_metric : RouterId → List ℕ → Option ℕ
 usable_metric router lsa = if is_usable router lsa then Some (metric_of lsa) else None
 
 -- the prefix of a summary-LSA of type 3, where it has no intra-area route
-abbrev pub network_told : List RouteValue → List ℕ → Option Net
-network_told intra lsa = option_and_then (λ net. if has_route intra net then None else Some net) (net_of_summary lsa)
+abbrev pub announced_network : List RouteValue → List ℕ → Option Net
+announced_network intra lsa = option_and_then (λ net. if has_route intra net then None else Some net) (net_of_summary lsa)
 
 -- the way by an entry of the originator, at the summary's metric
 abbrev pub by_border : {K : Type 0} → K → AreaId → ℕ → EntryValue → Candidate K
@@ -97,17 +97,17 @@ module _ (router : RouterId) (area : AreaResultValue) where
   candidate_to lsa key = option_and_then (λ metric. option_map (by_border key area.area metric) (border_of area.entries (originator_of lsa))) (usable_metric router lsa)
 
   -- the router of a summary-LSA of type 4, where it is not the calculating router and not an AS boundary router of the area
-  abbrev pub asbr_told : List ℕ → Option RouterId
-  asbr_told lsa =
+  abbrev pub announced_asbr : List ℕ → Option RouterId
+  announced_asbr lsa =
       if (kind_of lsa == asbr_summary_lsa) && (not (same_router (named_router lsa) router) && not (has_asbr area.entries (named_router lsa))) then Some (named_router lsa) else None
 
   -- the way to a prefix of another area
   abbrev pub network_candidate : List RouteValue → List ℕ → Option (Candidate Net)
-  network_candidate intra lsa = option_and_then (candidate_to lsa) (network_told intra lsa)
+  network_candidate intra lsa = option_and_then (candidate_to lsa) (announced_network intra lsa)
 
   -- the way to an AS boundary router of another area
   abbrev pub asbr_candidate : List ℕ → Option (Candidate RouterId)
-  asbr_candidate lsa = option_and_then (candidate_to lsa) (asbr_told lsa)
+  asbr_candidate lsa = option_and_then (candidate_to lsa) (announced_asbr lsa)
 
   -- the routes by the summary-LSAs among these LSAs
   abbrev pub inter_routes : List RouteValue → List (List ℕ) → List RouteValue

@@ -1,7 +1,7 @@
 //! The areas that a router is attached to.
 
 ghost use Rattle.std.specs.Prelude.{◌≡◌};
-ghost use Rattle.lsdb.specs.Places.{lists_of};
+ghost use Rattle.lsdb.specs.Slots.{lists_of};
 ghost use Rattle.area_routes.specs.Attached.{is_attached};
 
 use lsa_codec::{AreaId, Key, RouterId};

@@ -4,7 +4,7 @@
 ghost use Rattle.std.specs.Prelude.{◌≡◌, ◌<◌, ℕ, List, Option, Some, IfOk, IfSome, IsSome, length, map, slice_get};
 ghost use Rattle.lsdb.specs.declared.section.Section.TheVariants.{Area};
 ghost use Rattle.lsdb.specs.Lists.{lsas_of};
-ghost use Rattle.lsdb.specs.Places.{item_at, lists_of, lsas_in};
+ghost use Rattle.lsdb.specs.Slots.{item_at, lists_of, lsas_in};
 ghost use Rattle.area_graph.specs.declared.vertex.Vertex.{Vertex};
 ghost use Rattle.area_graph.specs.Area.{used, vertex_of, vertices_of};
 ghost use Rattle.next_hops.specs.declared.hop.Hop.{Hop as AnyHop};

@@ -4,7 +4,7 @@ ghost use Rattle.std.specs.Prelude.{◌≡◌, ◌++◌, ◌^◌, List, [], OnOk
 ghost use Rattle.std.specs.List.{cons_option};
 ghost use Rattle.lsa_codec.specs.Prefix.{Net};
 ghost use Rattle.lsa_codec.specs.declared.address.RouterId.{RouterId as AnyRouter};
-ghost use Rattle.lsdb.specs.Places.{lists_of};
+ghost use Rattle.lsdb.specs.Slots.{lists_of};
 ghost use Rattle.area_routes.specs.Best.{Gathers};
 ghost use Rattle.area_routes.specs.Candidate.{Candidate};
 ghost use Rattle.area_routes.specs.Inter.{asbr_candidate, asbr_entry, candidate_to, inter_entries, inter_of, inter_routes, network_candidate};
@@ -20,7 +20,7 @@ use crate::indexed_area::IndexedArea;
 use crate::inside_routes::InsideRoutes;
 use crate::inter_result::InterResult;
 use crate::rank::{PathType, Rank};
-use crate::summary::{asbr_told, network_told, usable_metric};
+use crate::summary::{announced_asbr, announced_network, usable_metric};
 use crate::way::Way;
 use lsa_codec::{AreaId, Lsa, Prefix, RouterId};
 use lsdb::{Database, Lsas, Section};
@@ -125,7 +125,7 @@ fn add_network_candidate<'a, A: Allocator + Copy>(
         → Gathers
         (cs ++ cons_option (network_candidate router area.now intra.now lsa.now) []) ways.new) }
 {
-    if let Some(net) = network_told(lsa, intra) {
+    if let Some(net) = announced_network(lsa, intra) {
         add_summary_candidate(ways, net, lsa, router, area)?;
     }
     Ok(())
@@ -143,7 +143,7 @@ fn add_asbr_candidate<'a, A: Allocator + Copy>(
         → Gathers
         (cs ++ cons_option (asbr_candidate router area.now lsa.now) []) ways.new) }
 {
-    if let Some(asbr) = asbr_told(lsa, router, area) {
+    if let Some(asbr) = announced_asbr(lsa, router, area) {
         add_summary_candidate(ways, asbr, lsa, router, area)?;
     }
     Ok(())

@@ -5,7 +5,7 @@ ghost use Rattle.std.specs.BTreeMap.{get, Updates};
 ghost use Rattle.lsa_codec.specs.Order.{prefix_cmp};
 ghost use Rattle.area_routes.specs.Reached.{ReachedValue};
 ghost use Rattle.area_routes.specs.Networks.{networks, network_offers};
-ghost use Rattle.area_routes.specs.steps.Standings.{AreStandingsOf, is_behind, stands_before, standing_of, unbeaten};
+ghost use Rattle.area_routes.specs.steps.Standings.{AreStandingsOf, is_after, stands_before, standing_of, unbeaten};
 ghost use Rattle.area_routes.specs.steps.Growing.{with_offers};
 
 use crate::area_ways::AreaWays;
@@ -41,8 +41,8 @@ fn stands_before(one: Standing, other: Standing) -> bool
 }
 
 /// Whether a network of the prefix is better than this one.
-fn is_behind<A: Allocator + Copy>(standings: &Standings<A>, net: Prefix, standing: Standing) -> bool
-    ensures { result ≡ is_behind (get prefix_cmp standings.now net) standing }
+fn is_after<A: Allocator + Copy>(standings: &Standings<A>, net: Prefix, standing: Standing) -> bool
+    ensures { result ≡ is_after (get prefix_cmp standings.now net) standing }
 {
     match standings.get(&net) {
         Some(best) => stands_before(*best, standing),
@@ -73,7 +73,7 @@ fn compare<A: Allocator + Copy>(
         return Ok(());
     };
     let standing = standing_of(reached);
-    if is_behind(standings, net, standing) {
+    if is_after(standings, net, standing) {
         return Ok(());
     }
     set_standing(standings, net, standing)
@@ -105,7 +105,7 @@ fn add_network<'a, A: Allocator + Copy>(
     let Some(net) = reached.net() else {
         return Ok(());
     };
-    if is_behind(standings, net, standing_of(reached)) {
+    if is_after(standings, net, standing_of(reached)) {
         return Ok(());
     }
     ways.add(net, reached.distance(), reached.hops())

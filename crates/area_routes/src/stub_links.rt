@@ -4,7 +4,7 @@ ghost use Rattle.std.specs.Prelude.{◌≡◌, ◌++◌, [], IfOk, OnOk};
 ghost use Rattle.std.specs.List.{cons_option};
 ghost use Rattle.lsdb.specs.declared.section.Section.TheVariants.{Area};
 ghost use Rattle.lsdb.specs.Lists.{lsas_of};
-ghost use Rattle.lsdb.specs.Places.{lists_of};
+ghost use Rattle.lsdb.specs.Slots.{lists_of};
 ghost use Rattle.area_routes.specs.StubLinks.{AreStubLinksOf, stub_link, stub_links_from, stub_links_of};
 
 use area_graph::{VertexLsa, used_lsas};

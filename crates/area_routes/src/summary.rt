@@ -2,7 +2,7 @@
 
 ghost use Rattle.std.specs.Prelude.{◌≡◌, ◌<◌, IfSome};
 ghost use Rattle.lsa_codec.specs.Views.{ls_infinity};
-ghost use Rattle.area_routes.specs.Inter.{asbr_told, network_told, usable_metric};
+ghost use Rattle.area_routes.specs.Inter.{announced_asbr, announced_network, usable_metric};
 
 use crate::indexed_area::IndexedArea;
 use crate::inside_routes::InsideRoutes;
@@ -23,11 +23,11 @@ pub(crate) fn usable_metric<A: Allocator + Copy>(lsa: &Lsa<A>, router: RouterId)
 }
 
 /// The prefix of a summary-LSA of type 3, where it has no intra-area route.
-pub(crate) fn network_told<A: Allocator + Copy>(
+pub(crate) fn announced_network<A: Allocator + Copy>(
     lsa: &Lsa<A>,
     intra: &InsideRoutes<A>,
 ) -> Option<Prefix>
-    ensures { result ≡ network_told intra.now lsa.now }
+    ensures { result ≡ announced_network intra.now lsa.now }
 {
     let net = lsa.summary()?.net()?;
     if intra.as_routes().has_route(net) {
@@ -38,12 +38,12 @@ pub(crate) fn network_told<A: Allocator + Copy>(
 
 /// The router of a summary-LSA of type 4, where it is not the calculating router and not an AS
 /// boundary router of the area.
-pub(crate) fn asbr_told<A: Allocator + Copy>(
+pub(crate) fn announced_asbr<A: Allocator + Copy>(
     lsa: &Lsa<A>,
     router: RouterId,
     area: &IndexedArea<'_, A>,
 ) -> Option<RouterId>
-    ensures { result ≡ asbr_told router area.now lsa.now }
+    ensures { result ≡ announced_asbr router area.now lsa.now }
 {
     let key = lsa.key();
     let asbr = RouterId(key.id.0);

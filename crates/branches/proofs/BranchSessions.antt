@@ -106,15 +106,15 @@ pub record GoesOn (old new : List (ℕ × Session)) (branch : ℕ) (t : Session)
 other_at : (named : Named) (new : List (ℕ × Session)) (branch : ℕ) (t : Session) → eqb branch 0 ≡ false → GoesOn named.others new branch t
     → (other : ℕ) (same : Bool) → eqb branch other ≡ same
     → sessions_of (record { first = named.first; others = new }) other ≡ cond same t (sessions_of named other)
-other_at named new branch t behind went other true e =
+other_at named new branch t not_first went other true e =
     ap (sessions_of (record { first = named.first; others = new })) (sym (eqb-true branch other e))
-    ∙ rw (behind, went.at) refl
-other_at named new branch t behind went other false e =
+    ∙ rw (not_first, went.at) refl
+other_at named new branch t not_first went other false e =
     ap (λ o. cond (eqb other 0) named.first (session_or_begin named.first.base o)) (went.others other e)
 
 pub other_goes_on : (named : Named) (new : List (ℕ × Session)) (branch : ℕ) (t : Session) → eqb branch 0 ≡ false → GoesOn named.others new branch t
     → sessions_of (record { first = named.first; others = new }) ≡ with_session branch t (sessions_of named)
-other_goes_on named new branch t behind went = λ i other. other_at named new branch t behind went other (eqb branch other) refl i
+other_goes_on named new branch t not_first went = λ i other. other_at named new branch t not_first went other (eqb branch other) refl i
 
 base_at : (named : Named) (new : List (ℕ × Session)) (branch : ℕ) (t : Session)
     → t.base ≡ named.first.base → GoesOn named.others new branch t → HaveOneBase named
@@ -159,7 +159,7 @@ written old new branch p q was writes = inserted old new branch q (writes.3 (sub
 pub session_of_named : (first : PlannerValue) (ps : List (ℕ × PlannerValue)) (branch : ℕ) (p : PlannerValue)
     → eqb branch 0 ≡ false → Some p ≡ planner_at ps branch
     → sessions_of (named_by first ps) branch ≡ p.session
-session_of_named first ps branch p behind was = rw (behind, shown ps branch, sym was) refl
+session_of_named first ps branch p not_first was = rw (not_first, shown ps branch, sym was) refl
 
 pub session_of_first : (first : PlannerValue) (ps : List (ℕ × PlannerValue)) (branch : ℕ) → branch ≡ 0
     → sessions_of (named_by first ps) branch ≡ first.session
@@ -167,11 +167,11 @@ session_of_first first ps branch zeroth = rw zeroth refl
 
 pub session_of_unnamed : (first : PlannerValue) (ps : List (ℕ × PlannerValue)) (branch : ℕ) → eqb branch 0 ≡ false → None ≡ planner_at ps branch
     → sessions_of (named_by first ps) branch ≡ start first.session.base
-session_of_unnamed first ps branch behind none = rw (behind, shown ps branch, sym none) refl
+session_of_unnamed first ps branch not_first none = rw (not_first, shown ps branch, sym none) refl
 
 pub not_named : (first : PlannerValue) (ps : List (ℕ × PlannerValue)) (branch : ℕ) → eqb branch 0 ≡ false
     → None ≡ planner_at ps branch → has_planner (named_by first ps) branch ≡ false
-not_named first ps branch behind none = rw (behind, shown ps branch, sym none) refl
+not_named first ps branch not_first none = rw (not_first, shown ps branch, sym none) refl
 
 pub base_of : (named : Named) (branch : ℕ) (s : Session) → Some s ≡ found named.others branch → HaveOneBase named → s.base ≡ named.first.base
 base_of named branch s was one = subst (λ o. IfSome o (λ (x : Session). x.base ≡ named.first.base)) (sym was) (one branch)
@@ -180,11 +180,11 @@ pub written_on : (first : PlannerValue) (old new : BTreeMap ℕ PlannerValue) (b
     → Some p ≡ planner_at old.entries branch → WritesThrough nat_cmp (nat_cmp branch) old q new → q.session ≡ after p.session c
     → sessions_of (named_by first new.entries) ≡ with_session branch
     (after (sessions_of (named_by first old.entries) branch) c) (sessions_of (named_by first old.entries))
-written_on first old new branch p q c behind was writes is =
+written_on first old new branch p q c not_first was writes is =
     let named : Named = named_by first old.entries in
-    other_goes_on named (sessions_by new.entries) branch q.session behind (written old new branch p q was writes)
+    other_goes_on named (sessions_by new.entries) branch q.session not_first (written old new branch p q was writes)
     ∙ ap (λ (u : Session). with_session branch u (sessions_of named))
-    (is ∙ ap (λ (u : Session). after u c) (sym (session_of_named first old.entries branch p behind was)))
+    (is ∙ ap (λ (u : Session). after u c) (sym (session_of_named first old.entries branch p not_first was)))
 
 -- a planner that was written back with its session
 set_at : (k : ℕ) (v q : PlannerValue) (ps : List (ℕ × PlannerValue)) (news : List (ℕ × PlannerValue))
@@ -211,23 +211,23 @@ written_same old new branch p q was writes same =
 
 begins_at : (first : Session) (o : Option Session) (z : Bool) → z ≡ false → (z || is_some o) ≡ false
     → cond z first (session_or_begin first.base o) ≡ start first.base
-begins_at first o true behind none = absurd (true≢false behind)
-begins_at first None false behind none = refl
-begins_at first (Some s) false behind none = absurd (true≢false none)
+begins_at first o true not_first none = absurd (true≢false not_first)
+begins_at first None false not_first none = refl
+begins_at first (Some s) false not_first none = absurd (true≢false none)
 
 begins : (named : Named) (branch : ℕ) → eqb branch 0 ≡ false → has_planner named branch ≡ false → sessions_of named branch ≡ start named.first.base
-begins named branch behind none = begins_at named.first (found named.others branch) (eqb branch 0) behind none
+begins named branch not_first none = begins_at named.first (found named.others branch) (eqb branch 0) not_first none
 
 -- the reply to a command there, and that the branch stays there
 pub begins_reply : (named : Named) (branch : ℕ) (c : Command) (said : Said) → eqb branch 0 ≡ false → has_planner named branch ≡ false
     → said ≡ reply_to (start named.first.base) c → said ≡ reply_to (sessions_of named branch) c
-begins_reply named branch c said behind none is = is ∙ ap (λ (s : Session). reply_to s c) (sym (begins named branch behind none))
+begins_reply named branch c said not_first none is = is ∙ ap (λ (s : Session). reply_to s c) (sym (begins named branch not_first none))
 
 pub begins_stays : (named : Named) (branch : ℕ) (c : Command) → eqb branch 0 ≡ false → has_planner named branch ≡ false
     → after (start named.first.base) c ≡ start named.first.base
     → sessions_of named ≡ with_session branch (after (sessions_of named branch) c) (sessions_of named)
-begins_stays named branch c behind none stays =
-    let at = begins named branch behind none in
+begins_stays named branch c not_first none stays =
+    let at = begins named branch not_first none in
     with_own branch (sessions_of named)
     ∙ ap (λ (s : Session). with_session branch s (sessions_of named)) (at ∙ sym stays ∙ ap (λ (s : Session). after s c) (sym at))
 
@@ -235,8 +235,8 @@ begins_stays named branch c behind none stays =
 pub begins_alone : (named new : Named) (branch : ℕ) (s : Session) → eqb branch 0 ≡ false → has_planner named branch ≡ false
     → s ≡ start named.first.base → sessions_of new ≡ with_session branch s (sessions_of named)
     → sessions_of new ≡ sessions_of named
-begins_alone named new branch s behind none at went =
-    went ∙ ap (λ (t : Session). with_session branch t (sessions_of named)) (at ∙ sym (begins named branch behind none))
+begins_alone named new branch s not_first none at went =
+    went ∙ ap (λ (t : Session). with_session branch t (sessions_of named)) (at ∙ sym (begins named branch not_first none))
     ∙ sym (with_own branch (sessions_of named))
 
 -- what follows from the properties of a success, or of an error

@@ -2,7 +2,7 @@
 
 ghost use Rattle.std.specs.Prelude.{◌≡◌, ◌⊎◌, ◌<◌, ◌==◌, ◌++◌, Ok, IfOk, OnOk, OnErr, IsOk, true, false, length};
 ghost use Rattle.std.specs.String.{string_bytes};
-ghost use Rattle.lsdb.specs.Places.{lists_of};
+ghost use Rattle.lsdb.specs.Slots.{lists_of};
 ghost use Rattle.lsdb.specs.Text.{text};
 ghost use Rattle.edit_history.specs.Session.{start, state};
 ghost use Rattle.routing_table.specs.Routers.{attached_routers};
@@ -102,7 +102,7 @@ impl<A: Allocator + Copy> Branches<A> {
     /// Carries a command out in a branch that is at its beginning, and gives it a planner if it may
     /// take memory.
     fn step_first(&mut self, branch: u8, command: &Command) -> Result<Reply<A>, AllocError>
-        requires behind { (branch == 0) ≡ false }
+        requires not_first { (branch == 0) ≡ false }
         requires new { has_planner self.old branch ≡ false }
         ensures reply { IfOk result
             (λ reply. said_by reply ≡ reply_to (sessions_of self.old branch) command.now) }
@@ -123,7 +123,7 @@ impl<A: Allocator + Copy> Branches<A> {
 
     /// Begins a branch, with its first command.
     fn begin(&mut self, branch: u8, command: &Command) -> Result<Reply<A>, AllocError>
-        requires behind { (branch == 0) ≡ false }
+        requires not_first { (branch == 0) ≡ false }
         requires new { has_planner self.old branch ≡ false }
         ensures reply { IfOk result
             (λ reply. said_by reply ≡ reply_to (sessions_of self.old branch) command.now) }
@@ -228,7 +228,7 @@ impl<A: Allocator + Copy> Branches<A> {
         router: RouterId,
         text: &mut String<A>,
     ) -> Result<(), AllocError>
-        requires behind { (branch == 0) ≡ false }
+        requires not_first { (branch == 0) ≡ false }
         requires new { has_planner self.old branch ≡ false }
         ensures text { OnOk result (string_bytes text.new ≡ string_bytes text.old
             ++ router_text (state (sessions_of self.old branch)) router) }
@@ -251,7 +251,7 @@ impl<A: Allocator + Copy> Branches<A> {
 
     /// Gives a branch other than 0 a planner, with which it goes on.
     fn name(&mut self, branch: u8, planner: Planner<A>) -> Result<(), AllocError>
-        requires behind { (branch == 0) ≡ false }
+        requires not_first { (branch == 0) ≡ false }
         requires base { planner.session.base ≡ self.old.first.base }
         ensures sessions { OnOk result (sessions_of self.new
             ≡ with_session branch planner.session (sessions_of self.old)) }

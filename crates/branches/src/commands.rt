@@ -2,7 +2,7 @@
 
 ghost use Rattle.std.specs.Prelude.{◌≡◌, ◌++◌, IfOk, OnOk, OnErr, IsOk, false, filter_map, length, option_map, option_to_list};
 ghost use Rattle.std.specs.String.{string_bytes};
-ghost use Rattle.lsdb.specs.Places.{lists_of};
+ghost use Rattle.lsdb.specs.Slots.{lists_of};
 ghost use Rattle.edit_history.specs.Session.{accepted_or, state, edited};
 ghost use Rattle.routing_table.specs.Routers.{attached_routers};
 ghost use Rattle.routing_table.specs.Tables.{table_in};
@@ -91,7 +91,7 @@ fn table_now<A: Allocator + Copy>(
 
 /// The routing table of a router now, if it is attached to an area. It may be the same one that the
 /// planner keeps of the loaded database.
-fn shared_table_now<A: Allocator + Copy>(
+fn cached_table_now<A: Allocator + Copy>(
     planner: &mut Planner<A>,
     router: RouterId,
 ) -> Result<Option<Rc<Table<A>, A>>, AllocError>
@@ -99,7 +99,7 @@ fn shared_table_now<A: Allocator + Copy>(
         ≡ table_in (state planner.old.session) router) }
     ensures kept { planner.new.session ≡ planner.old.session }
 {
-    match planner.shared_table(router) {
+    match planner.cached_table(router) {
         Ok(table) => Ok(Some(table)),
         Err(TableFault::NoRouter) => Ok(None),
         Err(TableFault::OutOfMemory) => Err(AllocError),
@@ -116,7 +116,7 @@ fn table_before<A: Allocator + Copy>(
         ≡ table_in planner.old.session.base router) }
     ensures kept { planner.new.session ≡ planner.old.session }
 {
-    match planner.kept_base_table(router) {
+    match planner.baseline_table(router) {
         Ok(table) => Ok(Some(table)),
         Err(TableFault::NoRouter) => Ok(None),
         Err(TableFault::OutOfMemory) => Err(AllocError),
@@ -135,7 +135,7 @@ fn table<A: Allocator + Copy>(
         (λ reply. said_by reply ≡ table_reply (table_in (state planner.old.session) router)) }
     ensures kept { planner.new.session ≡ planner.old.session }
 {
-    Ok(match shared_table_now(planner, router)? {
+    Ok(match cached_table_now(planner, router)? {
         Some(table) => Reply::Table(table),
         None => Reply::Refused(NO_ROUTER),
     })
@@ -197,7 +197,7 @@ pub(crate) fn routers_with_table<A: Allocator + Copy>(
     // By this law each of the routers is attached to an area of a valid database, so it has a
     // table; and this database is valid.
     routers_are_attached();
-    database.known();
+    database.assert_valid();
     routers(database.alloc(), database)
 }
 

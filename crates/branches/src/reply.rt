@@ -173,12 +173,12 @@ fn push_refusal<A: Allocator + Copy>(text: &mut String<A>, why: Refusal) -> Resu
         (string_bytes text.new ≡ string_bytes text.old
         ++ (codes "refused " ++ refusal_code why ++ codes " " ++ refusal_name why ++ codes "\n")) }
 {
-    push_told(text, "refused ", why.code(), why.name())
+    push_reported(text, "refused ", why.code(), why.name())
 }
 
 /// Adds a word, and after it a code, a name and a line feed. Pieces are added as they are, which
 /// takes less time than formatting them.
-fn push_told<A: Allocator + Copy>(
+fn push_reported<A: Allocator + Copy>(
     text: &mut String<A>,
     word: &str,
     code: &str,
@@ -302,6 +302,6 @@ pub fn script_text<A: Allocator + Copy>(
     ensures { IfOk result (λ text. text.items ≡ script_text fault) }
 {
     let mut text = String::with_capacity(alloc, SHORT_REPLY)?;
-    push_told(&mut text, "script ", fault.code(), fault.name())?;
+    push_reported(&mut text, "script ", fault.code(), fault.name())?;
     Ok(text.into_bytes())
 }

@@ -1,13 +1,13 @@
--- Blocks one behind the other.
+-- Blocks one after the other.
 use Rattle.std.proofs.Common.{◌≡◌, ◌≢◌, ℕ, ◌+◌, ◌≤◌, true, List, [], ◌∷◌, ◌++◌, length, drop, Option, Some, None, Result, Ok, Err}
 use Rattle.std.proofs.Common.{refl, sym, ap, ◌∙◌, subst, ◌⊎◌, inl, inr}
 use Rattle.std.proofs.lemmas.List.{drop-drop}
-use Rattle.capture_files.specs.declared.block.Lie.{Lie}
+use Rattle.capture_files.specs.declared.block.Flaw.{Flaw}
 use Rattle.capture_files.specs.CaptureTexts.{CaptureText}
 use Rattle.capture_files.specs.Pcap.{end_at}
-use Rattle.capture_files.specs.Pcapng.{State, start, next, has_section, AreBlocks, Reaches, HasKept, HasContent, IsPcapng, LiesIn}
+use Rattle.capture_files.specs.Pcapng.{State, start, next, has_section, AreBlocks, Reaches, HasKept, HasContent, IsPcapng, IsFlawIn}
 use Rattle.capture_files.specs.steps.BlockContents.{IsBlockKept}
-use Rattle.capture_files.proofs.Records.{same_offset, same_told}
+use Rattle.capture_files.proofs.Records.{same_offset, same_parsed}
 
 -- ---- as they are read
 
@@ -30,11 +30,11 @@ next_block file t offset u size h is within = record {
 }
 
 -- the block, after which memory ran out
-kept_block : (offset : ℕ) (file : List ℕ) (found : Result (Option (State × ℕ)) Lie) → IsBlockKept offset file found
+kept_block : (offset : ℕ) (file : List ℕ) (found : Result (Option (State × ℕ)) Flaw) → IsBlockKept offset file found
     → (block : State × ℕ) × ((found ≡ Ok (Some block)) × ((offset + block.1 ≤ length file) × HasKept block.0))
 kept_block offset file (Ok (Some block)) h = (block, (refl, h))
 kept_block offset file (Ok None) h = absurd h
-kept_block offset file (Err lie) h = absurd h
+kept_block offset file (Err flaw) h = absurd h
 
 pub ran_out : (file : List ℕ) (s : State) (offset : ℕ) → has_section file ≡ true → Reaches file s offset
     → IsBlockKept offset file (next s (drop offset file)) → HasContent file
@@ -57,14 +57,14 @@ one_more_kept (y ∷ ys) x e = absurd cc
 
 -- where the blocks end
 abbrev Stops : State → List ℕ → Type 0
-Stops s rest = (next s rest ≡ Ok None) ⊎ ((lie : Lie) × (next s rest ≡ Err lie))
+Stops s rest = (next s rest ≡ Ok None) ⊎ ((flaw : Flaw) × (next s rest ≡ Err flaw))
 
 abbrev Found : Type 0
-Found = Result (Option (State × ℕ)) Lie
+Found = Result (Option (State × ℕ)) Flaw
 
 goes_on : (s : State) (bytes : List ℕ) (x : State × ℕ) → next s bytes ≡ Ok (Some x) → Stops s bytes → ⊥
 goes_on s bytes x is (inl none) = let no : ◌≡◌ {A = Found} (Ok (Some x)) (Ok None) = sym is ∙ none in cc
-goes_on s bytes x is (inr lie) = let no : ◌≡◌ {A = Found} (Ok (Some x)) (Err lie.0) = sym is ∙ lie.1 in cc
+goes_on s bytes x is (inr flaw) = let no : ◌≡◌ {A = Found} (Ok (Some x)) (Err flaw.0) = sym is ∙ flaw.1 in cc
 
 same_blocks : (s : State) (bytes : List ℕ) (xs ys : List (State × ℕ)) (t u : State) (r q : List ℕ) → AreBlocks s bytes xs t r
     → AreBlocks s bytes ys u q → Stops t r → Stops u q → (t ≡ u) × (r ≡ q)
@@ -78,9 +78,9 @@ same_blocks s bytes (a ∷ xs) [] t u r q h k x y =
 same_blocks s bytes (a ∷ xs) (b ∷ ys) t u r q h k x y =
     let found : ◌≡◌ {A = Found} (Ok (Some a)) (Ok (Some b)) = sym h.0 ∙ k.0 in
     let same : b ≡ a = cc in
-    let behind : AreBlocks a.0 (drop a.1 bytes) ys u q =
+    let after : AreBlocks a.0 (drop a.1 bytes) ys u q =
     subst (λ (z : State × ℕ). AreBlocks z.0 (drop z.1 bytes) ys u q) same k.1 in
-    same_blocks a.0 (drop a.1 bytes) xs ys t u r q h.1 behind x y
+    same_blocks a.0 (drop a.1 bytes) xs ys t u r q h.1 after x y
 
 same_place : (file : List ℕ) (t u : State) (a b : ℕ) → Reaches file t a → Reaches file u b → Stops t (drop a file) → Stops u (drop b file)
     → (t ≡ u) × (a ≡ b)
@@ -88,24 +88,24 @@ same_place file t u a b h k x y =
     let both = same_blocks start file h.blocks k.blocks t u (drop a file) (drop b file) h.whole k.whole x y in
     (both.0, same_offset file a b h.within k.within both.1)
 
-pub one_told : (file : List ℕ) (a b : CaptureText) → IsPcapng file a → IsPcapng file b → a ≡ b
-one_told file a b h k =
+pub parsed_one : (file : List ℕ) (a b : CaptureText) → IsPcapng file a → IsPcapng file b → a ≡ b
+parsed_one file a b h k =
     let both = same_place file h.last k.last h.offset k.offset h.reached k.reached (inl h.stopped) (inl k.stopped) in
-    same_told a b (h.packets ∙ ap (λ (s : State). s.packets) both.0 ∙ sym k.packets) (h.ended ∙ ap (end_at file) both.1 ∙ sym k.ended)
+    same_parsed a b (h.packets ∙ ap (λ (s : State). s.packets) both.0 ∙ sym k.packets) (h.ended ∙ ap (end_at file) both.1 ∙ sym k.ended)
 
-pub never_both : (file : List ℕ) (a : CaptureText) (offset : ℕ) (lie : Lie) → IsPcapng file a → LiesIn file offset lie → ⊥
-never_both file a offset lie h k =
-    let both = same_place file h.last k.last h.offset offset h.reached k.reached (inl h.stopped) (inr (lie, k.lying)) in
+pub never_both : (file : List ℕ) (a : CaptureText) (offset : ℕ) (flaw : Flaw) → IsPcapng file a → IsFlawIn file offset flaw → ⊥
+never_both file a offset flaw h k =
+    let both = same_place file h.last k.last h.offset offset h.reached k.reached (inl h.stopped) (inr (flaw, k.malformed)) in
     let here : next h.last (drop h.offset file) ≡ next k.last (drop offset file) =
     ap (λ (s : State). next s (drop h.offset file)) both.0 ∙ ap (λ (n : ℕ). next k.last (drop n file)) both.1 in
-    let no : ◌≡◌ {A = Found} (Ok None) (Err lie) = sym h.stopped ∙ here ∙ k.lying in
+    let no : ◌≡◌ {A = Found} (Ok None) (Err flaw) = sym h.stopped ∙ here ∙ k.malformed in
     cc
 
-pub one_lie : (file : List ℕ) (m n : ℕ) (x y : Lie) → LiesIn file m x → LiesIn file n y → (m ≡ n) × (x ≡ y)
-one_lie file m n x y h k =
-    let both = same_place file h.last k.last m n h.reached k.reached (inr (x, h.lying)) (inr (y, k.lying)) in
+pub one_flaw : (file : List ℕ) (m n : ℕ) (x y : Flaw) → IsFlawIn file m x → IsFlawIn file n y → (m ≡ n) × (x ≡ y)
+one_flaw file m n x y h k =
+    let both = same_place file h.last k.last m n h.reached k.reached (inr (x, h.malformed)) (inr (y, k.malformed)) in
     let here : next h.last (drop m file) ≡ next k.last (drop n file) =
     ap (λ (s : State). next s (drop m file)) both.0 ∙ ap (λ (i : ℕ). next k.last (drop i file)) both.1 in
-    let found : ◌≡◌ {A = Found} (Err x) (Err y) = sym h.lying ∙ here ∙ k.lying in
+    let found : ◌≡◌ {A = Found} (Err x) (Err y) = sym h.malformed ∙ here ∙ k.malformed in
     let same : x ≡ y = cc in
     (both.1, same)

@@ -7,11 +7,11 @@ use Rattle.capture_files.specs.Pcapng.{has_section, IsPcapng, IsPcapngFault, Has
 
 -- of the pcapng format where the file begins with a Section Header Block, else of the pcap format
 abbrev pub IsOfFormat : Bool → List ℕ → CaptureText → Type 0
-IsOfFormat true file told = IsPcapng file told
-IsOfFormat false file told = IsPcap file told
+IsOfFormat true file parsed = IsPcapng file parsed
+IsOfFormat false file parsed = IsPcap file parsed
 
 abbrev pub IsCapture : List ℕ → CaptureText → Type 0
-IsCapture file told = IsOfFormat (has_section file) file told
+IsCapture file parsed = IsOfFormat (has_section file) file parsed
 
 abbrev pub IsFaultOfFormat : Bool → List ℕ → CaptureFault → Type 0
 IsFaultOfFormat true file fault = IsPcapngFault file fault

@@ -5,15 +5,15 @@ use Rattle.capture_files.specs.declared.order.Order.{Order}
 use Rattle.capture_files.specs.Fields.{number_at}
 use Rattle.capture_files.specs.Blocks.{BlockText}
 
--- with octets behind it up to a multiple of 4
+-- with bytes after it up to a multiple of 4
 abbrev pub padded : ℕ → ℕ
 padded n = (n + 3) / 4 * 4
 
--- the octets of an option behind its code and length
+-- the bytes of an option after its code and length
 abbrev pub value_length : Order → List ℕ → ℕ
 value_length order options = number_at order 2 2 options
 
--- the code and the value of the first option, and what stands behind it; the code 0 ends the options, and so does one
+-- the code and the value of the first option, and what stands after it; the code 0 ends the options, and so does one
 -- that is not whole
 abbrev pub first_option : Order → List ℕ → Option (ℕ × List ℕ × List ℕ)
 first_option order options =
@@ -27,16 +27,16 @@ first_option order options =
     )
 
 abbrev pub value_or : ℕ → (List ℕ → Option (List ℕ)) → Option (ℕ × List ℕ × List ℕ) → Option (List ℕ)
-value_or code behind None = None
-value_or code behind (Some option) = if option.0 == code then Some option.1 else behind option.2
+value_or code after None = None
+value_or code after (Some option) = if option.0 == code then Some option.1 else after option.2
 
--- the value of the first option of this code among the first so many
+-- the value of the first option of this code among the first options, up to this number
 unfoldable pub option_among : ℕ → Order → ℕ → List ℕ → Option (List ℕ)
 option_among zero order code options = None
 option_among (suc n) order code options =
     value_or code (λ rest. option_among n order code rest) (first_option order options)
 
--- no list of octets has more options than octets
+-- no list of bytes has more options than bytes
 abbrev pub option_of : Order → ℕ → List ℕ → Option (List ℕ)
 option_of order code options = option_among (length options) order code options
 
@@ -45,20 +45,20 @@ if_small n = if nat_lt n (2 ^ 64) then Some n else None
 
 -- how many units of time a second has: a power of 10, or of 2 where the top bit is set
 abbrev pub units_of : ℕ → Option ℕ
-units_of octet = if nat_lt octet 128 then if_small (10 ^ octet) else if_small (2 ^ (octet - 128))
+units_of byte = if nat_lt byte 128 then if_small (10 ^ byte) else if_small (2 ^ (byte - 128))
 
 -- microseconds where the option if_tsresol does not stand there
 abbrev pub resolution_of : Option (List ℕ) → Option ℕ
 resolution_of None = Some 1000000
 resolution_of (Some value) = if length value == 1 then units_of (slice_index value 0) else None
 
--- time stamps that are shifted by if_tsoffset are not told
-abbrev pub units_told : Option (List ℕ) → Option (List ℕ) → Option ℕ
-units_told None resolution = resolution_of resolution
-units_told (Some offset) resolution = None
+-- time stamps that are shifted by if_tsoffset are not read
+abbrev pub parsed_units : Option (List ℕ) → Option (List ℕ) → Option ℕ
+parsed_units None resolution = resolution_of resolution
+parsed_units (Some offset) resolution = None
 
 abbrev pub units_in : Order → List ℕ → Option ℕ
-units_in order options = units_told (option_of order 14 options) (option_of order 9 options)
+units_in order options = parsed_units (option_of order 14 options) (option_of order 9 options)
 
 -- nanoseconds since 1970, of a time stamp in these units
 abbrev pub moment_of : Option ℕ → ℕ → Option ℕ
@@ -66,12 +66,12 @@ moment_of None stamp = None
 moment_of (Some units) stamp = if units == 0 then None else if_small (stamp * 1000000000 / units)
 
 abbrev pub options_of : BlockText → List ℕ
-options_of block = drop 16 (take (length block.octets - 4) block.octets)
+options_of block = drop 16 (take (length block.bytes - 4) block.bytes)
 
--- what an Interface Description Block of 20 octets or more tells
+-- what an Interface Description Block of 20 bytes or more contains
 abbrev pub interface_of : BlockText → Interface
 interface_of block = record {
-  link = record { 0 = number_at block.order 2 8 block.octets };
-  snap = number_at block.order 4 12 block.octets;
+  link = record { 0 = number_at block.order 2 8 block.bytes };
+  snap = number_at block.order 4 12 block.bytes;
   units = units_in block.order (options_of block);
 }

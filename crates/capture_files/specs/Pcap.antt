@@ -1,4 +1,4 @@
--- Files of the pcap format (draft-ietf-opsawg-pcap, 4 and 5): a header of 24 octets, and then records, each of which
+-- Files of the pcap format (draft-ietf-opsawg-pcap, 4 and 5): a header of 24 bytes, and then records, each of which
 -- begins where the one before ends.
 use Rattle.std.specs.Prelude.{◌≡◌, ◌≤◌, ℕ, ◌+◌, ◌*◌, ◌%◌, Bool, true, false, ◌==◌, ◌||◌, ◌&&◌, not, nat_lt, if◌then◌else◌}
 use Rattle.std.specs.Prelude.{List, [], ◌∷◌, length, take, drop, Option, Some, None, option_map, Result, Ok, Err}
@@ -17,7 +17,7 @@ use Rattle.capture_files.specs.CaptureTexts.{Packet, CaptureText}
 
 -- ---- the header of the file
 
--- the unit of the fractions of a second, as the magic number tells it
+-- the unit of the fractions of a second, as the magic number says
 abbrev pub fraction_of : ℕ → Option Fraction
 fraction_of magic = if magic == 0xa1b2c3d4 then Some Micro else if magic == 0xa1b23c4d then Some Nano else None
 
@@ -59,21 +59,21 @@ abbrev pub moment_of : Form → List ℕ → ℕ
 moment_of form bytes =
     number_at form.order 4 0 bytes * 1000000000 + number_at form.order 4 4 bytes * length_of_fraction form.fraction
 
--- how many octets of the frame the record has, behind its header
+-- how many bytes of the frame the record has, after its header
 abbrev pub captured_of : Form → List ℕ → ℕ
 captured_of form bytes = number_at form.order 4 8 bytes
 
--- how many octets the frame had
+-- how many bytes the frame had
 abbrev pub original_of : Form → List ℕ → ℕ
 original_of form bytes = number_at form.order 4 12 bytes
 
--- the most octets of a frame in a capture
+-- the most bytes of a frame in a capture
 abbrev pub most_captured : ℕ
 most_captured = 262144
 
--- more octets were captured than there were, or than a capture has
-abbrev pub lies : Form → List ℕ → Bool
-lies form bytes =
+-- more bytes were captured than there were, or than a capture has
+abbrev pub is_malformed : Form → List ℕ → Bool
+is_malformed form bytes =
     not (nat_lt (length bytes) 16)
     && (nat_lt (original_of form bytes) (captured_of form bytes) || nat_lt most_captured (captured_of form bytes))
 
@@ -81,59 +81,59 @@ abbrev pub packet_in : Form → List ℕ → Packet
 packet_in form bytes = record {
   link = form.link;
   seen = Some (moment_of form bytes);
-  octets = take (captured_of form bytes) (drop 16 bytes);
+  bytes = take (captured_of form bytes) (drop 16 bytes);
   original = original_of form bytes;
 }
 
--- the packet of the record at the front of the octets, where a whole record stands there
+-- the packet of the record at the front of the bytes, where a whole record stands there
 abbrev pub record_of : Form → List ℕ → Option Packet
 record_of form bytes =
     if nat_lt (length bytes) 16 then None
     else if nat_lt (length bytes) (16 + captured_of form bytes) then None
     else Some (packet_in form bytes)
 
--- the octets are whole records of these packets, none of which lies, one behind the other, and then the rest
+-- the bytes are whole well-formed records of these packets, one after the other, and then the rest
 abbrev pub AreRecords : Form → List ℕ → List Packet → List ℕ → Type 0
 AreRecords form bytes [] rest = bytes ≡ rest
 AreRecords form bytes (packet ∷ packets) rest =
-    (lies form bytes ≡ false) × (record_of form bytes ≡ Some packet)
-    × AreRecords form (drop (16 + length packet.octets) bytes) packets rest
+    (is_malformed form bytes ≡ false) × (record_of form bytes ≡ Some packet)
+    × AreRecords form (drop (16 + length packet.bytes) bytes) packets rest
 
 -- ---- the file
 
 abbrev pub end_at : List ℕ → ℕ → End
 end_at file offset = if offset == length file then Whole else Cut offset
 
--- the file has a header, and behind it whole records of these packets up to an offset, at which no whole record stands
-pub record IsPcap (file : List ℕ) (told : CaptureText) : Type 0 where
+-- the file has a header, and after it whole records of these packets up to an offset, at which no whole record stands
+pub record IsPcap (file : List ℕ) (parsed : CaptureText) : Type 0 where
   pub form : Form
   pub offset : ℕ
   pub headed : header file ≡ Ok form
   pub within : offset ≤ length file
-  pub records : AreRecords form (drop 24 file) told.packets (drop offset file)
-  pub honest : lies form (drop offset file) ≡ false
+  pub records : AreRecords form (drop 24 file) parsed.packets (drop offset file)
+  pub well_formed : is_malformed form (drop offset file) ≡ false
   pub last : record_of form (drop offset file) ≡ None
-  pub ended : told.end ≡ end_at file offset
+  pub ended : parsed.end ≡ end_at file offset
 
--- behind a header and whole records a record lies at this offset
-pub record LiesAt (file : List ℕ) (offset : ℕ) : Type 0 where
+-- after a header and whole records the record at this offset is malformed
+pub record IsMalformedAt (file : List ℕ) (offset : ℕ) : Type 0 where
   pub form : Form
   pub packets : List Packet
   pub headed : header file ≡ Ok form
   pub within : offset ≤ length file
   pub records : AreRecords form (drop 24 file) packets (drop offset file)
-  pub lying : lies form (drop offset file) ≡ true
+  pub malformed : is_malformed form (drop offset file) ≡ true
 
--- a whole record that does not lie stands right behind the header: no memory is asked for before
+-- a whole well-formed record stands right after the header: no memory is asked for before
 pub record HasRecord (file : List ℕ) : Type 0 where
   pub form : Form
   pub packet : Packet
   pub headed : header file ≡ Ok form
-  pub honest : lies form (drop 24 file) ≡ false
+  pub well_formed : is_malformed form (drop 24 file) ≡ false
   pub first : record_of form (drop 24 file) ≡ Some packet
 
 -- why a file is refused; memory can run out with any file that has a record
 abbrev pub IsPcapFault : List ℕ → CaptureFault → Type 0
 IsPcapFault file OutOfMemory = Unit {0}
-IsPcapFault file (CapturedLength offset) = LiesAt file offset
+IsPcapFault file (CapturedLength offset) = IsMalformedAt file offset
 IsPcapFault file fault = header file ≡ Err fault

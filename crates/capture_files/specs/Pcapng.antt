@@ -1,8 +1,8 @@
 -- Files of the pcapng format (draft-ietf-opsawg-pcapng, 3.2 and 4): sections of blocks, each of which begins where the
 -- one before ends.
 use Rattle.std.specs.Prelude.{◌≡◌, ◌≢◌, ◌≤◌, ◌⊎◌, ℕ, ◌==◌, Bool, true, false, nat_lt, if◌then◌else◌, List, [], ◌∷◌, ◌++◌, length, drop, Option, Some, None, Result, Ok, Err}
-use Rattle.capture_files.specs.declared.block.Lie.{Lie}
-use Rattle.capture_files.specs.declared.block.Lie.TheVariants as lies
+use Rattle.capture_files.specs.declared.block.Flaw.{Flaw}
+use Rattle.capture_files.specs.declared.block.Flaw.TheVariants as flaws
 use Rattle.capture_files.specs.declared.fault.CaptureFault.{CaptureFault}
 use Rattle.capture_files.specs.declared.fault.CaptureFault.TheVariants as faults
 use Rattle.capture_files.specs.declared.interface.Interface.{Interface}
@@ -14,7 +14,7 @@ use Rattle.capture_files.specs.Fields.{number_at}
 use Rattle.capture_files.specs.CaptureTexts.{Packet, CaptureText, packet_of}
 use Rattle.capture_files.specs.Pcap.{end_at}
 use Rattle.capture_files.specs.Blocks.{BlockText, section_header, first_block}
-use Rattle.capture_files.specs.Parts.{Content, section, interface, packet, other, told_by}
+use Rattle.capture_files.specs.Parts.{Content, section, interface, packet, other, parsed_by}
 
 -- between two blocks: the byte order and the interfaces of the section, and the packets of the file so far
 pub record State : Type 0 where
@@ -26,31 +26,31 @@ abbrev pub state_of : {A : Type 0} → Reading A → State
 state_of reading =
     record { order = reading.order; interfaces = reading.interfaces.items; packets = map packet_of reading.frames.items }
 
--- before the first block, which tells the byte order
+-- before the first block, which shows the byte order
 abbrev pub start : State
 start = record { order = Big; interfaces = []; packets = [] }
 
--- behind a block in this byte order; a new section has no interface yet
+-- after a block in this byte order; a new section has no interface yet
 abbrev pub after : State → Order → Content → State
 after s order section = record { order = order; interfaces = []; packets = s.packets }
 after s order (interface i) = record { order = order; interfaces = s.interfaces ++ i ∷ []; packets = s.packets }
 after s order (packet p) = record { order = order; interfaces = s.interfaces; packets = s.packets ++ p ∷ [] }
 after s order other = record { order = order; interfaces = s.interfaces; packets = s.packets }
 
-abbrev pub past : State → BlockText → Result Content Lie → Result (Option (State × ℕ)) Lie
-past s block (Err lie) = Err lie
-past s block (Ok telling) = Ok (Some (after s block.order telling, length block.octets))
+abbrev pub past : State → BlockText → Result Content Flaw → Result (Option (State × ℕ)) Flaw
+past s block (Err flaw) = Err flaw
+past s block (Ok parsed) = Ok (Some (after s block.order parsed, length block.bytes))
 
-abbrev pub past_first : State → Result (Option BlockText) Lie → Result (Option (State × ℕ)) Lie
-past_first s (Err lie) = Err lie
+abbrev pub past_first : State → Result (Option BlockText) Flaw → Result (Option (State × ℕ)) Flaw
+past_first s (Err flaw) = Err flaw
 past_first s (Ok None) = Ok None
-past_first s (Ok (Some block)) = past s block (told_by s.interfaces block)
+past_first s (Ok (Some block)) = past s block (parsed_by s.interfaces block)
 
--- what comes behind the block at the front of the octets, and how many octets it has; none where no whole block stands there
-unfoldable pub next : State → List ℕ → Result (Option (State × ℕ)) Lie
+-- what comes after the block at the front of the bytes, and how many bytes it has; none where no whole block stands there
+unfoldable pub next : State → List ℕ → Result (Option (State × ℕ)) Flaw
 next s bytes = past_first s (first_block s.order bytes)
 
--- from one state on the octets are whole blocks, each with the state behind it and its length, and then the rest
+-- from one state on the bytes are whole blocks, each with the state after it and its length, and then the rest
 abbrev pub AreBlocks : State → List ℕ → List (State × ℕ) → State → List ℕ → Type 0
 AreBlocks s bytes [] last rest = (s ≡ last) × (bytes ≡ rest)
 AreBlocks s bytes (block ∷ blocks) last rest =
@@ -67,28 +67,28 @@ abbrev pub has_section : List ℕ → Bool
 has_section file = if nat_lt (length file) 4 then false else number_at Big 4 0 file == section_header
 
 -- the packets of the whole blocks up to an offset, at which no whole block stands
-pub record IsPcapng (file : List ℕ) (told : CaptureText) : Type 0 where
+pub record IsPcapng (file : List ℕ) (parsed : CaptureText) : Type 0 where
   pub last : State
   pub offset : ℕ
   pub headed : has_section file ≡ true
   pub reached : Reaches file last offset
   pub stopped : next last (drop offset file) ≡ Ok None
-  pub packets : told.packets ≡ last.packets
-  pub ended : told.end ≡ end_at file offset
+  pub packets : parsed.packets ≡ last.packets
+  pub ended : parsed.end ≡ end_at file offset
 
--- behind whole blocks a block lies at this offset
-pub record LiesIn (file : List ℕ) (offset : ℕ) (lie : Lie) : Type 0 where
+-- after whole blocks the block at this offset is malformed
+pub record IsFlawIn (file : List ℕ) (offset : ℕ) (flaw : Flaw) : Type 0 where
   pub last : State
   pub headed : has_section file ≡ true
   pub reached : Reaches file last offset
-  pub lying : next last (drop offset file) ≡ Err lie
+  pub malformed : next last (drop offset file) ≡ Err flaw
 
-abbrev pub fault_at : Lie → ℕ → CaptureFault
-fault_at lies.ByteOrder offset = faults.ByteOrder offset
-fault_at lies.BlockLength offset = faults.BlockLength offset
-fault_at lies.SectionVersion offset = faults.SectionVersion offset
-fault_at lies.BlockCaptured offset = faults.CapturedLength offset
-fault_at lies.NoInterface offset = faults.NoInterface offset
+abbrev pub fault_at : Flaw → ℕ → CaptureFault
+fault_at flaws.ByteOrder offset = faults.ByteOrder offset
+fault_at flaws.BlockLength offset = faults.BlockLength offset
+fault_at flaws.SectionVersion offset = faults.SectionVersion offset
+fault_at flaws.BlockCaptured offset = faults.CapturedLength offset
+fault_at flaws.NoInterface offset = faults.NoInterface offset
 
 -- whether an interface was described in the section, or a packet found in the file
 abbrev pub HasKept : State → Type 0
@@ -106,4 +106,4 @@ pub record HasContent (file : List ℕ) : Type 0 where
 abbrev pub IsPcapngFault : List ℕ → CaptureFault → Type 0
 IsPcapngFault file fault =
     (fault ≡ faults.OutOfMemory) ⊎ (((fault ≡ faults.NotACapture) × (has_section file ≡ false))
-    ⊎ ((lie : Lie) × (offset : ℕ) × ((fault ≡ fault_at lie offset) × LiesIn file offset lie)))
+    ⊎ ((flaw : Flaw) × (offset : ℕ) × ((fault ≡ fault_at flaw offset) × IsFlawIn file offset flaw)))

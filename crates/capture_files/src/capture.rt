@@ -22,7 +22,7 @@ pub fn read_capture<A: Allocator + Copy>(
     alloc: A,
     file: &[u8],
 ) -> Result<Capture<'_, A>, CaptureFault>
-    ensures told { IfOk result (λ capture. IsCapture file.now (capture_text capture)) }
+    ensures parsed { IfOk result (λ capture. IsCapture file.now (capture_text capture)) }
     ensures fault { IfErr result (λ fault. IsCaptureFault file.now fault) }
 
     // Memory runs out only where the file has what memory is asked for.

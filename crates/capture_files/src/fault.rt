@@ -6,7 +6,7 @@ ghost use Rattle.capture_files.specs.declared.fault.CaptureFault.TheVariants.{Ou
 use std::alloc::{AllocError, AllocFailed};
 use thiserror::Error;
 
-/// Why a file is refused, and the offset in octets of what lies, where there is one.
+/// Why a file is rejected, and the offset of what is malformed, in bytes, where there is one.
 #[derive(Clone, Copy, Debug, PartialEq, Eq, Error)]
 pub enum CaptureFault {
     /// The file does not begin as a capture file does.
@@ -19,14 +19,14 @@ pub enum CaptureFault {
     #[error("Version at 4")]
     Version,
     /// The record at this offset has a captured length above its original length, or above the
-    /// most that a capture has (262,144 octets), or above what the block has.
+    /// most that a capture has (262,144 bytes), or above what the block has.
     #[error("CapturedLength at {0}")]
     CapturedLength(usize),
     /// The section at this offset has a byte-order magic that is known in no byte order.
     #[error("ByteOrder at {0}")]
     ByteOrder(usize),
     /// The block at this offset has a length that a block does not have (below 12, above
-    /// 16,777,216, or no multiple of 4), another length at its end, or too few octets for its
+    /// 16,777,216, or no multiple of 4), another length at its end, or too few bytes for its
     /// type.
     #[error("BlockLength at {0}")]
     BlockLength(usize),

@@ -6,7 +6,7 @@ ghost use Rattle.capture_files.specs.Fields.{number_at};
 use crate::order::Order;
 use byteorder::{BigEndian, ByteOrder, LittleEndian};
 
-/// The number in the two octets from an offset on.
+/// The number in the two bytes from an offset on.
 pub(crate) fn u16_at(order: Order, bytes: &[u8], offset: usize) -> u16
     requires { offset + 2 ≤ length bytes.now }
     ensures { result ≡ number_at order 2 offset bytes.now }
@@ -17,7 +17,7 @@ pub(crate) fn u16_at(order: Order, bytes: &[u8], offset: usize) -> u16
     }
 }
 
-/// The number in the four octets from an offset on.
+/// The number in the four bytes from an offset on.
 pub(crate) fn u32_at(order: Order, bytes: &[u8], offset: usize) -> u32
     requires { offset + 4 ≤ length bytes.now }
     ensures { result ≡ number_at order 4 offset bytes.now }

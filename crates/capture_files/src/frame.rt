@@ -24,11 +24,11 @@ impl LinkType {
 pub struct Frame<'a> {
     /// The link on which it was.
     pub link: LinkType,
-    /// When it was seen, in nanoseconds since 1970; `None` where the file does not tell.
+    /// When it was seen, in nanoseconds since 1970; `None` where the file does not say.
     pub seen: Option<u64>,
-    /// The octets that the file has of it.
-    pub octets: &'a [u8],
-    /// How many octets it had on the link. Where there are fewer in the file, it was cut short.
+    /// The bytes that the file has of it.
+    pub bytes: &'a [u8],
+    /// How many bytes it had on the link. Where there are fewer in the file, it was cut short.
     pub original: u32,
 }
 
@@ -41,7 +41,7 @@ pub enum End {
     Cut(usize),
 }
 
-/// What a capture file tells.
+/// What a capture file contains.
 #[derive(Debug, Drop)]
 pub struct Capture<'a, A: Allocator = Global> {
     /// The frames in the order of the file, which need not be that of time.

@@ -7,8 +7,8 @@ use crate::frame::LinkType;
 pub(crate) struct Interface {
     /// The kind of its link.
     pub(crate) link: LinkType,
-    /// The most octets that are captured of a frame; 0 where there is no limit.
+    /// The most bytes that are captured of a frame; 0 where there is no limit.
     pub(crate) snap: u32,
-    /// How many units of time a second has; `None` where time stamps are not told.
+    /// How many units of time a second has; `None` where time stamps are not read.
     pub(crate) units: Option<u64>,
 }

@@ -1,30 +1,31 @@
 //! What holds of the definitions.
 
 ghost use Rattle.std.specs.Prelude.{◌≡◌, ℕ, List};
-ghost use Rattle.capture_files.specs.declared.block.Lie.{Lie};
+ghost use Rattle.capture_files.specs.declared.block.Flaw.{Flaw};
 ghost use Rattle.capture_files.specs.CaptureTexts.{CaptureText};
-ghost use Rattle.capture_files.specs.Pcap.{IsPcap, LiesAt};
-ghost use Rattle.capture_files.specs.Pcapng.{IsPcapng, LiesIn};
+ghost use Rattle.capture_files.specs.Pcap.{IsPcap, IsMalformedAt};
+ghost use Rattle.capture_files.specs.Pcapng.{IsPcapng, IsFlawIn};
 
-/// A file of the pcap format tells one list of frames and one end, or has one first record that
-/// lies, and never both.
+/// A file of the pcap format contains one list of frames and one end, or has one first malformed
+/// record, and never both.
 ///
 /// The function does nothing: its contract is the law.
 pub fn one_reading_of_pcap()
     ensures one { (file : List ℕ) (a b : CaptureText) → IsPcap file a → IsPcap file b → a ≡ b }
-    ensures refused { (file : List ℕ) (told : CaptureText) (offset : ℕ) → IsPcap file told
-        → LiesAt file offset → ⊥ }
-    ensures first { (file : List ℕ) (m n : ℕ) → LiesAt file m → LiesAt file n → m ≡ n }
+    ensures refused { (file : List ℕ) (parsed : CaptureText) (offset : ℕ) → IsPcap file parsed
+        → IsMalformedAt file offset → ⊥ }
+    ensures first { (file : List ℕ) (m n : ℕ) → IsMalformedAt file m → IsMalformedAt file n
+        → m ≡ n }
 {}
 
-/// A file of the pcapng format tells one list of frames and one end, or has one first block that
-/// lies, and never both.
+/// A file of the pcapng format contains one list of frames and one end, or has one first malformed
+/// block, and never both.
 ///
 /// The function does nothing: its contract is the law.
 pub fn one_reading_of_pcapng()
     ensures one { (file : List ℕ) (a b : CaptureText) → IsPcapng file a → IsPcapng file b → a ≡ b }
-    ensures refused { (file : List ℕ) (told : CaptureText) (offset : ℕ) (lie : Lie)
-        → IsPcapng file told → LiesIn file offset lie → ⊥ }
-    ensures first { (file : List ℕ) (m n : ℕ) (x y : Lie) → LiesIn file m x → LiesIn file n y
+    ensures refused { (file : List ℕ) (parsed : CaptureText) (offset : ℕ) (flaw : Flaw)
+        → IsPcapng file parsed → IsFlawIn file offset flaw → ⊥ }
+    ensures first { (file : List ℕ) (m n : ℕ) (x y : Flaw) → IsFlawIn file m x → IsFlawIn file n y
         → (m ≡ n) × (x ≡ y) }
 {}

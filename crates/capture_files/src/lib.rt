@@ -4,7 +4,7 @@
 //! of either format: pcap ([`read_pcap`]), with time stamps in microseconds or nanoseconds, and
 //! pcapng ([`read_pcapng`]), with any number of sections and interfaces, each in either byte order.
 //! A file that ends in the middle of its last record or block, as a stopped capture leaves it, is
-//! read to there, and [`End`] tells where that is. A length that lies is a [`CaptureFault`].
+//! read to there, and [`End`] says where that is. A malformed length is a [`CaptureFault`].
 #![tactic(auto)]
 
 mod block;

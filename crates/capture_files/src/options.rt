@@ -1,4 +1,4 @@
-//! What options tell of interfaces and time stamps (draft-ietf-opsawg-pcapng, 3.5 and 4.2).
+//! What options say about interfaces and time stamps (draft-ietf-opsawg-pcapng, 3.5 and 4.2).
 
 ghost use Rattle.std.specs.Prelude.{◌≡◌, ◌≤◌, ◌<◌, ◌+◌, ◌*◌, ◌^◌, length, option_map, Some, None, IfSome};
 ghost use Rattle.capture_files.specs.Blocks.{block_text};
@@ -16,14 +16,14 @@ const IF_TSRESOL: u16 = 9;
 /// The option with an offset of time stamps.
 const IF_TSOFFSET: u16 = 14;
 
-/// A length with the octets behind it, up to a multiple of 4.
+/// A length with the bytes after it, up to a multiple of 4.
 fn padded(length: u16) -> usize
     ensures { result ≡ padded length }
 {
     (usize::from(length) + 3) / 4 * 4
 }
 
-/// An option: its code, its value, and what stands behind it.
+/// An option: its code, its value, and what stands after it.
 type FirstOption<'a> = Option<(u16, &'a [u8], &'a [u8])>;
 
 /// The first option, where a whole one stands there.
@@ -52,40 +52,40 @@ fn option_of(order: Order, code: u16, options: &[u8]) -> Option<&[u8]>
 {
     let mut rest = options;
     'options: for _ in 0..options.len() {
-        let Some((found, value, behind)) = first_option(order, rest) else {
+        let Some((found, value, after)) = first_option(order, rest) else {
             return None;
         };
         if found == code {
             return Some(value);
         }
-        rest = behind;
+        rest = after;
     }
     None
 }
 
 /// How many units of time a second has.
-fn units_of(octet: u8) -> Option<u64>
-    ensures { result ≡ units_of octet }
+fn units_of(byte: u8) -> Option<u64>
+    ensures { result ≡ units_of byte }
 {
-    if octet < 128 {
-        10u64.checked_pow(u32::from(octet))
+    if byte < 128 {
+        10u64.checked_pow(u32::from(byte))
     } else {
-        2u64.checked_pow(u32::from(octet - 128))
+        2u64.checked_pow(u32::from(byte - 128))
     }
 }
 
-/// The units that the option if_tsresol tells.
+/// The units in the option if_tsresol.
 fn resolution_of(option: Option<&[u8]>) -> Option<u64>
     ensures { result ≡ resolution_of (option_map (λ value. value.now) option.entry) }
 {
     match option {
         None => Some(1_000_000),
-        Some([octet]) => units_of(*octet),
+        Some([byte]) => units_of(*byte),
         Some(_) => None,
     }
 }
 
-/// The units of time stamps, as options tell them.
+/// The units of time stamps, from the options.
 fn units_in(order: Order, options: &[u8]) -> Option<u64>
     ensures { result ≡ units_in order options.now }
 {
@@ -112,15 +112,15 @@ pub(crate) fn moment_of(units: Option<u64>, stamp: u64) -> Option<u64>
     }
 }
 
-/// What an Interface Description Block tells.
+/// What an Interface Description Block contains.
 pub(crate) fn interface_of(block: Block<'_>) -> Interface
-    requires { 20 ≤ length block.octets.now }
+    requires { 20 ≤ length block.bytes.now }
     ensures { result ≡ interface_of (block_text block.entry) }
 {
-    let body = &block.octets[..block.octets.len() - 4];
+    let body = &block.bytes[..block.bytes.len() - 4];
     Interface {
-        link: LinkType(u16_at(block.order, block.octets, 8)),
-        snap: u32_at(block.order, block.octets, 12),
+        link: LinkType(u16_at(block.order, block.bytes, 8)),
+        snap: u32_at(block.order, block.bytes, 12),
         units: units_in(block.order, &body[16..]),
     }
 }

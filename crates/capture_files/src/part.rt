@@ -1,11 +1,11 @@
-//! What the blocks of a section tell (draft-ietf-opsawg-pcapng, 4).
+//! What the blocks of a section contain (draft-ietf-opsawg-pcapng, 4).
 
 ghost use Rattle.std.specs.Prelude.{◌≡◌, ◌≤◌, ◌+◌, length, Ok, Err, Some, None, MatchResult, slice_get};
 ghost use Rattle.capture_files.specs.Blocks.{block_text};
-ghost use Rattle.capture_files.specs.Parts.{section_told, interface_told, stamp_of, enhanced_on, enhanced_told, simple_captured, simple_on, simple_told, told_by};
+ghost use Rattle.capture_files.specs.Parts.{parsed_section, parsed_interface, stamp_of, enhanced_on, parsed_enhanced, simple_captured, simple_on, parsed_simple, parsed_by};
 ghost use Rattle.capture_files.specs.steps.BlockContents.{content_of};
 
-use crate::block::{Block, Lie, SECTION_HEADER};
+use crate::block::{Block, Flaw, SECTION_HEADER};
 use crate::field::{u16_at, u32_at};
 use crate::frame::Frame;
 use crate::interface::Interface;
@@ -20,7 +20,7 @@ const SIMPLE_PACKET: u32 = 3;
 /// The type of an Enhanced Packet Block.
 const ENHANCED_PACKET: u32 = 6;
 
-/// What a block tells.
+/// What a block contains.
 #[derive(Clone, Copy, Debug)]
 pub(crate) enum Part<'a> {
     /// A new section begins.
@@ -33,68 +33,68 @@ pub(crate) enum Part<'a> {
     Other,
 }
 
-/// What a Section Header Block tells.
-fn section_told(block: Block<'_>) -> Result<Part<'_>, Lie>
-    requires { 12 ≤ length block.octets.now }
+/// What a Section Header Block contains.
+fn parsed_section(block: Block<'_>) -> Result<Part<'_>, Flaw>
+    requires { 12 ≤ length block.bytes.now }
     ensures { MatchResult result
-        (λ part. section_told (block_text block.entry) ≡ Ok (content_of part))
-        (λ lie. section_told (block_text block.entry) ≡ Err lie) }
+        (λ part. parsed_section (block_text block.entry) ≡ Ok (content_of part))
+        (λ flaw. parsed_section (block_text block.entry) ≡ Err flaw) }
 {
-    if block.octets.len() < 28 {
-        return Err(Lie::BlockLength);
+    if block.bytes.len() < 28 {
+        return Err(Flaw::BlockLength);
     }
-    if u16_at(block.order, block.octets, 12) != 1 {
-        return Err(Lie::SectionVersion);
+    if u16_at(block.order, block.bytes, 12) != 1 {
+        return Err(Flaw::SectionVersion);
     }
     Ok(Part::Section)
 }
 
-/// What an Interface Description Block tells.
-fn interface_told(block: Block<'_>) -> Result<Part<'_>, Lie>
-    requires { 12 ≤ length block.octets.now }
+/// What an Interface Description Block contains.
+fn parsed_interface(block: Block<'_>) -> Result<Part<'_>, Flaw>
+    requires { 12 ≤ length block.bytes.now }
     ensures { MatchResult result
-        (λ part. interface_told (block_text block.entry) ≡ Ok (content_of part))
-        (λ lie. interface_told (block_text block.entry) ≡ Err lie) }
+        (λ part. parsed_interface (block_text block.entry) ≡ Ok (content_of part))
+        (λ flaw. parsed_interface (block_text block.entry) ≡ Err flaw) }
 {
-    if block.octets.len() < 20 {
-        return Err(Lie::BlockLength);
+    if block.bytes.len() < 20 {
+        return Err(Flaw::BlockLength);
     }
     Ok(Part::Described(interface_of(block)))
 }
 
 /// The time stamp of an Enhanced Packet Block, in units of its interface.
 fn stamp_of(block: Block<'_>) -> u64
-    requires { 32 ≤ length block.octets.now }
+    requires { 32 ≤ length block.bytes.now }
     ensures { result ≡ stamp_of (block_text block.entry) }
 {
-    let upper = u64::from(u32_at(block.order, block.octets, 12));
-    let lower = u64::from(u32_at(block.order, block.octets, 16));
+    let upper = u64::from(u32_at(block.order, block.bytes, 12));
+    let lower = u64::from(u32_at(block.order, block.bytes, 16));
     upper * 4_294_967_296 + lower
 }
 
-/// What an Enhanced Packet Block tells of a frame on this interface.
-fn enhanced_on(interface: Option<Interface>, block: Block<'_>) -> Result<Part<'_>, Lie>
-    requires { 32 ≤ length block.octets.now }
+/// What an Enhanced Packet Block contains of a frame on this interface.
+fn enhanced_on(interface: Option<Interface>, block: Block<'_>) -> Result<Part<'_>, Flaw>
+    requires { 32 ≤ length block.bytes.now }
     ensures { MatchResult result
         (λ part. enhanced_on interface (block_text block.entry) ≡ Ok (content_of part))
-        (λ lie. enhanced_on interface (block_text block.entry) ≡ Err lie) }
+        (λ flaw. enhanced_on interface (block_text block.entry) ≡ Err flaw) }
 {
     let Some(interface) = interface else {
-        return Err(Lie::NoInterface);
+        return Err(Flaw::NoInterface);
     };
-    let captured = u32_at(block.order, block.octets, 20);
-    let original = u32_at(block.order, block.octets, 24);
+    let captured = u32_at(block.order, block.bytes, 20);
+    let original = u32_at(block.order, block.bytes, 24);
     if original < captured {
-        return Err(Lie::BlockCaptured);
+        return Err(Flaw::BlockCaptured);
     }
     let captured = captured as usize;
-    if block.octets.len() < 32 + captured {
-        return Err(Lie::BlockCaptured);
+    if block.bytes.len() < 32 + captured {
+        return Err(Flaw::BlockCaptured);
     }
     Ok(Part::Captured(Frame {
         link: interface.link,
         seen: moment_of(interface.units, stamp_of(block)),
-        octets: &block.octets[28..28 + captured],
+        bytes: &block.bytes[28..28 + captured],
         original,
     }))
 }
@@ -106,26 +106,26 @@ fn interface_at(interfaces: &[Interface], number: u32) -> Option<Interface>
     interfaces.get(number as usize).copied()
 }
 
-/// What an Enhanced Packet Block tells.
-fn enhanced_told<'a>(interfaces: &[Interface], block: Block<'a>) -> Result<Part<'a>, Lie>
-    requires { 12 ≤ length block.octets.now }
+/// What an Enhanced Packet Block contains.
+fn parsed_enhanced<'a>(interfaces: &[Interface], block: Block<'a>) -> Result<Part<'a>, Flaw>
+    requires { 12 ≤ length block.bytes.now }
     ensures { MatchResult result
-        (λ part. enhanced_told interfaces.now (block_text block.entry) ≡ Ok (content_of part))
-        (λ lie. enhanced_told interfaces.now (block_text block.entry) ≡ Err lie) }
+        (λ part. parsed_enhanced interfaces.now (block_text block.entry) ≡ Ok (content_of part))
+        (λ flaw. parsed_enhanced interfaces.now (block_text block.entry) ≡ Err flaw) }
 {
-    if block.octets.len() < 32 {
-        return Err(Lie::BlockLength);
+    if block.bytes.len() < 32 {
+        return Err(Flaw::BlockLength);
     }
-    let number = u32_at(block.order, block.octets, 8);
+    let number = u32_at(block.order, block.bytes, 8);
     enhanced_on(interface_at(interfaces, number), block)
 }
 
-/// How many octets a Simple Packet Block has of its frame.
+/// How many bytes a Simple Packet Block has of its frame.
 fn simple_captured(interface: Interface, block: Block<'_>) -> u32
-    requires { 16 ≤ length block.octets.now }
+    requires { 16 ≤ length block.bytes.now }
     ensures { result ≡ simple_captured interface (block_text block.entry) }
 {
-    let original = u32_at(block.order, block.octets, 8);
+    let original = u32_at(block.order, block.bytes, 8);
     if interface.snap == 0 {
         original
     } else {
@@ -133,54 +133,54 @@ fn simple_captured(interface: Interface, block: Block<'_>) -> u32
     }
 }
 
-/// What a Simple Packet Block tells of a frame on this interface.
-fn simple_on(interface: Option<Interface>, block: Block<'_>) -> Result<Part<'_>, Lie>
-    requires { 16 ≤ length block.octets.now }
+/// What a Simple Packet Block contains of a frame on this interface.
+fn simple_on(interface: Option<Interface>, block: Block<'_>) -> Result<Part<'_>, Flaw>
+    requires { 16 ≤ length block.bytes.now }
     ensures { MatchResult result
         (λ part. simple_on interface (block_text block.entry) ≡ Ok (content_of part))
-        (λ lie. simple_on interface (block_text block.entry) ≡ Err lie) }
+        (λ flaw. simple_on interface (block_text block.entry) ≡ Err flaw) }
 {
     let Some(interface) = interface else {
-        return Err(Lie::NoInterface);
+        return Err(Flaw::NoInterface);
     };
     let captured = simple_captured(interface, block) as usize;
-    if block.octets.len() < 16 + captured {
-        return Err(Lie::BlockCaptured);
+    if block.bytes.len() < 16 + captured {
+        return Err(Flaw::BlockCaptured);
     }
     Ok(Part::Captured(Frame {
         link: interface.link,
         seen: None,
-        octets: &block.octets[12..12 + captured],
-        original: u32_at(block.order, block.octets, 8),
+        bytes: &block.bytes[12..12 + captured],
+        original: u32_at(block.order, block.bytes, 8),
     }))
 }
 
-/// What a Simple Packet Block tells. Its interface is the first one of its section.
-fn simple_told<'a>(interfaces: &[Interface], block: Block<'a>) -> Result<Part<'a>, Lie>
-    requires { 12 ≤ length block.octets.now }
+/// What a Simple Packet Block contains. Its interface is the first one of its section.
+fn parsed_simple<'a>(interfaces: &[Interface], block: Block<'a>) -> Result<Part<'a>, Flaw>
+    requires { 12 ≤ length block.bytes.now }
     ensures { MatchResult result
-        (λ part. simple_told interfaces.now (block_text block.entry) ≡ Ok (content_of part))
-        (λ lie. simple_told interfaces.now (block_text block.entry) ≡ Err lie) }
+        (λ part. parsed_simple interfaces.now (block_text block.entry) ≡ Ok (content_of part))
+        (λ flaw. parsed_simple interfaces.now (block_text block.entry) ≡ Err flaw) }
 {
-    if block.octets.len() < 16 {
-        return Err(Lie::BlockLength);
+    if block.bytes.len() < 16 {
+        return Err(Flaw::BlockLength);
     }
     simple_on(interfaces.first().copied(), block)
 }
 
-/// What a block tells in a section of these interfaces.
-#[tactic(auto, unfolding(crate::specs::Parts::told_by))]
-pub(crate) fn told_by<'a>(interfaces: &[Interface], block: Block<'a>) -> Result<Part<'a>, Lie>
-    requires { 12 ≤ length block.octets.now }
+/// What a block contains in a section of these interfaces.
+#[tactic(auto, unfolding(crate::specs::Parts::parsed_by))]
+pub(crate) fn parsed_by<'a>(interfaces: &[Interface], block: Block<'a>) -> Result<Part<'a>, Flaw>
+    requires { 12 ≤ length block.bytes.now }
     ensures { MatchResult result
-        (λ part. told_by interfaces.now (block_text block.entry) ≡ Ok (content_of part))
-        (λ lie. told_by interfaces.now (block_text block.entry) ≡ Err lie) }
+        (λ part. parsed_by interfaces.now (block_text block.entry) ≡ Ok (content_of part))
+        (λ flaw. parsed_by interfaces.now (block_text block.entry) ≡ Err flaw) }
 {
-    match u32_at(block.order, block.octets, 0) {
-        SECTION_HEADER => section_told(block),
-        INTERFACE_DESCRIPTION => interface_told(block),
-        ENHANCED_PACKET => enhanced_told(interfaces, block),
-        SIMPLE_PACKET => simple_told(interfaces, block),
+    match u32_at(block.order, block.bytes, 0) {
+        SECTION_HEADER => parsed_section(block),
+        INTERFACE_DESCRIPTION => parsed_interface(block),
+        ENHANCED_PACKET => parsed_enhanced(interfaces, block),
+        SIMPLE_PACKET => parsed_simple(interfaces, block),
         _ => Ok(Part::Other),
     }
 }

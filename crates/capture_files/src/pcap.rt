@@ -2,7 +2,7 @@
 
 ghost use Rattle.std.specs.Prelude.{◌≡◌, ◌≢◌, ◌≤◌, ◌<◌, ◌+◌, ◌*◌, length, map, drop, option_map, Ok, Err, Some, None, false, true, IfOk, IfErr, IfSome};
 ghost use Rattle.capture_files.specs.CaptureTexts.{packet_of, capture_text};
-ghost use Rattle.capture_files.specs.Pcap.{fraction_of, signature_in, signature_of, header, length_of_fraction, moment_of, lies, record_of, end_at, AreRecords, LiesAt, HasRecord, IsPcap, IsPcapFault};
+ghost use Rattle.capture_files.specs.Pcap.{fraction_of, signature_in, signature_of, header, length_of_fraction, moment_of, is_malformed, record_of, end_at, AreRecords, IsMalformedAt, HasRecord, IsPcap, IsPcapFault};
 ghost use Rattle.capture_files.specs.declared.fault.CaptureFault.TheVariants.{OutOfMemory};
 
 use crate::fault::CaptureFault;
@@ -11,13 +11,13 @@ use crate::frame::{Capture, End, Frame, LinkType};
 use crate::order::Order;
 use std::alloc::Allocator;
 
-/// How many octets the header of a file has.
+/// How many bytes the header of a file has.
 const FILE_HEADER: usize = 24;
 
-/// How many octets the header of a record has.
+/// How many bytes the header of a record has.
 const RECORD_HEADER: usize = 16;
 
-/// The most octets of a frame that a capture has, as tcpdump and its kin write them.
+/// The most bytes of a frame that a capture has, as tcpdump and its kin write them.
 const MOST_CAPTURED: u32 = 262_144;
 
 /// The unit of the fractions of a second.
@@ -37,7 +37,7 @@ pub(crate) struct Form {
     link: LinkType,
 }
 
-/// The unit that a magic number tells.
+/// The unit that a magic number stands for.
 fn fraction_of(magic: u32) -> Option<Fraction>
     ensures { result ≡ fraction_of magic }
 {
@@ -48,7 +48,7 @@ fn fraction_of(magic: u32) -> Option<Fraction>
     }
 }
 
-/// The unit that the magic number tells in a byte order, if it is known there.
+/// The unit that the magic number stands for in a byte order, if it is known there.
 fn signature_in(order: Order, file: &[u8]) -> Option<(Order, Fraction)>
     requires { 4 ≤ length file.now }
     ensures { result ≡ signature_in order file.now }
@@ -59,7 +59,7 @@ fn signature_in(order: Order, file: &[u8]) -> Option<(Order, Fraction)>
     }
 }
 
-/// The byte order and the unit that the magic number tells.
+/// The byte order and the unit that the magic number stands for.
 fn signature_of(file: &[u8]) -> Option<(Order, Fraction)>
     requires { 4 ≤ length file.now }
     ensures { result ≡ signature_of file.now }
@@ -109,7 +109,7 @@ fn length_of_fraction(fraction: Fraction) -> u64
     }
 }
 
-/// The time stamp of the record at the front of the octets, in nanoseconds since 1970.
+/// The time stamp of the record at the front of the bytes, in nanoseconds since 1970.
 fn moment_of(form: Form, bytes: &[u8]) -> u64
     requires { 8 ≤ length bytes.now }
     ensures { result ≡ moment_of form bytes.now }
@@ -119,9 +119,9 @@ fn moment_of(form: Form, bytes: &[u8]) -> u64
     seconds * 1_000_000_000 + fractions * length_of_fraction(form.fraction)
 }
 
-/// Whether the record at the front of the octets has a captured length that lies.
-fn lies(form: Form, bytes: &[u8]) -> bool
-    ensures { result ≡ lies form bytes.now }
+/// Whether the record at the front of the bytes has a malformed captured length.
+fn is_malformed(form: Form, bytes: &[u8]) -> bool
+    ensures { result ≡ is_malformed form bytes.now }
 {
     if bytes.len() < RECORD_HEADER {
         return false;
@@ -130,10 +130,10 @@ fn lies(form: Form, bytes: &[u8]) -> bool
     u32_at(form.order, bytes, 12) < captured || MOST_CAPTURED < captured
 }
 
-/// The frame of the record at the front of the octets, where a whole record stands there.
+/// The frame of the record at the front of the bytes, where a whole record stands there.
 fn record_of(form: Form, bytes: &[u8]) -> Option<Frame<'_>>
     ensures packet { option_map packet_of result ≡ record_of form bytes.now }
-    ensures within { IfSome result (λ frame. 16 + length frame.octets.now ≤ length bytes.now) }
+    ensures within { IfSome result (λ frame. 16 + length frame.bytes.now ≤ length bytes.now) }
 {
     if bytes.len() < RECORD_HEADER {
         return None;
@@ -145,24 +145,24 @@ fn record_of(form: Form, bytes: &[u8]) -> Option<Frame<'_>>
     Some(Frame {
         link: form.link,
         seen: Some(moment_of(form, bytes)),
-        octets: &bytes[RECORD_HEADER..RECORD_HEADER + captured],
+        bytes: &bytes[RECORD_HEADER..RECORD_HEADER + captured],
         original: u32_at(form.order, bytes, 12),
     })
 }
 
-/// The frame of the record at an offset, where a whole record stands there that does not lie.
+/// The frame of the record at an offset, where a whole well-formed record stands there.
 fn next_frame(form: Form, file: &[u8], offset: usize) -> Result<Option<Frame<'_>>, CaptureFault>
     requires { offset ≤ length file.now }
     ensures packet { IfOk result
         (λ frame. option_map packet_of frame ≡ record_of form (drop offset file.now)) }
-    ensures honest { IfOk result (λ frame. lies form (drop offset file.now) ≡ false) }
+    ensures well_formed { IfOk result (λ frame. is_malformed form (drop offset file.now) ≡ false) }
     ensures within { IfOk result (λ frame. IfSome frame
-        (λ frame. offset + (16 + length frame.octets.now) ≤ length file.now)) }
+        (λ frame. offset + (16 + length frame.bytes.now) ≤ length file.now)) }
     ensures fault { IfErr result (λ fault. (fault ≡ CaptureFault.CapturedLength offset)
-        × (lies form (drop offset file.now) ≡ true)) }
+        × (is_malformed form (drop offset file.now) ≡ true)) }
 {
     let bytes = &file[offset..];
-    if lies(form, bytes) {
+    if is_malformed(form, bytes) {
         return Err(CaptureFault::CapturedLength(offset));
     }
     Ok(record_of(form, bytes))
@@ -179,7 +179,7 @@ fn read_records<A: Allocator + Copy>(
     ensures records { IfOk result (λ found. AreRecords form (drop 24 file.now)
         (map packet_of found.0.items) (drop found.1 file.now)) }
     ensures within { IfOk result (λ found. found.1 ≤ length file.now) }
-    ensures honest { IfOk result (λ found. lies form (drop found.1 file.now) ≡ false) }
+    ensures well_formed { IfOk result (λ found. is_malformed form (drop found.1 file.now) ≡ false) }
     ensures last { IfOk result (λ found. record_of form (drop found.1 file.now) ≡ None) }
     ensures fault { IfErr result (λ fault. IsPcapFault file.now fault) }
     ensures memory { IfErr result (λ fault. fault ≡ OutOfMemory → HasRecord file.now) }
@@ -187,7 +187,7 @@ fn read_records<A: Allocator + Copy>(
     let mut frames = Vec::new(alloc);
     let mut offset = FILE_HEADER;
     'records: while let Some(frame) = next_frame(form, file, offset)? {
-        offset += RECORD_HEADER + frame.octets.len();
+        offset += RECORD_HEADER + frame.bytes.len();
         frames.push(frame)?;
     }
     Ok((frames, offset))
@@ -210,11 +210,11 @@ pub(crate) fn end_at(file: &[u8], offset: usize) -> End
 ///
 /// `NotACapture` where no magic number of the format stands at the front, `ShortHeader` where the
 /// file ends within its header, `Version` for another major version than 2, `CapturedLength` with
-/// the offset of the first record that says that more octets were captured than there were or than
+/// the offset of the first record that says that more bytes were captured than there were or than
 /// a capture has, and `OutOfMemory`, which comes only where a whole record follows the header and
-/// does not lie.
+/// is well-formed.
 pub fn read_pcap<A: Allocator + Copy>(alloc: A, file: &[u8]) -> Result<Capture<'_, A>, CaptureFault>
-    ensures told { IfOk result (λ capture. IsPcap file.now (capture_text capture)) }
+    ensures parsed { IfOk result (λ capture. IsPcap file.now (capture_text capture)) }
     ensures fault { IfErr result (λ fault. IsPcapFault file.now fault) }
 
     // Memory runs out only where the file has a record.

@@ -6,12 +6,12 @@ ghost use Rattle.capture_files.specs.CaptureTexts.{capture_text};
 ghost use Rattle.capture_files.specs.Pcapng.{state_of, after, next, has_section, fault_at, Reaches, HasKept, HasContent, IsPcapng, IsPcapngFault};
 ghost use Rattle.capture_files.specs.steps.BlockContents.{content_of, IsStop, IsBlockKept};
 
-use crate::block::{Lie, SECTION_HEADER, first_block};
+use crate::block::{Flaw, SECTION_HEADER, first_block};
 use crate::fault::CaptureFault;
 use crate::field::u32_at;
 use crate::frame::Capture;
 use crate::order::Order;
-use crate::part::{Part, told_by};
+use crate::part::{Part, parsed_by};
 use crate::pcap::end_at;
 use crate::reading::Reading;
 use std::alloc::Allocator;
@@ -26,20 +26,20 @@ pub(crate) fn has_section(file: &[u8]) -> bool
     u32_at(Order::Big, file, 0) == SECTION_HEADER
 }
 
-/// The fault of a block at an offset that lies.
-fn fault_at(lie: Lie, offset: usize) -> CaptureFault
-    ensures { result ≡ fault_at lie offset }
+/// The fault of a malformed block at an offset.
+fn fault_at(flaw: Flaw, offset: usize) -> CaptureFault
+    ensures { result ≡ fault_at flaw offset }
 {
-    match lie {
-        Lie::ByteOrder => CaptureFault::ByteOrder(offset),
-        Lie::BlockLength => CaptureFault::BlockLength(offset),
-        Lie::SectionVersion => CaptureFault::SectionVersion(offset),
-        Lie::BlockCaptured => CaptureFault::CapturedLength(offset),
-        Lie::NoInterface => CaptureFault::NoInterface(offset),
+    match flaw {
+        Flaw::ByteOrder => CaptureFault::ByteOrder(offset),
+        Flaw::BlockLength => CaptureFault::BlockLength(offset),
+        Flaw::SectionVersion => CaptureFault::SectionVersion(offset),
+        Flaw::BlockCaptured => CaptureFault::CapturedLength(offset),
+        Flaw::NoInterface => CaptureFault::NoInterface(offset),
     }
 }
 
-/// Adds what a block in this byte order tells.
+/// Adds what a block in this byte order contains.
 #[tactic(auto, using(crate::proofs::BlockWalk::one_more_kept))]
 fn add<'a, A: Allocator + Copy>(
     reading: &mut Reading<'a, A>,
@@ -62,7 +62,7 @@ fn add<'a, A: Allocator + Copy>(
     Ok(())
 }
 
-/// Reads the block at an offset, and answers how many octets it has; `None` where no whole block
+/// Reads the block at an offset, and answers how many bytes it has; `None` where no whole block
 /// stands there.
 #[tactic(auto, unfolding(crate::specs::Pcapng::next))]
 fn read_block<'a, A: Allocator + Copy>(
@@ -84,19 +84,19 @@ fn read_block<'a, A: Allocator + Copy>(
         → IsBlockKept offset file.now (next (state_of reading.old) (drop offset file.now))) }
 {
     let block = match first_block(reading.order, &file[offset..]) {
-        Err(lie) => return Err(fault_at(lie, offset)),
+        Err(flaw) => return Err(fault_at(flaw, offset)),
         Ok(None) => return Ok(None),
         Ok(Some(block)) => block,
     };
-    let part = match told_by(&reading.interfaces, block) {
-        Err(lie) => return Err(fault_at(lie, offset)),
+    let part = match parsed_by(&reading.interfaces, block) {
+        Err(flaw) => return Err(fault_at(flaw, offset)),
         Ok(part) => part,
     };
     add(reading, block.order, part)?;
-    Ok(Some(block.octets.len()))
+    Ok(Some(block.bytes.len()))
 }
 
-/// What the whole blocks of the file tell, and the offset at which the last of them ends.
+/// What the whole blocks of the file contain, and the offset at which the last of them ends.
 fn read_blocks<A: Allocator + Copy>(
     alloc: A,
     file: &[u8],
@@ -126,13 +126,13 @@ fn read_blocks<A: Allocator + Copy>(
 ///
 /// `NotACapture` where the file does not begin with a Section Header Block, `ByteOrder`,
 /// `BlockLength`, `SectionVersion`, `CapturedLength` and `NoInterface` with the offset of the first
-/// block that lies, and `OutOfMemory`, which comes only after a block that describes an interface
+/// malformed block, and `OutOfMemory`, which comes only after a block that describes an interface
 /// or has a packet.
 pub fn read_pcapng<A: Allocator + Copy>(
     alloc: A,
     file: &[u8],
 ) -> Result<Capture<'_, A>, CaptureFault>
-    ensures told { IfOk result (λ capture. IsPcapng file.now (capture_text capture)) }
+    ensures parsed { IfOk result (λ capture. IsPcapng file.now (capture_text capture)) }
     ensures fault { IfErr result (λ fault. IsPcapngFault file.now fault) }
 
     // Memory runs out only where blocks describe an interface or have a packet.

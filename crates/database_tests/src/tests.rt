@@ -1,4 +1,4 @@
-//! Views, places, records and texts, and what is answered where memory runs out.
+//! Views, slots, records and texts, and what is answered where memory runs out.
 
 // What answers something new.
 mod calls;
@@ -13,7 +13,7 @@ mod views;
 mod bases;
 mod filters;
 mod noted;
-mod places;
+mod slots;
 
 // Scripts.
 mod lines;

@@ -14,7 +14,7 @@ use Rattle.lsdb.specs.declared.section.Section.{Section}
 use Rattle.lsdb.specs.declared.section.Section.TheVariants.{Area, AsWide}
 use Rattle.lsdb.specs.declared.slot.SlotId.{SlotId}
 use Rattle.lsdb.specs.Lists.{AreaHead, SectionLsas, Lists, IsDatabase, is_head_of, is_in_scope, is_section, has_key, lsas_of}
-use Rattle.lsdb.specs.Places.{Places, SectionPlaces, item_at, section_of, lists_of, head_or_none, IsNamed}
+use Rattle.lsdb.specs.Slots.{Slots, SectionSlots, item_at, section_of, lists_of, head_or_none, IsNamed}
 use Rattle.edit_script.specs.declared.edit.Edit.TheVariants.{AddSummary, AddExternal}
 use Rattle.edit_script.specs.declared.edit.MetricType.{MetricType}
 use Rattle.edit_history.specs.declared.fault.EditFault.{EditFault}
@@ -40,9 +40,9 @@ pub record AreWide (router : RouterId) (prefix : Net) : Type 0 where
   pub addr : prefix.addr.0 < 2 ^ 32
   pub wide : router.0 < 2 ^ 32
 
-keyed : (kind octets : ℕ) (router : RouterId) (prefix : Net) (x : List ℕ) → IsNewLsa kind prefix router octets x
-    → IsKeyed x (prefix_key kind router prefix) octets
-keyed kind octets router prefix x new = record { key_is = new.key; size_is = new.size }
+keyed : (kind byte_count : ℕ) (router : RouterId) (prefix : Net) (x : List ℕ) → IsNewLsa kind prefix router byte_count x
+    → IsKeyed x (prefix_key kind router prefix) byte_count
+keyed kind byte_count router prefix x new = record { key_is = new.key; size_is = new.size }
 
 -- ---- a summary-LSA
 
@@ -58,30 +58,30 @@ summary_row : (db : Lists) (area : AreaId) (router : RouterId) (prefix : Net) (m
 unfolding rule_of
 summary_row db area router prefix metric = refl
 
-pub add_no_area : (d : Places) (area : AreaId) (router : RouterId) (prefix : Net) (metric : ℕ) → find (is_section (Area area)) (lists_of d) ≡ None
+pub add_no_area : (d : Slots) (area : AreaId) (router : RouterId) (prefix : Net) (metric : ℕ) → find (is_section (Area area)) (lists_of d) ≡ None
     → IsRefused d (AddSummary area router prefix metric) NoArea
 add_no_area d area router prefix metric none =
     refused_as d (AddSummary area router prefix metric) NoArea (λ e. cc)
     (summary_row (lists_of d) area router prefix metric
     ∙ on_err (area_of (lists_of d) area) NoArea (summary_rule (lists_of d) area router prefix metric) (no_area (lists_of d) area none))
 
-not_there : (d : Places) (i : ℕ) (s : SectionLsas) → item_at d i ≡ None → item_at (lists_of d) i ≡ Some s → ⊥
+not_there : (d : Slots) (i : ℕ) (s : SectionLsas) → item_at d i ≡ None → item_at (lists_of d) i ≡ Some s → ⊥
 not_there [] i s is at = cc
 not_there (t ∷ ts) zero s is at = cc
 not_there (t ∷ ts) (suc i) s is at = not_there ts i s is at
 
-head_found : (d : Places) (name : Section) (number : ℕ) (section : SectionLsas) → IsNamed d name number
+head_found : (d : Slots) (name : Section) (number : ℕ) (section : SectionLsas) → IsNamed d name number
     → find (is_section name) (lists_of d) ≡ Some section → head_or_none (item_at d number) ≡ section.area
 head_found d name number section named found = by_item (item_at d number) refl where
   at : item_at (lists_of d) number ≡ Some section
   at = named.same ∙ found
 
-  by_item : (o : Option SectionPlaces) → item_at d number ≡ o → head_or_none o ≡ section.area
+  by_item : (o : Option SectionSlots) → item_at d number ≡ o → head_or_none o ≡ section.area
   by_item None is = absurd (not_there d number section is at)
   by_item (Some t) is = let e : (let o : Option SectionLsas = Some (section_of t) in o) ≡ Some section = sym (list_item d number t is) ∙ at in
       let same : section_of t ≡ section = cc in ap (λ (s : SectionLsas). s.area) same
 
-add_in : (d : Places) (area : AreaId) (router : RouterId) (prefix : Net) (metric number : ℕ) → (named : IsNamed d (Area area) number)
+add_in : (d : Slots) (area : AreaId) (router : RouterId) (prefix : Net) (metric number : ℕ) → (named : IsNamed d (Area area) number)
     → rule_of (lists_of d) (AddSummary area router prefix metric) ≡ summary_rule (lists_of d) area router prefix metric
     (has_area (lists_of d) area (named_there d (Area area) number named)).section
 add_in d area router prefix metric number named =
@@ -89,7 +89,7 @@ add_in d area router prefix metric number named =
     summary_row (lists_of d) area router prefix metric
     ∙ on_ok (area_of (lists_of d) area) h.section (summary_rule (lists_of d) area router prefix metric) h.is
 
-pub add_no_router : (d : Places) (area : AreaId) (router : RouterId) (prefix : Net) (metric number : ℕ) → IsNamed d (Area area) number
+pub add_no_router : (d : Slots) (area : AreaId) (router : RouterId) (prefix : Net) (metric number : ℕ) → IsNamed d (Area area) number
     → find (has_key (router_key router)) (lsas_of (Area area) (lists_of d)) ≡ None → IsRefused d (AddSummary area router prefix metric) NoRouter
 add_no_router d area router prefix metric number named none =
     let h = has_area (lists_of d) area (named_there d (Area area) number named) in
@@ -99,7 +99,7 @@ add_no_router d area router prefix metric number named none =
     (no_lsa_in (lists_of d) area router h.section h.lsas none))
 
 -- the router is there
-add_row : (d : Places) (area : AreaId) (router : RouterId) (prefix : Net) (metric number : ℕ) (slot : SlotId) (lsa : List ℕ)
+add_row : (d : Slots) (area : AreaId) (router : RouterId) (prefix : Net) (metric number : ℕ) (slot : SlotId) (lsa : List ℕ)
     → IsNamed d (Area area) number → IsFirstLsa d (Area area) (has_key (router_key router)) slot lsa
     → rule_of (lists_of d) (AddSummary area router prefix metric) ≡ added (lists_of d) (Area area)
     (summary_for (head_or_none (item_at d number)) router prefix metric)
@@ -115,7 +115,7 @@ new_one : (head : Option AreaHead) (router : RouterId) (prefix : Net) (metric : 
     → IsNewLsa 3 prefix router 28 (summary_for head router prefix metric)
 new_one head router prefix metric wide = summary_new (options_in head) router prefix metric wide.is_net wide.addr wide.wide
 
-pub add_no_room : (d : Places) (area : AreaId) (router : RouterId) (prefix : Net) (metric number : ℕ) (slot : SlotId) (lsa : List ℕ) (key : Key)
+pub add_no_room : (d : Slots) (area : AreaId) (router : RouterId) (prefix : Net) (metric number : ℕ) (slot : SlotId) (lsa : List ℕ) (key : Key)
     (fault : EditFault) → IsNamed d (Area area) number → IsFirstLsa d (Area area) (has_key (router_key router)) slot lsa
     → AreWide router prefix → key ≡ prefix_key 3 router prefix → room_for (lists_of d) (Area area) key 28 ≡ Err fault
     → IsRefused d (AddSummary area router prefix metric) fault
@@ -127,7 +127,7 @@ add_no_room d area router prefix metric number slot lsa key fault named at wide 
     (keyed 3 28 router prefix _ (new_one head router prefix metric wide))
     (subst (λ (k : Key). room_for (lists_of d) (Area area) k 28 ≡ Err fault) is no_room))
 
-add_ruled : (d : Places) (area : AreaId) (router : RouterId) (prefix : Net) (metric number : ℕ) (slot : SlotId) (lsa : List ℕ) (key : Key)
+add_ruled : (d : Slots) (area : AreaId) (router : RouterId) (prefix : Net) (metric number : ℕ) (slot : SlotId) (lsa : List ℕ) (key : Key)
     → IsNamed d (Area area) number → IsFirstLsa d (Area area) (has_key (router_key router)) slot lsa
     → AreWide router prefix → key ≡ prefix_key 3 router prefix → room_for (lists_of d) (Area area) key 28 ≡ has_room
     → rule_of (lists_of d) (AddSummary area router prefix metric) ≡ Ok
@@ -139,7 +139,7 @@ add_ruled d area router prefix metric number slot lsa key named at wide is room 
     (keyed 3 28 router prefix _ (new_one head router prefix metric wide))
     (subst (λ (k : Key). room_for (lists_of d) (Area area) k 28 ≡ has_room) is room)
 
-pub add_memory : (d : Places) (area : AreaId) (router : RouterId) (prefix : Net) (metric number : ℕ) (slot : SlotId) (lsa : List ℕ) (key : Key)
+pub add_memory : (d : Slots) (area : AreaId) (router : RouterId) (prefix : Net) (metric number : ℕ) (slot : SlotId) (lsa : List ℕ) (key : Key)
     → IsNamed d (Area area) number → IsFirstLsa d (Area area) (has_key (router_key router)) slot lsa
     → AreWide router prefix → key ≡ prefix_key 3 router prefix → room_for (lists_of d) (Area area) key 28 ≡ has_room
     → IsRefused d (AddSummary area router prefix metric) OutOfMemory
@@ -151,7 +151,7 @@ area_scope : (area : AreaId) (router : RouterId) (prefix : Net) (x : List ℕ) �
 area_scope area router prefix x is None named = absurd cc
 area_scope area router prefix x is (Some head) named = ap (is_in_scope (Some head)) is
 
-pub add_planned : (d e : Places) (area : AreaId) (router : RouterId) (prefix : Net) (metric number : ℕ) (slot : SlotId) (lsa : List ℕ) (key : Key)
+pub add_planned : (d e : Slots) (area : AreaId) (router : RouterId) (prefix : Net) (metric number : ℕ) (slot : SlotId) (lsa : List ℕ) (key : Key)
     (options cost : ℕ) (x : List ℕ) (items : List SwapData) → IsDatabase (lists_of d) → IsNamed d (Area area) number
     → IsFirstLsa d (Area area) (has_key (router_key router)) slot lsa → AreWide router prefix → key ≡ prefix_key 3 router prefix
     → room_for (lists_of d) (Area area) key 28 ≡ has_room
@@ -187,14 +187,14 @@ external_row : (db : Lists) (router : RouterId) (prefix : Net) (metric_type : Me
 unfolding rule_of
 external_row db router prefix metric_type metric forward tag = refl
 
-pub external_no_router : (d : Places) (router : RouterId) (prefix : Net) (metric_type : MetricType) (metric : ℕ) (forward : Addr) (tag : ℕ)
+pub external_no_router : (d : Slots) (router : RouterId) (prefix : Net) (metric_type : MetricType) (metric : ℕ) (forward : Addr) (tag : ℕ)
     → has_router router (lists_of d) ≡ false → IsRefused d (AddExternal router prefix metric_type metric forward tag) NoRouter
 external_no_router d router prefix metric_type metric forward tag none =
     refused_as d (AddExternal router prefix metric_type metric forward tag) NoRouter (λ e. cc)
     (external_row (lists_of d) router prefix metric_type metric forward tag
     ∙ ap (external_rule (lists_of d) (external_for router prefix metric_type metric forward tag)) none)
 
-external_there : (d : Places) (router : RouterId) (prefix : Net) (metric_type : MetricType) (metric : ℕ) (forward : Addr) (tag : ℕ)
+external_there : (d : Slots) (router : RouterId) (prefix : Net) (metric_type : MetricType) (metric : ℕ) (forward : Addr) (tag : ℕ)
     → has_router router (lists_of d) ≡ true
     → rule_of (lists_of d) (AddExternal router prefix metric_type metric forward tag) ≡ added (lists_of d) AsWide
     (external_for router prefix metric_type metric forward tag)
@@ -207,7 +207,7 @@ new_external_one : (router : RouterId) (prefix : Net) (metric_type : MetricType)
 new_external_one router prefix metric_type metric forward tag wide =
     external_new router prefix (is_type2 metric_type) metric forward tag wide.is_net wide.addr wide.wide
 
-pub external_no_room : (d : Places) (router : RouterId) (prefix : Net) (metric_type : MetricType) (metric : ℕ) (forward : Addr) (tag : ℕ) (key : Key)
+pub external_no_room : (d : Slots) (router : RouterId) (prefix : Net) (metric_type : MetricType) (metric : ℕ) (forward : Addr) (tag : ℕ) (key : Key)
     (fault : EditFault) → has_router router (lists_of d) ≡ true
     → AreWide router prefix → key ≡ prefix_key 5 router prefix → room_for (lists_of d) AsWide key 36 ≡ Err fault
     → IsRefused d (AddExternal router prefix metric_type metric forward tag) fault
@@ -218,7 +218,7 @@ external_no_room d router prefix metric_type metric forward tag key fault there 
     (keyed 5 36 router prefix _ (new_external_one router prefix metric_type metric forward tag wide))
     (subst (λ (k : Key). room_for (lists_of d) AsWide k 36 ≡ Err fault) is no_room))
 
-external_ruled : (d : Places) (router : RouterId) (prefix : Net) (metric_type : MetricType) (metric : ℕ) (forward : Addr) (tag : ℕ) (key : Key)
+external_ruled : (d : Slots) (router : RouterId) (prefix : Net) (metric_type : MetricType) (metric : ℕ) (forward : Addr) (tag : ℕ) (key : Key)
     → has_router router (lists_of d) ≡ true
     → AreWide router prefix → key ≡ prefix_key 5 router prefix → room_for (lists_of d) AsWide key 36 ≡ has_room
     → rule_of (lists_of d) (AddExternal router prefix metric_type metric forward tag) ≡ Ok
@@ -229,7 +229,7 @@ external_ruled d router prefix metric_type metric forward tag key there wide is 
     (keyed 5 36 router prefix _ (new_external_one router prefix metric_type metric forward tag wide))
     (subst (λ (k : Key). room_for (lists_of d) AsWide k 36 ≡ has_room) is room)
 
-pub external_memory : (d : Places) (router : RouterId) (prefix : Net) (metric_type : MetricType) (metric : ℕ) (forward : Addr) (tag : ℕ) (key : Key)
+pub external_memory : (d : Slots) (router : RouterId) (prefix : Net) (metric_type : MetricType) (metric : ℕ) (forward : Addr) (tag : ℕ) (key : Key)
     → has_router router (lists_of d) ≡ true
     → AreWide router prefix → key ≡ prefix_key 5 router prefix → room_for (lists_of d) AsWide key 36 ≡ has_room
     → IsRefused d (AddExternal router prefix metric_type metric forward tag) OutOfMemory
@@ -242,7 +242,7 @@ as_scope : (router : RouterId) (prefix : Net) (x : List ℕ) → key_of x ≡ pr
 as_scope router prefix x is None named = ap (is_in_scope None) is
 as_scope router prefix x is (Some head) named = absurd cc
 
-pub external_planned : (d e : Places) (router : RouterId) (prefix : Net) (metric_type : MetricType) (metric : ℕ) (forward : Addr) (tag : ℕ)
+pub external_planned : (d e : Slots) (router : RouterId) (prefix : Net) (metric_type : MetricType) (metric : ℕ) (forward : Addr) (tag : ℕ)
     (key : Key) (type2 : Bool) (cost : ℕ) (x : List ℕ) (items : List SwapData) → IsDatabase (lists_of d) → has_router router (lists_of d) ≡ true
     → AreWide router prefix → key ≡ prefix_key 5 router prefix → room_for (lists_of d) AsWide key 36 ≡ has_room → type2 ≡ is_type2 metric_type
     → cost ≡ metric → x ≡ new_external router prefix type2 cost forward tag → Opens d e AsWide x items

@@ -15,10 +15,10 @@ use Rattle.lsdb.specs.declared.slot.SlotId.{SlotId}
 use Rattle.lsdb.specs.Limits.{longest_dump}
 use Rattle.lsdb.specs.Lists.{AreaHead, SectionLsas, Lists, IsBefore, IsDatabase, heads_of, is_head_of, is_section, is_in_scope, limit_of, has_key}
 use Rattle.lsdb.specs.Lists.{lsas_of, size}
-use Rattle.lsdb.specs.Places.{Place, Places, item_at, slot_at, put, update_at, open_at, lists_of, places_in, lsas_or_none, IsNamed}
+use Rattle.lsdb.specs.Slots.{Slot, Slots, item_at, slot_at, put, update_at, open_at, lists_of, slots_in, lsas_or_none, IsNamed}
 use Rattle.lsdb.proofs.ListLemmas.{map_mid}
-use Rattle.lsdb.proofs.PlaceLemmas.{slot_at-put, lists_of-open_at}
-use Rattle.lsdb.proofs.PlaceLemmas.{with_lsa, Fits, lists-new, added_safe, split}
+use Rattle.lsdb.proofs.SlotLemmas.{slot_at-put, lists_of-open_at}
+use Rattle.lsdb.proofs.SlotLemmas.{with_lsa, Fits, lists-new, added_safe, split}
 use Rattle.edit_script.specs.declared.edit.Edit.{Edit}
 use Rattle.edit_history.specs.declared.fault.EditFault.{EditFault}
 use Rattle.edit_history.specs.Rules.{stays, Rule, adding, kept_lsas, fated_changes, section_after, lists_after, Change, addition, section_name}
@@ -94,9 +94,9 @@ pub record Gets (db : Lists) (name : Section) (i : ℕ) (x : List ℕ) : Type 0 
   pub found : find (is_section name) db ≡ Some section
   pub named : is_head_of name section.area ≡ true
   pub leads : lists_after (adding name x) db ≡ update_at (with_lsa x) db i
-  pub tells : changes_by (adding name x) db ≡ addition name x ∷ []
+  pub reports : changes_by (adding name x) db ≡ addition name x ∷ []
 
-pub gets : (d : Places) (name : Section) (i : ℕ) (x : List ℕ) → IsDatabase (lists_of d) → IsNamed d name i → Gets (lists_of d) name i x
+pub gets : (d : Slots) (name : Section) (i : ℕ) (x : List ℕ) → IsDatabase (lists_of d) → IsNamed d name i → Gets (lists_of d) name i x
 gets d name i x sound is_named = by_item (item_at (lists_of d) i) refl is_named.exists where
   here : (s : SectionLsas) → item_at (lists_of d) i ≡ Some s → Gets (lists_of d) name i x
   here s at =
@@ -119,7 +119,7 @@ gets d name i x sound is_named = by_item (item_at (lists_of d) i) refl is_named.
             ∙ ap (λ (t : SectionLsas). w.low ++ t ∷ lists_after rule w.high) (at_end name x s named)
             ∙ ap (λ (ss : Lists). w.low ++ with_lsa x s ∷ ss) (all_elsewhere name x w.high only.above)
             ∙ sym w.after;
-        tells =
+        reports =
             ap (changes_by rule) w.before
             ∙ changes_mid rule w.low w.high s
             ∙ ap (λ (cs : List Change). cs ++ (section_changes rule s ++ changes_by rule w.high)) (none_changed name x w.low only.below)
@@ -166,14 +166,14 @@ fits db name i x g new =
 
 -- ---- the plan
 
-abbrev new_at : Section → ℕ → Option Place → Option Place → Change
+abbrev new_at : Section → ℕ → Option Slot → Option Slot → Change
 new_at name kind old now = record { section = name; kind = kind; old = unwrap_or old None; new = unwrap_or now None }
 
 abbrev fills : SlotId → Section → List ℕ → SwapData
 fills slot name x = record { slot = slot; section = name; kind = kind_of x; other = Some x }
 
-carried : (d : Places) (name : Section) (slot : SlotId) (x : List ℕ) → IsDatabase (lists_of d) → IsNamed d name slot.section
-    → slot.index ≡ length (places_in d slot.section) → slot_at (open_at d slot.section) slot ≡ Some None → IsNew (lists_of d) name x
+carried : (d : Slots) (name : Section) (slot : SlotId) (x : List ℕ) → IsDatabase (lists_of d) → IsNamed d name slot.section
+    → slot.index ≡ length (slots_in d slot.section) → slot_at (open_at d slot.section) slot ≡ Some None → IsNew (lists_of d) name x
     → CarriesOutRule (open_at d slot.section) (adding name x) (fills slot name x ∷ [])
 carried d name slot x sound named last empty new =
     let e = open_at d slot.section in
@@ -183,25 +183,25 @@ carried d name slot x sound named last empty new =
     let now : slot_at (put e slot (Some x)) slot ≡ Some (Some x) = slot_at-put e slot (Some x) None empty in
     record {
       can = (
-        subst (λ (o : Option Place). IsSome o) (sym empty) refl,
+        subst (λ (o : Option Slot). IsSome o) (sym empty) refl,
         subst IsDatabase (sym filled) (added_safe (lists_of d) slot.section g.section x g.at (fits (lists_of d) name slot.section x g new) sound),
         tt,
       );
       leads = ap (lists_after (adding name x)) same ∙ g.leads ∙ sym filled;
-      tells =
+      reports =
           ap (changes_by (adding name x)) same
-          ∙ g.tells
-          ∙ sym (ap (λ (o : Option Place). new_at name (kind_of x) o (slot_at (put e slot (Some x)) slot) ∷ []) empty
-          ∙ ap (λ (o : Option Place). new_at name (kind_of x) (Some None) o ∷ []) now);
+          ∙ g.reports
+          ∙ sym (ap (λ (o : Option Slot). new_at name (kind_of x) o (slot_at (put e slot (Some x)) slot) ∷ []) empty
+          ∙ ap (λ (o : Option Slot). new_at name (kind_of x) (Some None) o ∷ []) now);
     }
 
-pub planned_new : (d e : Places) (edit : Edit) (name : Section) (x : List ℕ) (items : List SwapData) → IsDatabase (lists_of d)
+pub planned_new : (d e : Slots) (edit : Edit) (name : Section) (x : List ℕ) (items : List SwapData) → IsDatabase (lists_of d)
     → rule_of (lists_of d) edit ≡ Ok (adding name x) → IsNew (lists_of d) name x → Opens d e name x items → Planned d e edit items
 planned_new d e edit name x items sound ruled new o =
     subst (λ (ss : List SwapData). Planned d e edit ss) (sym o.swap)
-    (subst (λ (w : Places). Planned d w edit (fills o.slot name x ∷ [])) (sym o.opens.opened) here) where
+    (subst (λ (w : Slots). Planned d w edit (fills o.slot name x ∷ [])) (sym o.opens.opened) here) where
       empty : slot_at (open_at d o.slot.section) o.slot ≡ Some None
-      empty = ap (λ (w : Places). slot_at w o.slot) (sym o.opens.opened) ∙ o.opens.empty
+      empty = ap (λ (w : Slots). slot_at w o.slot) (sym o.opens.opened) ∙ o.opens.empty
 
       here : Planned d (open_at d o.slot.section) edit (fills o.slot name x ∷ [])
       here = record {
@@ -214,25 +214,25 @@ planned_new d e edit name x items sound ruled new o =
 -- ---- the refusals
 
 -- the key and the length of a new LSA
-pub record IsKeyed (x : List ℕ) (key : Key) (octets : ℕ) : Type 0 where
+pub record IsKeyed (x : List ℕ) (key : Key) (byte_count : ℕ) : Type 0 where
   pub key_is : key_of x ≡ key
-  pub size_is : length x ≡ octets
+  pub size_is : length x ≡ byte_count
 
 abbrev add_rule : Section → List ℕ → Result (Unit {0}) EditFault → Result Rule EditFault
 add_rule name x room = room >>= λ there. Ok (adding name x)
 
-room_same : (db : Lists) (name : Section) (x : List ℕ) (key : Key) (octets : ℕ) → IsKeyed x key octets
-    → room_for db name (key_of x) (length x) ≡ room_for db name key octets
-room_same db name x key octets keyed = ap (λ (k : Key). room_for db name k (length x)) keyed.key_is ∙ ap (room_for db name key) keyed.size_is
+room_same : (db : Lists) (name : Section) (x : List ℕ) (key : Key) (byte_count : ℕ) → IsKeyed x key byte_count
+    → room_for db name (key_of x) (length x) ≡ room_for db name key byte_count
+room_same db name x key byte_count keyed = ap (λ (k : Key). room_for db name k (length x)) keyed.key_is ∙ ap (room_for db name key) keyed.size_is
 
-pub added_refused : (db : Lists) (name : Section) (x : List ℕ) (key : Key) (octets : ℕ) (fault : EditFault) → IsKeyed x key octets
-    → room_for db name key octets ≡ Err fault → added db name x ≡ Err fault
-added_refused db name x key octets fault keyed is = ap (add_rule name x) (room_same db name x key octets keyed ∙ is)
+pub added_refused : (db : Lists) (name : Section) (x : List ℕ) (key : Key) (byte_count : ℕ) (fault : EditFault) → IsKeyed x key byte_count
+    → room_for db name key byte_count ≡ Err fault → added db name x ≡ Err fault
+added_refused db name x key byte_count fault keyed is = ap (add_rule name x) (room_same db name x key byte_count keyed ∙ is)
 
-pub added_ruled : (db : Lists) (name : Section) (x : List ℕ) (key : Key) (octets : ℕ) → IsKeyed x key octets → room_for db name key octets ≡ has_room
+pub added_ruled : (db : Lists) (name : Section) (x : List ℕ) (key : Key) (byte_count : ℕ) → IsKeyed x key byte_count → room_for db name key byte_count ≡ has_room
     → added db name x ≡ Ok (adding name x)
-added_ruled db name x key octets keyed is = ap (add_rule name x) (room_same db name x key octets keyed ∙ is)
+added_ruled db name x key byte_count keyed is = ap (add_rule name x) (room_same db name x key byte_count keyed ∙ is)
 
-pub new_room : (db : Lists) (name : Section) (x : List ℕ) (key : Key) (octets : ℕ) → IsKeyed x key octets → room_for db name key octets ≡ has_room
+pub new_room : (db : Lists) (name : Section) (x : List ℕ) (key : Key) (byte_count : ℕ) → IsKeyed x key byte_count → room_for db name key byte_count ≡ has_room
     → IsRoom db name (key_of x) (length x)
-new_room db name x key octets keyed is = is_room db name (key_of x) (length x) (room_same db name x key octets keyed ∙ is)
+new_room db name x key byte_count keyed is = is_room db name (key_of x) (length x) (room_same db name x key byte_count keyed ∙ is)

@@ -7,15 +7,15 @@ use Rattle.std.proofs.lemmas.Bool.{and_parts, leb-false, or_parts}
 use Rattle.std.proofs.lemmas.List.{take-map}
 use Rattle.std.proofs.lemmas.List.Elements.{All-head}
 use Rattle.lsdb.specs.Lists.{AreaHead, IsBefore, IsDatabase, Lists, SectionLsas, areas_of, heads_of, is_as_wide, is_section, lsas_of, lsas_or_none}
-use Rattle.lsdb.specs.Places.{Place, Places, SectionPlaces, lists_of, put, section_of, update_at}
+use Rattle.lsdb.specs.Slots.{Slot, Slots, SectionSlots, lists_of, put, section_of, update_at}
 use Rattle.lsdb.specs.declared.section.Section.TheVariants.{AsWide}
 use Rattle.lsdb.proofs.ListLemmas.{pairs_head, pairs_tail}
-use Rattle.lsdb.proofs.PlaceLemmas.{lists_of-open_at}
+use Rattle.lsdb.proofs.SlotLemmas.{lists_of-open_at}
 use Rattle.edit_script.specs.declared.edit.Edit.{Edit}
 use Rattle.edit_history.specs.declared.fault.EditFault.{EditFault}
 use Rattle.edit_history.specs.Applied.{Applied}
 use Rattle.edit_history.specs.Effect.{effect}
-use Rattle.edit_history.specs.Exchange.{RecordData, SwapData, changes_as_scope, done_places, is_of_as_scope, undone_places}
+use Rattle.edit_history.specs.Exchange.{RecordData, SwapData, changes_as_scope, done_slots, is_of_as_scope, undone_slots}
 use Rattle.edit_history.specs.Grown.{Grown, opened}
 use Rattle.edit_history.specs.Journal.{HistoryData, Links, LinksOn, origin}
 use Rattle.edit_history.specs.Session.{after_edits, edits_of, moved_back, moved_on, session_of, state, unless_refused}
@@ -32,7 +32,7 @@ areas_first zero hs = true
 areas_first (suc n) [] = true
 areas_first (suc n) (h ∷ hs) = is_some h && areas_first n hs
 
-abbrev pub AreasFirst : ℕ → Places → Type 0
+abbrev pub AreasFirst : ℕ → Slots → Type 0
 AreasFirst n d = areas_first n (heads_of (lists_of d)) ≡ true
 
 -- all areas come before the LSAs of AS scope
@@ -40,25 +40,25 @@ all_first : (db : Lists) → AllPairs IsBefore (heads_of db) → areas_first (le
 all_first [] pairs = refl
 all_first (s ∷ db) pairs = by s.area refl (all_first db (pairs_tail IsBefore s.area (heads_of db) pairs))
   where
-    none_behind : (rest : Lists) → All (IsBefore None) (heads_of rest) → areas_first (length (areas_of rest)) (None ∷ heads_of rest) ≡ true
-    none_behind [] all = refl
-    none_behind (t ∷ rest) all = absurd (All-head (IsBefore None) t.area (heads_of rest) all)
+    none_after : (rest : Lists) → All (IsBefore None) (heads_of rest) → areas_first (length (areas_of rest)) (None ∷ heads_of rest) ≡ true
+    none_after [] all = refl
+    none_after (t ∷ rest) all = absurd (All-head (IsBefore None) t.area (heads_of rest) all)
 
     by : (area : Option AreaHead) → s.area ≡ area → areas_first (length (areas_of db)) (heads_of db) ≡ true
         → areas_first (length (cons_option area (areas_of db))) (area ∷ heads_of db) ≡ true
-    by None is rest = none_behind db (subst (λ (o : Option AreaHead). All (IsBefore o) (heads_of db)) is (pairs_head IsBefore s.area (heads_of db) pairs))
+    by None is rest = none_after db (subst (λ (o : Option AreaHead). All (IsBefore o) (heads_of db)) is (pairs_head IsBefore s.area (heads_of db) pairs))
     by (Some head) is rest = rest
 
-pub first_of_database : (d : Places) → IsDatabase (lists_of d) → AreasFirst (length (areas_of (lists_of d))) d
+pub first_of_database : (d : Slots) → IsDatabase (lists_of d) → AreasFirst (length (areas_of (lists_of d))) d
 first_of_database d sound = all_first (lists_of d) sound.heads.order
 
--- ---- one place
+-- ---- one slot
 
-module _ (g : List Place → List Place) where
-  abbrev with_places : SectionPlaces → SectionPlaces
-  with_places s = record { area = s.area; places = g s.places }
+module _ (g : List Slot → List Slot) where
+  abbrev with_slots : SectionSlots → SectionSlots
+  with_slots s = record { area = s.area; slots = g s.slots }
 
-  heads_kept : (d : Places) (i : ℕ) → heads_of (lists_of (update_at with_places d i)) ≡ heads_of (lists_of d)
+  heads_kept : (d : Slots) (i : ℕ) → heads_of (lists_of (update_at with_slots d i)) ≡ heads_of (lists_of d)
   heads_kept [] i = refl
   heads_kept (s ∷ d) zero = refl
   heads_kept (s ∷ d) (suc i) = ap (λ (hs : List (Option AreaHead)). s.area ∷ hs) (heads_kept d i)
@@ -68,35 +68,35 @@ module _ (g : List Place → List Place) where
   not_wide None s t o h = absurd cc
   not_wide (Some head) s t o h = refl
 
-  found_kept : (d : Places) (n i : ℕ) → AreasFirst n d → i < n
-      → find (is_section AsWide) (lists_of (update_at with_places d i)) ≡ find (is_section AsWide) (lists_of d)
+  found_kept : (d : Slots) (n i : ℕ) → AreasFirst n d → i < n
+      → find (is_section AsWide) (lists_of (update_at with_slots d i)) ≡ find (is_section AsWide) (lists_of d)
   found_kept d zero i first below = absurd (let no : suc i ≡ 0 = omega (arith, below) in cc)
   found_kept [] (suc n) i first below = refl
   found_kept (s ∷ d) (suc n) zero first below =
-      not_wide s.area (section_of (with_places s)) (section_of s) (find (is_section AsWide) (lists_of d))
+      not_wide s.area (section_of (with_slots s)) (section_of s) (find (is_section AsWide) (lists_of d))
       (and_parts (is_some s.area) (areas_first n (heads_of (lists_of d))) first).0
   found_kept (s ∷ d) (suc n) (suc i) first below =
       ap (cond (is_as_wide s.area) (Some (section_of s)))
       (found_kept d n i (and_parts (is_some s.area) (areas_first n (heads_of (lists_of d))) first).1 (omega (arith, below)))
 
--- what stays from places to places: the first n sections are areas, and the LSAs of AS scope are
+-- what stays from slots to slots: the first n sections are areas, and the LSAs of AS scope are
 -- the same
-record Stays (n : ℕ) (d e : Places) : Type 0 where
+record Stays (n : ℕ) (d e : Slots) : Type 0 where
   pub first : AreasFirst n e
   pub same : of_as (lists_of e) ≡ of_as (lists_of d)
 
-stays_itself : (n : ℕ) (d : Places) → AreasFirst n d → Stays n d d
+stays_itself : (n : ℕ) (d : Slots) → AreasFirst n d → Stays n d d
 stays_itself n d first = record { first = first; same = refl }
 
-stays_on : (n : ℕ) (d e f : Places) → Stays n d e → Stays n e f → Stays n d f
+stays_on : (n : ℕ) (d e f : Slots) → Stays n d e → Stays n e f → Stays n d f
 stays_on n d e f a b = record { first = b.first; same = b.same ∙ a.same }
 
 below_from : (n k : ℕ) → nat_le n k ≡ false → k < n
 below_from n k h = leb-false n k h
 
-put_stays : (n : ℕ) (d : Places) (s : SwapData) (v : Place) → AreasFirst n d → is_of_as_scope n s ≡ false → Stays n d (put d s.slot v)
+put_stays : (n : ℕ) (d : Slots) (s : SwapData) (v : Slot) → AreasFirst n d → is_of_as_scope n s ≡ false → Stays n d (put d s.slot v)
 put_stays n d s v first inside =
-    let g : List Place → List Place = λ ps. update_at (λ _. v) ps s.slot.index in
+    let g : List Slot → List Slot = λ ps. update_at (λ _. v) ps s.slot.index in
     record {
       first = ap (areas_first n) (heads_kept g d s.slot.section) ∙ first;
       same = ap lsas_or_none (found_kept g d n s.slot.section first (below_from n s.slot.section inside));
@@ -107,58 +107,58 @@ put_stays n d s v first inside =
 abbrev any_of_as : ℕ → List SwapData → Bool
 any_of_as n ss = list_any (is_of_as_scope n) ss
 
-undone_stays : (n : ℕ) (d : Places) (ss : List SwapData) → AreasFirst n d → any_of_as n ss ≡ false → Stays n d (undone_places d ss)
+undone_stays : (n : ℕ) (d : Slots) (ss : List SwapData) → AreasFirst n d → any_of_as n ss ≡ false → Stays n d (undone_slots d ss)
 undone_stays n d [] first none = stays_itself n d first
 undone_stays n d (s ∷ ss) first none =
     let parts = or_parts (is_of_as_scope n s) (any_of_as n ss) none in
     let rest = undone_stays n d ss first parts.1 in
-    stays_on n d (undone_places d ss) (put (undone_places d ss) s.slot s.other) rest (put_stays n (undone_places d ss) s s.other rest.first parts.0)
+    stays_on n d (undone_slots d ss) (put (undone_slots d ss) s.slot s.other) rest (put_stays n (undone_slots d ss) s s.other rest.first parts.0)
 
-done_stays : (n : ℕ) (d : Places) (ss : List SwapData) → AreasFirst n d → any_of_as n ss ≡ false → Stays n d (done_places d ss)
+done_stays : (n : ℕ) (d : Slots) (ss : List SwapData) → AreasFirst n d → any_of_as n ss ≡ false → Stays n d (done_slots d ss)
 done_stays n d [] first none = stays_itself n d first
 done_stays n d (s ∷ ss) first none =
     let parts = or_parts (is_of_as_scope n s) (any_of_as n ss) none in
     let here = put_stays n d s s.other first parts.0 in
-    stays_on n d (put d s.slot s.other) (done_places (put d s.slot s.other) ss) here (done_stays n (put d s.slot s.other) ss here.first parts.1)
+    stays_on n d (put d s.slot s.other) (done_slots (put d s.slot s.other) ss) here (done_stays n (put d s.slot s.other) ss here.first parts.1)
 
 -- ---- an edit
 
-opened_same : (d : Places) (ns : List ℕ) → lists_of (opened d ns) ≡ lists_of d
+opened_same : (d : Slots) (ns : List ℕ) → lists_of (opened d ns) ≡ lists_of d
 opened_same d [] = refl
 opened_same d (n ∷ ns) = opened_same _ ns ∙ lists_of-open_at d n
 
-pub grown_same : (d e : Places) → Grown d e → lists_of e ≡ lists_of d
+pub grown_same : (d e : Slots) → Grown d e → lists_of e ≡ lists_of d
 grown_same d e grown = ap lists_of grown.1 ∙ opened_same d grown.0
 
-pub applied_spares_as : (d e : Places) (edit : Edit) (r : RecordData) → IsDatabase (lists_of e) → Applied d e edit r
+pub applied_spares_as : (d e : Slots) (edit : Edit) (r : RecordData) → IsDatabase (lists_of e) → Applied d e edit r
     → changes_as_scope (length (areas_of (lists_of e))) r ≡ false → of_as (lists_of e) ≡ of_as (lists_of d)
 applied_spares_as d e edit r sound applied none =
     sym (undone_stays (length (areas_of (lists_of e))) e r.swaps (first_of_database e sound) none).same
-    ∙ ap of_as (grown_same d (undone_places e r.swaps) applied.before)
+    ∙ ap of_as (grown_same d (undone_slots e r.swaps) applied.before)
 
 -- ---- a history
 
 abbrev any_changes : ℕ → List RecordData → Bool
 any_changes n rs = list_any (changes_as_scope n) rs
 
-origin_stays : (n : ℕ) (d : Places) (rs : List RecordData) → AreasFirst n d → any_changes n rs ≡ false → Stays n d (origin d rs)
+origin_stays : (n : ℕ) (d : Slots) (rs : List RecordData) → AreasFirst n d → any_changes n rs ≡ false → Stays n d (origin d rs)
 origin_stays n d [] first none = stays_itself n d first
 origin_stays n d (r ∷ rs) first none =
     let parts = or_parts (changes_as_scope n r) (any_changes n rs) none in
     let here = undone_stays n d r.swaps first parts.0 in
-    stays_on n d (undone_places d r.swaps) (origin (undone_places d r.swaps) rs) here (origin_stays n (undone_places d r.swaps) rs here.first parts.1)
+    stays_on n d (undone_slots d r.swaps) (origin (undone_slots d r.swaps) rs) here (origin_stays n (undone_slots d r.swaps) rs here.first parts.1)
 
-on_same : (n : ℕ) (d : Places) (rs : List RecordData) → LinksOn d rs → AreasFirst n d → any_changes n rs ≡ false
+on_same : (n : ℕ) (d : Slots) (rs : List RecordData) → LinksOn d rs → AreasFirst n d → any_changes n rs ≡ false
     → of_as (after_edits (lists_of d) (edits_of rs)) ≡ of_as (lists_of d)
 on_same n d [] links first none = refl
 on_same n d (r ∷ rs) links first none =
     let parts = or_parts (changes_as_scope n r) (any_changes n rs) none in
     let here = done_stays n d r.swaps first parts.0 in
     ap (λ (a : Result Lists EditFault). of_as (after_edits (unless_refused (lists_of d) a) (edits_of rs))) links.0.leads
-    ∙ on_same n (done_places d r.swaps) rs links.1 here.first parts.1
+    ∙ on_same n (done_slots d r.swaps) rs links.1 here.first parts.1
     ∙ here.same
 
-pub undo_spares_as : (d : Places) (h : HistoryData) (k : ℕ) → Links d h
+pub undo_spares_as : (d : Slots) (h : HistoryData) (k : ℕ) → Links d h
     → list_any (changes_as_scope (length (areas_of (lists_of d)))) (take k h.past) ≡ false
     → of_as (state (moved_back k (session_of d h))) ≡ of_as (state (session_of d h))
 undo_spares_as d h k links none =
@@ -166,7 +166,7 @@ undo_spares_as d h k links none =
     ∙ (origin_stays (length (areas_of (lists_of d))) d (take k h.past) (first_of_database d links.sound) none).same
     ∙ ap of_as (sym (state_is d h links))
 
-pub redo_spares_as : (d : Places) (h : HistoryData) (k : ℕ) → Links d h
+pub redo_spares_as : (d : Slots) (h : HistoryData) (k : ℕ) → Links d h
     → list_any (changes_as_scope (length (areas_of (lists_of d)))) (take k h.future) ≡ false
     → of_as (state (moved_on k (session_of d h))) ≡ of_as (state (session_of d h))
 redo_spares_as d h k links none =

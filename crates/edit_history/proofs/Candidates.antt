@@ -7,18 +7,18 @@ use Rattle.std.proofs.lemmas.List.{take_more}
 use Rattle.std.proofs.lemmas.List.Elements.{All-append, All-contains, All-cons, All-nil}
 use Rattle.lsa_codec.specs.declared.key.Key.{Key}
 use Rattle.lsa_codec.specs.Key.{key_of}
-use Rattle.lsdb.specs.declared.keyed_places.KeyAt.{KeyAt}
+use Rattle.lsdb.specs.declared.keyed_slots.KeyAt.{KeyAt}
 use Rattle.lsdb.specs.KeyRanges.{AreKeysBetween}
-use Rattle.lsdb.specs.Places.{Place, Places, SectionPlaces, item_at, slot_at, place_in, full, lsas_in, places_in, places_or_none, IsFirstPlace}
+use Rattle.lsdb.specs.Slots.{Slot, Slots, SectionSlots, item_at, slot_at, slot_in, full, lsas_in, slots_in, slots_or_none, IsFirstSlot}
 use Rattle.edit_history.specs.declared.lookup.Wanted.{Wanted}
 use Rattle.edit_history.specs.steps.Plans.{is_wanted, passes, slot_of}
 use Rattle.edit_history.specs.steps.Searching.{HaveKeysBetween, is_wanted_by_key, lesser}
-use Rattle.edit_history.proofs.Searches.{lsas_full, place_there}
+use Rattle.edit_history.proofs.Searches.{lsas_full, slot_there}
 use Rattle.edit_history.proofs.WantedKeys.{has_marked_key}
 
--- ---- the least place that passes is the first
+-- ---- the least slot that passes is the first
 
-first_is : (test : List ℕ → Bool) (ps : List Place) (m : ℕ) (lsa : List ℕ) → item_at ps m ≡ Some (Some lsa) → test lsa ≡ true
+first_is : (test : List ℕ → Bool) (ps : List Slot) (m : ℕ) (lsa : List ℕ) → item_at ps m ≡ Some (Some lsa) → test lsa ≡ true
     → ((i : ℕ) (x : List ℕ) → i < m → item_at ps i ≡ Some (Some x) → test x ≡ false) → find test (full ps) ≡ Some lsa
 first_is test [] m lsa at pass before = absurd cc
 first_is test (None ∷ ps) zero lsa at pass before = absurd cc
@@ -30,25 +30,25 @@ first_is test (Some x ∷ ps) (suc m) lsa at pass before =
     ap (λ b. cond b (Some x) (find test (full ps))) (before 0 x (omega arith) refl)
     ∙ first_is test ps m lsa at pass (λ i y lt there. before (suc i) y (omega arith) there)
 
-none_is : (test : List ℕ → Bool) (ps : List Place) → ((i : ℕ) (x : List ℕ) → item_at ps i ≡ Some (Some x) → test x ≡ false) → find test (full ps) ≡ None
+none_is : (test : List ℕ → Bool) (ps : List Slot) → ((i : ℕ) (x : List ℕ) → item_at ps i ≡ Some (Some x) → test x ≡ false) → find test (full ps) ≡ None
 none_is test [] h = refl
 none_is test (None ∷ ps) h = none_is test ps (λ i x at. h (suc i) x at)
 none_is test (Some x ∷ ps) h =
     ap (λ b. cond b (Some x) (find test (full ps))) (h 0 x refl) ∙ none_is test ps (λ i y at. h (suc i) y at)
 
-record Passed (test : List ℕ → Bool) (place : Option Place) : Type 0 where
+record Passed (test : List ℕ → Bool) (slot : Option Slot) : Type 0 where
   lsa : List ℕ
-  is : place ≡ Some (Some lsa)
+  is : slot ≡ Some (Some lsa)
   pass : test lsa ≡ true
 
-passed : (test : List ℕ → Bool) (place : Option Place) → passes test place ≡ true → Passed test place
+passed : (test : List ℕ → Bool) (slot : Option Slot) → passes test slot ≡ true → Passed test slot
 passed test None pass = absurd cc
 passed test (Some None) pass = absurd cc
 passed test (Some (Some lsa)) pass = record { lsa = lsa; is = refl; pass = pass }
 
-there_place : (d : Places) (section i : ℕ) (p : Place) → slot_at d (slot_of section i) ≡ Some p → item_at (places_in d section) i ≡ Some p
-there_place d section i p e = by_item (item_at d section) e where
-  by_item : (o : Option SectionPlaces) → place_in o i ≡ Some p → item_at (places_or_none o) i ≡ Some p
+there_slot : (d : Slots) (section i : ℕ) (p : Slot) → slot_at d (slot_of section i) ≡ Some p → item_at (slots_in d section) i ≡ Some p
+there_slot d section i p e = by_item (item_at d section) e where
+  by_item : (o : Option SectionSlots) → slot_in o i ≡ Some p → item_at (slots_or_none o) i ≡ Some p
   by_item None e = absurd cc
   by_item (Some s) e = e
 
@@ -61,18 +61,18 @@ by_truth false h = refl
 abbrev IsUpTo : Option ℕ → ℕ → Type 0
 IsUpTo first i = IsSomeAnd first (λ m. m ≤ i)
 
-abbrev pub stands_at : Wanted → Places → ℕ → ℕ → Bool
+abbrev pub stands_at : Wanted → Slots → ℕ → ℕ → Bool
 stands_at w d section i = passes (is_wanted w) (slot_at d (slot_of section i))
 
-abbrev Comes : Wanted → Places → ℕ → Option ℕ → KeyAt → Type 0
+abbrev Comes : Wanted → Slots → ℕ → Option ℕ → KeyAt → Type 0
 Comes w d section first noted = is_wanted_by_key w d section noted ≡ true → IsUpTo first noted.index
 
 -- the least index among those noted at which there is a wanted LSA
-pub record IsLeast (w : Wanted) (d : Places) (section : ℕ) (keys : List KeyAt) (first : Option ℕ) : Type 0 where
+pub record IsLeast (w : Wanted) (d : Slots) (section : ℕ) (keys : List KeyAt) (first : Option ℕ) : Type 0 where
   pub stands : IfSome first (λ m. passes (is_wanted w) (slot_at d (slot_of section m)) ≡ true)
   pub least : All (λ noted. is_wanted_by_key w d section noted ≡ true → IsSomeAnd first (λ m. m ≤ noted.index)) keys
 
-pub none_yet : (w : Wanted) (d : Places) (section : ℕ) → IsLeast w d section [] None
+pub none_yet : (w : Wanted) (d : Slots) (section : ℕ) → IsLeast w d section [] None
 none_yet w d section = record { stands = tt; least = All-nil (Comes w d section None) }
 
 lesser_first : (first : Option ℕ) (index i : ℕ) → IsUpTo first i → lesser first index ≤ i
@@ -94,7 +94,7 @@ all_still : (P Q : KeyAt → Type 0) (keys : List KeyAt) → ((e : KeyAt) → P 
 all_still P Q keys step h k d within = step (get_or keys k d) (h k d within)
 
 -- one more is noted
-module _ (w : Wanted) (d : Places) (section : ℕ) (keys : List KeyAt) (noted : KeyAt) (first : Option ℕ) (so_far : IsLeast w d section keys first) where
+module _ (w : Wanted) (d : Slots) (section : ℕ) (keys : List KeyAt) (noted : KeyAt) (first : Option ℕ) (so_far : IsLeast w d section keys first) where
   all_more : (P : KeyAt → Type 0) → All P keys → P noted → All P (keys ++ noted ∷ [])
   all_more P before one = All-append P keys (noted ∷ []) before (All-cons P noted [] one (All-nil P))
 
@@ -118,39 +118,39 @@ module _ (w : Wanted) (d : Places) (section : ℕ) (keys : List KeyAt) (noted : 
 -- ---- the first of a section
 
 -- a wanted LSA is here, and none before it
-pub first_at : (w : Wanted) (d : Places) (section m : ℕ) → passes (is_wanted w) (slot_at d (slot_of section m)) ≡ true
-    → ((i : ℕ) (x : List ℕ) → item_at (places_in d section) i ≡ Some (Some x) → is_wanted w x ≡ true → m ≤ i)
-    → IsFirstPlace d section (is_wanted w) (slot_of section m)
+pub first_at : (w : Wanted) (d : Slots) (section m : ℕ) → passes (is_wanted w) (slot_at d (slot_of section m)) ≡ true
+    → ((i : ℕ) (x : List ℕ) → item_at (slots_in d section) i ≡ Some (Some x) → is_wanted w x ≡ true → m ≤ i)
+    → IsFirstSlot d section (is_wanted w) (slot_of section m)
 first_at w d section m stands up_to =
     let has = passed (is_wanted w) (slot_at d (slot_of section m)) stands in
-    let at = there_place d section m (Some has.lsa) has.is in
+    let at = there_slot d section m (Some has.lsa) has.is in
     let one : find (is_wanted w) (lsas_in d section) ≡ Some has.lsa =
     ap (find (is_wanted w)) (lsas_full d section)
-    ∙ first_is (is_wanted w) (places_in d section) m has.lsa at has.pass
+    ∙ first_is (is_wanted w) (slots_in d section) m has.lsa at has.pass
     (λ i x lt there. by_truth (is_wanted w x) (λ pass. let le : m ≤ i = up_to i x there pass in absurd (omega arith))) in
-    record { same = refl; held = has.is ∙ ap (λ (o : Place). Some o) (sym one); found = some_is (find (is_wanted w) (lsas_in d section)) has.lsa one }
+    record { same = refl; held = has.is ∙ ap (λ (o : Slot). Some o) (sym one); found = some_is (find (is_wanted w) (lsas_in d section)) has.lsa one }
   where
     some_is : (o : Option (List ℕ)) (x : List ℕ) → o ≡ Some x → IsSome o
     some_is None x e = absurd cc
     some_is (Some y) x e = refl
 
 -- there is no wanted LSA
-pub none_at : (w : Wanted) (d : Places) (section : ℕ)
-    → ((i : ℕ) (x : List ℕ) → item_at (places_in d section) i ≡ Some (Some x) → is_wanted w x ≡ true → ⊥)
+pub none_at : (w : Wanted) (d : Slots) (section : ℕ)
+    → ((i : ℕ) (x : List ℕ) → item_at (slots_in d section) i ≡ Some (Some x) → is_wanted w x ≡ true → ⊥)
     → find (is_wanted w) (lsas_in d section) ≡ None
 none_at w d section none =
     ap (find (is_wanted w)) (lsas_full d section)
-    ∙ none_is (is_wanted w) (places_in d section) (λ i x at. by_truth (is_wanted w x) (none i x at))
+    ∙ none_is (is_wanted w) (slots_in d section) (λ i x at. by_truth (is_wanted w x) (none i x at))
 
 -- ---- all of them
 
-module _ (w : Wanted) (d : Places) (section : ℕ) (low high : Key) (keys : List KeyAt) (first : Option ℕ)
-    (keyed : AreKeysBetween (places_in d section) low high keys) (covered : HaveKeysBetween (is_wanted w) low high)
+module _ (w : Wanted) (d : Slots) (section : ℕ) (low high : Key) (keys : List KeyAt) (first : Option ℕ)
+    (keyed : AreKeysBetween (slots_in d section) low high keys) (covered : HaveKeysBetween (is_wanted w) low high)
     (found : IsLeast w d section keys first) where
   -- a wanted LSA is not before the one that was found
-  up_to : (i : ℕ) (lsa : List ℕ) → item_at (places_in d section) i ≡ Some (Some lsa) → is_wanted w lsa ≡ true → IsUpTo first i
+  up_to : (i : ℕ) (lsa : List ℕ) → item_at (slots_in d section) i ≡ Some (Some lsa) → is_wanted w lsa ≡ true → IsUpTo first i
   up_to i lsa at pass =
-      let there : stands_at w d section i ≡ true = ap (passes (is_wanted w)) (place_there d section i (Some lsa) at) ∙ pass in
+      let there : stands_at w d section i ≡ true = ap (passes (is_wanted w)) (slot_there d section i (Some lsa) at) ∙ pass in
       let contained = keyed.whole i lsa at (covered lsa (keyed.widths i lsa at) pass) in
       All-contains (Comes w d section first) keys (record { key = key_of lsa; index = i }) found.least contained
       (and_from _ _ (has_marked_key w lsa pass) there)
@@ -158,7 +158,7 @@ module _ (w : Wanted) (d : Places) (section : ℕ) (low high : Key) (keys : List
   pub none_first : first ≡ None → find (is_wanted w) (lsas_in d section) ≡ None
   none_first is = none_at w d section (λ i x at pass. subst (λ (o : Option ℕ). IsUpTo o i) is (up_to i x at pass))
 
-  pub first_place : (m : ℕ) → first ≡ Some m → IsFirstPlace d section (is_wanted w) (slot_of section m)
-  first_place m is =
+  pub first_slot : (m : ℕ) → first ≡ Some m → IsFirstSlot d section (is_wanted w) (slot_of section m)
+  first_slot m is =
       first_at w d section m (subst (λ (o : Option ℕ). IfSome o (λ k. stands_at w d section k ≡ true)) is found.stands)
       (λ i x at pass. subst (λ (o : Option ℕ). IsUpTo o i) is (up_to i x at pass))

@@ -49,9 +49,9 @@ past_is : (items : List RecordData) (i : ℕ) (r : RecordData) → i < length it
 past_is items i r lt h = ap (reverse {A = RecordData}) (take_next items i r lt h) ∙ reverse-append (take i items) (r ∷ [])
 
 -- around the cursor suc i
-pub seen_behind : (items : List RecordData) (i j : ℕ) (r : RecordData) → j ≡ suc i → i < length items → r ≡ get_or items i r
+pub seen_after : (items : List RecordData) (i j : ℕ) (r : RecordData) → j ≡ suc i → i < length items → r ≡ get_or items i r
     → seen items j ≡ record { past = r ∷ reverse (take i items); future = drop j items }
-seen_behind items i j r is lt h =
+seen_after items i j r is lt h =
     ap (λ (k : ℕ). let s : HistoryData = record { past = reverse (take k items); future = drop j items } in s) is
     ∙ ap (λ (past : List RecordData). let s : HistoryData = record { past = past; future = drop j items } in s) (past_is items i r lt h)
 
@@ -108,10 +108,10 @@ any_reverse p [] = refl
 any_reverse p (x ∷ xs) = ap (list_any p) (reverse-append (x ∷ []) xs) ∙ any_append p (reverse xs) x ∙ ap (λ (b : Bool). p x || b) (any_reverse p xs)
 
 -- the last records before the cursor are the first of the past
-pub any_behind : (p : RecordData → Bool) (items : List RecordData) (cursor count : ℕ) (h : HistoryData) → seen items cursor ≡ h
+pub any_after : (p : RecordData → Bool) (items : List RecordData) (cursor count : ℕ) (h : HistoryData) → seen items cursor ≡ h
     → cursor ≤ length items → count ≤ length h.past
     → list_any p (take (cursor - (cursor - count)) (drop (cursor - count) items)) ≡ list_any p (take count h.past)
-any_behind p items cursor count h view le some =
+any_after p items cursor count h view le some =
     let m = cursor - count in
     let n = cursor - m in
     let e : length h.past ≡ length (take cursor items) = ap (λ (k : HistoryData). length k.past) (sym view) ∙ length-reverse (take cursor items) in

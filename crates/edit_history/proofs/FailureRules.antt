@@ -9,7 +9,7 @@ use Rattle.lsa_codec.specs.declared.address.RouterId.{RouterId}
 use Rattle.lsdb.specs.declared.section.Section.TheVariants.{Area}
 use Rattle.lsdb.specs.declared.slot.SlotId.{SlotId}
 use Rattle.lsdb.specs.Lists.{SectionLsas, Lists, is_section, has_key, lsas_of}
-use Rattle.lsdb.specs.Places.{Places, lists_of, IsNamed}
+use Rattle.lsdb.specs.Slots.{Slots, lists_of, IsNamed}
 use Rattle.edit_script.specs.declared.edit.Edit.TheVariants.{FailLink, FailNet, FailRouter}
 use Rattle.edit_history.specs.declared.fault.EditFault.{EditFault}
 use Rattle.edit_history.specs.declared.fault.EditFault.TheVariants.{NoArea, NoRouter, NoLink, SameRouter, NoNetwork}
@@ -40,7 +40,7 @@ link_row : (db : Lists) (area : AreaId) (router neighbor : RouterId)
 unfolding rule_of
 link_row db area router neighbor = refl
 
-pub link_no_area : (d : Places) (area : AreaId) (router neighbor : RouterId) → find (is_section (Area area)) (lists_of d) ≡ None
+pub link_no_area : (d : Slots) (area : AreaId) (router neighbor : RouterId) → find (is_section (Area area)) (lists_of d) ≡ None
     → IsRefused d (FailLink area router neighbor) NoArea
 link_no_area d area router neighbor none =
     refused_as d (FailLink area router neighbor) NoArea (λ e. cc)
@@ -48,7 +48,7 @@ link_no_area d area router neighbor none =
     (λ section. apart_rule area router neighbor section (router.0 == neighbor.0)) (no_area (lists_of d) area none))
 
 -- the area is there
-link_in : (d : Places) (area : AreaId) (router neighbor : RouterId) (number : ℕ) (same : Bool) (answer : Result Rule EditFault)
+link_in : (d : Slots) (area : AreaId) (router neighbor : RouterId) (number : ℕ) (same : Bool) (answer : Result Rule EditFault)
     → IsNamed d (Area area) number → (router.0 == neighbor.0) ≡ same
     → ((section : SectionLsas) → lsas_of (Area area) (lists_of d) ≡ section.lsas → apart_rule area router neighbor section same ≡ answer)
     → rule_of (lists_of d) (FailLink area router neighbor) ≡ answer
@@ -59,7 +59,7 @@ link_in d area router neighbor number same answer named is rest =
     ∙ ap (apart_rule area router neighbor h.section) is
     ∙ rest h.section h.lsas
 
-pub link_same : (d : Places) (area : AreaId) (router neighbor : RouterId) (number : ℕ) → IsNamed d (Area area) number
+pub link_same : (d : Slots) (area : AreaId) (router neighbor : RouterId) (number : ℕ) → IsNamed d (Area area) number
     → (router.0 == neighbor.0) ≡ true → IsRefused d (FailLink area router neighbor) SameRouter
 link_same d area router neighbor number named is =
     refused_as d (FailLink area router neighbor) SameRouter (λ e. cc)
@@ -73,7 +73,7 @@ pub lsa_in : (db : Lists) (area : AreaId) (router : RouterId) (section : Section
     → find (has_key (router_key router)) (lsas_of (Area area) db) ≡ Some lsa → router_lsa_in section router ≡ Ok lsa
 lsa_in db area router section lsa lsas first = ap (or_refused NoRouter) (ap (find (has_key (router_key router))) (sym lsas) ∙ first)
 
-pub link_no_router : (d : Places) (area : AreaId) (router neighbor : RouterId) (number : ℕ) → IsNamed d (Area area) number
+pub link_no_router : (d : Slots) (area : AreaId) (router neighbor : RouterId) (number : ℕ) → IsNamed d (Area area) number
     → (router.0 == neighbor.0) ≡ false → find (has_key (router_key router)) (lsas_of (Area area) (lists_of d)) ≡ None
     → IsRefused d (FailLink area router neighbor) NoRouter
 link_no_router d area router neighbor number named is none =
@@ -82,7 +82,7 @@ link_no_router d area router neighbor number named is none =
     (λ section lsas. on_err (router_lsa_in section router) NoRouter (other_rule area router neighbor section)
     (no_lsa_in (lists_of d) area router section lsas none)))
 
-pub link_no_neighbor : (d : Places) (area : AreaId) (router neighbor : RouterId) (number : ℕ) (slot : SlotId) (lsa : List ℕ)
+pub link_no_neighbor : (d : Slots) (area : AreaId) (router neighbor : RouterId) (number : ℕ) (slot : SlotId) (lsa : List ℕ)
     → IsNamed d (Area area) number → (router.0 == neighbor.0) ≡ false → IsFirstLsa d (Area area) (has_key (router_key router)) slot lsa
     → find (has_key (router_key neighbor)) (lsas_of (Area area) (lists_of d)) ≡ None → IsRefused d (FailLink area router neighbor) NoRouter
 link_no_neighbor d area router neighbor number slot lsa named is at none =
@@ -93,12 +93,12 @@ link_no_neighbor d area router neighbor number slot lsa named is at none =
     ∙ on_err (router_lsa_in section neighbor) NoRouter (λ other. linked_rule area router neighbor (are_linked router neighbor lsa other))
     (no_lsa_in (lists_of d) area neighbor section lsas none)))
 
-both_there : (d : Places) (area : AreaId) (router neighbor : RouterId) (number : ℕ) (slot : SlotId) (lsa : List ℕ) (place : SlotId) (other : List ℕ)
+both_there : (d : Slots) (area : AreaId) (router neighbor : RouterId) (number : ℕ) (slot : SlotId) (lsa : List ℕ) (other_slot : SlotId) (other : List ℕ)
     (linked : Bool) → IsNamed d (Area area) number → (router.0 == neighbor.0) ≡ false
-    → IsFirstLsa d (Area area) (has_key (router_key router)) slot lsa → IsFirstLsa d (Area area) (has_key (router_key neighbor)) place other
+    → IsFirstLsa d (Area area) (has_key (router_key router)) slot lsa → IsFirstLsa d (Area area) (has_key (router_key neighbor)) other_slot other
     → are_linked router neighbor lsa other ≡ linked
     → rule_of (lists_of d) (FailLink area router neighbor) ≡ linked_rule area router neighbor linked
-both_there d area router neighbor number slot lsa place other linked named is at there links =
+both_there d area router neighbor number slot lsa other_slot other linked named is at there links =
     link_in d area router neighbor number false (linked_rule area router neighbor linked) named is
     (λ section lsas. on_ok (router_lsa_in section router) lsa (other_rule area router neighbor section)
     (lsa_in (lists_of d) area router section lsa lsas at.first)
@@ -106,21 +106,21 @@ both_there d area router neighbor number slot lsa place other linked named is at
     (lsa_in (lists_of d) area neighbor section other lsas there.first)
     ∙ ap (linked_rule area router neighbor) links)
 
-pub link_none : (d : Places) (area : AreaId) (router neighbor : RouterId) (number : ℕ) (slot : SlotId) (lsa : List ℕ) (place : SlotId)
+pub link_none : (d : Slots) (area : AreaId) (router neighbor : RouterId) (number : ℕ) (slot : SlotId) (lsa : List ℕ) (other_slot : SlotId)
     (other : List ℕ) → IsNamed d (Area area) number → (router.0 == neighbor.0) ≡ false
-    → IsFirstLsa d (Area area) (has_key (router_key router)) slot lsa → IsFirstLsa d (Area area) (has_key (router_key neighbor)) place other
+    → IsFirstLsa d (Area area) (has_key (router_key router)) slot lsa → IsFirstLsa d (Area area) (has_key (router_key neighbor)) other_slot other
     → are_linked router neighbor lsa other ≡ false → IsRefused d (FailLink area router neighbor) NoLink
-link_none d area router neighbor number slot lsa place other named is at there links =
+link_none d area router neighbor number slot lsa other_slot other named is at there links =
     refused_as d (FailLink area router neighbor) NoLink (λ e. cc)
-    (both_there d area router neighbor number slot lsa place other false named is at there links)
+    (both_there d area router neighbor number slot lsa other_slot other false named is at there links)
 
-pub link_ruled : (d : Places) (area : AreaId) (router neighbor : RouterId) (number : ℕ) (slot : SlotId) (lsa : List ℕ) (place : SlotId)
+pub link_ruled : (d : Slots) (area : AreaId) (router neighbor : RouterId) (number : ℕ) (slot : SlotId) (lsa : List ℕ) (other_slot : SlotId)
     (other : List ℕ) → IsNamed d (Area area) number → (router.0 == neighbor.0) ≡ false
-    → IsFirstLsa d (Area area) (has_key (router_key router)) slot lsa → IsFirstLsa d (Area area) (has_key (router_key neighbor)) place other
+    → IsFirstLsa d (Area area) (has_key (router_key router)) slot lsa → IsFirstLsa d (Area area) (has_key (router_key neighbor)) other_slot other
     → are_linked router neighbor lsa other ≡ true
     → rule_of (lists_of d) (FailLink area router neighbor) ≡ Ok (within (Area area) (link_fate router neighbor))
-link_ruled d area router neighbor number slot lsa place other named is at there links =
-    both_there d area router neighbor number slot lsa place other true named is at there links
+link_ruled d area router neighbor number slot lsa other_slot other named is at there links =
+    both_there d area router neighbor number slot lsa other_slot other true named is at there links
 
 -- ---- a network
 
@@ -133,14 +133,14 @@ net_row : (db : Lists) (area : AreaId) (network : Addr)
 unfolding rule_of
 net_row db area network = refl
 
-pub net_no_area : (d : Places) (area : AreaId) (network : Addr) → find (is_section (Area area)) (lists_of d) ≡ None
+pub net_no_area : (d : Slots) (area : AreaId) (network : Addr) → find (is_section (Area area)) (lists_of d) ≡ None
     → IsRefused d (FailNet area network) NoArea
 net_no_area d area network none =
     refused_as d (FailNet area network) NoArea (λ e. cc)
     (net_row (lists_of d) area network ∙ on_err (area_of (lists_of d) area) NoArea
     (λ section. net_found area network (or_refused NoNetwork (find (is_network network) section.lsas))) (no_area (lists_of d) area none))
 
-net_in : (d : Places) (area : AreaId) (network : Addr) (number : ℕ) (found : Option (List ℕ)) → IsNamed d (Area area) number
+net_in : (d : Slots) (area : AreaId) (network : Addr) (number : ℕ) (found : Option (List ℕ)) → IsNamed d (Area area) number
     → find (is_network network) (lsas_of (Area area) (lists_of d)) ≡ found
     → rule_of (lists_of d) (FailNet area network) ≡ net_found area network (or_refused NoNetwork found)
 net_in d area network number found named is =
@@ -150,11 +150,11 @@ net_in d area network number found named is =
     (or_refused NoNetwork (find (is_network network) section.lsas))) h.is
     ∙ ap (λ (o : Option (List ℕ)). net_found area network (or_refused NoNetwork o)) (ap (find (is_network network)) (sym h.lsas) ∙ is)
 
-pub net_none : (d : Places) (area : AreaId) (network : Addr) (number : ℕ) → IsNamed d (Area area) number
+pub net_none : (d : Slots) (area : AreaId) (network : Addr) (number : ℕ) → IsNamed d (Area area) number
     → find (is_network network) (lsas_of (Area area) (lists_of d)) ≡ None → IsRefused d (FailNet area network) NoNetwork
 net_none d area network number named none = refused_as d (FailNet area network) NoNetwork (λ e. cc) (net_in d area network number None named none)
 
-pub net_ruled : (d : Places) (area : AreaId) (network : Addr) (number : ℕ) (lsa : List ℕ) → IsNamed d (Area area) number
+pub net_ruled : (d : Slots) (area : AreaId) (network : Addr) (number : ℕ) (lsa : List ℕ) → IsNamed d (Area area) number
     → find (is_network network) (lsas_of (Area area) (lists_of d)) ≡ Some lsa
     → rule_of (lists_of d) (FailNet area network) ≡ Ok (within (Area area) (net_fate network))
 net_ruled d area network number lsa named first = net_in d area network number (Some lsa) named first
@@ -168,9 +168,9 @@ router_row : (db : Lists) (router : RouterId) → rule_of db (FailRouter router)
 unfolding rule_of
 router_row db router = refl
 
-pub router_none : (d : Places) (router : RouterId) → has_router router (lists_of d) ≡ false → IsRefused d (FailRouter router) NoRouter
+pub router_none : (d : Slots) (router : RouterId) → has_router router (lists_of d) ≡ false → IsRefused d (FailRouter router) NoRouter
 router_none d router none = refused_as d (FailRouter router) NoRouter (λ e. cc) (router_row (lists_of d) router ∙ ap (router_rule router) none)
 
-pub router_ruled : (d : Places) (router : RouterId) → has_router router (lists_of d) ≡ true
+pub router_ruled : (d : Slots) (router : RouterId) → has_router router (lists_of d) ≡ true
     → rule_of (lists_of d) (FailRouter router) ≡ Ok (by_fates (λ head. router_fate router))
 router_ruled d router there = router_row (lists_of d) router ∙ ap (router_rule router) there

@@ -4,12 +4,12 @@ use Rattle.std.specs.Prelude.{reverse}
 use Rattle.std.proofs.lemmas.Bool.{lt-ltb, le-ltb, cond-true, cond-false}
 use Rattle.std.proofs.lemmas.List.{map-append, reverse-append}
 use Rattle.lsdb.specs.Lists.{Lists, IsDatabase}
-use Rattle.lsdb.specs.Places.{Places, lists_of}
+use Rattle.lsdb.specs.Slots.{Slots, lists_of}
 use Rattle.edit_script.specs.declared.edit.Edit.{Edit}
 use Rattle.edit_history.specs.declared.fault.EditFault.{EditFault}
 use Rattle.edit_history.specs.declared.fault.EditFault.TheVariants.{HistoryFull}
 use Rattle.edit_history.specs.Effect.{effect}
-use Rattle.edit_history.specs.Exchange.{RecordData, undone_places}
+use Rattle.edit_history.specs.Exchange.{RecordData, undone_slots}
 use Rattle.edit_history.specs.Grown.{Grown}
 use Rattle.edit_history.specs.Applied.{Applied}
 use Rattle.edit_history.specs.Journal.{HistoryData, Links, origin}
@@ -31,14 +31,14 @@ pub use Rattle.edit_history.proofs.Touching.{applied_touches, undo_is, undo_spar
 abbrev pub pushed : RecordData → HistoryData → HistoryData
 pushed r h = record { past = r ∷ h.past; future = [] }
 
-pub start_linked : (d : Places) → IsDatabase (lists_of d) → Links d (record { past = []; future = [] })
+pub start_linked : (d : Slots) → IsDatabase (lists_of d) → Links d (record { past = []; future = [] })
 start_linked d sound = record { sound = sound; back = tt; on = tt }
 
-pub pushed_linked : (d e : Places) (h : HistoryData) (edit : Edit) (r : RecordData) → Links d h → IsDatabase (lists_of e) → Applied d e edit r
+pub pushed_linked : (d e : Slots) (h : HistoryData) (edit : Edit) (r : RecordData) → Links d h → IsDatabase (lists_of e) → Applied d e edit r
     → Links e (pushed r h)
 pushed_linked d e h edit r links sound applied = (recorded d e h edit r links sound applied).links
 
-pub opened_linked : (d e : Places) (h : HistoryData) → Links d h → Grown d e → Links e h
+pub opened_linked : (d e : Slots) (h : HistoryData) → Links d h → Grown d e → Links e h
 opened_linked d e h links grown = (grown_stays d e h grown links).links
 
 -- ---- the session that it shows
@@ -52,17 +52,17 @@ refused fault = Err fault
 abbrev with_base : HistoryData → Lists → Session
 with_base h db = record { base = db; done = reverse (edits_of h.past); undone = edits_of h.future }
 
-pub opened_session : (d e : Places) (h : HistoryData) → Links d h → Grown d e → session_of e h ≡ session_of d h
+pub opened_session : (d e : Slots) (h : HistoryData) → Links d h → Grown d e → session_of e h ≡ session_of d h
 opened_session d e h links grown = ap (with_base h) (grown_stays d e h grown links).base
 
-pub edited_full : (d : Places) (h : HistoryData) (e : Edit) → most_edits ≤ length h.past → edited (session_of d h) e ≡ Err HistoryFull
+pub edited_full : (d : Slots) (h : HistoryData) (e : Edit) → most_edits ≤ length h.past → edited (session_of d h) e ≡ Err HistoryFull
 unfolding edited
 edited_full d h e full =
     let s : Session = session_of d h in
     cond-false (ltb (length s.done) most_edits) (accepted s e (effect (state s) e)) (refused HistoryFull)
     (le-ltb (length s.done) most_edits (omega (arith, done_len d h)))
 
-with_room : (d : Places) (h : HistoryData) (e : Edit) → length h.past < most_edits → Links d h
+with_room : (d : Slots) (h : HistoryData) (e : Edit) → length h.past < most_edits → Links d h
     → edited (session_of d h) e ≡ accepted (session_of d h) e (effect (lists_of d) e)
 unfolding edited
 with_room d h e room links =
@@ -71,7 +71,7 @@ with_room d h e room links =
     (lt-ltb (length s.done) most_edits (omega (arith, done_len d h)))
     ∙ ap (λ (db : Lists). accepted s e (effect db e)) (state_is d h links)
 
-pub edited_refused : (d : Places) (h : HistoryData) (e : Edit) (f : EditFault) → length h.past < most_edits → Links d h
+pub edited_refused : (d : Slots) (h : HistoryData) (e : Edit) (f : EditFault) → length h.past < most_edits → Links d h
     → effect (lists_of d) e ≡ Err f → edited (session_of d h) e ≡ Err f
 edited_refused d h e f room links is = with_room d h e room links ∙ ap (accepted (session_of d h) e) is
 
@@ -79,10 +79,10 @@ edited_refused d h e f room links is = with_room d h e room links ∙ ap (accept
 abbrev doing : Lists → List Edit → Session
 doing base done = record { base = base; done = done; undone = [] }
 
-pub edited_accepted : (d d' : Places) (h : HistoryData) (e : Edit) (r : RecordData) → length h.past < most_edits → Links d h → Applied d d' e r
+pub edited_accepted : (d d' : Slots) (h : HistoryData) (e : Edit) (r : RecordData) → length h.past < most_edits → Links d h → Applied d d' e r
     → edited (session_of d h) e ≡ Ok (session_of d' (pushed r h))
 edited_accepted d d' h e r room links applied =
-    let base = (grown_stays d (undone_places d' r.swaps) h applied.before links).base in
+    let base = (grown_stays d (undone_slots d' r.swaps) h applied.before links).base in
     let before : List Edit = reverse (edits_of h.past) in
     with_room d h e room links
     ∙ ap (accepted (session_of d h) e) applied.leads
@@ -99,7 +99,7 @@ reversed_edits (r ∷ rs) =
     ∙ ap (λ (es : List Edit). es ++ r.edit ∷ []) (reversed_edits rs) ∙ sym (reverse_cons r.edit (edits_of rs))
 
 -- the done records in the order in which they were carried out, and after them the undone ones
-pub edits_in_order : (d : Places) (h : HistoryData) → edits_of (reverse h.past ++ h.future) ≡ (session_of d h).done ++ (session_of d h).undone
+pub edits_in_order : (d : Slots) (h : HistoryData) → edits_of (reverse h.past ++ h.future) ≡ (session_of d h).done ++ (session_of d h).undone
 edits_in_order d h =
     map-append (λ (x : RecordData). x.edit) (reverse h.past) h.future
     ∙ ap (λ (es : List Edit). es ++ edits_of h.future) (reversed_edits h.past)

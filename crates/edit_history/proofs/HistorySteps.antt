@@ -1,27 +1,27 @@
 -- One step of a history, by its vector and its cursor.
 use Rattle.std.proofs.Common.{◌≡◌, ℕ, suc, ◌+◌, add-one, ◌<◌, List, ◌∷◌, length, get_or, take, drop, sym, ap, ◌∙◌, subst}
 use Rattle.std.specs.Prelude.{reverse, slice_set}
-use Rattle.lsdb.specs.Places.{Places}
-use Rattle.edit_history.specs.Exchange.{RecordData, undone_places, undone, done_places, redone}
+use Rattle.lsdb.specs.Slots.{Slots}
+use Rattle.edit_history.specs.Exchange.{RecordData, undone_slots, undone, done_slots, redone}
 use Rattle.edit_history.specs.Journal.{HistoryData, Links}
 use Rattle.edit_history.specs.Session.{Session, session_of, StepsBack, StepsOn}
-use Rattle.edit_history.proofs.Cursor.{seen, seen_behind, seen_after_back, seen_ahead, seen_after_on}
+use Rattle.edit_history.proofs.Cursor.{seen, seen_after, seen_after_back, seen_ahead, seen_after_on}
 use Rattle.edit_history.proofs.Linked.{step_back, step_on, session_back, session_on}
 
 -- the step's database and history, and what they show
-pub record Turned (d e : Places) (h k : HistoryData) (Steps : Session → Session → Type 0) : Type 0 where
+pub record Turned (d e : Slots) (h k : HistoryData) (Steps : Session → Session → Type 0) : Type 0 where
   pub links : Links e k
   pub session : Steps (session_of d h) (session_of e k)
 
-pub back_turn : (d : Places) (h : HistoryData) (items : List RecordData) (i j : ℕ) (r : RecordData) → seen items j ≡ h → j ≡ suc i → i < length items
-    → r ≡ get_or items i r → Links d h → Turned d (undone_places d r.swaps) h (seen (slice_set items i (undone d r)) i) StepsBack
+pub back_turn : (d : Slots) (h : HistoryData) (items : List RecordData) (i j : ℕ) (r : RecordData) → seen items j ≡ h → j ≡ suc i → i < length items
+    → r ≡ get_or items i r → Links d h → Turned d (undone_slots d r.swaps) h (seen (slice_set items i (undone d r)) i) StepsBack
 back_turn d h items i j r view is lt reads links =
     let rs : List RecordData = reverse (take i items) in
     let fs : List RecordData = drop j items in
-    let before : h ≡ record { past = r ∷ rs; future = fs } = sym view ∙ seen_behind items i j r is lt reads in
+    let before : h ≡ record { past = r ∷ rs; future = fs } = sym view ∙ seen_after items i j r is lt reads in
     let after : seen (slice_set items i (undone d r)) i ≡ record { past = rs; future = undone d r ∷ fs } = seen_after_back items i j
     (undone d r) is lt in
-    let e : Places = undone_places d r.swaps in
+    let e : Slots = undone_slots d r.swaps in
     record {
       links = subst (λ (k : HistoryData). Links e k) (sym after) (step_back d r rs fs (subst (λ (k : HistoryData). Links d k) before links));
       session =
@@ -30,15 +30,15 @@ back_turn d h items i j r view is lt reads links =
           (session_back d r rs fs));
     }
 
-pub on_turn : (d : Places) (h : HistoryData) (items : List RecordData) (i j : ℕ) (r : RecordData) → seen items i ≡ h → j ≡ suc i → i < length items
-    → r ≡ get_or items i r → Links d h → Turned d (done_places d r.swaps) h (seen (slice_set items i (redone d r)) j) StepsOn
+pub on_turn : (d : Slots) (h : HistoryData) (items : List RecordData) (i j : ℕ) (r : RecordData) → seen items i ≡ h → j ≡ suc i → i < length items
+    → r ≡ get_or items i r → Links d h → Turned d (done_slots d r.swaps) h (seen (slice_set items i (redone d r)) j) StepsOn
 on_turn d h items i j r view is lt reads links =
     let rs : List RecordData = reverse (take i items) in
     let fs : List RecordData = drop (suc i) items in
     let before : h ≡ record { past = rs; future = r ∷ fs } = sym view ∙ seen_ahead items i r lt reads in
     let after : seen (slice_set items i (redone d r)) j ≡ record { past = redone d r ∷ rs; future = fs } = seen_after_on items i j
     (redone d r) is lt in
-    let e : Places = done_places d r.swaps in
+    let e : Slots = done_slots d r.swaps in
     let linked : Links d (record { past = rs; future = r ∷ fs }) = subst (λ (k : HistoryData). Links d k) before links in
     record {
       links = subst (λ (k : HistoryData). Links e k) (sym after) (step_on d r rs fs linked);
@@ -51,7 +51,7 @@ on_turn d h items i j r view is lt reads links =
 pub back_count : (h : HistoryData) (items : List RecordData) (i j : ℕ) (r v : RecordData) → seen items j ≡ h → j ≡ suc i → i < length items
     → r ≡ get_or items i r → length h.past ≡ length (reverse (take i (slice_set items i v))) + 1
 back_count h items i j r v view is lt reads =
-    let before = sym view ∙ seen_behind items i j r is lt reads in
+    let before = sym view ∙ seen_after items i j r is lt reads in
     let after = seen_after_back items i j v is lt in
     ap (λ (k : HistoryData). length k.past) before ∙ sym (add-one (length (reverse (take i items))))
     ∙ ap (λ (k : HistoryData). length k.past + 1) (sym after)

@@ -13,7 +13,7 @@ pub mod Searches
 pub mod WantedKeys
 pub mod Candidates
 pub mod RulesCarriedOut
-pub mod FatesByPlace
+pub mod FatesBySlot
 pub mod FailureFates
 pub mod OfPrefix
 pub mod PairSwaps

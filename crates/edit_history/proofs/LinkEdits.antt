@@ -10,8 +10,8 @@ use Rattle.lsa_codec.specs.Making.{with_cost, without_link, IsRewriteOf, IsMakeF
 use Rattle.lsdb.specs.declared.section.Section.TheVariants.{Area}
 use Rattle.lsdb.specs.declared.slot.SlotId.{SlotId}
 use Rattle.lsdb.specs.Lists.{Lists, IsDatabase, has_key}
-use Rattle.lsdb.specs.Places.{Places, lists_of}
-use Rattle.lsdb.proofs.PlaceLemmas.{put_safe}
+use Rattle.lsdb.specs.Slots.{Slots, lists_of}
+use Rattle.lsdb.proofs.SlotLemmas.{put_safe}
 use Rattle.edit_script.specs.declared.edit.Edit.{Edit}
 use Rattle.edit_script.specs.declared.edit.Edit.TheVariants.{Cost, DropLink}
 use Rattle.edit_history.specs.declared.fault.EditFault.{EditFault}
@@ -47,13 +47,13 @@ drop_link_remakes area router link = record { row = λ db. refl }
 
 -- ---- refusals
 
-pub no_router_lsa : (d : Places) (edit : Edit) (area : AreaId) (router : RouterId) (make : Maker) (fault : EditFault) → Remakes edit area router make
+pub no_router_lsa : (d : Slots) (edit : Edit) (area : AreaId) (router : RouterId) (make : Maker) (fault : EditFault) → Remakes edit area router make
     → router_lsa_of (lists_of d) area router ≡ Err fault → IsRefused d edit fault
 no_router_lsa d edit area router make fault remakes is =
     refused_as d edit fault (not_memory (lists_of d) area router fault is)
     (remakes.row (lists_of d) ∙ ap (λ (r : Result (List ℕ) EditFault). r >>= λ lsa. rule_from area router (made (make lsa))) is)
 
-rule_found : (d : Places) (edit : Edit) (area : AreaId) (router : RouterId) (make : Maker) (slot : SlotId) (lsa : List ℕ)
+rule_found : (d : Slots) (edit : Edit) (area : AreaId) (router : RouterId) (make : Maker) (slot : SlotId) (lsa : List ℕ)
     → Remakes edit area router make → IsFirstLsa d (Area area) (has_key (router_key router)) slot lsa
     → rule_of (lists_of d) edit ≡ rule_from area router (made (make lsa))
 rule_found d edit area router make slot lsa remakes at =
@@ -65,7 +65,7 @@ made_has_rule : (area : AreaId) (router : RouterId) (answer : Result (List ℕ) 
 made_has_rule area router (Ok new) ok = refl
 made_has_rule area router (Err fault) ok = absurd (search rules)
 
-pub not_made : (d : Places) (edit : Edit) (area : AreaId) (router : RouterId) (make : Maker) (slot : SlotId) (lsa : List ℕ) (fault : MakeFault)
+pub not_made : (d : Slots) (edit : Edit) (area : AreaId) (router : RouterId) (make : Maker) (slot : SlotId) (lsa : List ℕ) (fault : MakeFault)
     → Remakes edit area router make
     → IsFirstLsa d (Area area) (has_key (router_key router)) slot lsa → IsMakeFaultOf fault (make lsa) → IsRefused d edit (fault_of fault)
 not_made d edit area router make slot lsa fault remakes at is = by_fault fault is where
@@ -83,21 +83,21 @@ not_made d edit area router make slot lsa fault remakes at is = by_fault fault i
   by_fault faults.OutOfMemory is =
       no_memory_ruled d edit (subst (λ (r : Result Rule EditFault). IsOk r) (sym rule) (made_has_rule area router (make lsa) is))
 
-ruled : (d : Places) (edit : Edit) (area : AreaId) (router : RouterId) (make : Maker) (slot : SlotId) (lsa new : List ℕ)
+ruled : (d : Slots) (edit : Edit) (area : AreaId) (router : RouterId) (make : Maker) (slot : SlotId) (lsa new : List ℕ)
     → Remakes edit area router make → IsFirstLsa d (Area area) (has_key (router_key router)) slot lsa
     → make lsa ≡ Ok new → rule_of (lists_of d) edit ≡ Ok (one_lsa (Area area) (router_key router) (rewritten new))
 ruled d edit area router make slot lsa new remakes at made_new =
     rule_found d edit area router make slot lsa remakes at ∙ ap (λ (a : Result (List ℕ) MakeFault). rule_from area router (made a)) made_new
 
 -- memory ran out after the new LSA was made
-pub no_swap : (d : Places) (edit : Edit) (area : AreaId) (router : RouterId) (make : Maker) (slot : SlotId) (lsa new : List ℕ)
+pub no_swap : (d : Slots) (edit : Edit) (area : AreaId) (router : RouterId) (make : Maker) (slot : SlotId) (lsa new : List ℕ)
     → Remakes edit area router make → IsFirstLsa d (Area area) (has_key (router_key router)) slot lsa
     → make lsa ≡ Ok new → IsRefused d edit OutOfMemory
 no_swap d edit area router make slot lsa new remakes at made_new = no_memory d edit _ (ruled d edit area router make slot lsa new remakes at made_new)
 
 -- ---- the plan
 
-pub planned : (d : Places) (edit : Edit) (area : AreaId) (router : RouterId) (make : Maker) (slot : SlotId) (lsa new : List ℕ) (swap : SwapData)
+pub planned : (d : Slots) (edit : Edit) (area : AreaId) (router : RouterId) (make : Maker) (slot : SlotId) (lsa new : List ℕ) (swap : SwapData)
     (items : List SwapData) → IsDatabase (lists_of d) → Remakes edit area router make
     → IsFirstLsa d (Area area) (has_key (router_key router)) slot lsa → make lsa ≡ Ok new → IsRewriteOf lsa new
     → swap ≡ one_swap slot (Area area) 1 (Some new) → items ≡ swap ∷ [] → Planned d d edit items

@@ -3,13 +3,13 @@ use Rattle.std.proofs.Common.{◌≡◌, ℕ, zero, suc, ◌-◌, ◌≤◌, Lis
 use Rattle.std.specs.Prelude.{map, reverse}
 use Rattle.std.proofs.lemmas.List.{length-reverse, length-map, reverse-append, take_all, drop_all, append-nil}
 use Rattle.lsdb.specs.Lists.{Lists}
-use Rattle.lsdb.specs.Places.{Places, lists_of}
+use Rattle.lsdb.specs.Slots.{Slots, lists_of}
 use Rattle.edit_script.specs.declared.edit.Edit.{Edit}
 use Rattle.edit_history.specs.declared.fault.EditFault.{EditFault}
 use Rattle.edit_history.specs.Rules.{Change}
 use Rattle.edit_history.specs.Effect.{effect, changes}
-use Rattle.edit_history.specs.Applied.{told}
-use Rattle.edit_history.specs.Exchange.{SwapData, RecordData, undone, redone, undone_places, undone_swaps, done_places}
+use Rattle.edit_history.specs.Applied.{swap_change}
+use Rattle.edit_history.specs.Exchange.{SwapData, RecordData, undone, redone, undone_slots, undone_swaps, done_slots}
 use Rattle.edit_history.specs.Journal.{HistoryData, LinksBack, LinksOn, Links, origin}
 use Rattle.edit_history.specs.Session.{Session, edits_of, session_of, StepsBack, StepsOn, moved_back, moved_on}
 use Rattle.edit_history.proofs.Exchanged.{undo_done, do_undone, undone_sound, done_sound}
@@ -17,13 +17,13 @@ use Rattle.edit_history.proofs.Exchanged.{undo_done, do_undone, undone_sound, do
 abbrev pub whole : Lists → Result Lists EditFault
 whole db = Ok db
 
-abbrev pub all_told : Places → List SwapData → Result (List Change) EditFault
-all_told e ss = Ok (map (told e) ss)
+abbrev pub all_reported : Slots → List SwapData → Result (List Change) EditFault
+all_reported e ss = Ok (map (swap_change e) ss)
 
-pub step_back : (d : Places) (r : RecordData) (rs fs : List RecordData) → Links d (record { past = r ∷ rs; future = fs })
-    → Links (undone_places d r.swaps) (record { past = rs; future = undone d r ∷ fs })
+pub step_back : (d : Slots) (r : RecordData) (rs fs : List RecordData) → Links d (record { past = r ∷ rs; future = fs })
+    → Links (undone_slots d r.swaps) (record { past = rs; future = undone d r ∷ fs })
 step_back d r rs fs links =
-    let u : Places = undone_places d r.swaps in
+    let u : Slots = undone_slots d r.swaps in
     let us : List SwapData = undone_swaps d r.swaps in
     let again = do_undone d r.swaps links.sound links.back.0.can in
     record {
@@ -32,16 +32,16 @@ step_back d r rs fs links =
       on = (
         record {
           can = again.can;
-          leads = links.back.0.leads ∙ ap (λ (e : Places). whole (lists_of e)) (sym again.places);
-          tells = links.back.0.tells ∙ ap (λ (e : Places). all_told e r.swaps) (sym again.places)
-              ∙ ap (all_told (done_places u us)) (sym again.swaps);
+          leads = links.back.0.leads ∙ ap (λ (e : Slots). whole (lists_of e)) (sym again.slots);
+          reports = links.back.0.reports ∙ ap (λ (e : Slots). all_reported e r.swaps) (sym again.slots)
+              ∙ ap (all_reported (done_slots u us)) (sym again.swaps);
         },
-        subst (λ (e : Places). LinksOn e fs) (sym again.places) links.on,
+        subst (λ (e : Slots). LinksOn e fs) (sym again.slots) links.on,
       );
     }
 
-pub step_on : (d : Places) (r : RecordData) (rs fs : List RecordData) → Links d (record { past = rs; future = r ∷ fs })
-    → Links (done_places d r.swaps) (record { past = redone d r ∷ rs; future = fs })
+pub step_on : (d : Slots) (r : RecordData) (rs fs : List RecordData) → Links d (record { past = rs; future = r ∷ fs })
+    → Links (done_slots d r.swaps) (record { past = redone d r ∷ rs; future = fs })
 step_on d r rs fs links =
     let again = undo_done d r.swaps links.sound links.on.0.can in
     record {
@@ -49,10 +49,10 @@ step_on d r rs fs links =
       back = (
         record {
           can = again.can;
-          leads = ap (λ (e : Places). effect (lists_of e) r.edit) again.places ∙ links.on.0.leads;
-          tells = ap (λ (e : Places). changes (lists_of e) r.edit) again.places ∙ links.on.0.tells;
+          leads = ap (λ (e : Slots). effect (lists_of e) r.edit) again.slots ∙ links.on.0.leads;
+          reports = ap (λ (e : Slots). changes (lists_of e) r.edit) again.slots ∙ links.on.0.reports;
         },
-        subst (λ (e : Places). LinksBack e rs) (sym again.places) links.back,
+        subst (λ (e : Slots). LinksBack e rs) (sym again.slots) links.back,
       );
       on = links.on.1;
     }
@@ -62,17 +62,17 @@ step_on d r rs fs links =
 pub reverse_cons : (e : Edit) (es : List Edit) → reverse (e ∷ es) ≡ reverse es ++ e ∷ []
 reverse_cons e es = reverse-append (e ∷ []) es
 
-pub session_back : (d : Places) (r : RecordData) (rs fs : List RecordData)
+pub session_back : (d : Slots) (r : RecordData) (rs fs : List RecordData)
     → StepsBack (session_of d (record { past = r ∷ rs; future = fs }))
-    (session_of (undone_places d r.swaps) (record { past = rs; future = undone d r ∷ fs }))
+    (session_of (undone_slots d r.swaps) (record { past = rs; future = undone d r ∷ fs }))
 session_back d r rs fs = record { edit = r.edit; base = refl; done = reverse_cons r.edit (edits_of rs); undone = refl }
 
-pub session_on : (d : Places) (r : RecordData) (rs fs : List RecordData) → Links d (record { past = rs; future = r ∷ fs })
+pub session_on : (d : Slots) (r : RecordData) (rs fs : List RecordData) → Links d (record { past = rs; future = r ∷ fs })
     → StepsOn (session_of d (record { past = rs; future = r ∷ fs }))
-    (session_of (done_places d r.swaps) (record { past = redone d r ∷ rs; future = fs }))
+    (session_of (done_slots d r.swaps) (record { past = redone d r ∷ rs; future = fs }))
 session_on d r rs fs links =
     let again = undo_done d r.swaps links.sound links.on.0.can in
-    record { edit = r.edit; base = ap (λ (e : Places). lists_of (origin e rs)) again.places; done = reverse_cons r.edit (edits_of rs); undone = refl }
+    record { edit = r.edit; base = ap (λ (e : Slots). lists_of (origin e rs)) again.slots; done = reverse_cons r.edit (edits_of rs); undone = refl }
 
 -- ---- several steps
 
@@ -144,8 +144,8 @@ back_none s = same_session s (moved_back 0 s) refl (sym (take_all (length s.done
 pub on_none : (s : Session) → s ≡ moved_on 0 s
 on_none s = same_session s (moved_on 0 s) refl (sym (append-nil s.done)) refl
 
-pub done_len : (d : Places) (h : HistoryData) → length (session_of d h).done ≡ length h.past
+pub done_len : (d : Slots) (h : HistoryData) → length (session_of d h).done ≡ length h.past
 done_len d h = length-reverse (edits_of h.past) ∙ length-map h.past (λ (r : RecordData). r.edit)
 
-pub undone_len : (d : Places) (h : HistoryData) → length (session_of d h).undone ≡ length h.future
+pub undone_len : (d : Slots) (h : HistoryData) → length (session_of d h).undone ≡ length h.future
 undone_len d h = length-map h.future (λ (r : RecordData). r.edit)

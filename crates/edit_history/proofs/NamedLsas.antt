@@ -11,7 +11,7 @@ use Rattle.lsdb.specs.declared.section.Section.{Section}
 use Rattle.lsdb.specs.declared.section.Section.TheVariants.{Area}
 use Rattle.lsdb.specs.declared.slot.SlotId.{SlotId}
 use Rattle.lsdb.specs.Lists.{SectionLsas, Lists, is_section, has_key, lsas_of}
-use Rattle.lsdb.specs.Places.{Place, Places, slot_at, lists_of, lsas_or_none, IsNamed, IsPlaceOf}
+use Rattle.lsdb.specs.Slots.{Slot, Slots, slot_at, lists_of, lsas_or_none, IsNamed, IsSlotOf}
 use Rattle.lsdb.proofs.KeyLemmas.{same_key_true}
 use Rattle.edit_history.specs.declared.fault.EditFault.{EditFault}
 use Rattle.edit_history.specs.declared.fault.EditFault.TheVariants.{NoArea, NoRouter, OutOfMemory}
@@ -38,7 +38,7 @@ has_area db area some = by_answer (find (is_section (Area area)) db) refl some w
   by_answer (Some s) is some =
       record { section = s; found = is; is = ap (λ (o : Option SectionLsas). or_refused NoArea o) is; lsas = ap lsas_or_none is }
 
-pub named_there : (d : Places) (name : Section) (i : ℕ) → IsNamed d name i → IsSome (find (is_section name) (lists_of d))
+pub named_there : (d : Slots) (name : Section) (i : ℕ) → IsNamed d name i → IsSome (find (is_section name) (lists_of d))
 named_there d name i named = subst (λ (o : Option SectionLsas). IsSome o) named.same named.exists
 
 -- ---- the router-LSA
@@ -62,7 +62,7 @@ pub no_router : (db : Lists) (area : AreaId) (router : RouterId) → IsSome (fin
     → find (has_key (router_key router)) (lsas_of (Area area) db) ≡ None → router_lsa_of db area router ≡ Err NoRouter
 no_router db area router some none = let h = has_area db area some in ap (router_lsa_after router) h.is ∙ no_router_in db area router h none
 
-pub router_lsa_is : (d : Places) (area : AreaId) (router : RouterId) (slot : SlotId) (lsa : List ℕ)
+pub router_lsa_is : (d : Slots) (area : AreaId) (router : RouterId) (slot : SlotId) (lsa : List ℕ)
     → IsFirstLsa d (Area area) (has_key (router_key router)) slot lsa → router_lsa_of (lists_of d) area router ≡ Ok lsa
 router_lsa_is d area router slot lsa at =
     let h = has_area (lists_of d) area (named_there d (Area area) slot.section at.named) in
@@ -70,28 +70,28 @@ router_lsa_is d area router slot lsa at =
 
 -- ---- what was found
 
-pub same_place : (o : Place) (lsa : List ℕ) (p : Option Place) → p ≡ Some o → p ≡ Some (Some lsa) → o ≡ Some lsa
-same_place o lsa p is held = let two : (let q : Option Place = Some o in q) ≡ Some (Some lsa) = sym is ∙ held in cc
+pub same_slot : (o : Slot) (lsa : List ℕ) (p : Option Slot) → p ≡ Some o → p ≡ Some (Some lsa) → o ≡ Some lsa
+same_slot o lsa p is held = let two : (let q : Option Slot = Some o in q) ≡ Some (Some lsa) = sym is ∙ held in cc
 
--- the LSA of a key that was found, and read at its place
-pub first_of_key : (d : Places) (name : Section) (key named_key : Key) (slot : SlotId) (lsa : List ℕ) → key ≡ named_key → IsPlaceOf d name key slot
+-- the LSA of a key that was found, and read at its slot
+pub first_of_key : (d : Slots) (name : Section) (key named_key : Key) (slot : SlotId) (lsa : List ℕ) → key ≡ named_key → IsSlotOf d name key slot
     → slot_at d slot ≡ Some (Some lsa) → IsFirstLsa d name (has_key named_key) slot lsa
-first_of_key d name key named_key slot lsa is place held = record {
-  named = place.named;
+first_of_key d name key named_key slot lsa is at_slot held = record {
+  named = at_slot.named;
   first = ap (λ (k : Key). find (has_key k) (lsas_of name (lists_of d))) (sym is)
-      ∙ same_place (find (has_key key) (lsas_of name (lists_of d))) lsa (slot_at d slot) place.held held;
+      ∙ same_slot (find (has_key key) (lsas_of name (lists_of d))) lsa (slot_at d slot) at_slot.held held;
   held = held;
 }
 
-pub key_is : (d : Places) (name : Section) (key : Key) (slot : SlotId) (lsa : List ℕ) → IsFirstLsa d name (has_key key) slot lsa → key_of lsa ≡ key
+pub key_is : (d : Slots) (name : Section) (key : Key) (slot : SlotId) (lsa : List ℕ) → IsFirstLsa d name (has_key key) slot lsa → key_of lsa ≡ key
 key_is d name key slot lsa at = same_key_true (key_of lsa) key (found_passes (has_key key) (lsas_of name (lists_of d)) lsa at.first)
 
-pub kind_is : (d : Places) (name : Section) (key : Key) (slot : SlotId) (lsa : List ℕ) → IsFirstLsa d name (has_key key) slot lsa
+pub kind_is : (d : Slots) (name : Section) (key : Key) (slot : SlotId) (lsa : List ℕ) → IsFirstLsa d name (has_key key) slot lsa
     → kind_of lsa ≡ key.kind
 kind_is d name key slot lsa at = ap (λ (k : Key). k.kind) (key_is d name key slot lsa at)
 
 -- a missing router-LSA does not mean that memory ran out
-not_memory_in : (o : Place) (fault : EditFault) → or_refused NoRouter o ≡ Err fault → fault ≢ OutOfMemory
+not_memory_in : (o : Slot) (fault : EditFault) → or_refused NoRouter o ≡ Err fault → fault ≢ OutOfMemory
 not_memory_in None fault is = λ memory. let e : (let r : Result (List ℕ) EditFault = Err NoRouter in r) ≡ Err OutOfMemory =
     is ∙ ap (λ (f : EditFault). let r : Result (List ℕ) EditFault = Err f in r) memory in cc
 not_memory_in (Some lsa) fault is = absurd cc

@@ -7,11 +7,11 @@ use Rattle.lsa_codec.specs.Key.{key_of}
 use Rattle.lsdb.specs.declared.section.Section.{Section}
 use Rattle.lsdb.specs.declared.slot.SlotId.{SlotId}
 use Rattle.lsdb.specs.Lists.{AreaHead, Lists, IsDatabase, IsSection, IsBefore, heads_of, is_section, is_head_of}
-use Rattle.lsdb.specs.Places.{Place, Places, slot_at, put, lists_of, IsNamed}
+use Rattle.lsdb.specs.Slots.{Slot, Slots, slot_at, put, lists_of, IsNamed}
 use Rattle.lsdb.proofs.KeyLemmas.{own_key}
-use Rattle.lsdb.proofs.PlaceLemmas.{slot_at-put}
+use Rattle.lsdb.proofs.SlotLemmas.{slot_at-put}
 use Rattle.lsdb.proofs.ListLemmas.{all_at_mid}
-use Rattle.lsdb.proofs.PlaceLemmas.{section_with, between}
+use Rattle.lsdb.proofs.SlotLemmas.{section_with, between}
 use Rattle.edit_script.specs.declared.edit.Edit.{Edit}
 use Rattle.edit_history.specs.Rules.{Fate, stays, Change, section_name, one_lsa, lists_after, changes_by}
 use Rattle.edit_history.specs.Effect.{rule_of}
@@ -37,7 +37,7 @@ not_second a true f p = absurd cc
 not_second true false f p = refl
 not_second false false f p = refl
 
-only_one : (name : Section) (key : Key) (x : List ℕ) (other : Place) (low high : Lists) (area : Option AreaHead) (front back : List (List ℕ))
+only_one : (name : Section) (key : Key) (x : List ℕ) (other : Slot) (low high : Lists) (area : Option AreaHead) (front back : List (List ℕ))
     → let s = section_with area (front ++ x ∷ back) in
     AllPairs IsBefore (heads_of (low ++ s ∷ high)) → IsSection s → is_head_of name area ≡ true → key_of x ≡ key
     → TouchesOne (one_lsa name key (fate_of other)).fates low high area front back x other
@@ -49,31 +49,31 @@ only_one name key x other low high area front back order section named is =
       below = λ k d lt. λ j e within. not_first _ _ (fate_of other) (sections.below k d lt);
       above = λ k d lt. λ j e within. not_first _ _ (fate_of other) (sections.above k d lt);
       before = λ k d lt. not_second _ _ (fate_of other) (keys.before k d lt);
-      behind = λ k d lt. not_second _ _ (fate_of other) (keys.after k d lt);
+      beyond = λ k d lt. not_second _ _ (fate_of other) (keys.after k d lt);
       here = both _ _ (fate_of other) named (own_key key x is);
     }
 
 -- ---- the change of its swap
 
-abbrev change_at : Section → ℕ → Option Place → Option Place → Change
+abbrev change_at : Section → ℕ → Option Slot → Option Slot → Change
 change_at section kind old new = record { section = section; kind = kind; old = unwrap_or old None; new = unwrap_or new None }
 
-one_told : (here section : Section) (this kind : ℕ) (old now : Option Place) (x : List ℕ) (other : Place) → here ≡ section → this ≡ kind
+reported_one : (here section : Section) (this kind : ℕ) (old now : Option Slot) (x : List ℕ) (other : Slot) → here ≡ section → this ≡ kind
     → old ≡ Some (Some x) → now ≡ Some other
     → change_at here this old now ≡ change_at section kind (Some (Some x)) (Some other)
-one_told here section this kind old now x other p q before after =
+reported_one here section this kind old now x other p q before after =
     ap (λ (s : Section). change_at s this old now) p
     ∙ ap (λ (k : ℕ). change_at section k old now) q
-    ∙ ap (λ (o : Option Place). change_at section kind o now) before
-    ∙ ap (λ (o : Option Place). change_at section kind (Some (Some x)) o) after
+    ∙ ap (λ (o : Option Slot). change_at section kind o now) before
+    ∙ ap (λ (o : Option Slot). change_at section kind (Some (Some x)) o) after
 
 -- ---- the swap
 
-abbrev pub one_swap : SlotId → Section → ℕ → Place → SwapData
+abbrev pub one_swap : SlotId → Section → ℕ → Slot → SwapData
 one_swap slot name kind other = record { slot = slot; section = name; kind = kind; other = other }
 
--- an LSA of a section gives its place to another, or leaves it
-pub exchanged : (d : Places) (name : Section) (key : Key) (slot : SlotId) (lsa : List ℕ) (other : Place) → IsDatabase (lists_of d)
+-- an LSA of a section gives its slot to another, or leaves it
+pub exchanged : (d : Slots) (name : Section) (key : Key) (slot : SlotId) (lsa : List ℕ) (other : Slot) → IsDatabase (lists_of d)
     → IsNamed d name slot.section → slot_at d slot ≡ Some (Some lsa) → key_of lsa ≡ key
     → IsDatabase (lists_of (put d slot other)) → CarriesOutRule d (one_lsa name key (fate_of other)) (one_swap slot name key.kind other ∷ [])
 exchanged d name key slot lsa other sound named held is next =
@@ -87,18 +87,18 @@ exchanged d name key slot lsa other sound named held is next =
     let t = only_one name key lsa other w.low w.high w.area w.front w.back order section in_section is in
     let now : slot_at (put d slot other) slot ≡ Some other = slot_at-put d slot other (Some lsa) held in
     record {
-      can = (subst (λ (o : Option Place). IsSome o) (sym held) refl, next, tt);
+      can = (subst (λ (o : Option Slot). IsSome o) (sym held) refl, next, tt);
       leads = ap (lists_after rule) w.before ∙ one_after rule.fates w.low w.high w.area w.front w.back lsa other t ∙ sym w.after;
-      tells =
+      reports =
           ap (changes_by rule) w.before
           ∙ one_change rule.fates w.low w.high w.area w.front w.back lsa other t
           ∙ ap (λ (c : Change). c ∷ [])
-          (sym (one_told name (section_name w.area) key.kind (kind_of lsa) (slot_at d slot) (slot_at (put d slot other) slot) lsa other
+          (sym (reported_one name (section_name w.area) key.kind (kind_of lsa) (slot_at d slot) (slot_at (put d slot other) slot) lsa other
           (name_is name w.area in_section) (sym (ap (λ (k : Key). k.kind) is)) held now));
     }
 
 -- the plan of an edit that touches one LSA
-pub planned_one : (d : Places) (edit : Edit) (name : Section) (key : Key) (slot : SlotId) (lsa : List ℕ) (other : Place) (kind : ℕ) (swap : SwapData)
+pub planned_one : (d : Slots) (edit : Edit) (name : Section) (key : Key) (slot : SlotId) (lsa : List ℕ) (other : Slot) (kind : ℕ) (swap : SwapData)
     (items : List SwapData) → IsDatabase (lists_of d) → IsNamed d name slot.section → slot_at d slot ≡ Some (Some lsa)
     → key_of lsa ≡ key → key.kind ≡ kind → IsDatabase (lists_of (put d slot other))
     → rule_of (lists_of d) edit ≡ Ok (one_lsa name key (fate_of other)) → swap ≡ one_swap slot name kind other → items ≡ swap ∷ []

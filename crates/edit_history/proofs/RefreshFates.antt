@@ -16,7 +16,7 @@ use Rattle.summary_metrics.specs.Refreshed.{is_not_backbone, refreshed}
 use Rattle.summary_metrics.proofs.StaleLemmas.{stale_summary}
 use Rattle.edit_history.specs.Rules.{Fate, stays, by_fates, outcome, lists_after}
 use Rattle.edit_history.specs.Refreshing.{with_due, metric_fate, pass_fates, refresh_fates}
-use Rattle.edit_history.proofs.FatesByPlace.{IsSafeFate, IsSafe}
+use Rattle.edit_history.proofs.FatesBySlot.{IsSafeFate, IsSafe}
 
 -- ---- they are safe
 

@@ -4,7 +4,7 @@ use Rattle.std.specs.Option.{option_map}
 use Rattle.lsa_codec.specs.declared.address.AreaId.{AreaId}
 use Rattle.lsdb.specs.declared.section.Section.TheVariants.{Area}
 use Rattle.lsdb.specs.Lists.{AreaHead, Lists, id_and_kind}
-use Rattle.lsdb.specs.Places.{Place}
+use Rattle.lsdb.specs.Slots.{Slot}
 use Rattle.summary_metrics.specs.Refreshed.{id_of}
 use Rattle.edit_history.specs.Rules.{stays, section_name}
 use Rattle.edit_history.specs.Exchange.{SwapData}
@@ -16,7 +16,7 @@ abbrev area_of : AreaId → Option (AreaId × Bool) → AreaId
 area_of other None = other
 area_of other (Some named) = named.0
 
-module _ (chosen : AreaId → Bool) (db : Lists) (k : ℕ) (ps : List Place) where
+module _ (chosen : AreaId → Bool) (db : Lists) (k : ℕ) (ps : List Slot) where
   -- the swaps of the section
   abbrev swaps_of : Option AreaHead → List SwapData
   swaps_of head = section_swaps (pass_fates chosen db head) k (section_name head) 0 ps

@@ -71,18 +71,18 @@ module _ (db : Lists) where
   all_stay settled (Some head) lsas fresh =
       All-weaker (λ lsa. is_stale db (id_of head) lsa ≡ false) (Stays (refresh_fates db) (Some head)) (fresh_stays settled head) lsas fresh
 
-  none_told : IsSettled db → (ss : Lists) → All (λ s. AreSettled db s.area s.lsas) ss → changes_by (by_fates (refresh_fates db)) ss ≡ []
-  none_told settled [] all = refl
-  none_told settled (s ∷ ss) all =
+  none_reported : IsSettled db → (ss : Lists) → All (λ s. AreSettled db s.area s.lsas) ss → changes_by (by_fates (refresh_fates db)) ss ≡ []
+  none_reported settled [] all = refl
+  none_reported settled (s ∷ ss) all =
       let P : SectionLsas → Type 0 = λ t. AreSettled db t.area t.lsas in
       ap (λ (cs : List Change). cs ++ changes_by (by_fates (refresh_fates db)) ss)
       (none_change (refresh_fates db) s.area s.lsas (all_stay settled s.area s.lsas (All-head P s ss all)))
-      ∙ none_told settled ss (All-tail P s ss all)
+      ∙ none_reported settled ss (All-tail P s ss all)
 
-  pub settled_tells_none : IsSettled db → changes db Refresh ≡ Ok []
-  settled_tells_none settled =
+  pub settled_reports_none : IsSettled db → changes db Refresh ≡ Ok []
+  settled_reports_none settled =
       ap (λ (r : Result Rule EditFault). r >>= λ rule. Ok (changes_by rule db)) (refresh_ruled db)
-      ∙ ap (λ (cs : List Change). let r : Result (List Change) EditFault = Ok cs in r) (none_told settled db settled)
+      ∙ ap (λ (cs : List Change). let r : Result (List Change) EditFault = Ok cs in r) (none_reported settled db settled)
 
 pub twice_leads : (db : Lists) → refreshed (refreshed db) ≡ refreshed db → effect (refreshed db) Refresh ≡ Ok (refreshed db)
 twice_leads db same = refresh_leads (refreshed db) ∙ ap (λ (after : Lists). let r : Result Lists EditFault = Ok after in r) same

@@ -38,39 +38,39 @@ on_and_back s k le =
 -- ---- accepted edits
 
 -- the edits are after the done ones
-record Behind (s t : Session) (es : List Edit) : Type 0 where
+record After (s t : Session) (es : List Edit) : Type 0 where
   pub base : t.base ≡ s.base
   pub done : t.done ≡ s.done ++ es
 
-accepted_behind : (s t : Session) (e : Edit) (after : Result Lists EditFault) → accepted s e after ≡ Ok t → Behind s t (e ∷ [])
-accepted_behind s t e (Ok db) h = let same : t ≡ record { base = s.base; done = s.done ++ e ∷ []; undone = [] } = cc in
+accepted_after : (s t : Session) (e : Edit) (after : Result Lists EditFault) → accepted s e after ≡ Ok t → After s t (e ∷ [])
+accepted_after s t e (Ok db) h = let same : t ≡ record { base = s.base; done = s.done ++ e ∷ []; undone = [] } = cc in
     record { base = ap (λ (x : Session). x.base) same; done = ap (λ (x : Session). x.done) same }
-accepted_behind s t e (Err fault) h = absurd cc
+accepted_after s t e (Err fault) h = absurd cc
 
-edited_behind : (s t : Session) (e : Edit) → edited s e ≡ Ok t → Behind s t (e ∷ [])
+edited_after : (s t : Session) (e : Edit) → edited s e ≡ Ok t → After s t (e ∷ [])
 unfolding edited
-edited_behind s t e h = by_room (ltb (length s.done) 10000) h where
-  by_room : (b : Bool) → cond b (accepted s e (effect (state s) e)) (Err HistoryFull) ≡ Ok t → Behind s t (e ∷ [])
-  by_room true is = accepted_behind s t e (effect (state s) e) is
+edited_after s t e h = by_room (ltb (length s.done) 10000) h where
+  by_room : (b : Bool) → cond b (accepted s e (effect (state s) e)) (Err HistoryFull) ≡ Ok t → After s t (e ∷ [])
+  by_room true is = accepted_after s t e (effect (state s) e) is
   by_room false is = absurd cc
 
-behind_both : (s u t : Session) (e : Edit) (es : List Edit) → Behind s u (e ∷ []) → Behind u t es → Behind s t (e ∷ es)
-behind_both s u t e es one more =
+after_both : (s u t : Session) (e : Edit) (es : List Edit) → After s u (e ∷ []) → After u t es → After s t (e ∷ es)
+after_both s u t e es one more =
     record { base = more.base ∙ one.base; done = more.done ∙ ap (λ (ds : List Edit). ds ++ es) one.done ∙ append_assoc s.done (e ∷ []) es }
 
-edits_behind : (s t : Session) (es : List Edit) → edited_by s es ≡ Ok t → Behind s t es
-edits_behind s t [] h = let same : t ≡ s = (let both : (let r : Result Session EditFault = Ok s in r) ≡ Ok t = h in cc) in
+edits_after : (s t : Session) (es : List Edit) → edited_by s es ≡ Ok t → After s t es
+edits_after s t [] h = let same : t ≡ s = (let both : (let r : Result Session EditFault = Ok s in r) ≡ Ok t = h in cc) in
     record { base = ap (λ (x : Session). x.base) same; done = ap (λ (x : Session). x.done) same ∙ sym (append-nil s.done) }
-edits_behind s t (e ∷ es) h = by_answer (edited s e) refl h (λ u. edits_behind u t es) where
+edits_after s t (e ∷ es) h = by_answer (edited s e) refl h (λ u. edits_after u t es) where
   by_answer : (r : Result Session EditFault) → edited s e ≡ r → (r >>= λ u. edited_by u es) ≡ Ok t
-      → ((u : Session) → edited_by u es ≡ Ok t → Behind u t es) → Behind s t (e ∷ es)
-  by_answer (Ok u) is more rest = behind_both s u t e es (edited_behind s u e is) (rest u more)
+      → ((u : Session) → edited_by u es ≡ Ok t → After u t es) → After s t (e ∷ es)
+  by_answer (Ok u) is more rest = after_both s u t e es (edited_after s u e is) (rest u more)
   by_answer (Err fault) is more rest = absurd cc
 
 -- undoing the same number of edits as were accepted leads to the database before them
 pub edits_back : (s t : Session) (es : List Edit) → edited_by s es ≡ Ok t → state (moved_back (length es) t) ≡ state s
 edits_back s t es h =
-    let b = edits_behind s t es h in
+    let b = edits_after s t es h in
     let n = length t.done - length es in
     let first : length s.done ≡ n = omega (arith, length-append s.done es, ap (λ (ds : List Edit). length ds) b.done) in
     let done : take n t.done ≡ s.done = ap (λ (ds : List Edit). take n ds) b.done ∙ seam_take n s.done es first in

@@ -6,11 +6,11 @@ use Rattle.std.proofs.lemmas.List.Elements.{All-head, All-tail}
 use Rattle.lsa_codec.specs.Fields.{kind_of}
 use Rattle.lsdb.specs.Lists.{AreaHead, SectionLsas, Lists}
 use Rattle.lsdb.proofs.ListLemmas.{map_mid}
-use Rattle.lsdb.proofs.PlaceLemmas.{section_with}
+use Rattle.lsdb.proofs.SlotLemmas.{section_with}
 use Rattle.edit_history.specs.Rules.{Fate, stays, removed, rewritten, Rule, Fates, by_fates, outcome, section_after, lists_after, Change, change_of}
 use Rattle.edit_history.specs.Rules.{section_name, section_changes, changes_by}
 use Rattle.lsdb.specs.declared.section.Section.{Section}
-use Rattle.lsdb.specs.Places.{Place}
+use Rattle.lsdb.specs.Slots.{Slot}
 
 filter_map_mid : {X Y : Type 0} (h : X → Option Y) (front back : List X) (x : X)
     → filter_map h (front ++ x ∷ back) ≡ filter_map h front ++ cons_option (h x) (filter_map h back)
@@ -65,31 +65,31 @@ no_changes fates (s ∷ ss) h =
 
 -- ---- a rule that touches one LSA alone
 
--- the fate of an LSA whose place gets this
-abbrev pub fate_of : Place → Fate
+-- the fate of an LSA whose slot gets this
+abbrev pub fate_of : Slot → Fate
 fate_of None = removed
 fate_of (Some new) = rewritten new
 
-outcome_is : (x : List ℕ) (other : Place) → outcome (fate_of other) x ≡ other
+outcome_is : (x : List ℕ) (other : Slot) → outcome (fate_of other) x ≡ other
 outcome_is x None = refl
 outcome_is x (Some new) = refl
 
-abbrev pub change_to : Section → List ℕ → Place → Change
+abbrev pub change_to : Section → List ℕ → Slot → Change
 change_to section x other = record { section = section; kind = kind_of x; old = Some x; new = other }
 
-change_is : (section : Section) (x : List ℕ) (other : Place) → change_of section x (fate_of other) ≡ Some (change_to section x other)
+change_is : (section : Section) (x : List ℕ) (other : Slot) → change_of section x (fate_of other) ≡ Some (change_to section x other)
 change_is section x None = refl
 change_is section x (Some new) = refl
 
 pub record TouchesOne (fates : Fates) (low high : Lists) (area : Option AreaHead) (front back : List (List ℕ)) (x : List ℕ)
-    (other : Place) : Type 0 where
+    (other : Slot) : Type 0 where
   pub below : All (AllStay fates) low
   pub above : All (AllStay fates) high
   pub before : All (Stays fates area) front
-  pub behind : All (Stays fates area) back
+  pub beyond : All (Stays fates area) back
   pub here : fates area x ≡ fate_of other
 
-pub one_after : (fates : Fates) (low high : Lists) (area : Option AreaHead) (front back : List (List ℕ)) (x : List ℕ) (other : Place)
+pub one_after : (fates : Fates) (low high : Lists) (area : Option AreaHead) (front back : List (List ℕ)) (x : List ℕ) (other : Slot)
     → TouchesOne fates low high area front back x other
     → lists_after (by_fates fates) (low ++ section_with area (front ++ x ∷ back) ∷ high) ≡ low ++ section_with area
     (front ++ cons_option other back) ∷ high
@@ -98,8 +98,8 @@ one_after fates low high area front back x other t =
     filter_map_mid (after fates area) front back x
     ∙ ap (λ (ys : List (List ℕ)). ys ++ cons_option (after fates area x) (filter_map (after fates area) back)) (all_stay fates area front t.before)
     ∙ ap (λ (f : Fate). front ++ cons_option (outcome f x) (filter_map (after fates area) back)) t.here
-    ∙ ap (λ (p : Place). front ++ cons_option p (filter_map (after fates area) back)) (outcome_is x other)
-    ∙ ap (λ (ys : List (List ℕ)). front ++ cons_option other ys) (all_stay fates area back t.behind) in
+    ∙ ap (λ (p : Slot). front ++ cons_option p (filter_map (after fates area) back)) (outcome_is x other)
+    ∙ ap (λ (ys : List (List ℕ)). front ++ cons_option other ys) (all_stay fates area back t.beyond) in
     map_mid (section_after (by_fates fates)) low high (section_with area (front ++ x ∷ back))
     ∙ ap (λ (ss : Lists). ss ++ section_after (by_fates fates) (section_with area (front ++ x ∷ back)) ∷ lists_after (by_fates fates) high)
     (sections_stay fates low t.below)
@@ -113,7 +113,7 @@ changes_mid rule (l ∷ low) high s =
     ap (λ (xs : List Change). section_changes rule l ++ xs) (changes_mid rule low high s)
     ∙ sym (append_assoc (section_changes rule l) (changes_by rule low) (section_changes rule s ++ changes_by rule high))
 
-pub one_change : (fates : Fates) (low high : Lists) (area : Option AreaHead) (front back : List (List ℕ)) (x : List ℕ) (other : Place)
+pub one_change : (fates : Fates) (low high : Lists) (area : Option AreaHead) (front back : List (List ℕ)) (x : List ℕ) (other : Slot)
     → TouchesOne fates low high area front back x other
     → changes_by (by_fates fates) (low ++ section_with area (front ++ x ∷ back) ∷ high) ≡ change_to (section_name area) x other ∷ []
 one_change fates low high area front back x other t =
@@ -122,7 +122,7 @@ one_change fates low high area front back x other t =
     ∙ ap (λ (ys : List Change). ys ++ cons_option (change fates area x) (filter_map (change fates area) back)) (none_change fates area front t.before)
     ∙ ap (λ (f : Fate). cons_option (change_of (section_name area) x f) (filter_map (change fates area) back)) t.here
     ∙ ap (λ (o : Option Change). cons_option o (filter_map (change fates area) back)) (change_is (section_name area) x other)
-    ∙ ap (λ (ys : List Change). change_to (section_name area) x other ∷ ys) (none_change fates area back t.behind) in
+    ∙ ap (λ (ys : List Change). change_to (section_name area) x other ∷ ys) (none_change fates area back t.beyond) in
     changes_mid (by_fates fates) low high (section_with area (front ++ x ∷ back))
     ∙ ap (λ (ys : List Change). ys ++ (filter_map (change fates area) (front ++ x ∷ back) ++ changes_by (by_fates fates) high))
     (no_changes fates low t.below)

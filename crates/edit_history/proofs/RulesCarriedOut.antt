@@ -2,21 +2,21 @@
 use Rattle.std.proofs.Common.{◌≡◌, ◌≢◌, List, map, Result, Ok, Err, refl, sym, ap, ◌∙◌, subst}
 use Rattle.std.specs.Prelude.{IsOk}
 use Rattle.lsdb.specs.Lists.{Lists}
-use Rattle.lsdb.specs.Places.{Places, lists_of}
+use Rattle.lsdb.specs.Slots.{Slots, lists_of}
 use Rattle.edit_script.specs.declared.edit.Edit.{Edit}
 use Rattle.edit_history.specs.declared.fault.EditFault.{EditFault}
 use Rattle.edit_history.specs.declared.fault.EditFault.TheVariants.{OutOfMemory}
 use Rattle.edit_history.specs.Rules.{Rule, Change, lists_after, changes_by}
 use Rattle.edit_history.specs.Effect.{rule_of, ◌>>=◌}
-use Rattle.edit_history.specs.Exchange.{SwapData, CanDo, done_places, done_swaps}
-use Rattle.edit_history.specs.Applied.{told, CarriesOut, Planned, IsRefused}
+use Rattle.edit_history.specs.Exchange.{SwapData, CanDo, done_slots, done_swaps}
+use Rattle.edit_history.specs.Applied.{swap_change, CarriesOut, Planned, IsRefused}
 use Rattle.edit_history.proofs.CarriedPlans.{grown_same}
 
 -- the swaps do what the rule requires
-pub record CarriesOutRule (d : Places) (rule : Rule) (swaps : List SwapData) : Type 0 where
+pub record CarriesOutRule (d : Slots) (rule : Rule) (swaps : List SwapData) : Type 0 where
   pub can : CanDo d swaps
-  pub leads : lists_after rule (lists_of d) ≡ lists_of (done_places d swaps)
-  pub tells : changes_by rule (lists_of d) ≡ map (told (done_places d swaps)) (done_swaps d swaps)
+  pub leads : lists_after rule (lists_of d) ≡ lists_of (done_slots d swaps)
+  pub reports : changes_by rule (lists_of d) ≡ map (swap_change (done_slots d swaps)) (done_swaps d swaps)
 
 abbrev after_rule : Lists → Result Rule EditFault → Result Lists EditFault
 after_rule db r = r >>= λ rule. Ok (lists_after rule db)
@@ -24,27 +24,27 @@ after_rule db r = r >>= λ rule. Ok (lists_after rule db)
 abbrev changes_of_rule : Lists → Result Rule EditFault → Result (List Change) EditFault
 changes_of_rule db r = r >>= λ rule. Ok (changes_by rule db)
 
-pub carries : (d : Places) (edit : Edit) (rule : Rule) (swaps : List SwapData) → rule_of (lists_of d) edit ≡ Ok rule → CarriesOutRule d rule swaps
+pub carries : (d : Slots) (edit : Edit) (rule : Rule) (swaps : List SwapData) → rule_of (lists_of d) edit ≡ Ok rule → CarriesOutRule d rule swaps
     → CarriesOut d edit swaps
 carries d edit rule swaps ruled f = record {
   can = f.can;
   leads = ap (after_rule (lists_of d)) ruled ∙ ap (λ (db : Lists). let a : Result Lists EditFault = Ok db in a) f.leads;
-  tells = ap (changes_of_rule (lists_of d)) ruled ∙ ap (λ (cs : List Change). let a : Result (List Change) EditFault = Ok cs in a) f.tells;
+  reports = ap (changes_of_rule (lists_of d)) ruled ∙ ap (λ (cs : List Change). let a : Result (List Change) EditFault = Ok cs in a) f.reports;
 }
 
--- no place has to be opened
-pub planned_here : (d : Places) (edit : Edit) (rule : Rule) (swaps items : List SwapData) → rule_of (lists_of d) edit ≡ Ok rule → CarriesOutRule d rule swaps
+-- no slot has to be opened
+pub planned_here : (d : Slots) (edit : Edit) (rule : Rule) (swaps items : List SwapData) → rule_of (lists_of d) edit ≡ Ok rule → CarriesOutRule d rule swaps
     → items ≡ swaps → Planned d d edit items
 planned_here d edit rule swaps items ruled f is =
     subst (λ (ss : List SwapData). Planned d d edit ss) (sym is) (record { opens = grown_same d d refl; carries = carries d edit rule swaps ruled f })
 
 -- ---- refusals
 
-pub refused_as : (d : Places) (edit : Edit) (fault : EditFault) → fault ≢ OutOfMemory → rule_of (lists_of d) edit ≡ Err fault → IsRefused d edit fault
+pub refused_as : (d : Slots) (edit : Edit) (fault : EditFault) → fault ≢ OutOfMemory → rule_of (lists_of d) edit ≡ Err fault → IsRefused d edit fault
 refused_as d edit fault other is = record { known = λ _. ap (after_rule (lists_of d)) is; memory = λ e. absurd (other e) }
 
 -- memory ran out for an edit that has a rule
-pub no_memory : (d : Places) (edit : Edit) (rule : Rule) → rule_of (lists_of d) edit ≡ Ok rule → IsRefused d edit OutOfMemory
+pub no_memory : (d : Slots) (edit : Edit) (rule : Rule) → rule_of (lists_of d) edit ≡ Ok rule → IsRefused d edit OutOfMemory
 no_memory d edit rule ruled = record {
   known = λ other. absurd (other refl);
   memory = λ _. subst (λ (r : Result Rule EditFault). IsOk (after_rule (lists_of d) r)) (sym ruled) refl;
@@ -54,7 +54,7 @@ has_rule : (db : Lists) (r : Result Rule EditFault) → IsOk r → IsOk (after_r
 has_rule db (Ok rule) ok = refl
 has_rule db (Err fault) ok = ok
 
-pub no_memory_ruled : (d : Places) (edit : Edit) → IsOk (rule_of (lists_of d) edit) → IsRefused d edit OutOfMemory
+pub no_memory_ruled : (d : Slots) (edit : Edit) → IsOk (rule_of (lists_of d) edit) → IsRefused d edit OutOfMemory
 no_memory_ruled d edit ok = record { known = λ other. absurd (other refl); memory = λ _. has_rule (lists_of d) (rule_of (lists_of d) edit) ok }
 
 -- ---- one step of a rule

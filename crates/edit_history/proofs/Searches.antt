@@ -10,11 +10,11 @@ use Rattle.lsa_codec.specs.declared.key.Key.{Key}
 use Rattle.lsdb.specs.declared.section.Section.{Section}
 use Rattle.lsdb.specs.declared.slot.SlotId.{SlotId}
 use Rattle.lsdb.specs.Lists.{SectionLsas, Lists, has_key, is_section, lsas_of}
-use Rattle.lsdb.specs.Places.{Place, Places, SectionPlaces, item_at, slot_at, place_in, full, lists_of, lsas_in, lsas_or_none, places_in}
-use Rattle.lsdb.specs.Places.{places_or_none, IsFirstPlace, IsNamed, IsPlaceOf}
+use Rattle.lsdb.specs.Slots.{Slot, Slots, SectionSlots, item_at, slot_at, slot_in, full, lists_of, lsas_in, lsas_or_none, slots_in}
+use Rattle.lsdb.specs.Slots.{slots_or_none, IsFirstSlot, IsNamed, IsSlotOf}
 use Rattle.edit_history.specs.Effect.{is_in_section}
 use Rattle.edit_history.specs.steps.Plans.{IsFirstLsa, slot_of}
-use Rattle.edit_history.proofs.NamedLsas.{same_place}
+use Rattle.edit_history.proofs.NamedLsas.{same_slot}
 
 -- ---- any and first
 
@@ -59,54 +59,54 @@ exists_at [] i lt = absurd (omega arith)
 exists_at (x ∷ xs) zero lt = refl
 exists_at (x ∷ xs) (suc i) lt = exists_at xs i (omega arith)
 
-pub lists_count : (d : Places) → length (lists_of d) ≡ length d
+pub lists_count : (d : Slots) → length (lists_of d) ≡ length d
 lists_count [] = refl
 lists_count (s ∷ ss) = ap suc (lists_count ss)
 
-pub exists_in_lists : (d : Places) (i : ℕ) → i < length d → IsSome (item_at (lists_of d) i)
+pub exists_in_lists : (d : Slots) (i : ℕ) → i < length d → IsSome (item_at (lists_of d) i)
 exists_in_lists d i lt = exists_at (lists_of d) i (omega (arith, lists_count d))
 
--- ---- the places of a section
+-- ---- the slots of a section
 
-pub lsas_full : (d : Places) (section : ℕ) → lsas_in d section ≡ full (places_in d section)
+pub lsas_full : (d : Slots) (section : ℕ) → lsas_in d section ≡ full (slots_in d section)
 lsas_full [] section = refl
 lsas_full (s ∷ ss) zero = refl
 lsas_full (s ∷ ss) (suc section) = lsas_full ss section
 
-pub there_too : (d : Places) (section : ℕ) → IsSome (item_at (lists_of d) section) → IsSome (item_at d section)
+pub there_too : (d : Slots) (section : ℕ) → IsSome (item_at (lists_of d) section) → IsSome (item_at d section)
 there_too [] section some = absurd (search rules)
 there_too (s ∷ ss) zero some = refl
 there_too (s ∷ ss) (suc section) some = there_too ss section some
 
-pub place_there : (d : Places) (section i : ℕ) (p : Place) → item_at (places_in d section) i ≡ Some p → slot_at d (slot_of section i) ≡ Some p
-place_there d section i p e = by_item (item_at d section) e where
-  by_item : (o : Option SectionPlaces) → item_at (places_or_none o) i ≡ Some p → place_in o i ≡ Some p
+pub slot_there : (d : Slots) (section i : ℕ) (p : Slot) → item_at (slots_in d section) i ≡ Some p → slot_at d (slot_of section i) ≡ Some p
+slot_there d section i p e = by_item (item_at d section) e where
+  by_item : (o : Option SectionSlots) → item_at (slots_or_none o) i ≡ Some p → slot_in o i ≡ Some p
   by_item None e = absurd cc
   by_item (Some s) e = e
 
 -- ---- a section by its name
 
-pub lsas_named : (d : Places) (name : Section) (i : ℕ) → item_at (lists_of d) i ≡ find (is_section name) (lists_of d)
+pub lsas_named : (d : Slots) (name : Section) (i : ℕ) → item_at (lists_of d) i ≡ find (is_section name) (lists_of d)
     → lsas_in d i ≡ lsas_of name (lists_of d)
 lsas_named d name i same = ap lsas_or_none same
 
-pub first_named : (d : Places) (name : Section) (test : List ℕ → Bool) (i : ℕ) (slot : SlotId) (lsa : List ℕ)
+pub first_named : (d : Slots) (name : Section) (test : List ℕ → Bool) (i : ℕ) (slot : SlotId) (lsa : List ℕ)
     → item_at (lists_of d) i ≡ find (is_section name) (lists_of d) → IsSome (item_at (lists_of d) i) → slot.section ≡ i
     → slot_at d slot ≡ Some (find test (lsas_in d i)) → slot_at d slot ≡ Some (Some lsa) → IsFirstLsa d name test slot lsa
-first_named d name test i slot lsa same some in_section place held = record {
+first_named d name test i slot lsa same some in_section at_slot held = record {
   named = subst (IsNamed d name) (sym in_section) (record { same = same; exists = some });
-  first = ap (find test) (sym (lsas_named d name i same)) ∙ same_place (find test (lsas_in d i)) lsa (slot_at d slot) place held;
+  first = ap (find test) (sym (lsas_named d name i same)) ∙ same_slot (find test (lsas_in d i)) lsa (slot_at d slot) at_slot held;
   held = held;
 }
 
-pub none_named : (d : Places) (name : Section) (test : List ℕ → Bool) (i : ℕ) → item_at (lists_of d) i ≡ find (is_section name) (lists_of d)
+pub none_named : (d : Slots) (name : Section) (test : List ℕ → Bool) (i : ℕ) → item_at (lists_of d) i ≡ find (is_section name) (lists_of d)
     → find test (lsas_in d i) ≡ None → find test (lsas_of name (lists_of d)) ≡ None
 none_named d name test i same none = ap (find test) (sym (lsas_named d name i same)) ∙ none
 
 -- ---- a key
 
-pub key_in : (d : Places) (section : ℕ) (key named_key : Key) (o : Option SlotId) → key ≡ named_key
-    → MatchOption o (find (has_key key) (lsas_in d section) ≡ None) (IsFirstPlace d section (has_key key))
+pub key_in : (d : Slots) (section : ℕ) (key named_key : Key) (o : Option SlotId) → key ≡ named_key
+    → MatchOption o (find (has_key key) (lsas_in d section) ≡ None) (IsFirstSlot d section (has_key key))
     → is_some o ≡ list_any (has_key named_key) (lsas_in d section)
 key_in d section key named_key None is m =
     let xs = lsas_in d section in
@@ -115,8 +115,8 @@ key_in d section key named_key (Some slot) is m =
     let xs = lsas_in d section in
     sym (any_some (has_key named_key) xs (subst (λ (k : Key). IsSome (find (has_key k) xs)) is m.found))
 
-pub key_placed : (d : Places) (name : Section) (key : Key) (o : Option SlotId)
-    → MatchOption o (find (has_key key) (lsas_of name (lists_of d)) ≡ None) (IsPlaceOf d name key)
+pub key_placed : (d : Slots) (name : Section) (key : Key) (o : Option SlotId)
+    → MatchOption o (find (has_key key) (lsas_of name (lists_of d)) ≡ None) (IsSlotOf d name key)
     → is_some o ≡ list_any (has_key key) (lsas_of name (lists_of d))
 key_placed d name key None m = sym (any_none (has_key key) (lsas_of name (lists_of d)) m)
 key_placed d name key (Some slot) m = sym (any_some (has_key key) (lsas_of name (lists_of d)) m.found)
@@ -131,11 +131,11 @@ any_false : (router : RouterId) (s : SectionLsas) (rest : Lists) (b : Bool) → 
     → list_any (is_in_section router) (s ∷ rest) ≡ list_any (is_in_section router) rest
 any_false router s rest b is no' = ap (λ c. c || list_any (is_in_section router) rest) (sym is ∙ no')
 
-seen_in : (router : RouterId) (d : Places) (i j : ℕ) (b : Bool) (h : Here (lists_of d) i j) → b ≡ list_any (has_key (router_key router)) (lsas_in d i)
+seen_in : (router : RouterId) (d : Slots) (i j : ℕ) (b : Bool) (h : Here (lists_of d) i j) → b ≡ list_any (has_key (router_key router)) (lsas_in d i)
     → b ≡ is_in_section router h.item
 seen_in router d i j b h is = is ∙ ap (λ (o : Option SectionLsas). list_any (has_key (router_key router)) (lsas_or_none o)) h.at
 
-pub router_here : (router : RouterId) (d : Places) (i : ℕ) (b : Bool) → i < length d → b ≡ list_any (has_key (router_key router)) (lsas_in d i)
+pub router_here : (router : RouterId) (d : Slots) (i : ℕ) (b : Bool) → i < length d → b ≡ list_any (has_key (router_key router)) (lsas_in d i)
     → b ≡ true → list_any (is_in_section router) (drop i (lists_of d)) ≡ list_any (is_in_section router) (lists_of d)
     → list_any (is_in_section router) (lists_of d) ≡ true
 router_here router d i b lt is pass same =
@@ -143,7 +143,7 @@ router_here router d i b lt is pass same =
     sym same ∙ ap (list_any (is_in_section router)) h.rest
     ∙ any_true router h.item (drop (suc i) (lists_of d)) b (seen_in router d i (suc i) b h is) pass
 
-pub router_not_here : (router : RouterId) (d : Places) (i j : ℕ) (b : Bool) → i < length d → j ≡ suc i
+pub router_not_here : (router : RouterId) (d : Slots) (i j : ℕ) (b : Bool) → i < length d → j ≡ suc i
     → b ≡ list_any (has_key (router_key router)) (lsas_in d i) → b ≡ false
     → list_any (is_in_section router) (drop i (lists_of d)) ≡ list_any (is_in_section router) (lists_of d)
     → list_any (is_in_section router) (drop j (lists_of d)) ≡ list_any (is_in_section router) (lists_of d)
@@ -151,7 +151,7 @@ router_not_here router d i j b lt e is fail same =
     let h = here (lists_of d) i j (omega (arith, lists_count d)) e in
     sym (ap (list_any (is_in_section router)) h.rest ∙ any_false router h.item (drop j (lists_of d)) b (seen_in router d i j b h is) fail) ∙ same
 
-pub router_nowhere : (router : RouterId) (d : Places) (i : ℕ) → length d ≤ i
+pub router_nowhere : (router : RouterId) (d : Slots) (i : ℕ) → length d ≤ i
     → list_any (is_in_section router) (drop i (lists_of d)) ≡ list_any (is_in_section router) (lists_of d)
     → list_any (is_in_section router) (lists_of d) ≡ false
 router_nowhere router d i end same = sym same ∙ ap (list_any (is_in_section router)) (drop_all i (lists_of d) (omega (arith, lists_count d)))

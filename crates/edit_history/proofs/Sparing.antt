@@ -28,7 +28,7 @@ use Rattle.edit_history.specs.declared.fault.EditFault.{EditFault}
 use Rattle.edit_history.specs.declared.fault.EditFault.TheVariants.{NoArea, NoRouter, NoLink, SameRouter, NoNetwork, NoSummary, NoExternal, Full}
 use Rattle.edit_history.specs.Rules.{Fate, stays, removed, rewritten, Rule, NewLsa, Change, by_fates, one_lsa, within, adding, outcome}
 use Rattle.edit_history.specs.Rules.{change_of, addition, with_added, section_name, section_after, section_changes, lists_after, changes_by}
-use Rattle.edit_history.specs.Effect.{◌>>=◌, or_refused, made, area_of, router_lsa_in, router_lsa_of, has_router, stub_octets, is_dump_full, remaking}
+use Rattle.edit_history.specs.Effect.{◌>>=◌, or_refused, made, area_of, router_lsa_in, router_lsa_of, has_router, stub_bytes, is_dump_full, remaking}
 use Rattle.edit_history.specs.Effect.{is_originated_for, is_network, are_linked, options_in, is_type2, room_for, added, link_fate, net_fate, router_fate}
 use Rattle.edit_history.specs.Effect.{rule_of, effect, is_graph_kind, touched, touched_by, edit_touches, graph_lsas}
 use Rattle.edit_history.proofs.Keys.{found_passes}
@@ -113,10 +113,10 @@ rule_spares db (FailNet area network) sound =
 rule_spares db (FailRouter router) sound =
     if_either (has_router router db) (Ok (by_fates (λ head. router_fate router))) (Err NoRouter) (ruled _ (router_spares router)) (refused NoRouter)
 rule_spares db (AddStub area router prefix metric) sound =
-    let stubbed : List ℕ → Result Rule EditFault = λ new. if is_dump_full db stub_octets then Err Full else remade area router new in
+    let stubbed : List ℕ → Result Rule EditFault = λ new. if is_dump_full db stub_bytes then Err Full else remade area router new in
     if_bound (router_lsa_of db area router) (λ lsa. made (with_stub prefix metric lsa) >>= stubbed) (λ lsa _.
     if_bound (made (with_stub prefix metric lsa)) stubbed (λ new _.
-    if_either (is_dump_full db stub_octets) (Err Full) (remade area router new) (refused Full) (remade_spares area router new)))
+    if_either (is_dump_full db stub_bytes) (Err Full) (remade area router new) (refused Full) (remade_spares area router new)))
 rule_spares db (Summary area router prefix metric) sound =
     let other : List ℕ → Result Rule EditFault = λ lsa. Ok (one_lsa (Area area) (key_of lsa) (rewritten (with_metric metric lsa))) in
     if_bound (area_of db area) (λ section. or_refused NoSummary (find (is_originated_for 3 router prefix) section.lsas) >>= other) (λ section is.

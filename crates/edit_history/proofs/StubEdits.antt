@@ -14,14 +14,14 @@ use Rattle.lsdb.specs.declared.section.Section.TheVariants.{Area}
 use Rattle.lsdb.specs.declared.slot.SlotId.{SlotId}
 use Rattle.lsdb.specs.Limits.{longest_dump}
 use Rattle.lsdb.specs.Lists.{Lists, IsDatabase, has_key, size}
-use Rattle.lsdb.specs.Places.{Places, lists_of}
-use Rattle.lsdb.proofs.PlaceLemmas.{extended_safe}
+use Rattle.lsdb.specs.Slots.{Slots, lists_of}
+use Rattle.lsdb.proofs.SlotLemmas.{extended_safe}
 use Rattle.edit_script.specs.declared.edit.Edit.TheVariants.{AddStub}
 use Rattle.edit_history.specs.declared.fault.EditFault.{EditFault}
 use Rattle.edit_history.specs.declared.fault.EditFault.TheVariants.{TooLong, Full, OutOfMemory}
 use Rattle.edit_history.specs.Fault.{fault_of}
 use Rattle.edit_history.specs.Rules.{Rule, rewritten, one_lsa}
-use Rattle.edit_history.specs.Effect.{router_lsa_of, is_dump_full, stub_octets, rule_of, made, ◌>>=◌}
+use Rattle.edit_history.specs.Effect.{router_lsa_of, is_dump_full, stub_bytes, rule_of, made, ◌>>=◌}
 use Rattle.edit_history.specs.Exchange.{SwapData}
 use Rattle.edit_history.specs.Applied.{Planned, IsRefused}
 use Rattle.edit_history.specs.steps.Plans.{IsFirstLsa}
@@ -33,7 +33,7 @@ abbrev full_rule : AreaId → RouterId → List ℕ → Bool → Result Rule Edi
 full_rule area router new full = if full then Err Full else Ok (one_lsa (Area area) (router_key router) (rewritten new))
 
 abbrev made_rule : Lists → AreaId → RouterId → Result (List ℕ) EditFault → Result Rule EditFault
-made_rule db area router new = new >>= λ lsa. full_rule area router lsa (is_dump_full db stub_octets)
+made_rule db area router new = new >>= λ lsa. full_rule area router lsa (is_dump_full db stub_bytes)
 
 stub_row : (db : Lists) (area : AreaId) (router : RouterId) (prefix : Net) (metric : ℕ)
     → rule_of db (AddStub area router prefix metric) ≡ (router_lsa_of db area router >>= λ lsa. made_rule db area router
@@ -41,14 +41,14 @@ stub_row : (db : Lists) (area : AreaId) (router : RouterId) (prefix : Net) (metr
 unfolding rule_of
 stub_row db area router prefix metric = refl
 
-pub stub_no_router : (d : Places) (area : AreaId) (router : RouterId) (prefix : Net) (metric : ℕ) (fault : EditFault)
+pub stub_no_router : (d : Slots) (area : AreaId) (router : RouterId) (prefix : Net) (metric : ℕ) (fault : EditFault)
     → router_lsa_of (lists_of d) area router ≡ Err fault → IsRefused d (AddStub area router prefix metric) fault
 stub_no_router d area router prefix metric fault is =
     refused_as d (AddStub area router prefix metric) fault (not_memory (lists_of d) area router fault is)
     (stub_row (lists_of d) area router prefix metric ∙ on_err (router_lsa_of (lists_of d) area router) fault
     (λ lsa. made_rule (lists_of d) area router (made (with_stub prefix metric lsa))) is)
 
-stub_found : (d : Places) (area : AreaId) (router : RouterId) (prefix : Net) (metric : ℕ) (slot : SlotId) (lsa : List ℕ)
+stub_found : (d : Slots) (area : AreaId) (router : RouterId) (prefix : Net) (metric : ℕ) (slot : SlotId) (lsa : List ℕ)
     → IsFirstLsa d (Area area) (has_key (router_key router)) slot lsa
     → rule_of (lists_of d) (AddStub area router prefix metric) ≡ made_rule (lists_of d) area router (made (with_stub prefix metric lsa))
 stub_found d area router prefix metric slot lsa at =
@@ -69,7 +69,7 @@ too_long prefix metric lsa long = ap (stub_by (extended prefix metric lsa)) (lt-
 not_too_long : (prefix : Net) (metric : ℕ) (lsa : List ℕ) → length lsa + 12 ≤ 65535 → with_stub prefix metric lsa ≡ Ok (extended prefix metric lsa)
 not_too_long prefix metric lsa short = ap (stub_by (extended prefix metric lsa)) (le-ltb 65535 (length lsa + 12) short)
 
-pub stub_too_long : (d : Places) (area : AreaId) (router : RouterId) (prefix : Net) (metric : ℕ) (slot : SlotId) (lsa : List ℕ)
+pub stub_too_long : (d : Slots) (area : AreaId) (router : RouterId) (prefix : Net) (metric : ℕ) (slot : SlotId) (lsa : List ℕ)
     → IsFirstLsa d (Area area) (has_key (router_key router)) slot lsa → 65535 < length lsa + 12
     → IsRefused d (AddStub area router prefix metric) TooLong
 stub_too_long d area router prefix metric slot lsa at long =
@@ -77,7 +77,7 @@ stub_too_long d area router prefix metric slot lsa at long =
     (stub_found d area router prefix metric slot lsa at
     ∙ ap (λ (r : Result (List ℕ) MakeFault). made_rule (lists_of d) area router (made r)) (too_long prefix metric lsa long))
 
-stub_made : (d : Places) (area : AreaId) (router : RouterId) (prefix : Net) (metric : ℕ) (slot : SlotId) (lsa : List ℕ) (full : Bool)
+stub_made : (d : Slots) (area : AreaId) (router : RouterId) (prefix : Net) (metric : ℕ) (slot : SlotId) (lsa : List ℕ) (full : Bool)
     → IsFirstLsa d (Area area) (has_key (router_key router)) slot lsa → length lsa + 12 ≤ 65535 → is_dump_full (lists_of d) 12 ≡ full
     → rule_of (lists_of d) (AddStub area router prefix metric) ≡ full_rule area router (extended prefix metric lsa) full
 stub_made d area router prefix metric slot lsa full at short is =
@@ -85,14 +85,14 @@ stub_made d area router prefix metric slot lsa full at short is =
     ∙ ap (λ (r : Result (List ℕ) MakeFault). made_rule (lists_of d) area router (made r)) (not_too_long prefix metric lsa short)
     ∙ ap (full_rule area router (extended prefix metric lsa)) is
 
-pub stub_full : (d : Places) (area : AreaId) (router : RouterId) (prefix : Net) (metric : ℕ) (slot : SlotId) (lsa : List ℕ)
+pub stub_full : (d : Slots) (area : AreaId) (router : RouterId) (prefix : Net) (metric : ℕ) (slot : SlotId) (lsa : List ℕ)
     → IsFirstLsa d (Area area) (has_key (router_key router)) slot lsa → length lsa + 12 ≤ 65535 → is_dump_full (lists_of d) 12 ≡ true
     → IsRefused d (AddStub area router prefix metric) Full
 stub_full d area router prefix metric slot lsa at short is =
     refused_as d (AddStub area router prefix metric) Full (λ e. cc) (stub_made d area router prefix metric slot lsa true at short is)
 
 -- memory ran out
-pub stub_memory : (d : Places) (area : AreaId) (router : RouterId) (prefix : Net) (metric : ℕ) (slot : SlotId) (lsa : List ℕ)
+pub stub_memory : (d : Slots) (area : AreaId) (router : RouterId) (prefix : Net) (metric : ℕ) (slot : SlotId) (lsa : List ℕ)
     → IsFirstLsa d (Area area) (has_key (router_key router)) slot lsa → length lsa + 12 ≤ 65535 → is_dump_full (lists_of d) 12 ≡ false
     → IsRefused d (AddStub area router prefix metric) OutOfMemory
 stub_memory d area router prefix metric slot lsa at short is =
@@ -117,7 +117,7 @@ made_same : (prefix : Net) (metric : ℕ) (lsa new : List ℕ) → length lsa + 
 made_same prefix metric lsa new short is = let e : (let r : Result (List ℕ) MakeFault = Ok (extended prefix metric lsa) in r) ≡ Ok new =
     sym (not_too_long prefix metric lsa short) ∙ is in cc
 
-pub stub_planned : (d : Places) (area : AreaId) (router : RouterId) (prefix : Net) (metric : ℕ) (slot : SlotId) (lsa new : List ℕ) (swap : SwapData)
+pub stub_planned : (d : Slots) (area : AreaId) (router : RouterId) (prefix : Net) (metric : ℕ) (slot : SlotId) (lsa new : List ℕ) (swap : SwapData)
     (items : List SwapData) → IsDatabase (lists_of d) → IsFirstLsa d (Area area) (has_key (router_key router)) slot lsa
     → length lsa + 12 ≤ 65535 → is_dump_full (lists_of d) 12 ≡ false → with_stub prefix metric lsa ≡ Ok new → IsExtensionOf lsa new
     → swap ≡ one_swap slot (Area area) 1 (Some new) → items ≡ swap ∷ [] → Planned d d (AddStub area router prefix metric) items

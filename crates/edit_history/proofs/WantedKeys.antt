@@ -11,7 +11,7 @@ use Rattle.lsa_codec.specs.Fields.{kind_of, link_state_id_of, advertising_router
 use Rattle.lsa_codec.specs.Key.{key_of}
 use Rattle.lsa_codec.specs.Prefix.{Net, mask_of_len}
 use Rattle.lsa_codec.specs.Views.{net_of_lsa}
-use Rattle.lsdb.specs.PrefixPlaces.{prefix_of}
+use Rattle.lsdb.specs.PrefixSlots.{prefix_of}
 use Rattle.lsdb.proofs.KeyLemmas.{between_fields}
 use Rattle.edit_history.specs.Effect.{is_network, is_originated_for, is_prefix}
 use Rattle.edit_history.specs.declared.lookup.Wanted.{Wanted}

@@ -17,7 +17,7 @@ use Rattle.lsdb.specs.declared.section.Section.{Section}
 use Rattle.lsdb.specs.declared.section.Section.TheVariants.{Area, AsWide}
 use Rattle.lsdb.specs.Limits.{longest_dump, most_lsas_of_area, most_lsas_of_as}
 use Rattle.lsdb.specs.Lists.{AreaHead, SectionLsas, Lists, is_section, has_key, lsas_of, size}
-use Rattle.lsdb.specs.PrefixPlaces.{prefix_of}
+use Rattle.lsdb.specs.PrefixSlots.{prefix_of}
 use Rattle.edit_script.specs.declared.edit.Edit.{Edit}
 use Rattle.edit_script.specs.declared.edit.Edit.TheVariants.{Cost, DropLink, FailLink, FailNet, FailRouter, AddStub, Summary, AddSummary, AddExternal, DropExternal, Refresh}
 use Rattle.edit_script.specs.declared.edit.MetricType.{MetricType}
@@ -68,8 +68,8 @@ has_router router db = list_any (is_in_section router) db
 -- ---- limits
 
 -- the bytes of a link without TOS metrics (RFC 2328, A.4.2)
-abbrev pub stub_octets : ℕ
-stub_octets = 12
+abbrev pub stub_bytes : ℕ
+stub_bytes = 12
 
 -- whether the dump would be too long with this number of additional bytes
 abbrev pub is_dump_full : Lists → ℕ → Bool
@@ -82,7 +82,7 @@ most_lsas AsWide = most_lsas_of_as
 
 -- whether a section or the dump would pass its limit with one more LSA of this length in bytes
 abbrev pub is_full : Lists → Section → ℕ → Bool
-is_full db name octets = nat_le (most_lsas name) (length (lsas_of name db)) || is_dump_full db octets
+is_full db name byte_count = nat_le (most_lsas name) (length (lsas_of name db)) || is_dump_full db byte_count
 
 -- ---- LSAs that are rebuilt
 
@@ -152,9 +152,9 @@ has_room = Ok tt
 
 -- whether a section has room for a new LSA with a key and a length in bytes, or the refusal
 abbrev pub room_for : Lists → Section → Key → ℕ → Result (Unit {0}) EditFault
-room_for db name key octets =
+room_for db name key byte_count =
     if list_any (has_key key) (lsas_of name db) then Err KeyTaken else
-    if is_full db name octets then Err Full else has_room
+    if is_full db name byte_count then Err Full else has_room
 
 -- a new LSA at the end of a section
 abbrev pub added : Lists → Section → List ℕ → Result Rule EditFault
@@ -182,7 +182,7 @@ rule_of db (FailRouter router) = if has_router router db then Ok (by_fates (λ h
 rule_of db (AddStub area router prefix metric) = do
   lsa ← router_lsa_of db area router
   new ← made (with_stub prefix metric lsa)
-  if is_dump_full db stub_octets then Err Full else Ok (one_lsa (Area area) (router_key router) (rewritten new))
+  if is_dump_full db stub_bytes then Err Full else Ok (one_lsa (Area area) (router_key router) (rewritten new))
 rule_of db (Summary area router prefix metric) = do
   section ← area_of db area
   lsa ← or_refused NoSummary (find (is_originated_for 3 router prefix) section.lsas)

@@ -1,8 +1,8 @@
 -- A history: the records of the edits that are done and of those that are undone.
 use Rattle.std.specs.Prelude.{ℕ, List, [], ◌∷◌}
 use Rattle.lsdb.specs.Lists.{IsDatabase}
-use Rattle.lsdb.specs.Places.{Places, lists_of}
-use Rattle.edit_history.specs.Exchange.{RecordData, done_places, undone_places}
+use Rattle.lsdb.specs.Slots.{Slots, lists_of}
+use Rattle.edit_history.specs.Exchange.{RecordData, done_slots, undone_slots}
 use Rattle.edit_history.specs.Applied.{CarriesOut, TakesBack}
 
 -- the records of the done edits, the latest first, and of the undone ones, the next first
@@ -17,22 +17,22 @@ pub record HistoryRoom : Type 0 where
 
 -- each done record takes back its edit from the database to which taking back the later records
 -- leads
-abbrev pub LinksBack : Places → List RecordData → Type 0
+abbrev pub LinksBack : Slots → List RecordData → Type 0
 LinksBack d [] = Unit {0}
-LinksBack d (r ∷ rs) = TakesBack d r.edit r.swaps × LinksBack (undone_places d r.swaps) rs
+LinksBack d (r ∷ rs) = TakesBack d r.edit r.swaps × LinksBack (undone_slots d r.swaps) rs
 
 -- each undone record carries its edit out on the database to which the earlier ones lead
-abbrev pub LinksOn : Places → List RecordData → Type 0
+abbrev pub LinksOn : Slots → List RecordData → Type 0
 LinksOn d [] = Unit {0}
-LinksOn d (r ∷ rs) = CarriesOut d r.edit r.swaps × LinksOn (done_places d r.swaps) rs
+LinksOn d (r ∷ rs) = CarriesOut d r.edit r.swaps × LinksOn (done_slots d r.swaps) rs
 
 -- the history led to this database, and leads on from it
-pub record Links (d : Places) (h : HistoryData) : Type 0 where
+pub record Links (d : Slots) (h : HistoryData) : Type 0 where
   pub sound : IsDatabase (lists_of d)
   pub back : LinksBack d h.past
   pub on : LinksOn d h.future
 
--- the places with all done records taken back
-abbrev pub origin : Places → List RecordData → Places
+-- the slots with all done records taken back
+abbrev pub origin : Slots → List RecordData → Slots
 origin d [] = d
-origin d (r ∷ rs) = origin (undone_places d r.swaps) rs
+origin d (r ∷ rs) = origin (undone_slots d r.swaps) rs

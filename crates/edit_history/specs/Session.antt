@@ -2,7 +2,7 @@
 use Rattle.std.specs.Prelude.{◌≡◌, ℕ, ◌-◌, nat_lt, Bool, false, ◌||◌, List, [], ◌∷◌, ◌++◌, length, map, reverse, take, drop, Result, Ok, Err, IsOk, if◌then◌else◌}
 use Rattle.lsa_codec.specs.declared.address.AreaId.{AreaId}
 use Rattle.lsdb.specs.Lists.{Lists}
-use Rattle.lsdb.specs.Places.{Places, lists_of}
+use Rattle.lsdb.specs.Slots.{Slots, lists_of}
 use Rattle.edit_script.specs.declared.edit.Edit.{Edit}
 use Rattle.edit_history.specs.declared.fault.EditFault.{EditFault}
 use Rattle.edit_history.specs.declared.fault.EditFault.TheVariants.{HistoryFull}
@@ -114,7 +114,7 @@ redo_touches k area s = edits_touch area (state s) (take k s.undone)
 abbrev pub edits_of : List RecordData → List Edit
 edits_of rs = map (λ r. r.edit) rs
 
-abbrev pub session_of : Places → HistoryData → Session
+abbrev pub session_of : Slots → HistoryData → Session
 session_of d h = record { base = lists_of (origin d h.past); done = reverse (edits_of h.past); undone = edits_of h.future }
 
 -- one edit moves back; one moves on

@@ -28,8 +28,8 @@ use std::alloc::Allocator;
 /// A refresh fails only where memory ran out.
 ///
 /// [`OutOfMemory`](EditFault::OutOfMemory) comes only for an edit that would be carried out, where
-/// memory ran out. All memory is taken, and a place for a new LSA is opened, before the first LSA
-/// is exchanged; after a refusal the database is as it was, place for place.
+/// memory ran out. All memory is taken, and a slot for a new LSA is opened, before the first LSA
+/// is exchanged; after a refusal the database is as it was, slot by slot.
 pub fn apply<A: Allocator + Copy>(
     database: &mut Database<A>,
     edit: &Edit,
@@ -40,6 +40,6 @@ pub fn apply<A: Allocator + Copy>(
 {
     let swaps = plan(database, edit)?;
     // Its invariant holds after each swap, and so once they are done.
-    database.known();
+    database.assert_valid();
     Ok(Record::commit(database, *edit, swaps))
 }

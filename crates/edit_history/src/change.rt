@@ -4,7 +4,7 @@ ghost use Rattle.std.specs.Prelude.{◌≤◌, IfSome, length};
 ghost use Rattle.edit_history.specs.Changes.{IsOnlyChange, IsLastChange, IsNextChange};
 ghost use Rattle.edit_history.specs.Journal.{Links};
 ghost use Rattle.edit_history.specs.steps.Holding.{HoldsOne};
-ghost use Rattle.lsdb.specs.Places.{Places};
+ghost use Rattle.lsdb.specs.Slots.{Slots};
 
 use crate::history::History;
 use crate::record::Record;
@@ -12,17 +12,17 @@ use lsa_codec::Lsa;
 use lsdb::SlotId;
 use std::alloc::{Allocator, Global};
 
-/// An LSA that an edit, or taking one back, rewrote or removed: its place, and the LSA as it was
+/// An LSA that an edit, or taking one back, rewrote or removed: its slot, and the LSA as it was
 /// before.
 #[derive(Drop)]
 pub struct Change<'a, A: Allocator = Global> {
-    /// The place.
+    /// The slot.
     pub slot: SlotId,
     /// The LSA that was there.
     pub before: &'a Lsa<A>,
 }
 
-/// The place and the LSA that a record holds, where it is of one place and the database lacks an
+/// The slot and the LSA that a record holds, where it is of one slot and the database lacks an
 /// LSA there.
 fn held_change<A: Allocator + Copy>(kept: &Record<A>) -> Option<Change<'_, A>>
     ensures { IfSome result (λ change. HoldsOne kept.now change.slot change.before.now) }
@@ -39,7 +39,7 @@ impl<A: Allocator + Copy> History<A> {
     /// The change of the one done edit, where exactly one edit is done and it rewrote or removed
     /// one LSA; otherwise `None`. It takes no memory.
     pub fn only_change(&self) -> Option<Change<'_, A>>
-        ensures { IfSome result (λ change. (d : Places) → Links d self.now.lists
+        ensures { IfSome result (λ change. (d : Slots) → Links d self.now.lists
             → IsOnlyChange d self.now.lists change.slot change.before.now) }
     {
         let [record] = self.done_records() else {
@@ -52,7 +52,7 @@ impl<A: Allocator + Copy> History<A> {
     /// otherwise `None`. It takes no memory.
     pub fn last_change(&self) -> Option<Change<'_, A>>
         ensures some { IfSome result (λ change. 1 ≤ length self.now.lists.past) }
-        ensures change { IfSome result (λ change. (d : Places) → Links d self.now.lists
+        ensures change { IfSome result (λ change. (d : Slots) → Links d self.now.lists
             → IsLastChange d self.now.lists change.slot change.before.now) }
     {
         let record = self.done_records().last()?;
@@ -63,7 +63,7 @@ impl<A: Allocator + Copy> History<A> {
     /// LSA and does nothing else; otherwise `None`. It takes no memory.
     pub fn next_change(&self) -> Option<Change<'_, A>>
         ensures some { IfSome result (λ change. 1 ≤ length self.now.lists.future) }
-        ensures change { IfSome result (λ change. (d : Places) → Links d self.now.lists
+        ensures change { IfSome result (λ change. (d : Slots) → Links d self.now.lists
             → IsNextChange d self.now.lists change.slot change.before.now) }
     {
         let record = self.undone_records().first()?;

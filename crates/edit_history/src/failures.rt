@@ -7,12 +7,12 @@ ghost use Rattle.lsa_codec.specs.Links.{links_of};
 ghost use Rattle.lsa_codec.specs.LsTypes.{router_lsa};
 ghost use Rattle.lsa_codec.specs.Making.{leads_to};
 ghost use Rattle.lsdb.specs.declared.section.Section.TheVariants.{Area};
-ghost use Rattle.lsdb.specs.Places.{item_at, slot_at, places_in, head_or_none};
+ghost use Rattle.lsdb.specs.Slots.{item_at, slot_at, slots_in, head_or_none};
 ghost use Rattle.edit_script.specs.declared.edit.Edit.TheVariants.{FailLink, FailNet, FailRouter};
 ghost use Rattle.edit_history.specs.declared.fault.EditFault.TheVariants.{OutOfMemory};
 ghost use Rattle.edit_history.specs.Rules.{section_name};
 ghost use Rattle.edit_history.specs.Effect.{are_linked, link_fate, net_fate, router_fate};
-ghost use Rattle.edit_history.specs.steps.Plans.{swap_for, place_swap, section_swaps};
+ghost use Rattle.edit_history.specs.steps.Plans.{swap_for, slot_swap, section_swaps};
 ghost use Rattle.edit_history.specs.steps.Failing.{fate_by, in_order, pair_swaps, shortened};
 ghost use Rattle.edit_history.specs.Applied.{Planned, IsRefused};
 
@@ -52,7 +52,7 @@ fn shortened<A: Allocator + Copy>(
     }
 }
 
-/// The swap for an LSA at a place where the point-to-point links between two routers are removed.
+/// The swap for an LSA at a slot where the point-to-point links between two routers are removed.
 fn swap_for_links<A: Allocator + Copy>(
     alloc: A,
     slot: SlotId,
@@ -75,7 +75,7 @@ fn swap_for_links<A: Allocator + Copy>(
     Ok(None)
 }
 
-/// The swap for an LSA at a place where a network is removed.
+/// The swap for an LSA at a slot where a network is removed.
 fn swap_for_network<A: Allocator + Copy>(
     alloc: A,
     slot: SlotId,
@@ -97,7 +97,7 @@ fn swap_for_network<A: Allocator + Copy>(
     Ok(None)
 }
 
-/// The swap for an LSA at a place where a router is removed.
+/// The swap for an LSA at a slot where a router is removed.
 fn swap_for_router<A: Allocator + Copy>(
     slot: SlotId,
     section: Section,
@@ -114,7 +114,7 @@ fn swap_for_router<A: Allocator + Copy>(
 }
 
 impl Failure {
-    /// The swap of this failure for an LSA at a place; none where the LSA stays. The only error is
+    /// The swap of this failure for an LSA at a slot; none where the LSA stays. The only error is
     /// that memory ran out.
     fn swap<A: Allocator + Copy>(
         self,
@@ -137,7 +137,7 @@ impl Failure {
     }
 }
 
-/// Adds the swap of a place, if it has one. The only error is that memory ran out.
+/// Adds the swap of a slot, if it has one. The only error is that memory ran out.
 fn add_swap<A: Allocator + Copy>(
     database: &Database<A>,
     slot: SlotId,
@@ -147,7 +147,7 @@ fn add_swap<A: Allocator + Copy>(
 ) -> Result<(), EditFault>
     ensures swaps { OnOk result
         (swaps.new.items ≡ swaps.old.items
-        ++ option_to_list (place_swap (fate_by failure) slot section (slot_at database.now slot))) }
+        ++ option_to_list (slot_swap (fate_by failure) slot section (slot_at database.now slot))) }
     ensures memory { IfErr result (λ fault. fault ≡ OutOfMemory) }
 {
     let Some(lsa) = database.get(slot) else {
@@ -162,7 +162,7 @@ fn add_swap<A: Allocator + Copy>(
     Ok(())
 }
 
-/// Adds the swaps of the places of a section where a network is removed, by the section's number
+/// Adds the swaps of the slots of a section where a network is removed, by the section's number
 /// and its name. It looks only at LSAs that may be of the network. The only error is that memory
 /// ran out.
 fn add_swaps_of_network<A: Allocator + Copy>(
@@ -175,7 +175,7 @@ fn add_swaps_of_network<A: Allocator + Copy>(
     requires { IsSome (item_at database.now number) }
     ensures swaps { OnOk result
         (swaps.new.items ≡ swaps.old.items
-        ++ section_swaps (net_fate network) number section 0 (places_in database.now number)) }
+        ++ section_swaps (net_fate network) number section 0 (slots_in database.now number)) }
     ensures memory { IfErr result (λ fault. fault ≡ OutOfMemory) }
 {
     let filters = database.transit_filters(number);
@@ -193,7 +193,7 @@ fn add_swaps_of_network<A: Allocator + Copy>(
     Ok(())
 }
 
-/// The swaps of the places of an area where a network is removed, by the area's number and its ID.
+/// The swaps of the slots of an area where a network is removed, by the area's number and its ID.
 /// The only error is that memory ran out.
 fn swaps_of_network<A: Allocator + Copy>(
     database: &Database<A>,
@@ -204,7 +204,7 @@ fn swaps_of_network<A: Allocator + Copy>(
     requires { IsSome (item_at database.now number) }
     ensures swaps { IfOk result
         (λ v. v.items
-        ≡ section_swaps (net_fate network) number (Area area) 0 (places_in database.now number)) }
+        ≡ section_swaps (net_fate network) number (Area area) 0 (slots_in database.now number)) }
     ensures memory { IfErr result (λ fault. fault ≡ OutOfMemory) }
 {
     let mut swaps = Vec::new(database.alloc());
@@ -212,7 +212,7 @@ fn swaps_of_network<A: Allocator + Copy>(
     Ok(swaps)
 }
 
-/// Two places, in the order of their section.
+/// Two slots, in the order of their section.
 fn in_order(one: SlotId, other: SlotId) -> (SlotId, SlotId)
     ensures { result ≡ in_order one other }
 {
@@ -223,20 +223,20 @@ fn in_order(one: SlotId, other: SlotId) -> (SlotId, SlotId)
     }
 }
 
-/// The swaps of two places, in their order. The only error is that memory ran out.
+/// The swaps of two slots, in their order. The only error is that memory ran out.
 fn swaps_of_pair<A: Allocator + Copy>(
     database: &Database<A>,
-    places: (SlotId, SlotId),
+    slots: (SlotId, SlotId),
     section: Section,
     failure: Failure,
 ) -> Result<Vec<Swap<A>, A>, EditFault>
     ensures swaps { IfOk result
-        (λ v. v.items ≡ pair_swaps (fate_by failure) section database.now places) }
+        (λ v. v.items ≡ pair_swaps (fate_by failure) section database.now slots) }
     ensures memory { IfErr result (λ fault. fault ≡ OutOfMemory) }
 {
     let mut swaps = Vec::new(database.alloc());
-    add_swap(database, places.0, section, failure, &mut swaps)?;
-    add_swap(database, places.1, section, failure, &mut swaps)?;
+    add_swap(database, slots.0, section, failure, &mut swaps)?;
+    add_swap(database, slots.1, section, failure, &mut swaps)?;
     Ok(swaps)
 }
 
@@ -285,7 +285,7 @@ pub(crate) fn plan_fail_link<A: Allocator + Copy>(
     ensures refused { IfErr result (λ f. IsRefused database.now (FailLink area router neighbor) f) }
 {
     // Its invariant is needed after each swap too.
-    database.known();
+    database.assert_valid();
     area_section(database, area)?;
     if router == neighbor {
         return Err(EditFault::SameRouter);
@@ -296,10 +296,10 @@ pub(crate) fn plan_fail_link<A: Allocator + Copy>(
         return Err(EditFault::NoLink);
     }
     // No other LSA changes, so none is looked at.
-    let places = in_order(slot, other_slot);
+    let slots = in_order(slot, other_slot);
     swaps_of_pair(
         database,
-        places,
+        slots,
         Section::Area(area),
         Failure::Links(router, neighbor),
     )
@@ -316,7 +316,7 @@ pub(crate) fn plan_fail_net<A: Allocator + Copy>(
     ensures refused { IfErr result (λ f. IsRefused database.now (FailNet area network) f) }
 {
     // Its invariant is needed after each swap too.
-    database.known();
+    database.assert_valid();
     let number = area_section(database, area)?;
     let Some(_) = first(database, Section::Area(area), &Wanted::Network(network)) else {
         return Err(EditFault::NoNetwork);
@@ -335,8 +335,8 @@ fn section_name<A: Allocator + Copy>(database: &Database<A>, number: usize) -> S
     }
 }
 
-/// Adds the swaps of the places of a section where a router is removed, by the section's number. It
-/// looks only at the places that are noted of the router. The only error is that memory ran out.
+/// Adds the swaps of the slots of a section where a router is removed, by the section's number. It
+/// looks only at the slots that are noted of the router. The only error is that memory ran out.
 fn add_swaps_of_router<A: Allocator + Copy>(
     database: &Database<A>,
     number: usize,
@@ -348,14 +348,14 @@ fn add_swaps_of_router<A: Allocator + Copy>(
         (swaps.new.items ≡ swaps.old.items
         ++ section_swaps (router_fate router) number
         (section_name (head_or_none (item_at database.now number))) 0
-        (places_in database.now number)) }
+        (slots_in database.now number)) }
     ensures memory { IfErr result (λ fault. fault ≡ OutOfMemory) }
 {
     let section = section_name(database, number);
-    for place in database.places_of_router(number, router) {
+    for entry in database.slots_of_router(number, router) {
         let slot = SlotId {
             section: number,
-            index: place.index as usize,
+            index: entry.index as usize,
         };
         add_swap(database, slot, section, Failure::Router(router), swaps)?;
     }
@@ -372,7 +372,7 @@ pub(crate) fn plan_fail_router<A: Allocator + Copy>(
     ensures refused { IfErr result (λ f. IsRefused database.now (FailRouter router) f) }
 {
     // Its invariant is needed after each swap too.
-    database.known();
+    database.assert_valid();
     if !has_router(database, router) {
         return Err(EditFault::NoRouter);
     }

@@ -54,7 +54,7 @@ impl<A: Allocator + Copy> History<A> {
     ghost use Rattle.edit_history.specs.Journal.{Links};
     ghost use Rattle.edit_history.specs.Session.{edits_of, session_of, moved_back, moved_on, undo_touches, redo_touches, StepsBack, StepsOn};
     ghost use Rattle.std.specs.List.{list_any};
-    ghost use Rattle.lsdb.specs.Places.{Places};
+    ghost use Rattle.lsdb.specs.Slots.{Slots};
     ghost use Rattle.edit_history.specs.Exchange.{changes_as_scope};
 
     /// No edits. It takes no memory.
@@ -86,7 +86,7 @@ impl<A: Allocator + Copy> History<A> {
     /// takes them. It takes no memory.
     pub fn records(&self) -> &[Record<A>]
         ensures records { result.now ≡ reverse self.now.lists.past ++ self.now.lists.future }
-        ensures edits { (d : Places) → edits_of result.now
+        ensures edits { (d : Slots) → edits_of result.now
             ≡ (session_of d self.now.lists).done ++ (session_of d self.now.lists).undone }
     {
         &self.records
@@ -165,7 +165,7 @@ impl<A: Allocator + Copy> History<A> {
     /// Takes the last `count` done edits back. It takes no memory.
     ///
     /// A `count` of 0 is accepted. The database is the one that the history left, except for empty
-    /// places that were opened since.
+    /// slots that were opened since.
     ///
     /// # Errors
     ///
@@ -190,7 +190,7 @@ impl<A: Allocator + Copy> History<A> {
     /// Carries the first `count` undone edits out again. It takes no memory.
     ///
     /// A `count` of 0 is accepted. The database is the one that the history left, except for empty
-    /// places that were opened since.
+    /// slots that were opened since.
     ///
     /// # Errors
     ///
@@ -218,7 +218,7 @@ impl<A: Allocator + Copy> History<A> {
     /// takes no memory.
     pub fn undo_touches(&self, count: usize, area: AreaId) -> bool
         requires { count ≤ length self.now.lists.past }
-        ensures { (d : Places) → Links d self.now.lists
+        ensures { (d : Slots) → Links d self.now.lists
             → result ≡ undo_touches count area (session_of d self.now.lists) }
     {
         any_touches(&self.records[self.cursor - count..self.cursor], area)
@@ -249,7 +249,7 @@ impl<A: Allocator + Copy> History<A> {
     /// area's router-LSAs and network-LSAs as they are. It takes no memory.
     pub fn redo_touches(&self, count: usize, area: AreaId) -> bool
         requires { count ≤ length self.now.lists.future }
-        ensures { (d : Places) → Links d self.now.lists
+        ensures { (d : Slots) → Links d self.now.lists
             → result ≡ redo_touches count area (session_of d self.now.lists) }
     {
         any_touches(&self.records[self.cursor..self.cursor + count], area)

@@ -26,7 +26,7 @@ pub use change::Change;
 pub use fault::{EditFault, RedoFault, UndoFault};
 pub use history::History;
 pub use laws::{
-    changes_told, folded, histories_are_linked, histories_show_sessions, inverses, moves,
+    changes_reported, folded, histories_are_linked, histories_show_sessions, inverses, moves,
     no_edit_is_refused, refresh_settles, untouched_areas_stay,
 };
 pub use record::{Record, replay, revert};

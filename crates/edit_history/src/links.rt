@@ -13,7 +13,7 @@ use lsdb::{Database, Section};
 use std::alloc::Allocator;
 
 /// The bytes of a link without TOS metrics (RFC 2328, A.4.2).
-const STUB_OCTETS: u16 = 12;
+const STUB_BYTES: u16 = 12;
 
 /// The metric of a link becomes another one: the cost of an interface (RFC 2328, C.3), in the
 /// router-LSA that its router originates for the area (12.4.1).
@@ -29,7 +29,7 @@ pub(crate) fn plan_cost<A: Allocator + Copy>(
     ensures refused { IfErr result (λ f. IsRefused database.now (Cost area router link metric) f) }
 {
     // Its invariant is needed after each swap too.
-    database.known();
+    database.assert_valid();
     let (slot, lsa) = router_lsa(database, area, router)?;
     let new = lsa.with_cost(database.alloc(), link, metric)?;
     let swap = Swap::new(slot, Section::Area(area), ROUTER_LSA, Some(new));
@@ -48,7 +48,7 @@ pub(crate) fn plan_drop_link<A: Allocator + Copy>(
     ensures refused { IfErr result (λ f. IsRefused database.now (DropLink area router link) f) }
 {
     // Its invariant is needed after each swap too.
-    database.known();
+    database.assert_valid();
     let (slot, lsa) = router_lsa(database, area, router)?;
     let new = lsa.without_link(database.alloc(), link)?;
     let swap = Swap::new(slot, Section::Area(area), ROUTER_LSA, Some(new));
@@ -69,12 +69,12 @@ pub(crate) fn plan_add_stub<A: Allocator + Copy>(
         (λ f. IsRefused database.now (AddStub area router prefix metric) f) }
 {
     // Its invariant is needed after each swap too.
-    database.known();
+    database.assert_valid();
     let (slot, lsa) = router_lsa(database, area, router)?;
-    if lsa.bytes().len() + usize::from(STUB_OCTETS) > LONGEST_LSA {
+    if lsa.bytes().len() + usize::from(STUB_BYTES) > LONGEST_LSA {
         return Err(EditFault::TooLong);
     }
-    if is_dump_full(database, STUB_OCTETS) {
+    if is_dump_full(database, STUB_BYTES) {
         return Err(EditFault::Full);
     }
     let new = lsa.with_stub(database.alloc(), prefix, metric)?;

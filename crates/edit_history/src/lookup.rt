@@ -5,8 +5,8 @@ ghost use Rattle.std.specs.List.{find, list_any};
 ghost use Rattle.lsa_codec.specs.Key.{router_key};
 ghost use Rattle.lsdb.specs.declared.section.Section.TheVariants.{Area};
 ghost use Rattle.lsdb.specs.Lists.{is_section, has_key, lsas_of};
-ghost use Rattle.lsdb.specs.Places.{item_at, slot_at, lists_of, lsas_in, IsFirstPlace, IsNamed};
-ghost use Rattle.lsdb.specs.PrefixPlaces.{prefix_of};
+ghost use Rattle.lsdb.specs.Slots.{item_at, slot_at, lists_of, lsas_in, IsFirstSlot, IsNamed};
+ghost use Rattle.lsdb.specs.PrefixSlots.{prefix_of};
 ghost use Rattle.edit_history.specs.declared.fault.EditFault.TheVariants.{NoArea, NoRouter};
 ghost use Rattle.edit_history.specs.Effect.{router_lsa_of, has_router, is_network, is_prefix, is_originated_for};
 ghost use Rattle.edit_history.specs.steps.Plans.{IsFirstLsa, is_wanted, passes};
@@ -166,7 +166,7 @@ pub(crate) fn area_section<A: Allocator + Copy>(
 }
 
 /// The router-LSA that a router originated for an area that is there (RFC 2328, 12.4.1), and its
-/// place.
+/// slot.
 pub(crate) fn router_lsa_in<A: Allocator + Copy>(
     database: &Database<A>,
     area: AreaId,
@@ -189,7 +189,7 @@ pub(crate) fn router_lsa_in<A: Allocator + Copy>(
     Ok((slot, lsa))
 }
 
-/// The router-LSA that a router originated for an area (RFC 2328, 12.4.1), and its place.
+/// The router-LSA that a router originated for an area (RFC 2328, 12.4.1), and its slot.
 pub(crate) fn router_lsa<A: Allocator + Copy>(
     database: &Database<A>,
     area: AreaId,
@@ -229,7 +229,7 @@ pub(crate) fn has_router<A: Allocator + Copy>(database: &Database<A>, router: Ro
     false
 }
 
-/// Whether a wanted LSA is at a place.
+/// Whether a wanted LSA is at a slot.
 fn is_wanted_at<A: Allocator + Copy>(database: &Database<A>, slot: SlotId, wanted: &Wanted) -> bool
     ensures { result ≡ passes (is_wanted wanted.now) (slot_at database.now slot) }
 {
@@ -239,8 +239,8 @@ fn is_wanted_at<A: Allocator + Copy>(database: &Database<A>, slot: SlotId, wante
     wanted.is_met_by(lsa)
 }
 
-/// Whether a wanted LSA is at the place that is noted of a key. Where the key shows that it is
-/// another, the place is not looked at.
+/// Whether a wanted LSA is at the slot that is noted of a key. Where the key shows that it is
+/// another, the slot is not looked at.
 fn is_wanted_by_key<A: Allocator + Copy>(
     database: &Database<A>,
     section: usize,
@@ -266,8 +266,8 @@ fn lesser(first: Option<usize>, second: usize) -> usize
     }
 }
 
-/// The place of the first wanted LSA of a section, by the section's number. It looks only at the
-/// places of LSAs with a key that may be a wanted LSA's.
+/// The slot of the first wanted LSA of a section, by the section's number. It looks only at the
+/// slots of LSAs with a key that may be a wanted LSA's.
 fn first_by_keys<A: Allocator + Copy>(
     database: &Database<A>,
     section: usize,
@@ -275,7 +275,7 @@ fn first_by_keys<A: Allocator + Copy>(
 ) -> Option<SlotId>
     requires { IsSome (item_at database.now section) }
     ensures { MatchOption result (find (is_wanted wanted.now) (lsas_in database.now section) ≡ None)
-        (IsFirstPlace database.now section (is_wanted wanted.now)) }
+        (IsFirstSlot database.now section (is_wanted wanted.now)) }
 {
     let (least, greatest) = wanted.key_range();
     let mut first = None;
@@ -290,8 +290,8 @@ fn first_by_keys<A: Allocator + Copy>(
     Some(SlotId { section, index })
 }
 
-/// The place of the first wanted LSA of a section, by the section's number, where its router and
-/// its prefix are known. It looks only at the places that are noted of both, up to that LSA.
+/// The slot of the first wanted LSA of a section, by the section's number, where its router and
+/// its prefix are known. It looks only at the slots that are noted of both, up to that LSA.
 fn first_of_prefix<A: Allocator + Copy>(
     database: &Database<A>,
     section: usize,
@@ -302,12 +302,12 @@ fn first_of_prefix<A: Allocator + Copy>(
     requires exists { IsSome (item_at database.now section) }
     requires own { AreOriginatedFor router prefix (is_wanted wanted.now) }
     ensures { MatchOption result (find (is_wanted wanted.now) (lsas_in database.now section) ≡ None)
-        (IsFirstPlace database.now section (is_wanted wanted.now)) }
+        (IsFirstSlot database.now section (is_wanted wanted.now)) }
 {
-    for place in database.places_of_prefix(section, router, prefix) {
+    for entry in database.slots_of_prefix(section, router, prefix) {
         let slot = SlotId {
             section,
-            index: place.index as usize,
+            index: entry.index as usize,
         };
         if is_wanted_at(database, slot, wanted) {
             return Some(slot);
@@ -316,7 +316,7 @@ fn first_of_prefix<A: Allocator + Copy>(
     None
 }
 
-/// Whether the number of places noted of a router and a prefix is at most the number of keys that a
+/// Whether the number of slots noted of a router and a prefix is at most the number of keys that a
 /// wanted LSA may have.
 fn are_fewer_of_prefix<A: Allocator + Copy>(
     database: &Database<A>,
@@ -329,11 +329,14 @@ fn are_fewer_of_prefix<A: Allocator + Copy>(
 {
     let (least, greatest) = wanted.key_range();
     let keys = database.keys_between(section, least, greatest);
-    database.places_of_prefix(section, router, prefix).most() <= keys.most()
+    database
+        .slots_of_prefix(section, router, prefix)
+        .upper_bound()
+        <= keys.upper_bound()
 }
 
-/// The place of the first wanted LSA of a section, by the section's number. It looks at the smaller
-/// of two sets: the places of its router and prefix, or the LSAs with a key that may be its.
+/// The slot of the first wanted LSA of a section, by the section's number. It looks at the smaller
+/// of two sets: the slots of its router and prefix, or the LSAs with a key that may be its.
 fn first_in<A: Allocator + Copy>(
     database: &Database<A>,
     section: usize,
@@ -341,7 +344,7 @@ fn first_in<A: Allocator + Copy>(
 ) -> Option<SlotId>
     requires { IsSome (item_at database.now section) }
     ensures { MatchOption result (find (is_wanted wanted.now) (lsas_in database.now section) ≡ None)
-        (IsFirstPlace database.now section (is_wanted wanted.now)) }
+        (IsFirstSlot database.now section (is_wanted wanted.now)) }
 {
     let Some((router, prefix)) = wanted.origin() else {
         return first_by_keys(database, section, wanted);
@@ -352,7 +355,7 @@ fn first_in<A: Allocator + Copy>(
     first_by_keys(database, section, wanted)
 }
 
-/// The first wanted LSA of a section, and its place.
+/// The first wanted LSA of a section, and its slot.
 pub(crate) fn first<'a, A: Allocator + Copy>(
     database: &'a Database<A>,
     section: Section,

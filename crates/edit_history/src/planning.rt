@@ -1,5 +1,5 @@
 //! The swaps of an edit, planned before any is done. A plan takes all the memory that the edit
-//! needs and opens the places that it fills, so that a refusal leaves everything as it was.
+//! needs and opens the slots that it fills, so that a refusal leaves everything as it was.
 
 ghost use Rattle.std.specs.Prelude.{◌≡◌, IfOk, IfErr, OnErr};
 ghost use Rattle.edit_history.specs.Applied.{Planned, IsRefused};

@@ -2,7 +2,7 @@
 
 ghost use Rattle.std.specs.Prelude.{◌≡◌, ◌<◌, ◌^◌, IsSome, IfOk, IfErr, OnErr};
 ghost use Rattle.lsa_codec.specs.Prefix.{IsNet};
-ghost use Rattle.lsdb.specs.Places.{item_at, head_or_none};
+ghost use Rattle.lsdb.specs.Slots.{item_at, head_or_none};
 ghost use Rattle.edit_script.specs.declared.edit.Edit.TheVariants.{Summary, AddSummary, AddExternal, DropExternal};
 ghost use Rattle.edit_history.specs.declared.fault.EditFault.TheVariants.{OutOfMemory};
 ghost use Rattle.edit_history.specs.Effect.{options_in, is_type2};
@@ -19,10 +19,10 @@ use lsdb::{Database, Section};
 use std::alloc::Allocator;
 
 /// The length of a new summary-LSA, in bytes (RFC 2328, A.4.4).
-const SUMMARY_OCTETS: u16 = 28;
+const SUMMARY_BYTES: u16 = 28;
 
 /// The length of a new AS-external-LSA, in bytes (RFC 2328, A.4.5).
-const EXTERNAL_OCTETS: u16 = 36;
+const EXTERNAL_BYTES: u16 = 36;
 
 /// A router's first summary-LSA for a prefix gets another metric.
 pub(crate) fn plan_summary<A: Allocator + Copy>(
@@ -38,7 +38,7 @@ pub(crate) fn plan_summary<A: Allocator + Copy>(
         (λ f. IsRefused database.now (Summary area router prefix metric) f) }
 {
     // Its invariant is needed after each swap too.
-    database.known();
+    database.assert_valid();
     area_section(database, area)?;
     let section = Section::Area(area);
     let Some((slot, lsa)) = first(database, section, &Wanted::Summary(router, prefix)) else {
@@ -60,7 +60,7 @@ pub(crate) fn plan_drop_external<A: Allocator + Copy>(
     ensures refused { IfErr result (λ f. IsRefused database.now (DropExternal router prefix) f) }
 {
     // Its invariant is needed after each swap too.
-    database.known();
+    database.assert_valid();
     let wanted = Wanted::External(router, prefix);
     let Some((slot, _)) = first(database, Section::AsWide, &wanted) else {
         return Err(EditFault::NoExternal);
@@ -83,7 +83,7 @@ fn new_key(kind: u8, router: RouterId, prefix: Prefix) -> Key
     }
 }
 
-/// The swap that puts a new LSA at the end of a section, where a place is opened for it. The only
+/// The swap that puts a new LSA at the end of a section, where a slot is opened for it. The only
 /// error is that memory ran out.
 fn plan_new<A: Allocator + Copy>(
     database: &mut Database<A>,
@@ -131,12 +131,12 @@ pub(crate) fn plan_add_summary<A: Allocator + Copy>(
     ensures kept { OnErr result (database.new ≡ database.old) }
 {
     // Its invariant is needed after each swap too.
-    database.known();
+    database.assert_valid();
     let number = area_section(database, area)?;
     router_lsa_in(database, area, router)?;
     let section = Section::Area(area);
     let key = new_key(SUMMARY_LSA, router, prefix);
-    check_room(database, section, key, SUMMARY_OCTETS)?;
+    check_room(database, section, key, SUMMARY_BYTES)?;
     let options = options_in(database, number);
     let lsa = Lsa::new_summary(database.alloc(), options, router, prefix, metric.value())?;
     plan_new(database, section, lsa)
@@ -167,12 +167,12 @@ pub(crate) fn plan_add_external<A: Allocator + Copy>(
     ensures kept { OnErr result (database.new ≡ database.old) }
 {
     // Its invariant is needed after each swap too.
-    database.known();
+    database.assert_valid();
     if !has_router(database, router) {
         return Err(EditFault::NoRouter);
     }
     let key = new_key(EXTERNAL_LSA, router, prefix);
-    check_room(database, Section::AsWide, key, EXTERNAL_OCTETS)?;
+    check_room(database, Section::AsWide, key, EXTERNAL_BYTES)?;
     let lsa = Lsa::new_external(
         database.alloc(),
         router,

@@ -1,7 +1,7 @@
 //! The record of an edit that was carried out.
 
 ghost use Rattle.std.specs.Prelude.{◌≡◌, ◌∷◌, [], IfSome, length};
-ghost use Rattle.edit_history.specs.Exchange.{CanDo, CanUndo, changes_as_scope, done_places, done_swaps, undone_places, redone, undone, touches};
+ghost use Rattle.edit_history.specs.Exchange.{CanDo, CanUndo, changes_as_scope, done_slots, done_swaps, undone_slots, redone, undone, touches};
 
 use crate::swap::{Swap, do_swaps, undo_swaps};
 use edit_script::Edit;
@@ -34,7 +34,7 @@ impl<A: Allocator + Copy> Record<A> {
         swaps: Vec<Swap<A>, A>,
     ) -> Record<A>
         requires { CanDo database.old swaps.items }
-        ensures database { database.new ≡ done_places database.old swaps.items }
+        ensures database { database.new ≡ done_slots database.old swaps.items }
         ensures result { result
             ≡ record { edit = edit; swaps = done_swaps database.old swaps.items } }
     {
@@ -86,11 +86,11 @@ impl<A: Allocator + Copy> Record<A> {
 /// Takes an edit back: the database is again the one before it, byte for byte. It takes no
 /// memory.
 ///
-/// The database is the one after the edit. Empty places at the ends of sections that were opened
+/// The database is the one after the edit. Empty slots at the ends of sections that were opened
 /// since do not matter.
 pub fn revert<A: Allocator + Copy>(database: &mut Database<A>, last: &mut Record<A>)
     requires { CanUndo database.old last.old.swaps }
-    ensures database { database.new ≡ undone_places database.old last.old.swaps }
+    ensures database { database.new ≡ undone_slots database.old last.old.swaps }
     ensures taken { last.new ≡ undone database.old last.old }
 {
     undo_swaps(database, &mut last.swaps);
@@ -99,11 +99,11 @@ pub fn revert<A: Allocator + Copy>(database: &mut Database<A>, last: &mut Record
 /// Carries an edit out again: the database is again the one after it, byte for byte. It takes no
 /// memory.
 ///
-/// The database is the one before the edit. Empty places at the ends of sections that were opened
+/// The database is the one before the edit. Empty slots at the ends of sections that were opened
 /// since do not matter.
 pub fn replay<A: Allocator + Copy>(database: &mut Database<A>, next: &mut Record<A>)
     requires { CanDo database.old next.old.swaps }
-    ensures database { database.new ≡ done_places database.old next.old.swaps }
+    ensures database { database.new ≡ done_slots database.old next.old.swaps }
     ensures taken { next.new ≡ redone database.old next.old }
 {
     do_swaps(database, &mut next.swaps);

@@ -4,15 +4,15 @@
 
 ghost use Rattle.std.specs.Prelude.{◌≡◌, ◌++◌, IsSome, IfOk, IfErr, OnOk, OnErr, option_to_list};
 ghost use Rattle.lsdb.specs.declared.section.Section.TheVariants.{Area};
-ghost use Rattle.lsdb.specs.Places.{item_at, slot_at, places_in, head_or_none, lists_of};
+ghost use Rattle.lsdb.specs.Slots.{item_at, slot_at, slots_in, head_or_none, lists_of};
 ghost use Rattle.edit_script.specs.declared.edit.Edit.TheVariants.{Refresh};
-ghost use Rattle.summary_metrics.specs.Originators.{AreOf};
+ghost use Rattle.summary_metrics.specs.SummaryMetrics.{AreOf};
 ghost use Rattle.summary_metrics.specs.Refreshed.{is_not_backbone};
 ghost use Rattle.edit_history.specs.declared.fault.EditFault.TheVariants.{OutOfMemory};
 ghost use Rattle.edit_history.specs.Rules.{section_name};
 ghost use Rattle.edit_history.specs.Refreshing.{metric_fate, pass_fates};
-ghost use Rattle.edit_history.specs.Exchange.{CanDo, done_places};
-ghost use Rattle.edit_history.specs.steps.Plans.{place_swap, section_swaps, swaps_from};
+ghost use Rattle.edit_history.specs.Exchange.{CanDo, done_slots};
+ghost use Rattle.edit_history.specs.steps.Plans.{slot_swap, section_swaps, swaps_from};
 ghost use Rattle.edit_history.specs.steps.Passing.{chosen};
 ghost use Rattle.edit_history.specs.Applied.{Planned, IsRefused};
 
@@ -21,7 +21,7 @@ use crate::swap::{Swap, do_swaps, undo_swaps};
 use lsa_codec::AreaId;
 use lsdb::{Database, Section, SlotId};
 use std::alloc::Allocator;
-use summary_metrics::Originators;
+use summary_metrics::SummaryMetrics;
 
 /// The areas of one pass.
 #[derive(Clone, Copy)]
@@ -44,19 +44,19 @@ impl Pass {
     }
 }
 
-/// Adds the swap of a place of an area, if the LSA there should have another metric. The only error
+/// Adds the swap of a slot of an area, if the LSA there should have another metric. The only error
 /// is that memory ran out.
 fn add_metric_swap<A: Allocator + Copy>(
     database: &Database<A>,
     slot: SlotId,
     area: AreaId,
-    known: &mut Originators<A>,
+    known: &mut SummaryMetrics<A>,
     swaps: &mut Vec<Swap<A>, A>,
 ) -> Result<(), EditFault>
     requires { AreOf (lists_of database.now) known.old }
     ensures swaps { OnOk result
         (swaps.new.items ≡ swaps.old.items
-        ++ option_to_list (place_swap (metric_fate (lists_of database.now) area) slot (Area area)
+        ++ option_to_list (slot_swap (metric_fate (lists_of database.now) area) slot (Area area)
         (slot_at database.now slot))) }
     ensures memory { IfErr result (λ fault. fault ≡ OutOfMemory) }
     ensures known { AreOf (lists_of database.now) known.new }
@@ -76,13 +76,13 @@ fn add_metric_swap<A: Allocator + Copy>(
     Ok(())
 }
 
-/// Adds the swaps of the places of an area, by its number and its ID. The only error is that memory
+/// Adds the swaps of the slots of an area, by its number and its ID. The only error is that memory
 /// ran out.
 fn add_area_swaps<A: Allocator + Copy>(
     database: &Database<A>,
     number: usize,
     area: AreaId,
-    known: &mut Originators<A>,
+    known: &mut SummaryMetrics<A>,
     swaps: &mut Vec<Swap<A>, A>,
 ) -> Result<(), EditFault>
     requires number { IsSome (item_at database.now number) }
@@ -90,11 +90,11 @@ fn add_area_swaps<A: Allocator + Copy>(
     ensures swaps { OnOk result
         (swaps.new.items ≡ swaps.old.items
         ++ section_swaps (metric_fate (lists_of database.now) area) number (Area area) 0
-        (places_in database.now number)) }
+        (slots_in database.now number)) }
     ensures memory { IfErr result (λ fault. fault ≡ OutOfMemory) }
     ensures known { AreOf (lists_of database.now) known.new }
 {
-    for index in 0..database.place_count(number) {
+    for index in 0..database.slot_count(number) {
         let slot = SlotId {
             section: number,
             index,
@@ -104,13 +104,13 @@ fn add_area_swaps<A: Allocator + Copy>(
     Ok(())
 }
 
-/// Adds the swaps of the places of a section, by its number, if it is an area of the pass. The only
+/// Adds the swaps of the slots of a section, by its number, if it is an area of the pass. The only
 /// error is that memory ran out.
 fn add_pass_swaps<A: Allocator + Copy>(
     database: &Database<A>,
     number: usize,
     pass: Pass,
-    known: &mut Originators<A>,
+    known: &mut SummaryMetrics<A>,
     swaps: &mut Vec<Swap<A>, A>,
 ) -> Result<(), EditFault>
     requires number { IsSome (item_at database.now number) }
@@ -119,7 +119,7 @@ fn add_pass_swaps<A: Allocator + Copy>(
         (let head = head_or_none (item_at database.now number) in
         swaps.new.items ≡ swaps.old.items
         ++ section_swaps (pass_fates (chosen pass) (lists_of database.now) head) number
-        (section_name head) 0 (places_in database.now number)) }
+        (section_name head) 0 (slots_in database.now number)) }
     ensures memory { IfErr result (λ fault. fault ≡ OutOfMemory) }
     ensures known { AreOf (lists_of database.now) known.new }
 {
@@ -136,7 +136,7 @@ fn add_pass_swaps<A: Allocator + Copy>(
 fn metric_swaps<A: Allocator + Copy>(
     database: &Database<A>,
     pass: Pass,
-    known: &mut Originators<A>,
+    known: &mut SummaryMetrics<A>,
 ) -> Result<Vec<Swap<A>, A>, EditFault>
     requires { AreOf (lists_of database.now) known.old }
     ensures swaps { IfOk result (λ v. v.items
@@ -156,18 +156,18 @@ fn metric_swaps<A: Allocator + Copy>(
 fn other_swaps<A: Allocator + Copy>(
     database: &mut Database<A>,
     first: &mut [Swap<A>],
-    known: &mut Originators<A>,
+    known: &mut SummaryMetrics<A>,
 ) -> Result<Vec<Swap<A>, A>, EditFault>
     requires can { CanDo database.old first.old }
-    requires known { AreOf (lists_of (done_places database.old first.old)) known.old }
-    ensures swaps { IfOk result (λ v. let d = done_places database.old first.old in
+    requires known { AreOf (lists_of (done_slots database.old first.old)) known.old }
+    ensures swaps { IfOk result (λ v. let d = done_slots database.old first.old in
         v.items ≡ swaps_from (pass_fates is_not_backbone (lists_of d)) 0 d) }
     ensures memory { IfErr result (λ fault. fault ≡ OutOfMemory) }
     ensures database { database.new ≡ database.old }
     ensures first { first.new ≡ first.old }
 {
     // Its invariant is needed after each swap too.
-    database.known();
+    database.assert_valid();
     do_swaps(database, first);
     let others = metric_swaps(database, Pass::OtherAreas, known);
     undo_swaps(database, first);
@@ -185,10 +185,10 @@ pub(crate) fn plan_refresh<A: Allocator + Copy>(
     ensures kept { OnErr result (database.new ≡ database.old) }
 {
     // Its invariant is needed after each swap too.
-    database.known();
-    let mut known = Originators::new(database.alloc());
+    database.assert_valid();
+    let mut known = SummaryMetrics::new(database.alloc());
     let mut swaps = metric_swaps(database, Pass::Backbone, &mut known)?;
-    known.forget_told();
+    known.invalidate_backbone();
     let mut others = other_swaps(database, &mut swaps, &mut known)?;
     swaps.append(&mut others)?;
     Ok(swaps)

@@ -1,17 +1,17 @@
-//! One place that an edit changes, and the LSA that the database lacks there.
+//! One slot that an edit changes, and the LSA that the database lacks there.
 
 ghost use Rattle.std.specs.Prelude.{◌≡◌, ◌∷◌, [], IsSome, IfSome, IfOk, Some};
 ghost use Rattle.lsdb.specs.Lists.{IsDatabase};
-ghost use Rattle.lsdb.specs.Places.{put, slot_at, lists_of};
+ghost use Rattle.lsdb.specs.Slots.{put, slot_at, lists_of};
 ghost use Rattle.edit_history.specs.Effect.{is_of_graph};
-ghost use Rattle.edit_history.specs.Exchange.{CanDo, CanUndo, is_of_as_scope, taken, done_places, done_swaps, undone_places, undone_swaps};
+ghost use Rattle.edit_history.specs.Exchange.{CanDo, CanUndo, is_of_as_scope, taken, done_slots, done_swaps, undone_slots, undone_swaps};
 
 use lsa_codec::{AreaId, Lsa};
 use lsdb::{Database, Section, SlotId};
 use std::alloc::{AllocError, Allocator, Global};
 use std::marker::Model;
 
-/// A place, the section and the LS type of the LSA there, and the LSA that the database lacks: the
+/// A slot, the section and the LS type of the LSA there, and the LSA that the database lacks: the
 /// old one once the edit is done, the new one once it is undone.
 #[derive(Drop)]
 pub(crate) struct Swap<A: Allocator = Global> {
@@ -31,7 +31,7 @@ impl<A: Allocator> Model for Swap<A> {
 }
 
 impl<A: Allocator + Copy> Swap<A> {
-    /// The swap that puts another LSA, or none, at a place.
+    /// The swap that puts another LSA, or none, at a slot.
     pub(crate) fn new(slot: SlotId, section: Section, kind: u8, other: Option<Lsa<A>>) -> Swap<A>
         ensures { result ≡ record { slot = slot; section = section; kind = kind; other = other } }
     {
@@ -43,7 +43,7 @@ impl<A: Allocator + Copy> Swap<A> {
         }
     }
 
-    /// The place.
+    /// The slot.
     pub(crate) fn slot(&self) -> SlotId
         ensures { result ≡ self.now.slot }
     {
@@ -67,7 +67,7 @@ impl<A: Allocator + Copy> Swap<A> {
         }
     }
 
-    /// Whether its place is one of AS scope: their section comes after those of the areas. The
+    /// Whether its slot is one of AS scope: their section comes after those of the areas. The
     /// database has `areas` areas.
     pub(crate) fn is_of_as_scope(&self, areas: usize) -> bool
         ensures { result ≡ is_of_as_scope areas self.now }
@@ -75,7 +75,7 @@ impl<A: Allocator + Copy> Swap<A> {
         areas <= self.slot.section
     }
 
-    /// Exchanges the LSA that it holds with the one at the place.
+    /// Exchanges the LSA that it holds with the one at the slot.
     fn exchange(&mut self, database: &mut Database<A>)
         requires exists { IsSome (slot_at database.old self.old.slot) }
         requires sound { IsDatabase (lists_of (put database.old self.old.slot self.old.other)) }
@@ -101,7 +101,7 @@ pub(crate) fn one_swap<A: Allocator + Copy>(
 /// Does swaps, from the first to the last.
 pub(crate) fn do_swaps<A: Allocator + Copy>(database: &mut Database<A>, swaps: &mut [Swap<A>])
     requires { CanDo database.old swaps.old }
-    ensures database { database.new ≡ done_places database.old swaps.old }
+    ensures database { database.new ≡ done_slots database.old swaps.old }
     ensures swaps { swaps.new ≡ done_swaps database.old swaps.old }
 {
     for i in 0..swaps.len() {
@@ -113,7 +113,7 @@ pub(crate) fn do_swaps<A: Allocator + Copy>(database: &mut Database<A>, swaps: &
 /// Undoes swaps, from the last to the first.
 pub(crate) fn undo_swaps<A: Allocator + Copy>(database: &mut Database<A>, swaps: &mut [Swap<A>])
     requires { CanUndo database.old swaps.old }
-    ensures database { database.new ≡ undone_places database.old swaps.old }
+    ensures database { database.new ≡ undone_slots database.old swaps.old }
     ensures swaps { swaps.new ≡ undone_swaps database.old swaps.old }
 {
     for i in (0..swaps.len()).rev() {

@@ -15,7 +15,7 @@ use Rattle.edit_script.specs.Words.{Word, is_blank, words}
 use Rattle.edit_script.specs.Reading.{metric_type, edit_of, cost_of, drop_link_of, fail_link_of, fail_net_of, fail_router_of, add_stub_of, summary_of}
 use Rattle.edit_script.specs.Reading.{add_summary_of, add_external_of, drop_external_of, command_of, undo_of, redo_of, table_of, tables_of, compare_of}
 use Rattle.edit_script.specs.Reading.{info_of, refresh_of}
-use Rattle.edit_script.specs.Line.{meaning, meaning_of_words, behind_branch}
+use Rattle.edit_script.specs.Line.{meaning, meaning_of_words, after_branch}
 use Rattle.edit_script.specs.Spelling.{spelling, type_text, edit_words, command_words, branch_word, Says, IsEditInRange, IsInRange}
 use Rattle.edit_script.proofs.Split.{IsWord, words_joined}
 use Rattle.edit_script.proofs.Numbers.{number_again, address_again, prefix_again, IsWord-decimal, IsWord-address, IsWord-prefix}
@@ -104,8 +104,8 @@ type_again Type1 = refl
 type_again Type2 = refl
 
 -- the words of an edit are read back
-edit_again : (edit : Edit) → IsEditInRange edit → (branch : ℕ) → behind_branch branch (edit_words edit) ≡ Ok (branch, command.Edit edit)
-unfolding behind_branch command_of edit_of cost_of drop_link_of fail_link_of fail_net_of fail_router_of
+edit_again : (edit : Edit) → IsEditInRange edit → (branch : ℕ) → after_branch branch (edit_words edit) ≡ Ok (branch, command.Edit edit)
+unfolding after_branch command_of edit_of cost_of drop_link_of fail_link_of fail_net_of fail_router_of
     add_stub_of summary_of add_summary_of add_external_of drop_external_of refresh_of
 edit_again (Cost area router link metric) h branch =
     simp (
@@ -144,8 +144,8 @@ edit_again (DropExternal router prefix) h branch =
 edit_again Refresh h branch = refl
 
 -- the words of a command are read back
-read_again : (c : Command) → IsInRange c → (branch : ℕ) → behind_branch branch (command_words c) ≡ Ok (branch, c)
-unfolding behind_branch command_of undo_of redo_of table_of tables_of compare_of info_of
+read_again : (c : Command) → IsInRange c → (branch : ℕ) → after_branch branch (command_words c) ≡ Ok (branch, c)
+unfolding after_branch command_of undo_of redo_of table_of tables_of compare_of info_of
 read_again (command.Edit edit) h branch = edit_again edit h branch
 read_again (command.Undo count) h branch = simp (number_again 4294967295 count (omega arith) (omega arith))
 read_again (command.Redo count) h branch = simp (number_again 4294967295 count (omega arith) (omega arith))
@@ -155,8 +155,8 @@ read_again (command.Compare router) h branch = simp (address_again router.0 h)
 read_again command.Info h branch = refl
 
 -- no command word begins with `#` or `@`
-without_branch : (c : Command) → meaning_of_words (command_words c) ≡ behind_branch 0 (command_words c)
-unfolding meaning_of_words behind_branch
+without_branch : (c : Command) → meaning_of_words (command_words c) ≡ after_branch 0 (command_words c)
+unfolding meaning_of_words after_branch
 without_branch (command.Edit (Cost area router link metric)) = refl
 without_branch (command.Edit (DropLink area router link)) = refl
 without_branch (command.Edit (FailLink area router neighbor)) = refl
@@ -176,7 +176,7 @@ without_branch (command.Compare router) = refl
 without_branch command.Info = refl
 
 with_branch : (branch : ℕ) (c : Command) → branch < 8
-    → meaning_of_words (branch_word branch ∷ command_words c) ≡ behind_branch branch (command_words c)
+    → meaning_of_words (branch_word branch ∷ command_words c) ≡ after_branch branch (command_words c)
 unfolding meaning_of_words
 with_branch branch c small = simp (number_again 7 branch (omega arith) (omega arith))
 

@@ -96,20 +96,20 @@ four_parts_are (a ∷ b ∷ c ∷ []) p h = absurd cc
 four_parts_are (a ∷ b ∷ c ∷ d ∷ []) p h = let same : (a, b, c, d) ≡ p = cc in ap (λ (q : Word × Word × Word × Word). q.0 ∷ q.1 ∷ q.2 ∷ q.3 ∷ []) same
 four_parts_are (a ∷ b ∷ c ∷ d ∷ e ∷ parts) p h = absurd cc
 
-are_octets : (a b c d : ℕ) → AreBytes a b c d → (i : ℕ) → get_or (a ∷ b ∷ c ∷ d ∷ []) i 0 < 256
-are_octets a b c d h zero = omega (arith, h.first)
-are_octets a b c d h (suc zero) = omega (arith, h.second)
-are_octets a b c d h (suc (suc zero)) = omega (arith, h.third)
-are_octets a b c d h (suc (suc (suc zero))) = omega (arith, h.fourth)
-are_octets a b c d h (suc (suc (suc (suc i)))) = omega arith
+are_bytes : (a b c d : ℕ) → AreBytes a b c d → (i : ℕ) → get_or (a ∷ b ∷ c ∷ d ∷ []) i 0 < 256
+are_bytes a b c d h zero = omega (arith, h.first)
+are_bytes a b c d h (suc zero) = omega (arith, h.second)
+are_bytes a b c d h (suc (suc zero)) = omega (arith, h.third)
+are_bytes a b c d h (suc (suc (suc zero))) = omega (arith, h.fourth)
+are_bytes a b c d h (suc (suc (suc (suc i)))) = omega arith
 
-text_of_octets : (a b c d n : ℕ) → AreBytes a b c d → from_be_bytes w32 (a ∷ b ∷ c ∷ d ∷ []) ≡ n
+text_of_bytes : (a b c d n : ℕ) → AreBytes a b c d → from_be_bytes w32 (a ∷ b ∷ c ∷ d ∷ []) ≡ n
     → join_with_byte 46 (decimal a ∷ decimal b ∷ decimal c ∷ decimal d ∷ []) ≡ address_text n
-text_of_octets a b c d n h e =
-    ap (λ (octets : List ℕ). join_with_byte 46 (map decimal octets)) (sym (be_bytes_4 (a ∷ b ∷ c ∷ d ∷ []) n refl (are_octets a b c d h) (sym e)))
+text_of_bytes a b c d n h e =
+    ap (λ (bytes : List ℕ). join_with_byte 46 (map decimal bytes)) (sym (be_bytes_4 (a ∷ b ∷ c ∷ d ∷ []) n refl (are_bytes a b c d h) (sym e)))
 
-number_of_octets : (a b c d : ℕ) → AreBytes a b c d → from_be_bytes w32 (a ∷ b ∷ c ∷ d ∷ []) < 2 ^ 32
-number_of_octets a b c d h = omega (arith, h.first, h.second, h.third, h.fourth)
+number_of_bytes : (a b c d : ℕ) → AreBytes a b c d → from_be_bytes w32 (a ∷ b ∷ c ∷ d ∷ []) < 2 ^ 32
+number_of_bytes a b c d h = omega (arith, h.first, h.second, h.third, h.fourth)
 
 pub address_spelled : (word : Word) (n : ℕ) → address_of word ≡ Some n → (word ≡ address_text n) × (n < 2 ^ 32)
 unfolding address_of_parts
@@ -127,9 +127,9 @@ address_spelled word n h =
     let split : slice_split (λ b. eqb b 46) word ≡ decimal first.0 ∷ decimal second.0 ∷ decimal third.0 ∷ decimal fourth.0 ∷ [] =
     four_parts_are _ p parts.1.0 ∙ four_same _ _ _ _ _ _ _ _ a.0 b.0 c.0 d.0 in
     let value : from_be_bytes w32 (first.0 ∷ second.0 ∷ third.0 ∷ fourth.0 ∷ []) ≡ n = let found = fourth.1.1 in cc in
-    let octets : AreBytes first.0 second.0 third.0 fourth.0 = record { first = a.1; second = b.1; third = c.1; fourth = d.1 } in (
-      sym (join_with_byte-slice_split 46 word) ∙ ap (join_with_byte 46) split ∙ text_of_octets first.0 second.0 third.0 fourth.0 n octets value,
-      subst (λ (m : ℕ). m < 2 ^ 32) value (number_of_octets first.0 second.0 third.0 fourth.0 octets),
+    let bytes : AreBytes first.0 second.0 third.0 fourth.0 = record { first = a.1; second = b.1; third = c.1; fourth = d.1 } in (
+      sym (join_with_byte-slice_split 46 word) ∙ ap (join_with_byte 46) split ∙ text_of_bytes first.0 second.0 third.0 fourth.0 n bytes value,
+      subst (λ (m : ℕ). m < 2 ^ 32) value (number_of_bytes first.0 second.0 third.0 fourth.0 bytes),
     )
 
 -- ---- prefixes

@@ -12,7 +12,7 @@ use Rattle.edit_script.specs.Words.{Word}
 use Rattle.edit_script.specs.Arguments.{number_up_to}
 use Rattle.edit_script.specs.Reading.{◌>>=◌, one_of, number, address, edit_of, none_of, undo_of, redo_of, table_of, tables_of, compare_of, info_of}
 use Rattle.edit_script.specs.Reading.{edit_command, command_of}
-use Rattle.edit_script.specs.Line.{branch_of, in_branch, behind_branch, meaning_of_words}
+use Rattle.edit_script.specs.Line.{branch_of, in_branch, after_branch, meaning_of_words}
 use Rattle.edit_script.specs.Spelling.{command_words, branch_word, Says}
 use Rattle.edit_script.specs.Spelling.{IsInRange}
 use Rattle.edit_script.proofs.SpelledArguments.{then_ok, same_ok, of_ok, number_spelled, number_read, address_read, none_are, one_is}
@@ -162,22 +162,22 @@ branch_is (first ∷ digit) branch at h =
     let same : first ≡ 64 = eqb-true first 64 at in
     (rw (same, number.0) refl, omega (arith, number.1))
 
-behind_branch_read : (branch b : ℕ) (words : List Word) (c : Command) → behind_branch branch words ≡ Ok (b, c) → IsCommand words c × (branch ≡ b)
-unfolding behind_branch
-behind_branch_read branch b [] c h = absurd cc
-behind_branch_read branch b (word ∷ arguments) c h =
+after_branch_read : (branch b : ℕ) (words : List Word) (c : Command) → after_branch branch words ≡ Ok (b, c) → IsCommand words c × (branch ≡ b)
+unfolding after_branch
+after_branch_read branch b [] c h = absurd cc
+after_branch_read branch b (word ∷ arguments) c h =
     let read = in_branch_read branch b (command_of word arguments) c h in
     (command_read word arguments c read.0, read.1)
 
 said_by : (first : Word) (rest : List Word) (branch : ℕ) (c : Command)
-    → cond (eqb (get_or first 0 0) 64) (branch_of first >>= (λ b. behind_branch b rest)) (in_branch 0 (command_of first rest)) ≡ Ok (branch, c)
+    → cond (eqb (get_or first 0 0) 64) (branch_of first >>= (λ b. after_branch b rest)) (in_branch 0 (command_of first rest)) ≡ Ok (branch, c)
     → IsInRange c × Says (first ∷ rest) branch c
 said_by first rest branch c h =
     elim (cases_Bool (eqb (get_or first 0 0) 64)) [
       | inl named ↦
           let found = then_ok (branch_of first) _ (branch, c) (sym (cond-true _ _ _ named) ∙ h) in
           let name = branch_is first found.0 named found.1.0 in
-          let read = behind_branch_read found.0 branch rest c found.1.1 in
+          let read = after_branch_read found.0 branch rest c found.1.1 in
           let same : first ≡ branch_word branch = name.0 ∙ ap branch_word read.1 in
           (read.0.range, (omega (arith, name.1, read.1), inl (rw (same, read.0.words) refl)))
       | inr bare ↦

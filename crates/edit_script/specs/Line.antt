@@ -16,9 +16,9 @@ abbrev pub in_branch : ℕ → Result Command ScriptFault → Result (ℕ × Com
 in_branch branch given = given >>= λ c. Ok (branch, c)
 
 -- the words after the branch: a command word and its arguments
-unfoldable pub behind_branch : ℕ → List Word → Result (ℕ × Command) ScriptFault
-behind_branch branch [] = Err MissingWord
-behind_branch branch (word ∷ arguments) = in_branch branch (command_of word arguments)
+unfoldable pub after_branch : ℕ → List Word → Result (ℕ × Command) ScriptFault
+after_branch branch [] = Err MissingWord
+after_branch branch (word ∷ arguments) = in_branch branch (command_of word arguments)
 
 -- a first word that begins with `#` (35) is a comment, and one that begins with `@` (64) names the branch; otherwise the branch is
 -- 0
@@ -26,7 +26,7 @@ unfoldable pub meaning_of_words : List Word → Result (ℕ × Command) ScriptFa
 meaning_of_words [] = Err Empty
 meaning_of_words (first ∷ rest) =
     if slice_index first 0 == 35 then Err Empty
-    else if slice_index first 0 == 64 then branch_of first >>= (λ branch. behind_branch branch rest)
+    else if slice_index first 0 == 64 then branch_of first >>= (λ branch. after_branch branch rest)
     else in_branch 0 (command_of first rest)
 
 abbrev pub meaning : List ℕ → Result (ℕ × Command) ScriptFault

@@ -61,7 +61,7 @@ fn four_parts(word: &[u8]) -> Option<(&[u8], &[u8], &[u8], &[u8])>
 }
 
 /// The byte that a word spells.
-fn octet(word: &[u8]) -> Option<u8>
+fn byte(word: &[u8]) -> Option<u8>
     ensures { result ≡ number_up_to 255 word.now }
 {
     let Some(number) = number_up_to(255, word) else {
@@ -76,10 +76,10 @@ pub(crate) fn address_of(word: &[u8]) -> Option<u32>
     ensures { result ≡ address_of word.now }
 {
     let (first, second, third, fourth) = four_parts(word)?;
-    let first = octet(first)?;
-    let second = octet(second)?;
-    let third = octet(third)?;
-    let fourth = octet(fourth)?;
+    let first = byte(first)?;
+    let second = byte(second)?;
+    let third = byte(third)?;
+    let fourth = byte(fourth)?;
     Some(u32::from_be_bytes([first, second, third, fourth]))
 }
 

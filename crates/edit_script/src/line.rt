@@ -2,7 +2,7 @@
 
 ghost use Rattle.std.specs.Prelude.{◌≡◌, ◌<◌, IfOk};
 ghost use Rattle.edit_script.specs.Words.{words};
-ghost use Rattle.edit_script.specs.Line.{branch_of, behind_branch, meaning};
+ghost use Rattle.edit_script.specs.Line.{branch_of, after_branch, meaning};
 
 use crate::arguments::number_up_to;
 use crate::command::Command;
@@ -25,10 +25,10 @@ fn branch(word: &[u8]) -> Result<u8, ScriptFault>
 }
 
 /// The command after the branch.
-#[tactic(auto, unfolding(crate::specs::Line::behind_branch))]
-fn behind_branch(branch: u8, rest: &[u8]) -> Result<(u8, Command), ScriptFault>
+#[tactic(auto, unfolding(crate::specs::Line::after_branch))]
+fn after_branch(branch: u8, rest: &[u8]) -> Result<(u8, Command), ScriptFault>
     requires { branch < 8 }
-    ensures value { result ≡ behind_branch branch (words rest.now) }
+    ensures value { result ≡ after_branch branch (words rest.now) }
     ensures small { IfOk result (λ x. x.0 < 8) }
 {
     match next_word(rest) {
@@ -57,7 +57,7 @@ pub fn parse(line: &[u8]) -> Result<(u8, Command), ScriptFault>
     if first[0] == b'#' {
         Err(ScriptFault::Empty)
     } else if first[0] == b'@' {
-        behind_branch(branch(first)?, rest)
+        after_branch(branch(first)?, rest)
     } else {
         Ok((0, command(first, rest)?))
     }

@@ -2,7 +2,7 @@
 use Rattle.std.proofs.Common.{◌≡◌, List, [], ◌∷◌, ◌++◌, refl, sym, ap, ◌∙◌, subst}
 use Rattle.std.specs.Prelude.{reverse}
 use Rattle.lsdb.specs.Lists.{IsDatabase}
-use Rattle.lsdb.specs.Places.{Places, lists_of}
+use Rattle.lsdb.specs.Slots.{Slots, lists_of}
 use Rattle.edit_script.specs.declared.edit.Edit.{Edit}
 use Rattle.edit_history.specs.Exchange.{RecordData}
 use Rattle.edit_history.specs.Applied.{Applied}
@@ -12,12 +12,12 @@ use Rattle.edit_history.proofs.HistoryLemmas.{pushed, pushed_linked, recorded, r
 use Rattle.edited_databases.specs.Edited.{with_edit}
 use Rattle.edited_databases.proofs.Moves.{same_session}
 
-pub pushed_links : (d e : Places) (h k : HistoryData) (edit : Edit) (r : RecordData) → Links d h → IsDatabase (lists_of e) → Applied d e edit r
+pub pushed_links : (d e : Slots) (h k : HistoryData) (edit : Edit) (r : RecordData) → Links d h → IsDatabase (lists_of e) → Applied d e edit r
     → k ≡ pushed r h → Links e k
 pushed_links d e h k edit r links sound applied is =
     subst (λ (x : HistoryData). Links e x) (sym is) (pushed_linked d e h edit r links sound applied)
 
-pub pushed_session : (d e : Places) (h k : HistoryData) (edit : Edit) (r : RecordData) → Links d h → IsDatabase (lists_of e) → Applied d e edit r
+pub pushed_session : (d e : Slots) (h k : HistoryData) (edit : Edit) (r : RecordData) → Links d h → IsDatabase (lists_of e) → Applied d e edit r
     → k ≡ pushed r h → session_of e k ≡ with_edit (session_of d h) edit
 pushed_session d e h k edit r links sound applied is =
     ap (session_of e) is

@@ -4,7 +4,7 @@ use Rattle.samples.specs.declared.known.TheConstants.{R1, R2}
 use Rattle.samples.specs.declared.lsa.Header.{Header}
 use Rattle.samples.specs.Links.{link_of}
 use Rattle.samples.specs.Lsas.{Lsas, no_lsas, with_lsa, with_router}
-use Rattle.samples.specs.Dumps.{dump_of_area, dump_octets}
+use Rattle.samples.specs.Dumps.{dump_of_area, dump_bytes}
 
 -- an opaque LSA of 1.1.1.1 without a body, of this LS type: its Opaque Type is 4, its Opaque ID a number
 abbrev pub opaque_header : ℕ → ℕ → Header
@@ -23,9 +23,9 @@ two_routers =
 
 -- area 0.0.0.0 with this number of LSAs: those of the two routers, then opaque LSAs of area scope
 -- (type 10)
-abbrev pub area_octets : ℕ → List ℕ
-area_octets lsas = dump_of_area (with_opaque 10 (lsas - 2) two_routers)
+abbrev pub area_bytes : ℕ → List ℕ
+area_bytes lsas = dump_of_area (with_opaque 10 (lsas - 2) two_routers)
 
 -- area 0.0.0.0 of the two routers, and this number of opaque LSAs of AS scope (type 11)
-abbrev pub as_list_octets : ℕ → List ℕ
-as_list_octets lsas = dump_octets ((0, two_routers) ∷ []) (with_opaque 11 lsas no_lsas)
+abbrev pub as_list_bytes : ℕ → List ℕ
+as_list_bytes lsas = dump_bytes ((0, two_routers) ∷ []) (with_opaque 11 lsas no_lsas)

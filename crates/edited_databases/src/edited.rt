@@ -1,7 +1,7 @@
 //! Databases after edits, with their histories.
 
 ghost use Rattle.std.specs.Prelude.{◌≡◌, ◌≢◌, ◌≤◌, ◌↔◌, length, true, All, Ok, Err, IsOk, IfOk, IfErr, OnOk, OnErr};
-ghost use Rattle.lsdb.specs.Places.{lists_of};
+ghost use Rattle.lsdb.specs.Slots.{lists_of};
 ghost use Rattle.edit_history.specs.Effect.{effect};
 ghost use Rattle.edit_history.specs.Journal.{Links};
 ghost use Rattle.edit_history.specs.Session.{Session, session_of, state, moved_back, moved_on};
@@ -41,7 +41,7 @@ pub fn apply_and_push<A: Allocator + Copy>(
     let record = apply(database, edit)?;
     history.push(record);
     // The edit's link to the history requires that it left a valid database.
-    database.known();
+    database.assert_valid();
     Ok(())
 }
 
@@ -62,7 +62,7 @@ pub fn edited<A: Allocator + Copy>(
     let mut database = Database::load(alloc, dump)?;
     let mut history = History::new(alloc);
     // The database's link to the empty history requires that it is valid.
-    database.known();
+    database.assert_valid();
     for line in lines {
         let edit = edit_of(line)?;
         apply_and_push(&mut database, &mut history, &edit)?;

@@ -1,7 +1,7 @@
 //! Dumps filled with opaque LSAs (RFC 5250), whose contents no edit reads.
 
 ghost use Rattle.std.specs.Prelude.{◌≡◌, ◌-◌, IfOk, OnOk};
-ghost use Rattle.edited_databases.specs.Filled.{with_opaque, two_routers, area_octets, as_list_octets};
+ghost use Rattle.edited_databases.specs.Filled.{with_opaque, two_routers, area_bytes, as_list_bytes};
 
 use samples::{Header, LsaList, R1, R2, dump_of, to_router};
 use std::alloc::{AllocError, Global};
@@ -45,7 +45,7 @@ fn two_routers(alloc: Global) -> Result<LsaList, AllocError>
 ///
 /// Memory ran out.
 pub fn area_of(alloc: Global, lsas: u16) -> Result<Vec<u8>, AllocError>
-    ensures { IfOk result (λ dump. dump.items ≡ area_octets lsas) }
+    ensures { IfOk result (λ dump. dump.items ≡ area_bytes lsas) }
 {
     let mut area = two_routers(alloc)?;
     add_opaque(&mut area, OF_AREA, lsas.saturating_sub(2))?;
@@ -58,7 +58,7 @@ pub fn area_of(alloc: Global, lsas: u16) -> Result<Vec<u8>, AllocError>
 ///
 /// Memory ran out.
 pub fn as_list_of(alloc: Global, lsas: u16) -> Result<Vec<u8>, AllocError>
-    ensures { IfOk result (λ dump. dump.items ≡ as_list_octets lsas) }
+    ensures { IfOk result (λ dump. dump.items ≡ as_list_bytes lsas) }
 {
     let area = two_routers(alloc)?;
     let mut as_lsas = LsaList::new(alloc);

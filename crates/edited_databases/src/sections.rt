@@ -1,7 +1,7 @@
 //! Databases compared section by section.
 
 ghost use Rattle.std.specs.Prelude.{◌≡◌, ◌↔◌, true, All};
-ghost use Rattle.lsdb.specs.Places.{lists_of};
+ghost use Rattle.lsdb.specs.Slots.{lists_of};
 ghost use Rattle.edited_databases.specs.Edited.{HasSame};
 
 use lsdb::{Database, Section};

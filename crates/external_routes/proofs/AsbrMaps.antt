@@ -34,9 +34,9 @@ module _ (entries : List EntryValue) (i : ℕ) (x : EntryValue) (here : slice_ge
       ∙ sym (preferred_more asbr ∙ ap (λ b. cond b (Some (later preference (preferred (take i entries) asbr) x)) (preferred (take i entries) asbr)) other)
 
   -- the other entry comes first
-  behind : (asbr : RouterId) → is_asbr asbr x ≡ true → comes_first x (entry_at entries (old asbr)) ≡ false
+  after : (asbr : RouterId) → is_asbr asbr x ≡ true → comes_first x (entry_at entries (old asbr)) ≡ false
       → entry_at entries (old asbr) ≡ preferred (take (i + 1) entries) asbr
-  behind asbr own late =
+  after asbr own late =
       by (entry_at entries (old asbr)) (before asbr) late
       ∙ sym (preferred_more asbr ∙ ap (λ b. cond b (Some (later preference (preferred (take i entries) asbr) x)) (preferred (take i entries) asbr)) own)
     where
@@ -78,7 +78,7 @@ module _ (entries : List EntryValue) (i : ℕ) (x : EntryValue) (here : slice_ge
   pub left_late : is_asbr x.router x ≡ true → comes_first x (entry_at entries (old x.router)) ≡ false
       → (asbr : RouterId) → entry_at entries (old asbr) ≡ preferred (take (i + 1) entries) asbr
   left_late own late = each (λ asbr. entry_at entries (old asbr) ≡ preferred (take (i + 1) entries) asbr)
-      (behind x.router own late) (λ asbr other. stays asbr (apart asbr other))
+      (after x.router own late) (λ asbr other. stays asbr (apart asbr other))
 
   -- the entry's index is inserted
   pub taken : is_asbr x.router x ≡ true → comes_first x (entry_at entries (old x.router)) ≡ true → (new : RouterId → Option ℕ)

@@ -47,8 +47,8 @@ module _ (router : RouterId) (routes : List RouteValue) (entries : List EntryVal
   abbrev by_fields : ExternalLsa → Option (Candidate Net)
   by_fields = candidate_of router routes entries
 
-  tells : (lsa : List ℕ) → by_lsa lsa ≡ option_and_then by_fields (external_lsa lsa)
-  tells lsa =
+  announces : (lsa : List ℕ) → by_lsa lsa ≡ option_and_then by_fields (external_lsa lsa)
+  announces lsa =
       in_use by_fields
       (record {
         net = net_of_lsa lsa;
@@ -60,9 +60,9 @@ module _ (router : RouterId) (routes : List RouteValue) (entries : List EntryVal
       (cond (has_route routes (net_of_lsa lsa)) None (option_and_then (path_over routes lsa) (preferred entries (originator_of lsa))))
       (eqb (kind_of lsa) 5) (is_live lsa) (nat_lt (metric_of lsa) ls_infinity) (same_router (originator_of lsa) router) refl
 
-  all_tell : (lsas : List (List ℕ)) → filter_map by_lsa lsas ≡ filter_map by_fields (filter_map external_lsa lsas)
-  all_tell [] = refl
-  all_tell (lsa ∷ lsas) = ap (λ o. cons_option o (filter_map by_lsa lsas)) (tells lsa) ∙ by (external_lsa lsa) (all_tell lsas)
+  all_announce : (lsas : List (List ℕ)) → filter_map by_lsa lsas ≡ filter_map by_fields (filter_map external_lsa lsas)
+  all_announce [] = refl
+  all_announce (lsa ∷ lsas) = ap (λ o. cons_option o (filter_map by_lsa lsas)) (announces lsa) ∙ by (external_lsa lsa) (all_announce lsas)
     where
       by : (o : Option ExternalLsa) → filter_map by_lsa lsas ≡ filter_map by_fields (filter_map external_lsa lsas)
           → cons_option (option_and_then by_fields o) (filter_map by_lsa lsas) ≡ filter_map by_fields (cons_option o (filter_map external_lsa lsas))
@@ -74,7 +74,7 @@ module _ (router : RouterId) (routes : List RouteValue) (entries : List EntryVal
   same_routes lsas found are =
       ap (map route_of)
       (same_tests prefix_total prefix_exact (filter_map by_lsa lsas) (filter_map by_fields found)
-      (λ p. ap (list_any p) (all_tell lsas)
+      (λ p. ap (list_any p) (all_announce lsas)
       ∙ any_found by_fields p (filter_map external_lsa lsas)
       ∙ list_any-IsPermutation (λ x. option_map_or p (by_fields x) false) (filter_map external_lsa lsas) found are
       ∙ sym (any_found by_fields p found)))

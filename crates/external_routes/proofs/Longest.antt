@@ -100,10 +100,10 @@ module _ (addr : Addr) where
           ap (λ c. cond c b y) (not_longer y.net.len b.net.len (omega arith))
 
       -- y does not fit: it does not cover the address, or is shorter
-      behind : fits n y ≡ false → r.net.len ≡ n → (b : Bool) → covering y ≡ b → least longer (filter covering ys) ≡ Some r
+      after : fits n y ≡ false → r.net.len ≡ n → (b : Bool) → covering y ≡ b → least longer (filter covering ys) ≡ Some r
           → least longer (cond b (y ∷ filter covering ys) (filter covering ys)) ≡ Some r
-      behind apart len false is rest = rest
-      behind apart len true is rest =
+      after apart len false is rest = rest
+      after apart len true is rest =
           ap (λ m. Some (lesser longer y m)) rest
           ∙ ap (λ c. Some (cond c r y)) (is_longer y.net.len r.net.len shorter)
         where
@@ -121,7 +121,7 @@ module _ (addr : Addr) where
           let same : y ≡ r = cc in
           ap (λ c. least longer (cond c (y ∷ filter covering ys) (filter covering ys))) own.0
           ∙ ap Some (ahead own.1 (least longer (filter covering ys)) refl ∙ same)
-      by false is h rest = behind is (found_len n ys r h) (covering y) refl (rest h)
+      by false is h rest = after is (found_len n ys r h) (covering y) refl (rest h)
         where
           found_len : (n : ℕ) (rs : List RouteValue) (r : RouteValue) → find (fits n) rs ≡ Some r → r.net.len ≡ n
           found_len n [] r h = cc

@@ -15,7 +15,7 @@ use Rattle.lsa_codec.specs.Prefix.{Net}
 use Rattle.area_routes.specs.Routes.{AreSortedRoutes, has_route, nets}
 use Rattle.area_routes.specs.Values.{RouteValue}
 use Rattle.area_routes.proofs.SearchLemmas.{found_at, not_found}
-use Rattle.external_routes.specs.steps.Lookup.{is_ahead, is_behind}
+use Rattle.external_routes.specs.steps.Lookup.{is_ahead, is_after}
 use Rattle.external_routes.proofs.Items.{item_found}
 use lib.Dec.{ltb}
 
@@ -35,11 +35,11 @@ module _ (net : Net) where
       none_from k rs h a.1 ∙ sym (ap (λ o. cond (is_eq o) (Some r) (found rs)) (prefix_total.trans net k r.net h a.0))
 
   -- what is below a route's prefix is below the prefixes after it
-  below_behind : (k : Net) (rs : List RouteValue) (p : ℕ) → AllByRecursion (λ y. prefix_cmp k y ≡ Less) (nets rs)
+  below_after : (k : Net) (rs : List RouteValue) (p : ℕ) → AllByRecursion (λ y. prefix_cmp k y ≡ Less) (nets rs)
       → option_map_or (λ r. is_lt (prefix_cmp r.net net)) (slice_get rs p) false ≡ true → prefix_cmp k net ≡ Less
-  below_behind k [] p a h = cc
-  below_behind k (r ∷ rs) zero a h = prefix_total.trans k r.net net a.0 (less_from (prefix_cmp r.net net) h)
-  below_behind k (r ∷ rs) (suc p) a h = below_behind k rs p a.1 h
+  below_after k [] p a h = cc
+  below_after k (r ∷ rs) zero a h = prefix_total.trans k r.net net a.0 (less_from (prefix_cmp r.net net) h)
+  below_after k (r ∷ rs) (suc p) a h = below_after k rs p a.1 h
 
   passed : (r : RouteValue) (rs : List RouteValue) → prefix_cmp r.net net ≡ Less → None ≡ found rs → None ≡ found (r ∷ rs)
   passed r rs less rest = rest ∙ sym (ap (λ o. cond (is_eq o) (Some r) (found rs)) (prefix_total.antisymm net r.net ∙ ap ordering_reverse less))
@@ -53,20 +53,20 @@ module _ (net : Net) where
       none_from q.net qs less s.0 ∙ sym (ap (λ o. cond (is_eq o) (Some q) (found qs)) less)
 
   -- the place is another one
-  behind_some : (rs : List RouteValue) (p : ℕ) → AreSortedRoutes rs
+  after_some : (rs : List RouteValue) (p : ℕ) → AreSortedRoutes rs
       → option_map_or (λ r. is_lt (prefix_cmp r.net net)) (slice_get rs p) false ≡ true → is_ahead rs (suc p) net ≡ true → None ≡ found rs
   unfolding IsStrictlySortedBy
-  behind_some [] p s b a = refl
-  behind_some (r ∷ rs) zero s b a = passed r rs (less_from (prefix_cmp r.net net) b) (ahead_of rs s.1 a)
-  behind_some (r ∷ rs) (suc p) s b a = passed r rs (below_behind r.net rs p s.0 b) (behind_some rs p s.1 b a)
+  after_some [] p s b a = refl
+  after_some (r ∷ rs) zero s b a = passed r rs (less_from (prefix_cmp r.net net) b) (ahead_of rs s.1 a)
+  after_some (r ∷ rs) (suc p) s b a = passed r rs (below_after r.net rs p s.0 b) (after_some rs p s.1 b a)
 
-  pub none_between : (routes : List RouteValue) (place : ℕ) → AreSortedRoutes routes → is_behind routes place net ≡ true → is_ahead routes place net ≡ true
+  pub none_between : (routes : List RouteValue) (place : ℕ) → AreSortedRoutes routes → is_after routes place net ≡ true → is_ahead routes place net ≡ true
       → has_route routes net ≡ false
   none_between routes zero s b a = sym (ap is_some (ahead_of routes s a))
   none_between routes (suc p) s b a =
       let P : ℕ → Type 0 = λ i. option_map_or (λ (r : RouteValue). is_lt (prefix_cmp r.net net)) (slice_get routes i) false ≡ true in
       let same : suc p - 1 ≡ p = omega arith in
-      sym (ap is_some (behind_some routes p s (subst P same (not_first (suc p == 0) refl b)) a))
+      sym (ap is_some (after_some routes p s (subst P same (not_first (suc p == 0) refl b)) a))
     where
       not_first : (c : Bool) → (suc p == 0) ≡ c
           → cond c true (option_map_or (λ (r : RouteValue). is_lt (prefix_cmp r.net net)) (slice_get routes (suc p - 1)) false) ≡ true
@@ -77,7 +77,7 @@ module _ (net : Net) where
   -- the route before a place that is not the first one
   pub before_read : (routes : List RouteValue) (place : ℕ) (o : Option (Bor RouteValue)) → (place ≡ 0 → ⊥)
       → is_some o ≡ ltb (place - 1) (length routes) → IfSome o (λ x. x.now ≡ get_or routes (place - 1) x.now)
-      → option_map_or (λ (r : RouteValue). is_lt (prefix_cmp r.net net)) (option_copied o) false ≡ is_behind routes place net
+      → option_map_or (λ (r : RouteValue). is_lt (prefix_cmp r.net net)) (option_copied o) false ≡ is_after routes place net
   before_read routes place o other some at =
       ap (λ (r : Option RouteValue). option_map_or (λ (r : RouteValue). is_lt (prefix_cmp r.net net)) r false) (item_found routes (place - 1) o some at)
       ∙ sym (ap (λ b. cond b true (option_map_or (λ (r : RouteValue). is_lt (prefix_cmp r.net net)) (slice_get routes (place - 1)) false)) (by (place == 0) refl))

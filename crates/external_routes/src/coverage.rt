@@ -1,7 +1,7 @@
 //! The summary-LSAs whose metrics follow from the database.
 
 ghost use Rattle.std.specs.Prelude.{◌≡◌};
-ghost use Rattle.lsdb.specs.Places.{lists_of};
+ghost use Rattle.lsdb.specs.Slots.{lists_of};
 ghost use Rattle.external_routes.specs.Summaries.{borders, is_attached_elsewhere, is_calculated};
 ghost use Rattle.external_routes.specs.Summaries.{is_covered, is_default, is_stub_area};
 ghost use Rattle.external_routes.specs.Summaries.{is_stub_default};

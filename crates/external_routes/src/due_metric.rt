@@ -2,7 +2,7 @@
 
 ghost use Rattle.std.specs.Prelude.{◌≡◌, ◌≤◌};
 ghost use Rattle.lsa_codec.specs.Views.{ls_infinity};
-ghost use Rattle.lsdb.specs.Places.{lists_of};
+ghost use Rattle.lsdb.specs.Slots.{lists_of};
 ghost use Rattle.external_routes.specs.Summaries.{announced_cost, asbr_of_summary, cost_of_asbr};
 ghost use Rattle.external_routes.specs.Summaries.{cost_of_net, due, is_among, is_announced_entry};
 ghost use Rattle.external_routes.specs.Summaries.{is_announced_route, metric_for};

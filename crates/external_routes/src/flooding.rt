@@ -1,7 +1,7 @@
 //! Whether AS-external-LSAs are flooded to a router.
 
 ghost use Rattle.std.specs.Prelude.{◌≡◌};
-ghost use Rattle.lsdb.specs.Places.{lists_of};
+ghost use Rattle.lsdb.specs.Slots.{lists_of};
 ghost use Rattle.external_routes.specs.Flooding.{is_attached_outside_stubs};
 
 use area_routes::is_attached;

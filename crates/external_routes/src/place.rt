@@ -2,15 +2,15 @@
 
 ghost use Rattle.std.specs.Prelude.{◌≡◌, false, true};
 ghost use Rattle.area_routes.specs.Routes.{AreSortedRoutes, has_route};
-ghost use Rattle.external_routes.specs.steps.Lookup.{is_ahead, is_behind};
+ghost use Rattle.external_routes.specs.steps.Lookup.{is_ahead, is_after};
 
 use area_routes::{Route, Routes};
 use lsa_codec::Prefix;
 use std::alloc::Allocator;
 
 /// Whether a prefix is greater than that of the route before a place.
-fn is_behind<A: Allocator + Copy>(routes: &[Route<A>], place: usize, net: Prefix) -> bool
-    ensures { result ≡ is_behind routes.now place net }
+fn is_after<A: Allocator + Copy>(routes: &[Route<A>], place: usize, net: Prefix) -> bool
+    ensures { result ≡ is_after routes.now place net }
 {
     if place == 0 {
         return true;
@@ -36,7 +36,7 @@ fn stands_between<A: Allocator + Copy>(routes: &[Route<A>], place: usize, net: P
     requires { AreSortedRoutes routes.now }
     ensures { result ≡ true → has_route routes.now net ≡ false }
 {
-    is_behind(routes, place, net) && is_ahead(routes, place, net)
+    is_after(routes, place, net) && is_ahead(routes, place, net)
 }
 
 /// Whether a prefix has a route. There is no search where it is between the same routes as the

@@ -1,13 +1,14 @@
-//! What captures, walks and printed databases tell, and what the files of a network make together.
+//! What captures, walks and printed databases contain, and what the files of a network make
+//! together.
 
-// Files: real ones, cut and damaged ones, and some made by hand, octet by octet.
+// Files: real ones, cut and damaged ones, and some made by hand, byte by byte.
 mod captures;
 mod documents;
 mod packets;
 mod printed;
 mod walks;
 
-// What they make together: instances of LSAs, databases of sightings, and dumps.
+// What they make together: instances of LSAs, databases of observations, and dumps.
 mod databases;
 mod files;
 mod instances;

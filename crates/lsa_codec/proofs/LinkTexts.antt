@@ -8,7 +8,7 @@ use Rattle.std.proofs.lemmas.List.Folds.{list_all-map}
 use Rattle.std.proofs.lemmas.Bool.{and_from, eq-eqb, le-leb}
 use Rattle.byteorder.specs.Endian.{big_bytes}
 use Rattle.lsa_codec.specs.declared.link.Link.{Link}
-use Rattle.lsa_codec.specs.Fields.{number_at, octet_at, put_number, kind_of, length_of}
+use Rattle.lsa_codec.specs.Fields.{number_at, byte_at, put_number, kind_of, length_of}
 use Rattle.lsa_codec.specs.Checksum.{is_checksum_good}
 use Rattle.lsa_codec.specs.Links.{after_links, links_from, link_at, link_length, link_count, links_of, unplaced}
 use Rattle.lsa_codec.specs.Accepted.{IsAccepted, has_whole_links, is_link_mask_good, is_link_cost_good}
@@ -76,8 +76,8 @@ walks text (x ∷ xs) offset bytes good at =
     let t : List ℕ = text x in
     let first = stands_first offset t (flat_map text xs) bytes at in
     let one : IsLinkText t = All-head (λ x. IsLinkText (text x)) x xs good in
-    let size : length t ≡ 12 + 4 * octet_at 9 t = one.size in
-    let octet : octet_at (offset + 9) bytes ≡ octet_at 9 t = first.here 9 (omega arith) in
+    let size : length t ≡ 12 + 4 * byte_at 9 t = one.size in
+    let byte : byte_at (offset + 9) bytes ≡ byte_at 9 t = first.here 9 (omega arith) in
     let step : link_length offset bytes ≡ length t = omega arith in
     let link = link_at-moved offset t bytes first (omega arith) in
     let rest = walks text xs (offset + length t) bytes (All-tail (λ x. IsLinkText (text x)) x xs good) (stands_rest offset t (flat_map text xs) bytes at) in
@@ -93,10 +93,10 @@ walks text (x ∷ xs) offset bytes good at =
     }
 
 -- bytes outside of a number that is written
-pub octet_outside : (offset v i : ℕ) (bytes : List ℕ) → offset + 2 ≤ length bytes
+pub byte_outside : (offset v i : ℕ) (bytes : List ℕ) → offset + 2 ≤ length bytes
     → (i < offset) ⊎ (offset + 2 ≤ i) → get_or (put_number 2 offset v bytes) i 0 ≡ get_or bytes i 0
-octet_outside offset v i bytes fits (inl before) = get_or-put_before offset (big_bytes 2 v) bytes i (omega arith) before
-octet_outside offset v i bytes fits (inr after) = get_or-put_after offset (big_bytes 2 v) bytes i (omega arith) after
+byte_outside offset v i bytes fits (inl before) = get_or-put_before offset (big_bytes 2 v) bytes i (omega arith) before
+byte_outside offset v i bytes fits (inr after) = get_or-put_after offset (big_bytes 2 v) bytes i (omega arith) after
 
 -- the bytes with the number of links, length and checksum set again
 pub record Recounted (count : ℕ) (bytes a : List ℕ) : Type 0 where
@@ -117,9 +117,9 @@ recounted_is count bytes header short small =
     let size_1 : length counted ≡ length bytes = length-put_at 22 (big_bytes 2 count) bytes (omega arith) in
     let size_2 : length sized ≡ length counted = length-put_at 18 (big_bytes 2 (length bytes)) counted (omega arith) in
     let size_3 : length a ≡ length sized = length-put_at 16 (big_bytes 2 (checksum_made sized)) sized (omega arith) in
-    let step_3 = λ (i : ℕ) (away : (i < 16) ⊎ (18 ≤ i)). octet_outside 16 (checksum_made sized) i sized (omega arith) away in
-    let step_2 = λ (i : ℕ) (away : (i < 18) ⊎ (20 ≤ i)). octet_outside 18 (length bytes) i counted (omega arith) away in
-    let step_1 = λ (i : ℕ) (away : (i < 22) ⊎ (24 ≤ i)). octet_outside 22 count i bytes (omega arith) away in
+    let step_3 = λ (i : ℕ) (away : (i < 16) ⊎ (18 ≤ i)). byte_outside 16 (checksum_made sized) i sized (omega arith) away in
+    let step_2 = λ (i : ℕ) (away : (i < 18) ⊎ (20 ≤ i)). byte_outside 18 (length bytes) i counted (omega arith) away in
+    let step_1 = λ (i : ℕ) (away : (i < 22) ⊎ (24 ≤ i)). byte_outside 22 count i bytes (omega arith) away in
     record {
       size = omega arith;
       header = λ i lt. step_3 i (inl lt) ∙ step_2 i (inl (omega arith)) ∙ step_1 i (inl (omega arith));

@@ -10,7 +10,7 @@ use Rattle.lsa_codec.specs.declared.link.Link.{Link}
 use Rattle.lsa_codec.specs.declared.link.LinkKind.TheVariants.{Stub}
 use Rattle.lsa_codec.specs.declared.relink.Target.{Target}
 use Rattle.lsa_codec.specs.declared.relink.Target.TheVariants as target
-use Rattle.lsa_codec.specs.Fields.{put_number, octet_at, age_of}
+use Rattle.lsa_codec.specs.Fields.{put_number, byte_at, age_of}
 use Rattle.lsa_codec.specs.Checksum.{with_checksum}
 use Rattle.lsa_codec.specs.Links.{links_of, link_at, link_length, link_count, link_numbered, first_link, has_cost, is_point_to_point, is_transit}
 use Rattle.lsa_codec.specs.Accepted.{IsAccepted, longest_lsa, is_link_mask_good, is_link_cost_good}
@@ -106,7 +106,7 @@ pub record IsExtensionOf (old new : List ℕ) : Type 0 where
 -- a router-LSA keeps its LS age and its flags, the bits V, E and B
 pub record KeepsAgeAndFlags (old new : List ℕ) : Type 0 where
   pub age : age_of new ≡ age_of old
-  pub flags : octet_at 20 new ≡ octet_at 20 old
+  pub flags : byte_at 20 new ≡ byte_at 20 old
 
 -- a link of an accepted router-LSA
 pub record IsLinkOf (lsa : List ℕ) (link : Link) : Type 0 where

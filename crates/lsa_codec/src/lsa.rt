@@ -1,7 +1,7 @@
 //! An accepted LSA, and how it is decoded (RFC 2328, A.4.1).
 
 ghost use Rattle.std.specs.Prelude.{◌≡◌, ◌≢◌, ◌≤◌, ◌++◌, length, drop, IfOk, IfErr, Ok, MatchOption, List, ℕ};
-ghost use Rattle.lsa_codec.specs.Fields.{kind_of, octet_at};
+ghost use Rattle.lsa_codec.specs.Fields.{kind_of, byte_at};
 ghost use Rattle.lsa_codec.specs.Links.{links_of, link_count};
 ghost use Rattle.lsa_codec.specs.Accepted.{IsAccepted};
 ghost use Rattle.lsa_codec.specs.Decoding.{decoded, IsFaultOf};

@@ -3,7 +3,7 @@
 
 ghost use Rattle.std.specs.Prelude.{◌≡◌, ◌≢◌, ◌≤◌, ◌<◌, ◌+◌, ◌*◌, ◌^◌, length, true, false, MatchOption};
 ghost use Rattle.std.specs.Iterator.{YieldsFirst, item_count};
-ghost use Rattle.lsa_codec.specs.Fields.{kind_of, octet_at, mask_of};
+ghost use Rattle.lsa_codec.specs.Fields.{kind_of, byte_at, mask_of};
 ghost use Rattle.lsa_codec.specs.Links.{links_of, link_count, link_numbered};
 ghost use Rattle.lsa_codec.specs.LsTypes.{asbr_summary_lsa, external_lsa, network_lsa, router_lsa, summary_lsa};
 ghost use Rattle.lsa_codec.specs.Prefix.{is_mask};
@@ -152,7 +152,7 @@ impl<'a> RouterView<'a> {
     /// The byte of flags: the bits V (4, an endpoint of a virtual link), E (2, an AS boundary
     /// router) and B (1, an area border router), and others as they are.
     pub fn flags(&self) -> u8
-        ensures { result ≡ octet_at 20 self.now }
+        ensures { result ≡ byte_at 20 self.now }
     {
         self.lsa[20]
     }

@@ -1,4 +1,4 @@
--- Comparing sightings, and which of them are flushed.
+-- Comparing observations, and which of them are flushed.
 use Rattle.std.proofs.Common.{◌≡◌, ℕ, ◌-◌, ◌*◌, ◌<◌, ◌⊎◌, refl, sym, ◌∙◌, ap, inl, inr, List, [], ◌∷◌, ◌++◌, Bool, true, false, not}
 use Rattle.std.proofs.Common.{◌||◌, Option, Some, None, arith}
 use Rattle.std.specs.Prelude.{Contains}
@@ -13,10 +13,10 @@ use Rattle.std.proofs.lemmas.List.Folds.{list_any-append, list_any-from_Any}
 use Rattle.lsa_codec.specs.Fields.{age_of}
 use Rattle.lsa_codec.specs.Key.{is_at_max_age}
 use Rattle.lsa_instances.specs.declared.place.Place.{Place}
-use Rattle.lsa_instances.specs.declared.sighting.Sighting.{Sighting}
+use Rattle.lsa_instances.specs.declared.observation.Observation.{Observation}
 use Rattle.lsa_instances.specs.Instance.{instance_cmp}
 use Rattle.lsa_instances.specs.Order.{place_cmp, place_of}
-use Rattle.lsa_instances.specs.steps.SightingOrder.{sighting_cmp}
+use Rattle.lsa_instances.specs.steps.ObservationOrder.{observation_cmp}
 use Rattle.lsa_instances.specs.Newest.{second, is_after, flushes, is_flushed}
 use Rattle.lsa_instances.proofs.OrderLemmas.{instance_total, place_total}
 
@@ -99,32 +99,32 @@ above_less q r s l e g =
 
 module _ {A : Type 0} where
   -- x stands after all of these
-  pub record Behind (p : List (Sighting A)) (x : Sighting A) : Type 0 where
-    pub at : (y : Sighting A) → Contains p y → is_gt (sighting_cmp y x) ≡ false
+  pub record After (p : List (Observation A)) (x : Observation A) : Type 0 where
+    pub at : (y : Observation A) → Contains p y → is_gt (observation_cmp y x) ≡ false
 
-  pub later_place : (y x : Sighting A) → is_gt (sighting_cmp y x) ≡ false → is_gt (place_cmp (place_of y) (place_of x)) ≡ false
+  pub later_place : (y x : Observation A) → is_gt (observation_cmp y x) ≡ false → is_gt (place_cmp (place_of y) (place_of x)) ≡ false
   later_place y x h = (parts (place_cmp (place_of y) (place_of x)) (instance_cmp x.lsa y.lsa) h).0
 
-  pub later_instance : (y x : Sighting A) → is_gt (sighting_cmp y x) ≡ false → place_of y ≡ place_of x → is_gt (instance_cmp x.lsa y.lsa) ≡ false
+  pub later_instance : (y x : Observation A) → is_gt (observation_cmp y x) ≡ false → place_of y ≡ place_of x → is_gt (instance_cmp x.lsa y.lsa) ≡ false
   later_instance y x h e = (parts (place_cmp (place_of y) (place_of x)) (instance_cmp x.lsa y.lsa) h).1 (equal_places (place_of y) (place_of x) e)
 
   -- ---- flushes
 
-  pub flushes_itself : (y : Sighting A) → is_at_max_age y.lsa ≡ true → flushes y y ≡ true
+  pub flushes_itself : (y : Observation A) → is_at_max_age y.lsa ≡ true → flushes y y ≡ true
   flushes_itself y m =
       and_from _ _ m (and_from _ _ (ap is_eq (tied_itself place_total (place_of y)))
       (and_from _ _ (ap (λ o. not (is_gt o)) (tied_itself instance_total y.lsa)) (not_from_false _ (never_after y.seen (age_of y.lsa)))))
 
-  pub no_flush : (x y : Sighting A) → is_at_max_age x.lsa ≡ false → flushes x y ≡ false
+  pub no_flush : (x y : Observation A) → is_at_max_age x.lsa ≡ false → flushes x y ≡ false
   no_flush x y m = and_left _ _ m
 
-  pub lasting_is_live : (p : List (Sighting A)) (y : Sighting A) → Contains p y → is_flushed p y ≡ false → is_at_max_age y.lsa ≡ false
+  pub lasting_is_live : (p : List (Observation A)) (y : Observation A) → Contains p y → is_flushed p y ≡ false → is_at_max_age y.lsa ≡ false
   lasting_is_live p y c f =
       false_from_ne_true _ (λ m. both_ways (is_flushed p y) f
       (list_any-from_Any (λ g. flushes g y) p (any_of (λ g. flushes g y ≡ true) p y c (flushes_itself y m))))
 
-  pub grown : (p : List (Sighting A)) (x y : Sighting A) → is_flushed (p ++ x ∷ []) y ≡ (is_flushed p y || flushes x y)
+  pub grown : (p : List (Observation A)) (x y : Observation A) → is_flushed (p ++ x ∷ []) y ≡ (is_flushed p y || flushes x y)
   grown p x y = list_any-append (λ f. flushes f y) p (x ∷ []) ∙ ap (λ b. is_flushed p y || b) (or_end (flushes x y))
 
-  pub lasted : (p : List (Sighting A)) (x y : Sighting A) → is_flushed (p ++ x ∷ []) y ≡ false → is_flushed p y ≡ false
+  pub lasted : (p : List (Observation A)) (x y : Observation A) → is_flushed (p ++ x ∷ []) y ≡ false → is_flushed p y ≡ false
   lasted p x y f = (or_parts (is_flushed p y) (flushes x y) (sym (grown p x y) ∙ f)).0

@@ -1,4 +1,4 @@
--- What is kept of flushes decides which later sightings are flushed by those that were looked at.
+-- What is kept of flushes decides which later observations are flushed by those that were looked at.
 use Rattle.std.proofs.Common.{◌≡◌, ℕ, ◌-◌, ◌*◌, refl, sym, ◌∙◌, ap, inl, inr, List, [], ◌∷◌, ◌++◌, Bool, true, false, not, ◌&&◌, ◌||◌, Option, Some}
 use Rattle.std.proofs.Common.{None, max, arith}
 use Rattle.std.specs.Prelude.{nat_lt}
@@ -14,14 +14,14 @@ use Rattle.lsa_codec.specs.Fields.{age_of}
 use Rattle.lsa_codec.specs.Key.{is_at_max_age}
 use Rattle.lsa_instances.specs.declared.flush.Flush.{Flush}
 use Rattle.lsa_instances.specs.declared.place.Place.{Place}
-use Rattle.lsa_instances.specs.declared.sighting.Sighting.{Sighting}
+use Rattle.lsa_instances.specs.declared.observation.Observation.{Observation}
 use Rattle.lsa_instances.specs.Instance.{instance_cmp}
 use Rattle.lsa_instances.specs.Order.{place_cmp, place_of}
-use Rattle.lsa_instances.specs.steps.SightingOrder.{sighting_cmp}
+use Rattle.lsa_instances.specs.steps.ObservationOrder.{observation_cmp}
 use Rattle.lsa_instances.specs.Newest.{second, is_after, began_after, flushes, is_flushed}
 use Rattle.lsa_instances.specs.steps.Flushing.{is_stopped, latest, last_with, flush_after}
 use Rattle.lsa_instances.proofs.OrderLemmas.{place_exact, place_total}
-use Rattle.lsa_instances.proofs.Comparing.{Behind, any_append, eq_true, grown, later_instance, later_place, less_from, no_flush}
+use Rattle.lsa_instances.proofs.Comparing.{After, any_append, eq_true, grown, later_instance, later_place, less_from, no_flush}
 
 or_true : (b : Bool) → true ≡ (b || true)
 or_true true = refl
@@ -60,18 +60,18 @@ less_too q r s l Equal e g = place_total.congr q r s e ∙ l
 less_too q r s l Greater e g = cc
 
 module _ {A : Type 0} where
-  pub record Keeps (p : List (Sighting A)) (flush : Option Flush) : Type 0 where
-    pub stops : (y : Sighting A) → Behind p y → is_stopped flush y ≡ is_flushed p y
+  pub record Keeps (p : List (Observation A)) (flush : Option Flush) : Type 0 where
+    pub stops : (y : Observation A) → After p y → is_stopped flush y ≡ is_flushed p y
     pub held : (f : Flush) → flush ≡ Some f → Any (λ y. place_of y ≡ f.place) p
 
   pub none_kept : Keeps [] None
   none_kept = record { stops = λ y b. refl; held = λ f e. cc }
 
-  module _ (p : List (Sighting A)) (x : Sighting A) where
-    front : (y : Sighting A) → Behind (p ++ x ∷ []) y → Behind p y
+  module _ (p : List (Observation A)) (x : Observation A) where
+    front : (y : Observation A) → After (p ++ x ∷ []) y → After p y
     front y b = record { at = λ z c. b.at z (Contains-append_left p (x ∷ []) z c) }
 
-    -- a sighting that flushes nothing
+    -- an observation that flushes nothing
     pub keeps : (flush : Option Flush) → Keeps p flush → is_at_max_age x.lsa ≡ false → Keeps (p ++ x ∷ []) flush
     keeps flush k m = record {
       stops = λ y b. k.stops y (front y b) ∙ sym (grown p x y ∙ or_end (is_flushed p y) (flushes x y) (no_flush x y m));
@@ -79,7 +79,7 @@ module _ {A : Type 0} where
     }
 
     -- an instance of the LSA of x that is not newer is stopped by the flush, or by x
-    same_lsa : (flush : Option Flush) (y : Sighting A) → place_of x ≡ place_of y
+    same_lsa : (flush : Option Flush) (y : Observation A) → place_of x ≡ place_of y
         → not (began_after (last_with flush x) y) ≡ (is_stopped flush y || not (began_after x.seen y))
     same_lsa None y e = refl
     same_lsa (Some f) y e =
@@ -95,7 +95,7 @@ module _ {A : Type 0} where
         elim (cases_Bool (is_eq (place_cmp f.place (place_of x)))) as (λ _. Same)
         [ inl t ↦ at_true t | inr t ↦ at_false t ]
 
-    flushing : (y : Sighting A) → is_at_max_age x.lsa ≡ true → is_eq (place_cmp (place_of x) (place_of y)) ≡ true
+    flushing : (y : Observation A) → is_at_max_age x.lsa ≡ true → is_eq (place_cmp (place_of x) (place_of y)) ≡ true
         → is_gt (instance_cmp y.lsa x.lsa) ≡ false
         → flushes x y ≡ not (began_after x.seen y)
     flushing y m e g = all_but_last (is_at_max_age x.lsa) _ _ _ m e g
@@ -106,8 +106,8 @@ module _ {A : Type 0} where
         let rs : place_cmp r s ≡ Less = less_from (place_cmp r s) h (λ e. both_ways (is_eq (place_cmp r s)) n (ap is_eq e)) in
         ap is_eq (less_too q r s rs (place_cmp q r) refl g)
 
-    other_lsa : (flush : Option Flush) (y : Sighting A) → Behind p x → Keeps p flush
-        → is_gt (sighting_cmp x y) ≡ false → is_eq (place_cmp (place_of x) (place_of y)) ≡ false
+    other_lsa : (flush : Option Flush) (y : Observation A) → After p x → Keeps p flush
+        → is_gt (observation_cmp x y) ≡ false → is_eq (place_cmp (place_of x) (place_of y)) ≡ false
         → is_stopped flush y ≡ false
     other_lsa None y b k g n = refl
     other_lsa (Some f) y b k g n =
@@ -116,8 +116,8 @@ module _ {A : Type 0} where
         let h' : is_gt (place_cmp f.place (place_of x)) ≡ false = ap (λ q. is_gt (place_cmp q (place_of x))) (sym a.4) ∙ h in
         and_left _ _ (before_both f.place (place_of x) (place_of y) h' (later_place x y g) n)
 
-    -- a sighting at MaxAge
-    pub keeps_more : (flush : Option Flush) → Keeps p flush → Behind p x → is_at_max_age x.lsa ≡ true
+    -- an observation at MaxAge
+    pub keeps_more : (flush : Option Flush) → Keeps p flush → After p x → is_at_max_age x.lsa ≡ true
         → Keeps (p ++ x ∷ []) (Some (flush_after flush x))
     keeps_more flush k b m = record {
       stops = λ y d.

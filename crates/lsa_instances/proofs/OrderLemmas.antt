@@ -15,10 +15,10 @@ use Rattle.lsa_instances.specs.declared.header.InstanceId.{InstanceId}
 use Rattle.lsa_instances.specs.declared.place.Place.{Place}
 use Rattle.lsa_instances.specs.declared.place.Scope.{Scope}
 use Rattle.lsa_instances.specs.declared.place.Scope.TheVariants.{Area, AsWide}
-use Rattle.lsa_instances.specs.declared.sighting.Sighting.{Sighting}
+use Rattle.lsa_instances.specs.declared.observation.Observation.{Observation}
 use Rattle.lsa_instances.specs.Instance.{instance_cmp, instance_id_cmp, instance_id_of, seconds_of, signed}
 use Rattle.lsa_instances.specs.Order.{scope_number, area_of, scope_cmp, place_cmp, place_of}
-use Rattle.lsa_instances.specs.steps.SightingOrder.{sighting_cmp}
+use Rattle.lsa_instances.specs.steps.ObservationOrder.{observation_cmp}
 
 pub instance_id_total : IsTotalOrder instance_id_cmp
 instance_id_total = then_total (on_total (λ (i : InstanceId). signed i.sequence) nat_cmp_total) (on_total (λ (i : InstanceId). i.checksum) nat_cmp_total)
@@ -54,8 +54,8 @@ place_exact a b h =
     let p = then_both (scope_cmp a.scope b.scope) (key_cmp a.key b.key) h in
     λ i. record { scope = scope_exact a.scope b.scope p.0 i; key = key_exact a.key b.key p.1 i }
 
-newest_first : {A : Type 0} → IsTotalOrder (λ (x y : Sighting A). instance_cmp y.lsa x.lsa)
-newest_first {A} = back_total (on_total (λ (x : Sighting A). x.lsa) instance_total)
+newest_first : {A : Type 0} → IsTotalOrder (λ (x y : Observation A). instance_cmp y.lsa x.lsa)
+newest_first {A} = back_total (on_total (λ (x : Observation A). x.lsa) instance_total)
 
-pub sighting_total : {A : Type 0} → IsTotalOrder (sighting_cmp {A = A})
-sighting_total {A} = then_total (on_total (λ (x : Sighting A). place_of x) place_total) (newest_first {A = A})
+pub observation_total : {A : Type 0} → IsTotalOrder (observation_cmp {A = A})
+observation_total {A} = then_total (on_total (λ (x : Observation A). place_of x) place_total) (newest_first {A = A})

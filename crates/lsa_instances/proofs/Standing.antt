@@ -5,7 +5,7 @@ use Rattle.std.specs.Ordering.{bool_cmp, is_gt, ordering_then}
 use Rattle.std.specs.declared.cmp.Ordering.{Ordering}
 use Rattle.std.proofs.lemmas.List.Elements.{All-weaker}
 use Rattle.lsa_instances.specs.declared.keeping.FlushedLsas.TheVariants.{Kept, LeftOut}
-use Rattle.lsa_instances.specs.declared.sighting.Sighting.{Sighting}
+use Rattle.lsa_instances.specs.declared.observation.Observation.{Observation}
 use Rattle.lsa_instances.specs.Instance.{instance_cmp}
 use Rattle.lsa_instances.specs.Order.{place_of}
 use Rattle.lsa_instances.specs.Newest.{IsNewest, IsNoNewer, is_flushed}
@@ -15,20 +15,20 @@ both_live false false o h i g = g
 both_live false true o h i g = cc
 both_live true b o h i g = cc
 
-module _ {A : Type 0} (told : List (Sighting A)) (x : Sighting A) where
-  abbrev IsOlder : Sighting A → Type 0
-  IsOlder y = place_of y ≡ place_of x → is_flushed told y ≡ false → is_gt (instance_cmp y.lsa x.lsa) ≡ false
+module _ {A : Type 0} (reported : List (Observation A)) (x : Observation A) where
+  abbrev IsOlder : Observation A → Type 0
+  IsOlder y = place_of y ≡ place_of x → is_flushed reported y ≡ false → is_gt (instance_cmp y.lsa x.lsa) ≡ false
 
-  pub left_out : IsNewest LeftOut told x → (is_flushed told x ≡ false) × All IsOlder told
+  pub left_out : IsNewest LeftOut reported x → (is_flushed reported x ≡ false) × All IsOlder reported
   left_out n = (
     n.lasting,
-    All-weaker (IsNoNewer LeftOut told x) IsOlder
-        (λ y k e f. both_live (is_flushed told x) (is_flushed told y) _ n.lasting f (k e f)) told n.unsurpassed,
+    All-weaker (IsNoNewer LeftOut reported x) IsOlder
+        (λ y k e f. both_live (is_flushed reported x) (is_flushed reported y) _ n.lasting f (k e f)) reported n.unsurpassed,
   )
 
-  pub same : IsNewest Kept told x → is_flushed told x ≡ false → IsNewest LeftOut told x
+  pub same : IsNewest Kept reported x → is_flushed reported x ≡ false → IsNewest LeftOut reported x
   same n f = record {
-    told_so = n.told_so;
+    among_reported = n.among_reported;
     lasting = f;
-    unsurpassed = All-weaker (IsNoNewer Kept told x) (IsNoNewer LeftOut told x) (λ y k e g. k e refl) told n.unsurpassed;
+    unsurpassed = All-weaker (IsNoNewer Kept reported x) (IsNoNewer LeftOut reported x) (λ y k e g. k e refl) reported n.unsurpassed;
   }

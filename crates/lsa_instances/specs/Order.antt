@@ -9,7 +9,7 @@ use Rattle.lsa_codec.specs.Order.{key_cmp}
 use Rattle.lsa_instances.specs.declared.place.Place.{Place}
 use Rattle.lsa_instances.specs.declared.place.Scope.{Scope}
 use Rattle.lsa_instances.specs.declared.place.Scope.TheVariants.{Area, AsWide}
-use Rattle.lsa_instances.specs.declared.sighting.Sighting.{Sighting}
+use Rattle.lsa_instances.specs.declared.observation.Observation.{Observation}
 
 -- areas before the whole AS
 abbrev pub scope_number : Scope → ℕ
@@ -33,8 +33,8 @@ area_scope None = None
 area_scope (Some id) = Some (Area id)
 
 -- the scope of an LSA of this type that is reported in an area, or outside of all areas
-abbrev pub scope_told : ℕ → Option AreaId → Option Scope
-scope_told kind area = if has_as_scope kind then Some AsWide else area_scope area
+abbrev pub scope_of_report : ℕ → Option AreaId → Option Scope
+scope_of_report kind area = if has_as_scope kind then Some AsWide else area_scope area
 
 -- areas by their IDs, and after them the whole AS
 abbrev pub scope_cmp : Scope → Scope → Ordering
@@ -44,5 +44,5 @@ scope_cmp a b = ordering_then (nat_cmp (scope_number a) (scope_number b)) (nat_c
 abbrev pub place_cmp : Place → Place → Ordering
 place_cmp a b = ordering_then (scope_cmp a.scope b.scope) (key_cmp a.key b.key)
 
-abbrev pub place_of : {A : Type 0} → Sighting A → Place
+abbrev pub place_of : {A : Type 0} → Observation A → Place
 place_of x = record { scope = x.scope; key = key_of x.lsa }

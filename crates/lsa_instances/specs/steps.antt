@@ -1,3 +1,3 @@
 -- Steps of the code, which no public contract cites.
-pub mod SightingOrder
+pub mod ObservationOrder
 pub mod Flushing

@@ -30,7 +30,7 @@ impl AreaKind {
 
 /// An area and its kind, as a file reports them.
 #[derive(Clone, Copy, Debug, PartialEq, Eq)]
-pub struct ToldArea {
+pub struct AreaReport {
     /// The area.
     pub id: AreaId,
     /// What kind of area it is.

@@ -4,9 +4,9 @@ ghost use Rattle.std.specs.Prelude.{◌≡◌, Some};
 ghost use Rattle.lsa_instances.specs.Newest.{began_after};
 ghost use Rattle.lsa_instances.specs.steps.Flushing.{is_stopped, latest, flush_after};
 
+use crate::observation::Observation;
 use crate::order::compare_places;
 use crate::place::Place;
-use crate::sighting::Sighting;
 use byteorder::{BigEndian, ByteOrder};
 use std::alloc::Allocator;
 
@@ -15,14 +15,15 @@ use std::alloc::Allocator;
 pub(crate) struct Flush {
     /// The LSA.
     pub(crate) place: Place,
-    /// The moment, in nanoseconds since 1970; `None` where one of the sightings has no time stamp.
+    /// The moment, in nanoseconds since 1970; `None` where one of the observations has no time
+    /// stamp.
     pub(crate) last: Option<u64>,
 }
 
 /// Whether a copy began after a moment: a copy begins at its time stamp less its LS age. The bit
 /// DoNotAge counts as 32,768 seconds more (RFC 1793, 2.2): the age of such a copy does not say how
 /// long a router has held it.
-fn began_after<A: Allocator + Copy>(moment: Option<u64>, copy: &Sighting<A>) -> bool
+fn began_after<A: Allocator + Copy>(moment: Option<u64>, copy: &Observation<A>) -> bool
     ensures { result ≡ began_after moment copy.now }
 {
     let age = u64::from(BigEndian::read_u16(copy.lsa.bytes())) * 1_000_000_000;
@@ -42,8 +43,8 @@ fn latest(a: Option<u64>, b: Option<u64>) -> Option<u64>
     }
 }
 
-/// Whether a sighting is of the LSA that was flushed, and began no later.
-pub(crate) fn is_stopped<A: Allocator + Copy>(flush: Option<Flush>, copy: &Sighting<A>) -> bool
+/// Whether an observation is of the LSA that was flushed, and began no later.
+pub(crate) fn is_stopped<A: Allocator + Copy>(flush: Option<Flush>, copy: &Observation<A>) -> bool
     ensures { result ≡ is_stopped flush copy.now }
 {
     match flush {
@@ -54,8 +55,8 @@ pub(crate) fn is_stopped<A: Allocator + Copy>(flush: Option<Flush>, copy: &Sight
     }
 }
 
-/// The flush of the LSA of a sighting at MaxAge, joined with the flush seen before it.
-pub(crate) fn flush_after<A: Allocator + Copy>(flush: Option<Flush>, seen: &Sighting<A>) -> Flush
+/// The flush of the LSA of an observation at MaxAge, joined with the flush seen before it.
+pub(crate) fn flush_after<A: Allocator + Copy>(flush: Option<Flush>, seen: &Observation<A>) -> Flush
     ensures { result ≡ flush_after flush seen.now }
 {
     let place = seen.place();

@@ -10,10 +10,10 @@ ghost use Rattle.lsa_codec.specs.Order.{key_cmp};
 ghost use Rattle.lsa_instances.specs.declared.keeping.FlushedLsas.{FlushedLsas as Flushed};
 ghost use Rattle.lsa_instances.specs.declared.keeping.FlushedLsas.TheVariants.{Kept, LeftOut};
 ghost use Rattle.lsa_instances.specs.declared.place.Scope.{Scope as AnyScope};
-ghost use Rattle.lsa_instances.specs.declared.sighting.Sighting.{Sighting as AnySighting};
+ghost use Rattle.lsa_instances.specs.declared.observation.Observation.{Observation as AnyObservation};
 ghost use Rattle.lsa_instances.specs.Instance.{instance_cmp, IsNewerByRule};
 ghost use Rattle.lsa_instances.specs.Newest.{AreNewest, AreSame, IsNewest, is_flushed};
-ghost use Rattle.lsa_instances.specs.Newest.{lsas_of_scope, place_and_octets};
+ghost use Rattle.lsa_instances.specs.Newest.{lsas_of_scope, place_and_bytes};
 ghost use Rattle.lsa_instances.specs.Order.{place_of};
 
 use std::alloc::Allocator;
@@ -28,26 +28,27 @@ pub fn instance_order()
     ensures rule { (a b : List ℕ) → IsNewerByRule a b → instance_cmp a b ≡ Greater }
 {}
 
-/// The newest of sightings are the newest of the same sightings in any other order, as of files
-/// that are read in another order, and also where some of them are repeated.
+/// The newest of observations are the newest of the same observations in any other order, as of
+/// files that are read in another order, and also where some of them are repeated.
 pub fn newest_in_any_order<A: Allocator>()
-    ensures same { (flushed : Flushed) (told other newest : List (AnySighting A))
-        → IsPermutation told other → AreNewest flushed told newest
+    ensures same { (flushed : Flushed) (reported other newest : List (AnyObservation A))
+        → IsPermutation reported other → AreNewest flushed reported newest
         → AreNewest flushed other newest }
-    ensures again { (flushed : Flushed) (told other newest : List (AnySighting A))
-        → AreSame told other → AreNewest flushed told newest → AreNewest flushed other newest }
+    ensures again { (flushed : Flushed) (reported other newest : List (AnyObservation A))
+        → AreSame reported other → AreNewest flushed reported newest
+        → AreNewest flushed other newest }
 
     // Two answers have the same LSAs, byte for byte, in the same order.
-    ensures only { (flushed : Flushed) (told a b : List (AnySighting A))
-        → AreNewest flushed told a → AreNewest flushed told b
-        → map place_and_octets a ≡ map place_and_octets b }
+    ensures only { (flushed : Flushed) (reported a b : List (AnyObservation A))
+        → AreNewest flushed reported a → AreNewest flushed reported b
+        → map place_and_bytes a ≡ map place_and_bytes b }
 {}
 
 /// Within a scope the keys of the newest rise strictly: so each LSA stands once in its section, and
 /// the order of a section's LSAs depends on their keys alone.
 pub fn keys_rise<A: Allocator>()
-    ensures { (flushed : Flushed) (told newest : List (AnySighting A)) (scope : AnyScope)
-        → AreNewest flushed told newest
+    ensures { (flushed : Flushed) (reported newest : List (AnyObservation A)) (scope : AnyScope)
+        → AreNewest flushed reported newest
         → AllPairs (λ a b. key_cmp (key_of a) (key_of b) ≡ Less) (lsas_of_scope scope newest) }
 {}
 
@@ -55,13 +56,16 @@ pub fn keys_rise<A: Allocator>()
 /// no instance of it that was not flushed is newer. Where they are kept, each LSA that was seen
 /// stands: the same instance where one was not flushed, and else one at MaxAge.
 pub fn flushed_lsas<A: Allocator>()
-    ensures left_out { (told : List (AnySighting A)) (x : AnySighting A) → IsNewest LeftOut told x
-        → (is_flushed told x ≡ false) × All (λ y. place_of y ≡ place_of x
-        → is_flushed told y ≡ false → is_gt (instance_cmp y.lsa x.lsa) ≡ false) told }
-    ensures kept { (told newest : List (AnySighting A)) → AreNewest Kept told newest
-        → All (λ y. Any (λ x. place_of x ≡ place_of y) newest) told }
-    ensures same { (told : List (AnySighting A)) (x : AnySighting A) → IsNewest Kept told x
-        → is_flushed told x ≡ false → IsNewest LeftOut told x }
-    ensures max_age { (told : List (AnySighting A)) (x : AnySighting A) → IsNewest Kept told x
-        → is_flushed told x ≡ true → is_at_max_age x.lsa ≡ true }
+    ensures left_out { (reported : List (AnyObservation A)) (x : AnyObservation A)
+        → IsNewest LeftOut reported x
+        → (is_flushed reported x ≡ false) × All (λ y. place_of y ≡ place_of x
+        → is_flushed reported y ≡ false → is_gt (instance_cmp y.lsa x.lsa) ≡ false) reported }
+    ensures kept { (reported newest : List (AnyObservation A)) → AreNewest Kept reported newest
+        → All (λ y. Any (λ x. place_of x ≡ place_of y) newest) reported }
+    ensures same { (reported : List (AnyObservation A)) (x : AnyObservation A)
+        → IsNewest Kept reported x
+        → is_flushed reported x ≡ false → IsNewest LeftOut reported x }
+    ensures max_age { (reported : List (AnyObservation A)) (x : AnyObservation A)
+        → IsNewest Kept reported x
+        → is_flushed reported x ≡ true → is_at_max_age x.lsa ≡ true }
 {}

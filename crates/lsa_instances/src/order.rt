@@ -1,14 +1,14 @@
-//! The order of instances, and the order in which sightings are looked through.
+//! The order of instances, and the order in which observations are looked through.
 
 ghost use Rattle.std.specs.Prelude.{◌≡◌};
 ghost use Rattle.lsa_codec.specs.Fields.{age_of};
 ghost use Rattle.lsa_instances.specs.Instance.{instance_cmp, seconds_of};
 ghost use Rattle.lsa_instances.specs.Order.{place_cmp};
-ghost use Rattle.lsa_instances.specs.steps.SightingOrder.{sighting_cmp};
+ghost use Rattle.lsa_instances.specs.steps.ObservationOrder.{observation_cmp};
 
 use crate::header::{InstanceId, compare_instance_ids};
+use crate::observation::Observation;
 use crate::place::Place;
-use crate::sighting::Sighting;
 use byteorder::{BigEndian, ByteOrder};
 use lsa_codec::Lsa;
 use std::alloc::Allocator;
@@ -29,8 +29,8 @@ pub fn compare_instances<A: Allocator + Copy>(a: &Lsa<A>, b: &Lsa<A>) -> Orderin
     let instance = compare_instance_ids(InstanceId::of(a), InstanceId::of(b));
     let max_age = a.at_max_age().cmp(&b.at_max_age());
     let youth = seconds_of(b).cmp(&seconds_of(a));
-    let octets = a.bytes().cmp(b.bytes());
-    instance.then(max_age.then(youth.then(octets)))
+    let content = a.bytes().cmp(b.bytes());
+    instance.then(max_age.then(youth.then(content)))
 }
 
 /// Compares two places: by scope, then by key.
@@ -40,9 +40,12 @@ pub(crate) fn compare_places(a: Place, b: Place) -> Ordering
     a.cmp(&b)
 }
 
-/// Compares two sightings: by place, and the newest instance of each LSA first.
-pub(crate) fn compare_sightings<A: Allocator + Copy>(a: &Sighting<A>, b: &Sighting<A>) -> Ordering
-    ensures { result ≡ sighting_cmp a.now b.now }
+/// Compares two observations: by place, and the newest instance of each LSA first.
+pub(crate) fn compare_observations<A: Allocator + Copy>(
+    a: &Observation<A>,
+    b: &Observation<A>,
+) -> Ordering
+    ensures { result ≡ observation_cmp a.now b.now }
 {
     compare_places(a.place(), b.place()).then(compare_instances(&b.lsa, &a.lsa))
 }

@@ -1,7 +1,7 @@
 //! Where an LSA is flooded, and which LSA it is there.
 
 ghost use Rattle.std.specs.Prelude.{◌≡◌, Some};
-ghost use Rattle.lsa_instances.specs.Order.{has_as_scope, scope_in, scope_told};
+ghost use Rattle.lsa_instances.specs.Order.{has_as_scope, scope_in, scope_of_report};
 ghost use Rattle.lsa_instances.specs.Texts.{place_text};
 
 use lsa_codec::{AS_OPAQUE_LSA, AreaId, EXTERNAL_LSA, Key};
@@ -42,7 +42,7 @@ impl Scope {
     /// the whole AS, where its type has AS scope, else the area. `None` where it needs an area and
     /// has none.
     pub fn of(kind: u8, area: Option<AreaId>) -> Option<Scope>
-        ensures { result ≡ scope_told kind area }
+        ensures { result ≡ scope_of_report kind area }
     {
         if has_as_scope(kind) {
             return Some(Scope::AsWide);
@@ -51,7 +51,7 @@ impl Scope {
     }
 }
 
-/// The place of an LSA in a link state database: two sightings of one place are instances of one
+/// The place of an LSA in a link state database: two observations of one place are instances of one
 /// LSA. Places are ordered by scope, then by key.
 ///
 /// Its `Display` is a few words on one line, as `area 0.0.0.0 type 1 id 1.1.1.1 adv 1.1.1.1`,

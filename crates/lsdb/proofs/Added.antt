@@ -13,29 +13,29 @@ use Rattle.lsa_codec.specs.Accepted.{IsAccepted}
 use Rattle.lsdb.specs.Limits.{longest_dump}
 use Rattle.lsdb.specs.Lists.{AreaHead, SectionLsas, Lists, AreKeys, IsSection, AreHeads, IsDatabase, is_in_scope, limit_of, lsas_size, section_size}
 use Rattle.lsdb.specs.Lists.{size, heads_of, has_key}
-use Rattle.lsdb.specs.Places.{Place, Places, update_at, item_at, put, put_place, open_at, full, section_of, lists_of, places_in}
+use Rattle.lsdb.specs.Slots.{Slot, Slots, update_at, item_at, put, put_slot, open_at, full, section_of, lists_of, slots_in}
 use Rattle.lsdb.proofs.KeyLemmas.{own_key}
 use Rattle.lsdb.proofs.Middle.{all_mid, map_mid, map_two}
 use Rattle.lsdb.proofs.Dominated.{size_around}
 
--- the section with an LSA behind its last one
+-- the section with an LSA after its last one
 abbrev pub with_lsa : List ℕ → SectionLsas → SectionLsas
 with_lsa x s = record { area = s.area; lsas = s.lsas ++ x ∷ [] }
 
--- ---- the places
+-- ---- the slots
 
-full-new : (x : List ℕ) (ps : List Place) (n : ℕ) → n ≡ length ps → full (put_place (Some x) (ps ++ None ∷ []) n) ≡ full ps ++ x ∷ []
+full-new : (x : List ℕ) (ps : List Slot) (n : ℕ) → n ≡ length ps → full (put_slot (Some x) (ps ++ None ∷ []) n) ≡ full ps ++ x ∷ []
 full-new x [] zero e = refl
 full-new x [] (suc n) e = absurd (omega arith)
 full-new x (p ∷ ps) zero e = absurd (omega arith)
 full-new x (None ∷ ps) (suc n) e = full-new x ps n (omega arith)
 full-new x (Some y ∷ ps) (suc n) e = ap (λ (ys : List (List ℕ)). y ∷ ys) (full-new x ps n (omega arith))
 
--- a place that was opened at the end of a section, and then filled
-pub lists-new : (x : List ℕ) (d : Places) (section n : ℕ) → n ≡ length (places_in d section)
+-- a slot that was opened at the end of a section, and then filled
+pub lists-new : (x : List ℕ) (d : Slots) (section n : ℕ) → n ≡ length (slots_in d section)
     → lists_of (put (open_at d section) (record { section = section; index = n }) (Some x)) ≡ update_at (with_lsa x) (lists_of d) section
 lists-new x [] section n e = refl
-lists-new x (s ∷ ss) zero n e = ap (λ (ys : List (List ℕ)). record { area = s.area; lsas = ys } ∷ lists_of ss) (full-new x s.places n e)
+lists-new x (s ∷ ss) zero n e = ap (λ (ys : List (List ℕ)). record { area = s.area; lsas = ys } ∷ lists_of ss) (full-new x s.slots n e)
 lists-new x (s ∷ ss) (suc section) n e = ap (λ (ts : Lists). section_of s ∷ ts) (lists-new x ss section n e)
 
 -- ---- the section

@@ -6,7 +6,7 @@ use Rattle.std.proofs.lemmas.Bool.{eq-eqb, ne_eqb}
 use Rattle.std.proofs.lemmas.List.Elements.{All-head, All-tail}
 use Rattle.lsdb.specs.declared.section.Section.TheVariants.{Area}
 use Rattle.lsdb.specs.Lists.{AreaHead, SectionLsas, Lists, IsBefore, IsDatabase, areas_of, has_id, heads_of, is_section}
-use Rattle.lsdb.specs.Places.{Places, item_at, lists_of, IsNamed}
+use Rattle.lsdb.specs.Slots.{Slots, item_at, lists_of, IsNamed}
 use Rattle.lsdb.proofs.Middle.{pairs_head, pairs_tail}
 
 -- the section of an area, by its number and by its name
@@ -32,7 +32,7 @@ has_area : (db : Lists) (i : ℕ) (head : AreaHead) → AllPairs IsBefore (heads
 has_area [] i head pairs at = absurd cc
 has_area (s ∷ db) i head pairs at = by s.area refl i at (λ j there. has_area db j head (pairs_tail IsBefore s.area (heads_of db) pairs) there)
   where
-    -- nothing stands behind the LSAs of AS scope
+    -- nothing stands after the LSAs of AS scope
     last : (db : Lists) → All (IsBefore None) (heads_of db) → areas_of db ≡ []
     last [] h = refl
     last (t ∷ ts) h = absurd (All-head (IsBefore None) t.area (heads_of ts) h)
@@ -68,7 +68,7 @@ some_is : {X : Type 0} (o : Option X) (x : X) → o ≡ Some x → IsSome o
 some_is None x e = absurd cc
 some_is (Some y) x e = refl
 
-pub area_named : (d : Places) (i : ℕ) (head : AreaHead) → IsDatabase (lists_of d) → slice_get (areas_of (lists_of d)) i ≡ Some head
+pub area_named : (d : Slots) (i : ℕ) (head : AreaHead) → IsDatabase (lists_of d) → slice_get (areas_of (lists_of d)) i ≡ Some head
     → IsNamed d (Area (record { 0 = head.id })) i
 area_named d i head sound at =
     let has = has_area (lists_of d) i head sound.heads.order at in

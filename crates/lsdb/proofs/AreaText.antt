@@ -70,7 +70,7 @@ area_again before head lsas o rest good wide backbone above =
     let whole = section_text-split area in
     let regrouped : section_text area ++ rest ≡ id ++ (kind ++ (lsas_text lsas ++ rest)) =
     ap (λ (t : List ℕ). t ++ rest) whole ∙ append_assoc (id ++ kind) (lsas_text lsas) rest ∙ append_assoc id kind (lsas_text lsas ++ rest) in
-    let place : o + 4 + 1 + length (lsas_text lsas) ≡ o + length (section_text area) =
+    let slot : o + 4 + 1 + length (lsas_text lsas) ≡ o + length (section_text area) =
     omega (arith, ap length whole, length-append (id ++ kind) (lsas_text lsas), length-append id kind) in
     ap (λ (bytes : List ℕ). area_at before (here o bytes)) regrouped
     ∙ ap (λ (r : Result (ℕ × At) DumpFault). r >>= λ id. kind_at id.0 id.1 >>= λ kind. section_at (Some (head_with id.0 kind.0)) kind.1)
@@ -78,7 +78,7 @@ area_again before head lsas o rest good wide backbone above =
     ∙ ap (λ (r : Result (Bool × At) DumpFault). r >>= λ kind. section_at (Some (head_with head.id kind.0)) kind.1)
     (kind_again head.id head.is_stub (o + 4) (lsas_text lsas ++ rest) backbone)
     ∙ section_again (Some head) lsas (o + 4 + 1) rest good
-    ∙ ap (λ (k : ℕ). done (area, here k rest)) place
+    ∙ ap (λ (k : ℕ). done (area, here k rest)) slot
 
 -- ---- areas that were read
 
@@ -179,7 +179,7 @@ IsAfter before None = ⊥
 IsAfter None (Some a) = Unit {0}
 IsAfter (Some before) (Some a) = before.id < a.id
 
--- areas that may stand behind one with the head before
+-- areas that may stand after one with the head before
 pub record AreNext (before : Option AreaHead) (areas : Lists) : Type 0 where
   pub sections : All IsSection areas
   pub ids : All HasWideId (heads_of areas)
@@ -231,8 +231,8 @@ pub areas_again : (areas : Lists) (before : Option AreaHead) (seen : Lists) (o :
 unfolding areas_from
 areas_again [] before seen o rest good =
     let same : seen ≡ seen ++ [] = sym (append-nil seen) in
-    let place : o ≡ o + 0 = omega arith in
-    ap (λ (x : Lists). done (x, here o rest)) same ∙ ap (λ (k : ℕ). done (seen ++ [], here k rest)) place
+    let slot : o ≡ o + 0 = omega arith in
+    ap (λ (x : Lists). done (x, here o rest)) same ∙ ap (λ (k : ℕ). done (seen ++ [], here k rest)) slot
 areas_again (area ∷ areas) before seen o rest good =
     let others_text : List ℕ = flat_map section_text areas in
     let text : flat_map section_text (area ∷ areas) ≡ section_text area ++ others_text = flat_map-cons section_text area areas in
@@ -241,10 +241,10 @@ areas_again (area ∷ areas) before seen o rest good =
     let moved : (seen ++ area ∷ []) ++ areas ≡ seen ++ area ∷ areas = append_assoc seen (area ∷ []) areas in
     let first = next_area before area areas o (others_text ++ rest) good in
     let others = areas_again areas area.area (seen ++ area ∷ []) (o + length (section_text area)) rest first.1 in
-    let place : o + length (section_text area) + length others_text ≡ o + length (flat_map section_text (area ∷ areas)) =
+    let slot : o + length (section_text area) + length others_text ≡ o + length (flat_map section_text (area ∷ areas)) =
     omega (arith, ap length text, length-append (section_text area) others_text) in
     ap (λ (bytes : List ℕ). areas_from (suc (length areas)) before seen (here o bytes)) regrouped
     ∙ ap (λ (r : Result (SectionLsas × At) DumpFault). r >>= λ x. areas_from (length areas) x.0.area (seen ++ x.0 ∷ []) x.1) first.0
     ∙ others
     ∙ ap (λ (x : Lists). done (x, here (o + length (section_text area) + length others_text) rest)) moved
-    ∙ ap (λ (k : ℕ). done (seen ++ area ∷ areas, here k rest)) place
+    ∙ ap (λ (k : ℕ). done (seen ++ area ∷ areas, here k rest)) slot

@@ -1,11 +1,11 @@
--- The areas stand first, and one section behind them.
+-- The areas stand first, and one section after them.
 use Rattle.std.proofs.Common.{◌≡◌, ℕ, zero, suc, ◌<◌, true, List, [], ◌∷◌, length, get_or, Option, Some, None, refl, sym, ap, ◌∙◌, subst, arith}
 use Rattle.std.specs.Prelude.{AllPairs, IsSome, slice_get, option_map}
 use Rattle.std.specs.List.{list_any, filter_map, cons_option}
 use Rattle.lsdb.specs.declared.database.SectionOf.{SectionOf}
 use Rattle.lsdb.specs.Lists.{AreaHead, Lists, IsBefore, is_as_wide, AreHeads, heads_of, areas_of}
-use Rattle.lsdb.specs.Places.{lists_of}
-use Rattle.lsdb.specs.steps.View.{head_of, places_of}
+use Rattle.lsdb.specs.Slots.{lists_of}
+use Rattle.lsdb.specs.steps.View.{head_of, slots_of}
 use Rattle.lsdb.proofs.Middle.{pairs_tail}
 
 abbrev areas_in : List (Option AreaHead) → List AreaHead
@@ -15,7 +15,7 @@ areas_seen : (db : Lists) → areas_of db ≡ areas_in (heads_of db)
 areas_seen [] = refl
 areas_seen (s ∷ db) = ap (cons_option s.area) (areas_seen db)
 
--- nothing stands behind the LSAs of AS scope
+-- nothing stands after the LSAs of AS scope
 last_head : (head : Option AreaHead) (heads : List (Option AreaHead)) → AllPairs IsBefore (None ∷ head ∷ heads) → ⊥
 last_head head heads pairs = pairs zero (suc zero) None (omega arith) (omega arith)
 
@@ -47,20 +47,20 @@ area_at db i head h at within =
 
 -- ---- the sections in memory
 
-pub heads_seen : {A : Type 0} → (ss : List (SectionOf A)) → length (heads_of (lists_of (places_of ss))) ≡ length ss
+pub heads_seen : {A : Type 0} → (ss : List (SectionOf A)) → length (heads_of (lists_of (slots_of ss))) ≡ length ss
 heads_seen {A} [] = refl
 heads_seen {A} (s ∷ ss) = ap suc (heads_seen ss)
 
 head_seen : {A : Type 0} → (ss : List (SectionOf A)) (i : ℕ) (s : SectionOf A) → i < length ss
-    → s ≡ get_or ss i s → slice_get (heads_of (lists_of (places_of ss))) i ≡ Some (option_map head_of s.area)
+    → s ≡ get_or ss i s → slice_get (heads_of (lists_of (slots_of ss))) i ≡ Some (option_map head_of s.area)
 head_seen {A} [] i s within h = absurd (omega arith)
 head_seen {A} (t ∷ ss) zero s within h = ap (λ (x : SectionOf A). let head : Option (Option AreaHead) = Some (option_map head_of x.area) in head) (sym h)
 head_seen {A} (t ∷ ss) (suc i) s within h = head_seen ss i s (omega arith) h
 
 pub area_seen : {A : Type 0} → (ss : List (SectionOf A)) (i : ℕ) (s : SectionOf A)
-    → AreHeads (heads_of (lists_of (places_of ss))) → i < length (areas_of (lists_of (places_of ss)))
+    → AreHeads (heads_of (lists_of (slots_of ss))) → i < length (areas_of (lists_of (slots_of ss)))
     → s ≡ get_or ss i s
-    → (slice_get (areas_of (lists_of (places_of ss))) i ≡ option_map head_of s.area) × IsSome (option_map head_of s.area)
+    → (slice_get (areas_of (lists_of (slots_of ss))) i ≡ option_map head_of s.area) × IsSome (option_map head_of s.area)
 area_seen {A} ss i s h within here =
-    let db = lists_of (places_of ss) in
+    let db = lists_of (slots_of ss) in
     area_at db i (option_map head_of s.area) h (head_seen ss i s (omega (arith, areas_count db h, heads_seen ss, within)) here) within

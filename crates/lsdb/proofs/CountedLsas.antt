@@ -13,7 +13,7 @@ use Rattle.lsa_codec.specs.Links.{link_count, link_length, links_from, links_of}
 use Rattle.lsa_codec.proofs.LsaLemmas.{has_texts}
 use Rattle.lsdb.specs.declared.counts.LsaCounts.{LsaCounts}
 use Rattle.lsdb.specs.Counts.{AreFew, counts_of, has_bit_v, is_virtual, virtual_link_count}
-use Rattle.lsdb.specs.Places.{Place, item_at, put_place, full}
+use Rattle.lsdb.specs.Slots.{Slot, item_at, put_slot, full}
 use Rattle.lsdb.specs.steps.Counting.{CanAdd, CanTake, with_counts, without_counts}
 use Rattle.lsdb.specs.steps.NotedKeys.{FitSection}
 
@@ -55,9 +55,9 @@ same_counts : (k l m n p q : ℕ) → k ≡ l → m ≡ n → p ≡ q
     let b : LsaCounts = record { lsas = l; virtual_ends = n; virtual_links = q } in a ≡ b
 same_counts k l m n p q e f g = rw (e, f, g) refl
 
--- ---- one place more
+-- ---- one slot more
 
-full_two : (ps qs : List Place) → full (ps ++ qs) ≡ full ps ++ full qs
+full_two : (ps qs : List Slot) → full (ps ++ qs) ≡ full ps ++ full qs
 full_two [] qs = refl
 full_two (None ∷ ps) qs = full_two ps qs
 full_two (Some x ∷ ps) qs = ap (λ (xs : List (List ℕ)). x ∷ xs) (full_two ps qs)
@@ -66,11 +66,11 @@ length_two : (xs ys : List (List ℕ)) → length (xs ++ ys) ≡ length xs + len
 length_two [] ys = omega arith
 length_two (x ∷ xs) ys = omega (arith, length_two xs ys)
 
-pub full_more : (ps : List Place) (i : ℕ) (p : Place) → i < length ps → p ≡ get_or ps i p → full (take (i + 1) ps) ≡ full (take i ps) ++ full (p ∷ [])
+pub full_more : (ps : List Slot) (i : ℕ) (p : Slot) → i < length ps → p ≡ get_or ps i p → full (take (i + 1) ps) ≡ full (take i ps) ++ full (p ∷ [])
 full_more ps i p lt here =
-    ap full (take_more ps i p lt ∙ ap (λ (q : Place). take i ps ++ q ∷ []) (sym here)) ∙ full_two (take i ps) (p ∷ [])
+    ap full (take_more ps i p lt ∙ ap (λ (q : Slot). take i ps ++ q ∷ []) (sym here)) ∙ full_two (take i ps) (p ∷ [])
 
-pub counts_more : (ps : List Place) (i : ℕ) (p : Place) (so_far one new : LsaCounts) → i < length ps → p ≡ get_or ps i p
+pub counts_more : (ps : List Slot) (i : ℕ) (p : Slot) (so_far one new : LsaCounts) → i < length ps → p ≡ get_or ps i p
     → so_far ≡ counts_of (full (take i ps)) → one ≡ counts_of (full (p ∷ [])) → new ≡ with_counts so_far one → new ≡ counts_of (full (take (i + 1) ps))
 counts_more ps i p so_far one new lt here before this now =
     let xs : List (List ℕ) = full (take i ps) in
@@ -86,33 +86,33 @@ more_few i so_far one new few this now = rw now (record {
   virtual_links = omega (arith, few.virtual_links, this.virtual_links);
 })
 
--- ---- one place exchanged
+-- ---- one slot exchanged
 
-sum_first : (f : List ℕ → ℕ) (p : Place) (ps : List Place) → sum_by f (full (p ∷ ps)) ≡ sum_by f (full (p ∷ [])) + sum_by f (full ps)
+sum_first : (f : List ℕ → ℕ) (p : Slot) (ps : List Slot) → sum_by f (full (p ∷ ps)) ≡ sum_by f (full (p ∷ [])) + sum_by f (full ps)
 sum_first f None ps = omega arith
 sum_first f (Some x) ps = omega (arith, sum_by-cons f x (full ps), sum_by-cons f x [])
 
-sum_at : (f : List ℕ → ℕ) (ps : List Place) (n : ℕ) (p : Place) → item_at ps n ≡ Some p → sum_by f (full (p ∷ [])) ≤ sum_by f (full ps)
+sum_at : (f : List ℕ → ℕ) (ps : List Slot) (n : ℕ) (p : Slot) → item_at ps n ≡ Some p → sum_by f (full (p ∷ [])) ≤ sum_by f (full ps)
 sum_at f [] n p at = absurd cc
 sum_at f (q ∷ ps) zero p at =
     let same : q ≡ p = cc in
-    omega (arith, sum_first f q ps, ap (λ (r : Place). sum_by f (full (r ∷ []))) same)
+    omega (arith, sum_first f q ps, ap (λ (r : Slot). sum_by f (full (r ∷ []))) same)
 sum_at f (q ∷ ps) (suc n) p at = omega (arith, sum_first f q ps, sum_at f ps n p at)
 
-sum_put : (f : List ℕ → ℕ) (ps : List Place) (n : ℕ) (old x : Place) → item_at ps n ≡ Some old
-    → sum_by f (full (put_place x ps n)) + sum_by f (full (old ∷ [])) ≡ sum_by f (full ps) + sum_by f (full (x ∷ []))
+sum_put : (f : List ℕ → ℕ) (ps : List Slot) (n : ℕ) (old x : Slot) → item_at ps n ≡ Some old
+    → sum_by f (full (put_slot x ps n)) + sum_by f (full (old ∷ [])) ≡ sum_by f (full ps) + sum_by f (full (x ∷ []))
 sum_put f [] n old x at = absurd cc
 sum_put f (p ∷ ps) zero old x at =
     let same : p ≡ old = cc in
-    omega (arith, sum_first f p ps, sum_first f x ps, ap (λ (r : Place). sum_by f (full (r ∷ []))) same)
-sum_put f (p ∷ ps) (suc n) old x at = omega (arith, sum_first f p ps, sum_first f p (put_place x ps n), sum_put f ps n old x at)
+    omega (arith, sum_first f p ps, sum_first f x ps, ap (λ (r : Slot). sum_by f (full (r ∷ []))) same)
+sum_put f (p ∷ ps) (suc n) old x at = omega (arith, sum_first f p ps, sum_first f p (put_slot x ps n), sum_put f ps n old x at)
 
 -- how many LSAs there are is such a sum
 one_each : (lsas : List (List ℕ)) → sum_by (λ _. 1) lsas ≡ length lsas
 one_each [] = refl
 one_each (x ∷ xs) = omega (arith, sum_by-cons (λ (_ : List ℕ). 1) x xs, one_each xs)
 
-module _ (ps : List Place) (n : ℕ) (old x : Place) (at : item_at ps n ≡ Some old) where
+module _ (ps : List Slot) (n : ℕ) (old x : Slot) (at : item_at ps n ≡ Some old) where
   pub counts_at : CanTake (counts_of (full ps)) (counts_of (full (old ∷ [])))
   counts_at = record {
     lsas = omega (arith, sum_at (λ _. 1) ps n old at, one_each (full ps), one_each (full (old ∷ [])));
@@ -120,7 +120,7 @@ module _ (ps : List Place) (n : ℕ) (old x : Place) (at : item_at ps n ≡ Some
     virtual_links = sum_at virtual_link_count ps n old at;
   }
 
-  length_put : length (full (put_place x ps n)) + length (full (old ∷ [])) ≡ length (full ps) + length (full (x ∷ []))
+  length_put : length (full (put_slot x ps n)) + length (full (old ∷ [])) ≡ length (full ps) + length (full (x ∷ []))
   length_put =
       omega (
         arith,
@@ -128,18 +128,18 @@ module _ (ps : List Place) (n : ℕ) (old x : Place) (at : item_at ps n ≡ Some
         one_each (full ps),
         one_each (full (old ∷ [])),
         one_each (full (x ∷ [])),
-        one_each (full (put_place x ps n)),
+        one_each (full (put_slot x ps n)),
       )
 
-  pub counts_put : counts_of (full (put_place x ps n)) ≡ with_counts (without_counts (counts_of (full ps)) (counts_of (full (old ∷ [])))) (counts_of (full (x ∷ [])))
+  pub counts_put : counts_of (full (put_slot x ps n)) ≡ with_counts (without_counts (counts_of (full ps)) (counts_of (full (old ∷ [])))) (counts_of (full (x ∷ [])))
   counts_put = same_counts _ _ _ _ _ _
       (omega (arith, length_put, counts_at.lsas))
       (omega (arith, sum_put bit_count ps n old x at, counts_at.virtual_ends))
       (omega (arith, sum_put virtual_link_count ps n old x at, counts_at.virtual_links))
 
-  pub counts_fit : FitSection (put_place x ps n) → CanAdd (without_counts (counts_of (full ps)) (counts_of (full (old ∷ [])))) (counts_of (full (x ∷ [])))
+  pub counts_fit : FitSection (put_slot x ps n) → CanAdd (without_counts (counts_of (full ps)) (counts_of (full (old ∷ [])))) (counts_of (full (x ∷ [])))
   counts_fit sound =
-      let few = counts_few (full (put_place x ps n)) sound.accepted sound.few in
+      let few = counts_few (full (put_slot x ps n)) sound.accepted sound.few in
       record {
         lsas = omega (arith, few.lsas, ap (λ (c : LsaCounts). c.lsas) counts_put);
         virtual_ends = omega (arith, few.virtual_ends, ap (λ (c : LsaCounts). c.virtual_ends) counts_put);

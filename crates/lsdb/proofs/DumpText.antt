@@ -20,7 +20,7 @@ use Rattle.lsdb.specs.Loading.{◌>>=◌, At, number_at, section_at, areas_from,
 use Rattle.lsdb.specs.Loading.{beginning}
 use Rattle.lsdb.proofs.Middle.{all_at_mid, all_front, pairs_without}
 use Rattle.lsdb.proofs.Dominated.{section_with}
-use Rattle.lsdb.proofs.Fields.{IsBytes, bind_ok, guard_ok, passed_ok, ok_is, done, told, Takes, Takes-then, wide8, wide32, number_takes, number_again, here}
+use Rattle.lsdb.proofs.Fields.{IsBytes, bind_ok, guard_ok, passed_ok, ok_is, done, fault_at, Takes, Takes-then, wide8, wide32, number_takes, number_again, here}
 use Rattle.lsdb.proofs.SectionText.{lsas_text, section_takes, section_again}
 use Rattle.lsdb.proofs.AreaText.{section_text-split, IsUpTo, AreAreas, AreNext, no_areas, areas_take, areas_again}
 use Rattle.lsdb.proofs.LastSection.{split}
@@ -31,8 +31,8 @@ use Rattle.lsdb.proofs.TextSize.{sections_size, text_size}
 pub magic_takes : (at after : At) → IsBytes at.rest → magic_at at ≡ Ok after → Takes at (to_be_bytes w32 magic) after
 unfolding magic_at
 magic_takes at after fits e =
-    let a = bind_ok (number_at w32 at) (λ n. cond (eqb n.0 magic) (Ok n.1) (Err (told at BadMagic))) after e in
-    let b = passed_ok (eqb a.0.0 magic) (told at BadMagic) (Ok a.0.1) after a.2 in
+    let a = bind_ok (number_at w32 at) (λ n. cond (eqb n.0 magic) (Ok n.1) (Err (fault_at at BadMagic))) after e in
+    let b = passed_ok (eqb a.0.0 magic) (fault_at at BadMagic) (Ok a.0.1) after a.2 in
     let t = number_takes w32 (2 ^ 32) wide32 at a.0.0 a.0.1 fits a.1 in
     let taken : Takes at (to_be_bytes w32 magic) a.0.1 = subst (λ (k : ℕ). Takes at (to_be_bytes w32 k) a.0.1) (eqb-true _ _ b.0) t.0 in
     subst (λ (p : At). Takes at (to_be_bytes w32 magic) p) (ok_is a.0.1 after b.1) taken
@@ -40,8 +40,8 @@ magic_takes at after fits e =
 version_takes : (at after : At) → IsBytes at.rest → version_at at ≡ Ok after → Takes at (to_be_bytes w8 version) after
 unfolding version_at
 version_takes at after fits e =
-    let a = bind_ok (number_at w8 at) (λ n. cond (eqb n.0 version) (Ok n.1) (Err (told at BadVersion))) after e in
-    let b = passed_ok (eqb a.0.0 version) (told at BadVersion) (Ok a.0.1) after a.2 in
+    let a = bind_ok (number_at w8 at) (λ n. cond (eqb n.0 version) (Ok n.1) (Err (fault_at at BadVersion))) after e in
+    let b = passed_ok (eqb a.0.0 version) (fault_at at BadVersion) (Ok a.0.1) after a.2 in
     let t = number_takes w8 (2 ^ 8) wide8 at a.0.0 a.0.1 fits a.1 in
     let taken : Takes at (to_be_bytes w8 version) a.0.1 = subst (λ (k : ℕ). Takes at (to_be_bytes w8 k) a.0.1) (eqb-true _ _ b.0) t.0 in
     subst (λ (p : At). Takes at (to_be_bytes w8 version) p) (ok_is a.0.1 after b.1) taken
@@ -50,8 +50,8 @@ count_takes : (at : At) (n : ℕ) (after : At) → IsBytes at.rest → area_coun
     → Takes at (to_be_bytes w8 n) after × (n ≤ 64)
 unfolding area_count_at
 count_takes at n after fits e =
-    let a = bind_ok (number_at w8 at) (λ n. cond (ltb 64 n.0) (Err (told at TooManyAreas)) (Ok n)) (n, after) e in
-    let b = guard_ok (ltb 64 a.0.0) (told at TooManyAreas) (Ok a.0) (n, after) a.2 in
+    let a = bind_ok (number_at w8 at) (λ n. cond (ltb 64 n.0) (Err (fault_at at TooManyAreas)) (Ok n)) (n, after) e in
+    let b = guard_ok (ltb 64 a.0.0) (fault_at at TooManyAreas) (Ok a.0) (n, after) a.2 in
     let t = number_takes w8 (2 ^ 8) wide8 at a.0.0 a.0.1 fits a.1 in
     subst (λ (p : ℕ × At). Takes at (to_be_bytes w8 p.0) p.1 × (p.0 ≤ 64)) (ok_is a.0 (n, after) b.1) (t.0, ltb-false _ _ b.0)
 
@@ -162,12 +162,12 @@ dump_takes bytes db fits e =
     let b = bind_ok (version_at a.0) after_version db a.2 in
     let c = bind_ok (sections_at b.0) ended db b.2 in
     let found : Lists = c.0.0 in
-    let g = passed_ok (eqb (length c.0.1.rest) 0) (told c.0.1 TrailingBytes) (done found) db c.2 in
+    let g = passed_ok (eqb (length c.0.1.rest) 0) (fault_at c.0.1 TrailingBytes) (done found) db c.2 in
     let t0 = magic_takes start a.0 fits a.1 in
     let t1 = version_takes a.0 b.0 t0.rest_fits b.1 in
     let t2 = sections_take b.0 found c.0.1 t1.rest_fits c.1 in
-    let behind = Takes-then a.0 v b.0 (sections_text found) c.0.1 t1 t2.takes in
-    let all = Takes-then start m a.0 (v ++ sections_text found) c.0.1 t0 behind in
+    let beyond = Takes-then a.0 v b.0 (sections_text found) c.0.1 t1 t2.takes in
+    let all = Takes-then start m a.0 (v ++ sections_text found) c.0.1 t0 beyond in
     let nothing : c.0.1.rest ≡ [] = nil_from_length c.0.1.rest (eqb-true _ _ g.0) in
     let whole : bytes ≡ text found =
     all.parts ∙ ap (λ (r : List ℕ). m ++ (v ++ sections_text found) ++ r) nothing ∙ append-nil (m ++ (v ++ sections_text found)) ∙ sym (text-split found) in
@@ -176,7 +176,7 @@ dump_takes bytes db fits e =
 pub loaded_takes : (bytes : List ℕ) (db : Lists) → IsBytes bytes → loaded bytes ≡ Ok db → IsDatabase db × (bytes ≡ text db)
 unfolding loaded
 loaded_takes bytes db fits e =
-    let a = guard_ok (ltb longest_dump (length bytes)) (told (beginning bytes) TooLarge) (dump_at (beginning bytes)) db e in
+    let a = guard_ok (ltb longest_dump (length bytes)) (fault_at (beginning bytes) TooLarge) (dump_at (beginning bytes)) db e in
     let spelled = dump_takes bytes db fits a.1 in
     let small : length bytes ≤ longest_dump = ltb-false _ _ a.0 in
     (record { heads = spelled.heads; sections = spelled.sections; small = omega (arith, small, ap length spelled.text, text_size db) }, spelled.text)
@@ -187,14 +187,14 @@ pub magic_again : (rest : List ℕ) → magic_at (here 0 (to_be_bytes w32 magic 
 unfolding magic_at
 magic_again rest =
     let at : At = here 0 (to_be_bytes w32 magic ++ rest) in
-    ap (λ (r : Result (ℕ × At) DumpFault). r >>= λ n. cond (eqb n.0 magic) (Ok n.1) (Err (told at BadMagic)))
+    ap (λ (r : Result (ℕ × At) DumpFault). r >>= λ n. cond (eqb n.0 magic) (Ok n.1) (Err (fault_at at BadMagic)))
     (number_again w32 (2 ^ 32) wide32 magic 0 rest (omega arith))
 
 version_again : (rest : List ℕ) → version_at (here 4 (to_be_bytes w8 version ++ rest)) ≡ Ok (here 5 rest)
 unfolding version_at
 version_again rest =
     let at : At = here 4 (to_be_bytes w8 version ++ rest) in
-    ap (λ (r : Result (ℕ × At) DumpFault). r >>= λ n. cond (eqb n.0 version) (Ok n.1) (Err (told at BadVersion)))
+    ap (λ (r : Result (ℕ × At) DumpFault). r >>= λ n. cond (eqb n.0 version) (Ok n.1) (Err (fault_at at BadVersion)))
     (number_again w8 (2 ^ 8) wide8 version 4 rest (omega arith))
 
 count_again : (n : ℕ) (rest : List ℕ) → n ≤ 64 → area_count_at (here 5 (to_be_bytes w8 n ++ rest)) ≡ Ok (n, here 6 rest)
@@ -202,7 +202,7 @@ unfolding area_count_at
 count_again n rest few =
     let at : At = here 5 (to_be_bytes w8 n ++ rest) in
     let within : ltb 64 n ≡ false = le-ltb _ _ few in
-    ap (λ (r : Result (ℕ × At) DumpFault). r >>= λ n. cond (ltb 64 n.0) (Err (told at TooManyAreas)) (Ok n))
+    ap (λ (r : Result (ℕ × At) DumpFault). r >>= λ n. cond (ltb 64 n.0) (Err (fault_at at TooManyAreas)) (Ok n))
     (number_again w8 (2 ^ 8) wide8 n 5 rest (omega arith))
     ∙ rw within refl
 
@@ -217,15 +217,15 @@ sections_again areas lsas rest next few good =
     let db = areas ++ wide ∷ [] in
     let n : List ℕ = to_be_bytes w8 (length areas) in
     let listed : List ℕ = flat_map section_text areas in
-    let behind : List ℕ = lsas_text lsas ++ rest in
+    let beyond : List ℕ = lsas_text lsas ++ rest in
     let number : to_be_bytes w8 (area_count db) ≡ n = ap (to_be_bytes w8) (area_count-push areas wide) in
     let pieces : flat_map section_text db ≡ listed ++ lsas_text lsas = flat_map-push areas wide ∙ ap (λ (t : List ℕ). listed ++ t) (wide_text wide refl) in
-    let regrouped : sections_text db ++ rest ≡ n ++ (listed ++ behind) =
+    let regrouped : sections_text db ++ rest ≡ n ++ (listed ++ beyond) =
     ap (λ (t : List ℕ). t ++ flat_map section_text db ++ rest) number ∙ ap (λ (t : List ℕ). n ++ t ++ rest) pieces
     ∙ append_assoc n (listed ++ lsas_text lsas) rest ∙ ap (λ (t : List ℕ). n ++ t) (append_assoc listed (lsas_text lsas) rest) in
     ap (λ (bytes : List ℕ). sections_at (here 5 bytes)) regrouped
-    ∙ ap (λ (r : Result (ℕ × At) DumpFault). r >>= after_count) (count_again (length areas) (listed ++ behind) few)
-    ∙ ap (λ (r : Result (Lists × At) DumpFault). r >>= after_areas) (areas_again areas None [] 6 behind next)
+    ∙ ap (λ (r : Result (ℕ × At) DumpFault). r >>= after_count) (count_again (length areas) (listed ++ beyond) few)
+    ∙ ap (λ (r : Result (Lists × At) DumpFault). r >>= after_areas) (areas_again areas None [] 6 beyond next)
     ∙ ap (λ (r : Result (SectionLsas × At) DumpFault). r >>= with_wide areas) (section_again None lsas (6 + length listed) rest good)
 
 -- the sections of a database, whatever follows them
@@ -253,9 +253,9 @@ database_sections db rest good =
     let listed : List ℕ = flat_map section_text s.areas in
     let last : List ℕ = lsas_text s.wide.lsas in
     let pieces : flat_map section_text whole ≡ listed ++ last = flat_map-push s.areas wide ∙ ap (λ (t : List ℕ). listed ++ t) (wide_text wide refl) in
-    let place : 6 + length listed + length last ≡ size whole = omega (arith, sections_size whole, ap length pieces, length-append listed last) in
+    let slot : 6 + length listed + length last ≡ size whole = omega (arith, sections_size whole, ap length pieces, length-append listed last) in
     subst (λ (d : Lists). sections_at (here 5 (sections_text d ++ rest)) ≡ Ok (d, here (size d) rest)) (sym is)
-    (sections_again s.areas s.wide.lsas rest next few (all_at_mid IsSection s.areas [] wide sections) ∙ ap (λ (k : ℕ). done (whole, here k rest)) place)
+    (sections_again s.areas s.wide.lsas rest next few (all_at_mid IsSection s.areas [] wide sections) ∙ ap (λ (k : ℕ). done (whole, here k rest)) slot)
 
 dump_again : (db : Lists) → IsDatabase db → dump_at (beginning (text db)) ≡ Ok db
 unfolding dump_at
@@ -272,7 +272,7 @@ pub loaded_again : (db : Lists) → IsDatabase db → loaded (text db) ≡ Ok db
 unfolding loaded
 loaded_again db good =
     let small : ltb longest_dump (length (text db)) ≡ false = le-ltb _ _ (omega (arith, good.small, text_size db)) in
-    ap (λ (b : Bool). cond b (Err (told (beginning (text db)) TooLarge)) (dump_at (beginning (text db)))) small
+    ap (λ (b : Bool). cond b (Err (fault_at (beginning (text db)) TooLarge)) (dump_at (beginning (text db)))) small
     ∙ dump_again db good
 
 -- different databases have different texts

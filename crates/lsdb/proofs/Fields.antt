@@ -50,8 +50,8 @@ ok_is x y e = cc
 abbrev pub here : ℕ → List ℕ → At
 here offset rest = record { offset = offset; rest = rest }
 
-abbrev pub told : At → DumpFaultKind → DumpFault
-told at kind = record { offset = at.offset; kind = kind }
+abbrev pub fault_at : At → DumpFaultKind → DumpFault
+fault_at at kind = record { offset = at.offset; kind = kind }
 
 -- what a reader took from the front
 pub record Takes (at : At) (text : List ℕ) (after : At) : Type 0 where
@@ -108,7 +108,7 @@ pub number_takes : (w : Width) (limit : ℕ) (wide : IsWide w limit) (at : At) (
 number_takes w limit wide at n after fits e =
     let bytes : List ℕ = at.rest in
     let g =
-    guard_ok (ltb (length bytes) (byte_len w)) (told at Truncated) (Ok (from_be_bytes w (take (byte_len w) bytes), advanced (byte_len w) at)) (n, after) e in
+    guard_ok (ltb (length bytes) (byte_len w)) (fault_at at Truncated) (Ok (from_be_bytes w (take (byte_len w) bytes), advanced (byte_len w) at)) (n, after) e in
     let long : byte_len w ≤ length bytes = ltb-false _ _ g.0 in
     let both = ok_is (from_be_bytes w (take (byte_len w) bytes), advanced (byte_len w) at) (n, after) g.1 in
     let n-is : from_be_bytes w (take (byte_len w) bytes) ≡ n = ap (λ (p : ℕ × At). p.0) both in

@@ -13,9 +13,9 @@ use Rattle.lsa_codec.specs.Links.{is_transit, links_of}
 use Rattle.lsa_codec.specs.LsTypes.{router_lsa, network_lsa}
 use Rattle.lsa_codec.specs.Making.{leads_to_net}
 use Rattle.lsdb.specs.declared.transit_filters.TransitFilter.{TransitFilter}
-use Rattle.lsdb.specs.Places.{Place, item_at}
+use Rattle.lsdb.specs.Slots.{Slot, item_at}
 use Rattle.lsdb.specs.TransitFilters.{block_bit, may_have, is_of_network, AreTransitFilters}
-use Rattle.lsdb.specs.steps.Filtering.{no_networks, with_network, with_link, with_links, filter_of_lsa, filter_of_place, filters_of}
+use Rattle.lsdb.specs.steps.Filtering.{no_networks, with_network, with_link, with_links, filter_of_lsa, filter_of_slot, filters_of}
 
 -- ---- bits
 
@@ -93,7 +93,7 @@ pub one_link_more : (links : List Link) (filter : TransitFilter) (link : Link)
 one_link_more [] filter link = refl
 one_link_more (other ∷ links) filter link = one_link_more links (with_link filter other) link
 
--- ---- LSAs and places
+-- ---- LSAs and slots
 
 lsa_may : (lsa : List ℕ) (network : Addr) → is_of_network network lsa ≡ true → may_have network (filter_of_lsa lsa) ≡ true
 lsa_may lsa network own = by_router (kind_of lsa == router_lsa) own where
@@ -114,34 +114,34 @@ lsa_may lsa network own = by_router (kind_of lsa == router_lsa) own where
 some_same : (x y : TransitFilter) → (let o : Option TransitFilter = Some x in o) ≡ Some y → x ≡ y
 some_same x y is = cc
 
-pub are_filters : (places : List Place) (filters : List TransitFilter) → filters ≡ filters_of places → AreTransitFilters places filters
-are_filters places filters is = record {
-  count = ap length is ∙ length-map places filter_of_place;
+pub are_filters : (slots : List Slot) (filters : List TransitFilter) → filters ≡ filters_of slots → AreTransitFilters slots filters
+are_filters slots filters is = record {
+  count = ap length is ∙ length-map slots filter_of_slot;
   whole = λ index lsa filter network at filtered own.
       let same : filter_of_lsa lsa ≡ filter =
-      some_same _ _ (sym (ap (λ (fs : List TransitFilter). item_at fs index) is ∙ slice_get-map filter_of_place places index
-      ∙ ap (λ (o : Option Place). option_map filter_of_place o) at) ∙ filtered) in
+      some_same _ _ (sym (ap (λ (fs : List TransitFilter). item_at fs index) is ∙ slice_get-map filter_of_slot slots index
+      ∙ ap (λ (o : Option Slot). option_map filter_of_slot o) at) ∙ filtered) in
       ap (λ (f : TransitFilter). may_have network f) (sym same) ∙ lsa_may lsa network own;
 }
 
--- what stands at a place was exchanged, and its filter made anew
-pub filters_put : (old : List Place) (before : List TransitFilter) (index : ℕ) (v : Place) (places : List Place) (after : List TransitFilter)
-    → before ≡ filters_of old → places ≡ set old index v → index < length old
-    → after ≡ set before index (filter_of_place (get_or places index None)) → after ≡ filters_of (set old index v)
-filters_put old before index v places after sound put within is =
+-- what stands at a slot was exchanged, and its filter rebuilt
+pub filters_put : (old : List Slot) (before : List TransitFilter) (index : ℕ) (v : Slot) (slots : List Slot) (after : List TransitFilter)
+    → before ≡ filters_of old → slots ≡ set old index v → index < length old
+    → after ≡ set before index (filter_of_slot (get_or slots index None)) → after ≡ filters_of (set old index v)
+filters_put old before index v slots after sound put within is =
     is
-    ∙ ap (λ (fs : List TransitFilter). set fs index (filter_of_place (get_or places index None))) sound
-    ∙ ap (λ (p : Place). set (filters_of old) index (filter_of_place p)) (ap (λ (ps : List Place). get_or ps index None) put ∙ set_here old index v within)
-    ∙ sym (map-set filter_of_place old index v)
+    ∙ ap (λ (fs : List TransitFilter). set fs index (filter_of_slot (get_or slots index None))) sound
+    ∙ ap (λ (p : Slot). set (filters_of old) index (filter_of_slot p)) (ap (λ (ps : List Slot). get_or ps index None) put ∙ set_here old index v within)
+    ∙ sym (map-set filter_of_slot old index v)
   where
-    set_here : (ps : List Place) (i : ℕ) (p : Place) → i < length ps → get_or (set ps i p) i None ≡ p
+    set_here : (ps : List Slot) (i : ℕ) (p : Slot) → i < length ps → get_or (set ps i p) i None ≡ p
     set_here [] i p lt = absurd (omega arith)
     set_here (q ∷ ps) zero p lt = refl
     set_here (q ∷ ps) (suc i) p lt = set_here ps i p (omega arith)
 
--- an empty place was opened
-pub filters_opened : (old places : List Place) (before after : List TransitFilter) → before ≡ filters_of old → places ≡ old ++ None ∷ []
-    → after ≡ before ++ no_networks ∷ [] → after ≡ filters_of places
-filters_opened old places before after sound opened is =
-    is ∙ ap (λ (fs : List TransitFilter). fs ++ no_networks ∷ []) sound ∙ sym (map-append filter_of_place old (None ∷ []))
+-- an empty slot was opened
+pub filters_opened : (old slots : List Slot) (before after : List TransitFilter) → before ≡ filters_of old → slots ≡ old ++ None ∷ []
+    → after ≡ before ++ no_networks ∷ [] → after ≡ filters_of slots
+filters_opened old slots before after sound opened is =
+    is ∙ ap (λ (fs : List TransitFilter). fs ++ no_networks ∷ []) sound ∙ sym (map-append filter_of_slot old (None ∷ []))
     ∙ ap filters_of (sym opened)

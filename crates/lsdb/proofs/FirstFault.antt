@@ -1,12 +1,12 @@
--- The fault that is told of a failed reading is the first, or want of memory.
+-- The fault that is reported of a failed reading is the first, or want of memory.
 use Rattle.std.proofs.Common.{◌≡◌, Result, Err, inl, inr, ap, ◌∙◌, sym}
 use Rattle.lsdb.specs.declared.fault.DumpFault.{DumpFault}
 use Rattle.lsdb.specs.declared.fault.ReadError.{ReadError}
 use Rattle.lsdb.specs.declared.fault.ReadError.TheVariants as errors
 use Rattle.lsdb.specs.Loading.{IsFirstFault}
-use Rattle.lsdb.specs.steps.Reading.{Fails, told_fault}
+use Rattle.lsdb.specs.steps.Reading.{Fails, reported_fault}
 
-pub first_told : {Y : Type 0} (error : ReadError) (fault : DumpFault) (answer : Result Y DumpFault) → fault ≡ told_fault error
+pub first_reported : {Y : Type 0} (error : ReadError) (fault : DumpFault) (answer : Result Y DumpFault) → fault ≡ reported_fault error
     → Fails error answer → IsFirstFault fault answer
-first_told {Y} errors.Memory fault answer is fails = inl is
-first_told {Y} (errors.Fault f) fault answer is fails = inr (fails ∙ ap (λ (d : DumpFault). Err d) (sym is))
+first_reported {Y} errors.Memory fault answer is fails = inl is
+first_reported {Y} (errors.Fault f) fault answer is fails = inr (fails ∙ ap (λ (d : DumpFault). Err d) (sym is))

@@ -10,7 +10,7 @@ use Rattle.lsdb.specs.Lists.{AreaHead, Lists, SectionLsas}
 use Rattle.lsdb.specs.Loading.{◌>>=◌, At, number_at, placed, accepted, lsa_at, lsas_from, counted_at, section_at, id_at, kind_at, area_at, areas_from, magic_at, version_at, area_count_at, sections_at, dump_at, loaded, beginning}
 use Rattle.lsdb.specs.Loading.{first_lsa_at, section_front_at, area_front_at, first_section_at, sections_front_at, front_at, front_loaded}
 use Rattle.lsdb.specs.BaseLoading.{session_version_at, base_at, base_front_at, small_base, base_loaded, base_front_loaded}
-use Rattle.lsdb.specs.steps.Reading.{Fails, IsWantAfter, told_fault}
+use Rattle.lsdb.specs.steps.Reading.{Fails, IsWantAfter, reported_fault}
 
 -- each fault of one reading is the fault of another
 abbrev pub Leads : {A B : Type 0} → Result A DumpFault → Result B DumpFault → Type 0
@@ -109,7 +109,7 @@ front_refuses {Y} {Z} less more y f leads is fault = let no : ◌≡◌ {A = Res
 
 -- where it has one, memory did not run out
 pub front_reported : {Y Z : Type 0} (error : ReadError) (less : Result Z DumpFault) (more : Result Y DumpFault) (f : DumpFault) → Leads less more
-    → Fails error more → IsWantAfter less error → less ≡ Err f → told_fault error ≡ f
+    → Fails error more → IsWantAfter less error → less ≡ Err f → reported_fault error ≡ f
 front_reported {Y} {Z} errors.Memory less more f leads fails want is =
     let no : false ≡ true = subst (λ (r : Result Z DumpFault). IsOk r) is want in
     absurd cc

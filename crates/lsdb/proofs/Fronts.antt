@@ -13,7 +13,7 @@ use Rattle.lsdb.specs.Loading.{◌>>=◌, At, fault, number_at, placed, accepted
 use Rattle.lsdb.specs.Loading.{first_lsa_at, section_front_at, area_front_at, first_section_at, area_count_at, sections_front_at}
 use Rattle.lsdb.specs.steps.Reading.{IsWantAfter}
 use Rattle.lsdb.proofs.Dominated.{section_with}
-use Rattle.lsdb.proofs.Fields.{bind_ok, guard_ok, passed_ok, ok_is, done, told}
+use Rattle.lsdb.proofs.Fields.{bind_ok, guard_ok, passed_ok, ok_is, done, fault_at}
 
 -- memory ran out after what was read, and so after less of it
 pub want_after : {Y Z : Type 0} (e : ReadError) (more : Result Y DumpFault) (less : Result Z DumpFault) → (IsOk more → IsOk less)
@@ -44,7 +44,7 @@ unfolding section_at section_front_at
 section_front area at x e =
     let a = bind_ok (number_at w16 at) (λ count. counted_at area at count >>= λ lsas. Ok (section_with area lsas.0, lsas.1)) x e in
     let b = bind_ok (counted_at area at a.0) (λ lsas. Ok (section_with area lsas.0, lsas.1)) x a.2 in
-    let c = guard_ok (ltb (limit_of area) a.0.0) (told at TooManyLsas) (lsas_from area a.0.0 [] a.0.1) b.0 b.1 in
+    let c = guard_ok (ltb (limit_of area) a.0.0) (fault_at at TooManyLsas) (lsas_from area a.0.0 [] a.0.1) b.0 b.1 in
     rw (a.1, c.0) (lsas_front area a.0.0 a.0.1 b.0 c.1)
 
 pub section_started : (area : Option AreaHead) (at rest : At) (count : ℕ) (x : List (List ℕ) × At) → number_at w16 at ≡ Ok (count, rest)
@@ -59,7 +59,7 @@ pub any_id : (before : Option AreaHead) (at : At) (x : ℕ × At) → id_at befo
 unfolding id_at
 any_id before at x e =
     let a = bind_ok (number_at w32 at) (λ id. cond (is_above id.0 before) (Ok id) (fault at AreaOrder)) x e in
-    let b = passed_ok (is_above a.0.0 before) (told at AreaOrder) (done a.0) x a.2 in
+    let b = passed_ok (is_above a.0.0 before) (fault_at at AreaOrder) (done a.0) x a.2 in
     rw a.1 b.1
 
 abbrev head_with : ℕ × At → Bool × At → AreaHead

@@ -8,7 +8,7 @@ use Rattle.lsdb.specs.declared.fault.DumpFaultKind.TheVariants.{AreaOrder, BadAr
 use Rattle.lsdb.specs.Lists.{AreaHead}
 use Rattle.lsdb.specs.Text.{kind_number}
 use Rattle.lsdb.specs.Loading.{◌>>=◌, At, number_at, is_above, id_at, kind_at}
-use Rattle.lsdb.proofs.Fields.{IsBytes, bind_ok, guard_ok, passed_ok, ok_is, told, Takes, wide8, wide32, number_takes, number_again, here}
+use Rattle.lsdb.proofs.Fields.{IsBytes, bind_ok, guard_ok, passed_ok, ok_is, fault_at, Takes, wide8, wide32, number_takes, number_again, here}
 
 -- ---- the ID
 
@@ -16,8 +16,8 @@ pub id_takes : (before : Option AreaHead) (at : At) (id : ℕ) (after : At) → 
     → Takes at (to_be_bytes w32 id) after × (id < 2 ^ 32) × (is_above id before ≡ true)
 unfolding id_at
 id_takes before at id after fits e =
-    let a = bind_ok (number_at w32 at) (λ n. cond (is_above n.0 before) (Ok n) (Err (told at AreaOrder))) (id, after) e in
-    let b = passed_ok (is_above a.0.0 before) (told at AreaOrder) (Ok a.0) (id, after) a.2 in
+    let a = bind_ok (number_at w32 at) (λ n. cond (is_above n.0 before) (Ok n) (Err (fault_at at AreaOrder))) (id, after) e in
+    let b = passed_ok (is_above a.0.0 before) (fault_at at AreaOrder) (Ok a.0) (id, after) a.2 in
     let t = number_takes w32 (2 ^ 32) wide32 at a.0.0 a.0.1 fits a.1 in
     subst (λ (p : ℕ × At). Takes at (to_be_bytes w32 p.0) p.1 × (p.0 < 2 ^ 32) × (is_above p.0 before ≡ true)) (ok_is a.0 (id, after) b.1) (t.0, t.1, b.0)
 
@@ -37,8 +37,8 @@ not_both false y e t = absurd cc
 
 -- what is made of the number of a kind
 abbrev kind_from : ℕ → At → ℕ × At → Result (Bool × At) DumpFault
-kind_from id at kind = cond (ltb 1 kind.0) (Err (told at BadAreaKind))
-    (cond (eqb id 0 && eqb kind.0 1) (Err (told at BackboneStub)) (Ok (eqb kind.0 1, kind.1)))
+kind_from id at kind = cond (ltb 1 kind.0) (Err (fault_at at BadAreaKind))
+    (cond (eqb id 0 && eqb kind.0 1) (Err (fault_at at BackboneStub)) (Ok (eqb kind.0 1, kind.1)))
 
 pub kind_takes : (id : ℕ) (at : At) (is_stub : Bool) (after : At) → IsBytes at.rest → kind_at id at ≡ Ok (is_stub, after)
     → Takes at (to_be_bytes w8 (kind_number is_stub)) after × (id ≡ 0 → is_stub ≡ false)
@@ -46,8 +46,8 @@ unfolding kind_at
 kind_takes id at is_stub after fits e =
     let a = bind_ok (number_at w8 at) (kind_from id at) (is_stub, after) e in
     let n : ℕ = a.0.0 in
-    let b = guard_ok (ltb 1 n) (told at BadAreaKind) _ (is_stub, after) a.2 in
-    let c = guard_ok (eqb id 0 && eqb n 1) (told at BackboneStub) (Ok (eqb n 1, a.0.1)) (is_stub, after) b.1 in
+    let b = guard_ok (ltb 1 n) (fault_at at BadAreaKind) _ (is_stub, after) a.2 in
+    let c = guard_ok (eqb id 0 && eqb n 1) (fault_at at BackboneStub) (Ok (eqb n 1, a.0.1)) (is_stub, after) b.1 in
     let t = number_takes w8 (2 ^ 8) wide8 at n a.0.1 fits a.1 in
     let number : n ≡ kind_number (eqb n 1) = kind_number_is n (ltb-false _ _ b.0) in
     let backbone : id ≡ 0 → eqb n 1 ≡ false = λ zero. not_both (eqb id 0) (eqb n 1) c.0 (eq-eqb _ _ zero) in

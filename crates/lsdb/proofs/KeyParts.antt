@@ -20,9 +20,9 @@ use Rattle.lsa_codec.specs.declared.key.Key.{Key}
 use Rattle.lsa_codec.specs.Key.{key_of}
 use Rattle.lsa_codec.specs.Order.{key_cmp}
 use Rattle.lsa_codec.proofs.OrderLemmas.{key_total, key_exact, then_both}
-use Rattle.lsdb.specs.declared.keyed_places.KeyAt.{KeyAt}
+use Rattle.lsdb.specs.declared.keyed_slots.KeyAt.{KeyAt}
 use Rattle.lsdb.specs.KeyRanges.{AreKeysBetween, HaveWidths, IsRising, noted_cmp, pairs_of, is_between}
-use Rattle.lsdb.specs.Places.{Place, item_at, full}
+use Rattle.lsdb.specs.Slots.{Slot, item_at, full}
 use Rattle.lsdb.specs.steps.NotedKeys.{AreNoted, IsPartBetween}
 use Rattle.lsdb.proofs.KeyLemmas.{same_key_true}
 use Rattle.lsdb.proofs.MergedLists.{every_merged, in_either, rising_merged}
@@ -73,13 +73,13 @@ rising_at keys i j d rising lt within =
     ∙ ap (key_cmp (get_or (keys_of (pairs_of keys)) i d.key)) (sym (key_at keys j d))
     ∙ Less-from_sorted key_cmp (keys_of (pairs_of keys)) i j d.key rising lt (omega (arith, key_count keys))
 
-same_place : (p : KeyAt → Bool) (keys : List KeyAt) (i j : ℕ) (d : KeyAt) → i ≡ j → p (get_or keys j d) ≡ true → p (get_or keys i d) ≡ true
-same_place p keys i j d e h = ap (λ (k : ℕ). p (get_or keys k d)) e ∙ h
+same_slot : (p : KeyAt → Bool) (keys : List KeyAt) (i j : ℕ) (d : KeyAt) → i ≡ j → p (get_or keys j d) ≡ true → p (get_or keys i d) ≡ true
+same_slot p keys i j d e h = ap (λ (k : ℕ). p (get_or keys k d)) e ∙ h
 
 pub parted_below : (low : Key) (keys : List KeyAt) → IsRising keys → IsPartitionedBy (is_below low) keys
 parted_below low keys rising i j d le within pass = ⊎_elim
     (λ lt. ap is_lt (key_total.trans (get_or keys i d).key (get_or keys j d).key low (rising_at keys i j d rising lt within) (less_is _ pass)))
-    (λ ge. same_place (is_below low) keys i j d (omega arith) pass)
+    (λ ge. same_slot (is_below low) keys i j d (omega arith) pass)
     (cases_lt i j)
 
 pub parted_upto : (high : Key) (keys : List KeyAt) → IsRising keys → IsPartitionedBy (is_upto high) keys
@@ -90,7 +90,7 @@ parted_upto high keys rising i j d le within pass = ⊎_elim
     (λ less. ap is_le (key_total.trans (get_or keys i d).key (get_or keys j d).key high before less))
     (λ equal. ap is_le (ap (key_cmp (get_or keys i d).key) (sym (key_exact (get_or keys j d).key high equal)) ∙ before))
     (upto_is _ pass))
-    (λ ge. same_place (is_upto high) keys i j d (omega arith) pass)
+    (λ ge. same_slot (is_upto high) keys i j d (omega arith) pass)
     (cases_lt i j)
 
 pub rising_drop : (n : ℕ) (keys : List KeyAt) → IsRising keys → IsRising (drop n keys)
@@ -160,21 +160,21 @@ part_between keys rest low high start end rising is first last =
       whole = whole_part keys low high start end first ends;
     })
 
--- ---- the keys of the LSAs at places
+-- ---- the keys of the LSAs at slots
 
 at_pair : (keys : List KeyAt) (k : ℕ) (e : KeyAt) → get_or (pairs_of keys) k (e.key, e.index) ≡ (e.key, e.index) → get_or keys k e ≡ e
 at_pair [] k e h = refl
 at_pair (x ∷ xs) zero e h = λ i. record { key = (h i).0; index = (h i).1 }
 at_pair (x ∷ xs) (suc k) e h = at_pair xs k e h
 
-noted_there : (ps : List Place) (keys latest : List KeyAt) (i : ℕ) (lsa : List ℕ) → AreNoted ps keys latest → item_at ps i ≡ Some (Some lsa)
+noted_there : (ps : List Slot) (keys latest : List KeyAt) (i : ℕ) (lsa : List ℕ) → AreNoted ps keys latest → item_at ps i ≡ Some (Some lsa)
     → Contains (latest ++ keys) (record { key = key_of lsa; index = i })
 noted_there ps keys latest i lsa sound at =
     let all : List KeyAt = latest ++ keys in
     let found = Contains-from_lookup same_key_true (key_of lsa) i (pairs_of all) (sound.whole i lsa at) in
     (found.0, omega (arith, found.1, length-map {B = Key × ℕ} all (λ noted. (noted.key, noted.index))), at_pair all found.0 _ found.2)
 
-all_full : (P : List ℕ → Type 0) (ps : List Place) (i : ℕ) (lsa : List ℕ) → All P (full ps) → item_at ps i ≡ Some (Some lsa) → P lsa
+all_full : (P : List ℕ → Type 0) (ps : List Slot) (i : ℕ) (lsa : List ℕ) → All P (full ps) → item_at ps i ≡ Some (Some lsa) → P lsa
 all_full P [] i lsa h at = absurd cc
 all_full P (None ∷ ps) zero lsa h at = absurd cc
 all_full P (Some x ∷ ps) zero lsa h at = let same : x ≡ lsa = cc in subst P same (All-head P x (full ps) h)
@@ -200,7 +200,7 @@ noted_exact a b h =
     let same = then_both (key_cmp a.key b.key) (nat_cmp a.index b.index) h in
     λ i. record { key = key_exact a.key b.key same.0 i; index = exact_unsigned a.index b.index same.1 i }
 
-pub keys_between : (ps : List Place) (keys latest part other : List KeyAt) (low high : Key) → AreNoted ps keys latest → All HaveWidths (full ps)
+pub keys_between : (ps : List Slot) (keys latest part other : List KeyAt) (low high : Key) → AreNoted ps keys latest → All HaveWidths (full ps)
     → IsPartBetween keys low high part → IsPartBetween latest low high other → AreKeysBetween ps low high (sorted_merge noted_cmp true part other)
 keys_between ps keys latest part other low high sound widths between last = record {
   rising = rising_merged noted_cmp noted_total part other (rising_noted part between.rising) (rising_noted other last.rising);

@@ -49,7 +49,7 @@ is_at_key a b =
 pub no_keys : (keys : BTreeSet Key) → IsEmpty keys → HasKeys keys []
 no_keys keys e key = ap (λ (ks : List Key). list_any (is_at (key_cmp key)) ks) e
 
--- the set tells whether the key of an LSA was seen
+-- the set shows whether the key of an LSA was seen
 pub inserted : (keys : BTreeSet Key) (seen : List (List ℕ)) (lsa : List ℕ) (key : Key) (added : Bool)
     → HasKeys keys seen → key ≡ key_of lsa → added ≡ not (contains key_cmp keys key)
     → added ≡ not (has_key_of seen lsa)

@@ -1,4 +1,4 @@
--- Each LSA's key with the index of its place: told apart, and in order once sorted.
+-- Each LSA's key with the index of its slot: distinguished, and in order once sorted.
 use Rattle.std.proofs.Common.{◌≡◌, ◌≢◌, ℕ, zero, suc, ◌+◌, ◌<◌, true, false, List, [], ◌∷◌, ◌++◌, map, get_or, drop, length, Some, None, refl, sym, ap, subst, ◌∙◌, arith, append_assoc}
 use Rattle.std.specs.Prelude.{AllPairs}
 use Rattle.std.specs.List.{Contains, IsDistinct}
@@ -15,8 +15,8 @@ use Rattle.lsa_codec.specs.declared.key.Key.{Key}
 use Rattle.lsa_codec.specs.Key.{key_of}
 use Rattle.lsa_codec.specs.Order.{key_cmp}
 use Rattle.lsa_codec.proofs.OrderLemmas.{key_total}
-use Rattle.lsdb.specs.Places.{Place, item_at, full}
-use Rattle.lsdb.specs.declared.keyed_places.KeyAt.{KeyAt}
+use Rattle.lsdb.specs.Slots.{Slot, item_at, full}
+use Rattle.lsdb.specs.declared.keyed_slots.KeyAt.{KeyAt}
 use Rattle.lsdb.specs.Lists.{same_key}
 use Rattle.lsdb.specs.steps.NotedKeys.{pairs_of, noted_index, AreApart, IsRising, AreNoted, keys_from}
 use Rattle.lsdb.proofs.KeyLemmas.{same_key_true}
@@ -24,28 +24,28 @@ use Rattle.lsdb.proofs.Keys.{is_at_key}
 use Rattle.lsdb.proofs.NotedKeys.{laws}
 use Rattle.lsdb.proofs.Searching.{turn}
 
-named : (n : ℕ) (ps : List Place) → keys_of (pairs_of (keys_from n ps)) ≡ map key_of (full ps)
+named : (n : ℕ) (ps : List Slot) → keys_of (pairs_of (keys_from n ps)) ≡ map key_of (full ps)
 named n [] = refl
 named n (None ∷ ps) = named (suc n) ps
 named n (Some x ∷ ps) = ap (λ (ks : List Key). key_of x ∷ ks) (named (suc n) ps)
 
--- ---- a loop over the places
+-- ---- a loop over the slots
 
-abbrev pub KeysSoFar : List Place → ℕ → List KeyAt → Type 0
+abbrev pub KeysSoFar : List Slot → ℕ → List KeyAt → Type 0
 KeysSoFar ps i done = done ++ keys_from i (drop i ps) ≡ keys_from 0 ps
 
-pub keys_empty : (ps : List Place) (i j : ℕ) (p : Place) (done : List KeyAt) → i < length ps → j ≡ suc i → p ≡ get_or ps i p → p ≡ None
+pub keys_empty : (ps : List Slot) (i j : ℕ) (p : Slot) (done : List KeyAt) → i < length ps → j ≡ suc i → p ≡ get_or ps i p → p ≡ None
     → KeysSoFar ps i done → KeysSoFar ps j done
 keys_empty ps i j p done lt e here is so_far =
     let t = turn ps i (suc i) p lt refl here in
-    let rest : drop i ps ≡ None ∷ drop (suc i) ps = t.rest ∙ ap (λ (q : Place). q ∷ drop (suc i) ps) is in
-    subst (λ (k : ℕ). KeysSoFar ps k done) (sym e) (sym (ap (λ (qs : List Place). done ++ keys_from i qs) rest) ∙ so_far)
+    let rest : drop i ps ≡ None ∷ drop (suc i) ps = t.rest ∙ ap (λ (q : Slot). q ∷ drop (suc i) ps) is in
+    subst (λ (k : ℕ). KeysSoFar ps k done) (sym e) (sym (ap (λ (qs : List Slot). done ++ keys_from i qs) rest) ∙ so_far)
 
-pub keys_full : (ps : List Place) (i j : ℕ) (p : Place) (x : List ℕ) (key : Key) (done : List KeyAt) → i < length ps → j ≡ suc i → p ≡ get_or ps i p → p ≡ Some x
+pub keys_full : (ps : List Slot) (i j : ℕ) (p : Slot) (x : List ℕ) (key : Key) (done : List KeyAt) → i < length ps → j ≡ suc i → p ≡ get_or ps i p → p ≡ Some x
     → key ≡ key_of x → KeysSoFar ps i done → KeysSoFar ps j (done ++ record { key = key; index = i } ∷ [])
 keys_full ps i j p x key done lt e here is named so_far =
     let t = turn ps i (suc i) p lt refl here in
-    let rest : drop i ps ≡ Some x ∷ drop (suc i) ps = t.rest ∙ ap (λ (q : Place). q ∷ drop (suc i) ps) is in
+    let rest : drop i ps ≡ Some x ∷ drop (suc i) ps = t.rest ∙ ap (λ (q : Slot). q ∷ drop (suc i) ps) is in
     let one : keys_from i (drop i ps) ≡ record { key = key_of x; index = i } ∷ keys_from (suc i) (drop (suc i) ps) = ap (keys_from i) rest in
     let moved : (done ++ record { key = key_of x; index = i } ∷ []) ++ keys_from (suc i) (drop (suc i) ps) ≡ done ++ keys_from i (drop i ps) =
     append_assoc done (record { key = key_of x; index = i } ∷ []) (keys_from (suc i) (drop (suc i) ps)) ∙ sym (ap (λ (es : List KeyAt). done ++ es) one) in
@@ -60,7 +60,7 @@ in_tail e f es h = (suc h.0, omega (arith, h.1), h.2)
 at_head : (e f : Key × ℕ) (es : List (Key × ℕ)) → f ≡ e → Contains (f ∷ es) e
 at_head e f es is = (0, omega arith, is)
 
-pair_of : (n i m : ℕ) (ps : List Place) (lsa : List ℕ) → m ≡ n + i → item_at ps i ≡ Some (Some lsa) → Contains (pairs_of (keys_from n ps)) (key_of lsa, m)
+pair_of : (n i m : ℕ) (ps : List Slot) (lsa : List ℕ) → m ≡ n + i → item_at ps i ≡ Some (Some lsa) → Contains (pairs_of (keys_from n ps)) (key_of lsa, m)
 pair_of n i m [] lsa e at = absurd cc
 pair_of n zero m (None ∷ ps) lsa e at = absurd cc
 pair_of n (suc i) m (None ∷ ps) lsa e at = pair_of (suc n) i m ps lsa (omega arith) at
@@ -75,19 +75,19 @@ distinct_keys : (ks : List Key) → AllPairs (λ a b. a ≢ b) ks → IsDistinct
 distinct_keys ks h =
     IsDistinct-from_apart same_key ks (λ i j d lt within. false_from_ne_true _ (λ e. h i j d lt within (same_key_true (get_or ks i d) (get_or ks j d) e)))
 
-distinct_from : (ps : List Place) → AreApart ps → IsDistinct same_key (keys_of (pairs_of (keys_from 0 ps)))
+distinct_from : (ps : List Slot) → AreApart ps → IsDistinct same_key (keys_of (pairs_of (keys_from 0 ps)))
 distinct_from ps apart = subst (λ (ks : List Key). IsDistinct same_key ks) (sym (named 0 ps)) (distinct_keys (map key_of (full ps)) apart)
 
-own_place : (ps : List Place) → AreApart ps → (i : ℕ) (lsa : List ℕ) → item_at ps i ≡ Some (Some lsa) → noted_index (keys_from 0 ps) (key_of lsa) ≡ Some i
-own_place ps apart i lsa at = lookup-from_Contains laws (key_of lsa) i (pairs_of (keys_from 0 ps)) (distinct_from ps apart) (pair_of 0 i i ps lsa (omega arith) at)
+own_slot : (ps : List Slot) → AreApart ps → (i : ℕ) (lsa : List ℕ) → item_at ps i ≡ Some (Some lsa) → noted_index (keys_from 0 ps) (key_of lsa) ≡ Some i
+own_slot ps apart i lsa at = lookup-from_Contains laws (key_of lsa) i (pairs_of (keys_from 0 ps)) (distinct_from ps apart) (pair_of 0 i i ps lsa (omega arith) at)
 
 some_of : (i j : ℕ) → Some i ≡ Some j → i ≡ j
 some_of i j e = cc
 
--- one key, one place
-pub one_place : (ps : List Place) → AreApart ps → (i j : ℕ) (a b : List ℕ) → item_at ps i ≡ Some (Some a) → item_at ps j ≡ Some (Some b) → key_of a ≡ key_of b → i ≡ j
-one_place ps apart i j a b at_i at_j same =
-    some_of i j (sym (own_place ps apart i a at_i) ∙ ap (noted_index (keys_from 0 ps)) same ∙ own_place ps apart j b at_j)
+-- one key, one slot
+pub one_slot : (ps : List Slot) → AreApart ps → (i j : ℕ) (a b : List ℕ) → item_at ps i ≡ Some (Some a) → item_at ps j ≡ Some (Some b) → key_of a ≡ key_of b → i ≡ j
+one_slot ps apart i j a b at_i at_j same =
+    some_of i j (sym (own_slot ps apart i a at_i) ∙ ap (noted_index (keys_from 0 ps)) same ∙ own_slot ps apart j b at_j)
 
 -- ---- sorted
 
@@ -128,7 +128,7 @@ none_rising : IsRising []
 unfolding IsStrictlySortedBy
 none_rising = tt
 
-pub noted_once_sorted : (ps : List Place) (keys : List KeyAt) → AreApart ps → IsPermutation (keys_from 0 ps) keys
+pub noted_once_sorted : (ps : List Slot) (keys : List KeyAt) → AreApart ps → IsPermutation (keys_from 0 ps) keys
     → IsSortedByKey (λ (e : KeyAt). e.key) key_cmp keys → AreNoted ps keys []
 noted_once_sorted ps keys apart moved sorted =
     let pairs : IsPermutation (pairs_of (keys_from 0 ps)) (pairs_of keys) =

@@ -1,4 +1,4 @@
--- The LSAs of AS scope are the last section of a database, behind its areas.
+-- The LSAs of AS scope are the last section of a database, after its areas.
 use Rattle.std.proofs.Common.{◌≡◌, true, [], ◌∷◌, ◌++◌, Option, Some, None, refl, sym, ap, subst}
 use Rattle.std.specs.Prelude.{All, AllPairs}
 use Rattle.std.specs.List.{list_any}
@@ -15,7 +15,7 @@ pub record Split (db : Lists) : Type 0 where
   pub none : wide.area ≡ None
   pub after : All (IsAfter None) (heads_of areas)
 
--- nothing stands behind the LSAs of AS scope
+-- nothing stands after the LSAs of AS scope
 split_none : (s : SectionLsas) (ss : Lists) → s.area ≡ None → AllPairs IsBefore (heads_of (s ∷ ss)) → Split (s ∷ ss)
 split_none s [] is order = record { areas = []; wide = s; is = refl; none = is; after = All-nil (IsAfter None) }
 split_none s (t ∷ ts) is order =

@@ -98,11 +98,11 @@ module _ {X : Type 0} (order : X → X → Ordering) where
       (λ equal. (0, omega arith, exact x y equal ∙ is))
       (λ _. (0, omega arith, is))
   second_step x xs z exact rest (y ∷ ys) (suc k, within, is) =
-      let behind : Contains ys z = (k, omega (arith, within), is) in
+      let beyond : Contains ys z = (k, omega (arith, within), is) in
       by_order (λ zs. Contains zs z) (order x y) _ _ _
       (λ _. in_tail x (merged xs (y ∷ ys)) z (rest (y ∷ ys) (suc k, within, is)))
-      (λ _. in_tail x (merged xs ys) z (rest ys behind))
-      (λ _. in_tail y (merged (x ∷ xs) ys) z (second_step x xs z exact rest ys behind))
+      (λ _. in_tail x (merged xs ys) z (rest ys beyond))
+      (λ _. in_tail y (merged (x ∷ xs) ys) z (second_step x xs z exact rest ys beyond))
 
   in_second : CmpEqualImpliesEq order → (xs ys : List X) (z : X) → Contains ys z → Contains (merged xs ys) z
   in_second exact [] ys z has = has
@@ -114,17 +114,17 @@ module _ {X : Type 0} (order : X → X → Ordering) where
       by_order (λ zs. Contains zs z) (order x y) _ _ _ (λ _. (0, omega arith, is)) (λ _. (0, omega arith, is))
       (λ _. in_tail y (merged (x ∷ xs) ys) z (first_here x xs z is ys))
 
-  first_behind : (x : X) (xs : List X) (z : X) → ((ys : List X) → Contains (merged xs ys) z) → (ys : List X) → Contains (merged (x ∷ xs) ys) z
-  first_behind x xs z rest [] = in_tail x xs z (subst (λ (zs : List X). Contains zs z) (alone xs) (rest []))
-  first_behind x xs z rest (y ∷ ys) =
+  first_after : (x : X) (xs : List X) (z : X) → ((ys : List X) → Contains (merged xs ys) z) → (ys : List X) → Contains (merged (x ∷ xs) ys) z
+  first_after x xs z rest [] = in_tail x xs z (subst (λ (zs : List X). Contains zs z) (alone xs) (rest []))
+  first_after x xs z rest (y ∷ ys) =
       by_order (λ zs. Contains zs z) (order x y) _ _ _
       (λ _. in_tail x (merged xs (y ∷ ys)) z (rest (y ∷ ys))) (λ _. in_tail x (merged xs ys) z (rest ys))
-      (λ _. in_tail y (merged (x ∷ xs) ys) z (first_behind x xs z rest ys))
+      (λ _. in_tail y (merged (x ∷ xs) ys) z (first_after x xs z rest ys))
 
   in_first : (xs : List X) (z : X) → Contains xs z → (ys : List X) → Contains (merged xs ys) z
   in_first [] z has ys = absurd (omega (arith, has.1))
   in_first (x ∷ xs) z (zero, within, is) ys = first_here x xs z is ys
-  in_first (x ∷ xs) z (suc k, within, is) ys = first_behind x xs z (in_first xs z (k, omega (arith, within), is)) ys
+  in_first (x ∷ xs) z (suc k, within, is) ys = first_after x xs z (in_first xs z (k, omega (arith, within), is)) ys
 
   pub in_either : CmpEqualImpliesEq order → (xs ys : List X) (z : X) → Contains xs z ⊎ Contains ys z → Contains (merged xs ys) z
   in_either exact xs ys z has = ⊎_elim (λ first. in_first xs z first ys) (λ second. in_second exact xs ys z second) has

@@ -14,13 +14,13 @@ use Rattle.std.proofs.lemmas.List.Sorted.{searchable_from_sorted}
 use Rattle.lsa_codec.specs.declared.key.Key.{Key}
 use Rattle.lsa_codec.specs.Order.{key_cmp}
 use Rattle.lsa_codec.proofs.OrderLemmas.{key_total, key_exact}
-use Rattle.lsdb.specs.declared.keyed_places.KeyAt.{KeyAt}
+use Rattle.lsdb.specs.declared.keyed_slots.KeyAt.{KeyAt}
 use Rattle.lsdb.specs.Lists.{same_key}
 use Rattle.lsdb.specs.steps.NotedKeys.{pairs_of, noted_index, IsRising, IsFoundAt, IsGapFor, Notes}
 use Rattle.lsdb.proofs.Keys.{is_at_key}
 use Rattle.lsdb.proofs.Searching.{turn_map}
 
--- ---- keys that the order does not tell apart are the same
+-- ---- keys that the order does not distinguish are the same
 
 by_cmp : eq_by_cmp key_cmp ≡ same_key
 by_cmp = λ i a b. is_at_key a b i
@@ -123,9 +123,9 @@ noted_front (x ∷ xs) ys q i is = by_test (same_key q x.key) (λ e. noted_front
   by_test true rest e = e
   by_test false rest e = rest e
 
-pub noted_behind : (xs ys : List KeyAt) (q : Key) → noted_index xs q ≡ None → noted_index (xs ++ ys) q ≡ noted_index ys q
-noted_behind [] ys q none = refl
-noted_behind (x ∷ xs) ys q none = by_test (same_key q x.key) (λ e. noted_behind xs ys q e) none where
+pub noted_after : (xs ys : List KeyAt) (q : Key) → noted_index xs q ≡ None → noted_index (xs ++ ys) q ≡ noted_index ys q
+noted_after [] ys q none = refl
+noted_after (x ∷ xs) ys q none = by_test (same_key q x.key) (λ e. noted_after xs ys q e) none where
   by_test : (b : Bool) → (noted_index xs q ≡ None → noted_index (xs ++ ys) q ≡ noted_index ys q) → cond b (Some x.index) (noted_index xs q) ≡ None
       → cond b (Some x.index) (noted_index (xs ++ ys) q) ≡ noted_index ys q
   by_test true rest e = absurd cc
@@ -140,7 +140,7 @@ pub notes_among : (old new keys : List KeyAt) (key : Key) (index : ℕ) → Note
     → noted_index (new ++ keys) q ≡ cond (same_key key q) (Some index) (noted_index (old ++ keys) q)
 notes_among old new keys key index notes q = by_test (same_key key q) (notes.noted q) where
   by_old : (o : Option ℕ) → noted_index old q ≡ o → noted_index new q ≡ noted_index old q → noted_index (new ++ keys) q ≡ noted_index (old ++ keys) q
-  by_old None is same = noted_behind new keys q (same ∙ is) ∙ sym (noted_behind old keys q is)
+  by_old None is same = noted_after new keys q (same ∙ is) ∙ sym (noted_after old keys q is)
   by_old (Some i) is same = noted_front new keys q i (same ∙ is) ∙ sym (noted_front old keys q i is)
 
   by_test : (b : Bool) → noted_index new q ≡ cond b (Some index) (noted_index old q)

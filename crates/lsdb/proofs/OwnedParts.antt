@@ -14,7 +14,7 @@ use Rattle.std.proofs.lemmas.List.{length-take, length-drop, get_or-take, get_or
 use Rattle.std.proofs.lemmas.List.Elements.{Contains-append_cases}
 use Rattle.std.proofs.lemmas.Map.Keys.{Less-from_sorted}
 use Rattle.std.proofs.lemmas.Map.Lookups.{CmpEqualImpliesEq}
-use Rattle.lsdb.specs.steps.PlaceIndex.{IsPartOf}
+use Rattle.lsdb.specs.steps.SlotIndex.{IsPartOf}
 use Rattle.lsdb.proofs.MergedLists.{every_merged, in_either, rising_merged}
 
 -- ---- an order of owners, and of indices of one owner
@@ -82,8 +82,8 @@ module _ {X K : Type 0} (owner : X → K) (index : X → ℕ) (order : K → K �
   ordered xs i j d rising lt within = ⊎_elim (λ less. inl less) (λ same. inr (same.0, ranked _ _ Less (sym same.1)))
       (then_less _ _ (Less-from_sorted (by_owner owner index order) xs i j d rising lt within))
 
-  same_place : (p : X → Bool) (xs : List X) (i j : ℕ) (d : X) → i ≡ j → p (get_or xs j d) ≡ true → p (get_or xs i d) ≡ true
-  same_place p xs i j d e h = ap (λ (k : ℕ). p (get_or xs k d)) e ∙ h
+  same_slot : (p : X → Bool) (xs : List X) (i j : ℕ) (d : X) → i ≡ j → p (get_or xs j d) ≡ true → p (get_or xs i d) ≡ true
+  same_slot p xs i j d e h = ap (λ (k : ℕ). p (get_or xs k d)) e ∙ h
 
   pub parted_before : (one : K) (xs : List X) → IsStrictlySortedBy (by_owner owner index order) xs → IsPartitionedBy (is_before one) xs
   parted_before one xs rising i j d le within pass = ⊎_elim
@@ -91,7 +91,7 @@ module _ {X K : Type 0} (owner : X → K) (index : X → ℕ) (order : K → K �
       (λ less. ap is_lt (total.trans (owner (get_or xs i d)) (owner (get_or xs j d)) one less (less_is _ pass)))
       (λ same. ap is_lt (total.congr (owner (get_or xs i d)) (owner (get_or xs j d)) one same.0) ∙ pass)
       (ordered xs i j d rising lt within))
-      (λ ge. same_place (is_before one) xs i j d (omega arith) pass)
+      (λ ge. same_slot (is_before one) xs i j d (omega arith) pass)
       (cases_lt i j)
 
   pub parted_upto : (one : K) (xs : List X) → IsStrictlySortedBy (by_owner owner index order) xs → IsPartitionedBy (is_upto one) xs
@@ -103,7 +103,7 @@ module _ {X K : Type 0} (owner : X → K) (index : X → ℕ) (order : K → K �
       (upto_is _ pass))
       (λ same. ap is_le (total.congr (owner (get_or xs i d)) (owner (get_or xs j d)) one same.0) ∙ pass)
       (ordered xs i j d rising lt within))
-      (λ ge. same_place (is_upto one) xs i j d (omega arith) pass)
+      (λ ge. same_slot (is_upto one) xs i j d (omega arith) pass)
       (cases_lt i j)
 
   -- indices of one owner rise

@@ -10,7 +10,7 @@ use Rattle.std.specs.declared.cmp.Ordering.TheVariants.{Less}
 use Rattle.std.proofs.lemmas.List.Sorted.{Contains-permutation, IsPermutation-insert, searchable_from_sorted}
 use Rattle.std.proofs.lemmas.Map.Keys.{Less-from_sorted}
 use Rattle.std.proofs.lemmas.Map.Lookups.{CmpEqualImpliesEq}
-use Rattle.lsdb.specs.steps.PlaceIndex.{NotesOne}
+use Rattle.lsdb.specs.steps.SlotIndex.{NotesOne}
 
 not_before : {X : Type 0} (order : X → X → Ordering) → IsTotalOrder order → (xs : List X) → IsStrictlySortedBy order xs
     → IsSortedBy (λ a b. is_lt (order a b)) xs

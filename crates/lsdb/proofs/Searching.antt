@@ -7,9 +7,9 @@ use Rattle.std.proofs.lemmas.List.{drop_all, length-map}
 use Rattle.lsa_codec.specs.declared.key.Key.{Key}
 use Rattle.lsdb.specs.declared.database.SectionOf.{SectionOf}
 use Rattle.lsdb.specs.Lists.{SectionLsas, Lists, has_key}
-use Rattle.lsdb.specs.Places.{Place, item_at, full, section_of, lists_of, lsas_in, IsFirstPlace}
-use Rattle.lsdb.specs.steps.OnePlace.{place_has_key, IsFirstIndex}
-use Rattle.lsdb.specs.steps.View.{section_places_of, places_of}
+use Rattle.lsdb.specs.Slots.{Slot, item_at, full, section_of, lists_of, lsas_in, IsFirstSlot}
+use Rattle.lsdb.specs.steps.OneSlot.{slot_has_key, IsFirstIndex}
+use Rattle.lsdb.specs.steps.View.{section_slots_of, slots_of}
 
 -- item i of a list, and what follows it
 pub record Turn {X : Type 0} (xs : List X) (i j : ℕ) (x : X) : Type 0 where
@@ -52,76 +52,76 @@ find_miss p xs rest i x front fail same = sym (ap (find p) front ∙ ap (λ b. c
 pub find_none : {X : Type 0} (p : X → Bool) (xs : List X) (i : ℕ) → length xs ≤ i → find p (drop i xs) ≡ find p xs → find p xs ≡ None
 find_none p xs i end same = sym same ∙ ap (find p) (drop_all i xs end)
 
--- ---- in the full places
+-- ---- in the full slots
 
-full_hit : (key : Key) (p : Place) (rest : List Place) → place_has_key key p ≡ true → (p ≡ find (has_key key) (full (p ∷ rest))) × IsSome p
+full_hit : (key : Key) (p : Slot) (rest : List Slot) → slot_has_key key p ≡ true → (p ≡ find (has_key key) (full (p ∷ rest))) × IsSome p
 full_hit key None rest pass = absurd cc
 full_hit key (Some x) rest pass = (sym (ap (λ b. cond b (Some x) (find (has_key key) (full rest))) pass), refl)
 
-full_miss : (key : Key) (p : Place) (rest : List Place) → place_has_key key p ≡ false
+full_miss : (key : Key) (p : Slot) (rest : List Slot) → slot_has_key key p ≡ false
     → find (has_key key) (full (p ∷ rest)) ≡ find (has_key key) (full rest)
 full_miss key None rest fail = refl
 full_miss key (Some x) rest fail = ap (λ b. cond b (Some x) (find (has_key key) (full rest))) fail
 
-pub place_hit : (key : Key) (ps : List Place) (i : ℕ) (p : Place) → i < length ps → p ≡ get_or ps i p
-    → place_has_key key p ≡ true → find (has_key key) (full (drop i ps)) ≡ find (has_key key) (full ps)
+pub slot_hit : (key : Key) (ps : List Slot) (i : ℕ) (p : Slot) → i < length ps → p ≡ get_or ps i p
+    → slot_has_key key p ≡ true → find (has_key key) (full (drop i ps)) ≡ find (has_key key) (full ps)
     → IsFirstIndex ps (has_key key) i
-place_hit key ps i p lt h pass same =
+slot_hit key ps i p lt h pass same =
     let t = turn ps i (suc i) p lt refl h in
     let hit = full_hit key p (drop (suc i) ps) pass in
-    let found : p ≡ find (has_key key) (full ps) = hit.0 ∙ ap (λ (qs : List Place). find (has_key key) (full qs)) (sym t.rest) ∙ same in
+    let found : p ≡ find (has_key key) (full ps) = hit.0 ∙ ap (λ (qs : List Slot). find (has_key key) (full qs)) (sym t.rest) ∙ same in
     record { held = t.here ∙ ap Some found; found = subst IsSome found hit.1 }
 
-pub place_miss : (key : Key) (ps : List Place) (i j : ℕ) (p : Place) → i < length ps → j ≡ suc i
-    → p ≡ get_or ps i p → place_has_key key p ≡ false
+pub slot_miss : (key : Key) (ps : List Slot) (i j : ℕ) (p : Slot) → i < length ps → j ≡ suc i
+    → p ≡ get_or ps i p → slot_has_key key p ≡ false
     → find (has_key key) (full (drop i ps)) ≡ find (has_key key) (full ps)
     → find (has_key key) (full (drop j ps)) ≡ find (has_key key) (full ps)
-place_miss key ps i j p lt e h fail same =
+slot_miss key ps i j p lt e h fail same =
     let t = turn ps i j p lt e h in
-    sym (ap (λ (qs : List Place). find (has_key key) (full qs)) t.rest ∙ full_miss key p (drop j ps) fail) ∙ same
+    sym (ap (λ (qs : List Slot). find (has_key key) (full qs)) t.rest ∙ full_miss key p (drop j ps) fail) ∙ same
 
-pub place_none : (key : Key) (ps : List Place) (i : ℕ) → length ps ≤ i
+pub slot_none : (key : Key) (ps : List Slot) (i : ℕ) → length ps ≤ i
     → find (has_key key) (full (drop i ps)) ≡ find (has_key key) (full ps)
     → find (has_key key) (full ps) ≡ None
-place_none key ps i end same = sym same ∙ ap (λ (qs : List Place). find (has_key key) (full qs)) (drop_all i ps end)
+slot_none key ps i end same = sym same ∙ ap (λ (qs : List Slot). find (has_key key) (full qs)) (drop_all i ps end)
 
 -- ---- the sections in memory
 
 abbrev shown : {A : Type 0} → SectionOf A → SectionLsas
-shown {A} s = section_of (section_places_of s)
+shown {A} s = section_of (section_slots_of s)
 
-shown_all : {A : Type 0} → (ss : List (SectionOf A)) → lists_of (places_of ss) ≡ map shown ss
+shown_all : {A : Type 0} → (ss : List (SectionOf A)) → lists_of (slots_of ss) ≡ map shown ss
 shown_all {A} [] = refl
 shown_all {A} (s ∷ ss) = ap (λ (xs : Lists). shown s ∷ xs) (shown_all ss)
 
 pub section_turn : {A : Type 0} → (ss : List (SectionOf A)) (i j : ℕ) (s : SectionOf A) → i < length ss
-    → j ≡ suc i → s ≡ get_or ss i s → Turn (lists_of (places_of ss)) i j (shown s)
+    → j ≡ suc i → s ≡ get_or ss i s → Turn (lists_of (slots_of ss)) i j (shown s)
 section_turn {A} ss i j s lt e h = subst (λ (xs : Lists). Turn xs i j (shown s)) (sym (shown_all ss)) (turn_map shown ss i j s lt e h)
 
-pub section_count : {A : Type 0} → (ss : List (SectionOf A)) → length (lists_of (places_of ss)) ≡ length ss
+pub section_count : {A : Type 0} → (ss : List (SectionOf A)) → length (lists_of (slots_of ss)) ≡ length ss
 section_count {A} ss = ap length (shown_all ss) ∙ length-map ss shown
 
--- what is found in the places of a section is found in the database
+-- what is found in the slots of a section is found in the database
 pub found_in : {A : Type 0}
-    → (ss : List (SectionOf A)) (section index : ℕ) (s : SectionOf A) (places : List Place) (key : Key)
-    → IsSome (item_at (lists_of (places_of ss)) section) → s ≡ get_or ss section s → places ≡ s.places
-    → IsFirstIndex places (has_key key) index
-    → IsFirstPlace (places_of ss) section (has_key key) (record { section = section; index = index })
-found_in {A} [] section index s places key some h e found = absurd (search rules)
-found_in {A} (t ∷ ss) zero index s places key some h e found =
-    let same : places ≡ t.places = e ∙ ap (λ (x : SectionOf A). x.places) h in
-    let at : IsFirstIndex t.places (has_key key) index = subst (λ (ps : List Place). IsFirstIndex ps (has_key key) index) same found in
+    → (ss : List (SectionOf A)) (section index : ℕ) (s : SectionOf A) (slots : List Slot) (key : Key)
+    → IsSome (item_at (lists_of (slots_of ss)) section) → s ≡ get_or ss section s → slots ≡ s.slots
+    → IsFirstIndex slots (has_key key) index
+    → IsFirstSlot (slots_of ss) section (has_key key) (record { section = section; index = index })
+found_in {A} [] section index s slots key some h e found = absurd (search rules)
+found_in {A} (t ∷ ss) zero index s slots key some h e found =
+    let same : slots ≡ t.slots = e ∙ ap (λ (x : SectionOf A). x.slots) h in
+    let at : IsFirstIndex t.slots (has_key key) index = subst (λ (ps : List Slot). IsFirstIndex ps (has_key key) index) same found in
     record { same = refl; held = at.held; found = at.found }
-found_in {A} (t ∷ ss) (suc section) index s places key some h e found =
-    let at = found_in ss section index s places key some h e found in
+found_in {A} (t ∷ ss) (suc section) index s slots key some h e found =
+    let at = found_in ss section index s slots key some h e found in
     record { same = refl; held = at.held; found = at.found }
 
 pub none_in : {A : Type 0}
-    → (ss : List (SectionOf A)) (section : ℕ) (s : SectionOf A) (places : List Place) (key : Key)
-    → IsSome (item_at (lists_of (places_of ss)) section) → s ≡ get_or ss section s → places ≡ s.places
-    → find (has_key key) (full places) ≡ None → find (has_key key) (lsas_in (places_of ss) section) ≡ None
-none_in {A} [] section s places key some h e found = absurd (search rules)
-none_in {A} (t ∷ ss) zero s places key some h e found =
-    let same : places ≡ t.places = e ∙ ap (λ (x : SectionOf A). x.places) h in
-    subst (λ (ps : List Place). find (has_key key) (full ps) ≡ None) same found
-none_in {A} (t ∷ ss) (suc section) s places key some h e found = none_in ss section s places key some h e found
+    → (ss : List (SectionOf A)) (section : ℕ) (s : SectionOf A) (slots : List Slot) (key : Key)
+    → IsSome (item_at (lists_of (slots_of ss)) section) → s ≡ get_or ss section s → slots ≡ s.slots
+    → find (has_key key) (full slots) ≡ None → find (has_key key) (lsas_in (slots_of ss) section) ≡ None
+none_in {A} [] section s slots key some h e found = absurd (search rules)
+none_in {A} (t ∷ ss) zero s slots key some h e found =
+    let same : slots ≡ t.slots = e ∙ ap (λ (x : SectionOf A). x.slots) h in
+    subst (λ (ps : List Slot). find (has_key key) (full ps) ≡ None) same found
+none_in {A} (t ∷ ss) (suc section) s slots key some h e found = none_in ss section s slots key some h e found

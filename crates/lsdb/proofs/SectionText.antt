@@ -23,7 +23,7 @@ use Rattle.lsdb.proofs.KeyLemmas.{other_key, own_key}
 use Rattle.lsdb.proofs.Middle.{all_at_mid, pairs_before, map_mid}
 use Rattle.lsdb.proofs.Dominated.{section_with}
 use Rattle.lsdb.proofs.Written.{limit_fits}
-use Rattle.lsdb.proofs.Fields.{IsBytes, IsBytes-drop, bind_ok, guard_ok, passed_ok, ok_is, done, told, Takes, Takes-then, wide16, number_takes}
+use Rattle.lsdb.proofs.Fields.{IsBytes, IsBytes-drop, bind_ok, guard_ok, passed_ok, ok_is, done, fault_at, Takes, Takes-then, wide16, number_takes}
 use Rattle.lsdb.proofs.Fields.{number_again, here}
 
 -- ---- keys
@@ -72,7 +72,7 @@ lsas_push area seen lsa old accepted scope new =
       distinct = apart_push seen lsa old.distinct new;
     }
 
--- an LSA behind others
+-- an LSA after others
 record Middle (area : Option AreaHead) (seen : List (List ℕ)) (lsa : List ℕ) : Type 0 where
   pub accepted : IsAccepted lsa
   pub scope : is_in_scope area (key_of lsa) ≡ true
@@ -103,7 +103,7 @@ placed_takes : (area : Option AreaHead) (at : At) (r : Result (List ℕ) LsaFaul
     → IsBytes at.rest → decoded at.rest ≡ r → placed area at r ≡ Ok (lsa, after) → TakesLsa area at lsa after
 placed_takes area at (Err f) lsa after fits is e = absurd cc
 placed_takes area at (Ok found) lsa after fits is e =
-    let a = passed_ok (is_in_scope area (key_of found)) (told at WrongSection) (Ok (found, advanced (length found) at)) (lsa, after) e in
+    let a = passed_ok (is_in_scope area (key_of found)) (fault_at at WrongSection) (Ok (found, advanced (length found) at)) (lsa, after) e in
     let both = ok_is (found, advanced (length found) at) (lsa, after) a.1 in
     let small : length_of at.rest < 65536 = omega (arith, fits 18, fits 19) in
     let front = decoded_front at.rest found small is in
@@ -128,7 +128,7 @@ lsa_again area lsa o rest accepted scope = rw (decoded_again lsa rest accepted, 
 
 -- the test of an LSA that was read, and those after it
 abbrev next_lsas : Option AreaHead → ℕ → List (List ℕ) → At → List ℕ × At → Result (List (List ℕ) × At) DumpFault
-next_lsas area n seen at lsa = cond (has_key_of seen lsa.0) (Err (told at DuplicateLsa)) (lsas_from area n (seen ++ lsa.0 ∷ []) lsa.1)
+next_lsas area n seen at lsa = cond (has_key_of seen lsa.0) (Err (fault_at at DuplicateLsa)) (lsas_from area n (seen ++ lsa.0 ∷ []) lsa.1)
 
 record TakesLsas (area : Option AreaHead) (n : ℕ) (seen : List (List ℕ)) (at : At) (all : List (List ℕ)) (after : At) : Type 0 where
   pub new : List (List ℕ)
@@ -147,7 +147,7 @@ lsas_take area zero seen at all after fits old e =
 lsas_take area (suc n) seen at all after fits old e =
     let a = bind_ok (lsa_at area at) (next_lsas area n seen at) (all, after) e in
     let lsa : List ℕ = a.0.0 in
-    let b = guard_ok (has_key_of seen lsa) (told at DuplicateLsa) (lsas_from area n (seen ++ lsa ∷ []) a.0.1) (all, after) a.2 in
+    let b = guard_ok (has_key_of seen lsa) (fault_at at DuplicateLsa) (lsas_from area n (seen ++ lsa ∷ []) a.0.1) (all, after) a.2 in
     let one = lsa_takes area at lsa a.0.1 fits a.1 in
     let more = lsas_take area n (seen ++ lsa ∷ []) a.0.1 all after one.takes.rest_fits (lsas_push area seen lsa old one.accepted one.scope b.0) b.1 in
     record {
@@ -164,8 +164,8 @@ lsas_again : (area : Option AreaHead) (lsas seen : List (List ℕ)) (o : ℕ) (r
 unfolding lsas_from
 lsas_again area [] seen o rest good =
     let same : seen ≡ seen ++ [] = sym (append-nil seen) in
-    let place : o ≡ o + 0 = omega arith in
-    ap (λ (x : List (List ℕ)). done (x, here o rest)) same ∙ ap (λ (k : ℕ). done (seen ++ [], here k rest)) place
+    let slot : o ≡ o + 0 = omega arith in
+    ap (λ (x : List (List ℕ)). done (x, here o rest)) same ∙ ap (λ (k : ℕ). done (seen ++ [], here k rest)) slot
 lsas_again area (lsa ∷ lsas) seen o rest good =
     let at = here o (lsa ++ (concat lsas ++ rest)) in
     let regrouped : concat (lsa ∷ lsas) ++ rest ≡ lsa ++ (concat lsas ++ rest) = append_assoc lsa (concat lsas) rest in
@@ -173,14 +173,14 @@ lsas_again area (lsa ∷ lsas) seen o rest good =
     let m = middle area seen lsa lsas good in
     let first = lsa_again area lsa o (concat lsas ++ rest) m.accepted m.scope in
     let others = lsas_again area lsas (seen ++ lsa ∷ []) (o + length lsa) rest (subst (AreLsas area) (sym moved) good) in
-    let place : o + length lsa + length (concat lsas) ≡ o + length (concat (lsa ∷ lsas)) = omega (arith, length-append lsa (concat lsas)) in
+    let slot : o + length lsa + length (concat lsas) ≡ o + length (concat (lsa ∷ lsas)) = omega (arith, length-append lsa (concat lsas)) in
     ap (λ (bytes : List ℕ). lsas_from area (suc (length lsas)) seen (here o bytes)) regrouped
     ∙ ap (λ (r : Result (List ℕ × At) DumpFault). r >>= next_lsas area (length lsas) seen at) first
-    ∙ ap (λ (b : Bool). cond b (Err (told at DuplicateLsa))
+    ∙ ap (λ (b : Bool). cond b (Err (fault_at at DuplicateLsa))
     (lsas_from area (length lsas) (seen ++ lsa ∷ []) (here (o + length lsa) (concat lsas ++ rest)))) m.new
     ∙ others
     ∙ ap (λ (x : List (List ℕ)). done (x, here (o + length lsa + length (concat lsas)) rest)) moved
-    ∙ ap (λ (k : ℕ). done (seen ++ lsa ∷ lsas, here k rest)) place
+    ∙ ap (λ (k : ℕ). done (seen ++ lsa ∷ lsas, here k rest)) slot
 
 -- ---- a section
 
@@ -202,7 +202,7 @@ counted_takes : (area : Option AreaHead) (at : At) (count : ℕ × At) (lsas : L
     → (length lsas ≡ count.0) × Takes count.1 (concat lsas) after × IsSection (section_with area lsas)
 counted_takes area at count lsas after fits e =
     let n : ℕ = count.0 in
-    let b = guard_ok (ltb (limit_of area) n) (told at TooManyLsas) (lsas_from area n [] count.1) (lsas, after) e in
+    let b = guard_ok (ltb (limit_of area) n) (fault_at at TooManyLsas) (lsas_from area n [] count.1) (lsas, after) e in
     let all = lsas_take area n [] count.1 lsas after fits (no_lsas area) b.1 in
     let few : n ≤ limit_of area = ltb-false _ _ b.0 in
     let size : length lsas ≡ n = ap length all.all_is ∙ all.count in
@@ -242,8 +242,8 @@ section_again area lsas o rest good =
     ∙ number_again w16 (2 ^ 16) wide16 (length lsas) o (concat lsas ++ rest) (omega (arith, limit_fits area)) in
     let within : ltb (limit_of area) (length lsas) ≡ false = le-ltb _ _ few in
     let others = lsas_again area lsas [] (o + 2) rest (record { accepted = good.accepted; scope = good.keys.scope; distinct = good.keys.distinct }) in
-    let place : o + 2 + length (concat lsas) ≡ o + length (lsas_text lsas) = omega (arith, length-append (to_be_bytes w16 (length lsas)) (concat lsas)) in
+    let slot : o + 2 + length (concat lsas) ≡ o + length (lsas_text lsas) = omega (arith, length-append (to_be_bytes w16 (length lsas)) (concat lsas)) in
     ap (λ (r : Result (ℕ × At) DumpFault). r >>= λ count. counted_at area at count >>= made area) read
-    ∙ ap (λ (b : Bool). cond b (Err (told at TooManyLsas)) (lsas_from area (length lsas) [] (here (o + 2) (concat lsas ++ rest))) >>= made area) within
+    ∙ ap (λ (b : Bool). cond b (Err (fault_at at TooManyLsas)) (lsas_from area (length lsas) [] (here (o + 2) (concat lsas ++ rest))) >>= made area) within
     ∙ ap (λ (r : Result (List (List ℕ) × At) DumpFault). r >>= made area) others
-    ∙ ap (λ (k : ℕ). done (section_with area lsas, here k rest)) place
+    ∙ ap (λ (k : ℕ). done (section_with area lsas, here k rest)) slot

@@ -5,7 +5,7 @@ use Rattle.lsa_codec.specs.Accepted.{longest_lsa}
 use Rattle.lsa_codec.specs.declared.link.LinkKind.{LinkKind}
 use Rattle.lsa_codec.specs.declared.link.LinkKind.TheVariants.{PointToPoint, Transit, Stub, Virtual, Other}
 use Rattle.lsa_codec.specs.LsTypes.{router_lsa}
-use Rattle.lsa_codec.specs.Fields.{kind_of, octet_at}
+use Rattle.lsa_codec.specs.Fields.{kind_of, byte_at}
 use Rattle.lsa_codec.specs.Links.{links_of}
 use Rattle.lsdb.specs.declared.counts.LsaCounts.{LsaCounts}
 
@@ -15,7 +15,7 @@ bit_v = 4
 
 -- a router-LSA with bit V
 abbrev pub has_bit_v : List ℕ → Bool
-has_bit_v lsa = (kind_of lsa == router_lsa) && not (bit_and (octet_at 20 lsa) bit_v == 0)
+has_bit_v lsa = (kind_of lsa == router_lsa) && not (bit_and (byte_at 20 lsa) bit_v == 0)
 
 -- a link of type 4
 abbrev pub is_virtual : LinkKind → Bool
@@ -37,7 +37,7 @@ counts_of lsas = record {
   virtual_links = sum_by virtual_link_count lsas;
 }
 
--- no more than at most so many LSAs count, of which none is longer than an LSA may be
+-- no more than at most this number of LSAs count, of which none is longer than an LSA may be
 pub record AreFew (most : ℕ) (counts : LsaCounts) : Type 0 where
   pub lsas : counts.lsas ≤ most
   pub virtual_ends : counts.virtual_ends ≤ most

@@ -1,4 +1,4 @@
--- How a fault of a dump is told.
+-- How a fault of a dump is reported.
 use Rattle.std.specs.Prelude.{List, [], ℕ, ◌++◌, codes, decimal}
 use Rattle.lsa_codec.specs.declared.fault.LsaFault.TheVariants as lsa
 use Rattle.lsdb.specs.declared.fault.DumpFault.{DumpFault}
@@ -22,7 +22,7 @@ fault_code TooLarge = codes "L13"
 fault_code OutOfMemory = codes "L14"
 fault_code (BadHistory index) = codes "L15"
 
--- what is wrong with an LSA, behind the word Lsa
+-- what is wrong with an LSA, after the word Lsa
 abbrev pub fault_name : DumpFaultKind → List ℕ
 fault_name BadMagic = codes "BadMagic"
 fault_name BadVersion = codes "BadVersion"
@@ -48,7 +48,7 @@ fault_name TooLarge = codes "TooLarge"
 fault_name OutOfMemory = codes "OutOfMemory"
 fault_name (BadHistory index) = codes "BadHistory"
 
--- which line of the history, counted from 0, behind its word
+-- which line of the history, counted from 0, after its word
 abbrev pub fault_index : DumpFaultKind → List ℕ
 fault_index (BadHistory index) = codes " " ++ decimal index
 fault_index _ = []

@@ -8,13 +8,13 @@ use Rattle.lsa_codec.specs.declared.key.Key.{Key}
 use Rattle.lsa_codec.specs.Fields.{kind_of, link_state_id_of, advertising_router_of}
 use Rattle.lsa_codec.specs.Key.{key_of}
 use Rattle.lsa_codec.specs.Order.{key_cmp}
-use Rattle.lsdb.specs.declared.keyed_places.KeyAt.{KeyAt}
-use Rattle.lsdb.specs.Places.{Place, item_at}
+use Rattle.lsdb.specs.declared.keyed_slots.KeyAt.{KeyAt}
+use Rattle.lsdb.specs.Slots.{Slot, item_at}
 
 abbrev pub pairs_of : List KeyAt → List (Key × ℕ)
 pairs_of keys = map (λ noted. (noted.key, noted.index)) keys
 
--- each key is less than those behind it
+-- each key is less than those after it
 abbrev pub IsRising : List KeyAt → Type 0
 IsRising keys = IsStrictlySortedBy key_cmp (keys_of (pairs_of keys))
 
@@ -32,10 +32,10 @@ pub record HaveWidths (lsa : List ℕ) : Type 0 where
   pub id : link_state_id_of lsa < 2 ^ 32
   pub adv : advertising_router_of lsa < 2 ^ 32
 
--- keys of a section from one key to another, in order and each once with one index, among them that of each LSA there, with the index of its place
-pub record AreKeysBetween (places : List Place) (low high : Key) (keys : List KeyAt) : Type 0 where
+-- keys of a section from one key to another, in order and each once with one index, among them that of each LSA there, with the index of its slot
+pub record AreKeysBetween (slots : List Slot) (low high : Key) (keys : List KeyAt) : Type 0 where
   pub rising : IsStrictlySortedBy noted_cmp keys
   pub within : All (λ noted. is_between low high noted.key ≡ true) keys
-  pub whole : (index : ℕ) (lsa : List ℕ) → item_at places index ≡ Some (Some lsa) → is_between low high (key_of lsa) ≡ true
+  pub whole : (index : ℕ) (lsa : List ℕ) → item_at slots index ≡ Some (Some lsa) → is_between low high (key_of lsa) ≡ true
       → Contains keys (record { key = key_of lsa; index = index })
-  pub widths : (index : ℕ) (lsa : List ℕ) → item_at places index ≡ Some (Some lsa) → HaveWidths lsa
+  pub widths : (index : ℕ) (lsa : List ℕ) → item_at slots index ≡ Some (Some lsa) → HaveWidths lsa

@@ -13,10 +13,10 @@ most_lsas_of_area = 8192
 abbrev pub most_lsas_of_as : ℕ
 most_lsas_of_as = 65535
 
--- the most octets of a dump
+-- the most bytes of a dump
 abbrev pub longest_dump : ℕ
 longest_dump = 16777216
 
--- the most octets of the dump of a session
+-- the most bytes of the dump of a session
 abbrev pub longest_session : ℕ
 longest_session = 17825792

@@ -1,4 +1,4 @@
--- What a database is: areas with their LSAs, and behind them the LSAs of AS scope (RFC 2328, 12.2).
+-- What a database is: areas with their LSAs, and after them the LSAs of AS scope (RFC 2328, 12.2).
 use Rattle.std.specs.Prelude.{◌≡◌, ◌≢◌, ◌<◌, ◌≤◌, ◌^◌, ℕ, ◌+◌, Bool, true, false, List, [], length, map, All, AllPairs, Option, Some, None, ◌==◌, ◌&&◌, ◌||◌, not}
 use Rattle.std.specs.List.{list_any, sum_by, filter_map, find}
 use Rattle.lsa_codec.specs.declared.address.AreaId.{AreaId}

@@ -13,7 +13,7 @@ use Rattle.lsdb.specs.Lists.{AreaHead, SectionLsas, Lists, is_in_scope, limit_of
 use Rattle.lsdb.specs.Limits.{most_areas, longest_dump}
 use Rattle.lsdb.specs.Text.{magic, version}
 
--- a place in the dump: how many bytes stand before it, and those that follow
+-- a position in the dump: how many bytes stand before it, and those that follow
 pub record At : Type 0 where
   pub offset : ℕ
   pub rest : List ℕ
@@ -29,7 +29,7 @@ fault at kind = Err (record { offset = at.offset; kind = kind })
 abbrev pub advanced : ℕ → At → At
 advanced n at = record { offset = at.offset + n; rest = drop n at.rest }
 
--- a number of the container, and the place after it
+-- a number of the container, and the position after it
 abbrev pub number_at : Width → At → Result (ℕ × At) DumpFault
 number_at w at =
     if nat_lt (length at.rest) (byte_len w) then fault at Truncated else
@@ -37,7 +37,7 @@ number_at w at =
 
 -- ---- the LSAs of a section
 
--- an LSA that was decoded, and the place after it
+-- an LSA that was decoded, and the position after it
 abbrev pub placed : Option AreaHead → At → Result (List ℕ) LsaFault → Result (List ℕ × At) DumpFault
 placed area at (Err f) = fault at (Lsa f)
 placed area at (Ok lsa) = if is_in_scope area (key_of lsa) then Ok (lsa, advanced (length lsa) at) else fault at WrongSection
@@ -49,7 +49,7 @@ lsa_at area at = placed area at (decoded at.rest)
 abbrev pub has_key_of : List (List ℕ) → List ℕ → Bool
 has_key_of lsas lsa = list_any (has_key (key_of lsa)) lsas
 
--- n more LSAs, behind those that were seen in the section
+-- n more LSAs, after those that were seen in the section
 unfoldable pub lsas_from : Option AreaHead → ℕ → List (List ℕ) → At → Result (List (List ℕ) × At) DumpFault
 lsas_from area zero seen at = Ok (seen, at)
 lsas_from area (suc n) seen at = do
@@ -83,14 +83,14 @@ kind_at id at = do
   if nat_lt 1 kind.0 then fault at BadAreaKind else
       if is_backbone (record { 0 = id }) && (kind.0 == 1) then fault at BackboneStub else Ok (kind.0 == 1, kind.1)
 
--- an area behind another
+-- an area after another
 unfoldable pub area_at : Option AreaHead → At → Result (SectionLsas × At) DumpFault
 area_at before at = do
   id ← id_at before at
   kind ← kind_at id.0 id.1
   section_at (Some (record { id = id.0; is_stub = kind.0 })) kind.1
 
--- n more areas, behind those that were seen
+-- n more areas, after those that were seen
 unfoldable pub areas_from : ℕ → Option AreaHead → Lists → At → Result (Lists × At) DumpFault
 areas_from zero before seen at = Ok (seen, at)
 areas_from (suc n) before seen at = do
@@ -114,7 +114,7 @@ area_count_at at = do
   count ← number_at w8 at
   if nat_lt most_areas count.0 then fault at TooManyAreas else Ok count
 
--- the areas, and behind them the LSAs of AS scope
+-- the areas, and after them the LSAs of AS scope
 unfoldable pub sections_at : At → Result (Lists × At) DumpFault
 sections_at at = do
   count ← area_count_at at
@@ -185,7 +185,7 @@ front_at at = do
 unfoldable pub front_loaded : List ℕ → Result (List ℕ) DumpFault
 front_loaded bytes = if nat_lt longest_dump (length bytes) then fault (beginning bytes) TooLarge else front_at (beginning bytes)
 
--- want of memory is told at 0
+-- want of memory is reported at 0
 abbrev pub no_memory : DumpFault
 no_memory = record { offset = 0; kind = OutOfMemory }
 

@@ -1,9 +1,9 @@
 -- Steps of the code, which no public contract cites.
 pub mod View
 pub mod Reading
-pub mod OnePlace
+pub mod OneSlot
 pub mod NotedKeys
-pub mod PlaceIndex
+pub mod SlotIndex
 pub mod RouterIndex
 pub mod PrefixIndex
 pub mod Counting

@@ -3,12 +3,12 @@
 ghost use Rattle.std.specs.Prelude.{◌≡◌, ◌≤◌, ◌++◌, ℕ, List, length, take, Ok, Err, IfOk, IfErr};
 ghost use Rattle.lsdb.specs.Limits.{longest_session};
 ghost use Rattle.lsdb.specs.Lists.{Lists, IsDatabase, size};
-ghost use Rattle.lsdb.specs.Places.{lists_of};
-ghost use Rattle.lsdb.specs.steps.View.{places_of};
+ghost use Rattle.lsdb.specs.Slots.{lists_of};
+ghost use Rattle.lsdb.specs.steps.View.{slots_of};
 ghost use Rattle.lsdb.specs.steps.Reading.{at_of, Gives, Reads, IsMemoryAfter};
 ghost use Rattle.lsdb.specs.Loading.{IsFirstFault};
 ghost use Rattle.lsdb.specs.BaseText.{base_text};
-ghost use Rattle.lsdb.specs.BaseLoading.{most_octets, session_version_at, base_at, base_loaded, base_front_at, base_front_loaded};
+ghost use Rattle.lsdb.specs.BaseLoading.{most_bytes, session_version_at, base_at, base_loaded, base_front_at, base_front_loaded};
 
 use crate::cursor::Cursor;
 use crate::database::{Database, SectionOf};
@@ -22,12 +22,12 @@ use std::alloc::{AllocError, Allocator};
 /// The version of the format of sessions.
 const SESSION_VERSION: u8 = 2;
 
-/// The octets that the dump of a session begins with: the magic and the version.
+/// The bytes that the dump of a session begins with: the magic and the version.
 const SESSION_START: &[u8] = b"OSWP\x02";
 
-/// The most octets that these may be.
-fn most_octets(bytes: &[u8]) -> usize
-    ensures { result ≡ most_octets bytes.now }
+/// The most bytes that these may be.
+fn most_bytes(bytes: &[u8]) -> usize
+    ensures { result ≡ most_bytes bytes.now }
 {
     if bytes.starts_with(SESSION_START) {
         LONGEST_SESSION
@@ -47,13 +47,13 @@ fn read_session_version(at: Cursor<'_>) -> Result<Cursor<'_>, DumpFault>
     Ok(rest)
 }
 
-/// Magic, version, the areas, and behind them the LSAs of AS scope.
+/// Magic, version, the areas, and after them the LSAs of AS scope.
 #[tactic(auto, unfolding(crate::specs::BaseLoading::base_at, crate::specs::BaseLoading::base_front_at))]
 fn read_base_sections<'a, A: Allocator + Copy>(
     alloc: A,
     at: Cursor<'a>,
 ) -> Result<(Vec<SectionOf<A>, A>, Cursor<'a>), ReadError>
-    ensures base { Gives (λ x. (lists_of (places_of x.0.items), at_of x.1))
+    ensures base { Gives (λ x. (lists_of (slots_of x.0.items), at_of x.1))
         result (base_at (at_of at.entry)) }
     ensures memory { IsMemoryAfter (base_front_at (at_of at.entry)) result }
 {
@@ -61,17 +61,17 @@ fn read_base_sections<'a, A: Allocator + Copy>(
     read_sections(alloc, at)
 }
 
-/// The sections of the base, and how many octets stand before what follows it.
+/// The sections of the base, and how many bytes stand before what follows it.
 #[tactic(auto, unfolding(crate::specs::BaseLoading::base_loaded, crate::specs::BaseLoading::base_front_loaded))]
 fn read_base<A: Allocator + Copy>(
     alloc: A,
     bytes: &[u8],
 ) -> Result<(Vec<SectionOf<A>, A>, usize), ReadError>
-    ensures base { Gives (λ x. (lists_of (places_of x.0.items), x.1))
+    ensures base { Gives (λ x. (lists_of (slots_of x.0.items), x.1))
         result (base_loaded bytes.now) }
     ensures memory { IsMemoryAfter (base_front_loaded bytes.now) result }
 {
-    if most_octets(bytes) < bytes.len() {
+    if most_bytes(bytes) < bytes.len() {
         return Err(ReadError::Fault(TOO_LARGE));
     }
     let start = Cursor {
@@ -85,21 +85,21 @@ fn read_base<A: Allocator + Copy>(
     Ok((sections, end.offset))
 }
 
-/// The fault of octets that are more than the limit.
+/// The fault of bytes that are more than the limit.
 const TOO_LARGE: DumpFault = DumpFault {
     offset: 0,
     kind: DumpFaultKind::TooLarge,
 };
 
 impl<A: Allocator + Copy> Database<A> {
-    /// The base of a session, which the octets begin with, and how many octets stand before what
+    /// The base of a session, which the bytes begin with, and how many bytes stand before what
     /// follows it. What follows is not looked at.
     ///
-    /// Of several faults the first from front to back is told. `TooLarge` comes before all others
-    /// where the octets are too many, and behind them where the base alone has more octets than
-    /// a dump may have; `OutOfMemory` may stand in place of any that lies after the front, which is
-    /// that of [`load`](Database::load).
-    #[tactic(auto, using(crate::proofs::FirstFault::first_told))]
+    /// Of several faults the first from front to back is reported. `TooLarge` comes before all
+    /// others where the bytes are too many, and after them where the base alone has more bytes than
+    /// a dump may have; `OutOfMemory` may stand in place of any that comes after the front, which
+    /// is that of [`load`](Database::load).
+    #[tactic(auto, using(crate::proofs::FirstFault::first_reported))]
     pub fn load_base(alloc: A, bytes: &[u8]) -> Result<(Database<A>, usize), DumpFault>
         // What is loaded is spelled so.
         ensures database { IfOk result (λ base. IsDatabase (lists_of base.0)) }
@@ -107,7 +107,7 @@ impl<A: Allocator + Copy> Database<A> {
             (λ base. take base.1 bytes.now ≡ base_text (lists_of base.0)) }
         ensures within { IfOk result (λ base. base.1 ≤ length bytes.now) }
 
-        // What is spelled so is loaded, unless memory runs out; else the first fault is told.
+        // What is spelled so is loaded, unless memory runs out; else the first fault is reported.
         ensures found { IfOk result
             (λ base. base_loaded bytes.now ≡ Ok (lists_of base.0, base.1)) }
         ensures fault { IfErr result (λ fault. IsFirstFault fault (base_loaded bytes.now)) }
@@ -117,12 +117,15 @@ impl<A: Allocator + Copy> Database<A> {
             → base_front_loaded bytes.now ≡ Err fault → result ≡ Err fault }
     {
         match read_base(alloc, bytes) {
-            Ok((sections, octets)) => Ok((Database::of_sections(alloc, sections, octets), octets)),
+            Ok((sections, byte_count)) => Ok((
+                Database::of_sections(alloc, sections, byte_count),
+                byte_count,
+            )),
             Err(error) => Err(dump_fault(error)),
         }
     }
 
-    /// The octets that the dump of a session with this base begins with. `load_base` makes the
+    /// The bytes that the dump of a session with this base begins with. `load_base` makes the
     /// same database of them.
     #[tactic(auto, unfolding(crate::specs::BaseText::base_text))]
     pub fn dump_base(&self) -> Result<Vec<u8, A>, AllocError>

@@ -4,7 +4,7 @@ ghost use Rattle.std.specs.Prelude.{◌≡◌, ◌≤◌, length, [], ◌∷◌}
 ghost use Rattle.lsa_codec.specs.Accepted.{longest_lsa};
 ghost use Rattle.lsdb.specs.Counts.{AreFew, counts_of, has_bit_v, is_virtual, virtual_link_count};
 ghost use Rattle.lsdb.specs.Limits.{most_lsas_of_as};
-ghost use Rattle.lsdb.specs.Places.{full};
+ghost use Rattle.lsdb.specs.Slots.{full};
 ghost use Rattle.lsdb.specs.steps.Counting.{CanAdd, CanTake, with_counts, without_counts};
 
 use lsa_codec::{Link, LinkKind, Lsa};
@@ -37,12 +37,12 @@ impl LsaCounts {
         }
     }
 
-    /// The counts of the LSA at a place.
-    pub(crate) fn of_place<A: Allocator + Copy>(place: &Option<Lsa<A>>) -> LsaCounts
-        ensures counts { result ≡ counts_of (full (place.now ∷ [])) }
+    /// The counts of the LSA at a slot.
+    pub(crate) fn of_slot<A: Allocator + Copy>(slot: &Option<Lsa<A>>) -> LsaCounts
+        ensures counts { result ≡ counts_of (full (slot.now ∷ [])) }
         ensures few { AreFew 1 result }
     {
-        match place {
+        match slot {
             Some(lsa) => LsaCounts {
                 lsas: 1,
                 virtual_ends: usize::from(has_bit_v(lsa)),
@@ -52,14 +52,14 @@ impl LsaCounts {
         }
     }
 
-    /// The counts of the LSAs at places. It goes through them.
-    pub(crate) fn of_places<A: Allocator + Copy>(places: &[Option<Lsa<A>>]) -> LsaCounts
-        requires { length places.now ≤ most_lsas_of_as }
-        ensures { result ≡ counts_of (full places.now) }
+    /// The counts of the LSAs at slots. It goes through them.
+    pub(crate) fn of_slots<A: Allocator + Copy>(slots: &[Option<Lsa<A>>]) -> LsaCounts
+        requires { length slots.now ≤ most_lsas_of_as }
+        ensures { result ≡ counts_of (full slots.now) }
     {
         let mut counts = LsaCounts::none();
-        for place in places {
-            counts = counts.with(LsaCounts::of_place(place));
+        for slot in slots {
+            counts = counts.with(LsaCounts::of_slot(slot));
         }
         counts
     }

@@ -1,8 +1,8 @@
-//! A place in a dump.
+//! A position in a dump.
 
 ghost use Rattle.std.specs.Prelude.{◌+◌, ◌<◌, ◌^◌, length};
 
-/// The octets of a dump that are left, and how many stand before them.
+/// The bytes of a dump that are left, and how many stand before them.
 #[derive(Clone, Copy)]
 pub(crate) struct Cursor<'a> {
     pub(crate) offset: usize,

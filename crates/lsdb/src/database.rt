@@ -3,10 +3,10 @@
 ghost use Rattle.std.specs.Prelude.{◌≡◌, ◌≤◌};
 ghost use Rattle.lsdb.specs.Limits.{longest_dump};
 ghost use Rattle.lsdb.specs.Lists.{IsDatabase, size};
-ghost use Rattle.lsdb.specs.Places.{lists_of};
-ghost use Rattle.lsdb.specs.steps.View.{places_of};
+ghost use Rattle.lsdb.specs.Slots.{lists_of};
+ghost use Rattle.lsdb.specs.steps.View.{slots_of};
 
-use crate::keyed_places::KeyedPlaces;
+use crate::keyed_slots::KeyedSlots;
 use lsa_codec::AreaId;
 use std::alloc::{Allocator, Global};
 use std::marker::Model;
@@ -18,53 +18,53 @@ pub(crate) struct Head {
     pub(crate) is_stub: bool,
 }
 
-/// The places of one area, or, without an area, of the LSAs of AS scope.
+/// The slots of one area, or, without an area, of the LSAs of AS scope.
 #[derive(Drop)]
 pub(crate) struct SectionOf<A: Allocator> {
     pub(crate) area: Option<Head>,
-    pub(crate) places: KeyedPlaces<A>,
+    pub(crate) slots: KeyedSlots<A>,
 }
 
-/// A link state database: areas in rising order of their IDs, and the LSAs of AS scope behind
-/// them, each a list of places. Contracts see it as these lists of places.
+/// A link state database: areas in rising order of their IDs, and the LSAs of AS scope after
+/// them, each a list of slots. Contracts see it as these lists of slots.
 ///
 /// The keys of a section's LSAs are distinct, each LSA stands in a section of its own flooding
 /// scope, and the limits hold: 64 areas, 8,192 LSAs in an area, 65,535 of AS scope, and
-/// 16,777,216 octets of dump.
+/// 16,777,216 bytes of dump.
 #[derive(Drop)]
 pub struct Database<A: Allocator = Global> {
     pub(crate) sections: Vec<SectionOf<A>, A>,
-    /// The length of the dump in octets.
-    pub(crate) octets: usize,
+    /// The length of the dump in bytes.
+    pub(crate) byte_count: usize,
     pub(crate) alloc: A,
 }
 
 impl<A: Allocator> Model for Database<A> {
-    ghost use Rattle.lsdb.specs.Places.{Places};
+    ghost use Rattle.lsdb.specs.Slots.{Slots};
 
-    ghost Value = { Places };
+    ghost Value = { Slots };
 
-    ghost use Rattle.lsdb.specs.steps.View.{places_of, IsKept};
+    ghost use Rattle.lsdb.specs.steps.View.{slots_of, IsKept};
 
-    ghost view = { λ a. places_of a.sections.items };
+    ghost view = { λ a. slots_of a.sections.items };
 
-    ghost invariant = { λ a. IsKept a.sections.items a.octets };
+    ghost invariant = { λ a. IsKept a.sections.items a.byte_count };
 }
 
 impl<A: Allocator + Copy> Database<A> {
-    /// The database of these sections, whose dump has so many octets.
+    /// The database of these sections, whose dump has this number of bytes.
     pub(crate) fn of_sections(
         alloc: A,
         sections: Vec<SectionOf<A>, A>,
-        octets: usize,
+        byte_count: usize,
     ) -> Database<A>
-        requires sound { IsDatabase (lists_of (places_of sections.items)) }
-        requires octets { octets ≡ size (lists_of (places_of sections.items)) }
-        ensures { result ≡ places_of sections.items }
+        requires sound { IsDatabase (lists_of (slots_of sections.items)) }
+        requires byte_count { byte_count ≡ size (lists_of (slots_of sections.items)) }
+        ensures { result ≡ slots_of sections.items }
     {
         Database {
             sections,
-            octets,
+            byte_count,
             alloc,
         }
     }
@@ -74,19 +74,19 @@ impl<A: Allocator + Copy> Database<A> {
         self.alloc
     }
 
-    /// The length of its dump, in octets.
+    /// The length of its dump, in bytes.
     pub fn size(&self) -> usize
         ensures size { result ≡ size (lists_of self.now) }
         ensures limit { result ≤ longest_dump }
     {
-        self.octets
+        self.byte_count
     }
 
     /// What is true of every database: order of the areas, scopes, distinct keys and limits.
     ///
-    /// It does nothing when it runs. Contracts see a database as its places alone, so a function
+    /// It does nothing when it runs. Contracts see a database as its slots alone, so a function
     /// whose proof rests on these facts calls it to have them.
-    pub fn known(&self)
+    pub fn assert_valid(&self)
         ensures { IsDatabase (lists_of self.now) }
     {
         // Opens the value, so that its invariant is known.

@@ -2,8 +2,8 @@
 
 ghost use Rattle.std.specs.Prelude.{◌≡◌, ◌<◌, ◌^◌, ◌++◌, length, OnOk, IfOk, option_map};
 ghost use Rattle.std.specs.List.{concat};
-ghost use Rattle.lsdb.specs.Places.{full, section_of, lists_of};
-ghost use Rattle.lsdb.specs.steps.View.{head_of, section_places_of};
+ghost use Rattle.lsdb.specs.Slots.{full, section_of, lists_of};
+ghost use Rattle.lsdb.specs.steps.View.{head_of, section_slots_of};
 ghost use Rattle.lsdb.specs.Text.{text, head_text, section_text};
 ghost use Rattle.lsdb.specs.BaseText.{sections_text};
 
@@ -12,7 +12,7 @@ use crate::lsas::Lsas;
 use lsa_codec::Lsa;
 use std::alloc::{AllocError, Allocator};
 
-/// The first four octets of a dump, `OSWP`.
+/// The first four bytes of a dump, `OSWP`.
 pub(crate) const MAGIC: u32 = 0x4f535750;
 
 /// The version of the format of dumps.
@@ -31,39 +31,39 @@ fn put_head<A: Allocator + Copy>(out: &mut Vec<u8, A>, area: Option<Head>) -> Re
 
 fn put_lsas<A: Allocator + Copy>(
     out: &mut Vec<u8, A>,
-    places: &[Option<Lsa<A>>],
+    slots: &[Option<Lsa<A>>],
 ) -> Result<(), AllocError>
-    ensures { OnOk result (out.new.items ≡ out.old.items ++ concat (full places.now)) }
+    ensures { OnOk result (out.new.items ≡ out.old.items ++ concat (full slots.now)) }
 {
-    for place in places {
-        if let Some(lsa) = place {
+    for slot in slots {
+        if let Some(lsa) = slot {
             out.extend_from_slice(lsa.bytes())?;
         }
     }
     Ok(())
 }
 
-/// How many LSAs the places hold.
-fn count_of<A: Allocator + Copy>(places: &[Option<Lsa<A>>]) -> usize
-    requires { length (full places.now) < 2 ^ 16 }
-    ensures { result ≡ length (full places.now) }
+/// How many LSAs the slots hold.
+fn count_of<A: Allocator + Copy>(slots: &[Option<Lsa<A>>]) -> usize
+    requires { length (full slots.now) < 2 ^ 16 }
+    ensures { result ≡ length (full slots.now) }
 {
-    Lsas::of(places).count()
+    Lsas::of(slots).count()
 }
 
 fn put_section<A: Allocator + Copy>(
     out: &mut Vec<u8, A>,
     section: &SectionOf<A>,
 ) -> Result<(), AllocError>
-    requires { length (full section.now.places) < 2 ^ 16 }
+    requires { length (full section.now.slots) < 2 ^ 16 }
     ensures { OnOk result (out.new.items
-        ≡ out.old.items ++ section_text (section_of (section_places_of section.now))) }
+        ≡ out.old.items ++ section_text (section_of (section_slots_of section.now))) }
 {
     put_head(out, section.area)?;
-    let places = section.places.as_slice();
-    let count = count_of(places) as u16;
+    let slots = section.slots.as_slice();
+    let count = count_of(slots) as u16;
     out.extend_from_slice(&count.to_be_bytes())?;
-    put_lsas(out, places)
+    put_lsas(out, slots)
 }
 
 impl<A: Allocator + Copy> Database<A> {

@@ -12,14 +12,14 @@ use std::fmt;
 /// What is wrong with a dump.
 #[derive(Clone, Copy, Debug, PartialEq, Eq)]
 pub enum DumpFaultKind {
-    /// The dump does not begin with the four octets of `OSWP`.
+    /// The dump does not begin with the four bytes of `OSWP`.
     BadMagic,
     /// The version is not 1.
     BadVersion,
     /// The dump ends inside a field of the container: magic, version, a count, an area's ID or
     /// kind.
     Truncated,
-    /// Octets stand behind the last LSA.
+    /// Bytes stand after the last LSA.
     TrailingBytes,
     /// More than 64 areas.
     TooManyAreas,
@@ -29,15 +29,15 @@ pub enum DumpFaultKind {
     BadAreaKind,
     /// An area has more than 8,192 LSAs.
     TooManyLsas,
-    /// The octets are no accepted LSA. The fault is never `OutOfMemory`.
+    /// The bytes are no accepted LSA. The fault is never `OutOfMemory`.
     Lsa(LsaFault),
-    /// An LSA of AS scope (type 5 or 11) in an area, or one of another type behind the areas.
+    /// An LSA of AS scope (type 5 or 11) in an area, or one of another type after the areas.
     WrongSection,
     /// The section has an LSA with the same key before.
     DuplicateLsa,
-    /// The backbone, area 0.0.0.0, is told to be a stub area (RFC 2328, 3.6).
+    /// The backbone, area 0.0.0.0, is reported to be a stub area (RFC 2328, 3.6).
     BackboneStub,
-    /// More than 16,777,216 octets.
+    /// More than 16,777,216 bytes.
     TooLarge,
     /// A growth was refused.
     OutOfMemory,
@@ -70,7 +70,7 @@ impl DumpFaultKind {
         }
     }
 
-    /// The name of the kind, as `TrailingBytes`, and `Lsa ZeroCost` where the octets are no
+    /// The name of the kind, as `TrailingBytes`, and `Lsa ZeroCost` where the bytes are no
     /// accepted LSA.
     pub fn name(&self) -> &'static str
         ensures { result.now ≡ fault_name self.now }
@@ -111,12 +111,12 @@ fn lsa_fault_name(fault: LsaFault) -> &'static str
     }
 }
 
-/// What is wrong with a dump, and the offset of the first octet of the field or LSA.
+/// What is wrong with a dump, and the offset of the first byte of the field or LSA.
 ///
 /// It is shown as `L4 TrailingBytes at 99`, `L9 Lsa ZeroCost at 13` or `L15 BadHistory 1 at 129`.
 #[derive(Clone, Copy, Debug, PartialEq, Eq)]
 pub struct DumpFault {
-    /// How many octets stand before the field or LSA; 0 for `TooLarge` and `OutOfMemory`.
+    /// How many bytes stand before the field or LSA; 0 for `TooLarge` and `OutOfMemory`.
     pub offset: usize,
     pub kind: DumpFaultKind,
 }

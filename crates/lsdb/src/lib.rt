@@ -1,9 +1,9 @@
 //! Link state databases: the LSAs of each area and those of AS scope (RFC 2328, 12.2).
 //!
-//! A [`Database`] keeps each LSA at a *place* of its own. A place holds one LSA or is empty, and
-//! keeps its [`SlotId`] for as long as the database lives: an LSA that is removed leaves an empty
-//! place behind, and all others stay where they are. So an edit can be undone by putting the old
-//! LSAs back, each at its place, and the LSAs then stand in the order in which they stood before.
+//! A [`Database`] keeps each LSA at a *slot* of its own. A slot holds one LSA or is empty, and
+//! keeps its [`SlotId`] for as long as the database lives: an LSA that is removed leaves its slot
+//! empty, and all others stay where they are. So an edit can be undone by putting the old LSAs
+//! back, each at its slot, and the LSAs then stand in the order in which they stood before.
 //!
 //! The sections of a database are numbered: the areas come first, in rising order of their IDs,
 //! and the LSAs of AS scope last. Each reader is there by the name of a section and, with `_in`,
@@ -17,7 +17,7 @@ mod cursor;
 mod database;
 mod dump;
 mod fault;
-mod keyed_places;
+mod keyed_slots;
 mod laws;
 mod limits;
 mod lists;
@@ -25,26 +25,26 @@ mod load;
 mod lookup;
 mod lsas;
 mod merged;
-mod places;
-mod prefix_places;
+mod prefix_slots;
 mod read;
-mod router_places;
+mod router_slots;
 mod section;
 mod slot;
+mod slots;
 mod transit_filters;
 
 pub use base::base_laws;
 pub use counts::LsaCounts;
 pub use database::Database;
 pub use fault::{DumpFault, DumpFaultKind};
-pub use keyed_places::KeyAt;
+pub use keyed_slots::KeyAt;
 pub use laws::slot_laws;
 pub use limits::{LONGEST_DUMP, LONGEST_SESSION, MOST_AREAS, MOST_LSAS_OF_AREA, MOST_LSAS_OF_AS};
 pub use load::text_laws;
 pub use lsas::Lsas;
 pub use merged::Merged;
-pub use prefix_places::{Origin, PlaceOfPrefix, prefix_of};
-pub use router_places::PlaceOfRouter;
+pub use prefix_slots::{Origin, SlotOfPrefix, prefix_of};
+pub use router_slots::SlotOfRouter;
 pub use section::Section;
 pub use slot::{SlotFault, SlotId};
 pub use transit_filters::TransitFilter;

@@ -1,10 +1,10 @@
-//! The lists that the full places make: areas, and the LSAs of each section.
+//! The lists that the full slots make: areas, and the LSAs of each section.
 
 ghost use Rattle.std.specs.Prelude.{◌≡◌, ◌<◌, ◌≤◌, Some, IsSome, length, slice_get, option_map};
 ghost use Rattle.lsdb.specs.Counts.{AreFew, counts_of};
 ghost use Rattle.lsdb.specs.Limits.{most_lsas_of_as};
 ghost use Rattle.lsdb.specs.Lists.{id_and_kind, lsas_of, areas_of};
-ghost use Rattle.lsdb.specs.Places.{item_at, head_or_none, lists_of, lsas_in};
+ghost use Rattle.lsdb.specs.Slots.{item_at, head_or_none, lists_of, lsas_in};
 
 use crate::counts::LsaCounts;
 use crate::database::Database;
@@ -52,7 +52,7 @@ impl<A: Allocator + Copy> Database<A> {
         ensures lsas { result ≡ lsas_in self.now section }
         ensures few { length result ≤ most_lsas_of_as }
     {
-        Lsas::of(self.sections[section].places.as_slice())
+        Lsas::of(self.sections[section].slots.as_slice())
     }
 
     /// The LSAs of a section, in order; none where there is no such section.
@@ -74,7 +74,7 @@ impl<A: Allocator + Copy> Database<A> {
         ensures counts { result ≡ counts_of (lsas_in self.now section) }
         ensures few { AreFew most_lsas_of_as result }
     {
-        self.sections[section].places.counts()
+        self.sections[section].slots.counts()
     }
 
     /// How many LSAs a section has, by the section's number. It does not go through the LSAs.

@@ -3,18 +3,18 @@
 ghost use Rattle.std.specs.Prelude.{◌≡◌, ◌≤◌, length, [], Ok, Some, None, IfOk, IfErr, Err, Result, option_map};
 ghost use Rattle.lsdb.specs.Limits.{most_lsas_of_as};
 ghost use Rattle.lsdb.specs.Lists.{is_in_scope, limit_of, Lists, IsDatabase, size};
-ghost use Rattle.lsdb.specs.Places.{full, section_of, lists_of};
+ghost use Rattle.lsdb.specs.Slots.{full, section_of, lists_of};
 ghost use Rattle.lsdb.specs.steps.NotedKeys.{AreApart};
-ghost use Rattle.lsdb.specs.steps.View.{head_of, section_places_of, places_of};
+ghost use Rattle.lsdb.specs.steps.View.{head_of, section_slots_of, slots_of};
 ghost use Rattle.lsdb.specs.Text.{text};
-ghost use Rattle.lsdb.specs.steps.Reading.{at_of, Gives, Reads, IsMemoryAfter, told_fault};
+ghost use Rattle.lsdb.specs.steps.Reading.{at_of, Gives, Reads, IsMemoryAfter, reported_fault};
 ghost use Rattle.lsdb.specs.Loading.{lsa_at, lsas_from, section_at, id_at, kind_at, area_at, areas_from, is_above, magic_at, version_at, area_count_at, sections_at, loaded, IsFirstFault, first_lsa_at, section_front_at, area_front_at, first_section_at, sections_front_at, front_loaded};
 
 use crate::cursor::Cursor;
 use crate::database::{Database, Head, SectionOf};
 use crate::dump::{MAGIC, VERSION};
 use crate::fault::{DumpFault, DumpFaultKind, ReadError};
-use crate::keyed_places::KeyedPlaces;
+use crate::keyed_slots::KeyedSlots;
 use crate::limits::{LONGEST_DUMP, MOST_AREAS, MOST_LSAS_OF_AREA, MOST_LSAS_OF_AS};
 use crate::read::{advanced, fault, read_u8, read_u16, read_u32};
 use lsa_codec::{AS_OPAQUE_LSA, AreaId, EXTERNAL_LSA, Key, Lsa, LsaFault};
@@ -61,7 +61,7 @@ fn read_lsa<'a, A: Allocator + Copy>(
     }
 }
 
-/// So many LSAs, each at a place of its own. The set of keys saves a search for each LSA.
+/// This number of LSAs, each at a slot of its own. The set of keys saves a search for each LSA.
 fn read_lsas<'a, A: Allocator + Copy>(
     alloc: A,
     area: Option<Head>,
@@ -74,7 +74,7 @@ fn read_lsas<'a, A: Allocator + Copy>(
     ensures few { IfOk result (λ x. length x.0.items ≤ most_lsas_of_as) }
     ensures memory { IsMemoryAfter (first_lsa_at count (at_of start.entry)) result }
 {
-    let mut places = Vec::new(alloc);
+    let mut slots = Vec::new(alloc);
     let mut keys = BTreeSet::new(alloc);
     let mut at = start;
     for _ in 0..count {
@@ -82,10 +82,10 @@ fn read_lsas<'a, A: Allocator + Copy>(
         if !keys.insert(lsa.key())? {
             return Err(ReadError::Fault(fault(at, DumpFaultKind::DuplicateLsa)));
         }
-        places.push(Some(lsa))?;
+        slots.push(Some(lsa))?;
         at = after;
     }
-    Ok((places, at))
+    Ok((slots, at))
 }
 
 #[tactic(auto, unfolding(crate::specs::Loading::section_at, crate::specs::Loading::section_front_at))]
@@ -94,7 +94,7 @@ fn read_section<'a, A: Allocator + Copy>(
     area: Option<Head>,
     at: Cursor<'a>,
 ) -> Result<(SectionOf<A>, Cursor<'a>), ReadError>
-    ensures section { Gives (λ x. (section_of (section_places_of x.0), at_of x.1))
+    ensures section { Gives (λ x. (section_of (section_slots_of x.0), at_of x.1))
         result (section_at (option_map head_of area) (at_of at.entry)) }
     ensures memory { IsMemoryAfter
         (section_front_at (option_map head_of area) (at_of at.entry)) result }
@@ -103,9 +103,9 @@ fn read_section<'a, A: Allocator + Copy>(
     if limit_of(area) < count {
         return Err(ReadError::Fault(fault(at, DumpFaultKind::TooManyLsas)));
     }
-    let (places, rest) = read_lsas(alloc, area, count, rest)?;
-    let places = KeyedPlaces::of(alloc, places)?;
-    Ok((SectionOf { area, places }, rest))
+    let (slots, rest) = read_lsas(alloc, area, count, rest)?;
+    let slots = KeyedSlots::of(alloc, slots)?;
+    Ok((SectionOf { area, slots }, rest))
 }
 
 /// Whether an ID is above that of the area before.
@@ -151,7 +151,7 @@ fn read_area<'a, A: Allocator + Copy>(
     before: Option<Head>,
     at: Cursor<'a>,
 ) -> Result<(SectionOf<A>, Cursor<'a>), ReadError>
-    ensures area { Gives (λ x. (section_of (section_places_of x.0), at_of x.1))
+    ensures area { Gives (λ x. (section_of (section_slots_of x.0), at_of x.1))
         result (area_at (option_map head_of before) (at_of at.entry)) }
     ensures memory { IsMemoryAfter (area_front_at (at_of at.entry)) result }
 {
@@ -169,7 +169,7 @@ fn read_areas<'a, A: Allocator + Copy>(
     count: u8,
     start: Cursor<'a>,
 ) -> Result<(Vec<SectionOf<A>, A>, Cursor<'a>), ReadError>
-    ensures areas { Gives (λ x. (lists_of (places_of x.0.items), at_of x.1))
+    ensures areas { Gives (λ x. (lists_of (slots_of x.0.items), at_of x.1))
         result (areas_from count None [] (at_of start.entry)) }
     ensures memory { IsMemoryAfter (first_section_at count (at_of start.entry)) result }
 {
@@ -218,13 +218,13 @@ fn read_area_count(at: Cursor<'_>) -> Result<(u8, Cursor<'_>), DumpFault>
     Ok((count, rest))
 }
 
-/// The areas, and behind them the LSAs of AS scope.
+/// The areas, and after them the LSAs of AS scope.
 #[tactic(auto, unfolding(crate::specs::Loading::sections_at))]
 pub(crate) fn read_sections<'a, A: Allocator + Copy>(
     alloc: A,
     at: Cursor<'a>,
 ) -> Result<(Vec<SectionOf<A>, A>, Cursor<'a>), ReadError>
-    ensures sections { Gives (λ x. (lists_of (places_of x.0.items), at_of x.1))
+    ensures sections { Gives (λ x. (lists_of (slots_of x.0.items), at_of x.1))
         result (sections_at (at_of at.entry)) }
     ensures memory { IsMemoryAfter (sections_front_at (at_of at.entry)) result }
 {
@@ -237,7 +237,7 @@ pub(crate) fn read_sections<'a, A: Allocator + Copy>(
 
 #[tactic(auto, unfolding(crate::specs::Loading::loaded, crate::specs::Loading::dump_at, crate::specs::Loading::front_loaded, crate::specs::Loading::front_at))]
 fn read_dump<A: Allocator + Copy>(alloc: A, bytes: &[u8]) -> Result<Vec<SectionOf<A>, A>, ReadError>
-    ensures sections { Gives (λ sections. lists_of (places_of sections.items))
+    ensures sections { Gives (λ sections. lists_of (slots_of sections.items))
         result (loaded bytes.now) }
     ensures memory { IsMemoryAfter (front_loaded bytes.now) result }
 {
@@ -259,9 +259,9 @@ fn read_dump<A: Allocator + Copy>(alloc: A, bytes: &[u8]) -> Result<Vec<SectionO
     Ok(sections)
 }
 
-/// The fault that is told of a failed reading.
+/// The fault that is reported of a failed reading.
 pub(crate) fn dump_fault(error: ReadError) -> DumpFault
-    ensures { result ≡ told_fault error }
+    ensures { result ≡ reported_fault error }
 {
     match error {
         ReadError::Fault(fault) => fault,
@@ -273,19 +273,19 @@ pub(crate) fn dump_fault(error: ReadError) -> DumpFault
 }
 
 impl<A: Allocator + Copy> Database<A> {
-    /// The database whose dump the octets are.
+    /// The database whose dump the bytes are.
     ///
-    /// Of several faults the first from front to back is told; `TooLarge` comes before all others,
-    /// and `OutOfMemory` may stand in place of any that lies after the front: the magic, the
-    /// version, the number of areas, and of the first section its head, its count and its first
+    /// Of several faults the first from front to back is reported; `TooLarge` comes before all
+    /// others, and `OutOfMemory` may stand in place of any that comes after the front: the magic,
+    /// the version, the number of areas, and of the first section its head, its count and its first
     /// LSA.
-    #[tactic(auto, using(crate::proofs::FirstFault::first_told))]
+    #[tactic(auto, using(crate::proofs::FirstFault::first_reported))]
     pub fn load(alloc: A, bytes: &[u8]) -> Result<Database<A>, DumpFault>
         // What is loaded is spelled so.
         ensures database { IfOk result (λ db. IsDatabase (lists_of db)) }
         ensures spelled { IfOk result (λ db. bytes.now ≡ text (lists_of db)) }
 
-        // What is spelled so is loaded, unless memory runs out; else the first fault is told.
+        // What is spelled so is loaded, unless memory runs out; else the first fault is reported.
         ensures found { IfOk result (λ db. loaded bytes.now ≡ Ok (lists_of db)) }
         ensures fault { IfErr result (λ fault. IsFirstFault fault (loaded bytes.now)) }
 

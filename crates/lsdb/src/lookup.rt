@@ -4,17 +4,17 @@ ghost use Rattle.std.specs.Prelude.{◌≡◌, None, IsSome, MatchOption, option
 ghost use Rattle.std.specs.List.{find};
 ghost use Rattle.lsdb.specs.KeyRanges.{AreKeysBetween};
 ghost use Rattle.lsdb.specs.Lists.{is_head_of, is_section, has_key, lsas_of};
-ghost use Rattle.lsdb.specs.Places.{item_at, lists_of, lsas_in, places_in, IsFirstPlace, IsNamed, IsPlaceOf};
-ghost use Rattle.lsdb.specs.PrefixPlaces.{ArePlacesOfPrefix};
-ghost use Rattle.lsdb.specs.RouterPlaces.{ArePlacesOfRouter};
+ghost use Rattle.lsdb.specs.Slots.{item_at, lists_of, lsas_in, slots_in, IsFirstSlot, IsNamed, IsSlotOf};
+ghost use Rattle.lsdb.specs.PrefixSlots.{AreSlotsOfPrefix};
+ghost use Rattle.lsdb.specs.RouterSlots.{AreSlotsOfRouter};
 ghost use Rattle.lsdb.specs.TransitFilters.{AreTransitFilters};
 ghost use Rattle.lsdb.specs.steps.View.{head_of};
 
 use crate::database::{Database, Head};
-use crate::keyed_places::KeyAt;
+use crate::keyed_slots::KeyAt;
 use crate::merged::Merged;
-use crate::prefix_places::PlaceOfPrefix;
-use crate::router_places::PlaceOfRouter;
+use crate::prefix_slots::SlotOfPrefix;
+use crate::router_slots::SlotOfRouter;
 use crate::section::Section;
 use crate::slot::SlotId;
 use crate::transit_filters::TransitFilter;
@@ -36,13 +36,13 @@ impl<A: Allocator + Copy> Database<A> {
         None
     }
 
-    /// The place of the LSA with a key in a section, by the section's number.
+    /// The slot of the LSA with a key in a section, by the section's number.
     pub fn find_in(&self, section: usize, key: Key) -> Option<SlotId>
         requires { IsSome (item_at (lists_of self.now) section) }
         ensures { MatchOption result (find (has_key key) (lsas_in self.now section) ≡ None)
-            (IsFirstPlace self.now section (has_key key)) }
+            (IsFirstSlot self.now section (has_key key)) }
     {
-        let Some(index) = self.sections[section].places.find(key) else {
+        let Some(index) = self.sections[section].slots.find(key) else {
             return None;
         };
         Some(SlotId { section, index })
@@ -50,59 +50,57 @@ impl<A: Allocator + Copy> Database<A> {
 
     /// The keys that are noted of a section from `low` to `high`, both included, in their order,
     /// by the section's number. Among them is the key of each LSA there, with the index of its
-    /// place; but also keys of LSAs that have gone, so what stands at a place is to be looked at.
+    /// slot; but also keys of LSAs that have gone, so what stands at a slot is to be looked at.
     /// It takes no memory, and its steps are in the logarithm of the number of keys.
     pub fn keys_between(&self, section: usize, low: Key, high: Key) -> Merged<'_, KeyAt>
         requires { IsSome (item_at self.now section) }
-        ensures { AreKeysBetween (places_in self.now section) low high result }
+        ensures { AreKeysBetween (slots_in self.now section) low high result }
     {
-        self.sections[section].places.keys_between(low, high)
+        self.sections[section].slots.keys_between(low, high)
     }
 
-    /// The places that are noted of a router in a section, in rising order of their indices, by the
+    /// The slots that are noted of a router in a section, in rising order of their indices, by the
     /// section's number. Among them is that of each LSA there with this Advertising Router; but
-    /// also places of such LSAs that have gone, so what stands there is to be looked at. It takes
-    /// no memory, and its steps are in the logarithm of the number of places.
-    pub fn places_of_router(&self, section: usize, router: RouterId) -> Merged<'_, PlaceOfRouter>
+    /// also slots of such LSAs that have gone, so what stands there is to be looked at. It takes
+    /// no memory, and its steps are in the logarithm of the number of slots.
+    pub fn slots_of_router(&self, section: usize, router: RouterId) -> Merged<'_, SlotOfRouter>
         requires { IsSome (item_at self.now section) }
-        ensures { ArePlacesOfRouter (places_in self.now section) router result }
+        ensures { AreSlotsOfRouter (slots_in self.now section) router result }
     {
-        self.sections[section].places.places_of_router(router)
+        self.sections[section].slots.slots_of_router(router)
     }
 
-    /// The places that are noted of a router and a prefix in a section, in rising order of their
+    /// The slots that are noted of a router and a prefix in a section, in rising order of their
     /// indices, by the section's number. Among them is that of each LSA there with this
-    /// Advertising Router and this prefix (`prefix_of`); but also places of such LSAs that have
+    /// Advertising Router and this prefix (`prefix_of`); but also slots of such LSAs that have
     /// gone, so what stands there is to be looked at. It takes no memory, and its steps are in the
-    /// logarithm of the number of places.
-    pub fn places_of_prefix(
+    /// logarithm of the number of slots.
+    pub fn slots_of_prefix(
         &self,
         section: usize,
         router: RouterId,
         prefix: Prefix,
-    ) -> Merged<'_, PlaceOfPrefix>
+    ) -> Merged<'_, SlotOfPrefix>
         requires { IsSome (item_at self.now section) }
-        ensures { ArePlacesOfPrefix (places_in self.now section) router prefix result }
+        ensures { AreSlotsOfPrefix (slots_in self.now section) router prefix result }
     {
-        self.sections[section]
-            .places
-            .places_of_prefix(router, prefix)
+        self.sections[section].slots.slots_of_prefix(router, prefix)
     }
 
-    /// For each place of a section, by the section's number, the filter of the transit networks of
+    /// For each slot of a section, by the section's number, the filter of the transit networks of
     /// the LSA there: those of the transit links of a router-LSA, and of a network-LSA its own.
     pub fn transit_filters(&self, section: usize) -> &[TransitFilter]
         requires { IsSome (item_at self.now section) }
-        ensures { AreTransitFilters (places_in self.now section) result.now }
+        ensures { AreTransitFilters (slots_in self.now section) result.now }
     {
-        self.sections[section].places.transit_filters()
+        self.sections[section].slots.transit_filters()
     }
 
-    /// The place of the LSA with a key in a section; `None` where the section has no such LSA,
+    /// The slot of the LSA with a key in a section; `None` where the section has no such LSA,
     /// and where there is no such section.
     pub fn find(&self, section: Section, key: Key) -> Option<SlotId>
         ensures { MatchOption result (find (has_key key) (lsas_of section (lists_of self.now))
-            ≡ None) (IsPlaceOf self.now section key) }
+            ≡ None) (IsSlotOf self.now section key) }
     {
         let Some(index) = self.index_of(section) else {
             return None;

@@ -2,7 +2,7 @@
 
 ghost use Rattle.std.specs.Prelude.{◌≡◌, [], ◌∷◌, MatchOption};
 ghost use Rattle.std.specs.Iterator.{YieldsFirstRef, item_count};
-ghost use Rattle.lsdb.specs.Places.{full};
+ghost use Rattle.lsdb.specs.Slots.{full};
 
 use lsa_codec::Lsa;
 use std::alloc::{Allocator, Global};
@@ -11,7 +11,7 @@ use std::marker::Model;
 /// The LSAs of one section, an iterator. Contracts see it as the list of the LSAs left.
 #[derive(Drop)]
 pub struct Lsas<'a, A: Allocator = Global> {
-    places: &'a [Option<Lsa<A>>],
+    slots: &'a [Option<Lsa<A>>],
 }
 
 impl<'a, A: Allocator> Model for Lsas<'a, A> {
@@ -19,17 +19,17 @@ impl<'a, A: Allocator> Model for Lsas<'a, A> {
 
     ghost Value = { List (List ℕ) };
 
-    ghost use Rattle.lsdb.specs.Places.{full};
+    ghost use Rattle.lsdb.specs.Slots.{full};
 
-    ghost view = { λ s. full s.places.now };
+    ghost view = { λ s. full s.slots.now };
 }
 
 impl<'a, A: Allocator + Copy> Lsas<'a, A> {
-    /// The LSAs of the full places.
-    pub(crate) fn of(places: &'a [Option<Lsa<A>>]) -> Lsas<'a, A>
-        ensures { result ≡ full places.now }
+    /// The LSAs of the full slots.
+    pub(crate) fn of(slots: &'a [Option<Lsa<A>>]) -> Lsas<'a, A>
+        ensures { result ≡ full slots.now }
     {
-        Lsas { places }
+        Lsas { slots }
     }
 }
 
@@ -41,22 +41,22 @@ impl<'a, A: Allocator + Copy> Iterator for Lsas<'a, A> {
     ghost remaining = { item_count (λ s. s) };
 
     fn next(&mut self) -> Option<&'a Lsa<A>> {
-        let (lsa, others) = first_full(self.places)?;
-        self.places = others;
+        let (lsa, others) = first_full(self.slots)?;
+        self.slots = others;
         Some(lsa)
     }
 }
 
-/// The LSA at the first full place, and the places behind it.
+/// The LSA at the first full slot, and the slots after it.
 fn first_full<'a, A: Allocator + Copy>(
-    places: &'a [Option<Lsa<A>>],
+    slots: &'a [Option<Lsa<A>>],
 ) -> Option<(&'a Lsa<A>, &'a [Option<Lsa<A>>])>
-    ensures { MatchOption result (full places.now ≡ [])
-        (λ found. full places.now ≡ found.0.now ∷ full found.1.now) }
+    ensures { MatchOption result (full slots.now ≡ [])
+        (λ found. full slots.now ≡ found.0.now ∷ full found.1.now) }
 {
-    for index in 0..places.len() {
-        if let Some(lsa) = &places[index] {
-            return Some((lsa, &places[index + 1..]));
+    for index in 0..slots.len() {
+        if let Some(lsa) = &slots[index] {
+            return Some((lsa, &slots[index + 1..]));
         }
     }
     None

@@ -15,10 +15,10 @@ pub struct Merged<'a, T: Ord + Copy> {
     latest: &'a [T],
 }
 
-/// For how many of the latest notes of so many places there is room at first. An insertion among
-/// them moves few, and seldom are all noted anew.
-pub(crate) fn latest_count(places: usize) -> usize {
-    places / 32 + 16
+/// For this number of slots, the number of the latest notes for which there is room at first. An
+/// insertion among them moves few, and seldom are all noted again.
+pub(crate) fn latest_count(slots: usize) -> usize {
+    slots / 32 + 16
 }
 
 impl<'a, T: Ord + Copy> Model for Merged<'a, T> {
@@ -39,7 +39,7 @@ impl<'a, T: Ord + Copy> Merged<'a, T> {
     }
 
     /// How many items are left at most: one that stands in both lists is counted twice.
-    pub fn most(&self) -> usize {
+    pub fn upper_bound(&self) -> usize {
         self.older.len().saturating_add(self.latest.len())
     }
 }

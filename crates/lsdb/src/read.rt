@@ -8,7 +8,7 @@ ghost use Rattle.lsdb.specs.Loading.{number_at, advanced};
 use crate::cursor::Cursor;
 use crate::fault::{DumpFault, DumpFaultKind};
 
-/// The fault at a place.
+/// The fault at a position.
 pub(crate) fn fault(at: Cursor<'_>, kind: DumpFaultKind) -> DumpFault
     ensures { result ≡ record { offset = at.entry.offset; kind = kind } }
 {
@@ -18,7 +18,7 @@ pub(crate) fn fault(at: Cursor<'_>, kind: DumpFaultKind) -> DumpFault
     }
 }
 
-/// The place so many octets further on.
+/// The position this number of bytes further on.
 pub(crate) fn advanced(at: Cursor<'_>, count: usize) -> Cursor<'_>
     requires { count ≤ length at.rest.now }
     ensures { at_of result ≡ advanced count (at_of at.entry) }
@@ -29,7 +29,7 @@ pub(crate) fn advanced(at: Cursor<'_>, count: usize) -> Cursor<'_>
     }
 }
 
-/// The octet at a place, and the place after it.
+/// The byte at a position, and the position after it.
 pub(crate) fn read_u8(at: Cursor<'_>) -> Result<(u8, Cursor<'_>), DumpFault>
     ensures { Reads (λ x. (x.0, at_of x.1)) result (number_at w8 (at_of at.entry)) }
 {
@@ -39,7 +39,7 @@ pub(crate) fn read_u8(at: Cursor<'_>) -> Result<(u8, Cursor<'_>), DumpFault>
     Ok((at.rest[0], advanced(at, 1)))
 }
 
-/// The number of two octets at a place, and the place after it.
+/// The number of two bytes at a position, and the position after it.
 pub(crate) fn read_u16(at: Cursor<'_>) -> Result<(u16, Cursor<'_>), DumpFault>
     ensures { Reads (λ x. (x.0, at_of x.1)) result (number_at w16 (at_of at.entry)) }
 {
@@ -50,7 +50,7 @@ pub(crate) fn read_u16(at: Cursor<'_>) -> Result<(u16, Cursor<'_>), DumpFault>
     Ok((number, advanced(at, 2)))
 }
 
-/// The number of four octets at a place, and the place after it.
+/// The number of four bytes at a position, and the position after it.
 pub(crate) fn read_u32(at: Cursor<'_>) -> Result<(u32, Cursor<'_>), DumpFault>
     ensures { Reads (λ x. (x.0, at_of x.1)) result (number_at w32 (at_of at.entry)) }
 {

@@ -1,8 +1,8 @@
-//! Which transit networks the LSAs of one section may be of, place by place.
+//! Which transit networks the LSAs of one section may be of, slot by slot.
 
 ghost use Rattle.std.specs.Prelude.{◌≡◌, ◌<◌, IfOk, None, length, slice_index_or, slice_set};
 ghost use Rattle.lsdb.specs.TransitFilters.{block_bit, may_have, network_bit};
-ghost use Rattle.lsdb.specs.steps.Filtering.{filter_of_lsa, filter_of_place, filters_of, no_networks, with_link, with_links, with_network};
+ghost use Rattle.lsdb.specs.steps.Filtering.{filter_of_lsa, filter_of_slot, filters_of, no_networks, with_link, with_links, with_network};
 
 use lsa_codec::{Addr, Link, LinkKind, Links, Lsa};
 use std::alloc::{AllocError, Allocator};
@@ -14,11 +14,11 @@ pub struct TransitFilter {
     /// A bit for each address, by its remainder.
     networks: u32,
     /// A bit for each block of 65,536 addresses, by its remainder. So a router with many links in
-    /// few blocks is told apart too.
+    /// few blocks is distinguished too.
     blocks: u32,
 }
 
-/// How many bits of a field are used: a prime, so that addresses with equal last octets differ.
+/// How many bits of a field are used: a prime, so that addresses with equal last bytes differ.
 const BITS: u32 = 31;
 
 /// The bit of the address of a Designated Router.
@@ -99,41 +99,41 @@ impl TransitFilter {
         TransitFilter::empty()
     }
 
-    /// The filter of the networks of the LSA at a place.
-    pub(crate) fn of_place<A: Allocator + Copy>(place: &Option<Lsa<A>>) -> TransitFilter
-        ensures { result ≡ filter_of_place place.now }
+    /// The filter of the networks of the LSA at a slot.
+    pub(crate) fn of_slot<A: Allocator + Copy>(slot: &Option<Lsa<A>>) -> TransitFilter
+        ensures { result ≡ filter_of_slot slot.now }
     {
-        match place {
+        match slot {
             Some(lsa) => TransitFilter::of_lsa(lsa),
             None => TransitFilter::empty(),
         }
     }
 }
 
-/// The filters of the LSAs at places, in order. The error is want of memory.
+/// The filters of the LSAs at slots, in order. The error is want of memory.
 pub(crate) fn filters_of<A: Allocator + Copy>(
     alloc: A,
-    places: &[Option<Lsa<A>>],
+    slots: &[Option<Lsa<A>>],
 ) -> Result<Vec<TransitFilter, A>, AllocError>
-    ensures { IfOk result (λ filters. filters.items ≡ filters_of places.now) }
+    ensures { IfOk result (λ filters. filters.items ≡ filters_of slots.now) }
 {
-    let mut filters = Vec::with_capacity(alloc, places.len())?;
-    for place in places {
-        filters.push(TransitFilter::of_place(place))?;
+    let mut filters = Vec::with_capacity(alloc, slots.len())?;
+    for slot in slots {
+        filters.push(TransitFilter::of_slot(slot))?;
     }
     Ok(filters)
 }
 
-/// Makes the filter of one place anew, at which something else stands now. It takes no memory.
+/// Rebuilds the filter of one slot, at which something else stands now. It takes no memory.
 pub(crate) fn put_filter<A: Allocator + Copy>(
     filters: &mut Vec<TransitFilter, A>,
-    places: &[Option<Lsa<A>>],
+    slots: &[Option<Lsa<A>>],
     index: usize,
 )
-    requires within { index < length places.now }
+    requires within { index < length slots.now }
     requires noted { index < length filters.old.items }
     ensures { filters.new.items ≡ slice_set filters.old.items index
-        (filter_of_place (slice_index_or places.now index None)) }
+        (filter_of_slot (slice_index_or slots.now index None)) }
 {
-    filters[index] = TransitFilter::of_place(&places[index]);
+    filters[index] = TransitFilter::of_slot(&slots[index]);
 }

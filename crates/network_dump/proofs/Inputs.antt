@@ -7,10 +7,10 @@ use Rattle.std.proofs.lemmas.List.{drop-drop, drop-set-lt, get_or-drop, map-appe
 use Rattle.std.proofs.lemmas.List.Elements.{All-set}
 use Rattle.network_dump.specs.declared.fault.RunFault.{RunFault}
 use Rattle.network_dump.specs.declared.fault.RunFault.TheVariants.{Read, TooLarge, Refused, Join, Write, OutOfMemory}
-use Rattle.network_dump.specs.Runs.{AreTold, IsFileEnd, IsInputEnd, known}
+use Rattle.network_dump.specs.Runs.{AreParsed, IsFileEnd, IsInputEnd, known}
 use Rattle.network_dump.specs.steps.Inputs.{IsReadEnd}
-use Rattle.network_files.specs.declared.file_told.FileTold.{FileTold}
-use Rattle.network_files.specs.FilesTold.{IsToldOf}
+use Rattle.network_files.specs.declared.parsed_file.ParsedFile.{ParsedFile}
+use Rattle.network_files.specs.ParsedFiles.{IsFileOf}
 use Rattle.streams.specs.declared.watch.Watched.{Watched}
 use Rattle.streams.specs.Watched.{has_failed, inner_of}
 
@@ -59,39 +59,39 @@ module _ {R : Type 0} (remaining : R → Option (List ℕ)) where
       ∙ map-append item (take i ys) (x ∷ drop (suc i) ys)
 
 module _ {R A : Type 0} (remaining : R → Option (List ℕ)) where
-  pub told_more : (xs ys : List (Watched R)) (i : ℕ) (x : Watched R) (old new : List (FileTold A)) (told : FileTold A) → i < length ys
-      → drop i xs ≡ drop i ys → x ≡ get_or xs i x → AreTold (known remaining (take i ys)) old
-      → IfSome (remaining (inner_of x)) (λ octets. IsToldOf octets told) → new ≡ old ++ told ∷ []
-      → AreTold (known remaining (take (i + 1) ys)) new
-  told_more xs ys i x old new told l e is all one pushed =
-      subst (λ ts. AreTold (known remaining (take (i + 1) ys)) ts) (sym pushed)
-      (subst (λ ks. AreTold ks (old ++ told ∷ [])) (sym (known_more remaining xs ys i x l e is))
-      (zip_push _ (known remaining (take i ys)) old _ told all one))
+  pub parsed_more : (xs ys : List (Watched R)) (i : ℕ) (x : Watched R) (old new : List (ParsedFile A)) (parsed : ParsedFile A) → i < length ys
+      → drop i xs ≡ drop i ys → x ≡ get_or xs i x → AreParsed (known remaining (take i ys)) old
+      → IfSome (remaining (inner_of x)) (λ bytes. IsFileOf bytes parsed) → new ≡ old ++ parsed ∷ []
+      → AreParsed (known remaining (take (i + 1) ys)) new
+  parsed_more xs ys i x old new parsed l e is all one pushed =
+      subst (λ ts. AreParsed (known remaining (take (i + 1) ys)) ts) (sym pushed)
+      (subst (λ ks. AreParsed ks (old ++ parsed ∷ [])) (sym (known_more remaining xs ys i x l e is))
+      (zip_push _ (known remaining (take i ys)) old _ parsed all one))
 
   -- ---- the file that is not read
 
-  input_end : (xs ys : List (Watched R)) (i index : ℕ) (x : Watched R) (told : List (FileTold A)) (fault : RunFault) → i < length ys
-      → drop i xs ≡ drop i ys → x ≡ get_or xs i x → AreTold (known remaining (take i ys)) told → index ≡ length told
+  input_end : (xs ys : List (Watched R)) (i index : ℕ) (x : Watched R) (parsed : List (ParsedFile A)) (fault : RunFault) → i < length ys
+      → drop i xs ≡ drop i ys → x ≡ get_or xs i x → AreParsed (known remaining (take i ys)) parsed → index ≡ length parsed
       → IsFileEnd A (remaining (inner_of x)) index fault → IsInputEnd A (known remaining ys) fault
-  input_end xs ys i index x told fault l e is all at ended = record {
+  input_end xs ys i index x parsed fault l e is all at ended = record {
     front = known remaining (take i ys);
-    octets = remaining (inner_of x);
+    bytes = remaining (inner_of x);
     rest = known remaining (drop (suc i) ys);
     split = split_at remaining xs ys i x l e is;
-    told = told;
+    parsed = parsed;
     before = all;
-    ended = subst (λ n. IsFileEnd A (remaining (inner_of x)) n fault) (at ∙ sym (zip_length _ (known remaining (take i ys)) told all)) ended;
+    ended = subst (λ n. IsFileEnd A (remaining (inner_of x)) n fault) (at ∙ sym (zip_length _ (known remaining (take i ys)) parsed all)) ended;
   }
 
-  pub read_end : (xs ys : List (Watched R)) (i index : ℕ) (x : Watched R) (told : List (FileTold A)) (fault : RunFault) → i < length ys
-      → drop i xs ≡ drop i ys → x ≡ get_or xs i x → AreTold (known remaining (take i ys)) told → index ≡ length told
+  pub read_end : (xs ys : List (Watched R)) (i index : ℕ) (x : Watched R) (parsed : List (ParsedFile A)) (fault : RunFault) → i < length ys
+      → drop i xs ≡ drop i ys → x ≡ get_or xs i x → AreParsed (known remaining (take i ys)) parsed → index ≡ length parsed
       → IsFileEnd A (remaining (inner_of x)) index fault → IsReadEnd A (known remaining ys) fault
-  read_end xs ys i index x told (Read file) l e is all at ended = input_end xs ys i index x told (Read file) l e is all at ended
-  read_end xs ys i index x told (TooLarge file) l e is all at ended = input_end xs ys i index x told (TooLarge file) l e is all at ended
-  read_end xs ys i index x told (Refused file f) l e is all at ended = input_end xs ys i index x told (Refused file f) l e is all at ended
-  read_end xs ys i index x told (Join f) l e is all at ended = absurd ended
-  read_end xs ys i index x told Write l e is all at ended = absurd ended
-  read_end xs ys i index x told OutOfMemory l e is all at ended = tt
+  read_end xs ys i index x parsed (Read file) l e is all at ended = input_end xs ys i index x parsed (Read file) l e is all at ended
+  read_end xs ys i index x parsed (TooLarge file) l e is all at ended = input_end xs ys i index x parsed (TooLarge file) l e is all at ended
+  read_end xs ys i index x parsed (Refused file f) l e is all at ended = input_end xs ys i index x parsed (Refused file f) l e is all at ended
+  read_end xs ys i index x parsed (Join f) l e is all at ended = absurd ended
+  read_end xs ys i index x parsed Write l e is all at ended = absurd ended
+  read_end xs ys i index x parsed OutOfMemory l e is all at ended = tt
 
 -- ---- readers that have not failed
 

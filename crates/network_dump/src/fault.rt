@@ -3,8 +3,8 @@
 ghost use Rattle.std.specs.Prelude.{◌≡◌};
 ghost use Rattle.network_dump.specs.declared.fault.RunFault.TheVariants.{OutOfMemory, Write};
 
+use lsdb_merge::JoinFault;
 use network_files::FileFault;
-use sighted_database::JoinFault;
 use std::alloc::{AllocError, AllocFailed};
 use streams::WriteFault;
 

@@ -4,13 +4,13 @@ ghost use Rattle.std.specs.Prelude.{◌≡◌, ◌≢◌, ◌↔◌, ℕ, List, 
 ghost use Rattle.std.specs.Io.KnownBytes.{Appends};
 ghost use Rattle.streams.specs.Watched.{inner_of, has_failed};
 ghost use Rattle.network_files.specs.Dumps.{IsDump};
-ghost use Rattle.network_dump.specs.Runs.{AreTold, IsDumpEnd, MayEndRun, known};
+ghost use Rattle.network_dump.specs.Runs.{AreParsed, IsDumpEnd, MayEndRun, known};
 
 use crate::fault::RunFault;
 use crate::input::read_files;
 use lsa_instances::FlushedLsas;
-use network_files::{FileTold, dump_of_files};
-use sighted_database::JoinFault;
+use lsdb_merge::JoinFault;
+use network_files::{ParsedFile, dump_of_files};
 use std::alloc::Allocator;
 use std::io::{Read, Write};
 use streams::{Watched, write_and_flush};
@@ -19,12 +19,12 @@ use streams::{Watched, write_and_flush};
 fn dump_of<A: Allocator + Copy>(
     alloc: A,
     flushed: FlushedLsas,
-    told: &[FileTold<A>],
+    parsed: &[ParsedFile<A>],
 ) -> Result<Vec<u8, A>, RunFault>
-    ensures dump { IfOk result (λ dump. IsDump flushed told.now dump.items) }
-    ensures fault { IfErr result (IsDumpEnd flushed told.now) }
+    ensures dump { IfOk result (λ dump. IsDump flushed parsed.now dump.items) }
+    ensures fault { IfErr result (IsDumpEnd flushed parsed.now) }
 {
-    match dump_of_files(alloc, flushed, told) {
+    match dump_of_files(alloc, flushed, parsed) {
         Ok(dump) => Ok(dump),
         Err(JoinFault::OutOfMemory) => Err(RunFault::OutOfMemory),
         Err(fault) => Err(RunFault::Join(fault)),
@@ -45,13 +45,13 @@ pub fn run<A: Allocator + Copy, R: Read, W: Write>(
     flushed: FlushedLsas,
     files: &mut [Watched<R>],
     out: &mut Watched<W>,
-) -> Result<Vec<FileTold<A>, A>, RunFault>
+) -> Result<Vec<ParsedFile<A>, A>, RunFault>
     requires files_open { All (λ file. has_failed file ≡ false) files.old }
     requires out_open { has_failed out.old ≡ false }
 
     // What is written, where the bytes of the files are known.
-    ensures told { IfOk result (λ told. AreTold (known R.remaining files.old) told.items) }
-    ensures dump { IfOk result (λ told. (dump : List ℕ) × (IsDump flushed told.items dump
+    ensures parsed { IfOk result (λ parsed. AreParsed (known R.remaining files.old) parsed.items) }
+    ensures dump { IfOk result (λ parsed. (dump : List ℕ) × (IsDump flushed parsed.items dump
         × Appends (W.contents (inner_of out.old)) (W.contents (inner_of out.new)) dump)) }
 
     // When each fault comes.
@@ -63,8 +63,8 @@ pub fn run<A: Allocator + Copy, R: Read, W: Write>(
     // What is left alone.
     ensures untouched { IfErr result (λ fault. fault ≢ RunFault.Write → out.new ≡ out.old) }
 {
-    let told = read_files(alloc, files)?;
-    let dump = dump_of(alloc, flushed, &told)?;
+    let parsed = read_files(alloc, files)?;
+    let dump = dump_of(alloc, flushed, &parsed)?;
     write_and_flush(out, &dump)?;
-    Ok(told)
+    Ok(parsed)
 }

@@ -5,7 +5,7 @@ use Rattle.std.specs.Prelude.{◌≢◌, is_ok}
 use Rattle.capture_files.specs.declared.fault.CaptureFault.{CaptureFault}
 use Rattle.capture_files.specs.declared.fault.CaptureFault.TheVariants as captures
 use Rattle.capture_files.specs.Captures.{IsOfFormat, IsFaultOfFormat}
-use Rattle.capture_files.specs.Pcap.{IsPcap, IsPcapFault, LiesAt}
+use Rattle.capture_files.specs.Pcap.{IsPcap, IsPcapFault, IsMalformedAt}
 use Rattle.capture_files.specs.Pcapng.{IsPcapng, IsPcapngFault, has_section}
 use Rattle.capture_files.specs.CaptureTexts.{CaptureText}
 use Rattle.network_files.proofs.Documents.{no_lack}
@@ -13,8 +13,8 @@ use Rattle.network_files.specs.declared.fault.FileFault.{FileFault}
 use Rattle.network_files.specs.declared.fault.FileFault.TheVariants as faults
 use Rattle.network_files.specs.declared.kind.FileKind.{FileKind}
 use Rattle.network_files.specs.declared.kind.FileKind.TheVariants.{Capture, Json, Printed, Walk}
-use Rattle.network_files.specs.declared.file_told.FileTold.{FileTold}
-use Rattle.network_files.specs.FilesTold.{IsToldAs, IsRefusalAs}
+use Rattle.network_files.specs.declared.parsed_file.ParsedFile.{ParsedFile}
+use Rattle.network_files.specs.ParsedFiles.{IsFileAs, IsRefusalAs}
 use Rattle.std.specs.Prelude.{Result, Ok, Err}
 
 not_both : {X E : Type 0} (r : Result X E) (x : X) (e : E) → r ≡ Ok x → r ≡ Err e → ⊥
@@ -22,40 +22,40 @@ not_both r x e a b = true≢false (ap is_ok (sym a ∙ b))
 
 -- what is read is not refused, unless memory ran out
 abbrev pub IsNotRefused : (List ℕ → CaptureFault → Type 0) → (List ℕ → CaptureText → Type 0) → Type 0
-IsNotRefused IsFault IsRead = (file : List ℕ) (told : CaptureText) (fault : CaptureFault) → IsRead file told → IsFault file fault → fault ≢ captures.OutOfMemory → ⊥
+IsNotRefused IsFault IsRead = (file : List ℕ) (parsed : CaptureText) (fault : CaptureFault) → IsRead file parsed → IsFault file fault → fault ≢ captures.OutOfMemory → ⊥
 
-module _ (pcap : (file : List ℕ) (told : CaptureText) (offset : ℕ) → IsPcap file told → LiesAt file offset → ⊥)
+module _ (pcap : (file : List ℕ) (parsed : CaptureText) (offset : ℕ) → IsPcap file parsed → IsMalformedAt file offset → ⊥)
     (pcapng : IsNotRefused IsPcapngFault IsPcapng) where
   no_fault_of_pcap : IsNotRefused IsPcapFault IsPcap
-  no_fault_of_pcap file told captures.OutOfMemory a b n = n refl
-  no_fault_of_pcap file told (captures.CapturedLength offset) a b n = pcap file told offset a b
-  no_fault_of_pcap file told captures.NotACapture a b n = not_both _ a.form _ a.headed b
-  no_fault_of_pcap file told captures.ShortHeader a b n = not_both _ a.form _ a.headed b
-  no_fault_of_pcap file told captures.Version a b n = not_both _ a.form _ a.headed b
-  no_fault_of_pcap file told (captures.ByteOrder offset) a b n = not_both _ a.form _ a.headed b
-  no_fault_of_pcap file told (captures.BlockLength offset) a b n = not_both _ a.form _ a.headed b
-  no_fault_of_pcap file told (captures.SectionVersion offset) a b n = not_both _ a.form _ a.headed b
-  no_fault_of_pcap file told (captures.NoInterface offset) a b n = not_both _ a.form _ a.headed b
+  no_fault_of_pcap file parsed captures.OutOfMemory a b n = n refl
+  no_fault_of_pcap file parsed (captures.CapturedLength offset) a b n = pcap file parsed offset a b
+  no_fault_of_pcap file parsed captures.NotACapture a b n = not_both _ a.form _ a.headed b
+  no_fault_of_pcap file parsed captures.ShortHeader a b n = not_both _ a.form _ a.headed b
+  no_fault_of_pcap file parsed captures.Version a b n = not_both _ a.form _ a.headed b
+  no_fault_of_pcap file parsed (captures.ByteOrder offset) a b n = not_both _ a.form _ a.headed b
+  no_fault_of_pcap file parsed (captures.BlockLength offset) a b n = not_both _ a.form _ a.headed b
+  no_fault_of_pcap file parsed (captures.SectionVersion offset) a b n = not_both _ a.form _ a.headed b
+  no_fault_of_pcap file parsed (captures.NoInterface offset) a b n = not_both _ a.form _ a.headed b
 
   no_fault : (is_pcapng : Bool) → IsNotRefused (IsFaultOfFormat is_pcapng) (IsOfFormat is_pcapng)
   no_fault true = pcapng
   no_fault false = no_fault_of_pcap
 
-  pub memory_alone : {A : Type 0} (kind : FileKind) (octets : List ℕ) (file : FileTold A) (fault : FileFault)
-      → IsToldAs kind octets file → IsRefusalAs A kind octets fault → fault ≡ faults.OutOfMemory
-  memory_alone Capture octets file faults.OutOfMemory a b = refl
-  memory_alone Capture octets file (faults.Capture fault) a b = absurd (no_fault (has_section octets) octets a.capture fault a.read b.0 b.1)
-  memory_alone Capture octets file faults.NotJson a b = absurd b
-  memory_alone Capture octets file faults.NoDatabase a b = absurd b
-  memory_alone Capture octets file faults.UnknownKind a b = absurd b
-  memory_alone Json octets file faults.OutOfMemory a b = refl
-  memory_alone Json octets file (faults.Capture fault) a b = absurd b
-  memory_alone Json octets file faults.NotJson a b = absurd (none-some a.json (sym (b a.spelled) ∙ a.read))
-  memory_alone Json octets file faults.NoDatabase a b = absurd (no_lack octets file a b.1)
-  memory_alone Json octets file faults.UnknownKind a b = absurd b
-  memory_alone Printed octets file fault a b = b
-  memory_alone Walk octets file faults.OutOfMemory a b = refl
-  memory_alone Walk octets file (faults.Capture fault) a b = absurd b
-  memory_alone Walk octets file faults.NotJson a b = absurd b
-  memory_alone Walk octets file faults.NoDatabase a b = absurd b
-  memory_alone Walk octets file faults.UnknownKind a b = absurd (true≢false (sym a.read ∙ b))
+  pub memory_alone : {A : Type 0} (kind : FileKind) (bytes : List ℕ) (file : ParsedFile A) (fault : FileFault)
+      → IsFileAs kind bytes file → IsRefusalAs A kind bytes fault → fault ≡ faults.OutOfMemory
+  memory_alone Capture bytes file faults.OutOfMemory a b = refl
+  memory_alone Capture bytes file (faults.Capture fault) a b = absurd (no_fault (has_section bytes) bytes a.capture fault a.read b.0 b.1)
+  memory_alone Capture bytes file faults.NotJson a b = absurd b
+  memory_alone Capture bytes file faults.NoDatabase a b = absurd b
+  memory_alone Capture bytes file faults.UnknownKind a b = absurd b
+  memory_alone Json bytes file faults.OutOfMemory a b = refl
+  memory_alone Json bytes file (faults.Capture fault) a b = absurd b
+  memory_alone Json bytes file faults.NotJson a b = absurd (none-some a.json (sym (b a.spelled) ∙ a.read))
+  memory_alone Json bytes file faults.NoDatabase a b = absurd (no_lack bytes file a b.1)
+  memory_alone Json bytes file faults.UnknownKind a b = absurd b
+  memory_alone Printed bytes file fault a b = b
+  memory_alone Walk bytes file faults.OutOfMemory a b = refl
+  memory_alone Walk bytes file (faults.Capture fault) a b = absurd b
+  memory_alone Walk bytes file faults.NotJson a b = absurd b
+  memory_alone Walk bytes file faults.NoDatabase a b = absurd b
+  memory_alone Walk bytes file faults.UnknownKind a b = absurd (true≢false (sym a.read ∙ b))

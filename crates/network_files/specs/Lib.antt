@@ -1,4 +1,4 @@
 pub mod Kinds
-pub mod FilesTold
+pub mod ParsedFiles
 pub mod Dumps
 pub mod steps

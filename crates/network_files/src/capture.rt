@@ -3,20 +3,20 @@
 ghost use Rattle.std.specs.Prelude.{◌≡◌, IfOk, IfErr};
 ghost use Rattle.capture_files.specs.Captures.{IsCapture};
 ghost use Rattle.capture_files.specs.CaptureTexts.{capture_text};
-ghost use Rattle.network_files.specs.FilesTold.{IsToldByCapture, IsRefusalOfCapture};
+ghost use Rattle.network_files.specs.ParsedFiles.{IsReadFromCapture, IsRefusalOfCapture};
 
 use crate::fault::FileFault;
-use crate::file_told::{FileTold, Oddities};
+use crate::parsed_file::{ParsedFile, Warnings};
 use capture_files::{Capture, CaptureFault, read_capture};
 use ospf_packets::{Packets, read_frames};
 use std::alloc::Allocator;
 
 /// The frames of the capture.
-fn frames_of<A: Allocator + Copy>(alloc: A, octets: &[u8]) -> Result<Capture<'_, A>, FileFault>
-    ensures capture { IfOk result (λ capture. IsCapture octets.now (capture_text capture)) }
-    ensures fault { IfErr result (λ fault. IsRefusalOfCapture octets.now fault) }
+fn frames_of<A: Allocator + Copy>(alloc: A, bytes: &[u8]) -> Result<Capture<'_, A>, FileFault>
+    ensures capture { IfOk result (λ capture. IsCapture bytes.now (capture_text capture)) }
+    ensures fault { IfErr result (λ fault. IsRefusalOfCapture bytes.now fault) }
 {
-    match read_capture(alloc, octets) {
+    match read_capture(alloc, bytes) {
         Ok(capture) => Ok(capture),
         Err(CaptureFault::OutOfMemory) => Err(FileFault::OutOfMemory),
         Err(fault) => Err(FileFault::Capture(fault)),
@@ -24,24 +24,24 @@ fn frames_of<A: Allocator + Copy>(alloc: A, octets: &[u8]) -> Result<Capture<'_,
 }
 
 /// Reads a capture.
-pub(crate) fn told_of_capture<A: Allocator + Copy>(
+pub(crate) fn read_capture_file<A: Allocator + Copy>(
     alloc: A,
-    octets: &[u8],
-) -> Result<FileTold<A>, FileFault>
-    ensures told { IfOk result (λ file. IsToldByCapture octets.now file) }
-    ensures fault { IfErr result (λ fault. IsRefusalOfCapture octets.now fault) }
+    bytes: &[u8],
+) -> Result<ParsedFile<A>, FileFault>
+    ensures parsed { IfOk result (λ file. IsReadFromCapture bytes.now file) }
+    ensures fault { IfErr result (λ fault. IsRefusalOfCapture bytes.now fault) }
 {
-    let Capture { frames, end } = frames_of(alloc, octets)?;
+    let Capture { frames, end } = frames_of(alloc, bytes)?;
     let Packets {
-        sightings,
+        observations,
         kinds,
         headers,
-        odd,
+        warnings,
     } = read_frames(alloc, &frames)?;
-    Ok(FileTold {
-        sightings,
+    Ok(ParsedFile {
+        observations,
         areas: kinds,
         headers,
-        oddities: Oddities::Frames(odd, end),
+        warnings: Warnings::Frames(warnings, end),
     })
 }

@@ -1,22 +1,22 @@
 //! What a router prints in JSON.
 
 ghost use Rattle.std.specs.Prelude.{◌≡◌, IfOk, IfErr};
-ghost use Rattle.network_files.specs.FilesTold.{IsToldByJson, IsRefusalOfJson};
+ghost use Rattle.network_files.specs.ParsedFiles.{IsReadFromJson, IsRefusalOfJson};
 ghost use Rattle.network_files.specs.steps.Documents.{IsReadAs};
 
 use crate::fault::FileFault;
-use crate::file_told::{FileTold, Oddities};
-use printed_databases::Printed;
-use printed_json::{JsonFault, read_printed_json};
+use crate::parsed_file::{ParsedFile, Warnings};
+use frr_json::{JsonFault, read_printed_json};
+use frr_text::Printed;
 use std::alloc::Allocator;
 
 /// What the document contains.
-fn printed_of<A: Allocator + Copy>(alloc: A, octets: &[u8]) -> Result<Printed<A>, FileFault>
-    ensures printed { IfOk result (λ printed. IsReadAs octets.now printed.sightings.items
-        printed.kinds.items printed.holes.items) }
-    ensures fault { IfErr result (λ fault. IsRefusalOfJson octets.now fault) }
+fn printed_of<A: Allocator + Copy>(alloc: A, bytes: &[u8]) -> Result<Printed<A>, FileFault>
+    ensures printed { IfOk result (λ printed. IsReadAs bytes.now printed.observations.items
+        printed.kinds.items printed.findings.items) }
+    ensures fault { IfErr result (λ fault. IsRefusalOfJson bytes.now fault) }
 {
-    match read_printed_json(alloc, octets) {
+    match read_printed_json(alloc, bytes) {
         Ok(printed) => Ok(printed),
         Err(JsonFault::NotJson) => Err(FileFault::NotJson),
         Err(JsonFault::NoDatabase) => Err(FileFault::NoDatabase),
@@ -25,22 +25,22 @@ fn printed_of<A: Allocator + Copy>(alloc: A, octets: &[u8]) -> Result<Printed<A>
 }
 
 /// Reads what a router prints in JSON.
-pub(crate) fn told_of_json<A: Allocator + Copy>(
+pub(crate) fn read_json_file<A: Allocator + Copy>(
     alloc: A,
-    octets: &[u8],
-) -> Result<FileTold<A>, FileFault>
-    ensures told { IfOk result (λ file. IsToldByJson octets.now file) }
-    ensures fault { IfErr result (λ fault. IsRefusalOfJson octets.now fault) }
+    bytes: &[u8],
+) -> Result<ParsedFile<A>, FileFault>
+    ensures parsed { IfOk result (λ file. IsReadFromJson bytes.now file) }
+    ensures fault { IfErr result (λ fault. IsRefusalOfJson bytes.now fault) }
 {
     let Printed {
-        sightings,
+        observations,
         kinds,
-        holes,
-    } = printed_of(alloc, octets)?;
-    Ok(FileTold {
-        sightings,
+        findings,
+    } = printed_of(alloc, bytes)?;
+    Ok(ParsedFile {
+        observations,
         areas: kinds,
         headers: Vec::new(alloc),
-        oddities: Oddities::Documents(holes),
+        warnings: Warnings::Documents(findings),
     })
 }

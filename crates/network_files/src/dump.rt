@@ -1,37 +1,37 @@
 //! The dump that all files together make.
 
 ghost use Rattle.std.specs.Prelude.{◌≡◌, ◌++◌, IfOk, IfErr, OnOk};
-ghost use Rattle.network_files.specs.Dumps.{sightings_of, areas_of, IsDump, IsJoinFault};
+ghost use Rattle.network_files.specs.Dumps.{observations_of, areas_of, IsDump, IsJoinFault};
 
-use crate::file_told::FileTold;
-use lsa_instances::{FlushedLsas, Sighting, ToldArea};
-use sighted_database::{JoinFault, join};
+use crate::parsed_file::ParsedFile;
+use lsa_instances::{AreaReport, FlushedLsas, Observation};
+use lsdb_merge::{JoinFault, join};
 use std::alloc::{AllocError, Allocator};
 
-/// Adds copies of sightings.
-fn put_sightings<A: Allocator + Copy>(
+/// Adds copies of observations.
+fn put_observations<A: Allocator + Copy>(
     alloc: A,
-    all: &mut Vec<Sighting<A>, A>,
-    sightings: &[Sighting<A>],
+    all: &mut Vec<Observation<A>, A>,
+    observations: &[Observation<A>],
 ) -> Result<(), AllocError>
-    ensures { OnOk result (all.new.items ≡ all.old.items ++ sightings.now) }
+    ensures { OnOk result (all.new.items ≡ all.old.items ++ observations.now) }
 {
-    for sighting in sightings {
-        all.push(sighting.clone_of(alloc)?)?;
+    for observation in observations {
+        all.push(observation.clone_of(alloc)?)?;
     }
     Ok(())
 }
 
 /// The LSAs of all files. A copy of each is made.
-fn sightings_of<A: Allocator + Copy>(
+fn observations_of<A: Allocator + Copy>(
     alloc: A,
-    files: &[FileTold<A>],
-) -> Result<Vec<Sighting<A>, A>, AllocError>
-    ensures { IfOk result (λ all. all.items ≡ sightings_of files.now) }
+    files: &[ParsedFile<A>],
+) -> Result<Vec<Observation<A>, A>, AllocError>
+    ensures { IfOk result (λ all. all.items ≡ observations_of files.now) }
 {
     let mut all = Vec::new(alloc);
     for file in files {
-        put_sightings(alloc, &mut all, &file.sightings)?;
+        put_observations(alloc, &mut all, &file.observations)?;
     }
     Ok(all)
 }
@@ -39,8 +39,8 @@ fn sightings_of<A: Allocator + Copy>(
 /// The reports of areas in all files.
 fn areas_of<A: Allocator + Copy>(
     alloc: A,
-    files: &[FileTold<A>],
-) -> Result<Vec<ToldArea, A>, AllocError>
+    files: &[ParsedFile<A>],
+) -> Result<Vec<AreaReport, A>, AllocError>
     ensures { IfOk result (λ all. all.items ≡ areas_of files.now) }
 {
     let mut all = Vec::new(alloc);
@@ -60,13 +60,13 @@ fn areas_of<A: Allocator + Copy>(
 pub fn dump_of_files<A: Allocator + Copy>(
     alloc: A,
     flushed: FlushedLsas,
-    files: &[FileTold<A>],
+    files: &[ParsedFile<A>],
 ) -> Result<Vec<u8, A>, JoinFault>
     ensures dump { IfOk result (λ dump. IsDump flushed files.now dump.items) }
     ensures fault { IfErr result (λ fault. IsJoinFault flushed files.now fault) }
 {
-    let sightings = sightings_of(alloc, files)?;
+    let observations = observations_of(alloc, files)?;
     let areas = areas_of(alloc, files)?;
-    let database = join(alloc, flushed, sightings, &areas)?;
+    let database = join(alloc, flushed, observations, &areas)?;
     Ok(database.dump()?)
 }

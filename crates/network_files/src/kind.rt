@@ -4,13 +4,13 @@ ghost use Rattle.std.specs.Prelude.{◌≡◌, ◌≤◌, length};
 ghost use Rattle.std.specs.Option.{is_some};
 ghost use Rattle.capture_files.specs.Pcap.{fraction_of};
 ghost use Rattle.network_files.specs.Kinds.{is_capture, kind_of};
-ghost use Rattle.printed_databases.specs.Headings.{is_printed};
-ghost use Rattle.printed_databases.specs.Words.{words};
-ghost use Rattle.printed_json.specs.DocumentsTold.{is_printed_json};
+ghost use Rattle.frr_text.specs.Headings.{is_printed};
+ghost use Rattle.frr_text.specs.Words.{words};
+ghost use Rattle.frr_json.specs.ParsedDocuments.{is_printed_json};
 
 use byteorder::{BigEndian, ByteOrder, LittleEndian};
-use printed_databases::is_printed;
-use printed_json::is_printed_json;
+use frr_json::is_printed_json;
+use frr_text::is_printed;
 
 /// The type of a Section Header Block, which reads the same in both byte orders.
 const SECTION_HEADER: u32 = 0x0a0d_0d0a;
@@ -38,26 +38,26 @@ fn is_magic(number: u32) -> bool
 }
 
 /// Whether the file begins as a capture does.
-fn is_capture(octets: &[u8]) -> bool
-    ensures { result ≡ is_capture octets.now }
+fn is_capture(bytes: &[u8]) -> bool
+    ensures { result ≡ is_capture bytes.now }
 {
-    if octets.len() < 4 {
+    if bytes.len() < 4 {
         return false;
     }
-    let big = BigEndian::read_u32(octets);
-    big == SECTION_HEADER || is_magic(big) || is_magic(LittleEndian::read_u32(octets))
+    let big = BigEndian::read_u32(bytes);
+    big == SECTION_HEADER || is_magic(big) || is_magic(LittleEndian::read_u32(bytes))
 }
 
 impl FileKind {
     /// The kind of a file with these bytes.
-    pub fn of(octets: &[u8]) -> FileKind
-        ensures { result ≡ kind_of octets.now }
+    pub fn of(bytes: &[u8]) -> FileKind
+        ensures { result ≡ kind_of bytes.now }
     {
-        if is_capture(octets) {
+        if is_capture(bytes) {
             FileKind::Capture
-        } else if is_printed_json(octets) {
+        } else if is_printed_json(bytes) {
             FileKind::Json
-        } else if is_printed(octets) {
+        } else if is_printed(bytes) {
             FileKind::Printed
         } else {
             FileKind::Walk

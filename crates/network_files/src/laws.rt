@@ -5,25 +5,25 @@ ghost use Rattle.lsa_instances.specs.Newest.{AreSame};
 ghost use Rattle.lsa_instances.specs.declared.keeping.FlushedLsas.{FlushedLsas as Flushed};
 ghost use Rattle.network_files.specs.declared.fault.FileFault.{FileFault as AnyFault};
 ghost use Rattle.network_files.specs.declared.fault.FileFault.TheVariants as faults;
-ghost use Rattle.network_files.specs.declared.file_told.FileTold.{FileTold as AnyFile};
+ghost use Rattle.network_files.specs.declared.parsed_file.ParsedFile.{ParsedFile as AnyFile};
 ghost use Rattle.network_files.specs.Dumps.{IsDump};
-ghost use Rattle.network_files.specs.FilesTold.{IsRefusalOf, IsToldOf, content_of};
+ghost use Rattle.network_files.specs.ParsedFiles.{IsRefusalOf, IsFileOf, content_of};
 
 use capture_files::{one_reading_of_pcap, one_reading_of_pcapng};
-use sighted_database::joined_in_any_order;
+use lsdb_merge::joined_in_any_order;
 use std::alloc::Allocator;
 
 /// The bytes of a file determine the LSAs and the kinds of areas that it contains, or that it is
 /// refused.
 ///
 /// The function does nothing: its contract is the law.
-pub fn one_telling_of_a_file<A: Allocator>()
-    ensures same { (octets : List ℕ) (one two : AnyFile A) → IsToldOf octets one
-        → IsToldOf octets two → content_of one ≡ content_of two }
+pub fn one_reading_of_a_file<A: Allocator>()
+    ensures same { (bytes : List ℕ) (one two : AnyFile A) → IsFileOf bytes one
+        → IsFileOf bytes two → content_of one ≡ content_of two }
 
     // A file that can be read is refused only where memory ran out.
-    ensures refused { (octets : List ℕ) (file : AnyFile A) (fault : AnyFault) → IsToldOf octets file
-        → IsRefusalOf A octets fault → fault ≡ faults.OutOfMemory }
+    ensures refused { (bytes : List ℕ) (file : AnyFile A) (fault : AnyFault) → IsFileOf bytes file
+        → IsRefusalOf A bytes fault → fault ≡ faults.OutOfMemory }
 {
     one_reading_of_pcap();
     one_reading_of_pcapng();

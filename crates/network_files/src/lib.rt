@@ -1,8 +1,8 @@
 //! What files from a network contain, and the dump that all of them make.
 //!
 //! A file is a packet capture, what a router prints of its databases, as a text or in JSON, or an
-//! SNMP walk; its content decides which ([`FileKind`]). [`told_of`] reads a file of each kind: its
-//! LSAs, the kinds of areas, and what cannot be used or is missing. [`dump_of_files`] joins the
+//! SNMP walk; its content decides which ([`FileKind`]). [`read_file`] reads a file of each kind:
+//! its LSAs, the kinds of areas, and what cannot be used or is missing. [`dump_of_files`] joins the
 //! contents of all files, and answers the dump of the database. It depends on which files there
 //! are, and not on their order.
 #![tactic(auto)]
@@ -11,14 +11,14 @@ mod capture;
 mod document;
 mod dump;
 mod fault;
-mod file_told;
 mod kind;
 mod laws;
+mod parsed_file;
 mod printed;
 mod walk;
 
 pub use dump::dump_of_files;
 pub use fault::FileFault;
-pub use file_told::{FileTold, Oddities, told_of};
 pub use kind::FileKind;
-pub use laws::{files_in_any_order, one_telling_of_a_file};
+pub use laws::{files_in_any_order, one_reading_of_a_file};
+pub use parsed_file::{ParsedFile, Warnings, read_file};

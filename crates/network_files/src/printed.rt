@@ -1,30 +1,30 @@
 //! What a router prints as a text.
 
 ghost use Rattle.std.specs.Prelude.{◌≡◌, IfOk, IfErr};
-ghost use Rattle.network_files.specs.FilesTold.{IsToldByText, IsRefusalOfText};
+ghost use Rattle.network_files.specs.ParsedFiles.{IsReadFromText, IsRefusalOfText};
 
 use crate::fault::FileFault;
-use crate::file_told::{FileTold, Oddities};
-use printed_databases::{Printed, read_printed};
+use crate::parsed_file::{ParsedFile, Warnings};
+use frr_text::{Printed, read_printed};
 use std::alloc::Allocator;
 
 /// Reads what a router prints as a text.
-pub(crate) fn told_of_text<A: Allocator + Copy>(
+pub(crate) fn read_text_file<A: Allocator + Copy>(
     alloc: A,
-    octets: &[u8],
-) -> Result<FileTold<A>, FileFault>
-    ensures told { IfOk result (λ file. IsToldByText octets.now file) }
+    bytes: &[u8],
+) -> Result<ParsedFile<A>, FileFault>
+    ensures parsed { IfOk result (λ file. IsReadFromText bytes.now file) }
     ensures fault { IfErr result IsRefusalOfText }
 {
     let Printed {
-        sightings,
+        observations,
         kinds,
-        holes,
-    } = read_printed(alloc, octets)?;
-    Ok(FileTold {
-        sightings,
+        findings,
+    } = read_printed(alloc, bytes)?;
+    Ok(ParsedFile {
+        observations,
         areas: kinds,
         headers: Vec::new(alloc),
-        oddities: Oddities::Texts(holes),
+        warnings: Warnings::Texts(findings),
     })
 }

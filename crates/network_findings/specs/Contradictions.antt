@@ -6,14 +6,14 @@ use Rattle.lsa_codec.specs.declared.address.AreaId.{AreaId}
 use Rattle.lsa_codec.specs.Order.{area_cmp}
 use Rattle.lsa_instances.specs.Areas.{is_stub_kind}
 use Rattle.network_findings.specs.Areas.{has}
-use Rattle.lsa_instances.specs.declared.area.ToldArea.{ToldArea}
+use Rattle.lsa_instances.specs.declared.area.AreaReport.{AreaReport}
 
 -- the area, where it is reported as a stub area, or as another one
-abbrev pub id_told : Bool → ToldArea → Option AreaId
-id_told true area = if is_stub_kind area.kind then Some area.id else None
-id_told false area = if is_stub_kind area.kind then None else Some area.id
+abbrev pub reported_id : Bool → AreaReport → Option AreaId
+reported_id true area = if is_stub_kind area.kind then Some area.id else None
+reported_id false area = if is_stub_kind area.kind then None else Some area.id
 
 -- the areas that are reported both as stub areas and as others, each once, in order
-pub record AreContradictions (areas : List ToldArea) (both : List AreaId) : Type 0 where
-  pub which : (id : AreaId) → has id both ≡ (has id (filter_map (id_told false) areas) && has id (filter_map (id_told true) areas))
+pub record AreContradictions (areas : List AreaReport) (both : List AreaId) : Type 0 where
+  pub which : (id : AreaId) → has id both ≡ (has id (filter_map (reported_id false) areas) && has id (filter_map (reported_id true) areas))
   pub order : IsStrictlySortedBy area_cmp both

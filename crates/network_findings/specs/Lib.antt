@@ -1,6 +1,6 @@
 pub mod Areas
 pub mod Contradictions
-pub mod Holes
+pub mod Findings
 pub mod Lines
 pub mod NoKind
 pub mod Texts

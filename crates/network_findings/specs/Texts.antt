@@ -6,13 +6,13 @@ use Rattle.lsa_codec.specs.declared.fault.LsaFault.TheVariants as lsa
 use Rattle.lsa_codec.specs.declared.key.Key.{Key}
 use Rattle.lsa_codec.specs.Spelling.{address_text}
 use Rattle.lsa_instances.specs.Texts.{key_text}
-use Rattle.network_findings.specs.declared.hole.Hole.{Hole}
-use Rattle.network_findings.specs.declared.hole.Hole.TheVariants.{Frames, Cut, Walk, Refused, NoArea, Unreadable, Nssa}
-use Rattle.ospf_packets.specs.declared.odd.Odd.{Odd}
-use Rattle.ospf_packets.specs.declared.odd.Odd.TheVariants as odds
-use Rattle.snmp_walk.specs.declared.hole.Hole.TheVariants as walks
-use Rattle.snmp_walk.specs.declared.hole.RowFault.{RowFault}
-use Rattle.snmp_walk.specs.declared.hole.RowFault.TheVariants as rows
+use Rattle.network_findings.specs.declared.finding.Finding.{Finding}
+use Rattle.network_findings.specs.declared.finding.Finding.TheVariants.{Frames, Cut, Walk, Refused, NoArea, Unreadable, Nssa}
+use Rattle.ospf_packets.specs.declared.warning.FrameWarning.{FrameWarning}
+use Rattle.ospf_packets.specs.declared.warning.FrameWarning.TheVariants as warnings
+use Rattle.snmp_walk.specs.declared.finding.WalkFinding.TheVariants as walks
+use Rattle.snmp_walk.specs.declared.finding.RowFault.{RowFault}
+use Rattle.snmp_walk.specs.declared.finding.RowFault.TheVariants as rows
 
 -- an LSA that is refused
 abbrev pub lsa_name : LsaFault → List ℕ
@@ -27,17 +27,17 @@ lsa_name lsa.ZeroCost = codes "RefusedLsa ZeroCost"
 lsa_name lsa.OutOfMemory = codes "RefusedLsa OutOfMemory"
 
 -- why a frame, or an LSA in it, is not used
-abbrev pub odd_name : Odd → List ℕ
-odd_name odds.OtherLink = codes "OtherLink"
-odd_name odds.NotIpv4 = codes "NotIpv4"
-odd_name odds.NotOspf = codes "NotOspf"
-odd_name odds.Truncated = codes "Truncated"
-odd_name odds.BadLength = codes "BadLength"
-odd_name odds.MissingFragment = codes "MissingFragment"
-odd_name odds.OtherVersion = codes "OtherVersion"
-odd_name odds.BadChecksum = codes "BadChecksum"
-odd_name odds.OtherType = codes "OtherType"
-odd_name (odds.RefusedLsa fault) = lsa_name fault
+abbrev pub warning_name : FrameWarning → List ℕ
+warning_name warnings.OtherLink = codes "OtherLink"
+warning_name warnings.NotIpv4 = codes "NotIpv4"
+warning_name warnings.NotOspf = codes "NotOspf"
+warning_name warnings.Truncated = codes "Truncated"
+warning_name warnings.BadLength = codes "BadLength"
+warning_name warnings.MissingFragment = codes "MissingFragment"
+warning_name warnings.OtherVersion = codes "OtherVersion"
+warning_name warnings.BadChecksum = codes "BadChecksum"
+warning_name warnings.OtherType = codes "OtherType"
+warning_name (warnings.RefusedLsa fault) = lsa_name fault
 
 -- why a row of a walk has no usable LSA
 abbrev pub row_name : RowFault → List ℕ
@@ -58,13 +58,13 @@ abbrev pub lsa_text : List ℕ → Option AreaId → Key → List ℕ
 lsa_text why area key = why ++ codes " " ++ area_text area ++ key_text key
 
 -- as `MissingFragment 3` or `Cut at 4711`
-abbrev pub hole_text : Hole → List ℕ
-hole_text (Frames odd count) = odd_name odd ++ codes " " ++ decimal count
-hole_text (Cut offset) = codes "Cut at " ++ decimal offset
-hole_text (Walk (walks.Row row fault)) = lsa_text (row_name fault) row.area row.key
-hole_text (Walk (walks.Kind area)) = codes "Kind area " ++ address_text area.0
-hole_text (Walk walks.Name) = codes "Name"
-hole_text (Refused key fault) = lsa_text (lsa_name fault) None key
-hole_text (NoArea key) = lsa_text (codes "NoArea") None key
-hole_text (Unreadable count) = codes "Unreadable " ++ decimal count
-hole_text (Nssa area) = codes "Nssa area " ++ address_text area.0
+abbrev pub finding_text : Finding → List ℕ
+finding_text (Frames warning count) = warning_name warning ++ codes " " ++ decimal count
+finding_text (Cut offset) = codes "Cut at " ++ decimal offset
+finding_text (Walk (walks.Row row fault)) = lsa_text (row_name fault) row.area row.key
+finding_text (Walk (walks.Kind area)) = codes "Kind area " ++ address_text area.0
+finding_text (Walk walks.Name) = codes "Name"
+finding_text (Refused key fault) = lsa_text (lsa_name fault) None key
+finding_text (NoArea key) = lsa_text (codes "NoArea") None key
+finding_text (Unreadable count) = codes "Unreadable " ++ decimal count
+finding_text (Nssa area) = codes "Nssa area " ++ address_text area.0

@@ -4,11 +4,11 @@ ghost use Rattle.std.specs.Prelude.{◌≡◌, IfOk, map};
 ghost use Rattle.std.specs.BTreeSet.{IsFromIterResult};
 ghost use Rattle.std.specs.List.{filter_map};
 ghost use Rattle.lsa_codec.specs.Order.{area_cmp};
-ghost use Rattle.network_findings.specs.Areas.{area_in, areas_told};
+ghost use Rattle.network_findings.specs.Areas.{area_in, reported_areas};
 
 use lsa_codec::AreaId;
-use lsa_instances::{Scope, Sighting, ToldArea};
-use network_files::FileTold;
+use lsa_instances::{AreaReport, Observation, Scope};
+use network_files::ParsedFile;
 use std::alloc::{AllocError, Allocator};
 use std::collections::BTreeSet;
 
@@ -25,7 +25,7 @@ fn area_in(scope: Scope) -> Option<AreaId>
 /// The areas whose kind the file reports, one for each report.
 pub(crate) fn areas_of_kinds<A: Allocator + Copy>(
     alloc: A,
-    kinds: &[ToldArea],
+    kinds: &[AreaReport],
 ) -> Result<Vec<AreaId, A>, AllocError>
     ensures { IfOk result (λ areas. areas.items ≡ map (λ area. area.id) kinds.now) }
 {
@@ -35,26 +35,26 @@ pub(crate) fn areas_of_kinds<A: Allocator + Copy>(
 /// The areas of LSAs, one for each LSA of an area.
 pub(crate) fn areas_of_lsas<A: Allocator + Copy>(
     alloc: A,
-    sightings: &[Sighting<A>],
+    observations: &[Observation<A>],
 ) -> Result<Vec<AreaId, A>, AllocError>
     ensures { IfOk result (λ areas. areas.items
-        ≡ filter_map (λ sighting. area_in sighting.scope) sightings.now) }
+        ≡ filter_map (λ observation. area_in observation.scope) observations.now) }
 {
-    sightings
+    observations
         .iter()
-        .filter_map(|sighting| area_in(sighting.scope))
+        .filter_map(|observation| area_in(observation.scope))
         .collect(alloc)
 }
 
 /// The areas of the file, one for each report of a kind and for each LSA of an area.
-pub(crate) fn areas_told<A: Allocator + Copy>(
+pub(crate) fn reported_areas<A: Allocator + Copy>(
     alloc: A,
-    file: &FileTold<A>,
+    file: &ParsedFile<A>,
 ) -> Result<Vec<AreaId, A>, AllocError>
-    ensures { IfOk result (λ areas. areas.items ≡ areas_told file.now) }
+    ensures { IfOk result (λ areas. areas.items ≡ reported_areas file.now) }
 {
     let mut areas = areas_of_kinds(alloc, &file.areas)?;
-    let of_lsas = areas_of_lsas(alloc, &file.sightings)?;
+    let of_lsas = areas_of_lsas(alloc, &file.observations)?;
     areas.extend_from_slice(&of_lsas)?;
     Ok(areas)
 }

@@ -5,17 +5,17 @@ ghost use Rattle.std.specs.BTreeSet.{IsFromIterResult, contains};
 ghost use Rattle.std.specs.List.{filter_map};
 ghost use Rattle.lsa_codec.specs.Order.{area_cmp};
 ghost use Rattle.network_files.specs.Dumps.{areas_of};
-ghost use Rattle.network_findings.specs.Contradictions.{AreContradictions, id_told};
+ghost use Rattle.network_findings.specs.Contradictions.{AreContradictions, reported_id};
 
 use lsa_codec::AreaId;
-use lsa_instances::ToldArea;
-use network_files::FileTold;
+use lsa_instances::AreaReport;
+use network_files::ParsedFile;
 use std::alloc::{AllocError, Allocator};
 use std::collections::BTreeSet;
 
 /// The area, if this reports it as a stub area, or, where `is_stub` is false, as another one.
-fn id_told(is_stub: bool, area: ToldArea) -> Option<AreaId>
-    ensures { result ≡ id_told is_stub area }
+fn reported_id(is_stub: bool, area: AreaReport) -> Option<AreaId>
+    ensures { result ≡ reported_id is_stub area }
 {
     if area.kind.is_stub() == is_stub {
         Some(area.id)
@@ -25,17 +25,17 @@ fn id_told(is_stub: bool, area: ToldArea) -> Option<AreaId>
 }
 
 /// The areas that are reported as stub areas, or, where `is_stub` is false, as others.
-fn ids_told<A: Allocator + Copy>(
+fn reported_ids<A: Allocator + Copy>(
     alloc: A,
     is_stub: bool,
-    areas: &[ToldArea],
+    areas: &[AreaReport],
 ) -> Result<BTreeSet<AreaId, A>, AllocError>
     ensures { IfOk result (λ ids.
-        IsFromIterResult area_cmp (filter_map (id_told is_stub) areas.now) ids) }
+        IsFromIterResult area_cmp (filter_map (reported_id is_stub) areas.now) ids) }
 {
     areas
         .iter()
-        .filter_map(|area| id_told(is_stub, *area))
+        .filter_map(|area| reported_id(is_stub, *area))
         .collect(alloc)
 }
 
@@ -57,8 +57,8 @@ fn in_both<A: Allocator + Copy>(
 /// The areas whose kind the files report, one file after another.
 pub(crate) fn areas_of<A: Allocator + Copy>(
     alloc: A,
-    files: &[FileTold<A>],
-) -> Result<Vec<ToldArea, A>, AllocError>
+    files: &[ParsedFile<A>],
+) -> Result<Vec<AreaReport, A>, AllocError>
     ensures { IfOk result (λ all. all.items ≡ areas_of files.now) }
 {
     let mut all = Vec::new(alloc);
@@ -69,14 +69,14 @@ pub(crate) fn areas_of<A: Allocator + Copy>(
 }
 
 /// The areas that are reported both as stub areas and as others.
-fn both_told<A: Allocator + Copy>(
+fn both_reported<A: Allocator + Copy>(
     alloc: A,
-    areas: &[ToldArea],
+    areas: &[AreaReport],
 ) -> Result<Vec<AreaId, A>, AllocError>
     ensures { IfOk result (λ both. AreContradictions areas.now both.items) }
 {
-    let stubs = ids_told(alloc, true, areas)?;
-    let others = ids_told(alloc, false, areas)?;
+    let stubs = reported_ids(alloc, true, areas)?;
+    let others = reported_ids(alloc, false, areas)?;
     in_both(alloc, &stubs, &others)
 }
 
@@ -88,10 +88,10 @@ fn both_told<A: Allocator + Copy>(
 /// Memory ran out.
 pub fn contradictions<A: Allocator + Copy>(
     alloc: A,
-    files: &[FileTold<A>],
+    files: &[ParsedFile<A>],
 ) -> Result<Vec<AreaId, A>, AllocError>
     ensures { IfOk result (λ both. AreContradictions (areas_of files.now) both.items) }
 {
     let areas = areas_of(alloc, files)?;
-    both_told(alloc, &areas)
+    both_reported(alloc, &areas)
 }

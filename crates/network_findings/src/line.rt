@@ -4,19 +4,19 @@ ghost use Rattle.std.specs.Prelude.{◌≡◌, IfOk};
 ghost use Rattle.std.specs.String.{string_bytes};
 ghost use Rattle.network_findings.specs.Lines.{IsLine, kind_name, line_words};
 
-use crate::areas::{areas_told, once};
-use network_files::{FileTold, Oddities};
+use crate::areas::{once, reported_areas};
+use network_files::{ParsedFile, Warnings};
 use std::alloc::{AllocError, Allocator};
 
 /// The word for the kind of a file.
-fn kind_name<A: Allocator>(oddities: &Oddities<A>) -> &'static str
-    ensures { result.now ≡ kind_name oddities.now }
+fn kind_name<A: Allocator>(warnings: &Warnings<A>) -> &'static str
+    ensures { result.now ≡ kind_name warnings.now }
 {
-    match oddities {
-        Oddities::Frames(_, _) => "capture",
-        Oddities::Rows(_) => "walk",
-        Oddities::Texts(_) => "printed",
-        Oddities::Documents(_) => "printed in JSON",
+    match warnings {
+        Warnings::Frames(_, _) => "capture",
+        Warnings::Rows(_) => "walk",
+        Warnings::Texts(_) => "printed",
+        Warnings::Documents(_) => "printed in JSON",
     }
 }
 
@@ -45,13 +45,13 @@ fn line_of<A: Allocator + Copy>(
 pub fn file_line<A: Allocator + Copy>(
     alloc: A,
     name: &str,
-    file: &FileTold<A>,
+    file: &ParsedFile<A>,
 ) -> Result<String<A>, AllocError>
     ensures { IfOk result (λ line. IsLine name.now file.now (string_bytes line)) }
 {
-    let kind = kind_name(&file.oddities);
-    let lsas = file.sightings.len();
-    let told = areas_told(alloc, file)?;
-    let areas = once(alloc, told)?.len();
+    let kind = kind_name(&file.warnings);
+    let lsas = file.observations.len();
+    let reported = reported_areas(alloc, file)?;
+    let areas = once(alloc, reported)?.len();
     line_of(alloc, name, kind, lsas, areas)
 }

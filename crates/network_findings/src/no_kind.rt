@@ -4,7 +4,7 @@ ghost use Rattle.std.specs.Prelude.{◌≡◌, ◌&&◌, IfOk, filter, not};
 ghost use Rattle.std.specs.BTreeSet.{contains};
 ghost use Rattle.lsa_codec.specs.Areas.{is_backbone};
 ghost use Rattle.lsa_codec.specs.Order.{area_cmp};
-ghost use Rattle.lsdb.specs.Places.{lists_of};
+ghost use Rattle.lsdb.specs.Slots.{lists_of};
 ghost use Rattle.network_files.specs.Dumps.{areas_of};
 ghost use Rattle.network_findings.specs.NoKind.{areas_in, ids_of, without_kind};
 
@@ -12,7 +12,7 @@ use crate::areas::{areas_of_kinds, once};
 use crate::both_kinds::areas_of;
 use lsa_codec::AreaId;
 use lsdb::Database;
-use network_files::FileTold;
+use network_files::ParsedFile;
 use std::alloc::{AllocError, Allocator};
 use std::collections::BTreeSet;
 
@@ -34,7 +34,7 @@ fn areas_in<A: Allocator + Copy>(
 /// The areas whose kind the files report, one for each report.
 fn kind_areas<A: Allocator + Copy>(
     alloc: A,
-    files: &[FileTold<A>],
+    files: &[ParsedFile<A>],
 ) -> Result<Vec<AreaId, A>, AllocError>
     ensures { IfOk result (λ ids. ids.items ≡ ids_of (areas_of files.now)) }
 {
@@ -67,7 +67,7 @@ fn without<A: Allocator + Copy>(
 pub fn areas_without_kind<A: Allocator + Copy>(
     alloc: A,
     database: &Database<A>,
-    files: &[FileTold<A>],
+    files: &[ParsedFile<A>],
 ) -> Result<Vec<AreaId, A>, AllocError>
     ensures { IfOk result (λ ids. ids.items
         ≡ without_kind (areas_of files.now) (areas_in (lists_of database.now))) }

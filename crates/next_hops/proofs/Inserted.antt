@@ -122,9 +122,9 @@ searched hops hop (Err place) sorted within parted =
     let parts = parted (comparisons_rise hops sorted hop) in put_between hops hop place sorted within parts.0 parts.1
 
 -- where the last hop comes before another, that one goes after all
-pub put_behind : (hops : List Hop) (hop last : Hop) → IsSortedHops hops → slice_get hops (length hops - 1) ≡ Some last → hop_cmp last hop ≡ Less
+pub put_after : (hops : List Hop) (hop last : Hop) → IsSortedHops hops → slice_get hops (length hops - 1) ≡ Some last → hop_cmp last hop ≡ Less
     → insert hops (length hops) hop ≡ rising hop_cmp (hops ++ hop ∷ [])
-put_behind hops hop last sorted is before = put_between hops hop (length hops) sorted (omega arith) below (λ k d low high. absurd (omega arith))
+put_after hops hop last sorted is before = put_between hops hop (length hops) sorted (omega arith) below (λ k d low high. absurd (omega arith))
   where
     below : AllWithin (λ y. hop_cmp y hop ≡ Less) hops 0 (length hops)
     below k d low high =

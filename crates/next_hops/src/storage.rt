@@ -3,7 +3,7 @@
 ghost use Rattle.std.specs.Prelude.{◌≡◌, ◌<◌, ◌≤◌, ◌^◌, [], length, insert, IfOk, OnOk, OnErr};
 ghost use Rattle.std.specs.Bool.{OnTrue};
 ghost use Rattle.std.specs.Prelude.{refl};
-ghost use Rattle.next_hops.specs.steps.Storage.{octets_of};
+ghost use Rattle.next_hops.specs.steps.Storage.{bytes_of};
 
 use crate::hop::Hop;
 use smallvec::SmallVec;
@@ -14,21 +14,21 @@ use std::mem;
 /// An allocator, as a part of a list of hops.
 pub(crate) trait HoldsHops: Allocator {
     ghost use Rattle.std.specs.Prelude.{ℕ};
-    ghost use Rattle.next_hops.specs.steps.Storage.{octets_of};
+    ghost use Rattle.next_hops.specs.steps.Storage.{bytes_of};
 
     /// The size of four hops and the allocator, in bytes.
-    ghost octets: { ℕ };
+    ghost bytes: { ℕ };
 
     /// Whether this size is less than half of the address space. It always is; for a type parameter
     /// a proof knows it from this test alone.
     fn fits() -> bool
-        ensures { OnTrue result (octets < 2 ^ 63) };
+        ensures { OnTrue result (bytes < 2 ^ 63) };
 
-    ghost measured: { octets ≡ octets_of Self.row Self.Allocator };
+    ghost measured: { bytes ≡ bytes_of Self.row Self.Allocator };
 }
 
 impl<A: Allocator + Drop> HoldsHops for A {
-    ghost octets = { octets_of A.row A.Allocator };
+    ghost bytes = { bytes_of A.row A.Allocator };
 
     fn fits() -> bool {
         let none: Option<SmallVec<Hop, 4, A>> = None;
@@ -52,7 +52,7 @@ impl<A: Allocator + HoldsHops> Model for Storage<A> {
 
     ghost view = { λ s. s.hops.items };
 
-    ghost invariant = { λ s. A.octets < 2 ^ 63 };
+    ghost invariant = { λ s. A.bytes < 2 ^ 63 };
 }
 
 impl<A: Allocator + Copy> Storage<A> {

@@ -3,14 +3,14 @@ use Rattle.std.specs.Prelude.{ℕ, List, [], ◌++◌, Option, Some, None, codes
 use Rattle.std.specs.Borrow.{Bor}
 use Rattle.capture_files.specs.declared.fault.CaptureFault.{CaptureFault}
 use Rattle.capture_files.specs.declared.fault.CaptureFault.TheVariants as captures
-use Rattle.database_lists.specs.declared.fault.ListFault.{ListFault}
-use Rattle.database_lists.specs.declared.fault.ListFault.TheVariants as lists
+use Rattle.lsdb_listing.specs.declared.fault.ListFault.{ListFault}
+use Rattle.lsdb_listing.specs.declared.fault.ListFault.TheVariants as lists
 use Rattle.network_dump.specs.declared.fault.RunFault.{RunFault}
 use Rattle.network_dump.specs.declared.fault.RunFault.TheVariants as runs
 use Rattle.network_files.specs.declared.fault.FileFault.{FileFault}
 use Rattle.network_files.specs.declared.fault.FileFault.TheVariants as files
-use Rattle.sighted_database.specs.declared.fault.JoinFault.{JoinFault}
-use Rattle.sighted_database.specs.declared.fault.JoinFault.TheVariants as joins
+use Rattle.lsdb_merge.specs.declared.fault.JoinFault.{JoinFault}
+use Rattle.lsdb_merge.specs.declared.fault.JoinFault.TheVariants as joins
 use Rattle.ospf_capture.specs.declared.fault.ExitFault.{ExitFault}
 use Rattle.ospf_capture.specs.declared.fault.ExitFault.TheVariants.{File, Join, Output, Memory}
 use Rattle.ospf_capture.specs.declared.fault.FileEnd.{FileEnd}

@@ -2,18 +2,18 @@
 
 use crate::fault::{ExitFault, unlisted, unread};
 use crate::files::open_file;
-use database_lists::{PrintedList, list_lines, read_list};
 use lsdb::Database;
+use lsdb_listing::{PrintedList, list_lines, read_list};
 use network_dump::LONGEST_FILE;
 use streams::{Watched, read_whole};
 
 /// Opens a list, and reads it.
 fn list_of<'a>(rt: &HostRuntime, name: &'a str) -> Result<PrintedList, ExitFault<'a>> {
     let mut file = Watched::new(open_file(rt, name)?);
-    let octets = read_whole(rt.alloc(), &mut file, LONGEST_FILE).map_err(|fault| unread(
+    let bytes = read_whole(rt.alloc(), &mut file, LONGEST_FILE).map_err(|fault| unread(
         name, fault,
     ))?;
-    read_list(rt.alloc(), &octets).map_err(|fault| unlisted(name, fault))
+    read_list(rt.alloc(), &bytes).map_err(|fault| unlisted(name, fault))
 }
 
 /// Opens each list, and reads it.
@@ -38,8 +38,8 @@ pub(crate) fn against_lines<'a>(
 ) -> Result<String, ExitFault<'a>> {
     let mut lines = String::new(rt.alloc());
     for (name, list) in names.iter().zip(lists) {
-        let told = list_lines(rt.alloc(), *name, database, list)?;
-        lines.push_str(told.as_str())?;
+        let parsed = list_lines(rt.alloc(), *name, database, list)?;
+        lines.push_str(parsed.as_str())?;
     }
     Ok(lines)
 }

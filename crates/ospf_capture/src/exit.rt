@@ -5,8 +5,8 @@ ghost use Rattle.ospf_capture.specs.Exit.{at_text, capture_name, capture_offset,
 
 use crate::fault::{ExitFault, FileEnd};
 use capture_files::CaptureFault;
+use lsdb_merge::JoinFault;
 use network_files::FileFault;
-use sighted_database::JoinFault;
 use std::alloc::{AllocError, Allocator};
 
 fn capture_status(fault: CaptureFault) -> u8

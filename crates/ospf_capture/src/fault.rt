@@ -3,10 +3,10 @@
 ghost use Rattle.std.specs.Prelude.{◌≡◌};
 ghost use Rattle.ospf_capture.specs.Exit.{index_of, named, unlisted, unread};
 
-use database_lists::ListFault;
+use lsdb_listing::ListFault;
+use lsdb_merge::JoinFault;
 use network_dump::RunFault;
 use network_files::FileFault;
-use sighted_database::JoinFault;
 use std::alloc::{AllocError, AllocFailed};
 use streams::ReadFault;
 

@@ -6,14 +6,14 @@ ghost use Rattle.streams.specs.Watched.{has_failed};
 use crate::against::{against_lines, lists_of};
 use crate::arguments::Options;
 use crate::fault::{ExitFault, FileEnd, index_of, named};
-use crate::holes::database_hole_lines;
+use crate::findings::database_finding_lines;
 use crate::unseen::unseen_lines;
-use database_lists::PrintedList;
 use lsa_codec::AreaId;
 use lsdb::Database;
+use lsdb_listing::PrintedList;
 use network_dump::{RunFault, run};
-use network_files::FileTold;
-use network_findings::{areas_without_kind, contradictions, file_line, holes_of};
+use network_files::ParsedFile;
+use network_findings::{areas_without_kind, contradictions, file_line, findings_of};
 use replaced_files::{ReplaceFault, replace_file};
 use std::fs::{self, File};
 use std::io::{self, Write};
@@ -38,7 +38,7 @@ fn opened<'a>(rt: &HostRuntime, names: &[&'a str]) -> Result<Vec<Watched<File>>,
 }
 
 /// The fault of a run, with the name of its file.
-fn told_of<'a>(names: &[&'a str], fault: RunFault) -> ExitFault<'a> {
+fn fault_of_file<'a>(names: &[&'a str], fault: RunFault) -> ExitFault<'a> {
     match names.get(index_of(fault)) {
         Some(name) => named(*name, fault),
         None => named("", fault),
@@ -49,10 +49,10 @@ fn told_of<'a>(names: &[&'a str], fault: RunFault) -> ExitFault<'a> {
 fn file_lines<'a>(
     rt: &HostRuntime,
     names: &[&str],
-    told: &[FileTold],
+    parsed: &[ParsedFile],
 ) -> Result<String, ExitFault<'a>> {
     let mut lines = String::new(rt.alloc());
-    for (name, file) in names.iter().zip(told) {
+    for (name, file) in names.iter().zip(parsed) {
         let line = file_line(rt.alloc(), *name, file)?;
         lines.push_str(line.as_str())?;
     }
@@ -60,29 +60,29 @@ fn file_lines<'a>(
 }
 
 /// Adds the lines of the findings in a file.
-fn put_holes<'a>(
+fn put_findings<'a>(
     rt: &HostRuntime,
     lines: &mut String,
     name: &str,
-    file: &FileTold,
+    file: &ParsedFile,
 ) -> Result<(), ExitFault<'a>> {
-    let holes = holes_of(rt.alloc(), file)?;
-    for hole in &holes {
-        let line = format!(in rt.alloc(); "{name}: {hole}\n")?;
+    let findings = findings_of(rt.alloc(), file)?;
+    for finding in &findings {
+        let line = format!(in rt.alloc(); "{name}: {finding}\n")?;
         lines.push_str(line.as_str())?;
     }
     Ok(())
 }
 
 /// The lines of the findings in each file.
-fn file_hole_lines<'a>(
+fn file_finding_lines<'a>(
     rt: &HostRuntime,
     names: &[&str],
-    told: &[FileTold],
+    parsed: &[ParsedFile],
 ) -> Result<String, ExitFault<'a>> {
     let mut lines = String::new(rt.alloc());
-    for (name, file) in names.iter().zip(told) {
-        put_holes(rt, &mut lines, *name, file)?;
+    for (name, file) in names.iter().zip(parsed) {
+        put_findings(rt, &mut lines, *name, file)?;
     }
     Ok(lines)
 }
@@ -91,12 +91,12 @@ fn file_hole_lines<'a>(
 /// they do not report.
 fn area_lines<'a>(
     rt: &HostRuntime,
-    told: &[FileTold],
+    parsed: &[ParsedFile],
     database: &Database,
 ) -> Result<String, ExitFault<'a>> {
-    let both = contradictions(rt.alloc(), told)?;
+    let both = contradictions(rt.alloc(), parsed)?;
     let mut lines = lines_of_areas(rt, "BothKinds", &both)?;
-    let neither = areas_without_kind(rt.alloc(), database, told)?;
+    let neither = areas_without_kind(rt.alloc(), database, parsed)?;
     lines.push_str(lines_of_areas(rt, "NoKind", &neither)?.as_str())?;
     Ok(lines)
 }
@@ -116,15 +116,15 @@ fn lines_of_areas<'a>(
 }
 
 /// The lines of the findings in each file, and in all of them together.
-fn hole_lines<'a>(
+fn finding_lines<'a>(
     rt: &HostRuntime,
     names: &[&str],
-    told: &[FileTold],
+    parsed: &[ParsedFile],
     database: &Database,
 ) -> Result<String, ExitFault<'a>> {
-    let mut lines = file_hole_lines(rt, names, told)?;
-    lines.push_str(area_lines(rt, told, database)?.as_str())?;
-    lines.push_str(unseen_lines(rt, told)?.as_str())?;
+    let mut lines = file_finding_lines(rt, names, parsed)?;
+    lines.push_str(area_lines(rt, parsed, database)?.as_str())?;
+    lines.push_str(unseen_lines(rt, parsed)?.as_str())?;
     Ok(lines)
 }
 
@@ -141,7 +141,7 @@ fn missing_lines<'a>(
     lists: &[PrintedList],
     database: &Database,
 ) -> Result<String, ExitFault<'a>> {
-    let mut lines = database_hole_lines(rt, database)?;
+    let mut lines = database_finding_lines(rt, database)?;
     lines.push_str(against_lines(rt, against, lists, database)?.as_str())?;
     Ok(lines)
 }
@@ -166,22 +166,22 @@ pub(crate) fn make_dump<'a>(
     let mut files = opened(rt, names)?;
     let lists = lists_of(rt, options.against.as_slice())?;
     let mut dump = Watched::new(Vec::new(rt.alloc()));
-    let told = run(rt.alloc(), options.flushed, &mut files, &mut dump).map_err(|fault| told_of(
-        names, fault,
-    ))?;
+    let parsed = run(rt.alloc(), options.flushed, &mut files, &mut dump).map_err(
+        |fault| fault_of_file(names, fault),
+    )?;
     let dump = dump.into_inner();
     let database = database_of(rt, dump.as_slice())?;
     let missing = missing_lines(rt, options.against.as_slice(), &lists, &database)?;
-    let given = file_lines(rt, names, &told)?;
-    let holes = hole_lines(rt, names, &told, &database)?;
+    let given = file_lines(rt, names, &parsed)?;
+    let findings = finding_lines(rt, names, &parsed, &database)?;
     io::writer(rt)
         .write_all(given.as_bytes())
         .map_err(|_| ExitFault::Output)?;
     // Where standard error accepts no line, the status alone reports it.
-    let _ = rt.stderr().write_all(holes.as_bytes());
+    let _ = rt.stderr().write_all(findings.as_bytes());
     let _ = rt.stderr().write_all(missing.as_bytes());
     if let Some(path) = options.out {
         write_dump(rt, path, dump.as_slice())?;
     }
-    Ok(holes.is_empty() && missing.is_empty())
+    Ok(findings.is_empty() && missing.is_empty())
 }

@@ -11,8 +11,8 @@ mod command_line;
 mod exit;
 mod fault;
 mod files;
+mod findings;
 mod help;
-mod holes;
 mod unseen;
 
 use arguments::{Options, OptionsFault};

@@ -40,10 +40,10 @@ unended first payload frames i total le h =
 
 -- ---- the fragment before
 
-pub front_behind : (fragment : DatagramText) (frames : List Frame) (i : ℕ) (d : Frame) → i < length frames
+pub front_after : (fragment : DatagramText) (frames : List Frame) (i : ℕ) (d : Frame) → i < length frames
     → has_front fragment (map packet_of (drop i frames))
     ≡ (leads_to fragment (datagram_of (packet_of (get_or frames i d))) || has_front fragment (map packet_of (drop (i + 1) frames)))
-front_behind fragment frames i d lt =
+front_after fragment frames i d lt =
     let cut : drop i frames ≡ get_or frames i d ∷ drop (i + 1) frames = rw (add-one, drop-cons frames i d) refl in
     ap (λ fs. has_front fragment (map packet_of fs)) cut
 
@@ -51,13 +51,13 @@ pub front_there : (fragment : DatagramText) (frames : List Frame) (i : ℕ) (d :
     → leads_to fragment (datagram_of (packet_of (get_or frames i d))) ≡ true → has_front fragment (map packet_of (drop i frames)) ≡ total
     → true ≡ total
 front_there fragment frames i d total lt here h =
-    ap (λ b. b || has_front fragment (map packet_of (drop (i + 1) frames))) (sym here) ∙ sym (front_behind fragment frames i d lt) ∙ h
+    ap (λ b. b || has_front fragment (map packet_of (drop (i + 1) frames))) (sym here) ∙ sym (front_after fragment frames i d lt) ∙ h
 
 pub front_onward : (fragment : DatagramText) (frames : List Frame) (i : ℕ) (d : Frame) (total : Bool) → i < length frames
     → leads_to fragment (datagram_of (packet_of (get_or frames i d))) ≡ false → has_front fragment (map packet_of (drop i frames)) ≡ total
     → has_front fragment (map packet_of (drop (i + 1) frames)) ≡ total
 front_onward fragment frames i d total lt here h =
-    ap (λ b. b || has_front fragment (map packet_of (drop (i + 1) frames))) (sym here) ∙ sym (front_behind fragment frames i d lt) ∙ h
+    ap (λ b. b || has_front fragment (map packet_of (drop (i + 1) frames))) (sym here) ∙ sym (front_after fragment frames i d lt) ∙ h
 
 pub front_nowhere : (fragment : DatagramText) (frames : List Frame) (i : ℕ) (total : Bool) → length frames ≤ i
     → has_front fragment (map packet_of (drop i frames)) ≡ total → false ≡ total

@@ -2,7 +2,7 @@ pub mod Tags
 pub mod Words
 pub mod Slices
 pub mod Lsas
-pub mod FramesTold
+pub mod ParsedFrames
 pub mod Fronts
 pub mod Headers
 mod Joins

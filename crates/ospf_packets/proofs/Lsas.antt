@@ -2,36 +2,36 @@
 use Rattle.std.proofs.Common.{◌≡◌, ℕ, suc, ◌+◌, ◌-◌, ◌<◌, ◌≤◌, List, [], ◌∷◌, ◌++◌, take, drop, Ok, Err, sym, ap, ◌∙◌}
 use Rattle.std.proofs.Common.{append_assoc, arith}
 use Rattle.std.proofs.lemmas.List.{append-nil}
-use Rattle.ospf_packets.specs.declared.odd.Odd.{Odd}
-use Rattle.ospf_packets.specs.declared.frame_told.FrameTold.{FrameTold}
-use Rattle.ospf_packets.specs.declared.frame_told.FrameTold.TheVariants as tells
+use Rattle.ospf_packets.specs.declared.warning.FrameWarning.{FrameWarning}
+use Rattle.ospf_packets.specs.declared.parsed_frame.ParsedFrame.{ParsedFrame}
+use Rattle.ospf_packets.specs.declared.parsed_frame.ParsedFrame.TheVariants as contents
 use Rattle.ospf_packets.specs.declared.update.Flooded.{Flooded}
-use Rattle.ospf_packets.specs.Updates.{lsa_length, lsa_told, first_told, lsas_told}
+use Rattle.ospf_packets.specs.Updates.{lsa_length, parsed_lsa, first_parsed, parsed_lsas}
 
-opened : {A : Type 0} (n i : ℕ) (by : Flooded) (octets : List ℕ) → i < n
-    → lsas_told {A = A} by (n - i) octets ≡ first_told by octets (λ rest. lsas_told by (n - (i + 1)) rest) (lsa_length by.whole octets)
-unfolding lsas_told
-opened {A} n i by octets lt =
+opened : {A : Type 0} (n i : ℕ) (by : Flooded) (bytes : List ℕ) → i < n
+    → parsed_lsas {A = A} by (n - i) bytes ≡ first_parsed by bytes (λ rest. parsed_lsas by (n - (i + 1)) rest) (lsa_length by.whole bytes)
+unfolding parsed_lsas
+opened {A} n i by bytes lt =
     let k : n - i ≡ suc (n - (i + 1)) = omega arith in
-    ap (λ m. lsas_told {A = A} by m octets) k
+    ap (λ m. parsed_lsas {A = A} by m bytes) k
 
-pub one_more : {A : Type 0} (told : List (FrameTold A)) (n i : ℕ) (by : Flooded) (octets : List ℕ) (size : ℕ) (all : List (FrameTold A)) → i < n
-    → lsa_length by.whole octets ≡ Ok size → told ++ lsas_told by (n - i) octets ≡ all
-    → (told ++ lsa_told by (take size octets) ∷ []) ++ lsas_told by (n - (i + 1)) (drop size octets) ≡ all
-one_more {A} told n i by octets size all lt is h =
-    append_assoc told (lsa_told by (take size octets) ∷ []) (lsas_told by (n - (i + 1)) (drop size octets))
-    ∙ ap (λ r. told ++ first_told {A = A} by octets (λ rest. lsas_told by (n - (i + 1)) rest) r) (sym is)
-    ∙ ap (λ t. told ++ t) (sym (opened n i by octets lt)) ∙ h
+pub one_more : {A : Type 0} (parsed : List (ParsedFrame A)) (n i : ℕ) (by : Flooded) (bytes : List ℕ) (size : ℕ) (all : List (ParsedFrame A)) → i < n
+    → lsa_length by.whole bytes ≡ Ok size → parsed ++ parsed_lsas by (n - i) bytes ≡ all
+    → (parsed ++ parsed_lsa by (take size bytes) ∷ []) ++ parsed_lsas by (n - (i + 1)) (drop size bytes) ≡ all
+one_more {A} parsed n i by bytes size all lt is h =
+    append_assoc parsed (parsed_lsa by (take size bytes) ∷ []) (parsed_lsas by (n - (i + 1)) (drop size bytes))
+    ∙ ap (λ r. parsed ++ first_parsed {A = A} by bytes (λ rest. parsed_lsas by (n - (i + 1)) rest) r) (sym is)
+    ∙ ap (λ t. parsed ++ t) (sym (opened n i by bytes lt)) ∙ h
 
-pub stopped : {A : Type 0} (told : List (FrameTold A)) (n i : ℕ) (by : Flooded) (octets : List ℕ) (odd : Odd) (all : List (FrameTold A)) → i < n
-    → lsa_length by.whole octets ≡ Err odd → told ++ lsas_told by (n - i) octets ≡ all → told ++ tells.Odd odd ∷ [] ≡ all
-stopped {A} told n i by octets odd all lt is h =
-    ap (λ r. told ++ first_told {A = A} by octets (λ rest. lsas_told by (n - (i + 1)) rest) r) (sym is)
-    ∙ ap (λ t. told ++ t) (sym (opened n i by octets lt)) ∙ h
+pub stopped : {A : Type 0} (parsed : List (ParsedFrame A)) (n i : ℕ) (by : Flooded) (bytes : List ℕ) (warning : FrameWarning) (all : List (ParsedFrame A)) → i < n
+    → lsa_length by.whole bytes ≡ Err warning → parsed ++ parsed_lsas by (n - i) bytes ≡ all → parsed ++ contents.Warning warning ∷ [] ≡ all
+stopped {A} parsed n i by bytes warning all lt is h =
+    ap (λ r. parsed ++ first_parsed {A = A} by bytes (λ rest. parsed_lsas by (n - (i + 1)) rest) r) (sym is)
+    ∙ ap (λ t. parsed ++ t) (sym (opened n i by bytes lt)) ∙ h
 
-pub all_told : {A : Type 0} (told : List (FrameTold A)) (n i : ℕ) (by : Flooded) (octets : List ℕ) (all : List (FrameTold A)) → n ≤ i
-    → told ++ lsas_told by (n - i) octets ≡ all → told ≡ all
-unfolding lsas_told
-all_told {A} told n i by octets all le h =
+pub all_parsed : {A : Type 0} (parsed : List (ParsedFrame A)) (n i : ℕ) (by : Flooded) (bytes : List ℕ) (all : List (ParsedFrame A)) → n ≤ i
+    → parsed ++ parsed_lsas by (n - i) bytes ≡ all → parsed ≡ all
+unfolding parsed_lsas
+all_parsed {A} parsed n i by bytes all le h =
     let k : n - i ≡ 0 = omega arith in
-    sym (append-nil told) ∙ ap (λ m. told ++ lsas_told {A = A} by m octets) (sym k) ∙ h
+    sym (append-nil parsed) ∙ ap (λ m. parsed ++ parsed_lsas {A = A} by m bytes) (sym k) ∙ h

@@ -6,11 +6,11 @@ use Rattle.lsa_codec.specs.Fields.{number_at}
 -- last byte is the high one of its word
 unfoldable pub words_from : Bool → List ℕ → ℕ
 words_from is_high [] = 0
-words_from true (octet ∷ octets) = 256 * octet + words_from false octets
-words_from false (octet ∷ octets) = octet + words_from true octets
+words_from true (byte ∷ bytes) = 256 * byte + words_from false bytes
+words_from false (byte ∷ bytes) = byte + words_from true bytes
 
 abbrev pub sum_of_words : List ℕ → ℕ
-sum_of_words octets = words_from true octets
+sum_of_words bytes = words_from true bytes
 
 abbrev pub authentication_type_of : List ℕ → ℕ
 authentication_type_of packet = number_at 2 14 packet

@@ -1,10 +1,10 @@
 -- IPv4 datagrams that carry OSPF (RFC 791, 3.1; RFC 2328, appendix A.1).
 use Rattle.std.specs.Prelude.{ℕ, ◌-◌, ◌*◌, ◌/◌, ◌%◌, ◌==◌, ◌&&◌, ◌||◌, Bool, not, nat_le, nat_lt, if◌then◌else◌, List}
 use Rattle.std.specs.Prelude.{length, take, drop, Result, Ok, Err}
-use Rattle.lsa_codec.specs.Fields.{number_at, octet_at}
+use Rattle.lsa_codec.specs.Fields.{number_at, byte_at}
 use Rattle.ospf_packets.specs.declared.datagram.Datagram.{Datagram}
-use Rattle.ospf_packets.specs.declared.odd.Odd.{Odd}
-use Rattle.ospf_packets.specs.declared.odd.Odd.TheVariants.{NotIpv4, NotOspf, Truncated, BadLength}
+use Rattle.ospf_packets.specs.declared.warning.FrameWarning.{FrameWarning}
+use Rattle.ospf_packets.specs.declared.warning.FrameWarning.TheVariants.{NotIpv4, NotOspf, Truncated, BadLength}
 
 -- a datagram, or a fragment of one, as values: what distinguishes the datagrams of one sender; the number of bytes of
 -- the payload before those of the fragment, and whether others follow them; the bytes of the payload that are at hand,
@@ -31,45 +31,45 @@ datagram_text datagram = record {
 
 -- the upper half of the first byte
 abbrev pub version_of : List ℕ → ℕ
-version_of octets = octet_at 0 octets / 16
+version_of bytes = byte_at 0 bytes / 16
 
 -- its lower half counts words of four bytes
 abbrev pub header_length_of : List ℕ → ℕ
-header_length_of octets = octet_at 0 octets % 16 * 4
+header_length_of bytes = byte_at 0 bytes % 16 * 4
 
 -- the header and the payload
 abbrev pub total_length_of : List ℕ → ℕ
-total_length_of octets = number_at 2 2 octets
+total_length_of bytes = number_at 2 2 bytes
 
 -- three flags, of which the last is More Fragments, and the Fragment Offset, in units of eight bytes
 abbrev pub flags_and_offset_of : List ℕ → ℕ
-flags_and_offset_of octets = number_at 2 6 octets
+flags_and_offset_of bytes = number_at 2 6 bytes
 
 abbrev pub datagram_in : List ℕ → DatagramText
-datagram_in octets = record {
-  source = number_at 4 12 octets;
-  destination = number_at 4 16 octets;
-  identification = number_at 2 4 octets;
-  before = flags_and_offset_of octets % 8192 * 8;
-  more = flags_and_offset_of octets / 8192 % 2 == 1;
-  whole = nat_le (total_length_of octets) (length octets);
-  payload = take (total_length_of octets - header_length_of octets) (drop (header_length_of octets) octets);
+datagram_in bytes = record {
+  source = number_at 4 12 bytes;
+  destination = number_at 4 16 bytes;
+  identification = number_at 2 4 bytes;
+  before = flags_and_offset_of bytes % 8192 * 8;
+  more = flags_and_offset_of bytes / 8192 % 2 == 1;
+  whole = nat_le (total_length_of bytes) (length bytes);
+  payload = take (total_length_of bytes - header_length_of bytes) (drop (header_length_of bytes) bytes);
 }
 
 -- the lengths are possible: the header has 20 bytes or more and fits into the whole, and the whole is at hand, unless
 -- the frame was cut short
 abbrev pub has_lengths : Bool → List ℕ → Bool
-has_lengths is_cut octets =
-    nat_le 20 (header_length_of octets) && nat_le (header_length_of octets) (total_length_of octets)
-    && (is_cut || nat_le (total_length_of octets) (length octets))
+has_lengths is_cut bytes =
+    nat_le 20 (header_length_of bytes) && nat_le (header_length_of bytes) (total_length_of bytes)
+    && (is_cut || nat_le (total_length_of bytes) (length bytes))
 
 -- the datagram in the bytes that a frame carries: one of version 4 and of protocol 89. What follows it, as the padding
 -- of a short frame, is no part of it
-abbrev pub ipv4_of : Bool → List ℕ → Result DatagramText Odd
-ipv4_of is_cut octets =
-    if nat_lt (length octets) 20 then Err Truncated
-    else if not (version_of octets == 4) then Err NotIpv4
-    else if not (octet_at 9 octets == 89) then Err NotOspf
-    else if not (has_lengths is_cut octets) then Err BadLength
-    else if nat_lt (length octets) (header_length_of octets) then Err Truncated
-    else Ok (datagram_in octets)
+abbrev pub ipv4_of : Bool → List ℕ → Result DatagramText FrameWarning
+ipv4_of is_cut bytes =
+    if nat_lt (length bytes) 20 then Err Truncated
+    else if not (version_of bytes == 4) then Err NotIpv4
+    else if not (byte_at 9 bytes == 89) then Err NotOspf
+    else if not (has_lengths is_cut bytes) then Err BadLength
+    else if nat_lt (length bytes) (header_length_of bytes) then Err Truncated
+    else Ok (datagram_in bytes)

@@ -3,22 +3,22 @@ use Rattle.std.specs.Prelude.{ℕ, ◌+◌, ◌-◌, ◌==◌, ◌&&◌, Bool, f
 use Rattle.std.specs.Prelude.{List, [], ◌∷◌, ◌++◌, length, take, drop, Option, Some, None, Result, Ok, Err}
 use Rattle.std.specs.List.{list_any}
 use Rattle.capture_files.specs.CaptureTexts.{Packet}
-use Rattle.ospf_packets.specs.declared.odd.Odd.{Odd}
+use Rattle.ospf_packets.specs.declared.warning.FrameWarning.{FrameWarning}
 use Rattle.ospf_packets.specs.Datagrams.{DatagramText, ipv4_of}
 use Rattle.ospf_packets.specs.Links.{link_payload}
 
 infixl 10 ◌>>=◌
-abbrev pub ◌>>=◌ : {A B : Type 0} → Result A Odd → (A → Result B Odd) → Result B Odd
+abbrev pub ◌>>=◌ : {A B : Type 0} → Result A FrameWarning → (A → Result B FrameWarning) → Result B FrameWarning
 (Ok x) >>= f = f x
-(Err odd) >>= f = Err odd
+(Err warning) >>= f = Err warning
 
 -- the capture has fewer bytes of the frame than it had
 abbrev pub is_cut : Packet → Bool
-is_cut frame = nat_lt (length frame.octets) frame.original
+is_cut frame = nat_lt (length frame.bytes) frame.original
 
 -- the datagram, or the fragment of one, in a frame
-abbrev pub datagram_of : Packet → Result DatagramText Odd
-datagram_of frame = link_payload frame.link frame.octets >>= ipv4_of (is_cut frame)
+abbrev pub datagram_of : Packet → Result DatagramText FrameWarning
+datagram_of frame = link_payload frame.link frame.bytes >>= ipv4_of (is_cut frame)
 
 -- fragments of one datagram; they all are of one protocol
 abbrev pub is_same : DatagramText → DatagramText → Bool
@@ -29,8 +29,8 @@ abbrev pub goes_on : DatagramText → ℕ → DatagramText → Bool
 goes_on first size fragment = is_same first fragment && fragment.before == size && fragment.whole
 
 -- the payload with what a frame adds to it, and whether this is its end
-abbrev pub with_fragment : DatagramText → List ℕ → Result DatagramText Odd → List ℕ × Bool
-with_fragment first payload (Err odd) = (payload, false)
+abbrev pub with_fragment : DatagramText → List ℕ → Result DatagramText FrameWarning → List ℕ × Bool
+with_fragment first payload (Err warning) = (payload, false)
 with_fragment first payload (Ok fragment) =
     if goes_on first (length payload) fragment then (payload ++ fragment.payload, not fragment.more) else (payload, false)
 
@@ -45,8 +45,8 @@ joined first payload (frame ∷ frames) =
     or_onward (λ longer. joined first longer frames) (with_fragment first payload (datagram_of frame))
 
 -- whether the fragment in a frame is the one just before this one
-abbrev pub leads_to : DatagramText → Result DatagramText Odd → Bool
-leads_to fragment (Err odd) = false
+abbrev pub leads_to : DatagramText → Result DatagramText FrameWarning → Bool
+leads_to fragment (Err warning) = false
 leads_to fragment (Ok other) =
     is_same fragment other && other.more && (other.before + length other.payload == fragment.before)
 

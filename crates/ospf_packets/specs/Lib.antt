@@ -6,5 +6,5 @@ pub mod Packets
 pub mod Hellos
 pub mod Updates
 pub mod Headers
-pub mod FramesTold
+pub mod ParsedFrames
 pub mod Sorting

@@ -1,33 +1,33 @@
 -- What frames contain, sorted by kind.
 use Rattle.std.specs.Prelude.{Option, Some, None}
 use Rattle.lsa_instances.specs.declared.header.Header.{Header}
-use Rattle.lsa_instances.specs.declared.sighting.Sighting.{Sighting}
-use Rattle.lsa_instances.specs.declared.area.ToldArea.{ToldArea}
-use Rattle.ospf_packets.specs.declared.odd.Odd.{Odd}
-use Rattle.ospf_packets.specs.declared.frame_told.FrameTold.{FrameTold}
-use Rattle.ospf_packets.specs.declared.frame_told.FrameTold.TheVariants as tells
+use Rattle.lsa_instances.specs.declared.observation.Observation.{Observation}
+use Rattle.lsa_instances.specs.declared.area.AreaReport.{AreaReport}
+use Rattle.ospf_packets.specs.declared.warning.FrameWarning.{FrameWarning}
+use Rattle.ospf_packets.specs.declared.parsed_frame.ParsedFrame.{ParsedFrame}
+use Rattle.ospf_packets.specs.declared.parsed_frame.ParsedFrame.TheVariants as contents
 
 module _ {A : Type 0} where
-  abbrev pub sighting_of : FrameTold A → Option (Sighting A)
-  sighting_of (tells.Lsa sighting) = Some sighting
-  sighting_of (tells.Kind area) = None
-  sighting_of (tells.Header header) = None
-  sighting_of (tells.Odd odd) = None
+  abbrev pub observation_of : ParsedFrame A → Option (Observation A)
+  observation_of (contents.Lsa observation) = Some observation
+  observation_of (contents.Kind area) = None
+  observation_of (contents.Header header) = None
+  observation_of (contents.Warning warning) = None
 
-  abbrev pub kind_of : FrameTold A → Option ToldArea
-  kind_of (tells.Lsa sighting) = None
-  kind_of (tells.Kind area) = Some area
-  kind_of (tells.Header header) = None
-  kind_of (tells.Odd odd) = None
+  abbrev pub kind_of : ParsedFrame A → Option AreaReport
+  kind_of (contents.Lsa observation) = None
+  kind_of (contents.Kind area) = Some area
+  kind_of (contents.Header header) = None
+  kind_of (contents.Warning warning) = None
 
-  abbrev pub header_of : FrameTold A → Option Header
-  header_of (tells.Lsa sighting) = None
-  header_of (tells.Kind area) = None
-  header_of (tells.Header header) = Some header
-  header_of (tells.Odd odd) = None
+  abbrev pub header_of : ParsedFrame A → Option Header
+  header_of (contents.Lsa observation) = None
+  header_of (contents.Kind area) = None
+  header_of (contents.Header header) = Some header
+  header_of (contents.Warning warning) = None
 
-  abbrev pub odd_of : FrameTold A → Option Odd
-  odd_of (tells.Lsa sighting) = None
-  odd_of (tells.Kind area) = None
-  odd_of (tells.Header header) = None
-  odd_of (tells.Odd odd) = Some odd
+  abbrev pub warning_of : ParsedFrame A → Option FrameWarning
+  warning_of (contents.Lsa observation) = None
+  warning_of (contents.Kind area) = None
+  warning_of (contents.Header header) = None
+  warning_of (contents.Warning warning) = Some warning

@@ -8,16 +8,16 @@ use crate::field::u16_at;
 /// The sum of the words of 16 bits, the highest byte first; an odd last byte is the high one of its
 /// word.
 #[tactic(auto, using(crate::proofs::Words::high_more, crate::proofs::Words::low_more, crate::proofs::Words::none_left))]
-fn sum_of_words(octets: &[u8]) -> u64
-    requires { length octets.now < 2 ^ 16 }
-    ensures sum { result ≡ sum_of_words octets.now }
-    ensures small { result ≤ 65280 * length octets.now }
+fn sum_of_words(bytes: &[u8]) -> u64
+    requires { length bytes.now < 2 ^ 16 }
+    ensures sum { result ≡ sum_of_words bytes.now }
+    ensures small { result ≤ 65280 * length bytes.now }
 {
     let mut sum: u64 = 0;
     let mut is_high = true;
-    for octet in octets {
+    for byte in bytes {
         let weight: u64 = if is_high { 256 } else { 1 };
-        sum += weight * u64::from(*octet);
+        sum += weight * u64::from(*byte);
         is_high = !is_high;
     }
     sum

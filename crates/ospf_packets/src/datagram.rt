@@ -4,7 +4,7 @@ ghost use Rattle.std.specs.Prelude.{◌≡◌, ◌≤◌, length, Ok, Err, true,
 ghost use Rattle.ospf_packets.specs.Datagrams.{datagram_text, header_length_of, total_length_of, has_lengths, datagram_in, ipv4_of};
 
 use crate::field::{u16_at, u32_at};
-use crate::odd::Odd;
+use crate::warning::FrameWarning;
 
 /// The length in bytes of the shortest header of a datagram.
 const SHORTEST_HEADER: usize = 20;
@@ -32,72 +32,72 @@ pub(crate) struct Datagram<'a> {
 }
 
 /// The length in bytes of the header.
-fn header_length_of(octets: &[u8]) -> usize
-    requires { 20 ≤ length octets.now }
-    ensures { result ≡ header_length_of octets.now }
+fn header_length_of(bytes: &[u8]) -> usize
+    requires { 20 ≤ length bytes.now }
+    ensures { result ≡ header_length_of bytes.now }
 {
-    usize::from(octets[0] % 16) * 4
+    usize::from(bytes[0] % 16) * 4
 }
 
 /// The length in bytes of header and payload.
-fn total_length_of(octets: &[u8]) -> usize
-    requires { 20 ≤ length octets.now }
-    ensures { result ≡ total_length_of octets.now }
+fn total_length_of(bytes: &[u8]) -> usize
+    requires { 20 ≤ length bytes.now }
+    ensures { result ≡ total_length_of bytes.now }
 {
-    usize::from(u16_at(octets, 2))
+    usize::from(u16_at(bytes, 2))
 }
 
 /// Whether the lengths are possible.
-fn has_lengths(is_cut: bool, octets: &[u8]) -> bool
-    requires { 20 ≤ length octets.now }
-    ensures { result ≡ has_lengths is_cut octets.now }
+fn has_lengths(is_cut: bool, bytes: &[u8]) -> bool
+    requires { 20 ≤ length bytes.now }
+    ensures { result ≡ has_lengths is_cut bytes.now }
 {
-    let header = header_length_of(octets);
-    let total = total_length_of(octets);
-    SHORTEST_HEADER <= header && header <= total && (is_cut || total <= octets.len())
+    let header = header_length_of(bytes);
+    let total = total_length_of(bytes);
+    SHORTEST_HEADER <= header && header <= total && (is_cut || total <= bytes.len())
 }
 
 /// The datagram at the front of bytes that have its header.
-fn datagram_in(octets: &[u8]) -> Datagram<'_>
-    requires long { 20 ≤ length octets.now }
-    requires header { header_length_of octets.now ≤ length octets.now }
-    requires total { header_length_of octets.now ≤ total_length_of octets.now }
-    ensures { datagram_text result ≡ datagram_in octets.now }
+fn datagram_in(bytes: &[u8]) -> Datagram<'_>
+    requires long { 20 ≤ length bytes.now }
+    requires header { header_length_of bytes.now ≤ length bytes.now }
+    requires total { header_length_of bytes.now ≤ total_length_of bytes.now }
+    ensures { datagram_text result ≡ datagram_in bytes.now }
 {
-    let header = header_length_of(octets);
-    let total = total_length_of(octets);
-    let flags_and_offset = u16_at(octets, 6);
+    let header = header_length_of(bytes);
+    let total = total_length_of(bytes);
+    let flags_and_offset = u16_at(bytes, 6);
     Datagram {
-        source: u32_at(octets, 12),
-        destination: u32_at(octets, 16),
-        identification: u16_at(octets, 4),
+        source: u32_at(bytes, 12),
+        destination: u32_at(bytes, 16),
+        identification: u16_at(bytes, 4),
         before: u32::from(flags_and_offset % 8192) * 8,
         more: flags_and_offset / 8192 % 2 == 1,
-        whole: total <= octets.len(),
-        payload: &octets[header..total.min(octets.len())],
+        whole: total <= bytes.len(),
+        payload: &bytes[header..total.min(bytes.len())],
     }
 }
 
 /// The OSPF datagram in the bytes that a frame carries.
-pub(crate) fn ipv4_of(is_cut: bool, octets: &[u8]) -> Result<Datagram<'_>, Odd>
+pub(crate) fn ipv4_of(is_cut: bool, bytes: &[u8]) -> Result<Datagram<'_>, FrameWarning>
     ensures { MatchResult result
-        (λ datagram. ipv4_of is_cut octets.now ≡ Ok (datagram_text datagram))
-        (λ odd. ipv4_of is_cut octets.now ≡ Err odd) }
+        (λ datagram. ipv4_of is_cut bytes.now ≡ Ok (datagram_text datagram))
+        (λ warning. ipv4_of is_cut bytes.now ≡ Err warning) }
 {
-    if octets.len() < SHORTEST_HEADER {
-        return Err(Odd::Truncated);
+    if bytes.len() < SHORTEST_HEADER {
+        return Err(FrameWarning::Truncated);
     }
-    if octets[0] / 16 != 4 {
-        return Err(Odd::NotIpv4);
+    if bytes[0] / 16 != 4 {
+        return Err(FrameWarning::NotIpv4);
     }
-    if octets[9] != OSPF {
-        return Err(Odd::NotOspf);
+    if bytes[9] != OSPF {
+        return Err(FrameWarning::NotOspf);
     }
-    if !has_lengths(is_cut, octets) {
-        return Err(Odd::BadLength);
+    if !has_lengths(is_cut, bytes) {
+        return Err(FrameWarning::BadLength);
     }
-    if octets.len() < header_length_of(octets) {
-        return Err(Odd::Truncated);
+    if bytes.len() < header_length_of(bytes) {
+        return Err(FrameWarning::Truncated);
     }
-    Ok(datagram_in(octets))
+    Ok(datagram_in(bytes))
 }

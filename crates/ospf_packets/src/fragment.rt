@@ -7,7 +7,7 @@ ghost use Rattle.ospf_packets.specs.Fragments.{is_cut, datagram_of, is_same, goe
 
 use crate::datagram::{Datagram, ipv4_of};
 use crate::link::link_payload;
-use crate::odd::Odd;
+use crate::warning::FrameWarning;
 use capture_files::Frame;
 use std::alloc::{AllocError, Allocator};
 
@@ -18,16 +18,16 @@ const MOST_APART: usize = 256;
 fn is_cut(frame: &Frame<'_>) -> bool
     ensures { result ≡ is_cut (packet_of frame.now) }
 {
-    frame.octets.len() < frame.original as usize
+    frame.bytes.len() < frame.original as usize
 }
 
 /// The datagram, or the fragment of one, in a frame.
-pub(crate) fn datagram_of<'a>(frame: &Frame<'a>) -> Result<Datagram<'a>, Odd>
+pub(crate) fn datagram_of<'a>(frame: &Frame<'a>) -> Result<Datagram<'a>, FrameWarning>
     ensures { MatchResult result
         (λ datagram. datagram_of (packet_of frame.now) ≡ Ok (datagram_text datagram))
-        (λ odd. datagram_of (packet_of frame.now) ≡ Err odd) }
+        (λ warning. datagram_of (packet_of frame.now) ≡ Err warning) }
 {
-    let payload = link_payload(frame.link, frame.octets)?;
+    let payload = link_payload(frame.link, frame.bytes)?;
     ipv4_of(is_cut(frame), payload)
 }
 

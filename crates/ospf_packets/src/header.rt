@@ -2,11 +2,11 @@
 //! and A.3.6).
 
 ghost use Rattle.std.specs.Prelude.{◌≡◌, ◌≤◌, ◌++◌, length, OnOk};
-ghost use Rattle.ospf_packets.specs.Headers.{header_in, whole_headers, left_over, headers_told, headers_behind};
+ghost use Rattle.ospf_packets.specs.Headers.{header_in, whole_headers, left_over, parsed_headers, headers_after};
 
 use crate::field::{u16_at, u32_at};
-use crate::frame_told::FrameTold;
 use crate::packet::lack;
+use crate::parsed_frame::ParsedFrame;
 use crate::update::{Flooded, LSA_HEADER};
 use lsa_codec::{Addr, AreaId, Key, RouterId};
 use lsa_instances::{Header, InstanceId, Place, Scope};
@@ -16,15 +16,15 @@ use std::alloc::{AllocError, Allocator};
 pub(crate) const BEFORE_HEADERS: usize = 32;
 
 /// The LSA header at the front, of an LSA that is flooded in an area.
-fn header_in(area: AreaId, octets: &[u8]) -> Header
-    requires { 20 ≤ length octets.now }
-    ensures { result ≡ header_in area octets.now }
+fn header_in(area: AreaId, bytes: &[u8]) -> Header
+    requires { 20 ≤ length bytes.now }
+    ensures { result ≡ header_in area bytes.now }
 {
-    let kind = octets[3];
+    let kind = bytes[3];
     let key = Key {
         kind,
-        id: Addr(u32_at(octets, 4)),
-        adv: RouterId(u32_at(octets, 8)),
+        id: Addr(u32_at(bytes, 4)),
+        adv: RouterId(u32_at(bytes, 8)),
     };
     Header {
         place: Place {
@@ -32,56 +32,56 @@ fn header_in(area: AreaId, octets: &[u8]) -> Header
             key,
         },
         instance: InstanceId {
-            sequence: u32_at(octets, 12),
-            checksum: u16_at(octets, 16),
+            sequence: u32_at(bytes, 12),
+            checksum: u16_at(bytes, 16),
         },
-        age: u16_at(octets, 0),
+        age: u16_at(bytes, 0),
     }
 }
 
 /// Adds the LSA headers that stand one after another, those that are whole.
-fn tell_whole_headers<A: Allocator + Copy>(
-    told: &mut Vec<FrameTold<A>, A>,
+fn parse_whole_headers<A: Allocator + Copy>(
+    parsed: &mut Vec<ParsedFrame<A>, A>,
     area: AreaId,
-    octets: &[u8],
+    bytes: &[u8],
 ) -> Result<(), AllocError>
-    ensures { OnOk result (told.new.items ≡ told.old.items ++ whole_headers area octets.now) }
+    ensures { OnOk result (parsed.new.items ≡ parsed.old.items ++ whole_headers area bytes.now) }
 {
-    for index in 0..octets.len() / LSA_HEADER {
-        let header = header_in(area, &octets[LSA_HEADER * index..]);
-        told.push(FrameTold::Header(header))?;
+    for index in 0..bytes.len() / LSA_HEADER {
+        let header = header_in(area, &bytes[LSA_HEADER * index..]);
+        parsed.push(ParsedFrame::Header(header))?;
     }
     Ok(())
 }
 
 /// Adds the LSA headers that fill these bytes, and a warning where bytes are left over.
-fn tell_headers<A: Allocator + Copy>(
-    told: &mut Vec<FrameTold<A>, A>,
+fn parse_headers<A: Allocator + Copy>(
+    parsed: &mut Vec<ParsedFrame<A>, A>,
     by: Flooded,
-    octets: &[u8],
+    bytes: &[u8],
 ) -> Result<(), AllocError>
-    ensures { OnOk result (told.new.items ≡ told.old.items ++ headers_told by octets.now) }
+    ensures { OnOk result (parsed.new.items ≡ parsed.old.items ++ parsed_headers by bytes.now) }
 {
-    tell_whole_headers(told, by.area, octets)?;
-    if octets.len() % LSA_HEADER != 0 {
-        told.push(FrameTold::Odd(lack(by.whole)))?;
+    parse_whole_headers(parsed, by.area, bytes)?;
+    if bytes.len() % LSA_HEADER != 0 {
+        parsed.push(ParsedFrame::Warning(lack(by.whole)))?;
     }
     Ok(())
 }
 
 /// Adds what a packet contains whose LSA headers stand after this number of bytes.
-pub(crate) fn tell_headers_behind<A: Allocator + Copy>(
-    told: &mut Vec<FrameTold<A>, A>,
+pub(crate) fn parse_headers_after<A: Allocator + Copy>(
+    parsed: &mut Vec<ParsedFrame<A>, A>,
     by: Flooded,
     before: usize,
     packet: &[u8],
 ) -> Result<(), AllocError>
-    ensures { OnOk result (told.new.items
-        ≡ told.old.items ++ headers_behind before by packet.now) }
+    ensures { OnOk result (parsed.new.items
+        ≡ parsed.old.items ++ headers_after before by packet.now) }
 {
     if packet.len() < before {
-        told.push(FrameTold::Odd(lack(by.whole)))?;
+        parsed.push(ParsedFrame::Warning(lack(by.whole)))?;
         return Ok(());
     }
-    tell_headers(told, by, &packet[before..])
+    parse_headers(parsed, by, &packet[before..])
 }

@@ -12,14 +12,14 @@ mod checksum;
 mod datagram;
 mod field;
 mod fragment;
-mod frame_told;
 mod header;
 mod hello;
 mod link;
-mod odd;
 mod packet;
 mod packets;
+mod parsed_frame;
 mod update;
+mod warning;
 
-pub use odd::Odd;
 pub use packets::{Packets, read_frames};
+pub use warning::FrameWarning;

@@ -1,10 +1,10 @@
 //! What frames carry, by the type of their link.
 
 ghost use Rattle.std.specs.Prelude.{◌≡◌, ◌+◌, ◌≤◌, length, Ok, Err, MatchResult};
-ghost use Rattle.ospf_packets.specs.Links.{is_tag, untagged, behind_type, behind_header, link_payload};
+ghost use Rattle.ospf_packets.specs.Links.{is_tag, untagged, after_type, after_header, link_payload};
 
 use crate::field::u16_at;
-use crate::odd::Odd;
+use crate::warning::FrameWarning;
 use capture_files::LinkType;
 
 /// The EtherType of IPv4.
@@ -18,30 +18,30 @@ fn is_tag(kind: u16) -> bool
 }
 
 /// What follows an EtherType that is not one of a tag.
-fn untagged(kind: u16, octets: &[u8]) -> Result<&[u8], Odd>
+fn untagged(kind: u16, bytes: &[u8]) -> Result<&[u8], FrameWarning>
     ensures { MatchResult result
-        (λ payload. untagged kind octets.now ≡ Ok payload.now)
-        (λ odd. untagged kind octets.now ≡ Err odd) }
+        (λ payload. untagged kind bytes.now ≡ Ok payload.now)
+        (λ warning. untagged kind bytes.now ≡ Err warning) }
 {
     if kind == IPV4 {
-        Ok(octets)
+        Ok(bytes)
     } else {
-        Err(Odd::NotIpv4)
+        Err(FrameWarning::NotIpv4)
     }
 }
 
 /// What follows an EtherType and all tags.
 #[tactic(auto, using(crate::proofs::Tags::tagged, crate::proofs::Tags::cut_tag, crate::proofs::Tags::no_tag))]
-fn behind_type(kind: u16, octets: &[u8]) -> Result<&[u8], Odd>
+fn after_type(kind: u16, bytes: &[u8]) -> Result<&[u8], FrameWarning>
     ensures { MatchResult result
-        (λ payload. behind_type kind octets.now ≡ Ok payload.now)
-        (λ odd. behind_type kind octets.now ≡ Err odd) }
+        (λ payload. after_type kind bytes.now ≡ Ok payload.now)
+        (λ warning. after_type kind bytes.now ≡ Err warning) }
 {
     let mut kind = kind;
-    let mut rest = octets;
+    let mut rest = bytes;
     'tags: while is_tag(kind) {
         if rest.len() < 4 {
-            return Err(Odd::Truncated);
+            return Err(FrameWarning::Truncated);
         }
         kind = u16_at(rest, 2);
         rest = &rest[4..];
@@ -50,29 +50,29 @@ fn behind_type(kind: u16, octets: &[u8]) -> Result<&[u8], Odd>
 }
 
 /// What follows a header of `size` bytes, which has the EtherType at an offset.
-fn behind_header(size: usize, offset: usize, frame: &[u8]) -> Result<&[u8], Odd>
+fn after_header(size: usize, offset: usize, frame: &[u8]) -> Result<&[u8], FrameWarning>
     requires { offset + 2 ≤ size }
     ensures { MatchResult result
-        (λ payload. behind_header size offset frame.now ≡ Ok payload.now)
-        (λ odd. behind_header size offset frame.now ≡ Err odd) }
+        (λ payload. after_header size offset frame.now ≡ Ok payload.now)
+        (λ warning. after_header size offset frame.now ≡ Err warning) }
 {
     if frame.len() < size {
-        return Err(Odd::Truncated);
+        return Err(FrameWarning::Truncated);
     }
-    behind_type(u16_at(frame, offset), &frame[size..])
+    after_type(u16_at(frame, offset), &frame[size..])
 }
 
 /// The IPv4 datagram that a frame carries.
-pub(crate) fn link_payload(link: LinkType, frame: &[u8]) -> Result<&[u8], Odd>
+pub(crate) fn link_payload(link: LinkType, frame: &[u8]) -> Result<&[u8], FrameWarning>
     ensures { MatchResult result
         (λ payload. link_payload link frame.now ≡ Ok payload.now)
-        (λ odd. link_payload link frame.now ≡ Err odd) }
+        (λ warning. link_payload link frame.now ≡ Err warning) }
 {
     match link.0 {
-        1 => behind_header(14, 12, frame),
-        113 => behind_header(16, 14, frame),
-        276 => behind_header(20, 0, frame),
+        1 => after_header(14, 12, frame),
+        113 => after_header(16, 14, frame),
+        276 => after_header(20, 0, frame),
         101 | 228 => Ok(frame),
-        _ => Err(Odd::OtherLink),
+        _ => Err(FrameWarning::OtherLink),
     }
 }

@@ -5,7 +5,7 @@ ghost use Rattle.ospf_packets.specs.Packets.{packet_text, lack, packet_length_of
 
 use crate::checksum::is_checksum_good;
 use crate::field::u16_at;
-use crate::odd::Odd;
+use crate::warning::FrameWarning;
 
 /// The length in bytes of the header of a packet.
 pub(crate) const PACKET_HEADER: usize = 24;
@@ -16,17 +16,17 @@ pub(crate) struct Packet<'a> {
     /// Whether all bytes of it are at hand.
     pub(crate) whole: bool,
     /// The bytes that are at hand, its header among them.
-    pub(crate) octets: &'a [u8],
+    pub(crate) bytes: &'a [u8],
 }
 
 /// Why bytes are missing: a wrong length, where the frame is whole, and else a cut.
-pub(crate) fn lack(whole: bool) -> Odd
+pub(crate) fn lack(whole: bool) -> FrameWarning
     ensures { result ≡ lack whole }
 {
     if whole {
-        Odd::BadLength
+        FrameWarning::BadLength
     } else {
-        Odd::Truncated
+        FrameWarning::Truncated
     }
 }
 
@@ -53,46 +53,46 @@ fn packet_in(payload: &[u8]) -> Packet<'_>
     requires long { 24 ≤ length payload.now }
     requires header { 24 ≤ packet_length_of payload.now }
     ensures packet { packet_text result ≡ packet_in payload.now }
-    ensures long { 24 ≤ length result.octets.now }
-    ensures short { length result.octets.now < 2 ^ 16 }
+    ensures long { 24 ≤ length result.bytes.now }
+    ensures short { length result.bytes.now < 2 ^ 16 }
 {
     let length = packet_length_of(payload);
     Packet {
         whole: length <= payload.len(),
-        octets: &payload[..length.min(payload.len())],
+        bytes: &payload[..length.min(payload.len())],
     }
 }
 
 /// The packet, unless its checksum is known to be wrong.
-fn summed(packet: Packet<'_>) -> Result<Packet<'_>, Odd>
-    requires long { 24 ≤ length packet.octets.now }
-    requires short { length packet.octets.now < 2 ^ 16 }
+fn summed(packet: Packet<'_>) -> Result<Packet<'_>, FrameWarning>
+    requires long { 24 ≤ length packet.bytes.now }
+    requires short { length packet.bytes.now < 2 ^ 16 }
     ensures packet { MatchResult result
         (λ found. summed (packet_text packet.entry) ≡ Ok (packet_text found))
-        (λ odd. summed (packet_text packet.entry) ≡ Err odd) }
-    ensures long { IfOk result (λ found. 24 ≤ length found.octets.now) }
+        (λ warning. summed (packet_text packet.entry) ≡ Err warning) }
+    ensures long { IfOk result (λ found. 24 ≤ length found.bytes.now) }
 {
-    if packet.whole && !is_checksum_good(packet.octets) {
-        return Err(Odd::BadChecksum);
+    if packet.whole && !is_checksum_good(packet.bytes) {
+        return Err(FrameWarning::BadChecksum);
     }
     Ok(packet)
 }
 
 /// The packet that is the payload of a datagram: all of it, or what is at hand.
-pub(crate) fn ospf_of(whole: bool, payload: &[u8]) -> Result<Packet<'_>, Odd>
+pub(crate) fn ospf_of(whole: bool, payload: &[u8]) -> Result<Packet<'_>, FrameWarning>
     ensures packet { MatchResult result
         (λ packet. ospf_of whole payload.now ≡ Ok (packet_text packet))
-        (λ odd. ospf_of whole payload.now ≡ Err odd) }
-    ensures long { IfOk result (λ packet. 24 ≤ length packet.octets.now) }
+        (λ warning. ospf_of whole payload.now ≡ Err warning) }
+    ensures long { IfOk result (λ packet. 24 ≤ length packet.bytes.now) }
 {
     if payload.len() < PACKET_HEADER {
         return Err(lack(whole));
     }
     if payload[0] != 2 {
-        return Err(Odd::OtherVersion);
+        return Err(FrameWarning::OtherVersion);
     }
     if !has_length(whole, payload) {
-        return Err(Odd::BadLength);
+        return Err(FrameWarning::BadLength);
     }
     summed(packet_in(payload))
 }

@@ -3,64 +3,64 @@
 ghost use Rattle.std.specs.Prelude.{◌≡◌, IfOk, map};
 ghost use Rattle.std.specs.List.{filter_map};
 ghost use Rattle.capture_files.specs.CaptureTexts.{packet_of};
-ghost use Rattle.ospf_packets.specs.Sorting.{sighting_of, kind_of, header_of, odd_of};
-ghost use Rattle.ospf_packets.specs.FramesTold.{told_in};
+ghost use Rattle.ospf_packets.specs.Sorting.{observation_of, kind_of, header_of, warning_of};
+ghost use Rattle.ospf_packets.specs.ParsedFrames.{parsed_in};
 
-use crate::frame_told::{FrameTold, tellings};
-use crate::odd::Odd;
+use crate::parsed_frame::{ParsedFrame, parse_all};
+use crate::warning::FrameWarning;
 use capture_files::Frame;
-use lsa_instances::{Header, Sighting, ToldArea};
+use lsa_instances::{AreaReport, Header, Observation};
 use std::alloc::{AllocError, Allocator, Global};
 
 /// What frames contain, in their order.
 #[derive(Debug, Drop)]
 pub struct Packets<A: Allocator = Global> {
     /// The LSAs of Link State Update packets, byte for byte.
-    pub sightings: Vec<Sighting<A>, A>,
+    pub observations: Vec<Observation<A>, A>,
     /// The kinds of areas, one for each Hello packet.
-    pub kinds: Vec<ToldArea, A>,
+    pub kinds: Vec<AreaReport, A>,
     /// The LSA headers of Database Description and Link State Acknowledgment packets.
     pub headers: Vec<Header, A>,
     /// Warnings: at most one for each frame, and one for each LSA that is refused.
-    pub odd: Vec<Odd, A>,
+    pub warnings: Vec<FrameWarning, A>,
 }
 
 /// The LSA, if it is one.
-fn sighting_of<A: Allocator + Copy>(told: FrameTold<A>) -> Option<Sighting<A>>
-    ensures { result ≡ sighting_of told }
+fn observation_of<A: Allocator + Copy>(parsed: ParsedFrame<A>) -> Option<Observation<A>>
+    ensures { result ≡ observation_of parsed }
 {
-    match told {
-        FrameTold::Lsa(sighting) => Some(sighting),
+    match parsed {
+        ParsedFrame::Lsa(observation) => Some(observation),
         _ => None,
     }
 }
 
 /// The kind of an area, if it is one.
-fn kind_of<A: Allocator + Copy>(told: &FrameTold<A>) -> Option<ToldArea>
-    ensures { result ≡ kind_of told.now }
+fn kind_of<A: Allocator + Copy>(parsed: &ParsedFrame<A>) -> Option<AreaReport>
+    ensures { result ≡ kind_of parsed.now }
 {
-    match told {
-        FrameTold::Kind(area) => Some(*area),
+    match parsed {
+        ParsedFrame::Kind(area) => Some(*area),
         _ => None,
     }
 }
 
 /// The LSA header, if it is one.
-fn header_of<A: Allocator + Copy>(told: &FrameTold<A>) -> Option<Header>
-    ensures { result ≡ header_of told.now }
+fn header_of<A: Allocator + Copy>(parsed: &ParsedFrame<A>) -> Option<Header>
+    ensures { result ≡ header_of parsed.now }
 {
-    match told {
-        FrameTold::Header(header) => Some(*header),
+    match parsed {
+        ParsedFrame::Header(header) => Some(*header),
         _ => None,
     }
 }
 
 /// The warning, if it is one.
-fn odd_of<A: Allocator + Copy>(told: &FrameTold<A>) -> Option<Odd>
-    ensures { result ≡ odd_of told.now }
+fn warning_of<A: Allocator + Copy>(parsed: &ParsedFrame<A>) -> Option<FrameWarning>
+    ensures { result ≡ warning_of parsed.now }
 {
-    match told {
-        FrameTold::Odd(odd) => Some(*odd),
+    match parsed {
+        ParsedFrame::Warning(warning) => Some(*warning),
         _ => None,
     }
 }
@@ -68,41 +68,53 @@ fn odd_of<A: Allocator + Copy>(told: &FrameTold<A>) -> Option<Odd>
 /// The kinds of areas.
 fn kinds_of<A: Allocator + Copy>(
     alloc: A,
-    told: &[FrameTold<A>],
-) -> Result<Vec<ToldArea, A>, AllocError>
-    ensures { IfOk result (λ kinds. kinds.items ≡ filter_map kind_of told.now) }
+    parsed: &[ParsedFrame<A>],
+) -> Result<Vec<AreaReport, A>, AllocError>
+    ensures { IfOk result (λ kinds. kinds.items ≡ filter_map kind_of parsed.now) }
 {
-    told.iter().filter_map(|item| kind_of(item)).collect(alloc)
+    parsed
+        .iter()
+        .filter_map(|item| kind_of(item))
+        .collect(alloc)
 }
 
 /// The headers.
 fn headers_of<A: Allocator + Copy>(
     alloc: A,
-    told: &[FrameTold<A>],
+    parsed: &[ParsedFrame<A>],
 ) -> Result<Vec<Header, A>, AllocError>
-    ensures { IfOk result (λ headers. headers.items ≡ filter_map header_of told.now) }
+    ensures { IfOk result (λ headers. headers.items ≡ filter_map header_of parsed.now) }
 {
-    told.iter()
+    parsed
+        .iter()
         .filter_map(|item| header_of(item))
         .collect(alloc)
 }
 
 /// All warnings.
-fn odds_of<A: Allocator + Copy>(alloc: A, told: &[FrameTold<A>]) -> Result<Vec<Odd, A>, AllocError>
-    ensures { IfOk result (λ odd. odd.items ≡ filter_map odd_of told.now) }
+fn warnings_of<A: Allocator + Copy>(
+    alloc: A,
+    parsed: &[ParsedFrame<A>],
+) -> Result<Vec<FrameWarning, A>, AllocError>
+    ensures { IfOk result (λ warnings. warnings.items ≡ filter_map warning_of parsed.now) }
 {
-    told.iter().filter_map(|item| odd_of(item)).collect(alloc)
+    parsed
+        .iter()
+        .filter_map(|item| warning_of(item))
+        .collect(alloc)
 }
 
 /// The LSAs.
-fn sightings_of<A: Allocator + Copy>(
+fn observations_of<A: Allocator + Copy>(
     alloc: A,
-    told: Vec<FrameTold<A>, A>,
-) -> Result<Vec<Sighting<A>, A>, AllocError>
-    ensures { IfOk result (λ sightings. sightings.items ≡ filter_map sighting_of told.items) }
+    parsed: Vec<ParsedFrame<A>, A>,
+) -> Result<Vec<Observation<A>, A>, AllocError>
+    ensures { IfOk result (λ observations. observations.items
+        ≡ filter_map observation_of parsed.items) }
 {
-    told.into_iter()
-        .filter_map(|item| sighting_of(item))
+    parsed
+        .into_iter()
+        .filter_map(|item| observation_of(item))
         .collect(alloc)
 }
 
@@ -115,24 +127,24 @@ pub fn read_frames<A: Allocator + Copy>(
     alloc: A,
     frames: &[Frame<'_>],
 ) -> Result<Packets<A>, AllocError>
-    ensures sightings { IfOk result (λ packets. packets.sightings.items
-        ≡ filter_map sighting_of (told_in (map packet_of frames.now))) }
+    ensures observations { IfOk result (λ packets. packets.observations.items
+        ≡ filter_map observation_of (parsed_in (map packet_of frames.now))) }
     ensures kinds { IfOk result (λ packets. packets.kinds.items
-        ≡ filter_map (kind_of {A = A}) (told_in (map packet_of frames.now))) }
+        ≡ filter_map (kind_of {A = A}) (parsed_in (map packet_of frames.now))) }
     ensures headers { IfOk result (λ packets. packets.headers.items
-        ≡ filter_map (header_of {A = A}) (told_in (map packet_of frames.now))) }
-    ensures odd { IfOk result (λ packets. packets.odd.items
-        ≡ filter_map (odd_of {A = A}) (told_in (map packet_of frames.now))) }
+        ≡ filter_map (header_of {A = A}) (parsed_in (map packet_of frames.now))) }
+    ensures warnings { IfOk result (λ packets. packets.warnings.items
+        ≡ filter_map (warning_of {A = A}) (parsed_in (map packet_of frames.now))) }
 {
-    let told = tellings(alloc, frames)?;
-    let kinds = kinds_of(alloc, &told)?;
-    let headers = headers_of(alloc, &told)?;
-    let odd = odds_of(alloc, &told)?;
-    let sightings = sightings_of(alloc, told)?;
+    let parsed = parse_all(alloc, frames)?;
+    let kinds = kinds_of(alloc, &parsed)?;
+    let headers = headers_of(alloc, &parsed)?;
+    let warnings = warnings_of(alloc, &parsed)?;
+    let observations = observations_of(alloc, parsed)?;
     Ok(Packets {
-        sightings,
+        observations,
         kinds,
         headers,
-        odd,
+        warnings,
     })
 }

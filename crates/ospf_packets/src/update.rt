@@ -1,14 +1,14 @@
 //! The LSAs of Link State Update packets (RFC 2328, A.3.5).
 
 ghost use Rattle.std.specs.Prelude.{◌≡◌, ◌≤◌, ◌++◌, length, Ok, Err, MatchResult, IfOk, OnOk};
-ghost use Rattle.ospf_packets.specs.Updates.{lsa_length, lsa_told, lsas_told};
+ghost use Rattle.ospf_packets.specs.Updates.{lsa_length, parsed_lsa, parsed_lsas};
 
 use crate::field::u16_at;
-use crate::frame_told::FrameTold;
-use crate::odd::Odd;
 use crate::packet::lack;
+use crate::parsed_frame::ParsedFrame;
+use crate::warning::FrameWarning;
 use lsa_codec::{AreaId, Lsa, LsaFault};
-use lsa_instances::{Scope, Sighting};
+use lsa_instances::{Observation, Scope};
 use std::alloc::{AllocError, Allocator};
 
 /// The length in bytes of the header of an LSA.
@@ -26,62 +26,62 @@ pub(crate) struct Flooded {
 }
 
 /// The length in bytes of the LSA at the front.
-fn lsa_length(whole: bool, octets: &[u8]) -> Result<usize, Odd>
-    ensures same { result ≡ lsa_length whole octets.now }
-    ensures within { IfOk result (λ size. size ≤ length octets.now) }
+fn lsa_length(whole: bool, bytes: &[u8]) -> Result<usize, FrameWarning>
+    ensures same { result ≡ lsa_length whole bytes.now }
+    ensures within { IfOk result (λ size. size ≤ length bytes.now) }
 {
-    if octets.len() < LSA_HEADER {
+    if bytes.len() < LSA_HEADER {
         return Err(lack(whole));
     }
-    let size = usize::from(u16_at(octets, 18));
+    let size = usize::from(u16_at(bytes, 18));
     if size < LSA_HEADER {
-        return Err(Odd::BadLength);
+        return Err(FrameWarning::BadLength);
     }
-    if octets.len() < size {
+    if bytes.len() < size {
         return Err(lack(whole));
     }
     Ok(size)
 }
 
 /// An LSA, or why its bytes are not one.
-fn lsa_told<A: Allocator + Copy>(
+fn parsed_lsa<A: Allocator + Copy>(
     alloc: A,
     by: Flooded,
-    octets: &[u8],
-) -> Result<FrameTold<A>, AllocError>
-    ensures { IfOk result (λ told. told ≡ lsa_told by octets.now) }
+    bytes: &[u8],
+) -> Result<ParsedFrame<A>, AllocError>
+    ensures { IfOk result (λ parsed. parsed ≡ parsed_lsa by bytes.now) }
 {
-    match Lsa::decode(alloc, octets) {
-        Ok((lsa, _)) => Ok(FrameTold::Lsa(Sighting {
+    match Lsa::decode(alloc, bytes) {
+        Ok((lsa, _)) => Ok(ParsedFrame::Lsa(Observation {
             scope: Scope::in_area(by.area, lsa.key().kind),
             seen: by.seen,
             lsa,
         })),
         Err(LsaFault::OutOfMemory) => Err(AllocError),
-        Err(fault) => Ok(FrameTold::Odd(Odd::RefusedLsa(fault))),
+        Err(fault) => Ok(ParsedFrame::Warning(FrameWarning::RefusedLsa(fault))),
     }
 }
 
 /// Adds the LSAs at the front of the bytes, as the count of the packet says.
-#[tactic(auto, using(crate::proofs::Lsas::one_more, crate::proofs::Lsas::stopped, crate::proofs::Lsas::all_told))]
-pub(crate) fn tell_lsas<A: Allocator + Copy>(
+#[tactic(auto, using(crate::proofs::Lsas::one_more, crate::proofs::Lsas::stopped, crate::proofs::Lsas::all_parsed))]
+pub(crate) fn parse_lsas<A: Allocator + Copy>(
     alloc: A,
-    told: &mut Vec<FrameTold<A>, A>,
+    parsed: &mut Vec<ParsedFrame<A>, A>,
     by: Flooded,
     count: u32,
-    octets: &[u8],
+    bytes: &[u8],
 ) -> Result<(), AllocError>
-    ensures { OnOk result (told.new.items ≡ told.old.items ++ lsas_told by count octets.now) }
+    ensures { OnOk result (parsed.new.items ≡ parsed.old.items ++ parsed_lsas by count bytes.now) }
 {
-    let mut rest = octets;
+    let mut rest = bytes;
     'lsas: for _ in 0..count {
         match lsa_length(by.whole, rest) {
             Ok(size) => {
-                told.push(lsa_told(alloc, by, &rest[..size])?)?;
+                parsed.push(parsed_lsa(alloc, by, &rest[..size])?)?;
                 rest = &rest[size..];
             }
-            Err(odd) => {
-                told.push(FrameTold::Odd(odd))?;
+            Err(warning) => {
+                parsed.push(ParsedFrame::Warning(warning))?;
                 return Ok(());
             }
         }

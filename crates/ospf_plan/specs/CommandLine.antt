@@ -8,7 +8,7 @@ use Rattle.ospf_plan.specs.declared.arguments.Options.{Options}
 abbrev pub file_rule : Text → Rule
 file_rule name = record (new_rule name) { long = Some name; action = Some Set; value_names = 1 }
 
--- `--version` tells a version
+-- `--version` prints a version
 abbrev pub with_version : App → App
 with_version app = record app { top = record app.top { has_version = true } }
 

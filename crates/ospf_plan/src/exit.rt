@@ -60,7 +60,7 @@ fn line_of<A: Allocator + Copy>(alloc: A, fault: &ExitFault) -> Result<Vec<u8, A
 }
 
 /// The exit status and the line for standard error, its line feed included: 3 where the dump is
-/// refused, 4 where a file can not be opened, read or written or the script is too long, 5 for want
+/// refused, 4 where a file cannot be opened, read or written or the script is too long, 5 for want
 /// of memory.
 ///
 /// An error is want of memory for the line; the status stands all the same.

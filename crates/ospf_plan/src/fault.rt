@@ -20,6 +20,6 @@ pub(crate) enum FileArg {
 pub(crate) enum ExitFault {
     /// The run ended early.
     Run(RunFault),
-    /// A file can not be opened.
+    /// A file cannot be opened.
     Open(FileArg),
 }

@@ -82,7 +82,7 @@ fn run_script<R: Read + Drop, S: Read + Drop>(
     Ok(summary)
 }
 
-/// For so many octets of replies there is room before they are written.
+/// For this number of bytes of replies there is room before they are written.
 const REPLY_ROOM: usize = 65_536;
 
 /// A writer that hands on many replies at once. Where a run ends before they are flushed, those
@@ -157,7 +157,7 @@ fn not_replaced(fault: ReplaceFault, name: FileArg) -> ExitFault
     }
 }
 
-/// The file, or the fault that it can not be opened.
+/// The file, or the fault that it cannot be opened.
 pub(crate) fn opened<T>(file: io::Result<T>, name: FileArg) -> Result<T, ExitFault>
     ensures file { IfOk file (λ file. result ≡ Ok file) }
     ensures fault { OnErr file (result ≡ Err (ExitFault.Open name)) }

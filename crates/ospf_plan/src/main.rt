@@ -44,13 +44,13 @@ fn words(rt: &HostRuntime) -> io::Result<Vec<String>> {
     Ok(env::args(rt)?.collect::<Vec<String>>(rt.alloc())?)
 }
 
-/// A block that is taken and given back, in octets: the C library goes by the size of one of up to
+/// A block that is taken and given back, in bytes: the C library goes by the size of one of up to
 /// 32 MiB.
 const BLOCK: usize = 31 << 20;
 
 /// Takes a block of memory and gives it back. By its size the C library's allocator then goes: it
-/// gives less memory than twice as much back to the kernel, which would clear it anew for the lists
-/// of each table.
+/// gives less memory than twice as much back to the kernel, which would clear it again for the
+/// lists of each table.
 fn keep_heap(alloc: Global) {
     // Where there is no block, the program is slower and does the same.
     let mut block: Vec<u8> = Vec::new(alloc);
@@ -68,7 +68,7 @@ fn plan(rt: &HostRuntime, given: &Options) -> ExitCode {
 
 /// Shows the text of clap, and ends as it says.
 fn refuse(rt: &HostRuntime, error: &Error) -> ExitCode {
-    // Where the text can not be shown, the status alone tells.
+    // Where the text cannot be shown, the status alone reports it.
     let _ = error.print(rt);
     if error.use_stderr() {
         ExitCode::from(2)
@@ -77,12 +77,12 @@ fn refuse(rt: &HostRuntime, error: &Error) -> ExitCode {
     }
 }
 
-/// Ends where the words of the command line can not be had: there is no memory, or one is no text.
+/// Ends where the words of the command line cannot be had: there is no memory, or one is no text.
 fn end_without_words(rt: &HostRuntime, error: &io::Error) -> ExitCode {
     match error.kind() {
         ErrorKind::OutOfMemory => end(rt, &ExitFault::Run(RunFault::OutOfMemory)),
         _ => {
-            // Where standard error takes no line, the status alone tells.
+            // Where standard error takes no line, the status alone reports it.
             let _ = rt.stderr().write_all(BAD_ARGUMENT);
             ExitCode::from(2)
         }
@@ -92,7 +92,8 @@ fn end_without_words(rt: &HostRuntime, error: &io::Error) -> ExitCode {
 /// Writes the line of a fault, and ends with its status.
 fn end(rt: &HostRuntime, fault: &ExitFault) -> ExitCode {
     let (status, line) = exit_line(rt.alloc(), fault);
-    // Where there is no memory for the line, or standard error takes none, the status alone tells.
+    // Where there is no memory for the line, or standard error takes none, the status alone reports
+    // it.
     if let Ok(line) = line {
         let _ = rt.stderr().write_all(line.as_slice());
     }

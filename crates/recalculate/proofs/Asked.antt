@@ -14,14 +14,14 @@ use Rattle.routing_table.proofs.KeptLemmas.{none_gained}
 use Rattle.routing_table.proofs.TableLemmas.{counted_twice}
 use Rattle.recalculate.specs.Asking.{GainsTrees, HasTrees, HasTreesOfTable, IsAskedAgain, gained, lacking}
 use Rattle.recalculate.specs.Planning.{PlannerValue}
-use Rattle.recalculate.proofs.TreesSpared.{told}
+use Rattle.recalculate.proofs.TreesSpared.{reported}
 
 -- what is shown of the trees
-pub gains_told : (passes : AreaId → Bool) (router : RouterId) (old new : KeptTreesValue) → GainsOnly passes router (trees_in old) (trees_in new)
+pub reported_gains : (passes : AreaId → Bool) (router : RouterId) (old new : KeptTreesValue) → GainsOnly passes router (trees_in old) (trees_in new)
     → GainsOnly passes router (is_kept (routers_of old)) (is_kept (routers_of new))
-gains_told passes router old new only =
-    subst (λ (t : TreeSet). GainsOnly passes router t (is_kept (routers_of new))) (sym (told old))
-    (subst (λ (t : TreeSet). GainsOnly passes router (trees_in old) t) (sym (told new)) only)
+reported_gains passes router old new only =
+    subst (λ (t : TreeSet). GainsOnly passes router t (is_kept (routers_of new))) (sym (reported old))
+    (subst (λ (t : TreeSet). GainsOnly passes router (trees_in old) t) (sym (reported new)) only)
 
 -- ---- how many came
 
@@ -82,7 +82,7 @@ module _ (db : Lists) (router : RouterId) where
   pub gained_all : (old new : KeptRouters) → HasTrees db router new → gained db router old new ≡ lacking db router old
   gained_all old new all = ap length (all_came (is_kept old) (is_kept new) router (attached_areas db router) all)
 
--- where none came, as many are counted as were
+-- where none came, the count stays
 pub same_counted : (base : Lists) (router : RouterId) (old new : KeptRouters) (was is : ℕ) → is ≡ was → new ≡ old
     → is ≡ counted_by (gained base router old new) was
 same_counted base router old new was is runs same = runs ∙ ap (λ n. counted_by n was) (sym (gained_same base router old new same))
@@ -101,7 +101,7 @@ module _ (base : Lists) (router : RouterId) (p q : PlannerValue) where
       ap (λ (v : PlannerValue). v.runs) same
       ∙ ap (λ n. counted_by n p.runs) (sym (gained_same base router p.first_kept q.first_kept (ap (λ (v : PlannerValue). v.first_kept) same)))
 
--- ---- a shared table: what went before it, and the table
+-- ---- a cached table: what went before it, and the table
 
 module _ (router : RouterId) (p q r : PlannerValue) (session : q.session ≡ p.session) (kept : q.kept ≡ p.kept) where
   lacks : lacking (state q.session) router q.kept ≡ lacking (state p.session) router p.kept
@@ -163,7 +163,7 @@ same_runs router p q same =
     same_counted p.session.base router p.first_kept q.first_kept p.runs q.runs (ap (λ (v : PlannerValue). v.runs) same) first_kept
     ∙ ap (λ n. counted_by n (counted_by (gained p.session.base router p.first_kept q.first_kept) p.runs)) (sym (gained_same (state p.session) router p.kept q.kept kept))
 
--- as many are counted as were
+-- the count stays
 pub same_at_most : (most old new : ℕ) → new ≡ old → CountsAtMost most old new
 same_at_most most old new same = record { trees = 0; few = omega arith; counts = same }
 

@@ -3,7 +3,7 @@ use Rattle.std.proofs.Common.{◌≡◌, ℕ, List, Some, sym, ap, ◌∙◌, su
 use Rattle.lsa_codec.specs.declared.address.AreaId.{AreaId}
 use Rattle.lsdb.specs.declared.slot.SlotId.{SlotId}
 use Rattle.lsdb.specs.Lists.{IsDatabase, Lists}
-use Rattle.lsdb.specs.Places.{Places, lists_of, put}
+use Rattle.lsdb.specs.Slots.{Slots, lists_of, put}
 use Rattle.area_graph.specs.declared.cost_change.CostChange.{CostChange}
 use Rattle.edit_history.specs.Changes.{IsLastChange, IsNextChange}
 use Rattle.edit_history.specs.Journal.{HistoryData, Links}
@@ -16,9 +16,9 @@ use Rattle.recalculate.specs.Reached.{IsReached}
 pub reached_database : (s : Session) → IsReached s → IsDatabase (state s)
 reached_database s reached =
     subst (λ (t : Session). IsDatabase (state t)) reached.shows
-    (subst (λ (db : Lists). IsDatabase db) (sym (state_is reached.places reached.history reached.links)) reached.links.sound)
+    (subst (λ (db : Lists). IsDatabase db) (sym (state_is reached.slots reached.history reached.links)) reached.links.sound)
 
-module _ (d : Places) (h : HistoryData) (s : Session) (links : Links d h) (shows : session_of d h ≡ s) (slot : SlotId) (before : List ℕ)
+module _ (d : Slots) (h : HistoryData) (s : Session) (links : Links d h) (shows : session_of d h ≡ s) (slot : SlotId) (before : List ℕ)
     (area : AreaId) (change : CostChange) (made : IsCostChange area change (lists_of (put d slot (Some before))) (lists_of d)) where
   between : (olds : Lists) → olds ≡ lists_of (put d slot (Some before)) → IsCostChange area change olds (state s)
   between olds is =

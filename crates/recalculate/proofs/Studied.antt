@@ -4,7 +4,7 @@ use Rattle.std.proofs.Common.{◌∙◌, refl, sym, ap, subst, arith}
 use Rattle.std.specs.Prelude.{◌↔◌, OnErr, OnOk}
 use Rattle.std.proofs.lemmas.List.{length-append, take-append-drop}
 use Rattle.lsdb.specs.Lists.{Lists}
-use Rattle.lsdb.specs.Places.{Places, lists_of}
+use Rattle.lsdb.specs.Slots.{Slots, lists_of}
 use Rattle.edit_script.specs.declared.edit.Edit.{Edit}
 use Rattle.edit_history.specs.Journal.{HistoryData, Links}
 use Rattle.edit_history.specs.Session.{Session, moved_back, moved_on, session_of, state}
@@ -27,11 +27,11 @@ back_count k s =
 on_count : (k : ℕ) (s : Session) → edit_count (moved_on k s) ≡ edit_count s
 on_count k s = omega (arith, parts k s.undone, length-append s.done (take k s.undone))
 
-module _ (d e : Places) (h k : HistoryData) (copy : Option Places) (before after : Option (List ExternalLsa)) (links : Links e k) where
+module _ (d e : Slots) (h k : HistoryData) (copy : Option Slots) (before after : Option (List ExternalLsa)) (links : Links e k) where
   abbrev WasStudied : Type 0
   WasStudied = IsStudied d h copy before
 
-  -- it led to a session of the same base, with as many edits
+  -- it led to a session of the same base, with the same number of edits
   led : (s : Session) → session_of e k ≡ s → s.base ≡ (session_of d h).base → edit_count s ≡ edit_count (session_of d h)
       → IsListOf (state s) after → WasStudied → IsStudied e k copy after
   led s is base edits listed studied = record {
@@ -47,7 +47,7 @@ module _ (d e : Places) (h k : HistoryData) (copy : Option Places) (before after
       edits,
       studied.few,
     );
-    loaded = subst (λ (db : Lists). IfSome copy (λ places. lists_of places ≡ db)) (sym (ap (λ (t : Session). t.base) is ∙ base)) studied.loaded;
+    loaded = subst (λ (db : Lists). IfSome copy (λ slots. lists_of slots ≡ db)) (sym (ap (λ (t : Session). t.base) is ∙ base)) studied.loaded;
     externals = of_session after e k s links is listed;
   }
 
@@ -56,7 +56,7 @@ module _ (d e : Places) (h k : HistoryData) (copy : Option Places) (before after
 
   refused : IsSame → IsListOf (lists_of d) after → WasStudied → IsStudied e k copy after
   refused same listed studied =
-      led (session_of d h) (ap (λ (x : HistoryData). session_of e x) same.0 ∙ ap (λ (p : Places). session_of p h) same.1) refl refl
+      led (session_of d h) (ap (λ (x : HistoryData). session_of e x) same.0 ∙ ap (λ (p : Slots). session_of p h) same.1) refl refl
       (to_session after d h (session_of d h) studied.links refl listed) studied
 
   pub undo_studied : {T E : Type 0} (r : Result T E) (count : ℕ) → (IsOk r ↔ (count ≤ length h.past))

@@ -9,7 +9,7 @@ use Rattle.lsdb.specs.declared.counts.LsaCounts.{LsaCounts}
 use Rattle.lsdb.specs.declared.section.Section.TheVariants.{Area}
 use Rattle.lsdb.specs.Counts.{counts_of, has_bit_v, virtual_link_count}
 use Rattle.lsdb.specs.Lists.{AreaHead, IsDatabase, Lists, SectionLsas, areas_of, lsas_of, lsas_or_none}
-use Rattle.lsdb.specs.Places.{Places, item_at, lists_of, lsas_in}
+use Rattle.lsdb.specs.Slots.{Slots, item_at, lists_of, lsas_in}
 use Rattle.lsdb.proofs.AreaLemmas.{area_named}
 use Rattle.routing_table.proofs.AreaLsaLemmas.{lsas_among, total_more}
 
@@ -34,7 +34,7 @@ same_counts k l m n p q e f g = rw (e, f, g) refl
 no_head : AreaHead
 no_head = record { id = 0; is_stub = false }
 
-module _ (d : Places) (i : ℕ) (sound : IsDatabase (lists_of d)) (lt : i < length (areas_of (lists_of d))) where
+module _ (d : Slots) (i : ℕ) (sound : IsDatabase (lists_of d)) (lt : i < length (areas_of (lists_of d))) where
   head : AreaHead
   unfolding no_head
   head = get_or (areas_of (lists_of d)) i no_head

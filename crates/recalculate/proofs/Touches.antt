@@ -16,7 +16,7 @@ use Rattle.edit_history.proofs.HistoryLemmas.{redo_spares, undo_spares}
 use Rattle.routing_table.specs.AreasTrees.{AreasTrees, KeptTreesValue, AreAreasOf, AreOfDatabase, IsSpareOf, routers_by, routers_of}
 use Rattle.routing_table.specs.KeptTrees.{less_touched}
 use Rattle.recalculate.specs.Reached.{IsReached}
-use Rattle.recalculate.proofs.TreesSpared.{told_untouched, untouched, untouched_stay}
+use Rattle.recalculate.proofs.TreesSpared.{reported_untouched, untouched, untouched_stay}
 
 -- ---- the edits that were taken back are the next to be carried out again, and the other way round
 
@@ -61,13 +61,13 @@ pub undone_spares : (s : Session) (k : ℕ) (area : AreaId) → IsReached s → 
     → graph_lsas area (state (moved_back k s)) ≡ graph_lsas area (state s)
 undone_spares s k area reached =
     subst (λ (t : Session). undo_touches k area t ≡ false → graph_lsas area (state (moved_back k t)) ≡ graph_lsas area (state t)) reached.shows
-    (undo_spares reached.places reached.history k area reached.links)
+    (undo_spares reached.slots reached.history k area reached.links)
 
 pub redone_spares : (s : Session) (k : ℕ) (area : AreaId) → IsReached s → redo_touches k area s ≡ false
     → graph_lsas area (state (moved_on k s)) ≡ graph_lsas area (state s)
 redone_spares s k area reached =
     subst (λ (t : Session). redo_touches k area t ≡ false → graph_lsas area (state (moved_on k t)) ≡ graph_lsas area (state t)) reached.shows
-    (redo_spares reached.places reached.history k area reached.links)
+    (redo_spares reached.slots reached.history k area reached.links)
 
 pub edited_spares : (s t : Session) (e : Edit) (area : AreaId) → IsReached t → edited s e ≡ Ok t
     → edit_touches area (state s) e ≡ false → graph_lsas area (state t) ≡ graph_lsas area (state s)
@@ -90,7 +90,7 @@ kept_as db after is_touched kept new stay is spare all = record {
     areas = subst (λ (l : AreasTrees). AreAreasOf after l) (sym is) (untouched_stay db after is_touched stay kept.areas all.areas);
     spare = spare all;
   };
-  shown = ap (λ (l : AreasTrees). routers_by l) is ∙ told_untouched is_touched kept.areas;
+  shown = ap (λ (l : AreasTrees). routers_by l) is ∙ reported_untouched is_touched kept.areas;
 }
 
 -- the spare graph is that of a database, where it is that of another by which name it goes

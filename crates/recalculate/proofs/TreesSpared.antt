@@ -32,9 +32,9 @@ any_key router (t ∷ trees) = by (eq_by_cmp router_cmp router t.0) (any_key rou
     by true rest = refl
     by false rest = rest
 
-told_at : (areas : AreasTrees) (area : AreaId) (router : RouterId) → is_kept (routers_by areas) area router ≡ trees_of areas area router
-told_at [] area router = refl
-told_at (a ∷ areas) area router = by (eq_by_cmp area_cmp area a.0) (told_at areas area router)
+reported_at : (areas : AreasTrees) (area : AreaId) (router : RouterId) → is_kept (routers_by areas) area router ≡ trees_of areas area router
+reported_at [] area router = refl
+reported_at (a ∷ areas) area router = by (eq_by_cmp area_cmp area a.0) (reported_at areas area router)
   where
     any_of : List RouterId → Bool
     any_of routers = list_any (eq_by_cmp router_cmp router) routers
@@ -48,17 +48,17 @@ told_at (a ∷ areas) area router = by (eq_by_cmp area_cmp area a.0) (told_at ar
     by true rest = any_key router a.1.trees
     by false rest = rest
 
-pub told : (kept : KeptTreesValue) → is_kept (routers_of kept) ≡ trees_in kept
-told kept = λ i area router. told_at kept.areas area router i
+pub reported : (kept : KeptTreesValue) → is_kept (routers_of kept) ≡ trees_in kept
+reported kept = λ i area router. reported_at kept.areas area router i
 
 -- ---- the trees of touched areas go
 
 abbrev pub untouched : (AreaId → Bool) → AreasTrees → AreasTrees
 untouched is_touched areas = filter (λ a. not (is_touched a.0)) areas
 
-pub told_untouched : (is_touched : AreaId → Bool) (areas : AreasTrees) → routers_by (untouched is_touched areas) ≡ less_touched is_touched (routers_by areas)
-told_untouched is_touched [] = refl
-told_untouched is_touched (a ∷ areas) = by (is_touched a.0) (told_untouched is_touched areas)
+pub reported_untouched : (is_touched : AreaId → Bool) (areas : AreasTrees) → routers_by (untouched is_touched areas) ≡ less_touched is_touched (routers_by areas)
+reported_untouched is_touched [] = refl
+reported_untouched is_touched (a ∷ areas) = by (is_touched a.0) (reported_untouched is_touched areas)
   where
     by : (b : Bool) → routers_by (untouched is_touched areas) ≡ less_touched is_touched (routers_by areas)
         → routers_by (cond (not b) (a ∷ untouched is_touched areas) (untouched is_touched areas))

@@ -5,7 +5,8 @@ use edit_history::Record;
 use lsdb::Database;
 use std::alloc::Allocator;
 
-/// To take a change of an LSA back and make it again takes about as long as to copy so many LSAs.
+/// To take a change of an LSA back and make it again takes about as long as to copy this number of
+/// LSAs.
 const COPIES_IN_THE_TIME: usize = 8;
 
 /// Whether to take edits back and carry them out again takes longer than to copy the database, by

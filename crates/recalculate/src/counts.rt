@@ -2,7 +2,7 @@
 
 ghost use Rattle.std.specs.Prelude.{◌≡◌};
 ghost use Rattle.lsdb.specs.Counts.{counts_of};
-ghost use Rattle.lsdb.specs.Places.{lists_of};
+ghost use Rattle.lsdb.specs.Slots.{lists_of};
 ghost use Rattle.routing_table.specs.AreaLsas.{area_lsas};
 ghost use Rattle.edit_history.specs.Session.{start};
 ghost use Rattle.recalculate.specs.Counts.{info_of};
@@ -66,7 +66,7 @@ fn area_counts<A: Allocator + Copy>(database: &Database<A>) -> LsaCounts
     ensures { result ≡ counts_of (area_lsas (lists_of database.now)) }
 {
     // For its limits: the counts fit.
-    database.known();
+    database.assert_valid();
     let mut lsas = 0;
     let mut virtual_ends = 0;
     let mut virtual_links = 0;

@@ -9,7 +9,7 @@ ghost use Rattle.edit_history.specs.Journal.{Links};
 ghost use Rattle.edit_history.specs.Session.{moved_back, moved_on, session_of, state};
 ghost use Rattle.lsdb.specs.declared.section.Section.TheVariants.{AsWide};
 ghost use Rattle.lsdb.specs.Lists.{lsas_of};
-ghost use Rattle.lsdb.specs.Places.{Places, lists_of};
+ghost use Rattle.lsdb.specs.Slots.{Slots, lists_of};
 
 use edit_history::{History, Record};
 use external_routes::ExternalLsas;
@@ -23,18 +23,18 @@ pub(crate) fn drop_over_edit<A: Allocator + Copy>(
     database: &Database<A>,
     last: &Record<A>,
 )
-    ensures { (before : Places) → (edit : Edit) → Applied before database.now edit last.now
+    ensures { (before : Slots) → (edit : Edit) → Applied before database.now edit last.now
         → AreListedOf (lsas_of AsWide (lists_of before)) externals.old
         → AreListedOf (lsas_of AsWide (lists_of database.now)) externals.new }
 {
     // It does nothing: it says that the database is a valid one.
-    database.known();
+    database.assert_valid();
     if last.changes_as_scope(database.area_count()) {
         *externals = None;
     }
 }
 
-/// Drops the list where one of the last `count` done edits changed an LSA of AS scope, if so many
+/// Drops the list where one of the last `count` done edits changed an LSA of AS scope, if that many
 /// are done. It takes no memory.
 pub(crate) fn drop_over_undo<A: Allocator + Copy>(
     externals: &mut Option<ExternalLsas<A>>,

@@ -18,9 +18,9 @@ ghost use Rattle.recalculate.specs.Reached.{IsReached};
 /// Once a table of a router was answered, the router lacks no tree. Over any calls that follow,
 /// whether edits, undos and redos that are carried out or refused, or tables of any routers, the
 /// areas whose tree it then lacks are among its attached areas that one of the calls touches. So
-/// the next table of the router raises [`runs`](crate::Planner::runs) by at most as many as there
-/// are of these. An edit of summary-LSAs or AS-external-LSAs touches no area, and a call that
-/// carried out no request touches none.
+/// the next table of the router raises [`runs`](crate::Planner::runs) by at most the number of
+/// these. An edit of summary-LSAs or AS-external-LSAs touches no area, and a call that carried out
+/// no request touches none.
 pub fn untouched_trees_stay()
     ensures lacking { (p : PlannerValue) (router : RouterId) (calls : List Call)
         → IsReached p.session → areas_lacking router p ≡ [] → AreMade p calls

@@ -63,7 +63,7 @@ impl<A: Allocator + Copy> Planner<A> {
     ghost use Rattle.std.specs.Prelude.{◌≡◌, ◌≢◌, ◌≤◌, ◌↔◌, ◌+◌, ◌++◌, [], Ok, Err, Some, None, length, true, IsOk, OnOk, OnErr, IfOk, IfErr, IfSome, IsErrOf};
     ghost use Rattle.lsdb.specs.BaseText.{base_text};
     ghost use Rattle.lsdb.specs.Lists.{IsDatabase};
-    ghost use Rattle.lsdb.specs.Places.{lists_of};
+    ghost use Rattle.lsdb.specs.Slots.{lists_of};
     ghost use Rattle.lsdb.specs.Text.{text};
     ghost use Rattle.area_routes.specs.Attached.{attached_areas};
     ghost use Rattle.edit_history.specs.declared.fault.EditFault.TheVariants.{HistoryFull, OutOfMemory};
@@ -218,7 +218,7 @@ impl<A: Allocator + Copy> Planner<A> {
     }
 
     /// The records of the edits: of those that are done, in the order in which they were carried
-    /// out, and behind them of those that are undone, in the order in which
+    /// out, and after them of those that are undone, in the order in which
     /// [`redo`](Planner::redo) takes them. There are at most 10,000. It takes no memory.
     pub fn records(&self) -> &[Record<A>]
         ensures edits { edits_of result.now ≡ self.now.session.done ++ self.now.session.undone }
@@ -228,8 +228,8 @@ impl<A: Allocator + Copy> Planner<A> {
     }
 
     /// How many shortest-path trees the planner has calculated for tables. Only
-    /// [`table`](Planner::table), [`shared_table`](Planner::shared_table),
-    /// [`base_table`](Planner::base_table) and [`kept_base_table`](Planner::kept_base_table) raise
+    /// [`table`](Planner::table), [`cached_table`](Planner::cached_table),
+    /// [`base_table`](Planner::base_table) and [`baseline_table`](Planner::baseline_table) raise
     /// it. It stays at its greatest value, 2^64 - 1, and takes no memory.
     pub fn runs(&self) -> u64
         ensures { result ≡ self.now.runs }
@@ -304,7 +304,7 @@ impl<A: Allocator + Copy> Planner<A> {
     /// As those of [`table`](Planner::table), for that database. The table that was kept may be
     /// gone then.
     #[tactic(auto, using(crate::proofs::Bases::keeps_other, crate::proofs::Asked::gains_none))]
-    pub fn kept_base_table(&mut self, router: RouterId) -> Result<Rc<Table<A>, A>, TableFault>
+    pub fn baseline_table(&mut self, router: RouterId) -> Result<Rc<Table<A>, A>, TableFault>
         ensures table { IfOk result
             (λ table. table_in self.old.session.base router ≡ Some table.value) }
         ensures fault { IfErr result (FaultMeans (table_in self.old.session.base router)) }
@@ -368,7 +368,7 @@ impl<A: Allocator + Copy> Planner<A> {
     ///
     /// As those of [`table`](Planner::table).
     #[tactic(auto, using(crate::proofs::Asked::gains_none, crate::proofs::Asked::none_at_most))]
-    pub fn shared_table(&mut self, router: RouterId) -> Result<Rc<Table<A>, A>, TableFault>
+    pub fn cached_table(&mut self, router: RouterId) -> Result<Rc<Table<A>, A>, TableFault>
         ensures table { IfOk result
             (λ table. table_in (state self.old.session) router ≡ Some table.value) }
         ensures fault { IfErr result (FaultMeans (table_in (state self.old.session) router)) }
@@ -402,7 +402,7 @@ impl<A: Allocator + Copy> Planner<A> {
         self.new_table(router)
     }
 
-    /// The routing table of a router in the session's database, made anew. It is kept, in place of
+    /// The routing table of a router in the session's database, rebuilt. It is kept, in place of
     /// the one that was.
     fn new_table(&mut self, router: RouterId) -> Result<Rc<Table<A>, A>, TableFault>
         ensures table { IfOk result
@@ -462,7 +462,7 @@ impl<A: Allocator + Copy> Planner<A> {
             return;
         }
         // Where it cannot be made, the table is calculated in the session's database alone.
-        let _ = self.kept_base_table(router);
+        let _ = self.baseline_table(router);
     }
 
     /// Whether a router's table was the last that was asked for, and one edit is done.
@@ -518,7 +518,7 @@ impl<A: Allocator + Copy> Planner<A> {
         self.study.base()
     }
 
-    /// The octets that the dump of a session, version 2, begins with, for the database that the
+    /// The bytes that the dump of a session, version 2, begins with, for the database that the
     /// session began at. The session stays as it is, also where memory runs out, which is the
     /// error.
     pub fn dump_base(&mut self) -> Result<Vec<u8, A>, AllocError>

@@ -50,7 +50,7 @@ impl<A: Allocator + Copy> Study<A> {
     ghost use Rattle.std.specs.Prelude.{◌≡◌, ◌≢◌, ◌≤◌, ◌↔◌, ◌+◌, ◌++◌, [], Ok, Err, Some, length, true, IsOk, OnOk, OnErr, IfOk, IfErr, IfSome, IsErrOf};
     ghost use Rattle.lsdb.specs.BaseText.{base_text};
     ghost use Rattle.lsdb.specs.Lists.{IsDatabase};
-    ghost use Rattle.lsdb.specs.Places.{lists_of};
+    ghost use Rattle.lsdb.specs.Slots.{lists_of};
     ghost use Rattle.area_routes.specs.Attached.{attached_areas, is_attached};
     ghost use Rattle.edit_history.specs.declared.fault.EditFault.TheVariants.{HistoryFull, OutOfMemory};
     ghost use Rattle.edit_history.specs.Session.{edits_of, start, state, effects, most_edits, edited, moved_back, moved_on, redo_touches, undo_touches};
@@ -68,7 +68,7 @@ impl<A: Allocator + Copy> Study<A> {
         ensures { result ≡ start (lists_of database) }
     {
         // That it is a database is what the history's invariant asks for.
-        database.known();
+        database.assert_valid();
         Study {
             database,
             history: History::new(alloc),
@@ -104,11 +104,11 @@ impl<A: Allocator + Copy> Study<A> {
         drop_over_edit(&mut self.externals, &self.database, &record);
         self.history.push(record);
         // That the edit left a database is what the history's invariant asks for.
-        self.database.known();
+        self.database.assert_valid();
         Ok(())
     }
 
-    /// Takes the last `count` done edits back, if so many are done. It takes no memory.
+    /// Takes the last `count` done edits back, if that many are done. It takes no memory.
     pub(crate) fn undo(&mut self, count: usize) -> Result<(), UndoFault>
         ensures ok { IsOk result ↔ (count ≤ length self.old.done) }
         ensures session { OnOk result (self.new ≡ moved_back count self.old) }
@@ -120,7 +120,8 @@ impl<A: Allocator + Copy> Study<A> {
         self.history.undo(&mut self.database, count)
     }
 
-    /// Carries the first `count` undone edits out again, if so many are undone. It takes no memory.
+    /// Carries the first `count` undone edits out again, if that many are undone. It takes no
+    /// memory.
     pub(crate) fn redo(&mut self, count: usize) -> Result<(), RedoFault>
         ensures ok { IsOk result ↔ (count ≤ length self.old.undone) }
         ensures session { OnOk result (self.new ≡ moved_on count self.old) }
@@ -132,7 +133,7 @@ impl<A: Allocator + Copy> Study<A> {
         self.history.redo(&mut self.database, count)
     }
 
-    /// Whether one of the last `count` done edits touches an area, where so many are done: it
+    /// Whether one of the last `count` done edits touches an area, where that many are done: it
     /// rewrote, removed or added a router-LSA or network-LSA of it. It takes no memory.
     #[tactic(auto, using(edit_history::proofs::HistoryLemmas::done_len))]
     pub(crate) fn undo_touches(&self, count: usize, area: AreaId) -> bool
@@ -141,8 +142,8 @@ impl<A: Allocator + Copy> Study<A> {
         count <= self.history.done() && self.history.undo_touches(count, area)
     }
 
-    /// Whether one of the first `count` undone edits touches an area, where so many are undone. It
-    /// takes no memory.
+    /// Whether one of the first `count` undone edits touches an area, where that many are undone.
+    /// It takes no memory.
     #[tactic(auto, using(edit_history::proofs::HistoryLemmas::undone_len))]
     pub(crate) fn redo_touches(&self, count: usize, area: AreaId) -> bool
         ensures { count ≤ length self.now.undone → result ≡ redo_touches count area self.now }
@@ -204,7 +205,7 @@ impl<A: Allocator + Copy> Study<A> {
         self.history.undone()
     }
 
-    /// The records of the edits: of those that are done, in order, and behind them of those that
+    /// The records of the edits: of those that are done, in order, and after them of those that
     /// are undone, the next to be redone first. It takes no memory.
     #[tactic(auto, using(edit_history::proofs::HistoryLemmas::done_len, edit_history::proofs::HistoryLemmas::undone_len))]
     pub(crate) fn records(&self) -> &[Record<A>]
@@ -386,7 +387,7 @@ impl<A: Allocator + Copy> Study<A> {
         copy
     }
 
-    /// The octets that the dump of a session with the loaded database begins with. All edits are
+    /// The bytes that the dump of a session with the loaded database begins with. All edits are
     /// taken back for it, and carried out again.
     pub(crate) fn dump_base(&mut self) -> Result<Vec<u8, A>, AllocError>
         ensures dump { IfOk result (λ dump. dump.items ≡ base_text self.old.base) }
@@ -396,19 +397,19 @@ impl<A: Allocator + Copy> Study<A> {
         let done = self.undo_all();
         let database = self.database();
         // It does nothing: it says that the database is a valid one.
-        database.known();
+        database.assert_valid();
         let dump = database.dump_base();
         self.redo_all(done);
         dump
     }
 
-    /// Takes all done edits back, and tells how many they were.
+    /// Takes all done edits back, and returns their number.
     fn undo_all(&mut self) -> usize
         ensures count { result ≡ length self.old.done }
         ensures session { self.new ≡ moved_back (length self.old.done) self.old }
     {
         let done = self.done();
-        // It is not refused: so many are done.
+        // It is not refused: that many are done.
         let _ = self.undo(done);
         done
     }
@@ -418,7 +419,7 @@ impl<A: Allocator + Copy> Study<A> {
         requires { count ≤ length self.old.undone }
         ensures { self.new ≡ moved_on count self.old }
     {
-        // It is not refused: so many are undone.
+        // It is not refused: that many are undone.
         let _ = self.redo(count);
     }
 }

@@ -5,7 +5,7 @@ ghost use Rattle.area_routes.specs.Attached.{attached_areas, is_attached};
 ghost use Rattle.external_routes.specs.ExternalLsas.{AreListedOf};
 ghost use Rattle.lsdb.specs.declared.section.Section.TheVariants.{AsWide};
 ghost use Rattle.lsdb.specs.Lists.{lsas_of};
-ghost use Rattle.lsdb.specs.Places.{lists_of};
+ghost use Rattle.lsdb.specs.Slots.{lists_of};
 ghost use Rattle.routing_table.specs.AreasTrees.{AreOfDatabase, routers_of};
 ghost use Rattle.routing_table.specs.Counting.{counted_by, CountsAtMost};
 ghost use Rattle.routing_table.specs.KeptTrees.{GainsOnly, IsWithin, areas_without_tree, is_kept};

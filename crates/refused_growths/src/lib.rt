@@ -4,8 +4,8 @@
 //! [`growths_of`] makes a call with each number of growths that is too few for it.
 #![tactic(auto)]
 
-mod octets;
+mod network_bytes;
 mod refusals;
 
-pub use octets::NETWORK;
-pub use refusals::{Answer, Growing, Seen, growths_of};
+pub use network_bytes::NETWORK;
+pub use refusals::{Answer, FallibleCall, Outcome, growths_of};

@@ -2,7 +2,7 @@
 
 ghost use Rattle.std.specs.Prelude.{◌≡◌, ◌<◌, [], IfOk};
 
-use rationed::Rationed;
+use failing_alloc::FailingAlloc;
 use std::alloc::Global;
 use std::test::Fail;
 
@@ -11,7 +11,7 @@ pub type Answer = Option<Vec<u8>>;
 
 /// The outcome of a call with a limited number of growths.
 #[derive(Drop)]
-pub struct Seen {
+pub struct Outcome {
     /// Its answer.
     pub first: Answer,
     /// The answer of the same call after that, with ample memory.
@@ -22,16 +22,16 @@ pub struct Seen {
     pub between: Vec<u8>,
 }
 
-impl Seen {
+impl Outcome {
     /// The outcome of a call that is lent nothing that it can change, except the meter of a tree,
     /// for which there is a separate test.
-    pub fn of_answers(alloc: Global, first: Answer, then: Answer) -> Seen
+    pub fn of_answers(alloc: Global, first: Answer, then: Answer) -> Outcome
         ensures first { result.first ≡ first }
         ensures then { result.then ≡ then }
         ensures before { result.before.items ≡ [] }
         ensures between { result.between.items ≡ [] }
     {
-        Seen {
+        Outcome {
             first,
             then,
             before: Vec::new(alloc),
@@ -41,10 +41,10 @@ impl Seen {
 }
 
 /// A call that may ask for growths.
-pub trait Growing {
+pub trait FallibleCall {
     /// Makes the call with `growths` growths, on what it is lent with ample memory, and then makes
     /// the same call with ample memory.
-    fn seen(&self, alloc: Global, rationed: &Rationed, growths: u64) -> Result<Seen, Fail>;
+    fn outcome(&self, alloc: Global, failing: &FailingAlloc, growths: u64) -> Result<Outcome, Fail>;
 
     /// Whether the call may report that memory ran out after it has changed what it was lent, in
     /// the same way as where memory suffices.
@@ -54,17 +54,21 @@ pub trait Growing {
 }
 
 /// The outcome of a call with `growths` growths.
-fn seen_with<G: Growing>(alloc: Global, call: &G, growths: u64) -> Result<Seen, Fail> {
-    let rationed = Rationed::new(alloc, u64::MAX);
-    call.seen(alloc, &rationed, growths)
+fn outcome_with<G: FallibleCall>(alloc: Global, call: &G, growths: u64) -> Result<Outcome, Fail> {
+    let failing = FailingAlloc::new(alloc, u64::MAX);
+    call.outcome(alloc, &failing, growths)
 }
 
 /// What is wrong with a call that reported that memory ran out, if anything is.
-fn wrong_refusal<G: Growing>(call: &G, seen: &Seen, ample: &Seen) -> Option<&'static str> {
-    let stays = seen.between == seen.before;
-    if !stays && !(call.may_be_done() && seen.between == ample.between) {
+fn wrong_refusal<G: FallibleCall>(
+    call: &G,
+    outcome: &Outcome,
+    ample: &Outcome,
+) -> Option<&'static str> {
+    let stays = outcome.between == outcome.before;
+    if !stays && !(call.may_be_done() && outcome.between == ample.between) {
         Some("something else after a refusal")
-    } else if seen.then != ample.first {
+    } else if outcome.then != ample.first {
         Some("another answer after a refusal")
     } else {
         None
@@ -82,20 +86,20 @@ const MANY: u64 = 10_000;
 ///
 /// The call behaves otherwise, or reports that memory ran out with each number of growths below
 /// 10,000. No clause can state this.
-pub fn growths_of<G: Growing>(alloc: Global, call: &G) -> Result<u64, Fail>
+pub fn growths_of<G: FallibleCall>(alloc: Global, call: &G) -> Result<u64, Fail>
     ensures { IfOk result (λ growths. growths < 10000) }
 {
-    let ample = seen_with(alloc, call, u64::MAX)?;
+    let ample = outcome_with(alloc, call, u64::MAX)?;
     for growths in 0..MANY {
-        let seen = seen_with(alloc, call, growths)?;
-        if seen.first.is_some() {
-            return if seen.first == ample.first && seen.between == ample.between {
+        let outcome = outcome_with(alloc, call, growths)?;
+        if outcome.first.is_some() {
+            return if outcome.first == ample.first && outcome.between == ample.between {
                 Ok(growths)
             } else {
                 Err("another answer")?
             };
         }
-        if let Some(wrong) = wrong_refusal(call, &seen, &ample) {
+        if let Some(wrong) = wrong_refusal(call, &outcome, &ample) {
             return Err(wrong)?;
         }
     }

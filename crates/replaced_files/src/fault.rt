@@ -4,8 +4,8 @@
 /// written straight.
 #[derive(Clone, Copy, Debug, PartialEq, Eq)]
 pub enum ReplaceFault {
-    /// It can not be opened for writing.
+    /// It cannot be opened for writing.
     Open,
-    /// It can not be written.
+    /// It cannot be written.
     Write,
 }

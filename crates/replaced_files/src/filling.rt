@@ -44,7 +44,7 @@ pub(crate) fn fill<W: Write>(file: &mut Watched<W>, text: &[u8]) -> Result<(), R
 ///
 /// # Errors
 ///
-/// `Write` where the file can not be given its mode, or be written, flushed or synced.
+/// `Write` where the file cannot be given its mode, or be written, flushed or synced.
 pub(crate) fn fill_new<F: Write + OpenFile + Drop>(
     file: F,
     permissions: Option<Permissions>,
@@ -69,7 +69,7 @@ pub(crate) fn fill_new<F: Write + OpenFile + Drop>(
 ///
 /// # Errors
 ///
-/// `Write` where it can not be written or flushed.
+/// `Write` where it cannot be written or flushed.
 pub(crate) fn fill_straight<F: Write + Drop>(file: F, text: &[u8]) -> Result<(), ReplaceFault>
     ensures taken { OnOk result (IsTaken F.contents text.now) }
     ensures fault { IfErr result (λ fault. fault ≡ ReplaceFault.Write) }

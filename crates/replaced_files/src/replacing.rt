@@ -20,7 +20,7 @@ const MOST_NAMES: u32 = 100;
 ///
 /// # Errors
 ///
-/// `Open` for a file that can not be opened for writing, `Write` for one that can not be written.
+/// `Open` for a file that cannot be opened for writing, `Write` for one that cannot be written.
 /// Then an ordinary file that was there is as it was, unless it was written straight, and no other
 /// file has changed. An empty path is `Open`.
 pub fn replace_file<R: Files + Alloc>(rt: &R, path: &str, text: &[u8]) -> Result<(), ReplaceFault>
@@ -69,7 +69,7 @@ fn replace<R: Files + Alloc>(rt: &R, path: &str, text: &[u8]) -> Result<(), Repl
         Ok((file, beside)) => {
             let replaced = put_in_place(rt, file, beside.as_str(), path, permissions, text);
             if replaced.is_err() {
-                // Where it can not be removed either, it stays, and the fault is told.
+                // Where it cannot be removed either, it stays, and the fault is reported.
                 let _ = fs::remove_file(rt, beside.as_str());
             }
             replaced

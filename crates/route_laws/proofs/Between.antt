@@ -23,7 +23,7 @@ use Rattle.area_routes.specs.Best.{ways_of}
 use Rattle.area_routes.specs.Candidate.{Candidate}
 use Rattle.area_routes.specs.Entries.{bit_b, bit_e, entries_of, entry_by, flags_of, has_bit, reached_entry}
 use Rattle.area_routes.specs.EntriesOnce.{IsSameWay, StandOnce, results_of}
-use Rattle.area_routes.specs.Inter.{border_of, by_border, entries_by, entries_of_all, examined, inter_of, network_candidate, network_told, originator_of, routes_by, same_kind, same_router, usable_metric}
+use Rattle.area_routes.specs.Inter.{border_of, by_border, entries_by, entries_of_all, examined, inter_of, network_candidate, announced_network, originator_of, routes_by, same_kind, same_router, usable_metric}
 use Rattle.area_routes.specs.InWords.{AreBestWays}
 use Rattle.area_routes.specs.Reached.{ReachedValue, reached_from}
 use Rattle.area_routes.specs.Stubs.{is_lsa_of}
@@ -135,7 +135,7 @@ border_once x area (e ∷ es) through once = (
 module _ (router : RouterId) (area : AreaResultValue) (intra : List RouteValue)
     (through : (e : EntryValue) → In area.entries e → e.area ≡ area.area) (once : Pairs Differ area.entries) where
   ways_of_lsa : (lsa : List ℕ) → option_to_list (network_candidate router area intra lsa) ≡ ways_by router area intra lsa
-  ways_of_lsa lsa = by (network_told intra lsa) (usable_metric router lsa)
+  ways_of_lsa lsa = by (announced_network intra lsa) (usable_metric router lsa)
     where
       over : (net : Net) (metric : ℕ)
           → option_to_list (option_map (by_border net area.area metric) (border_of area.entries (originator_of lsa))) ≡ ways_over router area intra lsa net metric

@@ -9,7 +9,7 @@ use Rattle.lsdb.specs.Lists.{AreaHead, Lists, lsas_of}
 use Rattle.area_graph.specs.Area.{used}
 use Rattle.area_routes.specs.declared.entry.EntryKind.TheVariants.{Border}
 use Rattle.area_routes.specs.Candidate.{Candidate}
-use Rattle.area_routes.specs.Inter.{by_border, examined, inter_of, network_told, originator_of, same_kind, same_router, usable_metric}
+use Rattle.area_routes.specs.Inter.{by_border, examined, inter_of, announced_network, originator_of, same_kind, same_router, usable_metric}
 use Rattle.area_routes.specs.Intra.{intra_candidate}
 use Rattle.area_routes.specs.Networks.{network_offers}
 use Rattle.area_routes.specs.Reached.{ReachedValue, reached_from}
@@ -47,7 +47,7 @@ module _ (router : RouterId) (area : AreaResultValue) (intra : List RouteValue) 
 
   -- the ways by a summary-LSA: none where it is not usable, or where its prefix has an intra-area route
   abbrev pub ways_by : List ℕ → List (Candidate Net)
-  ways_by lsa = option_map_or (λ net. option_map_or (ways_over lsa net) (usable_metric router lsa) []) (network_told intra lsa) []
+  ways_by lsa = option_map_or (λ net. option_map_or (ways_over lsa net) (usable_metric router lsa) []) (announced_network intra lsa) []
 
 -- the ways by all summary-LSAs of the examined area
 abbrev pub ways_between : Lists → RouterId → List AreaResultValue → List RouteValue → List (Candidate Net)

@@ -23,7 +23,7 @@ use Rattle.area_routes.specs.Attached.{is_attached}
 use Rattle.area_routes.specs.declared.stub_links.StubLink.{StubLink}
 use Rattle.area_routes.specs.StubLinks.{AreStubLinksOf}
 use Rattle.routing_table.specs.AreaTrees.{AreaTreesValue, IsAreaOf, has_tree, graph_and_stubs}
-use Rattle.routing_table.proofs.MapLemmas.{Puts, if_found, put_all, put_gains, put_here, put_other, put_passes, put_tells}
+use Rattle.routing_table.proofs.MapLemmas.{Puts, if_found, put_all, put_gains, put_here, put_other, put_passes, put_reports}
 use Rattle.routing_table.specs.AreasTrees.{AreasTrees, KeptTreesValue, AreAreasOf, AreOfDatabase, IsSpareOf}
 use Rattle.routing_table.specs.AreasTrees.{at_area, trees_at, trees_in, trees_of}
 use Rattle.routing_table.specs.KeptTrees.{GainsOnly, IsWithin}
@@ -49,7 +49,7 @@ module _ (old new : AreasTrees) (area : AreaId) (t : AreaTreesValue) (puts : Put
 
   pub no_tree_more : at_area old area ≡ None → t.trees ≡ [] → (other : AreaId) (root : RouterId) → trees_of new other root ≡ trees_of old other root
   no_tree_more absent empty other root =
-      put_tells area_cmp area_exact old new area t puts (has_at root)
+      put_reports area_cmp area_exact old new area t puts (has_at root)
       (ap (λ trees. is_some (lookup (eq_by_cmp router_cmp root) trees)) empty ∙ ap (has_at root) (sym absent)) other
 
   pub area_here : IsSome (at_area new area)
@@ -59,7 +59,7 @@ module _ (old new : AreasTrees) (area : AreaId) (t : AreaTreesValue) (puts : Put
   module _ (s : AreaTreesValue) (was : at_area old area ≡ Some s) where
     pub same_graphs : t.graph ≡ s.graph → t.stubs ≡ s.stubs → (other : AreaId) → area_at (at_area new other) ≡ area_at (at_area old other)
     same_graphs graph stubs other =
-        put_tells area_cmp area_exact old new area t puts area_at ((λ i. Some (graph i, stubs i)) ∙ ap area_at (sym was)) other
+        put_reports area_cmp area_exact old new area t puts area_at ((λ i. Some (graph i, stubs i)) ∙ ap area_at (sym was)) other
 
     pub still_within : ((root : RouterId) → has_tree s root ≡ true → has_tree t root ≡ true) → IsWithin (trees_of old) (trees_of new)
     still_within keeps other root had =
@@ -135,9 +135,9 @@ module _ (db : Lists) (sound : IsDatabase db) (area : AreaId) (router : RouterId
   to_graph : is_attached db area router ≡ true → in_graph
   to_graph h = subst (λ (vs : List Vertex). Contains vs (Router router)) (sym of.vertices) ((attached_vertex db sound area router).0 h)
 
-  pub vertex_tells : (b : Bool) → OnTrue b in_graph → OnFalse b (in_graph → ⊥) → b ≡ is_attached db area router
-  vertex_tells true here away = sym (from_graph here)
-  vertex_tells false here away = by (is_attached db area router) refl
+  pub vertex_reports : (b : Bool) → OnTrue b in_graph → OnFalse b (in_graph → ⊥) → b ≡ is_attached db area router
+  vertex_reports true here away = sym (from_graph here)
+  vertex_reports false here away = by (is_attached db area router) refl
     where
       by : (e : Bool) → is_attached db area router ≡ e → false ≡ e
       by true e = absurd (away (to_graph e))

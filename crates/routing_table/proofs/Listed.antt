@@ -101,9 +101,9 @@ of_live : (router : RouterId) (lsa : List ℕ) → is_live lsa ≡ true → has_
 of_live router lsa live h =
     let parts = and_parts (eqb (kind_of lsa) 1) (eqb (link_state_id_of lsa) router.0 && eqb (advertising_router_of lsa) router.0) h in
     let id = and_parts (eqb (link_state_id_of lsa) router.0) (eqb (advertising_router_of lsa) router.0) parts.1 in
-    let told : ℕ → Option RouterId = λ n. Some (record { 0 = n }) in
-    ap (λ b. cond b (told (link_state_id_of lsa)) None) (and_from (is_live lsa) (is_router_lsa lsa) live parts.0)
-    ∙ ap told (eqb-true (link_state_id_of lsa) router.0 id.0)
+    let reported : ℕ → Option RouterId = λ n. Some (record { 0 = n }) in
+    ap (λ b. cond b (reported (link_state_id_of lsa)) None) (and_from (is_live lsa) (is_router_lsa lsa) live parts.0)
+    ∙ ap reported (eqb-true (link_state_id_of lsa) router.0 id.0)
 
 key_of_live : (router : RouterId) (lsa : List ℕ) → IsAccepted lsa → IsLiveOf router lsa → has_key (router_key router) lsa ≡ true
 key_of_live router lsa sound h =

@@ -35,15 +35,15 @@ module _ {K V : Type 0} (cmp : K → K → Ordering) (exact : CmpEqualImpliesEq 
       by true e h = absurd (apart (sym (same_key q e)))
       by false e h = h
 
-  -- what a look-up tells stays, where the new entry tells the same as the one that was there
-  pub put_tells : {X : Type 0} (tell : Option V → X) → tell (Some v) ≡ tell (lookup (eq_by_cmp cmp k) old)
-      → (q : K) → tell (lookup (eq_by_cmp cmp q) new) ≡ tell (lookup (eq_by_cmp cmp q) old)
-  put_tells tell same q = by (eq_by_cmp cmp k q) refl (puts q)
+  -- the result of a look-up stays, where the new entry has the same as the one that was there
+  pub put_reports : {X : Type 0} (report : Option V → X) → report (Some v) ≡ report (lookup (eq_by_cmp cmp k) old)
+      → (q : K) → report (lookup (eq_by_cmp cmp q) new) ≡ report (lookup (eq_by_cmp cmp q) old)
+  put_reports report same q = by (eq_by_cmp cmp k q) refl (puts q)
     where
       by : (b : Bool) → eq_by_cmp cmp k q ≡ b → lookup (eq_by_cmp cmp q) new ≡ cond b (Some v) (lookup (eq_by_cmp cmp q) old)
-          → tell (lookup (eq_by_cmp cmp q) new) ≡ tell (lookup (eq_by_cmp cmp q) old)
-      by true e h = ap tell h ∙ same ∙ ap (λ r. tell (lookup (eq_by_cmp cmp r) old)) (same_key q e)
-      by false e h = ap tell h
+          → report (lookup (eq_by_cmp cmp q) new) ≡ report (lookup (eq_by_cmp cmp q) old)
+      by true e h = ap report h ∙ same ∙ ap (λ r. report (lookup (eq_by_cmp cmp r) old)) (same_key q e)
+      by false e h = ap report h
 
   -- a test that passed passes, where it passes at the new entry
   pub put_passes : (test : Option V → Bool) → (test (lookup (eq_by_cmp cmp k) old) ≡ true → test (Some v) ≡ true) → (q : K)

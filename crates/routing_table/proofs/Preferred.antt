@@ -165,7 +165,7 @@ module _ (P : RouteValue → Type 0) where
       by None other h k = k
       by (Some r) other h k = h
 
--- the route to a prefix in two lists, one behind the other
+-- the route to a prefix in two lists, one after the other
 route_append : (q : Net) (xs ys : List RouteValue) → route_to (xs ++ ys) q ≡ option_or (route_to xs q) (route_to ys q)
 route_append q [] ys = refl
 route_append q (x ∷ xs) ys = by (same q x.net) (route_append q xs ys)

@@ -38,7 +38,7 @@ pub inter_after : (db : Lists) (router : RouterId) (items old new now more : Lis
     → n ≡ length items → old ≡ items → map without_offers new ≡ map without_offers old → now ≡ take n (new ++ more)
     → inter_of db router now intra ≡ inter_of db router items intra
 inter_after db router items old new now more n intra size given rest after =
-    let as_many : length new ≡ n =
+    let same_length : length new ≡ n =
     sym (length-map new without_offers) ∙ ap (λ (rs : List AreaResultValue). length rs) rest ∙ length-map old without_offers
     ∙ ap (λ (rs : List AreaResultValue). length rs) given ∙ sym size in
     let left : now ≡ new = after ∙ take-append-le n new more (omega arith) ∙ take_all n new (omega arith) in

@@ -7,7 +7,7 @@ ghost use Rattle.lsa_codec.specs.declared.address.AreaId.{AreaId as AnyArea};
 ghost use Rattle.lsa_codec.specs.declared.address.RouterId.{RouterId as AnyRouter};
 ghost use Rattle.lsdb.specs.declared.section.Section.TheVariants.{Area};
 ghost use Rattle.lsdb.specs.Lists.{lsas_of};
-ghost use Rattle.lsdb.specs.Places.{lists_of};
+ghost use Rattle.lsdb.specs.Slots.{lists_of};
 ghost use Rattle.area_graph.specs.declared.vertex.Vertex.TheVariants.{Router};
 ghost use Rattle.area_routes.specs.AreaResults.{area_result};
 ghost use Rattle.area_routes.specs.Attached.{attached_areas, is_attached};
@@ -73,7 +73,7 @@ impl<A: Allocator + Copy> KeptTrees<A> {
         ensures { result ≡ is_attached (lists_of database.now) area router }
     {
         // For what holds of its areas: an attached router is a vertex of the graph.
-        database.known();
+        database.assert_valid();
         match self.areas.get(&area) {
             Some(trees) => trees.has_router(router),
             None => is_attached(database, area, router),
@@ -224,7 +224,7 @@ impl<A: Allocator + Copy> KeptTrees<A> {
             meter.old meter.new }
     {
         // For the order of its areas and its keys: an attached router is a vertex of the graph.
-        database.known();
+        database.assert_valid();
         self.add_graph(alloc, database, area, router)?;
         self.grow_in(alloc, area, router, meter)
     }
@@ -276,7 +276,7 @@ impl<A: Allocator + Copy> KeptTrees<A> {
             (attached_areas (lists_of database.now) router))) meter.old meter.new }
     {
         // For the order of its areas: their IDs differ, so a tree in one of them is in no other.
-        database.known();
+        database.assert_valid();
         let mut results = Vec::new(alloc);
         for i in 0..database.area_count() {
             let (area, _is_stub) = database.area(i);

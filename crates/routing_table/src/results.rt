@@ -3,7 +3,7 @@
 ghost use Rattle.std.specs.Prelude.{◌≡◌, ◌≢◌, [], true, Contains, IfOk, OnOk, OnErr, length};
 ghost use Rattle.lsdb.specs.declared.section.Section.TheVariants.{Area};
 ghost use Rattle.lsdb.specs.Lists.{lsas_of};
-ghost use Rattle.lsdb.specs.Places.{lists_of};
+ghost use Rattle.lsdb.specs.Slots.{lists_of};
 ghost use Rattle.area_graph.specs.declared.vertex.Vertex.TheVariants.{Router};
 ghost use Rattle.area_graph.specs.Graphs.{IsGraphOf};
 ghost use Rattle.spf.specs.Distances.{IsTreeOf, counted};
@@ -32,7 +32,7 @@ pub fn graph_of<A: Allocator + Copy>(
     ensures router { IfOk result (λ graph. Contains graph.vertices (Router router)) }
 {
     // For the order of its areas and its keys: an attached router is a vertex of the graph.
-    database.known();
+    database.assert_valid();
     match Graph::build(alloc, database, area) {
         Ok(graph) => Ok(graph),
         Err(GraphFault::OutOfMemory) => Err(AllocError),

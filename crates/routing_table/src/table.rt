@@ -3,7 +3,7 @@
 ghost use Rattle.std.specs.Prelude.{◌≡◌, [], IfOk, IfErr, IsErrOf, IsSome, OnOk, Some, None, length};
 ghost use Rattle.lsdb.specs.declared.section.Section.TheVariants.{AsWide};
 ghost use Rattle.lsdb.specs.Lists.{lsas_of};
-ghost use Rattle.lsdb.specs.Places.{lists_of};
+ghost use Rattle.lsdb.specs.Slots.{lists_of};
 ghost use Rattle.area_routes.specs.Attached.{attached_areas};
 ghost use Rattle.external_routes.specs.ExternalLsas.{AreExternalLsasOf, AreListedOf};
 ghost use Rattle.routing_table.specs.declared.table.TableFault.TheVariants.{OutOfMemory};

@@ -8,5 +8,5 @@ abbrev pub link_of : ℕ → ℕ → ℕ → ℕ → RouterLink
 link_of kind id link_data metric = record { kind = kind; id = id; «data» = link_data; metric = metric }
 
 -- Link ID, Link Data, type, no TOS metrics, metric
-abbrev pub link_octets : RouterLink → List ℕ
-link_octets link = to_be_bytes w32 link.id ++ to_be_bytes w32 link.data ++ link.kind ∷ 0 ∷ to_be_bytes w16 link.metric
+abbrev pub link_bytes : RouterLink → List ℕ
+link_bytes link = to_be_bytes w32 link.id ++ to_be_bytes w32 link.data ++ link.kind ∷ 0 ∷ to_be_bytes w16 link.metric

@@ -4,7 +4,7 @@ use Rattle.std.specs.Int.{w16, w32, to_be_bytes}
 use Rattle.std.specs.List.{flat_map}
 use Rattle.samples.specs.declared.link.RouterLink.{RouterLink}
 use Rattle.samples.specs.declared.lsa.Header.{Header}
-use Rattle.samples.specs.Links.{link_octets}
+use Rattle.samples.specs.Links.{link_bytes}
 use Rattle.samples.specs.Fletcher.{checksum_of}
 
 -- the bytes of an LSA with these in its checksum field: LS age, options, LS type, Link State ID, Advertising Router,
@@ -15,8 +15,8 @@ lsa_with_sums header sums body =
     ++ (0x80 ∷ 0 ∷ 0 ∷ 1 ∷ []) ++ sums ++ to_be_bytes w16 (min (length body) 65515 + 20) ++ body
 
 -- the bytes of an LSA with the checksum of all of it but its LS age
-unfoldable pub lsa_octets : Header → List ℕ → List ℕ
-lsa_octets header body = lsa_with_sums header (checksum_of (drop 2 (lsa_with_sums header (0 ∷ 0 ∷ []) body))) body
+unfoldable pub lsa_bytes : Header → List ℕ → List ℕ
+lsa_bytes header body = lsa_with_sums header (checksum_of (drop 2 (lsa_with_sums header (0 ∷ 0 ∷ []) body))) body
 
 -- the header of a router-LSA, and that of a network-LSA
 abbrev pub router_header : ℕ → ℕ → Header
@@ -28,7 +28,7 @@ network_header age address router = record { age = age; kind = 2; id = address; 
 -- flags, number of links, links (A.4.2)
 unfoldable pub router_body : ℕ → List RouterLink → List ℕ
 router_body flags links =
-    (flags ∷ 0 ∷ []) ++ to_be_bytes w16 (min (length links) 65535) ++ flat_map link_octets links
+    (flags ∷ 0 ∷ []) ++ to_be_bytes w16 (min (length links) 65535) ++ flat_map link_bytes links
 
 -- mask, attached routers (A.4.3)
 unfoldable pub network_body : ℕ → List ℕ → List ℕ
@@ -36,18 +36,18 @@ network_body mask attached = to_be_bytes w32 mask ++ flat_map (to_be_bytes w32) 
 
 -- LSAs one after another, and their number
 pub record Lsas : Type 0 where
-  pub octets : List ℕ
+  pub bytes : List ℕ
   pub count : ℕ
 
 abbrev pub no_lsas : Lsas
-no_lsas = record { octets = []; count = 0 }
+no_lsas = record { bytes = []; count = 0 }
 
 -- one more LSA; 16 bits count them
-abbrev pub with_octets : List ℕ → Lsas → Lsas
-with_octets lsa lsas = record { octets = lsas.octets ++ lsa; count = (lsas.count + 1) % 2 ^ 16 }
+abbrev pub with_bytes : List ℕ → Lsas → Lsas
+with_bytes lsa lsas = record { bytes = lsas.bytes ++ lsa; count = (lsas.count + 1) % 2 ^ 16 }
 
 abbrev pub with_lsa : Header → List ℕ → Lsas → Lsas
-with_lsa header body lsas = with_octets (lsa_octets header body) lsas
+with_lsa header body lsas = with_bytes (lsa_bytes header body) lsas
 
 abbrev pub with_router : ℕ → ℕ → ℕ → List RouterLink → Lsas → Lsas
 with_router age router flags links lsas = with_lsa (router_header age router) (router_body flags links) lsas

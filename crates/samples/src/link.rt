@@ -1,7 +1,7 @@
 //! The links of router-LSAs.
 
 ghost use Rattle.std.specs.Prelude.{◌≡◌};
-ghost use Rattle.samples.specs.Links.{link_of, link_octets};
+ghost use Rattle.samples.specs.Links.{link_of, link_bytes};
 
 /// A link of a router-LSA, without TOS metrics (RFC 2328, A.4.2).
 #[derive(Clone, Copy, Debug)]
@@ -18,8 +18,8 @@ pub struct RouterLink {
 
 impl RouterLink {
     /// The bytes of the link.
-    pub(crate) fn octets(&self) -> [u8; 12]
-        ensures { result ≡ link_octets self.now }
+    pub(crate) fn bytes(&self) -> [u8; 12]
+        ensures { result ≡ link_bytes self.now }
     {
         let [i0, i1, i2, i3] = self.id.to_be_bytes();
         let [d0, d1, d2, d3] = self.data.to_be_bytes();

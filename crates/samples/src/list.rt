@@ -1,12 +1,12 @@
 //! Lists of LSAs, one after another, and the dumps of areas with such lists.
 
 ghost use Rattle.std.specs.Prelude.{◌≡◌, is_ok, if◌then◌else◌, IfOk, ◌∷◌, []};
-ghost use Rattle.samples.specs.Lsas.{no_lsas, with_octets, with_lsa, with_router, with_network, router_body, network_body};
-ghost use Rattle.samples.specs.Dumps.{counted_octets, dump_of_area, dump_octets};
+ghost use Rattle.samples.specs.Lsas.{no_lsas, with_bytes, with_lsa, with_router, with_network, router_body, network_body};
+ghost use Rattle.samples.specs.Dumps.{counted_bytes, dump_of_area, dump_bytes};
 
 use crate::known::MASK_16;
 use crate::link::RouterLink;
-use crate::lsa::{Header, lsa_octets};
+use crate::lsa::{Header, lsa_bytes};
 use std::alloc::{AllocError, Global};
 use std::marker::Model;
 
@@ -14,7 +14,7 @@ use std::marker::Model;
 #[derive(Drop)]
 pub struct LsaList {
     alloc: Global,
-    octets: Vec<u8>,
+    bytes: Vec<u8>,
     count: u16,
 }
 
@@ -24,7 +24,7 @@ impl Model for LsaList {
 
     ghost Value = { Lsas };
 
-    ghost view = { λ list. record { octets = list.octets.items; count = list.count } };
+    ghost view = { λ list. record { bytes = list.bytes.items; count = list.count } };
 }
 
 impl LsaList {
@@ -34,16 +34,16 @@ impl LsaList {
     {
         LsaList {
             alloc,
-            octets: Vec::new(alloc),
+            bytes: Vec::new(alloc),
             count: 0,
         }
     }
 
     /// Adds an LSA of these bytes. Here and below, the list is unchanged where memory ran out.
     fn push(&mut self, lsa: &[u8]) -> Result<(), AllocError>
-        ensures { self.new ≡ (if is_ok result then with_octets lsa.now self.old else self.old) }
+        ensures { self.new ≡ (if is_ok result then with_bytes lsa.now self.old else self.old) }
     {
-        self.octets.extend_from_slice(lsa)?;
+        self.bytes.extend_from_slice(lsa)?;
         self.count = self.count.wrapping_add(1);
         Ok(())
     }
@@ -57,8 +57,8 @@ impl LsaList {
         ensures { self.new ≡
             (if is_ok result then with_lsa header body.now self.old else self.old) }
     {
-        let octets = lsa_octets(self.alloc, header, body)?;
-        self.push(&octets)
+        let bytes = lsa_bytes(self.alloc, header, body)?;
+        self.push(&bytes)
     }
 
     /// Adds a router-LSA with some age and these flags, of at most 5,459 links (RFC 2328, A.4.2).
@@ -135,11 +135,11 @@ impl LsaList {
 
     /// The number of LSAs, and the LSAs.
     fn counted(&self) -> Result<Vec<u8>, AllocError>
-        ensures { IfOk result (λ text. text.items ≡ counted_octets self.now) }
+        ensures { IfOk result (λ text. text.items ≡ counted_bytes self.now) }
     {
         let mut text = Vec::new(self.alloc);
         text.extend_from_slice(&self.count.to_be_bytes())?;
-        text.extend_from_slice(&self.octets)?;
+        text.extend_from_slice(&self.bytes)?;
         Ok(text)
     }
 
@@ -148,7 +148,7 @@ impl LsaList {
     /// # Errors
     ///
     /// Memory ran out.
-    #[tactic(auto, unfolding(crate::specs::Dumps::dump_octets))]
+    #[tactic(auto, unfolding(crate::specs::Dumps::dump_bytes))]
     pub fn dump(&self) -> Result<Vec<u8>, AllocError>
         ensures { IfOk result (λ dump. dump.items ≡ dump_of_area self.now) }
     {
@@ -170,7 +170,7 @@ fn router_body(alloc: Global, flags: u8, links: &[RouterLink]) -> Result<Vec<u8>
     body.extend_from_slice(&[flags, 0])?;
     body.extend_from_slice(&count.to_be_bytes())?;
     for link in links {
-        body.extend_from_slice(&link.octets())?;
+        body.extend_from_slice(&link.bytes())?;
     }
     Ok(body)
 }
@@ -194,13 +194,13 @@ fn network_body(alloc: Global, mask: u32, attached: &[u32]) -> Result<Vec<u8>, A
 /// # Errors
 ///
 /// Memory ran out.
-#[tactic(auto, unfolding(crate::specs::Dumps::dump_octets))]
+#[tactic(auto, unfolding(crate::specs::Dumps::dump_bytes))]
 pub fn dump_of(
     alloc: Global,
     areas: &[(u32, LsaList)],
     as_lsas: &LsaList,
 ) -> Result<Vec<u8>, AllocError>
-    ensures { IfOk result (λ dump. dump.items ≡ dump_octets areas.now as_lsas.now) }
+    ensures { IfOk result (λ dump. dump.items ≡ dump_bytes areas.now as_lsas.now) }
 {
     let count = areas.len().min(usize::from(u8::MAX)) as u8;
     let mut dump = Vec::new(alloc);

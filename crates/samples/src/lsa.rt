@@ -1,7 +1,7 @@
 //! LSAs, with good checksums.
 
 ghost use Rattle.std.specs.Prelude.{◌≡◌, IfOk};
-ghost use Rattle.samples.specs.Lsas.{lsa_with_sums, lsa_octets};
+ghost use Rattle.samples.specs.Lsas.{lsa_with_sums, lsa_bytes};
 
 use crate::fletcher::checksum;
 use std::alloc::{AllocError, Global};
@@ -47,9 +47,9 @@ fn with_checksum(
 }
 
 /// The bytes of an LSA with a good checksum.
-#[tactic(auto, unfolding(crate::specs::Lsas::lsa_octets))]
-pub(crate) fn lsa_octets(alloc: Global, header: Header, body: &[u8]) -> Result<Vec<u8>, AllocError>
-    ensures { IfOk result (λ lsa. lsa.items ≡ lsa_octets header body.now) }
+#[tactic(auto, unfolding(crate::specs::Lsas::lsa_bytes))]
+pub(crate) fn lsa_bytes(alloc: Global, header: Header, body: &[u8]) -> Result<Vec<u8>, AllocError>
+    ensures { IfOk result (λ lsa. lsa.items ≡ lsa_bytes header body.now) }
 {
     let unsigned = with_checksum(alloc, header, [0, 0], body)?;
     let sums = checksum(unsigned.get(2..).unwrap_or(&[]));

@@ -4,7 +4,7 @@ use Rattle.std.specs.Prelude.{All, IsOk, OnOk}
 use Rattle.std.proofs.lemmas.List.{take_at, drop_at}
 use Rattle.std.proofs.lemmas.List.Elements.{All-take, All-drop}
 use Rattle.lsdb.specs.Lists.{Lists, IsDatabase}
-use Rattle.lsdb.specs.Places.{Places, lists_of}
+use Rattle.lsdb.specs.Slots.{Slots, lists_of}
 use Rattle.edit_script.specs.declared.edit.Edit.{Edit}
 use Rattle.edit_script.specs.Spelling.{IsEditInRange}
 use Rattle.edit_history.specs.declared.fault.EditFault.{EditFault}
@@ -20,7 +20,7 @@ leads_to db = Ok db
 
 none_refused : (s : Session) → IsReached s → NoneRefused s
 none_refused s reached =
-    let d : Places = reached.places in
+    let d : Slots = reached.slots in
     let h : HistoryData = reached.history in
     let state = state_is d h reached.links in
     subst NoneRefused reached.shows

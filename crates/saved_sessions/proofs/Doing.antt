@@ -31,7 +31,7 @@ accepted_is : (base : Lists) (done : List Edit) (e : Edit) (r : Result Lists Edi
 accepted_is base done e (Ok db) t h = let same : doing base (done ++ e ∷ []) ≡ t = cc in sym same
 accepted_is base done e (Err f) t h = absurd cc
 
--- an edit that is not refused is done behind the others
+-- an edit that is not refused is done after the others
 pub edited_is : (base : Lists) (done : List Edit) (e : Edit) (t : Session) → edited (doing base done) e ≡ Ok t → t ≡ doing base (done ++ e ∷ [])
 unfolding edited
 edited_is base done e t h =
@@ -72,7 +72,7 @@ pub after_snoc : (db : Lists) (es : List Edit) (e : Edit) → after_edits db (es
 after_snoc db [] e = refl
 after_snoc db (x ∷ es) e = after_snoc (unless_refused db (effect db x)) es e
 
--- an edit that is not refused has an effect, and those behind it are carried out on that
+-- an edit that is not refused has an effect, and those after it are carried out on that
 pub record Leads (db : Lists) (e : Edit) (es : List Edit) : Type 0 where
   pub after : Lists
   pub is : effect db e ≡ Ok after
@@ -85,15 +85,15 @@ leads_by db e es (Err f) is ok = absurd cc
 pub leads : (db : Lists) (e : Edit) (es : List Edit) → IsOk (effects db (e ∷ es)) → Leads db e es
 leads db e es ok = leads_by db e es (effect db e) refl ok
 
-behind : (r : Result Lists EditFault) (f g : Lists → Result Lists EditFault) (mid : Lists) → (r >>= f) ≡ Ok mid
+leads_on : (r : Result Lists EditFault) (f g : Lists → Result Lists EditFault) (mid : Lists) → (r >>= f) ≡ Ok mid
     → ((after : Lists) → f after ≡ Ok mid → IsOk (g after)) → IsOk (r >>= g)
-behind (Ok after) f g mid leads ok = ok after leads
-behind (Err fault) f g mid leads ok = absurd cc
+leads_on (Ok after) f g mid leads ok = ok after leads
+leads_on (Err fault) f g mid leads ok = absurd cc
 
--- edits behind others are carried out on what these lead to
+-- edits after others are carried out on what these lead to
 pub none_refused : (db : Lists) (es fs : List Edit) (mid : Lists) → effects db es ≡ Ok mid → IsOk (effects mid fs) → IsOk (effects db (es ++ fs))
 none_refused db [] fs mid leads ok = subst (λ (d : Lists). IsOk (effects d fs)) (let same : db ≡ mid = cc in sym same) ok
-none_refused db (e ∷ es) fs mid leads ok = behind (effect db e) (λ after. effects after es) (λ after. effects after (es ++ fs)) mid leads
+none_refused db (e ∷ es) fs mid leads ok = leads_on (effect db e) (λ after. effects after es) (λ after. effects after (es ++ fs)) mid leads
     (λ after is. none_refused after es fs mid is ok)
 
 -- ---- the last of them are taken back

@@ -1,10 +1,10 @@
--- Steps of a reading: the fault that is told of one that fails, and the value of one that does not.
+-- Steps of a reading: the fault that is reported of one that fails, and the value of one that does not.
 use Rattle.std.proofs.Common.{◌≡◌, Bool, true, false, cond, Result, Ok, Err, refl, sym, ap, ◌∙◌, inl, inr}
 use Rattle.lsdb.specs.declared.fault.DumpFault.{DumpFault}
 use Rattle.lsdb.specs.Loading.{◌>>=◌, IsFirstFault}
 use Rattle.saved_sessions.specs.declared.fault.ReadError.{ReadError}
 use Rattle.saved_sessions.specs.declared.fault.ReadError.TheVariants as errors
-use Rattle.saved_sessions.specs.steps.Reading.{Fails, told_fault}
+use Rattle.saved_sessions.specs.steps.Reading.{Fails, reported_fault}
 
 -- ---- faults
 
@@ -13,10 +13,10 @@ pub fails_on : {A B : Type 0} (e : ReadError) (r : Result A DumpFault) (f : A �
 fails_on {A} {B} errors.Memory r f fails = tt
 fails_on {A} {B} (errors.Fault d) r f fails = ap (λ (x : Result A DumpFault). x >>= f) fails
 
--- the fault that is told of a failed reading is the first, or want of memory
-pub first_told : {Y : Type 0} (e : ReadError) (fault : DumpFault) (read : Result Y DumpFault) → fault ≡ told_fault e → Fails e read → IsFirstFault fault read
-first_told {Y} errors.Memory fault read is fails = inl is
-first_told {Y} (errors.Fault f) fault read is fails = inr (fails ∙ ap (λ (d : DumpFault). Err d) (sym is))
+-- the fault that is reported of a failed reading is the first, or want of memory
+pub first_reported : {Y : Type 0} (e : ReadError) (fault : DumpFault) (read : Result Y DumpFault) → fault ≡ reported_fault e → Fails e read → IsFirstFault fault read
+first_reported {Y} errors.Memory fault read is fails = inl is
+first_reported {Y} (errors.Fault f) fault read is fails = inr (fails ∙ ap (λ (d : DumpFault). Err d) (sym is))
 
 -- ---- values
 

@@ -15,8 +15,8 @@ use Rattle.saved_sessions.proofs.Failing.{bind_ok, ok_is}
 
 -- what is read as an edit is its line
 abbrev pub LineIsSpelled : Type 0
-LineIsSpelled = (bytes : List ℕ) (edit : Edit) (octets : ℕ) → edit_line bytes ≡ Some (edit, octets)
-    → IsEditInRange edit × (octets ≡ length (line_of edit)) × (bytes ≡ line_of edit ++ drop octets bytes)
+LineIsSpelled = (bytes : List ℕ) (edit : Edit) (byte_count : ℕ) → edit_line bytes ≡ Some (edit, byte_count)
+    → IsEditInRange edit × (byte_count ≡ length (line_of edit)) × (bytes ≡ line_of edit ++ drop byte_count bytes)
 
 -- ---- one line
 
@@ -27,16 +27,16 @@ pub record TakesLine (base : Lists) (done : List Edit) (at : At) (t : Session) (
   pub parts : at.rest ≡ line_of edit ++ after.rest
 
 record Found (at : At) (x : Edit × At) (o : Option (Edit × ℕ)) : Type 0 where
-  pub octets : ℕ
-  pub is : o ≡ Some (x.0, octets)
-  pub after : x.1 ≡ advanced octets at
+  pub byte_count : ℕ
+  pub is : o ≡ Some (x.0, byte_count)
+  pub after : x.1 ≡ advanced byte_count at
 
 found : (line : ℕ) (at : At) (o : Option (Edit × ℕ)) (x : Edit × At) → edit_found line at o ≡ Ok x → Found at x o
 found line at None x h = absurd cc
 found line at (Some e) x h =
     let same : (e.0, advanced e.1 at) ≡ x = ok_is (e.0, advanced e.1 at) x h in
     record {
-      octets = e.1;
+      byte_count = e.1;
       is = ap (λ (p : Edit × At). let o : Option (Edit × ℕ) = Some (p.0, e.1) in o) same;
       after = ap (λ (p : Edit × At). p.1) (sym same);
     }
@@ -54,8 +54,8 @@ line_takes law line base done at t after e =
     let b = bind_ok (edit_done line at (edited s a.0.0)) (λ (next : Session). Ok (next, a.0.1)) (t, after) a.2 in
     let both : (b.0, a.0.1) ≡ (t, after) = ok_is (b.0, a.0.1) (t, after) b.2 in
     let f = found line at (edit_line at.rest) a.0 a.1 in
-    let spelled = law at.rest a.0.0 f.octets f.is in
-    let rest : drop f.octets at.rest ≡ after.rest = ap (λ (p : At). p.rest) (sym f.after) ∙ ap (λ (p : Session × At). p.1.rest) both in
+    let spelled = law at.rest a.0.0 f.byte_count f.is in
+    let rest : drop f.byte_count at.rest ≡ after.rest = ap (λ (p : At). p.rest) (sym f.after) ∙ ap (λ (p : Session × At). p.1.rest) both in
     record {
       edit = a.0.0;
       fits = spelled.0;
@@ -97,19 +97,19 @@ lines_take law (suc n) line base done at t after e =
           ∙ ap (λ (xs : List ℕ). xs ++ after.rest) (sym (flat_map-cons line_of one.edit more.edits));
     }
 
--- a line that is found behind so many octets lies within them all
-pub lies_within : LineIsSpelled → (bytes : List ℕ) (offset : ℕ) (found : Option (Edit × ℕ)) (edit : Edit) (octets : ℕ)
-    → found ≡ edit_line (take (length bytes - offset) (drop offset bytes)) → found ≡ Some (edit, octets) → offset ≤ length bytes
-    → offset + octets ≤ length bytes
-lies_within law bytes offset found edit octets reads is le =
+-- a line that is found after this number of bytes lies within them all
+pub lies_within : LineIsSpelled → (bytes : List ℕ) (offset : ℕ) (found : Option (Edit × ℕ)) (edit : Edit) (byte_count : ℕ)
+    → found ≡ edit_line (take (length bytes - offset) (drop offset bytes)) → found ≡ Some (edit, byte_count) → offset ≤ length bytes
+    → offset + byte_count ≤ length bytes
+lies_within law bytes offset found edit byte_count reads is le =
     let rest : List ℕ = take (length bytes - offset) (drop offset bytes) in
-    let spelled = law rest edit octets (sym reads ∙ is) in
+    let spelled = law rest edit byte_count (sym reads ∙ is) in
     omega (
       arith,
       le,
       spelled.1,
       ap length spelled.2,
-      length-append (line_of edit) (drop octets rest),
+      length-append (line_of edit) (drop byte_count rest),
       length-take (length bytes - offset) (drop offset bytes),
       length-drop offset bytes,
     )

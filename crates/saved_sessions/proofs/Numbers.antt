@@ -29,8 +29,8 @@ IsBytes-take n bytes h i =
 abbrev pub here : ℕ → List ℕ → At
 here offset rest = record { offset = offset; rest = rest }
 
-abbrev pub told : At → DumpFaultKind → DumpFault
-told at kind = record { offset = at.offset; kind = kind }
+abbrev pub fault_at : At → DumpFaultKind → DumpFault
+fault_at at kind = record { offset = at.offset; kind = kind }
 
 -- ---- what is read
 
@@ -43,7 +43,7 @@ number_takes : (at : At) (n : ℕ) (after : At) → IsBytes at.rest → number_a
 number_takes at n after fits e =
     let bytes : List ℕ = at.rest in
     let read : ℕ × At = (from_be_bytes w16 (take 2 bytes), advanced 2 at) in
-    let g = guard_ok (ltb (length bytes) 2) (told at Truncated) (Ok read) (n, after) e in
+    let g = guard_ok (ltb (length bytes) 2) (fault_at at Truncated) (Ok read) (n, after) e in
     let long : 2 ≤ length bytes = ltb-false _ _ g.0 in
     let both = ok_is read (n, after) g.1 in
     let n-is : from_be_bytes w16 (take 2 bytes) ≡ n = ap (λ (p : ℕ × At). p.0) both in
@@ -67,10 +67,10 @@ pub counts_take : (at : At) (d u : ℕ) (after : At) → IsBytes at.rest → cou
 unfolding counts_at
 counts_take at d u after fits e =
     let all : Counts = (d, u, after) in
-    let last = λ (x y : ℕ × At). cond (ltb most_edits (x.0 + y.0)) (Err (told at (BadHistory most_edits))) (Ok (x.0, y.0, y.1)) in
+    let last = λ (x y : ℕ × At). cond (ltb most_edits (x.0 + y.0)) (Err (fault_at at (BadHistory most_edits))) (Ok (x.0, y.0, y.1)) in
     let a = bind_ok (number_at w16 at) (λ (x : ℕ × At). number_at w16 x.1 >>= λ (y : ℕ × At). last x y) all e in
     let b = bind_ok (number_at w16 a.0.1) (λ (y : ℕ × At). last a.0 y) all a.2 in
-    let g = guard_ok (ltb most_edits (a.0.0 + b.0.0)) (told at (BadHistory most_edits)) (Ok (a.0.0, b.0.0, b.0.1)) all b.2 in
+    let g = guard_ok (ltb most_edits (a.0.0 + b.0.0)) (fault_at at (BadHistory most_edits)) (Ok (a.0.0, b.0.0, b.0.1)) all b.2 in
     let same : (a.0.0, b.0.0, b.0.1) ≡ all = ok_is (a.0.0, b.0.0, b.0.1) all g.1 in
     let first = number_takes at a.0.0 a.0.1 fits a.1 in
     let second = number_takes a.0.1 b.0.0 b.0.1 first.rest_fits b.1 in
@@ -87,14 +87,14 @@ number_again : (n o : ℕ) (rest : List ℕ) → n < 2 ^ 16 → number_at w16 (h
 number_again n o rest lt =
     let bytes : List ℕ = to_be_bytes w16 n ++ rest in
     let long : ltb (length bytes) 2 ≡ false = le-ltb _ _ (omega (arith, length-append (to_be_bytes w16 n) rest)) in
-    ap (λ (b : Bool). cond b (Err (told (here o bytes) Truncated)) (number (from_be_bytes w16 (take 2 bytes)) (o + 2) (drop 2 bytes))) long
+    ap (λ (b : Bool). cond b (Err (fault_at (here o bytes) Truncated)) (number (from_be_bytes w16 (take 2 bytes)) (o + 2) (drop 2 bytes))) long
     ∙ ap (λ (xs : List ℕ). number (from_be_bytes w16 xs) (o + 2) (drop 2 bytes)) (take_at (to_be_bytes w16 n) rest 2 refl)
     ∙ ap (λ (xs : List ℕ). number (from_be_bytes w16 (to_be_bytes w16 n)) (o + 2) xs) (drop_at (to_be_bytes w16 n) rest 2 refl)
     ∙ ap (λ (k : ℕ). number k (o + 2) rest) (from_be_bytes-to_be_bytes_2 n lt)
 
 -- the numbers, where they are not too many
 abbrev last : At → ℕ × At → ℕ × At → Result Counts DumpFault
-last at x y = cond (ltb most_edits (x.0 + y.0)) (Err (told at (BadHistory most_edits))) (Ok (x.0, y.0, y.1))
+last at x y = cond (ltb most_edits (x.0 + y.0)) (Err (fault_at at (BadHistory most_edits))) (Ok (x.0, y.0, y.1))
 
 pub counts_again : (d u o : ℕ) (rest : List ℕ) → d + u ≤ most_edits
     → counts_at (here o (to_be_bytes w16 d ++ (to_be_bytes w16 u ++ rest))) ≡ Ok (d, u, here (o + 2 + 2) rest)
@@ -109,4 +109,4 @@ counts_again d u o rest few =
     ap (λ (r : Result (ℕ × At) DumpFault). r >>= λ (x : ℕ × At). number_at w16 x.1 >>= λ (y : ℕ × At). last at x y)
     (number_again d o (to_be_bytes w16 u ++ rest) small)
     ∙ ap (λ (r : Result (ℕ × At) DumpFault). r >>= λ (y : ℕ × At). last at (d, middle) y) (number_again u (o + 2) rest short)
-    ∙ ap (λ (b : Bool). cond b (Err (told at (BadHistory most_edits))) (Ok (d, u, end))) fits
+    ∙ ap (λ (b : Bool). cond b (Err (fault_at at (BadHistory most_edits))) (Ok (d, u, end))) fits

@@ -6,7 +6,7 @@ use Rattle.lsdb.specs.Loading.{◌>>=◌, At, ended, fault, loaded}
 use Rattle.lsdb.specs.BaseLoading.{base_loaded, begins_session}
 use Rattle.edit_script.specs.declared.edit.Edit.{Edit}
 use Rattle.edit_history.specs.Session.{NoneRefused, Session, edited, moved_back, start}
-use Rattle.saved_sessions.specs.Opening.{behind, counts_at, dump_loaded, edit_at, edit_done, history_at, line_at, lines_from, opened, session_loaded}
+use Rattle.saved_sessions.specs.Opening.{position_after, counts_at, dump_loaded, edit_at, edit_done, history_at, line_at, lines_from, opened, session_loaded}
 use Rattle.saved_sessions.proofs.Failing.{bind_ok, ok_is}
 use Rattle.saved_sessions.proofs.LinesTaken.{done_is}
 
@@ -52,9 +52,9 @@ module _ (law : Stays) where
   session_keeps : (bytes : List ℕ) (s : Session) → session_loaded bytes ≡ Ok s → NoneRefused s
   unfolding session_loaded
   session_keeps bytes s e =
-      let a = bind_ok (base_loaded bytes) (λ (x : Lists × ℕ). history_at x.0 (behind x.1 bytes) >>= ended) s e in
-      let b = bind_ok (history_at a.0.0 (behind a.0.1 bytes)) ended s a.2 in
-      subst NoneRefused (ends_as b.0 s (eqb (length b.0.1.rest) 0) b.2) (history_keeps a.0.0 (behind a.0.1 bytes) b.0 b.1)
+      let a = bind_ok (base_loaded bytes) (λ (x : Lists × ℕ). history_at x.0 (position_after x.1 bytes) >>= ended) s e in
+      let b = bind_ok (history_at a.0.0 (position_after a.0.1 bytes)) ended s a.2 in
+      subst NoneRefused (ends_as b.0 s (eqb (length b.0.1.rest) 0) b.2) (history_keeps a.0.0 (position_after a.0.1 bytes) b.0 b.1)
 
   dump_keeps : (bytes : List ℕ) (s : Session) → dump_loaded bytes ≡ Ok s → NoneRefused s
   unfolding dump_loaded

@@ -17,7 +17,7 @@ use Rattle.edit_script.specs.Spelling.{IsEditInRange}
 use Rattle.edit_history.specs.Session.{Session, start, effects, moved_back}
 use Rattle.session_text.specs.Lines.{lines_of, longest_line}
 use Rattle.session_text.specs.Text.{history_text, session_text, IsHistory}
-use Rattle.saved_sessions.specs.Opening.{behind, counts_at, lines_from, history_at, session_loaded, dump_loaded, opened}
+use Rattle.saved_sessions.specs.Opening.{position_after, counts_at, lines_from, history_at, session_loaded, dump_loaded, opened}
 use Rattle.saved_sessions.specs.Saved.{CanBeSaved, saved_text}
 use Rattle.saved_sessions.proofs.Doing.{doing, session_of, none_refused, back_again}
 use Rattle.saved_sessions.proofs.LinesAgain.{LineIsRead, lines_again}
@@ -86,7 +86,7 @@ loaded_again base short law s can =
     let few : length (first ++ rest) ≤ longest_dump + 4 + longest_line * (length s.done + length s.undone) =
     short s.base s.done s.undone can.base (is_history s can) in
     let small : length (first ++ rest) ≤ longest_session = omega (arith, few, can.few) in
-    ap (λ (r : Result (Lists × ℕ) DumpFault). r >>= λ (x : Lists × ℕ). history_at x.0 (behind x.1 (first ++ rest)) >>= ended) (base s.base rest can.base small)
+    ap (λ (r : Result (Lists × ℕ) DumpFault). r >>= λ (x : Lists × ℕ). history_at x.0 (position_after x.1 (first ++ rest)) >>= ended) (base s.base rest can.base small)
     ∙ ap (λ (xs : List ℕ). history_at s.base (here n xs) >>= ended) (drop_at first rest n refl)
     ∙ ap (λ (r : After). r >>= ended) (history_again law s.base s.done s.undone n can)
 

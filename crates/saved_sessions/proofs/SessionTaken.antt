@@ -1,4 +1,4 @@
--- The octets of a session that is opened are its dump.
+-- The bytes of a session that is opened are its dump.
 use Rattle.std.proofs.Common.{◌≡◌, ℕ, ◌+◌, ◌-◌, ◌≤◌, List, [], ◌++◌, length, take, drop, Ok, sym, ap, ◌∙◌, append_assoc, arith}
 use Rattle.std.specs.Int.{w16, to_be_bytes}
 use Rattle.std.proofs.lemmas.List.{append-nil, drop_all, length-take, length-drop, take-append-drop}
@@ -9,7 +9,7 @@ use Rattle.edit_script.specs.declared.edit.Edit.{Edit}
 use Rattle.edit_history.specs.Session.{Session, start, moved_back}
 use Rattle.session_text.specs.Lines.{lines_of}
 use Rattle.session_text.specs.Text.{session_text}
-use Rattle.saved_sessions.specs.Opening.{behind, counts_at, lines_from, history_at}
+use Rattle.saved_sessions.specs.Opening.{position_after, counts_at, lines_from, history_at}
 use Rattle.saved_sessions.specs.Saved.{saved_text}
 use Rattle.saved_sessions.proofs.Doing.{doing}
 use Rattle.saved_sessions.proofs.Failing.{bind_ok, ok_is}
@@ -37,17 +37,17 @@ taken_back db d u es count =
     ∙ ap (λ (xs : List ℕ). base_text db ++ xs) (sym (append_assoc a b (lines_of (done ++ undone))))
     ∙ ap (λ (xs : List Edit). session_text db done xs) (sym (append-nil undone))
 
-pub session_is : LineIsSpelled → (bytes : List ℕ) → IsBytes bytes → (db : Lists) (octets : ℕ) (s : Session) (end : ℕ) → take octets bytes ≡ base_text db
-    → history_at db (behind octets bytes) ≡ Ok (s, behind end bytes) → length bytes ≤ end → bytes ≡ saved_text s
+pub session_is : LineIsSpelled → (bytes : List ℕ) → IsBytes bytes → (db : Lists) (byte_count : ℕ) (s : Session) (end : ℕ) → take byte_count bytes ≡ base_text db
+    → history_at db (position_after byte_count bytes) ≡ Ok (s, position_after end bytes) → length bytes ≤ end → bytes ≡ saved_text s
 unfolding history_at
-session_is law bytes fits db octets s end base e all =
-    let at : At = behind octets bytes in
+session_is law bytes fits db byte_count s end base e all =
+    let at : At = position_after byte_count bytes in
     let a = bind_ok (counts_at at) (λ (x : ℕ × ℕ × At). lines_from (x.0 + x.1) 0 (start db) x.2
-    >>= λ (found : Session × At). Ok (moved_back x.1 found.0, found.1)) (s, behind end bytes) e in
+    >>= λ (found : Session × At). Ok (moved_back x.1 found.0, found.1)) (s, position_after end bytes) e in
     let b = bind_ok (lines_from (a.0.0 + a.0.1) 0 (start db) a.0.2)
-    (λ (found : Session × At). Ok (moved_back a.0.1 found.0, found.1)) (s, behind end bytes) a.2 in
-    let both : (moved_back a.0.1 b.0.0, b.0.1) ≡ (s, behind end bytes) = ok_is (moved_back a.0.1 b.0.0, b.0.1) (s, behind end bytes) b.2 in
-    let counts = counts_take at a.0.0 a.0.1 a.0.2 (IsBytes-drop octets bytes fits) a.1 in
+    (λ (found : Session × At). Ok (moved_back a.0.1 found.0, found.1)) (s, position_after end bytes) a.2 in
+    let both : (moved_back a.0.1 b.0.0, b.0.1) ≡ (s, position_after end bytes) = ok_is (moved_back a.0.1 b.0.0, b.0.1) (s, position_after end bytes) b.2 in
+    let counts = counts_take at a.0.0 a.0.1 a.0.2 (IsBytes-drop byte_count bytes fits) a.1 in
     let lines = lines_take law (a.0.0 + a.0.1) 0 db [] a.0.2 b.0.0 b.0.1 b.1 in
     let d : ℕ = a.0.0 in
     let u : ℕ = a.0.1 in
@@ -55,8 +55,8 @@ session_is law bytes fits db octets s end base e all =
     let none : b.0.1.rest ≡ [] = ap (λ (p : Session × At). p.1.rest) both ∙ drop_all end bytes all in
     let rest : a.0.2.rest ≡ lines_of es = lines.parts ∙ ap (λ (xs : List ℕ). lines_of es ++ xs) none ∙ append-nil (lines_of es) in
     let is : moved_back u (doing db es) ≡ s = ap (moved_back u) (sym lines.session) ∙ ap (λ (p : Session × At). p.0) both in
-    sym (take-append-drop octets bytes)
-    ∙ ap (λ (xs : List ℕ). xs ++ drop octets bytes) base
+    sym (take-append-drop byte_count bytes)
+    ∙ ap (λ (xs : List ℕ). xs ++ drop byte_count bytes) base
     ∙ ap (λ (xs : List ℕ). base_text db ++ xs) counts.parts
     ∙ ap (λ (xs : List ℕ). base_text db ++ (to_be_bytes w16 d ++ (to_be_bytes w16 u ++ xs))) rest
     ∙ taken_back db d u es lines.count

@@ -1,4 +1,4 @@
--- A session is not loaded where its edits are not, and octets behind the edits are its fault.
+-- A session is not loaded where its edits are not, and bytes after the edits are its fault.
 use Rattle.std.proofs.Common.{◌≡◌, ℕ, zero, suc, ◌<◌, false, cond, List, [], ◌∷◌, length, drop, Ok, Err, ap, ◌∙◌, subst, sym, arith}
 use Rattle.std.specs.Prelude.{◌==◌, Result}
 use Rattle.std.proofs.Math.Dec.{eqb-suc-zero}
@@ -9,29 +9,29 @@ use Rattle.lsdb.specs.Loading.{◌>>=◌, At, ended, fault}
 use Rattle.lsdb.specs.BaseLoading.{base_loaded}
 use Rattle.edit_history.specs.Session.{Session}
 use Rattle.saved_sessions.specs.declared.fault.ReadError.{ReadError}
-use Rattle.saved_sessions.specs.Opening.{behind, history_at, session_loaded}
+use Rattle.saved_sessions.specs.Opening.{position_after, history_at, session_loaded}
 use Rattle.saved_sessions.specs.steps.Reading.{Fails}
 use Rattle.saved_sessions.proofs.Failing.{fails_on}
 
-rest_left : (n : ℕ) (octets : List ℕ) → n < length octets → (length (drop n octets) == 0) ≡ false
+rest_left : (n : ℕ) (bytes : List ℕ) → n < length bytes → (length (drop n bytes) == 0) ≡ false
 rest_left zero [] below = absurd (omega arith)
-rest_left zero (octet ∷ octets) below = eqb-suc-zero (length octets)
+rest_left zero (byte ∷ bytes) below = eqb-suc-zero (length bytes)
 rest_left (suc n) [] below = absurd (omega arith)
-rest_left (suc n) (octet ∷ octets) below = rest_left n octets (omega arith)
+rest_left (suc n) (byte ∷ bytes) below = rest_left n bytes (omega arith)
 
 pub trailing : (bytes : List ℕ) (base : Lists × ℕ) (session : Session) (end : ℕ)
-    → base_loaded bytes ≡ Ok base → history_at base.0 (behind base.1 bytes) ≡ Ok (session, behind end bytes) → end < length bytes
+    → base_loaded bytes ≡ Ok base → history_at base.0 (position_after base.1 bytes) ≡ Ok (session, position_after end bytes) → end < length bytes
     → session_loaded bytes ≡ Err (record { offset = end; kind = TrailingBytes })
 unfolding session_loaded
 trailing bytes base session end loaded history more =
-    ap (λ (r : Result (Lists × ℕ) DumpFault). r >>= (λ base. history_at base.0 (behind base.1 bytes) >>= ended)) loaded
+    ap (λ (r : Result (Lists × ℕ) DumpFault). r >>= (λ base. history_at base.0 (position_after base.1 bytes) >>= ended)) loaded
     ∙ ap (λ (r : Result (Session × At) DumpFault). r >>= ended) history
-    ∙ ap (λ b. cond b (Ok session) (fault (behind end bytes) TrailingBytes)) (rest_left end bytes more)
+    ∙ ap (λ b. cond b (Ok session) (fault (position_after end bytes) TrailingBytes)) (rest_left end bytes more)
 
 -- what fails of the edits fails of the session
 pub history_ends : (e : ReadError) (bytes : List ℕ) (base : Lists × ℕ) → base_loaded bytes ≡ Ok base
-    → Fails e (history_at base.0 (behind base.1 bytes)) → Fails e (session_loaded bytes)
+    → Fails e (history_at base.0 (position_after base.1 bytes)) → Fails e (session_loaded bytes)
 unfolding session_loaded
 history_ends e bytes base loaded fails =
-    subst (λ (r : Result (Lists × ℕ) DumpFault). Fails e (r >>= (λ base. history_at base.0 (behind base.1 bytes) >>= ended))) (sym loaded)
-    (fails_on e (history_at base.0 (behind base.1 bytes)) ended fails)
+    subst (λ (r : Result (Lists × ℕ) DumpFault). Fails e (r >>= (λ base. history_at base.0 (position_after base.1 bytes) >>= ended))) (sym loaded)
+    (fails_on e (history_at base.0 (position_after base.1 bytes)) ended fails)

@@ -1,4 +1,4 @@
--- What opening the octets of a saved session answers: the session, or the first fault from front to back.
+-- What opening the bytes of a saved session answers: the session, or the first fault from front to back.
 use Rattle.std.specs.Prelude.{ℕ, zero, suc, ◌+◌, ◌==◌, nat_lt, Bool, List, drop, Option, Some, None, Result, Ok, Err, if◌then◌else◌}
 use Rattle.std.specs.List.{list_any}
 use Rattle.std.specs.Int.{w16}
@@ -13,26 +13,26 @@ use Rattle.edit_history.specs.declared.fault.EditFault.{EditFault}
 use Rattle.edit_history.specs.Session.{Session, start, edited, moved_back, most_edits}
 use Rattle.session_text.specs.Lines.{line_feed, edit_line}
 
--- ---- places
+-- ---- positions
 
--- the place behind so many octets
-abbrev pub behind : ℕ → List ℕ → At
-behind octets bytes = record { offset = octets; rest = drop octets bytes }
+-- the position after this number of bytes
+abbrev pub position_after : ℕ → List ℕ → At
+position_after byte_count bytes = record { offset = byte_count; rest = drop byte_count bytes }
 
 -- ---- one line
 
 abbrev pub has_line_feed : List ℕ → Bool
-has_line_feed octets = list_any (λ b. b == line_feed) octets
+has_line_feed bytes = list_any (λ b. b == line_feed) bytes
 
 -- what is wrong with a line that is no line of an edit: no line feed ends it, or it is not just as an edit is printed
 abbrev pub line_fault : ℕ → List ℕ → DumpFaultKind
-line_fault line octets = if has_line_feed octets then BadHistory line else Truncated
+line_fault line bytes = if has_line_feed bytes then BadHistory line else Truncated
 
 abbrev pub edit_found : ℕ → At → Option (Edit × ℕ) → Result (Edit × At) DumpFault
 edit_found line at None = fault at (line_fault line at.rest)
 edit_found line at (Some found) = Ok (found.0, advanced found.1 at)
 
--- the edit of the line at a place, and the place behind the line
+-- the edit of the line at a position, and the position after the line
 abbrev pub edit_at : ℕ → At → Result (Edit × At) DumpFault
 edit_at line at = edit_found line at (edit_line at.rest)
 
@@ -41,7 +41,7 @@ abbrev pub edit_done : ℕ → At → Result Session EditFault → Result Sessio
 edit_done line at (Ok s) = Ok s
 edit_done line at (Err refusal) = fault at (BadHistory line)
 
--- the session with the edit of one line carried out, and the place behind the line
+-- the session with the edit of one line carried out, and the position after the line
 unfoldable pub line_at : ℕ → Session → At → Result (Session × At) DumpFault
 line_at line s at = do
   found ← edit_at line at
@@ -57,7 +57,7 @@ lines_from (suc n) line s at = do
   next ← line_at line s at
   lines_from n (line + 1) next.0 next.1
 
--- how many edits are done, how many are undone, and the place behind these numbers
+-- how many edits are done, how many are undone, and the position after these numbers
 unfoldable pub counts_at : At → Result (ℕ × ℕ × At) DumpFault
 counts_at at = do
   done ← number_at w16 at
@@ -73,11 +73,11 @@ history_at base at = do
 
 -- ---- the session
 
--- version 2: the base, and behind it the edits
+-- version 2: the base, and after it the edits
 unfoldable pub session_loaded : List ℕ → Result Session DumpFault
 session_loaded bytes = do
   base ← base_loaded bytes
-  found ← history_at base.0 (behind base.1 bytes)
+  found ← history_at base.0 (position_after base.1 bytes)
   ended found
 
 -- version 1: a database, without edits
@@ -86,7 +86,7 @@ dump_loaded bytes = do
   db ← loaded bytes
   Ok (start db)
 
--- the session that octets of either version tell
+-- the session in bytes of either version
 unfoldable pub opened : List ℕ → Result Session DumpFault
 opened bytes = if begins_session bytes then session_loaded bytes else dump_loaded bytes
 

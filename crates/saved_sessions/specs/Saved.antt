@@ -1,4 +1,4 @@
--- Sessions that are saved, and their octets.
+-- Sessions that are saved, and their bytes.
 use Rattle.std.specs.Prelude.{ℕ, ◌+◌, ◌≤◌, List, length, All}
 use Rattle.lsdb.specs.Lists.{IsDatabase}
 use Rattle.edit_script.specs.Spelling.{IsEditInRange}

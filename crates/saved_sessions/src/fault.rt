@@ -2,7 +2,7 @@
 
 ghost use Rattle.std.specs.Prelude.{◌≡◌};
 ghost use Rattle.saved_sessions.specs.declared.fault.ReadError.TheVariants.{Memory};
-ghost use Rattle.saved_sessions.specs.steps.Reading.{told_fault};
+ghost use Rattle.saved_sessions.specs.steps.Reading.{reported_fault};
 
 use lsdb::{DumpFault, DumpFaultKind};
 use std::alloc::AllocError;
@@ -24,7 +24,7 @@ impl From<AllocError> for ReadError {
 
 /// Want of memory is reported at 0.
 impl From<ReadError> for DumpFault {
-    ghost from_gives = { λ error fault. fault ≡ told_fault error };
+    ghost from_gives = { λ error fault. fault ≡ reported_fault error };
 
     fn from(error: ReadError) -> DumpFault {
         match error {

@@ -2,7 +2,7 @@
 
 ghost use Rattle.std.specs.Prelude.{◌≡◌, ◌+◌, ◌≤◌, [], length, IfOk, OnOk};
 ghost use Rattle.edit_history.specs.Session.{start};
-ghost use Rattle.saved_sessions.specs.Opening.{behind, edit_at, has_line_feed, history_at, line_at, line_fault, lines_from};
+ghost use Rattle.saved_sessions.specs.Opening.{position_after, edit_at, has_line_feed, history_at, line_at, line_fault, lines_from};
 ghost use Rattle.saved_sessions.specs.steps.Reading.{Gives};
 
 use crate::fault::{ReadError, fault};
@@ -14,25 +14,25 @@ use recalculate::Planner;
 use session_text::{edit_line, line_laws};
 use std::alloc::Allocator;
 
-/// Whether a line feed is among octets.
-fn has_line_feed(octets: &[u8]) -> bool
-    ensures { result ≡ has_line_feed octets.now }
+/// Whether a line feed is among bytes.
+fn has_line_feed(bytes: &[u8]) -> bool
+    ensures { result ≡ has_line_feed bytes.now }
 {
-    octets.iter().any(|octet| *octet == b'\n')
+    bytes.iter().any(|byte| *byte == b'\n')
 }
 
 /// What is wrong with a line that is no line of an edit.
-fn line_fault(line: u16, octets: &[u8]) -> DumpFaultKind
-    ensures { result ≡ line_fault line octets.now }
+fn line_fault(line: u16, bytes: &[u8]) -> DumpFaultKind
+    ensures { result ≡ line_fault line bytes.now }
 {
-    if has_line_feed(octets) {
+    if has_line_feed(bytes) {
         DumpFaultKind::BadHistory(line)
     } else {
         DumpFaultKind::Truncated
     }
 }
 
-/// The edit of the line at an offset, and the offset behind the line.
+/// The edit of the line at an offset, and the offset after the line.
 fn read_edit<A: Allocator + Copy>(
     alloc: A,
     line: u16,
@@ -40,20 +40,20 @@ fn read_edit<A: Allocator + Copy>(
     offset: usize,
 ) -> Result<(Edit, usize), ReadError>
     requires { offset ≤ length bytes.now }
-    ensures edit { Gives (λ x. (x.0, behind x.1 bytes.now))
-        result (edit_at line (behind offset bytes.now)) }
+    ensures edit { Gives (λ x. (x.0, position_after x.1 bytes.now))
+        result (edit_at line (position_after offset bytes.now)) }
     ensures within { IfOk result (λ x. x.1 ≤ length bytes.now) }
 {
-    // A line that is found lies within the octets.
+    // A line that is found lies within the bytes.
     line_laws();
     let rest = &bytes[offset..];
     match edit_line(alloc, rest)? {
-        Some((edit, octets)) => Ok((edit, offset + octets)),
+        Some((edit, byte_count)) => Ok((edit, offset + byte_count)),
         None => Err(fault(offset, line_fault(line, rest))),
     }
 }
 
-/// Carries out the edit of the line at an offset, and answers the offset behind the line.
+/// Carries out the edit of the line at an offset, and answers the offset after the line.
 #[tactic(auto, using(crate::proofs::Doing::one_more), unfolding(crate::specs::Opening::line_at))]
 fn carry_out_line<A: Allocator + Copy>(
     alloc: A,
@@ -63,8 +63,8 @@ fn carry_out_line<A: Allocator + Copy>(
     offset: usize,
 ) -> Result<usize, ReadError>
     requires { offset ≤ length bytes.now }
-    ensures session { Gives (λ end. (planner.new.session, behind end bytes.now))
-        result (line_at line planner.old.session (behind offset bytes.now)) }
+    ensures session { Gives (λ end. (planner.new.session, position_after end bytes.now))
+        result (line_at line planner.old.session (position_after offset bytes.now)) }
     ensures within { IfOk result (λ end. end ≤ length bytes.now) }
     ensures done { OnOk result
         (length planner.new.session.done ≡ length planner.old.session.done + 1) }
@@ -79,7 +79,7 @@ fn carry_out_line<A: Allocator + Copy>(
     }
 }
 
-/// Carries out the edits of so many lines, in turn, and answers the offset behind them.
+/// Carries out the edits of this number of lines, in turn, and answers the offset after them.
 fn carry_out_lines<A: Allocator + Copy>(
     alloc: A,
     planner: &mut Planner<A>,
@@ -88,8 +88,8 @@ fn carry_out_lines<A: Allocator + Copy>(
     offset: usize,
 ) -> Result<usize, ReadError>
     requires { offset ≤ length bytes.now }
-    ensures session { Gives (λ end. (planner.new.session, behind end bytes.now))
-        result (lines_from count 0 planner.old.session (behind offset bytes.now)) }
+    ensures session { Gives (λ end. (planner.new.session, position_after end bytes.now))
+        result (lines_from count 0 planner.old.session (position_after offset bytes.now)) }
     ensures within { IfOk result (λ end. end ≤ length bytes.now) }
     ensures done { OnOk result
         (length planner.new.session.done ≡ length planner.old.session.done + count) }
@@ -103,8 +103,8 @@ fn carry_out_lines<A: Allocator + Copy>(
     Ok(end)
 }
 
-/// Carries out the edits behind the base, and takes the undone ones back. The planner has no edits
-/// before. The offset behind the edits is answered.
+/// Carries out the edits after the base, and takes the undone ones back. The planner has no edits
+/// before. The offset after the edits is answered.
 #[tactic(auto, unfolding(crate::specs::Opening::history_at))]
 pub(crate) fn read_history<A: Allocator + Copy>(
     alloc: A,
@@ -114,8 +114,8 @@ pub(crate) fn read_history<A: Allocator + Copy>(
 ) -> Result<usize, ReadError>
     requires within { offset ≤ length bytes.now }
     requires start { planner.old.session ≡ start planner.old.session.base }
-    ensures session { Gives (λ end. (planner.new.session, behind end bytes.now))
-        result (history_at planner.old.session.base (behind offset bytes.now)) }
+    ensures session { Gives (λ end. (planner.new.session, position_after end bytes.now))
+        result (history_at planner.old.session.base (position_after offset bytes.now)) }
     ensures within { IfOk result (λ end. end ≤ length bytes.now) }
     ensures runs { planner.new.runs ≡ planner.old.runs }
     ensures kept { planner.old.kept ≡ [] → planner.new.kept ≡ [] }

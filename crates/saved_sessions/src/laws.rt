@@ -12,7 +12,7 @@ use lsdb::{base_laws, text_laws};
 use session_text::{line_laws, session_laws};
 
 /// A session that is saved is opened again as it was, and so is the dump of a database. Different
-/// sessions are saved as different octets.
+/// sessions are saved as different bytes.
 ///
 /// The function does nothing: its contract is the law.
 pub fn sessions_open_again()

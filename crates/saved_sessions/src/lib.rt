@@ -1,5 +1,5 @@
 //! Sessions that outlive the program: a planner's base, its done edits and its undone ones, saved
-//! as octets and opened again.
+//! as bytes and opened again.
 //!
 //! [`save`] writes the dump of a session, version 2, and [`open`] makes the same session of it, or
 //! a session without edits of a dump of version 1. What is opened is what was saved: the base, the

@@ -17,7 +17,7 @@ use std::alloc::Allocator;
 /// What the dump of a session begins with: the magic and the version.
 const SESSION_START: &[u8] = b"OSWP\x02";
 
-/// Whether octets begin as the dump of a session does: with the magic, and version 2.
+/// Whether bytes begin as the dump of a session does: with the magic, and version 2.
 pub fn begins_session(bytes: &[u8]) -> bool
     ensures { result ≡ begins_session bytes.now }
 {
@@ -37,9 +37,9 @@ fn read_session<A: Allocator + Copy>(alloc: A, bytes: &[u8]) -> Result<Planner<A
 {
     // The lines that are read are those of the edits.
     line_laws();
-    let (base, octets) = Database::load_base(alloc, bytes)?;
+    let (base, byte_count) = Database::load_base(alloc, bytes)?;
     let mut planner = Planner::new(alloc, base);
-    let end = read_history(alloc, &mut planner, bytes, octets)?;
+    let end = read_history(alloc, &mut planner, bytes, byte_count)?;
     if end < bytes.len() {
         let kind = DumpFaultKind::TrailingBytes;
         return Err(DumpFault { offset: end, kind });
@@ -63,8 +63,8 @@ fn read_dump<A: Allocator + Copy>(alloc: A, bytes: &[u8]) -> Result<Planner<A>, 
     Ok(Planner::new(alloc, database))
 }
 
-/// The session that was saved as these octets, by [`save`](crate::save), or that begins at the
-/// database whose dump, version 1, the octets are.
+/// The session that was saved as these bytes, by [`save`](crate::save), or that begins at the
+/// database whose dump, version 1, the bytes are.
 ///
 /// Each edit is carried out in turn, first those that are done, and the undone ones are then taken
 /// back. So all limits and refusals of edits hold of a session that is opened.
@@ -72,22 +72,22 @@ fn read_dump<A: Allocator + Copy>(alloc: A, bytes: &[u8]) -> Result<Planner<A>, 
 /// # Errors
 ///
 /// The first fault from front to back. `TooLarge` comes before all others for more than 17,825,792
-/// octets, or 16,777,216 where they do not begin as a session does, and behind the base where this
-/// alone has more octets than a dump may have. `BadHistory` tells the line, counted from 0, that is
+/// bytes, or 16,777,216 where they do not begin as a session does, and after the base where this
+/// alone has more bytes than a dump may have. `BadHistory` gives the line, counted from 0, that is
 /// not just as an edit is printed or whose edit is refused; it is 10,000, at the numbers, where
 /// there are more edits than may be done. `OutOfMemory` may stand in place of any that lies after
 /// the front: the magic, the version, the number of areas, and of the first section its head, its
 /// count and its first LSA.
 #[tactic(auto, unfolding(crate::specs::Opening::opened, crate::specs::Opening::front_opened))]
 pub fn open<A: Allocator + Copy>(alloc: A, bytes: &[u8]) -> Result<Planner<A>, DumpFault>
-    // What is opened is told so.
+    // The bytes are the text of what is opened.
     ensures session { begins_session bytes.now ≡ true
         → IfOk result (λ planner. bytes.now ≡ saved_text planner.session) }
     ensures dump { begins_session bytes.now ≡ false
         → IfOk result (λ planner. (bytes.now ≡ text planner.session.base)
         × (planner.session ≡ start planner.session.base)) }
 
-    // What is told so is opened, unless memory runs out; else the first fault is told.
+    // Each such text is opened, unless memory runs out; else the first fault is reported.
     ensures found { IfOk result (λ planner. opened bytes.now ≡ Ok planner.session) }
     ensures fault { IfErr result (λ fault. IsFirstFault fault (opened bytes.now)) }
 

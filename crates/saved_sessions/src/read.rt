@@ -4,7 +4,7 @@ ghost use Rattle.std.specs.Prelude.{◌≡◌, ◌+◌, ◌≤◌, length, IfOk,
 ghost use Rattle.std.specs.Int.{w16};
 ghost use Rattle.lsdb.specs.Loading.{number_at};
 ghost use Rattle.edit_history.specs.Session.{most_edits};
-ghost use Rattle.saved_sessions.specs.Opening.{behind, counts_at};
+ghost use Rattle.saved_sessions.specs.Opening.{position_after, counts_at};
 ghost use Rattle.saved_sessions.specs.steps.Reading.{Gives};
 
 use crate::fault::{ReadError, fault};
@@ -13,11 +13,11 @@ use lsdb::DumpFaultKind;
 /// The edits that may be done at a time.
 const MOST_EDITS: u16 = 10_000;
 
-/// The number of two octets behind so many.
+/// The number of two bytes after this number of bytes.
 fn read_number(bytes: &[u8], offset: usize) -> Result<u16, ReadError>
     requires { offset ≤ length bytes.now }
-    ensures number { Gives (λ number. (number, behind (offset + 2) bytes.now))
-        result (number_at w16 (behind offset bytes.now)) }
+    ensures number { Gives (λ number. (number, position_after (offset + 2) bytes.now))
+        result (number_at w16 (position_after offset bytes.now)) }
     ensures within { OnOk result (offset + 2 ≤ length bytes.now) }
 {
     let rest = &bytes[offset..];
@@ -27,12 +27,12 @@ fn read_number(bytes: &[u8], offset: usize) -> Result<u16, ReadError>
     Ok(u16::from_be_bytes([rest[0], rest[1]]))
 }
 
-/// How many edits are done and how many are undone, and the offset behind these numbers.
+/// How many edits are done and how many are undone, and the offset after these numbers.
 #[tactic(auto, unfolding(crate::specs::Opening::counts_at))]
 pub(crate) fn read_counts(bytes: &[u8], offset: usize) -> Result<(u16, u16, usize), ReadError>
     requires { offset ≤ length bytes.now }
-    ensures counts { Gives (λ x. (x.0, x.1, behind x.2 bytes.now))
-        result (counts_at (behind offset bytes.now)) }
+    ensures counts { Gives (λ x. (x.0, x.1, position_after x.2 bytes.now))
+        result (counts_at (position_after offset bytes.now)) }
     ensures few { IfOk result (λ x. x.0 + x.1 ≤ most_edits) }
     ensures within { IfOk result (λ x. x.2 ≤ length bytes.now) }
 {

@@ -18,7 +18,7 @@ use std::alloc::{AllocError, Allocator};
 /// [`save`]. With this trait in scope, `Planner::open(alloc, bytes)` and `planner.save()` are
 /// calls.
 pub trait SavedSession<A: Allocator>: Sized {
-    /// The session that was saved as these bytes, as [`open`] tells it.
+    /// The session that was saved as these bytes, as [`open`] returns it.
     ///
     /// # Errors
     ///

@@ -39,8 +39,8 @@ cut bytes end is =
     ]
 
 -- the first line feed after bytes without one
-pub feed_behind : (line rest : List ℕ) → All (λ byte. byte ≢ 10) line → position is_feed (line ++ line_feed ∷ rest) ≡ Some (length line)
-feed_behind line rest lacks =
+pub feed_after : (line rest : List ℕ) → All (λ byte. byte ≢ 10) line → position is_feed (line ++ line_feed ∷ rest) ≡ Some (length line)
+feed_after line rest lacks =
     let bytes : List ℕ = line ++ line_feed ∷ rest in
     let long : length line < length bytes = omega (arith, length-append line (line_feed ∷ rest)) in
     let before : (k : ℕ) → k < length line → is_feed (get_or bytes k 0) ≡ false = λ k lt.
@@ -58,11 +58,11 @@ some edit = Some edit
 abbrev none : Option Edit
 none = None
 
-mapped : (o : Option Edit) (end : ℕ) (edit : Edit) (octets : ℕ) → option_map {U = Edit × ℕ} (λ (x : Edit). (x, end + 1)) o ≡ Some (edit, octets)
-    → (o ≡ Some edit) × (end + 1 ≡ octets)
-mapped None end edit octets h = absurd cc
-mapped (Some x) end edit octets h =
-    let same : (x, end + 1) ≡ (edit, octets) = cc in
+mapped : (o : Option Edit) (end : ℕ) (edit : Edit) (byte_count : ℕ) → option_map {U = Edit × ℕ} (λ (x : Edit). (x, end + 1)) o ≡ Some (edit, byte_count)
+    → (o ≡ Some edit) × (end + 1 ≡ byte_count)
+mapped None end edit byte_count h = absurd cc
+mapped (Some x) end edit byte_count h =
+    let same : (x, end + 1) ≡ (edit, byte_count) = cc in
     (ap (λ (p : Edit × ℕ). Some p.0) same, ap (λ (p : Edit × ℕ). p.1) same)
 
 spelled_is : (line : List ℕ) (x edit : Edit) → if_spelled line x ≡ Some edit → (x ≡ edit) × (line ≡ spelling edit)
@@ -100,14 +100,14 @@ abbrev pub KeepsRange : Type 0
 KeepsRange = (line : List ℕ) (branch : ℕ) (edit : Edit) → meaning line ≡ Ok (branch, command.Edit edit) → IsEditInRange edit
 
 abbrev IsLineRead : List ℕ → Edit → ℕ → Type 0
-IsLineRead bytes edit octets = IsEditInRange edit × (octets ≡ length (line_of edit)) × (bytes ≡ line_of edit ++ drop octets bytes)
+IsLineRead bytes edit byte_count = IsEditInRange edit × (byte_count ≡ length (line_of edit)) × (bytes ≡ line_of edit ++ drop byte_count bytes)
 
-line_read : KeepsRange → (bytes : List ℕ) (o : Option ℕ) (edit : Edit) (octets : ℕ) → position is_feed bytes ≡ o
-    → line_up_to bytes o ≡ Some (edit, octets) → IsLineRead bytes edit octets
-line_read range bytes None edit octets is h = absurd cc
-line_read range bytes (Some end) edit octets is h =
+line_read : KeepsRange → (bytes : List ℕ) (o : Option ℕ) (edit : Edit) (byte_count : ℕ) → position is_feed bytes ≡ o
+    → line_up_to bytes o ≡ Some (edit, byte_count) → IsLineRead bytes edit byte_count
+line_read range bytes None edit byte_count is h = absurd cc
+line_read range bytes (Some end) edit byte_count is h =
     let line : List ℕ = take end bytes in
-    let m = mapped (edit_spelled line) end edit octets h in
+    let m = mapped (edit_spelled line) end edit byte_count h in
     let found = meant line (meaning line) edit m.0 in
     let c = cut bytes end is in
     let size : length (line_of edit) ≡ end + 1 =
@@ -115,10 +115,10 @@ line_read range bytes (Some end) edit octets is h =
     let whole : bytes ≡ line_of edit ++ drop (end + 1) bytes = c.1 ∙ ap (λ (l : List ℕ). (l ++ line_feed ∷ []) ++ drop (end + 1) bytes) found.spells in
     (range line found.branch edit found.means, sym m.1 ∙ sym size, subst (λ (n : ℕ). bytes ≡ line_of edit ++ drop n bytes) m.1 whole)
 
-pub edit_line_is : KeepsRange → (bytes : List ℕ) (edit : Edit) (octets : ℕ) → edit_line bytes ≡ Some (edit, octets)
-    → IsEditInRange edit × (octets ≡ length (line_of edit)) × (bytes ≡ line_of edit ++ drop octets bytes)
+pub edit_line_is : KeepsRange → (bytes : List ℕ) (edit : Edit) (byte_count : ℕ) → edit_line bytes ≡ Some (edit, byte_count)
+    → IsEditInRange edit × (byte_count ≡ length (line_of edit)) × (bytes ≡ line_of edit ++ drop byte_count bytes)
 unfolding edit_line
-edit_line_is range bytes edit octets h = line_read range bytes (position is_feed bytes) edit octets refl h
+edit_line_is range bytes edit byte_count h = line_read range bytes (position is_feed bytes) edit byte_count refl h
 
 -- ---- reading back
 
@@ -138,7 +138,7 @@ edit_line_again back one edit rest range =
     let size : length text + 1 ≡ length (line_of edit) = omega (arith, length-append text (line_feed ∷ [])) in
     let same : bytes_eq text text ≡ true = (bytes_eq-Decides text text).1 refl in
     ap (λ (bytes : List ℕ). line_up_to bytes (position is_feed bytes)) regrouped
-    ∙ ap (λ (o : Option ℕ). line_up_to (text ++ line_feed ∷ rest) o) (feed_behind text rest (one edit range))
+    ∙ ap (λ (o : Option ℕ). line_up_to (text ++ line_feed ∷ rest) o) (feed_after text rest (one edit range))
     ∙ ap (λ (line : List ℕ). option_map {U = Edit × ℕ} (λ (x : Edit). (x, length text + 1)) (edit_spelled line)) front
     ∙ ap (λ (r : Result (ℕ × Command) ScriptFault). option_map {U = Edit × ℕ} (λ (x : Edit). (x, length text + 1)) (edit_meant text r)) (back edit range)
     ∙ ap (λ (b : Bool). option_map {U = Edit × ℕ} (λ (x : Edit). (x, length text + 1)) (cond b (Some edit) None)) same

@@ -23,13 +23,13 @@ abbrev pub LineIsRead : Type 0
 LineIsRead = (edit : Edit) (rest : List ℕ) → IsEditInRange edit → edit_line (line_of edit ++ rest) ≡ Some (edit, length (line_of edit))
 
 abbrev read : Edit → ℕ → Option (Edit × ℕ)
-read edit octets = Some (edit, octets)
+read edit byte_count = Some (edit, byte_count)
 
 same_edit : (x y : Edit) (m n : ℕ) → read x m ≡ read y n → x ≡ y
 same_edit x y m n e = let same : (x, m) ≡ (y, n) = cc in ap (λ (p : Edit × ℕ). p.0) same
 
-some_octets : (edit : Edit) (rest : List ℕ) → [] ≡ line_of edit ++ rest → ⊥
-some_octets edit rest e = let none : 0 ≡ length (line_of edit) + length rest = ap length e ∙ length-append (line_of edit) rest in
+some_bytes : (edit : Edit) (rest : List ℕ) → [] ≡ line_of edit ++ rest → ⊥
+some_bytes edit rest e = let none : 0 ≡ length (line_of edit) + length rest = ap length e ∙ length-append (line_of edit) rest in
     let size : length (line_of edit) ≡ length (spelling edit) + 1 = length-append (spelling edit) (line_feed ∷ []) in
     omega arith
 
@@ -40,8 +40,8 @@ first_same law x y a b p q e =
 
 lines_same : LineIsRead → (xs ys : List Edit) → All IsEditInRange xs → All IsEditInRange ys → lines_of xs ≡ lines_of ys → xs ≡ ys
 lines_same law [] [] p q e = refl
-lines_same law [] (y ∷ ys) p q e = absurd (some_octets y (lines_of ys) (e ∙ flat_map-cons line_of y ys))
-lines_same law (x ∷ xs) [] p q e = absurd (some_octets x (lines_of xs) (sym e ∙ flat_map-cons line_of x xs))
+lines_same law [] (y ∷ ys) p q e = absurd (some_bytes y (lines_of ys) (e ∙ flat_map-cons line_of y ys))
+lines_same law (x ∷ xs) [] p q e = absurd (some_bytes x (lines_of xs) (sym e ∙ flat_map-cons line_of x xs))
 lines_same law (x ∷ xs) (y ∷ ys) p q e =
     let both = first_same law x y (lines_of xs) (lines_of ys) (All-head IsEditInRange x xs p) (All-head IsEditInRange y ys q)
     (sym (flat_map-cons line_of x xs) ∙ e ∙ flat_map-cons line_of y ys) in
@@ -77,7 +77,7 @@ BaseIsRead = (db : Lists) (rest : List ℕ) → IsDatabase db → length (base_t
     → base_loaded (base_text db ++ rest) ≡ Ok (db, length (base_text db))
 
 abbrev loaded : Lists → ℕ → Result (Lists × ℕ) DumpFault
-loaded db octets = Ok (db, octets)
+loaded db byte_count = Ok (db, byte_count)
 
 same_base : (a b : Lists) (m n : ℕ) → loaded a m ≡ loaded b n → a ≡ b
 same_base a b m n e = let same : (a, m) ≡ (b, n) = cc in ap (λ (p : Lists × ℕ). p.0) same

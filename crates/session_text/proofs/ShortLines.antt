@@ -28,8 +28,8 @@ use Rattle.session_text.specs.Text.{history_text, session_text, IsHistory}
 number : (k n : ℕ) → 0 < k → n < 10 ^ k → n < 2 ^ 64 → length (decimal n) ≤ k
 number k n some below wide = length-decimal-le k n some below wide
 
-octet : (n : ℕ) → n < 256 → length (decimal n) ≤ 3
-octet n below = number 3 n (omega arith) (omega arith) (omega arith)
+byte : (n : ℕ) → n < 256 → length (decimal n) ≤ 3
+byte n below = number 3 n (omega arith) (omega arith) (omega arith)
 
 dotted : (a b c d : List ℕ) → length a ≤ 3 → length b ≤ 3 → length c ≤ 3 → length d ≤ 3
     → length (join_with_byte 46 (a ∷ b ∷ c ∷ d ∷ [])) ≤ 15
@@ -40,7 +40,7 @@ dotted a b c d p q r s =
     omega arith
 
 address : (n : ℕ) → length (address_text n) ≤ 15
-address n = dotted _ _ _ _ (octet _ (omega arith)) (octet _ (omega arith)) (octet _ (omega arith)) (octet _ (omega arith))
+address n = dotted _ _ _ _ (byte _ (omega arith)) (byte _ (omega arith)) (byte _ (omega arith)) (byte _ (omega arith))
 
 prefix : (net : Net) → IsPrefix net → length (prefix_text net) ≤ 18
 prefix net h =
@@ -67,25 +67,25 @@ joined word [] = let one : length word + 1 ≡ length word + 1 + 0 = omega arith
 joined word (next ∷ words) =
     let rest : List ℕ = join_with_byte 32 (next ∷ words) in
     let outer : length (word ++ 32 ∷ rest) ≡ length word + length (32 ∷ rest) = length-append word (32 ∷ rest) in
-    let behind = joined next words in
-    let all : length (word ++ 32 ∷ rest) + 1 ≡ length word + 1 + room (next ∷ words) = omega (arith, outer, behind) in
+    let after = joined next words in
+    let all : length (word ++ 32 ∷ rest) + 1 ≡ length word + 1 + room (next ∷ words) = omega (arith, outer, after) in
     all
 
-few_octets : (edit : Edit) → IsEditInRange edit → room (edit_words edit) ≤ 86
-few_octets (Cost area router link metric) h =
+few_bytes : (edit : Edit) → IsEditInRange edit → room (edit_words edit) ≤ 86
+few_bytes (Cost area router link metric) h =
     omega (arith, address area.0, address router.0, number 5 link (omega arith) (omega arith) (omega arith), number 5 metric (omega arith) (omega arith) (omega arith))
-few_octets (DropLink area router link) h =
+few_bytes (DropLink area router link) h =
     omega (arith, address area.0, address router.0, number 5 link (omega arith) (omega arith) (omega arith))
-few_octets (FailLink area router neighbor) h = omega (arith, address area.0, address router.0, address neighbor.0)
-few_octets (FailNet area network) h = omega (arith, address area.0, address network.0)
-few_octets (FailRouter router) h = omega (arith, address router.0)
-few_octets (AddStub area router net metric) h =
+few_bytes (FailLink area router neighbor) h = omega (arith, address area.0, address router.0, address neighbor.0)
+few_bytes (FailNet area network) h = omega (arith, address area.0, address network.0)
+few_bytes (FailRouter router) h = omega (arith, address router.0)
+few_bytes (AddStub area router net metric) h =
     omega (arith, address area.0, address router.0, prefix net h.2, number 5 metric (omega arith) (omega arith) (omega arith))
-few_octets (Summary area router net metric) h =
+few_bytes (Summary area router net metric) h =
     omega (arith, address area.0, address router.0, prefix net h.2, number 8 metric (omega arith) (omega arith) (omega arith))
-few_octets (AddSummary area router net metric) h =
+few_bytes (AddSummary area router net metric) h =
     omega (arith, address area.0, address router.0, prefix net h.2, number 8 metric (omega arith) (omega arith) (omega arith))
-few_octets (AddExternal router net t metric forward tag) h =
+few_bytes (AddExternal router net t metric forward tag) h =
     omega (
       arith,
       address router.0,
@@ -95,8 +95,8 @@ few_octets (AddExternal router net t metric forward tag) h =
       address forward.0,
       number 10 tag (omega arith) (omega arith) (omega arith),
     )
-few_octets (DropExternal router net) h = omega (arith, address router.0, prefix net h.1)
-few_octets Refresh h = omega arith
+few_bytes (DropExternal router net) h = omega (arith, address router.0, prefix net h.1)
+few_bytes Refresh h = omega arith
 
 as_joined : (words : List Word) → 0 < length words → length (join_with_byte 32 words) + 1 ≡ room words
 as_joined [] some = absurd (omega arith)
@@ -118,7 +118,7 @@ some_words Refresh = omega arith
 pub short_line : (edit : Edit) → IsEditInRange edit → length (line_of edit) ≤ longest_line
 short_line edit h =
     let size : length (line_of edit) ≡ length (spelling edit) + 1 = length-append (spelling edit) (line_feed ∷ []) in
-    omega (arith, size, as_joined (edit_words edit) (some_words edit), few_octets edit h)
+    omega (arith, size, as_joined (edit_words edit) (some_words edit), few_bytes edit h)
 
 short_lines : (edits : List Edit) → All IsEditInRange edits → length (lines_of edits) ≤ longest_line * length edits
 short_lines [] h = omega arith
@@ -134,7 +134,7 @@ short_lines (edit ∷ edits) h =
 pub short_session : (base : Lists) (done undone : List Edit) → length (base_text base) ≡ size base → IsDatabase base → IsHistory done undone
     → length (session_text base done undone) ≤ longest_dump + 4 + longest_line * (length done + length undone)
 unfolding session_text
-short_session base done undone octets good fine =
+short_session base done undone byte_count good fine =
     let numbers : List ℕ = to_be_bytes w16 (length done) ++ to_be_bytes w16 (length undone) in
     let lines = short_lines (done ++ undone) (All-append IsEditInRange done undone fine.done_fit fine.undone_fit) in
     let count = length-append done undone in

@@ -18,10 +18,10 @@ use lsdb::base_laws;
 pub fn line_laws()
     ensures again { (edit : Edit) (rest : List ℕ) → IsEditInRange edit
         → edit_line (line_of edit ++ rest) ≡ Some (edit, length (line_of edit)) }
-    ensures spelled { (bytes : List ℕ) (edit : Edit) (octets : ℕ)
-        → edit_line bytes ≡ Some (edit, octets)
-        → IsEditInRange edit × (octets ≡ length (line_of edit))
-        × (bytes ≡ line_of edit ++ drop octets bytes) }
+    ensures spelled { (bytes : List ℕ) (edit : Edit) (byte_count : ℕ)
+        → edit_line bytes ≡ Some (edit, byte_count)
+        → IsEditInRange edit × (byte_count ≡ length (line_of edit))
+        × (bytes ≡ line_of edit ++ drop byte_count bytes) }
     ensures short { (edit : Edit) → IsEditInRange edit
         → length (line_of edit) ≤ longest_line }
 {

@@ -2,7 +2,7 @@ pub mod Split
 pub mod Digits
 pub mod Names
 pub mod Values
-pub mod ObjectsTold
+pub mod ParsedObjects
 pub mod Quotes
 pub mod Printed
 pub mod Rows

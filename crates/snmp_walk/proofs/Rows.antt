@@ -31,14 +31,14 @@ eq_true Less h = cc
 eq_true Equal h = refl
 eq_true Greater h = cc
 
-pub left_over : (columns octets : List Row) (these others : BTreeSet Row) (rows : List Row) → IsFromIterResult row_cmp columns these
-    → IsFromIterResult row_cmp octets others → rows ≡ filter (λ row. not (contains row_cmp others row)) these.keys → AreMissing columns octets rows
-left_over columns octets these others rows h k e = record {
+pub left_over : (columns bytes : List Row) (these others : BTreeSet Row) (rows : List Row) → IsFromIterResult row_cmp columns these
+    → IsFromIterResult row_cmp bytes others → rows ≡ filter (λ row. not (contains row_cmp others row)) these.keys → AreMissing columns bytes rows
+left_over columns bytes these others rows h k e = record {
   which = λ row.
       ap (has row) e
       ∙ any-filter_same (eq_by_cmp row_cmp row) (λ r. not (contains row_cmp others r)) (not (contains row_cmp others row))
       (λ r same. ap (λ (x : Row). not (contains row_cmp others x)) (sym (row_exact row r (eq_true (row_cmp row r) same)))) these.keys
       ∙ ap (λ b. not b && has row these.keys) (k.0 row)
-      ∙ ap (λ b. not (has row octets) && b) (h.0 row);
+      ∙ ap (λ b. not (has row bytes) && b) (h.0 row);
   order = subst (λ l. IsStrictlySortedBy row_cmp l) (sym e) (IsStrictlySortedBy-filter row_cmp (λ row. not (contains row_cmp others row)) these.keys h.1);
 }

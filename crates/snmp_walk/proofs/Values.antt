@@ -7,11 +7,11 @@ use Rattle.snmp_walk.specs.Objects.{ends_value, value_in}
 ended : (text : List ℕ) → ends_value text ≡ true → value_in text ≡ []
 unfolding value_in
 ended [] h = refl
-ended (octet ∷ text) h = rw h refl
+ended (byte ∷ text) h = rw h refl
 
-goes_on : (octet : ℕ) (text : List ℕ) → ends_value (octet ∷ text) ≡ false → value_in (octet ∷ text) ≡ octet ∷ value_in text
+goes_on : (byte : ℕ) (text : List ℕ) → ends_value (byte ∷ text) ≡ false → value_in (byte ∷ text) ≡ byte ∷ value_in text
 unfolding value_in
-goes_on octet text h = rw h refl
+goes_on byte text h = rw h refl
 
 value_nil : value_in [] ≡ []
 unfolding value_in

@@ -4,7 +4,7 @@ pub mod Names
 pub mod Subjects
 pub mod Values
 pub mod Printing
-pub mod ObjectsTold
+pub mod ParsedObjects
 pub mod Sorting
 pub mod Missing
 pub mod steps

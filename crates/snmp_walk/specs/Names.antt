@@ -1,7 +1,7 @@
 -- The names of objects, as lists of numbers (X.660): their arcs. In place of numbers, names may have words of the MIB.
 use Rattle.std.specs.Prelude.{ℕ, ◌+◌, ◌-◌, ◌*◌, ◌==◌, ◌&&◌, nat_lt, nat_le, Bool, List, [], ◌∷◌, ◌++◌, length, codes, bytes_eq, Option, Some, None, is_some, if◌then◌else◌}
 use Rattle.std.specs.Str.{all_ascii_digits}
-use Rattle.snmp_walk.specs.Text.{behind}
+use Rattle.snmp_walk.specs.Text.{after}
 
 infixl 10 ◌>>=◌
 abbrev pub ◌>>=◌ : {A B : Type 0} → Option A → (A → Option B) → Option B
@@ -41,9 +41,9 @@ abbrev pub arc_of : List ℕ → Option ℕ
 arc_of word = if is_some (number_of word) then number_of word else type_named word
 
 -- the arcs that these words spell, after those that were spelled before
-unfoldable pub arcs_behind : List ℕ → List (List ℕ) → Option (List ℕ)
-arcs_behind arcs [] = Some arcs
-arcs_behind arcs (word ∷ words) = arc_of word >>= (λ arc. arcs_behind (arcs ++ arc ∷ []) words)
+unfoldable pub arcs_after : List ℕ → List (List ℕ) → Option (List ℕ)
+arcs_after arcs [] = Some arcs
+arcs_after arcs (word ∷ words) = arc_of word >>= (λ arc. arcs_after (arcs ++ arc ∷ []) words)
 
 -- what the columns of the tables of LSAs are called after the name of the table, by their numbers in the tables that
 -- are not of areas; those of ospfLsdbTable have one more, since ospfLsdbAreaId is the first
@@ -69,16 +69,16 @@ in_as_table None = (0, 0)
 in_as_table (Some column) = in_table 19 0 (column_named column)
 
 abbrev pub in_external_table : List ℕ → Option (List ℕ) → ℕ × ℕ
-in_external_table word None = in_as_table (behind (codes "ospfAsLsdb") word)
+in_external_table word None = in_as_table (after (codes "ospfAsLsdb") word)
 in_external_table word (Some column) = in_table 12 0 (column_named column)
 
 abbrev pub in_area_table : List ℕ → Option (List ℕ) → ℕ × ℕ
-in_area_table word None = in_external_table word (behind (codes "ospfExtLsdb") word)
+in_area_table word None = in_external_table word (after (codes "ospfExtLsdb") word)
 in_area_table word (Some column) = in_table 4 1 (column_named column)
 
 -- the table and the column that a word of the OSPF-MIB names
 unfoldable pub object_named : List ℕ → ℕ × ℕ
-object_named word = if bytes_eq word (codes "ospfImportAsExtern") then (2, 3) else in_area_table word (behind (codes "ospfLsdb") word)
+object_named word = if bytes_eq word (codes "ospfImportAsExtern") then (2, 3) else in_area_table word (after (codes "ospfLsdb") word)
 
 -- OSPF in MIB-2
 abbrev pub ospf : List ℕ
@@ -95,4 +95,4 @@ head_of word =
     if bytes_eq word [] then Some []
     else if bytes_eq word (codes "iso") then Some (1 ∷ [])
     else if bytes_eq word (codes "SNMPv2-SMI::mib-2") then Some (1 ∷ 3 ∷ 6 ∷ 1 ∷ 2 ∷ 1 ∷ [])
-    else named_head (behind (codes "OSPF-MIB::") word)
+    else named_head (after (codes "OSPF-MIB::") word)

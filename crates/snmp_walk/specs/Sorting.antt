@@ -1,44 +1,44 @@
 -- What a walk contains, sorted by kind.
 use Rattle.std.specs.Prelude.{Bool, true, false, Option, Some, None}
-use Rattle.lsa_instances.specs.declared.sighting.Sighting.{Sighting}
-use Rattle.snmp_walk.specs.declared.hole.Hole.{Hole}
-use Rattle.snmp_walk.specs.declared.hole.Hole.TheVariants as holes
-use Rattle.lsa_instances.specs.declared.area.ToldArea.{ToldArea}
-use Rattle.snmp_walk.specs.declared.object_told.ObjectTold.{ObjectTold}
-use Rattle.snmp_walk.specs.declared.object_told.ObjectTold.TheVariants as tells
+use Rattle.lsa_instances.specs.declared.observation.Observation.{Observation}
+use Rattle.snmp_walk.specs.declared.finding.WalkFinding.{WalkFinding}
+use Rattle.snmp_walk.specs.declared.finding.WalkFinding.TheVariants as findings
+use Rattle.lsa_instances.specs.declared.area.AreaReport.{AreaReport}
+use Rattle.snmp_walk.specs.declared.parsed_object.ParsedObject.{ParsedObject}
+use Rattle.snmp_walk.specs.declared.parsed_object.ParsedObject.TheVariants as contents
 
 module _ {A : Type 0} where
-  abbrev pub sighting_of : ObjectTold A → Option (Sighting A)
-  sighting_of (tells.Lsa row sighting) = Some sighting
-  sighting_of (tells.Kind area) = None
-  sighting_of (tells.Hole hole) = None
-  sighting_of (tells.Row row) = None
-  sighting_of tells.Nothing = None
-  sighting_of tells.Foreign = None
+  abbrev pub observation_of : ParsedObject A → Option (Observation A)
+  observation_of (contents.Lsa row observation) = Some observation
+  observation_of (contents.Kind area) = None
+  observation_of (contents.Finding finding) = None
+  observation_of (contents.Row row) = None
+  observation_of contents.Nothing = None
+  observation_of contents.Foreign = None
 
-  abbrev pub kind_of : ObjectTold A → Option ToldArea
-  kind_of (tells.Lsa row sighting) = None
-  kind_of (tells.Kind area) = Some area
-  kind_of (tells.Hole hole) = None
-  kind_of (tells.Row row) = None
-  kind_of tells.Nothing = None
-  kind_of tells.Foreign = None
+  abbrev pub kind_of : ParsedObject A → Option AreaReport
+  kind_of (contents.Lsa row observation) = None
+  kind_of (contents.Kind area) = Some area
+  kind_of (contents.Finding finding) = None
+  kind_of (contents.Row row) = None
+  kind_of contents.Nothing = None
+  kind_of contents.Foreign = None
 
-  abbrev pub hole_of : ObjectTold A → Option Hole
-  hole_of (tells.Lsa row sighting) = None
-  hole_of (tells.Kind area) = None
-  hole_of (tells.Hole hole) = Some hole
-  hole_of (tells.Row row) = None
-  hole_of tells.Nothing = None
-  hole_of tells.Foreign = None
+  abbrev pub finding_of : ParsedObject A → Option WalkFinding
+  finding_of (contents.Lsa row observation) = None
+  finding_of (contents.Kind area) = None
+  finding_of (contents.Finding finding) = Some finding
+  finding_of (contents.Row row) = None
+  finding_of contents.Nothing = None
+  finding_of contents.Foreign = None
 
   -- whether it belongs to the OSPF-MIB; a name that cannot be read does not count
-  abbrev pub is_of_mib : ObjectTold A → Bool
-  is_of_mib (tells.Lsa row sighting) = true
-  is_of_mib (tells.Kind area) = true
-  is_of_mib (tells.Hole (holes.Row row fault)) = true
-  is_of_mib (tells.Hole (holes.Kind area)) = true
-  is_of_mib (tells.Hole holes.Name) = false
-  is_of_mib (tells.Row row) = true
-  is_of_mib tells.Nothing = true
-  is_of_mib tells.Foreign = false
+  abbrev pub is_of_mib : ParsedObject A → Bool
+  is_of_mib (contents.Lsa row observation) = true
+  is_of_mib (contents.Kind area) = true
+  is_of_mib (contents.Finding (findings.Row row fault)) = true
+  is_of_mib (contents.Finding (findings.Kind area)) = true
+  is_of_mib (contents.Finding findings.Name) = false
+  is_of_mib (contents.Row row) = true
+  is_of_mib contents.Nothing = true
+  is_of_mib contents.Foreign = false

@@ -6,21 +6,21 @@ use Rattle.lsa_codec.specs.declared.address.AreaId.{AreaId}
 use Rattle.lsa_codec.specs.declared.key.Key.{Key}
 use Rattle.snmp_walk.specs.declared.row.Row.{Row}
 use Rattle.snmp_walk.specs.declared.subject.Subject.{Subject}
-use Rattle.snmp_walk.specs.declared.subject.Subject.TheVariants.{Kind, Octets, Column, Other, Unreadable, Foreign}
-use Rattle.snmp_walk.specs.Text.{is_dot, behind}
-use Rattle.snmp_walk.specs.Names.{◌>>=◌, ospf, head_of, arcs_behind}
+use Rattle.snmp_walk.specs.declared.subject.Subject.TheVariants.{Kind, Bytes, Column, Other, Unreadable, Foreign}
+use Rattle.snmp_walk.specs.Text.{is_dot, after}
+use Rattle.snmp_walk.specs.Names.{◌>>=◌, ospf, head_of, arcs_after}
 
 -- an arc that is one byte
-abbrev pub octet_of : ℕ → Option ℕ
-octet_of arc = if nat_lt arc 256 then Some arc else None
+abbrev pub byte_of : ℕ → Option ℕ
+byte_of arc = if nat_lt arc 256 then Some arc else None
 
 -- four arcs, the bytes of an address, the highest first
 unfoldable pub address_of : List ℕ → Option ℕ
 address_of (a ∷ b ∷ c ∷ d ∷ []) = do
-  first ← octet_of a
-  second ← octet_of b
-  third ← octet_of c
-  fourth ← octet_of d
+  first ← byte_of a
+  second ← byte_of b
+  third ← byte_of c
+  fourth ← byte_of d
   Some (from_be_bytes w32 (first ∷ second ∷ third ∷ fourth ∷ []))
 address_of _ = None
 
@@ -28,7 +28,7 @@ address_of _ = None
 unfoldable pub key_in : List ℕ → Option Key
 key_in [] = None
 key_in (arc ∷ names) = do
-  kind ← octet_of arc
+  kind ← byte_of arc
   id ← address_of (take 4 names)
   adv ← address_of (drop 4 names)
   Some (record { kind = kind; id = record { 0 = id }; adv = record { 0 = adv } })
@@ -52,8 +52,8 @@ kind_subject (Some area) = Kind (record { 0 = area })
 
 -- the column with this number has the bytes of the LSA
 abbrev pub row_subject : ℕ → ℕ → Option Row → Subject
-row_subject octets column None = Unreadable
-row_subject octets column (Some row) = if column == octets then Octets row else Column row
+row_subject bytes column None = Unreadable
+row_subject bytes column (Some row) = if column == bytes then Bytes row else Column row
 
 -- ospfAreaTable is 2, with ospfImportAsExtern 3; ospfLsdbTable 4, with ospfLsdbAdvertisement 8; ospfExtLsdbTable 12 and
 -- ospfAsLsdbTable 19, with ospfExtLsdbAdvertisement and ospfAsLsdbAdvertisement 7
@@ -77,11 +77,11 @@ inside (Some arcs) = inner_subject arcs
 
 abbrev pub arcs_subject : Option (List ℕ) → Subject
 arcs_subject None = Unreadable
-arcs_subject (Some arcs) = inside (behind ospf arcs)
+arcs_subject (Some arcs) = inside (after ospf arcs)
 
 abbrev pub words_subject : Option (List ℕ) → List (List ℕ) → Subject
 words_subject None words = Foreign
-words_subject (Some arcs) words = arcs_subject (arcs_behind arcs words)
+words_subject (Some arcs) words = arcs_subject (arcs_after arcs words)
 
 abbrev pub cut_subject : List ℕ → Option ℕ → Subject
 cut_subject name None = Foreign

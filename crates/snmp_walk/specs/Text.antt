@@ -8,19 +8,19 @@ line_feed = 0x0a
 
 -- a space, a tab, a line feed or a carriage return
 abbrev pub is_blank : ℕ → Bool
-is_blank octet = octet == 0x20 || octet == 0x09 || octet == line_feed || octet == 0x0d
+is_blank byte = byte == 0x20 || byte == 0x09 || byte == line_feed || byte == 0x0d
 
 abbrev pub is_dot : ℕ → Bool
-is_dot octet = octet == 0x2e
+is_dot byte = byte == 0x2e
 
 -- what follows the front, where the text begins with it
-abbrev pub behind : List ℕ → List ℕ → Option (List ℕ)
-behind front text = if bytes_eq (take (length front) text) front then Some (drop (length front) text) else None
+abbrev pub after : List ℕ → List ℕ → Option (List ℕ)
+after front text = if bytes_eq (take (length front) text) front then Some (drop (length front) text) else None
 
 -- what stands before the first blank: perhaps nothing, perhaps all
 abbrev pub first_word : List ℕ → List ℕ
 first_word text = take (position_or_len is_blank text) text
 
 -- the first blank, and what follows it
-abbrev pub behind_word : List ℕ → List ℕ
-behind_word text = drop (position_or_len is_blank text) text
+abbrev pub after_word : List ℕ → List ℕ
+after_word text = drop (position_or_len is_blank text) text

@@ -5,12 +5,12 @@ use Rattle.hex.specs.Hex.{decode_of}
 use Rattle.hex.specs.declared.error.FromHexError.{FromHexError}
 use Rattle.lsa_instances.specs.declared.area.AreaKind.{AreaKind}
 use Rattle.lsa_instances.specs.declared.area.AreaKind.TheVariants.{Ordinary, Stub, Nssa}
-use Rattle.snmp_walk.specs.Text.{is_blank, behind, first_word}
+use Rattle.snmp_walk.specs.Text.{is_blank, after, first_word}
 use Rattle.snmp_walk.specs.Names.{◌>>=◌}
 
 -- printed in place of a value where the agent has no more objects, after the last name once more
 abbrev pub is_end_of_view : List ℕ → Bool
-is_end_of_view value = is_some (behind (codes "No more variables left in this MIB View") value)
+is_end_of_view value = is_some (after (codes "No more variables left in this MIB View") value)
 
 abbrev pub ok : {A E : Type 0} → Result A E → Option A
 ok (Ok x) = Some x
@@ -18,7 +18,7 @@ ok (Err e) = None
 
 -- two hexadecimal digits for each byte; blanks do not count
 abbrev pub pairs_of : List ℕ → Option (List ℕ)
-pairs_of text = ok (decode_of (filter (λ octet. not (is_blank octet)) text))
+pairs_of text = ok (decode_of (filter (λ byte. not (is_blank byte)) text))
 
 abbrev pub else_some : {A : Type 0} → Option A → A → A
 else_some (Some x) other = x
@@ -26,25 +26,25 @@ else_some None other = other
 
 -- bytes between quotes (0x22), after those that were read before. A byte after a backslash (0x5c) stands for itself;
 -- only blanks follow the closing quote
-unfoldable pub quoted_behind : List ℕ → Bool → List ℕ → Option (List ℕ)
-quoted_behind octets escaped [] = None
-quoted_behind octets true (octet ∷ text) = quoted_behind (octets ++ octet ∷ []) false text
-quoted_behind octets false (octet ∷ text) =
-    if octet == 0x22 then (if list_all is_blank text then Some octets else None)
-    else if octet == 0x5c then quoted_behind octets true text
-    else quoted_behind (octets ++ octet ∷ []) false text
+unfoldable pub quoted_after : List ℕ → Bool → List ℕ → Option (List ℕ)
+quoted_after bytes escaped [] = None
+quoted_after bytes true (byte ∷ text) = quoted_after (bytes ++ byte ∷ []) false text
+quoted_after bytes false (byte ∷ text) =
+    if byte == 0x22 then (if list_all is_blank text then Some bytes else None)
+    else if byte == 0x5c then quoted_after bytes true text
+    else quoted_after (bytes ++ byte ∷ []) false text
 
 -- printable bytes between quotes; no bytes at all are printed as the quotes alone
 unfoldable pub string_in : List ℕ → Option (List ℕ)
-string_in value = behind (0x22 ∷ []) (else_some (behind (codes "STRING: ") value) value) >>= quoted_behind [] false
+string_in value = after (0x22 ∷ []) (else_some (after (codes "STRING: ") value) value) >>= quoted_after [] false
 
-abbrev pub octets_behind : List ℕ → Option (List ℕ) → Option (List ℕ)
-octets_behind value None = string_in value
-octets_behind value (Some text) = pairs_of text
+abbrev pub bytes_after : List ℕ → Option (List ℕ) → Option (List ℕ)
+bytes_after value None = string_in value
+bytes_after value (Some text) = pairs_of text
 
 -- the bytes of a value: in hexadecimal, or, where all are printable, perhaps as a string
-abbrev pub octets_in : List ℕ → Option (List ℕ)
-octets_in value = octets_behind value (behind (codes "Hex-STRING:") value)
+abbrev pub bytes_in : List ℕ → Option (List ℕ)
+bytes_in value = bytes_after value (after (codes "Hex-STRING:") value)
 
 -- ospfImportAsExtern (RFC 4750), with a MIB and without
 abbrev pub kind_named : List ℕ → Option AreaKind
@@ -58,4 +58,4 @@ kind_named word =
     else None
 
 unfoldable pub kind_in : List ℕ → Option AreaKind
-kind_in value = behind (codes "INTEGER: ") value >>= (λ text. kind_named (first_word text))
+kind_in value = after (codes "INTEGER: ") value >>= (λ text. kind_named (first_word text))

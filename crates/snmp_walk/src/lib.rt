@@ -5,12 +5,12 @@
 #![tactic(auto)]
 
 mod fault;
-mod hole;
+mod finding;
 mod laws;
 mod missing;
 mod name;
 mod object;
-mod object_told;
+mod parsed_object;
 mod row;
 mod subject;
 mod text;
@@ -18,7 +18,7 @@ mod value;
 mod walk;
 
 pub use fault::WalkFault;
-pub use hole::{Hole, RowFault};
-pub use laws::printed_octets_are_read;
+pub use finding::{RowFault, WalkFinding};
+pub use laws::printed_bytes_are_read;
 pub use row::Row;
 pub use walk::{Walk, read_walk};

@@ -3,31 +3,31 @@
 ghost use Rattle.std.specs.Prelude.{◌≡◌, ◌++◌, IfOk, OnOk, not, map, filter};
 ghost use Rattle.std.specs.BTreeSet.{IsFromIterResult, IsOrdered, contains};
 ghost use Rattle.std.specs.List.{filter_map};
-ghost use Rattle.snmp_walk.specs.Missing.{row_cmp, column_row, octets_row, missing_row, AreMissing};
+ghost use Rattle.snmp_walk.specs.Missing.{row_cmp, column_row, bytes_row, missing_row, AreMissing};
 
-use crate::hole::{Hole, RowFault};
-use crate::object_told::ObjectTold;
+use crate::finding::{RowFault, WalkFinding};
+use crate::parsed_object::ParsedObject;
 use crate::row::Row;
 use std::alloc::{AllocError, Allocator};
 use std::collections::BTreeSet;
 
 /// The row of a column other than the bytes.
-fn column_row<A: Allocator + Copy>(told: &ObjectTold<A>) -> Option<Row>
-    ensures { result ≡ column_row told.now }
+fn column_row<A: Allocator + Copy>(parsed: &ParsedObject<A>) -> Option<Row>
+    ensures { result ≡ column_row parsed.now }
 {
-    match told {
-        ObjectTold::Row(row) => Some(*row),
+    match parsed {
+        ParsedObject::Row(row) => Some(*row),
         _ => None,
     }
 }
 
 /// The row whose bytes are there, whether they are an LSA or not.
-fn octets_row<A: Allocator + Copy>(told: &ObjectTold<A>) -> Option<Row>
-    ensures { result ≡ octets_row told.now }
+fn bytes_row<A: Allocator + Copy>(parsed: &ParsedObject<A>) -> Option<Row>
+    ensures { result ≡ bytes_row parsed.now }
 {
-    match told {
-        ObjectTold::Lsa(row, _) => Some(*row),
-        ObjectTold::Hole(Hole::Row(row, _)) => Some(*row),
+    match parsed {
+        ParsedObject::Lsa(row, _) => Some(*row),
+        ParsedObject::Finding(WalkFinding::Row(row, _)) => Some(*row),
         _ => None,
     }
 }
@@ -35,24 +35,28 @@ fn octets_row<A: Allocator + Copy>(told: &ObjectTold<A>) -> Option<Row>
 /// The rows that have other columns.
 fn columns_of<A: Allocator + Copy>(
     alloc: A,
-    told: &[ObjectTold<A>],
+    parsed: &[ParsedObject<A>],
 ) -> Result<BTreeSet<Row, A>, AllocError>
-    ensures { IfOk result (λ rows. IsFromIterResult row_cmp (filter_map column_row told.now) rows) }
+    ensures { IfOk result
+        (λ rows. IsFromIterResult row_cmp (filter_map column_row parsed.now) rows) }
 {
-    told.iter()
+    parsed
+        .iter()
         .filter_map(|object| column_row(object))
         .collect(alloc)
 }
 
 /// The rows whose bytes are there.
-fn octets_of<A: Allocator + Copy>(
+fn bytes_of<A: Allocator + Copy>(
     alloc: A,
-    told: &[ObjectTold<A>],
+    parsed: &[ParsedObject<A>],
 ) -> Result<BTreeSet<Row, A>, AllocError>
-    ensures { IfOk result (λ rows. IsFromIterResult row_cmp (filter_map octets_row told.now) rows) }
+    ensures { IfOk result
+        (λ rows. IsFromIterResult row_cmp (filter_map bytes_row parsed.now) rows) }
 {
-    told.iter()
-        .filter_map(|object| octets_row(object))
+    parsed
+        .iter()
+        .filter_map(|object| bytes_row(object))
         .collect(alloc)
 }
 
@@ -74,26 +78,26 @@ fn without<A: Allocator + Copy>(
 /// The rows that have other columns and no bytes, each once, in order.
 pub(crate) fn rows_missing<A: Allocator + Copy>(
     alloc: A,
-    told: &[ObjectTold<A>],
+    parsed: &[ParsedObject<A>],
 ) -> Result<Vec<Row, A>, AllocError>
     ensures { IfOk result (λ rows. AreMissing
-        (filter_map column_row told.now)
-        (filter_map octets_row told.now) rows.items) }
+        (filter_map column_row parsed.now)
+        (filter_map bytes_row parsed.now) rows.items) }
 {
-    let columns = columns_of(alloc, told)?;
-    let octets = octets_of(alloc, told)?;
-    without(alloc, &columns, &octets)
+    let columns = columns_of(alloc, parsed)?;
+    let bytes = bytes_of(alloc, parsed)?;
+    without(alloc, &columns, &bytes)
 }
 
 /// Adds the rows to the findings.
 pub(crate) fn add_missing<A: Allocator + Copy>(
-    holes: &mut Vec<Hole, A>,
+    findings: &mut Vec<WalkFinding, A>,
     rows: &[Row],
 ) -> Result<(), AllocError>
-    ensures { OnOk result (holes.new.items ≡ holes.old.items ++ map missing_row rows.now) }
+    ensures { OnOk result (findings.new.items ≡ findings.old.items ++ map missing_row rows.now) }
 {
     for row in rows {
-        holes.push(Hole::Row(*row, RowFault::Missing))?;
+        findings.push(WalkFinding::Row(*row, RowFault::Missing))?;
     }
     Ok(())
 }

@@ -3,7 +3,7 @@
 ghost use Rattle.std.specs.Prelude.{◌≡◌, ◌<◌, ◌≤◌, IfOk, IfSome, option_map, MatchOption, [], ◌∷◌, length};
 ghost use Rattle.std.specs.List.{slice_split};
 ghost use Rattle.snmp_walk.specs.Text.{is_dot};
-ghost use Rattle.snmp_walk.specs.Names.{within, number_of, type_named, arc_of, arcs_behind, column_named, in_table, object_named, head_of};
+ghost use Rattle.snmp_walk.specs.Names.{within, number_of, type_named, arc_of, arcs_after, column_named, in_table, object_named, head_of};
 
 use crate::text::first_dot;
 use std::alloc::{AllocError, Allocator};
@@ -92,12 +92,12 @@ fn cut_at_dot(text: &[u8]) -> Option<(&[u8], &[u8])>
 
 /// The arcs that the words between dots spell, after those that were spelled before.
 #[tactic(auto, using(crate::proofs::Names::arc_read, crate::proofs::Names::last_read, crate::proofs::Names::unread))]
-pub(crate) fn arcs_behind<A: Allocator + Copy>(
+pub(crate) fn arcs_after<A: Allocator + Copy>(
     front: Vec<u32, A>,
     words: &[u8],
 ) -> Result<Option<Vec<u32, A>>, AllocError>
     ensures { IfOk result (λ arcs. option_map (λ v. v.items) arcs
-        ≡ arcs_behind front.items (slice_split is_dot words.now)) }
+        ≡ arcs_after front.items (slice_split is_dot words.now)) }
 {
     let mut arcs = front;
     let mut rest = words;

@@ -1,7 +1,7 @@
 //! The objects of a walk.
 
 ghost use Rattle.std.specs.Prelude.{◌≡◌, ◌≤◌, length, take, option_map, Some, None};
-ghost use Rattle.snmp_walk.specs.Text.{behind};
+ghost use Rattle.snmp_walk.specs.Text.{after};
 ghost use Rattle.snmp_walk.specs.Objects.{assigned, begins_object, ends_value, value_in, object_at};
 
 use crate::text::word_len;

@@ -1,9 +1,9 @@
 //! What the objects of the OSPF-MIB are about (RFC 4750).
 
 ghost use Rattle.std.specs.Prelude.{◌≡◌, IfOk};
-ghost use Rattle.snmp_walk.specs.Subjects.{octet_of, address_of, key_in, as_row, area_row, kind_subject, row_subject, entry_subject, inner_subject, subject_of};
+ghost use Rattle.snmp_walk.specs.Subjects.{byte_of, address_of, key_in, as_row, area_row, kind_subject, row_subject, entry_subject, inner_subject, subject_of};
 
-use crate::name::{arcs_behind, head_of};
+use crate::name::{arcs_after, head_of};
 use crate::row::Row;
 use crate::text::first_dot;
 use lsa_codec::{Addr, AreaId, Key, RouterId};
@@ -15,7 +15,7 @@ pub(crate) enum Subject {
     /// The kind of this area: `ospfImportAsExtern`.
     Kind(AreaId),
     /// The bytes of this row's LSA.
-    Octets(Row),
+    Bytes(Row),
     /// Another column of this row.
     Column(Row),
     /// Another object of the MIB.
@@ -27,8 +27,8 @@ pub(crate) enum Subject {
 }
 
 /// The byte that an arc is, where it is below 256.
-fn octet_of(arc: u32) -> Option<u8>
-    ensures { result ≡ octet_of arc }
+fn byte_of(arc: u32) -> Option<u8>
+    ensures { result ≡ byte_of arc }
 {
     if arc < 256 { Some(arc as u8) } else { None }
 }
@@ -41,10 +41,10 @@ fn address_of(arcs: &[u32]) -> Option<u32>
     let [first, second, third, fourth] = arcs else {
         return None;
     };
-    let first = octet_of(*first)?;
-    let second = octet_of(*second)?;
-    let third = octet_of(*third)?;
-    let fourth = octet_of(*fourth)?;
+    let first = byte_of(*first)?;
+    let second = byte_of(*second)?;
+    let third = byte_of(*third)?;
+    let fourth = byte_of(*fourth)?;
     Some(u32::from_be_bytes([first, second, third, fourth]))
 }
 
@@ -56,7 +56,7 @@ fn key_in(index: &[u32]) -> Option<Key>
     let [arc, names @ ..] = index else {
         return None;
     };
-    let kind = octet_of(*arc)?;
+    let kind = byte_of(*arc)?;
     let (id, adv) = names.split_at(names.len().min(4));
     let id = Addr(address_of(id)?);
     let adv = RouterId(address_of(adv)?);
@@ -87,14 +87,14 @@ fn area_row(index: &[u32]) -> Option<Row>
 }
 
 /// The subject of a row's object: the column with this number has the bytes.
-fn row_subject(octets: u32, column: u32, row: Option<Row>) -> Subject
-    ensures { result ≡ row_subject octets column row }
+fn row_subject(bytes: u32, column: u32, row: Option<Row>) -> Subject
+    ensures { result ≡ row_subject bytes column row }
 {
     match row {
         None => Subject::Unreadable,
         Some(row) => {
-            if column == octets {
-                Subject::Octets(row)
+            if column == bytes {
+                Subject::Bytes(row)
             } else {
                 Subject::Column(row)
             }
@@ -155,7 +155,7 @@ pub(crate) fn subject_of<A: Allocator + Copy>(alloc: A, name: &[u8]) -> Result<S
     let Some(front) = head_of(alloc, &name[..end])? else {
         return Ok(Subject::Foreign);
     };
-    let Some(arcs) = arcs_behind(front, &name[end + 1..])? else {
+    let Some(arcs) = arcs_after(front, &name[end + 1..])? else {
         return Ok(Subject::Unreadable);
     };
     match arcs.as_slice().strip_prefix(OSPF) {

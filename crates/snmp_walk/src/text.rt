@@ -5,17 +5,17 @@ ghost use Rattle.std.specs.List.{position_or_len};
 ghost use Rattle.snmp_walk.specs.Text.{is_blank, is_dot};
 
 /// Whether a byte is a space, a tab, a line feed or a carriage return.
-pub(crate) fn is_blank(octet: u8) -> bool
-    ensures { result ≡ is_blank octet }
+pub(crate) fn is_blank(byte: u8) -> bool
+    ensures { result ≡ is_blank byte }
 {
-    matches!(octet, b' ' | b'\t' | b'\n' | b'\r')
+    matches!(byte, b' ' | b'\t' | b'\n' | b'\r')
 }
 
 /// The index of the first blank.
 fn first_blank(text: &[u8]) -> Option<usize>
     ensures { result ≡ position is_blank text.now }
 {
-    text.iter().position(|octet| is_blank(*octet))
+    text.iter().position(|byte| is_blank(*byte))
 }
 
 /// The number of bytes before the first blank.
@@ -34,5 +34,5 @@ pub(crate) fn word_len(text: &[u8]) -> usize
 pub(crate) fn first_dot(text: &[u8]) -> Option<usize>
     ensures { result ≡ position is_dot text.now }
 {
-    text.iter().position(|octet| *octet == b'.')
+    text.iter().position(|byte| *byte == b'.')
 }

@@ -3,7 +3,7 @@
 ghost use Rattle.std.specs.Prelude.{◌≡◌, IfOk, option_map, not, filter, false, []};
 ghost use Rattle.std.specs.List.{list_all};
 ghost use Rattle.snmp_walk.specs.Text.{is_blank, first_word};
-ghost use Rattle.snmp_walk.specs.Values.{is_end_of_view, pairs_of, quoted_behind, string_in, octets_in, kind_named, kind_in};
+ghost use Rattle.snmp_walk.specs.Values.{is_end_of_view, pairs_of, quoted_after, string_in, bytes_in, kind_named, kind_in};
 
 use crate::text::{is_blank, word_len};
 use hex::FromHexError;
@@ -22,21 +22,21 @@ pub(crate) fn is_end_of_view(value: &[u8]) -> bool
 /// The bytes that are not blank.
 fn without_blanks<A: Allocator + Copy>(alloc: A, text: &[u8]) -> Result<Vec<u8, A>, AllocError>
     ensures { IfOk result (λ digits. digits.items
-        ≡ filter (λ octet. not (is_blank octet)) text.now) }
+        ≡ filter (λ byte. not (is_blank byte)) text.now) }
 {
     text.iter()
         .copied()
-        .filter(|octet| !is_blank(*octet))
+        .filter(|byte| !is_blank(*byte))
         .collect(alloc)
 }
 
 /// Bytes of two hexadecimal digits each; blanks do not count.
 fn pairs_of<A: Allocator + Copy>(alloc: A, text: &[u8]) -> Result<Option<Vec<u8, A>>, AllocError>
-    ensures { IfOk result (λ octets. option_map (λ v. v.items) octets ≡ pairs_of text.now) }
+    ensures { IfOk result (λ bytes. option_map (λ v. v.items) bytes ≡ pairs_of text.now) }
 {
     let digits = without_blanks(alloc, text)?;
     match hex::decode(alloc, digits) {
-        Ok(octets) => Ok(Some(octets)),
+        Ok(bytes) => Ok(Some(bytes)),
         Err(FromHexError::OutOfMemory) => Err(AllocError),
         Err(_) => Ok(None),
     }
@@ -46,29 +46,29 @@ fn pairs_of<A: Allocator + Copy>(alloc: A, text: &[u8]) -> Result<Option<Vec<u8,
 fn are_blanks(text: &[u8]) -> bool
     ensures { result ≡ list_all is_blank text.now }
 {
-    text.iter().all(|octet| is_blank(*octet))
+    text.iter().all(|byte| is_blank(*byte))
 }
 
 /// The bytes up to the closing quote, where only blanks follow it.
 fn quoted<A: Allocator + Copy>(alloc: A, text: &[u8]) -> Result<Option<Vec<u8, A>>, AllocError>
-    ensures { IfOk result (λ octets. option_map (λ v. v.items) octets
-        ≡ quoted_behind [] false text.now) }
+    ensures { IfOk result (λ bytes. option_map (λ v. v.items) bytes
+        ≡ quoted_after [] false text.now) }
 {
-    let mut octets = Vec::new(alloc);
+    let mut bytes = Vec::new(alloc);
     let mut escaped = false;
-    for (index, octet) in text.iter().enumerate() {
+    for (index, byte) in text.iter().enumerate() {
         if escaped {
-            octets.push(*octet)?;
+            bytes.push(*byte)?;
             escaped = false;
-        } else if *octet == b'"' {
+        } else if *byte == b'"' {
             if are_blanks(&text[index + 1..]) {
-                return Ok(Some(octets));
+                return Ok(Some(bytes));
             }
             return Ok(None);
-        } else if *octet == b'\\' {
+        } else if *byte == b'\\' {
             escaped = true;
         } else {
-            octets.push(*octet)?;
+            bytes.push(*byte)?;
         }
     }
     Ok(None)
@@ -77,7 +77,7 @@ fn quoted<A: Allocator + Copy>(alloc: A, text: &[u8]) -> Result<Option<Vec<u8, A
 /// Printable bytes between quotes. No bytes at all are printed as the quotes alone.
 #[tactic(auto, unfolding(crate::specs::Values::string_in))]
 fn string_in<A: Allocator + Copy>(alloc: A, value: &[u8]) -> Result<Option<Vec<u8, A>>, AllocError>
-    ensures { IfOk result (λ octets. option_map (λ v. v.items) octets ≡ string_in value.now) }
+    ensures { IfOk result (λ bytes. option_map (λ v. v.items) bytes ≡ string_in value.now) }
 {
     let text = value.strip_prefix(b"STRING: ".as_slice()).unwrap_or(value);
     match text.strip_prefix(b"\"".as_slice()) {
@@ -87,11 +87,11 @@ fn string_in<A: Allocator + Copy>(alloc: A, value: &[u8]) -> Result<Option<Vec<u
 }
 
 /// The bytes of a value: in hexadecimal, or, where all are printable, perhaps as a string.
-pub(crate) fn octets_in<A: Allocator + Copy>(
+pub(crate) fn bytes_in<A: Allocator + Copy>(
     alloc: A,
     value: &[u8],
 ) -> Result<Option<Vec<u8, A>>, AllocError>
-    ensures { IfOk result (λ octets. option_map (λ v. v.items) octets ≡ octets_in value.now) }
+    ensures { IfOk result (λ bytes. option_map (λ v. v.items) bytes ≡ bytes_in value.now) }
 {
     match value.strip_prefix(b"Hex-STRING:".as_slice()) {
         Some(text) => pairs_of(alloc, text),

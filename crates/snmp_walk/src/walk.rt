@@ -3,109 +3,113 @@
 ghost use Rattle.std.specs.Prelude.{◌≡◌, IfOk, IfErr, ◌⊎◌, true, false};
 ghost use Rattle.std.specs.List.{filter_map, list_any};
 ghost use Rattle.snmp_walk.specs.declared.fault.WalkFault.TheVariants as faults;
-ghost use Rattle.snmp_walk.specs.Missing.{AreHoles};
-ghost use Rattle.snmp_walk.specs.ObjectsTold.{told_in};
-ghost use Rattle.snmp_walk.specs.Sorting.{sighting_of, kind_of, hole_of, is_of_mib};
+ghost use Rattle.snmp_walk.specs.Missing.{AreFindings};
+ghost use Rattle.snmp_walk.specs.ParsedObjects.{parsed_in};
+ghost use Rattle.snmp_walk.specs.Sorting.{observation_of, kind_of, finding_of, is_of_mib};
 
 use crate::fault::WalkFault;
-use crate::hole::Hole;
+use crate::finding::WalkFinding;
 use crate::missing::{add_missing, rows_missing};
-use crate::object_told::{ObjectTold, tellings};
-use lsa_instances::{Sighting, ToldArea};
+use crate::parsed_object::{ParsedObject, parse_all};
+use lsa_instances::{AreaReport, Observation};
 use std::alloc::{AllocError, Allocator, Global};
 
 /// What a walk contains, in the order of the walk.
 #[derive(Debug, Drop)]
 pub struct Walk<A: Allocator = Global> {
     /// The LSAs, byte for byte; a walk has no time stamps.
-    pub sightings: Vec<Sighting<A>, A>,
+    pub observations: Vec<Observation<A>, A>,
     /// The kinds of areas.
-    pub kinds: Vec<ToldArea, A>,
+    pub kinds: Vec<AreaReport, A>,
     /// What is missing, or cannot be used.
-    pub holes: Vec<Hole, A>,
+    pub findings: Vec<WalkFinding, A>,
 }
 
 /// The LSA that an object contains.
-fn sighting_of<A: Allocator + Copy>(told: ObjectTold<A>) -> Option<Sighting<A>>
-    ensures { result ≡ sighting_of told }
+fn observation_of<A: Allocator + Copy>(parsed: ParsedObject<A>) -> Option<Observation<A>>
+    ensures { result ≡ observation_of parsed }
 {
-    match told {
-        ObjectTold::Lsa(_, sighting) => Some(sighting),
+    match parsed {
+        ParsedObject::Lsa(_, observation) => Some(observation),
         _ => None,
     }
 }
 
 /// The kind of an area that an object contains.
-fn kind_of<A: Allocator + Copy>(told: &ObjectTold<A>) -> Option<ToldArea>
-    ensures { result ≡ kind_of told.now }
+fn kind_of<A: Allocator + Copy>(parsed: &ParsedObject<A>) -> Option<AreaReport>
+    ensures { result ≡ kind_of parsed.now }
 {
-    match told {
-        ObjectTold::Kind(area) => Some(*area),
+    match parsed {
+        ParsedObject::Kind(area) => Some(*area),
         _ => None,
     }
 }
 
 /// The finding that an object causes.
-fn hole_of<A: Allocator + Copy>(told: &ObjectTold<A>) -> Option<Hole>
-    ensures { result ≡ hole_of told.now }
+fn finding_of<A: Allocator + Copy>(parsed: &ParsedObject<A>) -> Option<WalkFinding>
+    ensures { result ≡ finding_of parsed.now }
 {
-    match told {
-        ObjectTold::Hole(hole) => Some(*hole),
+    match parsed {
+        ParsedObject::Finding(finding) => Some(*finding),
         _ => None,
     }
 }
 
 /// Whether it belongs to the OSPF-MIB. A name that cannot be read does not count.
-fn is_of_mib<A: Allocator + Copy>(told: &ObjectTold<A>) -> bool
-    ensures { result ≡ is_of_mib told.now }
+fn is_of_mib<A: Allocator + Copy>(parsed: &ParsedObject<A>) -> bool
+    ensures { result ≡ is_of_mib parsed.now }
 {
-    match told {
-        ObjectTold::Foreign => false,
-        ObjectTold::Hole(Hole::Name) => false,
+    match parsed {
+        ParsedObject::Foreign => false,
+        ParsedObject::Finding(WalkFinding::Name) => false,
         _ => true,
     }
 }
 
 /// Whether an object of the OSPF-MIB is among them.
-fn is_walk<A: Allocator + Copy>(told: &[ObjectTold<A>]) -> bool
-    ensures { result ≡ list_any is_of_mib told.now }
+fn is_walk<A: Allocator + Copy>(parsed: &[ParsedObject<A>]) -> bool
+    ensures { result ≡ list_any is_of_mib parsed.now }
 {
-    told.iter().any(|object| is_of_mib(object))
+    parsed.iter().any(|object| is_of_mib(object))
 }
 
 /// The kinds of areas.
 fn kinds_of<A: Allocator + Copy>(
     alloc: A,
-    told: &[ObjectTold<A>],
-) -> Result<Vec<ToldArea, A>, AllocError>
-    ensures { IfOk result (λ kinds. kinds.items ≡ filter_map kind_of told.now) }
+    parsed: &[ParsedObject<A>],
+) -> Result<Vec<AreaReport, A>, AllocError>
+    ensures { IfOk result (λ kinds. kinds.items ≡ filter_map kind_of parsed.now) }
 {
-    told.iter()
+    parsed
+        .iter()
         .filter_map(|object| kind_of(object))
         .collect(alloc)
 }
 
 /// The findings that objects cause.
-fn holes_of<A: Allocator + Copy>(
+fn findings_of<A: Allocator + Copy>(
     alloc: A,
-    told: &[ObjectTold<A>],
-) -> Result<Vec<Hole, A>, AllocError>
-    ensures { IfOk result (λ holes. holes.items ≡ filter_map hole_of told.now) }
+    parsed: &[ParsedObject<A>],
+) -> Result<Vec<WalkFinding, A>, AllocError>
+    ensures { IfOk result (λ findings. findings.items ≡ filter_map finding_of parsed.now) }
 {
-    told.iter()
-        .filter_map(|object| hole_of(object))
+    parsed
+        .iter()
+        .filter_map(|object| finding_of(object))
         .collect(alloc)
 }
 
 /// The LSAs.
-fn sightings_of<A: Allocator + Copy>(
+fn observations_of<A: Allocator + Copy>(
     alloc: A,
-    told: Vec<ObjectTold<A>, A>,
-) -> Result<Vec<Sighting<A>, A>, AllocError>
-    ensures { IfOk result (λ sightings. sightings.items ≡ filter_map sighting_of told.items) }
+    parsed: Vec<ParsedObject<A>, A>,
+) -> Result<Vec<Observation<A>, A>, AllocError>
+    ensures { IfOk result (λ observations. observations.items
+        ≡ filter_map observation_of parsed.items) }
 {
-    told.into_iter()
-        .filter_map(|object| sighting_of(object))
+    parsed
+        .into_iter()
+        .filter_map(|object| observation_of(object))
         .collect(alloc)
 }
 
@@ -115,27 +119,29 @@ fn sightings_of<A: Allocator + Copy>(
 ///
 /// The text has no object of the OSPF-MIB, or memory ran out.
 pub fn read_walk<A: Allocator + Copy>(alloc: A, text: &[u8]) -> Result<Walk<A>, WalkFault>
-    ensures sightings { IfOk result (λ walk. walk.sightings.items
-        ≡ filter_map sighting_of (told_in text.now)) }
+    ensures observations { IfOk result (λ walk. walk.observations.items
+        ≡ filter_map observation_of (parsed_in text.now)) }
     ensures kinds { IfOk result (λ walk. walk.kinds.items
-        ≡ filter_map (kind_of {A = A}) (told_in text.now)) }
-    ensures holes { IfOk result (λ walk. AreHoles {A = A} (told_in text.now) walk.holes.items) }
-    ensures walk { IfOk result (λ walk. list_any (is_of_mib {A = A}) (told_in text.now) ≡ true) }
+        ≡ filter_map (kind_of {A = A}) (parsed_in text.now)) }
+    ensures findings { IfOk result
+        (λ walk. AreFindings {A = A} (parsed_in text.now) walk.findings.items) }
+    ensures walk { IfOk result (λ walk. list_any (is_of_mib {A = A}) (parsed_in text.now) ≡ true) }
     ensures fault { IfErr result (λ fault. (fault ≡ faults.OutOfMemory)
-        ⊎ ((fault ≡ faults.NotAWalk) × (list_any (is_of_mib {A = A}) (told_in text.now) ≡ false))) }
+        ⊎ ((fault ≡ faults.NotAWalk)
+        × (list_any (is_of_mib {A = A}) (parsed_in text.now) ≡ false))) }
 {
-    let told = tellings(alloc, text)?;
-    if !is_walk(&told) {
+    let parsed = parse_all(alloc, text)?;
+    if !is_walk(&parsed) {
         return Err(WalkFault::NotAWalk);
     }
-    let kinds = kinds_of(alloc, &told)?;
-    let mut holes = holes_of(alloc, &told)?;
-    let missing = rows_missing(alloc, &told)?;
-    add_missing(&mut holes, &missing)?;
-    let sightings = sightings_of(alloc, told)?;
+    let kinds = kinds_of(alloc, &parsed)?;
+    let mut findings = findings_of(alloc, &parsed)?;
+    let missing = rows_missing(alloc, &parsed)?;
+    add_missing(&mut findings, &missing)?;
+    let observations = observations_of(alloc, parsed)?;
     Ok(Walk {
-        sightings,
+        observations,
         kinds,
-        holes,
+        findings,
     })
 }

@@ -9,7 +9,7 @@ use Rattle.area_graph.specs.declared.edge.Edge.{Edge}
 use Rattle.area_graph.specs.Topology.{Topology, row_at}
 use Rattle.spf.specs.declared.queue.Candidate.{Candidate}
 use Rattle.spf.specs.Candidates.{candidate_at}
-use Rattle.spf.specs.steps.Search.{IsQueued, PushesEdge, PushesNeighbours}
+use Rattle.spf.specs.steps.Search.{IsQueued, PushesEdge, PushesNeighbors}
 use Rattle.spf.proofs.Closing.{arc_from}
 
 -- what is in a list is its head or in its tail
@@ -89,9 +89,9 @@ module _ (t : Topology) (distance : ℕ) (ds : List (Option ℕ)) where
         (⊎_elim (λ settled. PushesRow-skip settled) (λ queued. PushesRow-beaten queued) same.1)) h
 
   -- the whole row of a vertex
-  pub PushesNeighbours-row : (from : ℕ) (old new : List Candidate)
-      → PushesRow t distance ds (row_at t from) old new → PushesNeighbours t from distance ds old new
-  PushesNeighbours-row from old new p = record {
+  pub PushesNeighbors-row : (from : ℕ) (old new : List Candidate)
+      → PushesRow t distance ds (row_at t from) old new → PushesNeighbors t from distance ds old new
+  PushesNeighbors-row from old new p = record {
     kept = p.kept;
     only = λ c h. ⊎_elim (λ there. inl there) (λ q. inr (arc_from from q.0, q.1, refl, q.2)) (p.only c h);
     all = λ e arc is.

@@ -23,7 +23,7 @@ at_set ds i j d x h e =
     (λ other. inr (other, sym (get_or-set_other ds j i (Some d) None other) ∙ e))
     (cases_eq i j)
 
--- one more is reached, or as many
+-- one more is reached, or the same number
 pub reached_count-set : (ds : List (Option ℕ)) (j d : ℕ) → j < length ds
     → reached_count (set ds j (Some d)) + cond (is_some (get_or ds j None)) 1 0 ≡ reached_count ds + 1
 reached_count-set ds j d h = sum_by-set (λ (o : Option ℕ). cond (is_some o) 1 0) ds j (Some d) None h

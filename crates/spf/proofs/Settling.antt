@@ -12,21 +12,21 @@ use Rattle.area_graph.proofs.PathLemmas.{HasPathOfCost-push}
 use Rattle.spf.specs.declared.queue.Candidate.{Candidate}
 use Rattle.spf.specs.steps.Relaxation.{Bounded, reached_count}
 use Rattle.spf.specs.Candidates.{candidate_cmp, candidate_at}
-use Rattle.spf.specs.steps.Search.{PushesNeighbours}
+use Rattle.spf.specs.steps.Search.{PushesNeighbors}
 use Rattle.spf.proofs.Keys.{key, key_at, key-le, arc_key}
 use Rattle.spf.proofs.Reached.{at_set, reached_count-set}
 use Rattle.spf.proofs.Searching.{IsCandidate, Searching}
 use Rattle.spf.proofs.Taking.{in_queue, next_in_queue}
 
 -- the first candidate of the queue leads to a vertex that isn't settled; it is taken, and the
--- neighbours of that vertex are pushed
+-- neighbors of that vertex are pushed
 pub record Settles (t : Topology) (root : ℕ) (ds : List (Option ℕ)) (order : List ℕ) (queue rest pushed : List Candidate) (next : Candidate) : Type 0 where
   pub shape : IsTopology t
   pub before : Searching t root ds order queue
   pub taken : IsPermutation queue (next ∷ rest)
   pub first : All (λ (o : Candidate). is_lt (candidate_cmp o next) ≡ false) rest
   pub fresh : get_or ds next.index None ≡ None
-  pub pushes : PushesNeighbours t next.index next.distance (set ds next.index (Some next.distance)) rest pushed
+  pub pushes : PushesNeighbors t next.index next.distance (set ds next.index (Some next.distance)) rest pushed
 
 -- the distances, once the next candidate is settled
 abbrev pub settled_at : List (Option ℕ) → Candidate → List (Option ℕ)
@@ -127,8 +127,8 @@ module _ (t : Topology) (root : ℕ) (ds : List (Option ℕ)) (order : List ℕ)
       key-le next c next_small (omega arith) (All-contains (λ (o : Candidate). is_lt (candidate_cmp o next) ≡ false) rest c s.first h)
 
   -- an edge out of the next vertex leads to a greater key
-  neighbour_key : (e : DirectedEdge ℕ) → IsArc t e → e.from ≡ next.index → key next < key_at t (next.distance + e.cost) e.to
-  neighbour_key e arc from =
+  neighbor_key : (e : DirectedEdge ℕ) → IsArc t e → e.from ≡ next.index → key next < key_at t (next.distance + e.cost) e.to
+  neighbor_key e arc from =
       subst (λ (k : ℕ). k < key_at t (next.distance + e.cost) e.to)
       (ap (λ (n : ℕ). key_at t next.distance n) from ∙ next_key) (arc_key t s.shape e next.distance arc)
 
@@ -137,5 +137,5 @@ module _ (t : Topology) (root : ℕ) (ds : List (Option ℕ)) (order : List ℕ)
   pushed_key c h =
       ⊎_elim
       (λ old. first_key c old)
-      (λ q. (let more : key next < key_at t (next.distance + q.0.cost) q.0.to = neighbour_key q.0 q.1 q.2 in let is : key c ≡ key_at t (next.distance + q.0.cost) q.0.to = ap (λ (x : Candidate). key x) q.3 in omega arith))
+      (λ q. (let more : key next < key_at t (next.distance + q.0.cost) q.0.to = neighbor_key q.0 q.1 q.2 in let is : key c ≡ key_at t (next.distance + q.0.cost) q.0.to = ap (λ (x : Candidate). key x) q.3 in omega arith))
       (s.pushes.only c h)

@@ -8,7 +8,7 @@ use Rattle.std.proofs.lemmas.List.Sorted.{length_permutation}
 use Rattle.area_graph.specs.Topology.{Topology, IsTopology}
 use Rattle.spf.specs.declared.queue.Candidate.{Candidate}
 use Rattle.spf.specs.Candidates.{candidate_cmp}
-use Rattle.spf.specs.steps.Search.{PushesNeighbours, SettlesOne, SettlesNew}
+use Rattle.spf.specs.steps.Search.{PushesNeighbors, SettlesOne, SettlesNew}
 use Rattle.spf.proofs.Searching.{Searching}
 use Rattle.spf.proofs.Settled.{Searching-settle}
 use Rattle.spf.proofs.Taking.{Searching-drop, next_candidate, work, work-settle}
@@ -27,7 +27,7 @@ module _ (t : Topology) (shape : IsTopology t) (root : ℕ) (ds : List (Option �
         taken = taken;
         first = first;
         fresh = fresh;
-        pushes = subst (λ (xs : List (Option ℕ)). PushesNeighbours t next.index next.distance xs rest queue') one.distances one.pushes;
+        pushes = subst (λ (xs : List (Option ℕ)). PushesNeighbors t next.index next.distance xs rest queue') one.distances one.pushes;
       })))
 
   -- the invariant

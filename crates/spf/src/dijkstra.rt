@@ -3,7 +3,7 @@
 ghost use Rattle.std.specs.Prelude.{◌≡◌, ℕ, ◌<◌, ◌≤◌, ◌+◌, ◌^◌, [], ◌∷◌, ◌++◌, length, replicate, OnOk};
 ghost use Rattle.area_graph.specs.Topology.{IsTopology};
 ghost use Rattle.spf.specs.Candidates.{candidate_at};
-ghost use Rattle.spf.specs.steps.Search.{IsNoneFarther, PushesEdge, PushesNeighbours, SettlesOne, SettlesNew, IsSettled};
+ghost use Rattle.spf.specs.steps.Search.{IsNoneFarther, PushesEdge, PushesNeighbors, SettlesOne, SettlesNew, IsSettled};
 ghost use Rattle.spf.specs.steps.Table.{AreWaiting, settled_in, unreached};
 
 use crate::distances::DistanceTable;
@@ -55,7 +55,7 @@ fn push_edge<A: Allocator + Copy>(
 
 /// Adds candidates for the edges out of a vertex, but for those to vertices that are known to be no
 /// farther.
-fn push_neighbours<A: Allocator + Copy>(
+fn push_neighbors<A: Allocator + Copy>(
     graph: &Graph<A>,
     from: usize,
     distance: u32,
@@ -68,7 +68,7 @@ fn push_neighbours<A: Allocator + Copy>(
     requires order { IsNoneFarther (settled_in distances.old) distance }
     requires waiting { AreWaiting distances.old queue.old }
     ensures pushes { OnOk result
-        (PushesNeighbours graph.now from distance (settled_in distances.old) queue.old queue.new) }
+        (PushesNeighbors graph.now from distance (settled_in distances.old) queue.old queue.new) }
     ensures count { OnOk result (length queue.new < length queue.old + 2 ^ 64) }
     ensures settled { settled_in distances.new ≡ settled_in distances.old }
     ensures waiting { OnOk result (AreWaiting distances.new queue.new) }
@@ -100,7 +100,7 @@ fn settle_one<A: Allocator + Copy>(
     let index = next.index as usize;
     distances.set(index, next.distance);
     order.push(next.index)?;
-    push_neighbours(graph, index, next.distance, distances, queue)?;
+    push_neighbors(graph, index, next.distance, distances, queue)?;
     Ok(())
 }
 

@@ -1,4 +1,4 @@
-//! The distances of vertices while they are found, four octets each.
+//! The distances of vertices while they are found, four bytes each.
 
 ghost use Rattle.std.specs.Prelude.{◌≡◌, ◌<◌, ◌+◌, ◌%◌, ◌^◌, length, replicate, slice_set, slice_index_or, IfOk, None};
 ghost use Rattle.spf.specs.steps.Table.{settled_in, unreached};
@@ -30,7 +30,7 @@ impl<A: Allocator> Model for DistanceTable<A> {
 }
 
 impl<A: Allocator + Copy> DistanceTable<A> {
-    /// So many vertices, none of them reached.
+    /// This number of vertices, none of them reached.
     pub(crate) fn new(alloc: A, count: usize) -> Result<DistanceTable<A>, AllocError>
         ensures { IfOk result (λ table. table ≡ replicate count unreached) }
     {

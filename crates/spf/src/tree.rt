@@ -19,7 +19,7 @@ use std::marker::Model;
 /// number.
 ///
 /// Each distance is below 2^32: a graph has at most 8,192 vertices, and an edge costs less than
-/// 2^16. A tree takes six octets for each vertex.
+/// 2^16. A tree takes six bytes for each vertex.
 #[derive(Drop)]
 pub struct Tree<A: Allocator = Global> {
     root: usize,

@@ -19,6 +19,6 @@ ConsumesAtMost old new n = (taken : List ℕ) × (Consumes old new taken × (len
 abbrev pub AppendsPrefix : Option (List ℕ) → Option (List ℕ) → List ℕ → Type 0
 AppendsPrefix old new text = (part : List ℕ) × (StartsWith text part × Appends old new part)
 
--- the known bytes lost some at their front, which stand behind those that were there before
-abbrev pub ReadsBehind : Option (List ℕ) → Option (List ℕ) → List ℕ → List ℕ → Type 0
-ReadsBehind old new before after = (taken : List ℕ) × (Consumes old new taken × (after ≡ before ++ taken))
+-- the known bytes lost some at their front, which stand after those that were there before
+abbrev pub ReadsAfter : Option (List ℕ) → Option (List ℕ) → List ℕ → List ℕ → Type 0
+ReadsAfter old new before after = (taken : List ℕ) × (Consumes old new taken × (after ≡ before ++ taken))

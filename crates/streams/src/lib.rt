@@ -1,8 +1,8 @@
 //! Readers and writers that remember whether they have failed, and whole texts read and written
 //! over them.
 //!
-//! A reader or a writer may tell its octets, as std's in-memory ones do; the clauses then say which
-//! octets a call moved. Of one that tells nothing, a file, they say only how it failed.
+//! A reader or a writer may show its bytes, as std's in-memory ones do; the clauses then say which
+//! bytes a call moved. Of one that shows none, a file, they say only how it failed.
 #![tactic(auto)]
 
 mod reading;

@@ -4,7 +4,7 @@ ghost use Rattle.std.specs.Prelude.{◌≡◌, ◌+◌, ◌-◌, ◌<◌, ◌≤
 ghost use Rattle.std.specs.Io.KnownBytes.{IsAtEnd};
 ghost use Rattle.streams.specs.declared.reading.ReadFault.TheVariants.{OutOfMemory};
 ghost use Rattle.streams.specs.Watched.{inner_of, has_failed, has_ended};
-ghost use Rattle.streams.specs.WholeText.{IsAll, IsLonger, ConsumesAtMost, ReadsBehind};
+ghost use Rattle.streams.specs.WholeText.{IsAll, IsLonger, ConsumesAtMost, ReadsAfter};
 
 use crate::watch::Watched;
 use std::alloc::{AllocError, Allocator};
@@ -32,7 +32,7 @@ impl From<AllocError> for ReadFault {
 /// How many bytes one read may give.
 const CHUNK: usize = 4096;
 
-/// Reads on behind the bytes that were read before, where there are at most `limit` in all.
+/// Reads on after the bytes that were read before, where there are at most `limit` in all.
 ///
 /// At most one byte past the limit is read, so reading ends for an endless reader too. After
 /// `TooLarge` one may read on, up to another limit.
@@ -40,7 +40,7 @@ const CHUNK: usize = 4096;
 /// # Errors
 ///
 /// `Failed` exactly where a read failed, `TooLarge` where there are more than `limit` bytes, with
-/// what was read behind the others, and `OutOfMemory` where a growth was refused.
+/// what was read after the others, and `OutOfMemory` where a growth was refused.
 pub fn read_more<A: Allocator + Copy, R: Read>(
     reader: &mut Watched<R>,
     bytes: &mut Vec<u8, A>,
@@ -48,13 +48,13 @@ pub fn read_more<A: Allocator + Copy, R: Read>(
 ) -> Result<(), ReadFault>
     requires open { has_failed reader.old ≡ false }
     requires limit { limit + 1 < 2 ^ 64 }
-    ensures whole { OnOk result (ReadsBehind (R.remaining (inner_of reader.old))
+    ensures whole { OnOk result (ReadsAfter (R.remaining (inner_of reader.old))
         (R.remaining (inner_of reader.new)) bytes.old.items bytes.new.items) }
     ensures within { OnOk result (vec_len bytes.new ≤ limit) }
     ensures at_end { OnOk result (IsAtEnd (R.remaining (inner_of reader.new))) }
     ensures ended { has_ended reader.new ≡ (has_ended reader.old || is_ok result) }
     ensures too_large { result ≡ Err ReadFault.TooLarge
-        → ReadsBehind (R.remaining (inner_of reader.old))
+        → ReadsAfter (R.remaining (inner_of reader.old))
         (R.remaining (inner_of reader.new)) bytes.old.items bytes.new.items
         × (limit < vec_len bytes.new) }
     ensures failed { (result ≡ Err ReadFault.Failed) ↔ (has_failed reader.new ≡ true) }

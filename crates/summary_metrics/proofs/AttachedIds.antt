@@ -11,7 +11,7 @@ use Rattle.area_routes.specs.Attached.{attached_areas, is_attached}
 use Rattle.external_routes.specs.Summaries.{borders, is_attached_elsewhere, is_head_of_area}
 use Rattle.routing_table.proofs.TableLemmas.{among_more, attached_among, joins}
 use Rattle.summary_metrics.specs.Refreshed.{id_of}
-use Rattle.summary_metrics.specs.Originators.{ids_attached}
+use Rattle.summary_metrics.specs.SummaryMetrics.{ids_attached}
 use Rattle.summary_metrics.specs.steps.AnnouncedCosts.{is_border_of}
 use Rattle.summary_metrics.proofs.Several.{attached_here}
 
@@ -51,12 +51,12 @@ any_map p f (x ∷ xs) = ap (λ b. p (f x) || b) (any_map p f xs)
 
 -- a test that passes on a remaining element passes only where the test that chose the elements does
 any_chosen : {X : Type 0} (p q : X → Bool) (b : Bool) (xs : List X) → ((x : X) → p x ≡ true → q x ≡ b) → list_any p (filter q xs) ≡ true → b ≡ true
-any_chosen p q b [] tells any = absurd cc
-any_chosen p q b (x ∷ xs) tells any = by (p x) (q x) refl refl any (any_chosen p q b xs tells)
+any_chosen p q b [] announces any = absurd cc
+any_chosen p q b (x ∷ xs) announces any = by (p x) (q x) refl refl any (any_chosen p q b xs announces)
   where
     by : (here chosen : Bool) → p x ≡ here → q x ≡ chosen → list_any p (cond chosen (x ∷ filter q xs) (filter q xs)) ≡ true
         → (list_any p (filter q xs) ≡ true → b ≡ true) → b ≡ true
-    by true true h c a rest = sym (tells x h) ∙ c
+    by true true h c a rest = sym (announces x h) ∙ c
     by false true h c a rest = rest (ap (λ t. t || list_any p (filter q xs)) (sym h) ∙ a)
     by here false h c a rest = rest a
 

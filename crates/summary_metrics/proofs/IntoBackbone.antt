@@ -22,7 +22,7 @@ use Rattle.area_routes.specs.declared.rank.PathType.TheVariants.{Inter}
 use Rattle.area_routes.specs.Best.{ways_of}
 use Rattle.area_routes.specs.Candidate.{Candidate}
 use Rattle.area_routes.specs.Inter.{asbr_candidate, asbr_entry, border_of, by_border, candidate_to, entries_by, entries_of_all, examined, inter_of, inter_routes}
-use Rattle.area_routes.specs.Inter.{named_router, network_candidate, network_told, originator_of, routes_by, usable_metric}
+use Rattle.area_routes.specs.Inter.{named_router, network_candidate, announced_network, originator_of, routes_by, usable_metric}
 use Rattle.area_routes.specs.Intra.{intra_of}
 use Rattle.area_routes.specs.Routes.{route_of, route_to}
 use Rattle.area_routes.specs.Values.{AreaResultValue, EntryValue, RouteValue, WayValue}
@@ -51,16 +51,16 @@ module _ (router : RouterId) (area : AreaResultValue) where
       by (Some m) None = tt
       by (Some m) (Some b) = refl
 
-  told_inter : (lsa : List ℕ) (told : Option Net) → IfSome (option_and_then (candidate_to router area lsa) told) (λ c. c.rank.path ≡ Inter)
-  told_inter lsa None = tt
-  told_inter lsa (Some net) = candidate_inter lsa net
+  announced_inter : (lsa : List ℕ) (announced : Option Net) → IfSome (option_and_then (candidate_to router area lsa) announced) (λ c. c.rank.path ≡ Inter)
+  announced_inter lsa None = tt
+  announced_inter lsa (Some net) = candidate_inter lsa net
 
   all_inter : (intra : List RouteValue) (lsas : List (List ℕ)) → All (λ r. r.kind ≡ Inter) (inter_routes router area intra lsas)
   all_inter intra lsas =
       let cs : List (Candidate Net) = filter_map (network_candidate router area intra) lsas in
       All-map (λ r. r.kind ≡ Inter) route_of (ways_of prefix_cmp cs)
       (ways_have (λ r. r.path ≡ Inter) prefix_cmp cs
-      (All-filter_map (λ (c : Candidate Net). c.rank.path ≡ Inter) (network_candidate router area intra) (λ lsa. told_inter lsa (network_told intra lsa)) lsas))
+      (All-filter_map (λ (c : Candidate Net). c.rank.path ≡ Inter) (network_candidate router area intra) (λ lsa. announced_inter lsa (announced_network intra lsa)) lsas))
 
 all_asbr_inter : (area : AreaId) (ways : List (RouterId × WayValue)) → All (λ e. e.kind ≡ AsbrInter) (map (asbr_entry area) ways)
 all_asbr_inter area [] = All-nil (λ (e : EntryValue). e.kind ≡ AsbrInter)

@@ -1,4 +1,4 @@
-pub mod Retold
+pub mod Reannounced
 pub mod Passes
 pub mod StaleLemmas
 pub mod SameGraphs
@@ -8,13 +8,13 @@ pub mod IntoBackbone
 pub mod Settled
 pub mod NextPass
 pub mod AttachedIds
-pub mod ToldWays
-pub mod ToldRoutes
+pub mod AnnouncedWays
+pub mod AnnouncedRoutes
 pub mod OwnEntries
 pub mod IntraKinds
-pub mod DueByTold
-pub mod KnownOriginators
-pub mod MoreTold
+pub mod DueByBackbone
+pub mod KnownMetrics
+pub mod MoreAnnounced
 pub mod MoreCosts
 pub mod FoundPairs
 pub mod NearPlaces

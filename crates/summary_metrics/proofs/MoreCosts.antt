@@ -19,8 +19,8 @@ use Rattle.area_routes.specs.Inter.{border_of, same_kind, same_router}
 use Rattle.area_routes.specs.Values.{EntriesBelow, EntryValue}
 use Rattle.area_routes.proofs.LeastLemmas.{least_push}
 use Rattle.summary_metrics.specs.declared.sources.Source.{Source}
-use Rattle.summary_metrics.specs.Originators.{HasCosts}
-use Rattle.summary_metrics.specs.steps.AnnouncedCosts.{CostsBelow, cost_from, cost_over, lesser_cost, told_cost, told_from}
+use Rattle.summary_metrics.specs.SummaryMetrics.{HasCosts}
+use Rattle.summary_metrics.specs.steps.AnnouncedCosts.{CostsBelow, cost_from, cost_over, lesser_cost, announced_cost, announced_from}
 
 -- ---- one more entry
 
@@ -128,8 +128,8 @@ costs_below entries costs small has q =
 -- ---- one more source
 
 module _ (router : RouterId) (costs : Costs) where
-  pub told_push : (ss : List Source) (s : Source) → told_from router costs (ss ++ s ∷ []) ≡ lesser_cost (told_from router costs ss) (cost_from router costs s)
-  told_push ss s = ap (least nat_cmp) (filter_map-append (cost_from router costs) ss (s ∷ [])) ∙ by (cost_from router costs s)
+  pub announced_push : (ss : List Source) (s : Source) → announced_from router costs (ss ++ s ∷ []) ≡ lesser_cost (announced_from router costs ss) (cost_from router costs s)
+  announced_push ss s = ap (least nat_cmp) (filter_map-append (cost_from router costs) ss (s ∷ [])) ∙ by (cost_from router costs s)
     where
       some : List ℕ
       some = filter_map (cost_from router costs) ss
@@ -164,5 +164,5 @@ module _ (router : RouterId) (costs : Costs) where
     costs_over [] = refl
     costs_over (s ∷ ss) = λ i. cons_option (from_over s i) (costs_over ss i)
 
-    pub from_told : (ss : List Source) → told_from router costs ss ≡ told_cost router entries ss
-    from_told ss = ap (least nat_cmp) (costs_over ss)
+    pub from_announced : (ss : List Source) → announced_from router costs ss ≡ announced_cost router entries ss
+    from_announced ss = ap (least nat_cmp) (costs_over ss)

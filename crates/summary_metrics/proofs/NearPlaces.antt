@@ -48,16 +48,16 @@ module _ {K : Type 0} {R : K → K → Ordering} (o : IsTotalOrder R) (q : K) wh
       → ((k : ℕ) → k + 1 ≡ i → HoldsAt (λ y. R y q ≡ Less) xs k) → (i < length xs → HoldsAt (λ y. R q y ≡ Less) xs i)
       → find (eq_by_cmp R q) xs ≡ None
   unfolding IsStrictlySortedBy
-  between [] i s l behind before = refl
-  between (x ∷ xs) zero s l behind before =
+  between [] i s l after before = refl
+  between (x ∷ xs) zero s l after before =
       let h : R q x ≡ Less = before (omega arith) x in
       none_above (x ∷ xs) (h, above_too x xs h s.0)
-  between (x ∷ xs) (suc zero) s l behind before =
-      skip x xs (behind 0 (omega arith) x)
+  between (x ∷ xs) (suc zero) s l after before =
+      skip x xs (after 0 (omega arith) x)
       (between xs zero s.1 (omega arith) (λ k e. absurd (omega arith)) (λ l d. before (omega arith) d))
-  between (x ∷ xs) (suc (suc i)) s l behind before =
-      skip x xs (o.trans x (get_or xs i x) q (above_at x xs i x s.0 (omega arith)) (behind (suc i) (omega arith) x))
-      (between xs (suc i) s.1 (omega arith) (λ k e d. behind (suc k) (omega arith) d) (λ l d. before (omega arith) d))
+  between (x ∷ xs) (suc (suc i)) s l after before =
+      skip x xs (o.trans x (get_or xs i x) q (above_at x xs i x s.0 (omega arith)) (after (suc i) (omega arith) x))
+      (between xs (suc i) s.1 (omega arith) (λ k e d. after (suc k) (omega arith) d) (λ l d. before (omega arith) d))
 
 -- ---- a search
 

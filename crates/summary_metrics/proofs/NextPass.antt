@@ -13,8 +13,8 @@ use Rattle.routing_table.specs.AreaTrees.{AreaTreesValue, IsAreaOf}
 use Rattle.routing_table.specs.AreasTrees.{KeptTreesValue, AreOfDatabase, IsSpareOf, trees_at}
 use Rattle.summary_metrics.specs.Refreshed.{id_of, refreshed_areas}
 use Rattle.summary_metrics.specs.BackboneSummaries.{BackboneSummariesValue}
-use Rattle.summary_metrics.specs.Originators.{AreGiven, AreInside, AreOf, OriginatorsValue, ids_attached}
-use Rattle.summary_metrics.proofs.KnownOriginators.{Attached, Known, known_as}
+use Rattle.summary_metrics.specs.SummaryMetrics.{AreGiven, AreInside, AreOf, SummaryMetricsValue, ids_attached}
+use Rattle.summary_metrics.proofs.KnownMetrics.{Attached, Known, known_as}
 use Rattle.summary_metrics.proofs.Passes.{areas_kept, graph_kept}
 use Rattle.summary_metrics.proofs.SameGraphs.{HaveSameGraphs, areas_alike, results_alike}
 use Rattle.summary_metrics.proofs.Settled.{accepted_of}
@@ -43,17 +43,17 @@ module _ (db : Lists) (is : IsDatabase db) where
       left None h = tt
       left (Some spare) h = record { area = area_next spare.0 spare.1 h.area; trees = h.trees }
 
-  known_next : (known : OriginatorsValue) → AreOf db known → AreOf next (known_as known.attached known.trees known.inside None)
+  known_next : (known : SummaryMetricsValue) → AreOf db known → AreOf next (known_as known.attached known.trees known.inside None)
   known_next known all = record {
     attached = All-weaker (λ e. e.1 ≡ ids_attached db e.0) (λ e. e.1 ≡ ids_attached next e.0)
         (λ e h. h ∙ sym (ap (map id_of) (areas_alike db next same e.0))) known.attached all.attached;
     trees = trees_next known.trees all.trees;
     inside = All-weaker (λ e. AreInside db e.0 e.1) (λ e. AreInside next e.0 e.1)
         (λ e h. subst (λ (rs : List AreaResultValue). AreGiven rs e.1) (sym (results_alike db next same e.0)) h) known.inside all.inside;
-    told = tt;
+    summaries = tt;
   }
 
-  pub told_forgotten : (old : OriginatorsValue) (attached : Attached) (trees : KeptTreesValue) (inside : Known) (told : Option BackboneSummariesValue)
-      → known_as attached trees inside told ≡ old → AreOf db old → AreOf next (known_as attached trees inside None)
-  told_forgotten old attached trees inside told is_old all =
-      known_next (known_as attached trees inside told) (subst (λ (o : OriginatorsValue). AreOf db o) (sym is_old) all)
+  pub invalidated : (old : SummaryMetricsValue) (attached : Attached) (trees : KeptTreesValue) (inside : Known) (summaries : Option BackboneSummariesValue)
+      → known_as attached trees inside summaries ≡ old → AreOf db old → AreOf next (known_as attached trees inside None)
+  invalidated old attached trees inside summaries is_old all =
+      known_next (known_as attached trees inside summaries) (subst (λ (o : SummaryMetricsValue). AreOf db o) (sym is_old) all)

@@ -25,7 +25,7 @@ use Rattle.area_routes.specs.Values.{AreaResultValue, EntryValue}
 use Rattle.external_routes.specs.Choose.{is_asbr, is_asbr_intra, is_asbr_kind, preference}
 use Rattle.routing_table.specs.Tables.{result_in, results_in}
 use Rattle.summary_metrics.specs.Refreshed.{id_of}
-use Rattle.summary_metrics.specs.Originators.{backbone_entries}
+use Rattle.summary_metrics.specs.SummaryMetrics.{backbone_entries}
 use Rattle.summary_metrics.proofs.Outside.{is_outside}
 
 -- ---- the entries of one area

@@ -18,7 +18,7 @@ use Rattle.area_routes.specs.Inter.{is_summary}
 use Rattle.area_routes.proofs.SameGraphLemmas.{is_graph_lsa}
 use Rattle.external_routes.specs.Summaries.{announced_cost, is_calculated, is_covered, metric_for}
 use Rattle.summary_metrics.specs.Refreshed.{due_in, entries_inside, id_of, is_stale, refreshed_areas, refreshed_lsa, refreshed_lsas, refreshed_section, routes_inside}
-use Rattle.summary_metrics.proofs.Retold.{IsRetold, metric_accepted, other_metric, retold, retold_same}
+use Rattle.summary_metrics.proofs.Reannounced.{IsReannounced, metric_accepted, other_metric, reannounced, reannounced_same}
 
 -- all LSAs of a database are accepted
 abbrev pub AreAccepted : Lists → Type 0
@@ -50,12 +50,12 @@ module _ (db : Lists) (area : AreaId) where
       by true h = metric_accepted (due_in db area lsa) lsa old (stale_summary lsa h)
       by false h = old
 
-  pub lsa_retold : (lsa : List ℕ) → IsAccepted lsa → IsRetold lsa (refreshed_lsa db area lsa)
-  lsa_retold lsa old = by (is_stale db area lsa) refl
+  pub lsa_reannounced : (lsa : List ℕ) → IsAccepted lsa → IsReannounced lsa (refreshed_lsa db area lsa)
+  lsa_reannounced lsa old = by (is_stale db area lsa) refl
     where
-      by : (b : Bool) → is_stale db area lsa ≡ b → IsRetold lsa (cond b (with_metric (due_in db area lsa) lsa) lsa)
-      by true h = retold (due_in db area lsa) lsa old (stale_summary lsa h) (due_small db area lsa)
-      by false h = retold_same lsa
+      by : (b : Bool) → is_stale db area lsa ≡ b → IsReannounced lsa (cond b (with_metric (due_in db area lsa) lsa) lsa)
+      by true h = reannounced (due_in db area lsa) lsa old (stale_summary lsa h) (due_small db area lsa)
+      by false h = reannounced_same lsa
 
   -- where it is covered, it has the metric that the other should have
   pub lsa_metric : (lsa : List ℕ) → IsAccepted lsa → is_covered db area lsa ≡ true → metric_of (refreshed_lsa db area lsa) ≡ due_in db area lsa
@@ -98,7 +98,7 @@ module _ (db : Lists) (area : AreaId) where
       f = refreshed_lsa db area
 
       same : is_graph_lsa (f lsa) ≡ is_graph_lsa lsa
-      same = ap (λ k. eqb k router_lsa || eqb k network_lsa) (lsa_retold lsa (All-head IsAccepted lsa lsas all)).kind
+      same = ap (λ k. eqb k router_lsa || eqb k network_lsa) (lsa_reannounced lsa (All-head IsAccepted lsa lsas all)).kind
 
       by : (b : Bool) → is_graph_lsa lsa ≡ b → filter is_graph_lsa (map f lsas) ≡ filter is_graph_lsa lsas
           → cond (is_graph_lsa (f lsa)) (f lsa ∷ filter is_graph_lsa (map f lsas)) (filter is_graph_lsa (map f lsas))

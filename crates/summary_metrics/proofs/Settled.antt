@@ -24,8 +24,8 @@ use Rattle.routing_table.specs.Preferring.{preferring}
 use Rattle.summary_metrics.specs.Refreshed.{AreSettled, IsSettled, due_in, id_of, is_not_backbone, is_stale, refreshed, refreshed_areas}
 use Rattle.summary_metrics.specs.Refreshed.{refreshed_lsa, refreshed_lsas, refreshed_section, results_of}
 use Rattle.summary_metrics.proofs.IntoBackbone.{due_of_backbone}
-use Rattle.summary_metrics.proofs.Passes.{AreAccepted, areas_kept, graph_kept, lsa_metric, lsa_retold, others_kept, still_accepted}
-use Rattle.summary_metrics.proofs.Retold.{covered_retold, due_retold}
+use Rattle.summary_metrics.proofs.Passes.{AreAccepted, areas_kept, graph_kept, lsa_metric, lsa_reannounced, others_kept, still_accepted}
+use Rattle.summary_metrics.proofs.Reannounced.{covered_reannounced, due_reannounced}
 use Rattle.summary_metrics.proofs.SameGraphs.{HaveSameGraphs, covered_alike, results_alike, stub_alike}
 use Rattle.summary_metrics.proofs.Several.{examines_backbone, inter_alike}
 
@@ -69,7 +69,7 @@ module _ (base new : Lists) (area : AreaId) (same_covered : (lsa : List ℕ) →
   fresh_lsa lsa old = by (is_covered base area lsa) refl
     where
       covered_is : is_covered new area (made lsa) ≡ is_covered base area lsa
-      covered_is = covered_retold lsa (made lsa) (lsa_retold base area lsa old) new area ∙ same_covered lsa
+      covered_is = covered_reannounced lsa (made lsa) (lsa_reannounced base area lsa old) new area ∙ same_covered lsa
 
       and_false : (b : Bool) → (b && false) ≡ false
       and_false true = refl
@@ -79,7 +79,7 @@ module _ (base new : Lists) (area : AreaId) (same_covered : (lsa : List ℕ) →
       by false h = ap (λ b. b && not (metric_of (made lsa) == due_in new area (made lsa))) (covered_is ∙ h)
       by true h =
           let has : metric_of (made lsa) ≡ due_in new area (made lsa) =
-          lsa_metric base area lsa old h ∙ sym (due_retold lsa (made lsa) (lsa_retold base area lsa old) new area ∙ same_due lsa h) in
+          lsa_metric base area lsa old h ∙ sym (due_reannounced lsa (made lsa) (lsa_reannounced base area lsa old) new area ∙ same_due lsa h) in
           ap (λ b. is_covered new area (made lsa) && not b) (eq-eqb (metric_of (made lsa)) (due_in new area (made lsa)) has)
           ∙ and_false (is_covered new area (made lsa))
 

@@ -21,8 +21,8 @@ use Rattle.summary_metrics.specs.declared.sources.Source.{Source}
 -- ---- one LSA
 
 -- a live summary-LSA with a metric below LSInfinity
-abbrev pub is_telling : List ℕ → Bool
-is_telling lsa = is_summary lsa && (is_live lsa && nat_lt (metric_of lsa) ls_infinity)
+abbrev pub is_source : List ℕ → Bool
+is_source lsa = is_summary lsa && (is_live lsa && nat_lt (metric_of lsa) ls_infinity)
 
 abbrev pub source_of : List ℕ → Source
 source_of lsa = record { originator = originator_of lsa; metric = metric_of lsa }
@@ -38,7 +38,7 @@ module _ {K : Type 0} (R : K → K → Ordering) where
 
   -- the sources of a key: those of the live summary-LSAs among some LSAs that are for this key
   abbrev pub sources : (List ℕ → Option K) → List (List ℕ) → K → List Source
-  sources key_of lsas key = map source_of (filter (λ lsa. is_telling lsa && is_at key (key_of lsa)) lsas)
+  sources key_of lsas key = map source_of (filter (λ lsa. is_source lsa && is_at key (key_of lsa)) lsas)
 
 -- the LSAs of the backbone
 abbrev pub backbone_lsas : Lists → List (List ℕ)
@@ -60,6 +60,6 @@ abbrev pub AreSources : {K : Type 0} → (K → K → Ordering) → (List ℕ �
 AreSources {K} R key_of lsas entries = (key : K) → sources_or_none (lookup (eq_by_cmp R key) entries) ≡ sources R key_of lsas key
 
 -- these are the sources of these LSAs
-pub record AreTold (lsas : List (List ℕ)) (told : BackboneSummariesValue) : Type 0 where
-  pub nets : AreSources prefix_cmp net_of_summary lsas told.nets
-  pub asbrs : AreSources router_cmp asbr_named lsas told.asbrs
+pub record AreAnnounced (lsas : List (List ℕ)) (summaries : BackboneSummariesValue) : Type 0 where
+  pub nets : AreSources prefix_cmp net_of_summary lsas summaries.nets
+  pub asbrs : AreSources router_cmp asbr_named lsas summaries.asbrs

@@ -1,4 +1,4 @@
 pub mod Refreshed
 pub mod BackboneSummaries
-pub mod Originators
+pub mod SummaryMetrics
 pub mod steps

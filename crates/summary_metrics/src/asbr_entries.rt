@@ -3,7 +3,7 @@
 ghost use Rattle.std.specs.Prelude.{◌≡◌, ◌++◌, IfOk, OnOk};
 ghost use Rattle.std.specs.List.{filter};
 ghost use Rattle.external_routes.specs.Choose.{is_asbr_kind};
-ghost use Rattle.summary_metrics.specs.Originators.{asbr_entries};
+ghost use Rattle.summary_metrics.specs.SummaryMetrics.{asbr_entries};
 
 use area_routes::{AreaResult, EntryKind, RouterEntries, RouterEntry};
 use std::alloc::{AllocError, Allocator};

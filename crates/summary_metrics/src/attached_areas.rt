@@ -1,9 +1,9 @@
 //! The areas that a router is attached to.
 
 ghost use Rattle.std.specs.Prelude.{◌≡◌, IfOk};
-ghost use Rattle.lsdb.specs.Places.{lists_of};
+ghost use Rattle.lsdb.specs.Slots.{lists_of};
 ghost use Rattle.routing_table.specs.AreasTrees.{AreOfDatabase};
-ghost use Rattle.summary_metrics.specs.Originators.{ids_attached};
+ghost use Rattle.summary_metrics.specs.SummaryMetrics.{ids_attached};
 ghost use Rattle.summary_metrics.specs.steps.AnnouncedCosts.{has_another, is_border_of};
 
 use external_routes::is_among;

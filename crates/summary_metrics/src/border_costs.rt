@@ -9,8 +9,8 @@ ghost use Rattle.lsa_codec.specs.Order.{router_cmp};
 ghost use Rattle.area_routes.specs.declared.entry.EntryKind.TheVariants.{Border};
 ghost use Rattle.area_routes.specs.Inter.{same_kind};
 ghost use Rattle.area_routes.specs.Values.{EntryValue};
-ghost use Rattle.summary_metrics.specs.Originators.{HasCosts, backbone_entries};
-ghost use Rattle.summary_metrics.specs.steps.AnnouncedCosts.{CostsBelow, cost_from, lesser_cost, told_from};
+ghost use Rattle.summary_metrics.specs.SummaryMetrics.{HasCosts, backbone_entries};
+ghost use Rattle.summary_metrics.specs.steps.AnnouncedCosts.{CostsBelow, cost_from, lesser_cost, announced_from};
 
 use crate::sources::Source;
 use area_routes::{AreaResult, EntryKind, RouterEntry, backbone};
@@ -217,8 +217,8 @@ impl<A: Allocator + Copy> BorderCosts<A> {
     }
 
     /// The minimum of these costs over some sources.
-    pub(crate) fn told_from(&self, router: RouterId, sources: &[Source]) -> Option<u64>
-        ensures { result ≡ told_from router self.now sources.now }
+    pub(crate) fn announced_from(&self, router: RouterId, sources: &[Source]) -> Option<u64>
+        ensures { result ≡ announced_from router self.now sources.now }
     {
         let mut least = None;
         for source in sources {

@@ -8,8 +8,8 @@ ghost use Rattle.area_routes.specs.Routes.{route_to};
 ghost use Rattle.area_routes.specs.Values.{AreaResultValue};
 ghost use Rattle.external_routes.specs.Choose.{preferred};
 ghost use Rattle.summary_metrics.specs.Refreshed.{results_of};
-ghost use Rattle.summary_metrics.specs.Originators.{AreGiven, AreInside};
-ghost use Rattle.summary_metrics.specs.steps.AnnouncedCosts.{IsToldFor, asbr_cost, entry_cost, net_cost, route_cost};
+ghost use Rattle.summary_metrics.specs.SummaryMetrics.{AreGiven, AreInside};
+ghost use Rattle.summary_metrics.specs.steps.AnnouncedCosts.{IsAnnouncedFor, asbr_cost, entry_cost, net_cost, route_cost};
 
 use crate::asbr_entries::asbr_entries;
 use crate::border_costs::BorderCosts;
@@ -33,7 +33,7 @@ pub(crate) struct Inside<A: Allocator> {
 
 impl<A: Allocator> Model for Inside<A> {
     ghost use Rattle.std.specs.Prelude.{◌≡◌, map};
-    ghost use Rattle.summary_metrics.specs.Originators.{InsideValue};
+    ghost use Rattle.summary_metrics.specs.SummaryMetrics.{InsideValue};
 
     ghost Value = { InsideValue };
 
@@ -109,17 +109,17 @@ impl<A: Allocator + Copy> Inside<A> {
         area: AreaId,
         router: RouterId,
         net: Prefix,
-        told: &Option<BackboneSummaries<A>>,
+        summaries: &Option<BackboneSummaries<A>>,
     ) -> Option<u64>
-        ensures { (db : Lists) → AreInside db router self.now → IsToldFor db area told.now
+        ensures { (db : Lists) → AreInside db router self.now → IsAnnouncedFor db area summaries.now
             → result ≡ net_cost db area router (results_of db router) net }
     {
         if let Some(route) = self.route_to(net) {
             return route_cost(area, route);
         }
-        match told {
-            Some(told) if area != AreaId::BACKBONE => {
-                self.borders.told_from(router, told.of_net(net))
+        match summaries {
+            Some(summaries) if area != AreaId::BACKBONE => {
+                self.borders.announced_from(router, summaries.of_net(net))
             }
             _ => None,
         }
@@ -131,9 +131,9 @@ impl<A: Allocator + Copy> Inside<A> {
         area: AreaId,
         router: RouterId,
         asbr: RouterId,
-        told: &Option<BackboneSummaries<A>>,
+        summaries: &Option<BackboneSummaries<A>>,
     ) -> Option<u64>
-        ensures { (db : Lists) → AreInside db router self.now → IsToldFor db area told.now
+        ensures { (db : Lists) → AreInside db router self.now → IsAnnouncedFor db area summaries.now
             → result ≡ asbr_cost db area router (results_of db router) asbr }
     {
         if let Some(entry) = self.entry_of(asbr) {
@@ -142,9 +142,9 @@ impl<A: Allocator + Copy> Inside<A> {
         if asbr == router {
             return None;
         }
-        match told {
-            Some(told) if area != AreaId::BACKBONE => {
-                self.borders.told_from(router, told.of_asbr(asbr))
+        match summaries {
+            Some(summaries) if area != AreaId::BACKBONE => {
+                self.borders.announced_from(router, summaries.of_asbr(asbr))
             }
             _ => None,
         }

@@ -47,7 +47,7 @@ fn is_at(nets: &[Prefix], net: Prefix, place: usize) -> bool
 }
 
 /// Whether a prefix is greater than the one before a place, if there is one.
-fn is_behind(nets: &[Prefix], net: Prefix, place: usize) -> bool
+fn is_after(nets: &[Prefix], net: Prefix, place: usize) -> bool
     ensures { OnTrue result ((place ≤ length nets.now) × ((last : ℕ) → last + 1 ≡ place
         → HoldsAt (λ other. prefix_cmp other net ≡ Less) nets.now last)) }
 {
@@ -70,7 +70,7 @@ fn is_gap(nets: &[Prefix], net: Prefix, place: usize) -> bool
     requires { IsStrictlySortedBy prefix_cmp nets.now }
     ensures { OnTrue result (find (eq_by_cmp prefix_cmp net) nets.now ≡ None) }
 {
-    is_behind(nets, net, place) && is_before(nets, net, place)
+    is_after(nets, net, place) && is_before(nets, net, place)
 }
 
 /// The place of a prefix, or the place where it would be, by a binary search.

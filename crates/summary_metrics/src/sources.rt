@@ -6,7 +6,7 @@ ghost use Rattle.std.specs.BTreeMap.{get, Updates};
 ghost use Rattle.std.specs.List.Sorted.{IsStrictlySortedBy};
 ghost use Rattle.lsa_codec.specs.Order.{prefix_cmp, router_cmp};
 ghost use Rattle.lsa_codec.specs.Views.{net_of_summary};
-ghost use Rattle.summary_metrics.specs.BackboneSummaries.{AreTold, asbr_named, is_telling, source_of, sources};
+ghost use Rattle.summary_metrics.specs.BackboneSummaries.{AreAnnounced, asbr_named, is_source, source_of, sources};
 ghost use Rattle.summary_metrics.specs.steps.AnnouncedCosts.{more_sources};
 
 use crate::nets::Nets;
@@ -102,8 +102,8 @@ impl<A: Allocator> Model for BackboneSummaries<A> {
 }
 
 /// The router and metric of an LSA, if it is a live summary-LSA with a metric below LSInfinity.
-fn source_told<A: Allocator + Copy>(lsa: &Lsa<A>) -> Option<Source>
-    ensures { result ≡ if is_telling lsa.now then Some (source_of lsa.now) else None }
+fn announced_source<A: Allocator + Copy>(lsa: &Lsa<A>) -> Option<Source>
+    ensures { result ≡ if is_source lsa.now then Some (source_of lsa.now) else None }
 {
     let metric = lsa.summary()?.metric();
     if lsa.at_max_age() || metric >= LS_INFINITY {
@@ -114,14 +114,14 @@ fn source_told<A: Allocator + Copy>(lsa: &Lsa<A>) -> Option<Source>
 }
 
 /// The prefix of an LSA, if it is a summary-LSA of type 3.
-fn net_told<A: Allocator + Copy>(lsa: &Lsa<A>) -> Option<Prefix>
+fn announced_net<A: Allocator + Copy>(lsa: &Lsa<A>) -> Option<Prefix>
     ensures { result ≡ net_of_summary lsa.now }
 {
     lsa.summary()?.net()
 }
 
 /// The AS boundary router of an LSA, if it is a summary-LSA of type 4.
-fn asbr_told<A: Allocator + Copy>(lsa: &Lsa<A>) -> Option<RouterId>
+fn announced_asbr<A: Allocator + Copy>(lsa: &Lsa<A>) -> Option<RouterId>
     ensures { result ≡ asbr_named lsa.now }
 {
     let key = lsa.key();
@@ -134,17 +134,17 @@ fn asbr_told<A: Allocator + Copy>(lsa: &Lsa<A>) -> Option<RouterId>
 /// Adds a source to those of a destination.
 fn add_source<K: Ord + Copy + Drop, A: Allocator + Copy>(
     alloc: A,
-    told: &mut BTreeMap<K, Sources<A>, A>,
+    summaries: &mut BTreeMap<K, Sources<A>, A>,
     key: K,
     source: Source,
 ) -> Result<(), AllocError>
-    ensures { OnOk result (Updates K.cmp told.old told.new key
-        (Some (more_sources (get K.cmp told.old key) source))) }
+    ensures { OnOk result (Updates K.cmp summaries.old summaries.new key
+        (Some (more_sources (get K.cmp summaries.old key) source))) }
 {
-    match told.get_mut(&key) {
+    match summaries.get_mut(&key) {
         Some(sources) => sources.add(source)?,
         None => {
-            told.insert(key, Sources::of(alloc, source)?)?;
+            summaries.insert(key, Sources::of(alloc, source)?)?;
         }
     }
     Ok(())
@@ -175,17 +175,17 @@ fn nets_of<A: Allocator + Copy>(
 impl<A: Allocator + Copy> Draft<A> {
     /// Adds an LSA, if it is a live summary-LSA with a metric below LSInfinity.
     fn add(&mut self, alloc: A, lsa: &Lsa<A>) -> Result<(), AllocError>
-        ensures { OnOk result ((lsas : List (List ℕ)) → AreTold lsas self.old
-            → AreTold (lsas ++ lsa.now ∷ []) self.new) }
+        ensures { OnOk result ((lsas : List (List ℕ)) → AreAnnounced lsas self.old
+            → AreAnnounced (lsas ++ lsa.now ∷ []) self.new) }
     {
-        let Some(source) = source_told(lsa) else {
+        let Some(source) = announced_source(lsa) else {
             return Ok(());
         };
-        if let Some(net) = net_told(lsa) {
+        if let Some(net) = announced_net(lsa) {
             add_source(alloc, &mut self.nets, net, source)?;
             return Ok(());
         }
-        if let Some(asbr) = asbr_told(lsa) {
+        if let Some(asbr) = announced_asbr(lsa) {
             add_source(alloc, &mut self.asbrs, asbr, source)?;
         }
         Ok(())
@@ -193,21 +193,21 @@ impl<A: Allocator + Copy> Draft<A> {
 
     /// The sources of some LSAs.
     fn of(alloc: A, lsas: Lsas<'_, A>) -> Result<Draft<A>, AllocError>
-        ensures { IfOk result (AreTold lsas.entry) }
+        ensures { IfOk result (AreAnnounced lsas.entry) }
     {
-        let mut told = Draft {
+        let mut summaries = Draft {
             nets: BTreeMap::new(alloc),
             asbrs: BTreeMap::new(alloc),
         };
         for lsa in lsas {
-            told.add(alloc, lsa)?;
+            summaries.add(alloc, lsa)?;
         }
-        Ok(told)
+        Ok(summaries)
     }
 
     /// The finished backbone summaries.
     fn finish(self, alloc: A) -> Result<BackboneSummaries<A>, AllocError>
-        ensures { IfOk result (λ told. told ≡ self) }
+        ensures { IfOk result (λ summaries. summaries ≡ self) }
     {
         let by_net = in_order(alloc, self.nets)?;
         let nets = nets_of(alloc, &by_net)?;
@@ -222,14 +222,14 @@ impl<A: Allocator + Copy> Draft<A> {
 impl<A: Allocator + Copy> BackboneSummaries<A> {
     /// The sources of some LSAs.
     pub(crate) fn of(alloc: A, lsas: Lsas<'_, A>) -> Result<BackboneSummaries<A>, AllocError>
-        ensures { IfOk result (AreTold lsas.entry) }
+        ensures { IfOk result (AreAnnounced lsas.entry) }
     {
         Draft::of(alloc, lsas)?.finish(alloc)
     }
 
     /// The sources for a prefix.
     pub(crate) fn of_net(&self, net: Prefix) -> &[Source]
-        ensures { (lsas : List (List ℕ)) → AreTold lsas self.now
+        ensures { (lsas : List (List ℕ)) → AreAnnounced lsas self.now
             → result.now ≡ sources prefix_cmp net_of_summary lsas net }
     {
         match self.nets.place_of(net) {
@@ -243,7 +243,7 @@ impl<A: Allocator + Copy> BackboneSummaries<A> {
 
     /// The sources for an AS boundary router.
     pub(crate) fn of_asbr(&self, asbr: RouterId) -> &[Source]
-        ensures { (lsas : List (List ℕ)) → AreTold lsas self.now
+        ensures { (lsas : List (List ℕ)) → AreAnnounced lsas self.now
             → result.now ≡ sources router_cmp asbr_named lsas asbr }
     {
         match self.asbrs.get(&asbr) {

@@ -29,7 +29,7 @@ module _ (before now : RouteValue) (line_before line_now : List ℕ) (was : line
             ∙ joined old (line_of now) (rest_of before),
       )
 
--- ---- a line, or none, behind those so far
+-- ---- a line, or none, after those so far
 
 lines_more : (lines : List (List ℕ)) (line : Option (List ℕ)) (old new : List ℕ) (added : Bool) → old ≡ lines_text lines
     → AddsLine line old added new → new ≡ lines_text (lines ++ cons_option line [])

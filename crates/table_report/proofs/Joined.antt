@@ -104,7 +104,7 @@ headed_by word middle number lines =
     (append_assoc (word ++ space ++ middle ++ space) number (codes "\n") ∙ append_assoc (word ++ space ++ middle) space rest
     ∙ append_assoc (word ++ space) middle (32 ∷ rest) ∙ append_assoc word space (middle ++ 32 ∷ rest)))
 
--- a head and its lines, behind a text
+-- a head and its lines, after a text
 pub pushed_is : (word : List ℕ) (router : RouterId) (lines : List (List ℕ)) (n : ℕ) (old before text : List ℕ)
     → before ≡ old ++ (word ++ 32 ∷ (address_text router.0 ++ 32 ∷ (decimal n ++ 10 ∷ []))) → n ≡ length lines
     → text ≡ before ++ lines_text lines → text ≡ old ++ headed word router lines

@@ -1,6 +1,6 @@
 pub mod NoChange
 pub mod Ascii
-pub mod Octets
+pub mod Bytes
 pub mod Joined
 pub mod Added
 pub mod Differing

@@ -2,7 +2,7 @@
 //!
 //! A piece is written into a buffer on the stack, from its end to its start, and then added to a
 //! text at once. A function that writes puts its piece before what stands in the buffer from `end`
-//! on, and tells where the piece starts.
+//! on, and returns where the piece starts.
 
 ghost use Rattle.std.specs.Prelude.{◌≡◌, ◌+◌, ◌-◌, ◌<◌, ◌≤◌, ◌∷◌, ◌++◌, [], IsAscii, OnOk, codes, decimal, drop, length, replicate};
 ghost use Rattle.std.specs.String.{string_bytes};
@@ -16,10 +16,10 @@ use lsa_codec::{Addr, AreaId, Prefix};
 use next_hops::Hop;
 use std::alloc::{AllocError, Allocator};
 
-/// How many octets a buffer has: more than any piece.
+/// How many bytes a buffer has: more than any piece.
 pub(crate) const ROOM: usize = 128;
 
-/// The end of a buffer, behind which nothing stands.
+/// The end of a buffer, after which nothing stands.
 pub(crate) fn end_of(buffer: &[u8; ROOM]) -> usize
     ensures end { result ≡ 128 }
     ensures nothing { drop result buffer.now ≡ [] }
@@ -40,8 +40,8 @@ pub(crate) fn write_character(character: u8, buffer: &mut [u8; ROOM], end: usize
     end - 1
 }
 
-/// Each octet as a number, behind as many dots as make it four characters.
-static OCTETS: [u8; 1024] = *b"\
+/// Each byte as a number, after the dots that make it four characters.
+static BYTES: [u8; 1024] = *b"\
     ...0...1...2...3...4...5...6...7...8...9\
     ..10..11..12..13..14..15..16..17..18..19\
     ..20..21..22..23..24..25..26..27..28..29\
@@ -69,39 +69,39 @@ static OCTETS: [u8; 1024] = *b"\
     .240.241.242.243.244.245.246.247.248.249\
     .250.251.252.253.254.255";
 
-/// The text of an octet as a number, behind as many dots as make it four characters.
-fn dotted(octet: u8) -> &'static [u8]
-    ensures { result.now ≡ replicate (4 - length (decimal octet)) 46 ++ decimal octet }
+/// The text of a byte as a number, after the dots that make it four characters.
+fn dotted(byte: u8) -> &'static [u8]
+    ensures { result.now ≡ replicate (4 - length (decimal byte)) 46 ++ decimal byte }
 {
-    let place = 4 * usize::from(octet);
-    &OCTETS[place..place + 4]
+    let place = 4 * usize::from(byte);
+    &BYTES[place..place + 4]
 }
 
-/// Writes a character, and behind it an octet as a number.
-fn write_marked(mark: u8, octet: u8, buffer: &mut [u8; ROOM], end: usize) -> usize
+/// Writes a character, and after it a byte as a number.
+fn write_marked(mark: u8, byte: u8, buffer: &mut [u8; ROOM], end: usize) -> usize
     requires room { (4 ≤ end) × (end ≤ 128) }
     requires ascii { mark < 128 }
     ensures start { (result + 2 ≤ end) × (end ≤ result + 4) }
-    ensures written { drop result buffer.new ≡ mark ∷ decimal octet ++ drop end buffer.old }
+    ensures written { drop result buffer.new ≡ mark ∷ decimal byte ++ drop end buffer.old }
     ensures ascii { IsAscii (drop end buffer.old) → IsAscii (drop result buffer.new) }
 {
-    buffer[end - 4..end].copy_from_slice(dotted(octet));
-    let start = end - 2 - usize::from(octet >= 10) - usize::from(octet >= 100);
+    buffer[end - 4..end].copy_from_slice(dotted(byte));
+    let start = end - 2 - usize::from(byte >= 10) - usize::from(byte >= 100);
     buffer[start] = mark;
     start
 }
 
-/// Writes an octet as a number.
-fn write_octet(octet: u8, buffer: &mut [u8; ROOM], end: usize) -> usize
+/// Writes a byte as a number.
+fn write_byte(byte: u8, buffer: &mut [u8; ROOM], end: usize) -> usize
     requires { (4 ≤ end) × (end ≤ 128) }
     ensures start { (result ≤ end) × (end ≤ result + 3) }
-    ensures written { drop result buffer.new ≡ decimal octet ++ drop end buffer.old }
+    ensures written { drop result buffer.new ≡ decimal byte ++ drop end buffer.old }
     ensures ascii { IsAscii (drop end buffer.old) → IsAscii (drop result buffer.new) }
 {
-    write_marked(b'.', octet, buffer, end) + 1
+    write_marked(b'.', byte, buffer, end) + 1
 }
 
-/// Writes a space and a number. Most numbers are as small as an octet.
+/// Writes a space and a number. Most numbers are as small as a byte.
 fn write_number(number: u64, buffer: &mut [u8; ROOM], end: usize) -> usize
     requires { (21 ≤ end) × (end ≤ 128) }
     ensures start { (result ≤ end) × (end ≤ result + 21) }
@@ -139,7 +139,7 @@ fn write_address(address: Addr, buffer: &mut [u8; ROOM], end: usize) -> usize
     let start = write_marked(b'.', fourth, buffer, end);
     let start = write_marked(b'.', third, buffer, start);
     let start = write_marked(b'.', second, buffer, start);
-    write_octet(first, buffer, start)
+    write_byte(first, buffer, start)
 }
 
 /// Writes a prefix and a space.

@@ -7,9 +7,9 @@ use Rattle.lsa_codec.specs.declared.address.RouterId.{RouterId}
 use Rattle.lsdb.specs.declared.section.Section.TheVariants.{Area}
 use Rattle.lsdb.specs.declared.slot.SlotId.{SlotId}
 use Rattle.lsdb.specs.Lists.{AreaHead, IsDatabase, Lists, SectionLsas, areas_of, has_id, is_section, lsas_of, lsas_or_none}
-use Rattle.lsdb.specs.Places.{Places, item_at, lists_of, put, slot_at}
+use Rattle.lsdb.specs.Slots.{Slots, item_at, lists_of, put, slot_at}
 use Rattle.lsdb.proofs.AreaLemmas.{area_named}
-use Rattle.lsdb.proofs.PlaceLemmas.{between, section_with}
+use Rattle.lsdb.proofs.SlotLemmas.{between, section_with}
 use Rattle.area_graph.specs.declared.cost_change.CostChange.{CostChange}
 use Rattle.area_graph.specs.CostChanges.{AreChanged, IsChangedLsa}
 use Rattle.area_graph.specs.Graphs.{AreOfArea, IsGraphOf}
@@ -65,13 +65,13 @@ of_area : (router : RouterId) (id : ℕ) (area : Option AreaHead) (olds news : L
 of_area router id None olds news named steady = absurd (true≢false (sym named))
 of_area router id (Some area) olds news named steady = steady
 
-section_found : (d : Places) (i : ℕ) (head : AreaHead) (s : SectionLsas) → IsDatabase (lists_of d) → slice_get (areas_of (lists_of d)) i ≡ Some head
+section_found : (d : Slots) (i : ℕ) (head : AreaHead) (s : SectionLsas) → IsDatabase (lists_of d) → slice_get (areas_of (lists_of d)) i ≡ Some head
     → item_at (lists_of d) i ≡ Some s → find (is_section (Area (record { 0 = head.id }))) (lists_of d) ≡ Some s
 section_found d i head s sound at here = sym (area_named d i head sound at).same ∙ here
 
 -- ---- one LSA
 
-module _ (d : Places) (slot : SlotId) (router : RouterId) (before after : List ℕ) (head : AreaHead) (is : IsDatabase (lists_of d))
+module _ (d : Slots) (slot : SlotId) (router : RouterId) (before after : List ℕ) (head : AreaHead) (is : IsDatabase (lists_of d))
     (was : IsDatabase (lists_of (put d slot (Some before)))) (at : slot_at d slot ≡ Some (Some after))
     (here : slice_get (areas_of (lists_of d)) slot.section ≡ Some head) where
   abbrev area : AreaId

@@ -17,8 +17,8 @@ use Rattle.area_graph.proofs.GraphLemmas.{are_of_area}
 use Rattle.area_routes.specs.Attached.{attached_areas, is_attached}
 use Rattle.area_routes.specs.Best.{ways_of}
 use Rattle.area_routes.specs.Candidate.{Candidate}
-use Rattle.area_routes.specs.Inter.{asbr_candidate, asbr_entry, asbr_told, border_of, by_border, candidate_to, entries_by, entries_of_all, examined}
-use Rattle.area_routes.specs.Inter.{inter_entries, inter_of, inter_routes, is_summary, network_candidate, network_told, originator_of, routes_by, same_router}
+use Rattle.area_routes.specs.Inter.{asbr_candidate, asbr_entry, announced_asbr, border_of, by_border, candidate_to, entries_by, entries_of_all, examined}
+use Rattle.area_routes.specs.Inter.{inter_entries, inter_of, inter_routes, is_summary, network_candidate, announced_network, originator_of, routes_by, same_router}
 use Rattle.area_routes.specs.Intra.{intra_of}
 use Rattle.area_routes.specs.Routes.{routes_of}
 use Rattle.area_routes.specs.Values.{AreaResultValue, EntryValue, InterValue, RouteValue}
@@ -33,8 +33,8 @@ use Rattle.unchanged_tables.proofs.SteadySections.{IsSteadyArea, area_steady, as
 -- ---- LSAs that are no summary-LSAs
 
 -- the same, or no summary-LSA before and after
-abbrev TellsTheSame : List ℕ → List ℕ → Type 0
-TellsTheSame old new = (new ≡ old) ⊎ ((is_summary old ≡ false) × (is_summary new ≡ false))
+abbrev AnnouncesTheSame : List ℕ → List ℕ → Type 0
+AnnouncesTheSame old new = (new ≡ old) ⊎ ((is_summary old ≡ false) × (is_summary new ≡ false))
 
 no_summary : (lsa : List ℕ) → (is_router_lsa lsa || is_network_lsa lsa) ≡ true → is_summary lsa ≡ false
 no_summary lsa h = by (or_cases (is_router_lsa lsa) (is_network_lsa lsa) h)
@@ -49,35 +49,35 @@ of_router lsa h = no_summary lsa (ap (λ b. b || is_network_lsa lsa) h)
 of_foreign : (router : RouterId) (lsa : List ℕ) → is_foreign router lsa ≡ true → is_summary lsa ≡ false
 of_foreign router lsa h = no_summary lsa (and_parts (is_router_lsa lsa || is_network_lsa lsa) _ h).0
 
-all_tell : (R : List ℕ → List ℕ → Type 0) → ((old new : List ℕ) → R old new → TellsTheSame old new)
-    → (olds news : List (List ℕ)) → AllZip R olds news → AllZip TellsTheSame olds news
-all_tell R tells [] [] h = tt
-all_tell R tells [] (y ∷ ys) h = absurd h
-all_tell R tells (x ∷ xs) [] h = absurd h
-all_tell R tells (x ∷ xs) (y ∷ ys) h = (tells x y h.0, all_tell R tells xs ys h.1)
+all_announce : (R : List ℕ → List ℕ → Type 0) → ((old new : List ℕ) → R old new → AnnouncesTheSame old new)
+    → (olds news : List (List ℕ)) → AllZip R olds news → AllZip AnnouncesTheSame olds news
+all_announce R announces [] [] h = tt
+all_announce R announces [] (y ∷ ys) h = absurd h
+all_announce R announces (x ∷ xs) [] h = absurd h
+all_announce R announces (x ∷ xs) (y ∷ ys) h = (announces x y h.0, all_announce R announces xs ys h.1)
 
-steady_tells : (distance : DistanceOf) (old new : List ℕ) → (new ≡ old) ⊎ IsSteadyLsa distance old new → TellsTheSame old new
-steady_tells distance old new (inl e) = inl e
-steady_tells distance old new (inr s) = inr (of_router old s.was_router, of_router new s.is_router)
+steady_announces : (distance : DistanceOf) (old new : List ℕ) → (new ≡ old) ⊎ IsSteadyLsa distance old new → AnnouncesTheSame old new
+steady_announces distance old new (inl e) = inl e
+steady_announces distance old new (inr s) = inr (of_router old s.was_router, of_router new s.is_router)
 
-elsewhere_tells : (router : RouterId) (old new : List ℕ) → IsElsewhere router old new → TellsTheSame old new
-elsewhere_tells router old new (inl e) = inl e
-elsewhere_tells router old new (inr (f, g)) = inr (of_foreign router old f, of_foreign router new g)
+elsewhere_announces : (router : RouterId) (old new : List ℕ) → IsElsewhere router old new → AnnouncesTheSame old new
+elsewhere_announces router old new (inl e) = inl e
+elsewhere_announces router old new (inr (f, g)) = inr (of_foreign router old f, of_foreign router new g)
 
-area_tells : (router : RouterId) (olds news : List (List ℕ)) → IsSteadyArea router olds news → AllZip TellsTheSame olds news
-area_tells router olds news (inl steady) =
-    all_tell (λ old new. (new ≡ old) ⊎ IsSteadyLsa (distances_from router olds) old new) (steady_tells (distances_from router olds)) olds news steady
-area_tells router olds news (inr (apart, elsewhere)) = all_tell (IsElsewhere router) (elsewhere_tells router) olds news elsewhere
+area_announces : (router : RouterId) (olds news : List (List ℕ)) → IsSteadyArea router olds news → AllZip AnnouncesTheSame olds news
+area_announces router olds news (inl steady) =
+    all_announce (λ old new. (new ≡ old) ⊎ IsSteadyLsa (distances_from router olds) old new) (steady_announces (distances_from router olds)) olds news steady
+area_announces router olds news (inr (apart, elsewhere)) = all_announce (IsElsewhere router) (elsewhere_announces router) olds news elsewhere
 
 -- what is made of summary-LSAs alone
-told_same : {X : Type 0} (f : List ℕ → Option X) → ((lsa : List ℕ) → is_summary lsa ≡ false → f lsa ≡ None)
-    → (olds news : List (List ℕ)) → AllZip TellsTheSame olds news → filter_map f news ≡ filter_map f olds
-told_same f silent [] [] h = refl
-told_same f silent [] (y ∷ ys) h = absurd h
-told_same f silent (x ∷ xs) [] h = absurd h
-told_same f silent (x ∷ xs) (y ∷ ys) h = λ i. cons_option (by h.0 i) (told_same f silent xs ys h.1 i)
+announced_same : {X : Type 0} (f : List ℕ → Option X) → ((lsa : List ℕ) → is_summary lsa ≡ false → f lsa ≡ None)
+    → (olds news : List (List ℕ)) → AllZip AnnouncesTheSame olds news → filter_map f news ≡ filter_map f olds
+announced_same f silent [] [] h = refl
+announced_same f silent [] (y ∷ ys) h = absurd h
+announced_same f silent (x ∷ xs) [] h = absurd h
+announced_same f silent (x ∷ xs) (y ∷ ys) h = λ i. cons_option (by h.0 i) (announced_same f silent xs ys h.1 i)
   where
-    by : TellsTheSame x y → f y ≡ f x
+    by : AnnouncesTheSame x y → f y ≡ f x
     by (inl e) = ap f e
     by (inr (old, new)) = silent y new ∙ sym (silent x old)
 
@@ -90,16 +90,16 @@ module _ (router : RouterId) (area : AreaResultValue) where
       ap (λ b. option_and_then (λ metric. option_map (by_border key area.area metric) (border_of area.entries (originator_of lsa)))
       (if b && (is_live lsa && (nat_lt (metric_of lsa) ls_infinity && not (same_router (originator_of lsa) router))) then Some (metric_of lsa) else None)) h
 
-  module _ (olds news : List (List ℕ)) (tells : AllZip TellsTheSame olds news) where
-    routes_told : (intra : List RouteValue) → inter_routes router area intra news ≡ inter_routes router area intra olds
-    routes_told intra =
+  module _ (olds news : List (List ℕ)) (announces : AllZip AnnouncesTheSame olds news) where
+    announced_routes : (intra : List RouteValue) → inter_routes router area intra news ≡ inter_routes router area intra olds
+    announced_routes intra =
         ap (λ (cs : List (Candidate Net)). routes_of cs)
-        (told_same (network_candidate router area intra) (λ lsa h. no_candidate lsa (network_told intra lsa) h) olds news tells)
+        (announced_same (network_candidate router area intra) (λ lsa h. no_candidate lsa (announced_network intra lsa) h) olds news announces)
 
-    entries_told : inter_entries router area news ≡ inter_entries router area olds
-    entries_told =
+    announced_entries : inter_entries router area news ≡ inter_entries router area olds
+    announced_entries =
         ap (λ (cs : List (Candidate RouterId)). map (asbr_entry area.area) (ways_of router_cmp cs))
-        (told_same (asbr_candidate router area) (λ lsa h. no_candidate lsa (asbr_told router area lsa) h) olds news tells)
+        (announced_same (asbr_candidate router area) (λ lsa h. no_candidate lsa (announced_asbr router area lsa) h) olds news announces)
 
 -- ---- the table
 
@@ -129,16 +129,16 @@ module _ (router : RouterId) (olds news : Lists) (was : IsDatabase olds) (is : I
       map_passed (λ (area : AreaHead). is_attached olds (record { 0 = area.id }) router)
       (result_in news router) (result_in olds router) result_stays (areas_of olds)
 
-  tells : (area : AreaId) → AllZip TellsTheSame (lsas_of (Area area) olds) (lsas_of (Area area) news)
-  tells area = area_tells router (lsas_of (Area area) olds) (lsas_of (Area area) news) (area_steady router area olds news steady)
+  announces : (area : AreaId) → AllZip AnnouncesTheSame (lsas_of (Area area) olds) (lsas_of (Area area) news)
+  announces area = area_announces router (lsas_of (Area area) olds) (lsas_of (Area area) news) (area_steady router area olds news steady)
 
   routes_by_stay : (intra : List RouteValue) (o : Option AreaResultValue) → routes_by news router intra o ≡ routes_by olds router intra o
   routes_by_stay intra None = refl
-  routes_by_stay intra (Some area) = routes_told router area (lsas_of (Area area.area) olds) (lsas_of (Area area.area) news) (tells area.area) intra
+  routes_by_stay intra (Some area) = announced_routes router area (lsas_of (Area area.area) olds) (lsas_of (Area area.area) news) (announces area.area) intra
 
   entries_by_stay : (o : Option AreaResultValue) → entries_by news router o ≡ entries_by olds router o
   entries_by_stay None = refl
-  entries_by_stay (Some area) = entries_told router area (lsas_of (Area area.area) olds) (lsas_of (Area area.area) news) (tells area.area)
+  entries_by_stay (Some area) = announced_entries router area (lsas_of (Area area.area) olds) (lsas_of (Area area.area) news) (announces area.area)
 
   inter_stays : (results : List AreaResultValue) → inter_result news router results ≡ inter_result olds router results
   unfolding inter_of

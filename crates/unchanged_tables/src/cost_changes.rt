@@ -2,7 +2,7 @@
 
 ghost use Rattle.std.specs.Prelude.{IfSome, Some};
 ghost use Rattle.lsdb.specs.Lists.{IsDatabase};
-ghost use Rattle.lsdb.specs.Places.{lists_of, put};
+ghost use Rattle.lsdb.specs.Slots.{lists_of, put};
 ghost use Rattle.unchanged_tables.specs.CostChanges.{IsCostChange};
 
 use area_graph::CostChange;
@@ -32,7 +32,7 @@ pub fn cost_change<A: Allocator + Copy>(
         (lists_of (put database.now slot (Some before.now))) (lists_of database.now)) }
 {
     // Its invariant is needed: the IDs of its areas differ.
-    database.known();
+    database.assert_valid();
     if slot.section >= database.area_count() {
         return None;
     }

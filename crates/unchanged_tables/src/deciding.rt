@@ -3,7 +3,7 @@
 ghost use Rattle.std.specs.Prelude.{◌≡◌, true, Some};
 ghost use Rattle.std.specs.Bool.{OnTrue};
 ghost use Rattle.lsdb.specs.Lists.{IsDatabase};
-ghost use Rattle.lsdb.specs.Places.{lists_of, put};
+ghost use Rattle.lsdb.specs.Slots.{lists_of, put};
 ghost use Rattle.routing_table.specs.AreasTrees.{AreOfDatabase};
 ghost use Rattle.routing_table.specs.Tables.{table_in};
 ghost use Rattle.unchanged_tables.specs.Steady.{IsElsewhere, is_foreign};
@@ -52,7 +52,7 @@ pub fn is_unchanged<A: Allocator + Copy>(
         ≡ table_in (lists_of (put database.now slot (Some before.now))) router }
 {
     // Its invariant is needed: the IDs of its areas differ.
-    database.known();
+    database.assert_valid();
     if slot.section >= database.area_count() {
         return false;
     }

@@ -9,7 +9,7 @@ use Rattle.std.specs.Ordering.{eq_by_cmp}
 use Rattle.std.proofs.lemmas.List.Folds.{list_any-append}
 use Rattle.lsa_instances.specs.declared.header.Header.{Header}
 use Rattle.lsa_instances.specs.Headers.{is_at_max_age}
-use Rattle.network_files.specs.declared.file_told.FileTold.{FileTold}
+use Rattle.network_files.specs.declared.parsed_file.ParsedFile.{ParsedFile}
 use Rattle.unseen_lsas.specs.declared.named.NamedLsa.{NamedLsa}
 use Rattle.lsa_instances.specs.declared.header.InstanceId.{InstanceId}
 use Rattle.unseen_lsas.specs.Newer.{AreNewer, Instance, headers_of, instance_named, is_newer, is_same_lsa, shown_of}
@@ -52,7 +52,7 @@ module _ (shown : List Instance) (newest : BTreeMap NamedLsa InstanceId) (known 
         one_header one (is_at_max_age header) (is_over_some (get lsa_cmp newest (named_at header.place)) header.instance)
         (filter_map (newer_by (get lsa_cmp newest)) headers) (filter_map instance_named headers) (newer_if one) (of_headers headers)
 
-    of_files : {A : Type 0} (files : List (FileTold A)) → has lsa (all_newer (get lsa_cmp newest) files) ≡ list_any is_one (headers_of files)
+    of_files : {A : Type 0} (files : List (ParsedFile A)) → has lsa (all_newer (get lsa_cmp newest) files) ≡ list_any is_one (headers_of files)
     of_files [] = refl
     of_files (file ∷ files) =
         list_any-append (eq_by_cmp lsa_cmp lsa) (filter_map (newer_by (get lsa_cmp newest)) file.headers.items) (all_newer (get lsa_cmp newest) files)
@@ -60,7 +60,7 @@ module _ (shown : List Instance) (newest : BTreeMap NamedLsa InstanceId) (known 
         ∙ ap (λ b. list_any is_one (filter_map instance_named file.headers.items) || b) (of_files files)
         ∙ sym (list_any-append is_one (filter_map instance_named file.headers.items) (headers_of files))
 
-pub are_newer : {A : Type 0} (files : List (FileTold A)) (newest : BTreeMap NamedLsa InstanceId)
+pub are_newer : {A : Type 0} (files : List (ParsedFile A)) (newest : BTreeMap NamedLsa InstanceId)
     → (lsas : List NamedLsa) (set : BTreeSet NamedLsa) (left : List NamedLsa)
     → AreNewest (shown_of files) newest → lsas ≡ all_newer (get lsa_cmp newest) files → IsFromIterResult lsa_cmp lsas set → left ≡ set.keys
     → AreNewer (headers_of files) (shown_of files) left

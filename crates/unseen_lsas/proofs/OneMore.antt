@@ -107,13 +107,13 @@ flip a b = by (eq_by_cmp lsa_cmp a b) (eq_by_cmp lsa_cmp b a) refl refl
 module _ (shown : List Instance) (old new : BTreeMap NamedLsa InstanceId) (one : Instance) (known : AreNewest shown old)
     (put : Updates lsa_cmp old new one.0 (Some (newest_with (get lsa_cmp old one.0) one.1))) where
   -- whether an instance of an LSA is shown, and what is newer than all that are shown
-  abbrev IsTold : NamedLsa → Type 0
-  IsTold lsa =
+  abbrev IsReported : NamedLsa → Type 0
+  IsReported lsa =
       (is_some (get lsa_cmp new lsa) ≡ list_any (is_same_lsa lsa) (shown ++ one ∷ []))
       × ((instance : InstanceId) → is_over (get lsa_cmp new lsa) instance ≡ list_all (is_other_or_older lsa instance) (shown ++ one ∷ []))
 
   -- of this LSA
-  here : eq_by_cmp lsa_cmp one.0 one.0 ≡ true → IsTold one.0
+  here : eq_by_cmp lsa_cmp one.0 one.0 ≡ true → IsReported one.0
   here self = (
     ap is_some put.1
         ∙ sym (or_true (list_any (is_same_lsa one.0) shown))
@@ -129,7 +129,7 @@ module _ (shown : List Instance) (old new : BTreeMap NamedLsa InstanceId) (one :
   )
 
   -- of another
-  other : (lsa : NamedLsa) → eq_by_cmp lsa_cmp one.0 lsa ≡ false → IsTold lsa
+  other : (lsa : NamedLsa) → eq_by_cmp lsa_cmp one.0 lsa ≡ false → IsReported lsa
   other lsa apart =
       let away : eq_by_cmp lsa_cmp lsa one.0 ≡ false = flip lsa one.0 ∙ apart in (
         ap is_some (put.2 lsa apart)
@@ -145,14 +145,14 @@ module _ (shown : List Instance) (old new : BTreeMap NamedLsa InstanceId) (one :
             ∙ sym (list_all-append (is_other_or_older lsa instance) shown (one ∷ [])),
       )
 
-  told : (lsa : NamedLsa) → IsTold lsa
-  told lsa = by (eq_by_cmp lsa_cmp one.0 lsa) refl
+  reported : (lsa : NamedLsa) → IsReported lsa
+  reported lsa = by (eq_by_cmp lsa_cmp one.0 lsa) refl
     where
-      by : (b : Bool) → eq_by_cmp lsa_cmp one.0 lsa ≡ b → IsTold lsa
+      by : (b : Bool) → eq_by_cmp lsa_cmp one.0 lsa ≡ b → IsReported lsa
       by true h =
           let same = exact one.0 lsa h in
-          subst (λ l. IsTold l) same (here (subst (λ l. eq_by_cmp lsa_cmp one.0 l ≡ true) (sym same) h))
+          subst (λ l. IsReported l) same (here (subst (λ l. eq_by_cmp lsa_cmp one.0 l ≡ true) (sym same) h))
       by false h = other lsa h
 
   pub one_more : AreNewest (shown ++ one ∷ []) new
-  one_more = record { which = λ lsa. let t = told lsa in t.0; over = λ lsa instance. let t = told lsa in t.1 instance }
+  one_more = record { which = λ lsa. let t = reported lsa in t.0; over = λ lsa instance. let t = reported lsa in t.1 instance }

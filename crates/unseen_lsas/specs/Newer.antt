@@ -5,10 +5,10 @@ use Rattle.std.specs.List.Sorted.{IsStrictlySortedBy}
 use Rattle.std.specs.Ordering.{eq_by_cmp, is_lt}
 use Rattle.lsa_instances.specs.declared.header.Header.{Header}
 use Rattle.lsa_instances.specs.declared.header.InstanceId.{InstanceId}
-use Rattle.lsa_instances.specs.declared.sighting.Sighting.{Sighting}
+use Rattle.lsa_instances.specs.declared.observation.Observation.{Observation}
 use Rattle.lsa_instances.specs.Headers.{is_at_max_age}
 use Rattle.lsa_instances.specs.Instance.{instance_id_cmp, instance_id_of}
-use Rattle.network_files.specs.declared.file_told.FileTold.{FileTold}
+use Rattle.network_files.specs.declared.parsed_file.ParsedFile.{ParsedFile}
 use Rattle.unseen_lsas.specs.declared.named.NamedLsa.{NamedLsa}
 use Rattle.unseen_lsas.specs.Unseen.{has, lsa_cmp, named_at, shown_by}
 
@@ -21,15 +21,15 @@ abbrev pub instance_named : Header → Option Instance
 instance_named header = if is_at_max_age header then None else Some (named_at header.place, header.instance)
 
 -- the instance that is seen, at whatever age
-abbrev pub of_sighting : {A : Type 0} → Sighting A → Instance
-of_sighting seen = (shown_by seen, instance_id_of seen.lsa)
+abbrev pub of_observation : {A : Type 0} → Observation A → Instance
+of_observation seen = (shown_by seen, instance_id_of seen.lsa)
 
 -- of all files, one after another
-abbrev pub headers_of : {A : Type 0} → List (FileTold A) → List Instance
+abbrev pub headers_of : {A : Type 0} → List (ParsedFile A) → List Instance
 headers_of files = flat_map (λ file. filter_map instance_named file.headers.items) files
 
-abbrev pub shown_of : {A : Type 0} → List (FileTold A) → List Instance
-shown_of files = flat_map (λ file. map of_sighting file.sightings.items) files
+abbrev pub shown_of : {A : Type 0} → List (ParsedFile A) → List Instance
+shown_of files = flat_map (λ file. map of_observation file.observations.items) files
 
 abbrev pub is_same_lsa : NamedLsa → Instance → Bool
 is_same_lsa lsa other = eq_by_cmp lsa_cmp lsa other.0

@@ -2,7 +2,7 @@
 use Rattle.std.specs.Prelude.{◌≡◌, ℕ, List, ◌++◌, codes, flat_map, if◌then◌else◌}
 use Rattle.lsa_codec.specs.Spelling.{address_text}
 use Rattle.lsa_instances.specs.Texts.{key_text}
-use Rattle.network_files.specs.declared.file_told.FileTold.{FileTold}
+use Rattle.network_files.specs.declared.parsed_file.ParsedFile.{ParsedFile}
 use Rattle.unseen_lsas.specs.declared.named.NamedLsa.{NamedLsa}
 use Rattle.unseen_lsas.specs.Newer.{AreNewer, headers_of, shown_of}
 use Rattle.unseen_lsas.specs.Unseen.{AreUnseen, all_named, all_shown}
@@ -17,7 +17,7 @@ abbrev pub line_of : List ℕ → NamedLsa → List ℕ
 line_of what lsa = codes "database: " ++ what ++ codes " " ++ named_text lsa ++ codes "\n"
 
 -- a line for each LSA that no file shows, and then for each of which a newer instance is named
-pub record AreLines {A : Type 0} (files : List (FileTold A)) (lines : List ℕ) : Type 0 where
+pub record AreLines {A : Type 0} (files : List (ParsedFile A)) (lines : List ℕ) : Type 0 where
   pub unseen : List NamedLsa
   pub newer : List NamedLsa
   pub are_unseen : AreUnseen (all_named files) (all_shown files) unseen

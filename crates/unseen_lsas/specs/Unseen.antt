@@ -11,9 +11,9 @@ use Rattle.lsa_instances.specs.declared.place.Place.{Place}
 use Rattle.lsa_instances.specs.Headers.{is_at_max_age}
 use Rattle.lsa_instances.specs.declared.place.Scope.{Scope}
 use Rattle.lsa_instances.specs.declared.place.Scope.TheVariants.{Area, AsWide}
-use Rattle.lsa_instances.specs.declared.sighting.Sighting.{Sighting}
+use Rattle.lsa_instances.specs.declared.observation.Observation.{Observation}
 use Rattle.lsa_instances.specs.Order.{place_of}
-use Rattle.network_files.specs.declared.file_told.FileTold.{FileTold}
+use Rattle.network_files.specs.declared.parsed_file.ParsedFile.{ParsedFile}
 use Rattle.unseen_lsas.specs.declared.named.NamedLsa.{NamedLsa}
 
 -- the LSA with a key, in the scope where it is flooded
@@ -33,15 +33,15 @@ abbrev pub named_by : Header → Option NamedLsa
 named_by header = if is_at_max_age header then None else Some (named_at header.place)
 
 -- the LSA of which an instance is seen
-abbrev pub shown_by : {A : Type 0} → Sighting A → NamedLsa
-shown_by sighting = named_at (place_of sighting)
+abbrev pub shown_by : {A : Type 0} → Observation A → NamedLsa
+shown_by observation = named_at (place_of observation)
 
 -- of all files, one after another
-abbrev pub all_named : {A : Type 0} → List (FileTold A) → List NamedLsa
+abbrev pub all_named : {A : Type 0} → List (ParsedFile A) → List NamedLsa
 all_named files = flat_map (λ file. filter_map named_by file.headers.items) files
 
-abbrev pub all_shown : {A : Type 0} → List (FileTold A) → List NamedLsa
-all_shown files = flat_map (λ file. map shown_by file.sightings.items) files
+abbrev pub all_shown : {A : Type 0} → List (ParsedFile A) → List NamedLsa
+all_shown files = flat_map (λ file. map shown_by file.observations.items) files
 
 -- whether the LSA is one of these
 abbrev pub has : NamedLsa → List NamedLsa → Bool

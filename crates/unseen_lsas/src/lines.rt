@@ -7,7 +7,7 @@ ghost use Rattle.unseen_lsas.specs.Texts.{AreLines, line_of};
 use crate::missing::unseen;
 use crate::named::NamedLsa;
 use crate::newest::newer;
-use network_files::FileTold;
+use network_files::ParsedFile;
 use std::alloc::{AllocError, Allocator};
 
 /// Adds a line for each LSA, with this word before it.
@@ -33,7 +33,7 @@ fn push_lines<A: Allocator + Copy>(
 /// Memory ran out.
 pub fn header_lines<A: Allocator + Copy>(
     alloc: A,
-    files: &[FileTold<A>],
+    files: &[ParsedFile<A>],
 ) -> Result<String<A>, AllocError>
     ensures { IfOk result (λ lines. AreLines files.now (string_bytes lines)) }
 {

@@ -6,7 +6,7 @@ ghost use Rattle.unseen_lsas.specs.Unseen.{AreUnseen, all_named, all_shown, lsa_
 
 use crate::named::NamedLsa;
 use crate::shown::{all_named, all_shown};
-use network_files::FileTold;
+use network_files::ParsedFile;
 use std::alloc::{AllocError, Allocator};
 use std::collections::BTreeSet;
 
@@ -57,7 +57,7 @@ fn missing<A: Allocator + Copy>(
 /// Memory ran out.
 pub fn unseen<A: Allocator + Copy>(
     alloc: A,
-    files: &[FileTold<A>],
+    files: &[ParsedFile<A>],
 ) -> Result<Vec<NamedLsa, A>, AllocError>
     ensures { IfOk result (λ lsas. AreUnseen (all_named files.now) (all_shown files.now)
         lsas.items) }

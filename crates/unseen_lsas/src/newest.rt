@@ -3,7 +3,7 @@
 ghost use Rattle.std.specs.Prelude.{◌≡◌, ◌++◌, List, Some, IfOk, OnOk, map};
 ghost use Rattle.std.specs.BTreeMap.{get, Updates};
 ghost use Rattle.std.specs.List.{filter_map};
-ghost use Rattle.unseen_lsas.specs.Newer.{AreNewer, Instance, headers_of, of_sighting, shown_of};
+ghost use Rattle.unseen_lsas.specs.Newer.{AreNewer, Instance, headers_of, of_observation, shown_of};
 ghost use Rattle.unseen_lsas.specs.Unseen.{lsa_cmp};
 ghost use Rattle.unseen_lsas.specs.steps.Newest.{AreNewest, all_newer, is_newer_by, is_over_some};
 ghost use Rattle.unseen_lsas.specs.steps.Newest.{newer_by, newest_with};
@@ -11,8 +11,8 @@ ghost use Rattle.unseen_lsas.specs.steps.Newest.{newer_by, newest_with};
 use crate::missing::once;
 use crate::named::{NamedLsa, named_at};
 use crate::shown::shown_by;
-use lsa_instances::{Header, InstanceId, Sighting, compare_instance_ids};
-use network_files::FileTold;
+use lsa_instances::{Header, InstanceId, Observation, compare_instance_ids};
+use network_files::ParsedFile;
 use std::alloc::{AllocError, Allocator};
 use std::collections::{BTreeMap, BTreeSet};
 
@@ -20,10 +20,10 @@ use std::collections::{BTreeMap, BTreeSet};
 type Newest<A> = BTreeMap<NamedLsa, InstanceId, A>;
 
 /// The LSA that is seen, and which instance of it.
-fn of_sighting<A: Allocator + Copy>(sighting: &Sighting<A>) -> (NamedLsa, InstanceId)
-    ensures { result ≡ of_sighting sighting.now }
+fn of_observation<A: Allocator + Copy>(observation: &Observation<A>) -> (NamedLsa, InstanceId)
+    ensures { result ≡ of_observation observation.now }
 {
-    (shown_by(sighting), InstanceId::of(&sighting.lsa))
+    (shown_by(observation), InstanceId::of(&observation.lsa))
 }
 
 /// Adds an instance that is shown.
@@ -44,15 +44,15 @@ fn put_shown<A: Allocator + Copy>(
 }
 
 /// Adds the instances that a file shows.
-fn put_sightings<A: Allocator + Copy>(
+fn put_observations<A: Allocator + Copy>(
     newest: &mut Newest<A>,
-    sightings: &[Sighting<A>],
+    observations: &[Observation<A>],
 ) -> Result<(), AllocError>
     ensures { OnOk result ((shown : List Instance) → AreNewest shown newest.old
-        → AreNewest (shown ++ map of_sighting sightings.now) newest.new) }
+        → AreNewest (shown ++ map of_observation observations.now) newest.new) }
 {
-    for sighting in sightings {
-        let (lsa, instance) = of_sighting(sighting);
+    for observation in observations {
+        let (lsa, instance) = of_observation(observation);
         put_shown(newest, lsa, instance)?;
     }
     Ok(())
@@ -61,13 +61,13 @@ fn put_sightings<A: Allocator + Copy>(
 /// The newest instance that the files show of each LSA.
 fn newest_shown<A: Allocator + Copy>(
     alloc: A,
-    files: &[FileTold<A>],
+    files: &[ParsedFile<A>],
 ) -> Result<Newest<A>, AllocError>
     ensures { IfOk result (AreNewest (shown_of files.now)) }
 {
     let mut newest = BTreeMap::new(alloc);
     for file in files {
-        put_sightings(&mut newest, &file.sightings)?;
+        put_observations(&mut newest, &file.observations)?;
     }
     Ok(newest)
 }
@@ -128,7 +128,7 @@ fn newer_in<A: Allocator + Copy>(
 fn all_newer<A: Allocator + Copy>(
     alloc: A,
     newest: &Newest<A>,
-    files: &[FileTold<A>],
+    files: &[ParsedFile<A>],
 ) -> Result<Vec<NamedLsa, A>, AllocError>
     ensures { IfOk result (λ lsas. lsas.items ≡ all_newer (get lsa_cmp newest.now) files.now) }
 {
@@ -159,7 +159,7 @@ fn in_order<A: Allocator + Copy>(
 /// Memory ran out.
 pub fn newer<A: Allocator + Copy>(
     alloc: A,
-    files: &[FileTold<A>],
+    files: &[ParsedFile<A>],
 ) -> Result<Vec<NamedLsa, A>, AllocError>
     ensures { IfOk result (λ lsas. AreNewer (headers_of files.now) (shown_of files.now)
         lsas.items) }

@@ -5,8 +5,8 @@ ghost use Rattle.std.specs.List.{filter_map};
 ghost use Rattle.unseen_lsas.specs.Unseen.{named_by, all_named, shown_by, all_shown};
 
 use crate::named::{NamedLsa, named_at};
-use lsa_instances::{Header, Sighting};
-use network_files::FileTold;
+use lsa_instances::{Header, Observation};
+use network_files::ParsedFile;
 use std::alloc::{AllocError, Allocator};
 
 /// The LSA, unless the header flushes it.
@@ -21,10 +21,10 @@ fn named_by(header: &Header) -> Option<NamedLsa>
 }
 
 /// The LSA of which this is an instance.
-pub(crate) fn shown_by<A: Allocator + Copy>(sighting: &Sighting<A>) -> NamedLsa
-    ensures { result ≡ shown_by sighting.now }
+pub(crate) fn shown_by<A: Allocator + Copy>(observation: &Observation<A>) -> NamedLsa
+    ensures { result ≡ shown_by observation.now }
 {
-    named_at(sighting.place())
+    named_at(observation.place())
 }
 
 /// The LSAs that these headers name.
@@ -43,20 +43,20 @@ fn named_in<A: Allocator + Copy>(
 /// The LSAs of which these are instances.
 fn shown_in<A: Allocator + Copy>(
     alloc: A,
-    sightings: &[Sighting<A>],
+    observations: &[Observation<A>],
 ) -> Result<Vec<NamedLsa, A>, AllocError>
-    ensures { IfOk result (λ lsas. lsas.items ≡ map shown_by sightings.now) }
+    ensures { IfOk result (λ lsas. lsas.items ≡ map shown_by observations.now) }
 {
-    sightings
+    observations
         .iter()
-        .map(|sighting| shown_by(sighting))
+        .map(|observation| shown_by(observation))
         .collect(alloc)
 }
 
 /// The LSAs that the headers of all files name, one file after another.
 pub(crate) fn all_named<A: Allocator + Copy>(
     alloc: A,
-    files: &[FileTold<A>],
+    files: &[ParsedFile<A>],
 ) -> Result<Vec<NamedLsa, A>, AllocError>
     ensures { IfOk result (λ lsas. lsas.items ≡ all_named files.now) }
 {
@@ -70,13 +70,13 @@ pub(crate) fn all_named<A: Allocator + Copy>(
 /// The LSAs of which the files show instances, one file after another.
 pub(crate) fn all_shown<A: Allocator + Copy>(
     alloc: A,
-    files: &[FileTold<A>],
+    files: &[ParsedFile<A>],
 ) -> Result<Vec<NamedLsa, A>, AllocError>
     ensures { IfOk result (λ lsas. lsas.items ≡ all_shown files.now) }
 {
     let mut lsas = Vec::new(alloc);
     for file in files {
-        lsas.append(&mut shown_in(alloc, &file.sightings)?)?;
+        lsas.append(&mut shown_in(alloc, &file.observations)?)?;
     }
     Ok(lsas)
 }

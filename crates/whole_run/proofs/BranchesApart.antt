@@ -68,8 +68,8 @@ alike_at : (branch : ℕ) (all few : Sessions) (line : List ℕ) (lines : List (
     ≡ answers few (cond own (line ∷ lines_in branch lines) (lines_in branch lines))
 unfolding answers
 alike_at branch all few line lines like rest true e =
-    ap (λ told. told ++ answers_in branch (after_line all (meaning line)) lines) (like_answer branch all few (meaning line) e like)
-    ∙ ap (λ told. answer_to few (meaning line) ++ told)
+    ap (λ answered. answered ++ answers_in branch (after_line all (meaning line)) lines) (like_answer branch all few (meaning line) e like)
+    ∙ ap (λ answered. answer_to few (meaning line) ++ answered)
     (rest (after_line all (meaning line)) (after_line few (meaning line)) (like_after branch all few (meaning line) like))
 alike_at branch all few line lines like rest false e =
     rest (after_line all (meaning line)) few (other_line branch all (meaning line) e ∙ like)

@@ -114,7 +114,7 @@ first_fault None fault other first = tt
 first_fault (Some bytes) fault other (inl memory) = absurd (other (ap (λ (f : DumpFault). f.kind) memory))
 first_fault (Some bytes) fault other (inr first) = first
 
--- what was loaded, told of known bytes
+-- what was loaded, where the bytes are known
 pub known_first : (known : Option (List ℕ)) (read : List ℕ) (fault : DumpFault) → IsAll known read
     → IsFirstFault fault (opened read) → IfSome known (λ bytes. IsFirstFault fault (opened bytes))
 known_first None read fault all first = tt

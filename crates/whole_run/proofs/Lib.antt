@@ -2,7 +2,7 @@ pub mod FirstLine
 pub mod ScriptLines
 pub mod KnownInputs
 pub mod BranchesApart
-pub mod ReadOctets
+pub mod ReadBytes
 pub mod AcceptedEdits
 pub mod FailedReads
 pub mod TableParts

@@ -25,8 +25,8 @@ turns_left None = 0
 turns_left (Some rest) = 1 + length rest.now
 
 -- what the next line is answered
-abbrev pub told : Sessions → List ℕ → List Answer
-told s line = answer_to s (meaning line)
+abbrev pub answered : Sessions → List ℕ → List Answer
+answered s line = answer_to s (meaning line)
 
 -- the sessions after the next line
 abbrev pub next : Sessions → List ℕ → Sessions
@@ -47,24 +47,24 @@ pub written_none : (a : Option (List ℕ)) (first : Sessions) (all : List (List 
 written_none a first all = record { text = []; appended = Appends-nil a; whole = refl; ends = refl }
 
 answers_turn : (now : Sessions) (left : List (List ℕ)) (line : List ℕ) (more : List (List ℕ)) → left ≡ line ∷ more
-    → answers now left ≡ told now line ++ answers (next now line) more
+    → answers now left ≡ answered now line ++ answers (next now line) more
 unfolding answers
 answers_turn now left line more e = ap (answers now) e
 
 text_turn : (text : List ℕ) (now : Sessions) (left : List (List ℕ)) (line : List ℕ) (more : List (List ℕ)) → left ≡ line ∷ more
-    → text ++ text_of (answers now left) ≡ (text ++ text_of (told now line)) ++ text_of (answers (next now line) more)
+    → text ++ text_of (answers now left) ≡ (text ++ text_of (answered now line)) ++ text_of (answers (next now line) more)
 text_turn text now left line more e =
     ap (λ xs. text ++ text_of xs) (answers_turn now left line more e)
-    ∙ ap (λ t. text ++ t) (text_of-append (told now line) (answers (next now line) more))
-    ∙ sym (append_assoc text (text_of (told now line)) (text_of (answers (next now line) more)))
+    ∙ ap (λ t. text ++ t) (text_of-append (answered now line) (answers (next now line) more))
+    ∙ sym (append_assoc text (text_of (answered now line)) (text_of (answers (next now line) more)))
 
 -- the answer to the next line is written
 pub written_line : (a b c : Option (List ℕ)) (first : Sessions) (all : List (List ℕ))
     (now : Sessions) (left : List (List ℕ)) (line : List ℕ) (more : List (List ℕ))
-    → Written a b first all now left → left ≡ line ∷ more → Appends b c (text_of (told now line)) → Written a c first all (next now line) more
+    → Written a b first all now left → left ≡ line ∷ more → Appends b c (text_of (answered now line)) → Written a c first all (next now line) more
 unfolding sessions_after
 written_line a b c first all now left line more w e reply = record {
-  text = w.text ++ text_of (told now line);
+  text = w.text ++ text_of (answered now line);
   appended = Appends-trans a b c _ _ w.appended reply;
   whole = w.whole ∙ text_turn w.text now left line more e;
   ends = w.ends ∙ ap (sessions_after now) e;
@@ -73,10 +73,10 @@ written_line a b c first all now left line more w e reply = record {
 -- a part of the next answer is written too
 pub written_part : (a b c : Option (List ℕ)) (first : Sessions) (all : List (List ℕ))
     (now : Sessions) (left : List (List ℕ)) (line : List ℕ) (more : List (List ℕ))
-    → Written a b first all now left → left ≡ line ∷ more → AppendsPrefix b c (text_of (told now line)) → AppendsPrefix a c (text_of (answers first all))
+    → Written a b first all now left → left ≡ line ∷ more → AppendsPrefix b c (text_of (answered now line)) → AppendsPrefix a c (text_of (answers first all))
 written_part a b c first all now left line more w e part =
-    AppendsPrefix-after a b c _ w.text (text_of (told now line)) (text_of (answers (next now line) more))
-    (w.whole ∙ text_turn w.text now left line more e ∙ append_assoc w.text (text_of (told now line)) (text_of (answers (next now line) more))) w.appended part
+    AppendsPrefix-after a b c _ w.text (text_of (answered now line)) (text_of (answers (next now line) more))
+    (w.whole ∙ text_turn w.text now left line more e ∙ append_assoc w.text (text_of (answered now line)) (text_of (answers (next now line) more))) w.appended part
 
 -- all lines are carried out
 pub written_all : (a b : Option (List ℕ)) (first : Sessions) (all : List (List ℕ)) (now : Sessions) (left : List (List ℕ))
@@ -91,32 +91,32 @@ unfolding sessions_after
 written_end a b first all now left w e = sym (w.ends ∙ ap (sessions_after now) e)
 
 -- a line that is no command, and is not empty, has one answer
-told_fault : (s : Sessions) (fault : ScriptFault) → fault ≢ Empty
+reported_fault : (s : Sessions) (fault : ScriptFault) → fault ≢ Empty
     → answer_to s (Err fault) ≡ record { text = script_text fault; refused = true } ∷ []
-told_fault s Empty some = absurd (some refl)
-told_fault s UnknownWord some = refl
-told_fault s MissingWord some = refl
-told_fault s ExtraWord some = refl
-told_fault s BadNumber some = refl
-told_fault s BadAddress some = refl
-told_fault s BadPrefix some = refl
-told_fault s BadBranch some = refl
+reported_fault s Empty some = absurd (some refl)
+reported_fault s UnknownWord some = refl
+reported_fault s MissingWord some = refl
+reported_fault s ExtraWord some = refl
+reported_fault s BadNumber some = refl
+reported_fault s BadAddress some = refl
+reported_fault s BadPrefix some = refl
+reported_fault s BadBranch some = refl
 
 -- its answer is the text of its fault, it is counted once and as refused, and the sessions stay
-pub record FaultTold (s : Sessions) (fault : ScriptFault) (read : Result (ℕ × Command) ScriptFault) : Type 0 where
+pub record FaultAnswered (s : Sessions) (fault : ScriptFault) (read : Result (ℕ × Command) ScriptFault) : Type 0 where
   pub text : text_of (answer_to s read) ≡ script_text fault
   pub one : length (answer_to s read) ≡ 1
   pub refused : refused_count (answer_to s read) ≡ 1
   pub same : s ≡ after_line s read
 
-pub fault_told : (s : Sessions) (fault : ScriptFault) → fault ≢ Empty → (read : Result (ℕ × Command) ScriptFault) → Err fault ≡ read
-    → FaultTold s fault read
-fault_told s fault some read is =
-    let told = told_fault s fault some in
-    subst (FaultTold s fault) is (record {
-      text = ap text_of told ∙ append-nil (script_text fault);
-      one = ap length told;
-      refused = ap refused_count told;
+pub fault_answered : (s : Sessions) (fault : ScriptFault) → fault ≢ Empty → (read : Result (ℕ × Command) ScriptFault) → Err fault ≡ read
+    → FaultAnswered s fault read
+fault_answered s fault some read is =
+    let answered = reported_fault s fault some in
+    subst (FaultAnswered s fault) is (record {
+      text = ap text_of answered ∙ append-nil (script_text fault);
+      one = ap length answered;
+      refused = ap refused_count answered;
       same = refl;
     })
 
@@ -138,9 +138,9 @@ few_answers : (s : Sessions) (lines : List (List ℕ)) → length (answers s lin
 unfolding answers
 few_answers s [] = search rules
 few_answers s (line ∷ lines) =
-    omega (arith, length-append (told s line) (answers (next s line) lines), one_answer s (meaning line), few_answers (next s line) lines)
+    omega (arith, length-append (answered s line) (answers (next s line) lines), one_answer s (meaning line), few_answers (next s line) lines)
 
--- there are at most as many lines as bytes, and one
+-- the number of lines is at most that of bytes, and one
 few_lines : (script : List ℕ) → length (lines_of script) ≤ length script + 1
 few_lines script = omega (
   arith,
@@ -160,20 +160,20 @@ refused_room s now script count left small e =
 
 -- one more line is counted
 pub commands_line : (now : Sessions) (count total new : ℕ) (left : List (List ℕ)) (line : List ℕ) (more : List (List ℕ))
-    → count + length (answers now left) ≡ total → left ≡ line ∷ more → new ≡ count + length (told now line)
+    → count + length (answers now left) ≡ total → left ≡ line ∷ more → new ≡ count + length (answered now line)
     → new + length (answers (next now line) more) ≡ total
 commands_line now count total new left line more e turn one =
-    omega (arith, ap length (answers_turn now left line more turn), length-append (told now line) (answers (next now line) more))
+    omega (arith, ap length (answers_turn now left line more turn), length-append (answered now line) (answers (next now line) more))
 
 pub refused_line : (now : Sessions) (count total new : ℕ) (left : List (List ℕ)) (line : List ℕ) (more : List (List ℕ))
-    → count + refused_count (answers now left) ≡ total → left ≡ line ∷ more → new ≡ count + refused_count (told now line)
+    → count + refused_count (answers now left) ≡ total → left ≡ line ∷ more → new ≡ count + refused_count (answered now line)
     → new + refused_count (answers (next now line) more) ≡ total
 refused_line now count total new left line more e turn one =
     omega (
       arith,
       ap refused_count (answers_turn now left line more turn),
       sum_by-append
-          (λ (a : Answer). cond a.refused 1 0) (told now line) (answers (next now line) more),
+          (λ (a : Answer). cond a.refused 1 0) (answered now line) (answers (next now line) more),
     )
 
 -- all lines are counted

@@ -3,7 +3,7 @@ use Rattle.std.specs.Prelude.{◌≡◌, ◌≢◌, ◌+◌, ℕ, List, Option, 
 use Rattle.lsdb.specs.declared.fault.DumpFaultKind.TheVariants as kind
 use Rattle.lsdb.specs.declared.fault.DumpFault.{DumpFault}
 use Rattle.lsdb.specs.Limits.{longest_session}
-use Rattle.lsdb.specs.BaseLoading.{most_octets}
+use Rattle.lsdb.specs.BaseLoading.{most_bytes}
 use Rattle.saved_sessions.specs.Opening.{opened}
 
 -- bytes that are the text of a database or of a session
@@ -18,8 +18,8 @@ IsRefusedDump known fault = (fault.kind ≢ kind.OutOfMemory) × IfSome known (�
 -- without edits
 abbrev pub most_read : Option (List ℕ) → ℕ
 most_read None = longest_session + 1
-most_read (Some bytes) = most_octets bytes + 1
+most_read (Some bytes) = most_bytes bytes + 1
 
--- a script may have so many octets: 2^20
+-- a script may have this number of bytes: 2^20
 abbrev pub longest_script : ℕ
 longest_script = 1048576

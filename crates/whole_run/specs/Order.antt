@@ -16,13 +16,13 @@ AreUntouched old new old_other new_other = (new ≡ old) × (new_other ≡ old_o
 abbrev pub RepliesBefore : {W V U : Type 0} → Watched W → V → V → U → U → Type 0
 RepliesBefore replies out new_out save new_save = has_failed replies ≡ true → AreUntouched out new_out save new_save
 
--- the dump is written behind the replies and before the session: where its writer failed, the replies are whole and flushed,
+-- the dump is written after the replies and before the session: where its writer failed, the replies are whole and flushed,
 -- and the writer of the session is as it was
-abbrev pub OutBehind : {W D E : Type 0} → Type 0 → Watched W → Option (Watched D) → Option (Watched E) → Option (Watched E) → Type 0
-OutBehind replies_whole replies out save new_save =
+abbrev pub OutAfter : {W D E : Type 0} → Type 0 → Watched W → Option (Watched D) → Option (Watched E) → Option (Watched E) → Type 0
+OutAfter replies_whole replies out save new_save =
     has_any_failed out ≡ true → (is_flushed replies ≡ true) × (replies_whole × (new_save ≡ save))
 
 -- the session is written last: where its writer failed, the replies and the dump are whole and flushed
-abbrev pub SaveBehind : {W D E : Type 0} → Type 0 → Type 0 → Watched W → Option (Watched D) → Option (Watched E) → Type 0
-SaveBehind replies_whole out_whole replies out save =
+abbrev pub SaveAfter : {W D E : Type 0} → Type 0 → Type 0 → Watched W → Option (Watched D) → Option (Watched E) → Type 0
+SaveAfter replies_whole out_whole replies out save =
     has_any_failed save ≡ true → (is_flushed replies ≡ true) × (replies_whole × ((is_any_flushed out ≡ true) × out_whole))

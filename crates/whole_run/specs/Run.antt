@@ -57,7 +57,7 @@ run_answers dump script = answers_from (begun (opened dump)) (lines_of script)
 
 -- the text of answers, one after another
 abbrev pub text_of : List Answer → List ℕ
-text_of told = flat_map (λ answer. answer.text) told
+text_of answered = flat_map (λ answer. answer.text) answered
 
 -- the replies that a script gives on a dump
 abbrev pub run_text : List ℕ → List ℕ → List ℕ

@@ -15,13 +15,13 @@ IfBoth (Some bytes) (Some text) P = P bytes text
 
 -- how many answers refuse their line
 abbrev pub refused_count : List Answer → ℕ
-refused_count told = count_by (λ answer. answer.refused) told
+refused_count answered = count_by (λ answer. answer.refused) answered
 
 -- the counts of these answers
 abbrev pub IsSummaryOf : List Answer → Summary → Type 0
-IsSummaryOf told summary = (summary.commands ≡ length told) × (summary.refused ≡ refused_count told)
+IsSummaryOf answered summary = (summary.commands ≡ length answered) × (summary.refused ≡ refused_count answered)
 
--- a run tells the dump's first fault, and that a script is too large only of an accepted dump and a script that is
+-- a run reports the dump's first fault, and reports that a script is too large only where the dump is accepted and it is
 abbrev pub MayEndRun : Option (List ℕ) → Option (List ℕ) → RunFault → Type 0
 MayEndRun dump script (Dump fault) = IsRefusedDump dump fault
 MayEndRun dump script Read = Unit {0}

@@ -16,7 +16,7 @@ pub enum RunFault {
     Read,
     /// A writer has failed. It holds a prefix of what it would have got.
     Write,
-    /// The script is longer than 1,048,576 octets. Nothing was written.
+    /// The script is longer than 1,048,576 bytes. Nothing was written.
     TooLarge,
     /// A growth was refused. The replies that were written are a prefix of all of them.
     OutOfMemory,

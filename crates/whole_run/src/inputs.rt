@@ -10,7 +10,7 @@ ghost use Rattle.saved_sessions.specs.Opening.{opened};
 ghost use Rattle.branches.specs.Branches.{sessions_of};
 ghost use Rattle.whole_run.specs.Run.{begun};
 ghost use Rattle.whole_run.specs.Inputs.{IsAccepted, longest_script, most_read};
-ghost use Rattle.whole_run.specs.steps.Reading.{IsDumpEnd, IsScriptEnd, IsTooLong, most_behind};
+ghost use Rattle.whole_run.specs.steps.Reading.{IsDumpEnd, IsScriptEnd, IsTooLong, most_after};
 
 use crate::fault::RunFault;
 use branches::Branches;
@@ -20,10 +20,10 @@ use std::alloc::Allocator;
 use std::io::Read;
 use streams::{ReadFault, Watched, read_more, read_whole};
 
-/// The greatest length of a script, in octets.
+/// The greatest length of a script, in bytes.
 pub(crate) const SCRIPT_LIMIT: usize = 1_048_576;
 
-/// Reads on behind more octets than a dump without edits may have: those of a session may be more.
+/// Reads on after more bytes than a dump without edits may have: those of a session may be more.
 fn read_on<A: Allocator + Copy, R: Read>(
     dump: &mut Watched<R>,
     front: Vec<u8, A>,
@@ -36,7 +36,7 @@ fn read_on<A: Allocator + Copy, R: Read>(
         → IfSome (R.remaining (inner_of dump.old)) (λ rest. IsTooLong (front.items ++ rest)) }
     ensures failed { (result ≡ Err ReadFault.Failed) ↔ (has_failed dump.new ≡ true) }
     ensures bounded { ConsumesAtMost (R.remaining (inner_of dump.old))
-        (R.remaining (inner_of dump.new)) (most_behind front.items) }
+        (R.remaining (inner_of dump.new)) (most_after front.items) }
 {
     if !begins_session(front.as_slice()) {
         return Err(ReadFault::TooLarge);
@@ -46,8 +46,8 @@ fn read_on<A: Allocator + Copy, R: Read>(
     Ok(bytes)
 }
 
-/// Reads the octets of a dump, or of a session, whole.
-fn read_octets<A: Allocator + Copy, R: Read>(
+/// Reads the bytes of a dump, or of a session, whole.
+fn read_bytes<A: Allocator + Copy, R: Read>(
     alloc: A,
     dump: &mut Watched<R>,
 ) -> Result<Vec<u8, A>, ReadFault>
@@ -82,7 +82,7 @@ pub(crate) fn read_branches<A: Allocator + Copy, R: Read>(
     ensures bounded { ConsumesAtMost (R.remaining (inner_of dump.old))
         (R.remaining (inner_of dump.new)) (most_read (R.remaining (inner_of dump.old))) }
 {
-    let bytes = match read_octets(alloc, dump) {
+    let bytes = match read_bytes(alloc, dump) {
         Ok(bytes) => bytes,
         Err(ReadFault::Failed) => return Err(RunFault::Read),
         Err(ReadFault::TooLarge) => return Err(RunFault::Dump(TOO_LARGE)),

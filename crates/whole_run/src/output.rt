@@ -5,7 +5,7 @@ ghost use Rattle.std.specs.Io.KnownBytes.{Appends, Keeps};
 ghost use Rattle.streams.specs.Watched.{inner_of, has_failed, is_flushed};
 ghost use Rattle.streams.specs.WholeText.{AppendsPrefix};
 ghost use Rattle.whole_run.specs.Streams.{contents_of, has_any_failed, is_any_flushed};
-ghost use Rattle.whole_run.specs.Order.{AreFlushed, RepliesBefore, OutBehind, SaveBehind};
+ghost use Rattle.whole_run.specs.Order.{AreFlushed, RepliesBefore, OutAfter, SaveAfter};
 
 use std::io::Write;
 use streams::{Watched, WriteFault, write_and_flush};
@@ -38,10 +38,10 @@ pub(crate) fn write_ends<W: Write, D: Write, E: Write>(
         || has_any_failed out.new || has_any_failed save.new) ≡ true) }
     ensures flushed { OnOk result (AreFlushed replies.new out.new save.new) }
     ensures replies_before { RepliesBefore replies.new out.old out.new save.old save.new }
-    ensures out_behind { OutBehind
+    ensures out_after { OutAfter
         (Keeps (W.contents (inner_of replies.old)) (W.contents (inner_of replies.new)))
         replies.new out.new save.old save.new }
-    ensures save_behind { SaveBehind
+    ensures save_after { SaveAfter
         (Keeps (W.contents (inner_of replies.old)) (W.contents (inner_of replies.new)))
         (Appends (contents_of D.contents out.old) (contents_of D.contents out.new) dump.now)
         replies.new out.new save.new }

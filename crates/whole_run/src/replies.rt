@@ -37,7 +37,7 @@ pub(crate) fn write_script_fault<A: Allocator + Copy, W: Write>(
     Ok(())
 }
 
-/// Carries a command out in a branch, and writes its reply. Tells whether it was refused.
+/// Carries a command out in a branch, and writes its reply. Returns whether it was refused.
 pub(crate) fn write_reply<A: Allocator + Copy, W: Write>(
     alloc: A,
     branches: &mut Branches<A>,

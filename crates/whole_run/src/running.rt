@@ -13,7 +13,7 @@ ghost use Rattle.branches.specs.Branches.{sessions_of};
 ghost use Rattle.whole_run.specs.Run.{answers, lines_of, sessions_after, text_of};
 ghost use Rattle.whole_run.specs.Run.{run_answers, run_text, final_dump, final_session};
 ghost use Rattle.whole_run.specs.Streams.{contents_of, has_any_failed};
-ghost use Rattle.whole_run.specs.Order.{AreFlushed, AreUntouched, RepliesBefore, OutBehind, SaveBehind};
+ghost use Rattle.whole_run.specs.Order.{AreFlushed, AreUntouched, RepliesBefore, OutAfter, SaveAfter};
 ghost use Rattle.whole_run.specs.WholeRun.{IfBoth, IsSummaryOf, MayEndRun, IsBeforeReplies};
 ghost use Rattle.whole_run.specs.Inputs.{IsAccepted, longest_script, most_read};
 ghost use Rattle.whole_run.specs.steps.Reading.{IsRunEnd};
@@ -83,13 +83,13 @@ pub fn run<A: Allocator + Copy, R: Read, S: Read, W: Write, D: Write, E: Write>(
     // In which order it is written.
     ensures flushed { OnOk result (AreFlushed replies.new out.new save.new) }
     ensures replies_before { RepliesBefore replies.new out.old out.new save.old save.new }
-    ensures out_behind { OutBehind
+    ensures out_after { OutAfter
         (IfBoth (R.remaining (inner_of dump.old)) (S.remaining (inner_of script.old))
         (λ bytes script. Appends (W.contents (inner_of replies.old))
         (W.contents (inner_of replies.new))
         (run_text bytes script)))
         replies.new out.new save.old save.new }
-    ensures save_behind { SaveBehind
+    ensures save_after { SaveAfter
         (IfBoth (R.remaining (inner_of dump.old)) (S.remaining (inner_of script.old))
         (λ bytes script. Appends (W.contents (inner_of replies.old))
         (W.contents (inner_of replies.new))

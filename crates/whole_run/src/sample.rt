@@ -1,6 +1,6 @@
 //! The built-in sample.
 
-/// The database where no dump is named, 99 octets: area 0.0.0.0 with routers 1.1.1.1 and 2.2.2.2, a
+/// The database where no dump is named, 99 bytes: area 0.0.0.0 with routers 1.1.1.1 and 2.2.2.2, a
 /// point-to-point link of cost 10 between them, and the stub network 10.2.0.0/16 of cost 5 at
 /// 2.2.2.2.
 pub const SAMPLE: &[u8] = &[

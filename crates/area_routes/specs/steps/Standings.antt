@@ -21,9 +21,9 @@ abbrev pub stands_before : Standing → Standing → Bool
 stands_before a b = nat_lt a.distance b.distance || ((a.distance == b.distance) && nat_lt b.id.0 a.id.0)
 
 -- whether the best standing is before this one
-abbrev pub is_behind : Option Standing → Standing → Bool
-is_behind None standing = false
-is_behind (Some best) standing = stands_before best standing
+abbrev pub is_after : Option Standing → Standing → Bool
+is_after None standing = false
+is_after (Some best) standing = stands_before best standing
 
 -- whether one of these networks has the prefix and is better
 abbrev pub any_before : List ReachedValue → Net → Standing → Bool
@@ -31,7 +31,7 @@ any_before ns net standing = list_any (λ m. eq_by_cmp prefix_cmp (net_of_lsa m.
 
 -- these are the best standings of the networks
 abbrev pub AreStandingsOf : List ReachedValue → BTreeMap Net Standing → Type 0
-AreStandingsOf ns standings = (net : Net) (standing : Standing) → any_before ns net standing ≡ is_behind (get prefix_cmp standings net) standing
+AreStandingsOf ns standings = (net : Net) (standing : Standing) → any_before ns net standing ≡ is_after (get prefix_cmp standings net) standing
 
 -- the offer of a vertex, if it is a network that none of these beats
 abbrev pub unbeaten : List ReachedValue → ReachedValue → List OfferValue

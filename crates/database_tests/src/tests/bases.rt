@@ -8,8 +8,8 @@ const SESSION: &[u8] = b"OSWP\x02\0\0\0\0\0\0\0";
 
 #[test]
 fn loads_and_dumps_the_base_of_a_session(rt: HostRuntime) -> Result<(), Fail> {
-    let (database, octets) = Database::load_base(rt.alloc(), SESSION)?;
-    assert_eq!(rt; octets, 8);
+    let (database, bytes) = Database::load_base(rt.alloc(), SESSION)?;
+    assert_eq!(rt; bytes, 8);
     let base = database.dump_base()?;
     assert_eq!(rt; base.as_slice(), &SESSION[..8]);
     Ok(())
@@ -19,7 +19,7 @@ fn loads_and_dumps_the_base_of_a_session(rt: HostRuntime) -> Result<(), Fail> {
 const DATABASE: &[u8] = b"OSWP\x01\0\0\0";
 
 #[test]
-fn tells_the_version_of_a_base(rt: HostRuntime) -> Result<(), Fail> {
+fn reads_the_version_of_a_base(rt: HostRuntime) -> Result<(), Fail> {
     let fault = Database::load_base(rt.alloc(), DATABASE).err();
     let version = DumpFault {
         offset: 4,

@@ -2,10 +2,10 @@
 
 use super::nets::{NETS, edit_of};
 use edit_script::{Edit, print};
+use failing_alloc::FailingAlloc;
 use lsa_codec::{Addr, Lsa, LsaFault, MakeFault, Prefix, RouterId};
 use lsdb::{Database, DumpFault, DumpFaultKind};
-use rationed::Rationed;
-use refused_growths::{Answer, Growing, Seen, growths_of};
+use refused_growths::{Answer, FallibleCall, Outcome, growths_of};
 use std::alloc::{AllocError, Global};
 use std::test::*;
 
@@ -73,74 +73,74 @@ fn net() -> Prefix {
 /// What the calls are lent.
 #[derive(Drop)]
 struct Lent<'a> {
-    router: Lsa<&'a Rationed>,
-    summary: Lsa<&'a Rationed>,
-    database: Database<&'a Rationed>,
+    router: Lsa<&'a FailingAlloc>,
+    summary: Lsa<&'a FailingAlloc>,
+    database: Database<&'a FailingAlloc>,
     edit: Edit,
 }
 
-fn lend(rationed: &Rationed) -> Result<Lent<'_>, Fail> {
+fn lend(failing: &FailingAlloc) -> Result<Lent<'_>, Fail> {
     Ok(Lent {
-        router: Lsa::decode(rationed, ROUTER)?.0,
-        summary: Lsa::decode(rationed, SUMMARY)?.0,
-        database: Database::load(rationed, NETS)?,
+        router: Lsa::decode(failing, ROUTER)?.0,
+        summary: Lsa::decode(failing, SUMMARY)?.0,
+        database: Database::load(failing, NETS)?,
         edit: edit_of("add-external 2.2.2.2 10.9.0.0/16 2 20 10.5.0.3 7")?,
     })
 }
 
-/// The answer that is octets.
-fn octets(alloc: Global, octets: &[u8]) -> Result<Answer, Fail> {
-    Ok(Some(Vec::from_slice(alloc, octets)?))
+/// The answer that is bytes.
+fn of_bytes(alloc: Global, bytes: &[u8]) -> Result<Answer, Fail> {
+    Ok(Some(Vec::from_slice(alloc, bytes)?))
 }
 
 /// The LSA that a call makes of a router-LSA.
 fn of_router<'a>(
-    rationed: &'a Rationed,
-    lsa: &Lsa<&'a Rationed>,
+    failing: &'a FailingAlloc,
+    lsa: &Lsa<&'a FailingAlloc>,
     call: Call,
-) -> Result<Lsa<&'a Rationed>, MakeFault> {
+) -> Result<Lsa<&'a FailingAlloc>, MakeFault> {
     if lsa.key().kind != 1 {
         return Err(MakeFault::NoLink);
     }
     match call {
-        Call::WithCost => lsa.with_cost(rationed, 1, 7),
-        Call::WithoutLink => lsa.without_link(rationed, 2),
-        Call::WithoutLinksTo => lsa.without_links_to(rationed, RouterId(0x0202_0202)),
-        Call::WithoutNetLinks => lsa.without_net_links(rationed, Addr(0x0a05_0003)),
-        _ => lsa.with_stub(rationed, net(), 3),
+        Call::WithCost => lsa.with_cost(failing, 1, 7),
+        Call::WithoutLink => lsa.without_link(failing, 2),
+        Call::WithoutLinksTo => lsa.without_links_to(failing, RouterId(0x0202_0202)),
+        Call::WithoutNetLinks => lsa.without_net_links(failing, Addr(0x0a05_0003)),
+        _ => lsa.with_stub(failing, net(), 3),
     }
 }
 
 /// The LSA that a call makes of a summary-LSA, or of none.
 fn of_summary<'a>(
-    rationed: &'a Rationed,
-    lsa: &Lsa<&'a Rationed>,
+    failing: &'a FailingAlloc,
+    lsa: &Lsa<&'a FailingAlloc>,
     call: Call,
-) -> Result<Lsa<&'a Rationed>, MakeFault> {
+) -> Result<Lsa<&'a FailingAlloc>, MakeFault> {
     if lsa.key().kind != 3 {
         return Err(MakeFault::NoLink);
     }
     let router = RouterId(0x0202_0202);
     match call {
-        Call::WithMetric => lsa.with_metric(rationed, 20),
-        Call::NewSummary => Lsa::new_summary(rationed, 2, router, net(), 7),
-        _ => Lsa::new_external(rationed, router, net(), true, 20, Addr(0), 0),
+        Call::WithMetric => lsa.with_metric(failing, 20),
+        Call::NewSummary => Lsa::new_summary(failing, 2, router, net(), 7),
+        _ => Lsa::new_external(failing, router, net(), true, 20, Addr(0), 0),
     }
 }
 
-/// The octets of an LSA that was made.
-fn made(alloc: Global, lsa: Result<Lsa<&Rationed>, MakeFault>) -> Result<Answer, Fail> {
+/// The bytes of an LSA that was made.
+fn made(alloc: Global, lsa: Result<Lsa<&FailingAlloc>, MakeFault>) -> Result<Answer, Fail> {
     match lsa {
-        Ok(lsa) => octets(alloc, lsa.bytes()),
+        Ok(lsa) => of_bytes(alloc, lsa.bytes()),
         Err(MakeFault::OutOfMemory) => Ok(None),
         Err(fault) => Err(fault)?,
     }
 }
 
-/// The octets of an LSA that was read or copied.
-fn read(alloc: Global, lsa: Result<Lsa<&Rationed>, LsaFault>) -> Result<Answer, Fail> {
+/// The bytes of an LSA that was read or copied.
+fn read(alloc: Global, lsa: Result<Lsa<&FailingAlloc>, LsaFault>) -> Result<Answer, Fail> {
     match lsa {
-        Ok(lsa) => octets(alloc, lsa.bytes()),
+        Ok(lsa) => of_bytes(alloc, lsa.bytes()),
         Err(LsaFault::OutOfMemory) => Ok(None),
         Err(fault) => Err(fault)?,
     }
@@ -149,21 +149,21 @@ fn read(alloc: Global, lsa: Result<Lsa<&Rationed>, LsaFault>) -> Result<Answer, 
 /// The dump of a database that was loaded.
 fn loaded(
     alloc: Global,
-    rationed: &Rationed,
-    database: Result<Database<&Rationed>, DumpFault>,
+    failing: &FailingAlloc,
+    database: Result<Database<&FailingAlloc>, DumpFault>,
 ) -> Result<Answer, Fail> {
-    rationed.leave(u64::MAX);
+    failing.set_remaining(u64::MAX);
     match database {
-        Ok(database) => octets(alloc, &database.dump()?),
+        Ok(database) => of_bytes(alloc, &database.dump()?),
         Err(fault) if fault.kind == DumpFaultKind::OutOfMemory => Ok(None),
         Err(fault) => Err(fault)?,
     }
 }
 
-/// The octets of a text.
-fn text(alloc: Global, text: Result<Vec<u8, &Rationed>, AllocError>) -> Result<Answer, Fail> {
+/// The bytes of a text.
+fn text(alloc: Global, text: Result<Vec<u8, &FailingAlloc>, AllocError>) -> Result<Answer, Fail> {
     match text {
-        Ok(text) => octets(alloc, &text),
+        Ok(text) => of_bytes(alloc, &text),
         Err(AllocError) => Ok(None),
     }
 }
@@ -171,36 +171,36 @@ fn text(alloc: Global, text: Result<Vec<u8, &Rationed>, AllocError>) -> Result<A
 /// What a call answers.
 fn answer<'a>(
     alloc: Global,
-    rationed: &'a Rationed,
+    failing: &'a FailingAlloc,
     lent: &Lent<'a>,
     call: Call,
 ) -> Result<Answer, Fail> {
     let database = &lent.database;
     match call {
-        Call::Decode => read(alloc, Lsa::decode(rationed, SUMMARY).map(|found| found.0)),
+        Call::Decode => read(alloc, Lsa::decode(failing, SUMMARY).map(|found| found.0)),
         Call::CopyLsa => read(
             alloc,
             lent.router
-                .clone_of(rationed)
+                .clone_of(failing)
                 .map_err(|_| LsaFault::OutOfMemory),
         ),
-        Call::Load => loaded(alloc, rationed, Database::load(rationed, NETS)),
+        Call::Load => loaded(alloc, failing, Database::load(failing, NETS)),
         Call::LoadBase => loaded(
             alloc,
-            rationed,
-            Database::load_base(rationed, BASE).map(|found| found.0),
+            failing,
+            Database::load_base(failing, BASE).map(|found| found.0),
         ),
-        Call::CopyDatabase => loaded(alloc, rationed, database.clone_of().map_err(|_| NO_MEMORY)),
+        Call::CopyDatabase => loaded(alloc, failing, database.clone_of().map_err(|_| NO_MEMORY)),
         Call::Dump => text(alloc, database.dump()),
         Call::DumpBase => text(alloc, database.dump_base()),
         Call::Print => text(
             alloc,
-            print(rationed, &lent.edit).map(|line| line.into_bytes()),
+            print(failing, &lent.edit).map(|line| line.into_bytes()),
         ),
         Call::WithMetric | Call::NewSummary | Call::NewExternal => {
-            made(alloc, of_summary(rationed, &lent.summary, call))
+            made(alloc, of_summary(failing, &lent.summary, call))
         }
-        _ => made(alloc, of_router(rationed, &lent.router, call)),
+        _ => made(alloc, of_router(failing, &lent.router, call)),
     }
 }
 
@@ -210,25 +210,30 @@ const NO_MEMORY: DumpFault = DumpFault {
     kind: DumpFaultKind::OutOfMemory,
 };
 
-/// What is seen of a call with so many growths, and then with ample memory.
-fn seen_on<'a>(
+/// What is seen of a call with this number of growths, and then with ample memory.
+fn outcome_on<'a>(
     alloc: Global,
-    rationed: &'a Rationed,
+    failing: &'a FailingAlloc,
     lent: &Lent<'a>,
     call: Call,
     growths: u64,
-) -> Result<Seen, Fail> {
-    rationed.leave(growths);
-    let first = answer(alloc, rationed, lent, call)?;
-    rationed.leave(u64::MAX);
-    let then = answer(alloc, rationed, lent, call)?;
-    Ok(Seen::of_answers(alloc, first, then))
+) -> Result<Outcome, Fail> {
+    failing.set_remaining(growths);
+    let first = answer(alloc, failing, lent, call)?;
+    failing.set_remaining(u64::MAX);
+    let then = answer(alloc, failing, lent, call)?;
+    Ok(Outcome::of_answers(alloc, first, then))
 }
 
-impl Growing for Call {
-    fn seen(&self, alloc: Global, rationed: &Rationed, growths: u64) -> Result<Seen, Fail> {
-        let lent = lend(rationed)?;
-        seen_on(alloc, rationed, &lent, *self, growths)
+impl FallibleCall for Call {
+    fn outcome(
+        &self,
+        alloc: Global,
+        failing: &FailingAlloc,
+        growths: u64,
+    ) -> Result<Outcome, Fail> {
+        let lent = lend(failing)?;
+        outcome_on(alloc, failing, &lent, *self, growths)
     }
 }
 

@@ -5,8 +5,8 @@ use super::nets::{BACKBONE, NETS, TEN_EDITS, edit_of, is_after};
 use edit_history::{EditFault, History, apply};
 use edit_script::Edit;
 use edited_databases::filled::area_of;
+use failing_alloc::FailingAlloc;
 use lsdb::{Database, SlotFault};
-use rationed::Rationed;
 use std::alloc::{Allocator, Global};
 use std::test::*;
 
@@ -22,13 +22,13 @@ pub(super) struct Growths {
 
 /// The growths of a dump and of an edit of its database.
 pub(super) fn growths_of(alloc: Global, dump: &[u8], edit: &Edit) -> Result<Growths, Fail> {
-    let counted = Rationed::new(alloc, u64::MAX);
+    let counted = FailingAlloc::new(alloc, u64::MAX);
     let mut database = Database::load(&counted, dump)?;
-    let loaded = counted.left();
+    let loaded = counted.remaining();
     let _record = apply(&mut database, edit)?;
     Ok(Growths {
         loading: u64::MAX - loaded,
-        editing: loaded.saturating_sub(counted.left()),
+        editing: loaded.saturating_sub(counted.remaining()),
     })
 }
 
@@ -39,25 +39,25 @@ pub(super) fn is_refused_with(
     edit: &Edit,
     fault: EditFault,
 ) -> Result<bool, Fail> {
-    let rationed = Rationed::new(alloc, growths);
-    let mut database = Database::load(&rationed, NETS)?;
+    let failing = FailingAlloc::new(alloc, growths);
+    let mut database = Database::load(&failing, NETS)?;
     let refusal = apply(&mut database, edit).err();
     Ok(refusal == Some(fault) && is_after(alloc, &database, &[])?)
 }
 
-/// Whether an edit of a line is refused for want of memory with so many growths, changes nothing,
-/// and is then carried out with ample memory.
+/// Whether an edit of a line is refused for want of memory with this number of growths, changes
+/// nothing, and is then carried out with ample memory.
 fn is_refused_and_then_done<A: Allocator + Copy>(
     alloc: Global,
-    rationed: &Rationed,
+    failing: &FailingAlloc,
     database: &mut Database<A>,
     growths: u64,
     line: &str,
 ) -> Result<bool, Fail> {
     let edit = edit_of(line)?;
-    rationed.leave(growths);
+    failing.set_remaining(growths);
     let refusal = apply(database, &edit).err();
-    rationed.leave(u64::MAX);
+    failing.set_remaining(u64::MAX);
     let stays = refusal == Some(EditFault::OutOfMemory) && is_after(alloc, database, &[])?;
     let _record = apply(database, &edit)?;
     Ok(stays && is_after(alloc, database, &[line])?)
@@ -65,9 +65,9 @@ fn is_refused_and_then_done<A: Allocator + Copy>(
 
 /// The same of an edit of `NETS`.
 fn goes_on_with(alloc: Global, growths: u64, line: &str) -> Result<bool, Fail> {
-    let rationed = Rationed::new(alloc, u64::MAX);
-    let mut database = Database::load(&rationed, NETS)?;
-    is_refused_and_then_done(alloc, &rationed, &mut database, growths, line)
+    let failing = FailingAlloc::new(alloc, u64::MAX);
+    let mut database = Database::load(&failing, NETS)?;
+    is_refused_and_then_done(alloc, &failing, &mut database, growths, line)
 }
 
 /// Whether an edit asks for few growths, and the refusal of each in turn leaves the database as it
@@ -91,17 +91,17 @@ fn refused_growths_change_nothing(rt: HostRuntime) -> Result<(), Fail> {
     Ok(())
 }
 
-/// Whether a place is opened at the end of the backbone with so many growths. Where none is, the
-/// database stays that of its dump, and the same call then opens it with ample memory.
+/// Whether a slot is opened at the end of the backbone with this number of growths. Where none is,
+/// the database stays that of its dump, and the same call then opens it with ample memory.
 fn is_opened<A: Allocator + Copy>(
-    rationed: &Rationed,
+    failing: &FailingAlloc,
     database: &mut Database<A>,
     dump: &[u8],
     growths: u64,
 ) -> Result<bool, Fail> {
-    rationed.leave(growths);
+    failing.set_remaining(growths);
     let refusal = database.open_slot(BACKBONE).err();
-    rationed.leave(u64::MAX);
+    failing.set_remaining(u64::MAX);
     if database.dump()?.as_slice() != dump {
         return Err("the database has changed")?;
     }
@@ -114,25 +114,25 @@ fn is_opened<A: Allocator + Copy>(
 
 /// The same of the database of the dump.
 fn is_opened_with(alloc: Global, dump: &[u8], growths: u64) -> Result<bool, Fail> {
-    let rationed = Rationed::new(alloc, u64::MAX);
-    let mut database = Database::load(&rationed, dump)?;
-    is_opened(&rationed, &mut database, dump, growths)
+    let failing = FailingAlloc::new(alloc, u64::MAX);
+    let mut database = Database::load(&failing, dump)?;
+    is_opened(&failing, &mut database, dump, growths)
 }
 
-/// How many growths it takes to open a place at the end of the backbone of a dump.
+/// How many growths it takes to open a slot at the end of the backbone of a dump.
 fn growths_of_opening(alloc: Global, dump: &[u8]) -> Result<u64, Fail> {
     for growths in 0..MANY {
         if is_opened_with(alloc, dump, growths)? {
             return Ok(growths);
         }
     }
-    Err("a place")?
+    Err("a slot")?
 }
 
 /// A list of LSAs that was loaded has room for a power of two, and each of its three indexes and
 /// the list of its filters for all of them.
 #[test]
-fn a_refused_place_changes_nothing(rt: HostRuntime) -> Result<(), Fail> {
+fn a_refused_slot_changes_nothing(rt: HostRuntime) -> Result<(), Fail> {
     for (lsas, growths) in [(7, 4), (8, 5), (16, 5)] {
         let dump = area_of(rt.alloc(), lsas)?;
         assert_eq!(rt;
@@ -148,17 +148,17 @@ fn a_refused_place_changes_nothing(rt: HostRuntime) -> Result<(), Fail> {
 /// then makes it.
 fn growths_of_room(alloc: Global) -> Result<u64, Fail> {
     for growths in 0..MANY {
-        let rationed = Rationed::new(alloc, u64::MAX);
-        let mut history = History::new(&rationed);
-        rationed.leave(growths);
+        let failing = FailingAlloc::new(alloc, u64::MAX);
+        let mut history = History::new(&failing);
+        failing.set_remaining(growths);
         let refused = history.reserve().is_err();
         if !refused {
             return Ok(growths);
         }
-        if history.done() != 0 || history.undone() != 0 || rationed.left() != 0 {
+        if history.done() != 0 || history.undone() != 0 || failing.remaining() != 0 {
             return Err("the history has changed")?;
         }
-        rationed.leave(u64::MAX);
+        failing.set_remaining(u64::MAX);
         history.reserve()?;
     }
     Err("room")?
@@ -173,22 +173,22 @@ fn refused_room_changes_nothing(rt: HostRuntime) -> Result<(), Fail> {
 /// How many growths a cost asks for, with the room for its record.
 fn growths_of_cost(alloc: Global, dump: &[u8]) -> Result<u64, Fail> {
     let edit = edit_of("cost 0.0.0.0 1.1.1.1 1 7")?;
-    let counted = Rationed::new(alloc, u64::MAX);
+    let counted = FailingAlloc::new(alloc, u64::MAX);
     let (mut database, mut history) = edited(&counted, dump, &[])?;
-    let loaded = counted.left();
+    let loaded = counted.remaining();
     apply_and_push(&mut database, &mut history, &edit)?;
-    Ok(loaded.saturating_sub(counted.left()))
+    Ok(loaded.saturating_sub(counted.remaining()))
 }
 
 /// How many LSAs the backbone has, and how many growths a copy of the database asks for.
 fn growths_of_copy(alloc: Global, dump: &[u8]) -> Result<(usize, u64), Fail> {
-    let counted = Rationed::new(alloc, u64::MAX);
+    let counted = FailingAlloc::new(alloc, u64::MAX);
     let database = Database::load(&counted, dump)?;
-    let loaded = counted.left();
+    let loaded = counted.remaining();
     let _copy = database.clone_of()?;
     Ok((
         database.count(BACKBONE),
-        loaded.saturating_sub(counted.left()),
+        loaded.saturating_sub(counted.remaining()),
     ))
 }
 

@@ -3,8 +3,8 @@
 use super::nets::edit_of;
 use edit_history::{EditFault, apply};
 use edited_databases::filled::{area_of, as_list_of};
+use failing_alloc::FailingAlloc;
 use lsdb::Database;
-use rationed::Rationed;
 use std::alloc::Global;
 use std::test::*;
 
@@ -14,16 +14,16 @@ const ADD_EXTERNAL: &str = "add-external 2.2.2.2 10.9.0.0/16 2 20 0.0.0.0 0";
 
 /// How many growths it takes to load a dump.
 fn growths_of_load(alloc: Global, dump: &[u8]) -> Result<u64, Fail> {
-    let counted = Rationed::new(alloc, u64::MAX);
+    let counted = FailingAlloc::new(alloc, u64::MAX);
     let _database = Database::load(&counted, dump)?;
-    Ok(u64::MAX - counted.left())
+    Ok(u64::MAX - counted.remaining())
 }
 
 /// What an edit is refused for where no growth is left.
 fn refusal(alloc: Global, dump: &[u8], line: &str) -> Result<Option<EditFault>, Fail> {
     let edit = edit_of(line)?;
-    let rationed = Rationed::new(alloc, growths_of_load(alloc, dump)?);
-    let mut database = Database::load(&rationed, dump)?;
+    let failing = FailingAlloc::new(alloc, growths_of_load(alloc, dump)?);
+    let mut database = Database::load(&failing, dump)?;
     Ok(apply(&mut database, &edit).err())
 }
 

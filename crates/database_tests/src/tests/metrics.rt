@@ -42,9 +42,9 @@ const EXTERNAL_UNREACHABLE: &[u8] = &[
     0x00, 0x00, 0x00, 0x63, 0x88, 0x00, 0x00, 0x05, 0x00, 0x00, 0x00, 0x00, 0x00, 0x00, 0x00, 0x00,
 ];
 
-/// Whether an LSA with metric LSInfinity has these octets.
-fn is_unreachable_so(alloc: Global, octets: &[u8], expected: &[u8]) -> Result<bool, Fail> {
-    let (lsa, _) = Lsa::decode(alloc, octets)?;
+/// Whether an LSA with metric LSInfinity has these bytes.
+fn is_unreachable_so(alloc: Global, bytes: &[u8], expected: &[u8]) -> Result<bool, Fail> {
+    let (lsa, _) = Lsa::decode(alloc, bytes)?;
     let kind = lsa.key().kind;
     if kind != 3 && kind != 4 && kind != 5 {
         return Ok(false);

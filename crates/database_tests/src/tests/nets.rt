@@ -1,4 +1,4 @@
-//! A database, octet by octet, edits of it as lines of scripts, and what the edits lead to.
+//! A database, byte by byte, edits of it as lines of scripts, and what the edits lead to.
 
 use edit_script::Edit;
 use edited_databases::{edited, lines};
@@ -12,7 +12,7 @@ use std::test::Fail;
 /// links back, a stub link) and of 3.3.3.3 (the link to the network, a stub link), two summary-
 /// LSAs of 2.2.2.2 for 10.20.0.0/16, the second with host bits in its Link State ID, and the
 /// router-LSA of 4.4.4.4 at age 3600 (the link to the network, and a stub link for the address
-/// 10.5.0.3). The stub area 0.0.0.1: a router-LSA of 2.2.2.2. Behind them the AS-external-LSAs of
+/// 10.5.0.3). The stub area 0.0.0.1: a router-LSA of 2.2.2.2. After them the AS-external-LSAs of
 /// 2.2.2.2 for 10.91.0.0/16 and 10.92.0.0/16 and of 3.3.3.3 for 10.93.0.0/16.
 pub(super) const NETS: &[u8] = &[
     0x4f, 0x53, 0x57, 0x50, 0x01, 0x02, 0x00, 0x00, 0x00, 0x00, 0x00, 0x00, 0x07, 0x00, 0x01, 0x02,

@@ -1,4 +1,4 @@
-//! The places that are noted of a router and a prefix: once a dump is loaded, after edits, after
+//! The slots that are noted of a router and a prefix: once a dump is loaded, after edits, after
 //! they are taken back while each growth is refused, and in a copy.
 
 ghost use Rattle.edit_history.specs.Journal.{Links};
@@ -6,44 +6,44 @@ ghost use Rattle.edit_history.specs.Journal.{Links};
 use super::edited::{apply_and_push, back, edited};
 use super::nets::{NETS, edit_of};
 use edit_history::History;
+use failing_alloc::FailingAlloc;
 use lsa_codec::{Addr, Prefix, RouterId};
 use lsdb::Database;
-use rationed::Rationed;
 use std::alloc::{Allocator, Global};
 use std::test::*;
 
-/// A section of `NETS` by its number, the first two octets of a prefix of 16 bits, and the indices
-/// of the places there that are noted of 2.2.2.2 and the prefix, each with a space behind it.
+/// A section of `NETS` by its number, the first two bytes of a prefix of 16 bits, and the indices
+/// of the slots there that are noted of 2.2.2.2 and the prefix, each with a space after it.
 type Row = (usize, u32, &'static str);
 
-/// The indices of the places in a section that are noted of 2.2.2.2 and a prefix of 16 bits.
+/// The indices of the slots in a section that are noted of 2.2.2.2 and a prefix of 16 bits.
 fn noted_text<A: Allocator + Copy>(
     alloc: Global,
     database: &Database<A>,
     section: usize,
-    octets: u32,
+    bytes: u32,
 ) -> Result<String, Fail> {
     let mut text = String::new(alloc);
-    let Some(prefix) = Prefix::new(Addr(octets << 16), 16) else {
+    let Some(prefix) = Prefix::new(Addr(bytes << 16), 16) else {
         return Err("a prefix")?;
     };
     if section < database.section_count() {
-        for place in database.places_of_prefix(section, RouterId(0x02020202), prefix) {
-            let index = place.index;
+        for slot in database.slots_of_prefix(section, RouterId(0x02020202), prefix) {
+            let index = slot.index;
             text.push_str(&format!(in alloc; "{index} ")?)?;
         }
     }
     Ok(text)
 }
 
-/// Whether these places are noted of 2.2.2.2 and their prefixes.
+/// Whether these slots are noted of 2.2.2.2 and their prefixes.
 fn are_noted<A: Allocator + Copy>(
     alloc: Global,
     database: &Database<A>,
     rows: &[Row],
 ) -> Result<bool, Fail> {
-    for (section, octets, indices) in rows {
-        if noted_text(alloc, database, *section, *octets)?.as_str() != *indices {
+    for (section, bytes, indices) in rows {
+        if noted_text(alloc, database, *section, *bytes)?.as_str() != *indices {
             return Ok(false);
         }
     }
@@ -61,7 +61,7 @@ const LOADED: &[Row] = &[
     (2, 0x0a09, ""),
 ];
 
-/// After the two edits: a new place is noted, and that of the LSA that is gone stays.
+/// After the two edits: a new slot is noted, and that of the LSA that is gone stays.
 const EDITED: &[Row] = &[
     (0, 0x0a14, "4 5 "),
     (2, 0x0a5b, "0 "),
@@ -90,11 +90,11 @@ fn apply_line<A: Allocator + Copy>(
     Ok(apply_and_push(database, history, &edit)?)
 }
 
-/// Whether the places are noted when the database is loaded, behind the two edits, in a copy, and
+/// Whether the slots are noted when the database is loaded, after the two edits, in a copy, and
 /// when both are taken back where no growth is left.
-fn are_noted_behind_edits<A: Allocator + Copy>(
+fn are_noted_after_edits<A: Allocator + Copy>(
     alloc: Global,
-    rationed: &Rationed,
+    failing: &FailingAlloc,
     database: &mut Database<A>,
     history: &mut History<A>,
 ) -> Result<[bool; 4], Fail>
@@ -109,16 +109,16 @@ fn are_noted_behind_edits<A: Allocator + Copy>(
     apply_line(database, history, "drop-external 2.2.2.2 10.92.0.0/16")?;
     let edited = are_noted(alloc, database, EDITED)?;
     let copied = are_noted_in_copy(alloc, database)?;
-    rationed.leave(0);
+    failing.set_remaining(0);
     back(database, history, 2)?;
     Ok([loaded, edited, copied, are_noted(alloc, database, EDITED)?])
 }
 
 #[test]
-fn notes_the_places_of_a_prefix(rt: HostRuntime) -> Result<(), Fail> {
-    let rationed = Rationed::new(rt.alloc(), u64::MAX);
-    let (mut database, mut history) = edited(&rationed, NETS, &[])?;
-    let noted = are_noted_behind_edits(rt.alloc(), &rationed, &mut database, &mut history)?;
+fn notes_the_slots_of_a_prefix(rt: HostRuntime) -> Result<(), Fail> {
+    let failing = FailingAlloc::new(rt.alloc(), u64::MAX);
+    let (mut database, mut history) = edited(&failing, NETS, &[])?;
+    let noted = are_noted_after_edits(rt.alloc(), &failing, &mut database, &mut history)?;
     assert_eq!(rt; noted, [true; 4]);
     Ok(())
 }

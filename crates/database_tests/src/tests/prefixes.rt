@@ -57,7 +57,7 @@ fn orders_prefixes(rt: HostRuntime) {
 /// Lengths and their masks.
 const MASKS: &[(u8, u32)] = &[(0, 0), (1, 0x80000000), (31, 0xfffffffe), (32, 0xffffffff)];
 
-/// Octets that are no mask.
+/// Bytes that are no mask.
 const NO_MASKS: &[u32] = &[0x00000001, 0xff00ff00];
 
 /// Whether a length and a mask belong together.
@@ -70,8 +70,8 @@ fn makes_masks(rt: HostRuntime) -> Result<(), Fail> {
     for (len, mask) in MASKS {
         assert!(rt; belong_together(*len, *mask), "{len}");
     }
-    for octets in NO_MASKS {
-        assert!(rt; !is_mask(*octets));
+    for bytes in NO_MASKS {
+        assert!(rt; !is_mask(*bytes));
     }
     Ok(())
 }

@@ -1,15 +1,15 @@
-//! Records: they tell their edit, and go back and on without memory.
+//! Records: they report their edit, and go back and on without memory.
 
 ghost use Rattle.lsdb.specs.Lists.{IsDatabase};
-ghost use Rattle.lsdb.specs.Places.{lists_of};
+ghost use Rattle.lsdb.specs.Slots.{lists_of};
 ghost use Rattle.edit_history.specs.Exchange.{CanUndo};
 
 use super::growths::growths_of;
 use super::nets::{NETS, edit_of, is_after};
 use edit_history::{Record, apply, inverses, replay, revert};
+use failing_alloc::FailingAlloc;
 use lsa_codec::AreaId;
 use lsdb::Database;
-use rationed::Rationed;
 use std::alloc::{Allocator, Global};
 use std::test::*;
 
@@ -45,17 +45,17 @@ fn goes_and_comes<A: Allocator + Copy>(
     Ok(is_back && is_after(alloc, database, &[line])?)
 }
 
-/// Whether an edit changes so many LSAs, and goes and comes where no growth is left.
+/// Whether an edit changes this number of LSAs, and goes and comes where no growth is left.
 fn takes_no_memory(alloc: Global, line: &str, changed: usize) -> Result<bool, Fail> {
     let edit = edit_of(line)?;
     let growths = growths_of(alloc, NETS, &edit)?;
-    let rationed = Rationed::new(alloc, growths.loading.saturating_add(growths.editing));
-    let mut database = Database::load(&rationed, NETS)?;
+    let failing = FailingAlloc::new(alloc, growths.loading.saturating_add(growths.editing));
+    let mut database = Database::load(&failing, NETS)?;
     let mut record = apply(&mut database, &edit)?;
-    let is_told = record.edit() == edit && record.len() == changed && rationed.left() == 0;
+    let is_reported = record.edit() == edit && record.len() == changed && failing.remaining() == 0;
     // That the edit left a database is what going and coming asks for.
-    database.known();
-    Ok(goes_and_comes(alloc, &mut database, &mut record, line)? && is_told)
+    database.assert_valid();
+    Ok(goes_and_comes(alloc, &mut database, &mut record, line)? && is_reported)
 }
 
 #[test]
@@ -87,7 +87,7 @@ fn touched(alloc: Global, line: &str) -> Result<(bool, bool), Fail> {
 }
 
 #[test]
-fn a_record_tells_the_graphs_that_change(rt: HostRuntime) -> Result<(), Fail> {
+fn a_record_reports_the_graphs_that_change(rt: HostRuntime) -> Result<(), Fail> {
     for (line, backbone, stub_area) in TOUCHED {
         let graphs = touched(rt.alloc(), line)?;
         assert_eq!(rt; graphs, (*backbone, *stub_area), "{line}");

@@ -4,9 +4,9 @@ use super::growths::growths_of;
 use super::nets::{BACKBONE, edit_of};
 use edit_history::{EditFault, apply};
 use edited_databases::edited::is_after;
+use failing_alloc::FailingAlloc;
 use lsa_codec::AreaId;
 use lsdb::{Database, Section};
-use rationed::Rationed;
 use std::alloc::{Allocator, Global};
 use std::test::*;
 
@@ -72,23 +72,23 @@ fn a_refresh_rewrites_three_metrics_and_then_none(rt: HostRuntime) -> Result<(),
 /// then carried out with ample memory.
 fn is_refused_and_then_done<A: Allocator + Copy>(
     alloc: Global,
-    rationed: &Rationed,
+    failing: &FailingAlloc,
     database: &mut Database<A>,
     growths: u64,
 ) -> Result<bool, Fail> {
     let refresh = edit_of("refresh")?;
-    rationed.leave(growths);
+    failing.set_remaining(growths);
     let refusal = apply(database, &refresh).err();
-    rationed.leave(u64::MAX);
+    failing.set_remaining(u64::MAX);
     let stays = refusal == Some(EditFault::OutOfMemory) && is_loaded(alloc, database)?;
     Ok(stays && apply(database, &refresh)?.len() == 3)
 }
 
 /// The same of `STALE`.
 fn is_refused_with(alloc: Global, growths: u64) -> Result<bool, Fail> {
-    let rationed = Rationed::new(alloc, u64::MAX);
-    let mut database = Database::load(&rationed, STALE)?;
-    is_refused_and_then_done(alloc, &rationed, &mut database, growths)
+    let failing = FailingAlloc::new(alloc, u64::MAX);
+    let mut database = Database::load(&failing, STALE)?;
+    is_refused_and_then_done(alloc, &failing, &mut database, growths)
 }
 
 #[test]

@@ -1,21 +1,21 @@
-//! Undo and redo: they take no memory, and removed LSAs come back to their places.
+//! Undo and redo: they take no memory, and removed LSAs come back to their slots.
 
 ghost use Rattle.edit_history.specs.Journal.{Links};
 
 use super::edited::{apply_and_push, back, edited, on};
 use super::nets::{NETS, TEN_EDITS, edit_of, is_after};
 use edit_history::{EditFault, History};
+use failing_alloc::FailingAlloc;
 use lsa_codec::{Addr, Key, RouterId};
 use lsdb::{Database, Section, SlotId};
-use rationed::Rationed;
 use std::alloc::{Allocator, Global};
 use std::test::*;
 
 /// How many growths the ten edits take.
 fn growths_of_ten(alloc: Global) -> Result<u64, Fail> {
-    let counted = Rationed::new(alloc, u64::MAX);
+    let counted = FailingAlloc::new(alloc, u64::MAX);
     let _edited = edited(&counted, NETS, TEN_EDITS)?;
-    Ok(u64::MAX - counted.left())
+    Ok(u64::MAX - counted.remaining())
 }
 
 /// Whether the ten edits go back and come again, one at a time.
@@ -63,10 +63,10 @@ fn one_more_is_refused<A: Allocator + Copy>(
 
 /// Whether the ten edits are done, undone and redone with the growths that they take alone.
 fn take_no_memory(alloc: Global) -> Result<bool, Fail> {
-    let rationed = Rationed::new(alloc, growths_of_ten(alloc)?);
-    let (mut database, mut history) = edited(&rationed, NETS, TEN_EDITS)?;
+    let failing = FailingAlloc::new(alloc, growths_of_ten(alloc)?);
+    let (mut database, mut history) = edited(&failing, NETS, TEN_EDITS)?;
     Ok(
-        rationed.left() == 0
+        failing.remaining() == 0
             && is_after(alloc, &database, TEN_EDITS)?
             && go_one_by_one(alloc, &mut database, &mut history)?
             && go_at_once(alloc, &mut database, &mut history)?
@@ -91,7 +91,7 @@ fn index<A: Allocator + Copy>(database: &Database<A>) -> Option<usize> {
     if section == 2 { Some(index) } else { None }
 }
 
-/// Where that LSA stands when it is removed, when it is added anew, and when both are undone.
+/// Where that LSA stands when it is removed, when it is added again, and when both are undone.
 fn indexes<A: Allocator + Copy>(
     database: &mut Database<A>,
     history: &mut History<A>,
@@ -103,13 +103,13 @@ fn indexes<A: Allocator + Copy>(
     let without = index(database);
     let added = edit_of("add-external 2.2.2.2 10.92.0.0/16 2 20 0.0.0.0 0")?;
     apply_and_push(database, history, &added)?;
-    let anew = index(database);
+    let again = index(database);
     history.undo(database, 2)?;
-    Ok([without, anew, index(database)])
+    Ok([without, again, index(database)])
 }
 
 #[test]
-fn a_removed_lsa_comes_back_to_its_place(rt: HostRuntime) -> Result<(), Fail> {
+fn a_removed_lsa_comes_back_to_its_slot(rt: HostRuntime) -> Result<(), Fail> {
     let (mut database, mut history) = edited(rt.alloc(), NETS, &[])?;
     assert_eq!(rt; index(&database), Some(1));
     let indexes = indexes(&mut database, &mut history)?;

@@ -43,7 +43,7 @@ fn prints_names_and_prefixes(rt: HostRuntime) -> Result<(), Fail> {
     Ok(())
 }
 
-/// The faults of octets, and their names.
+/// The faults of bytes, and their names.
 const LSA_FAULTS: &[(LsaFault, &str)] = &[
     (LsaFault::Truncated, "Truncated"),
     (LsaFault::Length, "Length"),
@@ -57,7 +57,7 @@ const LSA_FAULTS: &[(LsaFault, &str)] = &[
 ];
 
 #[test]
-fn names_the_faults_of_octets(rt: HostRuntime) -> Result<(), Fail> {
+fn names_the_faults_of_bytes(rt: HostRuntime) -> Result<(), Fail> {
     for (fault, text) in LSA_FAULTS {
         assert!(rt; is_printed(rt.alloc(), fault, text)?, "{text}");
     }
@@ -106,7 +106,7 @@ fn shows_faults(rt: HostRuntime) -> Result<(), Fail> {
     Ok(())
 }
 
-/// The faults of places, and their names.
+/// The faults of slots, and their names.
 const SLOT_FAULTS: &[(SlotFault, &str)] = &[
     (SlotFault::NoArea, "NoArea"),
     (SlotFault::OutOfMemory, "OutOfMemory"),

@@ -1,4 +1,4 @@
-//! The fields of LSAs, as their views tell them. The checksums were made by another program from
+//! The fields of LSAs, as their views return them. The checksums were made by another program from
 //! the formula of RFC 905, annex B.
 
 use lsa_codec::{
@@ -110,7 +110,7 @@ fn link_text(alloc: Global, link: Link) -> Result<String, Fail> {
     })
 }
 
-/// A router-LSA: its flags, how many links it tells, and the links.
+/// A router-LSA: its flags, the number of its links, and the links.
 fn router_text(alloc: Global, view: RouterView<'_>) -> Result<String, Fail> {
     let (flags, count) = (view.flags(), view.link_count());
     let mut text = format!(in alloc; "router {flags} {count}")?;
@@ -146,9 +146,9 @@ fn external_text(alloc: Global, view: ExternalView<'_>) -> Result<String, Fail> 
     Ok(format!(in alloc; "external {mask} {net} type2={type2} {metric} {forward} {tag}")?)
 }
 
-/// What the view of an LSA tells; an LSA of another type has none.
-fn view_text(alloc: Global, octets: &[u8]) -> Result<String, Fail> {
-    let (lsa, _) = Lsa::decode(alloc, octets)?;
+/// What the view of an LSA returns; an LSA of another type has none.
+fn view_text(alloc: Global, bytes: &[u8]) -> Result<String, Fail> {
+    let (lsa, _) = Lsa::decode(alloc, bytes)?;
     if let Some(view) = lsa.router() {
         return router_text(alloc, view);
     }
@@ -164,7 +164,7 @@ fn view_text(alloc: Global, octets: &[u8]) -> Result<String, Fail> {
     Ok(format!(in alloc; "none")?)
 }
 
-/// LSAs, and what their views tell.
+/// LSAs, and what their views return.
 const VIEWS: &[(&[u8], &str)] = &[
     (
         TWO_ROUTERS,
@@ -199,9 +199,9 @@ const VIEWS: &[(&[u8], &str)] = &[
 ];
 
 #[test]
-fn tells_the_fields_of_each_type(rt: HostRuntime) -> Result<(), Fail> {
-    for (octets, text) in VIEWS {
-        assert_eq!(rt; view_text(rt.alloc(), octets)?.as_str(), *text);
+fn reads_the_fields_of_each_type(rt: HostRuntime) -> Result<(), Fail> {
+    for (bytes, text) in VIEWS {
+        assert_eq!(rt; view_text(rt.alloc(), bytes)?.as_str(), *text);
     }
     Ok(())
 }

@@ -5,15 +5,15 @@ use Rattle.lsa_codec.specs.Fields.{kind_of}
 use Rattle.lsdb.specs.declared.section.Section.{Section}
 use Rattle.lsdb.specs.declared.slot.SlotId.{SlotId}
 use Rattle.lsdb.specs.Lists.{lsas_of}
-use Rattle.lsdb.specs.Places.{Place, Places, slot_at, lists_of, IsNamed, OpensPlace}
+use Rattle.lsdb.specs.Slots.{Slot, Slots, slot_at, lists_of, IsNamed, OpensSlot}
 use Rattle.edit_history.specs.declared.lookup.Wanted.{Wanted}
 use Rattle.edit_history.specs.declared.lookup.Wanted.TheVariants as wanted
 use Rattle.edit_history.specs.Rules.{Fate, stays, removed, rewritten, Fates, section_name}
 use Rattle.edit_history.specs.Effect.{is_network, is_originated_for}
 use Rattle.edit_history.specs.Exchange.{SwapData}
 
--- the first LSA of a section that passes a test, and its place
-pub record IsFirstLsa (d : Places) (name : Section) (test : List ℕ → Bool) (slot : SlotId) (lsa : List ℕ) : Type 0 where
+-- the first LSA of a section that passes a test, and its slot
+pub record IsFirstLsa (d : Slots) (name : Section) (test : List ℕ → Bool) (slot : SlotId) (lsa : List ℕ) : Type 0 where
   pub named : IsNamed d name slot.section
   pub first : find test (lsas_of name (lists_of d)) ≡ Some lsa
   pub held : slot_at d slot ≡ Some (Some lsa)
@@ -24,13 +24,13 @@ is_wanted (wanted.Network network) lsa = is_network network lsa
 is_wanted (wanted.Summary router prefix) lsa = is_originated_for 3 router prefix lsa
 is_wanted (wanted.External router prefix) lsa = is_originated_for 5 router prefix lsa
 
--- whether there is an LSA at a place and it passes a test
-abbrev pub passes : (List ℕ → Bool) → Option Place → Bool
+-- whether there is an LSA at a slot and it passes a test
+abbrev pub passes : (List ℕ → Bool) → Option Slot → Bool
 passes test None = false
 passes test (Some None) = false
 passes test (Some (Some lsa)) = test lsa
 
--- ---- the swaps that carry fates out, by section and place
+-- ---- the swaps that carry fates out, by section and slot
 
 abbrev pub swap_for : SlotId → Section → List ℕ → Fate → Option SwapData
 swap_for slot name lsa stays = None
@@ -40,27 +40,27 @@ swap_for slot name lsa (rewritten new) = Some (record { slot = slot; section = n
 abbrev pub slot_of : ℕ → ℕ → SlotId
 slot_of section index = record { section = section; index = index }
 
--- the swaps of the places of a section from an index on
-abbrev pub section_swaps : (List ℕ → Fate) → ℕ → Section → ℕ → List Place → List SwapData
+-- the swaps of the slots of a section from an index on
+abbrev pub section_swaps : (List ℕ → Fate) → ℕ → Section → ℕ → List Slot → List SwapData
 section_swaps fate section name i [] = []
 section_swaps fate section name i (None ∷ ps) = section_swaps fate section name (suc i) ps
 section_swaps fate section name i (Some lsa ∷ ps) = cons_option (swap_for (slot_of section i) name lsa (fate lsa)) (section_swaps fate section name (suc i) ps)
 
 -- the swaps of the sections from a number on
-abbrev pub swaps_from : Fates → ℕ → Places → List SwapData
+abbrev pub swaps_from : Fates → ℕ → Slots → List SwapData
 swaps_from fates section [] = []
-swaps_from fates section (s ∷ ss) = section_swaps (fates s.area) section (section_name s.area) 0 s.places ++ swaps_from fates (suc section) ss
+swaps_from fates section (s ∷ ss) = section_swaps (fates s.area) section (section_name s.area) 0 s.slots ++ swaps_from fates (suc section) ss
 
--- the swap that carries a fate out at a place
-abbrev pub place_swap : (List ℕ → Fate) → SlotId → Section → Option Place → Option SwapData
-place_swap fate slot name None = None
-place_swap fate slot name (Some None) = None
-place_swap fate slot name (Some (Some lsa)) = swap_for slot name lsa (fate lsa)
+-- the swap that carries a fate out at a slot
+abbrev pub slot_swap : (List ℕ → Fate) → SlotId → Section → Option Slot → Option SwapData
+slot_swap fate slot name None = None
+slot_swap fate slot name (Some None) = None
+slot_swap fate slot name (Some (Some lsa)) = swap_for slot name lsa (fate lsa)
 
 -- ---- new LSAs
 
--- a place was opened at the end of a section, and the only swap fills it with a new LSA
-pub record Opens (d e : Places) (name : Section) (lsa : List ℕ) (swaps : List SwapData) : Type 0 where
+-- a slot was opened at the end of a section, and the only swap fills it with a new LSA
+pub record Opens (d e : Slots) (name : Section) (lsa : List ℕ) (swaps : List SwapData) : Type 0 where
   pub slot : SlotId
-  pub opens : OpensPlace d e name slot
+  pub opens : OpensSlot d e name slot
   pub swap : swaps ≡ (record { slot = slot; section = name; kind = kind_of lsa; other = Some lsa }) ∷ []

@@ -5,10 +5,10 @@ use Rattle.lsa_codec.specs.declared.address.RouterId.{RouterId}
 use Rattle.lsa_codec.specs.Fields.{advertising_router_of}
 use Rattle.lsa_codec.specs.Key.{key_of}
 use Rattle.lsa_codec.specs.Prefix.{Net, mask_of_len}
-use Rattle.lsdb.specs.declared.keyed_places.KeyAt.{KeyAt}
+use Rattle.lsdb.specs.declared.keyed_slots.KeyAt.{KeyAt}
 use Rattle.lsdb.specs.KeyRanges.{HaveWidths, is_between}
-use Rattle.lsdb.specs.Places.{Places, slot_at}
-use Rattle.lsdb.specs.PrefixPlaces.{prefix_of}
+use Rattle.lsdb.specs.Slots.{Slots, slot_at}
+use Rattle.lsdb.specs.PrefixSlots.{prefix_of}
 use Rattle.edit_history.specs.declared.lookup.Wanted.{Wanted}
 use Rattle.edit_history.specs.declared.lookup.Wanted.TheVariants as wanted
 use Rattle.edit_history.specs.steps.Plans.{is_wanted, passes, slot_of}
@@ -31,8 +31,8 @@ may_have (wanted.Network network) key = true
 may_have (wanted.Summary router prefix) key = key.adv.0 == router.0
 may_have (wanted.External router prefix) key = key.adv.0 == router.0
 
--- whether a wanted LSA is at the place that is noted of a key
-abbrev pub is_wanted_by_key : Wanted → Places → ℕ → KeyAt → Bool
+-- whether a wanted LSA is at the slot that is noted of a key
+abbrev pub is_wanted_by_key : Wanted → Slots → ℕ → KeyAt → Bool
 is_wanted_by_key w d section noted = may_have w noted.key && passes (is_wanted w) (slot_at d (slot_of section noted.index))
 
 -- the lesser of two indices, where there is a first

@@ -54,8 +54,8 @@ pub record IsInside (ways : WaysInside) (marks : List Bool) (asbrs : BTreeMap Ro
   pub remembers : All (IsPreferred ways.entries) remembered
 
 -- the prefix is greater than that of the route before a place
-abbrev pub is_behind : List RouteValue → ℕ → Net → Bool
-is_behind routes place net = if place == 0 then true else option_map_or (λ r. is_lt (prefix_cmp r.net net)) (slice_get routes (place - 1)) false
+abbrev pub is_after : List RouteValue → ℕ → Net → Bool
+is_after routes place net = if place == 0 then true else option_map_or (λ r. is_lt (prefix_cmp r.net net)) (slice_get routes (place - 1)) false
 
 -- the prefix is less than that of the route at a place, if there is one
 abbrev pub is_ahead : List RouteValue → ℕ → Net → Bool

@@ -1,4 +1,4 @@
-//! Small files made by hand, octet by octet, as the formats have them.
+//! Small files made by hand, byte by byte, as the formats have them.
 
 mod pcap;
 pub(super) mod pcapng;

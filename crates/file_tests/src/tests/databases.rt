@@ -1,3 +1,3 @@
-//! Databases that sightings make.
+//! Databases that observations make.
 
 mod joined;

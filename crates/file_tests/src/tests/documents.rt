@@ -1,5 +1,5 @@
-//! Tests of what documents tell.
+//! Tests of what documents contain.
 
 mod growths;
+mod parsed;
 mod pieces;
-mod told;

@@ -5,16 +5,16 @@
 mod answers;
 mod lent;
 
-use answers::{of_capture, of_database, of_file, of_packets, of_printed, of_sightings, of_walk};
+use answers::{of_capture, of_database, of_file, of_observations, of_packets, of_printed, of_walk};
 use capture_files::read_capture;
-use lent::{AREA, frames, read_bytes, sightings};
+use failing_alloc::FailingAlloc;
+use frr_text::read_printed;
+use lent::{AREA, frames, observations, read_bytes};
 use lsa_instances::{FlushedLsas, newest};
-use network_files::told_of;
+use lsdb_merge::join;
+use network_files::read_file;
 use ospf_packets::read_frames;
-use printed_databases::read_printed;
-use rationed::Rationed;
-use refused_growths::{Answer, Growing, Seen, growths_of};
-use sighted_database::join;
+use refused_growths::{Answer, FallibleCall, Outcome, growths_of};
 use snmp_walk::read_walk;
 use std::alloc::Global;
 use std::test::*;
@@ -47,59 +47,69 @@ const CALLS: &[Call] = &[
     Call::Join,
 ];
 
-/// What `newest` answers of the sightings.
-fn of_newest(alloc: Global, rationed: &Rationed, growths: u64) -> Result<Answer, Fail> {
-    let observed = sightings(rationed)?;
-    rationed.leave(growths);
-    of_sightings(alloc, newest(rationed, FlushedLsas::LeftOut, observed))
+/// What `newest` answers of the observations.
+fn of_newest(alloc: Global, failing: &FailingAlloc, growths: u64) -> Result<Answer, Fail> {
+    let observed = observations(failing)?;
+    failing.set_remaining(growths);
+    of_observations(alloc, newest(failing, FlushedLsas::LeftOut, observed))
 }
 
-/// What `join` answers of the sightings, and of an area of which no LSA was seen.
-fn of_join(alloc: Global, rationed: &Rationed, growths: u64) -> Result<Answer, Fail> {
-    let observed = sightings(rationed)?;
-    rationed.leave(growths);
-    let joined = join(rationed, FlushedLsas::Kept, observed, &[AREA]);
-    of_database(alloc, rationed, joined)
+/// What `join` answers of the observations, and of an area of which no LSA was seen.
+fn of_join(alloc: Global, failing: &FailingAlloc, growths: u64) -> Result<Answer, Fail> {
+    let observed = observations(failing)?;
+    failing.set_remaining(growths);
+    let joined = join(failing, FlushedLsas::Kept, observed, &[AREA]);
+    of_database(alloc, failing, joined)
 }
 
 /// What a call answers that reads bytes.
-fn of_bytes(alloc: Global, rationed: &Rationed, call: Call, bytes: &[u8]) -> Result<Answer, Fail> {
+fn of_bytes(
+    alloc: Global,
+    failing: &FailingAlloc,
+    call: Call,
+    bytes: &[u8],
+) -> Result<Answer, Fail> {
     match call {
-        Call::Capture => of_capture(alloc, read_capture(rationed, bytes)),
-        Call::Walk => of_walk(alloc, read_walk(rationed, bytes)),
-        Call::Printed => of_printed(alloc, read_printed(rationed, bytes)),
-        _ => of_file(alloc, told_of(rationed, bytes)),
+        Call::Capture => of_capture(alloc, read_capture(failing, bytes)),
+        Call::Walk => of_walk(alloc, read_walk(failing, bytes)),
+        Call::Printed => of_printed(alloc, read_printed(failing, bytes)),
+        _ => of_file(alloc, read_file(failing, bytes)),
     }
 }
 
 /// What a call answers after that number of growths. What it is lent is made with ample memory.
 fn answer_with(
     alloc: Global,
-    rationed: &Rationed,
+    failing: &FailingAlloc,
     call: Call,
     growths: u64,
 ) -> Result<Answer, Fail> {
     match call {
-        Call::Newest => of_newest(alloc, rationed, growths),
-        Call::Join => of_join(alloc, rationed, growths),
+        Call::Newest => of_newest(alloc, failing, growths),
+        Call::Join => of_join(alloc, failing, growths),
         Call::Frames => {
-            rationed.leave(growths);
-            of_packets(alloc, read_frames(rationed, &frames()))
+            failing.set_remaining(growths);
+            of_packets(alloc, read_frames(failing, &frames()))
         }
         _ => {
             let bytes = read_bytes(alloc, call)?;
-            rationed.leave(growths);
-            of_bytes(alloc, rationed, call, &bytes)
+            failing.set_remaining(growths);
+            of_bytes(alloc, failing, call, &bytes)
         }
     }
 }
 
-impl Growing for Call {
-    fn seen(&self, alloc: Global, rationed: &Rationed, growths: u64) -> Result<Seen, Fail> {
-        let first = answer_with(alloc, rationed, *self, growths)?;
-        rationed.leave(u64::MAX);
-        let then = answer_with(alloc, rationed, *self, u64::MAX)?;
-        Ok(Seen::of_answers(alloc, first, then))
+impl FallibleCall for Call {
+    fn outcome(
+        &self,
+        alloc: Global,
+        failing: &FailingAlloc,
+        growths: u64,
+    ) -> Result<Outcome, Fail> {
+        let first = answer_with(alloc, failing, *self, growths)?;
+        failing.set_remaining(u64::MAX);
+        let then = answer_with(alloc, failing, *self, u64::MAX)?;
+        Ok(Outcome::of_answers(alloc, first, then))
     }
 }
 

@@ -1,6 +1,6 @@
 //! Real instances of LSAs, their order, and the newest of them.
 
+pub(super) mod bytes;
 mod newest;
-pub(super) mod octets;
 mod order;
 mod scopes;

@@ -1,7 +1,7 @@
-//! Real frames, what they tell, and what is odd of others.
+//! Real frames, what they contain, and the warnings about others.
 
 mod fragments;
 pub(super) mod frames;
 mod hellos;
-mod odd;
 mod updates;
+mod warning;

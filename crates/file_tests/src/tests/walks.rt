@@ -1,6 +1,6 @@
-//! What pieces of walks tell. The walks are of FRR routers, and each value that is expected was
+//! What pieces of walks contain. The walks are of FRR routers, and each value that is expected was
 //! worked out by hand from the columns of RFC 4750.
 
-mod holes;
+mod findings;
+mod parsed;
 mod pieces;
-mod told;

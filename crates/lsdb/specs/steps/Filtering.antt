@@ -6,7 +6,7 @@ use Rattle.lsa_codec.specs.Fields.{kind_of, link_state_id_of}
 use Rattle.lsa_codec.specs.Links.{is_transit, links_of}
 use Rattle.lsa_codec.specs.LsTypes.{router_lsa, network_lsa}
 use Rattle.lsdb.specs.declared.transit_filters.TransitFilter.{TransitFilter}
-use Rattle.lsdb.specs.Places.{Place}
+use Rattle.lsdb.specs.Slots.{Slot}
 use Rattle.lsdb.specs.TransitFilters.{network_bit, block_bit}
 
 -- no network
@@ -35,10 +35,10 @@ filter_of_lsa lsa =
     if kind_of lsa == router_lsa then with_links no_networks (links_of lsa) else
     if kind_of lsa == network_lsa then with_network no_networks (record { 0 = link_state_id_of lsa }) else no_networks
 
-abbrev pub filter_of_place : Place → TransitFilter
-filter_of_place None = no_networks
-filter_of_place (Some lsa) = filter_of_lsa lsa
+abbrev pub filter_of_slot : Slot → TransitFilter
+filter_of_slot None = no_networks
+filter_of_slot (Some lsa) = filter_of_lsa lsa
 
--- for each place that of the LSA there
-abbrev pub filters_of : List Place → List TransitFilter
-filters_of places = map filter_of_place places
+-- for each slot that of the LSA there
+abbrev pub filters_of : List Slot → List TransitFilter
+filters_of slots = map filter_of_slot slots

@@ -1,4 +1,4 @@
--- What a function that reads a part of a dump tells of it.
+-- What a function that reads a part of a dump returns.
 use Rattle.std.specs.Prelude.{◌≡◌, Result, Ok, Err, IsOk}
 use Rattle.lsdb.specs.declared.cursor.Cursor.{Cursor}
 use Rattle.lsdb.specs.declared.fault.DumpFault.{DumpFault}
@@ -6,7 +6,7 @@ use Rattle.lsdb.specs.declared.fault.ReadError.{ReadError}
 use Rattle.lsdb.specs.declared.fault.ReadError.TheVariants as errors
 use Rattle.lsdb.specs.Loading.{At, no_memory}
 
--- a place in a dump, without where its bytes lie in memory
+-- a position in a dump, without the location of its bytes in memory
 abbrev pub at_of : Cursor → At
 at_of at = record { offset = at.offset; rest = at.rest.now }
 
@@ -15,7 +15,7 @@ abbrev pub Reads : {X Y : Type 0} → (X → Y) → Result X DumpFault → Resul
 Reads view (Ok x) read = read ≡ Ok (view x)
 Reads view (Err f) read = read ≡ Err f
 
--- reading ended for want of memory, or with the fault that is told
+-- reading ended for want of memory, or with the fault that is reported
 abbrev pub Fails : {Y : Type 0} → ReadError → Result Y DumpFault → Type 0
 Fails errors.Memory read = Unit {0}
 Fails (errors.Fault f) read = read ≡ Err f
@@ -34,7 +34,7 @@ abbrev pub IsMemoryAfter : {X Z : Type 0} → Result Z DumpFault → Result X Re
 IsMemoryAfter front (Ok x) = Unit {0}
 IsMemoryAfter front (Err e) = IsWantAfter front e
 
--- the fault that is told of a failed reading
-abbrev pub told_fault : ReadError → DumpFault
-told_fault errors.Memory = no_memory
-told_fault (errors.Fault f) = f
+-- the fault that is reported of a failed reading
+abbrev pub reported_fault : ReadError → DumpFault
+reported_fault errors.Memory = no_memory
+reported_fault (errors.Fault f) = f

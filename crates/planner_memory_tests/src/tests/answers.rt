@@ -1,9 +1,9 @@
-//! What calls answer, as octets that say all of it.
+//! What calls answer, as bytes that say all of it.
 
 use super::network::ROUTER;
+use failing_alloc::FailingAlloc;
 use lsa_codec::RouterId;
 use lsdb::Database;
-use rationed::Rationed;
 use refused_growths::Answer;
 use routing_table::{Table, TableFault, table_of};
 use spf::Meter;
@@ -11,13 +11,13 @@ use std::alloc::{AllocError, Global};
 use std::test::*;
 use table_report::table_text;
 
-/// The answer that is octets.
-pub(super) fn of_octets(
+/// The answer that is bytes.
+pub(super) fn of_bytes(
     alloc: Global,
-    octets: Result<Vec<u8, &Rationed>, AllocError>,
+    bytes: Result<Vec<u8, &FailingAlloc>, AllocError>,
 ) -> Result<Answer, Fail> {
-    match octets {
-        Ok(octets) => Ok(Some(Vec::from_slice(alloc, &octets)?)),
+    match bytes {
+        Ok(bytes) => Ok(Some(Vec::from_slice(alloc, &bytes)?)),
         Err(AllocError) => Ok(None),
     }
 }
@@ -25,7 +25,7 @@ pub(super) fn of_octets(
 /// The answer that is routers.
 pub(super) fn of_routers(
     alloc: Global,
-    routers: Result<Vec<RouterId, &Rationed>, AllocError>,
+    routers: Result<Vec<RouterId, &FailingAlloc>, AllocError>,
 ) -> Result<Answer, Fail> {
     match routers {
         Ok(routers) => Ok(Some(format!(in alloc; "{routers:?}")?.into_bytes())),
@@ -36,11 +36,11 @@ pub(super) fn of_routers(
 /// The answer that is a table that was made. There is ample memory for its text, and from then on.
 pub(super) fn of_made_table<'a>(
     alloc: Global,
-    rationed: &'a Rationed,
-    table: &Table<&'a Rationed>,
+    failing: &'a FailingAlloc,
+    table: &Table<&'a FailingAlloc>,
 ) -> Result<Answer, Fail> {
-    rationed.leave(u64::MAX);
-    of_octets(alloc, table_text(rationed, table))
+    failing.set_remaining(u64::MAX);
+    of_bytes(alloc, table_text(failing, table))
 }
 
 /// The answer that no table was made. It is a failure, unless memory is wanted.
@@ -54,11 +54,11 @@ pub(super) fn of_fault(fault: TableFault) -> Result<Answer, Fail> {
 /// The answer that is a table.
 pub(super) fn of_table<'a>(
     alloc: Global,
-    rationed: &'a Rationed,
-    table: Result<Table<&'a Rationed>, TableFault>,
+    failing: &'a FailingAlloc,
+    table: Result<Table<&'a FailingAlloc>, TableFault>,
 ) -> Result<Answer, Fail> {
     match table {
-        Ok(table) => of_made_table(alloc, rationed, &table),
+        Ok(table) => of_made_table(alloc, failing, &table),
         Err(fault) => of_fault(fault),
     }
 }
@@ -66,9 +66,9 @@ pub(super) fn of_table<'a>(
 /// The answer that is the table of a database alone.
 pub(super) fn of_table_of<'a>(
     alloc: Global,
-    rationed: &'a Rationed,
-    database: &Database<&'a Rationed>,
+    failing: &'a FailingAlloc,
+    database: &Database<&'a FailingAlloc>,
 ) -> Result<Answer, Fail> {
-    let table = table_of(rationed, database, ROUTER, &mut Meter::new());
-    of_table(alloc, rationed, table)
+    let table = table_of(failing, database, ROUTER, &mut Meter::new());
+    of_table(alloc, failing, table)
 }

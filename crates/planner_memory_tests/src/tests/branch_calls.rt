@@ -1,11 +1,11 @@
 //! Calls of branches, of which branch 0 has one edit done and one undone.
 
-use super::answers::{of_octets, of_routers};
+use super::answers::{of_bytes, of_routers};
 use super::network::{ROUTER, database_of};
 use branches::{Branches, reply_text};
 use edit_script::{Command, parse};
-use rationed::Rationed;
-use refused_growths::{Answer, Growing, Seen, growths_of};
+use failing_alloc::FailingAlloc;
+use refused_growths::{Answer, FallibleCall, Outcome, growths_of};
 use std::alloc::{AllocError, Global};
 use std::test::*;
 
@@ -84,7 +84,10 @@ const BEFORE: &[&str] = &[
 const NAMED: &[&str] = &["@1 cost 0.0.0.0 1.1.1.1 1 13"];
 
 /// Carries lines out.
-pub(super) fn carry_out(branches: &mut Branches<&Rationed>, lines: &[&str]) -> Result<(), Fail> {
+pub(super) fn carry_out(
+    branches: &mut Branches<&FailingAlloc>,
+    lines: &[&str],
+) -> Result<(), Fail> {
     for line in lines {
         let (branch, command) = parse(line.as_bytes())?;
         let _reply = branches.step(branch, &command)?;
@@ -93,7 +96,7 @@ pub(super) fn carry_out(branches: &mut Branches<&Rationed>, lines: &[&str]) -> R
 }
 
 /// Carries out what stands before a call.
-fn prepare(branches: &mut Branches<&Rationed>, call: Call) -> Result<(), Fail> {
+fn prepare(branches: &mut Branches<&FailingAlloc>, call: Call) -> Result<(), Fail> {
     carry_out(branches, BEFORE)?;
     match call {
         Call::StepFirst | Call::StepFirstTables => Ok(()),
@@ -103,36 +106,40 @@ fn prepare(branches: &mut Branches<&Rationed>, call: Call) -> Result<(), Fail> {
 }
 
 /// The session of branch 0, saved, and the dump of each branch and what it counts.
-fn octets_of(alloc: Global, branches: &mut Branches<&Rationed>) -> Result<Vec<u8>, Fail> {
-    let mut octets = Vec::from_slice(alloc, &branches.save()?)?;
+fn bytes_of(alloc: Global, branches: &mut Branches<&FailingAlloc>) -> Result<Vec<u8>, Fail> {
+    let mut bytes = Vec::from_slice(alloc, &branches.save()?)?;
     for branch in 0..8 {
-        octets.extend_from_slice(&branches.dump(branch)?)?;
-        octets.extend_from_slice(&branches.answer(branch, &Command::Info)?.text)?;
+        bytes.extend_from_slice(&branches.dump(branch)?)?;
+        bytes.extend_from_slice(&branches.answer(branch, &Command::Info)?.text)?;
     }
-    Ok(octets)
+    Ok(bytes)
 }
 
 /// The text of the reply to the line of a call, carried out by `step`. There is ample memory for
 /// the text, and from then on.
 fn stepped<'a>(
     alloc: Global,
-    rationed: &'a Rationed,
-    branches: &mut Branches<&'a Rationed>,
+    failing: &'a FailingAlloc,
+    branches: &mut Branches<&'a FailingAlloc>,
     call: Call,
 ) -> Result<Answer, Fail> {
     let (branch, command) = parse(line_of(call).as_bytes())?;
     let Ok(reply) = branches.step(branch, &command) else {
         return Ok(None);
     };
-    rationed.leave(u64::MAX);
-    of_octets(alloc, reply_text(rationed, branch, &reply))
+    failing.set_remaining(u64::MAX);
+    of_bytes(alloc, reply_text(failing, branch, &reply))
 }
 
 /// The text of the reply to the line of a call, carried out by `answer`.
-fn answered(alloc: Global, branches: &mut Branches<&Rationed>, call: Call) -> Result<Answer, Fail> {
+fn answered(
+    alloc: Global,
+    branches: &mut Branches<&FailingAlloc>,
+    call: Call,
+) -> Result<Answer, Fail> {
     let (branch, command) = parse(line_of(call).as_bytes())?;
     match branches.answer(branch, &command) {
-        Ok(answer) => of_octets(alloc, Ok(answer.text)),
+        Ok(answer) => of_bytes(alloc, Ok(answer.text)),
         Err(AllocError) => Ok(None),
     }
 }
@@ -140,12 +147,12 @@ fn answered(alloc: Global, branches: &mut Branches<&Rationed>, call: Call) -> Re
 /// The text of the table of a router in branch 1, added to an empty one.
 fn pushed<'a>(
     alloc: Global,
-    rationed: &'a Rationed,
-    branches: &mut Branches<&'a Rationed>,
+    failing: &'a FailingAlloc,
+    branches: &mut Branches<&'a FailingAlloc>,
 ) -> Result<Answer, Fail> {
-    let mut text = String::new(rationed);
+    let mut text = String::new(failing);
     match branches.push_table(1, ROUTER, &mut text) {
-        Ok(()) => of_octets(alloc, Ok(text.into_bytes())),
+        Ok(()) => of_bytes(alloc, Ok(text.into_bytes())),
         Err(AllocError) => Ok(None),
     }
 }
@@ -162,39 +169,39 @@ fn is_answered(call: Call) -> bool {
 /// What a call answers.
 fn answer_of<'a>(
     alloc: Global,
-    rationed: &'a Rationed,
-    branches: &mut Branches<&'a Rationed>,
+    failing: &'a FailingAlloc,
+    branches: &mut Branches<&'a FailingAlloc>,
     call: Call,
 ) -> Result<Answer, Fail> {
     match call {
         Call::Routers => of_routers(alloc, branches.routers(1)),
         Call::RoutersUnnamed => of_routers(alloc, branches.routers(2)),
-        Call::PushTable | Call::PushFirstTable => pushed(alloc, rationed, branches),
-        Call::Dump => of_octets(alloc, branches.dump(0)),
-        Call::DumpNamed => of_octets(alloc, branches.dump(1)),
-        Call::DumpUnnamed => of_octets(alloc, branches.dump(2)),
-        Call::Save => of_octets(alloc, branches.save()),
+        Call::PushTable | Call::PushFirstTable => pushed(alloc, failing, branches),
+        Call::Dump => of_bytes(alloc, branches.dump(0)),
+        Call::DumpNamed => of_bytes(alloc, branches.dump(1)),
+        Call::DumpUnnamed => of_bytes(alloc, branches.dump(2)),
+        Call::Save => of_bytes(alloc, branches.save()),
         call if is_answered(call) => answered(alloc, branches, call),
-        call => stepped(alloc, rationed, branches, call),
+        call => stepped(alloc, failing, branches, call),
     }
 }
 
 /// What is seen of a call of branches.
-fn seen_on<'a>(
+fn outcome_on<'a>(
     alloc: Global,
-    rationed: &'a Rationed,
-    branches: &mut Branches<&'a Rationed>,
+    failing: &'a FailingAlloc,
+    branches: &mut Branches<&'a FailingAlloc>,
     call: Call,
     growths: u64,
-) -> Result<Seen, Fail> {
+) -> Result<Outcome, Fail> {
     prepare(branches, call)?;
-    let before = octets_of(alloc, branches)?;
-    rationed.leave(growths);
-    let first = answer_of(alloc, rationed, branches, call)?;
-    rationed.leave(u64::MAX);
-    let between = octets_of(alloc, branches)?;
-    let then = answer_of(alloc, rationed, branches, call)?;
-    Ok(Seen {
+    let before = bytes_of(alloc, branches)?;
+    failing.set_remaining(growths);
+    let first = answer_of(alloc, failing, branches, call)?;
+    failing.set_remaining(u64::MAX);
+    let between = bytes_of(alloc, branches)?;
+    let then = answer_of(alloc, failing, branches, call)?;
+    Ok(Outcome {
         first,
         then,
         before,
@@ -202,10 +209,15 @@ fn seen_on<'a>(
     })
 }
 
-impl Growing for Call {
-    fn seen(&self, alloc: Global, rationed: &Rationed, growths: u64) -> Result<Seen, Fail> {
-        let mut branches = Branches::new(rationed, database_of(rationed)?);
-        seen_on(alloc, rationed, &mut branches, *self, growths)
+impl FallibleCall for Call {
+    fn outcome(
+        &self,
+        alloc: Global,
+        failing: &FailingAlloc,
+        growths: u64,
+    ) -> Result<Outcome, Fail> {
+        let mut branches = Branches::new(failing, database_of(failing)?);
+        outcome_on(alloc, failing, &mut branches, *self, growths)
     }
 
     fn may_be_done(&self) -> bool {

@@ -2,9 +2,9 @@
 //! of what they answer.
 
 use edit_script::Edit;
+use failing_alloc::FailingAlloc;
 use lsa_codec::{AreaId, RouterId};
 use lsdb::Database;
-use rationed::Rationed;
 use refused_growths::NETWORK;
 use samples::{LsaList, R1, R2, dump_of};
 use std::alloc::Global;
@@ -17,21 +17,21 @@ pub(super) const ROUTER: RouterId = RouterId(R1);
 pub(super) const OTHER: RouterId = RouterId(R2);
 
 /// The database of the network.
-pub(super) fn database_of(rationed: &Rationed) -> Result<Database<&Rationed>, Fail> {
-    Ok(Database::load(rationed, NETWORK)?)
+pub(super) fn database_of(failing: &FailingAlloc) -> Result<Database<&FailingAlloc>, Fail> {
+    Ok(Database::load(failing, NETWORK)?)
 }
 
 /// The database of an area with 24 routers without links, of which a tree reaches one.
 pub(super) fn lonely_database_of(
     alloc: Global,
-    rationed: &Rationed,
-) -> Result<Database<&Rationed>, Fail> {
+    failing: &FailingAlloc,
+) -> Result<Database<&FailingAlloc>, Fail> {
     let mut routers = LsaList::new(alloc);
     for number in 0..24 {
         routers.router_of(1, R1.wrapping_add(number), 0, &[])?;
     }
     let dump = dump_of(alloc, &[(0, routers)], &LsaList::new(alloc))?;
-    Ok(Database::load(rationed, &dump)?)
+    Ok(Database::load(failing, &dump)?)
 }
 
 /// Another cost of the link of 1.1.1.1 to the network 10.5.0.2.

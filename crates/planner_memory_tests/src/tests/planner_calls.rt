@@ -1,13 +1,13 @@
 //! Calls of a planner of which one edit is done and one undone.
 
-use super::answers::{of_fault, of_made_table, of_octets, of_routers, of_table, of_table_of};
+use super::answers::{of_bytes, of_fault, of_made_table, of_routers, of_table, of_table_of};
 use super::network::{OTHER, ROUTER, cost, database_of, no_link};
 use edit_history::EditFault;
+use failing_alloc::FailingAlloc;
 use lsa_codec::RouterId;
 use lsdb::Database;
-use rationed::Rationed;
 use recalculate::Planner;
-use refused_growths::{Answer, Growing, Seen, growths_of};
+use refused_growths::{Answer, FallibleCall, Outcome, growths_of};
 use saved_sessions::save;
 use std::alloc::{AllocError, Global};
 use std::test::*;
@@ -29,11 +29,11 @@ enum Call {
     TableAfterRefusal,
     EditThenTable,
     BaseTable,
-    KeptBaseTable,
+    BaselineTable,
     CopyForBaseTable,
     BaseTableOverCopy,
     BaseOfCopy,
-    SharedTable,
+    CachedTable,
 }
 
 const CALLS: &[Call] = &[
@@ -49,39 +49,42 @@ const CALLS: &[Call] = &[
     Call::TableAfterRefusal,
     Call::EditThenTable,
     Call::BaseTable,
-    Call::KeptBaseTable,
+    Call::BaselineTable,
     Call::CopyForBaseTable,
     Call::BaseTableOverCopy,
     Call::BaseOfCopy,
-    Call::SharedTable,
+    Call::CachedTable,
 ];
 
 /// What a planner counts, its dump and its session, saved.
-pub(super) fn octets_of(alloc: Global, planner: &mut Planner<&Rationed>) -> Result<Vec<u8>, Fail> {
+pub(super) fn bytes_of(
+    alloc: Global,
+    planner: &mut Planner<&FailingAlloc>,
+) -> Result<Vec<u8>, Fail> {
     let info = planner.info();
-    let mut octets = format!(in alloc; "{info:?}")?.into_bytes();
-    octets.extend_from_slice(&planner.dump()?)?;
-    octets.extend_from_slice(&save(planner)?)?;
-    Ok(octets)
+    let mut bytes = format!(in alloc; "{info:?}")?.into_bytes();
+    bytes.extend_from_slice(&planner.dump()?)?;
+    bytes.extend_from_slice(&save(planner)?)?;
+    Ok(bytes)
 }
 
 /// Makes a table, whose trees are kept.
-fn keep_trees(planner: &mut Planner<&Rationed>) -> Result<(), Fail> {
+fn keep_trees(planner: &mut Planner<&FailingAlloc>) -> Result<(), Fail> {
     let _table = planner.table(ROUTER)?;
     Ok(())
 }
 
 /// Carries edits out until they are many for the network, and makes a table of a router of the
 /// loaded database. A second one makes a copy of that database.
-fn ask_for_base(planner: &mut Planner<&Rationed>, router: RouterId) -> Result<(), Fail> {
+fn ask_for_base(planner: &mut Planner<&FailingAlloc>, router: RouterId) -> Result<(), Fail> {
     planner.edit(&cost(13))?;
     planner.edit(&cost(14))?;
-    let _table = planner.kept_base_table(router)?;
+    let _table = planner.baseline_table(router)?;
     Ok(())
 }
 
 /// Makes an edit that is refused. One that is carried out is a failure.
-fn refuse(planner: &mut Planner<&Rationed>) -> Result<(), Fail> {
+fn refuse(planner: &mut Planner<&FailingAlloc>) -> Result<(), Fail> {
     match planner.edit(&no_link()) {
         Ok(()) => Err("an edit of no link")?,
         Err(_fault) => Ok(()),
@@ -89,7 +92,7 @@ fn refuse(planner: &mut Planner<&Rationed>) -> Result<(), Fail> {
 }
 
 /// Carries two edits out and takes one back, and then what stands before a call.
-fn prepare(planner: &mut Planner<&Rationed>, call: Call) -> Result<(), Fail> {
+fn prepare(planner: &mut Planner<&FailingAlloc>, call: Call) -> Result<(), Fail> {
     planner.edit(&cost(11))?;
     planner.edit(&cost(12))?;
     planner.undo(1)?;
@@ -133,24 +136,24 @@ fn of_edit(alloc: Global, done: Result<(), EditFault>) -> Result<Answer, Fail> {
 /// The answer that is a database. There is ample memory for its dump, and from then on.
 fn of_database(
     alloc: Global,
-    rationed: &Rationed,
-    database: Result<Database<&Rationed>, AllocError>,
+    failing: &FailingAlloc,
+    database: Result<Database<&FailingAlloc>, AllocError>,
 ) -> Result<Answer, Fail> {
     let Ok(database) = database else {
         return Ok(None);
     };
-    rationed.leave(u64::MAX);
-    of_octets(alloc, database.dump())
+    failing.set_remaining(u64::MAX);
+    of_bytes(alloc, database.dump())
 }
 
 /// The answer that is a table. One that is not that of the planner's database alone is a failure.
 fn of_table_now<'a>(
     alloc: Global,
-    rationed: &'a Rationed,
-    planner: &mut Planner<&'a Rationed>,
+    failing: &'a FailingAlloc,
+    planner: &mut Planner<&'a FailingAlloc>,
 ) -> Result<Answer, Fail> {
-    let answer = of_table(alloc, rationed, planner.table(ROUTER))?;
-    if answer.is_some() && answer != of_table_of(alloc, rationed, planner.database())? {
+    let answer = of_table(alloc, failing, planner.table(ROUTER))?;
+    if answer.is_some() && answer != of_table_of(alloc, failing, planner.database())? {
         return Err("another table")?;
     }
     Ok(answer)
@@ -161,59 +164,59 @@ fn of_table_now<'a>(
 /// too.
 fn of_edited_table<'a>(
     alloc: Global,
-    rationed: &'a Rationed,
-    planner: &mut Planner<&'a Rationed>,
+    failing: &'a FailingAlloc,
+    planner: &mut Planner<&'a FailingAlloc>,
 ) -> Result<Answer, Fail> {
     let done = of_edit(alloc, planner.edit(&cost(7)))?;
-    rationed.leave(u64::MAX);
-    let table = of_table_now(alloc, rationed, planner)?;
+    failing.set_remaining(u64::MAX);
+    let table = of_table_now(alloc, failing, planner)?;
     Ok(done.and(table))
 }
 
 /// What a call answers.
 fn answer_of<'a>(
     alloc: Global,
-    rationed: &'a Rationed,
-    planner: &mut Planner<&'a Rationed>,
+    failing: &'a FailingAlloc,
+    planner: &mut Planner<&'a FailingAlloc>,
     call: Call,
 ) -> Result<Answer, Fail> {
     match call {
         Call::Edit => of_edit(alloc, planner.edit(&cost(7))),
-        Call::EditThenTable => of_edited_table(alloc, rationed, planner),
-        Call::Dump => of_octets(alloc, planner.dump()),
-        Call::DumpBase => of_octets(alloc, planner.dump_base()),
-        Call::Base | Call::BaseOfCopy => of_database(alloc, rationed, planner.base()),
+        Call::EditThenTable => of_edited_table(alloc, failing, planner),
+        Call::Dump => of_bytes(alloc, planner.dump()),
+        Call::DumpBase => of_bytes(alloc, planner.dump_base()),
+        Call::Base | Call::BaseOfCopy => of_database(alloc, failing, planner.base()),
         Call::Routers => of_routers(alloc, planner.routers()),
-        Call::BaseTable => of_table(alloc, rationed, planner.base_table(ROUTER)),
-        Call::KeptBaseTable | Call::CopyForBaseTable | Call::BaseTableOverCopy =>
-            match planner.kept_base_table(ROUTER) {
-                Ok(table) => of_made_table(alloc, rationed, &table),
+        Call::BaseTable => of_table(alloc, failing, planner.base_table(ROUTER)),
+        Call::BaselineTable | Call::CopyForBaseTable | Call::BaseTableOverCopy =>
+            match planner.baseline_table(ROUTER) {
+                Ok(table) => of_made_table(alloc, failing, &table),
                 Err(fault) => of_fault(fault),
             },
-        Call::SharedTable => match planner.shared_table(ROUTER) {
-            Ok(table) => of_made_table(alloc, rationed, &table),
+        Call::CachedTable => match planner.cached_table(ROUTER) {
+            Ok(table) => of_made_table(alloc, failing, &table),
             Err(fault) => of_fault(fault),
         },
-        _ => of_table_now(alloc, rationed, planner),
+        _ => of_table_now(alloc, failing, planner),
     }
 }
 
 /// What is seen of a call of a planner.
-fn seen_on<'a>(
+fn outcome_on<'a>(
     alloc: Global,
-    rationed: &'a Rationed,
-    planner: &mut Planner<&'a Rationed>,
+    failing: &'a FailingAlloc,
+    planner: &mut Planner<&'a FailingAlloc>,
     call: Call,
     growths: u64,
-) -> Result<Seen, Fail> {
+) -> Result<Outcome, Fail> {
     prepare(planner, call)?;
-    let before = octets_of(alloc, planner)?;
-    rationed.leave(growths);
-    let first = answer_of(alloc, rationed, planner, call)?;
-    rationed.leave(u64::MAX);
-    let between = octets_of(alloc, planner)?;
-    let then = answer_of(alloc, rationed, planner, call)?;
-    Ok(Seen {
+    let before = bytes_of(alloc, planner)?;
+    failing.set_remaining(growths);
+    let first = answer_of(alloc, failing, planner, call)?;
+    failing.set_remaining(u64::MAX);
+    let between = bytes_of(alloc, planner)?;
+    let then = answer_of(alloc, failing, planner, call)?;
+    Ok(Outcome {
         first,
         then,
         before,
@@ -221,10 +224,15 @@ fn seen_on<'a>(
     })
 }
 
-impl Growing for Call {
-    fn seen(&self, alloc: Global, rationed: &Rationed, growths: u64) -> Result<Seen, Fail> {
-        let mut planner = Planner::new(rationed, database_of(rationed)?);
-        seen_on(alloc, rationed, &mut planner, *self, growths)
+impl FallibleCall for Call {
+    fn outcome(
+        &self,
+        alloc: Global,
+        failing: &FailingAlloc,
+        growths: u64,
+    ) -> Result<Outcome, Fail> {
+        let mut planner = Planner::new(failing, database_of(failing)?);
+        outcome_on(alloc, failing, &mut planner, *self, growths)
     }
 }
 

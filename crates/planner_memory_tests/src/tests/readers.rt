@@ -1,10 +1,10 @@
-//! Calls that take no memory and answer nothing that could tell of want of it.
+//! Calls that take no memory and answer nothing that could report want of it.
 
 use super::route_calls::{Lent, lend};
 use external_routes::{covered, due, preferred};
+use failing_alloc::FailingAlloc;
 use lsa_codec::{AreaId, RouterId};
 use lsdb::Section;
-use rationed::Rationed;
 use samples::R3;
 use std::alloc::Global;
 use std::test::*;
@@ -22,7 +22,7 @@ fn push_metrics(text: &mut String, lent: &Lent<'_>, area: AreaId) -> Result<(), 
 }
 
 /// The cost of the preferred entry of an AS boundary router, and the metrics of both areas.
-fn told(alloc: Global, lent: &Lent<'_>) -> Result<String, Fail> {
+fn reported(alloc: Global, lent: &Lent<'_>) -> Result<String, Fail> {
     let entries = lent.inter.routers.as_slice();
     let cost = preferred(entries, RouterId(R3)).map(|entry| entry.cost);
     let mut text = format!(in alloc; "{cost:?}")?;
@@ -32,13 +32,13 @@ fn told(alloc: Global, lent: &Lent<'_>) -> Result<String, Fail> {
     Ok(text)
 }
 
-/// The same while so many growths are left. It is a failure if one was asked for.
-fn told_with(alloc: Global, growths: u64) -> Result<String, Fail> {
-    let rationed = Rationed::new(alloc, u64::MAX);
-    let lent = lend(&rationed)?;
-    rationed.leave(growths);
-    let text = told(alloc, &lent)?;
-    if rationed.left() == growths {
+/// The same while this number of growths are left. It is a failure if one was asked for.
+fn reported_with(alloc: Global, growths: u64) -> Result<String, Fail> {
+    let failing = FailingAlloc::new(alloc, u64::MAX);
+    let lent = lend(&failing)?;
+    failing.set_remaining(growths);
+    let text = reported(alloc, &lent)?;
+    if failing.remaining() == growths {
         Ok(text)
     } else {
         Err("no growth")?
@@ -47,9 +47,9 @@ fn told_with(alloc: Global, growths: u64) -> Result<String, Fail> {
 
 #[test]
 fn preferred_entries_and_metrics_take_no_memory(rt: HostRuntime) -> Result<(), Fail> {
-    let ample = told_with(rt.alloc(), 1_000)?;
-    let refused = told_with(rt.alloc(), 0)?;
-    // 10.2.0.0/16 is told of by 1.1.1.1: over the link of cost 10, and at 1 behind 2.2.2.2.
+    let ample = reported_with(rt.alloc(), 1_000)?;
+    let refused = reported_with(rt.alloc(), 0)?;
+    // 10.2.0.0/16 is announced by 1.1.1.1: over the link of cost 10, and at 1 after 2.2.2.2.
     assert!(rt; ample.ends_with(" true 11"), "{ample}");
     assert_eq!(rt; refused, ample);
     Ok(())

@@ -1,11 +1,11 @@
 //! Opening sessions, and saving one of which one edit is done and one undone.
 
-use super::answers::of_octets;
-use super::planner_calls::octets_of;
+use super::answers::of_bytes;
+use super::planner_calls::bytes_of;
+use failing_alloc::FailingAlloc;
 use lsdb::{DumpFault, DumpFaultKind};
-use rationed::Rationed;
 use recalculate::Planner;
-use refused_growths::{Answer, Growing, NETWORK, Seen, growths_of};
+use refused_growths::{Answer, FallibleCall, NETWORK, Outcome, growths_of};
 use saved_sessions::SavedSession;
 use std::alloc::{AllocError, Global};
 use std::test::*;
@@ -23,7 +23,7 @@ const CALLS: &[Call] = &[Call::Open, Call::OpenDump, Call::Save];
 /// How many edits are done and undone, and their lines.
 const HISTORY: &[u8] = b"\0\x01\0\x01cost 0.0.0.0 1.1.1.1 1 11\ncost 0.0.0.0 1.1.1.1 1 12\n";
 
-/// The bytes of a session on the network: its dump with version 2, and the history behind it.
+/// The bytes of a session on the network: its dump with version 2, and the history after it.
 fn session(alloc: Global) -> Result<Vec<u8>, AllocError> {
     let mut bytes = Vec::new(alloc);
     bytes.extend_from_slice(b"OSWP\x02")?;
@@ -36,13 +36,13 @@ fn session(alloc: Global) -> Result<Vec<u8>, AllocError> {
 /// opened is a failure.
 fn of_session(
     alloc: Global,
-    planner: &mut Planner<&Rationed>,
+    planner: &mut Planner<&FailingAlloc>,
     bytes: &[u8],
 ) -> Result<Answer, Fail> {
     if planner.save()?.as_slice() != bytes && planner.dump()?.as_slice() != bytes {
         return Err("another session")?;
     }
-    Ok(Some(octets_of(alloc, planner)?))
+    Ok(Some(bytes_of(alloc, planner)?))
 }
 
 /// The answer that no session was opened. It is a failure, unless memory is wanted.
@@ -54,10 +54,10 @@ fn of_fault(fault: DumpFault) -> Result<Answer, Fail> {
 }
 
 /// What `open` answers. There is ample memory to look at the session, and from then on.
-fn opened(alloc: Global, rationed: &Rationed, bytes: &[u8]) -> Result<Answer, Fail> {
-    match Planner::open(rationed, bytes) {
+fn opened(alloc: Global, failing: &FailingAlloc, bytes: &[u8]) -> Result<Answer, Fail> {
+    match Planner::open(failing, bytes) {
         Ok(mut planner) => {
-            rationed.leave(u64::MAX);
+            failing.set_remaining(u64::MAX);
             of_session(alloc, &mut planner, bytes)
         }
         Err(fault) => of_fault(fault),
@@ -65,38 +65,38 @@ fn opened(alloc: Global, rationed: &Rationed, bytes: &[u8]) -> Result<Answer, Fa
 }
 
 /// What is seen of `open` on these bytes.
-fn seen_of_open(
+fn outcome_of_open(
     alloc: Global,
-    rationed: &Rationed,
+    failing: &FailingAlloc,
     bytes: &[u8],
     growths: u64,
-) -> Result<Seen, Fail> {
-    rationed.leave(growths);
-    let first = opened(alloc, rationed, bytes)?;
-    rationed.leave(u64::MAX);
-    let then = opened(alloc, rationed, bytes)?;
-    Ok(Seen::of_answers(alloc, first, then))
+) -> Result<Outcome, Fail> {
+    failing.set_remaining(growths);
+    let first = opened(alloc, failing, bytes)?;
+    failing.set_remaining(u64::MAX);
+    let then = opened(alloc, failing, bytes)?;
+    Ok(Outcome::of_answers(alloc, first, then))
 }
 
 /// What is seen of `save` on a session that was opened of these bytes. It is a failure where `save`
 /// answers others.
-fn seen_of_save(
+fn outcome_of_save(
     alloc: Global,
-    rationed: &Rationed,
-    planner: &mut Planner<&Rationed>,
+    failing: &FailingAlloc,
+    planner: &mut Planner<&FailingAlloc>,
     bytes: &[u8],
     growths: u64,
-) -> Result<Seen, Fail> {
-    let before = octets_of(alloc, planner)?;
-    rationed.leave(growths);
-    let first = of_octets(alloc, planner.save())?;
-    rationed.leave(u64::MAX);
-    let between = octets_of(alloc, planner)?;
-    let then = of_octets(alloc, planner.save())?;
+) -> Result<Outcome, Fail> {
+    let before = bytes_of(alloc, planner)?;
+    failing.set_remaining(growths);
+    let first = of_bytes(alloc, planner.save())?;
+    failing.set_remaining(u64::MAX);
+    let between = bytes_of(alloc, planner)?;
+    let then = of_bytes(alloc, planner.save())?;
     if then.as_deref() != Some(bytes) {
         return Err("other bytes")?;
     }
-    Ok(Seen {
+    Ok(Outcome {
         first,
         then,
         before,
@@ -105,23 +105,28 @@ fn seen_of_save(
 }
 
 /// What is seen of `save` on the session of these bytes.
-fn seen_of_saving(
+fn outcome_of_saving(
     alloc: Global,
-    rationed: &Rationed,
+    failing: &FailingAlloc,
     bytes: &[u8],
     growths: u64,
-) -> Result<Seen, Fail> {
-    let mut planner = Planner::open(rationed, bytes)?;
-    seen_of_save(alloc, rationed, &mut planner, bytes, growths)
+) -> Result<Outcome, Fail> {
+    let mut planner = Planner::open(failing, bytes)?;
+    outcome_of_save(alloc, failing, &mut planner, bytes, growths)
 }
 
-impl Growing for Call {
-    fn seen(&self, alloc: Global, rationed: &Rationed, growths: u64) -> Result<Seen, Fail> {
+impl FallibleCall for Call {
+    fn outcome(
+        &self,
+        alloc: Global,
+        failing: &FailingAlloc,
+        growths: u64,
+    ) -> Result<Outcome, Fail> {
         let session = session(alloc)?;
         match self {
-            Call::Open => seen_of_open(alloc, rationed, &session, growths),
-            Call::OpenDump => seen_of_open(alloc, rationed, NETWORK, growths),
-            Call::Save => seen_of_saving(alloc, rationed, &session, growths),
+            Call::Open => outcome_of_open(alloc, failing, &session, growths),
+            Call::OpenDump => outcome_of_open(alloc, failing, NETWORK, growths),
+            Call::Save => outcome_of_saving(alloc, failing, &session, growths),
         }
     }
 }

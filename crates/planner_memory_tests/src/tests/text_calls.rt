@@ -1,12 +1,12 @@
 //! Texts of tables, of their differences and of replies.
 
-use super::answers::of_octets;
+use super::answers::of_bytes;
 use super::branch_calls::carry_out;
 use super::network::database_of;
 use branches::{Branches, Reply, reply_text, tables_head};
 use edit_script::parse;
-use rationed::Rationed;
-use refused_growths::{Growing, Seen, growths_of};
+use failing_alloc::FailingAlloc;
+use refused_growths::{FallibleCall, Outcome, growths_of};
 use std::alloc::{AllocError, Global};
 use std::test::*;
 use table_report::{compare_text, table_text};
@@ -58,12 +58,12 @@ const EDITS: &[&str] = &[
 
 /// The text that a call makes.
 fn text_of<'a>(
-    rationed: &'a Rationed,
-    reply: &Reply<&'a Rationed>,
+    failing: &'a FailingAlloc,
+    reply: &Reply<&'a FailingAlloc>,
     call: Call,
-) -> Result<Vec<u8, &'a Rationed>, AllocError> {
+) -> Result<Vec<u8, &'a FailingAlloc>, AllocError> {
     match (call, reply) {
-        (Call::Table, Reply::Table(table)) => table_text(rationed, table),
+        (Call::Table, Reply::Table(table)) => table_text(failing, table),
         (
             Call::Compare,
             Reply::Compare {
@@ -71,46 +71,51 @@ fn text_of<'a>(
                 before,
                 now,
             },
-        ) => compare_text(rationed, *router, before, now),
-        (Call::TablesHead, _) => Ok(tables_head(rationed, 0, 2)?.into_bytes()),
-        _ => reply_text(rationed, 0, reply),
+        ) => compare_text(failing, *router, before, now),
+        (Call::TablesHead, _) => Ok(tables_head(failing, 0, 2)?.into_bytes()),
+        _ => reply_text(failing, 0, reply),
     }
 }
 
 /// What is seen of a call on a reply.
-fn seen_on<'a>(
+fn outcome_on<'a>(
     alloc: Global,
-    rationed: &'a Rationed,
-    reply: &Reply<&'a Rationed>,
+    failing: &'a FailingAlloc,
+    reply: &Reply<&'a FailingAlloc>,
     call: Call,
     growths: u64,
-) -> Result<Seen, Fail> {
-    rationed.leave(growths);
-    let first = of_octets(alloc, text_of(rationed, reply, call))?;
-    rationed.leave(u64::MAX);
-    let then = of_octets(alloc, text_of(rationed, reply, call))?;
-    Ok(Seen::of_answers(alloc, first, then))
+) -> Result<Outcome, Fail> {
+    failing.set_remaining(growths);
+    let first = of_bytes(alloc, text_of(failing, reply, call))?;
+    failing.set_remaining(u64::MAX);
+    let then = of_bytes(alloc, text_of(failing, reply, call))?;
+    Ok(Outcome::of_answers(alloc, first, then))
 }
 
-/// What is seen of a call on the reply to its line, behind the edits. No function hands the reply
+/// What is seen of a call on the reply to its line, after the edits. No function hands the reply
 /// out: the kit gets no proof of one that answers what `step` does.
-fn seen_behind<'a>(
+fn outcome_after<'a>(
     alloc: Global,
-    rationed: &'a Rationed,
-    branches: &mut Branches<&'a Rationed>,
+    failing: &'a FailingAlloc,
+    branches: &mut Branches<&'a FailingAlloc>,
     call: Call,
     growths: u64,
-) -> Result<Seen, Fail> {
+) -> Result<Outcome, Fail> {
     carry_out(branches, EDITS)?;
     let (branch, command) = parse(line_of(call).as_bytes())?;
     let reply = branches.step(branch, &command)?;
-    seen_on(alloc, rationed, &reply, call, growths)
+    outcome_on(alloc, failing, &reply, call, growths)
 }
 
-impl Growing for Call {
-    fn seen(&self, alloc: Global, rationed: &Rationed, growths: u64) -> Result<Seen, Fail> {
-        let mut branches = Branches::new(rationed, database_of(rationed)?);
-        seen_behind(alloc, rationed, &mut branches, *self, growths)
+impl FallibleCall for Call {
+    fn outcome(
+        &self,
+        alloc: Global,
+        failing: &FailingAlloc,
+        growths: u64,
+    ) -> Result<Outcome, Fail> {
+        let mut branches = Branches::new(failing, database_of(failing)?);
+        outcome_after(alloc, failing, &mut branches, *self, growths)
     }
 }
 

@@ -4,7 +4,7 @@
 
 use edit_history::{EditFault, RedoFault, UndoFault};
 use edit_script::Edit;
-use rationed::Rationed;
+use failing_alloc::FailingAlloc;
 use recalculate::Planner;
 use saved_sessions::open;
 use std::alloc::Global;
@@ -18,42 +18,42 @@ pub(super) trait Question {
     /// Finds it, and may change the planner.
     fn find(
         &self,
-        planner: &mut Planner<&Rationed>,
-        rationed: &Rationed,
+        planner: &mut Planner<&FailingAlloc>,
+        failing: &FailingAlloc,
     ) -> Result<Self::Found, Fail>;
 }
 
 /// What is found of a session that is opened. A dump is a session without edits.
 pub(super) fn on_session<Q: Question>(
-    rationed: &Rationed,
-    octets: &[u8],
+    failing: &FailingAlloc,
+    bytes: &[u8],
     question: &Q,
 ) -> Result<Q::Found, Fail> {
-    let mut planner = open(rationed, octets)?;
-    question.find(&mut planner, rationed)
+    let mut planner = open(failing, bytes)?;
+    question.find(&mut planner, failing)
 }
 
 /// What is found of a session that is opened with ample memory.
 pub(super) fn ask<Q: Question>(
     alloc: Global,
-    octets: &[u8],
+    bytes: &[u8],
     question: &Q,
 ) -> Result<Q::Found, Fail> {
-    let rationed = Rationed::new(alloc, u64::MAX);
-    on_session(&rationed, octets, question)
+    let failing = FailingAlloc::new(alloc, u64::MAX);
+    on_session(&failing, bytes, question)
 }
 
 /// Carries an edit out.
-pub(super) fn edit(planner: &mut Planner<&Rationed>, edit: &Edit) -> Result<(), EditFault> {
+pub(super) fn edit(planner: &mut Planner<&FailingAlloc>, edit: &Edit) -> Result<(), EditFault> {
     planner.edit(edit)
 }
 
 /// Takes edits back.
-pub(super) fn undo(planner: &mut Planner<&Rationed>, count: u32) -> Result<(), UndoFault> {
+pub(super) fn undo(planner: &mut Planner<&FailingAlloc>, count: u32) -> Result<(), UndoFault> {
     planner.undo(count)
 }
 
 /// Carries undone edits out again.
-pub(super) fn redo(planner: &mut Planner<&Rationed>, count: u32) -> Result<(), RedoFault> {
+pub(super) fn redo(planner: &mut Planner<&FailingAlloc>, count: u32) -> Result<(), RedoFault> {
     planner.redo(count)
 }

@@ -4,9 +4,9 @@ use super::calls::{Question, ask, edit, on_session, redo, undo};
 use super::parts::growths_of_parts;
 use edit_history::{EditFault, RedoFault, UndoFault};
 use edit_script::Edit;
+use failing_alloc::FailingAlloc;
 use lsa_codec::{Addr, AreaId, Lsa, Prefix, RouterId};
 use lsdb::Section;
-use rationed::Rationed;
 use recalculate::Planner;
 use samples::{LsaList, R1, R2, RouterLink, SAMPLE, to_router};
 use std::alloc::{AllocError, Allocator, Global};
@@ -24,7 +24,7 @@ fn cost(metric: u16) -> Edit {
 }
 
 /// Carries costs out.
-fn put_costs(planner: &mut Planner<&Rationed>, metrics: Range<u16>) -> Result<(), Fail> {
+fn put_costs(planner: &mut Planner<&FailingAlloc>, metrics: Range<u16>) -> Result<(), Fail> {
     for metric in metrics {
         edit(planner, &cost(metric))?;
     }
@@ -60,42 +60,48 @@ fn star(alloc: Global) -> Result<Vec<u8>, AllocError> {
 }
 
 /// The growths of a table of 1.1.1.1.
-fn growths_of_table(planner: &mut Planner<&Rationed>, rationed: &Rationed) -> Result<u64, Fail> {
-    let before = rationed.left();
+fn growths_of_table(
+    planner: &mut Planner<&FailingAlloc>,
+    failing: &FailingAlloc,
+) -> Result<u64, Fail> {
+    let before = failing.remaining();
     let _table = planner.table(RouterId(R1))?;
-    Ok(before.saturating_sub(rationed.left()))
+    Ok(before.saturating_sub(failing.remaining()))
 }
 
-/// The growths of a table of 1.1.1.1 that is shared with the planner.
-fn growths_of_shared(planner: &mut Planner<&Rationed>, rationed: &Rationed) -> Result<u64, Fail> {
-    let before = rationed.left();
-    let _table = planner.shared_table(RouterId(R1))?;
-    Ok(before.saturating_sub(rationed.left()))
+/// The growths of a table of 1.1.1.1 that the planner caches.
+fn growths_of_cached(
+    planner: &mut Planner<&FailingAlloc>,
+    failing: &FailingAlloc,
+) -> Result<u64, Fail> {
+    let before = failing.remaining();
+    let _table = planner.cached_table(RouterId(R1))?;
+    Ok(before.saturating_sub(failing.remaining()))
 }
 
-/// Whether a shared table that is asked for again takes no growth, and takes some behind an edit.
+/// Whether a cached table that is asked for again takes no growth, and takes some after an edit.
 #[derive(Drop)]
-struct SharedTables;
+struct CachedTables;
 
-impl Question for SharedTables {
+impl Question for CachedTables {
     type Found = (bool, bool);
 
     fn find(
         &self,
-        planner: &mut Planner<&Rationed>,
-        rationed: &Rationed,
+        planner: &mut Planner<&FailingAlloc>,
+        failing: &FailingAlloc,
     ) -> Result<(bool, bool), Fail> {
-        let _first = growths_of_shared(planner, rationed)?;
-        let again = growths_of_shared(planner, rationed)?;
+        let _first = growths_of_cached(planner, failing)?;
+        let again = growths_of_cached(planner, failing)?;
         edit(planner, &cost(7))?;
-        let behind = growths_of_shared(planner, rationed)?;
-        Ok((again == 0, behind > 0))
+        let after = growths_of_cached(planner, failing)?;
+        Ok((again == 0, after > 0))
     }
 }
 
 #[test]
-fn a_shared_table_is_kept_until_an_edit(rt: HostRuntime) -> Result<(), Fail> {
-    assert_eq!(rt; ask(rt.alloc(), SAMPLE, &SharedTables)?, (true, true));
+fn a_cached_table_is_kept_until_an_edit(rt: HostRuntime) -> Result<(), Fail> {
+    assert_eq!(rt; ask(rt.alloc(), SAMPLE, &CachedTables)?, (true, true));
     Ok(())
 }
 
@@ -109,12 +115,12 @@ impl Question for TwoTables {
 
     fn find(
         &self,
-        planner: &mut Planner<&Rationed>,
-        rationed: &Rationed,
+        planner: &mut Planner<&FailingAlloc>,
+        failing: &FailingAlloc,
     ) -> Result<(u64, u64, u64), Fail> {
-        let _first = growths_of_table(planner, rationed)?;
-        let second = growths_of_table(planner, rationed)?;
-        let with_new_tree = growths_of_parts(rationed, planner.database(), RouterId(R1))?;
+        let _first = growths_of_table(planner, failing)?;
+        let second = growths_of_table(planner, failing)?;
+        let with_new_tree = growths_of_parts(failing, planner.database(), RouterId(R1))?;
         Ok((second, with_new_tree, planner.runs()))
     }
 }
@@ -131,14 +137,14 @@ fn a_second_table_asks_for_fewer_growths(rt: HostRuntime) -> Result<(), Fail> {
     Ok(())
 }
 
-/// The growths of a table of 1.1.1.1 behind an edit.
-fn growths_behind(
-    planner: &mut Planner<&Rationed>,
-    rationed: &Rationed,
+/// The growths of a table of 1.1.1.1 after an edit.
+fn growths_after(
+    planner: &mut Planner<&FailingAlloc>,
+    failing: &FailingAlloc,
     change: &Edit,
 ) -> Result<u64, Fail> {
     edit(planner, change)?;
-    growths_of_table(planner, rationed)
+    growths_of_table(planner, failing)
 }
 
 /// The link of 1.1.1.1 to 2.2.2.2 goes.
@@ -148,39 +154,39 @@ const DROPPED: Edit = Edit::DropLink {
     link: 1,
 };
 
-/// The growths of a table behind a cost, behind the undo of it, and behind an edit that drops a
+/// The growths of a table after a cost, after the undo of it, and after an edit that drops a
 /// link, and the trees that they and the first table calculate.
 #[derive(Drop)]
-struct TablesBehindEdits;
+struct TablesAfterEdits;
 
-impl Question for TablesBehindEdits {
+impl Question for TablesAfterEdits {
     type Found = ([u64; 3], u64);
 
     fn find(
         &self,
-        planner: &mut Planner<&Rationed>,
-        rationed: &Rationed,
+        planner: &mut Planner<&FailingAlloc>,
+        failing: &FailingAlloc,
     ) -> Result<([u64; 3], u64), Fail> {
-        let _first = growths_of_table(planner, rationed)?;
-        let behind_cost = growths_behind(planner, rationed, &cost(7))?;
+        let _first = growths_of_table(planner, failing)?;
+        let after_cost = growths_after(planner, failing, &cost(7))?;
         undo(planner, 1)?;
-        let behind_undo = growths_of_table(planner, rationed)?;
-        let behind_drop = growths_behind(planner, rationed, &DROPPED)?;
-        Ok(([behind_cost, behind_undo, behind_drop], planner.runs()))
+        let after_undo = growths_of_table(planner, failing)?;
+        let after_drop = growths_after(planner, failing, &DROPPED)?;
+        Ok(([after_cost, after_undo, after_drop], planner.runs()))
     }
 }
 
 #[test]
-fn a_table_behind_a_cost_asks_for_no_graph(rt: HostRuntime) -> Result<(), Fail> {
+fn a_table_after_a_cost_asks_for_no_graph(rt: HostRuntime) -> Result<(), Fail> {
     let star = star(rt.alloc())?;
-    let ([cost, undo, drop], runs) = ask(rt.alloc(), &star, &TablesBehindEdits)?;
+    let ([cost, undo, drop], runs) = ask(rt.alloc(), &star, &TablesAfterEdits)?;
     assert!(rt;
         cost < drop,
-        "{cost} behind a cost, {drop} behind a dropped link"
+        "{cost} after a cost, {drop} after a dropped link"
     );
     assert!(rt;
         undo < drop,
-        "{undo} behind an undo, {drop} behind a dropped link"
+        "{undo} after an undo, {drop} after a dropped link"
     );
     assert_eq!(rt; runs, 4);
     Ok(())
@@ -188,16 +194,16 @@ fn a_table_behind_a_cost_asks_for_no_graph(rt: HostRuntime) -> Result<(), Fail> 
 
 /// The growths of a table of a router in the database of the beginning.
 fn growths_at_the_beginning(
-    planner: &mut Planner<&Rationed>,
-    rationed: &Rationed,
+    planner: &mut Planner<&FailingAlloc>,
+    failing: &FailingAlloc,
     router: u32,
 ) -> Result<u64, Fail> {
-    let before = rationed.left();
-    let _table = planner.kept_base_table(RouterId(router))?;
-    Ok(before.saturating_sub(rationed.left()))
+    let before = failing.remaining();
+    let _table = planner.baseline_table(RouterId(router))?;
+    Ok(before.saturating_sub(failing.remaining()))
 }
 
-/// The growths of tables at the beginning: of 1.1.1.1, of it behind an edit and behind its undo, of
+/// The growths of tables at the beginning: of 1.1.1.1, of it after an edit and after its undo, of
 /// 2.2.2.2, and of 1.1.1.1 again.
 #[derive(Drop)]
 struct FiveTables;
@@ -207,66 +213,69 @@ impl Question for FiveTables {
 
     fn find(
         &self,
-        planner: &mut Planner<&Rationed>,
-        rationed: &Rationed,
+        planner: &mut Planner<&FailingAlloc>,
+        failing: &FailingAlloc,
     ) -> Result<[u64; 5], Fail> {
-        let first = growths_at_the_beginning(planner, rationed, R1)?;
+        let first = growths_at_the_beginning(planner, failing, R1)?;
         edit(planner, &cost(7))?;
-        let behind_edit = growths_at_the_beginning(planner, rationed, R1)?;
+        let after_edit = growths_at_the_beginning(planner, failing, R1)?;
         undo(planner, 1)?;
-        let behind_undo = growths_at_the_beginning(planner, rationed, R1)?;
-        let another = growths_at_the_beginning(planner, rationed, R2)?;
-        let again = growths_at_the_beginning(planner, rationed, R1)?;
-        Ok([first, behind_edit, behind_undo, another, again])
+        let after_undo = growths_at_the_beginning(planner, failing, R1)?;
+        let another = growths_at_the_beginning(planner, failing, R2)?;
+        let again = growths_at_the_beginning(planner, failing, R1)?;
+        Ok([first, after_edit, after_undo, another, again])
     }
 }
 
 #[test]
 fn a_second_table_of_the_beginning_asks_for_no_growth(rt: HostRuntime) -> Result<(), Fail> {
     let five = ask(rt.alloc(), SAMPLE, &FiveTables)?;
-    let [first, behind_edit, behind_undo, another, again] = five;
+    let [first, after_edit, after_undo, another, again] = five;
     assert!(rt; first > 0 && another > 0 && again > 0);
-    assert_eq!(rt; (behind_edit, behind_undo), (0, 0));
+    assert_eq!(rt; (after_edit, after_undo), (0, 0));
     Ok(())
 }
 
 /// The growths of a copy of the database of the beginning.
-fn growths_of_base(planner: &mut Planner<&Rationed>, rationed: &Rationed) -> Result<u64, Fail> {
-    let before = rationed.left();
+fn growths_of_base(
+    planner: &mut Planner<&FailingAlloc>,
+    failing: &FailingAlloc,
+) -> Result<u64, Fail> {
+    let before = failing.remaining();
     let _base = planner.base()?;
-    Ok(before.saturating_sub(rationed.left()))
+    Ok(before.saturating_sub(failing.remaining()))
 }
 
 /// The growths of the second and the third table in the database of the beginning, after costs from
 /// 11 on, and of a copy of that database. The third one is of the router of the first.
 #[derive(Drop)]
-struct TablesBehindCosts {
-    /// The cost behind the last one.
+struct TablesAfterCosts {
+    /// The cost after the last one.
     end: u16,
 }
 
-impl Question for TablesBehindCosts {
+impl Question for TablesAfterCosts {
     type Found = (u64, u64, u64);
 
     fn find(
         &self,
-        planner: &mut Planner<&Rationed>,
-        rationed: &Rationed,
+        planner: &mut Planner<&FailingAlloc>,
+        failing: &FailingAlloc,
     ) -> Result<(u64, u64, u64), Fail> {
         put_costs(planner, 11..self.end)?;
-        let _first = growths_at_the_beginning(planner, rationed, R1)?;
-        let second = growths_at_the_beginning(planner, rationed, R2)?;
-        let third = growths_at_the_beginning(planner, rationed, R1)?;
-        Ok((second, third, growths_of_base(planner, rationed)?))
+        let _first = growths_at_the_beginning(planner, failing, R1)?;
+        let second = growths_at_the_beginning(planner, failing, R2)?;
+        let third = growths_at_the_beginning(planner, failing, R1)?;
+        Ok((second, third, growths_of_base(planner, failing)?))
     }
 }
 
 #[test]
 fn the_second_table_of_the_beginning_makes_a_copy(rt: HostRuntime) -> Result<(), Fail> {
-    let alone = TablesBehindCosts { end: 11 };
+    let alone = TablesAfterCosts { end: 11 };
     let (second, third, base) = ask(rt.alloc(), SAMPLE, &alone)?;
-    let behind_edits = ask(rt.alloc(), SAMPLE, &TablesBehindCosts { end: 14 })?;
-    assert_eq!(rt; behind_edits, (second.saturating_add(base), third, base));
+    let after_edits = ask(rt.alloc(), SAMPLE, &TablesAfterCosts { end: 14 })?;
+    assert_eq!(rt; after_edits, (second.saturating_add(base), third, base));
     Ok(())
 }
 
@@ -282,10 +291,10 @@ const EDITED: &[u8] = &[
     2, 2, 2, 2, 0x0a, 0, 0, 1, 1, 0, 0, 20,
 ];
 
-/// Whether the first LSA of the backbone has these octets.
-fn has_first(planner: &Planner<&Rationed>, octets: &[u8]) -> bool {
+/// Whether the first LSA of the backbone has these bytes.
+fn has_first(planner: &Planner<&FailingAlloc>, bytes: &[u8]) -> bool {
     let mut lsas = planner.database().lsas(Section::Area(AreaId(0)));
-    lsas.next().is_some_and(|lsa| lsa.bytes() == octets)
+    lsas.next().is_some_and(|lsa| lsa.bytes() == bytes)
 }
 
 /// Ten costs.
@@ -295,20 +304,24 @@ struct TenCosts;
 impl Question for TenCosts {
     type Found = ();
 
-    fn find(&self, planner: &mut Planner<&Rationed>, _rationed: &Rationed) -> Result<(), Fail> {
+    fn find(
+        &self,
+        planner: &mut Planner<&FailingAlloc>,
+        _failing: &FailingAlloc,
+    ) -> Result<(), Fail> {
         put_costs(planner, 11..21)
     }
 }
 
 /// For how many growths a planner on the sample with ten costs asks.
 fn growths_of_costs(alloc: Global) -> Result<u64, Fail> {
-    let counted = Rationed::new(alloc, u64::MAX);
+    let counted = FailingAlloc::new(alloc, u64::MAX);
     on_session(&counted, SAMPLE, &TenCosts)?;
-    Ok(u64::MAX.wrapping_sub(counted.left()))
+    Ok(u64::MAX.wrapping_sub(counted.remaining()))
 }
 
 /// Whether ten edits, and no more, are taken back one by one.
-fn goes_back(planner: &mut Planner<&Rationed>) -> bool {
+fn goes_back(planner: &mut Planner<&FailingAlloc>) -> bool {
     for _ in 0..10 {
         if undo(planner, 1).is_err() {
             return false;
@@ -318,7 +331,7 @@ fn goes_back(planner: &mut Planner<&Rationed>) -> bool {
 }
 
 /// Whether ten edits, and no more, are carried out again one by one.
-fn goes_on(planner: &mut Planner<&Rationed>) -> bool {
+fn goes_on(planner: &mut Planner<&FailingAlloc>) -> bool {
     for _ in 0..10 {
         if redo(planner, 1).is_err() {
             return false;
@@ -328,28 +341,32 @@ fn goes_on(planner: &mut Planner<&Rationed>) -> bool {
 }
 
 /// Whether neither an edit nor a dump is had for want of memory, and the database stays.
-fn stays(planner: &mut Planner<&Rationed>) -> bool {
+fn stays(planner: &mut Planner<&FailingAlloc>) -> bool {
     edit(planner, &cost(21)) == Err(EditFault::OutOfMemory)
         && planner.dump().is_err()
         && has_first(planner, EDITED)
 }
 
 /// Whether ten edits are taken back at once.
-fn goes_back_at_once(planner: &mut Planner<&Rationed>) -> bool {
+fn goes_back_at_once(planner: &mut Planner<&FailingAlloc>) -> bool {
     undo(planner, 10) == Ok(()) && has_first(planner, LOADED)
 }
 
-/// Whether ten costs stay, go and come where no growth is left behind them.
+/// Whether ten costs stay, go and come where no growth is left after them.
 #[derive(Drop)]
 struct CostsThatStay;
 
 impl Question for CostsThatStay {
     type Found = bool;
 
-    fn find(&self, planner: &mut Planner<&Rationed>, rationed: &Rationed) -> Result<bool, Fail> {
+    fn find(
+        &self,
+        planner: &mut Planner<&FailingAlloc>,
+        failing: &FailingAlloc,
+    ) -> Result<bool, Fail> {
         put_costs(planner, 11..21)?;
         Ok(
-            rationed.left() == 0
+            failing.remaining() == 0
                 && stays(planner)
                 && goes_back(planner)
                 && goes_on(planner)
@@ -360,8 +377,8 @@ impl Question for CostsThatStay {
 
 /// Whether ten costs do so with the growths that they take alone.
 fn takes_no_growth(alloc: Global) -> Result<bool, Fail> {
-    let rationed = Rationed::new(alloc, growths_of_costs(alloc)?);
-    on_session(&rationed, SAMPLE, &CostsThatStay)
+    let failing = FailingAlloc::new(alloc, growths_of_costs(alloc)?);
+    on_session(&failing, SAMPLE, &CostsThatStay)
 }
 
 #[test]
@@ -370,14 +387,14 @@ fn undo_and_redo_while_each_growth_is_refused(rt: HostRuntime) -> Result<(), Fai
     Ok(())
 }
 
-/// The octets of the summary-LSA of a number by 2.2.2.2.
+/// The bytes of the summary-LSA of a number by 2.2.2.2.
 fn summary(alloc: Global, number: u32) -> Result<Vec<u8>, Fail> {
     let net = Prefix::masked(Addr(0x0a14_0000 | number << 8), 24);
     let summary = Lsa::new_summary(alloc, 2, RouterId(R2), net, 7)?;
     Ok(Vec::from_slice(alloc, summary.bytes())?)
 }
 
-/// The sample with 98 summary-LSAs of 2.2.2.2 behind its router-LSAs: an area of 100 LSAs.
+/// The sample with 98 summary-LSAs of 2.2.2.2 after its router-LSAs: an area of 100 LSAs.
 fn hundred_lsas(alloc: Global) -> Result<Vec<u8>, Fail> {
     let mut dump = Vec::from_slice(alloc, SAMPLE.get(..97).ok_or("the area")?)?;
     for number in 0..98 {
@@ -395,10 +412,14 @@ struct OneCost;
 impl Question for OneCost {
     type Found = u64;
 
-    fn find(&self, planner: &mut Planner<&Rationed>, rationed: &Rationed) -> Result<u64, Fail> {
-        let before = rationed.left();
+    fn find(
+        &self,
+        planner: &mut Planner<&FailingAlloc>,
+        failing: &FailingAlloc,
+    ) -> Result<u64, Fail> {
+        let before = failing.remaining();
         edit(planner, &cost(7))?;
-        Ok(before.saturating_sub(rationed.left()))
+        Ok(before.saturating_sub(failing.remaining()))
     }
 }
 

@@ -3,8 +3,8 @@
 use super::calls::{Question, ask, edit, on_session, redo, undo};
 use area_routes::Route;
 use edit_script::{Command, Edit, parse};
+use failing_alloc::FailingAlloc;
 use lsa_codec::{AreaId, RouterId};
-use rationed::Rationed;
 use recalculate::{Planner, Table};
 use samples::{R1, R2, SAMPLE};
 use std::test::*;
@@ -20,7 +20,7 @@ const TWO_AREAS: &[u8] = &[
 ];
 
 /// Whether two routes are the same.
-fn is_same(one: &Route<&Rationed>, other: &Route<&Rationed>) -> bool {
+fn is_same(one: &Route<&FailingAlloc>, other: &Route<&FailingAlloc>) -> bool {
     one.net == other.net
         && one.kind == other.kind
         && one.cost == other.cost
@@ -30,7 +30,7 @@ fn is_same(one: &Route<&Rationed>, other: &Route<&Rationed>) -> bool {
 }
 
 /// Whether two lists have the same routes, in the same order.
-fn are_same(some: &[Route<&Rationed>], others: &[Route<&Rationed>]) -> bool {
+fn are_same(some: &[Route<&FailingAlloc>], others: &[Route<&FailingAlloc>]) -> bool {
     some.len() == others.len()
         && some
             .iter()
@@ -41,41 +41,45 @@ fn are_same(some: &[Route<&Rationed>], others: &[Route<&Rationed>]) -> bool {
 /// Whether a planner's table of the same router has the same routes.
 #[derive(Drop)]
 struct SameTable<'t, 'r> {
-    table: &'t Table<&'r Rationed>,
+    table: &'t Table<&'r FailingAlloc>,
 }
 
 impl<'t, 'r> Question for SameTable<'t, 'r> {
     type Found = bool;
 
-    fn find(&self, planner: &mut Planner<&Rationed>, _rationed: &Rationed) -> Result<bool, Fail> {
+    fn find(
+        &self,
+        planner: &mut Planner<&FailingAlloc>,
+        _failing: &FailingAlloc,
+    ) -> Result<bool, Fail> {
         let other = planner.table(self.table.router())?;
         Ok(are_same(self.table.routes().as_slice(), other.routes().as_slice()))
     }
 }
 
-/// Asks for a table, and tells whether it is refused. A table that is not that of a fresh planner
+/// Asks for a table, and returns whether it is refused. A table that is not that of a fresh planner
 /// of the dumped database is a failure.
 fn is_table_refused(
-    planner: &mut Planner<&Rationed>,
-    rationed: &Rationed,
+    planner: &mut Planner<&FailingAlloc>,
+    failing: &FailingAlloc,
     router: RouterId,
 ) -> Result<bool, Fail> {
     let Ok(table) = planner.table(router) else {
         return Ok(true);
     };
     let dump = planner.dump()?;
-    if on_session(rationed, &dump, &SameTable { table: &table })? {
+    if on_session(failing, &dump, &SameTable { table: &table })? {
         Ok(false)
     } else {
         Err("another table")?
     }
 }
 
-/// Carries a line of a script out, and tells whether it is refused. `tables` asks for the routers
+/// Carries a line of a script out, and returns whether it is refused. `tables` asks for the routers
 /// alone, and `compare` for a table of the database of the beginning.
 pub(super) fn is_refused(
-    planner: &mut Planner<&Rationed>,
-    rationed: &Rationed,
+    planner: &mut Planner<&FailingAlloc>,
+    failing: &FailingAlloc,
     line: &str,
 ) -> Result<bool, Fail> {
     let (_, command) = parse(line.as_bytes())?;
@@ -83,7 +87,7 @@ pub(super) fn is_refused(
         Command::Edit(command) => edit(planner, &command).is_err(),
         Command::Undo(count) => undo(planner, count).is_err(),
         Command::Redo(count) => redo(planner, count).is_err(),
-        Command::Table(router) => is_table_refused(planner, rationed, router)?,
+        Command::Table(router) => is_table_refused(planner, failing, router)?,
         Command::Tables => planner.routers().is_err(),
         Command::Compare(router) => planner.base_table(router).is_err(),
         Command::Info => {
@@ -107,11 +111,11 @@ impl Question for FirstOtherwise {
 
     fn find(
         &self,
-        planner: &mut Planner<&Rationed>,
-        rationed: &Rationed,
+        planner: &mut Planner<&FailingAlloc>,
+        failing: &FailingAlloc,
     ) -> Result<Option<usize>, Fail> {
         for (place, (line, refused, runs)) in self.steps.iter().enumerate() {
-            if is_refused(planner, rationed, line)? != *refused || planner.runs() != *runs {
+            if is_refused(planner, failing, line)? != *refused || planner.runs() != *runs {
                 return Ok(Some(place));
             }
         }
@@ -240,13 +244,13 @@ fn calculates_trees_where_they_are_wanted_alone(rt: HostRuntime) -> Result<(), F
 }
 
 /// How many trees are calculated after a kept table of the beginning.
-fn runs_behind_kept(planner: &mut Planner<&Rationed>) -> Result<u64, Fail> {
-    let _table = planner.kept_base_table(RouterId(R1))?;
+fn runs_after_kept(planner: &mut Planner<&FailingAlloc>) -> Result<u64, Fail> {
+    let _table = planner.baseline_table(RouterId(R1))?;
     Ok(planner.runs())
 }
 
 /// The same after a table of the beginning by trees that are not kept.
-fn runs_behind_fresh(planner: &mut Planner<&Rationed>) -> Result<u64, Fail> {
+fn runs_after_fresh(planner: &mut Planner<&FailingAlloc>) -> Result<u64, Fail> {
     let _table = planner.base_table(RouterId(R1))?;
     Ok(planner.runs())
 }
@@ -262,14 +266,14 @@ impl Question for RunsOfThree {
 
     fn find(
         &self,
-        planner: &mut Planner<&Rationed>,
-        _rationed: &Rationed,
+        planner: &mut Planner<&FailingAlloc>,
+        _failing: &FailingAlloc,
     ) -> Result<[u64; 3], Fail> {
-        let first = runs_behind_kept(planner)?;
+        let first = runs_after_kept(planner)?;
         let router = RouterId(R1);
         edit(planner, &Edit::FailRouter { router })?;
-        let second = runs_behind_kept(planner)?;
-        Ok([first, second, runs_behind_fresh(planner)?])
+        let second = runs_after_kept(planner)?;
+        Ok([first, second, runs_after_fresh(planner)?])
     }
 }
 
@@ -279,14 +283,14 @@ fn keeps_the_trees_of_the_beginning(rt: HostRuntime) -> Result<(), Fail> {
     Ok(())
 }
 
-/// How many trees are calculated after a shared table.
-fn runs_after_shared(planner: &mut Planner<&Rationed>, router: u32) -> Result<u64, Fail> {
-    let _table = planner.shared_table(RouterId(router))?;
+/// How many trees are calculated after a cached table.
+fn runs_after_cached(planner: &mut Planner<&FailingAlloc>, router: u32) -> Result<u64, Fail> {
+    let _table = planner.cached_table(RouterId(router))?;
     Ok(planner.runs())
 }
 
 /// The cost of the link of 1.1.1.1 is another.
-fn change_cost(planner: &mut Planner<&Rationed>, metric: u16) -> Result<(), Fail> {
+fn change_cost(planner: &mut Planner<&FailingAlloc>, metric: u16) -> Result<(), Fail> {
     let (area, router) = (AreaId(0), RouterId(R1));
     Ok(edit(
         planner,
@@ -299,72 +303,72 @@ fn change_cost(planner: &mut Planner<&Rationed>, metric: u16) -> Result<(), Fail
     )?)
 }
 
-/// How many trees are calculated after shared tables: an edit is followed by two of 1.1.1.1 and one
+/// How many trees are calculated after cached tables: an edit is followed by two of 1.1.1.1 and one
 /// of 2.2.2.2, and a second edit by one of 2.2.2.2.
 #[derive(Drop)]
-struct RunsOfShared;
+struct RunsOfCached;
 
-impl Question for RunsOfShared {
+impl Question for RunsOfCached {
     type Found = [u64; 4];
 
     fn find(
         &self,
-        planner: &mut Planner<&Rationed>,
-        _rationed: &Rationed,
+        planner: &mut Planner<&FailingAlloc>,
+        _failing: &FailingAlloc,
     ) -> Result<[u64; 4], Fail> {
         change_cost(planner, 7)?;
-        let first = runs_after_shared(planner, R1)?;
-        let again = runs_after_shared(planner, R1)?;
-        let another = runs_after_shared(planner, R2)?;
+        let first = runs_after_cached(planner, R1)?;
+        let again = runs_after_cached(planner, R1)?;
+        let another = runs_after_cached(planner, R2)?;
         change_cost(planner, 8)?;
-        Ok([first, again, another, runs_after_shared(planner, R2)?])
+        Ok([first, again, another, runs_after_cached(planner, R2)?])
     }
 }
 
 /// A table that is not asked for twice in a row while one edit is done is made in one database
 /// alone.
 #[test]
-fn shared_tables_calculate_trees_where_they_are_wanted_alone(rt: HostRuntime) -> Result<(), Fail> {
-    assert_eq!(rt; ask(rt.alloc(), SAMPLE, &RunsOfShared)?, [1, 1, 2, 3]);
+fn cached_tables_calculate_trees_where_they_are_wanted_alone(rt: HostRuntime) -> Result<(), Fail> {
+    assert_eq!(rt; ask(rt.alloc(), SAMPLE, &RunsOfCached)?, [1, 1, 2, 3]);
     Ok(())
 }
 
 /// Whether a table of a router in the database of the beginning, by trees that are kept, is that of
 /// a fresh planner of the sample.
 fn is_kept_of_sample(
-    planner: &mut Planner<&Rationed>,
-    rationed: &Rationed,
+    planner: &mut Planner<&FailingAlloc>,
+    failing: &FailingAlloc,
     router: u32,
 ) -> Result<bool, Fail> {
-    let kept = planner.kept_base_table(RouterId(router))?;
+    let kept = planner.baseline_table(RouterId(router))?;
     let table = kept.as_ref();
-    on_session(rationed, SAMPLE, &SameTable { table })
+    on_session(failing, SAMPLE, &SameTable { table })
 }
 
 /// The same of a table by other trees.
 fn is_fresh_of_sample(
-    planner: &mut Planner<&Rationed>,
-    rationed: &Rationed,
+    planner: &mut Planner<&FailingAlloc>,
+    failing: &FailingAlloc,
     router: u32,
 ) -> Result<bool, Fail> {
     let table = planner.base_table(RouterId(router))?;
-    on_session(rationed, SAMPLE, &SameTable { table: &table })
+    on_session(failing, SAMPLE, &SameTable { table: &table })
 }
 
 /// Whether a copy of the database of the beginning is the sample.
-fn is_base_the_sample(planner: &mut Planner<&Rationed>) -> Result<bool, Fail> {
+fn is_base_the_sample(planner: &mut Planner<&FailingAlloc>) -> Result<bool, Fail> {
     Ok(planner.base()?.dump()?.as_slice() == SAMPLE)
 }
 
 /// Whether the database of the beginning is still the sample: by tables of both routers, and by a
 /// copy of it.
 fn begins_at_the_sample(
-    planner: &mut Planner<&Rationed>,
-    rationed: &Rationed,
+    planner: &mut Planner<&FailingAlloc>,
+    failing: &FailingAlloc,
 ) -> Result<bool, Fail> {
     for router in [R1, R2] {
-        if !is_kept_of_sample(planner, rationed, router)?
-            || !is_fresh_of_sample(planner, rationed, router)?
+        if !is_kept_of_sample(planner, failing, router)?
+            || !is_fresh_of_sample(planner, failing, router)?
         {
             return Ok(false);
         }
@@ -372,7 +376,7 @@ fn begins_at_the_sample(
     is_base_the_sample(planner)
 }
 
-/// Behind the first line many edits are done, of so few LSAs: the second table of the beginning
+/// After the first line many edits are done, of so few LSAs: the second table of the beginning
 /// makes a copy of that database.
 const OVER_A_COPY: &[&str] = &[
     "cost 0.0.0.0 1.1.1.1 1 7",
@@ -389,7 +393,7 @@ const OVER_A_COPY: &[&str] = &[
     "fail-router 1.1.1.1",
 ];
 
-/// The first line that is refused, or behind which the beginning is another.
+/// The first line that is refused, or after which the beginning is another.
 #[derive(Drop)]
 struct OtherBeginning;
 
@@ -398,12 +402,12 @@ impl Question for OtherBeginning {
 
     fn find(
         &self,
-        planner: &mut Planner<&Rationed>,
-        rationed: &Rationed,
+        planner: &mut Planner<&FailingAlloc>,
+        failing: &FailingAlloc,
     ) -> Result<Option<&'static str>, Fail> {
         for line in OVER_A_COPY {
-            let refused = is_refused(planner, rationed, line)?;
-            if refused || !begins_at_the_sample(planner, rationed)? {
+            let refused = is_refused(planner, failing, line)?;
+            if refused || !begins_at_the_sample(planner, failing)? {
                 return Ok(Some(*line));
             }
         }

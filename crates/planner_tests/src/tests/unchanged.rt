@@ -2,8 +2,8 @@
 
 use super::calls::{Question, ask};
 use super::tables::is_refused;
+use failing_alloc::FailingAlloc;
 use lsa_codec::RouterId;
-use rationed::Rationed;
 use recalculate::Planner;
 use samples::{LsaList, to_router, to_stub};
 use std::alloc::Global;
@@ -47,9 +47,13 @@ struct KnownToLeave {
 impl Question for KnownToLeave {
     type Found = bool;
 
-    fn find(&self, planner: &mut Planner<&Rationed>, rationed: &Rationed) -> Result<bool, Fail> {
-        let _table = planner.kept_base_table(self.router)?;
-        let _refused = is_refused(planner, rationed, self.line)?;
+    fn find(
+        &self,
+        planner: &mut Planner<&FailingAlloc>,
+        failing: &FailingAlloc,
+    ) -> Result<bool, Fail> {
+        let _table = planner.baseline_table(self.router)?;
+        let _refused = is_refused(planner, failing, self.line)?;
         Ok(planner.is_unchanged(self.router))
     }
 }

@@ -25,9 +25,9 @@ const TO_ANOTHER: &[u8] = &[
     3, 3, 3, 3, 0x0a, 0, 0, 1, 1, 0, 0, 20,
 ];
 
-/// The LSA of octets.
-fn decoded(alloc: Global, octets: &[u8]) -> Result<Lsa, Fail> {
-    Ok(Lsa::decode(alloc, octets)?.0)
+/// The LSA of bytes.
+fn decoded(alloc: Global, bytes: &[u8]) -> Result<Lsa, Fail> {
+    Ok(Lsa::decode(alloc, bytes)?.0)
 }
 
 /// The change that makes one LSA another.
@@ -50,7 +50,7 @@ fn to_cost(cost: u16) -> Parts {
 }
 
 #[test]
-fn tells_the_change_of_a_cost(rt: HostRuntime) -> Result<(), Fail> {
+fn reports_the_change_of_a_cost(rt: HostRuntime) -> Result<(), Fail> {
     let raised = change_of(rt.alloc(), COST_10, COST_20)?;
     assert_eq!(rt; raised.map(parts_of), Some(to_cost(20)));
     let lowered = change_of(rt.alloc(), COST_20, COST_10)?;
@@ -80,7 +80,7 @@ fn costs_of(alloc: Global, graph: &Graph, index: usize) -> Result<Vec<u16>, Fail
 }
 
 /// Whether a graph takes a change, and the costs of the edges out of its first two vertices then.
-fn costs_behind(
+fn costs_after(
     alloc: Global,
     graph: &mut Graph,
     change: CostChange,
@@ -94,7 +94,7 @@ fn costs_behind(
 /// The same of the graph of the sample.
 fn costs_of_sample(alloc: Global, change: CostChange) -> Result<(bool, Vec<u16>), Fail> {
     let mut graph = sample_graph(alloc)?;
-    costs_behind(alloc, &mut graph, change)
+    costs_after(alloc, &mut graph, change)
 }
 
 /// The change of a cost from 10 to 20.

@@ -27,7 +27,7 @@ fn numbers_of(graph: &Graph, router: u32) -> (usize, Option<usize>, Option<usize
 }
 
 #[test]
-fn tells_indices(rt: HostRuntime) -> Result<(), Fail> {
+fn reports_indices(rt: HostRuntime) -> Result<(), Fail> {
     let graph = sample_graph(rt.alloc())?;
     assert_eq!(rt; numbers_of(&graph, R2), (2, Some(1), None));
     Ok(())
@@ -45,7 +45,7 @@ fn networks_of(alloc: Global, graph: &Graph) -> Result<Vec<usize>, Fail> {
 }
 
 #[test]
-fn tells_networks(rt: HostRuntime) -> Result<(), Fail> {
+fn reports_networks(rt: HostRuntime) -> Result<(), Fail> {
     let graph = three_graph(rt.alloc())?;
     assert_eq!(rt; numbers_of(&graph, R4), (4, Some(2), Some(3)));
     assert_eq!(rt; networks_of(rt.alloc(), &graph)?.as_slice(), [3].as_slice());
@@ -53,7 +53,7 @@ fn tells_networks(rt: HostRuntime) -> Result<(), Fail> {
 }
 
 #[test]
-fn tells_an_absent_area(rt: HostRuntime) -> Result<(), Fail> {
+fn reports_an_absent_area(rt: HostRuntime) -> Result<(), Fail> {
     assert_eq!(rt; graph_fault(rt.alloc(), 0)?, None);
     assert_eq!(rt; graph_fault(rt.alloc(), 1)?, Some(GraphFault::NoArea));
     Ok(())

@@ -1,4 +1,4 @@
-//! A ring of 40 routers with ten networks of four neighbouring routers each: the tree and the hops
+//! A ring of 40 routers with ten networks of four neighboring routers each: the tree and the hops
 //! of each router, beside those of the plain program, which is first compared with what is known of
 //! the ring.
 
@@ -47,7 +47,7 @@ fn costs_at(costs: Costs, place: u32) -> (u16, u16) {
     }
 }
 
-/// The links of a router to both neighbours.
+/// The links of a router to both neighbors.
 fn ring_links(alloc: Global, costs: Costs, place: u32) -> Result<Vec<RouterLink>, Fail> {
     let address = 0x0a00_0000 | (place << 8);
     let (on, back) = costs_at(costs, place);

@@ -3,13 +3,13 @@
 use super::built::{graph_of, sample_graph, three_graph, tree_of};
 use super::plain::distances_by_rounds;
 use area_graph::Graph;
-use rationed::Rationed;
+use failing_alloc::FailingAlloc;
 use samples::{R1, R3, R4, SAMPLE, network_of_three};
 use spf::{Meter, SpfFault, Tree};
 use std::alloc::Global;
 use std::test::*;
 
-/// The root of a tree, and the vertices that it reaches behind it: the first, and the second.
+/// The root of a tree, and the vertices that it reaches after it: the first, and the second.
 fn turns_of(tree: &Tree) -> (usize, Option<usize>, Option<usize>) {
     (tree.root(), tree.settled(1), tree.settled(2))
 }
@@ -22,7 +22,7 @@ fn turns_in_sample(alloc: Global) -> Result<(usize, Option<usize>, Option<usize>
 }
 
 #[test]
-fn tells_vertices_in_order(rt: HostRuntime) -> Result<(), Fail> {
+fn reports_vertices_in_order(rt: HostRuntime) -> Result<(), Fail> {
     assert_eq!(rt; turns_in_sample(rt.alloc())?, (0, Some(1), None));
     Ok(())
 }
@@ -112,31 +112,31 @@ fn reaches_a_network_before_a_router(rt: HostRuntime) -> Result<(), Fail> {
 
 /// What is seen of building a tree: the growths that are left before it and after it, why there is
 /// none, and how many trees are counted.
-type Seen = (u64, u64, Option<SpfFault>, u64);
+type Outcome = (u64, u64, Option<SpfFault>, u64);
 
 /// Builds the tree of 1.1.1.1 in a graph.
-fn rationed_tree<'a>(rationed: &'a Rationed, graph: &Graph<&'a Rationed>) -> Seen {
-    let before = rationed.left();
+fn failing_tree<'a>(failing: &'a FailingAlloc, graph: &Graph<&'a FailingAlloc>) -> Outcome {
+    let before = failing.remaining();
     let mut meter = Meter::new();
-    let fault = tree_of(rationed, graph, R1, &mut meter).err();
-    (before, rationed.left(), fault, meter.count())
+    let fault = tree_of(failing, graph, R1, &mut meter).err();
+    (before, failing.remaining(), fault, meter.count())
 }
 
-/// The same in the sample, with so many growths.
-fn rationed_sample(alloc: Global, growths: u64) -> Result<Seen, Fail> {
-    let rationed = Rationed::new(alloc, growths);
-    let graph = sample_graph(&rationed)?;
-    Ok(rationed_tree(&rationed, &graph))
+/// The same in the sample, with this number of growths.
+fn failing_sample(alloc: Global, growths: u64) -> Result<Outcome, Fail> {
+    let failing = FailingAlloc::new(alloc, growths);
+    let graph = sample_graph(&failing)?;
+    Ok(failing_tree(&failing, &graph))
 }
 
 #[test]
 fn counts_where_memory_runs_out(rt: HostRuntime) -> Result<(), Fail> {
-    let (before, after, fault, _) = rationed_sample(rt.alloc(), u64::MAX)?;
+    let (before, after, fault, _) = failing_sample(rt.alloc(), u64::MAX)?;
     assert_eq!(rt; fault, None);
     assert!(rt; after < before);
     let needed = u64::MAX.wrapping_sub(before);
     for more in 0..before.wrapping_sub(after) {
-        let (_, _, fault, count) = rationed_sample(rt.alloc(), needed.wrapping_add(more))?;
+        let (_, _, fault, count) = failing_sample(rt.alloc(), needed.wrapping_add(more))?;
         assert_eq!(rt; fault, Some(SpfFault::OutOfMemory), "with {more} growths");
         assert_eq!(rt; count, 1, "with {more} growths");
     }

@@ -88,11 +88,11 @@ fn runs_over_short_reads_and_writes(rt: HostRuntime) -> Result<(), Fail> {
 }
 
 #[test]
-fn the_dump_fails_at_each_octet(rt: HostRuntime) -> Result<(), Fail> {
+fn the_dump_fails_at_each_byte(rt: HostRuntime) -> Result<(), Fail> {
     for n in 0..SAMPLE.len() + 1 {
         let dump = source(SAMPLE, Some(n));
         let ended = run_without_out(rt.alloc(), dump, SCRIPT, Vec::new(rt.alloc()));
-        assert_eq!(rt; ended.result, Err(RunFault::Read), "after {n} octets");
+        assert_eq!(rt; ended.result, Err(RunFault::Read), "after {n} bytes");
         assert!(rt; ended.dump.failed);
         assert!(rt; ended.replies.stream.is_empty());
     }
@@ -100,7 +100,7 @@ fn the_dump_fails_at_each_octet(rt: HostRuntime) -> Result<(), Fail> {
 }
 
 #[test]
-fn the_script_fails_at_each_octet(rt: HostRuntime) -> Result<(), Fail> {
+fn the_script_fails_at_each_byte(rt: HostRuntime) -> Result<(), Fail> {
     for n in 0..SCRIPT.len() + 1 {
         let script = source(SCRIPT, Some(n));
         let (replies, out, save) = (
@@ -109,7 +109,7 @@ fn the_script_fails_at_each_octet(rt: HostRuntime) -> Result<(), Fail> {
             Vec::new(rt.alloc()),
         );
         let ended = run_whole(rt.alloc(), SAMPLE, script, replies, out, save);
-        assert_eq!(rt; ended.result, Err(RunFault::Read), "after {n} octets");
+        assert_eq!(rt; ended.result, Err(RunFault::Read), "after {n} bytes");
         assert!(rt; ended.script.failed);
         assert!(rt; ended.replies.stream.is_empty());
         assert!(rt; ended.out.stream.is_empty());
@@ -119,7 +119,7 @@ fn the_script_fails_at_each_octet(rt: HostRuntime) -> Result<(), Fail> {
 }
 
 #[test]
-fn the_replies_fail_at_each_octet(rt: HostRuntime) -> Result<(), Fail> {
+fn the_replies_fail_at_each_byte(rt: HostRuntime) -> Result<(), Fail> {
     for failing in [Failing::WriteErrs, Failing::WriteTakesNone] {
         for n in 0..REPLIES.len() {
             let replies = sink(rt.alloc(), n, failing);
@@ -129,7 +129,7 @@ fn the_replies_fail_at_each_octet(rt: HostRuntime) -> Result<(), Fail> {
                 Vec::new(rt.alloc()),
                 Vec::new(rt.alloc()),
             );
-            assert_eq!(rt; ended.result, Err(RunFault::Write), "after {n} octets");
+            assert_eq!(rt; ended.result, Err(RunFault::Write), "after {n} bytes");
             assert!(rt; ended.replies.failed);
             let taken = ended.replies.stream.taken.as_slice();
             assert_eq!(rt; Some(taken), REPLIES.get(..n));
@@ -141,12 +141,12 @@ fn the_replies_fail_at_each_octet(rt: HostRuntime) -> Result<(), Fail> {
 }
 
 #[test]
-fn the_written_dump_fails_at_each_octet(rt: HostRuntime) -> Result<(), Fail> {
+fn the_written_dump_fails_at_each_byte(rt: HostRuntime) -> Result<(), Fail> {
     for failing in [Failing::WriteErrs, Failing::WriteTakesNone] {
         for n in 0..SAMPLE.len() {
             let out = sink(rt.alloc(), n, failing);
             let ended = run_to(rt.alloc(), Vec::new(rt.alloc()), out, Vec::new(rt.alloc()));
-            assert_eq!(rt; ended.result, Err(RunFault::Write), "after {n} octets");
+            assert_eq!(rt; ended.result, Err(RunFault::Write), "after {n} bytes");
             assert!(rt; ended.out.failed);
             assert_eq!(rt; ended.replies.stream.as_slice(), REPLIES);
             let taken = ended.out.stream.taken.as_slice();
@@ -158,12 +158,12 @@ fn the_written_dump_fails_at_each_octet(rt: HostRuntime) -> Result<(), Fail> {
 }
 
 #[test]
-fn the_saved_session_fails_at_each_octet(rt: HostRuntime) -> Result<(), Fail> {
+fn the_saved_session_fails_at_each_byte(rt: HostRuntime) -> Result<(), Fail> {
     for failing in [Failing::WriteErrs, Failing::WriteTakesNone] {
         for n in 0..LEFT.len() {
             let save = sink(rt.alloc(), n, failing);
             let ended = run_to(rt.alloc(), Vec::new(rt.alloc()), Vec::new(rt.alloc()), save);
-            assert_eq!(rt; ended.result, Err(RunFault::Write), "after {n} octets");
+            assert_eq!(rt; ended.result, Err(RunFault::Write), "after {n} bytes");
             assert!(rt; ended.save.failed);
             assert_eq!(rt; ended.replies.stream.as_slice(), REPLIES);
             assert_eq!(rt; ended.out.stream.as_slice(), SAMPLE);

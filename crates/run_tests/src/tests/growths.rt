@@ -2,7 +2,7 @@
 
 use super::dumps::{NETWORK, SAVED, TWO_AREAS};
 use super::outcome::{Outcome, run_whole};
-use rationed::Rationed;
+use failing_alloc::FailingAlloc;
 use std::alloc::Global;
 use std::test::*;
 use whole_run::{RunFault, SAMPLE};
@@ -92,20 +92,20 @@ info
 
 /// A run that asks for a dump and a session.
 fn whole<'a>(
-    rationed: &'a Rationed,
+    failing: &'a FailingAlloc,
     alloc: Global,
     dump: &'a [u8],
     script: &'a [u8],
 ) -> Outcome<&'a [u8], &'a [u8], Vec<u8>, Vec<u8>, Vec<u8>> {
     let (replies, out, save) = (Vec::new(alloc), Vec::new(alloc), Vec::new(alloc));
-    run_whole(rationed, dump, script, replies, out, save)
+    run_whole(failing, dump, script, replies, out, save)
 }
 
 /// Whether a run with this number of growths ends early because memory ran out, with a prefix of
 /// these replies and no dump and no session.
 fn ends_early(alloc: Global, growths: u64, dump: &[u8], script: &[u8], ample: &[u8]) -> bool {
-    let rationed = Rationed::new(alloc, growths);
-    let ended = whole(&rationed, alloc, dump, script);
+    let failing = FailingAlloc::new(alloc, growths);
+    let ended = whole(&failing, alloc, dump, script);
     ended.result == Err(RunFault::OutOfMemory)
         && ample.starts_with(ended.replies.stream.as_slice())
         && ended.out.stream.is_empty()
@@ -114,15 +114,15 @@ fn ends_early(alloc: Global, growths: u64, dump: &[u8], script: &[u8], ample: &[
 
 /// Whether a run ends early wherever one of its growths is refused, and well where none is.
 fn ends_early_or_well(alloc: Global, dump: &[u8], script: &[u8]) -> bool {
-    let counted = Rationed::new(alloc, u64::MAX);
+    let counted = FailingAlloc::new(alloc, u64::MAX);
     let ample = whole(&counted, alloc, dump, script);
-    let growths = u64::MAX - counted.left();
+    let growths = u64::MAX - counted.remaining();
     for n in 0..growths {
         if !ends_early(alloc, n, dump, script, ample.replies.stream.as_slice()) {
             return false;
         }
     }
-    let enough = Rationed::new(alloc, growths);
+    let enough = FailingAlloc::new(alloc, growths);
     let ended = whole(&enough, alloc, dump, script);
     growths > 0
         && ended.result.is_ok()

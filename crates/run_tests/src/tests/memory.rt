@@ -4,9 +4,9 @@ ghost use Rattle.std.specs.Prelude.{◌<◌};
 
 use branches::{Branches, Reply};
 use edit_script::{Command, Edit};
+use failing_alloc::FailingAlloc;
 use lsa_codec::{AreaId, RouterId};
 use lsdb::Database;
-use rationed::Rationed;
 use std::alloc::{Allocator, Global};
 use std::test::*;
 use whole_run::SAMPLE;
@@ -23,9 +23,9 @@ fn cost(metric: u16) -> Edit {
 
 /// The number of growths that the database of the sample needs.
 fn growths_of_load(alloc: Global) -> Result<u64, Fail> {
-    let counted = Rationed::new(alloc, u64::MAX);
+    let counted = FailingAlloc::new(alloc, u64::MAX);
     let _database = Database::load(&counted, SAMPLE)?;
-    Ok(u64::MAX - counted.left())
+    Ok(u64::MAX - counted.remaining())
 }
 
 /// Whether the counts of a branch are those of the sample without edits.
@@ -75,10 +75,10 @@ fn wants_memory<A: Allocator + Copy>(branches: &mut Branches<A>) -> bool {
 fn undo_redo_and_info_in_any_branch_while_each_growth_is_refused(
     rt: HostRuntime,
 ) -> Result<(), Fail> {
-    let rationed = Rationed::new(rt.alloc(), growths_of_load(rt.alloc())?);
-    let database = Database::load(&rationed, SAMPLE)?;
-    assert_eq!(rt; rationed.left(), 0);
-    let mut branches = Branches::new(&rationed, database);
+    let failing = FailingAlloc::new(rt.alloc(), growths_of_load(rt.alloc())?);
+    let database = Database::load(&failing, SAMPLE)?;
+    assert_eq!(rt; failing.remaining(), 0);
+    let mut branches = Branches::new(&failing, database);
     for branch in 0..8 {
         assert!(rt;
             takes_no_memory(&mut branches, branch),

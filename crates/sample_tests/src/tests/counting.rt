@@ -1,6 +1,6 @@
 //! Growths that are granted, counted and refused.
 
-use rationed::Rationed;
+use failing_alloc::FailingAlloc;
 use std::alloc::{AllocError, Allocator};
 
 /// More pushes than the tests' growths need: a list doubles.
@@ -35,60 +35,60 @@ fn make_two<A: Allocator + Copy>(alloc: A) -> Result<(), AllocError> {
 }
 
 #[test]
-fn grants_so_many_growths_and_refuses_the_next(rt: HostRuntime) {
+fn grants_that_many_growths_and_refuses_the_next(rt: HostRuntime) {
     for granted in 0..6u64 {
-        let rationed = Rationed::new(rt.alloc(), granted);
+        let failing = FailingAlloc::new(rt.alloc(), granted);
         assert_eq!(rt;
-            blocks_until_refusal(&rationed),
+            blocks_until_refusal(&failing),
             granted,
             "with {granted} left"
         );
-        assert_eq!(rt; rationed.left(), 0, "with {granted} left");
+        assert_eq!(rt; failing.remaining(), 0, "with {granted} left");
     }
 }
 
 #[test]
 fn counts_down(rt: HostRuntime) -> Result<(), AllocError> {
-    let rationed = Rationed::new(rt.alloc(), 4);
-    assert_eq!(rt; rationed.left(), 4);
-    let mut list = Vec::with_capacity(&rationed, 2)?;
-    assert_eq!(rt; rationed.left(), 3);
+    let failing = FailingAlloc::new(rt.alloc(), 4);
+    assert_eq!(rt; failing.remaining(), 4);
+    let mut list = Vec::with_capacity(&failing, 2)?;
+    assert_eq!(rt; failing.remaining(), 3);
     list.push(1u64)?;
     list.push(2)?;
-    assert_eq!(rt; rationed.left(), 3, "two fit");
+    assert_eq!(rt; failing.remaining(), 3, "two fit");
     list.push(3)?;
-    assert_eq!(rt; rationed.left(), 2, "the third is a growth");
-    let other: Vec<u8, &Rationed> = Vec::with_capacity(&rationed, 1)?;
-    assert_eq!(rt; rationed.left(), 1, "two lists share the count");
+    assert_eq!(rt; failing.remaining(), 2, "the third is a growth");
+    let other: Vec<u8, &FailingAlloc> = Vec::with_capacity(&failing, 1)?;
+    assert_eq!(rt; failing.remaining(), 1, "two lists share the count");
     drop(other);
     drop(list);
-    assert_eq!(rt; rationed.left(), 1, "a freed block adds nothing");
+    assert_eq!(rt; failing.remaining(), 1, "a freed block adds nothing");
     Ok(())
 }
 
 #[test]
 fn counts_as_often_as_it_is_copied(rt: HostRuntime) -> Result<(), AllocError> {
-    let rationed = Rationed::new(rt.alloc(), 3);
-    make_two(&rationed)?;
-    assert_eq!(rt; rationed.left(), 1);
-    assert!(rt; make_two(&rationed).is_err());
-    assert_eq!(rt; rationed.left(), 0);
-    assert!(rt; make_two(&rationed).is_err(), "it goes on refusing");
-    assert_eq!(rt; rationed.left(), 0);
+    let failing = FailingAlloc::new(rt.alloc(), 3);
+    make_two(&failing)?;
+    assert_eq!(rt; failing.remaining(), 1);
+    assert!(rt; make_two(&failing).is_err());
+    assert_eq!(rt; failing.remaining(), 0);
+    assert!(rt; make_two(&failing).is_err(), "it goes on refusing");
+    assert_eq!(rt; failing.remaining(), 0);
     Ok(())
 }
 
 #[test]
-fn leaves_as_many_growths_as_it_is_told(rt: HostRuntime) -> Result<(), AllocError> {
-    let rationed = Rationed::new(rt.alloc(), 5);
-    make_two(&rationed)?;
-    rationed.leave(1);
-    assert_eq!(rt; rationed.left(), 1);
-    assert!(rt; make_two(&rationed).is_err());
-    rationed.leave(u64::MAX);
-    assert_eq!(rt; rationed.left(), 5, "no more than the limit");
-    assert_eq!(rt; blocks_until_refusal(&rationed), 5);
-    rationed.leave(2);
-    assert_eq!(rt; blocks_until_refusal(&rationed), 2);
+fn sets_the_number_of_remaining_growths(rt: HostRuntime) -> Result<(), AllocError> {
+    let failing = FailingAlloc::new(rt.alloc(), 5);
+    make_two(&failing)?;
+    failing.set_remaining(1);
+    assert_eq!(rt; failing.remaining(), 1);
+    assert!(rt; make_two(&failing).is_err());
+    failing.set_remaining(u64::MAX);
+    assert_eq!(rt; failing.remaining(), 5, "no more than the limit");
+    assert_eq!(rt; blocks_until_refusal(&failing), 5);
+    failing.set_remaining(2);
+    assert_eq!(rt; blocks_until_refusal(&failing), 2);
     Ok(())
 }

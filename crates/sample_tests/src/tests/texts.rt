@@ -40,7 +40,7 @@ const UNREAD: &[(&str, usize)] = &[
 ];
 
 #[test]
-fn tells_the_line_that_is_none(rt: HostRuntime) -> Result<(), Fail> {
+fn reports_the_line_that_is_none(rt: HostRuntime) -> Result<(), Fail> {
     for (text, line) in UNREAD {
         let fault = dump_of_text(rt.alloc(), text).err();
         assert_eq!(rt; fault, Some(TextFault::Line(*line)), "{text}");

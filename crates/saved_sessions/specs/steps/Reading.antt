@@ -1,11 +1,11 @@
--- What a function that reads a part of a saved session tells of it.
+-- What a function that reads a part of a saved session returns.
 use Rattle.std.specs.Prelude.{◌≡◌, Result, Ok, Err}
 use Rattle.lsdb.specs.declared.fault.DumpFault.{DumpFault}
 use Rattle.lsdb.specs.Loading.{no_memory}
 use Rattle.saved_sessions.specs.declared.fault.ReadError.{ReadError}
 use Rattle.saved_sessions.specs.declared.fault.ReadError.TheVariants as errors
 
--- reading ended for want of memory, or with the fault that is told
+-- reading ended for want of memory, or with the fault that is reported
 abbrev pub Fails : {Y : Type 0} → ReadError → Result Y DumpFault → Type 0
 Fails errors.Memory read = Unit {0}
 Fails (errors.Fault f) read = read ≡ Err f
@@ -15,7 +15,7 @@ abbrev pub Gives : {X Y : Type 0} → (X → Y) → Result X ReadError → Resul
 Gives view (Ok x) read = read ≡ Ok (view x)
 Gives view (Err e) read = Fails e read
 
--- the fault that is told of a failed reading
-abbrev pub told_fault : ReadError → DumpFault
-told_fault errors.Memory = no_memory
-told_fault (errors.Fault f) = f
+-- the fault that is reported of a failed reading
+abbrev pub reported_fault : ReadError → DumpFault
+reported_fault errors.Memory = no_memory
+reported_fault (errors.Fault f) = f

@@ -22,16 +22,16 @@ PushesEdge t edge distance ds old new =
     ⊎ ((new ≡ old) × (IsSome (slice_index_or ds edge.to None) ⊎ IsQueued old edge.to (distance + edge.cost)))
 
 -- new is old, with candidates for edges out of a vertex: each leads to one that is settled or queued
-pub record PushesNeighbours (t : Topology) (from distance : ℕ) (ds : List (Option ℕ)) (old new : List Candidate) : Type 0 where
+pub record PushesNeighbors (t : Topology) (from distance : ℕ) (ds : List (Option ℕ)) (old new : List Candidate) : Type 0 where
   pub kept : (c : Candidate) → Contains old c → Contains new c
   pub only : (c : Candidate) → Contains new c → Contains old c ⊎ ((e : DirectedEdge ℕ) × IsArc t e × (e.from ≡ from) × (c ≡ candidate_at t (distance + e.cost) e.to))
   pub all : (e : DirectedEdge ℕ) → IsArc t e → e.from ≡ from → IsSome (slice_index_or ds e.to None) ⊎ IsQueued new e.to (distance + e.cost)
 
--- the vertex of a candidate has its distance, stands last in the order, and its neighbours are pushed
+-- the vertex of a candidate has its distance, stands last in the order, and its neighbors are pushed
 pub record SettlesOne (t : Topology) (next : Candidate) (ds : List (Option ℕ)) (order : List ℕ) (queue : List Candidate) (ds' : List (Option ℕ)) (order' : List ℕ) (queue' : List Candidate) : Type 0 where
   pub distances : ds' ≡ slice_set ds next.index (Some next.distance)
   pub last : order' ≡ order ++ next.index ∷ []
-  pub pushes : PushesNeighbours t next.index next.distance ds' queue queue'
+  pub pushes : PushesNeighbors t next.index next.distance ds' queue queue'
   pub count : length queue' < length queue + 2 ^ 64
 
 -- so it is where the vertex had no distance; where it had one, nothing changes

@@ -21,8 +21,8 @@ use Rattle.external_routes.specs.Choose.{preferred}
 use Rattle.external_routes.specs.Summaries.{asbr_of_summary, is_among, metric_for}
 use Rattle.summary_metrics.specs.declared.sources.Source.{Source}
 use Rattle.summary_metrics.specs.Refreshed.{results_of}
-use Rattle.summary_metrics.specs.BackboneSummaries.{AreTold, BackboneSummariesValue, asbr_named, backbone_lsas, sources, sources_or_none}
-use Rattle.summary_metrics.specs.Originators.{backbone_entries}
+use Rattle.summary_metrics.specs.BackboneSummaries.{AreAnnounced, BackboneSummariesValue, asbr_named, backbone_lsas, sources, sources_or_none}
+use Rattle.summary_metrics.specs.SummaryMetrics.{backbone_entries}
 
 -- ---- the areas of an originator
 
@@ -51,8 +51,8 @@ module _ (router : RouterId) (entries : List EntryValue) where
   cost_over s = if same_router s.originator router then None else option_map (λ b. b.cost + s.metric) (border_of entries s.originator)
 
   -- the least of these costs
-  abbrev pub told_cost : List Source → Option ℕ
-  told_cost all = least nat_cmp (filter_map cost_over all)
+  abbrev pub announced_cost : List Source → Option ℕ
+  announced_cost all = least nat_cmp (filter_map cost_over all)
 
 -- ---- costs that are announced
 
@@ -66,29 +66,29 @@ entry_cost area e = if e.area.0 == area.0 then None else Some e.cost
 
 -- the cost by the backbone summaries, where there is none within the areas of the originator; into the
 -- backbone no such cost is announced
-abbrev pub else_told : AreaId → Option (Option ℕ) → Option ℕ → Option ℕ
-else_told area None told = if is_backbone area then None else told
-else_told area (Some own) told = own
+abbrev pub else_announced : AreaId → Option (Option ℕ) → Option ℕ → Option ℕ
+else_announced area None announced = if is_backbone area then None else announced
+else_announced area (Some own) announced = own
 
 module _ (db : Lists) (area : AreaId) (router : RouterId) (results : List AreaResultValue) where
   -- the cost of a prefix that is announced into the area
   abbrev pub net_cost : Net → Option ℕ
   net_cost net =
-      else_told area (option_map (route_cost area) (route_to (intra_of results) net)) (told_cost router (backbone_entries results) (net_sources db net))
+      else_announced area (option_map (route_cost area) (route_to (intra_of results) net)) (announced_cost router (backbone_entries results) (net_sources db net))
 
   -- the cost of an AS boundary router that is announced into the area; no router announces itself
   abbrev pub asbr_cost : RouterId → Option ℕ
   asbr_cost asbr =
-      else_told area (option_map (entry_cost area) (preferred (entries_of_all results) asbr))
-      (if same_router asbr router then None else told_cost router (backbone_entries results) (asbr_sources db asbr))
+      else_announced area (option_map (entry_cost area) (preferred (entries_of_all results) asbr))
+      (if same_router asbr router then None else announced_cost router (backbone_entries results) (asbr_sources db asbr))
 
   -- the cost of the destination of an LSA of the area
-  abbrev pub cost_by_told : List ℕ → Option ℕ
-  cost_by_told lsa = option_or (option_and_then net_cost (net_of_summary lsa)) (option_and_then asbr_cost (asbr_of_summary db area lsa))
+  abbrev pub cost_by_backbone : List ℕ → Option ℕ
+  cost_by_backbone lsa = option_or (option_and_then net_cost (net_of_summary lsa)) (option_and_then asbr_cost (asbr_of_summary db area lsa))
 
 -- the metric that an LSA of an area should have
-abbrev pub due_by_told : Lists → AreaId → List ℕ → ℕ
-due_by_told db area lsa = option_map_or metric_for (cost_by_told db area (originator_of lsa) (results_of db (originator_of lsa)) lsa) ls_infinity
+abbrev pub due_by_backbone : Lists → AreaId → List ℕ → ℕ
+due_by_backbone db area lsa = option_map_or metric_for (cost_by_backbone db area (originator_of lsa) (results_of db (originator_of lsa)) lsa) ls_infinity
 
 -- ---- what is kept of the backbone summaries
 
@@ -97,9 +97,9 @@ abbrev pub more_sources : Option (List Source) → Source → List Source
 more_sources o source = sources_or_none o ++ source ∷ []
 
 -- the backbone summaries, which may be missing for LSAs of the backbone
-abbrev pub IsToldFor : Lists → AreaId → Option BackboneSummariesValue → Type 0
-IsToldFor db area None = is_backbone area ≡ true
-IsToldFor db area (Some told) = AreTold (backbone_lsas db) told
+abbrev pub IsAnnouncedFor : Lists → AreaId → Option BackboneSummariesValue → Type 0
+IsAnnouncedFor db area None = is_backbone area ≡ true
+IsAnnouncedFor db area (Some announced) = AreAnnounced (backbone_lsas db) announced
 
 -- ---- what is kept of area border routers
 
@@ -114,8 +114,8 @@ module _ (router : RouterId) (costs : List (RouterId × ℕ)) where
       if same_router s.originator router then None else option_map (λ cost. cost + s.metric) (lookup (eq_by_cmp router_cmp s.originator) costs)
 
   -- the minimum over some sources
-  abbrev pub told_from : List Source → Option ℕ
-  told_from all = least nat_cmp (filter_map cost_from all)
+  abbrev pub announced_from : List Source → Option ℕ
+  announced_from all = least nat_cmp (filter_map cost_from all)
 
 -- the lesser of the least cost so far and another cost, if there is one
 abbrev pub lesser_cost : Option ℕ → Option ℕ → Option ℕ

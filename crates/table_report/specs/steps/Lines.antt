@@ -4,7 +4,7 @@ use Rattle.std.specs.String.{string_bytes}
 use Rattle.table_report.specs.Texts.{lines_text}
 use Rattle.table_report.specs.declared.compare.ChangedLines.{ChangedLines}
 
--- a text behind which a line with its end was added, if there is one, and whether it was
+-- a text after which a line with its end was added, if there is one, and whether it was
 abbrev pub AddsLine : Option (List ℕ) → List ℕ → Bool → List ℕ → Type 0
 AddsLine None old added new = (added ≡ false) × (new ≡ old)
 AddsLine (Some line) old added new = (added ≡ true) × (new ≡ old ++ (line ++ codes "\n"))

@@ -1,4 +1,4 @@
--- The parts of the line of a route behind its prefix.
+-- The parts of the line of a route after its prefix.
 use Rattle.std.specs.Prelude.{ℕ, List, ◌∷◌, ◌++◌, codes, decimal}
 use Rattle.next_hops.specs.declared.hop.Hop.{Hop}
 use Rattle.next_hops.specs.Hop.{hop_text}

@@ -7,7 +7,7 @@ use Rattle.std.specs.Ordering.{is_gt, is_lt}
 use Rattle.lsa_instances.specs.declared.header.Header.{Header}
 use Rattle.lsa_instances.specs.Headers.{is_at_max_age}
 use Rattle.lsa_instances.specs.Instance.{instance_id_cmp}
-use Rattle.network_files.specs.declared.file_told.FileTold.{FileTold}
+use Rattle.network_files.specs.declared.parsed_file.ParsedFile.{ParsedFile}
 use Rattle.unseen_lsas.specs.declared.named.NamedLsa.{NamedLsa}
 use Rattle.lsa_instances.specs.declared.header.InstanceId.{InstanceId}
 use Rattle.unseen_lsas.specs.Newer.{Instance, is_other_or_older, is_same_lsa}
@@ -41,5 +41,5 @@ is_newer_by newest header = not (is_at_max_age header) && is_over_some (newest (
 abbrev pub newer_by : (NamedLsa → Option InstanceId) → Header → Option NamedLsa
 newer_by newest header = if is_newer_by newest header then Some (named_at header.place) else None
 
-abbrev pub all_newer : {A : Type 0} → (NamedLsa → Option InstanceId) → List (FileTold A) → List NamedLsa
+abbrev pub all_newer : {A : Type 0} → (NamedLsa → Option InstanceId) → List (ParsedFile A) → List NamedLsa
 all_newer newest files = flat_map (λ file. filter_map (newer_by newest) file.headers.items) files

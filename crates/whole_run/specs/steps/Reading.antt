@@ -1,7 +1,7 @@
 -- How the reading of each input may end.
 use Rattle.std.specs.Prelude.{ℕ, ◌+◌, ◌-◌, ◌<◌, List, length, Option, if◌then◌else◌}
 use Rattle.lsdb.specs.Limits.{longest_session}
-use Rattle.lsdb.specs.BaseLoading.{begins_session, most_octets}
+use Rattle.lsdb.specs.BaseLoading.{begins_session, most_bytes}
 use Rattle.whole_run.specs.Inputs.{IsRefusedDump}
 use Rattle.whole_run.specs.declared.fault.RunFault.{RunFault}
 use Rattle.whole_run.specs.declared.fault.RunFault.TheVariants.{Dump, Read, Write, TooLarge, OutOfMemory}
@@ -30,10 +30,10 @@ IsRunEnd long OutOfMemory = Unit {0}
 IsRunEnd long Write = Unit {0}
 IsRunEnd long TooLarge = long
 
--- more octets than they may be, by what they begin with
+-- more bytes than they may be, by what they begin with
 abbrev pub IsTooLong : List ℕ → Type 0
-IsTooLong bytes = most_octets bytes < length bytes
+IsTooLong bytes = most_bytes bytes < length bytes
 
--- how many octets are read at most behind those that are too many for a dump without edits
-abbrev pub most_behind : List ℕ → ℕ
-most_behind front = if begins_session front then longest_session + 1 - length front else 0
+-- how many bytes are read at most after those that are too many for a dump without edits
+abbrev pub most_after : List ℕ → ℕ
+most_after front = if begins_session front then longest_session + 1 - length front else 0

@@ -8,4 +8,4 @@ returns g c =
     (sym c.is_some.ensures ∙ c.if-is_some.false) c.next-2.ensures.steps in
     of_each c.live_at.result _ _ _ _ c.live_at.ensures.at c.live_at.ensures.live c.live_at.ensures.vertex
     (λ lsa at live own. in_use c.args.database.now c.args.section c.args.vertex c.key_range.result.0 c.key_range.result.1 c.keys_between-keys.result
-    c.known.ensures c.keys_between-keys.ensures c.key_range.ensures one _ refl lsa at live own)
+    c.assert_valid.ensures c.keys_between-keys.ensures c.key_range.ensures one _ refl lsa at live own)

@@ -1,6 +1,6 @@
 use Rattle.std.proofs.Common.{◌≡◌, ◌≢◌, List, ℕ, Some, map, sym, ap, subst, ◌∙◌}
 use Rattle.std.specs.List.{AllPairs, slice_get}
-use Rattle.lsdb.specs.Places.{lsas_in}
+use Rattle.lsdb.specs.Slots.{lsas_in}
 use Rattle.area_graph.specs.declared.vertex.Vertex.{Vertex}
 use Rattle.area_graph.specs.Area.{used, vertex_of}
 use Rattle.area_graph.proofs.InUseLemmas.{lsa_at_number}

@@ -1,6 +1,6 @@
 use Rattle.std.proofs.Common.{◌≡◌, ℕ, List, Option, map, take}
 use Rattle.std.specs.List.{filter_map}
-use Rattle.lsdb.specs.Places.{lsas_in}
+use Rattle.lsdb.specs.Slots.{lsas_in}
 use Rattle.area_graph.specs.declared.vertex.Vertex.{Vertex}
 use Rattle.area_graph.specs.Area.{used, vertex_of}
 use Rattle.next_hops.specs.declared.hop.Hop.{Hop}

@@ -3,12 +3,12 @@ use Rattle.std.specs.List.{cons_option}
 use Rattle.std.specs.Option.{option_and_then}
 use Rattle.lsa_codec.specs.Prefix.{Net}
 use Rattle.area_routes.specs.Best.{Gathers}
-use Rattle.area_routes.specs.Inter.{candidate_to, network_told}
+use Rattle.area_routes.specs.Inter.{candidate_to, announced_network}
 use Rattle.area_routes.proofs.inter_area.add_network_candidate.Goals as goal
 
 pub returns-in_ok-add_summary_candidate : goal.returns-in_ok-add_summary_candidate
 returns-in_ok-add_summary_candidate g c = λ cs before.
-    let told : Some c.in-Some.net ≡ network_told c.args.intra.now c.args.lsa.now = sym c.in-Some.is ∙ c.network_told.ensures in
+    let announced : Some c.in-Some.net ≡ announced_network c.args.intra.now c.args.lsa.now = sym c.in-Some.is ∙ c.announced_network.ensures in
     let P : Option Net → Type 0 = λ o. Gathers
     (cs ++ cons_option (option_and_then (candidate_to c.args.router c.args.area.now c.args.lsa.now) o) []) c.add_summary_candidate.new.ways in
-    subst P told (c.in_ok-add_summary_candidate.ensures cs before)
+    subst P announced (c.in_ok-add_summary_candidate.ensures cs before)

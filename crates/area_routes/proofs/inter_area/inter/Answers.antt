@@ -3,7 +3,7 @@ use Rattle.std.specs.Option.{option_copied}
 use Rattle.lsa_codec.specs.declared.address.AreaId.{AreaId}
 use Rattle.lsdb.specs.declared.section.Section.TheVariants.{Area}
 use Rattle.lsdb.specs.Lists.{lsas_of}
-use Rattle.lsdb.specs.Places.{lists_of}
+use Rattle.lsdb.specs.Slots.{lists_of}
 use Rattle.area_routes.specs.Inter.{entries_of_all, examined, inter_entries, inter_routes}
 use Rattle.area_routes.specs.Values.{AreaResultValue, EntriesBelow}
 use Rattle.area_routes.proofs.Gathered.{inter_none, inter_some, joined_below, wider}

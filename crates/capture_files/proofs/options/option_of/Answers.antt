@@ -6,7 +6,7 @@ returns-in_default c = none_left _ c.options.counter c.args.order c.args.code _ 
 
 pub returns-then-found-code : goal.returns-then-found-code
 returns-then-found-code c =
-    value_found _ c.options.counter c.args.order c.args.code c.in-Some.found _ _ c.in-Some.behind.now _ c.options-test.true c.in-Some.ensures
+    value_found _ c.options.counter c.args.order c.args.code c.in-Some.found _ _ c.in-Some.after.now _ c.options-test.true c.in-Some.ensures
     c.if-found-code.true c.options.invariant
 
 pub options-preserved : goal.options-preserved

@@ -3,7 +3,7 @@ use Rattle.std.specs.Prelude.{◌==◌}
 use Rattle.std.proofs.lemmas.Result.{err_from_is_err_and, IfOk-weaker, IfErr-weaker}
 use Rattle.lsa_codec.specs.Key.{router_key}
 use Rattle.lsdb.specs.declared.section.Section.TheVariants.{Area}
-use Rattle.lsdb.specs.Places.{places_in}
+use Rattle.lsdb.specs.Slots.{slots_in}
 use Rattle.edit_script.specs.declared.edit.Edit.TheVariants.{FailLink}
 use Rattle.edit_history.specs.declared.fault.EditFault.{EditFault}
 use Rattle.edit_history.specs.Rules.{within}
@@ -74,14 +74,14 @@ returns-clause-planned g c =
     c.in_ok-slot.ensures.found c.in_ok-other_slot.ensures.found (sym c.are_linked.ensures ∙ there) in
     let fate = link_fate c.args.router c.args.neighbor in
     let slot = c.in_ok-slot.slot in
-    let carried = section_carried_out c.args.database.now (Area c.args.area) fate slot.section c.known.ensures c.in_ok-slot.ensures.found.named
+    let carried = section_carried_out c.args.database.now (Area c.args.area) fate slot.section c.assert_valid.ensures c.in_ok-slot.ensures.found.named
     (there_too c.args.database.now slot.section c.in_ok-slot.ensures.found.named.exists) (link_safe c.args.router c.args.neighbor) in
     let pair = links_of_pair c.args.database.now c.args.area c.args.router c.args.neighbor slot c.in_ok-other_slot.other_slot c.in_ok-slot.lsa.now
-    c.in_ok-other_slot.other.now c.known.ensures (let apart : (c.args.router.0 == c.args.neighbor.0) ≡ false = search rules in apart)
+    c.in_ok-other_slot.other.now c.assert_valid.ensures (let apart : (c.args.router.0 == c.args.neighbor.0) ≡ false = search rules in apart)
     c.in_ok-slot.ensures.found c.in_ok-other_slot.ensures.found in
     IfOk-weaker c.swaps_of_pair.result _ _ (λ v is. planned_here c.args.database.now (FailLink c.args.area c.args.router c.args.neighbor)
-    (within (Area c.args.area) fate) (section_swaps fate slot.section (Area c.args.area) 0 (places_in c.args.database.now slot.section)) v.items
-    ruled carried (is ∙ ap (pair_swaps fate (Area c.args.area) c.args.database.now) c.in_order-places.ensures ∙ pair)) c.swaps_of_pair.ensures.swaps
+    (within (Area c.args.area) fate) (section_swaps fate slot.section (Area c.args.area) 0 (slots_in c.args.database.now slot.section)) v.items
+    ruled carried (is ∙ ap (pair_swaps fate (Area c.args.area) c.args.database.now) c.in_order-slots.ensures ∙ pair)) c.swaps_of_pair.ensures.swaps
 
 pub returns-clause-refused : goal.returns-clause-refused
 returns-clause-refused g c =

@@ -1,7 +1,7 @@
 use Rattle.std.proofs.Common.{sym, subst}
 use Rattle.std.proofs.lemmas.Result.{err_from_is_err_and, IfOk-weaker, IfErr-weaker}
 use Rattle.lsdb.specs.declared.section.Section.TheVariants.{Area}
-use Rattle.lsdb.specs.Places.{places_in}
+use Rattle.lsdb.specs.Slots.{slots_in}
 use Rattle.edit_script.specs.declared.edit.Edit.TheVariants.{FailNet}
 use Rattle.edit_history.specs.declared.fault.EditFault.{EditFault}
 use Rattle.edit_history.specs.Rules.{within}
@@ -32,11 +32,11 @@ pub returns-clause-planned : goal.returns-clause-planned
 returns-clause-planned g c =
     let ruled = net_ruled c.args.database.now c.args.area c.args.network c.in_ok-number.number _ c.in_ok-number.ensures.found c.in-Some.ensures.first in
     let fate = net_fate c.args.network in
-    let carried = section_carried_out c.args.database.now (Area c.args.area) fate c.in_ok-number.number c.known.ensures c.in_ok-number.ensures.found
+    let carried = section_carried_out c.args.database.now (Area c.args.area) fate c.in_ok-number.number c.assert_valid.ensures c.in_ok-number.ensures.found
     (there_too c.args.database.now c.in_ok-number.number c.in_ok-number.ensures.found.exists) (net_safe c.args.network) in
     IfOk-weaker c.swaps_of_network.result _ _ (λ v is. planned_here c.args.database.now (FailNet c.args.area c.args.network) (within (Area c.args.area) fate)
     (section_swaps fate c.in_ok-number.number (Area c.args.area) 0
-    (places_in c.args.database.now c.in_ok-number.number)) v.items ruled carried is) c.swaps_of_network.ensures.swaps
+    (slots_in c.args.database.now c.in_ok-number.number)) v.items ruled carried is) c.swaps_of_network.ensures.swaps
 
 pub returns-clause-refused : goal.returns-clause-refused
 returns-clause-refused g c =

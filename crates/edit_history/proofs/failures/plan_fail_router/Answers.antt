@@ -39,5 +39,5 @@ returns-clause-planned g c =
     planned_here c.args.database.now (FailRouter c.args.router) (by_fates (λ head. router_fate c.args.router))
     (swaps_from (λ head. router_fate c.args.router) 0 c.args.database.now) c.loop-number.swaps.items
     (router_ruled c.args.database.now c.args.router (sym c.has_router.ensures ∙ there))
-    (router_carried_out c.args.database.now c.args.router c.known.ensures)
+    (router_carried_out c.args.database.now c.args.router c.assert_valid.ensures)
     (section_end (λ head. router_fate c.args.router) c.args.database.now c.loop-number.number _ _ (omega arith) c.loop-number.invariant)

@@ -1,5 +1,5 @@
 use Rattle.edit_history.proofs.RefreshApart.{refresh_touches_none}
-use Rattle.edit_history.proofs.RefreshSettles.{refresh_leads, settled_tells_none, twice_leads}
+use Rattle.edit_history.proofs.RefreshSettles.{refresh_leads, settled_reports_none, twice_leads}
 use Rattle.summary_metrics.specs.Refreshed.{refreshed}
 use Rattle.edit_history.proofs.laws.refresh_settles.Goals as goal
 
@@ -9,5 +9,5 @@ returns c = record {
   settled = c.summaries_settle.ensures.settled;
   again = λ db sound. twice_leads db (c.summaries_settle.ensures.again db sound);
   graphs = λ db area. refresh_touches_none area db;
-  silent = λ db sound. settled_tells_none (refreshed db) (c.summaries_settle.ensures.settled db sound);
+  silent = λ db sound. settled_reports_none (refreshed db) (c.summaries_settle.ensures.settled db sound);
 }

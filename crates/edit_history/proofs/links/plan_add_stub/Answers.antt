@@ -59,6 +59,6 @@ returns-in_err-one_swap-clause-refused g c =
 pub returns-clause-planned : goal.returns-clause-planned
 returns-clause-planned g c =
     stub_planned c.args.database.now c.args.area c.args.router c.args.prefix c.args.metric c.in_ok-slot.slot c.in_ok-slot.lsa.now
-    c.in_ok-new.new c.new-swap.result c.in_ok-one_swap.field-0.items c.known.ensures c.in_ok-slot.ensures.found
+    c.in_ok-new.new c.new-swap.result c.in_ok-one_swap.field-0.items c.assert_valid.ensures c.in_ok-slot.ensures.found
     (let short : length c.in_ok-slot.lsa.now + 12 ≤ 65535 = omega (arith, ap length c.bytes.ensures.bytes, c.if-bytes-from-gt-LONGEST_LSA.false) in short)
     (sym c.is_dump_full.ensures ∙ c.if-is_dump_full.false) c.in_ok-new.ensures.made c.in_ok-new.ensures.keeps c.new-swap.ensures c.in_ok-one_swap.ensures

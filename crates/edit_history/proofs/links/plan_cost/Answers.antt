@@ -39,5 +39,5 @@ pub returns-clause-planned : goal.returns-clause-planned
 returns-clause-planned g c =
     planned c.args.database.now (Cost c.args.area c.args.router c.args.link c.args.metric) c.args.area c.args.router
     (with_cost c.args.link c.args.metric) c.in_ok-slot.slot c.in_ok-slot.lsa.now c.in_ok-new.new c.new-swap.result
-    c.in_ok-one_swap.field-0.items c.known.ensures (cost_remakes c.args.area c.args.router c.args.link c.args.metric)
+    c.in_ok-one_swap.field-0.items c.assert_valid.ensures (cost_remakes c.args.area c.args.router c.args.link c.args.metric)
     c.in_ok-slot.ensures.found c.in_ok-new.ensures.made c.in_ok-new.ensures.keeps c.new-swap.ensures c.in_ok-one_swap.ensures

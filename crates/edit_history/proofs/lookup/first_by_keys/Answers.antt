@@ -1,8 +1,8 @@
 use Rattle.std.proofs.Common.{List, subst, sym, ◌∙◌}
 use Rattle.std.proofs.lemmas.Iterator.Consumers.{YieldsList-end, YieldsList-from_first}
 use Rattle.std.proofs.lemmas.List.{map-id}
-use Rattle.lsdb.specs.declared.keyed_places.KeyAt.{KeyAt}
-use Rattle.edit_history.proofs.Candidates.{IsLeast, least_hit, least_miss, none_first, first_place}
+use Rattle.lsdb.specs.declared.keyed_slots.KeyAt.{KeyAt}
+use Rattle.edit_history.proofs.Candidates.{IsLeast, least_hit, least_miss, none_first, first_slot}
 use Rattle.edit_history.proofs.lookup.first_by_keys.Goals as goal
 
 pub loop-noted-preserved-then-is_wanted_by_key : goal.loop-noted-preserved-then-is_wanted_by_key
@@ -29,7 +29,7 @@ pub returns : goal.returns
 returns g c =
     let all = (YieldsList-end (YieldsList-from_first (λ (noted : KeyAt). noted) (λ (keys : List KeyAt). keys) c.keys_between-noted-items.result
     c.into_iter-noted-iterator.ensures.into_iter_gives) c.loop-noted.yielded _ c.loop-noted.yielded_by _ _ c.in-None.is c.next.ensures.steps).0 in
-    first_place c.args.wanted.now c.args.database.now c.args.section c.key_range.result.0 c.key_range.result.1 c.keys_between-noted-items.result
+    first_slot c.args.wanted.now c.args.database.now c.args.section c.key_range.result.0 c.key_range.result.1 c.keys_between-noted-items.result
     c.loop-noted.first c.keys_between-noted-items.ensures c.key_range.ensures
     (subst (λ (keys : List KeyAt). IsLeast c.args.wanted.now c.args.database.now c.args.section keys c.loop-noted.first)
     (sym (map-id c.loop-noted.yielded) ∙ all) c.loop-noted.invariant)

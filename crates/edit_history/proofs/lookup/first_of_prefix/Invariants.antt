@@ -1,5 +1,5 @@
 use Rattle.edit_history.proofs.OfPrefix.{NoneStands}
 use Rattle.edit_history.proofs.lookup.first_of_prefix.Given as goal
 
-abbrev pub invariant-loop-place : goal.invariant-loop-place
-invariant-loop-place g l = NoneStands l.wanted l.database l.section l.yielded
+abbrev pub invariant-loop-entry : goal.invariant-loop-entry
+invariant-loop-entry g l = NoneStands l.wanted l.database l.section l.yielded

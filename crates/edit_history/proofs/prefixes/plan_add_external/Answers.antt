@@ -39,7 +39,7 @@ returns-clause-planned g c =
     let there : c.has_router.result ≡ true = search rules in
     IfOk-weaker c.plan_new.result _ _ (λ v opens. external_planned c.args.database.now c.plan_new.new.database c.args.router
     c.args.prefix c.args.metric_type c.args.metric c.args.forward c.args.tag c.new_key-key.result
-    c.is_type2.result c.value.result c.in_ok-lsa.lsa v.items c.known.ensures
+    c.is_type2.result c.value.result c.in_ok-lsa.lsa v.items c.assert_valid.ensures
     (sym c.has_router.ensures ∙ there)
     (record { is_net = c.new_key-key.ensures.prefix; addr = c.new_key-key.ensures.addr; wide = c.new_key-key.ensures.router })
     c.new_key-key.ensures.key c.in_ok-check_room.ensures.room c.is_type2.ensures c.value.ensures.value c.in_ok-lsa.ensures.made opens)

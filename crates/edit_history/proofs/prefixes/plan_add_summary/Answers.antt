@@ -51,7 +51,7 @@ returns-clause-planned g c =
     IfOk-weaker c.plan_new.result _ _ (λ v opens. add_planned c.args.database.now c.plan_new.new.database c.args.area
     c.args.router c.args.prefix c.args.metric c.in_ok-number.number c.in_ok-router_lsa_in.field-0.0
     c.in_ok-router_lsa_in.field-0.1.now c.new_key-key.result c.options_in-options.result c.value.result c.in_ok-lsa.lsa
-    v.items c.known.ensures c.in_ok-number.ensures.found c.in_ok-router_lsa_in.ensures.found
+    v.items c.assert_valid.ensures c.in_ok-number.ensures.found c.in_ok-router_lsa_in.ensures.found
     (record { is_net = c.new_key-key.ensures.prefix; addr = c.new_key-key.ensures.addr; wide = c.new_key-key.ensures.router })
     c.new_key-key.ensures.key c.in_ok-check_room.ensures.room
     c.options_in-options.ensures c.value.ensures.value c.in_ok-lsa.ensures.made opens) c.plan_new.ensures.opened

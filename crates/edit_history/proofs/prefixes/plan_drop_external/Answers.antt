@@ -13,4 +13,4 @@ returns-in_err-one_swap-clause-refused g c =
 pub returns-clause-planned : goal.returns-clause-planned
 returns-clause-planned g c =
     external_planned c.args.database.now c.args.router c.args.prefix c.in-Some.slot c.in-Some.field-0-1.now c.new-swap.result
-    c.in_ok-one_swap.field-0.items c.known.ensures c.in-Some.ensures c.new-swap.ensures c.in_ok-one_swap.ensures
+    c.in_ok-one_swap.field-0.items c.assert_valid.ensures c.in-Some.ensures c.new-swap.ensures c.in_ok-one_swap.ensures

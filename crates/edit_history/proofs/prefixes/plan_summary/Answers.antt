@@ -40,6 +40,6 @@ returns-in_err-one_swap-clause-refused g c =
 pub returns-clause-planned : goal.returns-clause-planned
 returns-clause-planned g c =
     summary_planned c.args.database.now c.args.area c.args.router c.args.prefix c.args.metric c.in-Some.slot c.in-Some.lsa.now
-    c.in_ok-new.new c.new-swap.result c.in_ok-one_swap.field-0.items c.known.ensures c.in-Some.ensures
+    c.in_ok-new.new c.new-swap.result c.in_ok-one_swap.field-0.items c.assert_valid.ensures c.in-Some.ensures
     (c.in_ok-new.ensures.made ∙ ap (λ m. with_metric m c.in-Some.lsa.now) c.value.ensures.value)
     c.in_ok-new.ensures.keeps c.new-swap.ensures c.in_ok-one_swap.ensures

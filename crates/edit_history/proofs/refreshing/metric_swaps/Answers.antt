@@ -1,5 +1,5 @@
 use Rattle.std.proofs.Common.{◌+◌, ◌++◌, List, refl, ap, arith}
-use Rattle.lsdb.specs.Places.{lists_of, item_at, head_or_none}
+use Rattle.lsdb.specs.Slots.{lists_of, item_at, head_or_none}
 use Rattle.edit_history.specs.Rules.{section_name}
 use Rattle.edit_history.specs.Exchange.{SwapData}
 use Rattle.edit_history.specs.Refreshing.{pass_fates}

@@ -1,6 +1,6 @@
 use Rattle.std.proofs.Common.{◌≡◌, ◌++◌, drop}
-use Rattle.lsdb.specs.Places.{lists_of}
-use Rattle.summary_metrics.specs.Originators.{AreOf}
+use Rattle.lsdb.specs.Slots.{lists_of}
+use Rattle.summary_metrics.specs.SummaryMetrics.{AreOf}
 use Rattle.edit_history.specs.Refreshing.{pass_fates}
 use Rattle.edit_history.specs.steps.Passing.{chosen}
 use Rattle.edit_history.specs.steps.Plans.{swaps_from}

@@ -1,5 +1,5 @@
 use Rattle.std.proofs.Common.{◌≡◌, ◌≤◌, ◌+◌, length, refl, ap, ◌∙◌, arith}
-use Rattle.lsdb.specs.Places.{Places}
+use Rattle.lsdb.specs.Slots.{Slots}
 use Rattle.edit_history.specs.Session.{Session, session_of}
 use Rattle.edit_history.proofs.HistoryLemmas.{done_len}
 use Rattle.edited_databases.proofs.Moves.{none_left, back_one, back_all, back_count}
@@ -29,7 +29,7 @@ returns-in_err-undo-clause-session g c =
     let now : Session = session_of c.loop-step.database c.loop-step.history.lists in
     let there = done_len c.args.database.now c.args.history.now.lists in
     let none : length c.loop-step.history.lists.past ≡ 0 = none_left _ c.in_err-undo.ensures.ok.1 in
-    ap (λ (d : Places). session_of d c.undo.new.self.lists) c.in_err-undo.ensures.err.1
+    ap (λ (d : Slots). session_of d c.undo.new.self.lists) c.in_err-undo.ensures.err.1
     ∙ ap (session_of c.loop-step.database) c.in_err-undo.ensures.err.0
     ∙ back_all first now c.loop-step._step c.args.count (omega (arith, there, none, kept.left))
     (omega (arith, there, none, kept.left, c.loop-step-test.true)) kept.session

@@ -12,7 +12,7 @@ use Rattle.edited_databases.proofs.edited.edited.Goals as goal
 pub loop-line-init : goal.loop-line-init
 loop-line-init g c =
     rw c.new-history.ensures (record {
-      linked = start_linked c.in_ok-database.database c.known.ensures;
+      linked = start_linked c.in_ok-database.database c.assert_valid.ensures;
       loads = c.in_ok-database.ensures.found;
       reads = refl;
       undone = refl;

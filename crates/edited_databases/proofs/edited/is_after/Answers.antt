@@ -1,7 +1,7 @@
 use Rattle.std.proofs.Common.{◌≡◌, true, sym, subst}
 use Rattle.std.specs.Prelude.{◌↔◌, All}
 use Rattle.lsdb.specs.Lists.{Lists}
-use Rattle.lsdb.specs.Places.{lists_of}
+use Rattle.lsdb.specs.Slots.{lists_of}
 use Rattle.edit_history.specs.Session.{session_of}
 use Rattle.edit_history.proofs.HistoryLemmas.{state_is}
 use Rattle.edited_databases.specs.Edited.{HasSame}

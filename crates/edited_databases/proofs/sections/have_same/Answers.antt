@@ -3,7 +3,7 @@ use Rattle.std.specs.Prelude.{All}
 use Rattle.std.proofs.lemmas.List.{take_all}
 use Rattle.std.proofs.lemmas.List.Elements.{All-more}
 use Rattle.lsdb.specs.declared.section.Section.{Section}
-use Rattle.lsdb.specs.Places.{lists_of}
+use Rattle.lsdb.specs.Slots.{lists_of}
 use Rattle.edited_databases.specs.Edited.{HasSame}
 use Rattle.edited_databases.proofs.sections.have_same.Goals as goal
 

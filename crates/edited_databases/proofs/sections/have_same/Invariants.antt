@@ -1,6 +1,6 @@
 use Rattle.std.proofs.Common.{take}
 use Rattle.std.specs.Prelude.{All}
-use Rattle.lsdb.specs.Places.{lists_of}
+use Rattle.lsdb.specs.Slots.{lists_of}
 use Rattle.edited_databases.specs.Edited.{HasSame}
 use Rattle.edited_databases.proofs.sections.have_same.Given as goal
 

@@ -1,6 +1,6 @@
 use Rattle.std.proofs.Common.{◌≡◌, false, not, take}
 use Rattle.lsdb.specs.Lists.{areas_of}
-use Rattle.lsdb.specs.Places.{lists_of}
+use Rattle.lsdb.specs.Slots.{lists_of}
 use Rattle.external_routes.specs.Summaries.{is_head_of_area}
 use Rattle.external_routes.proofs.AttachedAreas.{has_met}
 use Rattle.external_routes.proofs.coverage.is_attached_elsewhere.Given as goal

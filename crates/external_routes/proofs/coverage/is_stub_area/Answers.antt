@@ -1,6 +1,6 @@
 use Rattle.std.proofs.Common.{Bool, true, ◌&&◌, sym, ap, ◌∙◌}
 use Rattle.lsdb.specs.Lists.{AreaHead, areas_of}
-use Rattle.lsdb.specs.Places.{lists_of}
+use Rattle.lsdb.specs.Slots.{lists_of}
 use Rattle.lsa_codec.specs.declared.address.AreaId.{AreaId}
 use Rattle.external_routes.specs.Summaries.{is_head_of_area}
 use Rattle.external_routes.proofs.AttachedAreas.{area_found, area_passed}

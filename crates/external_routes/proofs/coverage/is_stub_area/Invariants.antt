@@ -1,7 +1,7 @@
 use Rattle.std.proofs.Common.{◌≡◌, ◌&&◌, false, take}
 use Rattle.std.specs.List.{list_any}
 use Rattle.lsdb.specs.Lists.{areas_of}
-use Rattle.lsdb.specs.Places.{lists_of}
+use Rattle.lsdb.specs.Slots.{lists_of}
 use Rattle.external_routes.specs.Summaries.{is_head_of_area}
 use Rattle.external_routes.proofs.coverage.is_stub_area.Given as goal
 

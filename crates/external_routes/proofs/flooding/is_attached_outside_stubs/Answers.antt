@@ -1,5 +1,5 @@
 use Rattle.std.proofs.Common.{not, sym, ap, ◌∙◌}
-use Rattle.lsdb.specs.Places.{lists_of}
+use Rattle.lsdb.specs.Slots.{lists_of}
 use Rattle.external_routes.proofs.AttachedAreas.{met_apart, met_found, unmet}
 use Rattle.external_routes.proofs.flooding.is_attached_outside_stubs.Goals as goal
 use Rattle.external_routes.proofs.flooding.is_attached_outside_stubs.Goals.{else-not-is_stub-via-then-not-is_stub+else-is_attached}

@@ -1,6 +1,6 @@
 use Rattle.std.proofs.Common.{◌≡◌, false, not, take}
 use Rattle.lsdb.specs.Lists.{areas_of}
-use Rattle.lsdb.specs.Places.{lists_of}
+use Rattle.lsdb.specs.Slots.{lists_of}
 use Rattle.external_routes.proofs.AttachedAreas.{has_met}
 use Rattle.external_routes.proofs.flooding.is_attached_outside_stubs.Given as goal
 

@@ -1,27 +1,27 @@
-//! Files of the pcap format: both byte orders, both units, cuts and lengths that lie.
+//! Files of the pcap format: both byte orders, both units, cuts and malformed lengths.
 
 use capture_files::{CaptureFault, End, LinkType, read_pcap};
 use std::alloc::Global;
 use std::test::*;
 
-/// Lowest octet first, nanoseconds, Ethernet. One frame of 3 octets, all of it captured, at
-/// 1,795,401,980 seconds and 630,265,671 nanoseconds; one of 70 octets, of which 2 were captured.
+/// Lowest byte first, nanoseconds, Ethernet. One frame of 3 bytes, all of it captured, at
+/// 1,795,401,980 seconds and 630,265,671 nanoseconds; one of 70 bytes, of which 2 were captured.
 const LITTLE: &[u8] =
     b"\x4d\x3c\xb2\xa1\x02\x00\x04\x00\0\0\0\0\0\0\0\0\x00\x00\x04\x00\x01\x00\x00\x00\
     \xfc\xa8\x03\x6b\x47\x17\x91\x25\x03\x00\x00\x00\x03\x00\x00\x00abc\
     \xfc\xa8\x03\x6b\x47\x17\x91\x25\x02\x00\x00\x00\x46\x00\x00\x00de";
 
-/// Highest octet first, microseconds, Linux cooked capture. One frame of 1 octet, at 1 second and
+/// Highest byte first, microseconds, Linux cooked capture. One frame of 1 byte, at 1 second and
 /// 2 microseconds.
 const BIG: &[u8] =
     b"\xa1\xb2\xc3\xd4\x00\x02\x00\x04\0\0\0\0\0\0\0\0\x00\x04\x00\x00\x00\x00\x00\x71\
     \x00\x00\x00\x01\x00\x00\x00\x02\x00\x00\x00\x01\x00\x00\x00\x01x";
 
-/// What a frame tells: its link, its moment, its octets, and how many it had on the link.
-type Told<'a> = (LinkType, Option<u64>, &'a [u8], u32);
+/// What a frame contains: its link, its moment, its bytes, and how many it had on the link.
+type Parsed<'a> = (LinkType, Option<u64>, &'a [u8], u32);
 
 /// The frames of `LITTLE`.
-const LITTLE_FRAMES: &[Told<'_>] = &[
+const LITTLE_FRAMES: &[Parsed<'_>] = &[
     (
         LinkType::ETHERNET,
         Some(1_795_401_980_630_265_671),
@@ -37,7 +37,7 @@ const LITTLE_FRAMES: &[Told<'_>] = &[
 ];
 
 /// The frame of `BIG`.
-const BIG_FRAMES: &[Told<'_>] = &[(LinkType::LINUX_SLL, Some(1_000_002_000), b"x", 1)];
+const BIG_FRAMES: &[Parsed<'_>] = &[(LinkType::LINUX_SLL, Some(1_000_002_000), b"x", 1)];
 
 /// How many frames a file has, and how it ends. This and [`has_frames`] have no clauses, so that
 /// the prover reads those of the call once, and not in each test.
@@ -46,11 +46,11 @@ fn read(alloc: Global, file: &[u8]) -> Result<(usize, End), CaptureFault> {
     Ok((capture.frames.len(), capture.end))
 }
 
-/// Whether a file ends whole, with frames that tell this.
-fn has_frames(alloc: Global, file: &[u8], frames: &[Told<'_>]) -> Result<bool, CaptureFault> {
+/// Whether a file ends whole, with frames that contain this.
+fn has_frames(alloc: Global, file: &[u8], frames: &[Parsed<'_>]) -> Result<bool, CaptureFault> {
     let capture = read_pcap(alloc, file)?;
-    for (frame, told) in capture.frames.iter().zip(frames.iter()) {
-        if (frame.link, frame.seen, frame.octets, frame.original) != *told {
+    for (frame, parsed) in capture.frames.iter().zip(frames.iter()) {
+        if (frame.link, frame.seen, frame.bytes, frame.original) != *parsed {
             return Ok(false);
         }
     }
@@ -91,7 +91,7 @@ fn a_file_that_was_cut_is_read_to_its_last_whole_record(rt: HostRuntime) -> Resu
 const OTHER_VERSION: &[u8] =
     b"\xa1\xb2\xc3\xd4\x00\x03\x00\x04\0\0\0\0\0\0\0\0\x00\x04\x00\x00\x00\x00\x00\x01";
 
-/// One octet less than the header of `BIG`.
+/// One byte less than the header of `BIG`.
 const SHORT: &[u8] =
     b"\xa1\xb2\xc3\xd4\x00\x02\x00\x04\0\0\0\0\0\0\0\0\x00\x04\x00\x00\x00\x00\x00";
 
@@ -114,7 +114,7 @@ const REFUSED: &[(&[u8], CaptureFault)] = &[
     (OTHER_VERSION, CaptureFault::Version),
 ];
 
-/// Files whose captured lengths lie, and what they are refused for.
+/// Files with malformed captured lengths, and what they are rejected for.
 const LENGTHS_THAT_LIE: &[(&[u8], CaptureFault)] = &[
     (LONGER, CaptureFault::CapturedLength(24)),
     (HUGE, CaptureFault::CapturedLength(24)),
@@ -128,7 +128,7 @@ fn files_that_are_refused(rt: HostRuntime) {
 }
 
 #[test]
-fn captured_lengths_that_lie(rt: HostRuntime) {
+fn malformed_captured_lengths(rt: HostRuntime) {
     for (file, fault) in LENGTHS_THAT_LIE {
         assert_eq!(rt; read(rt.alloc(), file), Err(*fault));
     }

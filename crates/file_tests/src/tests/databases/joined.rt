@@ -2,8 +2,8 @@
 //! the sequence numbers 80000003 and 80000004, and an AS-external-LSA of 10.255.0.5.
 
 use lsa_codec::{AreaId, Lsa};
-use lsa_instances::{AreaKind, FlushedLsas, Scope, Sighting, ToldArea};
-use sighted_database::{JoinFault, join};
+use lsa_instances::{AreaKind, AreaReport, FlushedLsas, Observation, Scope};
+use lsdb_merge::{JoinFault, join};
 use std::alloc::Global;
 use std::test::*;
 
@@ -31,9 +31,14 @@ const NEWER: &[u8] = &[
     0, 3,
 ];
 
-fn add(told: &mut Vec<Sighting>, alloc: Global, scope: Scope, octets: &[u8]) -> Result<(), Fail> {
-    let (lsa, _) = Lsa::decode(alloc, octets)?;
-    told.push(Sighting {
+fn add(
+    parsed: &mut Vec<Observation>,
+    alloc: Global,
+    scope: Scope,
+    bytes: &[u8],
+) -> Result<(), Fail> {
+    let (lsa, _) = Lsa::decode(alloc, bytes)?;
+    parsed.push(Observation {
         scope,
         seen: None,
         lsa,
@@ -46,15 +51,15 @@ fn add(told: &mut Vec<Sighting>, alloc: Global, scope: Scope, octets: &[u8]) -> 
 #[test]
 fn sections_stand_in_order(rt: HostRuntime) -> Result<(), Fail> {
     let alloc = rt.alloc();
-    let mut told = Vec::new(alloc);
-    add(&mut told, alloc, Scope::AsWide, EXTERNAL)?;
-    add(&mut told, alloc, Scope::Area(AreaId(0)), NEWER)?;
-    add(&mut told, alloc, Scope::Area(AreaId(0)), OLDER)?;
-    let stub = ToldArea {
+    let mut parsed = Vec::new(alloc);
+    add(&mut parsed, alloc, Scope::AsWide, EXTERNAL)?;
+    add(&mut parsed, alloc, Scope::Area(AreaId(0)), NEWER)?;
+    add(&mut parsed, alloc, Scope::Area(AreaId(0)), OLDER)?;
+    let stub = AreaReport {
         id: AreaId(1),
         kind: AreaKind::Stub,
     };
-    let dump = join(alloc, FlushedLsas::LeftOut, told, &[stub])?.dump()?;
+    let dump = join(alloc, FlushedLsas::LeftOut, parsed, &[stub])?.dump()?;
     let head: &[u8] = b"OSWP\x01\x02\0\0\0\0\0\0\x01";
     let stub_head: &[u8] = b"\0\0\0\x01\x01\0\0\0\x01";
     assert!(rt; dump.len() == 13 + NEWER.len() + 9 + EXTERNAL.len());
@@ -66,13 +71,13 @@ fn sections_stand_in_order(rt: HostRuntime) -> Result<(), Fail> {
 }
 
 #[test]
-fn an_lsa_outside_its_scope_is_told(rt: HostRuntime) -> Result<(), Fail> {
+fn an_lsa_outside_its_scope_is_reported(rt: HostRuntime) -> Result<(), Fail> {
     let alloc = rt.alloc();
-    let mut told = Vec::new(alloc);
-    add(&mut told, alloc, Scope::Area(AreaId(0)), EXTERNAL)?;
+    let mut parsed = Vec::new(alloc);
+    add(&mut parsed, alloc, Scope::Area(AreaId(0)), EXTERNAL)?;
     assert!(rt;
         matches!(
-            join(alloc, FlushedLsas::LeftOut, told, &[]),
+            join(alloc, FlushedLsas::LeftOut, parsed, &[]),
             Err(JoinFault::MisplacedLsa)
         )
     );
@@ -84,17 +89,17 @@ fn an_lsa_outside_its_scope_is_told(rt: HostRuntime) -> Result<(), Fail> {
 fn a_flushed_lsa_is_left_out_or_kept(rt: HostRuntime) -> Result<(), Fail> {
     let alloc = rt.alloc();
     let head: &[u8] = b"OSWP\x01\0\0\x01";
-    let mut told = Vec::new(alloc);
-    add(&mut told, alloc, Scope::AsWide, EXTERNAL)?;
-    add(&mut told, alloc, Scope::AsWide, FLUSHED)?;
-    let dump = join(alloc, FlushedLsas::Kept, told, &[])?.dump()?;
+    let mut parsed = Vec::new(alloc);
+    add(&mut parsed, alloc, Scope::AsWide, EXTERNAL)?;
+    add(&mut parsed, alloc, Scope::AsWide, FLUSHED)?;
+    let dump = join(alloc, FlushedLsas::Kept, parsed, &[])?.dump()?;
     assert!(rt; dump.len() == 8 + FLUSHED.len());
     assert!(rt; dump.starts_with(head));
     assert!(rt; dump[8..].starts_with(FLUSHED));
-    let mut told = Vec::new(alloc);
-    add(&mut told, alloc, Scope::AsWide, EXTERNAL)?;
-    add(&mut told, alloc, Scope::AsWide, FLUSHED)?;
-    let dump = join(alloc, FlushedLsas::LeftOut, told, &[])?.dump()?;
+    let mut parsed = Vec::new(alloc);
+    add(&mut parsed, alloc, Scope::AsWide, EXTERNAL)?;
+    add(&mut parsed, alloc, Scope::AsWide, FLUSHED)?;
+    let dump = join(alloc, FlushedLsas::LeftOut, parsed, &[])?.dump()?;
     let empty: &[u8] = b"OSWP\x01\0\0\0";
     assert!(rt; dump.as_slice() == empty);
     Ok(())

@@ -1,4 +1,4 @@
-//! Pieces of what routers print in JSON, and the octets that the same LSAs had on the links.
+//! Pieces of what routers print in JSON, and the bytes that the same LSAs had on the links.
 
 use lsa_codec::{Addr, Key, RouterId};
 
@@ -14,8 +14,8 @@ pub(super) const ROUTER: &[u8] =
     \"networkAddress\": \"10.10.1.0\", \"networkMask\": \"255.255.255.0\", \"numOfTosMetrics\": \
     0, \"tos0Metric\": 1}}}]}}}";
 
-/// Its octets.
-pub(super) const ROUTER_OCTETS: &[u8] = &[
+/// Its bytes.
+pub(super) const ROUTER_BYTES: &[u8] = &[
     0, 17, 2, 1, 1, 1, 1, 1, 1, 1, 1, 1, 0x80, 0, 0, 7, 24, 40, 0, 48, 1, 0, 0, 2, 0xc0, 0xa8, 0,
     1, 0xc0, 0xa8, 0, 1, 2, 0, 0, 10, 10, 10, 1, 0, 0xff, 0xff, 0xff, 0, 3, 0, 0, 1,
 ];
@@ -32,8 +32,8 @@ pub(super) const LINKS: &[u8] =
     \"link1\": {\"linkType\": \"Stub Network\", \"networkAddress\": \"10.1.0.0\", \
     \"networkMask\": \"255.255.255.252\", \"numOfTosMetrics\": 0, \"tos0Metric\": 10}}}]}}}";
 
-/// Its octets.
-pub(super) const LINKS_OCTETS: &[u8] = &[
+/// Its bytes.
+pub(super) const LINKS_BYTES: &[u8] = &[
     0, 22, 2, 1, 1, 1, 1, 1, 1, 1, 1, 1, 0x80, 0, 0, 3, 70, 0xbb, 0, 48, 1, 0, 0, 2, 4, 4, 4, 4,
     10, 1, 0, 1, 1, 0, 0, 10, 10, 1, 0, 0, 0xff, 0xff, 0xff, 0xfc, 3, 0, 0, 10,
 ];
@@ -47,8 +47,8 @@ pub(super) const NETWORK: &[u8] =
     \"attchedRouters\": {\"4.4.4.4\": {\"attachedRouterId\": \"4.4.4.4\"}, \"5.5.5.5\": \
     {\"attachedRouterId\": \"5.5.5.5\"}}}]}}}";
 
-/// Its octets.
-pub(super) const NETWORK_OCTETS: &[u8] = &[
+/// Its bytes.
+pub(super) const NETWORK_BYTES: &[u8] = &[
     0, 17, 66, 2, 0xc0, 0xa8, 50, 4, 4, 4, 4, 4, 0x80, 0, 0, 1, 0xc6, 127, 0, 32, 0xff, 0xff, 0xff,
     0, 4, 4, 4, 4, 5, 5, 5, 5,
 ];
@@ -61,8 +61,8 @@ pub(super) const SUMMARY: &[u8] =
     \"80000001\", \"checksum\": \"1136\", \"length\": 28, \"networkMask\": 30, \"tos0Metric\": \
     10}]}}}";
 
-/// Its octets.
-pub(super) const SUMMARY_OCTETS: &[u8] = &[
+/// Its bytes.
+pub(super) const SUMMARY_BYTES: &[u8] = &[
     0, 23, 2, 3, 10, 1, 0, 0, 1, 1, 1, 1, 0x80, 0, 0, 1, 17, 54, 0, 28, 0xff, 0xff, 0xff, 0xfc, 0,
     0, 0, 10,
 ];
@@ -75,8 +75,8 @@ pub(super) const ASBR: &[u8] =
     \"lsaSeqNumber\": \"80000001\", \"checksum\": \"e0c\", \"length\": 28, \"networkMask\": 0, \
     \"tos0Metric\": 42}]}}}";
 
-/// Its octets.
-pub(super) const ASBR_OCTETS: &[u8] = &[
+/// Its bytes.
+pub(super) const ASBR_BYTES: &[u8] = &[
     0, 15, 2, 4, 4, 4, 4, 4, 2, 2, 2, 2, 0x80, 0, 0, 1, 14, 12, 0, 28, 0, 0, 0, 0, 0, 0, 0, 42,
 ];
 
@@ -88,8 +88,8 @@ pub(super) const TYPE_1: &[u8] =
     \"checksum\": \"c65a\", \"length\": 36, \"networkMask\": 16, \"metricType\": \"E1\", \
     \"tos\": 0, \"metric\": 30, \"forwardAddress\": \"0.0.0.0\", \"externalRouteTag\": 4242}]}";
 
-/// Its octets.
-pub(super) const TYPE_1_OCTETS: &[u8] = &[
+/// Its bytes.
+pub(super) const TYPE_1_BYTES: &[u8] = &[
     0, 24, 2, 5, 10, 91, 0, 0, 3, 3, 3, 3, 0x80, 0, 0, 1, 0xc6, 90, 0, 36, 0xff, 0xff, 0, 0, 0, 0,
     0, 30, 0, 0, 0, 0, 0, 0, 16, 0x92,
 ];
@@ -103,8 +103,8 @@ pub(super) const TYPE_2: &[u8] =
     \"E2 (Larger than any link state path)\", \"tos\": 0, \"metric\": 9, \"forwardAddress\": \
     \"192.168.50.77\", \"externalRouteTag\": 9}]}";
 
-/// Its octets.
-pub(super) const TYPE_2_OCTETS: &[u8] = &[
+/// Its bytes.
+pub(super) const TYPE_2_BYTES: &[u8] = &[
     0, 24, 2, 5, 10, 94, 0, 0xff, 4, 4, 4, 4, 0x80, 0, 0, 1, 111, 0xef, 0, 36, 0xff, 0xff, 0xff, 0,
     0x80, 0, 0, 9, 0xc0, 0xa8, 50, 77, 0, 0, 0, 9,
 ];

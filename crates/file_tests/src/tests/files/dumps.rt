@@ -3,18 +3,18 @@
 use super::pieces::{CAPTURE, DUMP, JSON, TEXT, WALK};
 use capture_files::End;
 use lsa_codec::AreaId;
-use lsa_instances::{AreaKind, FlushedLsas, ToldArea};
-use network_files::{FileKind, FileTold, Oddities, dump_of_files, told_of};
+use lsa_instances::{AreaKind, AreaReport, FlushedLsas};
+use network_files::{FileKind, ParsedFile, Warnings, dump_of_files, read_file};
 use std::alloc::Global;
 use std::test::*;
 
-/// The dump that files with these octets make.
+/// The dump that files with these bytes make.
 fn dump_of(alloc: Global, files: &[&[u8]]) -> Result<Vec<u8>, Fail> {
-    let mut told: Vec<FileTold> = Vec::new(alloc);
-    for octets in files {
-        told.push(told_of(alloc, octets)?)?;
+    let mut parsed: Vec<ParsedFile> = Vec::new(alloc);
+    for bytes in files {
+        parsed.push(read_file(alloc, bytes)?)?;
     }
-    Ok(dump_of_files(alloc, FlushedLsas::LeftOut, &told)?)
+    Ok(dump_of_files(alloc, FlushedLsas::LeftOut, &parsed)?)
 }
 
 #[test]
@@ -59,29 +59,29 @@ fn a_document_gives_the_same_dump_but_for_the_age(rt: HostRuntime) -> Result<(),
     Ok(())
 }
 
-/// The capture without its last octet: the LSA is gone, and the kind of the area is there.
+/// The capture without its last byte: the LSA is gone, and the kind of the area is there.
 #[test]
-fn a_cut_capture_tells_what_is_whole(rt: HostRuntime) -> Result<(), Fail> {
+fn a_cut_capture_contains_what_is_whole(rt: HostRuntime) -> Result<(), Fail> {
     let alloc = rt.alloc();
-    let told = told_of(alloc, &CAPTURE[..243])?;
-    let stub = ToldArea {
+    let parsed = read_file(alloc, &CAPTURE[..243])?;
+    let stub = AreaReport {
         id: AreaId(2),
         kind: AreaKind::Stub,
     };
-    assert_eq!(rt; told.sightings.len(), 0);
-    assert!(rt; told.areas.as_slice() == [stub].as_slice());
-    assert!(rt; matches!(told.oddities, Oddities::Frames(_, End::Cut(118))));
+    assert_eq!(rt; parsed.observations.len(), 0);
+    assert!(rt; parsed.areas.as_slice() == [stub].as_slice());
+    assert!(rt; matches!(parsed.warnings, Warnings::Frames(_, End::Cut(118))));
     Ok(())
 }
 
 #[test]
-fn an_nssa_is_told_and_is_no_stub_area(rt: HostRuntime) -> Result<(), Fail> {
-    let told = told_of(rt.alloc(), b".1.3.6.1.2.1.14.2.1.3.0.0.0.7 = INTEGER: 3\n")?;
-    let nssa = ToldArea {
+fn an_nssa_is_reported_and_is_no_stub_area(rt: HostRuntime) -> Result<(), Fail> {
+    let parsed = read_file(rt.alloc(), b".1.3.6.1.2.1.14.2.1.3.0.0.0.7 = INTEGER: 3\n")?;
+    let nssa = AreaReport {
         id: AreaId(7),
         kind: AreaKind::Nssa,
     };
-    assert!(rt; told.areas.as_slice() == [nssa].as_slice());
+    assert!(rt; parsed.areas.as_slice() == [nssa].as_slice());
     assert!(rt; !nssa.kind.is_stub());
     Ok(())
 }

@@ -1,29 +1,36 @@
 //! What calls answer, as bytes that say all of it.
 
 use capture_files::{Capture, CaptureFault};
-use lsa_instances::{Header, Sighting, ToldArea};
+use failing_alloc::FailingAlloc;
+use frr_text::Printed;
+use lsa_instances::{AreaReport, Header, Observation};
 use lsdb::Database;
-use network_files::{FileFault, FileTold, Oddities};
+use lsdb_merge::JoinFault;
+use network_files::{FileFault, ParsedFile, Warnings};
 use ospf_packets::Packets;
-use printed_databases::Printed;
-use rationed::Rationed;
 use refused_growths::Answer;
-use sighted_database::JoinFault;
 use snmp_walk::{Walk, WalkFault};
 use std::alloc::{AllocError, Global};
 use std::test::*;
 
-/// Adds sightings: what names each, when it was seen, and its bytes.
-fn push_sightings(text: &mut String, sightings: &[Sighting<&Rationed>]) -> Result<(), Fail> {
-    for sighting in sightings {
-        let (place, seen, bytes) = (sighting.place(), sighting.seen, sighting.lsa.bytes());
+/// Adds observations: what names each, when it was seen, and its bytes.
+fn push_observations(
+    text: &mut String,
+    observations: &[Observation<&FailingAlloc>],
+) -> Result<(), Fail> {
+    for observation in observations {
+        let (place, seen, bytes) = (
+            observation.place(),
+            observation.seen,
+            observation.lsa.bytes(),
+        );
         write!(text, "{place} {seen:?} {bytes:?}\n")?;
     }
     Ok(())
 }
 
 /// Adds the kinds of areas.
-fn push_kinds(text: &mut String, kinds: &[ToldArea]) -> Result<(), Fail> {
+fn push_kinds(text: &mut String, kinds: &[AreaReport]) -> Result<(), Fail> {
     for area in kinds {
         let (id, kind) = (area.id, area.kind);
         write!(text, "{id} {kind:?}\n")?;
@@ -42,7 +49,7 @@ fn push_headers(text: &mut String, headers: &[Header]) -> Result<(), Fail> {
 }
 
 /// The frames of a capture, and how it ends.
-fn capture_text(alloc: Global, capture: &Capture<'_, &Rationed>) -> Result<String, Fail> {
+fn capture_text(alloc: Global, capture: &Capture<'_, &FailingAlloc>) -> Result<String, Fail> {
     let (frames, end) = (capture.frames.as_slice(), capture.end);
     Ok(format!(in alloc; "{frames:?} {end:?}")?)
 }
@@ -50,7 +57,7 @@ fn capture_text(alloc: Global, capture: &Capture<'_, &Rationed>) -> Result<Strin
 /// The answer that is a capture.
 pub(super) fn of_capture(
     alloc: Global,
-    capture: Result<Capture<'_, &Rationed>, CaptureFault>,
+    capture: Result<Capture<'_, &FailingAlloc>, CaptureFault>,
 ) -> Result<Answer, Fail> {
     match capture {
         Ok(capture) => Ok(Some(capture_text(alloc, &capture)?.into_bytes())),
@@ -60,10 +67,10 @@ pub(super) fn of_capture(
 }
 
 /// What packets contain.
-fn packets_text(alloc: Global, packets: &Packets<&Rationed>) -> Result<String, Fail> {
-    let odd = packets.odd.as_slice();
-    let mut text = format!(in alloc; "{odd:?}\n")?;
-    push_sightings(&mut text, &packets.sightings)?;
+fn packets_text(alloc: Global, packets: &Packets<&FailingAlloc>) -> Result<String, Fail> {
+    let warnings = packets.warnings.as_slice();
+    let mut text = format!(in alloc; "{warnings:?}\n")?;
+    push_observations(&mut text, &packets.observations)?;
     push_kinds(&mut text, &packets.kinds)?;
     push_headers(&mut text, &packets.headers)?;
     Ok(text)
@@ -72,7 +79,7 @@ fn packets_text(alloc: Global, packets: &Packets<&Rationed>) -> Result<String, F
 /// The answer that is what packets contain.
 pub(super) fn of_packets(
     alloc: Global,
-    packets: Result<Packets<&Rationed>, AllocError>,
+    packets: Result<Packets<&FailingAlloc>, AllocError>,
 ) -> Result<Answer, Fail> {
     match packets {
         Ok(packets) => Ok(Some(packets_text(alloc, &packets)?.into_bytes())),
@@ -81,10 +88,10 @@ pub(super) fn of_packets(
 }
 
 /// What a walk contains.
-fn walk_text(alloc: Global, walk: &Walk<&Rationed>) -> Result<String, Fail> {
-    let holes = walk.holes.as_slice();
-    let mut text = format!(in alloc; "{holes:?}\n")?;
-    push_sightings(&mut text, &walk.sightings)?;
+fn walk_text(alloc: Global, walk: &Walk<&FailingAlloc>) -> Result<String, Fail> {
+    let findings = walk.findings.as_slice();
+    let mut text = format!(in alloc; "{findings:?}\n")?;
+    push_observations(&mut text, &walk.observations)?;
     push_kinds(&mut text, &walk.kinds)?;
     Ok(text)
 }
@@ -92,7 +99,7 @@ fn walk_text(alloc: Global, walk: &Walk<&Rationed>) -> Result<String, Fail> {
 /// The answer that is what a walk contains.
 pub(super) fn of_walk(
     alloc: Global,
-    walk: Result<Walk<&Rationed>, WalkFault>,
+    walk: Result<Walk<&FailingAlloc>, WalkFault>,
 ) -> Result<Answer, Fail> {
     match walk {
         Ok(walk) => Ok(Some(walk_text(alloc, &walk)?.into_bytes())),
@@ -102,10 +109,10 @@ pub(super) fn of_walk(
 }
 
 /// What a router prints.
-fn printed_text(alloc: Global, printed: &Printed<&Rationed>) -> Result<String, Fail> {
-    let holes = printed.holes.as_slice();
-    let mut text = format!(in alloc; "{holes:?}\n")?;
-    push_sightings(&mut text, &printed.sightings)?;
+fn printed_text(alloc: Global, printed: &Printed<&FailingAlloc>) -> Result<String, Fail> {
+    let findings = printed.findings.as_slice();
+    let mut text = format!(in alloc; "{findings:?}\n")?;
+    push_observations(&mut text, &printed.observations)?;
     push_kinds(&mut text, &printed.kinds)?;
     Ok(text)
 }
@@ -113,7 +120,7 @@ fn printed_text(alloc: Global, printed: &Printed<&Rationed>) -> Result<String, F
 /// The answer that is what a router prints.
 pub(super) fn of_printed(
     alloc: Global,
-    printed: Result<Printed<&Rationed>, AllocError>,
+    printed: Result<Printed<&FailingAlloc>, AllocError>,
 ) -> Result<Answer, Fail> {
     match printed {
         Ok(printed) => Ok(Some(printed_text(alloc, &printed)?.into_bytes())),
@@ -122,31 +129,31 @@ pub(super) fn of_printed(
 }
 
 /// What cannot be used of a file.
-fn oddities_text(alloc: Global, oddities: &Oddities<&Rationed>) -> Result<String, Fail> {
-    match oddities {
-        Oddities::Frames(odd, end) => {
-            let odd = odd.as_slice();
-            Ok(format!(in alloc; "frames {odd:?} {end:?}\n")?)
+fn warnings_text(alloc: Global, warnings: &Warnings<&FailingAlloc>) -> Result<String, Fail> {
+    match warnings {
+        Warnings::Frames(warnings, end) => {
+            let warnings = warnings.as_slice();
+            Ok(format!(in alloc; "frames {warnings:?} {end:?}\n")?)
         }
-        Oddities::Rows(holes) => {
-            let holes = holes.as_slice();
-            Ok(format!(in alloc; "rows {holes:?}\n")?)
+        Warnings::Rows(findings) => {
+            let findings = findings.as_slice();
+            Ok(format!(in alloc; "rows {findings:?}\n")?)
         }
-        Oddities::Texts(holes) => {
-            let holes = holes.as_slice();
-            Ok(format!(in alloc; "texts {holes:?}\n")?)
+        Warnings::Texts(findings) => {
+            let findings = findings.as_slice();
+            Ok(format!(in alloc; "texts {findings:?}\n")?)
         }
-        Oddities::Documents(holes) => {
-            let holes = holes.as_slice();
-            Ok(format!(in alloc; "documents {holes:?}\n")?)
+        Warnings::Documents(findings) => {
+            let findings = findings.as_slice();
+            Ok(format!(in alloc; "documents {findings:?}\n")?)
         }
     }
 }
 
 /// What a file contains.
-fn file_text(alloc: Global, file: &FileTold<&Rationed>) -> Result<String, Fail> {
-    let mut text = oddities_text(alloc, &file.oddities)?;
-    push_sightings(&mut text, &file.sightings)?;
+fn file_text(alloc: Global, file: &ParsedFile<&FailingAlloc>) -> Result<String, Fail> {
+    let mut text = warnings_text(alloc, &file.warnings)?;
+    push_observations(&mut text, &file.observations)?;
     push_kinds(&mut text, &file.areas)?;
     push_headers(&mut text, &file.headers)?;
     Ok(text)
@@ -155,7 +162,7 @@ fn file_text(alloc: Global, file: &FileTold<&Rationed>) -> Result<String, Fail> 
 /// The answer that is what a file contains.
 pub(super) fn of_file(
     alloc: Global,
-    file: Result<FileTold<&Rationed>, FileFault>,
+    file: Result<ParsedFile<&FailingAlloc>, FileFault>,
 ) -> Result<Answer, Fail> {
     match file {
         Ok(file) => Ok(Some(file_text(alloc, &file)?.into_bytes())),
@@ -164,38 +171,41 @@ pub(super) fn of_file(
     }
 }
 
-/// Sightings in their order.
-fn sightings_text(alloc: Global, sightings: &[Sighting<&Rationed>]) -> Result<String, Fail> {
+/// Observations in their order.
+fn observations_text(
+    alloc: Global,
+    observations: &[Observation<&FailingAlloc>],
+) -> Result<String, Fail> {
     let mut text = String::new(alloc);
-    push_sightings(&mut text, sightings)?;
+    push_observations(&mut text, observations)?;
     Ok(text)
 }
 
-/// The answer that is sightings.
-pub(super) fn of_sightings(
+/// The answer that is observations.
+pub(super) fn of_observations(
     alloc: Global,
-    sightings: Result<Vec<Sighting<&Rationed>, &Rationed>, AllocError>,
+    observations: Result<Vec<Observation<&FailingAlloc>, &FailingAlloc>, AllocError>,
 ) -> Result<Answer, Fail> {
-    match sightings {
-        Ok(sightings) => Ok(Some(sightings_text(alloc, &sightings)?.into_bytes())),
+    match observations {
+        Ok(observations) => Ok(Some(observations_text(alloc, &observations)?.into_bytes())),
         Err(AllocError) => Ok(None),
     }
 }
 
 /// The dump of a database.
-fn dump_of(alloc: Global, database: &Database<&Rationed>) -> Result<Vec<u8>, Fail> {
+fn dump_of(alloc: Global, database: &Database<&FailingAlloc>) -> Result<Vec<u8>, Fail> {
     Ok(Vec::from_slice(alloc, &database.dump()?)?)
 }
 
 /// The answer that is a database. There is ample memory for its dump, and from then on.
 pub(super) fn of_database(
     alloc: Global,
-    rationed: &Rationed,
-    database: Result<Database<&Rationed>, JoinFault>,
+    failing: &FailingAlloc,
+    database: Result<Database<&FailingAlloc>, JoinFault>,
 ) -> Result<Answer, Fail> {
     match database {
         Ok(database) => {
-            rationed.leave(u64::MAX);
+            failing.set_remaining(u64::MAX);
             Ok(Some(dump_of(alloc, &database)?))
         }
         Err(JoinFault::OutOfMemory) => Ok(None),

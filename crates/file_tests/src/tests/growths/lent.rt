@@ -3,15 +3,15 @@
 use super::Call;
 use crate::tests::captures::pcapng::LITTLE;
 use crate::tests::files::pieces::{CAPTURE, JSON, TEXT, WALK};
-use crate::tests::instances::octets::{ANNOUNCED, FLUSHED, NEWER, OLDER, OTHER};
+use crate::tests::instances::bytes::{ANNOUNCED, FLUSHED, NEWER, OLDER, OTHER};
 use crate::tests::packets::frames::{
     ACKNOWLEDGMENT, BACK, FRONT, MIDDLE, STUB_HELLO, UPDATE, whole,
 };
 use crate::tests::printed::pieces::OTHER_METRIC;
 use capture_files::{Frame, LinkType};
+use failing_alloc::FailingAlloc;
 use lsa_codec::{AreaId, Lsa};
-use lsa_instances::{AreaKind, Scope, Sighting, ToldArea};
-use rationed::Rationed;
+use lsa_instances::{AreaKind, AreaReport, Observation, Scope};
 use std::alloc::{AllocError, Global};
 use std::test::*;
 
@@ -55,8 +55,8 @@ const SEEN: Option<u64> = Some(1_795_401_300_018_396_000);
 
 const FLUSH: Option<u64> = Some(1_795_401_354_177_222_000);
 
-/// Sightings: two instances of a router-LSA, another instance in another area, an AS-external-LSA
-/// that is flushed, and another one.
+/// Observations: two instances of a router-LSA, another instance in another area, an
+/// AS-external-LSA that is flushed, and another one.
 const OBSERVED: &[(Scope, Option<u64>, &[u8])] = &[
     (Scope::AsWide, SEEN, ANNOUNCED),
     (Scope::Area(AreaId(0)), None, NEWER),
@@ -67,28 +67,30 @@ const OBSERVED: &[(Scope, Option<u64>, &[u8])] = &[
 ];
 
 /// An area of which no LSA was seen.
-pub(super) const AREA: ToldArea = ToldArea {
+pub(super) const AREA: AreaReport = AreaReport {
     id: AreaId(1),
     kind: AreaKind::Stub,
 };
 
-/// Adds a sighting.
+/// Adds an observation.
 fn add<'a>(
-    observed: &mut Vec<Sighting<&'a Rationed>, &'a Rationed>,
-    rationed: &'a Rationed,
-    sighting: &(Scope, Option<u64>, &[u8]),
+    observed: &mut Vec<Observation<&'a FailingAlloc>, &'a FailingAlloc>,
+    failing: &'a FailingAlloc,
+    observation: &(Scope, Option<u64>, &[u8]),
 ) -> Result<(), Fail> {
-    let (scope, seen, bytes) = *sighting;
-    let (lsa, _) = Lsa::decode(rationed, bytes)?;
-    observed.push(Sighting { scope, seen, lsa })?;
+    let (scope, seen, bytes) = *observation;
+    let (lsa, _) = Lsa::decode(failing, bytes)?;
+    observed.push(Observation { scope, seen, lsa })?;
     Ok(())
 }
 
-/// The sightings that calls are lent.
-pub(super) fn sightings(rationed: &Rationed) -> Result<Vec<Sighting<&Rationed>, &Rationed>, Fail> {
-    let mut observed = Vec::new(rationed);
-    for sighting in OBSERVED {
-        add(&mut observed, rationed, sighting)?;
+/// The observations that calls are lent.
+pub(super) fn observations(
+    failing: &FailingAlloc,
+) -> Result<Vec<Observation<&FailingAlloc>, &FailingAlloc>, Fail> {
+    let mut observed = Vec::new(failing);
+    for observation in OBSERVED {
+        add(&mut observed, failing, observation)?;
     }
     Ok(observed)
 }

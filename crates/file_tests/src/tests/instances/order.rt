@@ -1,6 +1,6 @@
 //! Which of two instances is newer.
 
-use super::octets::{ANNOUNCED, FARTHER, FLUSHED, GREATEST, NEWER, OLDER, OTHER};
+use super::bytes::{ANNOUNCED, FARTHER, FLUSHED, GREATEST, NEWER, OLDER, OTHER};
 use lsa_codec::Lsa;
 use lsa_instances::compare_instances;
 use std::alloc::Global;

@@ -1,13 +1,13 @@
 //! How a database differs from a list.
 
 use super::pieces::{DUMP, FLUSHED_DUMP};
-use database_lists::{differences, read_list};
 use lsdb::Database;
+use lsdb_listing::{differences, read_list};
 use std::alloc::Global;
 use std::test::*;
 
 /// The lines of the differences of the database of a dump from a list.
-fn told_of(alloc: Global, dump: &[u8], list: &[u8]) -> Result<String, Fail> {
+fn read_file(alloc: Global, dump: &[u8], list: &[u8]) -> Result<String, Fail> {
     let list = read_list(alloc, list)?;
     let database = Database::load(alloc, dump)?;
     let mut lines = String::new(alloc);
@@ -19,13 +19,13 @@ fn told_of(alloc: Global, dump: &[u8], list: &[u8]) -> Result<String, Fail> {
 }
 
 /// The same of a database with one summary-LSA, below MaxAge.
-fn told(alloc: Global, list: &[u8]) -> Result<String, Fail> {
-    told_of(alloc, DUMP, list)
+fn parsed(alloc: Global, list: &[u8]) -> Result<String, Fail> {
+    read_file(alloc, DUMP, list)
 }
 
 #[test]
-fn the_same_instance_is_not_told(rt: HostRuntime) -> Result<(), Fail> {
-    let lines = told(
+fn the_same_instance_is_not_reported(rt: HostRuntime) -> Result<(), Fail> {
+    let lines = parsed(
         rt.alloc(),
         b"Summary Link States (Area 0.0.0.0)\n10.1.0.0 1.1.1.1 999 0x80000001 0x1136",
     )?;
@@ -35,7 +35,7 @@ fn the_same_instance_is_not_told(rt: HostRuntime) -> Result<(), Fail> {
 
 #[test]
 fn sequence_numbers_are_signed(rt: HostRuntime) -> Result<(), Fail> {
-    let lines = told(
+    let lines = parsed(
         rt.alloc(),
         b"Summary Link States (Area 0.0.0.0)\n10.1.0.0 1.1.1.1 1 0x00000001 0x0001\n\
         10.1.0.0 1.1.1.1 1 0x80000000 0xffff\n",
@@ -50,7 +50,7 @@ fn sequence_numbers_are_signed(rt: HostRuntime) -> Result<(), Fail> {
 
 #[test]
 fn checksums_decide_between_equal_sequence_numbers(rt: HostRuntime) -> Result<(), Fail> {
-    let lines = told(
+    let lines = parsed(
         rt.alloc(),
         b"Area 0.0.0.0\n 0003 10.1.0.0 1.1.1.1 80000001 7 1135\n",
     )?;
@@ -62,8 +62,8 @@ fn checksums_decide_between_equal_sequence_numbers(rt: HostRuntime) -> Result<()
 }
 
 #[test]
-fn what_is_missing_is_told_but_for_flushed_lsas(rt: HostRuntime) -> Result<(), Fail> {
-    let lines = told(
+fn what_is_missing_is_reported_but_for_flushed_lsas(rt: HostRuntime) -> Result<(), Fail> {
+    let lines = parsed(
         rt.alloc(),
         b"Router Link States (Area 0.0.0.1)\n1.1.1.1 1.1.1.1 22 0x80000003 0x46bb 2\n\
         2.2.2.2 2.2.2.2 3600 0x80000003 0x7e46 2\n\
@@ -79,7 +79,7 @@ fn what_is_missing_is_told_but_for_flushed_lsas(rt: HostRuntime) -> Result<(), F
 
 #[test]
 fn the_bit_do_not_age_does_not_count(rt: HostRuntime) -> Result<(), Fail> {
-    let lines = told(
+    let lines = parsed(
         rt.alloc(),
         b"Router Link States (Area 0.0.0.1)\n1.1.1.1 1.1.1.1 36368 0x80000003 0x46bb 2\n\
         2.2.2.2 2.2.2.2 32769 0x80000003 0x7e46 2\n",
@@ -93,7 +93,7 @@ fn the_bit_do_not_age_does_not_count(rt: HostRuntime) -> Result<(), Fail> {
 
 #[test]
 fn the_same_instance_at_max_age_is_missing(rt: HostRuntime) -> Result<(), Fail> {
-    let lines = told_of(
+    let lines = read_file(
         rt.alloc(),
         FLUSHED_DUMP,
         b"Summary Link States (Area 0.0.0.0)\n10.1.0.0 1.1.1.1 3599 0x80000001 0x1136\n\

@@ -1,21 +1,21 @@
 //! The lines of a list beside a database.
 
 use super::pieces::DUMP;
-use database_lists::{list_lines, read_list};
 use lsdb::Database;
+use lsdb_listing::{list_lines, read_list};
 use std::alloc::Global;
 use std::test::*;
 
 /// The lines of a list.
-fn told(alloc: Global, list: &[u8]) -> Result<String, Fail> {
+fn parsed(alloc: Global, list: &[u8]) -> Result<String, Fail> {
     let list = read_list(alloc, list)?;
     let database = Database::load(alloc, DUMP)?;
     Ok(list_lines(alloc, "r4.txt", &database, &list)?)
 }
 
 #[test]
-fn a_header_that_stands_twice_is_told_once(rt: HostRuntime) -> Result<(), Fail> {
-    let lines = told(
+fn a_header_that_stands_twice_is_reported_once(rt: HostRuntime) -> Result<(), Fail> {
+    let lines = parsed(
         rt.alloc(),
         b"Router Link States (Area 0.0.0.1)\n1.1.1.1 1.1.1.1 22 0x80000003 0x46bb 2\n\
         1.1.1.1 1.1.1.1 23 0x80000003 0x46bb 2\n",
@@ -28,8 +28,8 @@ fn a_header_that_stands_twice_is_told_once(rt: HostRuntime) -> Result<(), Fail> 
 }
 
 #[test]
-fn holes_stand_before_differences_and_those_in_order(rt: HostRuntime) -> Result<(), Fail> {
-    let lines = told(
+fn findings_stand_before_differences_and_those_in_order(rt: HostRuntime) -> Result<(), Fail> {
+    let lines = parsed(
         rt.alloc(),
         b"Global\n 0001 1.1.1.1 1.1.1.1 80000003 29 46bb\n 0005 10.90.0.0\n\
         Summary Link States (Area 0.0.0.0)\n10.1.0.0 1.1.1.1 1 0x80000002 0x1136\n\
@@ -47,7 +47,7 @@ fn holes_stand_before_differences_and_those_in_order(rt: HostRuntime) -> Result<
 
 #[test]
 fn a_list_that_is_met_gives_no_line(rt: HostRuntime) -> Result<(), Fail> {
-    let lines = told(
+    let lines = parsed(
         rt.alloc(),
         b"Area 0.0.0.0\n 0003 10.1.0.0 1.1.1.1 80000001 7 1136\n",
     )?;

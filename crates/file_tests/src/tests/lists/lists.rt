@@ -1,9 +1,9 @@
-//! What lists tell, and which texts are none.
+//! What lists contain, and which texts are none.
 
 use super::pieces::{OF_LINKS, SECTIONS, STUB_AREA, TABLES, WHOLE_LSA};
-use database_lists::{Header, Hole, InstanceId, ListFault, read_list};
 use lsa_codec::{Addr, AreaId, Key, RouterId};
 use lsa_instances::{Place, Scope};
+use lsdb_listing::{Header, InstanceId, ListFault, ListFinding, read_list};
 use std::alloc::Global;
 use std::test::*;
 
@@ -29,11 +29,11 @@ fn header(
     }
 }
 
-/// The text tells two headers alone, these.
-fn tells(alloc: Global, text: &[u8], first: Header, second: Header) -> Result<bool, Fail> {
+/// The text contains these two headers alone.
+fn contains(alloc: Global, text: &[u8], first: Header, second: Header) -> Result<bool, Fail> {
     let list = read_list(alloc, text)?;
     Ok(
-        list.holes.is_empty()
+        list.findings.is_empty()
             && match list.headers.as_slice() {
                 [one, other] => *one == first && *other == second,
                 _ => false,
@@ -41,10 +41,10 @@ fn tells(alloc: Global, text: &[u8], first: Header, second: Header) -> Result<bo
     )
 }
 
-/// The text tells one hole alone, this.
-fn lacks(alloc: Global, text: &[u8], hole: Hole) -> Result<bool, Fail> {
+/// The text gives this finding alone.
+fn lacks(alloc: Global, text: &[u8], finding: ListFinding) -> Result<bool, Fail> {
     let list = read_list(alloc, text)?;
-    Ok(list.headers.is_empty() && list.holes.as_slice() == [hole].as_slice())
+    Ok(list.headers.is_empty() && list.findings.as_slice() == [finding].as_slice())
 }
 
 #[test]
@@ -52,7 +52,7 @@ fn tables_of_a_stub_area(rt: HostRuntime) -> Result<(), Fail> {
     let area = Scope::Area(AreaId(2));
     let router = header(area, 1, 0x0101_0101, 0x0101_0101, 0x8000_0004, 0xe7fd, 33);
     let summary = header(area, 3, 0x0a01_0000, 0x0202_0202, 0x8000_0002, 0xb465, 3600);
-    assert!(rt; tells(rt.alloc(), STUB_AREA, router, summary)?);
+    assert!(rt; contains(rt.alloc(), STUB_AREA, router, summary)?);
     Ok(())
 }
 
@@ -76,14 +76,14 @@ fn tables_of_opaque_and_external_lsas(rt: HostRuntime) -> Result<(), Fail> {
         0x84c3,
         34,
     );
-    assert!(rt; tells(rt.alloc(), TABLES, opaque, external)?);
+    assert!(rt; contains(rt.alloc(), TABLES, opaque, external)?);
     Ok(())
 }
 
 #[test]
 fn sections_of_the_as_and_of_an_area(rt: HostRuntime) -> Result<(), Fail> {
     let list = read_list(rt.alloc(), SECTIONS)?;
-    assert!(rt; list.holes.is_empty());
+    assert!(rt; list.findings.is_empty());
     assert_eq!(rt; list.headers.len(), 3);
     let area = Scope::Area(AreaId(1));
     let external = header(Scope::AsWide, 5, 0, 0x0303_0303, 0x8000_0001, 0xeccf, 31);
@@ -96,46 +96,46 @@ fn sections_of_the_as_and_of_an_area(rt: HostRuntime) -> Result<(), Fail> {
 }
 
 #[test]
-fn a_row_that_was_cut_is_told(rt: HostRuntime) -> Result<(), Fail> {
+fn a_row_that_was_cut_is_reported(rt: HostRuntime) -> Result<(), Fail> {
     let cut = b"Net Link States (Area 0.0.0.1)\n192.168.50.4   4.4.4.4           17 0x8000";
-    assert!(rt; lacks(rt.alloc(), cut, Hole::Unreadable)?);
+    assert!(rt; lacks(rt.alloc(), cut, ListFinding::Unreadable)?);
     Ok(())
 }
 
 #[test]
-fn a_checksum_that_was_cut_is_told(rt: HostRuntime) -> Result<(), Fail> {
+fn a_checksum_that_was_cut_is_reported(rt: HostRuntime) -> Result<(), Fail> {
     let row = b"AS External Link States\n10.91.0.0      10.255.0.5        34 0x80000001 0x84c";
-    assert!(rt; lacks(rt.alloc(), row, Hole::Unreadable)?);
+    assert!(rt; lacks(rt.alloc(), row, ListFinding::Unreadable)?);
     let row = b"Global\n 0005  0.0.0.0         3.3.3.3          80000001    31    ecc";
-    assert!(rt; lacks(rt.alloc(), row, Hole::Unreadable)?);
+    assert!(rt; lacks(rt.alloc(), row, ListFinding::Unreadable)?);
     Ok(())
 }
 
 #[test]
-fn lsas_of_links_tell_nothing(rt: HostRuntime) -> Result<(), Fail> {
+fn lsas_of_links_are_ignored(rt: HostRuntime) -> Result<(), Fail> {
     let list = read_list(rt.alloc(), OF_LINKS)?;
     assert!(rt; list.headers.is_empty());
-    assert!(rt; list.holes.is_empty());
+    assert!(rt; list.findings.is_empty());
     Ok(())
 }
 
 #[test]
-fn an_unknown_heading_is_told_and_ends_its_table(rt: HostRuntime) -> Result<(), Fail> {
+fn an_unknown_heading_is_reported_and_ends_its_table(rt: HostRuntime) -> Result<(), Fail> {
     let text = b"Net Link States (Area 0.0.0.1)\n\nOther Link States (Area 0.0.0.1)\n\
         192.168.50.4   4.4.4.4           17 0x80000001 0xc67f\n";
-    assert!(rt; lacks(rt.alloc(), text, Hole::Unreadable)?);
+    assert!(rt; lacks(rt.alloc(), text, ListFinding::Unreadable)?);
     Ok(())
 }
 
 #[test]
-fn a_row_of_an_area_under_no_area_is_told(rt: HostRuntime) -> Result<(), Fail> {
+fn a_row_of_an_area_under_no_area_is_reported(rt: HostRuntime) -> Result<(), Fail> {
     let key = Key {
         kind: 1,
         id: Addr(0x0101_0101),
         adv: RouterId(0x0101_0101),
     };
     let text = b"Global\n 0001  1.1.1.1         1.1.1.1          80000003    29    46bb\n";
-    assert!(rt; lacks(rt.alloc(), text, Hole::NoArea(key))?);
+    assert!(rt; lacks(rt.alloc(), text, ListFinding::NoArea(key))?);
     Ok(())
 }
 

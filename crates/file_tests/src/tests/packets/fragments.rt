@@ -2,25 +2,28 @@
 
 use super::frames::{BACK, FRONT, MIDDLE, TWO_LSAS, UPDATE, whole, with};
 use capture_files::LinkType;
-use ospf_packets::{Odd, Packets, read_frames};
+use ospf_packets::{FrameWarning, Packets, read_frames};
 use std::test::*;
 
-/// Whether both LSAs are told, and nothing is odd.
+/// Whether both LSAs are read, without a warning.
 fn is_whole(packets: &Packets) -> bool {
-    match packets.sightings.as_slice() {
+    match packets.observations.as_slice() {
         [first, second] => {
             let same = first.lsa.bytes() == &TWO_LSAS[62..134]
                 && second.lsa.bytes() == &TWO_LSAS[134..170];
-            same && packets.odd.is_empty()
+            same && packets.warnings.is_empty()
         }
         _ => false,
     }
 }
 
-/// Whether so many fragments are missing, nothing else is odd, and no LSA is told.
+/// Whether this number of fragments are missing, without another warning, and no LSA is read.
 fn is_missing(packets: &Packets, count: usize) -> bool {
-    let missing = packets.odd.iter().all(|odd| *odd == Odd::MissingFragment);
-    missing && packets.odd.len() == count && packets.sightings.is_empty()
+    let missing = packets
+        .warnings
+        .iter()
+        .all(|warning| *warning == FrameWarning::MissingFragment);
+    missing && packets.warnings.len() == count && packets.observations.is_empty()
 }
 
 #[test]
@@ -32,16 +35,16 @@ fn fragments_are_put_together(rt: HostRuntime) -> Result<(), Fail> {
     assert!(rt; is_whole(&read_frames(alloc, &[front, middle, back])?));
     // A fragment that is seen twice.
     assert!(rt; is_whole(&read_frames(alloc, &[front, middle, middle, back])?));
-    // A frame between fragments tells what it tells alone.
+    // A frame between fragments contains what it contains alone.
     let update = whole(LinkType::ETHERNET, UPDATE);
     let packets = read_frames(alloc, &[front, update, middle, back])?;
-    assert_eq!(rt; packets.sightings.len(), 3);
-    assert_eq!(rt; packets.odd.len(), 0);
+    assert_eq!(rt; packets.observations.len(), 3);
+    assert_eq!(rt; packets.warnings.len(), 0);
     Ok(())
 }
 
 #[test]
-fn missing_fragments_are_told(rt: HostRuntime) -> Result<(), Fail> {
+fn missing_fragments_are_reported(rt: HostRuntime) -> Result<(), Fail> {
     let alloc = rt.alloc();
     let front = whole(LinkType::RAW, FRONT);
     let middle = whole(LinkType::RAW, MIDDLE);

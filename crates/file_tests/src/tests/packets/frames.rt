@@ -1,12 +1,12 @@
-//! Frames of captures of FRR routers, octet for octet, and fragments of one of them, made by a
+//! Frames of captures of FRR routers, byte for byte, and fragments of one of them, made by a
 //! separate program.
 
 use capture_files::{Frame, LinkType};
 use lsa_instances::Scope;
-use ospf_packets::{Odd, Packets, read_frames};
+use ospf_packets::{FrameWarning, Packets, read_frames};
 use std::alloc::{AllocError, Global};
 
-/// Ethernet. A Link State Update packet of area 0.0.0.0 with a network-LSA, from octet 62 on.
+/// Ethernet. A Link State Update packet of area 0.0.0.0 with a network-LSA, from byte 62 on.
 pub(in crate::tests) const UPDATE: &[u8] = &[
     0x01, 0x00, 0x5e, 0x00, 0x00, 0x05, 0x8a, 0x3e, 0xde, 0x20, 0xd2, 0xea, 0x08, 0x00, 0x45, 0xc0,
     0x00, 0x50, 0xa9, 0x17, 0x00, 0x00, 0x01, 0x59, 0x25, 0x78, 0x0a, 0x00, 0x00, 0x01, 0xe0, 0x00,
@@ -16,7 +16,7 @@ pub(in crate::tests) const UPDATE: &[u8] = &[
     0x00, 0x20, 0xff, 0xff, 0xff, 0x00, 0x01, 0x01, 0x01, 0x01, 0x03, 0x03, 0x03, 0x03,
 ];
 
-/// Ethernet. An update with a router-LSA of 72 octets, from octet 62 on, and a network-LSA of 36.
+/// Ethernet. An update with a router-LSA of 72 bytes, from byte 62 on, and a network-LSA of 36.
 pub(super) const TWO_LSAS: &[u8] = &[
     0x01, 0x00, 0x5e, 0x00, 0x00, 0x05, 0x7e, 0xfc, 0x3f, 0xc8, 0x35, 0xc4, 0x08, 0x00, 0x45, 0xc0,
     0x00, 0x9c, 0xa9, 0x42, 0x00, 0x00, 0x01, 0x59, 0x25, 0x00, 0x0a, 0x00, 0x00, 0x02, 0xe0, 0x00,
@@ -31,7 +31,7 @@ pub(super) const TWO_LSAS: &[u8] = &[
     0x01, 0x01, 0x02, 0x02, 0x02, 0x02, 0x03, 0x03, 0x03, 0x03,
 ];
 
-/// Ethernet with a VLAN tag. An update with an opaque LSA of type 10, from octet 66 on.
+/// Ethernet with a VLAN tag. An update with an opaque LSA of type 10, from byte 66 on.
 pub(super) const TAGGED: &[u8] = &[
     0x01, 0x00, 0x5e, 0x00, 0x00, 0x05, 0x6e, 0xa2, 0xb7, 0xcd, 0x4f, 0x3a, 0x81, 0x00, 0x00, 0x64,
     0x08, 0x00, 0x45, 0xc0, 0x00, 0x4c, 0xa6, 0x82, 0x00, 0x00, 0x01, 0x59, 0x28, 0x05, 0x0a, 0x00,
@@ -41,7 +41,7 @@ pub(super) const TAGGED: &[u8] = &[
     0x00, 0x01, 0x31, 0xbe, 0x00, 0x1c, 0x00, 0x01, 0x00, 0x04, 0x10, 0x00, 0x00, 0x00,
 ];
 
-/// Ethernet. An update with the same LSA, from octet 62 on; behind the packet stand 16 octets of a
+/// Ethernet. An update with the same LSA, from byte 62 on; after the packet stand 16 bytes of a
 /// digest (RFC 2328, D.4.3).
 pub(super) const DIGEST: &[u8] = &[
     0x01, 0x00, 0x5e, 0x00, 0x00, 0x05, 0xae, 0x89, 0x9c, 0xe9, 0xd6, 0xd4, 0x08, 0x00, 0x45, 0xc0,
@@ -62,7 +62,7 @@ pub(super) const PASSWORD: &[u8] = &[
     0x02, 0x01, 0x00, 0x00, 0x00, 0x05, 0x00, 0x00, 0x00, 0x00, 0x00, 0x00, 0x00, 0x00,
 ];
 
-/// Linux cooked capture. An update with the LSA of `UPDATE`, from octet 64 on.
+/// Linux cooked capture. An update with the LSA of `UPDATE`, from byte 64 on.
 pub(super) const COOKED: &[u8] = &[
     0x00, 0x02, 0x00, 0x01, 0x00, 0x06, 0x3e, 0x27, 0xf8, 0x87, 0x6f, 0x7e, 0x00, 0x00, 0x08, 0x00,
     0x45, 0xc0, 0x00, 0x50, 0xa9, 0x1c, 0x00, 0x00, 0x01, 0x59, 0x25, 0x67, 0x0a, 0x00, 0x00, 0x0d,
@@ -72,7 +72,7 @@ pub(super) const COOKED: &[u8] = &[
     0x55, 0x85, 0x00, 0x20, 0xff, 0xff, 0xff, 0x00, 0x01, 0x01, 0x01, 0x01, 0x03, 0x03, 0x03, 0x03,
 ];
 
-/// Linux cooked capture, version 2. The same, from octet 68 on.
+/// Linux cooked capture, version 2. The same, from byte 68 on.
 pub(super) const COOKED_2: &[u8] = &[
     0x08, 0x00, 0x00, 0x00, 0x00, 0x00, 0x00, 0x04, 0x00, 0x01, 0x02, 0x06, 0x3e, 0x27, 0xf8, 0x87,
     0x6f, 0x7e, 0x00, 0x00, 0x45, 0xc0, 0x00, 0x50, 0xa9, 0x1c, 0x00, 0x00, 0x01, 0x59, 0x25, 0x67,
@@ -130,67 +130,67 @@ pub(in crate::tests) const BACK: &[u8] = &[
 /// When frames were seen, in nanoseconds since 1970.
 pub(super) const SEEN: Option<u64> = Some(1_795_401_986_568_756_000);
 
-/// A frame of which so many octets were on the link.
-pub(super) fn cut(link: LinkType, octets: &[u8], original: u32) -> Frame<'_> {
+/// A frame of which this number of bytes were on the link.
+pub(super) fn cut(link: LinkType, bytes: &[u8], original: u32) -> Frame<'_> {
     Frame {
         link,
         seen: SEEN,
-        octets,
+        bytes,
         original,
     }
 }
 
-/// A frame of which all octets were captured.
-pub(in crate::tests) fn whole(link: LinkType, octets: &[u8]) -> Frame<'_> {
-    cut(link, octets, octets.len().min(65_535) as u32)
+/// A frame of which all bytes were captured.
+pub(in crate::tests) fn whole(link: LinkType, bytes: &[u8]) -> Frame<'_> {
+    cut(link, bytes, bytes.len().min(65_535) as u32)
 }
 
-/// What a frame tells.
-pub(super) fn read(alloc: Global, link: LinkType, octets: &[u8]) -> Result<Packets, AllocError> {
-    read_frames(alloc, &[whole(link, octets)])
+/// What a frame contains.
+pub(super) fn read(alloc: Global, link: LinkType, bytes: &[u8]) -> Result<Packets, AllocError> {
+    read_frames(alloc, &[whole(link, bytes)])
 }
 
-/// The octets with another one at a place.
+/// The bytes with another one at a place.
 pub(super) fn with(
     alloc: Global,
-    octets: &[u8],
+    bytes: &[u8],
     place: usize,
-    octet: u8,
+    byte: u8,
 ) -> Result<Vec<u8>, AllocError> {
-    let mut changed = Vec::from_slice(alloc, octets)?;
+    let mut changed = Vec::from_slice(alloc, bytes)?;
     if let Some(found) = changed.get_mut(place) {
-        *found = octet;
+        *found = byte;
     }
     Ok(changed)
 }
 
-/// The octets with two others from a place on.
+/// The bytes with two others from a place on.
 pub(super) fn with_word(
     alloc: Global,
-    octets: &[u8],
+    bytes: &[u8],
     place: usize,
     word: u16,
 ) -> Result<Vec<u8>, AllocError> {
     let [high, low] = word.to_be_bytes();
-    let changed = with(alloc, octets, place, high)?;
+    let changed = with(alloc, bytes, place, high)?;
     with(alloc, &changed, place.saturating_add(1), low)
 }
 
-/// Whether one LSA alone is told, with these octets and this scope, and nothing is odd.
-pub(super) fn is_only(packets: &Packets, scope: Scope, octets: &[u8]) -> bool {
-    match packets.sightings.as_slice() {
+/// Whether one LSA alone is read, with these bytes and this scope, without a warning.
+pub(super) fn is_only(packets: &Packets, scope: Scope, bytes: &[u8]) -> bool {
+    match packets.observations.as_slice() {
         [one] => {
-            let same = one.lsa.bytes() == octets && one.scope == scope && one.seen == SEEN;
-            same && packets.odd.is_empty() && packets.kinds.is_empty()
+            let same = one.lsa.bytes() == bytes && one.scope == scope && one.seen == SEEN;
+            same && packets.warnings.is_empty() && packets.kinds.is_empty()
         }
         _ => false,
     }
 }
 
-/// Whether this alone is odd of the frames, and so many LSAs are told.
-pub(super) fn is_odd(packets: &Packets, odd: Odd, lsas: usize) -> bool {
-    match packets.odd.as_slice() {
-        [one] => *one == odd && packets.sightings.len() == lsas,
+/// Whether this is the only warning about the frames, and this number of LSAs are read.
+pub(super) fn is_warning(packets: &Packets, warning: FrameWarning, lsas: usize) -> bool {
+    match packets.warnings.as_slice() {
+        [one] => *one == warning && packets.observations.len() == lsas,
         _ => false,
     }
 }

@@ -12,7 +12,7 @@ use std::test::*;
 const BACKBONE: Scope = Scope::Area(AreaId::BACKBONE);
 
 #[test]
-fn an_update_tells_its_lsa_on_each_link(rt: HostRuntime) -> Result<(), Fail> {
+fn an_update_contains_its_lsa_on_each_link(rt: HostRuntime) -> Result<(), Fail> {
     let alloc = rt.alloc();
     let lsa = &UPDATE[62..94];
     let packets = read(alloc, LinkType::ETHERNET, UPDATE)?;
@@ -35,27 +35,27 @@ fn a_tag_and_a_digest_are_no_part_of_the_packet(rt: HostRuntime) -> Result<(), F
     let packets = read(alloc, LinkType::ETHERNET, TAGGED)?;
     assert!(rt; is_only(&packets, BACKBONE, lsa));
     let packets = read(alloc, LinkType::ETHERNET, DIGEST)?;
-    assert_eq!(rt; packets.sightings.len(), 1);
-    assert!(rt; packets.sightings[0].lsa.bytes() == &DIGEST[62..90]);
-    assert!(rt; packets.odd.is_empty());
+    assert_eq!(rt; packets.observations.len(), 1);
+    assert!(rt; packets.observations[0].lsa.bytes() == &DIGEST[62..90]);
+    assert!(rt; packets.warnings.is_empty());
     Ok(())
 }
 
 #[test]
-fn an_update_tells_all_of_its_lsas_in_order(rt: HostRuntime) -> Result<(), Fail> {
+fn an_update_contains_all_of_its_lsas_in_order(rt: HostRuntime) -> Result<(), Fail> {
     let packets = read(rt.alloc(), LinkType::ETHERNET, TWO_LSAS)?;
-    assert_eq!(rt; packets.sightings.len(), 2);
-    assert!(rt; packets.sightings[0].lsa.bytes() == &TWO_LSAS[62..134]);
-    assert!(rt; packets.sightings[1].lsa.bytes() == &TWO_LSAS[134..170]);
-    assert!(rt; packets.odd.is_empty());
+    assert_eq!(rt; packets.observations.len(), 2);
+    assert!(rt; packets.observations[0].lsa.bytes() == &TWO_LSAS[62..134]);
+    assert!(rt; packets.observations[1].lsa.bytes() == &TWO_LSAS[134..170]);
+    assert!(rt; packets.warnings.is_empty());
     Ok(())
 }
 
 #[test]
-fn an_acknowledgment_tells_no_lsa(rt: HostRuntime) -> Result<(), Fail> {
+fn an_acknowledgment_contains_no_lsa(rt: HostRuntime) -> Result<(), Fail> {
     let packets = read(rt.alloc(), LinkType::ETHERNET, ACKNOWLEDGMENT)?;
-    assert_eq!(rt; packets.sightings.len(), 0);
+    assert_eq!(rt; packets.observations.len(), 0);
     assert_eq!(rt; packets.kinds.len(), 0);
-    assert_eq!(rt; packets.odd.len(), 0);
+    assert_eq!(rt; packets.warnings.len(), 0);
     Ok(())
 }

@@ -10,8 +10,8 @@ pub(super) const SUMMARY: &[u8] = b"\n       OSPF Router with ID (1.1.1.1)\n\n\n
     LS Seq Number: 80000001\n  Checksum: 0x1136\n  Length: 28\n\n  Network Mask: /30\n        \
     TOS: 0  Metric: 10\n\n";
 
-/// Its octets.
-pub(super) const SUMMARY_OCTETS: &[u8] = &[
+/// Its bytes.
+pub(super) const SUMMARY_BYTES: &[u8] = &[
     0, 23, 2, 3, 10, 1, 0, 0, 1, 1, 1, 1, 0x80, 0, 0, 1, 0x11, 0x36, 0, 28, 0xff, 0xff, 0xff, 0xfc,
     0, 0, 0, 10,
 ];
@@ -31,8 +31,8 @@ pub(super) const ASBR: &[u8] =
     LS Seq Number: 80000001\n  Checksum: 0xea53\n  Length: 28\n\n  Network Mask: /0\n        \
     TOS: 0  Metric: 10\n";
 
-/// Its octets.
-pub(super) const ASBR_OCTETS: &[u8] = &[
+/// Its bytes.
+pub(super) const ASBR_BYTES: &[u8] = &[
     0, 17, 2, 4, 4, 4, 4, 4, 1, 1, 1, 1, 0x80, 0, 0, 1, 0xea, 0x53, 0, 28, 0, 0, 0, 0, 0, 0, 0, 10,
 ];
 
@@ -61,8 +61,8 @@ pub(super) const ROUTER: &[u8] = b"                Router Link States (Area 0.0.
     (Link Data) Network Mask: 255.255.255.0\n      Number of TOS metrics: 0\n       \
     TOS 0 Metric: 1\n\n\n";
 
-/// Its octets.
-pub(super) const ROUTER_OCTETS: &[u8] = &[
+/// Its bytes.
+pub(super) const ROUTER_BYTES: &[u8] = &[
     0, 25, 2, 1, 1, 1, 1, 1, 1, 1, 1, 1, 0x80, 0, 0, 8, 0x1a, 0xc9, 0, 72, 0, 0, 0, 4, 192, 168, 1,
     1, 192, 168, 1, 1, 2, 0, 0, 10, 5, 5, 5, 5, 10, 0, 0, 10, 1, 0, 0, 7, 10, 0, 0, 8, 255, 255,
     255, 252, 3, 0, 0, 7, 10, 1, 1, 0, 255, 255, 255, 0, 3, 0, 0, 1,
@@ -80,8 +80,8 @@ pub(super) const BORDER: &[u8] = b"Router Link States (Area 0.0.0.2 [Stub])\n\n 
     (Link Data) Network Mask: 255.255.255.252\n      Number of TOS metrics: 0\n       \
     TOS 0 Metric: 9\n\n\n";
 
-/// Its octets.
-pub(super) const BORDER_OCTETS: &[u8] = &[
+/// Its bytes.
+pub(super) const BORDER_BYTES: &[u8] = &[
     0, 20, 0, 1, 1, 1, 1, 1, 1, 1, 1, 1, 0x80, 0, 0, 4, 0xe7, 0xfd, 0, 48, 1, 0, 0, 2, 7, 7, 7, 7,
     10, 2, 0, 10, 1, 0, 0, 9, 10, 2, 0, 8, 255, 255, 255, 252, 3, 0, 0, 9,
 ];
@@ -93,8 +93,8 @@ pub(super) const NETWORK: &[u8] = b"                Net Link States (Area 0.0.0.
     LS Seq Number: 80000001\n  Checksum: 0xc67f\n  Length: 32\n\n  Network Mask: /24\n        \
     Attached Router: 4.4.4.4\n\n        Attached Router: 5.5.5.5\n\n\n";
 
-/// Its octets.
-pub(super) const NETWORK_OCTETS: &[u8] = &[
+/// Its bytes.
+pub(super) const NETWORK_BYTES: &[u8] = &[
     0, 17, 0x42, 2, 192, 168, 50, 4, 4, 4, 4, 4, 0x80, 0, 0, 1, 0xc6, 0x7f, 0, 32, 255, 255, 255,
     0, 4, 4, 4, 4, 5, 5, 5, 5,
 ];
@@ -115,14 +115,14 @@ pub(super) const EXTERNALS: &[u8] = b"                AS External Link States \n
     Metric Type: 1\n        TOS: 0\n        Metric: 30\n        Forward Address: 0.0.0.0\n        \
     External Route Tag: 4242\n\n";
 
-/// The octets of the first.
-pub(super) const TYPE_2_OCTETS: &[u8] = &[
+/// The bytes of the first.
+pub(super) const TYPE_2_BYTES: &[u8] = &[
     0, 24, 2, 5, 10, 94, 0, 255, 4, 4, 4, 4, 0x80, 0, 0, 1, 0x6f, 0xef, 0, 36, 255, 255, 255, 0,
     0x80, 0, 0, 9, 192, 168, 50, 77, 0, 0, 0, 9,
 ];
 
-/// The octets of the second.
-pub(super) const TYPE_1_OCTETS: &[u8] = &[
+/// The bytes of the second.
+pub(super) const TYPE_1_BYTES: &[u8] = &[
     0, 24, 2, 5, 10, 91, 0, 0, 3, 3, 3, 3, 0x80, 0, 0, 1, 0xc6, 0x5a, 0, 36, 255, 255, 0, 0, 0, 0,
     0, 30, 0, 0, 0, 0, 0, 0, 0x10, 0x92,
 ];

@@ -10,7 +10,7 @@ pub(super) const NUMERIC: &[u8] = b".1.3.6.1.2.1.14.4.1.8.0.0.0.1.2.192.168.50.4
     Hex-STRING: 00 01 02 02 C0 A8 32 04 04 04 04 04 80 00 00 01 \n\
     14 7E 00 20 FF FF FF 00 02 02 02 02 04 04 04 04 \n";
 
-/// Its octets.
+/// Its bytes.
 pub(super) const NETWORK: &[u8] = &[
     0x00, 0x01, 0x02, 0x02, 0xc0, 0xa8, 0x32, 0x04, 4, 4, 4, 4, 0x80, 0, 0, 1, 0x14, 0x7e, 0, 0x20,
     0xff, 0xff, 0xff, 0, 2, 2, 2, 2, 4, 4, 4, 4,
@@ -21,7 +21,7 @@ pub(super) const DEFAULT: &[u8] = b"iso.3.6.1.2.1.14.12.1.7.5.10.98.0.255.3.3.3.
     Hex-STRING: 00 04 02 05 0A 62 00 FF 03 03 03 03 80 00 00 01 \n\
     CB 85 00 24 FF FF FF 00 80 00 00 08 00 00 00 00 \n00 00 00 01 \n";
 
-/// Its octets.
+/// Its bytes.
 pub(super) const EXTERNAL: &[u8] = &[
     0x00, 0x04, 0x02, 0x05, 0x0a, 0x62, 0, 0xff, 3, 3, 3, 3, 0x80, 0, 0, 1, 0xcb, 0x85, 0, 0x24,
     0xff, 0xff, 0xff, 0, 0x80, 0, 0, 8, 0, 0, 0, 0, 0, 0, 0, 1,
@@ -34,7 +34,7 @@ pub(super) const EXTERNAL_KEY: Key = Key {
     adv: RouterId(0x0303_0303),
 };
 
-/// What a text tells.
-pub(super) fn told(alloc: Global, text: &[u8]) -> Result<Walk, Fail> {
+/// What a text contains.
+pub(super) fn parsed(alloc: Global, text: &[u8]) -> Result<Walk, Fail> {
     Ok(read_walk(alloc, text)?)
 }

@@ -10,13 +10,13 @@ returns-clause-good c lsa le = with_checksum-good lsa (omega arith)
 
 pub returns-clause-before : goal.returns-clause-before
 returns-clause-before c lsa le =
-    let octets : List ℕ = big_bytes 2 (checksum_made lsa) in
-    ap (take 16) (append_assoc (take 16 lsa) octets (drop 18 lsa)) ∙ take_at (take 16 lsa) (octets ++ drop 18 lsa) 16 (omega (arith, length-take 16 lsa))
+    let bytes : List ℕ = big_bytes 2 (checksum_made lsa) in
+    ap (take 16) (append_assoc (take 16 lsa) bytes (drop 18 lsa)) ∙ take_at (take 16 lsa) (bytes ++ drop 18 lsa) 16 (omega (arith, length-take 16 lsa))
 
 pub returns-clause-after : goal.returns-clause-after
 returns-clause-after c lsa le =
-    let octets : List ℕ = big_bytes 2 (checksum_made lsa) in
-    drop_at (take 16 lsa ++ octets) (drop 18 lsa) 18 (omega (arith, length-take 16 lsa, length-append (take 16 lsa) octets))
+    let bytes : List ℕ = big_bytes 2 (checksum_made lsa) in
+    drop_at (take 16 lsa ++ bytes) (drop 18 lsa) 18 (omega (arith, length-take 16 lsa, length-append (take 16 lsa) bytes))
 
 pub returns-clause-size : goal.returns-clause-size
 returns-clause-size c lsa le = length-put_at 16 (big_bytes 2 (checksum_made lsa)) lsa (omega arith)

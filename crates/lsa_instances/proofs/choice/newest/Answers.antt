@@ -6,7 +6,7 @@ use Rattle.lsa_instances.proofs.choice.newest.Goals as goal
 
 pub returns : goal.returns
 returns g c =
-    let told = c.args.sightings.items in
+    let reported = c.args.observations.items in
     let sorted = c.in_ok-sorted.field-0.items in
-    let same = same_in_order sorted told (IsPermutation-sym told sorted c.in_ok-sorted.ensures.same) in
-    IfOk-weaker c.newest_of_sorted.result _ _ (λ newest h. reordered sorted told same c.args.flushed newest.items h) c.newest_of_sorted.ensures
+    let same = same_in_order sorted reported (IsPermutation-sym reported sorted c.in_ok-sorted.ensures.same) in
+    IfOk-weaker c.newest_of_sorted.result _ _ (λ newest h. reordered sorted reported same c.args.flushed newest.items h) c.newest_of_sorted.ensures

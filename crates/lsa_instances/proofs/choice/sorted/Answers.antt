@@ -1,11 +1,11 @@
 use Rattle.std.proofs.Common.{◌≡◌, ap, rules}
 use Rattle.std.specs.Ordering.{is_lt}
 use Rattle.std.proofs.lemmas.List.Sorted.{answers_always, ranks_by}
-use Rattle.lsa_instances.specs.steps.SightingOrder.{sighting_cmp}
-use Rattle.lsa_instances.proofs.OrderLemmas.{sighting_total}
+use Rattle.lsa_instances.specs.steps.ObservationOrder.{observation_cmp}
+use Rattle.lsa_instances.proofs.OrderLemmas.{observation_total}
 use Rattle.lsa_instances.proofs.choice.sorted.Goals as goal
 
 pub returns-clause-order : goal.returns-clause-order
 returns-clause-order g c =
-    c.in_ok-sort_by.ensures.sorted (λ x y. is_lt (sighting_cmp x y)) (ranks_by sighting_total (λ x. x))
-    (answers_always _ _ _ (λ q a r k called. let e : r ≡ sighting_cmp a.0.now a.1.0.now = search rules in ap is_lt e))
+    c.in_ok-sort_by.ensures.sorted (λ x y. is_lt (observation_cmp x y)) (ranks_by observation_total (λ x. x))
+    (answers_always _ _ _ (λ q a r k called. let e : r ≡ observation_cmp a.0.now a.1.0.now = search rules in ap is_lt e))

@@ -1,7 +1,7 @@
 use Rattle.std.proofs.Common.{[], ◌∷◌, ◌++◌, ◌∙◌, ap, arith, ◌≡◌, option_map}
 use Rattle.std.proofs.lemmas.Result.{err_from_is_err_and}
-use Rattle.lsdb.specs.Places.{section_of, lists_of}
-use Rattle.lsdb.specs.steps.View.{head_of, section_places_of, places_of}
+use Rattle.lsdb.specs.Slots.{section_of, lists_of}
+use Rattle.lsdb.specs.steps.View.{head_of, section_slots_of, slots_of}
 use Rattle.lsdb.specs.steps.Reading.{at_of}
 use Rattle.lsdb.specs.Loading.{area_front_at, first_section_at}
 use Rattle.lsdb.proofs.Full.{lists_of-push}
@@ -13,14 +13,14 @@ pub returns-in_err-area-clause-areas : goal.returns-in_err-area-clause-areas
 returns-in_err-area-clause-areas g c =
     let p = err_from_is_err_and c.from_residual.result c.from_residual.ensures.1 in
     rw (p.1, p.2) (areas_end c.in_err-area.field-0.0 c.args.count c.loop.counter (option_map head_of c.loop.before)
-    (lists_of (places_of c.loop.areas.items)) (at_of c.loop.at) _ c.loop-test.true c.in_err-area.ensures.area c.loop.invariant.reading)
+    (lists_of (slots_of c.loop.areas.items)) (at_of c.loop.at) _ c.loop-test.true c.in_err-area.ensures.area c.loop.invariant.reading)
 
 pub loop-preserved : goal.loop-preserved
 loop-preserved g c =
-    let seen = lists_of (places_of c.loop.areas.items) in
-    let area = section_of (section_places_of c.in_ok-area.area) in
-    let pushed : lists_of (places_of c.push.new.self.items) ≡ seen ++ area ∷ [] =
-    ap (λ xs. lists_of (places_of xs)) c.in_ok-push.ensures.items ∙ lists_of-push c.loop.areas.items c.in_ok-area.area in
+    let seen = lists_of (slots_of c.loop.areas.items) in
+    let area = section_of (section_slots_of c.in_ok-area.area) in
+    let pushed : lists_of (slots_of c.push.new.self.items) ≡ seen ++ area ∷ [] =
+    ap (λ xs. lists_of (slots_of xs)) c.in_ok-push.ensures.items ∙ lists_of-push c.loop.areas.items c.in_ok-area.area in
     record {
       reading =
           rw pushed (areas_goes_on c.args.count c.loop.counter (option_map head_of c.loop.before) seen (at_of c.loop.at)
@@ -35,7 +35,7 @@ loop-preserved g c =
 pub returns-clause-areas : goal.returns-clause-areas
 returns-clause-areas g c =
     areas_done c.args.count c.loop.counter (option_map head_of c.loop.before)
-    (lists_of (places_of c.loop.areas.items)) (at_of c.loop.at) _ c.loop-test.false c.loop.invariant.reading
+    (lists_of (slots_of c.loop.areas.items)) (at_of c.loop.at) _ c.loop-test.false c.loop.invariant.reading
 
 pub returns-in_err-area-clause-memory : goal.returns-in_err-area-clause-memory
 returns-in_err-area-clause-memory g c =
@@ -51,4 +51,4 @@ returns-in_err-push-clause-memory g c =
     let p = err_from_is_err_and c.from_residual-in_err-push.result c.from_residual-in_err-push.ensures.1 in
     rw (p.1, p.2) (first_section c.loop.counter c.args.count (at_of c.args.start) c.loop-test.true
     (first_read area_front_at c.loop.counter (at_of c.args.start) (at_of c.loop.at) c.loop.invariant.same c.loop.invariant.first
-    (area_front (option_map head_of c.loop.before) (at_of c.loop.at) (section_of (section_places_of c.in_ok-area.area), at_of c.in_ok-area.after) c.in_ok-area.ensures.area)))
+    (area_front (option_map head_of c.loop.before) (at_of c.loop.at) (section_of (section_slots_of c.in_ok-area.area), at_of c.in_ok-area.after) c.in_ok-area.ensures.area)))

@@ -4,7 +4,7 @@ use Rattle.lsa_codec.specs.Key.{key_of}
 use Rattle.lsdb.proofs.SectionText.{apart_push}
 use Rattle.std.proofs.lemmas.Bool.{not-false, not-true}
 use Rattle.std.proofs.lemmas.Result.{err_from_is_err_and}
-use Rattle.lsdb.specs.Places.{full}
+use Rattle.lsdb.specs.Slots.{full}
 use Rattle.lsdb.specs.steps.View.{head_of}
 use Rattle.lsdb.specs.steps.Reading.{at_of}
 use Rattle.lsdb.specs.Loading.{has_key_of, first_lsa_at}
@@ -18,23 +18,23 @@ pub returns-in_err-lsa-clause-lsas : goal.returns-in_err-lsa-clause-lsas
 returns-in_err-lsa-clause-lsas g c =
     let p = err_from_is_err_and c.from_residual.result c.from_residual.ensures.1 in
     rw (p.1, p.2) (lsas_end c.in_err-lsa.field-0.0 (option_map head_of c.args.area) c.args.count c.loop.counter
-    (full c.loop.places.items) (at_of c.loop.at) _ c.loop-test.true c.in_err-lsa.ensures.lsa c.loop.invariant.reading)
+    (full c.loop.slots.items) (at_of c.loop.at) _ c.loop-test.true c.in_err-lsa.ensures.lsa c.loop.invariant.reading)
 
 pub returns-then-not-branch-clause-lsas : goal.returns-then-not-branch-clause-lsas
 returns-then-not-branch-clause-lsas g c =
-    let seen = full c.loop.places.items in
-    let told = inserted c.loop.keys seen c.in_ok-lsa.lsa c.key.result c.in_ok-insert.field-0 c.loop.invariant.keys c.key.ensures c.in_ok-insert.ensures.added in
-    let again = not-false (has_key_of seen c.in_ok-lsa.lsa) (sym told ∙ c.if-not-branch.true) in
+    let seen = full c.loop.slots.items in
+    let reported = inserted c.loop.keys seen c.in_ok-lsa.lsa c.key.result c.in_ok-insert.field-0 c.loop.invariant.keys c.key.ensures c.in_ok-insert.ensures.added in
+    let again = not-false (has_key_of seen c.in_ok-lsa.lsa) (sym reported ∙ c.if-not-branch.true) in
     rw c.fault.ensures (lsas_twice (option_map head_of c.args.area) c.args.count c.loop.counter seen (at_of c.loop.at)
     (at_of c.in_ok-lsa.after) c.in_ok-lsa.lsa _ c.loop-test.true c.in_ok-lsa.ensures.lsa again c.loop.invariant.reading)
 
 pub loop-preserved : goal.loop-preserved
 loop-preserved g c =
-    let seen = full c.loop.places.items in
-    let told = inserted c.loop.keys seen c.in_ok-lsa.lsa c.key.result c.in_ok-insert.field-0 c.loop.invariant.keys c.key.ensures c.in_ok-insert.ensures.added in
-    let new = not-true (has_key_of seen c.in_ok-lsa.lsa) (sym told ∙ c.if-not-branch.false) in
+    let seen = full c.loop.slots.items in
+    let reported = inserted c.loop.keys seen c.in_ok-lsa.lsa c.key.result c.in_ok-insert.field-0 c.loop.invariant.keys c.key.ensures c.in_ok-insert.ensures.added in
+    let new = not-true (has_key_of seen c.in_ok-lsa.lsa) (sym reported ∙ c.if-not-branch.false) in
     let pushed : full c.push.new.self.items ≡ seen ++ c.in_ok-lsa.lsa ∷ [] =
-    ap full c.in_ok-push.ensures.items ∙ full-push c.loop.places.items c.in_ok-lsa.lsa in
+    ap full c.in_ok-push.ensures.items ∙ full-push c.loop.slots.items c.in_ok-lsa.lsa in
     record {
       reading =
           rw pushed (lsas_goes_on (option_map head_of c.args.area) c.args.count c.loop.counter seen (at_of c.loop.at)
@@ -48,12 +48,12 @@ loop-preserved g c =
           λ lt.
           first_read (first_lsa_at 1) c.loop.counter (at_of c.args.start) (at_of c.loop.at) c.loop.invariant.same c.loop.invariant.first
           (lsa_front (option_map head_of c.args.area) (at_of c.loop.at) (c.in_ok-lsa.lsa, at_of c.in_ok-lsa.after) c.in_ok-lsa.ensures.lsa);
-      few = omega (arith, ap length c.in_ok-push.ensures.items, length-append c.loop.places.items (Some c.in_ok-lsa.lsa ∷ []), c.loop.invariant.few);
+      few = omega (arith, ap length c.in_ok-push.ensures.items, length-append c.loop.slots.items (Some c.in_ok-lsa.lsa ∷ []), c.loop.invariant.few);
     }
 
 pub returns-clause-lsas : goal.returns-clause-lsas
 returns-clause-lsas g c =
-    lsas_done (option_map head_of c.args.area) c.args.count c.loop.counter (full c.loop.places.items)
+    lsas_done (option_map head_of c.args.area) c.args.count c.loop.counter (full c.loop.slots.items)
     (at_of c.loop.at) _ c.loop-test.false c.loop.invariant.reading
 
 pub returns-in_err-lsa-clause-memory : goal.returns-in_err-lsa-clause-memory

@@ -1,5 +1,5 @@
 use Rattle.std.proofs.Common.{◌≡◌, ◌<◌, ◌≤◌, ◌-◌, [], length, IsOk, option_map}
-use Rattle.lsdb.specs.Places.{full}
+use Rattle.lsdb.specs.Slots.{full}
 use Rattle.lsdb.specs.steps.NotedKeys.{AreApart}
 use Rattle.lsdb.specs.steps.View.{head_of}
 use Rattle.lsdb.specs.steps.Reading.{at_of}
@@ -9,11 +9,11 @@ use Rattle.lsdb.proofs.load.read_lsas.Given as goal
 
 abbrev pub invariant-loop : goal.invariant-loop
 invariant-loop g l = record {
-  reading : lsas_from (option_map head_of l.area) (l.count - l.counter) (full l.places.items)
+  reading : lsas_from (option_map head_of l.area) (l.count - l.counter) (full l.slots.items)
       (at_of l.at) ≡ lsas_from (option_map head_of l.area) l.count [] (at_of l.start);
-  keys : HasKeys l.keys (full l.places.items);
-  apart : AreApart l.places.items;
-  few : length l.places.items ≤ l.counter;
+  keys : HasKeys l.keys (full l.slots.items);
+  apart : AreApart l.slots.items;
+  few : length l.slots.items ≤ l.counter;
   same : l.counter ≡ 0 → at_of l.at ≡ at_of l.start;
   first : 0 < l.counter → IsOk (first_lsa_at 1 (at_of l.start));
 }

@@ -1,6 +1,6 @@
 use Rattle.std.proofs.Common.{◌≡◌, drop}
-use Rattle.lsdb.specs.Places.{full}
+use Rattle.lsdb.specs.Slots.{full}
 use Rattle.lsdb.proofs.lsas.first_full.Given as goal
 
 abbrev pub invariant-loop-index : goal.invariant-loop-index
-invariant-loop-index g l = full (drop l.index l.places) ≡ full l.places
+invariant-loop-index g l = full (drop l.index l.slots) ≡ full l.slots

@@ -7,10 +7,10 @@ pub returns-in_err-database-clause-fault : goal.returns-in_err-database-clause-f
 returns-in_err-database-clause-fault g c =
     let areas = c.deref.ensures.value ∙ c.in_ok-areas.ensures in
     let gave = err_from_is_err_and c.from_residual-in_err-database.result c.from_residual-in_err-database.ensures.1 in
-    rw (gave.1, gave.2) (is_fault c.args.flushed c.args.files.now _ _ c.in_ok-sightings.ensures areas _ c.in_err-database.ensures.fault)
+    rw (gave.1, gave.2) (is_fault c.args.flushed c.args.files.now _ _ c.in_ok-observations.ensures areas _ c.in_err-database.ensures.fault)
 
 pub returns-clause-dump : goal.returns-clause-dump
 returns-clause-dump g c =
     let areas = c.deref.ensures.value ∙ c.in_ok-areas.ensures in
     let made = c.in_ok-database.ensures in
-    is_dump c.args.flushed c.args.files.now _ _ c.in_ok-sightings.ensures areas _ _ made.database c.in_ok-dump.ensures made.joined
+    is_dump c.args.flushed c.args.files.now _ _ c.in_ok-observations.ensures areas _ _ made.database c.in_ok-dump.ensures made.joined

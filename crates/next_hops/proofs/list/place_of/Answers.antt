@@ -1,14 +1,14 @@
 use Rattle.std.proofs.Common.{◌≡◌, ◌∙◌, sym}
 use Rattle.std.specs.declared.cmp.Ordering.TheVariants.{Less, Equal}
 use Rattle.next_hops.specs.Hop.{hop_cmp}
-use Rattle.next_hops.proofs.Inserted.{searched_by, put_behind, put_at_last}
+use Rattle.next_hops.proofs.Inserted.{searched_by, put_after, put_at_last}
 use Rattle.next_hops.proofs.list.place_of.Goals as goal
 
 pub returns-in-Less-clause-place : goal.returns-in-Less-clause-place
 returns-in-Less-clause-place c =
     let last = c.in-Some.last.now in
     let before : hop_cmp last c.args.hop.now ≡ Less = sym (c.cmp.ensures ∙ c.hop_order.ensures.order last c.args.hop.now) ∙ c.in-Less.is in
-    put_behind c.args.hops.now c.args.hop.now last c.requires (sym c.in-Some.ensures.value) before
+    put_after c.args.hops.now c.args.hop.now last c.requires (sym c.in-Some.ensures.value) before
 
 pub returns-in-Equal-clause-place : goal.returns-in-Equal-clause-place
 returns-in-Equal-clause-place c =

@@ -6,8 +6,8 @@ use std::alloc::{AllocError, Global};
 use std::test::Fail;
 use streams::{ReadFault, Watched, read_more, read_whole};
 
-/// A text, read up to a limit from a reader that gives so many octets at once and fails at a place,
-/// and whether the reader is known to have failed.
+/// A text, read up to a limit from a reader that gives this number of bytes at once and fails at a
+/// place, and whether the reader is known to have failed.
 fn read(
     alloc: Global,
     text: &[u8],
@@ -41,7 +41,7 @@ fn fault_of(
     (read.err(), failed)
 }
 
-/// So many octets 0.
+/// This number of bytes 0.
 fn zeros(alloc: Global, count: usize) -> Result<Vec<u8>, AllocError> {
     vec![in alloc; 0u8; count]
 }
@@ -109,21 +109,21 @@ fn reads_one_byte_past_the_limit_of_an_endless_reader(rt: HostRuntime) -> Result
     Ok(())
 }
 
-/// How many octets of a text of ten more than a limit are there when it is read up to the limit,
+/// How many bytes of a text of ten more than a limit are there when it is read up to the limit,
 /// where they are then too many, and again up to the last but one, and up to the last it is whole.
 fn read_on(alloc: Global, text: &[u8], step: usize, limit: u16) -> Option<usize> {
     let limit = usize::from(limit);
     let mut reader = Watched::new(Source::new(text, step, None));
-    let mut octets = Vec::new(alloc);
-    let Err(ReadFault::TooLarge) = read_more(&mut reader, &mut octets, limit) else {
+    let mut bytes = Vec::new(alloc);
+    let Err(ReadFault::TooLarge) = read_more(&mut reader, &mut bytes, limit) else {
         return None;
     };
-    let read = octets.len();
-    let Err(ReadFault::TooLarge) = read_more(&mut reader, &mut octets, limit + 9) else {
+    let read = bytes.len();
+    let Err(ReadFault::TooLarge) = read_more(&mut reader, &mut bytes, limit + 9) else {
         return None;
     };
-    read_more(&mut reader, &mut octets, limit + 10).ok()?;
-    (octets.as_slice() == text).then_some(read)
+    read_more(&mut reader, &mut bytes, limit + 10).ok()?;
+    (bytes.as_slice() == text).then_some(read)
 }
 
 #[test]

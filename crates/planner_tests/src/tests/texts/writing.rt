@@ -6,7 +6,7 @@ use std::alloc::Global;
 use std::test::Fail;
 use streams::{Watched, WriteFault, write_whole};
 
-/// A writer that takes so many octets at once and fails at a place.
+/// A writer that takes this number of bytes at once and fails at a place.
 #[derive(Clone, Copy)]
 struct Taking {
     step: usize,
@@ -14,7 +14,7 @@ struct Taking {
     failing: Failing,
 }
 
-/// What comes of a text and of an empty one behind it, whether the writer is known to have failed,
+/// What comes of a text and of an empty one after it, whether the writer is known to have failed,
 /// and what it has taken.
 fn written(alloc: Global, taking: Taking) -> (Result<(), WriteFault>, bool, Vec<u8>) {
     let Taking { step, end, failing } = taking;

@@ -1,12 +1,12 @@
 use Rattle.std.proofs.Common.{◌<◌, arith, length}
 use Rattle.lsdb.specs.Lists.{areas_of}
-use Rattle.lsdb.specs.Places.{lists_of}
+use Rattle.lsdb.specs.Slots.{lists_of}
 use Rattle.recalculate.proofs.Totals.{areas_few, counts_more, section_there}
 use Rattle.recalculate.proofs.counts.area_counts.Goals as goal
 
 pub counts_in-counts-requires : goal.counts_in-counts-requires
 counts_in-counts-requires g c =
-    section_there c.args.database.now c.loop-section.section c.known.ensures (omega (arith, c.area_count-section-end.ensures, c.loop-section-test.true))
+    section_there c.args.database.now c.loop-section.section c.assert_valid.ensures (omega (arith, c.area_count-section-end.ensures, c.loop-section-test.true))
 
 pub overflow_add-lsas : goal.overflow_add-lsas
 overflow_add-lsas g c =
@@ -14,7 +14,7 @@ overflow_add-lsas g c =
       arith,
       c.loop-section.invariant.few.lsas,
       c.counts_in-counts.ensures.few.lsas,
-      areas_few (lists_of c.args.database.now) c.known.ensures,
+      areas_few (lists_of c.args.database.now) c.assert_valid.ensures,
       c.area_count-section-end.ensures,
       c.loop-section-test.true,
     )
@@ -25,7 +25,7 @@ overflow_add-virtual_ends g c =
       arith,
       c.loop-section.invariant.few.virtual_ends,
       c.counts_in-counts.ensures.few.virtual_ends,
-      areas_few (lists_of c.args.database.now) c.known.ensures,
+      areas_few (lists_of c.args.database.now) c.assert_valid.ensures,
       c.area_count-section-end.ensures,
       c.loop-section-test.true,
     )
@@ -36,7 +36,7 @@ overflow_add-virtual_links g c =
       arith,
       c.loop-section.invariant.few.virtual_links,
       c.counts_in-counts.ensures.few.virtual_links,
-      areas_few (lists_of c.args.database.now) c.known.ensures,
+      areas_few (lists_of c.args.database.now) c.assert_valid.ensures,
       c.area_count-section-end.ensures,
       c.loop-section-test.true,
     )
@@ -47,7 +47,7 @@ loop-section-preserved g c =
     omega (arith, c.area_count-section-end.ensures, c.loop-section-test.true) in
     record {
       counts =
-          counts_more c.args.database.now c.loop-section.section c.known.ensures lt c.loop-section.lsas c.loop-section.virtual_ends c.loop-section.virtual_links
+          counts_more c.args.database.now c.loop-section.section c.assert_valid.ensures lt c.loop-section.lsas c.loop-section.virtual_ends c.loop-section.virtual_links
           c.counts_in-counts.result c.loop-section.invariant.counts c.counts_in-counts.ensures.counts;
       few = record {
         lsas = omega (arith, c.loop-section.invariant.few.lsas, c.counts_in-counts.ensures.few.lsas);

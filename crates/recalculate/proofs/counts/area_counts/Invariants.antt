@@ -1,7 +1,7 @@
 use Rattle.std.proofs.Common.{◌≡◌, ◌*◌, take}
 use Rattle.lsdb.specs.Counts.{AreFew, counts_of}
 use Rattle.lsdb.specs.Lists.{areas_of}
-use Rattle.lsdb.specs.Places.{lists_of}
+use Rattle.lsdb.specs.Slots.{lists_of}
 use Rattle.routing_table.proofs.AreaLsaLemmas.{lsas_among}
 use Rattle.recalculate.proofs.counts.area_counts.Given as goal
 

@@ -5,7 +5,7 @@ use Rattle.std.proofs.lemmas.Iterator.Consumers.{YieldsList-from_rest}
 use Rattle.std.proofs.lemmas.List.Elements.{filter_map-append}
 use Rattle.std.proofs.lemmas.Result.{IfOk-weaker}
 use Rattle.lsdb.specs.Lists.{AreaHead, areas_of}
-use Rattle.lsdb.specs.Places.{lists_of}
+use Rattle.lsdb.specs.Slots.{lists_of}
 use Rattle.area_graph.specs.Rising.{rising}
 use Rattle.lsa_codec.specs.Order.{router_cmp}
 use Rattle.routing_table.specs.AreaLsas.{lsas_in}

@@ -1,6 +1,6 @@
 use Rattle.lsdb.specs.declared.section.Section.TheVariants.{Area}
 use Rattle.lsdb.specs.Lists.{lsas_of}
-use Rattle.lsdb.specs.Places.{lists_of}
+use Rattle.lsdb.specs.Slots.{lists_of}
 use Rattle.area_graph.specs.declared.vertex.Vertex.TheVariants.{Router}
 use Rattle.area_routes.specs.AreaResults.{area_result}
 use Rattle.routing_table.proofs.Counted.{one_counted}

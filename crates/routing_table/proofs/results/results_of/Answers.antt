@@ -1,6 +1,6 @@
 use Rattle.std.proofs.Common.{◌∙◌, sym, ap, arith, length}
 use Rattle.lsdb.specs.Lists.{AreaHead}
-use Rattle.lsdb.specs.Places.{lists_of}
+use Rattle.lsdb.specs.Slots.{lists_of}
 use Rattle.routing_table.specs.Counting.{counted_by}
 use Rattle.routing_table.proofs.Counted.{more_results, same_results, more_counted, all_results, none_counted, room_for_more, at_most_more, at_most_all}
 use Rattle.routing_table.proofs.Tabled.{attached_somewhere, on_err}

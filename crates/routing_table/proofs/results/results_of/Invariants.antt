@@ -1,6 +1,6 @@
 use Rattle.std.proofs.Common.{◌≡◌, length, take}
 use Rattle.lsdb.specs.Lists.{areas_of}
-use Rattle.lsdb.specs.Places.{lists_of}
+use Rattle.lsdb.specs.Slots.{lists_of}
 use Rattle.routing_table.specs.Tables.{results_in}
 use Rattle.routing_table.specs.Counting.{counted_by}
 use Rattle.routing_table.proofs.Counted.{attached_among}

@@ -1,5 +1,5 @@
 use Rattle.std.proofs.Common.{◌≡◌, IfOk, List, ◌∙◌, ap, subst}
-use Rattle.lsdb.specs.Places.{lists_of}
+use Rattle.lsdb.specs.Slots.{lists_of}
 use Rattle.area_routes.specs.Intra.{intra_of}
 use Rattle.area_routes.specs.Values.{AreaResultValue, InterValue, RouteValue}
 use Rattle.routing_table.specs.Preferring.{preferring}

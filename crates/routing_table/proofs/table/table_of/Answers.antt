@@ -1,5 +1,5 @@
 use Rattle.std.proofs.lemmas.Result.{err_from_is_err_and}
-use Rattle.lsdb.specs.Places.{lists_of}
+use Rattle.lsdb.specs.Slots.{lists_of}
 use Rattle.routing_table.proofs.Tabled.{no_memory}
 use Rattle.routing_table.proofs.table.table_of.Goals as goal
 

@@ -1,8 +1,8 @@
 //! Calls that answer something new: each of their growths refused in turn.
 
 use super::layers;
-use rationed::Rationed;
-use refused_growths::{Growing, Seen, growths_of};
+use failing_alloc::FailingAlloc;
+use refused_growths::{FallibleCall, Outcome, growths_of};
 use std::alloc::Global;
 use std::test::*;
 
@@ -16,14 +16,19 @@ enum Call {
 
 const CALLS: &[Call] = &[Call::Graph, Call::Tree, Call::Hops];
 
-impl Growing for Call {
-    fn seen(&self, alloc: Global, rationed: &Rationed, growths: u64) -> Result<Seen, Fail> {
+impl FallibleCall for Call {
+    fn outcome(
+        &self,
+        alloc: Global,
+        failing: &FailingAlloc,
+        growths: u64,
+    ) -> Result<Outcome, Fail> {
         let (first, then) = match self {
-            Call::Graph => layers::graph(alloc, rationed, growths)?,
-            Call::Tree => layers::tree(alloc, rationed, growths)?,
-            Call::Hops => layers::hops(alloc, rationed, growths)?,
+            Call::Graph => layers::graph(alloc, failing, growths)?,
+            Call::Tree => layers::tree(alloc, failing, growths)?,
+            Call::Hops => layers::hops(alloc, failing, growths)?,
         };
-        Ok(Seen::of_answers(alloc, first, then))
+        Ok(Outcome::of_answers(alloc, first, then))
     }
 }
 

@@ -1,5 +1,5 @@
 //! Graphs, trees and hops with few growths. Each function lends a call what it wants with ample
-//! memory, and calls it twice: with so many growths, and then with ample memory again.
+//! memory, and calls it twice: with this number of growths, and then with ample memory again.
 
 ghost use Rattle.area_graph.specs.declared.vertex.Vertex.{Vertex};
 ghost use Rattle.spf.specs.Distances.{IsTreeOf};
@@ -8,20 +8,23 @@ use super::network::database_of;
 use super::texts::{graph_text, hops_text, tree_text};
 use crate::tests::built::graph_of;
 use area_graph::{Graph, GraphFault};
+use failing_alloc::FailingAlloc;
 use lsa_codec::{AreaId, RouterId};
 use next_hops::Hops;
-use rationed::Rationed;
 use refused_growths::{Answer, NETWORK};
 use samples::R1;
 use spf::{Meter, SpfFault, Tree};
 use std::alloc::Global;
 use std::test::*;
 
-/// What a call answers with so many growths, and what the same call answers then.
+/// What a call answers with this number of growths, and what the same call answers then.
 type Answers = (Answer, Answer);
 
 /// The text of a graph that was built.
-fn of_graph(alloc: Global, graph: Result<Graph<&Rationed>, GraphFault>) -> Result<Answer, Fail> {
+fn of_graph(
+    alloc: Global,
+    graph: Result<Graph<&FailingAlloc>, GraphFault>,
+) -> Result<Answer, Fail> {
     match graph {
         Ok(graph) => Ok(Some(graph_text(alloc, &graph)?.into_bytes())),
         Err(GraphFault::OutOfMemory) => Ok(None),
@@ -29,17 +32,17 @@ fn of_graph(alloc: Global, graph: Result<Graph<&Rationed>, GraphFault>) -> Resul
     }
 }
 
-pub(super) fn graph(alloc: Global, rationed: &Rationed, growths: u64) -> Result<Answers, Fail> {
-    let database = database_of(rationed)?;
-    rationed.leave(growths);
-    let first = of_graph(alloc, Graph::build(rationed, &database, AreaId(0)))?;
-    rationed.leave(u64::MAX);
-    let then = of_graph(alloc, Graph::build(rationed, &database, AreaId(0)))?;
+pub(super) fn graph(alloc: Global, failing: &FailingAlloc, growths: u64) -> Result<Answers, Fail> {
+    let database = database_of(failing)?;
+    failing.set_remaining(growths);
+    let first = of_graph(alloc, Graph::build(failing, &database, AreaId(0)))?;
+    failing.set_remaining(u64::MAX);
+    let then = of_graph(alloc, Graph::build(failing, &database, AreaId(0)))?;
     Ok((first, then))
 }
 
 /// The text of a tree that was built.
-fn of_tree(alloc: Global, tree: Result<Tree<&Rationed>, SpfFault>) -> Result<Answer, Fail> {
+fn of_tree(alloc: Global, tree: Result<Tree<&FailingAlloc>, SpfFault>) -> Result<Answer, Fail> {
     match tree {
         Ok(tree) => Ok(Some(tree_text(alloc, &tree)?.into_bytes())),
         Err(SpfFault::OutOfMemory) => Ok(None),
@@ -47,60 +50,60 @@ fn of_tree(alloc: Global, tree: Result<Tree<&Rationed>, SpfFault>) -> Result<Ans
     }
 }
 
-pub(super) fn tree(alloc: Global, rationed: &Rationed, growths: u64) -> Result<Answers, Fail> {
-    let graph = graph_of(rationed, NETWORK)?;
+pub(super) fn tree(alloc: Global, failing: &FailingAlloc, growths: u64) -> Result<Answers, Fail> {
+    let graph = graph_of(failing, NETWORK)?;
     let mut meter = Meter::new();
-    rationed.leave(growths);
+    failing.set_remaining(growths);
     let first = of_tree(
         alloc,
-        Tree::build(rationed, &graph, RouterId(R1), &mut meter),
+        Tree::build(failing, &graph, RouterId(R1), &mut meter),
     )?;
-    rationed.leave(u64::MAX);
+    failing.set_remaining(u64::MAX);
     let then = of_tree(
         alloc,
-        Tree::build(rationed, &graph, RouterId(R1), &mut meter),
+        Tree::build(failing, &graph, RouterId(R1), &mut meter),
     )?;
     Ok((first, then))
 }
 
-/// The text of the hops of a tree. So many growths are left when they are read.
+/// The text of the hops of a tree. This number of growths are left when they are read.
 pub(super) fn of_hops<'a>(
     alloc: Global,
-    rationed: &'a Rationed,
-    graph: &Graph<&'a Rationed>,
-    tree: &Tree<&'a Rationed>,
+    failing: &'a FailingAlloc,
+    graph: &Graph<&'a FailingAlloc>,
+    tree: &Tree<&'a FailingAlloc>,
     reading: u64,
 ) -> Result<Option<String>, Fail>
     requires { (root : Vertex) × IsTreeOf graph.now root tree.now }
 {
-    let Ok(hops) = Hops::build(rationed, graph, tree) else {
+    let Ok(hops) = Hops::build(failing, graph, tree) else {
         return Ok(None);
     };
-    rationed.leave(reading);
+    failing.set_remaining(reading);
     Ok(Some(hops_text(alloc, graph, &hops)?))
 }
 
-/// The octets of a text.
-fn octets_of(text: Option<String>) -> Answer {
+/// The bytes of a text.
+fn bytes_of(text: Option<String>) -> Answer {
     Some(text?.into_bytes())
 }
 
 /// The hops of the tree of a graph.
 fn hops_on<'a>(
     alloc: Global,
-    rationed: &'a Rationed,
-    graph: &Graph<&'a Rationed>,
+    failing: &'a FailingAlloc,
+    graph: &Graph<&'a FailingAlloc>,
     growths: u64,
 ) -> Result<Answers, Fail> {
-    let tree = Tree::build(rationed, graph, RouterId(R1), &mut Meter::new())?;
-    rationed.leave(growths);
-    let first = of_hops(alloc, rationed, graph, &tree, u64::MAX)?;
-    rationed.leave(u64::MAX);
-    let then = of_hops(alloc, rationed, graph, &tree, u64::MAX)?;
-    Ok((octets_of(first), octets_of(then)))
+    let tree = Tree::build(failing, graph, RouterId(R1), &mut Meter::new())?;
+    failing.set_remaining(growths);
+    let first = of_hops(alloc, failing, graph, &tree, u64::MAX)?;
+    failing.set_remaining(u64::MAX);
+    let then = of_hops(alloc, failing, graph, &tree, u64::MAX)?;
+    Ok((bytes_of(first), bytes_of(then)))
 }
 
-pub(super) fn hops(alloc: Global, rationed: &Rationed, growths: u64) -> Result<Answers, Fail> {
-    let graph = graph_of(rationed, NETWORK)?;
-    hops_on(alloc, rationed, &graph, growths)
+pub(super) fn hops(alloc: Global, failing: &FailingAlloc, growths: u64) -> Result<Answers, Fail> {
+    let graph = graph_of(failing, NETWORK)?;
+    hops_on(alloc, failing, &graph, growths)
 }

@@ -1,4 +1,4 @@
-//! Calls that take no memory and answer nothing that could tell of want of it.
+//! Calls that take no memory and answer nothing that could report want of it.
 
 ghost use Rattle.std.specs.Prelude.{◌≤◌};
 
@@ -7,9 +7,9 @@ use super::network::database_of;
 use super::texts::{graph_text, tree_text};
 use crate::tests::built::graph_of;
 use area_graph::{Graph, Vertex};
+use failing_alloc::FailingAlloc;
 use lsa_codec::{Addr, AreaId, Lsa, Prefix, RouterId, is_mask, len_of_mask, mask_of_len};
 use lsdb::{Database, Section};
-use rationed::Rationed;
 use refused_growths::NETWORK;
 use samples::{R1, R2};
 use spf::{Meter, Tree};
@@ -47,7 +47,7 @@ const SECTIONS: &[Section] = &[
 /// Adds a section: its number, how many LSAs it has, and whether each is found by its key.
 fn push_section(
     text: &mut String,
-    database: &Database<&Rationed>,
+    database: &Database<&FailingAlloc>,
     section: Section,
 ) -> Result<(), Fail> {
     let (index, count) = (database.index_of(section), database.count(section));
@@ -64,7 +64,7 @@ fn push_section(
 /// Adds the LSAs of a section by their numbers in it.
 fn push_numbered(
     text: &mut String,
-    database: &Database<&Rationed>,
+    database: &Database<&FailingAlloc>,
     section: Section,
 ) -> Result<(), Fail> {
     for index in 0..database.count(section) {
@@ -75,7 +75,7 @@ fn push_numbered(
 }
 
 /// What a database has, by its readers.
-fn database_text(alloc: Global, database: &Database<&Rationed>) -> Result<String, Fail> {
+fn database_text(alloc: Global, database: &Database<&FailingAlloc>) -> Result<String, Fail> {
     let size = database.size();
     let mut text = format!(in alloc; "{size}")?;
     for index in 0..database.area_count() {
@@ -90,7 +90,7 @@ fn database_text(alloc: Global, database: &Database<&Rationed>) -> Result<String
 }
 
 /// Adds what the view of a router-LSA shows.
-fn push_router(text: &mut String, lsa: &Lsa<&Rationed>) -> Result<(), Fail> {
+fn push_router(text: &mut String, lsa: &Lsa<&FailingAlloc>) -> Result<(), Fail> {
     let Some(view) = lsa.router() else {
         return Ok(());
     };
@@ -103,7 +103,7 @@ fn push_router(text: &mut String, lsa: &Lsa<&Rationed>) -> Result<(), Fail> {
 }
 
 /// Adds what the view of a network-LSA shows.
-fn push_network(text: &mut String, lsa: &Lsa<&Rationed>) -> Result<(), Fail> {
+fn push_network(text: &mut String, lsa: &Lsa<&FailingAlloc>) -> Result<(), Fail> {
     let Some(view) = lsa.network() else {
         return Ok(());
     };
@@ -116,7 +116,7 @@ fn push_network(text: &mut String, lsa: &Lsa<&Rationed>) -> Result<(), Fail> {
 }
 
 /// Adds what the views of other LSAs show.
-fn push_others(text: &mut String, lsa: &Lsa<&Rationed>) -> Result<(), Fail> {
+fn push_others(text: &mut String, lsa: &Lsa<&FailingAlloc>) -> Result<(), Fail> {
     if let Some(view) = lsa.summary() {
         let (net, metric) = (view.net(), view.metric());
         write!(text, " {net:?} {metric}")?;
@@ -130,7 +130,7 @@ fn push_others(text: &mut String, lsa: &Lsa<&Rationed>) -> Result<(), Fail> {
 }
 
 /// What LSAs show, by their readers.
-fn lsas_text(alloc: Global, database: &Database<&Rationed>) -> Result<String, Fail> {
+fn lsas_text(alloc: Global, database: &Database<&FailingAlloc>) -> Result<String, Fail> {
     let mut text = String::new(alloc);
     for section in SECTIONS {
         for lsa in database.lsas(*section) {
@@ -141,7 +141,7 @@ fn lsas_text(alloc: Global, database: &Database<&Rationed>) -> Result<String, Fa
 }
 
 /// Adds what an LSA shows.
-fn push_lsa(text: &mut String, lsa: &Lsa<&Rationed>) -> Result<(), Fail> {
+fn push_lsa(text: &mut String, lsa: &Lsa<&FailingAlloc>) -> Result<(), Fail> {
     let (key, old) = (lsa.key(), lsa.at_max_age());
     write!(text, " {key:?} {old}")?;
     push_router(text, lsa)?;
@@ -149,15 +149,15 @@ fn push_lsa(text: &mut String, lsa: &Lsa<&Rationed>) -> Result<(), Fail> {
     push_others(text, lsa)
 }
 
-/// The database and its LSAs are read while so many growths are left.
+/// The database and its LSAs are read while this number of growths are left.
 fn read_database(
     alloc: Global,
-    rationed: &Rationed,
+    failing: &FailingAlloc,
     call: Call,
     growths: u64,
 ) -> Result<String, Fail> {
-    let database = database_of(rationed)?;
-    rationed.leave(growths);
+    let database = database_of(failing)?;
+    failing.set_remaining(growths);
     match call {
         Call::Lsas => lsas_text(alloc, &database),
         _ => database_text(alloc, &database),
@@ -165,7 +165,7 @@ fn read_database(
 }
 
 /// Adds which vertices of a graph are networks.
-fn push_networks(text: &mut String, graph: &Graph<&Rationed>) -> Result<(), Fail> {
+fn push_networks(text: &mut String, graph: &Graph<&FailingAlloc>) -> Result<(), Fail> {
     for index in 0..graph.len() {
         let is_network = graph.is_network(index);
         write!(text, " {is_network}")?;
@@ -174,14 +174,14 @@ fn push_networks(text: &mut String, graph: &Graph<&Rationed>) -> Result<(), Fail
 }
 
 /// Adds the number of a router in a graph, if it has one.
-fn push_number(text: &mut String, graph: &Graph<&Rationed>, router: u32) -> Result<(), Fail> {
+fn push_number(text: &mut String, graph: &Graph<&FailingAlloc>, router: u32) -> Result<(), Fail> {
     let number = graph.index_of(Vertex::Router(RouterId(router)));
     write!(text, " {number:?}")?;
     Ok(())
 }
 
 /// What a graph has, which vertices are networks, and the numbers of two routers.
-fn numbered_text(alloc: Global, graph: &Graph<&Rationed>) -> Result<String, Fail> {
+fn numbered_text(alloc: Global, graph: &Graph<&FailingAlloc>) -> Result<String, Fail> {
     let mut text = graph_text(alloc, graph)?;
     push_networks(&mut text, graph)?;
     push_number(&mut text, graph, R2)?;
@@ -189,43 +189,43 @@ fn numbered_text(alloc: Global, graph: &Graph<&Rationed>) -> Result<String, Fail
     Ok(text)
 }
 
-/// The tree of a graph is read while so many growths are left.
+/// The tree of a graph is read while this number of growths are left.
 fn read_tree<'a>(
     alloc: Global,
-    rationed: &'a Rationed,
-    graph: &Graph<&'a Rationed>,
+    failing: &'a FailingAlloc,
+    graph: &Graph<&'a FailingAlloc>,
     growths: u64,
 ) -> Result<String, Fail> {
-    let tree = Tree::build(rationed, graph, RouterId(R1), &mut Meter::new())?;
-    rationed.leave(growths);
+    let tree = Tree::build(failing, graph, RouterId(R1), &mut Meter::new())?;
+    failing.set_remaining(growths);
     tree_text(alloc, &tree)
 }
 
-/// The hops of that tree are read while so many growths are left.
+/// The hops of that tree are read while this number of growths are left.
 fn read_hops<'a>(
     alloc: Global,
-    rationed: &'a Rationed,
-    graph: &Graph<&'a Rationed>,
+    failing: &'a FailingAlloc,
+    graph: &Graph<&'a FailingAlloc>,
     growths: u64,
 ) -> Result<String, Fail> {
-    let tree = Tree::build(rationed, graph, RouterId(R1), &mut Meter::new())?;
-    let text = of_hops(alloc, rationed, graph, &tree, growths)?;
+    let tree = Tree::build(failing, graph, RouterId(R1), &mut Meter::new())?;
+    let text = of_hops(alloc, failing, graph, &tree, growths)?;
     Ok(text.ok_or("hops")?)
 }
 
-/// A graph is read, or what is made of it, while so many growths are left.
+/// A graph is read, or what is made of it, while this number of growths are left.
 fn read_on_graph<'a>(
     alloc: Global,
-    rationed: &'a Rationed,
-    graph: &Graph<&'a Rationed>,
+    failing: &'a FailingAlloc,
+    graph: &Graph<&'a FailingAlloc>,
     call: Call,
     growths: u64,
 ) -> Result<String, Fail> {
     match call {
-        Call::Tree => read_tree(alloc, rationed, graph, growths),
-        Call::Hops => read_hops(alloc, rationed, graph, growths),
+        Call::Tree => read_tree(alloc, failing, graph, growths),
+        Call::Hops => read_hops(alloc, failing, graph, growths),
         _ => {
-            rationed.leave(growths);
+            failing.set_remaining(growths);
             numbered_text(alloc, graph)
         }
     }
@@ -234,15 +234,15 @@ fn read_on_graph<'a>(
 /// The same of the graph of the network.
 fn read_graph(
     alloc: Global,
-    rationed: &Rationed,
+    failing: &FailingAlloc,
     call: Call,
     growths: u64,
 ) -> Result<String, Fail> {
-    let graph = graph_of(rationed, NETWORK)?;
-    read_on_graph(alloc, rationed, &graph, call, growths)
+    let graph = graph_of(failing, NETWORK)?;
+    read_on_graph(alloc, failing, &graph, call, growths)
 }
 
-/// What is told of a length, and of numbers by its mask.
+/// What is answered for a length, and for numbers under its mask.
 fn push_mask(text: &mut String, len: u8) -> Result<(), Fail>
     requires { len ≤ 32 }
 {
@@ -254,10 +254,10 @@ fn push_mask(text: &mut String, len: u8) -> Result<(), Fail>
     Ok(())
 }
 
-/// What is told of masks and prefixes while so many growths are left. These calls get no
-/// allocator.
-fn read_masks(alloc: Global, rationed: &Rationed, growths: u64) -> Result<String, Fail> {
-    rationed.leave(growths);
+/// What is answered for masks and prefixes while this number of growths are left. These calls get
+/// no allocator.
+fn read_masks(alloc: Global, failing: &FailingAlloc, growths: u64) -> Result<String, Fail> {
+    failing.set_remaining(growths);
     let mut text = String::new(alloc);
     for len in 0..33 {
         push_mask(&mut text, len)?;
@@ -265,20 +265,20 @@ fn read_masks(alloc: Global, rationed: &Rationed, growths: u64) -> Result<String
     Ok(text)
 }
 
-/// What is read while so many growths are left.
-fn read(alloc: Global, rationed: &Rationed, call: Call, growths: u64) -> Result<String, Fail> {
+/// What is read while this number of growths are left.
+fn read(alloc: Global, failing: &FailingAlloc, call: Call, growths: u64) -> Result<String, Fail> {
     match call {
-        Call::Database | Call::Lsas => read_database(alloc, rationed, call, growths),
-        Call::Graph | Call::Tree | Call::Hops => read_graph(alloc, rationed, call, growths),
-        Call::Masks => read_masks(alloc, rationed, growths),
+        Call::Database | Call::Lsas => read_database(alloc, failing, call, growths),
+        Call::Graph | Call::Tree | Call::Hops => read_graph(alloc, failing, call, growths),
+        Call::Masks => read_masks(alloc, failing, growths),
     }
 }
 
 /// The same. It is a failure if a growth was asked for.
 fn read_with(alloc: Global, call: Call, growths: u64) -> Result<String, Fail> {
-    let rationed = Rationed::new(alloc, u64::MAX);
-    let text = read(alloc, &rationed, call, growths)?;
-    if rationed.left() == growths {
+    let failing = FailingAlloc::new(alloc, u64::MAX);
+    let text = read(alloc, &failing, call, growths)?;
+    if failing.remaining() == growths {
         Ok(text)
     } else {
         Err("no growth")?

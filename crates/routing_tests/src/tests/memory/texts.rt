@@ -5,8 +5,8 @@ ghost use Rattle.std.specs.Prelude.{◌≡◌, length};
 
 use crate::tests::texts::hops_text as list_text;
 use area_graph::{Edge, Graph};
+use failing_alloc::FailingAlloc;
 use next_hops::Hops;
-use rationed::Rationed;
 use spf::Tree;
 use std::alloc::Global;
 use std::test::*;
@@ -20,7 +20,7 @@ fn push_edges(text: &mut String, edges: &[Edge]) -> Result<(), Fail> {
 }
 
 /// The vertices of a graph, each with the edges out of it.
-pub(super) fn graph_text(alloc: Global, graph: &Graph<&Rationed>) -> Result<String, Fail> {
+pub(super) fn graph_text(alloc: Global, graph: &Graph<&FailingAlloc>) -> Result<String, Fail> {
     let mut text = String::new(alloc);
     for index in 0..graph.len() {
         let vertex = graph.vertex(index);
@@ -30,19 +30,19 @@ pub(super) fn graph_text(alloc: Global, graph: &Graph<&Rationed>) -> Result<Stri
     Ok(text)
 }
 
-/// Adds the vertices that a tree reaches, by their turns, and that none comes behind them.
-fn push_settled(text: &mut String, tree: &Tree<&Rationed>) -> Result<(), Fail> {
+/// Adds the vertices that a tree reaches, by their turns, and that none comes after them.
+fn push_settled(text: &mut String, tree: &Tree<&FailingAlloc>) -> Result<(), Fail> {
     for turn in 0..tree.order().len() {
         let settled = tree.settled(turn);
         write!(text, " {settled:?}")?;
     }
-    let behind = tree.settled(tree.order().len());
-    write!(text, " {behind:?}")?;
+    let after = tree.settled(tree.order().len());
+    write!(text, " {after:?}")?;
     Ok(())
 }
 
 /// The vertices that a tree reaches, each with its distance, and the same in turn.
-pub(super) fn tree_text(alloc: Global, tree: &Tree<&Rationed>) -> Result<String, Fail> {
+pub(super) fn tree_text(alloc: Global, tree: &Tree<&FailingAlloc>) -> Result<String, Fail> {
     let root = tree.root();
     let mut text = format!(in alloc; "{root}")?;
     for index in tree.order() {
@@ -57,8 +57,8 @@ pub(super) fn tree_text(alloc: Global, tree: &Tree<&Rationed>) -> Result<String,
 /// The hops of each vertex of a graph.
 pub(super) fn hops_text(
     alloc: Global,
-    graph: &Graph<&Rationed>,
-    hops: &Hops<&Rationed>,
+    graph: &Graph<&FailingAlloc>,
+    hops: &Hops<&FailingAlloc>,
 ) -> Result<String, Fail>
     requires { length hops.now ≡ length graph.now.vertices }
 {

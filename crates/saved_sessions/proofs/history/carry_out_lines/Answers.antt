@@ -1,6 +1,6 @@
 use Rattle.std.proofs.Common.{◌∙◌, arith}
 use Rattle.std.proofs.lemmas.Result.{err_from_is_err_and}
-use Rattle.saved_sessions.specs.Opening.{behind}
+use Rattle.saved_sessions.specs.Opening.{position_after}
 use Rattle.saved_sessions.proofs.Lines.{lines_go_on, lines_end, lines_done}
 use Rattle.saved_sessions.proofs.history.carry_out_lines.Goals as goal
 
@@ -8,12 +8,12 @@ pub returns-in_err-end-clause-session : goal.returns-in_err-end-clause-session
 returns-in_err-end-clause-session g c =
     let p = err_from_is_err_and c.from_residual.result c.from_residual.ensures.1 in
     rw (p.1, p.2) (lines_end c.in_err-end.field-0.0 c.args.count c.loop-line.line c.loop-line.planner.session
-    (behind c.loop-line.end c.args.bytes.now) _ c.loop-line-test.true c.in_err-end.ensures.session c.loop-line.invariant.reading)
+    (position_after c.loop-line.end c.args.bytes.now) _ c.loop-line-test.true c.in_err-end.ensures.session c.loop-line.invariant.reading)
 
 pub loop-line-preserved : goal.loop-line-preserved
 loop-line-preserved g c = record {
   reading = lines_go_on c.args.count c.loop-line.line c.loop-line.planner.session c.carry_out_line.new.planner.session
-      (behind c.loop-line.end c.args.bytes.now) (behind c.in_ok-end.end c.args.bytes.now) _ c.loop-line-test.true c.in_ok-end.ensures.session
+      (position_after c.loop-line.end c.args.bytes.now) (position_after c.in_ok-end.end c.args.bytes.now) _ c.loop-line-test.true c.in_ok-end.ensures.session
       c.loop-line.invariant.reading;
   within = c.in_ok-end.ensures.within;
   done = omega (arith, c.in_ok-end.ensures.done, c.loop-line.invariant.done);
@@ -23,5 +23,5 @@ loop-line-preserved g c = record {
 
 pub returns-clause-session : goal.returns-clause-session
 returns-clause-session g c =
-    lines_done c.args.count c.loop-line.line c.loop-line.planner.session (behind c.loop-line.end c.args.bytes.now) _ c.loop-line-test.false
+    lines_done c.args.count c.loop-line.line c.loop-line.planner.session (position_after c.loop-line.end c.args.bytes.now) _ c.loop-line-test.false
     c.loop-line.invariant.reading

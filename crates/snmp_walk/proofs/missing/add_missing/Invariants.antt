@@ -4,4 +4,4 @@ use Rattle.snmp_walk.specs.Missing.{missing_row}
 use Rattle.snmp_walk.proofs.missing.add_missing.Given as goal
 
 abbrev pub invariant-loop-row : goal.invariant-loop-row
-invariant-loop-row g l = l.holes.items ≡ l.fn.holes.items ++ map missing_row (take l.row-index l.rows)
+invariant-loop-row g l = l.findings.items ≡ l.fn.findings.items ++ map missing_row (take l.row-index l.rows)

@@ -1,5 +1,5 @@
 use Rattle.std.proofs.Common.{◌≡◌, take}
-use Rattle.summary_metrics.specs.Originators.{asbr_entries}
+use Rattle.summary_metrics.specs.SummaryMetrics.{asbr_entries}
 use Rattle.summary_metrics.proofs.asbr_entries.asbr_entries.Given as goal
 
 -- the entries of the areas so far

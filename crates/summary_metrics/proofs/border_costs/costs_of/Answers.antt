@@ -1,7 +1,7 @@
 use Rattle.std.proofs.Common.{◌∷◌, [], ◌++◌, List, take, sym, ap, subst, ◌∙◌}
 use Rattle.std.proofs.lemmas.List.{take_more}
 use Rattle.area_routes.specs.Values.{EntryValue}
-use Rattle.summary_metrics.specs.Originators.{HasCosts}
+use Rattle.summary_metrics.specs.SummaryMetrics.{HasCosts}
 use Rattle.summary_metrics.proofs.border_costs.costs_of.Goals as goal
 
 pub loop-entry-preserved : goal.loop-entry-preserved

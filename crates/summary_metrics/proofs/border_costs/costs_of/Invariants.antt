@@ -1,5 +1,5 @@
 use Rattle.std.proofs.Common.{take}
-use Rattle.summary_metrics.specs.Originators.{HasCosts}
+use Rattle.summary_metrics.specs.SummaryMetrics.{HasCosts}
 use Rattle.summary_metrics.proofs.border_costs.costs_of.Given as goal
 
 -- the entries so far

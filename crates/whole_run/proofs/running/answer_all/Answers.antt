@@ -10,8 +10,8 @@ use Rattle.whole_run.proofs.running.answer_all.Goals as goal
 
 pub returns-clause-replies : goal.returns-clause-replies
 returns-clause-replies g c =
-    on_ok_weaker _ (of_answers (λ told. Appends (g.W.Write.contents (inner_of c.args.replies.now))
-    (g.W.Write.contents (inner_of c.run_script.new.replies)) (text_of told)) _ _ _ c.in_ok-branches.ensures.loads)
+    on_ok_weaker _ (of_answers (λ answered. Appends (g.W.Write.contents (inner_of c.args.replies.now))
+    (g.W.Write.contents (inner_of c.run_script.new.replies)) (text_of answered)) _ _ _ c.in_ok-branches.ensures.loads)
     c.run_script.ensures.replies
 
 pub returns-clause-dump : goal.returns-clause-dump
@@ -24,12 +24,12 @@ returns-clause-session g c wanted =
 
 pub returns-clause-summary : goal.returns-clause-summary
 returns-clause-summary g c =
-    IfOk-weaker _ _ _ (λ done. of_answers (λ told. IsSummaryOf told done.0) _ _ _ c.in_ok-branches.ensures.loads) c.run_script.ensures.summary
+    IfOk-weaker _ _ _ (λ done. of_answers (λ answered. IsSummaryOf answered done.0) _ _ _ c.in_ok-branches.ensures.loads) c.run_script.ensures.summary
 
 pub returns-clause-prefix : goal.returns-clause-prefix
 returns-clause-prefix g c =
-    of_answers (λ told. AppendsPrefix (g.W.Write.contents (inner_of c.args.replies.now))
-    (g.W.Write.contents (inner_of c.run_script.new.replies)) (text_of told)) _ _ _
+    of_answers (λ answered. AppendsPrefix (g.W.Write.contents (inner_of c.args.replies.now))
+    (g.W.Write.contents (inner_of c.run_script.new.replies)) (text_of answered)) _ _ _
     c.in_ok-branches.ensures.loads c.run_script.ensures.prefix
 
 pub returns-clause-faults : goal.returns-clause-faults

@@ -8,13 +8,13 @@ use Rattle.area_routes.proofs.Bounds.{found_has}
 use Rattle.area_routes.proofs.indexed_area.IndexedArea.border.Goals as goal
 
 -- what holds of the value holds of the value of the reference
-behind : (P : EntryValue → Type 0) (r : Option (Bor EntryValue)) → IfSome (option_copied r) P → IfSome r (λ e. P e.now)
-behind P None h = tt
-behind P (Some e) h = h
+after : (P : EntryValue → Type 0) (r : Option (Bor EntryValue)) → IfSome (option_copied r) P → IfSome r (λ e. P e.now)
+after P None h = tt
+after P (Some e) h = h
 
 pub returns-clause-below : goal.returns-clause-below
 returns-clause-below g c =
     let below : EntryValue → Type 0 = λ e. e.cost < 2 ^ 33 in
-    behind below c.get.result
+    after below c.get.result
     (subst (λ (o : Option EntryValue). IfSome o below) (sym (c.get.ensures ∙ c.self.invariant.borders_of c.args.router))
     (found_has below (λ e. same_kind e.kind Border && same_router e.router c.args.router) c.self.inside.result.now.entries c.self.invariant.below.entries))

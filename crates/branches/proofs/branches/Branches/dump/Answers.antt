@@ -32,9 +32,9 @@ returns-in_ok-base-in-None-clause-kept g c =
 
 pub returns-in_ok-base-in-None-clause-dump : goal.returns-in_ok-base-in-None-clause-dump
 returns-in_ok-base-in-None-clause-dump g c =
-    let behind = ne_eqb c.args.branch 0 c.if-branch-eq0.false in
+    let not_first = ne_eqb c.args.branch 0 c.if-branch-eq0.false in
     subst (λ (db : Lists). IfOk c.dump-in-None-2.result (λ dump. dump.items ≡ text db))
     (c.in_ok-base-in-None.ensures.base
-    ∙ ap state (sym (session_of_unnamed c.self.inside.first c.self.inside.others.entries c.args.branch behind c.in-None.ensures.value)
+    ∙ ap state (sym (session_of_unnamed c.self.inside.first c.self.inside.others.entries c.args.branch not_first c.in-None.ensures.value)
     ∙ ap (λ (n : Named). sessions_of n c.args.branch) c.self.view_is))
     c.dump-in-None-2.ensures

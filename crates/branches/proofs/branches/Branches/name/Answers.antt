@@ -17,6 +17,6 @@ invariant_of-self-2 g c =
 pub returns-clause-sessions : goal.returns-clause-sessions
 returns-clause-sessions g c =
     other_goes_on (named_by c.self.inside.first c.self.inside.others.entries)
-    (sessions_by c.insert.new.self.entries) c.args.branch c.args.planner.session c.requires.behind
+    (sessions_by c.insert.new.self.entries) c.args.branch c.args.planner.session c.requires.not_first
     (inserted c.self.inside.others c.insert.new.self c.args.branch c.args.planner c.in_ok-insert.ensures.updates)
     ∙ ap (λ named. with_session c.args.branch c.args.planner.session (sessions_of named)) c.self.view_is

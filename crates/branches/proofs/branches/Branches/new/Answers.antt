@@ -1,5 +1,5 @@
 use Rattle.std.proofs.Common.{◌∙◌, ap}
-use Rattle.lsdb.specs.Places.{lists_of}
+use Rattle.lsdb.specs.Slots.{lists_of}
 use Rattle.branches.specs.Branches.{resumed}
 use Rattle.branches.proofs.BranchSessions.{resumed_at_start}
 use Rattle.branches.proofs.branches.Branches.new.Goals as goal

@@ -1,7 +1,7 @@
 use Rattle.std.proofs.Common.{◌≡◌, ◌∙◌, IfOk, ap, sym, subst}
 use Rattle.std.proofs.lemmas.Bool.{ne_eqb}
 use Rattle.lsdb.specs.Lists.{Lists}
-use Rattle.lsdb.specs.Places.{lists_of}
+use Rattle.lsdb.specs.Slots.{lists_of}
 use Rattle.edit_history.specs.Session.{state}
 use Rattle.routing_table.specs.Routers.{attached_routers}
 use Rattle.recalculate.specs.Planning.{PlannerValue}

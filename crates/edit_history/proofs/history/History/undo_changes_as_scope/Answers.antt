@@ -2,7 +2,7 @@ use Rattle.std.proofs.Common.{◌≡◌, ◌-◌, ◌∙◌, List, length, take,
 use Rattle.std.specs.List.{list_any}
 use Rattle.edit_history.specs.Exchange.{RecordData, changes_as_scope}
 use Rattle.edit_history.specs.Journal.{HistoryRoom}
-use Rattle.edit_history.proofs.Cursor.{any_behind}
+use Rattle.edit_history.proofs.Cursor.{any_after}
 use Rattle.edit_history.proofs.history.History.undo_changes_as_scope.Goals as goal
 
 pub returns : goal.returns
@@ -11,5 +11,5 @@ returns g c =
     c.any_changes_as_scope.ensures
     ∙ ap (λ (rs : List RecordData). list_any (changes_as_scope c.args.areas)
     (take (c.self.inside.cursor - (c.self.inside.cursor - c.args.count)) (drop (c.self.inside.cursor - c.args.count) rs))) c.deref.ensures.value
-    ∙ any_behind (changes_as_scope c.args.areas) c.self.inside.records.items c.self.inside.cursor c.args.count c.args.self.now.lists
+    ∙ any_after (changes_as_scope c.args.areas) c.self.inside.records.items c.self.inside.cursor c.args.count c.args.self.now.lists
     (ap (λ (v : HistoryRoom). v.lists) c.self.view_is) (omega (arith, c.self.invariant)) c.requires

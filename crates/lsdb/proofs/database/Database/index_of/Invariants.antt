@@ -1,7 +1,7 @@
 use Rattle.std.proofs.Common.{◌≡◌, drop}
 use Rattle.std.specs.List.{find}
 use Rattle.lsdb.specs.Lists.{is_section}
-use Rattle.lsdb.specs.Places.{lists_of}
+use Rattle.lsdb.specs.Slots.{lists_of}
 use Rattle.lsdb.proofs.database.Database.index_of.Given as goal
 
 abbrev pub invariant-loop-index : goal.invariant-loop-index

@@ -1,9 +1,9 @@
 use Rattle.std.proofs.Common.{refl, ap, ◌∙◌, ◌≡◌, ℕ, List, length}
 use Rattle.std.specs.Prelude.{OnErr, Result, Ok, Err}
-use Rattle.lsdb.specs.Places.{Place, Places, open_at, place_in, item_at, lists_of}
-use Rattle.lsdb.specs.steps.View.{places_of}
-use Rattle.lsdb.proofs.Seen.{open_places, kept_places, slot_opened}
-use Rattle.lsdb.proofs.Slots.{lists_of-open_at}
+use Rattle.lsdb.specs.Slots.{Slot, Slots, open_at, slot_in, item_at, lists_of}
+use Rattle.lsdb.specs.steps.View.{slots_of}
+use Rattle.lsdb.proofs.Seen.{open_slots, kept_slots, slot_opened}
+use Rattle.lsdb.proofs.SlotWrites.{lists_of-open_at}
 use Rattle.lsdb.proofs.DumpLength.{kept_lists}
 use Rattle.lsdb.proofs.database.Database.open_in.Goals as goal
 
@@ -13,36 +13,36 @@ on_err_from (Err e) p = p
 
 pub invariant_of-self : goal.invariant_of-self
 invariant_of-self g c =
-    kept_lists c.self.inside.sections.items _ c.self.inside.octets
-    (ap (λ (d : Places). lists_of d) (kept_places c.self.inside.sections.items c.args.section c.index_mut.result.now _
+    kept_lists c.self.inside.sections.items _ c.self.inside.byte_count
+    (ap (λ (d : Slots). lists_of d) (kept_slots c.self.inside.sections.items c.args.section c.index_mut.result.now _
     (rw c.self.view_is c.requires) c.index_mut.ensures.value refl c.in_err-push_empty.ensures.err))
     c.self.invariant
 
 pub returns-in_err-push_empty-clause-err : goal.returns-in_err-push_empty-clause-err
 returns-in_err-push_empty-clause-err g c =
     on_err_from c.from_residual.result
-    (kept_places c.self.inside.sections.items c.args.section c.index_mut.result.now _
+    (kept_slots c.self.inside.sections.items c.args.section c.index_mut.result.now _
     (rw c.self.view_is c.requires) c.index_mut.ensures.value refl c.in_err-push_empty.ensures.err ∙ c.self.view_is)
 
 pub invariant_of-self-2 : goal.invariant_of-self-2
 invariant_of-self-2 g c =
-    kept_lists c.self.inside.sections.items _ c.self.inside.octets
-    (ap (λ (d : Places). lists_of d) (open_places c.self.inside.sections.items c.args.section c.index_mut.result.now _
+    kept_lists c.self.inside.sections.items _ c.self.inside.byte_count
+    (ap (λ (d : Slots). lists_of d) (open_slots c.self.inside.sections.items c.args.section c.index_mut.result.now _
     (rw c.self.view_is c.requires) c.index_mut.ensures.value refl c.in_ok-push_empty.ensures.ok)
-    ∙ lists_of-open_at (places_of c.self.inside.sections.items) c.args.section)
+    ∙ lists_of-open_at (slots_of c.self.inside.sections.items) c.args.section)
     c.self.invariant
 
 pub returns-clause-ok : goal.returns-clause-ok
 returns-clause-ok g c =
-    open_places c.self.inside.sections.items c.args.section c.index_mut.result.now _
+    open_slots c.self.inside.sections.items c.args.section c.index_mut.result.now _
     (rw c.self.view_is c.requires) c.index_mut.ensures.value refl c.in_ok-push_empty.ensures.ok
-    ∙ ap (λ (d : Places). open_at d c.args.section) c.self.view_is
+    ∙ ap (λ (d : Slots). open_at d c.args.section) c.self.view_is
 
 pub returns-clause-slot : goal.returns-clause-slot
 returns-clause-slot g c =
-    let sized : length c.as_slice-index.result.now ≡ length c.index_mut.result.now.places = ap (λ (ps : List Place). length ps) c.as_slice-index.ensures in
-    ap (λ (d : Places). place_in (item_at d c.args.section) (length c.as_slice-index.result.now))
-    (open_places c.self.inside.sections.items c.args.section c.index_mut.result.now _
+    let sized : length c.as_slice-index.result.now ≡ length c.index_mut.result.now.slots = ap (λ (ps : List Slot). length ps) c.as_slice-index.ensures in
+    ap (λ (d : Slots). slot_in (item_at d c.args.section) (length c.as_slice-index.result.now))
+    (open_slots c.self.inside.sections.items c.args.section c.index_mut.result.now _
     (rw c.self.view_is c.requires) c.index_mut.ensures.value refl c.in_ok-push_empty.ensures.ok)
-    ∙ ap (λ (i : ℕ). place_in (item_at (open_at (places_of c.self.inside.sections.items) c.args.section) c.args.section) i) sized
+    ∙ ap (λ (i : ℕ). slot_in (item_at (open_at (slots_of c.self.inside.sections.items) c.args.section) c.args.section) i) sized
     ∙ slot_opened c.self.inside.sections.items c.args.section c.index_mut.result.now (rw c.self.view_is c.requires) c.index_mut.ensures.value

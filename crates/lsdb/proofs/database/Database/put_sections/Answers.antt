@@ -1,6 +1,6 @@
 use Rattle.std.proofs.Common.{arith, ◌≡◌, ◌++◌, sym, subst, take, List, ℕ, ◌+◌}
 use Rattle.std.specs.List.{flat_map}
-use Rattle.lsdb.specs.Places.{Places, lists_of}
+use Rattle.lsdb.specs.Slots.{Slots, lists_of}
 use Rattle.lsdb.specs.Text.{section_text}
 use Rattle.lsdb.specs.BaseText.{sections_text}
 use Rattle.lsdb.proofs.Written.{counted, section_few, section_next, sections_done}
@@ -18,17 +18,17 @@ loop-section-preserved g c =
     let i = c.loop-section.section-index in
     let j : ℕ = i + 1 in
     let start : List ℕ = counted c.args.out.now.items (lists_of c.args.self.now) in
-    subst (λ (d : Places). c.put_section.new.out.items ≡ start ++ flat_map section_text (take j (lists_of d))) c.self.view_is
+    subst (λ (d : Slots). c.put_section.new.out.items ≡ start ++ flat_map section_text (take j (lists_of d))) c.self.view_is
     (section_next c.self.inside.sections.items i j c.section-item.result start c.loop-section.out.items c.put_section.new.out.items
     (rw same at c.loop-section-test.true) (omega arith) (rw same at c.section-item.is) c.in_ok-put_section.ensures
-    (subst (λ (d : Places). c.loop-section.out.items ≡ start ++ flat_map section_text (take i (lists_of d))) (sym c.self.view_is) c.loop-section.invariant))
+    (subst (λ (d : Slots). c.loop-section.out.items ≡ start ++ flat_map section_text (take i (lists_of d))) (sym c.self.view_is) c.loop-section.invariant))
 
 pub returns : goal.returns
 returns g c =
     let same = c.deref-section-items.ensures.value in
     let i = c.loop-section.section-index in
     let before : List ℕ = c.args.out.now.items in
-    subst (λ (d : Places). c.loop-section.out.items ≡ before ++ sections_text (lists_of d)) c.self.view_is
+    subst (λ (d : Slots). c.loop-section.out.items ≡ before ++ sections_text (lists_of d)) c.self.view_is
     (sections_done c.self.inside.sections.items i before c.loop-section.out.items (rw same at c.loop-section-test.false)
-    (subst (λ (d : Places). c.loop-section.out.items ≡ counted before (lists_of d) ++ flat_map section_text (take i (lists_of d)))
+    (subst (λ (d : Slots). c.loop-section.out.items ≡ counted before (lists_of d) ++ flat_map section_text (take i (lists_of d)))
     (sym c.self.view_is) c.loop-section.invariant))

@@ -1,6 +1,6 @@
 use Rattle.std.proofs.Common.{◌≡◌, ◌++◌, take}
 use Rattle.std.specs.List.{flat_map}
-use Rattle.lsdb.specs.Places.{lists_of}
+use Rattle.lsdb.specs.Slots.{lists_of}
 use Rattle.lsdb.specs.Text.{section_text}
 use Rattle.lsdb.proofs.Written.{counted}
 use Rattle.lsdb.proofs.database.Database.put_sections.Given as goal

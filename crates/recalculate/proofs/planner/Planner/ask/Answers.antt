@@ -14,7 +14,7 @@ returns-then-not-again-clause-runs g c = λ first.
 pub returns-clause-runs : goal.returns-clause-runs
 returns-clause-runs g c = λ first.
     let asked : c.is_asked_again-again.result ≡ true = search rules in
-    subst (λ (p : PlannerValue). c.kept_base_table.new.self.runs
-    ≡ counted_by (gained p.session.base c.args.router p.first_kept c.kept_base_table.new.self.first_kept) p.runs) c.self.view_is
-    (base_counted c.self.inside.study.base c.args.router _ c.kept_base_table.new.self c.kept_base_table.result c.kept_base_table.ensures.runs
-    c.kept_base_table.ensures.first_kept c.kept_base_table.ensures.gone (first (c.is_asked_again-again.ensures asked)))
+    subst (λ (p : PlannerValue). c.baseline_table.new.self.runs
+    ≡ counted_by (gained p.session.base c.args.router p.first_kept c.baseline_table.new.self.first_kept) p.runs) c.self.view_is
+    (base_counted c.self.inside.study.base c.args.router _ c.baseline_table.new.self c.baseline_table.result c.baseline_table.ensures.runs
+    c.baseline_table.ensures.first_kept c.baseline_table.ensures.gone (first (c.is_asked_again-again.ensures asked)))

@@ -1,7 +1,7 @@
 use Rattle.std.proofs.Common.{◌≡◌, IfSome, length, refl, sym, ap, ◌∙◌, subst, arith}
 use Rattle.std.proofs.lemmas.Result.{err_from_is_err_and}
 use Rattle.lsdb.specs.Lists.{Lists}
-use Rattle.lsdb.specs.Places.{lists_of}
+use Rattle.lsdb.specs.Slots.{lists_of}
 use Rattle.edit_history.specs.Journal.{HistoryData, Links}
 use Rattle.edit_history.specs.Session.{session_of, edited}
 use Rattle.edit_history.proofs.HistoryLemmas.{recorded}
@@ -28,7 +28,7 @@ invariant_of-self-2 g c =
     c.push.ensures ∙ ap (pushed c.in_ok-record.record) c.reserve.ensures.lists in
     let more =
     recorded c.self.inside.database c.apply.new.database c.self.inside.history.lists c.args.edit.now
-    c.in_ok-record.record c.self.invariant.links c.known.ensures c.in_ok-record.ensures.applied in
+    c.in_ok-record.record c.self.invariant.links c.assert_valid.ensures c.in_ok-record.ensures.applied in
     record {
       links = subst (λ (h : HistoryData). Links c.apply.new.database h) (sym now) more.links;
       few = omega (
@@ -38,8 +38,8 @@ invariant_of-self-2 g c =
         c.done.ensures,
         c.if-done-ge-MOST_EDITS.false,
       );
-      loaded = subst (λ (h : HistoryData). IfSome c.self.inside.loaded (λ places. lists_of places ≡ (session_of c.apply.new.database h).base)) (sym now)
-          (subst (λ (db : Lists). IfSome c.self.inside.loaded (λ places. lists_of places ≡ db)) (sym more.base) c.self.invariant.loaded);
+      loaded = subst (λ (h : HistoryData). IfSome c.self.inside.loaded (λ slots. lists_of slots ≡ (session_of c.apply.new.database h).base)) (sym now)
+          (subst (λ (db : Lists). IfSome c.self.inside.loaded (λ slots. lists_of slots ≡ db)) (sym more.base) c.self.invariant.loaded);
       externals = c.drop_over_edit.ensures c.self.inside.database c.args.edit.now c.in_ok-record.ensures.applied c.self.invariant.externals;
     }
 
@@ -47,15 +47,15 @@ pub returns-clause-ok : goal.returns-clause-ok
 returns-clause-ok g c =
     ap (λ s. edited s c.args.edit.now) (sym c.self.view_is)
     ∙ edited_accepted c.self.inside.database c.apply.new.database c.self.inside.history.lists c.args.edit.now c.in_ok-record.record
-    (omega (arith, c.done.ensures, c.if-done-ge-MOST_EDITS.false)) c.self.invariant.links c.known.ensures c.in_ok-record.ensures.applied
+    (omega (arith, c.done.ensures, c.if-done-ge-MOST_EDITS.false)) c.self.invariant.links c.assert_valid.ensures c.in_ok-record.ensures.applied
     ∙ ap (λ (h : HistoryData). answer (session_of c.apply.new.database h)) (sym (c.push.ensures ∙ ap (pushed c.in_ok-record.record) c.reserve.ensures.lists))
 
 pub returns-clause-reached : goal.returns-clause-reached
 returns-clause-reached g c = record {
-  places = c.apply.new.database;
+  slots = c.apply.new.database;
   history = c.push.new.self.lists;
   links = subst (λ (h : HistoryData). Links c.apply.new.database h) (sym (c.push.ensures ∙ ap (pushed c.in_ok-record.record) c.reserve.ensures.lists))
       (recorded c.self.inside.database c.apply.new.database c.self.inside.history.lists c.args.edit.now
-      c.in_ok-record.record c.self.invariant.links c.known.ensures c.in_ok-record.ensures.applied).links;
+      c.in_ok-record.record c.self.invariant.links c.assert_valid.ensures c.in_ok-record.ensures.applied).links;
   shows = refl;
 }

@@ -2,7 +2,7 @@ use Rattle.std.proofs.Common.{sym, subst}
 use Rattle.area_graph.specs.Graphs.{IsGraphOf}
 use Rattle.lsdb.specs.declared.section.Section.TheVariants.{Area}
 use Rattle.lsdb.specs.Lists.{lsas_of}
-use Rattle.lsdb.specs.Places.{lists_of}
+use Rattle.lsdb.specs.Slots.{lists_of}
 use Rattle.area_routes.specs.AreaResults.{area_result}
 use Rattle.area_routes.specs.StubLinks.{AreStubLinksOf}
 use Rattle.routing_table.specs.AreaTrees.{AreaTreesValue, RouterTreeValue, IsTreeIn}

@@ -1,5 +1,5 @@
 use Rattle.std.proofs.Common.{◌≡◌, ◌∙◌, None, sym, ap, subst}
-use Rattle.lsdb.specs.Places.{lists_of}
+use Rattle.lsdb.specs.Slots.{lists_of}
 use Rattle.routing_table.specs.AreasTrees.{AreasTrees, KeptTreesValue, AreOfDatabase, at_area, trees_in, trees_of}
 use Rattle.routing_table.proofs.MapLemmas.{none_found}
 use Rattle.routing_table.proofs.KeptMaps.{graphs_stay, no_tree_more}

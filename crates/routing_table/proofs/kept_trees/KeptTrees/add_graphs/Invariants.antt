@@ -1,7 +1,7 @@
 use Rattle.std.proofs.Common.{◌≡◌}
 use Rattle.lsa_codec.specs.declared.address.AreaId.{AreaId}
 use Rattle.lsa_codec.specs.declared.address.RouterId.{RouterId}
-use Rattle.lsdb.specs.Places.{lists_of}
+use Rattle.lsdb.specs.Slots.{lists_of}
 use Rattle.routing_table.specs.AreasTrees.{AreOfDatabase, trees_in}
 use Rattle.routing_table.proofs.kept_trees.KeptTrees.add_graphs.Given as goal
 

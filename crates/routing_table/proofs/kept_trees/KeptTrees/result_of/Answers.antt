@@ -1,5 +1,5 @@
 use Rattle.std.proofs.Common.{◌∙◌, sym, ap}
-use Rattle.lsdb.specs.Places.{lists_of}
+use Rattle.lsdb.specs.Slots.{lists_of}
 use Rattle.routing_table.specs.AreasTrees.{KeptTreesValue, trees_at}
 use Rattle.routing_table.proofs.KeptMaps.{area_found, has_found}
 use Rattle.routing_table.proofs.kept_trees.KeptTrees.result_of.Goals as goal

@@ -1,6 +1,6 @@
 use Rattle.std.proofs.Common.{◌∙◌, ◌+◌, refl, sym, ap, subst, arith}
 use Rattle.lsdb.specs.Lists.{AreaHead}
-use Rattle.lsdb.specs.Places.{lists_of}
+use Rattle.lsdb.specs.Slots.{lists_of}
 use Rattle.area_routes.specs.Attached.{is_attached}
 use Rattle.routing_table.specs.KeptTrees.{GainsOnly}
 use Rattle.routing_table.specs.AreasTrees.{KeptTreesValue, AreOfDatabase, trees_in}
@@ -34,7 +34,7 @@ loop-i-preserved g c =
                 joined w.in_ok-result_of.ensures (ap (λ v. v.items) w.results-is ∙ w.in_ok-push.ensures.items);
             graphs = subst (λ (k : KeptTreesValue). AreOfDatabase db k) (sym w.self-is) w.in_ok-grow.ensures.graphs;
             grown = subst (λ (k : KeptTreesValue). IsGrown db c.args.router (c.loop-i.i + 1) first (trees_in k)) (sym w.self-is)
-                (one_grown db c.args.router c.loop-i.i head c.area-is_stub.ensures c.known.ensures first
+                (one_grown db c.args.router c.loop-i.i head c.area-is_stub.ensures c.assert_valid.ensures first
                 (trees_in c.loop-i.self) c.loop-i.invariant.grown joined (trees_in w.grow.new.self)
                 w.in_ok-grow.ensures.keeps w.in_ok-grow.ensures.others w.in_ok-grow.ensures.grown);
             only = subst (λ (k : KeptTreesValue). GainsOnly (λ area. is_attached db area c.args.router) c.args.router first (trees_in k)) (sym w.self-is)
@@ -42,7 +42,7 @@ loop-i-preserved g c =
                 c.loop-i.invariant.only
                 (gained_in (λ area. is_attached db area c.args.router) c.args.router c.area-is_stub.result.0 _ _ joined w.in_ok-grow.ensures.no_more));
             meter = w.meter-is
-                ∙ one_counted_more db c.args.router c.loop-i.i head c.area-is_stub.ensures c.known.ensures first
+                ∙ one_counted_more db c.args.router c.loop-i.i head c.area-is_stub.ensures c.assert_valid.ensures first
                 (trees_in c.loop-i.self) c.loop-i.invariant.grown joined
                 c.args.meter.now c.loop-i.meter w.grow.new.meter c.loop-i.invariant.meter w.in_ok-grow.ensures.meter;
           })
@@ -53,12 +53,12 @@ loop-i-preserved g c =
                 ∙ same_results db c.args.router c.loop-i.i head c.area-is_stub.ensures c.loop-i.results.items c.loop-i.invariant.results apart;
             graphs = subst (λ (k : KeptTreesValue). AreOfDatabase db k) (sym w.self-is) c.loop-i.invariant.graphs;
             grown = subst (λ (k : KeptTreesValue). IsGrown db c.args.router (c.loop-i.i + 1) first (trees_in k)) (sym w.self-is)
-                (none_more_grown db c.args.router c.loop-i.i head c.area-is_stub.ensures c.known.ensures first
+                (none_more_grown db c.args.router c.loop-i.i head c.area-is_stub.ensures c.assert_valid.ensures first
                 (trees_in c.loop-i.self) c.loop-i.invariant.grown apart);
             only = subst (λ (k : KeptTreesValue). GainsOnly (λ area. is_attached db area c.args.router) c.args.router first (trees_in k)) (sym w.self-is)
                 c.loop-i.invariant.only;
             meter = w.meter-is
-                ∙ none_counted_more db c.args.router c.loop-i.i head c.area-is_stub.ensures c.known.ensures first
+                ∙ none_counted_more db c.args.router c.loop-i.i head c.area-is_stub.ensures c.assert_valid.ensures first
                 (trees_in c.loop-i.self) c.loop-i.invariant.grown apart
                 c.args.meter.now c.loop-i.meter c.loop-i.invariant.meter;
           })
@@ -126,21 +126,21 @@ returns-in_err-push-clause-keeps g c = within_all _ _ _ c.loop-i.invariant.grown
 pub returns-in_err-grow-clause-at_most : goal.returns-in_err-grow-clause-at_most
 returns-in_err-grow-clause-at_most g c =
     let head : AreaHead = record { id = c.area-is_stub.result.0.0; is_stub = c.area-is_stub.result.1 } in
-    at_most_one_more (lists_of c.args.database.now) c.args.router c.loop-i.i head c.area-is_stub.ensures c.known.ensures
+    at_most_one_more (lists_of c.args.database.now) c.args.router c.loop-i.i head c.area-is_stub.ensures c.assert_valid.ensures
     (trees_in c.args.self.now) (trees_in c.loop-i.self) c.loop-i.invariant.grown
     (sym c.is_attached.ensures ∙ c.if-is_attached.true) c.args.meter.now c.loop-i.meter c.grow.new.meter c.loop-i.invariant.meter c.grow.ensures.at_most
 
 pub returns-in_err-result_of-clause-at_most : goal.returns-in_err-result_of-clause-at_most
 returns-in_err-result_of-clause-at_most g c =
     let head : AreaHead = record { id = c.area-is_stub.result.0.0; is_stub = c.area-is_stub.result.1 } in
-    at_most_one_more (lists_of c.args.database.now) c.args.router c.loop-i.i head c.area-is_stub.ensures c.known.ensures
+    at_most_one_more (lists_of c.args.database.now) c.args.router c.loop-i.i head c.area-is_stub.ensures c.assert_valid.ensures
     (trees_in c.args.self.now) (trees_in c.loop-i.self) c.loop-i.invariant.grown
     (sym c.is_attached.ensures ∙ c.if-is_attached.true) c.args.meter.now c.loop-i.meter c.grow.new.meter c.loop-i.invariant.meter c.grow.ensures.at_most
 
 pub returns-in_err-push-clause-at_most : goal.returns-in_err-push-clause-at_most
 returns-in_err-push-clause-at_most g c =
     let head : AreaHead = record { id = c.area-is_stub.result.0.0; is_stub = c.area-is_stub.result.1 } in
-    at_most_one_more (lists_of c.args.database.now) c.args.router c.loop-i.i head c.area-is_stub.ensures c.known.ensures
+    at_most_one_more (lists_of c.args.database.now) c.args.router c.loop-i.i head c.area-is_stub.ensures c.assert_valid.ensures
     (trees_in c.args.self.now) (trees_in c.loop-i.self) c.loop-i.invariant.grown
     (sym c.is_attached.ensures ∙ c.if-is_attached.true) c.args.meter.now c.loop-i.meter c.grow.new.meter c.loop-i.invariant.meter c.grow.ensures.at_most
 

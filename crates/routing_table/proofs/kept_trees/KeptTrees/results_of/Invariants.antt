@@ -1,6 +1,6 @@
 use Rattle.std.proofs.Common.{◌≡◌, take}
 use Rattle.lsdb.specs.Lists.{areas_of}
-use Rattle.lsdb.specs.Places.{lists_of}
+use Rattle.lsdb.specs.Slots.{lists_of}
 use Rattle.routing_table.specs.AreasTrees.{AreOfDatabase, trees_in}
 use Rattle.area_routes.specs.Attached.{is_attached}
 use Rattle.routing_table.specs.KeptTrees.{GainsOnly}

@@ -1,6 +1,6 @@
 use Rattle.std.proofs.Common.{◌∙◌, sym, ap, arith}
 use Rattle.lsdb.specs.Lists.{AreaHead}
-use Rattle.lsdb.specs.Places.{lists_of}
+use Rattle.lsdb.specs.Slots.{lists_of}
 use Rattle.summary_metrics.proofs.AttachedIds.{all_ids, more_ids, same_ids}
 use Rattle.summary_metrics.proofs.attached_areas.AttachedAreas.of.Goals as goal
 use Rattle.summary_metrics.proofs.attached_areas.AttachedAreas.of.Goals.{then-is_attached+in_ok-push, else-is_attached}

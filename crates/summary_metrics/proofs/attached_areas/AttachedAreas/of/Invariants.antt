@@ -1,6 +1,6 @@
 use Rattle.std.proofs.Common.{◌≡◌, take}
 use Rattle.lsdb.specs.Lists.{areas_of}
-use Rattle.lsdb.specs.Places.{lists_of}
+use Rattle.lsdb.specs.Slots.{lists_of}
 use Rattle.summary_metrics.proofs.AttachedIds.{ids_among}
 use Rattle.summary_metrics.proofs.attached_areas.AttachedAreas.of.Given as goal
 

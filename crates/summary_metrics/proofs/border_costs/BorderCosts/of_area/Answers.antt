@@ -1,7 +1,7 @@
 use Rattle.std.proofs.Common.{◌^◌, ℕ, List, sym, subst, ◌∙◌}
 use Rattle.area_routes.specs.Values.{EntriesBelow}
 use Rattle.lsa_codec.specs.declared.address.RouterId.{RouterId}
-use Rattle.summary_metrics.specs.Originators.{HasCosts}
+use Rattle.summary_metrics.specs.SummaryMetrics.{HasCosts}
 use Rattle.summary_metrics.specs.steps.AnnouncedCosts.{CostsBelow}
 use Rattle.summary_metrics.proofs.MoreCosts.{costs_below}
 use Rattle.summary_metrics.proofs.border_costs.BorderCosts.of_area.Goals as goal

@@ -1,9 +1,0 @@
-pub mod Lines
-pub mod Labels
-pub mod Headings
-pub mod Rows
-pub mod LinesTold
-pub mod Sorting
-pub mod Comparing
-pub mod Once
-pub mod Texts

@@ -1,0 +1,5 @@
+pub mod Members
+pub mod Options
+pub mod Header
+pub mod Bodies
+pub mod ParsedDocuments

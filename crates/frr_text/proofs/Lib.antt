@@ -1,0 +1,14 @@
+pub mod Split
+pub mod Digits
+pub mod Hex
+pub mod Reading
+pub mod ParsedParts
+pub mod PrintedNumbers
+pub mod PrintedLabels
+pub mod PrintedFields
+pub mod PrintedBodies
+pub mod PrintedLsas
+pub mod PrintedWords
+pub mod PrintedQuiet
+pub mod PrintedTexts
+pub mod PrintedHeadings

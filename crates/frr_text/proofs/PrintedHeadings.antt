@@ -1,0 +1,152 @@
+-- A heading that is printed is read again.
+use Rattle.std.proofs.Common.{◌≡◌, ℕ, ◌/◌, ◌%◌, ◌^◌, ◌<◌, ◌≤◌, true, false, eqb, cond, List, [], ◌∷◌, ◌++◌}
+use Rattle.std.proofs.Common.{append_assoc, Option, Some, None, refl, sym, ap, ◌∙◌, arith}
+use Rattle.std.specs.Prelude.{decimal, codes, option_map, All}
+use Rattle.std.specs.Option.{is_some}
+use Rattle.std.specs.Str.{all_ascii_digits}
+use Rattle.std.specs.Char.{is_ascii_digit}
+use Rattle.std.proofs.lemmas.Fmt.{digits_decimal}
+use Rattle.std.proofs.lemmas.Bool.Decides.{nat_tests}
+use Rattle.std.proofs.lemmas.Bool.{and_parts, ne_eqb}
+use Rattle.std.proofs.lemmas.List.Elements.{All-nil, All-cons, All-append}
+use Rattle.std.proofs.lemmas.List.Splits.{slice_split_none, slice_split_at}
+use Rattle.lsa_codec.specs.declared.address.AreaId.{AreaId}
+use Rattle.lsa_codec.specs.Spelling.{address_text}
+use Rattle.lsa_instances.specs.declared.area.AreaKind.{AreaKind}
+use Rattle.lsa_instances.specs.declared.area.AreaKind.TheVariants as kinds
+use Rattle.lsa_instances.specs.declared.area.AreaReport.{AreaReport}
+use Rattle.frr_text.specs.declared.label.Label.TheVariants as label
+use Rattle.frr_text.specs.declared.parsed_part.ParsedPart.{ParsedPart}
+use Rattle.frr_text.specs.declared.parsed_part.ParsedPart.TheVariants as contents
+use Rattle.frr_text.specs.Words.{Word, words}
+use Rattle.frr_text.specs.Numbers.{address_of}
+use Rattle.frr_text.specs.Labels.{text_of, after_words, after_label}
+use Rattle.frr_text.specs.Headings.{first_part, area_of, kind_in, heading_at, area_named, area_at}
+use Rattle.frr_text.specs.ParsedParts.{kind_from, kinds_at, lsas_at, parsed_in}
+use Rattle.frr_text.specs.Printing.{label_words, said}
+use Rattle.frr_text.specs.PrintingTexts.{area_words, heading_words}
+use Rattle.frr_text.proofs.PrintedNumbers.{own, address_again}
+use Rattle.frr_text.proofs.PrintedLabels.{label_again, word_again}
+use Rattle.frr_text.proofs.PrintedQuiet.{Plain, plain_start, start_address, start_append, age_first, step, no_lsas}
+use Rattle.frr_text.proofs.PrintedTexts.{of_word, of_label, spoken}
+
+-- ---- the area
+
+abbrev NotClosing : ℕ → Type 0
+NotClosing byte = eqb byte 41 ≡ false
+
+digits_lack : (ds : List ℕ) → all_ascii_digits ds ≡ true → All NotClosing ds
+digits_lack [] h = All-nil NotClosing
+digits_lack (d ∷ ds) h =
+    let both = and_parts (is_ascii_digit d) (all_ascii_digits ds) h in
+    let low : 48 ≤ d = grind (arith, nat_tests) in
+    All-cons NotClosing d ds (ne_eqb d 41 (λ e. omega arith)) (digits_lack ds both.1)
+
+address_lacks : (n : ℕ) → All NotClosing (address_text n)
+address_lacks n =
+    let small : (m : ℕ) → All NotClosing (decimal (m % 256)) = λ m. digits_lack (decimal (m % 256)) (digits_decimal own (m % 256) (omega arith)) in
+    All-append NotClosing (decimal (n / 16777216 % 256))
+    (46 ∷ (decimal (n / 65536 % 256) ++ 46 ∷ (decimal (n / 256 % 256) ++ 46 ∷ decimal (n % 256)))) (small (n / 16777216))
+    (All-cons NotClosing 46 (decimal (n / 65536 % 256) ++ 46 ∷ (decimal (n / 256 % 256) ++ 46 ∷ decimal (n % 256))) refl
+    (All-append NotClosing (decimal (n / 65536 % 256)) (46 ∷ (decimal (n / 256 % 256) ++ 46 ∷ decimal (n % 256))) (small (n / 65536))
+    (All-cons NotClosing 46 (decimal (n / 256 % 256) ++ 46 ∷ decimal (n % 256)) refl
+    (All-append NotClosing (decimal (n / 256 % 256)) (46 ∷ decimal (n % 256)) (small (n / 256))
+    (All-cons NotClosing 46 (decimal (n % 256)) refl (small n))))))
+
+abbrev area_from : List Word → Option AreaId
+area_from parts = option_map (λ address. record { 0 = address }) (address_of (first_part parts))
+
+area_alone : (area : AreaId) → area.0 < 2 ^ 32 → area_of (address_text area.0) ≡ Some area
+area_alone area h =
+    ap area_from (slice_split_none (λ b. eqb b 41) (address_text area.0) (address_lacks area.0))
+    ∙ ap (option_map (λ address. record { 0 = address })) (address_again area.0 h)
+
+area_closed : (area : AreaId) → area.0 < 2 ^ 32 → area_of (address_text area.0 ++ 41 ∷ []) ≡ Some area
+area_closed area h =
+    ap area_from (slice_split_at (λ b. eqb b 41) (address_text area.0) 41 [] (address_lacks area.0) refl)
+    ∙ ap (option_map (λ address. record { 0 = address })) (address_again area.0 h)
+
+-- ---- the kind
+
+kind_stub : (rest : List Word) → kind_in (label_words label.Stub ++ rest) ≡ kinds.Stub
+kind_stub rest =
+    ap (λ (found : Option (List Word)). cond (is_some found) kinds.Stub
+    (cond (is_some (after_label label.Nssa (label_words label.Stub ++ rest))) kinds.Nssa kinds.Ordinary)) (label_again label.Stub rest)
+
+nssa_no_stub : (rest : List Word) → after_label label.Stub (label_words label.Nssa ++ rest) ≡ None
+unfolding after_label after_words words text_of
+nssa_no_stub rest = refl
+
+kind_nssa : (rest : List Word) → kind_in (label_words label.Nssa ++ rest) ≡ kinds.Nssa
+kind_nssa rest =
+    ap (λ (found : Option (List Word)). cond (is_some found) kinds.Stub
+    (cond (is_some (after_label label.Nssa (label_words label.Nssa ++ rest))) kinds.Nssa kinds.Ordinary)) (nssa_no_stub rest)
+    ∙ ap (λ (found : Option (List Word)). cond (is_some found) kinds.Nssa kinds.Ordinary) (label_again label.Nssa rest)
+
+-- ---- the heading
+
+abbrev parsed_kind : AreaId → AreaKind → AreaReport
+parsed_kind area kind = record { id = area; kind = kind }
+
+area_label : label_words label.Area ≡ codes "(Area" ∷ []
+unfolding words text_of
+area_label = refl
+
+area_begun : (before : Option AreaId) (word : Word) (area : AreaId) (rest : List Word) → area_of word ≡ Some area
+    → area_at before (said label.Area word ++ rest) ≡ Some area
+unfolding area_at
+area_begun before word area rest h = ap (area_named before) (word_again label.Area word rest) ∙ h
+
+heading_read : (word : Word) (area : AreaId) (rest : List Word) → area_of word ≡ Some area
+    → heading_at (said label.Area word ++ rest) ≡ Some (parsed_kind area (kind_in rest))
+unfolding heading_at
+heading_read word area rest h = simp (word_again label.Area word rest, h)
+
+module _ {A : Type 0} where
+  kind_here : (word : Word) (area : AreaId) (rest : List Word) → area_of word ≡ Some area
+      → kinds_at {A = A} (said label.Area word ++ rest) ≡ contents.Kind (parsed_kind area (kind_in rest)) ∷ []
+  unfolding kinds_at
+  kind_here word area rest h = ap kind_from (heading_read word area rest h)
+
+  parsed_area : (before : Option AreaId) (word : Word) (area : AreaId) (rest : List Word) → area_of word ≡ Some area → Plain word
+      → parsed_in {A = A} before (said label.Area word ++ rest) ≡ contents.Kind (parsed_kind area (kind_in rest)) ∷ parsed_in (Some area) rest
+  parsed_area before word area rest h p =
+      let text = said label.Area word ++ rest in
+      let first = codes "(Area" in
+      let laid : text ≡ first ∷ word ∷ rest = ap (λ (front : List Word). front ++ word ∷ [] ++ rest) area_label in
+      ap (parsed_in before) laid
+      ∙ step before first (word ∷ rest)
+      ∙ ap (λ (here : List Word).
+      (kinds_at here ++ lsas_at (area_at before here) (first ∷ word ∷ rest)) ++ parsed_in (area_at before here) (word ∷ rest)) (sym laid)
+      ∙ ap (λ (next : Option AreaId). (kinds_at text ++ lsas_at next (first ∷ word ∷ rest)) ++ parsed_in next (word ∷ rest))
+      (area_begun before word area rest h)
+      ∙ ap (λ (lsas : List (ParsedPart A)). (kinds_at text ++ lsas) ++ parsed_in (Some area) (word ∷ rest))
+      (no_lsas (Some area) (first ∷ word ∷ rest) (age_first first (word ∷ rest) refl))
+      ∙ ap (λ (kinds : List (ParsedPart A)). (kinds ++ []) ++ parsed_in (Some area) (word ∷ rest)) (kind_here word area rest h)
+      ∙ ap (λ (parsed : List (ParsedPart A)). contents.Kind (parsed_kind area (kind_in rest)) ∷ parsed) ((of_word word p).quiet (Some area) rest)
+
+  parsed_as : (before : Option AreaId) (area : AreaId) (kind : AreaKind) (rest : List Word) → area.0 < 2 ^ 32 → kind_in rest ≡ kinds.Ordinary
+      → parsed_in {A = A} before (area_words kind (address_text area.0) ++ rest) ≡ contents.Kind (parsed_kind area kind) ∷ parsed_in (Some area) rest
+  unfolding spoken
+  parsed_as before area kinds.Ordinary rest h none =
+      let word = address_text area.0 ++ 41 ∷ [] in
+      parsed_area before word area rest (area_closed area h) (plain_start word (start_append (address_text area.0) (41 ∷ []) (start_address area.0)))
+      ∙ ap (λ (kind : AreaKind). contents.Kind (parsed_kind area kind) ∷ parsed_in (Some area) rest) none
+  parsed_as before area kinds.Stub rest h none =
+      let word = address_text area.0 in
+      let mark = label_words label.Stub in
+      ap (parsed_in before) (append_assoc (said label.Area word) mark rest)
+      ∙ parsed_area before word area (mark ++ rest) (area_alone area h) (plain_start word (start_address area.0))
+      ∙ ap (λ (kind : AreaKind). contents.Kind (parsed_kind area kind) ∷ parsed_in (Some area) (mark ++ rest)) (kind_stub rest)
+      ∙ ap (λ (parsed : List (ParsedPart A)). contents.Kind (parsed_kind area kinds.Stub) ∷ parsed) ((of_label label.Stub refl).quiet (Some area) rest)
+  parsed_as before area kinds.Nssa rest h none =
+      let word = address_text area.0 in
+      let mark = label_words label.Nssa in
+      ap (parsed_in before) (append_assoc (said label.Area word) mark rest)
+      ∙ parsed_area before word area (mark ++ rest) (area_alone area h) (plain_start word (start_address area.0))
+      ∙ ap (λ (kind : AreaKind). contents.Kind (parsed_kind area kind) ∷ parsed_in (Some area) (mark ++ rest)) (kind_nssa rest)
+      ∙ ap (λ (parsed : List (ParsedPart A)). contents.Kind (parsed_kind area kinds.Nssa) ∷ parsed) ((of_label label.Nssa refl).quiet (Some area) rest)
+
+  pub parsed_heading : (before : Option AreaId) (parsed : AreaReport) (rest : List Word) → parsed.id.0 < 2 ^ 32 → kind_in rest ≡ kinds.Ordinary
+      → parsed_in {A = A} before (heading_words parsed ++ rest) ≡ contents.Kind parsed ∷ parsed_in (Some parsed.id) rest
+  parsed_heading before parsed rest h none = parsed_as before parsed.id parsed.kind rest h none

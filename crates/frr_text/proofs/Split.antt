@@ -1,0 +1,41 @@
+-- The first part of a text that is split, and a number of parts.
+use Rattle.std.proofs.Common.{◌≡◌, ℕ, ◌+◌, ◌<◌, Bool, List, [], ◌∷◌, length, take, drop, Some, None, inl, inr, ◌-◌, refl, ◌∙◌, subst, arith}
+use Rattle.std.specs.List.{slice_split, position, position_or_len}
+use Rattle.std.proofs.lemmas.Bool.{cases_lt, cond-true, cond-false, lt-ltb, le-ltb}
+use Rattle.std.proofs.lemmas.List.Sums.{fails_before_first}
+use Rattle.std.proofs.lemmas.List.{take_all, drop-drop, length-drop}
+use Rattle.std.proofs.lemmas.List.Splits.{slice_split_none, slice_split_first, length-slice_split}
+use Rattle.frr_text.specs.Numbers.{four_parts}
+
+-- ---- the first part, by the position of the first byte that passes
+
+-- p of X = ℕ, as the code finds it
+pub cut_none : (p : ℕ → Bool) (xs : List ℕ) → position p xs ≡ None → slice_split p xs ≡ xs ∷ []
+cut_none p xs h =
+    elim (cases_lt (position_or_len p xs) (length xs)) [
+      | inl lt ↦ absurd (let e : position p xs ≡ Some (position_or_len p xs) = cond-true _ _ _ (lt-ltb _ _ lt) in cc)
+      | inr le ↦ slice_split_none p xs (λ k d lt. fails_before_first p xs k d (omega arith))
+    ]
+
+pub cut_some : (p : ℕ → Bool) (xs : List ℕ) (i : ℕ) → position p xs ≡ Some i
+    → (i < length xs) × (slice_split p xs ≡ take i xs ∷ slice_split p (drop (i + 1) xs))
+cut_some p xs i h =
+    elim (cases_lt (position_or_len p xs) (length xs)) [
+      | inl lt ↦
+          let e : position p xs ≡ Some (position_or_len p xs) = cond-true _ _ _ (lt-ltb _ _ lt) in
+          let same : position_or_len p xs ≡ i = cc in
+          (omega arith, subst (λ (j : ℕ). slice_split p xs ≡ take j xs ∷ slice_split p (drop (j + 1) xs)) same (slice_split_first p xs 0 lt))
+      | inr le ↦ absurd (let e : position p xs ≡ None = cond-false _ _ _ (le-ltb _ _ le) in cc)
+    ]
+
+-- the same at a tail, as the code takes it
+pub drop_one : (i : ℕ) (xs : List ℕ) → take (length (drop i xs) - 1) (drop 1 (drop i xs)) ≡ drop (i + 1) xs
+drop_one i xs = take_all _ (drop 1 (drop i xs)) (omega (arith, length-drop 1 (drop i xs))) ∙ drop-drop 1 i xs
+
+-- ---- a number of parts
+
+pub four_parts_more : (p : ℕ → Bool) (xs a b c d : List ℕ) → four_parts (a ∷ b ∷ c ∷ d ∷ slice_split p xs) ≡ None
+four_parts_more p xs a b c d = at_more (slice_split p xs) (omega (arith, length-slice_split p xs)) where
+  at_more : (ps : List (List ℕ)) → 0 < length ps → four_parts (a ∷ b ∷ c ∷ d ∷ ps) ≡ None
+  at_more [] h = absurd (omega arith)
+  at_more (q ∷ ps) h = refl

@@ -1,0 +1,14 @@
+use Rattle.std.proofs.Common.{ℕ, List, ◌++◌, ap, ◌∙◌}
+use Rattle.std.proofs.lemmas.Result.{IfOk-weaker}
+use Rattle.lsa_codec.specs.Decoding.{decoded}
+use Rattle.frr_text.specs.ParsedParts.{key_of, parsed_decoded}
+use Rattle.frr_text.proofs.parsed_part.rebuilt.Goals as goal
+
+pub returns : goal.returns
+returns g c =
+    IfOk-weaker c.parsed_bytes.result _ _
+    (λ parsed h. h ∙ ap (λ key. parsed_decoded c.args.area key (decoded c.deref.result.now)) c.key_of.ensures
+    ∙ ap (λ bytes. parsed_decoded c.args.area (key_of c.args.header) (decoded bytes))
+    (c.deref.ensures.value ∙ c.in_ok-extend_from_slice.ensures.items
+    ∙ ap (λ (front : List ℕ). front ++ c.args.body.now) (c.in_ok-bytes.ensures.items ∙ c.header_bytes.ensures)))
+    c.parsed_bytes.ensures

@@ -1,0 +1,13 @@
+pub mod Words
+pub mod Rules
+pub mod Numbers
+pub mod Labels
+pub mod Fields
+pub mod Bodies
+pub mod Printing
+pub mod PrintingBodies
+pub mod PrintingTexts
+pub mod Making
+pub mod Headings
+pub mod ParsedParts
+pub mod Sorting

@@ -1,0 +1,177 @@
+//! What the parts of a text contain.
+
+ghost use Rattle.std.specs.Prelude.{◌≡◌, ◌++◌, IfOk, OnOk, None};
+ghost use Rattle.frr_text.specs.Words.{words};
+ghost use Rattle.frr_text.specs.Bodies.{body_in};
+ghost use Rattle.frr_text.specs.Fields.{header_in};
+ghost use Rattle.frr_text.specs.Making.{header_bytes};
+ghost use Rattle.frr_text.specs.ParsedParts.{key_of, in_scope, parsed_decoded, rebuilt, parsed_header, kinds_at, lsas_at, parsed_in};
+ghost use Rattle.lsa_codec.specs.Decoding.{decoded};
+ghost use Rattle.lsa_instances.specs.Order.{scope_of_report};
+
+use crate::body::body_in;
+use crate::finding::TextFinding;
+use crate::header::{Header, header_bytes, header_in};
+use crate::heading::{area_at, heading_at};
+use crate::label::{Label, after_label};
+use crate::text::next_word;
+use lsa_codec::{AreaId, Key, Lsa, LsaFault};
+use lsa_instances::{AreaReport, Observation, Scope};
+use std::alloc::{AllocError, Allocator};
+
+/// What a part of a text contains.
+#[derive(Debug, Drop)]
+pub enum ParsedPart<A: Allocator> {
+    /// The LSA that the printed fields make.
+    Lsa(Observation<A>),
+    /// The kind of the area of a heading.
+    Kind(AreaReport),
+    /// A printed LSA that cannot be used.
+    Finding(TextFinding),
+}
+
+/// The key of the LSA.
+fn key_of(header: Header) -> Key
+    ensures { result ≡ key_of header }
+{
+    Key {
+        kind: header.name.ls_type.code(),
+        id: header.name.id,
+        adv: header.origination.adv,
+    }
+}
+
+/// An LSA, in its scope.
+fn in_scope<A: Allocator + Copy>(area: Option<AreaId>, key: Key, lsa: Lsa<A>) -> ParsedPart<A>
+    ensures { result ≡ in_scope key lsa (scope_of_report key.kind area) }
+{
+    match Scope::of(key.kind, area) {
+        None => ParsedPart::Finding(TextFinding::NoArea(key)),
+        Some(scope) => ParsedPart::Lsa(Observation {
+            scope,
+            seen: None,
+            lsa,
+        }),
+    }
+}
+
+/// What the bytes contain that the fields of the LSA with this key make.
+fn parsed_bytes<A: Allocator + Copy>(
+    alloc: A,
+    area: Option<AreaId>,
+    key: Key,
+    bytes: &[u8],
+) -> Result<ParsedPart<A>, AllocError>
+    ensures { IfOk result (λ parsed. parsed ≡ parsed_decoded area key (decoded bytes.now)) }
+{
+    match Lsa::decode(alloc, bytes) {
+        Ok((lsa, _)) => Ok(in_scope(area, key, lsa)),
+        Err(LsaFault::OutOfMemory) => Err(AllocError),
+        Err(fault) => Ok(ParsedPart::Finding(TextFinding::Refused(key, fault))),
+    }
+}
+
+/// The LSA that has this header and, after it, these bytes; or why it cannot be used.
+///
+/// # Errors
+///
+/// Memory ran out.
+pub fn rebuilt<A: Allocator + Copy>(
+    alloc: A,
+    area: Option<AreaId>,
+    header: Header,
+    body: &[u8],
+) -> Result<ParsedPart<A>, AllocError>
+    ensures { IfOk result (λ parsed. parsed
+        ≡ parsed_decoded area (key_of header) (decoded (header_bytes header ++ body.now))) }
+{
+    let mut bytes = Vec::from_slice(alloc, &header_bytes(header))?;
+    bytes.extend_from_slice(body)?;
+    parsed_bytes(alloc, area, key_of(header), &bytes)
+}
+
+/// The LSA that has this header, and whose further words stand here; or why it cannot be used.
+fn parsed_body<A: Allocator + Copy>(
+    alloc: A,
+    area: Option<AreaId>,
+    header: Header,
+    text: &[u8],
+) -> Result<ParsedPart<A>, AllocError>
+    ensures { IfOk result (λ parsed. parsed
+        ≡ rebuilt area header (body_in header (words text.now))) }
+{
+    match body_in(alloc, header, text)? {
+        Some(body) => rebuilt(alloc, area, header, &body),
+        None => Ok(ParsedPart::Finding(TextFinding::Unreadable)),
+    }
+}
+
+/// The LSA whose words stand here; or why it cannot be used.
+fn parsed_header<A: Allocator + Copy>(
+    alloc: A,
+    area: Option<AreaId>,
+    text: &[u8],
+) -> Result<ParsedPart<A>, AllocError>
+    ensures { IfOk result (λ parsed. parsed ≡ parsed_header area (header_in (words text.now))) }
+{
+    match header_in(text) {
+        Some((header, rest)) => parsed_body(alloc, area, header, rest),
+        None => Ok(ParsedPart::Finding(TextFinding::Unreadable)),
+    }
+}
+
+/// Adds the kind of the area that a heading here names, if one does.
+#[tactic(auto, unfolding(crate::specs::ParsedParts::kinds_at))]
+fn parse_kind<A: Allocator + Copy>(
+    parsed: &mut Vec<ParsedPart<A>, A>,
+    text: &[u8],
+) -> Result<(), AllocError>
+    ensures { OnOk result (parsed.new.items ≡ parsed.old.items ++ kinds_at (words text.now)) }
+{
+    match heading_at(text) {
+        Some(area) => {
+            parsed.push(ParsedPart::Kind(area))?;
+            Ok(())
+        }
+        None => Ok(()),
+    }
+}
+
+/// Adds the LSA that begins here, or why it cannot be used, if one does.
+#[tactic(auto, unfolding(crate::specs::ParsedParts::lsas_at))]
+fn parse_lsa<A: Allocator + Copy>(
+    alloc: A,
+    parsed: &mut Vec<ParsedPart<A>, A>,
+    area: Option<AreaId>,
+    text: &[u8],
+) -> Result<(), AllocError>
+    ensures { OnOk result (parsed.new.items ≡ parsed.old.items ++ lsas_at area (words text.now)) }
+{
+    match after_label(Label::Age, text) {
+        Some(_) => {
+            parsed.push(parsed_header(alloc, area, text)?)?;
+            Ok(())
+        }
+        None => Ok(()),
+    }
+}
+
+/// What the headings and the LSAs of a text contain, in the order of the text. Headings name the
+/// areas of the LSAs.
+pub(crate) fn parse_all<A: Allocator + Copy>(
+    alloc: A,
+    text: &[u8],
+) -> Result<Vec<ParsedPart<A>, A>, AllocError>
+    ensures { IfOk result (λ parsed. parsed.items ≡ parsed_in None (words text.now)) }
+{
+    let mut parsed = Vec::new(alloc);
+    let mut area = None;
+    let mut rest = text;
+    while let Some((_word, after)) = next_word(rest) {
+        area = area_at(area, rest);
+        parse_kind(&mut parsed, rest)?;
+        parse_lsa(alloc, &mut parsed, area, rest)?;
+        rest = after;
+    }
+    Ok(parsed)
+}

@@ -1,0 +1,5 @@
+pub mod Split
+pub mod Titles
+pub mod LineKinds
+pub mod ParsedLines
+mod Singles

@@ -1,0 +1,83 @@
+-- What a list contains, one line after another.
+use Rattle.std.proofs.Common.{◌≡◌, ℕ, Bool, true, false, List, [], ◌∷◌, ◌++◌, append_assoc, Option, refl, sym, ap, ◌∙◌}
+use Rattle.std.specs.Prelude.{map, ◌||◌}
+use Rattle.std.specs.List.{slice_split}
+use Rattle.std.proofs.lemmas.List.{append-nil}
+use Rattle.frr_text.specs.Words.{words}
+use Rattle.lsdb_listing.specs.declared.heading.Heading.{Heading}
+use Rattle.lsdb_listing.specs.declared.line_kind.LineKind.{LineKind}
+use Rattle.lsdb_listing.specs.declared.parsed_line.ParsedLine.{ParsedLine}
+use Rattle.lsdb_listing.specs.Headings.{line_kind_of, heading_after}
+use Rattle.lsdb_listing.specs.Lines.{Line, is_line_feed, lines}
+use Rattle.lsdb_listing.specs.Sorting.{has_line}
+use Rattle.lsdb_listing.specs.ParsedLines.{parsed_by, parsed_in}
+
+-- ---- lines
+
+pub first_line : (text line after : List ℕ) → slice_split is_line_feed text ≡ line ∷ slice_split is_line_feed after
+    → lines text ≡ words line ∷ lines after
+unfolding lines
+first_line text line after e = ap (map words) e
+
+pub last_line : (text line : List ℕ) → slice_split is_line_feed text ≡ line ∷ [] → lines text ≡ words line ∷ []
+unfolding lines
+last_line text line e = ap (map words) e
+
+-- ---- what they contain
+
+step : (heading : Option Heading) (line : Line) (others : List Line)
+    → parsed_in heading (line ∷ others) ≡ parsed_by heading line (line_kind_of line) ++ parsed_in (heading_after heading (line_kind_of line)) others
+unfolding parsed_in
+step heading line others = refl
+
+by_line_kind : (heading : Option Heading) (line_kind : LineKind) (line : Line) (here others : List Line) → here ≡ line ∷ others → line_kind ≡ line_kind_of line
+    → parsed_by heading line line_kind ++ parsed_in (heading_after heading line_kind) others ≡ parsed_in heading here
+by_line_kind heading line_kind line here others e m =
+    ap (λ (x : LineKind). parsed_by heading line x ++ parsed_in (heading_after heading x) others) m ∙ sym (step heading line others)
+    ∙ ap (parsed_in heading) (sym e)
+
+pub parsed_next : (before after all : List ParsedLine) (heading next : Option Heading) (line_kind : LineKind) (line : Line) (here others : List Line)
+    → here ≡ line ∷ others → line_kind ≡ line_kind_of line → after ≡ before ++ parsed_by heading line line_kind → next ≡ heading_after heading line_kind
+    → before ++ parsed_in heading here ≡ all → after ++ parsed_in next others ≡ all
+parsed_next before after all heading next line_kind line here others e m added n h =
+    ap (λ (x : List ParsedLine). x ++ parsed_in next others) added ∙ append_assoc before (parsed_by heading line line_kind) (parsed_in next others)
+    ∙ ap (λ (rest : List ParsedLine). before ++ rest)
+    (ap (λ (x : Option Heading). parsed_by heading line line_kind ++ parsed_in x others) n ∙ by_line_kind heading line_kind line here others e m)
+    ∙ h
+
+nothing : (heading : Option Heading) → parsed_in heading [] ≡ []
+unfolding parsed_in
+nothing heading = refl
+
+pub parsed_last : (before after all : List ParsedLine) (heading : Option Heading) (line_kind : LineKind) (line : Line) (here : List Line)
+    → here ≡ line ∷ [] → line_kind ≡ line_kind_of line → after ≡ before ++ parsed_by heading line line_kind → before ++ parsed_in heading here ≡ all → after ≡ all
+parsed_last before after all heading line_kind line here e m added h =
+    sym (append-nil after) ∙ ap (λ (rest : List ParsedLine). after ++ rest) (sym (nothing (heading_after heading line_kind)))
+    ∙ parsed_next before after all heading (heading_after heading line_kind) line_kind line here [] e m added refl h
+
+-- ---- whether a line of this kind stands there
+
+module _ (test : Line → Bool) (line : Line) (here : List Line) where
+  step_any : (others : List Line) → has_line test (line ∷ others) ≡ (test line || has_line test others)
+  unfolding has_line
+  step_any others = refl
+
+  line_at : (others : List Line) → here ≡ line ∷ others → has_line test here ≡ (test line || has_line test others)
+  line_at others e = ap (has_line test) e ∙ step_any others
+
+  pub line_here : (others : List Line) → here ≡ line ∷ others → test line ≡ true → has_line test here ≡ true
+  line_here others e h = line_at others e ∙ ap (λ (b : Bool). b || has_line test others) h
+
+  pub line_later : (others : List Line) → here ≡ line ∷ others → test line ≡ false → has_line test here ≡ has_line test others
+  line_later others e h = line_at others e ∙ ap (λ (b : Bool). b || has_line test others) h
+
+  or_false : (b : Bool) → (b || false) ≡ b
+  or_false true = refl
+  or_false false = refl
+
+  no_line : has_line test [] ≡ false
+  unfolding has_line
+  no_line = refl
+
+  pub line_last : here ≡ line ∷ [] → has_line test here ≡ test line
+  line_last e = line_at [] e ∙ ap (λ (b : Bool). test line || b) no_line ∙ or_false (test line)

@@ -1,0 +1,9 @@
+pub mod Lines
+pub mod Labels
+pub mod Headings
+pub mod Rows
+pub mod ParsedLines
+pub mod Sorting
+pub mod Comparing
+pub mod Once
+pub mod Texts

@@ -1,0 +1,56 @@
+-- What the lines of a list contain.
+use Rattle.std.specs.Prelude.{Bool, true, false, ◌==◌, List, [], ◌∷◌, ◌++◌, Option, Some, None, if◌then◌else◌}
+use Rattle.std.specs.Option.{option_to_list}
+use Rattle.lsa_codec.specs.declared.address.AreaId.{AreaId}
+use Rattle.lsa_instances.specs.declared.place.Scope.{Scope}
+use Rattle.lsa_instances.specs.Order.{scope_of_report}
+use Rattle.lsdb_listing.specs.declared.heading.Heading.{Heading}
+use Rattle.lsdb_listing.specs.declared.finding.ListFinding.TheVariants as findings
+use Rattle.lsdb_listing.specs.declared.line_kind.LineKind.{LineKind}
+use Rattle.lsdb_listing.specs.declared.line_kind.LineKind.TheVariants as kinds
+use Rattle.lsdb_listing.specs.declared.row.Row.{Row}
+use Rattle.lsdb_listing.specs.declared.parsed_line.ParsedLine.{ParsedLine}
+use Rattle.lsdb_listing.specs.declared.parsed_line.ParsedLine.TheVariants as contents
+use Rattle.lsdb_listing.specs.Lines.{Line}
+use Rattle.lsa_instances.specs.LsTypes.{link_opaque_lsa}
+use Rattle.lsdb_listing.specs.Headings.{line_kind_of, heading_after}
+use Rattle.lsdb_listing.specs.Rows.{row_under, area_under}
+
+abbrev pub in_scope : Row → Option Scope → ParsedLine
+in_scope row None = contents.Finding (findings.NoArea row.key)
+in_scope row (Some scope) =
+    contents.Header (record { place = record { scope = scope; key = row.key }; instance = row.instance; age = row.age })
+
+-- of link scope (RFC 5250, 2): two links of an area may have LSAs of one key
+abbrev pub is_of_link : Row → Bool
+is_of_link row = row.key.kind == link_opaque_lsa
+
+-- the LSA has the scope of its LS type in the area of the heading; one of link scope is ignored
+abbrev pub parsed_row : Option AreaId → Option Row → Option ParsedLine
+parsed_row area None = Some (contents.Finding findings.Unreadable)
+parsed_row area (Some row) = if is_of_link row then None else Some (in_scope row (scope_of_report row.key.kind area))
+
+abbrev pub row_below : Option Heading → Line → List ParsedLine
+row_below None line = []
+row_below (Some heading) line = option_to_list (parsed_row (area_under heading) (row_under heading line))
+
+-- a row contains its header; a heading that is not known is a finding, since its rows are not read; other lines add
+-- nothing
+abbrev pub parsed_by : Option Heading → Line → LineKind → List ParsedLine
+parsed_by heading line (kinds.Heading next) = []
+parsed_by heading line kinds.Start = []
+parsed_by heading line kinds.Foreign = contents.Finding findings.Unreadable ∷ []
+parsed_by heading line kinds.Idle = []
+parsed_by heading line kinds.Row = row_below heading line
+
+-- what the lines from here on contain, under the heading that stands before them
+unfoldable pub parsed_in : Option Heading → List Line → List ParsedLine
+parsed_in heading [] = []
+parsed_in heading (line ∷ others) = parsed_by heading line (line_kind_of line) ++ parsed_in (heading_after heading (line_kind_of line)) others
+
+abbrev pub is_heading : LineKind → Bool
+is_heading (kinds.Heading heading) = true
+is_heading kinds.Start = false
+is_heading kinds.Foreign = false
+is_heading kinds.Idle = false
+is_heading kinds.Row = false

@@ -1,0 +1,101 @@
+//! What the lines of a list contain.
+
+ghost use Rattle.std.specs.Prelude.{◌≡◌, ◌++◌, IfOk, OnOk, None};
+ghost use Rattle.lsa_instances.specs.Order.{scope_of_report};
+ghost use Rattle.frr_text.specs.Words.{words};
+ghost use Rattle.lsdb_listing.specs.Lines.{lines};
+ghost use Rattle.lsdb_listing.specs.ParsedLines.{in_scope, parsed_row, parsed_by, parsed_in};
+
+use crate::finding::ListFinding;
+use crate::heading::Heading;
+use crate::line::cut_at;
+use crate::line_kind::{LineKind, line_kind_of};
+use crate::row::{Row, row_under};
+use lsa_codec::AreaId;
+use lsa_instances::{Header, LINK_OPAQUE_LSA, Place, Scope};
+use std::alloc::{AllocError, Allocator};
+
+/// What a line contains.
+#[derive(Clone, Copy, Debug)]
+pub(crate) enum ParsedLine {
+    /// A header.
+    Header(Header),
+    /// A finding: the line has no usable header.
+    Finding(ListFinding),
+}
+
+/// The header of a row whose LSA has this scope, or a finding where it has none.
+fn in_scope(row: Row, scope: Option<Scope>) -> ParsedLine
+    ensures { result ≡ in_scope row scope }
+{
+    match scope {
+        None => ParsedLine::Finding(ListFinding::NoArea(row.key)),
+        Some(scope) => ParsedLine::Header(Header {
+            place: Place {
+                scope,
+                key: row.key,
+            },
+            instance: row.instance,
+            age: row.age,
+        }),
+    }
+}
+
+/// What a row contains under the heading of an area, or of none. A row of an LSA of link scope is
+/// ignored.
+fn parsed_row(area: Option<AreaId>, row: Option<Row>) -> Option<ParsedLine>
+    ensures { result ≡ parsed_row area row }
+{
+    let Some(row) = row else {
+        return Some(ParsedLine::Finding(ListFinding::Unreadable));
+    };
+    if row.key.kind == LINK_OPAQUE_LSA {
+        return None;
+    }
+    Some(in_scope(row, Scope::of(row.key.kind, area)))
+}
+
+/// Adds what a line contains.
+fn parse_line<A: Allocator + Copy>(
+    parsed: &mut Vec<ParsedLine, A>,
+    heading: Option<Heading>,
+    line: &[u8],
+    line_kind: LineKind,
+) -> Result<(), AllocError>
+    ensures { OnOk result (parsed.new.items
+        ≡ parsed.old.items ++ parsed_by heading (words line.now) line_kind) }
+{
+    match (line_kind, heading) {
+        (LineKind::Foreign, _) => {
+            parsed.push(ParsedLine::Finding(ListFinding::Unreadable))?;
+            Ok(())
+        }
+        (LineKind::Row, Some(heading)) => {
+            if let Some(one) = parsed_row(heading.area(), row_under(heading, line)) {
+                parsed.push(one)?;
+            }
+            Ok(())
+        }
+        _ => Ok(()),
+    }
+}
+
+/// What the lines of a text contain, from the first line to the last.
+pub(crate) fn parse_all<A: Allocator + Copy>(
+    alloc: A,
+    text: &[u8],
+) -> Result<Vec<ParsedLine, A>, AllocError>
+    ensures { IfOk result (λ parsed. parsed.items ≡ parsed_in None (lines text.now)) }
+{
+    let mut parsed = Vec::new(alloc);
+    let mut heading = None;
+    let mut rest = text;
+    while let Some((line, after)) = cut_at(rest, b'\n') {
+        let line_kind = line_kind_of(line);
+        parse_line(&mut parsed, heading, line, line_kind)?;
+        heading = line_kind.heading_after(heading);
+        rest = after;
+    }
+    parse_line(&mut parsed, heading, rest, line_kind_of(rest))?;
+    Ok(parsed)
+}

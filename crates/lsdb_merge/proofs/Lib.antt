@@ -1,0 +1,9 @@
+mod Growing
+mod Placed
+mod Counted
+mod Sections
+mod Rising
+mod ReportedScopes
+mod AnyOrder
+mod Heads
+mod Joined

@@ -1,6 +1,0 @@
-use Rattle.std.proofs.Common.{◌≡◌, take}
-use Rattle.network_files.specs.Dumps.{sightings_of}
-use Rattle.network_files.proofs.dump.sightings_of.Given as goal
-
-abbrev pub invariant-loop-file : goal.invariant-loop-file
-invariant-loop-file g l = l.all.items ≡ sightings_of (take l.file-index l.files)

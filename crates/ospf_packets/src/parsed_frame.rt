@@ -1,0 +1,214 @@
+//! What a frame contains.
+
+ghost use Rattle.std.specs.Prelude.{◌≡◌, ◌≤◌, ◌++◌, length, map, IfOk, OnOk};
+ghost use Rattle.capture_files.specs.CaptureTexts.{packet_of};
+ghost use Rattle.ospf_packets.specs.Datagrams.{datagram_text};
+ghost use Rattle.ospf_packets.specs.Fragments.{datagram_of, joined, has_front};
+ghost use Rattle.ospf_packets.specs.Packets.{packet_text, ospf_of};
+ghost use Rattle.ospf_packets.specs.ParsedFrames.{flooded, parsed_hello, parsed_update, parsed_by_type, parsed_packet, parsed_joined, parsed_later, parsed_frame, parsed_in};
+
+use crate::datagram::Datagram;
+use crate::field::u32_at;
+use crate::fragment::{datagram_of, first_few, has_front, joined, last_few};
+use crate::header::{BEFORE_HEADERS, parse_headers_after};
+use crate::hello::{OPTIONS, SHORTEST_HELLO, kind_by_options};
+use crate::packet::{PACKET_HEADER, Packet, lack, ospf_of};
+use crate::update::{Flooded, parse_lsas};
+use crate::warning::FrameWarning;
+use capture_files::Frame;
+use lsa_codec::AreaId;
+use lsa_instances::{AreaReport, Header, Observation};
+use std::alloc::{AllocError, Allocator};
+
+/// The number of bytes of an update packet before its LSAs.
+const UPDATE_HEADER: usize = 28;
+
+/// What a frame contains, or a warning about it.
+#[derive(Debug, Drop)]
+pub(crate) enum ParsedFrame<A: Allocator> {
+    /// An LSA.
+    Lsa(Observation<A>),
+    /// The kind of an area.
+    Kind(AreaReport),
+    /// The header of an LSA, without its body.
+    Header(Header),
+    /// A warning: the frame, or a part of it, is not used.
+    Warning(FrameWarning),
+}
+
+/// What the packet says about all of its LSAs.
+fn flooded(seen: Option<u64>, packet: Packet<'_>) -> Flooded
+    requires { 24 ≤ length packet.bytes.now }
+    ensures { result ≡ flooded seen (packet_text packet.entry) }
+{
+    Flooded {
+        area: AreaId(u32_at(packet.bytes, 8)),
+        seen,
+        whole: packet.whole,
+    }
+}
+
+/// Adds what a Hello packet contains.
+fn parse_hello<A: Allocator + Copy>(
+    parsed: &mut Vec<ParsedFrame<A>, A>,
+    by: Flooded,
+    packet: &[u8],
+) -> Result<(), AllocError>
+    ensures { OnOk result (parsed.new.items ≡ parsed.old.items ++ parsed_hello by packet.now) }
+{
+    if packet.len() < SHORTEST_HELLO {
+        parsed.push(ParsedFrame::Warning(lack(by.whole)))?;
+        return Ok(());
+    }
+    let id = by.area;
+    let kind = kind_by_options(packet[OPTIONS]);
+    parsed.push(ParsedFrame::Kind(AreaReport { id, kind }))?;
+    Ok(())
+}
+
+/// Adds what a Link State Update packet contains.
+fn parse_update<A: Allocator + Copy>(
+    alloc: A,
+    parsed: &mut Vec<ParsedFrame<A>, A>,
+    by: Flooded,
+    packet: &[u8],
+) -> Result<(), AllocError>
+    ensures { OnOk result (parsed.new.items ≡ parsed.old.items ++ parsed_update by packet.now) }
+{
+    if packet.len() < UPDATE_HEADER {
+        parsed.push(ParsedFrame::Warning(lack(by.whole)))?;
+        return Ok(());
+    }
+    let count = u32_at(packet, 24);
+    parse_lsas(alloc, parsed, by, count, &packet[UPDATE_HEADER..])
+}
+
+/// Adds what a packet of this type contains.
+fn parse_by_type<A: Allocator + Copy>(
+    alloc: A,
+    parsed: &mut Vec<ParsedFrame<A>, A>,
+    by: Flooded,
+    kind: u8,
+    packet: &[u8],
+) -> Result<(), AllocError>
+    ensures { OnOk result (parsed.new.items
+        ≡ parsed.old.items ++ parsed_by_type kind by packet.now) }
+{
+    match kind {
+        1 => parse_hello(parsed, by, packet),
+        4 => parse_update(alloc, parsed, by, packet),
+        2 => parse_headers_after(parsed, by, BEFORE_HEADERS, packet),
+        3 => Ok(()),
+        5 => parse_headers_after(parsed, by, PACKET_HEADER, packet),
+        _ => {
+            parsed.push(ParsedFrame::Warning(FrameWarning::OtherType))?;
+            Ok(())
+        }
+    }
+}
+
+/// Adds what the packet contains that is the payload of a datagram: all of it, or what is at hand.
+fn parse_packet<A: Allocator + Copy>(
+    alloc: A,
+    parsed: &mut Vec<ParsedFrame<A>, A>,
+    seen: Option<u64>,
+    whole: bool,
+    payload: &[u8],
+) -> Result<(), AllocError>
+    ensures { OnOk result (parsed.new.items
+        ≡ parsed.old.items ++ parsed_packet seen (ospf_of whole payload.now)) }
+{
+    match ospf_of(whole, payload) {
+        Ok(packet) => {
+            let by = flooded(seen, packet);
+            parse_by_type(alloc, parsed, by, packet.bytes[1], packet.bytes)
+        }
+        Err(warning) => {
+            parsed.push(ParsedFrame::Warning(warning))?;
+            Ok(())
+        }
+    }
+}
+
+/// Adds what the datagram contains that this fragment begins, where the other fragments stand in
+/// later frames.
+fn parse_joined<A: Allocator + Copy>(
+    alloc: A,
+    parsed: &mut Vec<ParsedFrame<A>, A>,
+    seen: Option<u64>,
+    first: Datagram<'_>,
+    after: &[Frame<'_>],
+) -> Result<(), AllocError>
+    ensures { OnOk result (parsed.new.items ≡ parsed.old.items ++ parsed_joined seen
+        (joined (datagram_text first.entry) first.entry.payload.now (map packet_of after.now))) }
+{
+    match joined(alloc, first, after)? {
+        Some(payload) => parse_packet(alloc, parsed, seen, true, &payload),
+        None => {
+            parsed.push(ParsedFrame::Warning(FrameWarning::MissingFragment))?;
+            Ok(())
+        }
+    }
+}
+
+/// Adds a warning for a fragment that does not begin its datagram, unless the one just before it is
+/// there.
+fn parse_later<A: Allocator + Copy>(
+    parsed: &mut Vec<ParsedFrame<A>, A>,
+    fragment: Datagram<'_>,
+    before: &[Frame<'_>],
+) -> Result<(), AllocError>
+    ensures { OnOk result (parsed.new.items ≡ parsed.old.items
+        ++ parsed_later (has_front (datagram_text fragment.entry) (map packet_of before.now))) }
+{
+    if !has_front(fragment, before) {
+        parsed.push(ParsedFrame::Warning(FrameWarning::MissingFragment))?;
+    }
+    Ok(())
+}
+
+/// Adds what a frame contains, which stands between other frames.
+#[tactic(auto, unfolding(crate::specs::ParsedFrames::parsed_frame))]
+fn parse_frame<A: Allocator + Copy>(
+    alloc: A,
+    parsed: &mut Vec<ParsedFrame<A>, A>,
+    before: &[Frame<'_>],
+    frame: &Frame<'_>,
+    after: &[Frame<'_>],
+) -> Result<(), AllocError>
+    ensures { OnOk result (parsed.new.items ≡ parsed.old.items ++ parsed_frame
+        (map packet_of before.now) (packet_of frame.now) (map packet_of after.now)) }
+{
+    match datagram_of(frame) {
+        Ok(datagram) => {
+            if datagram.before != 0 {
+                return parse_later(parsed, datagram, last_few(before));
+            }
+            if datagram.more && datagram.whole {
+                return parse_joined(alloc, parsed, frame.seen, datagram, first_few(after));
+            }
+            parse_packet(alloc, parsed, frame.seen, datagram.whole, datagram.payload)
+        }
+        Err(warning) => {
+            parsed.push(ParsedFrame::Warning(warning))?;
+            Ok(())
+        }
+    }
+}
+
+/// What each frame contains, one after another.
+#[tactic(auto, using(crate::proofs::ParsedFrames::parsed_next, crate::proofs::ParsedFrames::parsed_all))]
+pub(crate) fn parse_all<A: Allocator + Copy>(
+    alloc: A,
+    frames: &[Frame<'_>],
+) -> Result<Vec<ParsedFrame<A>, A>, AllocError>
+    ensures { IfOk result (λ parsed. parsed.items ≡ parsed_in (map packet_of frames.now)) }
+{
+    let mut parsed = Vec::new(alloc);
+    for (index, frame) in frames.iter().enumerate() {
+        let before = &frames[..index];
+        let after = &frames[index + 1..];
+        parse_frame(alloc, &mut parsed, before, frame, after)?;
+    }
+    Ok(parsed)
+}

@@ -1,5 +1,0 @@
-pub mod Members
-pub mod Options
-pub mod Header
-pub mod Bodies
-pub mod DocumentsTold

@@ -1,9 +1,0 @@
-mod Growing
-mod Placed
-mod Counted
-mod Sections
-mod Rising
-mod ScopesTold
-mod AnyOrder
-mod Heads
-mod Joined

@@ -1,9 +1,0 @@
-use Rattle.std.proofs.lemmas.Result.{IfOk-weaker}
-use Rattle.sighted_database.proofs.ScopesTold.{scopes_of}
-use Rattle.sighted_database.proofs.scopes.scopes.Goals as goal
-
-pub returns-clause-all : goal.returns-clause-all
-returns-clause-all g c =
-    IfOk-weaker c.each_once.result _ _
-    (λ once h. scopes_of c.args.areas.now c.args.newest.now c.in_ok-scopes_told.field-0.items c.in_ok-sorted.field-0.items c.deref.result.now once.items
-    c.in_ok-scopes_told.ensures c.in_ok-sorted.ensures.same c.deref.ensures.value h) c.each_once.ensures

@@ -1,9 +1,0 @@
-use Rattle.table_report.proofs.Ascii.{behind_ascii}
-use Rattle.table_report.proofs.Octets.{behind_first}
-use Rattle.table_report.proofs.piece.write_octet.Goals as goal
-
-pub returns-clause-written : goal.returns-clause-written
-returns-clause-written c = behind_first c.write_marked.result _ _ c.write_marked.new.buffer c.write_marked.ensures.written
-
-pub returns-clause-ascii : goal.returns-clause-ascii
-returns-clause-ascii c = λ ascii. behind_ascii c.write_marked.result c.write_marked.new.buffer (c.write_marked.ensures.ascii ascii)
