@@ -3,7 +3,6 @@ use Rattle.std.specs.Prelude.{◌≡◌, ◌≢◌, ℕ, true, false, List, [], 
 use Rattle.std.specs.List.{filter_map, list_any}
 use Rattle.std.specs.Str.{IsUtf8}
 use Rattle.capture_files.specs.declared.fault.CaptureFault.TheVariants as captures
-use Rattle.capture_files.specs.declared.frame.End.{End}
 use Rattle.capture_files.specs.Captures.{IsCapture, IsCaptureFault}
 use Rattle.capture_files.specs.CaptureTexts.{Packet, CaptureText}
 use Rattle.json.specs.Json.{Json, document}
@@ -15,13 +14,11 @@ use Rattle.network_files.specs.declared.fault.FileFault.TheVariants as faults
 use Rattle.network_files.specs.declared.kind.FileKind.{FileKind}
 use Rattle.network_files.specs.declared.kind.FileKind.TheVariants as kinds
 use Rattle.network_files.specs.declared.parsed_file.ParsedFile.{ParsedFile}
-use Rattle.network_files.specs.declared.parsed_file.Warnings.{Warnings}
-use Rattle.network_files.specs.declared.parsed_file.Warnings.TheVariants.{Frames, Rows, Texts, Documents}
 use Rattle.network_files.specs.Kinds.{kind_of}
-use Rattle.ospf_packets.specs.declared.warning.FrameWarning.{FrameWarning}
+use Rattle.network_files.specs.PrintedFindings.{text_findings}
+use Rattle.ospf_packets.specs.Counting.{capture_findings}
 use Rattle.ospf_packets.specs.Sorting as packets
 use Rattle.ospf_packets.specs.ParsedFrames.{parsed_in as parsed_in_frames}
-use Rattle.frr_text.specs.declared.finding.TextFinding.{TextFinding}
 use Rattle.frr_text.specs.Sorting as prints
 use Rattle.frr_text.specs.ParsedParts.{parsed_in as parsed_in_words}
 use Rattle.frr_text.specs.Words.{words}
@@ -77,53 +74,25 @@ content_of_json {A} json = record {
   headers = [];
 }
 
--- ---- what cannot be used, or is missing
-
-module _ {A : Type 0} where
-  -- these warnings about the frames, in a capture that ends so
-  abbrev pub AreFrameWarnings : List FrameWarning → End → Warnings A → Type 0
-  AreFrameWarnings warnings end (Frames found last) = (found.items ≡ warnings) × (last ≡ end)
-  AreFrameWarnings warnings end (Rows findings) = ⊥
-  AreFrameWarnings warnings end (Texts findings) = ⊥
-  AreFrameWarnings warnings end (Documents findings) = ⊥
-
-  -- the findings of the walk
-  abbrev pub AreRowWarnings : List ℕ → Warnings A → Type 0
-  AreRowWarnings text (Frames found last) = ⊥
-  AreRowWarnings text (Rows findings) = AreFindings {A = A} (parsed_in_walk text) findings.items
-  AreRowWarnings text (Texts findings) = ⊥
-  AreRowWarnings text (Documents findings) = ⊥
-
-  -- what is printed of LSAs as a text, and cannot be used
-  abbrev pub AreTextWarnings : List TextFinding → Warnings A → Type 0
-  AreTextWarnings texts (Frames found last) = ⊥
-  AreTextWarnings texts (Rows findings) = ⊥
-  AreTextWarnings texts (Texts findings) = findings.items ≡ texts
-  AreTextWarnings texts (Documents findings) = ⊥
-
-  -- what is printed of LSAs in JSON, and cannot be used
-  abbrev pub AreDocumentWarnings : List TextFinding → Warnings A → Type 0
-  AreDocumentWarnings texts (Frames found last) = ⊥
-  AreDocumentWarnings texts (Rows findings) = ⊥
-  AreDocumentWarnings texts (Texts findings) = ⊥
-  AreDocumentWarnings texts (Documents findings) = findings.items ≡ texts
-
--- ---- files
+-- ---- files, with what cannot be used in them, or is missing
 
 pub record IsReadFromCapture {A : Type 0} (bytes : List ℕ) (file : ParsedFile A) : Type 0 where
   pub capture : CaptureText
   pub read : IsCapture bytes capture
   pub content : content_of file ≡ content_of_frames capture.packets
-  pub warnings : AreFrameWarnings (filter_map (packets.warning_of {A = A}) (parsed_in_frames capture.packets)) capture.end file.warnings
+  pub kind : file.kind ≡ kinds.Capture
+  pub findings : file.findings.items ≡ capture_findings (filter_map (packets.warning_of {A = A}) (parsed_in_frames capture.packets)) capture.end
 
 pub record IsReadFromWalk {A : Type 0} (bytes : List ℕ) (file : ParsedFile A) : Type 0 where
   pub content : content_of file ≡ content_of_walk bytes
-  pub warnings : AreRowWarnings bytes file.warnings
+  pub kind : file.kind ≡ kinds.Walk
+  pub findings : AreFindings {A = A} (parsed_in_walk bytes) file.findings.items
   pub read : list_any (walks.is_of_mib {A = A}) (parsed_in_walk bytes) ≡ true
 
 pub record IsReadFromText {A : Type 0} (bytes : List ℕ) (file : ParsedFile A) : Type 0 where
   pub content : content_of file ≡ content_of_text bytes
-  pub warnings : AreTextWarnings (filter_map (prints.finding_of {A = A}) (parsed_in_words None (words bytes))) file.warnings
+  pub kind : file.kind ≡ kinds.Printed
+  pub findings : file.findings.items ≡ text_findings (filter_map (prints.finding_of {A = A}) (parsed_in_words None (words bytes)))
 
 pub record IsReadFromJson {A : Type 0} (bytes : List ℕ) (file : ParsedFile A) : Type 0 where
   pub json : Json
@@ -131,7 +100,8 @@ pub record IsReadFromJson {A : Type 0} (bytes : List ℕ) (file : ParsedFile A) 
   pub read : document bytes ≡ Some json
   pub database : has_database json ≡ true
   pub content : content_of file ≡ content_of_json json
-  pub warnings : AreDocumentWarnings (filter_map (prints.finding_of {A = A}) (parsed_in_json json)) file.warnings
+  pub kind : file.kind ≡ kinds.Json
+  pub findings : file.findings.items ≡ text_findings (filter_map (prints.finding_of {A = A}) (parsed_in_json json))
 
 abbrev pub IsFileAs : {A : Type 0} → FileKind → List ℕ → ParsedFile A → Type 0
 IsFileAs kinds.Capture bytes file = IsReadFromCapture bytes file

@@ -6,7 +6,8 @@ ghost use Rattle.capture_files.specs.CaptureTexts.{capture_text};
 ghost use Rattle.network_files.specs.ParsedFiles.{IsReadFromCapture, IsRefusalOfCapture};
 
 use crate::fault::FileFault;
-use crate::parsed_file::{ParsedFile, Warnings};
+use crate::kind::FileKind;
+use crate::parsed_file::ParsedFile;
 use capture_files::{Capture, CaptureFault, read_capture};
 use ospf_packets::{Packets, read_frames};
 use std::alloc::Allocator;
@@ -36,12 +37,13 @@ pub(crate) fn read_capture_file<A: Allocator + Copy>(
         observations,
         kinds,
         headers,
-        warnings,
-    } = read_frames(alloc, &frames)?;
+        findings,
+    } = read_frames(alloc, &frames, end)?;
     Ok(ParsedFile {
+        kind: FileKind::Capture,
         observations,
         areas: kinds,
         headers,
-        warnings: Warnings::Frames(warnings, end),
+        findings,
     })
 }

@@ -36,8 +36,12 @@ fn observations_of<A: Allocator + Copy>(
     Ok(all)
 }
 
-/// The reports of areas in all files.
-fn areas_of<A: Allocator + Copy>(
+/// The reports of areas in all files, one file after another.
+///
+/// # Errors
+///
+/// Memory ran out.
+pub fn areas_of<A: Allocator + Copy>(
     alloc: A,
     files: &[ParsedFile<A>],
 ) -> Result<Vec<AreaReport, A>, AllocError>

@@ -15,10 +15,11 @@ mod kind;
 mod laws;
 mod parsed_file;
 mod printed;
+mod printed_findings;
 mod walk;
 
-pub use dump::dump_of_files;
+pub use dump::{areas_of, dump_of_files};
 pub use fault::FileFault;
 pub use kind::FileKind;
 pub use laws::{files_in_any_order, one_reading_of_a_file};
-pub use parsed_file::{ParsedFile, Warnings, read_file};
+pub use parsed_file::{ParsedFile, read_file};

@@ -9,29 +9,15 @@ use crate::fault::FileFault;
 use crate::kind::FileKind;
 use crate::printed::read_text_file;
 use crate::walk::read_walk_file;
-use capture_files::End;
-use frr_text::TextFinding;
+use findings::Finding;
 use lsa_instances::{AreaReport, Header, Observation};
-use ospf_packets::FrameWarning;
-use snmp_walk::WalkFinding;
 use std::alloc::{Allocator, Global};
-
-/// What cannot be used in a file, or is missing in it.
-#[derive(Debug, Drop)]
-pub enum Warnings<A: Allocator = Global> {
-    /// The warnings about the frames of a capture, and how the capture ends.
-    Frames(Vec<FrameWarning, A>, End),
-    /// What is missing in a walk, or cannot be used.
-    Rows(Vec<WalkFinding, A>),
-    /// What a router prints of LSAs as a text, and cannot be used.
-    Texts(Vec<TextFinding, A>),
-    /// What a router prints of LSAs in JSON, and cannot be used.
-    Documents(Vec<TextFinding, A>),
-}
 
 /// What a file contains, in the order of the file.
 #[derive(Debug, Drop)]
 pub struct ParsedFile<A: Allocator = Global> {
+    /// What kind of file it is.
+    pub kind: FileKind,
     /// The LSAs, byte for byte.
     pub observations: Vec<Observation<A>, A>,
     /// The areas and their kinds, one for each report in the file.
@@ -39,7 +25,7 @@ pub struct ParsedFile<A: Allocator = Global> {
     /// The headers of LSAs that stand without their bodies, in the packets of a capture.
     pub headers: Vec<Header, A>,
     /// What cannot be used, or is missing.
-    pub warnings: Warnings<A>,
+    pub findings: Vec<Finding, A>,
 }
 
 /// Reads a file of any kind.

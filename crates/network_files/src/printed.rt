@@ -4,7 +4,9 @@ ghost use Rattle.std.specs.Prelude.{◌≡◌, IfOk, IfErr};
 ghost use Rattle.network_files.specs.ParsedFiles.{IsReadFromText, IsRefusalOfText};
 
 use crate::fault::FileFault;
-use crate::parsed_file::{ParsedFile, Warnings};
+use crate::kind::FileKind;
+use crate::parsed_file::ParsedFile;
+use crate::printed_findings::text_findings;
 use frr_text::{Printed, read_printed};
 use std::alloc::Allocator;
 
@@ -21,10 +23,12 @@ pub(crate) fn read_text_file<A: Allocator + Copy>(
         kinds,
         findings,
     } = read_printed(alloc, bytes)?;
+    let findings = text_findings(alloc, &findings)?;
     Ok(ParsedFile {
+        kind: FileKind::Printed,
         observations,
         areas: kinds,
         headers: Vec::new(alloc),
-        warnings: Warnings::Texts(findings),
+        findings,
     })
 }

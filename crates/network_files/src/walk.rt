@@ -8,7 +8,8 @@ ghost use Rattle.snmp_walk.specs.ParsedObjects.{parsed_in};
 ghost use Rattle.snmp_walk.specs.Sorting.{observation_of, kind_of, is_of_mib};
 
 use crate::fault::FileFault;
-use crate::parsed_file::{ParsedFile, Warnings};
+use crate::kind::FileKind;
+use crate::parsed_file::ParsedFile;
 use snmp_walk::{Walk, WalkFault, read_walk};
 use std::alloc::Allocator;
 
@@ -44,9 +45,10 @@ pub(crate) fn read_walk_file<A: Allocator + Copy>(
         findings,
     } = walk_of(alloc, bytes)?;
     Ok(ParsedFile {
+        kind: FileKind::Walk,
         observations,
         areas: kinds,
         headers: Vec::new(alloc),
-        warnings: Warnings::Rows(findings),
+        findings,
     })
 }

@@ -3,10 +3,10 @@ use Rattle.std.specs.Prelude.{ℕ, List, [], ◌++◌, Option, Some, None, codes
 use Rattle.std.specs.Borrow.{Bor}
 use Rattle.capture_files.specs.declared.fault.CaptureFault.{CaptureFault}
 use Rattle.capture_files.specs.declared.fault.CaptureFault.TheVariants as captures
+use Rattle.capture_report.specs.declared.fault.RunFault.{RunFault}
+use Rattle.capture_report.specs.declared.fault.RunFault.TheVariants as runs
 use Rattle.lsdb_listing.specs.declared.fault.ListFault.{ListFault}
 use Rattle.lsdb_listing.specs.declared.fault.ListFault.TheVariants as lists
-use Rattle.network_dump.specs.declared.fault.RunFault.{RunFault}
-use Rattle.network_dump.specs.declared.fault.RunFault.TheVariants as runs
 use Rattle.network_files.specs.declared.fault.FileFault.{FileFault}
 use Rattle.network_files.specs.declared.fault.FileFault.TheVariants as files
 use Rattle.lsdb_merge.specs.declared.fault.JoinFault.{JoinFault}

@@ -2,9 +2,9 @@
 
 use crate::fault::{ExitFault, unlisted, unread};
 use crate::files::open_file;
+use capture_report::LONGEST_FILE;
 use lsdb::Database;
 use lsdb_listing::{PrintedList, list_lines, read_list};
-use network_dump::LONGEST_FILE;
 use streams::{Watched, read_whole};
 
 /// Opens a list, and reads it.

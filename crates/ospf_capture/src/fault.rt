@@ -3,9 +3,9 @@
 ghost use Rattle.std.specs.Prelude.{◌≡◌};
 ghost use Rattle.ospf_capture.specs.Exit.{index_of, named, unlisted, unread};
 
+use capture_report::RunFault;
 use lsdb_listing::ListFault;
 use lsdb_merge::JoinFault;
-use network_dump::RunFault;
 use network_files::FileFault;
 use std::alloc::{AllocError, AllocFailed};
 use streams::ReadFault;

@@ -6,18 +6,20 @@ ghost use Rattle.streams.specs.Watched.{has_failed};
 use crate::against::{against_lines, lists_of};
 use crate::arguments::Options;
 use crate::fault::{ExitFault, FileEnd, index_of, named};
-use crate::findings::database_finding_lines;
-use crate::unseen::unseen_lines;
-use lsa_codec::AreaId;
+use capture_report::{
+    RunFault, area_findings, database_findings, file_findings, file_line, header_findings, run,
+};
+use findings::finding_lines;
 use lsdb::Database;
 use lsdb_listing::PrintedList;
-use network_dump::{RunFault, run};
 use network_files::ParsedFile;
-use network_findings::{areas_without_kind, contradictions, file_line, findings_of};
 use replaced_files::{ReplaceFault, replace_file};
 use std::fs::{self, File};
 use std::io::{self, Write};
 use streams::Watched;
+
+/// What findings about all files together are found in.
+const DATABASE: &str = "database";
 
 /// Opens a file.
 pub(crate) fn open_file<'a>(rt: &HostRuntime, name: &'a str) -> Result<File, ExitFault<'a>> {
@@ -59,21 +61,6 @@ fn file_lines<'a>(
     Ok(lines)
 }
 
-/// Adds the lines of the findings in a file.
-fn put_findings<'a>(
-    rt: &HostRuntime,
-    lines: &mut String,
-    name: &str,
-    file: &ParsedFile,
-) -> Result<(), ExitFault<'a>> {
-    let findings = findings_of(rt.alloc(), file)?;
-    for finding in &findings {
-        let line = format!(in rt.alloc(); "{name}: {finding}\n")?;
-        lines.push_str(line.as_str())?;
-    }
-    Ok(())
-}
-
 /// The lines of the findings in each file.
 fn file_finding_lines<'a>(
     rt: &HostRuntime,
@@ -82,49 +69,26 @@ fn file_finding_lines<'a>(
 ) -> Result<String, ExitFault<'a>> {
     let mut lines = String::new(rt.alloc());
     for (name, file) in names.iter().zip(parsed) {
-        put_findings(rt, &mut lines, *name, file)?;
+        let findings = file_findings(rt.alloc(), file)?;
+        let file_lines = finding_lines(rt.alloc(), *name, &findings)?;
+        lines.push_str(file_lines.as_str())?;
     }
     Ok(lines)
 }
 
-/// The lines of the areas of which the files report two kinds, and of those in the dump whose kinds
-/// they do not report.
-fn area_lines<'a>(
-    rt: &HostRuntime,
-    parsed: &[ParsedFile],
-    database: &Database,
-) -> Result<String, ExitFault<'a>> {
-    let both = contradictions(rt.alloc(), parsed)?;
-    let mut lines = lines_of_areas(rt, "BothKinds", &both)?;
-    let neither = areas_without_kind(rt.alloc(), database, parsed)?;
-    lines.push_str(lines_of_areas(rt, "NoKind", &neither)?.as_str())?;
-    Ok(lines)
-}
-
-/// The lines of areas, after what is found about them.
-fn lines_of_areas<'a>(
-    rt: &HostRuntime,
-    what: &str,
-    areas: &[AreaId],
-) -> Result<String, ExitFault<'a>> {
-    let mut lines = String::new(rt.alloc());
-    for area in areas {
-        let line = format!(in rt.alloc(); "database: {what} area {area}\n")?;
-        lines.push_str(line.as_str())?;
-    }
-    Ok(lines)
-}
-
-/// The lines of the findings in each file, and in all of them together.
-fn finding_lines<'a>(
+/// The lines of the findings in each file, and in all of them together: about the kinds of areas,
+/// and about LSAs that headers name.
+fn all_finding_lines<'a>(
     rt: &HostRuntime,
     names: &[&str],
     parsed: &[ParsedFile],
     database: &Database,
 ) -> Result<String, ExitFault<'a>> {
     let mut lines = file_finding_lines(rt, names, parsed)?;
-    lines.push_str(area_lines(rt, parsed, database)?.as_str())?;
-    lines.push_str(unseen_lines(rt, parsed)?.as_str())?;
+    let areas = area_findings(rt.alloc(), database, parsed)?;
+    lines.push_str(finding_lines(rt.alloc(), DATABASE, &areas)?.as_str())?;
+    let headers = header_findings(rt.alloc(), parsed)?;
+    lines.push_str(finding_lines(rt.alloc(), DATABASE, &headers)?.as_str())?;
     Ok(lines)
 }
 
@@ -141,7 +105,8 @@ fn missing_lines<'a>(
     lists: &[PrintedList],
     database: &Database,
 ) -> Result<String, ExitFault<'a>> {
-    let mut lines = database_finding_lines(rt, database)?;
+    let findings = database_findings(rt.alloc(), database)?;
+    let mut lines = finding_lines(rt.alloc(), DATABASE, &findings)?;
     lines.push_str(against_lines(rt, against, lists, database)?.as_str())?;
     Ok(lines)
 }
@@ -173,7 +138,7 @@ pub(crate) fn make_dump<'a>(
     let database = database_of(rt, dump.as_slice())?;
     let missing = missing_lines(rt, options.against.as_slice(), &lists, &database)?;
     let given = file_lines(rt, names, &parsed)?;
-    let findings = finding_lines(rt, names, &parsed, &database)?;
+    let findings = all_finding_lines(rt, names, &parsed, &database)?;
     io::writer(rt)
         .write_all(given.as_bytes())
         .map_err(|_| ExitFault::Output)?;

@@ -1,7 +1,7 @@
 //! `ospf-capture`: a dump of a network's link state databases (RFC 2328), made from files that a
 //! network provides: packet captures, SNMP walks, and what its routers print.
 //!
-//! `run` of the crate `network_dump` is the whole run, over readers and a writer; `main` hands it
+//! `run` of the crate `capture_report` is the whole run, over readers and a writer; `main` hands it
 //! the files that the command line names, reports what each contains, and writes the dump.
 #![tactic(auto)]
 
@@ -11,9 +11,7 @@ mod command_line;
 mod exit;
 mod fault;
 mod files;
-mod findings;
 mod help;
-mod unseen;
 
 use arguments::{Options, OptionsFault};
 use clap::Error;

@@ -2,7 +2,7 @@
 use Rattle.std.proofs.Common.{◌≡◌, ℕ, suc, ◌+◌, ◌-◌, ◌<◌, ◌≤◌, List, [], ◌∷◌, ◌++◌, take, drop, Ok, Err, sym, ap, ◌∙◌}
 use Rattle.std.proofs.Common.{append_assoc, arith}
 use Rattle.std.proofs.lemmas.List.{append-nil}
-use Rattle.ospf_packets.specs.declared.warning.FrameWarning.{FrameWarning}
+use Rattle.findings.specs.declared.frame_warning.FrameWarning.{FrameWarning}
 use Rattle.ospf_packets.specs.declared.parsed_frame.ParsedFrame.{ParsedFrame}
 use Rattle.ospf_packets.specs.declared.parsed_frame.ParsedFrame.TheVariants as contents
 use Rattle.ospf_packets.specs.declared.update.Flooded.{Flooded}

@@ -1,7 +1,7 @@
 -- EtherTypes, tag by tag.
 use Rattle.std.proofs.Common.{◌≡◌, ℕ, ◌<◌, ◌≤◌, true, false, List, [], ◌∷◌, length, drop, Err, refl, arith}
 use Rattle.lsa_codec.specs.Fields.{number_at}
-use Rattle.ospf_packets.specs.declared.warning.FrameWarning.TheVariants.{Truncated}
+use Rattle.findings.specs.declared.frame_warning.FrameWarning.TheVariants.{Truncated}
 use Rattle.ospf_packets.specs.Links.{is_tag, untagged, after_type}
 
 pub tagged : (kind : ℕ) (bytes : List ℕ) → is_tag kind ≡ true → 4 ≤ length bytes

@@ -3,8 +3,8 @@ use Rattle.std.specs.Prelude.{ℕ, ◌-◌, ◌*◌, ◌/◌, ◌%◌, ◌==◌,
 use Rattle.std.specs.Prelude.{length, take, drop, Result, Ok, Err}
 use Rattle.lsa_codec.specs.Fields.{number_at, byte_at}
 use Rattle.ospf_packets.specs.declared.datagram.Datagram.{Datagram}
-use Rattle.ospf_packets.specs.declared.warning.FrameWarning.{FrameWarning}
-use Rattle.ospf_packets.specs.declared.warning.FrameWarning.TheVariants.{NotIpv4, NotOspf, Truncated, BadLength}
+use Rattle.findings.specs.declared.frame_warning.FrameWarning.{FrameWarning}
+use Rattle.findings.specs.declared.frame_warning.FrameWarning.TheVariants.{NotIpv4, NotOspf, Truncated, BadLength}
 
 -- a datagram, or a fragment of one, as values: what distinguishes the datagrams of one sender; the number of bytes of
 -- the payload before those of the fragment, and whether others follow them; the bytes of the payload that are at hand,

@@ -3,7 +3,7 @@ use Rattle.std.specs.Prelude.{ℕ, ◌+◌, ◌-◌, ◌==◌, ◌&&◌, Bool, f
 use Rattle.std.specs.Prelude.{List, [], ◌∷◌, ◌++◌, length, take, drop, Option, Some, None, Result, Ok, Err}
 use Rattle.std.specs.List.{list_any}
 use Rattle.capture_files.specs.CaptureTexts.{Packet}
-use Rattle.ospf_packets.specs.declared.warning.FrameWarning.{FrameWarning}
+use Rattle.findings.specs.declared.frame_warning.FrameWarning.{FrameWarning}
 use Rattle.ospf_packets.specs.Datagrams.{DatagramText, ipv4_of}
 use Rattle.ospf_packets.specs.Links.{link_payload}
 

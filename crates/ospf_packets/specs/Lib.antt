@@ -8,3 +8,4 @@ pub mod Updates
 pub mod Headers
 pub mod ParsedFrames
 pub mod Sorting
+pub mod Counting

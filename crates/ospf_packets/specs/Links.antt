@@ -2,8 +2,8 @@
 use Rattle.std.specs.Prelude.{ℕ, ◌==◌, ◌||◌, Bool, nat_lt, if◌then◌else◌, List, ◌∷◌, length, drop, Result, Ok, Err}
 use Rattle.capture_files.specs.declared.frame.LinkType.{LinkType}
 use Rattle.lsa_codec.specs.Fields.{number_at}
-use Rattle.ospf_packets.specs.declared.warning.FrameWarning.{FrameWarning}
-use Rattle.ospf_packets.specs.declared.warning.FrameWarning.TheVariants.{OtherLink, NotIpv4, Truncated}
+use Rattle.findings.specs.declared.frame_warning.FrameWarning.{FrameWarning}
+use Rattle.findings.specs.declared.frame_warning.FrameWarning.TheVariants.{OtherLink, NotIpv4, Truncated}
 
 -- the EtherTypes of VLAN tags: IEEE 802.1Q, 802.1ad, and one that was used before it
 abbrev pub is_tag : ℕ → Bool

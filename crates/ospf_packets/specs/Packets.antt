@@ -2,8 +2,8 @@
 use Rattle.std.specs.Prelude.{ℕ, ◌==◌, ◌&&◌, ◌||◌, Bool, not, nat_le, nat_lt, if◌then◌else◌, List, length, take}
 use Rattle.std.specs.Prelude.{Result, Ok, Err}
 use Rattle.lsa_codec.specs.Fields.{number_at, byte_at}
-use Rattle.ospf_packets.specs.declared.warning.FrameWarning.{FrameWarning}
-use Rattle.ospf_packets.specs.declared.warning.FrameWarning.TheVariants.{Truncated, BadLength, OtherVersion, BadChecksum}
+use Rattle.findings.specs.declared.frame_warning.FrameWarning.{FrameWarning}
+use Rattle.findings.specs.declared.frame_warning.FrameWarning.TheVariants.{Truncated, BadLength, OtherVersion, BadChecksum}
 use Rattle.ospf_packets.specs.declared.packet.Packet.{Packet}
 use Rattle.ospf_packets.specs.Checksums.{is_checksum_good}
 

@@ -4,8 +4,8 @@ use Rattle.std.specs.Prelude.{length, drop}
 use Rattle.std.specs.Prelude.{Option, Some, None, Result, Ok, Err}
 use Rattle.capture_files.specs.CaptureTexts.{Packet}
 use Rattle.lsa_codec.specs.Fields.{number_at}
-use Rattle.ospf_packets.specs.declared.warning.FrameWarning.{FrameWarning}
-use Rattle.ospf_packets.specs.declared.warning.FrameWarning.TheVariants.{MissingFragment, OtherType}
+use Rattle.findings.specs.declared.frame_warning.FrameWarning.{FrameWarning}
+use Rattle.findings.specs.declared.frame_warning.FrameWarning.TheVariants.{MissingFragment, OtherType}
 use Rattle.ospf_packets.specs.declared.parsed_frame.ParsedFrame.{ParsedFrame}
 use Rattle.ospf_packets.specs.declared.parsed_frame.ParsedFrame.TheVariants as contents
 use Rattle.ospf_packets.specs.declared.update.Flooded.{Flooded}

@@ -3,7 +3,7 @@ use Rattle.std.specs.Prelude.{Option, Some, None}
 use Rattle.lsa_instances.specs.declared.header.Header.{Header}
 use Rattle.lsa_instances.specs.declared.observation.Observation.{Observation}
 use Rattle.lsa_instances.specs.declared.area.AreaReport.{AreaReport}
-use Rattle.ospf_packets.specs.declared.warning.FrameWarning.{FrameWarning}
+use Rattle.findings.specs.declared.frame_warning.FrameWarning.{FrameWarning}
 use Rattle.ospf_packets.specs.declared.parsed_frame.ParsedFrame.{ParsedFrame}
 use Rattle.ospf_packets.specs.declared.parsed_frame.ParsedFrame.TheVariants as contents
 

@@ -6,8 +6,8 @@ use Rattle.lsa_codec.specs.declared.fault.LsaFault.{LsaFault}
 use Rattle.lsa_codec.specs.Decoding.{decoded}
 use Rattle.lsa_codec.specs.Fields.{length_of, kind_of}
 use Rattle.lsa_instances.specs.Order.{scope_in}
-use Rattle.ospf_packets.specs.declared.warning.FrameWarning.{FrameWarning}
-use Rattle.ospf_packets.specs.declared.warning.FrameWarning.TheVariants.{BadLength, RefusedLsa}
+use Rattle.findings.specs.declared.frame_warning.FrameWarning.{FrameWarning}
+use Rattle.findings.specs.declared.frame_warning.FrameWarning.TheVariants.{BadLength, RefusedLsa}
 use Rattle.ospf_packets.specs.declared.parsed_frame.ParsedFrame.{ParsedFrame}
 use Rattle.ospf_packets.specs.declared.parsed_frame.ParsedFrame.TheVariants as contents
 use Rattle.ospf_packets.specs.declared.update.Flooded.{Flooded}

@@ -4,7 +4,7 @@ ghost use Rattle.std.specs.Prelude.{◌≡◌, ◌≤◌, length, Ok, Err, true,
 ghost use Rattle.ospf_packets.specs.Datagrams.{datagram_text, header_length_of, total_length_of, has_lengths, datagram_in, ipv4_of};
 
 use crate::field::{u16_at, u32_at};
-use crate::warning::FrameWarning;
+use findings::FrameWarning;
 
 /// The length in bytes of the shortest header of a datagram.
 const SHORTEST_HEADER: usize = 20;

@@ -7,8 +7,8 @@ ghost use Rattle.ospf_packets.specs.Fragments.{is_cut, datagram_of, is_same, goe
 
 use crate::datagram::{Datagram, ipv4_of};
 use crate::link::link_payload;
-use crate::warning::FrameWarning;
 use capture_files::Frame;
+use findings::FrameWarning;
 use std::alloc::{AllocError, Allocator};
 
 /// The other fragments of a datagram are looked for within this number of frames.

@@ -4,11 +4,12 @@
 //! A frame is read layer by layer: what it carries by its link type, an IPv4 datagram (RFC 791), an
 //! OSPF packet, and the LSAs of a Link State Update packet or the LSA headers of a Database
 //! Description or Link State Acknowledgment packet. Datagrams are joined from their fragments.
-//! [`read_frames`] answers what the frames of a capture contain, with warnings about what it cannot
+//! [`read_frames`] answers what the frames of a capture contain, with findings about what it cannot
 //! use.
 #![tactic(auto)]
 
 mod checksum;
+mod counting;
 mod datagram;
 mod field;
 mod fragment;
@@ -19,7 +20,5 @@ mod packet;
 mod packets;
 mod parsed_frame;
 mod update;
-mod warning;
 
 pub use packets::{Packets, read_frames};
-pub use warning::FrameWarning;

@@ -4,8 +4,8 @@ ghost use Rattle.std.specs.Prelude.{◌≡◌, ◌+◌, ◌≤◌, length, Ok, E
 ghost use Rattle.ospf_packets.specs.Links.{is_tag, untagged, after_type, after_header, link_payload};
 
 use crate::field::u16_at;
-use crate::warning::FrameWarning;
 use capture_files::LinkType;
+use findings::FrameWarning;
 
 /// The EtherType of IPv4.
 const IPV4: u16 = 0x0800;

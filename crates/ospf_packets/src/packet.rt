@@ -5,7 +5,7 @@ ghost use Rattle.ospf_packets.specs.Packets.{packet_text, lack, packet_length_of
 
 use crate::checksum::is_checksum_good;
 use crate::field::u16_at;
-use crate::warning::FrameWarning;
+use findings::FrameWarning;
 
 /// The length in bytes of the header of a packet.
 pub(crate) const PACKET_HEADER: usize = 24;

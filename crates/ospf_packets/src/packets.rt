@@ -3,16 +3,18 @@
 ghost use Rattle.std.specs.Prelude.{◌≡◌, IfOk, map};
 ghost use Rattle.std.specs.List.{filter_map};
 ghost use Rattle.capture_files.specs.CaptureTexts.{packet_of};
+ghost use Rattle.ospf_packets.specs.Counting.{capture_findings};
 ghost use Rattle.ospf_packets.specs.Sorting.{observation_of, kind_of, header_of, warning_of};
 ghost use Rattle.ospf_packets.specs.ParsedFrames.{parsed_in};
 
+use crate::counting::capture_findings;
 use crate::parsed_frame::{ParsedFrame, parse_all};
-use crate::warning::FrameWarning;
-use capture_files::Frame;
+use capture_files::{End, Frame};
+use findings::{Finding, FrameWarning};
 use lsa_instances::{AreaReport, Header, Observation};
 use std::alloc::{AllocError, Allocator, Global};
 
-/// What frames contain, in their order.
+/// What the frames of a capture contain, in their order.
 #[derive(Debug, Drop)]
 pub struct Packets<A: Allocator = Global> {
     /// The LSAs of Link State Update packets, byte for byte.
@@ -21,8 +23,9 @@ pub struct Packets<A: Allocator = Global> {
     pub kinds: Vec<AreaReport, A>,
     /// The LSA headers of Database Description and Link State Acknowledgment packets.
     pub headers: Vec<Header, A>,
-    /// Warnings: at most one for each frame, and one for each LSA that is refused.
-    pub warnings: Vec<FrameWarning, A>,
+    /// What cannot be used: each reason once, with the number of frames and LSAs; and after that,
+    /// if the capture ends in the middle of a record, where that begins.
+    pub findings: Vec<Finding, A>,
 }
 
 /// The LSA, if it is one.
@@ -104,6 +107,19 @@ fn warnings_of<A: Allocator + Copy>(
         .collect(alloc)
 }
 
+/// The findings in a capture that ends so.
+fn findings_of<A: Allocator + Copy>(
+    alloc: A,
+    parsed: &[ParsedFrame<A>],
+    end: End,
+) -> Result<Vec<Finding, A>, AllocError>
+    ensures { IfOk result (λ findings. findings.items
+        ≡ capture_findings (filter_map warning_of parsed.now) end) }
+{
+    let warnings = warnings_of(alloc, parsed)?;
+    capture_findings(alloc, &warnings, end)
+}
+
 /// The LSAs.
 fn observations_of<A: Allocator + Copy>(
     alloc: A,
@@ -118,7 +134,7 @@ fn observations_of<A: Allocator + Copy>(
         .collect(alloc)
 }
 
-/// Reads the OSPF packets of frames.
+/// Reads the OSPF packets of the frames of a capture that ends so.
 ///
 /// # Errors
 ///
@@ -126,6 +142,7 @@ fn observations_of<A: Allocator + Copy>(
 pub fn read_frames<A: Allocator + Copy>(
     alloc: A,
     frames: &[Frame<'_>],
+    end: End,
 ) -> Result<Packets<A>, AllocError>
     ensures observations { IfOk result (λ packets. packets.observations.items
         ≡ filter_map observation_of (parsed_in (map packet_of frames.now))) }
@@ -133,18 +150,18 @@ pub fn read_frames<A: Allocator + Copy>(
         ≡ filter_map (kind_of {A = A}) (parsed_in (map packet_of frames.now))) }
     ensures headers { IfOk result (λ packets. packets.headers.items
         ≡ filter_map (header_of {A = A}) (parsed_in (map packet_of frames.now))) }
-    ensures warnings { IfOk result (λ packets. packets.warnings.items
-        ≡ filter_map (warning_of {A = A}) (parsed_in (map packet_of frames.now))) }
+    ensures findings { IfOk result (λ packets. packets.findings.items ≡ capture_findings
+        (filter_map (warning_of {A = A}) (parsed_in (map packet_of frames.now))) end) }
 {
     let parsed = parse_all(alloc, frames)?;
     let kinds = kinds_of(alloc, &parsed)?;
     let headers = headers_of(alloc, &parsed)?;
-    let warnings = warnings_of(alloc, &parsed)?;
+    let findings = findings_of(alloc, &parsed, end)?;
     let observations = observations_of(alloc, parsed)?;
     Ok(Packets {
         observations,
         kinds,
         headers,
-        warnings,
+        findings,
     })
 }

@@ -6,7 +6,7 @@ ghost use Rattle.ospf_packets.specs.Updates.{lsa_length, parsed_lsa, parsed_lsas
 use crate::field::u16_at;
 use crate::packet::lack;
 use crate::parsed_frame::ParsedFrame;
-use crate::warning::FrameWarning;
+use findings::FrameWarning;
 use lsa_codec::{AreaId, Lsa, LsaFault};
 use lsa_instances::{Observation, Scope};
 use std::alloc::{AllocError, Allocator};

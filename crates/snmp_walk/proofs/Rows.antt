@@ -12,8 +12,9 @@ use Rattle.std.proofs.lemmas.Map.Views.{any-filter_same}
 use Rattle.lsa_codec.specs.declared.address.AreaId.{AreaId}
 use Rattle.lsa_codec.specs.Order.{area_cmp, key_cmp}
 use Rattle.lsa_codec.proofs.OrderLemmas.{area_exact, key_exact, then_both}
-use Rattle.snmp_walk.specs.declared.row.Row.{Row}
-use Rattle.snmp_walk.specs.Missing.{row_cmp, has, AreMissing}
+use Rattle.findings.specs.Order.{reported_cmp}
+use Rattle.findings.specs.declared.reported_lsa.ReportedLsa.{ReportedLsa}
+use Rattle.snmp_walk.specs.Missing.{has, AreMissing}
 
 area_of_row_exact : (a b : Option AreaId) → option_cmp area_cmp a b ≡ Equal → a ≡ b
 area_of_row_exact None None h = refl
@@ -21,7 +22,7 @@ area_of_row_exact None (Some b) h = cc
 area_of_row_exact (Some a) None h = cc
 area_of_row_exact (Some a) (Some b) h = ap (λ (id : AreaId). Some id) (area_exact a b h)
 
-row_exact : (a b : Row) → row_cmp a b ≡ Equal → a ≡ b
+row_exact : (a b : ReportedLsa) → reported_cmp a b ≡ Equal → a ≡ b
 row_exact a b h =
     let p = then_both (option_cmp area_cmp a.area b.area) (key_cmp a.key b.key) h in
     λ i. record { area = area_of_row_exact a.area b.area p.0 i; key = key_exact a.key b.key p.1 i }
@@ -31,14 +32,14 @@ eq_true Less h = cc
 eq_true Equal h = refl
 eq_true Greater h = cc
 
-pub left_over : (columns bytes : List Row) (these others : BTreeSet Row) (rows : List Row) → IsFromIterResult row_cmp columns these
-    → IsFromIterResult row_cmp bytes others → rows ≡ filter (λ row. not (contains row_cmp others row)) these.keys → AreMissing columns bytes rows
+pub left_over : (columns bytes : List ReportedLsa) (these others : BTreeSet ReportedLsa) (rows : List ReportedLsa) → IsFromIterResult reported_cmp columns these
+    → IsFromIterResult reported_cmp bytes others → rows ≡ filter (λ row. not (contains reported_cmp others row)) these.keys → AreMissing columns bytes rows
 left_over columns bytes these others rows h k e = record {
   which = λ row.
       ap (has row) e
-      ∙ any-filter_same (eq_by_cmp row_cmp row) (λ r. not (contains row_cmp others r)) (not (contains row_cmp others row))
-      (λ r same. ap (λ (x : Row). not (contains row_cmp others x)) (sym (row_exact row r (eq_true (row_cmp row r) same)))) these.keys
+      ∙ any-filter_same (eq_by_cmp reported_cmp row) (λ r. not (contains reported_cmp others r)) (not (contains reported_cmp others row))
+      (λ r same. ap (λ (x : ReportedLsa). not (contains reported_cmp others x)) (sym (row_exact row r (eq_true (reported_cmp row r) same)))) these.keys
       ∙ ap (λ b. not b && has row these.keys) (k.0 row)
       ∙ ap (λ b. not (has row bytes) && b) (h.0 row);
-  order = subst (λ l. IsStrictlySortedBy row_cmp l) (sym e) (IsStrictlySortedBy-filter row_cmp (λ row. not (contains row_cmp others row)) these.keys h.1);
+  order = subst (λ l. IsStrictlySortedBy reported_cmp l) (sym e) (IsStrictlySortedBy-filter reported_cmp (λ row. not (contains reported_cmp others row)) these.keys h.1);
 }

@@ -1,9 +1,9 @@
 -- What a walk contains, sorted by kind.
 use Rattle.std.specs.Prelude.{Bool, true, false, Option, Some, None}
-use Rattle.lsa_instances.specs.declared.observation.Observation.{Observation}
-use Rattle.snmp_walk.specs.declared.finding.WalkFinding.{WalkFinding}
-use Rattle.snmp_walk.specs.declared.finding.WalkFinding.TheVariants as findings
+use Rattle.findings.specs.declared.finding.Finding.{Finding}
+use Rattle.findings.specs.declared.finding.Finding.TheVariants as findings
 use Rattle.lsa_instances.specs.declared.area.AreaReport.{AreaReport}
+use Rattle.lsa_instances.specs.declared.observation.Observation.{Observation}
 use Rattle.snmp_walk.specs.declared.parsed_object.ParsedObject.{ParsedObject}
 use Rattle.snmp_walk.specs.declared.parsed_object.ParsedObject.TheVariants as contents
 
@@ -24,7 +24,7 @@ module _ {A : Type 0} where
   kind_of contents.Nothing = None
   kind_of contents.Foreign = None
 
-  abbrev pub finding_of : ParsedObject A → Option WalkFinding
+  abbrev pub finding_of : ParsedObject A → Option Finding
   finding_of (contents.Lsa row observation) = None
   finding_of (contents.Kind area) = None
   finding_of (contents.Finding finding) = Some finding
@@ -36,9 +36,8 @@ module _ {A : Type 0} where
   abbrev pub is_of_mib : ParsedObject A → Bool
   is_of_mib (contents.Lsa row observation) = true
   is_of_mib (contents.Kind area) = true
-  is_of_mib (contents.Finding (findings.Row row fault)) = true
-  is_of_mib (contents.Finding (findings.Kind area)) = true
-  is_of_mib (contents.Finding findings.Name) = false
+  is_of_mib (contents.Finding findings.UnreadableName) = false
+  is_of_mib (contents.Finding _) = true
   is_of_mib (contents.Row row) = true
   is_of_mib contents.Nothing = true
   is_of_mib contents.Foreign = false

@@ -4,7 +4,7 @@ use Rattle.std.specs.Int.{w32, from_be_bytes}
 use Rattle.std.specs.List.{slice_split}
 use Rattle.lsa_codec.specs.declared.address.AreaId.{AreaId}
 use Rattle.lsa_codec.specs.declared.key.Key.{Key}
-use Rattle.snmp_walk.specs.declared.row.Row.{Row}
+use Rattle.findings.specs.declared.reported_lsa.ReportedLsa.{ReportedLsa}
 use Rattle.snmp_walk.specs.declared.subject.Subject.{Subject}
 use Rattle.snmp_walk.specs.declared.subject.Subject.TheVariants.{Kind, Bytes, Column, Other, Unreadable, Foreign}
 use Rattle.snmp_walk.specs.Text.{is_dot, after}
@@ -34,13 +34,13 @@ key_in (arc ∷ names) = do
   Some (record { kind = kind; id = record { 0 = id }; adv = record { 0 = adv } })
 
 -- the row of a table outside of the areas
-unfoldable pub as_row : List ℕ → Option Row
+unfoldable pub as_row : List ℕ → Option ReportedLsa
 as_row index = do
   key ← key_in index
   Some (record { area = None; key = key })
 
 -- the row of the area's LSA
-unfoldable pub area_row : List ℕ → Option Row
+unfoldable pub area_row : List ℕ → Option ReportedLsa
 area_row index = do
   area ← address_of (take 4 index)
   key ← key_in (drop 4 index)
@@ -51,7 +51,7 @@ kind_subject None = Unreadable
 kind_subject (Some area) = Kind (record { 0 = area })
 
 -- the column with this number has the bytes of the LSA
-abbrev pub row_subject : ℕ → ℕ → Option Row → Subject
+abbrev pub row_subject : ℕ → ℕ → Option ReportedLsa → Subject
 row_subject bytes column None = Unreadable
 row_subject bytes column (Some row) = if column == bytes then Bytes row else Column row
 

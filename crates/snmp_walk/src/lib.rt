@@ -5,20 +5,16 @@
 #![tactic(auto)]
 
 mod fault;
-mod finding;
 mod laws;
 mod missing;
 mod name;
 mod object;
 mod parsed_object;
-mod row;
 mod subject;
 mod text;
 mod value;
 mod walk;
 
 pub use fault::WalkFault;
-pub use finding::{RowFault, WalkFinding};
 pub use laws::printed_bytes_are_read;
-pub use row::Row;
 pub use walk::{Walk, read_walk};

@@ -3,16 +3,16 @@
 ghost use Rattle.std.specs.Prelude.{◌≡◌, ◌++◌, IfOk, OnOk, not, map, filter};
 ghost use Rattle.std.specs.BTreeSet.{IsFromIterResult, IsOrdered, contains};
 ghost use Rattle.std.specs.List.{filter_map};
-ghost use Rattle.snmp_walk.specs.Missing.{row_cmp, column_row, bytes_row, missing_row, AreMissing};
+ghost use Rattle.findings.specs.Order.{reported_cmp};
+ghost use Rattle.snmp_walk.specs.Missing.{column_row, bytes_row, missing_row, AreMissing};
 
-use crate::finding::{RowFault, WalkFinding};
 use crate::parsed_object::ParsedObject;
-use crate::row::Row;
+use findings::{Finding, ReportedLsa, UnusedReason};
 use std::alloc::{AllocError, Allocator};
 use std::collections::BTreeSet;
 
 /// The row of a column other than the bytes.
-fn column_row<A: Allocator + Copy>(parsed: &ParsedObject<A>) -> Option<Row>
+fn column_row<A: Allocator + Copy>(parsed: &ParsedObject<A>) -> Option<ReportedLsa>
     ensures { result ≡ column_row parsed.now }
 {
     match parsed {
@@ -22,12 +22,12 @@ fn column_row<A: Allocator + Copy>(parsed: &ParsedObject<A>) -> Option<Row>
 }
 
 /// The row whose bytes are there, whether they are an LSA or not.
-fn bytes_row<A: Allocator + Copy>(parsed: &ParsedObject<A>) -> Option<Row>
+fn bytes_row<A: Allocator + Copy>(parsed: &ParsedObject<A>) -> Option<ReportedLsa>
     ensures { result ≡ bytes_row parsed.now }
 {
     match parsed {
         ParsedObject::Lsa(row, _) => Some(*row),
-        ParsedObject::Finding(WalkFinding::Row(row, _)) => Some(*row),
+        ParsedObject::Finding(Finding::Unused(row, _)) => Some(*row),
         _ => None,
     }
 }
@@ -36,9 +36,9 @@ fn bytes_row<A: Allocator + Copy>(parsed: &ParsedObject<A>) -> Option<Row>
 fn columns_of<A: Allocator + Copy>(
     alloc: A,
     parsed: &[ParsedObject<A>],
-) -> Result<BTreeSet<Row, A>, AllocError>
+) -> Result<BTreeSet<ReportedLsa, A>, AllocError>
     ensures { IfOk result
-        (λ rows. IsFromIterResult row_cmp (filter_map column_row parsed.now) rows) }
+        (λ rows. IsFromIterResult reported_cmp (filter_map column_row parsed.now) rows) }
 {
     parsed
         .iter()
@@ -50,9 +50,9 @@ fn columns_of<A: Allocator + Copy>(
 fn bytes_of<A: Allocator + Copy>(
     alloc: A,
     parsed: &[ParsedObject<A>],
-) -> Result<BTreeSet<Row, A>, AllocError>
+) -> Result<BTreeSet<ReportedLsa, A>, AllocError>
     ensures { IfOk result
-        (λ rows. IsFromIterResult row_cmp (filter_map bytes_row parsed.now) rows) }
+        (λ rows. IsFromIterResult reported_cmp (filter_map bytes_row parsed.now) rows) }
 {
     parsed
         .iter()
@@ -63,11 +63,11 @@ fn bytes_of<A: Allocator + Copy>(
 /// The rows that are not among others.
 fn without<A: Allocator + Copy>(
     alloc: A,
-    rows: &BTreeSet<Row, A>,
-    others: &BTreeSet<Row, A>,
-) -> Result<Vec<Row, A>, AllocError>
+    rows: &BTreeSet<ReportedLsa, A>,
+    others: &BTreeSet<ReportedLsa, A>,
+) -> Result<Vec<ReportedLsa, A>, AllocError>
     ensures { IfOk result (λ left. left.items
-        ≡ filter (λ row. not (contains row_cmp others.now row)) rows.now.keys) }
+        ≡ filter (λ row. not (contains reported_cmp others.now row)) rows.now.keys) }
 {
     rows.iter()
         .copied()
@@ -79,7 +79,7 @@ fn without<A: Allocator + Copy>(
 pub(crate) fn rows_missing<A: Allocator + Copy>(
     alloc: A,
     parsed: &[ParsedObject<A>],
-) -> Result<Vec<Row, A>, AllocError>
+) -> Result<Vec<ReportedLsa, A>, AllocError>
     ensures { IfOk result (λ rows. AreMissing
         (filter_map column_row parsed.now)
         (filter_map bytes_row parsed.now) rows.items) }
@@ -91,13 +91,13 @@ pub(crate) fn rows_missing<A: Allocator + Copy>(
 
 /// Adds the rows to the findings.
 pub(crate) fn add_missing<A: Allocator + Copy>(
-    findings: &mut Vec<WalkFinding, A>,
-    rows: &[Row],
+    findings: &mut Vec<Finding, A>,
+    rows: &[ReportedLsa],
 ) -> Result<(), AllocError>
     ensures { OnOk result (findings.new.items ≡ findings.old.items ++ map missing_row rows.now) }
 {
     for row in rows {
-        findings.push(WalkFinding::Row(*row, RowFault::Missing))?;
+        findings.push(Finding::Unused(*row, UnusedReason::Missing))?;
     }
     Ok(())
 }

@@ -4,11 +4,10 @@ ghost use Rattle.std.specs.Prelude.{◌≡◌, IfOk, OnOk, ◌++◌, List, ℕ};
 ghost use Rattle.snmp_walk.specs.ParsedObjects.{same_key, parsed_kind, placed, parsed_lsa, parsed_bytes, parsed_column, parsed_by, parsed_in};
 ghost use Rattle.snmp_walk.specs.steps.ParsedLines.{parsed_at, parsed_after};
 
-use crate::finding::{RowFault, WalkFinding};
 use crate::object::object_at;
-use crate::row::Row;
 use crate::subject::{Subject, subject_of};
 use crate::value::{bytes_in, is_end_of_view, kind_in};
+use findings::{Finding, ReportedLsa, UnusedReason};
 use lsa_codec::{AreaId, Key, Lsa, LsaFault};
 use lsa_instances::{AreaReport, Observation, Scope};
 use std::alloc::{AllocError, Allocator};
@@ -17,13 +16,13 @@ use std::alloc::{AllocError, Allocator};
 #[derive(Debug, Drop)]
 pub(crate) enum ParsedObject<A: Allocator> {
     /// The LSA of a row.
-    Lsa(Row, Observation<A>),
+    Lsa(ReportedLsa, Observation<A>),
     /// The kind of an area.
     Kind(AreaReport),
     /// What is missing.
-    Finding(WalkFinding),
+    Finding(Finding),
     /// Another column of a row.
-    Row(Row),
+    Row(ReportedLsa),
     /// An object of the MIB that is not needed here.
     Nothing,
     /// An object of another MIB.
@@ -46,19 +45,19 @@ fn parsed_kind<A: Allocator + Copy>(area: AreaId, value: &[u8]) -> ParsedObject<
     }
     match kind_in(value) {
         Some(kind) => ParsedObject::Kind(AreaReport { id: area, kind }),
-        None => ParsedObject::Finding(WalkFinding::Kind(area)),
+        None => ParsedObject::Finding(Finding::UnreadableKind(area)),
     }
 }
 
 /// The LSA of a row, in its scope.
-fn placed<A: Allocator + Copy>(row: Row, lsa: Lsa<A>) -> ParsedObject<A>
+fn placed<A: Allocator + Copy>(row: ReportedLsa, lsa: Lsa<A>) -> ParsedObject<A>
     ensures { result ≡ placed row lsa }
 {
     if !same_key(lsa.key(), row.key) {
-        return ParsedObject::Finding(WalkFinding::Row(row, RowFault::OtherKey(lsa.key())));
+        return ParsedObject::Finding(Finding::Unused(row, UnusedReason::OtherKey(lsa.key())));
     }
     match Scope::of(row.key.kind, row.area) {
-        None => ParsedObject::Finding(WalkFinding::Row(row, RowFault::NoArea)),
+        None => ParsedObject::Finding(Finding::Unused(row, UnusedReason::NoArea)),
         Some(scope) => ParsedObject::Lsa(
             row,
             Observation {
@@ -73,7 +72,7 @@ fn placed<A: Allocator + Copy>(row: Row, lsa: Lsa<A>) -> ParsedObject<A>
 /// What the bytes of a row contain.
 fn parsed_lsa<A: Allocator + Copy>(
     alloc: A,
-    row: Row,
+    row: ReportedLsa,
     bytes: &[u8],
 ) -> Result<ParsedObject<A>, AllocError>
     ensures { IfOk result (λ parsed. parsed ≡ parsed_lsa row bytes.now) }
@@ -83,18 +82,18 @@ fn parsed_lsa<A: Allocator + Copy>(
             if length == bytes.len() {
                 Ok(placed(row, lsa))
             } else {
-                Ok(ParsedObject::Finding(WalkFinding::Row(row, RowFault::Longer)))
+                Ok(ParsedObject::Finding(Finding::Unused(row, UnusedReason::Longer)))
             }
         }
         Err(LsaFault::OutOfMemory) => Err(AllocError),
-        Err(fault) => Ok(ParsedObject::Finding(WalkFinding::Row(row, RowFault::Refused(fault)))),
+        Err(fault) => Ok(ParsedObject::Finding(Finding::Unused(row, UnusedReason::Refused(fault)))),
     }
 }
 
 /// What the column with the bytes contains.
 fn parsed_bytes<A: Allocator + Copy>(
     alloc: A,
-    row: Row,
+    row: ReportedLsa,
     value: &[u8],
 ) -> Result<ParsedObject<A>, AllocError>
     ensures { IfOk result (λ parsed. parsed ≡ parsed_bytes row value.now) }
@@ -104,12 +103,12 @@ fn parsed_bytes<A: Allocator + Copy>(
     }
     match bytes_in(alloc, value)? {
         Some(bytes) => parsed_lsa(alloc, row, &bytes),
-        None => Ok(ParsedObject::Finding(WalkFinding::Row(row, RowFault::NotOctets))),
+        None => Ok(ParsedObject::Finding(Finding::Unused(row, UnusedReason::NotOctets))),
     }
 }
 
 /// What another column of a row contains.
-fn parsed_column<A: Allocator + Copy>(row: Row, value: &[u8]) -> ParsedObject<A>
+fn parsed_column<A: Allocator + Copy>(row: ReportedLsa, value: &[u8]) -> ParsedObject<A>
     ensures { result ≡ parsed_column row value.now }
 {
     if is_end_of_view(value) {
@@ -133,7 +132,7 @@ fn parsed_by<A: Allocator + Copy>(
         Subject::Bytes(row) => parsed_bytes(alloc, row, value),
         Subject::Column(row) => Ok(parsed_column(row, value)),
         Subject::Other => Ok(ParsedObject::Nothing),
-        Subject::Unreadable => Ok(ParsedObject::Finding(WalkFinding::Name)),
+        Subject::Unreadable => Ok(ParsedObject::Finding(Finding::UnreadableName)),
         Subject::Foreign => Ok(ParsedObject::Foreign),
     }
 }

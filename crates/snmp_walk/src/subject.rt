@@ -4,8 +4,8 @@ ghost use Rattle.std.specs.Prelude.{◌≡◌, IfOk};
 ghost use Rattle.snmp_walk.specs.Subjects.{byte_of, address_of, key_in, as_row, area_row, kind_subject, row_subject, entry_subject, inner_subject, subject_of};
 
 use crate::name::{arcs_after, head_of};
-use crate::row::Row;
 use crate::text::first_dot;
+use findings::ReportedLsa;
 use lsa_codec::{Addr, AreaId, Key, RouterId};
 use std::alloc::{AllocError, Allocator};
 
@@ -15,9 +15,9 @@ pub(crate) enum Subject {
     /// The kind of this area: `ospfImportAsExtern`.
     Kind(AreaId),
     /// The bytes of this row's LSA.
-    Bytes(Row),
+    Bytes(ReportedLsa),
     /// Another column of this row.
-    Column(Row),
+    Column(ReportedLsa),
     /// Another object of the MIB.
     Other,
     /// The name, or the index in it, cannot be read.
@@ -65,29 +65,29 @@ fn key_in(index: &[u32]) -> Option<Key>
 
 /// The row of a table that is not of areas.
 #[tactic(auto, unfolding(crate::specs::Subjects::as_row))]
-fn as_row(index: &[u32]) -> Option<Row>
+fn as_row(index: &[u32]) -> Option<ReportedLsa>
     ensures { result ≡ as_row index.now }
 {
     let key = key_in(index)?;
-    Some(Row { area: None, key })
+    Some(ReportedLsa { area: None, key })
 }
 
 /// The row of the table of the LSAs of areas.
 #[tactic(auto, unfolding(crate::specs::Subjects::area_row))]
-fn area_row(index: &[u32]) -> Option<Row>
+fn area_row(index: &[u32]) -> Option<ReportedLsa>
     ensures { result ≡ area_row index.now }
 {
     let (area, key) = index.split_at(index.len().min(4));
     let area = AreaId(address_of(area)?);
     let key = key_in(key)?;
-    Some(Row {
+    Some(ReportedLsa {
         area: Some(area),
         key,
     })
 }
 
 /// The subject of a row's object: the column with this number has the bytes.
-fn row_subject(bytes: u32, column: u32, row: Option<Row>) -> Subject
+fn row_subject(bytes: u32, column: u32, row: Option<ReportedLsa>) -> Subject
     ensures { result ≡ row_subject bytes column row }
 {
     match row {

@@ -8,9 +8,9 @@ ghost use Rattle.snmp_walk.specs.ParsedObjects.{parsed_in};
 ghost use Rattle.snmp_walk.specs.Sorting.{observation_of, kind_of, finding_of, is_of_mib};
 
 use crate::fault::WalkFault;
-use crate::finding::WalkFinding;
 use crate::missing::{add_missing, rows_missing};
 use crate::parsed_object::{ParsedObject, parse_all};
+use findings::Finding;
 use lsa_instances::{AreaReport, Observation};
 use std::alloc::{AllocError, Allocator, Global};
 
@@ -22,7 +22,7 @@ pub struct Walk<A: Allocator = Global> {
     /// The kinds of areas.
     pub kinds: Vec<AreaReport, A>,
     /// What is missing, or cannot be used.
-    pub findings: Vec<WalkFinding, A>,
+    pub findings: Vec<Finding, A>,
 }
 
 /// The LSA that an object contains.
@@ -46,7 +46,7 @@ fn kind_of<A: Allocator + Copy>(parsed: &ParsedObject<A>) -> Option<AreaReport>
 }
 
 /// The finding that an object causes.
-fn finding_of<A: Allocator + Copy>(parsed: &ParsedObject<A>) -> Option<WalkFinding>
+fn finding_of<A: Allocator + Copy>(parsed: &ParsedObject<A>) -> Option<Finding>
     ensures { result ≡ finding_of parsed.now }
 {
     match parsed {
@@ -61,7 +61,7 @@ fn is_of_mib<A: Allocator + Copy>(parsed: &ParsedObject<A>) -> bool
 {
     match parsed {
         ParsedObject::Foreign => false,
-        ParsedObject::Finding(WalkFinding::Name) => false,
+        ParsedObject::Finding(Finding::UnreadableName) => false,
         _ => true,
     }
 }
@@ -90,7 +90,7 @@ fn kinds_of<A: Allocator + Copy>(
 fn findings_of<A: Allocator + Copy>(
     alloc: A,
     parsed: &[ParsedObject<A>],
-) -> Result<Vec<WalkFinding, A>, AllocError>
+) -> Result<Vec<Finding, A>, AllocError>
     ensures { IfOk result (λ findings. findings.items ≡ filter_map finding_of parsed.now) }
 {
     parsed

@@ -6,7 +6,7 @@ mod answers;
 mod lent;
 
 use answers::{of_capture, of_database, of_file, of_observations, of_packets, of_printed, of_walk};
-use capture_files::read_capture;
+use capture_files::{End, read_capture};
 use failing_alloc::FailingAlloc;
 use frr_text::read_printed;
 use lent::{AREA, frames, observations, read_bytes};
@@ -89,7 +89,7 @@ fn answer_with(
         Call::Join => of_join(alloc, failing, growths),
         Call::Frames => {
             failing.set_remaining(growths);
-            of_packets(alloc, read_frames(failing, &frames()))
+            of_packets(alloc, read_frames(failing, &frames(), End::Whole))
         }
         _ => {
             let bytes = read_bytes(alloc, call)?;

@@ -1,6 +1,6 @@
 //! What pieces of walks contain. The walks are of FRR routers, and each value that is expected was
 //! worked out by hand from the columns of RFC 4750.
 
-mod findings;
 mod parsed;
 mod pieces;
+mod unused;

@@ -17,4 +17,4 @@ pub record IsReadAs {A : Type 0} (bytes : List ℕ) (observations : List (Observ
   pub database : has_database json ≡ true
   pub lsas : observations ≡ filter_map prints.observation_of (parsed_in_json json)
   pub areas : kinds ≡ filter_map (prints.kind_of {A = A}) (parsed_in_json json)
-  pub warnings : findings ≡ filter_map (prints.finding_of {A = A}) (parsed_in_json json)
+  pub unused : findings ≡ filter_map (prints.finding_of {A = A}) (parsed_in_json json)

@@ -1,10 +1,10 @@
 //! The dump of files of one network.
 
 use super::pieces::{CAPTURE, DUMP, JSON, TEXT, WALK};
-use capture_files::End;
+use findings::Finding;
 use lsa_codec::AreaId;
 use lsa_instances::{AreaKind, AreaReport, FlushedLsas};
-use network_files::{FileKind, ParsedFile, Warnings, dump_of_files, read_file};
+use network_files::{FileKind, ParsedFile, dump_of_files, read_file};
 use std::alloc::Global;
 use std::test::*;
 
@@ -70,7 +70,7 @@ fn a_cut_capture_contains_what_is_whole(rt: HostRuntime) -> Result<(), Fail> {
     };
     assert_eq!(rt; parsed.observations.len(), 0);
     assert!(rt; parsed.areas.as_slice() == [stub].as_slice());
-    assert!(rt; matches!(parsed.warnings, Warnings::Frames(_, End::Cut(118))));
+    assert!(rt; parsed.findings.as_slice() == [Finding::Cut(118)].as_slice());
     Ok(())
 }
 

@@ -6,7 +6,7 @@ use frr_text::Printed;
 use lsa_instances::{AreaReport, Header, Observation};
 use lsdb::Database;
 use lsdb_merge::JoinFault;
-use network_files::{FileFault, ParsedFile, Warnings};
+use network_files::{FileFault, ParsedFile};
 use ospf_packets::Packets;
 use refused_growths::Answer;
 use snmp_walk::{Walk, WalkFault};
@@ -68,8 +68,8 @@ pub(super) fn of_capture(
 
 /// What packets contain.
 fn packets_text(alloc: Global, packets: &Packets<&FailingAlloc>) -> Result<String, Fail> {
-    let warnings = packets.warnings.as_slice();
-    let mut text = format!(in alloc; "{warnings:?}\n")?;
+    let findings = packets.findings.as_slice();
+    let mut text = format!(in alloc; "{findings:?}\n")?;
     push_observations(&mut text, &packets.observations)?;
     push_kinds(&mut text, &packets.kinds)?;
     push_headers(&mut text, &packets.headers)?;
@@ -128,31 +128,10 @@ pub(super) fn of_printed(
     }
 }
 
-/// What cannot be used of a file.
-fn warnings_text(alloc: Global, warnings: &Warnings<&FailingAlloc>) -> Result<String, Fail> {
-    match warnings {
-        Warnings::Frames(warnings, end) => {
-            let warnings = warnings.as_slice();
-            Ok(format!(in alloc; "frames {warnings:?} {end:?}\n")?)
-        }
-        Warnings::Rows(findings) => {
-            let findings = findings.as_slice();
-            Ok(format!(in alloc; "rows {findings:?}\n")?)
-        }
-        Warnings::Texts(findings) => {
-            let findings = findings.as_slice();
-            Ok(format!(in alloc; "texts {findings:?}\n")?)
-        }
-        Warnings::Documents(findings) => {
-            let findings = findings.as_slice();
-            Ok(format!(in alloc; "documents {findings:?}\n")?)
-        }
-    }
-}
-
 /// What a file contains.
 fn file_text(alloc: Global, file: &ParsedFile<&FailingAlloc>) -> Result<String, Fail> {
-    let mut text = warnings_text(alloc, &file.warnings)?;
+    let (kind, findings) = (file.kind, file.findings.as_slice());
+    let mut text = format!(in alloc; "{kind:?} {findings:?}\n")?;
     push_observations(&mut text, &file.observations)?;
     push_kinds(&mut text, &file.areas)?;
     push_headers(&mut text, &file.headers)?;

@@ -1,29 +1,33 @@
 //! Datagrams that are put together, and fragments that are missing.
 
 use super::frames::{BACK, FRONT, MIDDLE, TWO_LSAS, UPDATE, whole, with};
-use capture_files::LinkType;
-use ospf_packets::{FrameWarning, Packets, read_frames};
+use capture_files::{End, Frame, LinkType};
+use findings::{Finding, FrameWarning};
+use ospf_packets::{Packets, read_frames};
+use std::alloc::{AllocError, Global};
 use std::test::*;
 
-/// Whether both LSAs are read, without a warning.
+/// What frames contain.
+fn read(alloc: Global, frames: &[Frame<'_>]) -> Result<Packets, AllocError> {
+    read_frames(alloc, frames, End::Whole)
+}
+
+/// Whether both LSAs are read, without a finding.
 fn is_whole(packets: &Packets) -> bool {
     match packets.observations.as_slice() {
         [first, second] => {
             let same = first.lsa.bytes() == &TWO_LSAS[62..134]
                 && second.lsa.bytes() == &TWO_LSAS[134..170];
-            same && packets.warnings.is_empty()
+            same && packets.findings.is_empty()
         }
         _ => false,
     }
 }
 
-/// Whether this number of fragments are missing, without another warning, and no LSA is read.
+/// Whether this number of fragments are missing, without another finding, and no LSA is read.
 fn is_missing(packets: &Packets, count: usize) -> bool {
-    let missing = packets
-        .warnings
-        .iter()
-        .all(|warning| *warning == FrameWarning::MissingFragment);
-    missing && packets.warnings.len() == count && packets.observations.is_empty()
+    let missing = Finding::Frames(FrameWarning::MissingFragment, count);
+    packets.findings.as_slice() == [missing].as_slice() && packets.observations.is_empty()
 }
 
 #[test]
@@ -32,14 +36,14 @@ fn fragments_are_put_together(rt: HostRuntime) -> Result<(), Fail> {
     let front = whole(LinkType::RAW, FRONT);
     let middle = whole(LinkType::RAW, MIDDLE);
     let back = whole(LinkType::RAW, BACK);
-    assert!(rt; is_whole(&read_frames(alloc, &[front, middle, back])?));
+    assert!(rt; is_whole(&read(alloc, &[front, middle, back])?));
     // A fragment that is seen twice.
-    assert!(rt; is_whole(&read_frames(alloc, &[front, middle, middle, back])?));
+    assert!(rt; is_whole(&read(alloc, &[front, middle, middle, back])?));
     // A frame between fragments contains what it contains alone.
     let update = whole(LinkType::ETHERNET, UPDATE);
-    let packets = read_frames(alloc, &[front, update, middle, back])?;
+    let packets = read(alloc, &[front, update, middle, back])?;
     assert_eq!(rt; packets.observations.len(), 3);
-    assert_eq!(rt; packets.warnings.len(), 0);
+    assert_eq!(rt; packets.findings.len(), 0);
     Ok(())
 }
 
@@ -49,11 +53,11 @@ fn missing_fragments_are_reported(rt: HostRuntime) -> Result<(), Fail> {
     let front = whole(LinkType::RAW, FRONT);
     let middle = whole(LinkType::RAW, MIDDLE);
     let back = whole(LinkType::RAW, BACK);
-    assert!(rt; is_missing(&read_frames(alloc, &[front])?, 1));
-    assert!(rt; is_missing(&read_frames(alloc, &[front, middle])?, 1));
-    assert!(rt; is_missing(&read_frames(alloc, &[front, back])?, 2));
-    assert!(rt; is_missing(&read_frames(alloc, &[middle, back])?, 1));
-    assert!(rt; is_missing(&read_frames(alloc, &[back, middle, front])?, 3));
+    assert!(rt; is_missing(&read(alloc, &[front])?, 1));
+    assert!(rt; is_missing(&read(alloc, &[front, middle])?, 1));
+    assert!(rt; is_missing(&read(alloc, &[front, back])?, 2));
+    assert!(rt; is_missing(&read(alloc, &[middle, back])?, 1));
+    assert!(rt; is_missing(&read(alloc, &[back, middle, front])?, 3));
     Ok(())
 }
 
@@ -66,7 +70,7 @@ fn fragments_of_other_datagrams_are_others(rt: HostRuntime) -> Result<(), Fail> 
     for place in [15, 19, 5] {
         let other = with(alloc, BACK, place, 0x77)?;
         let back = whole(LinkType::RAW, &other);
-        assert!(rt; is_missing(&read_frames(alloc, &[front, middle, back])?, 2));
+        assert!(rt; is_missing(&read(alloc, &[front, middle, back])?, 2));
     }
     Ok(())
 }

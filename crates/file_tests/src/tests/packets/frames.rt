@@ -1,9 +1,10 @@
 //! Frames of captures of FRR routers, byte for byte, and fragments of one of them, made by a
 //! separate program.
 
-use capture_files::{Frame, LinkType};
+use capture_files::{End, Frame, LinkType};
+use findings::{Finding, FrameWarning};
 use lsa_instances::Scope;
-use ospf_packets::{FrameWarning, Packets, read_frames};
+use ospf_packets::{Packets, read_frames};
 use std::alloc::{AllocError, Global};
 
 /// Ethernet. A Link State Update packet of area 0.0.0.0 with a network-LSA, from byte 62 on.
@@ -147,7 +148,7 @@ pub(in crate::tests) fn whole(link: LinkType, bytes: &[u8]) -> Frame<'_> {
 
 /// What a frame contains.
 pub(super) fn read(alloc: Global, link: LinkType, bytes: &[u8]) -> Result<Packets, AllocError> {
-    read_frames(alloc, &[whole(link, bytes)])
+    read_frames(alloc, &[whole(link, bytes)], End::Whole)
 }
 
 /// The bytes with another one at a place.
@@ -176,12 +177,12 @@ pub(super) fn with_word(
     with(alloc, &changed, place.saturating_add(1), low)
 }
 
-/// Whether one LSA alone is read, with these bytes and this scope, without a warning.
+/// Whether one LSA alone is read, with these bytes and this scope, without a finding.
 pub(super) fn is_only(packets: &Packets, scope: Scope, bytes: &[u8]) -> bool {
     match packets.observations.as_slice() {
         [one] => {
             let same = one.lsa.bytes() == bytes && one.scope == scope && one.seen == SEEN;
-            same && packets.warnings.is_empty() && packets.kinds.is_empty()
+            same && packets.findings.is_empty() && packets.kinds.is_empty()
         }
         _ => false,
     }
@@ -189,8 +190,6 @@ pub(super) fn is_only(packets: &Packets, scope: Scope, bytes: &[u8]) -> bool {
 
 /// Whether this is the only warning about the frames, and this number of LSAs are read.
 pub(super) fn is_warning(packets: &Packets, warning: FrameWarning, lsas: usize) -> bool {
-    match packets.warnings.as_slice() {
-        [one] => *one == warning && packets.observations.len() == lsas,
-        _ => false,
-    }
+    packets.findings.as_slice() == [Finding::Frames(warning, 1)].as_slice()
+        && packets.observations.len() == lsas
 }

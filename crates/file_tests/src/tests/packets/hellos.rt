@@ -36,6 +36,6 @@ fn a_password_is_no_part_of_the_checksum(rt: HostRuntime) -> Result<(), Fail> {
     let other = with(alloc, PASSWORD, 50, b'z')?;
     let packets = read(alloc, LinkType::ETHERNET, &other)?;
     assert_eq!(rt; packets.kinds.len(), 1);
-    assert_eq!(rt; packets.warnings.len(), 0);
+    assert_eq!(rt; packets.findings.len(), 0);
     Ok(())
 }

@@ -37,7 +37,7 @@ fn a_tag_and_a_digest_are_no_part_of_the_packet(rt: HostRuntime) -> Result<(), F
     let packets = read(alloc, LinkType::ETHERNET, DIGEST)?;
     assert_eq!(rt; packets.observations.len(), 1);
     assert!(rt; packets.observations[0].lsa.bytes() == &DIGEST[62..90]);
-    assert!(rt; packets.warnings.is_empty());
+    assert!(rt; packets.findings.is_empty());
     Ok(())
 }
 
@@ -47,7 +47,7 @@ fn an_update_contains_all_of_its_lsas_in_order(rt: HostRuntime) -> Result<(), Fa
     assert_eq!(rt; packets.observations.len(), 2);
     assert!(rt; packets.observations[0].lsa.bytes() == &TWO_LSAS[62..134]);
     assert!(rt; packets.observations[1].lsa.bytes() == &TWO_LSAS[134..170]);
-    assert!(rt; packets.warnings.is_empty());
+    assert!(rt; packets.findings.is_empty());
     Ok(())
 }
 
@@ -56,6 +56,6 @@ fn an_acknowledgment_contains_no_lsa(rt: HostRuntime) -> Result<(), Fail> {
     let packets = read(rt.alloc(), LinkType::ETHERNET, ACKNOWLEDGMENT)?;
     assert_eq!(rt; packets.observations.len(), 0);
     assert_eq!(rt; packets.kinds.len(), 0);
-    assert_eq!(rt; packets.warnings.len(), 0);
+    assert_eq!(rt; packets.findings.len(), 0);
     Ok(())
 }

@@ -1,0 +1,8 @@
+mod AreaSets
+pub mod Inputs
+pub mod NumberSets
+pub mod Parts
+mod PlaceOrder
+mod PlaceSets
+mod OneMore
+mod NewerHeaders

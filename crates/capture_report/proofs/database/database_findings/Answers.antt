@@ -1,0 +1,19 @@
+use Rattle.std.proofs.Common.{List, ◌++◌, ap, map, sym, ◌∙◌}
+use Rattle.std.specs.List.{flat_map}
+use Rattle.findings.specs.declared.finding.Finding.{Finding}
+use Rattle.capture_report.proofs.Parts.{flat_map-map}
+use Rattle.capture_report.proofs.database.database_findings.Goals as goal
+
+pub returns : goal.returns
+returns g c = record {
+  parts = map (λ part. part.items) c.in_ok-parts.parts.items;
+  last = c.in_ok-findings_of_as.field-0.items;
+  areas = c.in_ok-parts.ensures;
+  as_wide = c.in_ok-findings_of_as.ensures;
+  whole =
+      c.in_ok-extend_from_slice.ensures.items
+      ∙ ap (λ (xs : List Finding). c.in_ok-findings.findings.items ++ xs) c.deref-2.ensures.value
+      ∙ ap (λ (xs : List Finding). xs ++ c.in_ok-findings_of_as.field-0.items)
+      (c.in_ok-findings.ensures ∙ ap (flat_map (λ part. part.items)) c.deref.ensures.value
+      ∙ sym (flat_map-map (λ (part : List Finding). part) (λ part. part.items) c.in_ok-parts.parts.items));
+}

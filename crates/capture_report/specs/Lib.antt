@@ -1,0 +1,14 @@
+pub mod Areas
+pub mod Contradictions
+pub mod NoKind
+pub mod AreaFindings
+pub mod FileFindings
+pub mod FileLines
+pub mod Unseen
+pub mod Newer
+pub mod HeaderFindings
+pub mod Naming
+pub mod LeftOut
+pub mod DatabaseFindings
+pub mod Runs
+pub mod steps

@@ -1,0 +1,70 @@
+//! Areas, each once.
+
+ghost use Rattle.std.specs.Prelude.{◌≡◌, IfOk, map};
+ghost use Rattle.std.specs.BTreeSet.{IsFromIterResult};
+ghost use Rattle.std.specs.List.{filter_map};
+ghost use Rattle.lsa_codec.specs.Order.{area_cmp};
+ghost use Rattle.capture_report.specs.Areas.{area_in, reported_areas};
+
+use lsa_codec::AreaId;
+use lsa_instances::{AreaReport, Observation, Scope};
+use network_files::ParsedFile;
+use std::alloc::{AllocError, Allocator};
+use std::collections::BTreeSet;
+
+/// The area of a scope.
+fn area_in(scope: Scope) -> Option<AreaId>
+    ensures { result ≡ area_in scope }
+{
+    match scope {
+        Scope::Area(id) => Some(id),
+        Scope::AsWide => None,
+    }
+}
+
+/// The areas whose kind the file reports, one for each report.
+pub(crate) fn areas_of_kinds<A: Allocator + Copy>(
+    alloc: A,
+    kinds: &[AreaReport],
+) -> Result<Vec<AreaId, A>, AllocError>
+    ensures { IfOk result (λ areas. areas.items ≡ map (λ area. area.id) kinds.now) }
+{
+    kinds.iter().map(|area| area.id).collect(alloc)
+}
+
+/// The areas of LSAs, one for each LSA of an area.
+pub(crate) fn areas_of_lsas<A: Allocator + Copy>(
+    alloc: A,
+    observations: &[Observation<A>],
+) -> Result<Vec<AreaId, A>, AllocError>
+    ensures { IfOk result (λ areas. areas.items
+        ≡ filter_map (λ observation. area_in observation.scope) observations.now) }
+{
+    observations
+        .iter()
+        .filter_map(|observation| area_in(observation.scope))
+        .collect(alloc)
+}
+
+/// The areas of the file, one for each report of a kind and for each LSA of an area.
+pub(crate) fn reported_areas<A: Allocator + Copy>(
+    alloc: A,
+    file: &ParsedFile<A>,
+) -> Result<Vec<AreaId, A>, AllocError>
+    ensures { IfOk result (λ areas. areas.items ≡ reported_areas file.now) }
+{
+    let mut areas = areas_of_kinds(alloc, &file.areas)?;
+    let of_lsas = areas_of_lsas(alloc, &file.observations)?;
+    areas.extend_from_slice(&of_lsas)?;
+    Ok(areas)
+}
+
+/// Areas, each once, in order.
+pub(crate) fn once<A: Allocator + Copy>(
+    alloc: A,
+    areas: Vec<AreaId, A>,
+) -> Result<BTreeSet<AreaId, A>, AllocError>
+    ensures { IfOk result (λ set. IsFromIterResult area_cmp areas.items set) }
+{
+    areas.into_iter().collect(alloc)
+}

@@ -1,0 +1,212 @@
+//! What a database lacks.
+
+ghost use Rattle.std.specs.Prelude.{◌≡◌, ◌++◌, IfOk, OnOk, map};
+ghost use Rattle.std.specs.List.{AllZip, filter_map, flat_map};
+ghost use Rattle.lsdb.specs.Lists.{areas_of, lsas_of};
+ghost use Rattle.lsdb.specs.Slots.{lists_of};
+ghost use Rattle.lsdb.specs.declared.section.Section.TheVariants.{Area, AsWide};
+ghost use Rattle.capture_report.specs.DatabaseFindings.{AreDatabaseFindings, AreFindingsOfArea, AreFindingsOfAs, AreMissing, IsPartOf, asbr_finding, network_finding, router_finding, routers_anywhere};
+ghost use Rattle.capture_report.specs.Naming.{asbr_named, network_described, networks_named, router_described, routers_named};
+
+use crate::left_out::put_all_left_out;
+use crate::missing::missing;
+use crate::naming::{
+    asbrs_named, networks_described, networks_named, routers_described, routers_named,
+};
+use findings::Finding;
+use lsa_codec::{Addr, AreaId, RouterId};
+use lsa_instances::Scope;
+use lsdb::{Database, Section};
+use std::alloc::{AllocError, Allocator};
+
+/// The routers that LSAs of an area name, and that no LSA of the area describes.
+fn missing_routers<A: Allocator + Copy>(
+    alloc: A,
+    database: &Database<A>,
+    area: AreaId,
+) -> Result<Vec<u32, A>, AllocError>
+    ensures { IfOk result (λ routers. AreMissing
+        (flat_map routers_named (lsas_of (Area area) (lists_of database.now)))
+        (filter_map router_described (lsas_of (Area area) (lists_of database.now)))
+        routers.items) }
+{
+    let named = routers_named(alloc, database.lsas(Section::Area(area)))?;
+    let described = routers_described(alloc, database.lsas(Section::Area(area)))?;
+    missing(alloc, &named, &described)
+}
+
+/// The networks that LSAs of an area name, and that no LSA of the area describes.
+fn missing_networks<A: Allocator + Copy>(
+    alloc: A,
+    database: &Database<A>,
+    area: AreaId,
+) -> Result<Vec<u32, A>, AllocError>
+    ensures { IfOk result (λ networks. AreMissing
+        (flat_map networks_named (lsas_of (Area area) (lists_of database.now)))
+        (filter_map network_described (lsas_of (Area area) (lists_of database.now)))
+        networks.items) }
+{
+    let named = networks_named(alloc, database.lsas(Section::Area(area)))?;
+    let described = networks_described(alloc, database.lsas(Section::Area(area)))?;
+    missing(alloc, &named, &described)
+}
+
+/// The routers that have a router-LSA in some area.
+fn routers_anywhere<A: Allocator + Copy>(
+    alloc: A,
+    database: &Database<A>,
+) -> Result<Vec<u32, A>, AllocError>
+    ensures { IfOk result (λ ids. ids.items ≡ routers_anywhere (lists_of database.now)) }
+{
+    let mut found = Vec::new(alloc);
+    for i in 0..database.area_count() {
+        let (area, _is_stub) = database.area(i);
+        let described = routers_described(alloc, database.lsas(Section::Area(area)))?;
+        found.extend_from_slice(&described)?;
+    }
+    Ok(found)
+}
+
+/// The AS boundary routers of AS-external-LSAs, where no LSA of any area describes them.
+fn missing_asbrs<A: Allocator + Copy>(
+    alloc: A,
+    database: &Database<A>,
+) -> Result<Vec<u32, A>, AllocError>
+    ensures { IfOk result (λ routers. AreMissing
+        (filter_map asbr_named (lsas_of AsWide (lists_of database.now)))
+        (routers_anywhere (lists_of database.now)) routers.items) }
+{
+    let named = asbrs_named(alloc, database.lsas(Section::AsWide))?;
+    let described = routers_anywhere(alloc, database)?;
+    missing(alloc, &named, &described)
+}
+
+/// Adds the routers that are missing in an area.
+fn put_routers<A: Allocator + Copy>(
+    findings: &mut Vec<Finding, A>,
+    area: AreaId,
+    routers: &[u32],
+) -> Result<(), AllocError>
+    ensures { OnOk result
+        (findings.new.items ≡ findings.old.items ++ map (router_finding area) routers.now) }
+{
+    for id in routers {
+        findings.push(Finding::MissingRouter(area, RouterId(*id)))?;
+    }
+    Ok(())
+}
+
+/// Adds the networks that are missing in an area.
+fn put_networks<A: Allocator + Copy>(
+    findings: &mut Vec<Finding, A>,
+    area: AreaId,
+    networks: &[u32],
+) -> Result<(), AllocError>
+    ensures { OnOk result
+        (findings.new.items ≡ findings.old.items ++ map (network_finding area) networks.now) }
+{
+    for id in networks {
+        findings.push(Finding::MissingNetwork(area, Addr(*id)))?;
+    }
+    Ok(())
+}
+
+/// Adds the AS boundary routers that are missing.
+fn put_asbrs<A: Allocator + Copy>(
+    findings: &mut Vec<Finding, A>,
+    routers: &[u32],
+) -> Result<(), AllocError>
+    ensures { OnOk result (findings.new.items
+        ≡ findings.old.items ++ map asbr_finding routers.now) }
+{
+    for id in routers {
+        findings.push(Finding::MissingAsbr(RouterId(*id)))?;
+    }
+    Ok(())
+}
+
+/// The findings of an area.
+fn findings_of_area<A: Allocator + Copy>(
+    alloc: A,
+    database: &Database<A>,
+    area: AreaId,
+) -> Result<Vec<Finding, A>, AllocError>
+    ensures { IfOk result (λ findings.
+        AreFindingsOfArea area (lsas_of (Area area) (lists_of database.now)) findings.items) }
+{
+    let routers = missing_routers(alloc, database, area)?;
+    let networks = missing_networks(alloc, database, area)?;
+    let mut findings = Vec::new(alloc);
+    put_routers(&mut findings, area, &routers)?;
+    put_networks(&mut findings, area, &networks)?;
+    put_all_left_out(
+        &mut findings,
+        Scope::Area(area),
+        database,
+        Section::Area(area),
+    )?;
+    Ok(findings)
+}
+
+/// The findings of AS scope.
+fn findings_of_as<A: Allocator + Copy>(
+    alloc: A,
+    database: &Database<A>,
+) -> Result<Vec<Finding, A>, AllocError>
+    ensures { IfOk result (λ findings. AreFindingsOfAs (lists_of database.now) findings.items) }
+{
+    let routers = missing_asbrs(alloc, database)?;
+    let mut findings = Vec::new(alloc);
+    put_asbrs(&mut findings, &routers)?;
+    put_all_left_out(&mut findings, Scope::AsWide, database, Section::AsWide)?;
+    Ok(findings)
+}
+
+/// The findings of each area, in the order of the areas.
+fn findings_of_areas<A: Allocator + Copy>(
+    alloc: A,
+    database: &Database<A>,
+) -> Result<Vec<Vec<Finding, A>, A>, AllocError>
+    ensures { IfOk result (λ parts. AllZip (IsPartOf (lists_of database.now))
+        (areas_of (lists_of database.now)) (map (λ part. part.items) parts.items)) }
+{
+    let mut parts = Vec::new(alloc);
+    for i in 0..database.area_count() {
+        let (area, _is_stub) = database.area(i);
+        parts.push(findings_of_area(alloc, database, area)?)?;
+    }
+    Ok(parts)
+}
+
+/// All findings of these lists, one list after another.
+fn joined<A: Allocator + Copy>(
+    alloc: A,
+    parts: &[Vec<Finding, A>],
+) -> Result<Vec<Finding, A>, AllocError>
+    ensures { IfOk result (λ findings. findings.items ≡ flat_map (λ part. part.items) parts.now) }
+{
+    let mut findings = Vec::new(alloc);
+    for part in parts {
+        findings.extend_from_slice(part)?;
+    }
+    Ok(findings)
+}
+
+/// What the database lacks, and what the planner leaves out of it: for each area, in rising order,
+/// the routers that are missing, the networks, and what is left out; and after that the same of the
+/// LSAs of AS scope. Routers and networks rise, and each stands once.
+///
+/// # Errors
+///
+/// Memory ran out.
+pub fn database_findings<A: Allocator + Copy>(
+    alloc: A,
+    database: &Database<A>,
+) -> Result<Vec<Finding, A>, AllocError>
+    ensures { IfOk result (λ findings. AreDatabaseFindings (lists_of database.now) findings.items) }
+{
+    let parts = findings_of_areas(alloc, database)?;
+    let mut findings = joined(alloc, &parts)?;
+    findings.extend_from_slice(&findings_of_as(alloc, database)?)?;
+    Ok(findings)
+}

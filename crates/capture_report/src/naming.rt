@@ -1,0 +1,189 @@
+//! Which routers and networks LSAs name, and which they describe.
+
+ghost use Rattle.std.specs.Prelude.{◌≡◌, IfOk, map};
+ghost use Rattle.std.specs.List.{filter_map, flat_map};
+ghost use Rattle.lsa_codec.specs.Views.{attached_of};
+ghost use Rattle.capture_report.specs.Naming.{router_of_link, network_of_link, routers_named, networks_named, asbr_named, router_described, network_described};
+
+use lsa_codec::{
+    ASBR_SUMMARY_LSA, Attached, EXTERNAL_LSA, Link, LinkKind, Links, Lsa, NETWORK_LSA, ROUTER_LSA,
+    SUMMARY_LSA,
+};
+use lsdb::Lsas;
+use std::alloc::{AllocError, Allocator};
+
+/// The router that a link leads to.
+fn router_of_link(link: Link) -> Option<u32>
+    ensures { result ≡ router_of_link link }
+{
+    match link.kind {
+        LinkKind::PointToPoint | LinkKind::Virtual => Some(link.id.0),
+        _ => None,
+    }
+}
+
+/// The transit network that a link leads to.
+fn network_of_link(link: Link) -> Option<u32>
+    ensures { result ≡ network_of_link link }
+{
+    match link.kind {
+        LinkKind::Transit => Some(link.id.0),
+        _ => None,
+    }
+}
+
+/// The routers that links lead to.
+fn linked_routers<A: Allocator + Copy>(
+    alloc: A,
+    links: Links<'_>,
+) -> Result<Vec<u32, A>, AllocError>
+    ensures { IfOk result (λ ids. ids.items ≡ filter_map router_of_link links.entry) }
+{
+    links.filter_map(|link| router_of_link(link)).collect(alloc)
+}
+
+/// The transit networks that links lead to.
+fn linked_networks<A: Allocator + Copy>(
+    alloc: A,
+    links: Links<'_>,
+) -> Result<Vec<u32, A>, AllocError>
+    ensures { IfOk result (λ ids. ids.items ≡ filter_map network_of_link links.entry) }
+{
+    links
+        .filter_map(|link| network_of_link(link))
+        .collect(alloc)
+}
+
+/// The routers that are attached to a network.
+fn attached_routers<A: Allocator + Copy>(
+    alloc: A,
+    attached: Attached<'_>,
+) -> Result<Vec<u32, A>, AllocError>
+    ensures { IfOk result (λ ids. ids.items ≡ map (λ router. router.0) attached.entry) }
+{
+    attached.map(|router| router.0).collect(alloc)
+}
+
+/// The routers that an LSA names.
+fn routers_of_lsa<A: Allocator + Copy>(alloc: A, lsa: &Lsa<A>) -> Result<Vec<u32, A>, AllocError>
+    ensures { IfOk result (λ ids. ids.items ≡ routers_named lsa.now) }
+{
+    if lsa.at_max_age() {
+        return Ok(Vec::new(alloc));
+    }
+    if let Some(router) = lsa.router() {
+        return linked_routers(alloc, router.links());
+    }
+    if let Some(network) = lsa.network() {
+        return attached_routers(alloc, network.attached());
+    }
+    let key = lsa.key();
+    if key.kind == SUMMARY_LSA || key.kind == ASBR_SUMMARY_LSA {
+        return Ok(vec![in alloc; key.adv.0]?);
+    }
+    Ok(Vec::new(alloc))
+}
+
+/// The transit networks that an LSA names.
+fn networks_of_lsa<A: Allocator + Copy>(alloc: A, lsa: &Lsa<A>) -> Result<Vec<u32, A>, AllocError>
+    ensures { IfOk result (λ ids. ids.items ≡ networks_named lsa.now) }
+{
+    if lsa.at_max_age() {
+        return Ok(Vec::new(alloc));
+    }
+    match lsa.router() {
+        Some(router) => linked_networks(alloc, router.links()),
+        None => Ok(Vec::new(alloc)),
+    }
+}
+
+/// The routers that LSAs name, each as often as it is named.
+pub(crate) fn routers_named<A: Allocator + Copy>(
+    alloc: A,
+    lsas: Lsas<'_, A>,
+) -> Result<Vec<u32, A>, AllocError>
+    ensures { IfOk result (λ ids. ids.items ≡ flat_map routers_named lsas.entry) }
+{
+    let mut named = Vec::new(alloc);
+    for lsa in lsas {
+        named.extend_from_slice(&routers_of_lsa(alloc, lsa)?)?;
+    }
+    Ok(named)
+}
+
+/// The transit networks that LSAs name, each as often as it is named.
+pub(crate) fn networks_named<A: Allocator + Copy>(
+    alloc: A,
+    lsas: Lsas<'_, A>,
+) -> Result<Vec<u32, A>, AllocError>
+    ensures { IfOk result (λ ids. ids.items ≡ flat_map networks_named lsas.entry) }
+{
+    let mut named = Vec::new(alloc);
+    for lsa in lsas {
+        named.extend_from_slice(&networks_of_lsa(alloc, lsa)?)?;
+    }
+    Ok(named)
+}
+
+/// The AS boundary router of an AS-external-LSA.
+fn asbr_named<A: Allocator + Copy>(lsa: &Lsa<A>) -> Option<u32>
+    ensures { result ≡ asbr_named lsa.now }
+{
+    let key = lsa.key();
+    if lsa.at_max_age() || key.kind != EXTERNAL_LSA {
+        return None;
+    }
+    Some(key.adv.0)
+}
+
+/// The AS boundary routers of AS-external-LSAs, one for each LSA.
+pub(crate) fn asbrs_named<A: Allocator + Copy>(
+    alloc: A,
+    lsas: Lsas<'_, A>,
+) -> Result<Vec<u32, A>, AllocError>
+    ensures { IfOk result (λ ids. ids.items ≡ filter_map asbr_named lsas.entry) }
+{
+    lsas.filter_map(|lsa| asbr_named(lsa)).collect(alloc)
+}
+
+/// The router of a router-LSA.
+fn router_described<A: Allocator + Copy>(lsa: &Lsa<A>) -> Option<u32>
+    ensures { result ≡ router_described lsa.now }
+{
+    let key = lsa.key();
+    if key.kind != ROUTER_LSA {
+        return None;
+    }
+    Some(key.id.0)
+}
+
+/// The network of a network-LSA.
+fn network_described<A: Allocator + Copy>(lsa: &Lsa<A>) -> Option<u32>
+    ensures { result ≡ network_described lsa.now }
+{
+    let key = lsa.key();
+    if key.kind != NETWORK_LSA {
+        return None;
+    }
+    Some(key.id.0)
+}
+
+/// The routers that router-LSAs describe.
+pub(crate) fn routers_described<A: Allocator + Copy>(
+    alloc: A,
+    lsas: Lsas<'_, A>,
+) -> Result<Vec<u32, A>, AllocError>
+    ensures { IfOk result (λ ids. ids.items ≡ filter_map router_described lsas.entry) }
+{
+    lsas.filter_map(|lsa| router_described(lsa)).collect(alloc)
+}
+
+/// The networks that network-LSAs describe.
+pub(crate) fn networks_described<A: Allocator + Copy>(
+    alloc: A,
+    lsas: Lsas<'_, A>,
+) -> Result<Vec<u32, A>, AllocError>
+    ensures { IfOk result (λ ids. ids.items ≡ filter_map network_described lsas.entry) }
+{
+    lsas.filter_map(|lsa| network_described(lsa)).collect(alloc)
+}

@@ -1,0 +1,70 @@
+//! The whole run: files are read, and the dump that they make is written.
+
+ghost use Rattle.std.specs.Prelude.{◌≡◌, ◌≢◌, ◌↔◌, ℕ, List, All, IfErr, IfOk, false, true};
+ghost use Rattle.std.specs.Io.KnownBytes.{Appends};
+ghost use Rattle.streams.specs.Watched.{inner_of, has_failed};
+ghost use Rattle.network_files.specs.Dumps.{IsDump};
+ghost use Rattle.capture_report.specs.Runs.{AreParsed, IsDumpEnd, MayEndRun, known};
+
+use crate::fault::RunFault;
+use crate::input::read_files;
+use lsa_instances::FlushedLsas;
+use lsdb_merge::JoinFault;
+use network_files::{ParsedFile, dump_of_files};
+use std::alloc::Allocator;
+use std::io::{Read, Write};
+use streams::{Watched, write_and_flush};
+
+/// The dump that all files together make.
+fn dump_of<A: Allocator + Copy>(
+    alloc: A,
+    flushed: FlushedLsas,
+    parsed: &[ParsedFile<A>],
+) -> Result<Vec<u8, A>, RunFault>
+    ensures dump { IfOk result (λ dump. IsDump flushed parsed.now dump.items) }
+    ensures fault { IfErr result (IsDumpEnd flushed parsed.now) }
+{
+    match dump_of_files(alloc, flushed, parsed) {
+        Ok(dump) => Ok(dump),
+        Err(JoinFault::OutOfMemory) => Err(RunFault::OutOfMemory),
+        Err(fault) => Err(RunFault::Join(fault)),
+    }
+}
+
+/// Reads the files, one after another, joins what they contain, and writes the dump of the database
+/// to `out`; flushed LSAs are left out, or kept at MaxAge, as `flushed` says. The answer is what
+/// each file contains.
+///
+/// # Errors
+///
+/// Memory ran out, the writer failed, or the first of these: a file that cannot be read, is too
+/// long or is refused, in the order of the files; and then why the files make no database. Nothing
+/// is written before all files are read and joined.
+pub fn run<A: Allocator + Copy, R: Read, W: Write>(
+    alloc: A,
+    flushed: FlushedLsas,
+    files: &mut [Watched<R>],
+    out: &mut Watched<W>,
+) -> Result<Vec<ParsedFile<A>, A>, RunFault>
+    requires files_open { All (λ file. has_failed file ≡ false) files.old }
+    requires out_open { has_failed out.old ≡ false }
+
+    // What is written, where the bytes of the files are known.
+    ensures parsed { IfOk result (λ parsed. AreParsed (known R.remaining files.old) parsed.items) }
+    ensures dump { IfOk result (λ parsed. (dump : List ℕ) × (IsDump flushed parsed.items dump
+        × Appends (W.contents (inner_of out.old)) (W.contents (inner_of out.new)) dump)) }
+
+    // When each fault comes.
+    ensures faults { IfErr result (MayEndRun A flushed (known R.remaining files.old)) }
+    ensures read { ((k : ℕ) → result ≢ Err (RunFault.Read k))
+        → All (λ file. has_failed file ≡ false) files.new }
+    ensures write { (result ≡ Err RunFault.Write) ↔ (has_failed out.new ≡ true) }
+
+    // What is left alone.
+    ensures untouched { IfErr result (λ fault. fault ≢ RunFault.Write → out.new ≡ out.old) }
+{
+    let parsed = read_files(alloc, files)?;
+    let dump = dump_of(alloc, flushed, &parsed)?;
+    write_and_flush(out, &dump)?;
+    Ok(parsed)
+}

@@ -1,3 +1,0 @@
-mod Sets
-mod OneMore
-mod NewerHeaders

@@ -1,4 +1,0 @@
-pub mod Unseen
-pub mod Newer
-pub mod Texts
-pub mod steps
