@@ -15,7 +15,7 @@ use Rattle.lsdb.specs.declared.counts.LsaCounts.{LsaCounts}
 use Rattle.lsdb.specs.Counts.{AreFew, counts_of, has_bit_v, is_virtual, virtual_link_count}
 use Rattle.lsdb.specs.Slots.{Slot, item_at, put_slot, full}
 use Rattle.lsdb.specs.steps.Counting.{CanAdd, CanTake, with_counts, without_counts}
-use Rattle.lsdb.specs.steps.NotedKeys.{FitSection}
+use Rattle.lsdb.specs.steps.OneSection.{FitSection}
 
 -- ---- the links of one LSA
 

@@ -86,9 +86,6 @@ module _ {X : Type 0} (order : X → X → Ordering) where
   in_tail : (x : X) (xs : List X) (z : X) → Contains xs z → Contains (x ∷ xs) z
   in_tail x xs z has = (suc has.0, omega (arith, has.1), has.2)
 
-  at_head : (x : X) (xs : List X) → Contains (x ∷ xs) x
-  at_head x xs = (0, omega arith, refl)
-
   second_step : (x : X) (xs : List X) (z : X) → CmpEqualImpliesEq order → ((ys : List X) → Contains ys z → Contains (merged xs ys) z)
       → (ys : List X) → Contains ys z → Contains (merged (x ∷ xs) ys) z
   second_step x xs z exact rest [] has = absurd (omega (arith, has.1))
