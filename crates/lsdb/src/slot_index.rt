@@ -198,10 +198,7 @@ fn note<K: IndexKey, A: Allocator + Copy>(noted: &mut Vec<SlotOf<K>, A>, slot: &
 }
 
 /// Notes all slots again. It takes no memory.
-fn fill<K: IndexKey, A: Allocator + Copy>(
-    noted: &mut Vec<SlotOf<K>, A>,
-    slots: &[Option<Lsa<A>>],
-)
+fn fill<K: IndexKey, A: Allocator + Copy>(noted: &mut Vec<SlotOf<K>, A>, slots: &[Option<Lsa<A>>])
     requires fits { length slots.now ≤ vec_capacity noted.old }
     requires narrow { length slots.now ≤ most_slots }
     ensures { AreNoted K.cmp K.found_by slots.now noted.new.items [] (vec_capacity noted.new) }

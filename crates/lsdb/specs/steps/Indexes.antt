@@ -10,4 +10,3 @@ pub record AreIndexes {A : Type 0} (slots : List Slot) (indexes : Indexes A) : T
   pub keys : IsIndex key_cmp own_key slots indexes.keys
   pub routers : IsIndex router_cmp own_router slots indexes.routers
   pub prefixes : IsIndex origin_cmp own_origin slots indexes.prefixes
-

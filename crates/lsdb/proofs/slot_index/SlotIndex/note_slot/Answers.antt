@@ -5,13 +5,19 @@ use Rattle.lsdb.proofs.slot_index.SlotIndex.note_slot.Goals as goal
 
 pub noted_at-requires : goal.noted_at-requires
 noted_at-requires g c =
-    omega (arith, c.requires.within,
-    narrow g.K.Ord.cmp g.K.IndexKey.found_by c.args.slots.now c.args.index c.args.before.now c.args.self.now c.requires.within c.requires.before)
+    omega (
+      arith,
+      c.requires.within,
+      narrow g.K.Ord.cmp g.K.IndexKey.found_by c.args.slots.now c.args.index c.args.before.now c.args.self.now c.requires.within c.requires.before,
+    )
 
 pub was_noted-requires : goal.was_noted-requires
 was_noted-requires g c =
-    omega (arith, c.requires.within,
-    narrow g.K.Ord.cmp g.K.IndexKey.found_by c.args.slots.now c.args.index c.args.before.now c.args.self.now c.requires.within c.requires.before)
+    omega (
+      arith,
+      c.requires.within,
+      narrow g.K.Ord.cmp g.K.IndexKey.found_by c.args.slots.now c.args.index c.args.before.now c.args.self.now c.requires.within c.requires.before,
+    )
 
 pub fill-requires-clause-fits : goal.fill-requires-clause-fits
 fill-requires-clause-fits g c =
