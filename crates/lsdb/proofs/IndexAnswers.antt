@@ -1,8 +1,7 @@
 -- What is answered by the indexes of the slots of a section.
-use Rattle.std.proofs.Common.{◌≡◌, ◌∙◌, ℕ, zero, suc, List, [], ◌∷◌, ◌++◌, Option, Some, None, refl, sym, ap, subst}
+use Rattle.std.proofs.Common.{◌≡◌, ◌∙◌, ℕ, zero, suc, List, [], ◌∷◌, ◌++◌, Option, Some, None, refl, ap, subst}
 use Rattle.std.specs.Prelude.{All, option_map}
 use Rattle.std.specs.Cmp.{IsTotalOrder}
-use Rattle.std.specs.Ordering.{nat_cmp}
 use Rattle.std.proofs.lemmas.Cmp.{nat_cmp_total, on_total, then_total}
 use Rattle.std.proofs.lemmas.List.Elements.{All-head, All-tail}
 use Rattle.lsa_codec.specs.declared.address.RouterId.{RouterId}
@@ -15,7 +14,7 @@ use Rattle.lsdb.specs.declared.origin.Origin.{Origin}
 use Rattle.lsdb.specs.declared.slot_index.SlotIndex.{SlotIndex}
 use Rattle.lsdb.specs.declared.slot_index.SlotOf.{SlotOf}
 use Rattle.lsdb.specs.KeyRanges.{AreKeysBetween, HaveWidths}
-use Rattle.lsdb.specs.PrefixSlots.{AreSlotsOfPrefix, origin_of, prefix_of, prefix_slot}
+use Rattle.lsdb.specs.PrefixSlots.{AreSlotsOfPrefix, origin_of, prefix_slot}
 use Rattle.lsdb.specs.RouterSlots.{AreSlotsOfRouter, router_of, router_slot}
 use Rattle.lsdb.specs.Slots.{Slot, full, item_at}
 use Rattle.lsdb.specs.steps.IndexKeys.{origin_cmp, origin_exact, own_key, own_origin, own_router}

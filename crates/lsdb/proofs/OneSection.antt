@@ -1,6 +1,6 @@
 -- The slots of one section: what is found there by its key, and what an exchange of one slot leaves.
-use Rattle.std.proofs.Common.{◌≡◌, ℕ, zero, suc, ◌<◌, ◌≤◌, Bool, true, false, cond, List, [], ◌∷◌, ◌++◌, map, length, get_or, set, Option, Some, None, refl, sym, ap, subst, ◌∙◌, arith}
-use Rattle.std.specs.Prelude.{◌≢◌, All, Contains, IsSome}
+use Rattle.std.proofs.Common.{◌≡◌, ℕ, zero, suc, ◌<◌, ◌≤◌, Bool, true, false, cond, List, [], ◌∷◌, map, length, get_or, set, Option, Some, None, refl, sym, ap, ◌∙◌, arith}
+use Rattle.std.specs.Prelude.{◌≢◌, All, IsSome}
 use Rattle.std.specs.List.{find}
 use Rattle.std.proofs.lemmas.List.Elements.{All-nil, All-cons, All-contains, All-head, All-tail}
 use Rattle.lsa_codec.specs.declared.key.Key.{Key}
@@ -13,7 +13,7 @@ use Rattle.lsdb.specs.Lists.{has_key}
 use Rattle.lsdb.specs.Slots.{Slot, item_at, put_slot, full}
 use Rattle.lsdb.specs.steps.Counting.{CanAdd, CanTake, with_counts, without_counts}
 use Rattle.lsdb.specs.steps.OneSection.{AreApart, FitSection}
-use Rattle.lsdb.specs.steps.OneSlot.{slot_has_key, some_has_key, IsFirstIndex}
+use Rattle.lsdb.specs.steps.OneSlot.{some_has_key, IsFirstIndex}
 use Rattle.lsdb.proofs.CountedLsas.{counts_at, counts_fit, counts_put}
 use Rattle.lsdb.proofs.KeyLemmas.{same_key_true}
 use Rattle.lsdb.proofs.Middle.{pairs_head, pairs_tail}

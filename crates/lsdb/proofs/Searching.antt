@@ -1,14 +1,14 @@
 -- The first item that passes, looked for from the front.
-use Rattle.std.proofs.Common.{◌≡◌, ℕ, zero, suc, ◌<◌, ◌≤◌, Bool, true, false, List, [], ◌∷◌, length, drop, get_or, map, Option, Some, None, refl, sym}
+use Rattle.std.proofs.Common.{◌≡◌, ℕ, zero, suc, ◌<◌, Bool, true, false, List, [], ◌∷◌, length, drop, get_or, map, Option, Some, None, refl, sym}
 use Rattle.std.proofs.Common.{ap, ◌∙◌, subst, arith, rules, cond}
 use Rattle.std.specs.Prelude.{IsSome}
 use Rattle.std.specs.List.{find}
-use Rattle.std.proofs.lemmas.List.{drop_all, length-map}
+use Rattle.std.proofs.lemmas.List.{length-map}
 use Rattle.lsa_codec.specs.declared.key.Key.{Key}
 use Rattle.lsdb.specs.declared.database.SectionOf.{SectionOf}
 use Rattle.lsdb.specs.Lists.{SectionLsas, Lists, has_key}
 use Rattle.lsdb.specs.Slots.{Slot, item_at, full, section_of, lists_of, lsas_in, IsFirstSlot}
-use Rattle.lsdb.specs.steps.OneSlot.{slot_has_key, IsFirstIndex}
+use Rattle.lsdb.specs.steps.OneSlot.{IsFirstIndex}
 use Rattle.lsdb.specs.steps.View.{section_slots_of, slots_of}
 
 -- item i of a list, and what follows it

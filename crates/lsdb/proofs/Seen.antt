@@ -6,7 +6,7 @@ use Rattle.lsdb.specs.declared.database.SectionOf.{SectionOf}
 use Rattle.std.specs.Prelude.{All}
 use Rattle.std.proofs.lemmas.List.Elements.{All-head, All-tail}
 use Rattle.lsdb.specs.Lists.{IsSection}
-use Rattle.lsdb.specs.Slots.{Slot, Slots, SectionSlots, update_at, item_at, put_slot, put, slot_in, slot_at, open_at, full, section_of, lists_of}
+use Rattle.lsdb.specs.Slots.{Slot, Slots, SectionSlots, update_at, item_at, put_slot, put, slot_in, slot_at, open_at, section_of, lists_of}
 use Rattle.lsdb.specs.steps.OneSection.{FitSection}
 use Rattle.lsdb.specs.declared.database.Head.{Head}
 use Rattle.lsdb.specs.steps.View.{head_of, section_slots_of, slots_of}

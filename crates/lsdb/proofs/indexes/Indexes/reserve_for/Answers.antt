@@ -1,7 +1,6 @@
-use Rattle.std.proofs.Common.{◌≤◌, ◌<◌, List, Result, Ok, Err, arith}
-use Rattle.std.specs.Prelude.{OnOk, length}
+use Rattle.std.proofs.Common.{Result, Ok, Err, arith}
+use Rattle.std.specs.Prelude.{OnOk}
 use Rattle.lsa_codec.specs.Order.{key_cmp, router_cmp}
-use Rattle.lsdb.specs.Slots.{Slot}
 use Rattle.lsdb.specs.steps.IndexKeys.{origin_cmp, own_key, own_origin, own_router}
 use Rattle.lsdb.proofs.SlotIndexes.{kept, opened}
 use Rattle.lsdb.proofs.indexes.Indexes.reserve_for.Goals as goal
