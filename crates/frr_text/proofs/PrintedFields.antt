@@ -12,11 +12,16 @@ use Rattle.frr_text.specs.declared.ls_type.LsType.{LsType}
 use Rattle.frr_text.specs.declared.ls_type.LsType.TheVariants as types
 use Rattle.frr_text.specs.Words.{Word, words}
 use Rattle.frr_text.specs.Rules.{◌>>=◌, or_else, first_of_all}
-use Rattle.frr_text.specs.Numbers.{number_up_to, hex_up_to, marked_up_to, address_of}
-use Rattle.frr_text.specs.Labels.{text_of, after_words, after_label, word_after, value_after}
+use Rattle.text_words.specs.Numbers.{number_up_to, hex_up_to}
+use Rattle.text_words.specs.Addresses.{address_of}
+use Rattle.frr_text.specs.Numbers.{marked_up_to}
+use Rattle.text_words.specs.Words.{after_words}
+use Rattle.frr_text.specs.Labels.{text_of, after_label, word_after, value_after}
 use Rattle.frr_text.specs.Fields.{age_and_options_in, past, past_names, flags_or, flags_in, type_label, id_label, name_as, name_in, origination_in, checksum_and_length_in, header_in}
 use Rattle.frr_text.specs.Printing.{printed_hex, printed_byte, label_words, said, Beside, age_and_options_words, names_of_bits, flags_words, name_words, origination_words, checksum_and_length_words, header_words, HeaderFits}
-use Rattle.frr_text.proofs.PrintedNumbers.{number_again, hex_again, marked_again, byte_again, address_again}
+use Rattle.text_words.proofs.NumberLemmas.{number_again}
+use Rattle.text_words.proofs.AddressLemmas.{address_again}
+use Rattle.frr_text.proofs.PrintedNumbers.{hex_again, marked_again, byte_again}
 use Rattle.frr_text.proofs.PrintedLabels.{label_again, word_again, value_again}
 
 -- ---- texts one after another

@@ -1,0 +1,7 @@
+pub mod Split
+pub mod Digits
+pub mod OptionLemmas
+pub mod PartLemmas
+pub mod NumberLemmas
+pub mod AddressLemmas
+pub mod WordLemmas
