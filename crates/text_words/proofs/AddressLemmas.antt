@@ -1,11 +1,11 @@
 -- Addresses that are written in dotted decimal are read back, and what is read is what was written.
-use Rattle.std.proofs.Common.{◌≡◌, ℕ, zero, suc, ◌+◌, ◌/◌, ◌%◌, ◌^◌, ◌<◌, ◌≤◌, Bool, true, false, eqb, List, [], ◌∷◌, ◌++◌, append_assoc, length, get_or}
+use Rattle.std.proofs.Common.{◌≡◌, ℕ, zero, suc, ◌/◌, ◌%◌, ◌^◌, ◌<◌, ◌≤◌, Bool, false, eqb, List, [], ◌∷◌, ◌++◌, append_assoc, get_or}
 use Rattle.std.proofs.Common.{Option, Some, None, refl, sym, ap, subst, ◌∙◌, arith}
-use Rattle.std.specs.Prelude.{decimal, codes, map}
+use Rattle.std.specs.Prelude.{decimal, map}
 use Rattle.std.specs.List.{slice_split, join_with_byte}
 use Rattle.std.specs.Int.{w32, from_be_bytes, to_be_bytes}
-use Rattle.std.specs.Net.Addr.{ipv4_octets, ipv4_bits}
-use Rattle.std.specs.Net.Grammar.{IsDotted, IsIpv4Text}
+use Rattle.std.specs.Net.Addr.{ipv4_bits}
+use Rattle.std.specs.Net.Grammar.{IsIpv4Text}
 use Rattle.std.specs.Net.Text.{dotted_text}
 use Rattle.std.specs.declared.net.ipv4_addr.Ipv4Addr.{Ipv4Addr}
 use Rattle.std.proofs.lemmas.Bool.{ne_eqb}
@@ -75,7 +75,6 @@ Lacks-address p s dot n =
     (All-cons P 46 (decimal (n % 256)) dot (small n))))))
 
 -- ---- read, so written
-
 
 four_parts_are : (parts : List Word) (p : Word × Word × Word × Word) → four_parts parts ≡ Some p → parts ≡ p.0 ∷ p.1 ∷ p.2 ∷ p.3 ∷ []
 four_parts_are [] p h = absurd cc

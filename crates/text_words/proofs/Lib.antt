@@ -1,5 +1,5 @@
 pub mod Split
-pub mod Digits
+pub mod Spelled
 pub mod OptionLemmas
 pub mod PartLemmas
 pub mod NumberLemmas

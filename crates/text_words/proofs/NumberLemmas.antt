@@ -1,19 +1,19 @@
 -- Numbers that are written in decimal are read back, and what is read is what was written.
-use Rattle.std.proofs.Common.{◌≡◌, ℕ, ◌+◌, ◌^◌, ◌<◌, ◌≤◌, Bool, true, false, cond, eqb, ltb, leb, List, [], ◌∷◌, ◌++◌, length, get_or}
+use Rattle.std.proofs.Common.{◌≡◌, ℕ, ◌+◌, ◌^◌, ◌<◌, ◌≤◌, Bool, true, false, eqb, ltb, List, [], ◌∷◌, length, get_or}
 use Rattle.std.proofs.Common.{Option, Some, None, refl, sym, ap, ◌∙◌, arith, inl, inr}
 use Rattle.std.specs.Prelude.{decimal, ◌&&◌}
-use Rattle.std.specs.List.{All, list_all}
+use Rattle.std.specs.List.{list_all}
 use Rattle.std.specs.Char.{is_ascii_digit}
 use Rattle.std.specs.Str.{all_ascii_digits}
 use Rattle.std.specs.Str.Parse.{digits_value}
 use Rattle.std.proofs.lemmas.Str.Parse.{IsNumeralModel, numerals_by_value, tells_all_ascii_digits}
 use Rattle.std.proofs.lemmas.Fmt.{digits_decimal, digits_value-decimal, decimal_nonempty, first_decimal, decimal_digit, decimal-digits_value}
 use Rattle.std.proofs.lemmas.Bool.Decides.{nat_tests}
-use Rattle.std.proofs.lemmas.Bool.{cases_lt, cases_Bool, and_parts, and_cases, and_from, and_left, and_right, cond-true, cond-false, eq-eqb, ne_eqb, le-ltb, lt-ltb, ltb-false, eqb-false}
+use Rattle.std.proofs.lemmas.Bool.{cases_lt, cases_Bool, and_parts, and_cases, and_left, and_right, cond-true, cond-false, ne_eqb, ltb-false, eqb-false}
 use Rattle.std.proofs.lemmas.List.Elements.{All-nil, All-cons}
 use Rattle.text_words.specs.declared.digits.Digits.TheVariants.{Decimal, Hexadecimal}
 use Rattle.text_words.specs.Numbers.{digits_up_to, hex_up_to, is_digit, number_up_to}
-use Rattle.text_words.proofs.Digits.{Spells, found, spells}
+use Rattle.text_words.proofs.Spelled.{Spells, found, spells}
 use Rattle.text_words.proofs.PartLemmas.{Lacks}
 
 pub own : IsNumeralModel (λ ds. all_ascii_digits ds ≡ true) (digits_value 10)
@@ -46,9 +46,9 @@ Lacks-decimal p s n h = Lacks-digits p s (decimal n) (digits_decimal own n h)
 pub decimal_again : (max n : ℕ) → n ≤ max → n < 2 ^ 64 → digits_up_to Decimal max (decimal n) ≡ Some n
 decimal_again max n le small =
     found Decimal max (decimal n) n (record {
-      some = decimal_nonempty n small;
-      digits = same_digits (decimal n) ∙ digits_decimal own n small;
-      value = digits_value-decimal own n small;
+      nonempty = decimal_nonempty n small;
+      all = same_digits (decimal n) ∙ digits_decimal own n small;
+      is = digits_value-decimal own n small;
       small = le;
     })
 
@@ -61,7 +61,7 @@ no_zero n h =
     elim (cases_lt 0 n) [
       | inl more ↦ let first : 48 < get_or (decimal n) 0 0 = first_decimal n more h in
           and_right (ltb 1 (length (decimal n))) (eqb (get_or (decimal n) 0 0) 48) (ne_eqb (get_or (decimal n) 0 0) 48 (λ e. omega arith))
-      | inr none ↦ let one : decimal n ≡ (48 + n) ∷ [] = decimal_digit n (omega arith) in
+      | inr not_more ↦ let one : decimal n ≡ (48 + n) ∷ [] = decimal_digit n (omega arith) in
           and_left (ltb 1 (length (decimal n))) (eqb (get_or (decimal n) 0 0) 48) (ap (λ (ds : List ℕ). ltb 1 (length ds)) one)
     ]
 
@@ -89,17 +89,17 @@ number_again max n le h =
 pub number_spelled : (max : ℕ) (word : List ℕ) (n : ℕ) → max < 2 ^ 64 → number_up_to max word ≡ Some n → (word ≡ decimal n) × (n ≤ max)
 number_spelled max word n small h =
     elim (cases_Bool (leads word)) [
-      | inl zero ↦ absurd (let given : none ≡ some n = sym (with_zero max word zero) ∙ h in cc)
+      | inl leading ↦ absurd (let given : none ≡ some n = sym (with_zero max word leading) ∙ h in cc)
       | inr fails ↦
           let s : Spells Decimal max word n = spells Decimal max word n (sym (without_zero max word fails) ∙ h) in
-          let value : digits_value 10 word ≡ n = s.value in
+          let value : digits_value 10 word ≡ n = s.is in
           let fits : digits_value 10 word < 2 ^ 64 = omega (arith, s.small) in
           let lead : get_or word 0 0 ≡ 48 → length word ≡ 1 = λ e.
           elim (and_cases (ltb 1 (length word)) (eqb (get_or word 0 0) 48) fails) [
-            | inl short ↦ omega (arith, ltb-false 1 (length word) short, s.some)
+            | inl short ↦ omega (arith, ltb-false 1 (length word) short, s.nonempty)
             | inr other ↦ absurd (eqb-false (get_or word 0 0) 48 other e)
           ] in
-          (sym (decimal-digits_value own word (sym (same_digits word) ∙ s.digits) s.some lead fits) ∙ ap decimal value, s.small)
+          (sym (decimal-digits_value own word (sym (same_digits word) ∙ s.all) s.nonempty lead fits) ∙ ap decimal value, s.small)
     ]
 
 -- ---- in hexadecimal
@@ -109,4 +109,4 @@ pub hex_found : (max : ℕ) (word : List ℕ) (n : ℕ) → 0 < length word → 
     → n ≤ max → hex_up_to max word ≡ Some n
 unfolding hex_up_to
 hex_found max word n some digits value small =
-    found Hexadecimal max word n (record { some = some; digits = digits; value = value; small = small })
+    found Hexadecimal max word n (record { nonempty = some; all = digits; is = value; small = small })

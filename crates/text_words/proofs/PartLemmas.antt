@@ -1,5 +1,5 @@
 -- Parts that are joined are split again, and what parts of a text lack.
-use Rattle.std.proofs.Common.{◌≡◌, ℕ, ◌+◌, ◌<◌, Bool, true, false, cond, List, [], ◌∷◌, ◌++◌, length, refl, ap, ◌∙◌, arith}
+use Rattle.std.proofs.Common.{◌≡◌, ℕ, ◌<◌, Bool, true, false, cond, List, [], ◌∷◌, ◌++◌, length, refl, ap, ◌∙◌, arith}
 use Rattle.std.specs.Prelude.{not, ◌&&◌}
 use Rattle.std.specs.List.{slice_split, onto_first, join_with_byte, All, AllByRecursion}
 use Rattle.std.proofs.lemmas.Bool.{and_parts, not-true}

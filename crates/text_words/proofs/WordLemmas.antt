@@ -1,5 +1,5 @@
 -- The words of a text in which blanks stand between words; numbers and addresses are words.
-use Rattle.std.proofs.Common.{◌≡◌, ℕ, ◌/◌, ◌%◌, ◌^◌, ◌<◌, ◌≤◌, Bool, true, false, cond, eqb, List, [], ◌∷◌, ◌++◌, length}
+use Rattle.std.proofs.Common.{◌≡◌, ℕ, ◌/◌, ◌%◌, ◌^◌, ◌<◌, ◌≤◌, Bool, true, false, cond, List, [], ◌∷◌, ◌++◌, length}
 use Rattle.std.proofs.Common.{length-append, refl, ap, ◌∙◌, arith}
 use Rattle.std.specs.Prelude.{decimal, filter}
 use Rattle.std.specs.List.{slice_split, join_with_byte, All}
