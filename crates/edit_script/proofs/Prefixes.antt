@@ -1,7 +1,7 @@
 -- Prefixes that are written are read back.
-use Rattle.std.proofs.Common.{◌≡◌, ℕ, ◌+◌, ◌^◌, ◌<◌, ◌≤◌, Bool, true, false, eqb, leb, List, [], ◌∷◌, ◌++◌, length}
+use Rattle.std.proofs.Common.{◌≡◌, ℕ, ◌<◌, ◌≤◌, Bool, false, eqb, leb, List, [], ◌∷◌, length}
 use Rattle.std.proofs.Common.{length-append, append_assoc, Some, None, refl, sym, ap, subst, ◌∙◌, arith}
-use Rattle.std.specs.Prelude.{decimal, codes, ◌&&◌}
+use Rattle.std.specs.Prelude.{decimal, codes}
 use Rattle.std.specs.List.{slice_split, join_with_byte}
 use Rattle.std.proofs.lemmas.Bool.{and_from, ne_eqb, le-leb, cond-true}
 use Rattle.std.proofs.lemmas.List.Elements.{All-cons, All-append}

@@ -1,5 +1,5 @@
 -- What one argument of a command means as a prefix.
-use Rattle.std.specs.Prelude.{ℕ, ◌==◌, List, [], ◌∷◌, Option, Some, None}
+use Rattle.std.specs.Prelude.{◌==◌, List, [], ◌∷◌, Option, Some, None}
 use Rattle.std.specs.List.{slice_split}
 use Rattle.lsa_codec.specs.Prefix.{Net, net_of}
 use Rattle.text_words.specs.Options.{◌>>=◌}
