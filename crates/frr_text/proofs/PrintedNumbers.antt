@@ -1,7 +1,6 @@
 -- Numbers that are printed after a mark or in hexadecimal are read again.
-use Rattle.std.proofs.Common.{◌≡◌, ℕ, zero, suc, ◌+◌, ◌*◌, ◌/◌, ◌%◌, ◌^◌, ◌<◌, ◌≤◌, Bool, true, ltb, [], ◌∷◌, ◌++◌, length}
+use Rattle.std.proofs.Common.{◌≡◌, ℕ, zero, suc, ◌+◌, ◌*◌, ◌/◌, ◌%◌, ◌^◌, ◌<◌, ◌≤◌, true, ltb, [], ◌∷◌, length}
 use Rattle.std.proofs.Common.{length-append, Some, refl, ap, ◌∙◌, arith, inl, inr}
-use Rattle.std.specs.Prelude.{◌&&◌}
 use Rattle.std.specs.Char.{digit_value}
 use Rattle.std.specs.List.{list_all}
 use Rattle.std.specs.Str.Parse.{digits_value}
@@ -10,9 +9,9 @@ use Rattle.std.proofs.lemmas.Bool.{cases_lt, and_from, lt-ltb, le-ltb, cond-true
 use Rattle.std.proofs.lemmas.Int.Digits.{digits_value_push}
 use Rattle.std.proofs.lemmas.List.Folds.{list_all-append}
 use Rattle.std.proofs.lemmas.Str.{digit_value-digit_char}
-use Rattle.text_words.specs.declared.digits.Digits.TheVariants.{Hexadecimal}
-use Rattle.text_words.specs.Numbers.{hex_up_to, is_digit}
-use Rattle.text_words.proofs.NumberLemmas.{number_again, hex_found}
+use Rattle.text_words.specs.Numbers.{hex_up_to}
+use Rattle.text_words.proofs.HexLemmas.{is_hex_digit, hex_found}
+use Rattle.text_words.proofs.NumberLemmas.{number_again}
 use Rattle.frr_text.specs.Words.{Word}
 use Rattle.frr_text.specs.Numbers.{marked_up_to, mask_length}
 use Rattle.frr_text.specs.Printing.{printed_digit, printed_hex, printed_byte, printed_mask}
@@ -23,20 +22,20 @@ mask_again len h = number_again 32 len h (omega arith)
 
 -- ---- hexadecimal numbers
 
-digit_is : (d : ℕ) → d < 16 → is_digit Hexadecimal (printed_digit d) ≡ true
+digit_is : (d : ℕ) → d < 16 → is_hex_digit (printed_digit d) ≡ true
 digit_is d h =
     elim (cases_lt d 10) [
-      | inl low ↦ ap (is_digit Hexadecimal) (cond-true (ltb d 10) (48 + d) (87 + d) (lt-ltb d 10 low)) ∙ grind (arith, nat_tests)
-      | inr high ↦ ap (is_digit Hexadecimal) (cond-false (ltb d 10) (48 + d) (87 + d) (le-ltb d 10 high)) ∙ grind (arith, nat_tests)
+      | inl low ↦ ap is_hex_digit (cond-true (ltb d 10) (48 + d) (87 + d) (lt-ltb d 10 low)) ∙ grind (arith, nat_tests)
+      | inr high ↦ ap is_hex_digit (cond-false (ltb d 10) (48 + d) (87 + d) (le-ltb d 10 high)) ∙ grind (arith, nat_tests)
     ]
 
-digits_are : (count n : ℕ) → list_all (is_digit Hexadecimal) (printed_hex count n) ≡ true
+digits_are : (count n : ℕ) → list_all is_hex_digit (printed_hex count n) ≡ true
 digits_are zero n = refl
 digits_are (suc count) n =
-    let last : list_all (is_digit Hexadecimal) (printed_digit (n % 16) ∷ []) ≡ true =
-    and_from (is_digit Hexadecimal (printed_digit (n % 16))) true (digit_is (n % 16) (omega arith)) refl in
-    list_all-append (is_digit Hexadecimal) (printed_hex count (n / 16)) (printed_digit (n % 16) ∷ [])
-    ∙ and_from (list_all (is_digit Hexadecimal) (printed_hex count (n / 16))) (list_all (is_digit Hexadecimal) (printed_digit (n % 16) ∷ []))
+    let last : list_all is_hex_digit (printed_digit (n % 16) ∷ []) ≡ true =
+    and_from (is_hex_digit (printed_digit (n % 16))) true (digit_is (n % 16) (omega arith)) refl in
+    list_all-append is_hex_digit (printed_hex count (n / 16)) (printed_digit (n % 16) ∷ [])
+    ∙ and_from (list_all is_hex_digit (printed_hex count (n / 16))) (list_all is_hex_digit (printed_digit (n % 16) ∷ []))
     (digits_are count (n / 16)) last
 
 value_is : (count n : ℕ) → n < 16 ^ count → digits_value 16 (printed_hex count n) ≡ n

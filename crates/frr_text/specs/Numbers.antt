@@ -1,5 +1,5 @@
 -- What one word says after a mark.
-use Rattle.std.specs.Prelude.{ℕ, ◌==◌, ◌&&◌, [], ◌∷◌, Option, Some, None, if◌then◌else◌}
+use Rattle.std.specs.Prelude.{ℕ, ◌==◌, ◌&&◌, [], ◌∷◌, Option, None, if◌then◌else◌}
 use Rattle.text_words.specs.Numbers.{number_up_to, hex_up_to}
 use Rattle.frr_text.specs.Words.{Word}
 

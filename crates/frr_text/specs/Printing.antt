@@ -1,5 +1,5 @@
 -- How an FRR router prints numbers, addresses, and the header of an LSA (RFC 2328, A.4.1), as words.
-use Rattle.std.specs.Prelude.{ℕ, zero, suc, ◌+◌, ◌/◌, ◌%◌, ◌^◌, ◌<◌, ◌==◌, nat_lt, List, [], ◌∷◌, ◌++◌, length, Option, Some, None, IfSome, if◌then◌else◌, decimal}
+use Rattle.std.specs.Prelude.{ℕ, zero, suc, ◌+◌, ◌/◌, ◌%◌, ◌^◌, ◌<◌, ◌==◌, nat_lt, List, [], ◌∷◌, ◌++◌, Option, Some, None, IfSome, if◌then◌else◌, decimal}
 use Rattle.lsa_codec.specs.Spelling.{address_text}
 use Rattle.frr_text.specs.declared.header.AgeAndOptions.{AgeAndOptions}
 use Rattle.frr_text.specs.declared.header.Header.{Header}
