@@ -132,12 +132,16 @@ dotted_joined a b c d = simp append_assoc
 pub address_parsed : (word : List ℕ) (address : Ipv4Addr) → IsIpv4Text word address → address_of word ≡ Some (ipv4_bits address)
 unfolding ipv4_bits
 address_parsed word address h =
-    let bytes : AreBytes h.a h.b h.c h.d = record { first = omega (arith, h.fit.0); second = omega (arith, h.fit.1); third = omega (arith, h.fit.2); fourth = omega (arith, h.fit.3) } in
+    let bytes : AreBytes h.a h.b h.c h.d =
+    record { first = omega (arith, h.fit.0); second = omega (arith, h.fit.1); third = omega (arith, h.fit.2); fourth = omega (arith, h.fit.3) } in
     ap address_of (h.spelled ∙ dotted_joined h.a h.b h.c h.d)
     ∙ bytes_again h.a h.b h.c h.d bytes
-    ∙ ap (λ (octets : List ℕ). Some (from_be_bytes w32 octets)) (sym h.value)
+    ∙ ap (λ (bytes : List ℕ). Some (from_be_bytes w32 bytes)) (sym h.value)
 
-text_of_address : (n : ℕ) → IsIpv4Text (address_text n) (record { octets = to_be_bytes w32 n })
+abbrev address_with : ℕ → Ipv4Addr
+address_with n = record { octets = to_be_bytes w32 n }
+
+text_of_address : (n : ℕ) → IsIpv4Text (address_text n) (address_with n)
 text_of_address n = record {
   a = n / 16777216 % 256;
   b = n / 65536 % 256;
@@ -156,5 +160,4 @@ pub address_unparsed : (word : List ℕ) → ((address : Ipv4Addr) → ¬ (IsIpv
 address_unparsed word h =
     none_where (address_of word) (λ n e.
     let spelled = address_spelled word n e in
-    h (record { octets = to_be_bytes w32 n })
-    (subst (λ (text : List ℕ). IsIpv4Text text (record { octets = to_be_bytes w32 n })) (sym spelled.0) (text_of_address n)))
+    h (address_with n) (subst (λ (text : List ℕ). IsIpv4Text text (address_with n)) (sym spelled.0) (text_of_address n)))

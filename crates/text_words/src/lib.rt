@@ -1,7 +1,7 @@
 //! Words, numbers and addresses in text: what the readers of scripts and of files have in common.
 //!
-//! A text is bytes. [`next_word`] takes its words one after another, and [`cut_at`] its lines or the
-//! parts of a word. [`number_up_to`], [`decimal_up_to`], [`hex_up_to`] and [`address_of`] read what
+//! A text is bytes. [`next_word`] takes its words one after another, and [`cut_at`] cuts it at a
+//! byte. [`number_up_to`], [`decimal_up_to`], [`hex_up_to`] and [`address_of`] read what
 //! one word spells. No call takes memory.
 #![tactic(auto)]
 
