@@ -225,8 +225,7 @@ types_again types.AsbrSummary id rest h =
     (other_type types.Router (name_before types.AsbrSummary id rest) (summary_no_router (after_types types.AsbrSummary id rest)))
     ∙ passed types.Network _ (name_before types.AsbrSummary id rest)
     (other_type types.Network (name_before types.AsbrSummary id rest) (summary_no_network (after_types types.AsbrSummary id rest)))
-    ∙ passed types.Summary _ (name_before types.AsbrSummary id rest) (asbr_no_summary id rest h)
-    ∙ found types.AsbrSummary _ id rest h
+    ∙ passed types.Summary _ (name_before types.AsbrSummary id rest) (asbr_no_summary id rest h) ∙ found types.AsbrSummary _ id rest h
 types_again types.External id rest h =
     passed types.Router _ (name_before types.External id rest)
     (other_type types.Router (name_before types.External id rest) (external_no_router (after_types types.External id rest)))

@@ -81,8 +81,7 @@ fn is_title(line: &[u8]) -> bool
 fn has_title(text: &[u8]) -> bool
     ensures { result ≡ has_line is_title (lines text.now) }
 {
-    text.split(|byte| *byte == b'\n')
-        .any(|line| is_title(line))
+    text.split(|byte| *byte == b'\n').any(|line| is_title(line))
 }
 
 /// Whether a line is the first of an LSA that is printed whole.
