@@ -11,8 +11,8 @@ use Rattle.std.proofs.lemmas.Fmt.{digits_decimal, digits_value-decimal, decimal_
 use Rattle.std.proofs.lemmas.Bool.Decides.{nat_tests}
 use Rattle.std.proofs.lemmas.Bool.{cases_lt, cases_Bool, and_parts, and_cases, and_left, and_right, cond-true, cond-false, ne_eqb, ltb-false, eqb-false}
 use Rattle.std.proofs.lemmas.List.Elements.{All-nil, All-cons}
-use Rattle.text_words.specs.declared.digits.Digits.TheVariants.{Decimal, Hexadecimal}
-use Rattle.text_words.specs.Numbers.{digits_up_to, hex_up_to, is_digit, number_up_to}
+use Rattle.text_words.specs.declared.digits.Digits.TheVariants.{Decimal}
+use Rattle.text_words.specs.Numbers.{digits_up_to, is_digit, number_up_to}
 use Rattle.text_words.proofs.Spelled.{Spells, found, spells}
 use Rattle.text_words.proofs.PartLemmas.{Lacks}
 
@@ -101,12 +101,3 @@ number_spelled max word n small h =
           ] in
           (sym (decimal-digits_value own word (sym (same_digits word) ∙ s.all) s.nonempty lead fits) ∙ ap decimal value, s.small)
     ]
-
--- ---- in hexadecimal
-
--- digits of lower case are read as their value
-pub hex_found : (max : ℕ) (word : List ℕ) (n : ℕ) → 0 < length word → list_all (is_digit Hexadecimal) word ≡ true → digits_value 16 word ≡ n
-    → n ≤ max → hex_up_to max word ≡ Some n
-unfolding hex_up_to
-hex_found max word n some digits value small =
-    found Hexadecimal max word n (record { nonempty = some; all = digits; is = value; small = small })
