@@ -1,6 +1,6 @@
 -- What holds of the ranks of all candidates holds of those of all ways.
-use Rattle.std.proofs.Common.{◌≡◌, ℕ, ◌+◌, ◌<◌, Bool, true, false, cond, List, [], ◌∷◌, ◌++◌, map, take, get_or, length, Option, Some, None, IfSome}
-use Rattle.std.proofs.Common.{sym, ap, subst, ◌∙◌}
+use Rattle.std.proofs.Common.{◌≡◌, ℕ, ◌+◌, ◌<◌, ◌^◌, Bool, true, false, cond, List, [], ◌∷◌, ◌++◌, map, take, get_or, length, Option, Some, None, IfSome}
+use Rattle.std.proofs.Common.{sym, ap, subst, ◌∙◌, arith}
 use Rattle.std.proofs.lemmas.List.{take_more}
 use Rattle.std.specs.List.{All, filter, filter_map, find, flat_map, cons_option}
 use Rattle.std.specs.Option.{option_map}
@@ -13,9 +13,32 @@ use Rattle.area_routes.specs.Candidate.{Candidate}
 use Rattle.lsa_codec.specs.Order.{prefix_cmp}
 use Rattle.area_routes.specs.Order.{rank_cmp}
 use Rattle.area_routes.specs.Routes.{route_of, routes_of}
-use Rattle.area_routes.specs.Values.{RoutesBelow, WayValue}
+use Rattle.area_routes.specs.Values.{RouteValue, RoutesBelow, WayValue}
 use Rattle.area_routes.specs.declared.rank.Rank.{Rank}
 use Rattle.lsa_codec.specs.Prefix.{Net}
+
+module _ {K : Type 0} (P : WayValue → Type 0) where
+  -- the keys that have a way, each with it
+  abbrev with_ways : (K → Option WayValue) → List K → List (K × WayValue)
+  with_ways f ks = filter_map (λ k. option_map (λ w. (k, w)) (f k)) ks
+
+  entries_have : (f : K → Option WayValue) → ((k : K) → IfSome (f k) P) → (ks : List K) → All (λ (e : K × WayValue). P e.1) (with_ways f ks)
+  entries_have f h [] = All-nil (λ (e : K × WayValue). P e.1)
+  entries_have f h (k ∷ ks) = by (f k) (h k) (entries_have f h ks)
+    where
+      by : (o : Option WayValue) → IfSome o P → All (λ (e : K × WayValue). P e.1) (with_ways f ks)
+          → All (λ (e : K × WayValue). P e.1) (cons_option (option_map (λ w. (k, w)) o) (with_ways f ks))
+      by None p rest = rest
+      by (Some w) p rest = All-cons (λ (e : K × WayValue). P e.1) (k, w) (with_ways f ks) p rest
+
+  -- what holds of candidates that are joined
+  pub ways_hold : ((rank : Rank) (cs : List (Candidate K)) → P (joined rank cs)) → (R : K → K → Ordering) (cs : List (Candidate K))
+      → All (λ (e : K × WayValue). P e.1) (ways_of R cs)
+  ways_hold h R cs = entries_have (way_to R cs) (λ k. let own = filter (λ c. eq_by_cmp R k c.key) cs in by own (least rank_cmp (map (λ c. c.rank) own))) _
+    where
+      by : (own : List (Candidate K)) (o : Option Rank) → IfSome (option_map (λ r. joined r (of_rank r own)) o) P
+      by own None = tt
+      by own (Some r) = h r (of_rank r own)
 
 module _ (P : Rank → Type 0) where
   least_has : (rs : List Rank) → All P rs → IfSome (least rank_cmp rs) P
@@ -38,26 +61,17 @@ module _ (P : Rank → Type 0) where
         by None h = tt
         by (Some r) h = h
 
-    -- the keys that have a way, each with it
-    abbrev with_ways : (K → Option WayValue) → List K → List (K × WayValue)
-    with_ways f ks = filter_map (λ k. option_map (λ w. (k, w)) (f k)) ks
-
-    entries_have : (f : K → Option WayValue) → ((k : K) → IfSome (f k) (λ w. P w.rank))
-        → (ks : List K) → All (λ (e : K × WayValue). P e.1.rank) (with_ways f ks)
-    entries_have f h [] = All-nil (λ (e : K × WayValue). P e.1.rank)
-    entries_have f h (k ∷ ks) = by (f k) (h k) (entries_have f h ks)
-      where
-        by : (o : Option WayValue) → IfSome o (λ w. P w.rank) → All (λ (e : K × WayValue). P e.1.rank) (with_ways f ks)
-            → All (λ (e : K × WayValue). P e.1.rank) (cons_option (option_map (λ w. (k, w)) o) (with_ways f ks))
-        by None p rest = rest
-        by (Some w) p rest = All-cons (λ (e : K × WayValue). P e.1.rank) (k, w) (with_ways f ks) p rest
-
     pub ways_have : (R : K → K → Ordering) (cs : List (Candidate K)) → All (λ c. P c.rank) cs → All (λ (e : K × WayValue). P e.1.rank) (ways_of R cs)
     ways_have R cs a =
-        entries_have (way_to R cs) (λ k. way_has (filter (λ c. eq_by_cmp R k c.key) cs) (All-filter (λ c. eq_by_cmp R k c.key) (λ c. P c.rank) cs a)) _
+        entries_have (λ w. P w.rank) (way_to R cs)
+        (λ k. way_has (filter (λ c. eq_by_cmp R k c.key) cs) (All-filter (λ c. eq_by_cmp R k c.key) (λ c. P c.rank) cs a)) _
 
 pub routes_below : (bound : ℕ) (cs : List (Candidate Net)) → All (λ c. c.rank.cost < bound) cs → RoutesBelow bound (routes_of cs)
 routes_below bound cs a = All-map (λ r. r.cost < bound) route_of (ways_of prefix_cmp cs) (ways_have (λ r. r.cost < bound) prefix_cmp cs a)
+
+-- a greater bound
+pub wider_routes : (routes : List RouteValue) → RoutesBelow (2 ^ 33) routes → RoutesBelow (2 ^ 34) routes
+wider_routes routes a k d l = let h = a k d l in omega arith
 
 -- what holds of each of several lists
 pub All-flat_map : {X Y : Type 0} (P : Y → Type 0) (Q : X → Type 0) (f : X → List Y)

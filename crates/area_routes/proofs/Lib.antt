@@ -4,9 +4,9 @@ pub mod Rises
 pub mod LeastLemmas
 pub mod LookupLemmas
 pub mod Merging
+pub mod Fronts
 pub mod OneArea
 pub mod AddsLemmas
-pub mod Runs
 pub mod Routed
 pub mod Words
 pub mod Reordered
@@ -17,8 +17,6 @@ pub mod AreaOffers
 pub mod Beaten
 pub mod Bounds
 pub mod Sorted
-pub mod Made
-pub mod RouteRuns
 pub mod SearchLemmas
 pub mod InUse
 pub mod Indexing

@@ -4,7 +4,6 @@ use Rattle.std.proofs.Common.{◌∙◌}
 use Rattle.std.specs.List.{AllByRecursion, list_any, filter, filter_map, flat_map, cons_option}
 use Rattle.std.specs.Option.{option_map}
 use Rattle.std.specs.Cmp.{IsTotalOrder}
-use Rattle.std.specs.BTreeMap.{is_at}
 use Rattle.std.specs.Ordering.{eq_by_cmp, match_ordering, is_lt, is_eq, ordering_reverse}
 use Rattle.std.specs.declared.cmp.Ordering.{Ordering}
 use Rattle.std.specs.declared.cmp.Ordering.TheVariants.{Less, Equal, Greater}
@@ -99,27 +98,6 @@ module _ {K : Type 0} where
   HasWays R cs es = (q : K) → lookup (eq_by_cmp R q) es ≡ way_to R cs q
 
   module _ {R : K → K → Ordering} (o : IsTotalOrder R) (exact : CmpEqualImpliesEq R) where
-    for_key_push : (cs : List (Candidate K)) (c : Candidate K) (q : K)
-        → filter (λ c. eq_by_cmp R q c.key) (cs ++ c ∷ []) ≡ filter (λ c. eq_by_cmp R q c.key) cs ++ cond (eq_by_cmp R q c.key) (c ∷ []) []
-    for_key_push cs c q = filter-append (λ c. eq_by_cmp R q c.key) cs (c ∷ [])
-
-    other_key : (cs : List (Candidate K)) (c : Candidate K) (q : K) → eq_by_cmp R q c.key ≡ false → way_to R (cs ++ c ∷ []) q ≡ way_to R cs q
-    other_key cs c q e =
-        ap way_of
-        (for_key_push cs c q ∙ ap (λ b. filter (λ c. eq_by_cmp R q c.key) cs ++ cond b (c ∷ []) []) e ∙ append-nil (filter (λ c. eq_by_cmp R q c.key) cs))
-
-    -- one more candidate
-    pub way_to_push : (cs : List (Candidate K)) (c : Candidate K) (q : K)
-        → way_to R (cs ++ c ∷ []) q ≡ cond (is_at (R c.key) q) (Some (merge (way_to R cs c.key) c)) (way_to R cs q)
-    way_to_push cs c q = by (R c.key q) refl
-      where
-        by : (r : Ordering) → R c.key q ≡ r → way_to R (cs ++ c ∷ []) q ≡ cond (is_eq r) (Some (merge (way_to R cs c.key) c)) (way_to R cs q)
-        by Less e = other_key cs c q (ap is_eq (o.antisymm q c.key ∙ ap ordering_reverse e))
-        by Equal e =
-            ap way_of (for_key_push cs c q ∙ ap (λ o. filter (λ c. eq_by_cmp R q c.key) cs ++ cond (is_eq o) (c ∷ []) []) (tied_back o c.key q e))
-            ∙ way_push (filter (λ c. eq_by_cmp R q c.key) cs) c ∙ ap (λ k. Some (merge (way_to R cs k) c)) (sym (exact c.key q e))
-        by Greater e = other_key cs c q (ap is_eq (o.antisymm q c.key ∙ ap ordering_reverse e))
-
     none_for_key : (q : K) (cs : List (Candidate K)) → list_any (eq_by_cmp R q) (map (λ c. c.key) cs) ≡ false → filter (λ c. eq_by_cmp R q c.key) cs ≡ []
     none_for_key q [] h = refl
     none_for_key q (c ∷ cs) h =
@@ -139,15 +117,6 @@ module _ {K : Type 0} where
     -- the keys of the ways are in strict order
     pub sorted_ways : (cs : List (Candidate K)) → IsStrictlySortedBy R (keys_of (ways_of R cs))
     sorted_ways cs = sorted_entries R (way_to R cs) (rising R (map (λ c. c.key) cs)) (sorted_rising o (map (λ c. c.key) cs))
-
-    -- entries after one more candidate
-    pub ways_push : (es fs : List (K × WayValue)) (cs : List (Candidate K)) (c : Candidate K) → HasWays R cs es
-        → ((q : K) → lookup (eq_by_cmp R q) fs ≡ cond (is_at (R c.key) q)
-        (Some (merge (lookup (eq_by_cmp R c.key) es) c)) (lookup (eq_by_cmp R q) es)) → HasWays R (cs ++ c ∷ []) fs
-    ways_push es fs cs c before after q =
-        after q ∙ ap (λ w. cond (is_at (R c.key) q) (Some (merge w c)) (lookup (eq_by_cmp R q) es)) (before c.key)
-        ∙ ap (λ w. cond (is_at (R c.key) q) (Some (merge (way_to R cs c.key) c)) w) (before q)
-        ∙ sym (way_to_push cs c q)
 
     -- the entries in order are the ways
     pub all_ways : (es : List (K × WayValue)) (cs : List (Candidate K)) → IsStrictlySortedBy R (keys_of es) → HasWays R cs es → es ≡ ways_of R cs

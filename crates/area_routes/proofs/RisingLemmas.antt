@@ -50,6 +50,10 @@ module _ {K : Type 0} {R : K → K → Ordering} (o : IsTotalOrder R) where
       by Equal h rest = s
       by Greater h rest = (all_insert (λ y. R x y ≡ Less) xs k s.0 (o.antisymm x k ∙ ap ordering_reverse h), rest)
 
+  pub all_rising : (P : K → Type 0) (ks : List K) → AllByRecursion P ks → AllByRecursion P (rising R ks)
+  all_rising P [] a = tt
+  all_rising P (k ∷ ks) a = all_insert P (rising R ks) k (all_rising P ks a.1) a.0
+
   pub any_insert : (q : K) (ks : List K) (k : K) → list_any (eq_by_cmp R q) (insert_key R ks k) ≡ (eq_by_cmp R q k || list_any (eq_by_cmp R q) ks)
   any_insert q [] k = refl
   any_insert q (x ∷ xs) k = by (R k x) refl (any_insert q xs k)

@@ -14,7 +14,7 @@ pub mod Stubs
 pub mod StubLinks
 pub mod Offers
 pub mod Entries
-pub mod AreaResults
 pub mod Attached
+pub mod AreaResults
 pub mod EntriesOnce
 pub mod steps

@@ -4,7 +4,6 @@ pub mod ReachedVertices
 pub mod Growing
 pub mod Standings
 pub mod Merge
-pub mod BestRoutes
 pub mod EntryIndex
 pub mod KeptAreas
 pub mod StubCandidates

@@ -1,6 +1,6 @@
 //! The best ways to each destination, of any number of candidates.
 
-ghost use Rattle.std.specs.Prelude.{◌≡◌, ◌++◌, ◌∷◌, [], true, List, OnOk, OnErr, IfOk, IsPermutation, Some, map};
+ghost use Rattle.std.specs.Prelude.{◌≡◌, ◌++◌, ◌∷◌, [], true, List, OnErr, OnOk, IfOk, IsPermutation, map};
 ghost use Rattle.std.specs.List.Sorted.{IsSorted, IsStrictlySortedBy};
 ghost use Rattle.std.specs.Map.{keys_of};
 ghost use Rattle.std.proofs.lemmas.Map.Lookups.{CmpEqualImpliesEq};
@@ -8,9 +8,10 @@ ghost use Rattle.next_hops.specs.Hop.{extended};
 ghost use Rattle.area_routes.specs.Best.{ways_of, Gathers};
 ghost use Rattle.area_routes.specs.Candidate.{Candidate};
 ghost use Rattle.area_routes.specs.Values.{WayValue};
-ghost use Rattle.area_routes.specs.steps.Merge.{contender_cmp, is_last, key_cmp, merge};
+ghost use Rattle.area_routes.specs.steps.Merge.{contender_cmp, key_cmp};
 
 use crate::contender::Contender;
+use crate::merge::best_of_each;
 use crate::rank::Rank;
 use crate::way::Way;
 use lsa_codec::{Addr, AreaId};
@@ -140,15 +141,23 @@ impl<'a, K: Ord + Copy + Drop, A: Allocator + Copy> BestWays<'a, K, A> {
             → Gathers cs self.entry → ways.items ≡ ways_of K.cmp cs) }
         ensures sorted { IfOk result (λ ways. IsStrictlySortedBy K.cmp (keys_of ways.items)) }
     {
-        ways_in_order(alloc, &self.into_ordered()?)
+        self.into_each(alloc, |key, way| (key, way))
     }
 
-    /// The candidates in order of their destinations.
-    pub(crate) fn into_ordered(self) -> Result<Vec<Contender<'a, K>, A>, AllocError>
-        ensures same { IfOk result (λ ordered. IsPermutation self.entry ordered.items) }
-        ensures order { IfOk result (λ ordered. IsSorted (key_cmp K.cmp) ordered.items) }
+    /// What `make` returns for each destination that a candidate has and the best way to it, in
+    /// order of the destinations.
+    pub(crate) fn into_each<T: Drop, F: Fn(K, Way<A>) -> T>(
+        self,
+        alloc: A,
+        make: F,
+    ) -> Result<Vec<T, A>, AllocError>
+        requires exact { CmpEqualImpliesEq K.cmp }
+        requires callable { F.IsAlwaysCallable make }
+        ensures { IfOk result (λ made. (f : K × WayValue → T)
+            → ((key : K) (way : WayValue) (one : T) → F.post make key way one → one ≡ f (key, way))
+            → made.items ≡ map f (ways_of K.cmp self.entry)) }
     {
-        in_order(self.candidates)
+        best_of_each(alloc, &in_order(self.candidates)?, make)
     }
 }
 
@@ -159,14 +168,14 @@ fn is_in_order<K: Ord + Copy + Drop>(candidates: &[Contender<'_, K>]) -> bool
     candidates.is_sorted_by(|a, b| !b.key.cmp(&a.key).is_lt())
 }
 
-/// Whether there are few candidates for each destination. They are in order of their destinations,
-/// and `are_alike` decides whether two have the same one. The next hops of few are quickly joined
-/// in any order. Only each [`FEW`]th candidate is looked at.
-pub(crate) fn has_few_of_each<C, F: Fn(&C, &C) -> bool>(candidates: &[C], are_alike: F) -> bool
-    requires { F.IsAlwaysCallable are_alike }
-{
+/// Whether there are few candidates for each destination. They are in order of their destinations.
+/// The next hops of few are quickly joined in any order. Only each [`FEW`]th candidate is looked
+/// at.
+fn has_few_of_each<K: Ord + Copy + Drop>(candidates: &[Contender<'_, K>]) -> bool {
     for place in 1..candidates.len() / FEW {
-        if are_alike(&candidates[(place - 1) * FEW], &candidates[place * FEW]) {
+        let before = &candidates[(place - 1) * FEW];
+        let candidate = &candidates[place * FEW];
+        if before.key == candidate.key {
             return false;
         }
     }
@@ -197,7 +206,7 @@ fn in_order<'a, K: Ord + Copy + Drop, A: Allocator + Copy>(
     ensures order { IfOk result (λ ordered. IsSorted (key_cmp K.cmp) ordered.items) }
 {
     let ordered = by_destination(candidates)?;
-    if has_few_of_each(&ordered, |a, b| a.key == b.key) {
+    if has_few_of_each(&ordered) {
         return Ok(ordered);
     }
     sorted(ordered)
@@ -214,51 +223,4 @@ fn sorted<'a, K: Ord + Copy + Drop, A: Allocator + Copy>(
     let mut candidates = candidates;
     candidates.sort_by(|a, b| a.compare(b))?;
     Ok(candidates)
-}
-
-/// The best ways of candidates that are in order of their destinations.
-fn ways_in_order<K: Ord + Copy + Drop, A: Allocator + Copy>(
-    alloc: A,
-    candidates: &[Contender<'_, K>],
-) -> Result<Vec<(K, Way<A>), A>, AllocError>
-    requires exact { CmpEqualImpliesEq K.cmp }
-    requires order { IsSorted (key_cmp K.cmp) candidates.now }
-    ensures ways { IfOk result (λ ways. ways.items ≡ ways_of K.cmp candidates.now) }
-    ensures sorted { IfOk result (λ ways. IsStrictlySortedBy K.cmp (keys_of ways.items)) }
-{
-    let mut ways = Vec::with_capacity(alloc, candidates.len())?;
-    for candidate in candidates {
-        if is_last(&ways, candidate.key) {
-            merge_last(alloc, &mut ways, candidate)?;
-        } else {
-            ways.push((candidate.key, Way::of(alloc, candidate)?))?;
-        }
-    }
-    Ok(ways)
-}
-
-/// Whether the last of these ways leads to a destination.
-fn is_last<K: Ord + Copy, A: Allocator + Copy>(ways: &[(K, Way<A>)], key: K) -> bool
-    ensures { result ≡ is_last K.cmp ways.now key }
-{
-    match ways.last() {
-        Some(last) => last.0.cmp(&key).is_eq(),
-        None => false,
-    }
-}
-
-/// Takes another candidate for the destination of the last of these ways into account.
-fn merge_last<K: Ord + Copy + Drop, A: Allocator + Copy>(
-    alloc: A,
-    ways: &mut Vec<(K, Way<A>), A>,
-    candidate: &Contender<'_, K>,
-) -> Result<(), AllocError>
-    ensures { OnOk result ((before : List (K × WayValue)) (key : K) (way : WayValue)
-        → ways.old.items ≡ before ++ (key, way) ∷ []
-        → ways.new.items ≡ before ++ (key, merge (Some way) candidate.now) ∷ []) }
-{
-    if let Some(last) = ways.last_mut() {
-        last.1.merge(alloc, candidate)?;
-    }
-    Ok(())
 }

@@ -18,7 +18,9 @@ mod route_list;
 
 // The best of many candidates.
 mod best;
+mod best_routes;
 mod contender;
+mod merge;
 mod way;
 
 // The result of an area.
@@ -34,7 +36,6 @@ mod stub_links;
 mod stubs;
 
 // Routes within areas.
-mod best_routes;
 mod intra_area;
 
 // Routes between areas.

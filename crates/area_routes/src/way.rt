@@ -1,6 +1,7 @@
 //! The best ways to one destination.
 
-ghost use Rattle.std.specs.Prelude.{◌≡◌, [], OnOk, IfOk, Some};
+ghost use Rattle.std.specs.Prelude.{◌≡◌, [], ◌∷◌, OnOk, IfOk, Some};
+ghost use Rattle.area_routes.specs.Best.{way_of};
 ghost use Rattle.area_routes.specs.steps.Merge.{add_area, fresh, merged, merge};
 
 use crate::areas::AreaList;
@@ -41,7 +42,7 @@ impl<A: Allocator + Copy> Way<A> {
     }
 
     /// The way of one candidate.
-    pub(crate) fn of<K>(alloc: A, candidate: &Contender<'_, K>) -> Result<Way<A>, AllocError>
+    fn new<K>(alloc: A, candidate: &Contender<'_, K>) -> Result<Way<A>, AllocError>
         ensures { IfOk result (λ way. way ≡ fresh candidate.now) }
     {
         Ok(Way {
@@ -59,26 +60,38 @@ impl<A: Allocator + Copy> Way<A> {
     }
 
     /// Takes another candidate for the same destination into account.
-    pub(crate) fn merge<K>(
-        &mut self,
-        alloc: A,
-        candidate: &Contender<'_, K>,
-    ) -> Result<(), AllocError>
+    fn merge<K>(&mut self, alloc: A, candidate: &Contender<'_, K>) -> Result<(), AllocError>
         ensures { OnOk result (self.new ≡ merge (Some self.old) candidate.now) }
     {
         rank_order();
         match candidate.rank.cmp(&self.rank()) {
-            Ordering::Less => *self = Way::of(alloc, candidate)?,
+            Ordering::Less => *self = Way::new(alloc, candidate)?,
             Ordering::Equal => self.join(candidate)?,
             Ordering::Greater => (),
         }
         Ok(())
     }
+
+    /// The best way of candidates for one destination.
+    pub(crate) fn of<K>(
+        alloc: A,
+        first: &Contender<'_, K>,
+        others: &[Contender<'_, K>],
+    ) -> Result<Way<A>, AllocError>
+        ensures { IfOk result (λ way. Some way ≡ way_of (first.now ∷ others.now)) }
+    {
+        let mut way = Way::new(alloc, first)?;
+        for candidate in others {
+            way.merge(alloc, candidate)?;
+        }
+        Ok(way)
+    }
 }
+
 
 /// The list of the one area that a way leads through; empty where it does not lead through one
 /// area.
-pub(crate) fn areas_of<A: Allocator + Copy>(alloc: A, area: Option<AreaId>) -> AreaList<A>
+fn areas_of<A: Allocator + Copy>(alloc: A, area: Option<AreaId>) -> AreaList<A>
     ensures { result ≡ add_area [] area }
 {
     match area {

@@ -9,16 +9,15 @@ ghost use Rattle.lsdb.specs.declared.section.Section.TheVariants.{Area};
 ghost use Rattle.lsdb.specs.Lists.{lsas_of};
 ghost use Rattle.lsdb.specs.Slots.{lists_of};
 ghost use Rattle.area_graph.specs.declared.vertex.Vertex.TheVariants.{Router};
-ghost use Rattle.area_routes.specs.AreaResults.{area_result};
+ghost use Rattle.area_graph.specs.Graphs.{IsGraphOf};
+ghost use Rattle.area_routes.specs.AreaResults.{area_result, results_of};
 ghost use Rattle.area_routes.specs.Attached.{attached_areas, is_attached};
 ghost use Rattle.routing_table.specs.AreaTrees.{IsAreaOf, graph_and_stubs, missing};
 ghost use Rattle.routing_table.specs.AreasTrees.{AreOfDatabase, trees_at, trees_in};
 ghost use Rattle.routing_table.specs.Counting.{counted_by, CountsAtMost};
 ghost use Rattle.routing_table.specs.KeptTrees.{areas_without_tree, GainsOnly, IsWithin};
-ghost use Rattle.routing_table.specs.Tables.{results_in};
 
 use crate::area_trees::AreaTrees;
-use crate::results::graph_of;
 use crate::spare_area::SpareArea;
 use area_graph::{Graph, GraphFault};
 use area_routes::{AreaResult, StubLinks, is_attached};
@@ -260,8 +259,7 @@ impl<A: Allocator + Copy> KeptTrees<A> {
     ) -> Result<Vec<AreaResult<A>, A>, AllocError>
         requires { AreOfDatabase (lists_of database.now) self.old }
         ensures results { IfOk result (λ results. results.items
-            ≡ results_in (lists_of database.now) router
-            (attached_areas (lists_of database.now) router)) }
+            ≡ results_of (lists_of database.now) router) }
         ensures memory { OnErr result (attached_areas (lists_of database.now) router ≢ []) }
         ensures graphs { AreOfDatabase (lists_of database.now) self.new }
         ensures keeps { IsWithin (trees_in self.old) (trees_in self.new) }
@@ -286,5 +284,25 @@ impl<A: Allocator + Copy> KeptTrees<A> {
             }
         }
         Ok(results)
+    }
+}
+
+/// The graph of an area to which a router is attached.
+fn graph_of<A: Allocator + Copy>(
+    alloc: A,
+    database: &Database<A>,
+    area: AreaId,
+    router: RouterId,
+) -> Result<Graph<A>, AllocError>
+    requires { is_attached (lists_of database.now) area router ≡ true }
+    ensures graph { IfOk result (IsGraphOf (lsas_of (Area area) (lists_of database.now))) }
+    ensures router { IfOk result (λ graph. Contains graph.vertices (Router router)) }
+{
+    // For the order of its areas and its keys: an attached router is a vertex of the graph.
+    database.assert_valid();
+    match Graph::build(alloc, database, area) {
+        Ok(graph) => Ok(graph),
+        Err(GraphFault::OutOfMemory) => Err(AllocError),
+        Err(GraphFault::NoArea) => unreachable!(),
     }
 }

@@ -26,7 +26,8 @@ use Rattle.area_routes.specs.Values.{AreaResultValue, EntryValue, RouteValue}
 use Rattle.external_routes.specs.Choose.{is_asbr, is_asbr_intra, is_intra, preference, preferred}
 use Rattle.external_routes.specs.Summaries.{asbr_of_summary, borders, cost_of_asbr, cost_of_net, is_announced_entry, is_announced_route, is_calculated, is_covered, metric_for}
 use Rattle.routing_table.proofs.PreferenceLemmas.{route_all, route_preferring}
-use Rattle.summary_metrics.specs.Refreshed.{due_in, entries_inside, results_of, routes_inside}
+use Rattle.area_routes.specs.AreaResults.{results_of}
+use Rattle.summary_metrics.specs.Refreshed.{due_in, entries_inside, routes_inside}
 use Rattle.summary_metrics.specs.declared.sources.Source.{Source}
 use Rattle.summary_metrics.specs.BackboneSummaries.{backbone_lsas}
 use Rattle.summary_metrics.specs.SummaryMetrics.{backbone_entries}

@@ -31,7 +31,8 @@ use Rattle.external_routes.specs.Choose.{is_asbr, is_asbr_intra, is_intra, prefe
 use Rattle.external_routes.specs.Summaries.{asbr_of_summary, cost_of_asbr, cost_of_net, is_announced_entry, is_announced_route, metric_for}
 use Rattle.routing_table.specs.Preferring.{preferring}
 use Rattle.routing_table.proofs.PreferenceLemmas.{route_all, route_preferring}
-use Rattle.summary_metrics.specs.Refreshed.{due_in, results_of}
+use Rattle.area_routes.specs.AreaResults.{results_of}
+use Rattle.summary_metrics.specs.Refreshed.{due_in}
 use Rattle.summary_metrics.proofs.Outside.{IsInside, is_outside, least_alike}
 use Rattle.summary_metrics.proofs.SameGraphs.{HaveSameGraphs, results_alike, stub_alike}
 

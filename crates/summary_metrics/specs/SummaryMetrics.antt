@@ -15,7 +15,8 @@ use Rattle.area_routes.specs.Values.{AreaResultValue, EntryValue, RouteValue}
 use Rattle.area_routes.specs.Attached.{attached_areas}
 use Rattle.external_routes.specs.Choose.{is_asbr_kind}
 use Rattle.routing_table.specs.AreasTrees.{KeptTreesValue, AreOfDatabase}
-use Rattle.summary_metrics.specs.Refreshed.{results_of, id_of}
+use Rattle.area_routes.specs.AreaResults.{results_of}
+use Rattle.summary_metrics.specs.Refreshed.{id_of}
 use Rattle.summary_metrics.specs.BackboneSummaries.{AreAnnounced, BackboneSummariesValue, backbone_lsas}
 
 -- the intra-area routes of a router, the entries of AS boundary routers of its areas, and the costs of the area border routers of

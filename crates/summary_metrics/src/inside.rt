@@ -7,7 +7,7 @@ ghost use Rattle.area_routes.specs.Inter.{entries_of_all};
 ghost use Rattle.area_routes.specs.Routes.{route_to};
 ghost use Rattle.area_routes.specs.Values.{AreaResultValue};
 ghost use Rattle.external_routes.specs.Choose.{preferred};
-ghost use Rattle.summary_metrics.specs.Refreshed.{results_of};
+ghost use Rattle.area_routes.specs.AreaResults.{results_of};
 ghost use Rattle.summary_metrics.specs.SummaryMetrics.{AreGiven, AreInside};
 ghost use Rattle.summary_metrics.specs.steps.AnnouncedCosts.{IsAnnouncedFor, asbr_cost, entry_cost, net_cost, route_cost};
 

@@ -1,7 +1,6 @@
 -- The best way to a destination, with one more candidate.
-use Rattle.std.specs.Prelude.{◌-◌, Bool, false, List, [], ◌∷◌, ◌++◌, Option, None, Some, length, map, slice_get}
-use Rattle.std.specs.Option.{option_map_or}
-use Rattle.std.specs.Ordering.{is_eq, match_ordering, ordering_then}
+use Rattle.std.specs.Prelude.{List, [], ◌∷◌, ◌++◌, Option, None, Some, map}
+use Rattle.std.specs.Ordering.{match_ordering, ordering_then}
 use Rattle.std.specs.declared.cmp.Ordering.{Ordering}
 use Rattle.lsa_codec.specs.declared.address.Addr.{Addr}
 use Rattle.lsa_codec.specs.Order.{area_cmp}
@@ -55,6 +54,3 @@ module _ {K : Type 0} where
     abbrev pub contender_cmp : Candidate K → Candidate K → Ordering
     contender_cmp a b = ordering_then (candidate_cmp a b) (hop_cmp (first_hop a.hops) (first_hop b.hops))
 
-    -- whether the last of these ways leads to the key
-    abbrev pub is_last : List (K × WayValue) → K → Bool
-    is_last ways key = option_map_or (λ e. is_eq (R e.0 key)) (slice_get ways (length ways - 1)) false

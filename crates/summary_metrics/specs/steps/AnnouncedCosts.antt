@@ -20,7 +20,7 @@ use Rattle.area_routes.specs.Values.{AreaResultValue, EntryValue, RouteValue}
 use Rattle.external_routes.specs.Choose.{preferred}
 use Rattle.external_routes.specs.Summaries.{asbr_of_summary, is_among, metric_for}
 use Rattle.summary_metrics.specs.declared.sources.Source.{Source}
-use Rattle.summary_metrics.specs.Refreshed.{results_of}
+use Rattle.area_routes.specs.AreaResults.{results_of}
 use Rattle.summary_metrics.specs.BackboneSummaries.{AreAnnounced, BackboneSummariesValue, asbr_named, backbone_lsas, sources, sources_or_none}
 use Rattle.summary_metrics.specs.SummaryMetrics.{backbone_entries}
 

@@ -1,6 +1,6 @@
 use Rattle.std.proofs.lemmas.List.Sorted.{IsPermutation-trans}
 use Rattle.std.proofs.lemmas.Result.{IfOk-weaker}
-use Rattle.area_routes.proofs.Runs.{by_keys}
+use Rattle.area_routes.proofs.RankOrders.{by_keys}
 use Rattle.area_routes.proofs.best.in_order.Goals as goal
 
 pub returns-clause-same : goal.returns-clause-same

@@ -2,7 +2,7 @@ use Rattle.std.proofs.Common.{◌≡◌, ap, rules}
 use Rattle.std.specs.Ordering.{is_lt}
 use Rattle.std.proofs.lemmas.List.Sorted.{answers_always, ranks_by}
 use Rattle.area_routes.specs.steps.Merge.{contender_cmp}
-use Rattle.area_routes.proofs.Runs.{contender_total}
+use Rattle.area_routes.proofs.RankOrders.{contender_total}
 use Rattle.area_routes.proofs.best.sorted.Goals as goal
 
 pub returns-clause-order : goal.returns-clause-order

@@ -7,8 +7,7 @@ use Rattle.area_routes.specs.Best.{Gathers}
 use Rattle.area_routes.specs.Candidate.{Candidate}
 use Rattle.area_routes.specs.Intra.{intra_candidate, intra_candidates, intra_of}
 use Rattle.area_routes.specs.Values.{AreaResultValue, ResultBelow, RoutesBelow}
-use Rattle.area_routes.proofs.Bounds.{All-flat_map, All-taken}
-use Rattle.area_routes.proofs.Made.{wider_routes}
+use Rattle.area_routes.proofs.Bounds.{All-flat_map, All-taken, wider_routes}
 use Rattle.area_routes.proofs.AddsLemmas.{adds_step, flat_map_adds}
 use Rattle.area_routes.proofs.intra_area.intra.Goals as goal
 

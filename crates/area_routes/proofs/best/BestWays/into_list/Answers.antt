@@ -1,13 +1,25 @@
-use Rattle.std.proofs.Common.{ap, ◌∙◌}
+use Rattle.std.proofs.Common.{◌≡◌, List, sym, ap, subst, ◌∙◌, rules}
+use Rattle.std.specs.List.Sorted.{IsStrictlySortedBy}
+use Rattle.std.specs.Map.{keys_of}
+use Rattle.std.specs.Prelude.{IfOk}
+use Rattle.std.proofs.lemmas.List.{map-id}
 use Rattle.std.proofs.lemmas.Result.{IfOk-weaker}
 use Rattle.area_routes.specs.Best.{ways_of}
-use Rattle.area_routes.proofs.Reordered.{reordered}
+use Rattle.area_routes.specs.Values.{WayValue}
+use Rattle.area_routes.proofs.Merging.{sorted_ways}
 use Rattle.area_routes.proofs.best.BestWays.into_list.Goals as goal
 
 pub returns-clause-ways : goal.returns-clause-ways
 returns-clause-ways g c =
     let R = g.K.Ord.cmp in
-    IfOk-weaker c.ways_in_order.result _ _
-    (λ ways is cs at. is ∙ ap (ways_of R) c.deref.ensures.value
-    ∙ reordered g.met.K.Ord.total c.requires c.args.self c.in_ok-into_ordered.field-0.items c.in_ok-into_ordered.ensures.same
-    ∙ ap (ways_of R) at) c.ways_in_order.ensures.ways
+    IfOk-weaker c.into_each.result _ _
+    (λ ways each cs at. each (λ e. e) (λ key way one says. search rules) ∙ map-id (ways_of R c.args.self) ∙ ap (ways_of R) at) c.into_each.ensures
+
+pub returns-clause-sorted : goal.returns-clause-sorted
+returns-clause-sorted g c =
+    let R = g.K.Ord.cmp in
+    IfOk-weaker c.into_each.result _ _
+    (λ ways each.
+    let are = each (λ e. e) (λ key way one says. search rules) ∙ map-id (ways_of R c.args.self) in
+    subst (λ (es : List (g.row.K.Denot × WayValue)). IsStrictlySortedBy R (keys_of es)) (sym are) (sorted_ways g.met.K.Ord.total c.requires c.args.self))
+    c.into_each.ensures

@@ -1,17 +1,20 @@
-use Rattle.std.proofs.Common.{ap, ◌∙◌, subst, sym}
-use Rattle.area_routes.specs.Routes.{routes_of}
-use Rattle.area_routes.specs.Values.{RoutesBelow}
-use Rattle.area_routes.proofs.Made.{below_made, routes_made}
+use Rattle.std.proofs.Common.{◌≡◌, List, map, sym, ap, subst, ◌∙◌, rules}
+use Rattle.lsa_codec.specs.Order.{prefix_cmp}
+use Rattle.area_routes.specs.Candidate.{Candidate}
+use Rattle.area_routes.specs.Routes.{AreSortedRoutes, route_of, routes_of}
+use Rattle.area_routes.specs.Values.{RouteValue, RoutesBelow}
+use Rattle.area_routes.proofs.Bounds.{routes_below}
+use Rattle.area_routes.proofs.Sorted.{sorted_routes}
 use Rattle.area_routes.proofs.best_routes.BestWays+Prefix+A.into_routes.Goals as goal
+
+pub from_sorted-requires : goal.from_sorted-requires
+from_sorted-requires g c =
+    subst AreSortedRoutes (sym (c.in_ok-routes.ensures route_of (λ net way one says. search rules))) (sorted_routes c.args.self)
 
 pub returns-clause-routes : goal.returns-clause-routes
 returns-clause-routes g c = λ cs at.
-    let made = c.in_ok-routes_in_order.ensures.routes ∙ ap routes_of c.deref.ensures.value in
-    c.from_sorted.ensures
-    ∙ routes_made c.in_ok-routes_in_order.field-0.items c.in_ok-candidates.candidates.items c.args.self made c.in_ok-candidates.ensures.same cs at
+    c.from_sorted.ensures ∙ c.in_ok-routes.ensures route_of (λ net way one says. search rules) ∙ ap routes_of at
 
 pub returns-clause-small : goal.returns-clause-small
 returns-clause-small g c = λ bound cs at below.
-    let made = c.in_ok-routes_in_order.ensures.routes ∙ ap routes_of c.deref.ensures.value in
-    subst (RoutesBelow bound) (sym c.from_sorted.ensures)
-    (below_made c.in_ok-routes_in_order.field-0.items c.in_ok-candidates.candidates.items c.args.self made c.in_ok-candidates.ensures.same bound cs at below)
+    subst (RoutesBelow bound) (sym (returns-clause-routes g c cs at)) (routes_below bound cs below)

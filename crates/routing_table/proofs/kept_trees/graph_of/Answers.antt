@@ -4,7 +4,7 @@ use Rattle.lsdb.specs.Slots.{lists_of}
 use Rattle.area_graph.specs.declared.vertex.Vertex.{Vertex}
 use Rattle.area_graph.specs.declared.vertex.Vertex.TheVariants.{Router}
 use Rattle.area_routes.proofs.VertexLemmas.{attached_vertex}
-use Rattle.routing_table.proofs.results.graph_of.Goals as goal
+use Rattle.routing_table.proofs.kept_trees.graph_of.Goals as goal
 
 pub returns-in-Ok-clause-router : goal.returns-in-Ok-clause-router
 returns-in-Ok-clause-router g c =
