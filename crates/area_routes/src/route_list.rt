@@ -1,12 +1,12 @@
 //! Routes in order of prefix.
 
-ghost use Rattle.std.specs.Prelude.{◌≡◌, []};
+ghost use Rattle.std.specs.Prelude.{◌≡◌, [], IfOk};
 ghost use Rattle.std.specs.Option.{option_copied};
-ghost use Rattle.area_routes.specs.Routes.{AreSortedRoutes, has_route, route_to};
+ghost use Rattle.area_routes.specs.Routes.{AreSortedRoutes, has_route, nets, route_to};
 
 use crate::route::Route;
 use lsa_codec::Prefix;
-use std::alloc::{Allocator, Global};
+use std::alloc::{AllocError, Allocator, Global};
 use std::marker::Model;
 
 /// Routes in order of prefix, one for each. Contracts see them as this list.
@@ -59,6 +59,19 @@ impl<A: Allocator + Copy> Routes<A> {
         ensures sorted { AreSortedRoutes result.items }
     {
         self.routes
+    }
+
+    /// The prefixes of the routes, in order.
+    ///
+    /// # Errors
+    ///
+    /// Memory ran out.
+    pub fn nets(&self, alloc: A) -> Result<Vec<Prefix, A>, AllocError>
+        ensures nets { IfOk result (λ found. found.items ≡ nets self.now) }
+        ensures sorted { AreSortedRoutes self.now }
+    {
+        let routes = self.as_slice();
+        routes.iter().map(|route| route.net).collect(alloc)
     }
 
     /// The route to a prefix. It takes no memory, and time logarithmic in the number of routes.

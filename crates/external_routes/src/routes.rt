@@ -11,9 +11,9 @@ ghost use Rattle.external_routes.specs.External.{externals_of};
 ghost use Rattle.external_routes.specs.ExternalLsas.{AreExternalLsasOf};
 ghost use Rattle.external_routes.specs.steps.Paths.{candidate_of};
 
+use crate::areas::is_attached_outside_stubs;
 use crate::candidates::add_external_candidate;
 use crate::external_lsas::{ExternalLsa, ExternalLsas};
-use crate::flooding::is_attached_outside_stubs;
 use crate::inside::Inside;
 use area_routes::{BestWays, InsideRoutes, RouterEntries, Routes};
 use lsa_codec::{Prefix, RouterId};
