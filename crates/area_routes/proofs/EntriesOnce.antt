@@ -29,15 +29,16 @@ use Rattle.area_routes.specs.declared.entry.EntryKind.{EntryKind}
 use Rattle.area_routes.specs.declared.entry.EntryKind.TheVariants.{Border, AsbrIntra, AsbrInter}
 use Rattle.area_routes.specs.AreaResults.{area_result, result_in, results_of}
 use Rattle.area_routes.specs.Attached.{attached_areas, id_of, is_attached}
-use Rattle.area_routes.specs.Best.{ways_of}
+use Rattle.best_ways.specs.Best.{ways_of}
 use Rattle.area_routes.specs.Entries.{bit_b, bit_e, entries_of, entry_by, reached_entry, flags_of, has_bit}
 use Rattle.area_routes.specs.EntriesOnce.{IsSameWay, StandOnce}
 use Rattle.area_routes.specs.Inter.{asbr_candidate, asbr_entry, entries_by, entries_of_all, examined, inter_of}
 use Rattle.lsa_codec.specs.Order.{router_cmp}
 use Rattle.area_routes.specs.Reached.{ReachedValue, reached_by, reached_from}
 use Rattle.area_routes.specs.Stubs.{is_lsa_of}
-use Rattle.area_routes.specs.Values.{AreaResultValue, EntryValue, RouteValue, WayValue}
-use Rattle.area_routes.proofs.Merging.{sorted_ways}
+use Rattle.area_routes.specs.Values.{AreaResultValue, EntryValue}
+use Rattle.best_ways.specs.Values.{RouteValue, WayValue}
+use Rattle.best_ways.proofs.WayLemmas.{sorted_ways}
 use Rattle.lsa_codec.proofs.OrderLemmas.{router_exact, router_total}
 use Rattle.area_routes.proofs.Pairs.{AllPairs-from, Pairs, Pairs-append, Pairs-filter, Pairs-filter_map, Pairs-flat_map, Pairs-from, Pairs-map, Pairs-unmap}
 

@@ -10,14 +10,14 @@ use Rattle.lsa_codec.specs.Prefix.{Net}
 use Rattle.lsa_codec.proofs.OrderLemmas.{prefix_exact, prefix_total}
 use Rattle.next_hops.specs.Hop.{IsSortedHops}
 use Rattle.next_hops.proofs.HopLemmas.{IsSortedHops-rising}
-use Rattle.area_routes.specs.Best.{ways_of}
-use Rattle.area_routes.specs.Candidate.{Candidate}
+use Rattle.best_ways.specs.Best.{ways_of}
+use Rattle.best_ways.specs.Candidate.{Candidate}
 use Rattle.area_routes.specs.Intra.{intra_route}
 use Rattle.area_routes.specs.Offers.{AreSortedOffers, offer_of}
-use Rattle.area_routes.specs.Values.{OfferValue, RouteValue, WayValue}
+use Rattle.area_routes.specs.Values.{OfferValue}
+use Rattle.best_ways.specs.Values.{RouteValue, WayValue}
 use Rattle.area_routes.specs.steps.OneArea.{IsIntraRoute, offered}
-use Rattle.area_routes.proofs.Bounds.{ways_hold}
-use Rattle.area_routes.proofs.Merging.{sorted_ways}
+use Rattle.best_ways.proofs.WayLemmas.{sorted_ways, ways_hold}
 
 -- the route by a way within the area
 abbrev pub route_in : AreaId → Net × WayValue → RouteValue

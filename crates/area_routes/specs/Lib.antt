@@ -1,9 +1,4 @@
-pub mod Order
 pub mod Values
-pub mod Candidate
-pub mod Best
-pub mod InWords
-pub mod Routes
 pub mod Intra
 pub mod Inter
 pub mod Reached

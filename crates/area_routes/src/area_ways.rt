@@ -2,19 +2,14 @@
 
 ghost use Rattle.std.specs.Prelude.{◌≡◌, ◌<◌, ◌^◌, [], ◌∷◌, All, IfOk, OnOk, map};
 ghost use Rattle.lsa_codec.specs.Order.{prefix_cmp};
-ghost use Rattle.area_routes.specs.Best.{ways_of};
+ghost use Rattle.best_ways.specs.Best.{ways_of};
 ghost use Rattle.area_routes.specs.Intra.{intra_route};
 ghost use Rattle.area_routes.specs.Offers.{AreSortedOffers, offer_of};
 ghost use Rattle.area_routes.specs.Values.{OffersBelow};
 ghost use Rattle.area_routes.specs.steps.Growing.{with_offers};
 ghost use Rattle.area_routes.specs.steps.OneArea.{IsIntraRoute, offered};
 
-use crate::areas::AreaList;
-use crate::best::BestWays;
-use crate::contender::Contender;
-use crate::rank::{PathType, Rank};
-use crate::route::Route;
-use crate::way::Way;
+use best_ways::{AreaList, BestWays, PathType, Rank, Route, Way};
 use lsa_codec::{AreaId, Prefix};
 use next_hops::Hop;
 use std::alloc::{AllocError, Allocator};
@@ -30,7 +25,7 @@ pub(crate) struct AreaWays<'a, A: Allocator> {
 impl<'a, A: Allocator> Model for AreaWays<'a, A> {
     ghost use Rattle.std.specs.Prelude.{◌<◌, ◌^◌, List, All};
     ghost use Rattle.lsa_codec.specs.Prefix.{Net};
-    ghost use Rattle.area_routes.specs.Candidate.{Candidate};
+    ghost use Rattle.best_ways.specs.Candidate.{Candidate};
 
     ghost Value = { List (Candidate Net) };
 
@@ -54,18 +49,13 @@ impl<'a, A: Allocator + Copy> AreaWays<'a, A> {
         ensures { OnOk result (self.new ≡ with_offers self.old
             (record { net = net; cost = cost; hops = hops.now } ∷ [])) }
     {
-        self.ways.push(Contender {
-            key: net,
-            rank: Rank {
-                path: PathType::Intra,
-                cost2: 0,
-                class: 0,
-                cost,
-            },
-            area: None,
-            hops,
-            onward: None,
-        })?;
+        let rank = Rank {
+            path: PathType::Intra,
+            cost2: 0,
+            class: 0,
+            cost,
+        };
+        self.ways.add_candidate(net, rank, None, hops)?;
         Ok(())
     }
 
@@ -91,7 +81,7 @@ fn route_in<A: Allocator + Copy>(alloc: A, area: AreaId, net: Prefix, way: Way<A
         net,
         kind: PathType::Intra,
         areas: AreaList::of_one(alloc, area),
-        cost: way.rank.cost,
+        cost: way.rank().cost,
         cost2: 0,
         hops: way.hops,
     }

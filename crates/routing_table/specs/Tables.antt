@@ -2,7 +2,8 @@
 use Rattle.std.specs.Prelude.{◌≡◌, List, [], ◌∷◌, Option, None, Some}
 use Rattle.lsa_codec.specs.declared.address.RouterId.{RouterId}
 use Rattle.lsdb.specs.Lists.{AreaHead, Lists}
-use Rattle.area_routes.specs.Values.{AreaResultValue, InterValue, RouteValue}
+use Rattle.area_routes.specs.Values.{AreaResultValue, InterValue}
+use Rattle.best_ways.specs.Values.{RouteValue}
 pub use Rattle.area_routes.specs.AreaResults.{result_in, results_in}
 use Rattle.area_routes.specs.Intra.{intra_of}
 use Rattle.area_routes.specs.Inter.{inter_of}

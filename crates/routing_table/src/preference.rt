@@ -2,8 +2,8 @@
 
 ghost use Rattle.std.specs.Prelude.{◌≡◌, ◌^◌, [], IfOk, IsOk};
 ghost use Rattle.lsa_codec.specs.Prefix.{Net};
-ghost use Rattle.area_routes.specs.Routes.{AreSortedRoutes, route_to};
-ghost use Rattle.area_routes.specs.Values.{RoutesBelow};
+ghost use Rattle.best_ways.specs.Routes.{AreSortedRoutes, route_to};
+ghost use Rattle.best_ways.specs.Values.{RoutesBelow};
 ghost use Rattle.routing_table.specs.Preferring.{preferring};
 
 use area_routes::{InsideRoutes, Route, Routes};

@@ -9,7 +9,8 @@ use Rattle.lsdb.specs.Lists.{AreaHead, Lists, SectionLsas}
 use Rattle.area_routes.specs.AreaResults.{results_of}
 pub use Rattle.area_routes.specs.Attached.{id_of}
 use Rattle.area_routes.specs.Inter.{originator_of}
-use Rattle.area_routes.specs.Values.{EntryValue, RouteValue}
+use Rattle.area_routes.specs.Values.{EntryValue}
+use Rattle.best_ways.specs.Values.{RouteValue}
 use Rattle.external_routes.specs.Summaries.{due, is_covered}
 use Rattle.routing_table.specs.Tables.{inside, inter_result}
 

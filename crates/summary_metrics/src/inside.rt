@@ -4,7 +4,7 @@ ghost use Rattle.std.specs.Prelude.{◌≡◌, IfOk, List};
 ghost use Rattle.std.specs.Option.{option_copied};
 ghost use Rattle.lsdb.specs.Lists.{Lists};
 ghost use Rattle.area_routes.specs.Inter.{entries_of_all};
-ghost use Rattle.area_routes.specs.Routes.{route_to};
+ghost use Rattle.best_ways.specs.Routes.{route_to};
 ghost use Rattle.area_routes.specs.Values.{AreaResultValue};
 ghost use Rattle.external_routes.specs.Choose.{preferred};
 ghost use Rattle.area_routes.specs.AreaResults.{results_of};

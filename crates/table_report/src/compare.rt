@@ -5,7 +5,7 @@ ghost use Rattle.std.specs.Option.{option_copied};
 ghost use Rattle.std.specs.String.{string_bytes};
 ghost use Rattle.area_graph.specs.Rising.{rising};
 ghost use Rattle.lsa_codec.specs.Order.{prefix_cmp};
-ghost use Rattle.area_routes.specs.Routes.{AreSortedRoutes, nets, route_to};
+ghost use Rattle.best_ways.specs.Routes.{AreSortedRoutes, nets, route_to};
 ghost use Rattle.routing_table.specs.Tables.{TableValue};
 ghost use Rattle.table_report.specs.Comparing.{change, changes, compare_text};
 ghost use Rattle.table_report.specs.Texts.{line_of};

@@ -4,10 +4,11 @@ use Rattle.std.specs.List.{All}
 use Rattle.lsa_codec.specs.declared.address.AreaId.{AreaId}
 use Rattle.lsa_codec.specs.Prefix.{Net}
 use Rattle.next_hops.specs.Hop.{IsSortedHops}
-use Rattle.area_routes.specs.declared.rank.PathType.TheVariants.{Intra}
+use Rattle.best_ways.specs.declared.rank.PathType.TheVariants.{Intra}
 use Rattle.area_routes.specs.Intra.{intra_route}
 use Rattle.area_routes.specs.Offers.{AreSortedOffers}
-use Rattle.area_routes.specs.Values.{AreaResultValue, EntryValue, OfferValue, ResultBelow, RouteValue, WayValue}
+use Rattle.area_routes.specs.Values.{AreaResultValue, EntryValue, OfferValue, ResultBelow}
+use Rattle.best_ways.specs.Values.{RouteValue, WayValue}
 
 -- the offer of a route
 abbrev pub offered : RouteValue → OfferValue

@@ -6,8 +6,8 @@ use Rattle.std.proofs.lemmas.Result.{IfOk-weaker}
 use Rattle.lsa_codec.specs.declared.address.AreaId.{AreaId}
 use Rattle.lsa_codec.specs.declared.address.RouterId.{RouterId}
 use Rattle.lsa_codec.specs.Order.{router_cmp}
-use Rattle.area_routes.specs.Best.{Gathers, ways_of}
-use Rattle.area_routes.specs.Candidate.{Candidate}
+use Rattle.best_ways.specs.Best.{Gathers, ways_of}
+use Rattle.best_ways.specs.Candidate.{Candidate}
 use Rattle.area_routes.specs.Inter.{asbr_candidate, asbr_entry}
 use Rattle.area_routes.specs.Values.{EntriesBelow}
 use Rattle.area_routes.proofs.Costs.{asbrs_below, entries_below}

@@ -5,11 +5,11 @@ use Rattle.std.proofs.lemmas.List.Elements.{All-map}
 use Rattle.std.proofs.lemmas.Result.{IfOk-weaker}
 use Rattle.lsa_codec.specs.Order.{prefix_cmp}
 use Rattle.lsa_codec.specs.Prefix.{Net}
-use Rattle.area_routes.specs.Best.{ways_of}
-use Rattle.area_routes.specs.Candidate.{Candidate}
+use Rattle.best_ways.specs.Best.{ways_of}
+use Rattle.best_ways.specs.Candidate.{Candidate}
 use Rattle.area_routes.specs.Offers.{AreSortedOffers, offer_of}
 use Rattle.area_routes.specs.Values.{OfferValue, OffersBelow}
-use Rattle.area_routes.proofs.Bounds.{ways_have}
+use Rattle.best_ways.proofs.WayLemmas.{ways_have}
 use Rattle.area_routes.proofs.Routed.{intra_by, offers_by, route_in, sorted_offers}
 use Rattle.area_routes.proofs.area_ways.AreaWays.into_routes.Goals as goal
 

@@ -1,0 +1,177 @@
+-- The best ways of candidates in order of their keys: that of the candidates at the front, which are for one key, and
+-- then those of the others.
+use Rattle.std.proofs.Common.{◌≡◌, ℕ, suc, ◌+◌, ◌<◌, Bool, true, false, cond, List, [], ◌∷◌, ◌++◌, map, take, drop, length, get_or, Option, Some, None, IfSome}
+use Rattle.std.proofs.Common.{refl, sym, ap, subst, ◌∙◌, arith, append_assoc}
+use Rattle.std.specs.Prelude.{not, position}
+use Rattle.std.specs.List.{All, AllByRecursion, filter, slice_get}
+use Rattle.std.specs.List.Sorted.{IsSorted, IsStrictlySortedBy}
+use Rattle.std.specs.Map.{keys_of}
+use Rattle.std.specs.Cmp.{IsTotalOrder, Equal-is}
+use Rattle.std.specs.Ordering.{eq_by_cmp, is_eq, is_lt, ordering_reverse}
+use Rattle.std.specs.declared.cmp.Ordering.{Ordering}
+use Rattle.std.specs.declared.cmp.Ordering.TheVariants.{Less, Equal, Greater}
+use Rattle.std.proofs.lemmas.List.{append-nil, drop_more, get_or-take, length-take}
+use Rattle.std.proofs.lemmas.List.Elements.{filter-append, recursion_from_All}
+use Rattle.std.proofs.lemmas.List.Quantifiers.{position-Some}
+use Rattle.std.proofs.lemmas.List.Sorted.{ranks_by, sorted_far}
+use Rattle.std.proofs.lemmas.Map.Lookups.{CmpEqualImpliesEq}
+use Rattle.best_ways.specs.Best.{way_of, way_to, ways_of}
+use Rattle.best_ways.specs.Candidate.{Candidate}
+use Rattle.best_ways.specs.Values.{WayValue}
+use Rattle.best_ways.specs.steps.Merge.{key_cmp}
+use Rattle.best_ways.proofs.LeastLemmas.{lt_le}
+use Rattle.best_ways.proofs.LookupLemmas.{all_entries}
+use Rattle.best_ways.proofs.Merging.{HasWays, all_ways, lookup_ways, sorted_ways}
+use Rattle.best_ways.proofs.RisingLemmas.{all_rising}
+
+module _ {X : Type 0} where
+  all_weaker : (P Q : X → Type 0) → ((x : X) → P x → Q x) → (xs : List X) → AllByRecursion P xs → AllByRecursion Q xs
+  all_weaker P Q h [] a = tt
+  all_weaker P Q h (x ∷ xs) a = (h x a.0, all_weaker P Q h xs a.1)
+
+  all_after : (P : X → Type 0) (xs ys : List X) → AllByRecursion P (xs ++ ys) → AllByRecursion P ys
+  all_after P [] ys a = a
+  all_after P (x ∷ xs) ys a = all_after P xs ys a.1
+
+  all_pass : (t : X → Bool) (xs : List X) → AllByRecursion (λ x. t x ≡ true) xs → filter t xs ≡ xs
+  all_pass t [] a = refl
+  all_pass t (x ∷ xs) a = ap (λ b. cond b (x ∷ filter t xs) (filter t xs)) a.0 ∙ ap (λ l. x ∷ l) (all_pass t xs a.1)
+
+  none_pass : (t : X → Bool) (xs : List X) → AllByRecursion (λ x. t x ≡ false) xs → filter t xs ≡ []
+  none_pass t [] a = refl
+  none_pass t (x ∷ xs) a = ap (λ b. cond b (x ∷ filter t xs) (filter t xs)) a.0 ∙ none_pass t xs a.1
+
+-- ---- candidates in order of their keys
+
+module _ {K : Type 0} (R : K → K → Ordering) where
+  -- no candidate comes before an earlier one
+  abbrev pub Climbs : List (Candidate K) → Type 0
+  Climbs [] = Unit {0}
+  Climbs (c ∷ cs) = AllByRecursion (λ d. is_lt (R d.key c.key) ≡ false) cs × Climbs cs
+
+  climbs_after : (xs ys : List (Candidate K)) → Climbs (xs ++ ys) → Climbs ys
+  climbs_after [] ys up = up
+  climbs_after (x ∷ xs) ys up = climbs_after xs ys up.1
+
+  -- a candidate for the key, and for another one
+  abbrev IsFor : K → Candidate K → Type 0
+  IsFor k c = eq_by_cmp R k c.key ≡ true
+
+  abbrev IsForAnother : K → Candidate K → Type 0
+  IsForAnother k c = eq_by_cmp R k c.key ≡ false
+
+less_from : (r : Ordering) → is_eq r ≡ false → is_lt (ordering_reverse r) ≡ false → r ≡ Less
+less_from Less e l = refl
+less_from Equal e l = cc
+less_from Greater e l = cc
+
+module _ {K : Type 0} {R : K → K → Ordering} (o : IsTotalOrder R) where
+  pub climbs : (cs : List (Candidate K)) → IsSorted (key_cmp R) cs → Climbs R cs
+  climbs [] up = tt
+  climbs (c ∷ cs) up = (
+    recursion_from_All (λ d. is_lt (R d.key c.key) ≡ false) cs
+        (λ k d l. sorted_far (λ a b. is_lt (key_cmp R a b)) (ranks_by o (λ a. a.key)) (c ∷ cs) up 0 (suc k) d (omega arith) (omega arith)),
+    climbs cs
+        (λ k d low below.
+        let next : suc k + 1 ≡ suc (k + 1) = omega arith in
+        let P : ℕ → Type 0 = λ n. is_lt (R (get_or (c ∷ cs) n d).key (get_or cs k d).key) ≡ false in
+        subst P next (up (suc k) d (omega arith) (omega arith))),
+  )
+
+  later : (k : K) (c : Candidate K) (cs : List (Candidate K)) → R k c.key ≡ Less
+      → AllByRecursion (λ d. is_lt (R d.key c.key) ≡ false) cs → AllByRecursion (λ d. R k d.key ≡ Less) cs
+  later k c cs less a = all_weaker (λ d. is_lt (R d.key c.key) ≡ false) (λ d. R k d.key ≡ Less) (λ d above. lt_le o k c.key d.key less above) cs a
+
+  -- where the first of the candidates is for another key, all are for later ones
+  all_later : (k : K) (cs : List (Candidate K)) → Climbs R cs → AllByRecursion (λ d. is_lt (R d.key k) ≡ false) cs
+      → IfSome (slice_get cs 0) (IsForAnother R k) → AllByRecursion (λ d. R k d.key ≡ Less) cs
+  all_later k [] up above other = tt
+  all_later k (c ∷ cs) up above other =
+      let less : R k c.key ≡ Less = less_from (R k c.key) other (sym (ap is_lt (o.antisymm c.key k)) ∙ above.0) in
+      (less, later k c cs less up.0)
+
+module _ {K : Type 0} {R : K → K → Ordering} (o : IsTotalOrder R) (exact : CmpEqualImpliesEq R) where
+  module _ (x : Candidate K) (alike others : List (Candidate K)) (same : AllByRecursion (IsFor R x.key) alike)
+      (after : AllByRecursion (λ c. R x.key c.key ≡ Less) others) (w : WayValue) (is : Some w ≡ way_of (x ∷ alike)) where
+    at_key : (q : K) (b : Bool) → eq_by_cmp R q x.key ≡ b
+        → cond b (Some w) (way_to R others q)
+        ≡ way_of (cond b (x ∷ filter (λ c. eq_by_cmp R q c.key) (alike ++ others)) (filter (λ c. eq_by_cmp R q c.key) (alike ++ others)))
+    at_key q true e =
+        let t : Candidate K → Bool = λ c. eq_by_cmp R q c.key in
+        let key : x.key ≡ q = sym (exact q x.key ((Equal-is (R q x.key)).0 e)) in
+        let own : filter t alike ≡ alike =
+        all_pass t alike (all_weaker (IsFor R x.key) (IsFor R q) (λ c h. ap (λ (k : K). eq_by_cmp R k c.key) (sym key) ∙ h) alike same) in
+        let none : filter t others ≡ [] =
+        none_pass t others
+        (all_weaker (λ c. R x.key c.key ≡ Less) (IsForAnother R q) (λ c h. ap (λ (k : K). eq_by_cmp R k c.key) (sym key) ∙ ap is_eq h) others after) in
+        is ∙ ap (λ (cs : List (Candidate K)). way_of (x ∷ cs))
+        (sym (filter-append t alike others ∙ ap (λ l. l ++ filter t others) own ∙ ap (λ l. alike ++ l) none ∙ append-nil alike))
+    at_key q false e =
+        let t : Candidate K → Bool = λ c. eq_by_cmp R q c.key in
+        let none : filter t alike ≡ [] =
+        none_pass t alike
+        (all_weaker (IsFor R x.key) (IsForAnother R q)
+        (λ c h. ap (eq_by_cmp R q) (sym (exact x.key c.key ((Equal-is (R x.key c.key)).0 h))) ∙ e) alike same) in
+        ap (λ (cs : List (Candidate K)). way_of cs) (sym (filter-append t alike others ∙ ap (λ l. l ++ filter t others) none))
+
+    has_ways : HasWays R (x ∷ (alike ++ others)) ((x.key, w) ∷ ways_of R others)
+    has_ways q = ap (λ v. cond (eq_by_cmp R q x.key) (Some w) v) (lookup_ways o exact others q) ∙ at_key q (eq_by_cmp R q x.key) refl
+
+    keys_later : (cs : List (Candidate K)) → AllByRecursion (λ c. R x.key c.key ≡ Less) cs → AllByRecursion (λ k. R x.key k ≡ Less) (map (λ c. c.key) cs)
+    keys_later [] a = tt
+    keys_later (c ∷ cs) a = (a.0, keys_later cs a.1)
+
+    rises : IsStrictlySortedBy R (keys_of ((x.key, w) ∷ ways_of R others))
+    unfolding IsStrictlySortedBy
+    rises = (
+      all_entries R (λ k. R x.key k ≡ Less) (way_to R others) _ (all_rising o (λ k. R x.key k ≡ Less) (map (λ c. c.key) others) (keys_later others after)),
+      sorted_ways o exact others,
+    )
+
+    front_ways : ways_of R (x ∷ (alike ++ others)) ≡ (x.key, w) ∷ ways_of R others
+    front_ways = sym (all_ways o exact ((x.key, w) ∷ ways_of R others) (x ∷ (alike ++ others)) rises has_ways)
+
+  -- one step: the candidates at the front are taken
+  module _ (rest others alike left : List (Candidate K)) (x : Candidate K) (at : rest ≡ x ∷ others) (parts : others ≡ alike ++ left) (up : Climbs R rest) where
+    whole : rest ≡ x ∷ (alike ++ left)
+    whole = at ∙ ap (λ l. x ∷ l) parts
+
+    here : Climbs R (x ∷ (alike ++ left))
+    here = subst (Climbs R) whole up
+
+    pub climbs_on : Climbs R left
+    climbs_on = climbs_after R alike left here.1
+
+    pub one_more : All (IsFor R x.key) alike → IfSome (slice_get left 0) (IsForAnother R x.key)
+        → {T : Type 0} (f : K × WayValue → T) (all : List T) (made more : List T) (w : WayValue) (one : T) → Some w ≡ way_of (x ∷ alike)
+        → one ≡ f (x.key, w) → more ≡ made ++ one ∷ [] → all ≡ made ++ map f (ways_of R rest) → all ≡ more ++ map f (ways_of R left)
+    one_more same other {T} f all made more w one is made_is more_is before =
+        let later_ones = all_later o x.key left climbs_on (all_after (λ d. is_lt (R d.key x.key) ≡ false) alike left here.0) other in
+        let ways : ways_of R rest ≡ (x.key, w) ∷ ways_of R left =
+        ap (ways_of R) whole ∙ front_ways x alike left (recursion_from_All (IsFor R x.key) alike same) later_ones w is in
+        before ∙ ap (λ ws. made ++ map f ws) ways ∙ ap (λ (y : T). made ++ y ∷ map f (ways_of R left)) (sym made_is)
+        ∙ sym (append_assoc made (one ∷ []) (map f (ways_of R left))) ∙ ap (λ (l : List T). l ++ map f (ways_of R left)) (sym more_is)
+
+-- ---- the candidates at the front
+
+not_not : (b : Bool) → not b ≡ false → b ≡ true
+not_not true h = refl
+not_not false h = cc
+
+not_true : (b : Bool) → not b ≡ true → b ≡ false
+not_true true h = cc
+not_true false h = refl
+
+module _ {X : Type 0} (t : X → Bool) (xs : List X) (n : ℕ) (d : X) (at : position (λ x. not (t x)) xs ≡ Some n) where
+  pub front_passes : All (λ x. t x ≡ true) (take n xs)
+  front_passes k e below =
+      let first = position-Some (λ x. not (t x)) xs n e at in
+      let within : k < n = omega (arith, below, length-take n xs) in
+      let P : X → Type 0 = λ x. t x ≡ true in
+      subst P (sym (get_or-take n xs k e within)) (not_not (t (get_or xs k e)) (first.2 k within))
+
+  pub next_fails : IfSome (slice_get (drop n xs) 0) (λ x. t x ≡ false)
+  next_fails =
+      let first = position-Some (λ x. not (t x)) xs n d at in
+      let P : List X → Type 0 = λ l. IfSome (slice_get l 0) (λ x. t x ≡ false) in
+      subst P (sym (drop_more xs n d first.0)) (not_true (t (get_or xs n d)) first.1)
