@@ -2,18 +2,20 @@
 -- then those of the others.
 use Rattle.std.proofs.Common.{◌≡◌, ℕ, suc, ◌+◌, ◌<◌, Bool, true, false, cond, List, [], ◌∷◌, ◌++◌, map, take, drop, length, get_or, Option, Some, None, IfSome}
 use Rattle.std.proofs.Common.{refl, sym, ap, subst, ◌∙◌, arith, append_assoc}
-use Rattle.std.specs.Prelude.{not, position}
-use Rattle.std.specs.List.{All, AllByRecursion, filter, slice_get}
+use Rattle.std.specs.Prelude.{nat_lt, not, position}
+use Rattle.std.specs.List.{All, AllByRecursion, filter, position_or_len, slice_get}
 use Rattle.std.specs.List.Sorted.{IsSorted, IsStrictlySortedBy}
 use Rattle.std.specs.Map.{keys_of}
 use Rattle.std.specs.Cmp.{IsTotalOrder, Equal-is}
 use Rattle.std.specs.Ordering.{eq_by_cmp, is_eq, is_lt, ordering_reverse}
 use Rattle.std.specs.declared.cmp.Ordering.{Ordering}
 use Rattle.std.specs.declared.cmp.Ordering.TheVariants.{Less, Equal, Greater}
+use Rattle.std.proofs.lemmas.Bool.{ltb-false}
 use Rattle.std.proofs.lemmas.List.{append-nil, drop_more, get_or-take, length-take}
 use Rattle.std.proofs.lemmas.List.Elements.{filter-append, recursion_from_All}
 use Rattle.std.proofs.lemmas.List.Quantifiers.{position-Some}
 use Rattle.std.proofs.lemmas.List.Sorted.{ranks_by, sorted_far}
+use Rattle.std.proofs.lemmas.List.Sums.{fails_before_first}
 use Rattle.std.proofs.lemmas.Map.Lookups.{CmpEqualImpliesEq}
 use Rattle.best_ways.specs.Best.{way_of, way_to, ways_of}
 use Rattle.best_ways.specs.Candidate.{Candidate}
@@ -54,10 +56,10 @@ module _ {K : Type 0} (R : K → K → Ordering) where
   climbs_after (x ∷ xs) ys up = climbs_after xs ys up.1
 
   -- a candidate for the key, and for another one
-  abbrev IsFor : K → Candidate K → Type 0
+  abbrev pub IsFor : K → Candidate K → Type 0
   IsFor k c = eq_by_cmp R k c.key ≡ true
 
-  abbrev IsForAnother : K → Candidate K → Type 0
+  abbrev pub IsForAnother : K → Candidate K → Type 0
   IsForAnother k c = eq_by_cmp R k c.key ≡ false
 
 less_from : (r : Ordering) → is_eq r ≡ false → is_lt (ordering_reverse r) ≡ false → r ≡ Less
@@ -162,16 +164,33 @@ not_true : (b : Bool) → not b ≡ true → b ≡ false
 not_true true h = cc
 not_true false h = refl
 
-module _ {X : Type 0} (t : X → Bool) (xs : List X) (n : ℕ) (d : X) (at : position (λ x. not (t x)) xs ≡ Some n) where
-  pub front_passes : All (λ x. t x ≡ true) (take n xs)
-  front_passes k e below =
-      let first = position-Some (λ x. not (t x)) xs n e at in
+none_found : {X : Type 0} (p : X → Bool) (xs : List X) → position p xs ≡ None → (k : ℕ) (d : X) → k < length xs → p (get_or xs k d) ≡ false
+none_found p xs none k d below = by (nat_lt (position_or_len p xs) (length xs)) refl none
+  where
+    by : (b : Bool) → nat_lt (position_or_len p xs) (length xs) ≡ b → cond b (Some (position_or_len p xs)) None ≡ None → p (get_or xs k d) ≡ false
+    by true e h = cc
+    by false e h = (let past = ltb-false (position_or_len p xs) (length xs) e in fails_before_first p xs k d (omega (arith, below, past)))
+
+-- a list without items
+pub none_left : {X : Type 0} (xs : List X) → length xs ≡ 0 → xs ≡ []
+none_left [] h = refl
+none_left (x ∷ xs) h = absurd (omega (arith, h))
+
+module _ {X : Type 0} (t : X → Bool) (n : ℕ) where
+  pub front_passes : (xs : List X) → position (λ x. not (t x)) xs ≡ Some n → All (λ x. t x ≡ true) (take n xs)
+  front_passes xs at k d below =
+      let first = position-Some (λ x. not (t x)) xs n d at in
       let within : k < n = omega (arith, below, length-take n xs) in
       let P : X → Type 0 = λ x. t x ≡ true in
-      subst P (sym (get_or-take n xs k e within)) (not_not (t (get_or xs k e)) (first.2 k within))
+      subst P (sym (get_or-take n xs k d within)) (not_not (t (get_or xs k d)) (first.2 k within))
 
-  pub next_fails : IfSome (slice_get (drop n xs) 0) (λ x. t x ≡ false)
-  next_fails =
-      let first = position-Some (λ x. not (t x)) xs n d at in
+  pub next_fails : (xs : List X) → position (λ x. not (t x)) xs ≡ Some n → IfSome (slice_get (drop n xs) 0) (λ x. t x ≡ false)
+  next_fails [] at = cc
+  next_fails (y ∷ ys) at =
+      let first = position-Some (λ x. not (t x)) (y ∷ ys) n y at in
       let P : List X → Type 0 = λ l. IfSome (slice_get l 0) (λ x. t x ≡ false) in
-      subst P (sym (drop_more xs n d first.0)) (not_true (t (get_or xs n d)) first.1)
+      subst P (sym (drop_more (y ∷ ys) n y first.0)) (not_true (t (get_or (y ∷ ys) n y)) first.1)
+
+  -- where all pass
+  pub all_pass_from : (xs : List X) → position (λ x. not (t x)) xs ≡ None → All (λ x. t x ≡ true) xs
+  all_pass_from xs none k d below = not_not (t (get_or xs k d)) (none_found (λ x. not (t x)) xs none k d below)

@@ -1,11 +1,10 @@
 //! The best of candidates that are in order of their destinations.
 
-ghost use Rattle.std.specs.Prelude.{◌≡◌, ◌++◌, All, true, false, not, List, IfOk, IfSome, map, position, slice_get};
+ghost use Rattle.std.specs.Prelude.{◌≡◌, ◌≤◌, ◌++◌, All, true, false, not, IfOk, IfSome, length, map, position, slice_get};
 ghost use Rattle.std.specs.List.Sorted.{IsSorted};
 ghost use Rattle.std.specs.Ordering.{eq_by_cmp};
 ghost use Rattle.std.proofs.lemmas.Map.Lookups.{CmpEqualImpliesEq};
 ghost use Rattle.best_ways.specs.Best.{ways_of};
-ghost use Rattle.best_ways.specs.Candidate.{Candidate};
 ghost use Rattle.best_ways.specs.Values.{WayValue};
 ghost use Rattle.best_ways.specs.steps.Merge.{key_cmp};
 
@@ -30,6 +29,7 @@ fn split_alike<'s, 'a, K: Ord + Copy>(
     ensures parts { candidates.now ≡ result.0.now ++ result.1.now }
     ensures alike { All (λ c. eq_by_cmp K.cmp key c.key ≡ true) result.0.now }
     ensures other { IfSome (slice_get result.1.now 0) (λ c. eq_by_cmp K.cmp key c.key ≡ false) }
+    ensures fewer { length result.1.now ≤ length candidates.now }
 {
     match first_other(key, candidates) {
         Some(place) => candidates.split_at(place),
