@@ -15,7 +15,7 @@ use std::alloc::{AllocError, Allocator};
 /// # Errors
 ///
 /// Memory ran out.
-pub fn prefer<A: Allocator + Copy>(
+pub(crate) fn prefer<A: Allocator + Copy>(
     first: Routes<A>,
     second: Routes<A>,
 ) -> Result<Routes<A>, AllocError>
@@ -38,7 +38,7 @@ pub fn prefer<A: Allocator + Copy>(
 /// # Errors
 ///
 /// Memory ran out.
-pub fn prefer_intra<A: Allocator + Copy>(
+pub(crate) fn prefer_intra<A: Allocator + Copy>(
     intra: InsideRoutes<A>,
     inter: InsideRoutes<A>,
 ) -> Result<InsideRoutes<A>, AllocError>

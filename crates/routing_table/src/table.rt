@@ -178,7 +178,7 @@ pub fn table_from<A: Allocator + Copy>(
 }
 
 /// The routes from what the areas of a router give, and from the AS-external-LSAs of the database.
-pub fn routes_from<A: Allocator + Copy>(
+fn routes_from<A: Allocator + Copy>(
     alloc: A,
     database: &Database<A>,
     lsas: &ExternalLsas<A>,
