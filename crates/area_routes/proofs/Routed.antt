@@ -1,5 +1,5 @@
 -- The best ways within one area, as routes of a router that is attached to this area alone.
-use Rattle.std.proofs.Common.{◌≡◌, List, map, refl, sym, ap, subst, ◌∙◌}
+use Rattle.std.proofs.Common.{◌≡◌, ◌<◌, ◌^◌, List, [], ◌∷◌, Some, map, sym, ap, subst, ◌∙◌}
 use Rattle.std.specs.List.{All}
 use Rattle.std.specs.List.Sorted.{IsStrictlySortedBy}
 use Rattle.std.proofs.lemmas.List.Elements.{All-map}
@@ -12,16 +12,12 @@ use Rattle.next_hops.specs.Hop.{IsSortedHops}
 use Rattle.next_hops.proofs.HopLemmas.{IsSortedHops-rising}
 use Rattle.best_ways.specs.Best.{ways_of}
 use Rattle.best_ways.specs.Candidate.{Candidate}
-use Rattle.area_routes.specs.Intra.{intra_route}
+use Rattle.best_ways.specs.Routes.{route_through}
 use Rattle.area_routes.specs.Offers.{AreSortedOffers, offer_of}
-use Rattle.area_routes.specs.Values.{OfferValue}
+use Rattle.area_routes.specs.Values.{OfferValue, OffersBelow}
 use Rattle.best_ways.specs.Values.{RouteValue, WayValue}
-use Rattle.area_routes.specs.steps.OneArea.{IsIntraRoute, offered}
-use Rattle.best_ways.proofs.WayLemmas.{sorted_ways, ways_hold}
-
--- the route by a way within the area
-abbrev pub route_in : AreaId → Net × WayValue → RouteValue
-route_in area e = intra_route area (offer_of e)
+use Rattle.area_routes.specs.steps.OneArea.{IsIntraRank, IsIntraRoute, IsWithinArea, offered}
+use Rattle.best_ways.proofs.WayLemmas.{sorted_ways, ways_have, ways_hold}
 
 -- the offers are in order
 pub sorted_offers : (cs : List (Candidate Net)) → AreSortedOffers (map offer_of (ways_of prefix_cmp cs))
@@ -29,13 +25,29 @@ sorted_offers cs =
     subst (λ (ks : List Net). IsStrictlySortedBy prefix_cmp ks) (sym (map-map (λ (o : OfferValue). o.net) offer_of (ways_of prefix_cmp cs)))
     (sorted_ways prefix_total prefix_exact cs)
 
-module _ (area : AreaId) (cs : List (Candidate Net)) (routes : List RouteValue) (are : routes ≡ map (route_in area) (ways_of prefix_cmp cs)) where
+-- the route by a way within the area
+is_intra : (area : AreaId) (e : Net × WayValue) → IsIntraRank e.1.rank → IsSortedHops e.1.hops → IsIntraRoute area (route_through (Some area) e)
+is_intra area e rank sorted = record {
+  route = λ i. record { net = e.0; kind = rank.path i; areas = area ∷ []; cost = e.1.rank.cost; cost2 = rank.cost2 i; hops = e.1.hops };
+  hops = sorted;
+}
+
+module _ (area : AreaId) (cs : List (Candidate Net)) (within : All IsWithinArea cs) (routes : List RouteValue)
+    (are : routes ≡ map (route_through (Some area)) (ways_of prefix_cmp cs)) where
+  ranks : All (λ (e : Net × WayValue). IsIntraRank e.1.rank) (ways_of prefix_cmp cs)
+  ranks = ways_have IsIntraRank prefix_cmp cs within
+
   pub offers_by : map offered routes ≡ map offer_of (ways_of prefix_cmp cs)
-  offers_by = ap (map offered) are ∙ map-map offered (route_in area) (ways_of prefix_cmp cs)
+  offers_by = ap (map offered) are ∙ map-map offered (route_through (Some area)) (ways_of prefix_cmp cs)
 
   pub intra_by : All (IsIntraRoute area) routes
   intra_by =
       let sorted : All (λ (e : Net × WayValue). IsSortedHops e.1.hops) (ways_of prefix_cmp cs) =
       ways_hold (λ w. IsSortedHops w.hops) (λ rank own. IsSortedHops-rising _) prefix_cmp cs in
       subst (All (IsIntraRoute area)) (sym are)
-      (All-map (IsIntraRoute area) (route_in area) (ways_of prefix_cmp cs) (λ k d below. record { route = refl; hops = sorted k d below }))
+      (All-map (IsIntraRoute area) (route_through (Some area)) (ways_of prefix_cmp cs) (λ k d l. is_intra area _ (ranks k d l) (sorted k d l)))
+
+  pub offers_below : OffersBelow (2 ^ 33) (map offered routes)
+  offers_below =
+      subst (OffersBelow (2 ^ 33)) (sym offers_by)
+      (All-map (λ (o : OfferValue). o.cost < 2 ^ 33) offer_of (ways_of prefix_cmp cs) (λ k d l. let rank = ranks k d l in rank.below))

@@ -3,13 +3,12 @@
 ghost use Rattle.std.specs.Prelude.{◌≡◌, ◌<◌, ◌^◌, [], ◌∷◌, All, IfOk, OnOk, map};
 ghost use Rattle.lsa_codec.specs.Order.{prefix_cmp};
 ghost use Rattle.best_ways.specs.Best.{ways_of};
-ghost use Rattle.area_routes.specs.Intra.{intra_route};
 ghost use Rattle.area_routes.specs.Offers.{AreSortedOffers, offer_of};
 ghost use Rattle.area_routes.specs.Values.{OffersBelow};
 ghost use Rattle.area_routes.specs.steps.Growing.{with_offers};
 ghost use Rattle.area_routes.specs.steps.OneArea.{IsIntraRoute, offered};
 
-use best_ways::{AreaList, BestWays, PathType, Rank, Route, Way};
+use best_ways::{BestWays, PathType, Rank, Route};
 use lsa_codec::{AreaId, Prefix};
 use next_hops::Hop;
 use std::alloc::{AllocError, Allocator};
@@ -23,15 +22,16 @@ pub(crate) struct AreaWays<'a, A: Allocator> {
 }
 
 impl<'a, A: Allocator> Model for AreaWays<'a, A> {
-    ghost use Rattle.std.specs.Prelude.{◌<◌, ◌^◌, List, All};
+    ghost use Rattle.std.specs.Prelude.{List, All};
     ghost use Rattle.lsa_codec.specs.Prefix.{Net};
     ghost use Rattle.best_ways.specs.Candidate.{Candidate};
+    ghost use Rattle.area_routes.specs.steps.OneArea.{IsWithinArea};
 
     ghost Value = { List (Candidate Net) };
 
     ghost view = { λ w. w.ways };
 
-    ghost invariant = { λ w. All (λ c. c.rank.cost < 2 ^ 33) w.ways };
+    ghost invariant = { λ w. All IsWithinArea w.ways };
 }
 
 impl<'a, A: Allocator + Copy> AreaWays<'a, A> {
@@ -67,22 +67,6 @@ impl<'a, A: Allocator + Copy> AreaWays<'a, A> {
         ensures below { IfOk result (λ routes. OffersBelow (2 ^ 33) (map offered routes.items)) }
         ensures sorted { IfOk result (λ routes. AreSortedOffers (map offered routes.items)) }
     {
-        self.ways
-            .into_each(alloc, |net, way| route_in(alloc, area, net, way))
-    }
-}
-
-/// The route to a prefix by the best way within an area, for a router that is attached to this area
-/// alone.
-fn route_in<A: Allocator + Copy>(alloc: A, area: AreaId, net: Prefix, way: Way<A>) -> Route<A>
-    ensures { result ≡ intra_route area (offer_of (net, way)) }
-{
-    Route {
-        net,
-        kind: PathType::Intra,
-        areas: AreaList::of_one(alloc, area),
-        cost: way.rank().cost,
-        cost2: 0,
-        hops: way.hops,
+        Ok(self.ways.into_routes_through(alloc, area)?.into_vec())
     }
 }

@@ -108,8 +108,7 @@ fn inter_entries<A: Allocator + Copy>(
     for lsa in lsas {
         add_asbr_candidate(&mut ways, lsa, router, area)?;
     }
-    let area = area.area();
-    ways.into_each(alloc, |asbr, way| entry(asbr, way, area))
+    entries(alloc, ways.into_list(alloc)?, area.area())
 }
 
 /// Takes the way to a prefix of another area that an LSA gives, if it does, into account.
@@ -185,4 +184,17 @@ fn entry<A: Allocator + Copy>(asbr: RouterId, way: Way<A>, area: AreaId) -> Rout
         cost: way.rank().cost,
         hops: way.hops,
     }
+}
+
+/// The entry of an AS boundary router of another area, for each way.
+fn entries<A: Allocator + Copy>(
+    alloc: A,
+    ways: Vec<(RouterId, Way<A>), A>,
+    area: AreaId,
+) -> Result<Vec<RouterEntry<A>, A>, AllocError>
+    ensures { IfOk result (λ entries. entries.items ≡ map (asbr_entry area) ways.items) }
+{
+    ways.into_iter()
+        .map(|(asbr, way)| entry(asbr, way, area))
+        .collect(alloc)
 }

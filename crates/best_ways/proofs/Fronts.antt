@@ -1,7 +1,7 @@
 -- The best ways of candidates in order of their keys: that of the candidates at the front, which are for one key, and
 -- then those of the others.
-use Rattle.std.proofs.Common.{◌≡◌, ℕ, suc, ◌+◌, ◌<◌, Bool, true, false, cond, List, [], ◌∷◌, ◌++◌, map, take, drop, length, get_or, Option, Some, None, IfSome}
-use Rattle.std.proofs.Common.{refl, sym, ap, subst, ◌∙◌, arith, append_assoc}
+use Rattle.std.proofs.Common.{◌≡◌, ℕ, suc, ◌+◌, ◌<◌, ◌≤◌, Bool, true, false, cond, List, [], ◌∷◌, ◌++◌, map, take, drop, length, get_or, Option, Some, None, IfSome}
+use Rattle.std.proofs.Common.{refl, sym, ap, subst, ◌∙◌, arith}
 use Rattle.std.specs.Prelude.{nat_lt, not, position}
 use Rattle.std.specs.List.{All, AllByRecursion, filter, position_or_len, slice_get}
 use Rattle.std.specs.List.Sorted.{IsSorted, IsStrictlySortedBy}
@@ -11,7 +11,7 @@ use Rattle.std.specs.Ordering.{eq_by_cmp, is_eq, is_lt, ordering_reverse}
 use Rattle.std.specs.declared.cmp.Ordering.{Ordering}
 use Rattle.std.specs.declared.cmp.Ordering.TheVariants.{Less, Equal, Greater}
 use Rattle.std.proofs.lemmas.Bool.{ltb-false}
-use Rattle.std.proofs.lemmas.List.{append-nil, drop_more, get_or-take, length-take}
+use Rattle.std.proofs.lemmas.List.{append-nil, drop-drop, drop_all, drop_more, get_or-take, length-take, take-append-drop, take_all}
 use Rattle.std.proofs.lemmas.List.Elements.{filter-append, recursion_from_All}
 use Rattle.std.proofs.lemmas.List.Quantifiers.{position-Some}
 use Rattle.std.proofs.lemmas.List.Sorted.{ranks_by, sorted_far}
@@ -133,26 +133,27 @@ module _ {K : Type 0} {R : K → K → Ordering} (o : IsTotalOrder R) (exact : C
     front_ways : ways_of R (x ∷ (alike ++ others)) ≡ (x.key, w) ∷ ways_of R others
     front_ways = sym (all_ways o exact ((x.key, w) ∷ ways_of R others) (x ∷ (alike ++ others)) rises has_ways)
 
-  -- one step: the candidates at the front are taken
-  module _ (rest others alike left : List (Candidate K)) (x : Candidate K) (at : rest ≡ x ∷ others) (parts : others ≡ alike ++ left) (up : Climbs R rest) where
-    whole : rest ≡ x ∷ (alike ++ left)
-    whole = at ∙ ap (λ l. x ∷ l) parts
+  -- the candidates from a place on: n after the first are for the same key
+  pub next_ways : (cs : List (Candidate K)) (place n : ℕ) (x : Candidate K) → place < length cs → x ≡ get_or cs place x → IsSorted (key_cmp R) cs
+      → All (IsFor R x.key) (take n (drop (place + 1) cs)) → IfSome (slice_get (drop n (drop (place + 1) cs)) 0) (IsForAnother R x.key)
+      → (w : WayValue) → Some w ≡ way_of (x ∷ take n (drop (place + 1) cs))
+      → ways_of R (drop place cs) ≡ (x.key, w) ∷ ways_of R (drop (place + 1 + n) cs)
+  next_ways cs place n x within at up same other w is =
+      let others = drop (place + 1) cs in
+      let alike = take n others in
+      let left = drop n others in
+      let rest : drop place cs ≡ x ∷ (alike ++ left) =
+      drop_more cs place x within ∙ ap (λ y. y ∷ others) (sym at) ∙ ap (λ l. x ∷ l) (sym (take-append-drop n others)) in
+      let here : Climbs R (x ∷ (alike ++ left)) =
+      subst (Climbs R) rest (climbs_after R (take place cs) (drop place cs) (subst (Climbs R) (sym (take-append-drop place cs)) (climbs o cs up))) in
+      let on : Climbs R left = climbs_after R alike left here.1 in
+      let later_ones = all_later o x.key left on (all_after (λ d. is_lt (R d.key x.key) ≡ false) alike left here.0) other in
+      ap (ways_of R) rest ∙ front_ways x alike left (recursion_from_All (IsFor R x.key) alike same) later_ones w is
+      ∙ ap (λ l. (x.key, w) ∷ ways_of R l) (drop-drop n (place + 1) cs)
 
-    here : Climbs R (x ∷ (alike ++ left))
-    here = subst (Climbs R) whole up
-
-    pub climbs_on : Climbs R left
-    climbs_on = climbs_after R alike left here.1
-
-    pub one_more : All (IsFor R x.key) alike → IfSome (slice_get left 0) (IsForAnother R x.key)
-        → {T : Type 0} (f : K × WayValue → T) (all : List T) (made more : List T) (w : WayValue) (one : T) → Some w ≡ way_of (x ∷ alike)
-        → one ≡ f (x.key, w) → more ≡ made ++ one ∷ [] → all ≡ made ++ map f (ways_of R rest) → all ≡ more ++ map f (ways_of R left)
-    one_more same other {T} f all made more w one is made_is more_is before =
-        let later_ones = all_later o x.key left climbs_on (all_after (λ d. is_lt (R d.key x.key) ≡ false) alike left here.0) other in
-        let ways : ways_of R rest ≡ (x.key, w) ∷ ways_of R left =
-        ap (ways_of R) whole ∙ front_ways x alike left (recursion_from_All (IsFor R x.key) alike same) later_ones w is in
-        before ∙ ap (λ ws. made ++ map f ws) ways ∙ ap (λ (y : T). made ++ y ∷ map f (ways_of R left)) (sym made_is)
-        ∙ sym (append_assoc made (one ∷ []) (map f (ways_of R left))) ∙ ap (λ (l : List T). l ++ map f (ways_of R left)) (sym more_is)
+-- the ways of the last candidates are all ways that are left
+pub no_more : {K : Type 0} (R : K → K → Ordering) (cs : List (Candidate K)) (place : ℕ) → length cs ≤ place → ways_of R (drop place cs) ≡ []
+no_more R cs place past = ap (ways_of R) (drop_all place cs past)
 
 -- ---- the candidates at the front
 
@@ -171,11 +172,6 @@ none_found p xs none k d below = by (nat_lt (position_or_len p xs) (length xs)) 
     by true e h = cc
     by false e h = (let past = ltb-false (position_or_len p xs) (length xs) e in fails_before_first p xs k d (omega (arith, below, past)))
 
--- a list without items
-pub none_left : {X : Type 0} (xs : List X) → length xs ≡ 0 → xs ≡ []
-none_left [] h = refl
-none_left (x ∷ xs) h = absurd (omega (arith, h))
-
 module _ {X : Type 0} (t : X → Bool) (n : ℕ) where
   pub front_passes : (xs : List X) → position (λ x. not (t x)) xs ≡ Some n → All (λ x. t x ≡ true) (take n xs)
   front_passes xs at k d below =
@@ -192,5 +188,13 @@ module _ {X : Type 0} (t : X → Bool) (n : ℕ) where
       subst P (sym (drop_more (y ∷ ys) n y first.0)) (not_true (t (get_or (y ∷ ys) n y)) first.1)
 
   -- where all pass
-  pub all_pass_from : (xs : List X) → position (λ x. not (t x)) xs ≡ None → All (λ x. t x ≡ true) xs
-  all_pass_from xs none k d below = not_not (t (get_or xs k d)) (none_found (λ x. not (t x)) xs none k d below)
+  pub all_taken : (xs : List X) → position (λ x. not (t x)) xs ≡ None → n ≡ length xs → All (λ x. t x ≡ true) (take n xs)
+  all_taken xs none size =
+      let P : List X → Type 0 = λ l. All (λ x. t x ≡ true) l in
+      subst P (sym (take_all n xs (omega (arith, size))))
+      (λ k d below. not_not (t (get_or xs k d)) (none_found (λ x. not (t x)) xs none k d below))
+
+  pub none_after : (xs : List X) → n ≡ length xs → IfSome (slice_get (drop n xs) 0) (λ x. t x ≡ false)
+  none_after xs size =
+      let P : List X → Type 0 = λ l. IfSome (slice_get l 0) (λ x. t x ≡ false) in
+      subst P (sym (drop_all n xs (omega (arith, size)))) tt

@@ -7,11 +7,10 @@ ghost use Rattle.std.proofs.lemmas.Map.Lookups.{CmpEqualImpliesEq};
 ghost use Rattle.next_hops.specs.Hop.{extended};
 ghost use Rattle.best_ways.specs.Best.{ways_of, Gathers};
 ghost use Rattle.best_ways.specs.Candidate.{Candidate};
-ghost use Rattle.best_ways.specs.Values.{WayValue};
 ghost use Rattle.best_ways.specs.steps.Merge.{contender_cmp, key_cmp};
 
 use crate::contender::Contender;
-use crate::merge::best_of_each;
+use crate::merge::next_way;
 use crate::rank::Rank;
 use crate::way::Way;
 use lsa_codec::{Addr, AreaId};
@@ -134,28 +133,35 @@ impl<'a, K: Ord + Copy + Drop, A: Allocator + Copy> BestWays<'a, K, A> {
             → Gathers cs self.entry → ways.items ≡ ways_of K.cmp cs) }
         ensures sorted { IfOk result (λ ways. IsStrictlySortedBy K.cmp (keys_of ways.items)) }
     {
-        self.into_each(alloc, |key, way| (key, way))
+        ways_in_order(alloc, &self.into_ordered()?)
     }
 
-    /// What `make` returns for each destination that a candidate has and the best way to it, in
-    /// order of the destinations.
-    ///
-    /// # Errors
-    ///
-    /// Memory ran out.
-    pub fn into_each<T: Drop, F: Fn(K, Way<A>) -> T>(
-        self,
-        alloc: A,
-        make: F,
-    ) -> Result<Vec<T, A>, AllocError>
-        requires exact { CmpEqualImpliesEq K.cmp }
-        requires callable { F.IsAlwaysCallable make }
-        ensures { IfOk result (λ made. (f : K × WayValue → T)
-            → ((key : K) (way : WayValue) (one : T) → F.post make key way one → one ≡ f (key, way))
-            → made.items ≡ map f (ways_of K.cmp self.entry)) }
+    /// The candidates in order of their destinations.
+    pub(crate) fn into_ordered(self) -> Result<Vec<Contender<'a, K>, A>, AllocError>
+        ensures same { IfOk result (λ ordered. IsPermutation self.entry ordered.items) }
+        ensures order { IfOk result (λ ordered. IsSorted (key_cmp K.cmp) ordered.items) }
     {
-        best_of_each(alloc, &in_order(self.candidates)?, make)
+        in_order(self.candidates)
     }
+}
+
+/// The best ways of candidates that are in order of their destinations.
+fn ways_in_order<K: Ord + Copy + Drop, A: Allocator + Copy>(
+    alloc: A,
+    candidates: &[Contender<'_, K>],
+) -> Result<Vec<(K, Way<A>), A>, AllocError>
+    requires exact { CmpEqualImpliesEq K.cmp }
+    requires order { IsSorted (key_cmp K.cmp) candidates.now }
+    ensures { IfOk result (λ ways. ways.items ≡ ways_of K.cmp candidates.now) }
+{
+    let mut ways = Vec::with_capacity(alloc, candidates.len())?;
+    let mut place = 0;
+    while place < candidates.len() {
+        let next = next_way(alloc, candidates, place)?;
+        ways.push((next.key, next.way))?;
+        place = next.end;
+    }
+    Ok(ways)
 }
 
 /// Whether candidates are in order of their destinations.

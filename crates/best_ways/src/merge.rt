@@ -1,16 +1,27 @@
-//! The best of candidates that are in order of their destinations.
+//! The best way of candidates that are in order of their destinations, one destination after
+//! another.
 
-ghost use Rattle.std.specs.Prelude.{◌≡◌, ◌≤◌, ◌++◌, All, true, false, not, IfOk, IfSome, length, map, position, slice_get};
+ghost use Rattle.std.specs.Prelude.{◌≡◌, ◌<◌, ◌≤◌, ◌∷◌, All, true, false, not, drop, IfOk, IfSome, length, position, slice_get, take};
 ghost use Rattle.std.specs.List.Sorted.{IsSorted};
 ghost use Rattle.std.specs.Ordering.{eq_by_cmp};
 ghost use Rattle.std.proofs.lemmas.Map.Lookups.{CmpEqualImpliesEq};
 ghost use Rattle.best_ways.specs.Best.{ways_of};
-ghost use Rattle.best_ways.specs.Values.{WayValue};
 ghost use Rattle.best_ways.specs.steps.Merge.{key_cmp};
 
 use crate::contender::Contender;
 use crate::way::Way;
 use std::alloc::{AllocError, Allocator};
+
+/// The best way to a destination.
+#[derive(Drop)]
+pub(crate) struct NextWay<K, A: Allocator> {
+    /// The destination.
+    pub(crate) key: K,
+    /// The best way to it.
+    pub(crate) way: Way<A>,
+    /// The place after the candidates for it.
+    pub(crate) end: usize,
+}
 
 /// The place of the first candidate that is not for a destination.
 fn first_other<K: Ord + Copy>(key: K, candidates: &[Contender<'_, K>]) -> Option<usize>
@@ -21,47 +32,41 @@ fn first_other<K: Ord + Copy>(key: K, candidates: &[Contender<'_, K>]) -> Option
         .position(|candidate| !key.cmp(&candidate.key).is_eq())
 }
 
-/// The candidates at the front that are for a destination, and the others.
-fn split_alike<'s, 'a, K: Ord + Copy>(
-    key: K,
-    candidates: &'s [Contender<'a, K>],
-) -> (&'s [Contender<'a, K>], &'s [Contender<'a, K>])
-    ensures parts { candidates.now ≡ result.0.now ++ result.1.now }
-    ensures alike { All (λ c. eq_by_cmp K.cmp key c.key ≡ true) result.0.now }
-    ensures other { IfSome (slice_get result.1.now 0) (λ c. eq_by_cmp K.cmp key c.key ≡ false) }
-    ensures fewer { length result.1.now ≤ length candidates.now }
+/// How many candidates at the front are for a destination.
+fn count_alike<K: Ord + Copy>(key: K, candidates: &[Contender<'_, K>]) -> usize
+    ensures within { result ≤ length candidates.now }
+    ensures alike { All (λ c. eq_by_cmp K.cmp key c.key ≡ true) (take result candidates.now) }
+    ensures other { IfSome (slice_get (drop result candidates.now) 0)
+        (λ c. eq_by_cmp K.cmp key c.key ≡ false) }
 {
     match first_other(key, candidates) {
-        Some(place) => candidates.split_at(place),
-        None => (candidates, &[]),
+        Some(place) => place,
+        None => candidates.len(),
     }
 }
 
-/// What `make` returns for each destination of candidates that are in order of their destinations,
-/// and for the best way to it.
-pub(crate) fn best_of_each<
-    K: Ord + Copy + Drop,
-    T: Drop,
-    F: Fn(K, Way<A>) -> T,
-    A: Allocator + Copy,
->(
+/// The best way to the destination of the candidate at a place, of all candidates from there on.
+/// They are in order of their destinations.
+pub(crate) fn next_way<K: Ord + Copy + Drop, A: Allocator + Copy>(
     alloc: A,
     candidates: &[Contender<'_, K>],
-    make: F,
-) -> Result<Vec<T, A>, AllocError>
+    place: usize,
+) -> Result<NextWay<K, A>, AllocError>
     requires exact { CmpEqualImpliesEq K.cmp }
     requires order { IsSorted (key_cmp K.cmp) candidates.now }
-    requires callable { F.IsAlwaysCallable make }
-    ensures { IfOk result (λ made. (f : K × WayValue → T)
-        → ((key : K) (way : WayValue) (one : T) → F.post make key way one → one ≡ f (key, way))
-        → made.items ≡ map f (ways_of K.cmp candidates.now)) }
+    requires within { place < length candidates.now }
+    ensures way { IfOk result (λ next. ways_of K.cmp (drop place candidates.now)
+        ≡ (next.key, next.way) ∷ ways_of K.cmp (drop next.end candidates.now)) }
+    ensures end { IfOk result (λ next. (place < next.end) × (next.end ≤ length candidates.now)) }
 {
-    let mut made = Vec::with_capacity(alloc, candidates.len())?;
-    let mut rest = candidates;
-    while let Some((first, others)) = rest.split_first() {
-        let (alike, others) = split_alike(first.key, others);
-        made.push(make(first.key, Way::of(alloc, first, alike)?))?;
-        rest = others;
-    }
-    Ok(made)
+    let first = &candidates[place];
+    let (_, others) = candidates.split_at(place + 1);
+    let count = count_alike(first.key, others);
+    let (alike, _) = others.split_at(count);
+    let way = Way::of(alloc, first, alike)?;
+    Ok(NextWay {
+        key: first.key,
+        way,
+        end: place + 1 + count,
+    })
 }

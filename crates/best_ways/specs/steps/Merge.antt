@@ -53,4 +53,3 @@ module _ {K : Type 0} where
     -- the same, and equal ones by their first hops
     abbrev pub contender_cmp : Candidate K → Candidate K → Ordering
     contender_cmp a b = ordering_then (candidate_cmp a b) (hop_cmp (first_hop a.hops) (first_hop b.hops))
-

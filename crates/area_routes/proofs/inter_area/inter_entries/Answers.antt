@@ -1,12 +1,11 @@
-use Rattle.std.proofs.Common.{◌≡◌, ℕ, ◌^◌, [], ◌∷◌, List, map, sym, ap, subst, ◌∙◌, rules}
+use Rattle.std.proofs.Common.{◌≡◌, ℕ, ◌^◌, [], ◌∷◌, List, map, sym, ap, subst, ◌∙◌}
 use Rattle.std.specs.List.{filter_map}
 use Rattle.std.proofs.lemmas.Iterator.Consumers.{YieldsList-end, YieldsList-from_first}
 use Rattle.std.proofs.lemmas.List.{map-append}
 use Rattle.std.proofs.lemmas.Result.{IfOk-weaker}
 use Rattle.lsa_codec.specs.declared.address.AreaId.{AreaId}
 use Rattle.lsa_codec.specs.declared.address.RouterId.{RouterId}
-use Rattle.lsa_codec.specs.Order.{router_cmp}
-use Rattle.best_ways.specs.Best.{Gathers, ways_of}
+use Rattle.best_ways.specs.Best.{Gathers}
 use Rattle.best_ways.specs.Candidate.{Candidate}
 use Rattle.area_routes.specs.Inter.{asbr_candidate, asbr_entry}
 use Rattle.area_routes.specs.Values.{EntriesBelow}
@@ -30,21 +29,20 @@ returns-clause-entries g c =
     let all : map (λ lsa. lsa.now) c.loop-lsa.yielded ≡ c.args.lsas = seen.0 in
     let f = asbr_candidate c.args.router c.args.area.now in
     let P : List (List ℕ) → Type 0 = λ lsas. Gathers (filter_map f lsas) c.loop-lsa.ways in
-    IfOk-weaker c.into_each.result _ _
-    (λ entries each. each (asbr_entry c.area.result) (λ asbr way one says. search rules)
-    ∙ ap (λ (a : AreaId). map (asbr_entry a) (ways_of router_cmp c.loop-lsa.ways)) c.area.ensures
-    ∙ ap (λ cs. map (asbr_entry c.args.area.now.area) (ways_of router_cmp cs)) (subst P all c.loop-lsa.invariant))
-    c.into_each.ensures
+    let ways = c.in_ok-into_list.ensures.ways (filter_map f c.args.lsas) (subst P all c.loop-lsa.invariant) in
+    IfOk-weaker c.entries.result _ _
+    (λ x h. h ∙ ap (λ (a : AreaId). map (asbr_entry a) c.in_ok-into_list.field-0.items) c.area.ensures ∙ ap (map (asbr_entry c.args.area.now.area)) ways)
+    c.entries.ensures
 
 pub returns-clause-small : goal.returns-clause-small
 returns-clause-small g c =
     let lsas = map (λ lsa. lsa.now) c.loop-lsa.yielded in
     let cs = filter_map (asbr_candidate c.args.router c.args.area.now) lsas in
-    IfOk-weaker c.into_each.result _ _
-    (λ entries each. subst (EntriesBelow (2 ^ 34))
-    (sym (each (asbr_entry c.area.result) (λ asbr way one says. search rules) ∙ ap (λ (ds : List (Candidate RouterId)). map (asbr_entry c.area.result) (ways_of router_cmp ds)) c.loop-lsa.invariant))
+    let ways = c.in_ok-into_list.ensures.ways cs c.loop-lsa.invariant in
+    IfOk-weaker c.entries.result _ _
+    (λ x h. subst (EntriesBelow (2 ^ 34)) (sym (h ∙ ap (map (asbr_entry c.area.result)) ways))
     (entries_below (2 ^ 34) c.area.result cs (asbrs_below c.args.router c.args.area.now c.requires lsas)))
-    c.into_each.ensures
+    c.entries.ensures
 
 pub returns-then-is_borderless-clause-entries : goal.returns-then-is_borderless-clause-entries
 returns-then-is_borderless-clause-entries g c =

@@ -1,25 +1,24 @@
-use Rattle.std.proofs.Common.{◌≡◌, List, sym, ap, subst, ◌∙◌, rules}
+use Rattle.std.proofs.Common.{List, ap, sym, subst, ◌∙◌}
 use Rattle.std.specs.List.Sorted.{IsStrictlySortedBy}
 use Rattle.std.specs.Map.{keys_of}
-use Rattle.std.specs.Prelude.{IfOk}
-use Rattle.std.proofs.lemmas.List.{map-id}
 use Rattle.std.proofs.lemmas.Result.{IfOk-weaker}
 use Rattle.best_ways.specs.Best.{ways_of}
 use Rattle.best_ways.specs.Values.{WayValue}
 use Rattle.best_ways.proofs.Merging.{sorted_ways}
+use Rattle.best_ways.proofs.Reordered.{reordered}
 use Rattle.best_ways.proofs.best.BestWays.into_list.Goals as goal
 
 pub returns-clause-ways : goal.returns-clause-ways
 returns-clause-ways g c =
     let R = g.K.Ord.cmp in
-    IfOk-weaker c.into_each.result _ _
-    (λ ways each cs at. each (λ e. e) (λ key way one says. search rules) ∙ map-id (ways_of R c.args.self) ∙ ap (ways_of R) at) c.into_each.ensures
+    IfOk-weaker c.ways_in_order.result _ _
+    (λ ways is cs at. is ∙ ap (ways_of R) c.deref.ensures.value
+    ∙ reordered g.met.K.Ord.total c.requires c.args.self c.in_ok-into_ordered.field-0.items c.in_ok-into_ordered.ensures.same
+    ∙ ap (ways_of R) at) c.ways_in_order.ensures
 
 pub returns-clause-sorted : goal.returns-clause-sorted
 returns-clause-sorted g c =
     let R = g.K.Ord.cmp in
-    IfOk-weaker c.into_each.result _ _
-    (λ ways each.
-    let are = each (λ e. e) (λ key way one says. search rules) ∙ map-id (ways_of R c.args.self) in
-    subst (λ (es : List (g.row.K.Denot × WayValue)). IsStrictlySortedBy R (keys_of es)) (sym are) (sorted_ways g.met.K.Ord.total c.requires c.args.self))
-    c.into_each.ensures
+    IfOk-weaker c.ways_in_order.result _ _
+    (λ ways is. subst (λ (es : List (g.row.K.Denot × WayValue)). IsStrictlySortedBy R (keys_of es)) (sym is)
+    (sorted_ways g.met.K.Ord.total c.requires c.deref.result.now)) c.ways_in_order.ensures
