@@ -1,6 +1,6 @@
 -- The best ways within one area, as routes of a router that is attached to this area alone.
-use Rattle.std.proofs.Common.{◌≡◌, ◌<◌, ◌^◌, List, [], ◌∷◌, Some, map, sym, ap, subst, ◌∙◌}
-use Rattle.std.specs.List.{All}
+use Rattle.std.proofs.Common.{◌≡◌, ◌<◌, ◌^◌, List, [], ◌∷◌, Some, get_or, map, sym, ap, subst, ◌∙◌}
+use Rattle.std.specs.List.{All, flat_map}
 use Rattle.std.specs.List.Sorted.{IsStrictlySortedBy}
 use Rattle.std.proofs.lemmas.List.Elements.{All-map}
 use Rattle.std.proofs.lemmas.Simd.{map-map}
@@ -43,9 +43,9 @@ module _ (area : AreaId) (cs : List (Candidate Net)) (within : All IsWithinArea 
   pub intra_by : All (IsIntraRoute area) routes
   intra_by =
       let sorted : All (λ (e : Net × WayValue). IsSortedHops e.1.hops) (ways_of prefix_cmp cs) =
-      ways_hold (λ w. IsSortedHops w.hops) (λ rank own. IsSortedHops-rising _) prefix_cmp cs in
+      ways_hold (λ w. IsSortedHops w.hops) (λ rank own. IsSortedHops-rising (flat_map (λ c. c.hops) own)) prefix_cmp cs in
       subst (All (IsIntraRoute area)) (sym are)
-      (All-map (IsIntraRoute area) (route_through (Some area)) (ways_of prefix_cmp cs) (λ k d l. is_intra area _ (ranks k d l) (sorted k d l)))
+      (All-map (IsIntraRoute area) (route_through (Some area)) (ways_of prefix_cmp cs) (λ k d l. is_intra area (get_or (ways_of prefix_cmp cs) k d) (ranks k d l) (sorted k d l)))
 
   pub offers_below : OffersBelow (2 ^ 33) (map offered routes)
   offers_below =
