@@ -1,8 +1,8 @@
 //! Intra-area routes, inter-area routes and router entries of a router (RFC 2328, 16.1 and 16.2).
 //!
 //! An [`AreaResult`] has what one area offers: ways to prefixes, and the routers that are area
-//! border routers or AS boundary routers. The best ways of all areas, as the crate `best_ways` picks
-//! them, become routes.
+//! border routers or AS boundary routers. The best ways of all areas become routes, as the crate
+//! `best_ways` picks them.
 #![tactic(auto)]
 
 // What areas give, and the routes inside the AS.

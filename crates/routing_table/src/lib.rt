@@ -1,7 +1,7 @@
 //! The routing table of a router (RFC 2328, 11 and 16).
 //!
-//! [`table_of`] makes it from a link state database alone, [`table_from`] from what the areas give to
-//! which a router is attached, as [`KeptTrees::results_of`] returns it.
+//! [`table_of`] makes it from a link state database alone, [`table_from`] from what the areas give
+//! to which a router is attached, as [`KeptTrees::results_of`] returns it.
 #![tactic(auto)]
 
 mod area_trees;
