@@ -1,6 +1,6 @@
-use Rattle.session_text.proofs.SessionParts.{one_session}
-use Rattle.session_text.proofs.ShortLines.{short_session}
-use Rattle.session_text.proofs.laws.session_laws.Goals as goal
+use Rattle.saved_sessions.proofs.SessionParts.{one_session}
+use Rattle.saved_sessions.proofs.ShortLines.{short_session}
+use Rattle.saved_sessions.proofs.laws.session_laws.Goals as goal
 
 pub returns-clause-one_text : goal.returns-clause-one_text
 returns-clause-one_text c = one_session c.base_laws.ensures.complete c.line_laws.ensures.again

@@ -1,7 +1,7 @@
 use Rattle.edit_script.specs.declared.command.Command.TheVariants as command
-use Rattle.session_text.proofs.LineParts.{edit_line_is, edit_line_again}
-use Rattle.session_text.proofs.ShortLines.{short_line}
-use Rattle.session_text.proofs.laws.line_laws.Goals as goal
+use Rattle.saved_sessions.proofs.LineParts.{edit_line_is, edit_line_again}
+use Rattle.saved_sessions.proofs.ShortLines.{short_line}
+use Rattle.saved_sessions.proofs.laws.line_laws.Goals as goal
 
 pub returns-clause-again : goal.returns-clause-again
 returns-clause-again c = edit_line_again c.reads_back.ensures c.spelled_on_one_line.ensures

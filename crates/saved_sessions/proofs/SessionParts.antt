@@ -14,8 +14,8 @@ use Rattle.lsdb.specs.Limits.{longest_session}
 use Rattle.lsdb.specs.Lists.{Lists, IsDatabase}
 use Rattle.lsdb.specs.BaseText.{base_text}
 use Rattle.lsdb.specs.BaseLoading.{base_loaded}
-use Rattle.session_text.specs.Lines.{line_feed, line_of, lines_of, edit_line}
-use Rattle.session_text.specs.Text.{history_text, session_text, IsHistory}
+use Rattle.saved_sessions.specs.Lines.{line_feed, line_of, lines_of, edit_line}
+use Rattle.saved_sessions.specs.Text.{history_text, session_text, IsHistory}
 
 -- ---- the lines
 

@@ -5,7 +5,7 @@ use Rattle.lsdb.specs.Lists.{Lists}
 use Rattle.lsdb.specs.BaseText.{base_text}
 use Rattle.edit_script.specs.declared.edit.Edit.{Edit}
 use Rattle.edit_script.specs.Spelling.{IsEditInRange}
-use Rattle.session_text.specs.Lines.{lines_of}
+use Rattle.saved_sessions.specs.Lines.{lines_of}
 
 -- the number of edits done and the number of edits undone, and their lines
 abbrev pub history_text : List Edit → List Edit → List ℕ

@@ -13,7 +13,7 @@ use Rattle.edit_script.specs.declared.edit.Edit.{Edit}
 use Rattle.edit_script.specs.declared.fault.ScriptFault.{ScriptFault}
 use Rattle.edit_script.specs.Line.{meaning}
 use Rattle.edit_script.specs.Spelling.{spelling, IsEditInRange}
-use Rattle.session_text.specs.Lines.{line_feed, line_of, if_spelled, edit_in, edit_meant, edit_spelled, line_up_to, edit_line}
+use Rattle.saved_sessions.specs.Lines.{line_feed, line_of, if_spelled, edit_in, edit_meant, edit_spelled, line_up_to, edit_line}
 
 abbrev pub is_feed : ℕ → Bool
 is_feed byte = eqb byte line_feed

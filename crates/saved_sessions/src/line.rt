@@ -2,7 +2,7 @@
 
 ghost use Rattle.std.specs.Prelude.{◌≡◌, ◌==◌, ◌++◌, position, IfOk, OnOk};
 ghost use Rattle.edit_script.specs.Spelling.{spelling, IsEditInRange};
-ghost use Rattle.session_text.specs.Lines.{line_feed, line_of, edit_spelled, edit_line};
+ghost use Rattle.saved_sessions.specs.Lines.{line_feed, line_of, edit_spelled, edit_line};
 
 use edit_script::{Command, Edit, edits_are_in_range, parse, print};
 use std::alloc::{AllocError, Allocator};

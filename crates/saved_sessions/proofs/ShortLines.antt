@@ -19,8 +19,8 @@ use Rattle.edit_script.specs.Spelling.{spelling, type_text, edit_words, IsEditIn
 use Rattle.lsdb.specs.Limits.{longest_dump}
 use Rattle.lsdb.specs.Lists.{Lists, IsDatabase, size}
 use Rattle.lsdb.specs.BaseText.{base_text}
-use Rattle.session_text.specs.Lines.{line_feed, line_of, lines_of, longest_line}
-use Rattle.session_text.specs.Text.{history_text, session_text, IsHistory}
+use Rattle.saved_sessions.specs.Lines.{line_feed, line_of, lines_of, longest_line}
+use Rattle.saved_sessions.specs.Text.{history_text, session_text, IsHistory}
 
 -- ---- words
 
