@@ -1,5 +1,5 @@
 -- What calls that ask for tables calculate, by their results.
-use Rattle.std.proofs.Common.{◌≡◌, ◌≢◌, ℕ, [], length, List, Option, Result, Ok, Err, ap, ◌∙◌, sym, refl, subst, arith}
+use Rattle.std.proofs.Common.{◌≡◌, ℕ, [], length, List, Option, Result, Ok, Err, ap, ◌∙◌, sym, subst, arith}
 use Rattle.std.specs.Prelude.{OnOk}
 use Rattle.lsa_codec.specs.declared.address.RouterId.{RouterId}
 use Rattle.lsdb.specs.Lists.{AreaHead, Lists}

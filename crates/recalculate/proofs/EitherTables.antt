@@ -1,5 +1,5 @@
 -- A cached table: what is noted before it, and which trees come for it.
-use Rattle.std.proofs.Common.{◌≡◌, ℕ, ◌+◌, ◌≤◌, Option, Result, Ok, Err, inl, refl, ap, ◌∙◌, sym, subst, arith}
+use Rattle.std.proofs.Common.{◌≡◌, ◌+◌, Option, Result, refl, ap, ◌∙◌, sym, subst, arith}
 use Rattle.std.specs.Prelude.{OnOk}
 use Rattle.lsa_codec.specs.declared.address.RouterId.{RouterId}
 use Rattle.edit_history.specs.Session.{state}
@@ -7,7 +7,7 @@ use Rattle.routing_table.specs.Counting.{counted_by}
 use Rattle.routing_table.specs.KeptTrees.{KeptRouters}
 use Rattle.routing_table.specs.declared.table.TableFault.{TableFault}
 use Rattle.routing_table.proofs.TableLemmas.{on_ok}
-use Rattle.recalculate.specs.Asking.{GainsTrees, HasTrees, HasTreesOfTable, IsAskedAgain, gained, lacking}
+use Rattle.recalculate.specs.Asking.{GainsTrees, HasTrees, HasTreesOfTable, IsAskedAgain, lacking}
 use Rattle.recalculate.specs.Calls.{Stayed}
 use Rattle.recalculate.specs.CallsForTables.{CalculatesEither, CalculatesTrees, KeepsBaseline, NotesAsked}
 use Rattle.recalculate.specs.Planning.{PlannerValue}

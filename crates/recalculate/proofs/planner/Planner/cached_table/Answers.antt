@@ -1,4 +1,4 @@
-use Rattle.std.proofs.Common.{◌≡◌, ◌∙◌, Some, IfErr, IfOk, subst}
+use Rattle.std.proofs.Common.{◌≡◌, Some, IfErr, IfOk, subst}
 use Rattle.std.proofs.lemmas.Result.{err_from_is_err_and}
 use Rattle.edit_history.specs.Session.{Session, state}
 use Rattle.routing_table.specs.Tables.{FaultMeans, table_in}

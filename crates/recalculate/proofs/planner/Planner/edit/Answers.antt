@@ -1,4 +1,4 @@
-use Rattle.std.proofs.Common.{◌∙◌, ap, refl, sym, subst}
+use Rattle.std.proofs.Common.{◌∙◌, ap, subst}
 use Rattle.edit_history.specs.Effect.{edit_touches}
 use Rattle.edit_history.specs.Session.{edit, state}
 use Rattle.recalculate.proofs.CallsSpare.{caches_follow, carries_out, edit_taken, less_kept_by, others_stay, shown, took}
