@@ -2,7 +2,7 @@
 
 use edit_script::Edit;
 use lsa_codec::{AreaId, RouterId};
-use session_text::{edit_line, put_line};
+use saved_sessions::{edit_line, put_line};
 use std::test::*;
 
 const COST: Edit = Edit::Cost {
