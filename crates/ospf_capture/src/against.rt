@@ -2,10 +2,10 @@
 
 use crate::fault::{ExitFault, unlisted, unread};
 use crate::files::open_file;
+use host_io::{Watched, read_whole};
 use lsdb::Database;
 use lsdb_listing::{PrintedList, list_lines, read_list};
 use network_dump::LONGEST_FILE;
-use streams::{Watched, read_whole};
 
 /// Opens a list, and reads it.
 fn list_of<'a>(rt: &HostRuntime, name: &'a str) -> Result<PrintedList, ExitFault<'a>> {
