@@ -2,18 +2,18 @@
 
 ghost use Rattle.std.specs.Prelude.{◌≡◌, ◌≢◌, ◌↔◌, ℕ, List, All, IfErr, IfOk, false, true};
 ghost use Rattle.std.specs.Io.KnownBytes.{Appends};
-ghost use Rattle.streams.specs.Watched.{inner_of, has_failed};
+ghost use Rattle.host_io.specs.Watched.{inner_of, has_failed};
 ghost use Rattle.network_files.specs.Dumps.{IsDump};
 ghost use Rattle.capture_report.specs.Runs.{AreParsed, IsDumpEnd, MayEndRun, known};
 
 use crate::fault::RunFault;
 use crate::input::read_files;
+use host_io::{Watched, write_and_flush};
 use lsa_instances::FlushedLsas;
 use lsdb_merge::JoinFault;
 use network_files::{ParsedFile, dump_of_files};
 use std::alloc::Allocator;
 use std::io::{Read, Write};
-use streams::{Watched, write_and_flush};
 
 /// The dump that all files together make.
 fn dump_of<A: Allocator + Copy>(

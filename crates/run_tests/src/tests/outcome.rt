@@ -4,9 +4,9 @@
 ghost use Rattle.std.specs.Prelude.{◌≡◌, true, false, is_some};
 ghost use Rattle.whole_run.specs.Streams.{has_any_failed};
 
+use host_io::Watched;
 use std::alloc::Allocator;
 use std::io::{Read, Write};
-use streams::Watched;
 use whole_run::{RunFault, Summary, run};
 
 /// A reader or writer after a run, and whether it has failed.

@@ -1,10 +1,10 @@
 //! Whole texts that are read.
 
 use super::text::{NEVER, TEXT};
+use host_io::{ReadFault, Watched, read_more, read_whole};
 use samples::{Source, Zeros};
 use std::alloc::{AllocError, Global};
 use std::test::Fail;
-use streams::{ReadFault, Watched, read_more, read_whole};
 
 /// A text, read up to a limit from a reader that gives this number of bytes at once and fails at a
 /// place, and whether the reader is known to have failed.

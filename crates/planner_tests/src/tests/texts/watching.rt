@@ -1,10 +1,10 @@
 //! Readers and writers that remember whether they have failed, ended and are flushed.
 
 use super::text::{NEVER, TEXT};
+use host_io::{Watched, write_whole};
 use samples::{Failing, FailsOnce, Sink, Source};
 use std::io::ErrorKind;
 use std::test::Fail;
-use streams::{Watched, write_whole};
 
 #[test]
 fn watches_a_reader(rt: HostRuntime) -> Result<(), Fail> {

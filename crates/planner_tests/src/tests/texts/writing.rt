@@ -1,10 +1,10 @@
 //! Whole texts that are written.
 
 use super::text::{NEVER, TEXT};
+use host_io::{Watched, WriteFault, write_whole};
 use samples::{Failing, Sink};
 use std::alloc::Global;
 use std::test::Fail;
-use streams::{Watched, WriteFault, write_whole};
 
 /// A writer that takes this number of bytes at once and fails at a place.
 #[derive(Clone, Copy)]
