@@ -10,4 +10,4 @@ mod running;
 
 pub use fault::RunFault;
 pub use input::LONGEST_FILE;
-pub use running::run;
+pub use running::{NetworkDump, run};
