@@ -96,12 +96,6 @@ fn all_finding_lines<'a>(
     Ok(lines)
 }
 
-/// The database of the dump that all files make.
-fn database_of<'a>(rt: &HostRuntime, dump: &[u8]) -> Result<Database, ExitFault<'a>> {
-    // It is the dump of a joined database, so only memory can be missing.
-    Database::load(rt.alloc(), dump).map_err(|_| ExitFault::Memory)
-}
-
 /// The lines of what a database lacks: by its own LSAs, and beside the lists of other routers.
 fn missing_lines<'a>(
     rt: &HostRuntime,
@@ -135,14 +129,12 @@ pub(crate) fn make_dump<'a>(
     let mut files = opened(rt, names)?;
     let lists = lists_of(rt, options.against.as_slice())?;
     let mut dump = Watched::new(Vec::new(rt.alloc()));
-    let parsed = run(rt.alloc(), options.flushed, &mut files, &mut dump).map_err(
+    let made = run(rt.alloc(), options.flushed, &mut files, &mut dump).map_err(
         |fault| fault_of_file(names, fault),
     )?;
-    let dump = dump.into_inner();
-    let database = database_of(rt, dump.as_slice())?;
-    let missing = missing_lines(rt, options.against.as_slice(), &lists, &database)?;
-    let given = file_lines(rt, names, &parsed)?;
-    let findings = all_finding_lines(rt, names, &parsed, &database)?;
+    let missing = missing_lines(rt, options.against.as_slice(), &lists, &made.database)?;
+    let given = file_lines(rt, names, &made.files)?;
+    let findings = all_finding_lines(rt, names, &made.files, &made.database)?;
     io::writer(rt)
         .write_all(given.as_bytes())
         .map_err(|_| ExitFault::Output)?;
@@ -150,7 +142,7 @@ pub(crate) fn make_dump<'a>(
     let _ = rt.stderr().write_all(findings.as_bytes());
     let _ = rt.stderr().write_all(missing.as_bytes());
     if let Some(path) = options.out {
-        write_dump(rt, path, dump.as_slice())?;
+        write_dump(rt, path, dump.into_inner().as_slice())?;
     }
     Ok(findings.is_empty() && missing.is_empty())
 }

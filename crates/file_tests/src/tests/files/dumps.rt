@@ -4,7 +4,7 @@ use super::pieces::{CAPTURE, DUMP, JSON, TEXT, WALK};
 use findings::Finding;
 use lsa_codec::AreaId;
 use lsa_instances::{AreaKind, AreaReport, FlushedLsas};
-use network_files::{FileKind, ParsedFile, dump_of_files, read_file};
+use network_files::{FileKind, ParsedFile, join_files, read_file};
 use std::alloc::Global;
 use std::test::*;
 
@@ -14,7 +14,7 @@ fn dump_of(alloc: Global, files: &[&[u8]]) -> Result<Vec<u8>, Fail> {
     for bytes in files {
         parsed.push(read_file(alloc, bytes)?)?;
     }
-    Ok(dump_of_files(alloc, FlushedLsas::LeftOut, &parsed)?)
+    Ok(join_files(alloc, FlushedLsas::LeftOut, &parsed)?.dump)
 }
 
 #[test]

@@ -1,7 +1,7 @@
 use Rattle.std.proofs.Common.{◌∙◌}
 use Rattle.std.proofs.lemmas.Result.{err_from_is_err_and}
-use Rattle.network_files.proofs.Joins.{is_dump, is_fault}
-use Rattle.network_files.proofs.dump.dump_of_files.Goals as goal
+use Rattle.network_files.proofs.Joins.{is_dump, is_fault, is_joined}
+use Rattle.network_files.proofs.dump.join_files.Goals as goal
 
 pub returns-in_err-database-clause-fault : goal.returns-in_err-database-clause-fault
 returns-in_err-database-clause-fault g c =
@@ -14,3 +14,9 @@ returns-clause-dump g c =
     let areas = c.deref.ensures.value ∙ c.in_ok-areas.ensures in
     let made = c.in_ok-database.ensures in
     is_dump c.args.flushed c.args.files.now _ _ c.in_ok-observations.ensures areas _ _ made.database c.in_ok-dump.ensures made.joined
+
+pub returns-clause-database : goal.returns-clause-database
+returns-clause-database g c =
+    let areas = c.deref.ensures.value ∙ c.in_ok-areas.ensures in
+    let made = c.in_ok-database.ensures in
+    is_joined c.args.flushed c.args.files.now _ _ c.in_ok-observations.ensures areas _ made.database made.joined
