@@ -4,10 +4,10 @@
 use forwarding::{Forwarding, ForwardingGraph};
 use lsa_codec::{Addr, RouterId};
 use lsdb::Database;
-use test_support::dump_of_text;
 use spf::Meter;
 use std::alloc::Global;
 use std::test::*;
+use test_support::dump_of_text;
 
 /// The forwarding graph of an address in the database that a text describes.
 fn graph_of(alloc: Global, text: &str, address: u32) -> Result<ForwardingGraph, Fail> {

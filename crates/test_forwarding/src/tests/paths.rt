@@ -1,8 +1,8 @@
 //! Paths of packets.
 
 use crate::tests::built::path;
-use test_support::{R1, R4};
 use std::test::*;
+use test_support::{R1, R4};
 
 /// 1.1.1.1 reaches 4.4.4.4 over 2.2.2.2 and over 3.3.3.3 at the same cost.
 const SQUARE: &str = "area 0.0.0.0\n\
