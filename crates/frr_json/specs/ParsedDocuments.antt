@@ -5,7 +5,6 @@ use Rattle.json.specs.Json.{Json, Items, no_items, item, Members, no_members, me
 use Rattle.json.specs.Find.{get, as_array}
 use Rattle.lsa_codec.specs.declared.address.AreaId.{AreaId}
 use Rattle.frr_text.specs.declared.header.Header.{Header}
-use Rattle.frr_text.specs.declared.finding.TextFinding.TheVariants as findings
 use Rattle.frr_text.specs.declared.ls_type.LsType.{LsType}
 use Rattle.frr_text.specs.declared.ls_type.LsType.TheVariants as types
 use Rattle.frr_text.specs.declared.parsed_part.ParsedPart.{ParsedPart}
@@ -31,7 +30,7 @@ area_named name = option_map (λ address. record { 0 = address }) (address_of na
 
 module _ {A : Type 0} where
   abbrev pub parsed_header : Option AreaId → Json → Option Header → ParsedPart A
-  parsed_header area json None = contents.Finding findings.Unreadable
+  parsed_header area json None = contents.Unreadable
   parsed_header area json (Some header) = rebuilt area header (body_in header json)
 
   -- the LSA of this type in an object, in this area, or why it cannot be used
@@ -44,7 +43,7 @@ module _ {A : Type 0} where
   lsas_in ls_type area (item json items) = parsed_lsa ls_type area json ∷ lsas_in ls_type area items
 
   abbrev pub parsed_items : LsType → Option AreaId → Option Items → List (ParsedPart A)
-  parsed_items ls_type area None = contents.Finding findings.Unreadable ∷ []
+  parsed_items ls_type area None = contents.Unreadable ∷ []
   parsed_items ls_type area (Some items) = lsas_in ls_type area items
 
   -- the LSAs of an area in an array
@@ -57,7 +56,7 @@ module _ {A : Type 0} where
   areas_in ls_type (member name json members) = parsed_array ls_type (area_named name) json ++ areas_in ls_type members
 
   abbrev pub parsed_members : LsType → Option Members → List (ParsedPart A)
-  parsed_members ls_type None = contents.Finding findings.Unreadable ∷ []
+  parsed_members ls_type None = contents.Unreadable ∷ []
   parsed_members ls_type (Some members) = areas_in ls_type members
 
   abbrev pub parsed_areas : LsType → Json → List (ParsedPart A)

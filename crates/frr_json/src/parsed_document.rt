@@ -10,7 +10,7 @@ use crate::body::body_in;
 use crate::header::header_in;
 use crate::member::{items_of, members_at};
 use frr_text::fields::{Header, LsType};
-use frr_text::{ParsedPart, TextFinding, address_of, rebuilt};
+use frr_text::{ParsedPart, address_of, rebuilt};
 use json::Value;
 use lsa_codec::AreaId;
 use std::alloc::{AllocError, Allocator};
@@ -50,7 +50,7 @@ fn parsed_header<A: Allocator + Copy>(
 {
     match body_in(alloc, header, json)? {
         Some(body) => rebuilt(alloc, area, header, &body),
-        None => Ok(ParsedPart::Finding(TextFinding::Unreadable)),
+        None => Ok(ParsedPart::Unreadable),
     }
 }
 
@@ -65,7 +65,7 @@ fn parsed_lsa<A: Allocator + Copy>(
 {
     match header_in(ls_type, json) {
         Some(header) => parsed_header(alloc, area, header, json),
-        None => Ok(ParsedPart::Finding(TextFinding::Unreadable)),
+        None => Ok(ParsedPart::Unreadable),
     }
 }
 
@@ -100,7 +100,7 @@ fn with_array<A: Allocator + Copy>(
     match items_of(json) {
         Some(items) => with_lsas(alloc, parsed, ls_type, area, items),
         None => {
-            parsed.push(ParsedPart::Finding(TextFinding::Unreadable))?;
+            parsed.push(ParsedPart::Unreadable)?;
             Ok(parsed)
         }
     }
@@ -136,7 +136,7 @@ fn with_all_areas<A: Allocator + Copy>(
     match members_at("areas", json) {
         Some(members) => with_areas(alloc, parsed, ls_type, members),
         None => {
-            parsed.push(ParsedPart::Finding(TextFinding::Unreadable))?;
+            parsed.push(ParsedPart::Unreadable)?;
             Ok(parsed)
         }
     }

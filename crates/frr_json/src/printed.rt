@@ -5,7 +5,7 @@ ghost use Rattle.std.specs.List.{filter_map};
 ghost use Rattle.std.specs.Str.{IsUtf8};
 ghost use Rattle.json.specs.Json.{document};
 ghost use Rattle.json.specs.Value.{value_view};
-ghost use Rattle.frr_text.specs.Sorting.{observation_of, kind_of, finding_of};
+ghost use Rattle.frr_text.specs.Sorting.{observation_of, kind_of, findings_of};
 ghost use Rattle.frr_text.specs.Words.{words};
 ghost use Rattle.frr_json.specs.declared.fault.JsonFault.TheVariants as faults;
 ghost use Rattle.frr_json.specs.ParsedDocuments.{parsed_in, has_database, is_printed_json};
@@ -42,7 +42,7 @@ fn printed_of<A: Allocator + Copy>(alloc: A, json: &Value<'_, A>) -> Result<Prin
     ensures kinds { IfOk result (λ printed. printed.kinds.items
         ≡ filter_map (kind_of {A = A}) (parsed_in (value_view json.now))) }
     ensures findings { IfOk result (λ printed. printed.findings.items
-        ≡ filter_map (finding_of {A = A}) (parsed_in (value_view json.now))) }
+        ≡ findings_of {A = A} (parsed_in (value_view json.now))) }
 {
     let parsed = parse_all(alloc, json)?;
     sorted(alloc, parsed)
@@ -64,7 +64,7 @@ pub fn read_printed_json<A: Allocator + Copy>(
         (parsed_in json)) (document text.now) ≡ Some printed.observations.items) }
     ensures kinds { IfOk result (λ printed. option_map (λ json. filter_map (kind_of {A = A})
         (parsed_in json)) (document text.now) ≡ Some printed.kinds.items) }
-    ensures findings { IfOk result (λ printed. option_map (λ json. filter_map (finding_of {A = A})
+    ensures findings { IfOk result (λ printed. option_map (λ json. findings_of {A = A}
         (parsed_in json)) (document text.now) ≡ Some printed.findings.items) }
     ensures database { IfOk result (λ _. IsUtf8 text.now
         × (option_map has_database (document text.now) ≡ Some true)) }

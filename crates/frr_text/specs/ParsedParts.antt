@@ -1,5 +1,6 @@
 -- What the words contain that a router prints of its databases.
 use Rattle.std.specs.Prelude.{ℕ, List, [], ◌∷◌, ◌++◌, Option, Some, None, Result, Ok, Err}
+use Rattle.findings.specs.declared.unused_reason.UnusedReason.TheVariants as reasons
 use Rattle.lsa_codec.specs.declared.address.AreaId.{AreaId}
 use Rattle.lsa_codec.specs.declared.fault.LsaFault.{LsaFault}
 use Rattle.lsa_codec.specs.declared.key.Key.{Key}
@@ -7,7 +8,6 @@ use Rattle.lsa_codec.specs.Decoding.{decoded}
 use Rattle.lsa_instances.specs.declared.place.Scope.{Scope}
 use Rattle.lsa_instances.specs.Order.{scope_of_report}
 use Rattle.frr_text.specs.declared.header.Header.{Header}
-use Rattle.frr_text.specs.declared.finding.TextFinding.TheVariants as findings
 use Rattle.lsa_instances.specs.declared.area.AreaReport.{AreaReport}
 use Rattle.frr_text.specs.declared.parsed_part.ParsedPart.{ParsedPart}
 use Rattle.frr_text.specs.declared.parsed_part.ParsedPart.TheVariants as contents
@@ -25,20 +25,20 @@ key_of header = record { kind = type_code header.name.ls_type; id = header.name.
 
 module _ {A : Type 0} where
   abbrev pub in_scope : Key → List ℕ → Option Scope → ParsedPart A
-  in_scope key lsa None = contents.Finding (findings.NoArea key)
+  in_scope key lsa None = contents.Unused key reasons.NoArea
   in_scope key lsa (Some scope) = contents.Lsa (record { scope = scope; seen = None; lsa = lsa })
 
   abbrev pub parsed_decoded : Option AreaId → Key → Result (List ℕ) LsaFault → ParsedPart A
-  parsed_decoded area key (Err fault) = contents.Finding (findings.Refused key fault)
+  parsed_decoded area key (Err fault) = contents.Unused key (reasons.Refused fault)
   parsed_decoded area key (Ok lsa) = in_scope key lsa (scope_of_report key.kind area)
 
   -- the bytes that the fields make are an accepted LSA, with the checksum and the length that were printed
   abbrev pub rebuilt : Option AreaId → Header → Option (List ℕ) → ParsedPart A
-  rebuilt area header None = contents.Finding findings.Unreadable
+  rebuilt area header None = contents.Unreadable
   rebuilt area header (Some body) = parsed_decoded area (key_of header) (decoded (header_bytes header ++ body))
 
   abbrev pub parsed_header : Option AreaId → Option (Header × List Word) → ParsedPart A
-  parsed_header area None = contents.Finding findings.Unreadable
+  parsed_header area None = contents.Unreadable
   parsed_header area (Some found) = rebuilt area found.0 (body_in found.0 found.1)
 
   abbrev pub kind_from : Option AreaReport → List (ParsedPart A)

@@ -22,12 +22,10 @@ mod network;
 mod router;
 mod summary;
 // What a text contains.
-mod finding;
 mod laws;
 mod parsed_part;
 mod printed;
 
-pub use finding::TextFinding;
 pub use laws::{
     printed_bodies_are_read, printed_headers_are_read, printed_lsas_are_read,
     printed_words_are_read,

@@ -10,11 +10,11 @@ ghost use Rattle.lsa_codec.specs.Decoding.{decoded};
 ghost use Rattle.lsa_instances.specs.Order.{scope_of_report};
 
 use crate::body::body_in;
-use crate::finding::TextFinding;
 use crate::header::{Header, header_bytes, header_in};
 use crate::heading::{area_at, heading_at};
 use crate::label::{Label, after_label};
 use crate::text::next_word;
+use findings::UnusedReason;
 use lsa_codec::{AreaId, Key, Lsa, LsaFault};
 use lsa_instances::{AreaReport, Observation, Scope};
 use std::alloc::{AllocError, Allocator};
@@ -26,8 +26,11 @@ pub enum ParsedPart<A: Allocator> {
     Lsa(Observation<A>),
     /// The kind of the area of a heading.
     Kind(AreaReport),
-    /// A printed LSA that cannot be used.
-    Finding(TextFinding),
+    /// The printed LSA with this key cannot be used, for this reason.
+    Unused(Key, UnusedReason),
+    /// The fields of a printed LSA cannot be read: they belong to an LSA of another type than 1 to
+    /// 5, or are printed in another form.
+    Unreadable,
 }
 
 /// The key of the LSA.
@@ -46,7 +49,7 @@ fn in_scope<A: Allocator + Copy>(area: Option<AreaId>, key: Key, lsa: Lsa<A>) ->
     ensures { result ≡ in_scope key lsa (scope_of_report key.kind area) }
 {
     match Scope::of(key.kind, area) {
-        None => ParsedPart::Finding(TextFinding::NoArea(key)),
+        None => ParsedPart::Unused(key, UnusedReason::NoArea),
         Some(scope) => ParsedPart::Lsa(Observation {
             scope,
             seen: None,
@@ -67,7 +70,7 @@ fn parsed_bytes<A: Allocator + Copy>(
     match Lsa::decode(alloc, bytes) {
         Ok((lsa, _)) => Ok(in_scope(area, key, lsa)),
         Err(LsaFault::OutOfMemory) => Err(AllocError),
-        Err(fault) => Ok(ParsedPart::Finding(TextFinding::Refused(key, fault))),
+        Err(fault) => Ok(ParsedPart::Unused(key, UnusedReason::Refused(fault))),
     }
 }
 
@@ -102,7 +105,7 @@ fn parsed_body<A: Allocator + Copy>(
 {
     match body_in(alloc, header, text)? {
         Some(body) => rebuilt(alloc, area, header, &body),
-        None => Ok(ParsedPart::Finding(TextFinding::Unreadable)),
+        None => Ok(ParsedPart::Unreadable),
     }
 }
 
@@ -116,7 +119,7 @@ fn parsed_header<A: Allocator + Copy>(
 {
     match header_in(text) {
         Some((header, rest)) => parsed_body(alloc, area, header, rest),
-        None => Ok(ParsedPart::Finding(TextFinding::Unreadable)),
+        None => Ok(ParsedPart::Unreadable),
     }
 }
 

@@ -1,16 +1,16 @@
 //! What a router prints, sorted by kind.
 
-ghost use Rattle.std.specs.Prelude.{◌≡◌, IfOk, None};
+ghost use Rattle.std.specs.Prelude.{◌≡◌, ◌++◌, IfOk, OnOk, None};
 ghost use Rattle.std.specs.List.{filter_map};
 ghost use Rattle.frr_text.specs.Headings.{begins_here, is_printed};
-ghost use Rattle.frr_text.specs.Sorting.{observation_of, kind_of, finding_of};
+ghost use Rattle.frr_text.specs.Sorting.{observation_of, kind_of, unused_of, is_unreadable, unread, findings_of};
 ghost use Rattle.frr_text.specs.ParsedParts.{parsed_in};
 ghost use Rattle.frr_text.specs.Words.{words};
 
-use crate::finding::TextFinding;
 use crate::label::{Label, after_label};
 use crate::parsed_part::{ParsedPart, parse_all};
 use crate::text::next_word;
+use findings::{Finding, ReportedLsa};
 use lsa_instances::{AreaReport, Observation};
 use std::alloc::{AllocError, Allocator, Global};
 
@@ -22,8 +22,9 @@ pub struct Printed<A: Allocator = Global> {
     pub observations: Vec<Observation<A>, A>,
     /// The kinds of areas, one for each heading of an area.
     pub kinds: Vec<AreaReport, A>,
-    /// What makes no LSA.
-    pub findings: Vec<TextFinding, A>,
+    /// What makes no LSA: a finding for each that has a key, and after these the number of those
+    /// whose fields cannot be read, unless it is 0. The databases may lack these LSAs.
+    pub findings: Vec<Finding, A>,
 }
 
 /// The LSA, if it is one.
@@ -46,14 +47,27 @@ fn kind_of<A: Allocator + Copy>(parsed: &ParsedPart<A>) -> Option<AreaReport>
     }
 }
 
-/// The finding, if it is one.
-fn finding_of<A: Allocator + Copy>(parsed: &ParsedPart<A>) -> Option<TextFinding>
-    ensures { result ≡ finding_of parsed.now }
+/// The finding of a printed LSA that has a key, if it is one.
+fn unused_of<A: Allocator + Copy>(parsed: &ParsedPart<A>) -> Option<Finding>
+    ensures { result ≡ unused_of parsed.now }
 {
     match parsed {
-        ParsedPart::Finding(finding) => Some(*finding),
+        ParsedPart::Unused(key, reason) => {
+            let lsa = ReportedLsa {
+                area: None,
+                key: *key,
+            };
+            Some(Finding::Unused(lsa, *reason))
+        }
         _ => None,
     }
+}
+
+/// Whether it is a printed LSA whose fields cannot be read.
+fn is_unreadable<A: Allocator + Copy>(parsed: &ParsedPart<A>) -> bool
+    ensures { result ≡ is_unreadable parsed.now }
+{
+    matches!(parsed, ParsedPart::Unreadable)
 }
 
 /// The kinds of areas.
@@ -66,17 +80,40 @@ fn kinds_of<A: Allocator + Copy>(
     parsed.iter().filter_map(|one| kind_of(one)).collect(alloc)
 }
 
+/// The findings of printed LSAs that have a key.
+fn unused_findings<A: Allocator + Copy>(
+    alloc: A,
+    parsed: &[ParsedPart<A>],
+) -> Result<Vec<Finding, A>, AllocError>
+    ensures { IfOk result (λ findings. findings.items ≡ filter_map unused_of parsed.now) }
+{
+    parsed.iter().filter_map(|one| unused_of(one)).collect(alloc)
+}
+
+/// Adds the number of printed LSAs whose fields cannot be read, unless it is 0.
+fn put_unread<A: Allocator + Copy>(
+    findings: &mut Vec<Finding, A>,
+    parsed: &[ParsedPart<A>],
+) -> Result<(), AllocError>
+    ensures { OnOk result (findings.new.items ≡ findings.old.items ++ unread parsed.now) }
+{
+    let count = parsed.iter().filter(|one| is_unreadable(*one)).count();
+    if count != 0 {
+        findings.push(Finding::Unreadable(count))?;
+    }
+    Ok(())
+}
+
 /// The findings.
 fn findings_of<A: Allocator + Copy>(
     alloc: A,
     parsed: &[ParsedPart<A>],
-) -> Result<Vec<TextFinding, A>, AllocError>
-    ensures { IfOk result (λ findings. findings.items ≡ filter_map finding_of parsed.now) }
+) -> Result<Vec<Finding, A>, AllocError>
+    ensures { IfOk result (λ findings. findings.items ≡ findings_of parsed.now) }
 {
-    parsed
-        .iter()
-        .filter_map(|one| finding_of(one))
-        .collect(alloc)
+    let mut findings = unused_findings(alloc, parsed)?;
+    put_unread(&mut findings, parsed)?;
+    Ok(findings)
 }
 
 /// The LSAs.
@@ -106,7 +143,7 @@ pub fn sorted<A: Allocator + Copy>(
         ≡ filter_map observation_of parsed.items) }
     ensures kinds { IfOk result (λ printed. printed.kinds.items ≡ filter_map kind_of parsed.items) }
     ensures findings { IfOk result (λ printed. printed.findings.items
-        ≡ filter_map finding_of parsed.items) }
+        ≡ findings_of parsed.items) }
 {
     let kinds = kinds_of(alloc, &parsed)?;
     let findings = findings_of(alloc, &parsed)?;
@@ -131,7 +168,7 @@ pub fn read_printed<A: Allocator + Copy>(alloc: A, text: &[u8]) -> Result<Printe
     ensures kinds { IfOk result (λ printed. printed.kinds.items
         ≡ filter_map (kind_of {A = A}) (parsed_in None (words text.now))) }
     ensures findings { IfOk result (λ printed. printed.findings.items
-        ≡ filter_map (finding_of {A = A}) (parsed_in None (words text.now))) }
+        ≡ findings_of {A = A} (parsed_in None (words text.now))) }
 {
     let parsed = parse_all(alloc, text)?;
     sorted(alloc, parsed)

@@ -5,7 +5,6 @@ use Rattle.lsa_codec.specs.declared.address.AreaId.{AreaId}
 use Rattle.lsa_instances.specs.declared.place.Scope.{Scope}
 use Rattle.lsa_instances.specs.Order.{scope_of_report}
 use Rattle.lsdb_listing.specs.declared.heading.Heading.{Heading}
-use Rattle.lsdb_listing.specs.declared.finding.ListFinding.TheVariants as findings
 use Rattle.lsdb_listing.specs.declared.line_kind.LineKind.{LineKind}
 use Rattle.lsdb_listing.specs.declared.line_kind.LineKind.TheVariants as kinds
 use Rattle.lsdb_listing.specs.declared.row.Row.{Row}
@@ -17,7 +16,7 @@ use Rattle.lsdb_listing.specs.Headings.{line_kind_of, heading_after}
 use Rattle.lsdb_listing.specs.Rows.{row_under, area_under}
 
 abbrev pub in_scope : Row → Option Scope → ParsedLine
-in_scope row None = contents.Finding (findings.NoArea row.key)
+in_scope row None = contents.NoArea row.key
 in_scope row (Some scope) =
     contents.Header (record { place = record { scope = scope; key = row.key }; instance = row.instance; age = row.age })
 
@@ -27,7 +26,7 @@ is_of_link row = row.key.kind == link_opaque_lsa
 
 -- the LSA has the scope of its LS type in the area of the heading; one of link scope is ignored
 abbrev pub parsed_row : Option AreaId → Option Row → Option ParsedLine
-parsed_row area None = Some (contents.Finding findings.Unreadable)
+parsed_row area None = Some (contents.Unreadable)
 parsed_row area (Some row) = if is_of_link row then None else Some (in_scope row (scope_of_report row.key.kind area))
 
 abbrev pub row_below : Option Heading → Line → List ParsedLine
@@ -39,7 +38,7 @@ row_below (Some heading) line = option_to_list (parsed_row (area_under heading) 
 abbrev pub parsed_by : Option Heading → Line → LineKind → List ParsedLine
 parsed_by heading line (kinds.Heading next) = []
 parsed_by heading line kinds.Start = []
-parsed_by heading line kinds.Foreign = contents.Finding findings.Unreadable ∷ []
+parsed_by heading line kinds.Foreign = contents.Unreadable ∷ []
 parsed_by heading line kinds.Idle = []
 parsed_by heading line kinds.Row = row_below heading line
 

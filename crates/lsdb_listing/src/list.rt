@@ -1,18 +1,18 @@
 //! What a list contains, sorted by kind.
 
-ghost use Rattle.std.specs.Prelude.{◌≡◌, IfOk, IfErr, ◌⊎◌, true, false};
+ghost use Rattle.std.specs.Prelude.{◌≡◌, ◌++◌, IfOk, IfErr, OnOk, ◌⊎◌, true, false};
 ghost use Rattle.std.specs.List.{filter_map};
 ghost use Rattle.lsdb_listing.specs.declared.fault.ListFault.TheVariants as faults;
 ghost use Rattle.frr_text.specs.Words.{words};
 ghost use Rattle.lsdb_listing.specs.Lines.{lines};
-ghost use Rattle.lsdb_listing.specs.Sorting.{header_of, finding_of, parsed_of, has_line, is_title, is_detail, is_list};
+ghost use Rattle.lsdb_listing.specs.Sorting.{header_of, unused_of, is_unreadable, unread, findings_of, parsed_of, has_line, is_title, is_detail, is_list};
 
 use crate::fault::ListFault;
-use crate::finding::ListFinding;
 use crate::label::{Label, begins_with};
 use crate::line::cut_at;
 use crate::line_kind::line_kind_of;
 use crate::parsed_line::{ParsedLine, parse_all};
+use findings::{Finding, ReportedLsa, UnusedReason};
 use lsa_instances::Header;
 use std::alloc::{AllocError, Allocator, Global};
 
@@ -21,8 +21,10 @@ use std::alloc::{AllocError, Allocator, Global};
 pub struct PrintedList<A: Allocator = Global> {
     /// The headers, one for each row.
     pub headers: Vec<Header, A>,
-    /// What cannot be compared.
-    pub findings: Vec<ListFinding, A>,
+    /// What cannot be compared: a finding for each LSA of area scope that stands under a heading
+    /// without an area, and after these the number of lines that cannot be read, unless it is 0.
+    /// The database may lack these LSAs.
+    pub findings: Vec<Finding, A>,
 }
 
 /// The header, if it is one.
@@ -31,18 +33,28 @@ fn header_of(parsed: ParsedLine) -> Option<Header>
 {
     match parsed {
         ParsedLine::Header(header) => Some(header),
-        ParsedLine::Finding(_) => None,
+        ParsedLine::NoArea(_) | ParsedLine::Unreadable => None,
     }
 }
 
-/// The finding, if it is one.
-fn finding_of(parsed: ParsedLine) -> Option<ListFinding>
-    ensures { result ≡ finding_of parsed }
+/// The finding of an LSA whose area is not known, if it is one.
+fn unused_of(parsed: ParsedLine) -> Option<Finding>
+    ensures { result ≡ unused_of parsed }
 {
     match parsed {
-        ParsedLine::Header(_) => None,
-        ParsedLine::Finding(finding) => Some(finding),
+        ParsedLine::NoArea(key) => Some(Finding::Unused(
+            ReportedLsa { area: None, key },
+            UnusedReason::NoArea,
+        )),
+        ParsedLine::Header(_) | ParsedLine::Unreadable => None,
     }
+}
+
+/// Whether it is a line that cannot be read.
+fn is_unreadable(parsed: ParsedLine) -> bool
+    ensures { result ≡ is_unreadable parsed }
+{
+    matches!(parsed, ParsedLine::Unreadable)
 }
 
 /// The headers.
@@ -58,17 +70,43 @@ fn headers_of<A: Allocator + Copy>(
         .collect(alloc)
 }
 
+/// The findings of LSAs whose area is not known.
+fn unused_findings<A: Allocator + Copy>(
+    alloc: A,
+    parsed: &[ParsedLine],
+) -> Result<Vec<Finding, A>, AllocError>
+    ensures { IfOk result (λ findings. findings.items ≡ filter_map unused_of parsed.now) }
+{
+    parsed
+        .iter()
+        .filter_map(|one| unused_of(*one))
+        .collect(alloc)
+}
+
+/// Adds the number of lines that cannot be read, unless it is 0.
+fn put_unread<A: Allocator + Copy>(
+    findings: &mut Vec<Finding, A>,
+    parsed: &[ParsedLine],
+) -> Result<(), AllocError>
+    ensures { OnOk result (findings.new.items ≡ findings.old.items ++ unread parsed.now) }
+{
+    let count = parsed.iter().filter(|one| is_unreadable(**one)).count();
+    if count != 0 {
+        findings.push(Finding::Unreadable(count))?;
+    }
+    Ok(())
+}
+
 /// The findings.
 fn findings_of<A: Allocator + Copy>(
     alloc: A,
     parsed: &[ParsedLine],
-) -> Result<Vec<ListFinding, A>, AllocError>
-    ensures { IfOk result (λ findings. findings.items ≡ filter_map finding_of parsed.now) }
+) -> Result<Vec<Finding, A>, AllocError>
+    ensures { IfOk result (λ findings. findings.items ≡ findings_of parsed.now) }
 {
-    parsed
-        .iter()
-        .filter_map(|one| finding_of(*one))
-        .collect(alloc)
+    let mut findings = unused_findings(alloc, parsed)?;
+    put_unread(&mut findings, parsed)?;
+    Ok(findings)
 }
 
 /// Whether a line is the heading of rows.
@@ -130,7 +168,7 @@ pub fn read_list<A: Allocator + Copy>(alloc: A, text: &[u8]) -> Result<PrintedLi
     ensures headers { IfOk result (λ list. list.headers.items
         ≡ filter_map header_of (parsed_of text.now)) }
     ensures findings { IfOk result (λ list. list.findings.items
-        ≡ filter_map finding_of (parsed_of text.now)) }
+        ≡ findings_of (parsed_of text.now)) }
     ensures list { IfOk result (λ list. is_list text.now ≡ true) }
     ensures fault { IfErr result (λ fault. (fault ≡ faults.OutOfMemory)
         ⊎ ((fault ≡ faults.NotAList) × (is_list text.now ≡ false))) }

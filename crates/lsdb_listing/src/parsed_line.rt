@@ -6,12 +6,11 @@ ghost use Rattle.frr_text.specs.Words.{words};
 ghost use Rattle.lsdb_listing.specs.Lines.{lines};
 ghost use Rattle.lsdb_listing.specs.ParsedLines.{in_scope, parsed_row, parsed_by, parsed_in};
 
-use crate::finding::ListFinding;
 use crate::heading::Heading;
 use crate::line::cut_at;
 use crate::line_kind::{LineKind, line_kind_of};
 use crate::row::{Row, row_under};
-use lsa_codec::AreaId;
+use lsa_codec::{AreaId, Key};
 use lsa_instances::{Header, LINK_OPAQUE_LSA, Place, Scope};
 use std::alloc::{AllocError, Allocator};
 
@@ -20,8 +19,10 @@ use std::alloc::{AllocError, Allocator};
 pub(crate) enum ParsedLine {
     /// A header.
     Header(Header),
-    /// A finding: the line has no usable header.
-    Finding(ListFinding),
+    /// The LSA with this key has area scope, and stands under a heading without an area.
+    NoArea(Key),
+    /// A line under a heading is not a row, or a heading is not one of those that are known.
+    Unreadable,
 }
 
 /// The header of a row whose LSA has this scope, or a finding where it has none.
@@ -29,7 +30,7 @@ fn in_scope(row: Row, scope: Option<Scope>) -> ParsedLine
     ensures { result ≡ in_scope row scope }
 {
     match scope {
-        None => ParsedLine::Finding(ListFinding::NoArea(row.key)),
+        None => ParsedLine::NoArea(row.key),
         Some(scope) => ParsedLine::Header(Header {
             place: Place {
                 scope,
@@ -47,7 +48,7 @@ fn parsed_row(area: Option<AreaId>, row: Option<Row>) -> Option<ParsedLine>
     ensures { result ≡ parsed_row area row }
 {
     let Some(row) = row else {
-        return Some(ParsedLine::Finding(ListFinding::Unreadable));
+        return Some(ParsedLine::Unreadable);
     };
     if row.key.kind == LINK_OPAQUE_LSA {
         return None;
@@ -67,7 +68,7 @@ fn parse_line<A: Allocator + Copy>(
 {
     match (line_kind, heading) {
         (LineKind::Foreign, _) => {
-            parsed.push(ParsedLine::Finding(ListFinding::Unreadable))?;
+            parsed.push(ParsedLine::Unreadable)?;
             Ok(())
         }
         (LineKind::Row, Some(heading)) => {

@@ -1,5 +1,4 @@
 pub mod Kinds
-pub mod PrintedFindings
 pub mod ParsedFiles
 pub mod Dumps
 pub mod steps

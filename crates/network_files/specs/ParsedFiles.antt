@@ -15,7 +15,6 @@ use Rattle.network_files.specs.declared.kind.FileKind.{FileKind}
 use Rattle.network_files.specs.declared.kind.FileKind.TheVariants as kinds
 use Rattle.network_files.specs.declared.parsed_file.ParsedFile.{ParsedFile}
 use Rattle.network_files.specs.Kinds.{kind_of}
-use Rattle.network_files.specs.PrintedFindings.{text_findings}
 use Rattle.ospf_packets.specs.Counting.{capture_findings}
 use Rattle.ospf_packets.specs.Sorting as packets
 use Rattle.ospf_packets.specs.ParsedFrames.{parsed_in as parsed_in_frames}
@@ -92,7 +91,7 @@ pub record IsReadFromWalk {A : Type 0} (bytes : List ℕ) (file : ParsedFile A) 
 pub record IsReadFromText {A : Type 0} (bytes : List ℕ) (file : ParsedFile A) : Type 0 where
   pub content : content_of file ≡ content_of_text bytes
   pub kind : file.kind ≡ kinds.Printed
-  pub findings : file.findings.items ≡ text_findings (filter_map (prints.finding_of {A = A}) (parsed_in_words None (words bytes)))
+  pub findings : file.findings.items ≡ prints.findings_of {A = A} (parsed_in_words None (words bytes))
 
 pub record IsReadFromJson {A : Type 0} (bytes : List ℕ) (file : ParsedFile A) : Type 0 where
   pub json : Json
@@ -101,7 +100,7 @@ pub record IsReadFromJson {A : Type 0} (bytes : List ℕ) (file : ParsedFile A) 
   pub database : has_database json ≡ true
   pub content : content_of file ≡ content_of_json json
   pub kind : file.kind ≡ kinds.Json
-  pub findings : file.findings.items ≡ text_findings (filter_map (prints.finding_of {A = A}) (parsed_in_json json))
+  pub findings : file.findings.items ≡ prints.findings_of {A = A} (parsed_in_json json)
 
 abbrev pub IsFileAs : {A : Type 0} → FileKind → List ℕ → ParsedFile A → Type 0
 IsFileAs kinds.Capture bytes file = IsReadFromCapture bytes file

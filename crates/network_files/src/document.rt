@@ -7,7 +7,6 @@ ghost use Rattle.network_files.specs.steps.Documents.{IsReadAs};
 use crate::fault::FileFault;
 use crate::kind::FileKind;
 use crate::parsed_file::ParsedFile;
-use crate::printed_findings::text_findings;
 use frr_json::{JsonFault, read_printed_json};
 use frr_text::Printed;
 use std::alloc::Allocator;
@@ -39,7 +38,6 @@ pub(crate) fn read_json_file<A: Allocator + Copy>(
         kinds,
         findings,
     } = printed_of(alloc, bytes)?;
-    let findings = text_findings(alloc, &findings)?;
     Ok(ParsedFile {
         kind: FileKind::Json,
         observations,

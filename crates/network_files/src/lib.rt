@@ -15,7 +15,6 @@ mod kind;
 mod laws;
 mod parsed_file;
 mod printed;
-mod printed_findings;
 mod walk;
 
 pub use dump::{areas_of, dump_of_files};

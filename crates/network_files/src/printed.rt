@@ -6,7 +6,6 @@ ghost use Rattle.network_files.specs.ParsedFiles.{IsReadFromText, IsRefusalOfTex
 use crate::fault::FileFault;
 use crate::kind::FileKind;
 use crate::parsed_file::ParsedFile;
-use crate::printed_findings::text_findings;
 use frr_text::{Printed, read_printed};
 use std::alloc::Allocator;
 
@@ -23,7 +22,6 @@ pub(crate) fn read_text_file<A: Allocator + Copy>(
         kinds,
         findings,
     } = read_printed(alloc, bytes)?;
-    let findings = text_findings(alloc, &findings)?;
     Ok(ParsedFile {
         kind: FileKind::Printed,
         observations,
