@@ -1,3 +1,4 @@
 pub mod Order
 pub mod Texts
 pub mod Lines
+pub mod Contents

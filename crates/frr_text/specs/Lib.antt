@@ -11,3 +11,4 @@ pub mod Making
 pub mod Headings
 pub mod ParsedParts
 pub mod Sorting
+pub mod Contents

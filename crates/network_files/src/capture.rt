@@ -3,7 +3,8 @@
 ghost use Rattle.std.specs.Prelude.{◌≡◌, IfOk, IfErr};
 ghost use Rattle.capture_files.specs.Captures.{IsCapture};
 ghost use Rattle.capture_files.specs.CaptureTexts.{capture_text};
-ghost use Rattle.network_files.specs.ParsedFiles.{IsReadFromCapture, IsRefusalOfCapture};
+ghost use Rattle.network_files.specs.declared.kind.FileKind.TheVariants as file_kinds;
+ghost use Rattle.network_files.specs.ParsedFiles.{IsFileAs, IsRefusalOfCapture};
 
 use crate::fault::FileFault;
 use crate::kind::FileKind;
@@ -29,7 +30,7 @@ pub(crate) fn read_capture_file<A: Allocator + Copy>(
     alloc: A,
     bytes: &[u8],
 ) -> Result<ParsedFile<A>, FileFault>
-    ensures parsed { IfOk result (λ file. IsReadFromCapture bytes.now file) }
+    ensures parsed { IfOk result (λ file. IsFileAs file_kinds.Capture bytes.now file) }
     ensures fault { IfErr result (λ fault. IsRefusalOfCapture bytes.now fault) }
 {
     let Capture { frames, end } = frames_of(alloc, bytes)?;

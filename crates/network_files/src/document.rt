@@ -1,7 +1,8 @@
 //! What a router prints in JSON.
 
 ghost use Rattle.std.specs.Prelude.{◌≡◌, IfOk, IfErr};
-ghost use Rattle.network_files.specs.ParsedFiles.{IsReadFromJson, IsRefusalOfJson};
+ghost use Rattle.network_files.specs.declared.kind.FileKind.TheVariants as file_kinds;
+ghost use Rattle.network_files.specs.ParsedFiles.{IsFileAs, IsRefusalOfJson};
 ghost use Rattle.network_files.specs.steps.Documents.{IsReadAs};
 
 use crate::fault::FileFault;
@@ -30,7 +31,7 @@ pub(crate) fn read_json_file<A: Allocator + Copy>(
     alloc: A,
     bytes: &[u8],
 ) -> Result<ParsedFile<A>, FileFault>
-    ensures parsed { IfOk result (λ file. IsReadFromJson bytes.now file) }
+    ensures parsed { IfOk result (λ file. IsFileAs file_kinds.Json bytes.now file) }
     ensures fault { IfErr result (λ fault. IsRefusalOfJson bytes.now fault) }
 {
     let Printed {

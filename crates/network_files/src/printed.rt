@@ -1,7 +1,8 @@
 //! What a router prints as a text.
 
 ghost use Rattle.std.specs.Prelude.{◌≡◌, IfOk, IfErr};
-ghost use Rattle.network_files.specs.ParsedFiles.{IsReadFromText, IsRefusalOfText};
+ghost use Rattle.network_files.specs.declared.kind.FileKind.TheVariants as file_kinds;
+ghost use Rattle.network_files.specs.ParsedFiles.{IsFileAs, IsRefusalOfText};
 
 use crate::fault::FileFault;
 use crate::kind::FileKind;
@@ -14,7 +15,7 @@ pub(crate) fn read_text_file<A: Allocator + Copy>(
     alloc: A,
     bytes: &[u8],
 ) -> Result<ParsedFile<A>, FileFault>
-    ensures parsed { IfOk result (λ file. IsReadFromText bytes.now file) }
+    ensures parsed { IfOk result (λ file. IsFileAs file_kinds.Printed bytes.now file) }
     ensures fault { IfErr result IsRefusalOfText }
 {
     let Printed {

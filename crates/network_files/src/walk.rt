@@ -2,7 +2,8 @@
 
 ghost use Rattle.std.specs.Prelude.{◌≡◌, IfOk, IfErr, true, false};
 ghost use Rattle.std.specs.List.{filter_map, list_any};
-ghost use Rattle.network_files.specs.ParsedFiles.{IsReadFromWalk, IsRefusalOfWalk};
+ghost use Rattle.network_files.specs.declared.kind.FileKind.TheVariants as file_kinds;
+ghost use Rattle.network_files.specs.ParsedFiles.{IsFileAs, IsRefusalOfWalk};
 ghost use Rattle.snmp_walk.specs.Missing.{AreFindings};
 ghost use Rattle.snmp_walk.specs.ParsedObjects.{parsed_in};
 ghost use Rattle.snmp_walk.specs.Sorting.{observation_of, kind_of, is_of_mib};
@@ -36,7 +37,7 @@ pub(crate) fn read_walk_file<A: Allocator + Copy>(
     alloc: A,
     bytes: &[u8],
 ) -> Result<ParsedFile<A>, FileFault>
-    ensures parsed { IfOk result (λ file. IsReadFromWalk bytes.now file) }
+    ensures parsed { IfOk result (λ file. IsFileAs file_kinds.Walk bytes.now file) }
     ensures fault { IfErr result (λ fault. IsRefusalOfWalk A bytes.now fault) }
 {
     let Walk {

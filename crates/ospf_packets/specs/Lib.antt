@@ -9,3 +9,4 @@ pub mod Headers
 pub mod ParsedFrames
 pub mod Sorting
 pub mod Counting
+pub mod Contents
