@@ -87,7 +87,10 @@ fn unused_findings<A: Allocator + Copy>(
 ) -> Result<Vec<Finding, A>, AllocError>
     ensures { IfOk result (λ findings. findings.items ≡ filter_map unused_of parsed.now) }
 {
-    parsed.iter().filter_map(|one| unused_of(one)).collect(alloc)
+    parsed
+        .iter()
+        .filter_map(|one| unused_of(one))
+        .collect(alloc)
 }
 
 /// Adds the number of printed LSAs whose fields cannot be read, unless it is 0.
