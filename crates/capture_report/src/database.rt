@@ -2,17 +2,19 @@
 
 ghost use Rattle.std.specs.Prelude.{◌≡◌, ◌++◌, IfOk, OnOk, map};
 ghost use Rattle.std.specs.List.{AllZip, filter_map, flat_map};
+ghost use Rattle.std.specs.Ordering.{nat_cmp};
 ghost use Rattle.lsdb.specs.Lists.{areas_of, lsas_of};
 ghost use Rattle.lsdb.specs.Slots.{lists_of};
 ghost use Rattle.lsdb.specs.declared.section.Section.TheVariants.{Area, AsWide};
-ghost use Rattle.capture_report.specs.DatabaseFindings.{AreDatabaseFindings, AreFindingsOfArea, AreFindingsOfAs, AreMissing, IsPartOf, asbr_finding, network_finding, router_finding, routers_anywhere};
+ghost use Rattle.capture_report.specs.DatabaseFindings.{AreDatabaseFindings, AreFindingsOfArea, AreFindingsOfAs, IsPartOf, asbr_finding, network_finding, router_finding, routers_anywhere};
+ghost use Rattle.capture_report.specs.Sets.{AreMissing};
 ghost use Rattle.capture_report.specs.Naming.{asbr_named, network_described, networks_named, router_described, routers_named};
 
 use crate::left_out::put_all_left_out;
-use crate::missing::missing;
 use crate::naming::{
     asbrs_named, networks_described, networks_named, routers_described, routers_named,
 };
+use crate::sets::missing;
 use findings::Finding;
 use lsa_codec::{Addr, AreaId, RouterId};
 use lsa_instances::Scope;
@@ -25,7 +27,7 @@ fn missing_routers<A: Allocator + Copy>(
     database: &Database<A>,
     area: AreaId,
 ) -> Result<Vec<u32, A>, AllocError>
-    ensures { IfOk result (λ routers. AreMissing
+    ensures { IfOk result (λ routers. AreMissing nat_cmp
         (flat_map routers_named (lsas_of (Area area) (lists_of database.now)))
         (filter_map router_described (lsas_of (Area area) (lists_of database.now)))
         routers.items) }
@@ -41,7 +43,7 @@ fn missing_networks<A: Allocator + Copy>(
     database: &Database<A>,
     area: AreaId,
 ) -> Result<Vec<u32, A>, AllocError>
-    ensures { IfOk result (λ networks. AreMissing
+    ensures { IfOk result (λ networks. AreMissing nat_cmp
         (flat_map networks_named (lsas_of (Area area) (lists_of database.now)))
         (filter_map network_described (lsas_of (Area area) (lists_of database.now)))
         networks.items) }
@@ -72,7 +74,7 @@ fn missing_asbrs<A: Allocator + Copy>(
     alloc: A,
     database: &Database<A>,
 ) -> Result<Vec<u32, A>, AllocError>
-    ensures { IfOk result (λ routers. AreMissing
+    ensures { IfOk result (λ routers. AreMissing nat_cmp
         (filter_map asbr_named (lsas_of AsWide (lists_of database.now)))
         (routers_anywhere (lists_of database.now)) routers.items) }
 {

@@ -4,10 +4,11 @@ ghost use Rattle.std.specs.Prelude.{◌≡◌, List, IfOk, map};
 ghost use Rattle.std.specs.List.{filter_map};
 ghost use Rattle.findings.specs.declared.finding.Finding.TheVariants.{Nssa};
 ghost use Rattle.lsa_codec.specs.declared.address.AreaId.{AreaId as AnyAreaId};
-ghost use Rattle.capture_report.specs.Areas.{AreOnce};
+ghost use Rattle.lsa_codec.specs.Order.{area_cmp};
 ghost use Rattle.capture_report.specs.FileFindings.{AreFileFindings, reported_nssa};
+ghost use Rattle.capture_report.specs.Sets.{AreOnce};
 
-use crate::areas::once;
+use crate::sets::once;
 use findings::Finding;
 use lsa_codec::AreaId;
 use lsa_instances::{AreaKind, AreaReport};
@@ -54,10 +55,10 @@ fn nssa_findings<A: Allocator + Copy>(
     areas: &[AreaReport],
 ) -> Result<Vec<Finding, A>, AllocError>
     ensures { IfOk result (λ findings. (ids : List AnyAreaId)
-        × (AreOnce (filter_map reported_nssa areas.now) ids × (findings.items ≡ map Nssa ids))) }
+        × (AreOnce area_cmp (filter_map reported_nssa areas.now) ids × (findings.items ≡ map Nssa ids))) }
 {
     let all = reported_nssas(alloc, areas)?;
-    let ids = once(alloc, all)?;
+    let ids = once(alloc, &all)?;
     nssas_in(alloc, &ids)
 }
 

@@ -33,8 +33,10 @@ mod unseen;
 mod database;
 mod dump;
 mod left_out;
-mod missing;
 mod naming;
+
+// Sets of items.
+mod sets;
 
 pub use database::database_findings;
 pub use dump::dump_findings;

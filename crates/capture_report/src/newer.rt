@@ -8,7 +8,7 @@ ghost use Rattle.capture_report.specs.steps.Newest.{AreNewest, all_newer, is_new
 ghost use Rattle.capture_report.specs.steps.Newest.{newer_by, newest_with};
 ghost use Rattle.capture_report.specs.steps.PlaceOrder.{derived_cmp};
 
-use crate::unseen::once;
+use crate::sets::once;
 use lsa_instances::{Header, InstanceId, Observation, Place, compare_instance_ids};
 use network_files::ParsedFile;
 use std::alloc::{AllocError, Allocator};
@@ -159,6 +159,6 @@ pub(crate) fn newer_lsas<A: Allocator + Copy>(
         lsas.items) }
 {
     let newest = newest_shown(alloc, files)?;
-    let lsas = once(alloc, all_newer(alloc, &newest, files)?)?;
+    let lsas = once(alloc, &all_newer(alloc, &newest, files)?)?;
     in_order(alloc, &lsas)
 }

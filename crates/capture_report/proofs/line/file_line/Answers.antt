@@ -1,6 +1,7 @@
 use Rattle.std.proofs.Common.{◌≡◌, rules, vec_len, length, ap, ◌∙◌}
 use Rattle.std.proofs.lemmas.Result.{IfOk-weaker}
-use Rattle.capture_report.specs.Areas.{has}
+use Rattle.lsa_codec.specs.Order.{area_cmp}
+use Rattle.capture_report.specs.Sets.{has}
 use Rattle.capture_report.specs.FileLines.{line_words}
 use Rattle.capture_report.proofs.line.file_line.Goals as goal
 
@@ -10,7 +11,7 @@ returns g c =
     IfOk-weaker c.line_of.result _ _
     (λ line h. record {
       areas = c.in_ok-once.field-0.keys;
-      once = record { which = λ id. c.in_ok-once.ensures.0 id ∙ ap (has id) c.in_ok-reported.ensures; order = c.in_ok-once.ensures.1 };
+      once = record { which = λ id. c.in_ok-once.ensures.0 id ∙ ap (has area_cmp id) (c.deref.ensures.value ∙ c.in_ok-reported.ensures); order = c.in_ok-once.ensures.1 };
       spelled = h
           ∙ (λ i. line_words c.args.name.now (c.kind_name-kind.ensures i) ((c.len-lsas.ensures ∙ count) i) (c.len-areas.ensures.len i));
     })

@@ -1,0 +1,47 @@
+//! Sets of items: each once, and those that are not among others.
+
+ghost use Rattle.std.specs.Prelude.{◌≡◌, IfOk, filter, not};
+ghost use Rattle.std.specs.BTreeSet.{IsFromIterResult, contains};
+ghost use Rattle.capture_report.specs.Sets.{AreMissing};
+
+use std::alloc::{AllocError, Allocator};
+use std::collections::BTreeSet;
+
+/// The items, each once, in rising order.
+pub(crate) fn once<T: Ord + Copy, A: Allocator + Copy>(
+    alloc: A,
+    items: &[T],
+) -> Result<BTreeSet<T, A>, AllocError>
+    ensures { IfOk result (λ set. IsFromIterResult T.cmp items.now set) }
+{
+    items.iter().copied().collect(alloc)
+}
+
+/// The items that are not among others.
+fn without<T: Ord + Copy, A: Allocator + Copy>(
+    alloc: A,
+    items: &BTreeSet<T, A>,
+    others: &BTreeSet<T, A>,
+) -> Result<Vec<T, A>, AllocError>
+    ensures { IfOk result (λ left. left.items
+        ≡ filter (λ item. not (contains T.cmp others.now item)) items.now.keys) }
+{
+    items
+        .iter()
+        .copied()
+        .filter(|item| !others.contains(item))
+        .collect(alloc)
+}
+
+/// The items that are named and not described, each once, in rising order.
+pub(crate) fn missing<T: Ord + Copy, A: Allocator + Copy>(
+    alloc: A,
+    named: &[T],
+    described: &[T],
+) -> Result<Vec<T, A>, AllocError>
+    ensures { IfOk result (λ missing. AreMissing T.cmp named.now described.now missing.items) }
+{
+    let named = once(alloc, named)?;
+    let described = once(alloc, described)?;
+    without(alloc, &named, &described)
+}
