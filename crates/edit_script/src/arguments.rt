@@ -26,7 +26,7 @@ fn digits_up_to(max: u32, digits: &[u8]) -> Option<u32>
 
 /// The number that a word spells in decimal, without a leading zero, where it is at most `max`.
 #[tactic(auto, using(crate::proofs::Digits::number_plain, crate::proofs::Digits::number_empty, crate::proofs::Digits::number_zero, crate::proofs::Digits::within_bound))]
-pub(crate) fn number_up_to(max: u32, word: &[u8]) -> Option<u32>
+pub fn number_up_to(max: u32, word: &[u8]) -> Option<u32>
     ensures value { result ≡ number_up_to max word.now }
     ensures bound { IfSome result (λ n. n ≤ max) }
 {
@@ -70,9 +70,9 @@ fn byte(word: &[u8]) -> Option<u8>
     Some(number as u8)
 }
 
-/// The address that a word spells in dotted decimal.
+/// The address that a word spells in dotted decimal, its first byte the highest.
 #[tactic(auto, unfolding(crate::specs::Arguments::address_of_parts))]
-pub(crate) fn address_of(word: &[u8]) -> Option<u32>
+pub fn address_of(word: &[u8]) -> Option<u32>
     ensures { result ≡ address_of word.now }
 {
     let (first, second, third, fourth) = four_parts(word)?;
@@ -98,9 +98,10 @@ fn two_parts(word: &[u8]) -> Option<(&[u8], &[u8])>
     }
 }
 
-/// The prefix that a word spells, such as `10.0.0.0/8`.
+/// The prefix that a word spells, such as `10.0.0.0/8`: the bits of the address past the length
+/// are 0.
 #[tactic(auto, unfolding(crate::specs::Arguments::prefix_of_parts))]
-pub(crate) fn prefix_of(word: &[u8]) -> Option<Prefix>
+pub fn prefix_of(word: &[u8]) -> Option<Prefix>
     ensures { result ≡ prefix_of word.now }
 {
     let (address, length) = two_parts(word)?;

@@ -19,9 +19,11 @@ mod printing;
 mod reading;
 mod words;
 
+pub use arguments::{address_of, number_up_to, prefix_of};
 pub use command::Command;
 pub use edit::{Edit, MetricType};
 pub use fault::ScriptFault;
 pub use laws::{edits_are_in_range, reads_back, reads_what_is_said, spelled_on_one_line};
 pub use line::parse;
 pub use printing::print;
+pub use words::{cut_at_byte, next_word};

@@ -39,12 +39,14 @@ fn cut_at_blank(line: &[u8]) -> Option<(&[u8], &[u8])>
     Some((front, &back[1..]))
 }
 
-/// The bytes before the first byte that is `stop`, and those after it.
+/// The bytes before the first byte that is `stop`, and those after it; `None` where no byte is
+/// `stop`.
 #[tactic(auto, using(crate::proofs::Split::cut_none, crate::proofs::Split::cut_some, crate::proofs::Split::drop_one))]
-pub(crate) fn cut_at_byte(word: &[u8], stop: u8) -> Option<(&[u8], &[u8])>
+pub fn cut_at_byte(word: &[u8], stop: u8) -> Option<(&[u8], &[u8])>
     ensures { MatchOption result (slice_split (λ b. b == stop) word.now ≡ word.now ∷ [])
-        (λ x. slice_split (λ b. b == stop) word.now
-        ≡ x.0.now ∷ slice_split (λ b. b == stop) x.1.now) }
+        (λ x. (slice_split (λ b. b == stop) word.now
+        ≡ x.0.now ∷ slice_split (λ b. b == stop) x.1.now)
+        × (length x.1.now < length word.now)) }
 {
     let Some(end) = first_of(word, stop) else {
         return None;
@@ -53,8 +55,9 @@ pub(crate) fn cut_at_byte(word: &[u8], stop: u8) -> Option<(&[u8], &[u8])>
     Some((front, &back[1..]))
 }
 
-/// The first word of a line, and the line after it.
-pub(crate) fn next_word(line: &[u8]) -> Option<(&[u8], &[u8])>
+/// The first word of a line, and the line after it; `None` where the line has no word. Words are
+/// maximal runs of bytes other than space, tab and carriage return.
+pub fn next_word(line: &[u8]) -> Option<(&[u8], &[u8])>
     ensures { MatchOption result (words line.now ≡ [])
         (λ x. (words line.now ≡ x.0.now ∷ words x.1.now) × (0 < length x.0.now)) }
 {

@@ -1,0 +1,38 @@
+//! The lines of a study: commands, questions and expectations, read from a line.
+//!
+//! Each line that `ospf-plan` takes means the same here. Beside these there are the same commands
+//! with names in place of addresses and with links that are named by an address or a prefix, the
+//! questions that only studies have, and expectations. [`parse`] reads a line, or returns its first
+//! fault with the word at fault.
+#![tactic(auto)]
+
+// What lines ask for.
+mod command;
+mod condition;
+mod named_command;
+mod question;
+
+// Reading words and arguments.
+mod fault;
+mod position;
+mod reading;
+mod values;
+
+// Reading lines.
+mod conditions;
+mod expectations;
+mod line;
+mod lists;
+mod plan_lines;
+mod questions;
+mod route_condition;
+
+mod laws;
+
+pub use command::StudyCommand;
+pub use condition::{Allowed, Bound, Condition, Expectation, Passing};
+pub use fault::{Fault, FaultKind, ParseError};
+pub use laws::{new_words_are_unknown_to_plans, plan_lines_mean_the_same, reads_what_is_said};
+pub use line::parse;
+pub use named_command::{LinkName, NamedCommand};
+pub use question::Question;

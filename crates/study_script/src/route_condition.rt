@@ -1,0 +1,120 @@
+//! Reading the parts of the condition `route`, some of which may be left out.
+
+ghost use Rattle.std.specs.Prelude.{◌≡◌, option_map};
+ghost use Rattle.network_names.specs.Names.{stands_for};
+ghost use Rattle.study_script.specs.Arguments.{words_at};
+ghost use Rattle.study_script.specs.Conditions.{bound_of, cost_part, expected, kind_part, route_of, router_and_prefix, via_part};
+ghost use Rattle.study_script.specs.Fault.{Gives, Is, Reads};
+
+use crate::condition::{Bound, Condition};
+use crate::fault::{Fault, FaultKind, ParseError};
+use crate::lists::neighbors;
+use crate::position::{Position, end, next};
+use crate::values::{comparison, number, prefix, router_of};
+use edit_script::next_word;
+use lsa_codec::{Prefix, RouterId};
+use network_names::Names;
+use std::alloc::Allocator;
+use study_words::RouteKind;
+
+/// `ROUTER PREFIX`, and where the line goes on.
+#[tactic(auto, unfolding(crate::specs::Conditions::router_and_prefix))]
+pub(crate) fn router_and_prefix<'a, A: Allocator + Copy>(
+    names: &Names<'_, A>,
+    line: Position<'a>,
+) -> Result<(RouterId, Prefix, Position<'a>), Fault<'a>>
+    ensures { Gives (λ x. (x.0, x.1, words_at x.2)) result
+        (router_and_prefix (stands_for names.now) (words_at line.entry)) }
+{
+    let first = next(line)?;
+    let router = router_of(names, first.word)?;
+    let second = next(first)?;
+    let net = prefix(second.word)?;
+    Ok((router, net, second))
+}
+
+/// `OP NUMBER`, and where the line goes on.
+#[tactic(auto, unfolding(crate::specs::Conditions::bound_of))]
+pub(crate) fn bound<'a>(line: Position<'a>) -> Result<(Bound, Position<'a>), Fault<'a>>
+    ensures { Gives (λ x. (x.0, words_at x.1)) result (bound_of (words_at line.entry)) }
+{
+    let first = next(line)?;
+    let comparison = comparison(first.word)?;
+    let second = next(first)?;
+    let number = number(u32::MAX, second.word)?;
+    Ok((Bound { comparison, number }, second))
+}
+
+/// `[KIND]`, and where the line goes on.
+#[tactic(auto, unfolding(crate::specs::Conditions::kind_part))]
+fn kind_part<'a>(line: Position<'a>) -> (Option<RouteKind>, Position<'a>)
+    ensures { (result.0, words_at result.1) ≡ kind_part (words_at line.entry) }
+{
+    let Some((word, rest)) = next_word(line.rest) else {
+        return (None, line);
+    };
+    match RouteKind::of(word) {
+        Some(kind) => (Some(kind), Position { word, rest }),
+        None => (None, line),
+    }
+}
+
+/// `[via NEIGHBOR,..]`, and where the line goes on.
+#[tactic(auto, unfolding(crate::specs::Conditions::via_part))]
+fn via_part<'a, A: Allocator + Copy>(
+    alloc: A,
+    names: &Names<'_, A>,
+    line: Position<'a>,
+) -> Result<(Option<Vec<RouterId, A>>, Position<'a>), ParseError<'a>>
+    ensures { Reads (λ x. (option_map (λ routers. routers.items) x.0, words_at x.1)) result
+        (via_part (stands_for names.now) (words_at line.entry)) }
+{
+    let Some((word, rest)) = next_word(line.rest) else {
+        return Ok((None, line));
+    };
+    if word != b"via".as_slice() {
+        return Ok((None, line));
+    }
+    let after = next(Position { word, rest })?;
+    let routers = neighbors(alloc, names, after.word)?;
+    Ok((Some(routers), after))
+}
+
+/// `[cost OP NUMBER]`, and the end of the line.
+#[tactic(auto, unfolding(crate::specs::Conditions::cost_part))]
+fn cost_part<'a>(line: Position<'a>) -> Result<Option<Bound>, Fault<'a>>
+    ensures { Is result (cost_part (words_at line.entry)) }
+{
+    let Some((word, rest)) = next_word(line.rest) else {
+        return Ok(None);
+    };
+    if word != b"cost".as_slice() {
+        let kind = FaultKind::BadWord;
+        return Err(Fault { kind, word });
+    }
+    let (cost, after) = bound(Position { word, rest })?;
+    end(after)?;
+    Ok(Some(cost))
+}
+
+/// `route ROUTER PREFIX [KIND] [via NEIGHBOR,..] [cost OP NUMBER]`.
+#[tactic(auto, unfolding(crate::specs::Conditions::route_of))]
+pub(crate) fn route<'a, A: Allocator + Copy>(
+    alloc: A,
+    names: &Names<'_, A>,
+    line: Position<'a>,
+) -> Result<Condition<A>, ParseError<'a>>
+    ensures { Reads expected result (route_of (stands_for names.now) (words_at line.entry)) }
+{
+    let (router, prefix, after) = router_and_prefix(names, line)?;
+    let (kind, after) = kind_part(after);
+    let (via, after) = via_part(alloc, names, after)?;
+    let cost = cost_part(after)?;
+    Ok(Condition::Route {
+        router,
+        prefix,
+        kind,
+        via,
+        cost,
+    })
+}
