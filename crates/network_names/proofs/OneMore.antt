@@ -16,7 +16,7 @@ or_none None = refl
 or_none (Some x) = refl
 
 or_found : {X : Type 0} (o p : Option X) → is_some o ≡ true → option_or o p ≡ o
-or_found None p h = cc
+or_found None p h = absurd cc
 or_found (Some x) p h = refl
 
 map_or : {X Y : Type 0} (f : X → Y) (o p : Option X) → option_map f (option_or o p) ≡ option_or (option_map f o) (option_map f p)
@@ -26,6 +26,18 @@ map_or f (Some x) p = refl
 map_one : {X Y : Type 0} (f : X → Y) (b : Bool) (x : X) → option_map f (cond b (Some x) None) ≡ cond b (Some (f x)) None
 map_one f true x = refl
 map_one f false x = refl
+
+pub map_cond : {X Y : Type 0} (f : X → Y) (b : Bool) (x : X) (o : Option X) → option_map f (cond b (Some x) o) ≡ cond b (Some (f x)) (option_map f o)
+map_cond f true x o = refl
+map_cond f false x o = refl
+
+pub some_map : {X Y : Type 0} (f : X → Y) (o : Option X) → is_some (option_map f o) ≡ is_some o
+some_map f None = refl
+some_map f (Some x) = refl
+
+pub none_from : {X : Type 0} (o : Option X) → is_some o ≡ false → o ≡ None
+none_from None h = refl
+none_from (Some x) h = absurd cc
 
 -- ---- a function with one more value, where it had none
 

@@ -54,7 +54,8 @@ impl<'a, A: Allocator + Copy> Names<'a, A> {
             → AreNames (all ++ (name.now, address) ∷ []) self.new) }
     {
         add_address(&mut self.addresses, name, address)?;
-        add_first_name(&mut self.first_names, name, address)
+        add_first_name(&mut self.first_names, name, address)?;
+        Ok(())
     }
 }
 
