@@ -1,3 +1,4 @@
 pub mod OneMore
 pub mod NameSteps
 pub mod FileSteps
+pub mod OneAddress

@@ -53,7 +53,7 @@ module _ {K X : Type 0} (f : K → Option X) (k q : K) (x : X) where
 -- ---- addresses of names
 
 module _ (all : List Named) (name : Word) (address : ℕ) where
-  one_more_address : (word : Word) → address_in (all ++ (name, address) ∷ []) word ≡ option_or (address_in all word) (cond (bytes_eq name word) (Some address) None)
+  pub one_more_address : (word : Word) → address_in (all ++ (name, address) ∷ []) word ≡ option_or (address_in all word) (cond (bytes_eq name word) (Some address) None)
   one_more_address word =
       ap (option_map (λ (named : Named). named.1)) (find-append (λ (named : Named). bytes_eq named.0 word) all ((name, address) ∷ []))
       ∙ map_or (λ (named : Named). named.1) (find (λ (named : Named). bytes_eq named.0 word) all) (cond (bytes_eq name word) (Some (name, address)) None)

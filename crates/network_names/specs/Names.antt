@@ -1,5 +1,5 @@
 -- What names stand for, and what routers are called.
-use Rattle.std.specs.Prelude.{◌≡◌, ℕ, ◌==◌, ◌&&◌, ◌||◌, nat_lt, nat_le, Bool, List, length, Option, option_map, bytes_eq}
+use Rattle.std.specs.Prelude.{◌≡◌, ℕ, ◌==◌, ◌&&◌, ◌||◌, nat_lt, nat_le, Bool, true, false, List, length, Option, Some, option_map, bytes_eq}
 use Rattle.std.specs.List.{find, list_all, list_any}
 use Rattle.std.specs.Option.{is_some}
 use Rattle.std.specs.Char.{is_ascii_alphanumeric, is_ascii_digit}
@@ -56,3 +56,9 @@ reads_otherwise word = is_some (address_of word) || are_digits word || is_reserv
 -- a `:` (58), as addresses of IPv6 have
 abbrev pub has_colon : Word → Bool
 has_colon word = list_any (λ byte. byte == 58) word
+
+-- a name as a file may have it: it means nothing else in a line, and all that has this name has this address
+pub record IsProper (all : List Named) (named : Named) : Type 0 where
+  pub name : is_name named.0 ≡ true
+  pub apart : reads_otherwise named.0 ≡ false
+  pub one_address : address_in all named.0 ≡ Some named.1

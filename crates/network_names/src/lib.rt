@@ -9,10 +9,12 @@
 
 mod fault;
 mod file;
+mod laws;
 mod lines;
 mod name;
 mod names;
 
 pub use fault::{NamesError, NamesFault, NamesFaultKind};
 pub use file::read_names;
+pub use laws::names_have_one_address;
 pub use names::Names;
