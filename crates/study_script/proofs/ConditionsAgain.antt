@@ -9,7 +9,6 @@ use Rattle.lsa_codec.specs.Prefix.{Net}
 use Rattle.lsa_codec.specs.Spelling.{prefix_text}
 use Rattle.lsa_codec.specs.declared.address.RouterId.{RouterId}
 use Rattle.edit_script.specs.Words.{Word}
-use Rattle.edit_script.specs.Spelling.{IsPrefix}
 use Rattle.edit_script.proofs.WordLemmas.{number_again, own}
 use Rattle.study_words.specs.Named.{named as among}
 use Rattle.study_words.specs.AuditKinds.{audit_kind_text}
@@ -29,7 +28,7 @@ use Rattle.study_script.specs.Fault.{◌>>=◌}
 use Rattle.study_script.specs.Arguments.{Lookup}
 use Rattle.study_script.specs.Conditions.{Expected, route, no_route, hops, path, lost, gone, no_loops, no_microloops, no_blackholes, same, few_changes, clean_audit, only_findings, PairsAllowed, nothing, at_most, only}
 use Rattle.study_script.specs.Conditions.{allowed_of, audit_of, bare_none, begins_with_digit, bound_of, changes_of, condition_by, condition_of, cost_part, expectation_of, gone_of, hops_of, kind_part, lost_of}
-use Rattle.study_script.specs.Conditions.{microloops_of, no_route_of, none_of, not_part, passing_of, path_of, route_of, router_and_prefix, same_of, via_part}
+use Rattle.study_script.specs.Conditions.{microloops_of, no_route_of, none_of, not_part, passing_of, path_of, route_of, same_of, via_part}
 use Rattle.study_script.specs.Line.{asked_of, expect}
 use Rattle.study_script.specs.Spelling.{AllowedInRange, BoundInRange, IsExpectedInRange, NeighborsInRange, allowed_words, bound_words, condition_rest, condition_word, cost_words, if_given, neighbors_text, not_words, router_text, via_words}
 use Rattle.study_script.proofs.ListsAgain.{named_again, neighbors_again, net_again, one_or_more_kinds, one_or_more_nets, router_again}
@@ -39,11 +38,6 @@ use Rattle.study_script.proofs.ListsAgain.{named_again, neighbors_again, net_aga
 bound_again : (word : Word) (bound : Bound) → bound.number < 2 ^ 32 → bound_of (word, bound_words bound) ≡ Ok (bound, (decimal bound.number, []))
 unfolding bound_of
 bound_again word bound h = simp (comparison_found bound.comparison, number_again 4294967295 bound.number (omega arith) (omega arith))
-
-both_again : (names : Lookup) (word : Word) (id : RouterId) (net : Net) (rest : List Word) → id.0 < 2 ^ 32 → IsPrefix net
-    → router_and_prefix names (word, router_text id ∷ prefix_text net ∷ rest) ≡ Ok (id, net, (prefix_text net, rest))
-unfolding router_and_prefix
-both_again names word id net rest small is_prefix = simp (router_again names id small, net_again net is_prefix)
 
 -- ---- the condition `route`
 
@@ -81,7 +75,8 @@ route_again : (names : Lookup) (word : Word) (id : RouterId) (net : Net) (kind :
 unfolding route_of
 route_again names word id net kind via cost h =
     simp (
-      both_again names word id net (if_given route_kind_text kind ++ (via_words via ++ cost_words cost)) h.0 h.1,
+      router_again names id h.0,
+      net_again net h.1,
       kind_again (prefix_text net) kind via cost,
       via_again names (kind_last (prefix_text net) kind) via cost h.2,
       cost_again (via_last (kind_last (prefix_text net) kind) via) cost h.3,
@@ -112,9 +107,9 @@ pub condition_read : (names : Lookup) (word : Word) (what : Expected) → IsExpe
     → condition_by names (condition_word what) (word, condition_rest what) ≡ Ok what
 unfolding condition_by no_route_of hops_of path_of passing_of bare_none none_of microloops_of same_of changes_of audit_of
 condition_read names word (route id net kind via cost) h = route_again names word id net kind via cost h
-condition_read names word (no_route id net) h = simp (both_again names word id net [] h.0 h.1)
+condition_read names word (no_route id net) h = simp (router_again names id h.0, net_again net h.1)
 condition_read names word (hops id net bound) h =
-    simp (both_again names word id net (bound_words bound) h.0 h.1, bound_again (prefix_text net) bound h.2)
+    simp (router_again names id h.0, net_again net h.1, bound_again (prefix_text net) bound h.2)
 condition_read names word (path id addr (passing.Via other)) h =
     simp (router_again names id h.0, named_again names addr.0 h.1, router_again names other h.2)
 condition_read names word (path id addr (passing.Avoids other)) h =

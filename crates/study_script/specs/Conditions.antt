@@ -73,15 +73,6 @@ expectation e = (e.is_not, expected e.condition)
 
 -- ---- parts of conditions; a part that is read goes with its last word and the words after it
 
--- ROUTER PREFIX
-unfoldable pub router_and_prefix : Lookup → At → Result (RouterId × Net × At) FaultAt
-router_and_prefix names line = do
-  first ← next line
-  router ← router names first.0
-  second ← next first
-  prefix ← prefix second.0
-  Ok (router, prefix, second)
-
 -- OP NUMBER
 unfoldable pub bound_of : At → Result (Bound × At) FaultAt
 bound_of line = do
@@ -123,25 +114,34 @@ cost_part (last, word ∷ rest) =
 -- route ROUTER PREFIX [KIND] [via NEIGHBOR,..] [cost OP NUMBER]
 unfoldable pub route_of : Lookup → At → Result Expected FaultAt
 route_of names line = do
-  found ← router_and_prefix names line
-  via ← via_part names (kind_part found.2).1
+  first ← next line
+  router ← router names first.0
+  second ← next first
+  net ← prefix second.0
+  via ← via_part names (kind_part second).1
   cost ← cost_part via.1
-  Ok (route found.0 found.1 (kind_part found.2).0 via.0 cost)
+  Ok (route router net (kind_part second).0 via.0 cost)
 
 -- no-route ROUTER PREFIX
 unfoldable pub no_route_of : Lookup → At → Result Expected FaultAt
 no_route_of names line = do
-  found ← router_and_prefix names line
-  _ ← end found.2
-  Ok (no_route found.0 found.1)
+  first ← next line
+  router ← router names first.0
+  second ← next first
+  net ← prefix second.0
+  _ ← end second
+  Ok (no_route router net)
 
 -- hops ROUTER PREFIX OP NUMBER
 unfoldable pub hops_of : Lookup → At → Result Expected FaultAt
 hops_of names line = do
-  found ← router_and_prefix names line
-  bound ← bound_of found.2
+  first ← next line
+  router ← router names first.0
+  second ← next first
+  net ← prefix second.0
+  bound ← bound_of second
   _ ← end bound.1
-  Ok (hops found.0 found.1 bound.0)
+  Ok (hops router net bound.0)
 
 -- via ROUTER, avoids ROUTER or delivered; the first word is this line's
 unfoldable pub passing_of : Lookup → At → Result (Passing × At) FaultAt

@@ -10,8 +10,8 @@ use crate::condition::{Allowed, Condition, Passing};
 use crate::fault::{Fault, FaultKind, ParseError};
 use crate::lists::{kinds, prefixes};
 use crate::position::{Position, end, next};
-use crate::route_condition::{bound, router_and_prefix};
-use crate::values::{named, number, router_of};
+use crate::route_condition::bound;
+use crate::values::{named, number, prefix, router_of};
 use edit_script::next_word;
 use lsa_codec::Addr;
 use network_names::Names;
@@ -27,8 +27,11 @@ pub(crate) fn no_route<'a, A: Allocator + Copy>(
 ) -> Result<Condition<A>, Fault<'a>>
     ensures { Gives expected result (no_route_of (stands_for names.now) (words_at line.entry)) }
 {
-    let (router, prefix, after) = router_and_prefix(names, line)?;
-    end(after)?;
+    let first = next(line)?;
+    let router = router_of(names, first.word)?;
+    let second = next(first)?;
+    let prefix = prefix(second.word)?;
+    end(second)?;
     Ok(Condition::NoRoute { router, prefix })
 }
 
@@ -40,8 +43,11 @@ pub(crate) fn hops<'a, A: Allocator + Copy>(
 ) -> Result<Condition<A>, Fault<'a>>
     ensures { Gives expected result (hops_of (stands_for names.now) (words_at line.entry)) }
 {
-    let (router, prefix, after) = router_and_prefix(names, line)?;
-    let (bound, after) = bound(after)?;
+    let first = next(line)?;
+    let router = router_of(names, first.word)?;
+    let second = next(first)?;
+    let prefix = prefix(second.word)?;
+    let (bound, after) = bound(second)?;
     end(after)?;
     Ok(Condition::Hops {
         router,

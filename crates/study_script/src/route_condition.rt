@@ -3,7 +3,7 @@
 ghost use Rattle.std.specs.Prelude.{◌≡◌, option_map};
 ghost use Rattle.network_names.specs.Names.{stands_for};
 ghost use Rattle.study_script.specs.Arguments.{words_at};
-ghost use Rattle.study_script.specs.Conditions.{bound_of, cost_part, expected, kind_part, route_of, router_and_prefix, via_part};
+ghost use Rattle.study_script.specs.Conditions.{bound_of, cost_part, expected, kind_part, route_of, via_part};
 ghost use Rattle.study_script.specs.Fault.{Gives, Is, Reads};
 
 use crate::condition::{Bound, Condition};
@@ -12,26 +12,10 @@ use crate::lists::neighbors;
 use crate::position::{Position, end, next};
 use crate::values::{comparison, number, prefix, router_of};
 use edit_script::next_word;
-use lsa_codec::{Prefix, RouterId};
+use lsa_codec::RouterId;
 use network_names::Names;
 use std::alloc::Allocator;
 use study_words::RouteKind;
-
-/// `ROUTER PREFIX`, and where the line goes on.
-#[tactic(auto, unfolding(crate::specs::Conditions::router_and_prefix))]
-pub(crate) fn router_and_prefix<'a, A: Allocator + Copy>(
-    names: &Names<'_, A>,
-    line: Position<'a>,
-) -> Result<(RouterId, Prefix, Position<'a>), Fault<'a>>
-    ensures { Gives (λ x. (x.0, x.1, words_at x.2)) result
-        (router_and_prefix (stands_for names.now) (words_at line.entry)) }
-{
-    let first = next(line)?;
-    let router = router_of(names, first.word)?;
-    let second = next(first)?;
-    let net = prefix(second.word)?;
-    Ok((router, net, second))
-}
 
 /// `OP NUMBER`, and where the line goes on.
 #[tactic(auto, unfolding(crate::specs::Conditions::bound_of))]
@@ -106,8 +90,11 @@ pub(crate) fn route<'a, A: Allocator + Copy>(
 ) -> Result<Condition<A>, ParseError<'a>>
     ensures { Reads expected result (route_of (stands_for names.now) (words_at line.entry)) }
 {
-    let (router, prefix, after) = router_and_prefix(names, line)?;
-    let (kind, after) = kind_part(after);
+    let first = next(line)?;
+    let router = router_of(names, first.word)?;
+    let second = next(first)?;
+    let prefix = prefix(second.word)?;
+    let (kind, after) = kind_part(second);
     let (via, after) = via_part(alloc, names, after)?;
     let cost = cost_part(after)?;
     Ok(Condition::Route {
