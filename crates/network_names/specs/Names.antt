@@ -42,9 +42,12 @@ pub record AreNames {A : Type 0} (all : List Named) (names : Names A) : Type 0 w
 abbrev pub is_name_byte : ℕ → Bool
 is_name_byte byte = is_ascii_alphanumeric byte || (byte == 46 || byte == 45 || byte == 95)
 
+abbrev pub has_name_length : Word → Bool
+has_name_length word = nat_lt 0 (length word) && nat_le (length word) 255
+
 -- 1 to 255 of these bytes
 abbrev pub is_name : Word → Bool
-is_name word = nat_lt 0 (length word) && nat_le (length word) 255 && list_all is_name_byte word
+is_name word = has_name_length word && list_all is_name_byte word
 
 abbrev pub are_digits : Word → Bool
 are_digits word = list_all is_ascii_digit word

@@ -72,11 +72,13 @@ fn add_entry<'a, A: Allocator + Copy>(
         let kind = NamesFaultKind::BadAddress;
         return Err(NamesError::Fault(NamesFault { line, kind, word }));
     };
-    if next_word(text).is_none() {
-        let kind = NamesFaultKind::MissingName;
-        return Err(NamesError::Fault(NamesFault { line, kind, word }));
+    match next_word(text) {
+        None => {
+            let kind = NamesFaultKind::MissingName;
+            Err(NamesError::Fault(NamesFault { line, kind, word }))
+        }
+        Some(_) => add_names(names, line, address, text),
     }
-    add_names(names, line, address, text)
 }
 
 /// What stands before the first `#`.

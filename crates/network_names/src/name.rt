@@ -3,7 +3,7 @@
 ghost use Rattle.std.specs.Prelude.{◌≡◌};
 ghost use Rattle.std.specs.List.{list_all};
 ghost use Rattle.std.specs.Char.{is_ascii_digit};
-ghost use Rattle.network_names.specs.Names.{are_digits, has_colon, is_name, is_name_byte, reads_otherwise};
+ghost use Rattle.network_names.specs.Names.{are_digits, has_colon, has_name_length, is_name, is_name_byte, reads_otherwise};
 
 use edit_script::address_of;
 use study_words::is_reserved;
@@ -18,11 +18,25 @@ fn is_name_byte(byte: u8) -> bool
     byte.is_ascii_alphanumeric() || matches!(byte, b'.' | b'-' | b'_')
 }
 
+/// Whether a word has 1 to 255 bytes.
+fn has_name_length(word: &[u8]) -> bool
+    ensures { result ≡ has_name_length word.now }
+{
+    0 < word.len() && word.len() <= LONGEST_NAME
+}
+
+/// Whether all bytes of a word may stand in a name.
+fn are_name_bytes(word: &[u8]) -> bool
+    ensures { result ≡ list_all is_name_byte word.now }
+{
+    word.iter().all(|byte| is_name_byte(*byte))
+}
+
 /// Whether a word is 1 to 255 letters, digits, `.`, `-` and `_`.
 pub(crate) fn is_name(word: &[u8]) -> bool
     ensures { result ≡ is_name word.now }
 {
-    !word.is_empty() && word.len() <= LONGEST_NAME && word.iter().all(|byte| is_name_byte(*byte))
+    has_name_length(word) && are_name_bytes(word)
 }
 
 /// Whether a word is digits alone.

@@ -10,6 +10,6 @@ pub returns : goal.returns
 returns g c = λ all before absent.
     address_added all c.args.name.now c.args.address
     (λ word. get_by (λ name. slice_cmp nat_cmp word name.now) c.args.addresses.now)
-    (λ word. get_by (λ name. slice_cmp nat_cmp word name.now) c.insert.new.addresses)
+    (λ word. get_by (λ name. slice_cmp nat_cmp word name.now) c.insert.new.self)
     before absent
-    (btree_map_updates_str c.args.name.now c.args.addresses.now c.insert.new.addresses _ c.in_ok-insert.ensures.updates)
+    (btree_map_updates_str c.args.name.now c.args.addresses.now c.insert.new.self _ c.in_ok-insert.ensures.updates)

@@ -21,7 +21,7 @@ pub returns : goal.returns
 returns g c = λ all before.
     name_added all c.args.name.now c.args.address
     (λ router. option_map text (get nat_cmp c.args.first_names.now router))
-    (λ router. option_map text (get nat_cmp c.insert.new.first_names router))
+    (λ router. option_map text (get nat_cmp c.insert.new.self router))
     before
     (sym (before c.args.address)
     ∙ ap (option_map text) (none_from (get nat_cmp c.args.first_names.now c.args.address) (sym c.contains_key.ensures ∙ c.if-contains_key.false)))
