@@ -68,7 +68,7 @@ module _ (all : List Named) (name : Word) (address : ℕ) where
       ∙ put_by (address_in all) name word address (bytes_eq name word) (λ h. (bytes_eq-Decides name word).0 h) absent
       ∙ sym (one_more_address word)
 
--- ---- names of routers
+  -- ---- names of routers
 
   one_more_name : (router : ℕ) → name_in (all ++ (name, address) ∷ []) router ≡ option_or (name_in all router) (cond (eqb address router) (Some name) None)
   one_more_name router =

@@ -27,6 +27,7 @@ mod plan_lines;
 mod questions;
 mod route_condition;
 
+// What holds of the definitions.
 mod laws;
 
 pub use command::StudyCommand;

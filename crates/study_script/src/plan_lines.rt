@@ -74,7 +74,11 @@ fn fail_link<'a, A: Allocator + Copy>(
     let area = AreaId(address(area)?);
     let router = router_of(names, router)?;
     let neighbor = router_of(names, neighbor)?;
-    Ok(edited(Edit::FailLink { area, router, neighbor }))
+    Ok(edited(Edit::FailLink {
+        area,
+        router,
+        neighbor,
+    }))
 }
 
 /// `fail-net AREA ADDRESS`.

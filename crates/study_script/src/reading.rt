@@ -116,9 +116,7 @@ pub(crate) fn optional<'a>(line: Position<'a>) -> Result<Option<&'a [u8]>, Fault
 
 /// The argument of a command, and a second one, which may be left out; else S3 or S4.
 #[tactic(auto, unfolding(crate::specs::Arguments::one_or_two_of))]
-pub(crate) fn one_or_two<'a>(
-    line: Position<'a>,
-) -> Result<(&'a [u8], Option<&'a [u8]>), Fault<'a>>
+pub(crate) fn one_or_two<'a>(line: Position<'a>) -> Result<(&'a [u8], Option<&'a [u8]>), Fault<'a>>
     ensures { Gives (λ x. (x.0.now, option_map (λ word. word.now) x.1)) result
         (one_or_two_of (words_at line.entry)) }
 {

@@ -18,6 +18,7 @@ mod condition_word;
 mod particle;
 mod route_kind;
 
+// What holds of words of any kind.
 mod laws;
 mod reserved;
 

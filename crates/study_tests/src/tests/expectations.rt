@@ -66,7 +66,9 @@ fn reads_expectations(rt: HostRuntime) -> Result<(), Fail> {
     let alloc = rt.alloc();
     for (condition, said) in CONDITIONS {
         let line = format!(in alloc; "expect {condition}")?;
-        let want = format!(in alloc; "0 Expect(Expectation {{ is_not: false, condition: {said} }})")?;
+        let want = format!(in alloc;
+            "0 Expect(Expectation {{ is_not: false, condition: {said} }})"
+        )?;
         assert_eq!(rt; meaning(alloc, &line)?.as_str(), want.as_str());
     }
     Ok(())
@@ -74,7 +76,9 @@ fn reads_expectations(rt: HostRuntime) -> Result<(), Fail> {
 
 #[test]
 fn not_turns_a_condition_around(rt: HostRuntime) -> Result<(), Fail> {
-    assert_eq!(rt; meaning(rt.alloc(), "@2 expect not same")?.as_str(),
-        "2 Expect(Expectation { is_not: true, condition: Same(None) })");
+    assert_eq!(rt;
+        meaning(rt.alloc(), "@2 expect not same")?.as_str(),
+        "2 Expect(Expectation { is_not: true, condition: Same(None) })"
+    );
     Ok(())
 }

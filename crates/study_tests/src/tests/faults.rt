@@ -27,10 +27,7 @@ const LINES: &[(&str, &str)] = &[
     ("cost r1 r1 1 x", "S6 BadAddress r1"),
     ("table r9", "S6 BadAddress r9"),
     ("path r1 lan", "S6 BadAddress lan"),
-    (
-        "add-external r1 10.0.0.0/8 1 5 r2 0",
-        "S6 BadAddress r2",
-    ),
+    ("add-external r1 10.0.0.0/8 1 5 r2 0", "S6 BadAddress r2"),
     ("add-external r1 10.0.0.0/8 3 5 r2 0", "S5 BadNumber 3"),
     ("explain r1 10.0.0.1/8", "S7 BadPrefix 10.0.0.1/8"),
     ("add-stub 0.0.0.0 r1 r2 0", "S7 BadPrefix r2"),

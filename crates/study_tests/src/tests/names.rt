@@ -60,8 +60,14 @@ fn names_stand_for_addresses(rt: HostRuntime) -> Result<(), Fail> {
 #[test]
 fn routers_have_their_first_names(rt: HostRuntime) -> Result<(), Fail> {
     let names = hosts(rt.alloc())?;
-    assert_eq!(rt; names.name_of(RouterId(16_843_009)).map(text_of), Some("r1"));
-    assert_eq!(rt; names.name_of(RouterId(33_686_018)).map(text_of), Some("r2"));
+    assert_eq!(rt;
+        names.name_of(RouterId(16_843_009)).map(text_of),
+        Some("r1")
+    );
+    assert_eq!(rt;
+        names.name_of(RouterId(33_686_018)).map(text_of),
+        Some("r2")
+    );
     assert!(rt; names.name_of(RouterId(0)).is_none());
     Ok(())
 }
