@@ -1,0 +1,15 @@
+pub mod RisingMembers
+pub mod Taken
+pub mod FirstGraphs
+pub mod FarEnds
+pub mod OwnersOver
+pub mod LongestMatch
+pub mod Sorted
+pub mod Walked
+pub mod Rounds
+pub mod Rounded
+pub mod EndsMet
+pub mod Loops
+pub mod LoopLists
+pub mod Settled
+pub mod TableRoutes

@@ -1,0 +1,7 @@
+pub mod Ways
+pub mod Owners
+pub mod OwnExternals
+pub mod Matches
+pub mod Walks
+pub mod Graphs
+pub mod steps

@@ -1,0 +1,64 @@
+-- The ways of a route: where each of its next hops leads (RFC 2328, 11 and 16.1.1).
+use Rattle.std.specs.Prelude.{◌∷◌, [], Bool, true, false, if◌then◌else◌, List, map, Option, None, Some}
+use Rattle.std.specs.List.{filter_map, flat_map}
+use Rattle.lsa_codec.specs.declared.address.RouterId.{RouterId}
+use Rattle.lsdb.specs.Lists.{Lists}
+use Rattle.next_hops.specs.declared.hop.Hop.{Hop}
+use Rattle.next_hops.specs.declared.hop.Hop.TheVariants.{Connected, Link, Attached, Gateway}
+use Rattle.area_routes.specs.Values.{RouteValue}
+use Rattle.area_routes.specs.declared.rank.PathType.{PathType}
+use Rattle.area_routes.specs.declared.rank.PathType.TheVariants.{Intra, Inter, Ext1, Ext2}
+use Rattle.forwarding.specs.declared.way.Way.{Way}
+use Rattle.forwarding.specs.declared.way.Way.TheVariants.{Via, Direct, Exit}
+use Rattle.forwarding.specs.Owners.{far_ends, owners}
+
+abbrev pub is_external : PathType → Bool
+is_external Intra = false
+is_external Inter = false
+is_external Ext1 = true
+is_external Ext2 = true
+
+-- to a stub network of the router itself, or to a forwarding address on one
+abbrev pub connected_way : PathType → Way
+connected_way kind = if is_external kind then Exit Connected else Direct Connected
+
+-- to each of these routers
+abbrev pub ways_via : Hop → List RouterId → List Way
+ways_via hop routers = map (λ router. Via hop router) routers
+
+-- to each of the routers with an address; where there are none, that is a forwarding address outside
+abbrev pub ways_to_owners : Hop → List RouterId → List Way
+ways_to_owners hop [] = Exit hop ∷ []
+ways_to_owners hop (router ∷ routers) = ways_via hop (router ∷ routers)
+
+-- where a hop of a router's route leads
+abbrev pub ways_over : Lists → RouterId → PathType → Hop → List Way
+ways_over db router kind Connected = connected_way kind ∷ []
+ways_over db router kind (Link interface) = ways_via (Link interface) (far_ends db router interface)
+ways_over db router kind (Attached interface) = Direct (Attached interface) ∷ []
+ways_over db router kind (Gateway interface address) = ways_to_owners (Gateway interface address) (owners db router interface address)
+
+-- where the hops of a router's route lead, in their order
+abbrev pub ways_of : Lists → RouterId → RouteValue → List Way
+ways_of db router route = flat_map (ways_over db router route.kind) route.hops
+
+-- the router that a way leads to
+abbrev pub router_over : Way → Option RouterId
+router_over (Via hop router) = Some router
+router_over (Direct hop) = None
+router_over (Exit hop) = None
+
+abbrev pub routers_over : List Way → List RouterId
+routers_over ways = filter_map router_over ways
+
+-- a way to a network of the router itself
+abbrev pub is_direct : Way → Bool
+is_direct (Via hop router) = false
+is_direct (Direct hop) = true
+is_direct (Exit hop) = false
+
+-- a way out of the network
+abbrev pub is_exit : Way → Bool
+is_exit (Via hop router) = false
+is_exit (Direct hop) = false
+is_exit (Exit hop) = true

@@ -1,0 +1,6 @@
+-- What the steps of the code do: only contracts within the crate cite these.
+pub mod Rows
+pub mod Levels
+pub mod Ending
+pub mod Looping
+pub mod Settling

@@ -1,0 +1,23 @@
+-- Routers that no loop passes: all that they send to are such routers, too.
+use Rattle.std.specs.Prelude.{Bool, true, List, Contains}
+use Rattle.std.specs.List.{list_all}
+use Rattle.std.specs.Option.{option_map_or}
+use Rattle.lsa_codec.specs.declared.address.RouterId.{RouterId}
+use Rattle.forwarding.specs.declared.way.Way.{Way}
+use Rattle.forwarding.specs.Graphs.{StepValue, ways_at}
+use Rattle.forwarding.specs.Walks.{IsOnCycle}
+use Rattle.forwarding.specs.Ways.{router_over}
+use Rattle.forwarding.specs.steps.Levels.{has_router}
+
+-- a way ends, or leads to one of these routers
+abbrev pub leads_into : List RouterId → Way → Bool
+leads_into settled way = option_map_or (λ router. has_router settled router) (router_over way) true
+
+-- all ways of a router do
+abbrev pub is_settled : List StepValue → List RouterId → RouterId → Bool
+is_settled graph settled router = list_all (leads_into settled) (ways_at graph router)
+
+-- no step leads out of these routers, and no walk from one of them comes back to it
+pub record AreSettled (next : RouterId → List RouterId) (settled : List RouterId) : Type 0 where
+  pub closed : (v w : RouterId) → Contains settled v → Contains (next v) w → Contains settled w
+  pub apart : (v : RouterId) → Contains settled v → ¬ IsOnCycle next v

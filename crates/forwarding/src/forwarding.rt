@@ -1,0 +1,96 @@
+//! What the forwarding graphs of a database come from.
+
+ghost use Rattle.std.specs.Prelude.{◌≡◌, IfOk};
+ghost use Rattle.lsdb.specs.Lists.{Lists};
+ghost use Rattle.lsdb.specs.Slots.{lists_of};
+ghost use Rattle.forwarding.specs.Graphs.{IsForwardingOf, graph_of, step_of};
+ghost use Rattle.forwarding.specs.Owners.{AreGraphsOf};
+
+use crate::area_graphs::AreaGraphs;
+use crate::graph::{ForwardingGraph, RouterStep};
+use crate::router_routes::RouterRoutes;
+use lsa_codec::Addr;
+use lsdb::Database;
+use routing_table::routers;
+use spf::Meter;
+use std::alloc::{AllocError, Allocator, Global};
+use std::marker::Model;
+
+/// What the forwarding graphs of a database come from: the graphs of its areas, and of each
+/// attached router its table and the external prefixes that it announces.
+#[derive(Drop)]
+pub struct Forwarding<A: Allocator = Global> {
+    graphs: AreaGraphs<A>,
+    routers: Vec<RouterRoutes<A>, A>,
+}
+
+impl<A: Allocator> Model for Forwarding<A> {
+    ghost use Rattle.std.specs.Prelude.{map};
+    ghost use Rattle.std.specs.List.Sorted.{IsStrictlySortedBy};
+    ghost use Rattle.lsa_codec.specs.Order.{router_cmp};
+    ghost use Rattle.forwarding.specs.Graphs.{ForwardingValue};
+
+    ghost Value = { ForwardingValue };
+
+    ghost view = { λ f. record { graphs = f.graphs; routers = f.routers.items } };
+
+    ghost invariant = { λ f. IsStrictlySortedBy router_cmp (map (λ r. r.router) f.routers.items) };
+}
+
+/// A router and its match of an address.
+fn step_of<A: Allocator + Copy>(
+    alloc: A,
+    graphs: &AreaGraphs<A>,
+    routes: &RouterRoutes<A>,
+    address: Addr,
+) -> Result<RouterStep<A>, AllocError>
+    ensures router { IfOk result (λ step. step.router ≡ routes.now.router) }
+    ensures step { IfOk result (λ step. (db : Lists) → AreGraphsOf db graphs.now
+        → step ≡ step_of db address routes.now) }
+{
+    let matched = routes.match_of(alloc, graphs, address)?;
+    Ok(RouterStep {
+        router: routes.router(),
+        matched,
+    })
+}
+
+impl<A: Allocator + Copy> Forwarding<A> {
+    /// The graphs, tables and external prefixes of a database. The meter counts a tree for each
+    /// router and area that it is attached to.
+    ///
+    /// # Errors
+    ///
+    /// Memory ran out.
+    pub fn of(
+        alloc: A,
+        database: &Database<A>,
+        meter: &mut Meter,
+    ) -> Result<Forwarding<A>, AllocError>
+        ensures { IfOk result (IsForwardingOf (lists_of database.now)) }
+    {
+        let graphs = AreaGraphs::of(alloc, database)?;
+        let attached = routers(alloc, database)?;
+        let mut routers = Vec::new(alloc);
+        for router in &attached {
+            routers.push(RouterRoutes::of(alloc, database, *router, meter)?)?;
+        }
+        Ok(Forwarding { graphs, routers })
+    }
+
+    /// The forwarding graph of an address: each attached router with its match.
+    ///
+    /// # Errors
+    ///
+    /// Memory ran out.
+    pub fn graph(&self, alloc: A, address: Addr) -> Result<ForwardingGraph<A>, AllocError>
+        ensures { IfOk result (λ graph. (db : Lists) → IsForwardingOf db self.now
+            → graph ≡ graph_of db address) }
+    {
+        let mut steps = Vec::new(alloc);
+        for routes in &self.routers {
+            steps.push(step_of(alloc, &self.graphs, routes, address)?)?;
+        }
+        Ok(ForwardingGraph::from_sorted(steps))
+    }
+}
