@@ -1,11 +1,18 @@
 -- The graphs of the first areas, and the graph of one of them.
-use Rattle.std.proofs.Common.{◌≡◌, ℕ, zero, suc, ◌+◌, ◌<◌, false, List, [], ◌∷◌, ◌++◌, length, get_or, Some, refl, sym, ap, ◌∙◌, subst, arith, ◌⊎◌}
+use Rattle.std.proofs.Common.{◌≡◌, ℕ, zero, suc, ◌+◌, ◌<◌, false, List, [], ◌∷◌, ◌++◌, length, get_or, Option, None, Some, refl, sym, ap, ◌∙◌, subst, arith, ◌⊎◌}
 use Rattle.std.proofs.Common.{inl, inr, ⊎_elim}
-use Rattle.std.specs.List.{slice_get}
+use Rattle.std.specs.Prelude.{IsSome}
+use Rattle.std.specs.List.{find, slice_get}
+use Rattle.std.proofs.lemmas.Bool.{false≢true}
 use Rattle.std.proofs.lemmas.List.{length-append}
 use Rattle.std.proofs.lemmas.Option.{slice_get-get_or}
-use Rattle.lsdb.specs.Lists.{AreaHead, Lists, areas_of}
-use Rattle.area_graph.specs.Graphs.{IsGraphOf}
+use Rattle.lsdb.specs.declared.section.Section.TheVariants.{Area}
+use Rattle.lsdb.specs.Lists.{AreaHead, IsDatabase, Lists, SectionLsas, areas_of, is_section}
+use Rattle.lsdb.specs.Slots.{Slots, lists_of}
+use Rattle.lsdb.proofs.AreaLemmas.{area_named}
+use Rattle.area_graph.specs.declared.fault.GraphFault.{GraphFault}
+use Rattle.area_graph.specs.declared.fault.GraphFault.TheVariants.{NoArea, OutOfMemory}
+use Rattle.area_graph.specs.Graphs.{FaultMeans, IsGraphOf}
 use Rattle.area_graph.specs.Topology.{Topology}
 use Rattle.area_graph.proofs.MemberLemmas.{Some-same}
 use Rattle.routing_table.specs.AreaLsas.{lsas_in}
@@ -62,3 +69,14 @@ module _ (db : Lists) where
         at = at;
         graph_of = are.each i (get_or (areas_of db) i no_area) g at there;
       }
+
+-- an area of a database is there
+pub not_absent : (d : Slots) (i : ℕ) (area : AreaHead) → IsDatabase (lists_of d) → slice_get (areas_of (lists_of d)) i ≡ Some area
+    → (fault : GraphFault) → fault ≡ NoArea → FaultMeans (find (is_section (Area (record { 0 = area.id }))) (lists_of d)) fault → ⊥
+not_absent d i area sound at fault is means =
+    let named = area_named d i area sound at in
+    by (find (is_section (Area (record { 0 = area.id }))) (lists_of d)) (subst (λ (o : Option SectionLsas). IsSome o) named.same named.exists) means
+  where
+    by : (o : Option SectionLsas) → IsSome o → FaultMeans o fault → ⊥
+    by None some m = false≢true some
+    by (Some section) some m = let clash : NoArea ≡ OutOfMemory = sym is ∙ m in absurd (cc)

@@ -9,7 +9,7 @@ pub mod Walked
 pub mod Rounds
 pub mod Rounded
 pub mod EndsMet
-pub mod Loops
+pub mod WaysBack
 pub mod LoopLists
-pub mod Settled
+pub mod OffLoops
 pub mod TableRoutes

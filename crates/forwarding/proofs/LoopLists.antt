@@ -6,7 +6,7 @@ use Rattle.std.specs.declared.cmp.Ordering.TheVariants.{Less}
 use Rattle.std.proofs.lemmas.List.{append-nil, get_or-take, get_or_default, length-take-le}
 use Rattle.std.specs.List.{All, AllPairs, AllByRecursion, Contains, cons_option, slice_get}
 use Rattle.std.specs.Option.{option_map_or}
-use Rattle.std.proofs.lemmas.Bool.{eq-eqb, eqb-true}
+use Rattle.std.proofs.lemmas.Bool.{eq-eqb, eqb-true, false≢true}
 use Rattle.std.proofs.lemmas.List.Elements.{All-from_recursion}
 use Rattle.lsa_codec.specs.Order.{router_cmp}
 use Rattle.lsa_codec.specs.declared.address.RouterId.{RouterId}
@@ -51,24 +51,35 @@ module _ (graph : List StepValue) where
   in_strict_order loop pairs = λ i j d lt within.
       (let a = get_or loop i d in let b = get_or loop j d in sym (nat_cmp_is a.0 b.0 Less (pairs i j d lt within)))
 
-  one_loop : (router : RouterId) (a b : List RouterId) → IsLoopFrom (next_in graph) router a → IsLoopFrom (next_in graph) router b → a ≡ b
-  one_loop router a b from_a from_b =
-      rising-is router_total router_exact a b (in_strict_order a from_a.loop_of.order) (λ x. (
-        λ h. (from_b.loop_of.members x).1 ((from_a.loop_of.members x).0 h),
-        λ h. (from_a.loop_of.members x).1 ((from_b.loop_of.members x).0 h),
+  same_loop : (router : RouterId) (a b : List RouterId) → IsLoopOf (next_in graph) router a → IsLoopOf (next_in graph) router b → a ≡ b
+  same_loop router a b of_a of_b =
+      rising-is router_total router_exact a b (in_strict_order a of_a.order) (λ x. (
+        λ h. (of_b.members x).1 ((of_a.members x).0 h),
+        λ h. (of_a.members x).1 ((of_b.members x).0 h),
       ))
-      ∙ sym (rising-is router_total router_exact b b (in_strict_order b from_b.loop_of.order) (λ x. (λ h. h, λ h. h)))
+      ∙ sym (rising-is router_total router_exact b b (in_strict_order b of_b.order) (λ x. (λ h. h, λ h. h)))
+
+  one_loop : (router : RouterId) (a b : List RouterId) → IsLoopFrom (next_in graph) router a → IsLoopFrom (next_in graph) router b → a ≡ b
+  one_loop router a b from_a from_b = same_loop router a b from_a.loop_of from_b.loop_of
+
+  -- where the router is not the first of its loop, no loop begins with it
+  pub not_first : (router : RouterId) (found : List RouterId) → IsLoopOf (next_in graph) router found → is_first router found ≡ false
+      → IsFoundFrom graph router None
+  not_first router found of other = λ loop from.
+      (let same : found ≡ loop = same_loop router found loop of from.loop_of in
+      let first : is_first router found ≡ true = is_of router (slice_get found 0) (ap (λ (l : List RouterId). slice_get l 0) same ∙ from.least) in
+      false≢true (sym other ∙ first))
 
   module _ (routers : List RouterId) (loops : List (List RouterId)) (are : AreFrom routers loops) (router : RouterId) where
     pub from_none_more : ((loop : List RouterId) → ¬ IsLoopFrom (next_in graph) router loop) → AreFrom (routers ++ router ∷ []) (loops ++ [])
     from_none_more none = record {
       each = λ loop i. ⊎_elim
           (λ l. (let e = are.each loop l in (e.0, In-left routers (router ∷ []) e.0 e.1, e.2)))
-          (λ no. absurd no)
+          (λ z. absurd z)
           (In-cases loops [] loop i);
       all = λ r loop i from. ⊎_elim
           (λ l. In-left loops [] loop (are.all r loop l from))
-          (λ one. ⊎_elim (λ p. absurd (none loop (subst (λ (x : RouterId). IsLoopFrom (next_in graph) x loop) (sym p) from))) (λ no. absurd no) one)
+          (λ one. ⊎_elim (λ p. absurd (none loop (subst (λ (x : RouterId). IsLoopFrom (next_in graph) x loop) (sym p) from))) (λ z. absurd z) one)
           (In-cases routers (router ∷ []) r i);
       order = subst (λ (ls : List (List RouterId)). InPairs (StartsBefore (next_in graph)) ls) (sym (append-nil loops)) are.order;
     }
@@ -80,20 +91,20 @@ module _ (graph : List StepValue) where
           (λ j. (let e = are.each l j in (e.0, In-left routers (router ∷ []) e.0 e.1, e.2)))
           (λ one. ⊎_elim
           (λ p. (router, In-right routers (router ∷ []) router (inl refl), subst (λ (x : List RouterId). IsLoopFrom (next_in graph) router x) p from))
-          (λ no. absurd no) one)
+          (λ z. absurd z) one)
           (In-cases loops (loop ∷ []) l i);
       all = λ r l i of. ⊎_elim
           (λ j. In-left loops (loop ∷ []) l (are.all r l j of))
           (λ one. ⊎_elim
           (λ p. In-right loops (loop ∷ []) l
           (inl (sym (one_loop r l loop of (subst (λ (x : RouterId). IsLoopFrom (next_in graph) x loop) p from)))))
-          (λ no. absurd no) one)
+          (λ z. absurd z) one)
           (In-cases routers (router ∷ []) r i);
       order = InPairs-append (StartsBefore (next_in graph)) loops (loop ∷ []) are.order (λ y i. absurd i, tt) cross;
     }
       where
         cross : (x y : List RouterId) → In loops x → In (loop ∷ []) y → StartsBefore (next_in graph) x y
-        cross x y i (inr no) = absurd no
+        cross x y i (inr z) = absurd z
         cross x y i (inl p) = λ v w at_v at_w.
             (let e = are.each x i in
             let one : e.0 ≡ v = Some-same (sym e.2.least ∙ at_v) in

@@ -49,11 +49,11 @@ module _ {K : Type 0} {R : K → K → Ordering} (o : IsTotalOrder R) (exact : C
   member_of xs ys same x i = rising-In ys x (subst (λ (ks : List K). In ks x) same (In-rising xs x i))
 
   -- two parts, each with the same members
-  pub both_parts : (as bs cs ds : List K) → rising R as ≡ rising R bs → rising R cs ≡ rising R ds → rising R (as ++ cs) ≡ rising R (bs ++ ds)
-  both_parts as bs cs ds one two =
-      same_members (as ++ cs) (bs ++ ds)
-      (λ x i. ⊎_elim (λ a. In-left bs ds x (member_of as bs one x a)) (λ c. In-right bs ds x (member_of cs ds two x c)) (In-cases as cs x i))
-      (λ x i. ⊎_elim (λ b. In-left as cs x (member_of bs as (sym one) x b)) (λ d. In-right as cs x (member_of ds cs (sym two) x d)) (In-cases bs ds x i))
+  pub both_parts : (ks ls ms ns : List K) → rising R ks ≡ rising R ls → rising R ms ≡ rising R ns → rising R (ks ++ ms) ≡ rising R (ls ++ ns)
+  both_parts ks ls ms ns one two =
+      same_members (ks ++ ms) (ls ++ ns)
+      (λ x i. ⊎_elim (λ k. In-left ls ns x (member_of ks ls one x k)) (λ m. In-right ls ns x (member_of ms ns two x m)) (In-cases ks ms x i))
+      (λ x i. ⊎_elim (λ l. In-left ks ms x (member_of ls ks (sym one) x l)) (λ n. In-right ks ms x (member_of ns ms (sym two) x n)) (In-cases ls ns x i))
 
 -- ---- routers
 

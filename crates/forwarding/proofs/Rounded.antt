@@ -1,5 +1,5 @@
 -- The next level of a forwarding graph makes the next round.
-use Rattle.std.proofs.Common.{◌≡◌, ℕ, ◌+◌, ◌<◌, Bool, true, false, cond, List, [], ◌∷◌, ◌++◌, Option, None, Some, refl, sym, ap, ◌∙◌, subst, arith}
+use Rattle.std.proofs.Common.{◌≡◌, ℕ, ◌+◌, ◌<◌, Bool, true, false, cond, List, [], ◌∷◌, ◌++◌, length, Option, None, Some, refl, sym, ap, ◌∙◌, subst, arith}
 use Rattle.std.proofs.Common.{◌⊎◌, inl, inr}
 use Rattle.std.specs.Cmp.{Equal-is, ranked, unsigned_ties}
 use Rattle.std.specs.List.{filter_map, flat_map}
@@ -128,3 +128,7 @@ module _ (graph : List StepValue) (start : RouterId) where
   search_done reached keys level s none =
       all_reached (next_in graph) start s.steps reached
       (subst (λ (xs : List RouterId). IsRound (next_in graph) start s.steps reached xs) none s.round)
+
+pub no_items : {X : Type 0} (xs : List X) → length xs ≡ 0 → xs ≡ []
+no_items [] none = refl
+no_items (x ∷ xs) none = absurd (omega arith)

@@ -149,10 +149,13 @@ impl<A: Allocator + Copy> ForwardingGraph<A> {
     fn loop_from(&self, alloc: A, router: RouterId) -> Result<Option<Loop<A>>, AllocError>
         ensures { IfOk result (IsFoundFrom self.now router) }
     {
-        match self.loop_of(alloc, router)? {
-            Some(found) if found.is_first(router) => Ok(Some(found)),
-            _ => Ok(None),
+        let Some(found) = self.loop_of(alloc, router)? else {
+            return Ok(None);
+        };
+        if !found.is_first(router) {
+            return Ok(None);
         }
+        Ok(Some(found))
     }
 
     /// The loop whose least router this is, if there is one, where no loop passes the routers of a

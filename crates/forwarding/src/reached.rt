@@ -110,7 +110,7 @@ impl<A: Allocator + Copy> ForwardingGraph<A> {
         let mut reached = Vec::new(alloc);
         let mut seen = BTreeSet::new(alloc);
         let mut level = Vec::from_array(alloc, [start])?;
-        while !level.is_empty() {
+        'levels: while !level.is_empty() {
             visit(&mut reached, &mut seen, &level)?;
             level = self.next_level(alloc, &level, &seen)?;
         }

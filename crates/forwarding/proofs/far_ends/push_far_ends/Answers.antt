@@ -35,4 +35,4 @@ returns g c = λ edges before has same.
 
 pub returns-in_default : goal.returns-in_default
 returns-in_default g c = λ edges before has same.
-    far_ends_none c.args.graph.now c.index_of.ensures.shape edges has c.args.router c.args.interface ? c.args.found.now.items before same
+    far_ends_none c.args.graph.now c.index_of.ensures.shape edges has c.args.router c.args.interface c.in_default.ensures.absent c.args.found.now.items before same

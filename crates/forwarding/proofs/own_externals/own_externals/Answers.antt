@@ -21,6 +21,7 @@ loop-lsa-preserved g c =
 
 pub returns : goal.returns
 returns g c =
-    let seen = YieldsList-end (YieldsList-from_first (λ (lsa : Bor (List ℕ)). lsa.now) (λ lsas. lsas) c.lsas-lsa-iterator.result c.into_iter-lsa-iterator.ensures.into_iter_gives)
+    let seen = YieldsList-end (YieldsList-from_first (λ (lsa : Bor (List ℕ)). lsa.now) (λ lsas. lsas) c.lsas-lsa-items.result c.into_iter-lsa-iterator.ensures.into_iter_gives)
     c.loop-lsa.yielded _ c.loop-lsa.yielded_by _ _ c.in-None.is c.next.ensures.steps in
     c.loop-lsa.invariant ∙ ap (λ (lsas : List (List ℕ)). rising prefix_cmp (filter_map (announced c.args.router) lsas)) seen.0
+    ∙ ap (λ (lsas : List (List ℕ)). rising prefix_cmp (filter_map (announced c.args.router) lsas)) c.lsas-lsa-items.ensures.lsas

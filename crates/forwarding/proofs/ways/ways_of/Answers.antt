@@ -3,6 +3,7 @@ use Rattle.std.specs.List.{flat_map}
 use Rattle.std.proofs.lemmas.List.{take_all}
 use Rattle.next_hops.specs.declared.hop.Hop.{Hop}
 use Rattle.next_hops.specs.declared.hop.Hop.TheVariants.{Connected}
+use Rattle.area_routes.specs.Values.{RouteValue}
 use Rattle.area_routes.proofs.AddsLemmas.{adds_at, flat_map_adds}
 use Rattle.forwarding.specs.declared.way.Way.{Way}
 use Rattle.forwarding.specs.Ways.{ways_over}
@@ -13,7 +14,8 @@ loop-hop-preserved g c = λ db are.
     let hops = c.as_slice-hop-items.result.now in
     let i = c.loop-hop.hop-index in
     let over = ways_over db c.args.router c.args.route.now.kind in
-    adds_at (flat_map_adds over) (λ cs. c.loop-hop.ways.items ≡ cs) (λ cs. c.push_over.new.ways.items ≡ cs)
+    adds_at (flat_map_adds over) (λ (cs : List Way). ◌≡◌ {A = List Way} c.loop-hop.ways.items cs)
+    (λ (cs : List Way). ◌≡◌ {A = List Way} c.push_over.new.ways.items cs)
     hops i Connected c.loop-hop-test.true (c.loop-hop.invariant db are) (λ cs was.
     c.in_ok-push_over.ensures db are ∙ ap (λ (l : List Way). l ++ over (get_or hops i Connected)) was)
 
@@ -22,4 +24,4 @@ returns g c = λ db are.
     let hops = c.as_slice-hop-items.result.now in
     c.loop-hop.invariant db are
     ∙ ap (λ (hs : List Hop). flat_map (ways_over db c.args.router c.args.route.now.kind) hs)
-    (take_all c.loop-hop.hop-index hops c.loop-hop-test.false ∙ c.as_slice-hop-items.ensures.hops)
+    (take_all c.loop-hop.hop-index hops c.loop-hop-test.false ∙ c.as_slice-hop-items.ensures.hops ∙ ap (λ (r : RouteValue). r.hops) c.route.view_is)
