@@ -1,12 +1,12 @@
-use Rattle.std.proofs.Common.{◌≡◌, ◌∙◌, List, ◌++◌, get_or, sym, ap, subst}
+use Rattle.std.proofs.Common.{◌≡◌, ◌∙◌, List, ◌++◌, get_or, take, ap}
 use Rattle.std.specs.List.{flat_map}
 use Rattle.std.proofs.lemmas.List.{take_all}
 use Rattle.next_hops.specs.declared.hop.Hop.{Hop}
 use Rattle.next_hops.specs.declared.hop.Hop.TheVariants.{Connected}
 use Rattle.area_routes.specs.Values.{RouteValue}
-use Rattle.area_routes.proofs.AddsLemmas.{adds_at, flat_map_adds}
 use Rattle.forwarding.specs.declared.way.Way.{Way}
 use Rattle.forwarding.specs.Ways.{ways_over}
+use Rattle.forwarding.proofs.Taken.{ways_more}
 use Rattle.forwarding.proofs.ways.ways_of.Goals as goal
 
 pub loop-hop-preserved : goal.loop-hop-preserved
@@ -14,10 +14,12 @@ loop-hop-preserved g c = λ db are.
     let hops = c.as_slice-hop-items.result.now in
     let i = c.loop-hop.hop-index in
     let over = ways_over db c.args.router c.args.route.now.kind in
-    adds_at (flat_map_adds over) (λ (cs : List Way). ◌≡◌ {A = List Way} c.loop-hop.ways.items cs)
-    (λ (cs : List Way). ◌≡◌ {A = List Way} c.push_over.new.ways.items cs)
-    hops i Connected c.loop-hop-test.true (c.loop-hop.invariant db are) (λ cs was.
-    c.in_ok-push_over.ensures db are ∙ ap (λ (l : List Way). l ++ over (get_or hops i Connected)) was)
+    let ways = c.loop-hop.ways.items in
+    let pushed : c.push_over.new.ways.items ≡ ways ++ over (get_or hops i Connected) =
+    c.in_ok-push_over.ensures db are
+    ∙ ap (λ (r : RouteValue). ways ++ ways_over db c.args.router r.kind (get_or hops i Connected)) c.route.view_is in
+    let before : ways ≡ flat_map over (take i hops) = c.loop-hop.invariant db are in
+    ways_more over hops i Connected c.loop-hop-test.true ways c.push_over.new.ways.items before pushed
 
 pub returns : goal.returns
 returns g c = λ db are.
