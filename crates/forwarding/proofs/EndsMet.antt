@@ -1,15 +1,14 @@
 -- The ends at the routers that walks reach are those of the walks.
-use Rattle.std.proofs.Common.{◌≡◌, ℕ, ◌+◌, Bool, true, false, List, [], ◌∷◌, ◌++◌, take, Some, refl, sym, ap, ◌∙◌, subst}
+use Rattle.std.proofs.Common.{◌≡◌, Bool, true, false, List, [], ◌∷◌, ◌++◌, refl, sym, ap, ◌∙◌}
 use Rattle.std.specs.Prelude.{◌↔◌, ◌||◌}
-use Rattle.std.specs.List.{list_any, slice_get}
-use Rattle.std.specs.Option.{option_map_or}
+use Rattle.std.specs.List.{list_any}
 use Rattle.std.proofs.lemmas.List.Folds.{list_any-append}
 use Rattle.lsa_codec.specs.declared.address.RouterId.{RouterId}
 use Rattle.area_graph.proofs.MemberLemmas.{Contains-from_In, In-from_Contains, In-list_any, list_any-In}
 use Rattle.forwarding.specs.declared.ends.Ends.{Ends}
 use Rattle.forwarding.specs.Graphs.{AreEnds, SomeEnds, StepValue, delivers, drops, leaves_network, next_in, passes_at, step_at}
 use Rattle.forwarding.specs.Walks.{AreReached}
-use Rattle.forwarding.specs.steps.Ending.{HaveEnds, either, ends_at}
+use Rattle.forwarding.specs.steps.Ending.{HaveEnds, either, ends_at, no_ends}
 
 or_none : (a b : Bool) → (a || b) ≡ (a || (b || false))
 or_none true b = refl
@@ -23,7 +22,7 @@ any_push p routers router b is =
     ap (λ (x : Bool). x || p router) is ∙ or_none (list_any p routers) (p router) ∙ sym (list_any-append p routers (router ∷ []))
 
 module _ (graph : List StepValue) where
-  pub ends_none : (ends : Ends) → ends ≡ record { is_delivered = false; is_external = false; is_blackhole = false } → HaveEnds graph [] ends
+  pub ends_none : (ends : Ends) → ends ≡ no_ends → HaveEnds graph [] ends
   ends_none ends is = record {
     delivered = ap (λ (e : Ends). e.is_delivered) is;
     external = ap (λ (e : Ends). e.is_external) is;

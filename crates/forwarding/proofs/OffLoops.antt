@@ -1,13 +1,13 @@
 -- Routers that no loop passes.
-use Rattle.std.proofs.Common.{◌≡◌, Bool, true, false, List, [], ◌∷◌, Option, None, Some, refl, sym, ap, ◌∙◌, subst, ◌⊎◌, inl, inr, ⊎_elim}
-use Rattle.std.specs.List.{Contains, list_all, slice_get}
+use Rattle.std.proofs.Common.{◌≡◌, true, false, List, [], ◌∷◌, Option, None, Some, sym, ap, ◌∙◌, subst, ◌⊎◌, inl, ⊎_elim}
+use Rattle.std.specs.List.{Contains, slice_get}
 use Rattle.std.specs.BTreeSet.{insert_key}
 use Rattle.std.specs.Option.{option_map_or}
 use Rattle.lsa_codec.specs.Order.{router_cmp}
 use Rattle.lsa_codec.specs.declared.address.RouterId.{RouterId}
 use Rattle.area_graph.proofs.MemberLemmas.{In, Contains-from_In, In-from_Contains, Some-same, filter_map-In, list_all-In}
 use Rattle.forwarding.specs.Graphs.{StepValue, next_in, ways_at}
-use Rattle.forwarding.specs.Walks.{Goes, IsLoopFrom, IsOnCycle}
+use Rattle.forwarding.specs.Walks.{IsOnCycle}
 use Rattle.forwarding.specs.Ways.{router_over}
 use Rattle.forwarding.specs.steps.Levels.{has_router}
 use Rattle.forwarding.specs.steps.Looping.{IsFoundFrom}

@@ -1,8 +1,8 @@
 -- The next level of a forwarding graph makes the next round.
-use Rattle.std.proofs.Common.{◌≡◌, ℕ, ◌+◌, ◌<◌, Bool, true, false, cond, List, [], ◌∷◌, ◌++◌, length, Option, None, Some, refl, sym, ap, ◌∙◌, subst, arith}
+use Rattle.std.proofs.Common.{◌≡◌, ℕ, ◌+◌, Bool, true, false, cond, List, [], ◌∷◌, ◌++◌, length, Option, None, Some, refl, sym, ap, ◌∙◌, subst, arith}
 use Rattle.std.proofs.Common.{◌⊎◌, inl, inr}
 use Rattle.std.specs.Cmp.{Equal-is, ranked, unsigned_ties}
-use Rattle.std.specs.List.{filter_map, flat_map}
+use Rattle.std.specs.List.{flat_map}
 use Rattle.std.specs.Ordering.{eq_by_cmp}
 use Rattle.std.specs.declared.cmp.Ordering.TheVariants.{Less}
 use Rattle.std.proofs.lemmas.Bool.{eq-eqb, false≢true}
@@ -12,7 +12,6 @@ use Rattle.lsa_codec.proofs.OrderLemmas.{router_exact, router_total}
 use Rattle.area_graph.specs.Rising.{rising}
 use Rattle.area_graph.proofs.MemberLemmas.{In, In-filter_map, In-flat_map, In-list_any, Some-same, filter_map-In, flat_map-In, list_any-In}
 use Rattle.area_graph.proofs.RisingLemmas.{rising-pairs}
-use Rattle.forwarding.specs.declared.way.Way.{Way}
 use Rattle.forwarding.specs.Graphs.{StepValue, next_in, ways_at}
 use Rattle.forwarding.specs.Ways.{router_over}
 use Rattle.forwarding.specs.steps.Levels.{has_router, next_level, unseen, unseen_from, unseen_over}

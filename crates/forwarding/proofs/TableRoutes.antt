@@ -1,12 +1,11 @@
 -- The routes of the table of a router, if it has one.
-use Rattle.std.proofs.Common.{◌≡◌, List, [], ◌∷◌, Option, None, Some, refl, sym, ap, ◌∙◌}
+use Rattle.std.proofs.Common.{◌≡◌, List, [], ◌∷◌, Option, None, Some, refl, sym, ap}
 use Rattle.std.specs.Option.{option_map_or}
 use Rattle.lsa_codec.specs.declared.address.RouterId.{RouterId}
 use Rattle.lsdb.specs.Lists.{AreaHead, Lists}
 use Rattle.area_graph.proofs.MemberLemmas.{Some-same}
 use Rattle.area_routes.specs.Attached.{attached_areas}
-use Rattle.routing_table.specs.declared.table.TableFault.{TableFault}
-use Rattle.routing_table.specs.declared.table.TableFault.TheVariants.{NoRouter, OutOfMemory}
+use Rattle.routing_table.specs.declared.table.TableFault.TheVariants.{NoRouter}
 use Rattle.routing_table.specs.Tables.{FaultMeans, TableValue, table_by, table_in}
 use Rattle.forwarding.specs.Matches.{routes_in}
 

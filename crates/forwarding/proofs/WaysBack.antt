@@ -1,7 +1,7 @@
 -- Walks that come back to a router.
-use Rattle.std.proofs.Common.{◌≡◌, ℕ, ◌<◌, Bool, true, false, eqb, List, [], ◌∷◌, ◌++◌, Option, None, Some, refl, sym, ap, ◌∙◌, subst, inl, inr, ⊎_elim}
+use Rattle.std.proofs.Common.{◌≡◌, ℕ, Bool, true, false, eqb, List, [], ◌∷◌, ◌++◌, Option, None, Some, refl, sym, ap, ◌∙◌, subst, inl, ⊎_elim}
 use Rattle.std.specs.Prelude.{◌↔◌}
-use Rattle.std.specs.List.{AllPairs, Contains, list_any, filter_map}
+use Rattle.std.specs.List.{Contains, list_any}
 use Rattle.std.specs.Option.{option_map_or}
 use Rattle.std.specs.declared.cmp.Ordering.TheVariants.{Less}
 use Rattle.std.proofs.lemmas.Bool.{eq-eqb, eqb-true}
@@ -11,7 +11,6 @@ use Rattle.lsa_codec.proofs.OrderLemmas.{router_exact, router_total}
 use Rattle.area_graph.specs.Rising.{rising}
 use Rattle.area_graph.proofs.MemberLemmas.{In, Contains-from_In, In-cases, In-filter_map, In-from_Contains, In-left, In-list_any, In-right, filter_map-In, list_any-In}
 use Rattle.area_graph.proofs.RisingLemmas.{Contains-rising, rising-pairs}
-use Rattle.forwarding.specs.declared.way.Way.{Way}
 use Rattle.forwarding.specs.Graphs.{StepValue, next_in, ways_at}
 use Rattle.forwarding.specs.Walks.{AreReached, Goes, IsLess, IsLoopOf, IsOnCycle, IsWalk, Reaches}
 use Rattle.forwarding.specs.Ways.{router_over}

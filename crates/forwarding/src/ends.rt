@@ -1,13 +1,13 @@
 //! How walks end.
 
-ghost use Rattle.std.specs.Prelude.{◌≡◌, false};
+ghost use Rattle.std.specs.Prelude.{◌≡◌};
 ghost use Rattle.std.specs.List.{list_any};
 ghost use Rattle.std.specs.Option.{option_copied};
 ghost use Rattle.lsa_codec.specs.declared.address.RouterId.{RouterId as AnyRouter};
 ghost use Rattle.forwarding.specs.Graphs.{AreEnds, delivers, drops, leaves_network, next_in};
 ghost use Rattle.forwarding.specs.Walks.{AreReached};
 ghost use Rattle.forwarding.specs.Ways.{is_direct, is_exit};
-ghost use Rattle.forwarding.specs.steps.Ending.{either, ends_at};
+ghost use Rattle.forwarding.specs.steps.Ending.{either, ends_at, no_ends};
 
 use crate::graph::{ForwardingGraph, RouterStep};
 use crate::way::Way;
@@ -72,7 +72,7 @@ impl<A: Allocator + Copy> RouterStep<A> {
 impl Ends {
     /// Those of no walk.
     fn none() -> Ends
-        ensures { result ≡ record { is_delivered = false; is_external = false; is_blackhole = false } }
+        ensures { result ≡ no_ends }
     {
         Ends {
             is_delivered: false,

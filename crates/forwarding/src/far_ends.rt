@@ -49,11 +49,7 @@ pub(crate) fn push_some<A: Allocator + Copy>(
 }
 
 /// The router that an edge of a graph leads to, if it is one over this interface.
-fn end_over<A: Allocator + Copy>(
-    graph: &Graph<A>,
-    interface: Addr,
-    edge: &Edge,
-) -> Option<RouterId>
+fn end_over<A: Allocator + Copy>(graph: &Graph<A>, interface: Addr, edge: &Edge) -> Option<RouterId>
     requires { edge.now.to < length graph.now.vertices }
     ensures { result ≡ end_over graph.now interface edge.now }
 {

@@ -188,7 +188,10 @@ impl<A: Allocator + Copy> ForwardingGraph<A> {
         let sorted = in_order(alloc, routers)?;
         let mut loops = Vec::new(alloc);
         for router in &sorted {
-            push_loop(&mut loops, self.loop_unless_settled(alloc, &settled, *router)?)?;
+            push_loop(
+                &mut loops,
+                self.loop_unless_settled(alloc, &settled, *router)?,
+            )?;
         }
         Ok(loops)
     }

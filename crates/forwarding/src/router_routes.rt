@@ -34,10 +34,10 @@ impl<A: Allocator> Model for RouterRoutes<A> {
     ghost Value = { RouterValue };
 
     ghost view = { λ r. record {
-        router = r.table.router;
-        routes = r.table.routes;
-        own = r.own.keys;
-      } };
+      router = r.table.router;
+      routes = r.table.routes;
+      own = r.own.keys;
+    } };
 }
 
 /// Whether a hop leads to a network of the router itself.

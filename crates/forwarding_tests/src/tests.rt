@@ -2,5 +2,4 @@
 
 // The graphs that the tests build, and texts of them.
 mod built;
-
 mod paths;

@@ -14,6 +14,10 @@ ends_at step = record {
   is_blackhole = option_map_or drops step false;
 }
 
+-- those of no walk
+abbrev pub no_ends : Ends
+no_ends = record { is_delivered = false; is_external = false; is_blackhole = false }
+
 -- the ends of two sets of walks
 abbrev pub either : Ends → Ends → Ends
 either a b = record {

@@ -1,5 +1,5 @@
 -- What the edges of a graph's rows give.
-use Rattle.std.specs.Prelude.{◌↔◌, Bool, false, ◌&&◌, ◌==◌, ℕ, if◌then◌else◌, List, [], Option, None, Contains, slice_get}
+use Rattle.std.specs.Prelude.{◌↔◌, Bool, false, ◌&&◌, ◌==◌, if◌then◌else◌, List, [], Option, None, Contains, slice_get}
 use Rattle.std.specs.List.{filter_map}
 use Rattle.std.specs.Option.{option_and_then, option_map_or}
 use Rattle.lsa_codec.specs.declared.address.Addr.{Addr}

@@ -1,5 +1,5 @@
-use Rattle.std.proofs.Common.{◌≡◌, ◌∙◌, [], List, ◌++◌, Option, append_assoc, sym, ap, subst, arith}
-use Rattle.std.specs.List.{cons_option, filter_map}
+use Rattle.std.proofs.Common.{◌≡◌, ◌∙◌, [], List, ◌++◌, Option, append_assoc, ap}
+use Rattle.std.specs.List.{cons_option}
 use Rattle.lsa_codec.specs.declared.address.RouterId.{RouterId}
 use Rattle.area_graph.specs.declared.edge.Edge.{Edge}
 use Rattle.area_routes.proofs.AddsLemmas.{adds_at, filter_map_adds}

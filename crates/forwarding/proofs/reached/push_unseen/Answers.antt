@@ -1,5 +1,5 @@
-use Rattle.std.proofs.Common.{◌≡◌, ◌∙◌, [], List, ◌++◌, Option, append_assoc, get_or, sym, ap}
-use Rattle.std.specs.List.{cons_option, filter_map}
+use Rattle.std.proofs.Common.{◌≡◌, ◌∙◌, [], List, ◌++◌, Option, append_assoc, ap}
+use Rattle.std.specs.List.{cons_option}
 use Rattle.lsa_codec.specs.declared.address.RouterId.{RouterId}
 use Rattle.next_hops.specs.declared.hop.Hop.TheVariants.{Connected}
 use Rattle.area_routes.proofs.AddsLemmas.{adds_at, filter_map_adds}

@@ -4,7 +4,6 @@ use Rattle.std.proofs.lemmas.List.{take_all}
 use Rattle.next_hops.specs.declared.hop.Hop.{Hop}
 use Rattle.next_hops.specs.declared.hop.Hop.TheVariants.{Connected}
 use Rattle.area_routes.specs.Values.{RouteValue}
-use Rattle.forwarding.specs.declared.way.Way.{Way}
 use Rattle.forwarding.specs.Ways.{ways_over}
 use Rattle.forwarding.proofs.Taken.{ways_more}
 use Rattle.forwarding.proofs.ways.ways_of.Goals as goal

@@ -1,4 +1,4 @@
-use Rattle.std.proofs.Common.{◌≡◌, ◌∙◌, List, map, sym, ap, subst}
+use Rattle.std.proofs.Common.{◌∙◌, List, map, sym, ap, subst}
 use Rattle.std.proofs.lemmas.List.{take_all}
 use Rattle.forwarding.specs.Graphs.{ForwardingValue, step_of}
 use Rattle.forwarding.specs.Matches.{RouterValue}

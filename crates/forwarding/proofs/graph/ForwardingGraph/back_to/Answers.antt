@@ -1,4 +1,4 @@
-use Rattle.std.proofs.Common.{◌≡◌, ◌∙◌, ◌+◌, [], ◌∷◌, ◌++◌, List, take, get_or, sym, ap, subst}
+use Rattle.std.proofs.Common.{◌∙◌, [], ◌∷◌, ◌++◌, List, take, get_or, sym, ap, subst}
 use Rattle.std.proofs.lemmas.Bool.{false≢true}
 use Rattle.std.proofs.lemmas.List.{take_all, take_more}
 use Rattle.lsa_codec.specs.declared.address.RouterId.{RouterId}
@@ -21,13 +21,13 @@ loop-other-preserved g c =
     (elim c.if-branch.branch [
       | then-branch+in_ok-push w ↦
           subst (λ (fs : List RouterId). AreBack graph c.args.router (take i routers ++ other ∷ []) fs)
-              (sym (ap (λ v. v.items) w.found-is ∙ w.in_ok-push.ensures.items))
-              (back_yes graph c.args.router (take i routers) found c.loop-other.invariant other (c.in_ok-reaches.ensures.0 w.if-branch.true))
+          (sym (ap (λ v. v.items) w.found-is ∙ w.in_ok-push.ensures.items))
+          (back_yes graph c.args.router (take i routers) found c.loop-other.invariant other (c.in_ok-reaches.ensures.0 w.if-branch.true))
       | else-branch w ↦
           subst (λ (fs : List RouterId). AreBack graph c.args.router (take i routers ++ other ∷ []) fs)
-              (sym (ap (λ v. v.items) w.found-is))
-              (back_no graph c.args.router (take i routers) found c.loop-other.invariant other
-              (λ walk. false≢true (sym w.if-branch.false ∙ c.in_ok-reaches.ensures.1 walk)))
+          (sym (ap (λ v. v.items) w.found-is))
+          (back_no graph c.args.router (take i routers) found c.loop-other.invariant other
+          (λ walk. false≢true (sym w.if-branch.false ∙ c.in_ok-reaches.ensures.1 walk)))
     ])
 
 pub returns : goal.returns
