@@ -1,0 +1,9 @@
+use Rattle.std.proofs.Common.{map}
+use Rattle.std.specs.List.{filter_map}
+use Rattle.forwarding.specs.Announced.{summary_prefix}
+use Rattle.forwarding.specs.steps.Gathering.{Gathers}
+use Rattle.forwarding.proofs.announced.add_area_summaries.Given as goal
+
+-- the prefixes of the LSAs so far were added
+abbrev pub invariant-loop-lsa : goal.invariant-loop-lsa
+invariant-loop-lsa g l = Gathers (filter_map summary_prefix (map (λ lsa. lsa.now) l.yielded)) l.initial.nets.keys l.nets.keys
